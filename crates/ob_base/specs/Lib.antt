@@ -1,0 +1,5 @@
+pub mod Causes
+pub mod Fields
+pub mod LittleEndian
+pub mod Padded
+pub mod Parameters

@@ -1,0 +1,97 @@
+/// An object that was handed in failed: its count of faults rose in the call.
+#[derive(Clone, Copy, Debug, PartialEq, Eq)]
+pub struct Failed;
+
+/// Memory was wanting.
+#[derive(Clone, Copy, Debug, PartialEq, Eq)]
+pub struct Memory;
+
+/// What of a cell failed: its tag, its identity, its epoch, or the form of what it holds.
+#[derive(Clone, Copy, Debug, PartialEq, Eq)]
+pub enum Check {
+    Tag,
+    Seal,
+    Epoch,
+    Form,
+}
+
+/// A number, or the keys, that a user gives.
+#[derive(Clone, Copy, Debug, PartialEq, Eq)]
+pub enum Field {
+    N,
+    L,
+    Z,
+    S,
+    R,
+    BR,
+    BW,
+    E,
+    T,
+    LANES,
+    COUNT,
+    KEYS,
+}
+
+/// A cell that holds other bytes than it must: what it keeps at the failed check, and what was
+/// computed there.
+#[derive(Clone, Copy, Debug, PartialEq, Eq)]
+pub struct Damaged {
+    pub cell: u64,
+    pub check: Check,
+    pub kept: [u8; 16],
+    pub computed: [u8; 16],
+}
+
+/// The next number of a kind is `2^62`, which may not be used.
+#[derive(Clone, Copy, Debug, PartialEq, Eq)]
+pub struct Worn {
+    pub number: u64,
+}
+
+/// More rows are left after a refill than the stash may keep.
+#[derive(Clone, Copy, Debug, PartialEq, Eq)]
+pub struct StashFull {
+    pub rows: u64,
+}
+
+/// Why the program refused.
+#[derive(Clone, Copy, Debug, PartialEq, Eq)]
+pub enum Fault {
+    /// Memory was wanting.
+    Memory,
+    /// The words are no command with its operands and options.
+    Usage,
+    /// This line, counted from 1, is the first that breaks the script's grammar.
+    BadScript {
+        line: u64,
+    },
+    /// This is the first parameter that is out of its range.
+    BadParams {
+        field: Field,
+    },
+    /// The store has no head of a known version, or a register with no open gate.
+    NotStore,
+    /// A cell holds other bytes than it must.
+    Damaged {
+        cell: u64,
+        check: Check,
+        kept: [u8; 16],
+        computed: [u8; 16],
+    },
+    /// The store failed. Where that leaves open whether an epoch ended, the epoch.
+    StoreFault {
+        unsure: Option<u64>,
+    },
+    /// More rows are left after a refill than the stash may keep.
+    StashFull {
+        rows: u64,
+    },
+    /// A number has reached `2^62`.
+    Worn {
+        number: u64,
+    },
+    /// The input or the key file failed.
+    SourceFault,
+    /// The output or the trace failed.
+    SinkFault,
+}
