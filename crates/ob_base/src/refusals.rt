@@ -2,10 +2,16 @@ ghost use Rattle.std.specs.Prelude.{◌≡◌};
 ghost use Rattle.ob_base.specs.declared.fault.Fault.TheVariants as fault;
 
 use crate::fault::{Damaged, Fault, Memory, StashFull, Worn};
-use std::alloc::AllocError;
+use std::alloc::{AllocError, AllocFailed};
 
 impl From<AllocError> for Memory {
     fn from(_: AllocError) -> Memory {
+        Memory
+    }
+}
+
+impl<T: Drop> From<AllocFailed<T>> for Memory {
+    fn from(_: AllocFailed<T>) -> Memory {
         Memory
     }
 }
@@ -14,6 +20,14 @@ impl From<AllocError> for Fault {
     ghost from_gives = { λ _ f. f ≡ fault.Memory };
 
     fn from(_: AllocError) -> Fault {
+        Fault::Memory
+    }
+}
+
+impl<T: Drop> From<AllocFailed<T>> for Fault {
+    ghost from_gives = { λ _ f. f ≡ fault.Memory };
+
+    fn from(_: AllocFailed<T>) -> Fault {
         Fault::Memory
     }
 }

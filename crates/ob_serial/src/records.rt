@@ -1,0 +1,49 @@
+use ob_base::{Fault, Op};
+
+/// Why a transaction was aborted. Keys are of any kind `K`.
+#[derive(Clone, Copy, Debug, PartialEq, Eq)]
+pub enum Why<K> {
+    /// It wrote a key whose version before its own a later ticket, the reader, had read.
+    Conflict { key: K, reader: u64 },
+    /// It had read a version of this ticket, which was aborted.
+    Depends { on: u64 },
+    /// So many keys were queued that the batches that were left had no place for its get.
+    ReadsFull { queued: u64, left: u64 },
+    /// So many other keys had versions that the write batch had no place for its write.
+    WritesFull { keys: u64 },
+    /// Its epoch was closed before it asked to commit.
+    EpochEnd,
+    /// Its client asked for it.
+    Asked,
+    /// The proxy stopped.
+    Stopped { fault: Fault },
+}
+
+/// How a transaction ended.
+#[derive(Clone, Copy, Debug, PartialEq, Eq)]
+pub enum Outcome<K> {
+    /// It is committed, and its epoch is durable.
+    Committed,
+    /// It was aborted, and changed nothing.
+    Aborted { why: Why<K> },
+    /// It is not known whether its epoch is durable.
+    Unsure { epoch: u64 },
+}
+
+/// A transaction: its timestamp (epoch, then ticket in the epoch, from 1), its client, its
+/// operations as they were answered, and how it ended.
+#[derive(Debug, Drop)]
+pub struct TxnRecord<K> {
+    pub epoch: u64,
+    pub ticket: u64,
+    pub client: u32,
+    pub ops: Vec<Op<K>>,
+    pub outcome: Outcome<K>,
+}
+
+/// An epoch with its transactions, in rising tickets.
+#[derive(Debug, Drop)]
+pub struct EpochRecord<K> {
+    pub epoch: u64,
+    pub txns: Vec<TxnRecord<K>>,
+}
