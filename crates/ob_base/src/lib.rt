@@ -2,16 +2,27 @@
 #![tactic(auto)]
 
 mod fault;
+mod job;
+mod jobs;
+mod layout;
 mod le;
 mod op;
 mod params;
 mod refusals;
+mod tree;
 mod value;
 
 pub use fault::{Check, Damaged, Failed, Fault, Field, Memory, StashFull, Worn};
+pub use job::{Job, Place};
+pub use jobs::Jobs;
+pub use layout::{
+    addresses_apart, addresses_lie, cells, check_cell, checkpoint_cells, checkpoint_len, log_cell,
+    meta_len, record_cells, regions_apart, regions_within, slot_cell,
+};
 pub use le::{set_u32, set_u64, u32_at, u64_at};
 pub use op::Op;
 pub use params::Params;
+pub use tree::{bucket_of, buckets, reverse};
 pub use value::{Key, Value, Write};
 
 #[cfg(test)]
