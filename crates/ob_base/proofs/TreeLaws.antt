@@ -1,7 +1,7 @@
 -- The buckets of a level, and numbers turned round.
 use Rattle.std.specs.Prelude.{◌≡◌, ◌<◌, ◌≤◌, ℕ, ◌+◌, ◌-◌, ◌*◌, ◌/◌, ◌%◌, ◌^◌}
-use Rattle.std.proofs.Common.{arith, suc, zero, ◌∙◌, sym, ap, add-one, pow-add}
-use Rattle.std.proofs.Math.Nat.{pow-le-pow_right, div-lt_iff_lt-mul, pow-suc, mod-eq_of_lt}
+use Rattle.std.proofs.Common.{arith, suc, ◌∙◌, sym, ap, add-one, pow-add}
+use Rattle.std.proofs.Math.Nat.{div-lt_iff_lt-mul, pow-suc, mod-eq_of_lt}
 use Rattle.std.proofs.lemmas.Nat.{pow_pos}
 use Rattle.ob_base.specs.declared.params.Params.{Params}
 use Rattle.ob_base.specs.Tree.{buckets, bucket_of, reversed}

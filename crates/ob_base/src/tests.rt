@@ -1,3 +1,8 @@
+ghost use Rattle.std.specs.Prelude.{◌≡◌, IfSome};
+ghost use Rattle.ob_base.specs.Tree.{buckets, width};
+ghost use Rattle.ob_base.specs.Layout.{record_cells, checkpoint_cells};
+ghost use Rattle.ob_base.specs.Planned.{most_jobs};
+
 use crate::{
     Field, Job, Jobs, Params, Place, Value, bucket_of, buckets, cells, check_cell,
     checkpoint_cells, checkpoint_len, log_cell, record_cells, reverse, set_u32, set_u64, slot_cell,
@@ -47,8 +52,13 @@ fn numbers_stand_low_byte_first(rt: HostRuntime) {
     assert_eq!(rt; u64_at(&bytes, 6), 0x0807_0605_0403_0201);
 }
 
-fn small() -> Option<Params> {
-    Params::new(8, 2, 2, 3, 2, 2, 2, 2, 8).ok()
+fn small() -> Option<Params>
+    ensures { IfSome result (λ p. (p.levels ≡ 2) × (p.batches ≡ 2) × (p.places ≡ 2) × (width p ≡ 5) × (buckets p ≡ 7) × (record_cells p ≡ 1) × (checkpoint_cells p ≡ 11) × (most_jobs p ≡ 18)) }
+{
+    match Params::new(8, 2, 2, 3, 2, 2, 2, 2, 8) {
+        Ok(p) => Some(p),
+        Err(_) => None,
+    }
 }
 
 #[test]
