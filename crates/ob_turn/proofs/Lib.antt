@@ -1,0 +1,2 @@
+pub mod BellSteps
+pub mod Prefixes

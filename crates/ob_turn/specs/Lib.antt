@@ -1,0 +1,2 @@
+pub mod BellCalls
+pub mod BellHistory
