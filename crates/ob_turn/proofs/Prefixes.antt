@@ -32,3 +32,11 @@ module _ {A : Type 0} where
   longer-other [] ys p = refl
   longer-other (x ∷ xs) [] p = absurd (cc (p.1))
   longer-other (x ∷ xs) (y ∷ ys) p = let head : x ≡ y = cc (p.1) in let rest : longer xs ys ≡ ys = longer-other xs ys (p.0, cc (p.1)) in cc (head, rest)
+
+  pub longer-left : (xs ys : List A) → IsPrefix xs (longer xs ys)
+  longer-left [] ys = (ys, refl)
+  longer-left (x ∷ xs) [] = ([], append-nil (x ∷ xs))
+  longer-left (x ∷ xs) (y ∷ ys) = let rest = longer-left xs ys in (rest.0, ap (λ l. x ∷ l) rest.1)
+
+  pub prefix_trans : (xs ys zs : List A) → IsPrefix xs ys → IsPrefix ys zs → IsPrefix xs zs
+  prefix_trans xs ys zs p q = (p.0 ++ q.0, sym (append_assoc xs p.0 q.0) ∙ (ap (λ w. w ++ q.0) p.1 ∙ q.1))
