@@ -1,22 +1,19 @@
 -- A new table keeps the rule, and so does the cut of a seat.
-use Rattle.std.proofs.Common.{◌≡◌, ◌≢◌, ℕ, zero, suc, ◌+◌, ◌-◌, ◌*◌, ◌/◌, ◌%◌, ◌^◌, ◌<◌, ◌≤◌, ◌⊎◌, Bool, true, false, List, [], ◌∷◌, ◌++◌, length, set, slice_set, refl, ap, sym, ◌∙◌, subst, arith, inl, inr, ⊎_elim, Some, None}
-use mathlib.Core.Option.{Option as Opt, some, none, some-injective, some-ne-none}
-use mathlib.Core.List.{IsPrefix}
+use Rattle.std.proofs.Common.{◌≡◌, ◌≢◌, ℕ, zero, suc, ◌+◌, ◌^◌, ◌<◌, ◌≤◌, true, List, [], ◌∷◌, ◌++◌, length, set, refl, ap, sym, ◌∙◌, subst, arith, inl, inr, ⊎_elim}
+use mathlib.Core.Option.{Option as Opt, some, some-ne-none}
 use lib.ListN.{get_elem?}
 use Rattle.atomic_table.specs.Table.{State, Splits, opening}
 use Rattle.atomic_table.proofs.Lists.{at_longer}
 use Rattle.ob_turn.specs.declared.turn.Entry.{Entry}
 use Rattle.ob_turn.specs.declared.turn.View.{View}
 use Rattle.ob_turn.specs.declared.turn.Stage.{Stage}
-use Rattle.ob_turn.specs.declared.turn.Stage.TheVariants.{Idle, Ready, Waiting, Inside}
+use Rattle.ob_turn.specs.declared.turn.Stage.TheVariants.{Idle, Inside}
 use Rattle.ob_turn.specs.declared.turn.Slot.{Slot}
-use Rattle.ob_turn.specs.declared.turn.Slot.TheVariants.{Rests, Out, Leaves}
-use Rattle.ob_turn.specs.declared.turn.Joined.{Joined}
-use Rattle.ob_turn.specs.History.{entry, entries_of, Leads}
-use Rattle.ob_turn.specs.TurnRule.{value_in, queued, readied, Holds, total, Unique, HasTicket, HasName, parts_of, queued_of, readied_of, FitsStage, Settled, Fits, Home, Kept, kept_back, handed_on, first_view}
+use Rattle.ob_turn.specs.declared.turn.Slot.TheVariants.{Rests}
+use Rattle.ob_turn.specs.TurnRule.{queued, readied, Holds, HasTicket, HasName, parts_of, queued_of, readied_of, FitsStage, Settled, Fits, Home, Kept, kept_back, handed_on, first_view}
 use Rattle.std.specs.List.{All}
 use Rattle.std.proofs.lemmas.List.Elements.{All-nil, All-weaker}
-use Rattle.ob_turn.proofs.Totals.{total_set, total_snoc, stay, stay_longer, unique_set, unique_same, unique_longer}
+use Rattle.ob_turn.proofs.Totals.{total_set, total_snoc, stay, stay_longer, unique_same, unique_longer}
 use Rattle.ob_turn.proofs.TurnSteps.{home_stays, settled_stays}
 
 module _ (T E : Type 0) (steps : T → E → T → Type 0) (opened : T) (seats : ℕ) where
@@ -39,16 +36,16 @@ module _ (T E : Type 0) (steps : T → E → T → Type 0) (opened : T) (seats :
       → (i : ℕ) (z : P) → get_elem? (views ++ u ∷ []) i ≡ some z → All (Settled opened log (names + 1) (views ++ u ∷ [])) z.joined
   settled_longer log names views u new none_joined old i z ati =
       All-weaker (Settled opened log names views) (Settled opened log (names + 1) (views ++ u ∷ []))
-          (λ gone s. let below : gone.by < names = s.named in record {
-            opening_is = s.opening_is;
-            prefix = s.prefix;
-            named = omega (arith, below);
-            own = s.own;
-            no_seat = stay_longer (λ (n : ℕ) (z : P). 0 < z.parts → z.by ≡ gone.by → ⊥) views u (λ n z b p e. s.no_seat n z b p e) (λ _ e. absurd (omega (arith, e, below, new)));
-          })
-          z.joined
-          (stay_longer (λ (n : ℕ) (z : P). All (Settled opened log names views) z.joined) views u (λ n z b. old n z b)
-              (subst (All (Settled opened log names views)) (sym none_joined) (All-nil (Settled opened log names views))) i z ati)
+      (λ gone s. let below : gone.by < names = s.named in record {
+        opening_is = s.opening_is;
+        prefix = s.prefix;
+        named = omega (arith, below);
+        own = s.own;
+        no_seat = stay_longer (λ (n : ℕ) (z : P). 0 < z.parts → z.by ≡ gone.by → ⊥) views u (λ n z b p e. s.no_seat n z b p e) (λ _ e. absurd (omega (arith, e, below, new)));
+      })
+      z.joined
+      (stay_longer (λ (n : ℕ) (z : P). All (Settled opened log names views) z.joined) views u (λ n z b. old n z b)
+      (subst (All (Settled opened log names views)) (sym none_joined) (All-nil (Settled opened log names views))) i z ati)
 
   pub splits : (id : ℕ) (v : P) → v.stage ≡ Idle → v.cuts ≡ true → 2 ≤ v.parts → Splits {S = Slot T E} Rule id v (kept_back v) (handed_on v)
   splits id v is cuts two s r at =
@@ -62,7 +59,7 @@ module _ (T E : Type 0) (steps : T → E → T → Type 0) (opened : T) (seats :
       let unready : readied v.stage ≡ 0 = ap readied is in
       let views' : List P = set s.views id w in
       let joined : (j : ℕ) (z : P) → get_elem? views' j ≡ some z → 0 < z.parts → z.by < r.names =
-          stay (λ (j : ℕ) (z : P). 0 < z.parts → z.by < r.names) s.views id w (λ _. named.0) (λ j z _ b p. ((r.each j z b).named p).0) in
+      stay (λ (j : ℕ) (z : P). 0 < z.parts → z.by < r.names) s.views id w (λ _. named.0) (λ j z _ b p. ((r.each j z b).named p).0) in
       let idle : FitsStage r.log r.ticket u u.stage = subst (FitsStage r.log r.ticket u) (sym is) tt in
       record {
         log = r.log;
@@ -77,14 +74,14 @@ module _ (T E : Type 0) (steps : T → E → T → Type 0) (opened : T) (seats :
         bound = omega (arith, total_set readied_of s.views id v w at, total_snoc readied_of views' u, unready, r.bound);
         each = stay_longer (Fits opened r.log r.ticket (length views') (r.names + 1) seats) views' u
             (stay (Fits opened r.log r.ticket (length views') (r.names + 1) seats) s.views id w
-                record { opening_is = λ _. fit.opening_is cutter.2; prefix = fit.prefix; named = λ _. (omega (arith, last), named.1); cuts = λ e. absurd (cc e); stage = subst (FitsStage r.log r.ticket w) (sym is) tt }
-                (λ j z ne a. let f = r.each j z a in record {
-                  opening_is = f.opening_is;
-                  prefix = f.prefix;
-                  named = λ p. let n = f.named p in let below = n.0 in (omega (arith, below), n.1);
-                  cuts = λ e. absurd (ne ((f.cuts e).0 ∙ sym cutter.0));
-                  stage = f.stage;
-                }))
+            record { opening_is = λ _. fit.opening_is cutter.2; prefix = fit.prefix; named = λ _. (omega (arith, last), named.1); cuts = λ e. absurd (cc e); stage = subst (FitsStage r.log r.ticket w) (sym is) tt }
+            (λ j z ne a. let f = r.each j z a in record {
+              opening_is = f.opening_is;
+              prefix = f.prefix;
+              named = λ p. let n = f.named p in let below = n.0 in (omega (arith, below), n.1);
+              cuts = λ e. absurd (ne ((f.cuts e).0 ∙ sym cutter.0));
+              stage = f.stage;
+            }))
             record {
               opening_is = λ _. fit.opening_is cutter.2;
               prefix = fit.prefix;

@@ -1,26 +1,23 @@
 -- A seat that takes in another, and the end.
-use Rattle.std.proofs.Common.{◌≡◌, ◌≢◌, ℕ, zero, suc, ◌+◌, ◌-◌, ◌*◌, ◌/◌, ◌%◌, ◌^◌, ◌<◌, ◌≤◌, ◌⊎◌, Bool, true, false, List, [], ◌∷◌, ◌++◌, length, set, slice_set, slice_index, refl, ap, sym, ◌∙◌, subst, arith, inl, inr, ⊎_elim, Option, Some, None}
+use Rattle.std.proofs.Common.{◌≡◌, ◌≢◌, ℕ, ◌<◌, ◌≤◌, List, [], ◌∷◌, ◌++◌, set, refl, ap, sym, ◌∙◌, subst, arith, ⊎_elim, Option}
 use mathlib.Core.Option.{Option as Opt, some, none, some-injective, some-ne-none}
-use mathlib.Core.List.{IsPrefix}
 use mathlib.Core.Logic.{dite}
 use native.Mathlib.Decide.{ℕ_discrete}
 use lib.ListN.{get_elem?}
-use Rattle.atomic_table.specs.Table.{State, Me, step, keeps, Allows, Joins, Final, Seen}
+use Rattle.atomic_table.specs.Table.{State, Me, Joins, Final, Seen}
 use Rattle.atomic_table.proofs.Lists.{at_set}
 use Rattle.ob_turn.specs.declared.turn.Entry.{Entry}
 use Rattle.ob_turn.specs.declared.turn.Joined.{Joined}
 use Rattle.ob_turn.specs.declared.turn.View.{View}
-use Rattle.ob_turn.specs.declared.turn.Stage.{Stage}
-use Rattle.ob_turn.specs.declared.turn.Stage.TheVariants.{Idle, Ready, Waiting, Inside}
+use Rattle.ob_turn.specs.declared.turn.Stage.TheVariants.{Idle, Inside}
 use Rattle.ob_turn.specs.declared.turn.Slot.{Slot}
-use Rattle.ob_turn.specs.declared.turn.Slot.TheVariants.{Rests, Out, Noted, Leaves}
 use Rattle.ob_turn.specs.History.{entries_of, Leads, Stands, TellsOf, Tells}
-use Rattle.ob_turn.specs.TurnRule.{value_in, queued, readied, Holds, total, Unique, HasTicket, HasName, parts_of, queued_of, readied_of, FitsStage, Settled, Fits, Home, Kept, both_views, spent_view, joined_of}
+use Rattle.ob_turn.specs.TurnRule.{value_in, queued, readied, HasTicket, HasName, parts_of, queued_of, readied_of, FitsStage, Settled, Fits, Kept, both_views, spent_view, joined_of}
 use Rattle.std.specs.List.{All}
 use Rattle.std.proofs.lemmas.List.Elements.{All-nil, All-append, All-push, All-weaker}
 use Rattle.ob_turn.proofs.Prefixes.{longer-prefix}
 use Rattle.ob_turn.proofs.Totals.{total_set, total_two, stay, unique_set, unique_same}
-use Rattle.ob_turn.proofs.TurnSteps.{home_stays, settled_stays}
+use Rattle.ob_turn.proofs.TurnSteps.{home_stays}
 
 module _ (T E : Type 0) (steps : T → E → T → Type 0) (opened : T) (seats : ℕ) where
   abbrev P : Type 0
@@ -60,7 +57,7 @@ module _ (T E : Type 0) (steps : T → E → T → Type 0) (opened : T) (seats :
       let S0 : Joined T E → Type 0 = Settled opened r.log r.names s.views in
       let S1 : Joined T E → Type 0 = Settled opened r.log r.names views' in
       let carry : (l : List (Joined T E)) → All S0 l → All S1 l =
-          λ l h. All-weaker S0 S1 (λ gone t. record { opening_is = t.opening_is; prefix = t.prefix; named = t.named; own = t.own; no_seat = unnamed_joined s id v other w some_part at apart gone.by (λ n z _ q p e. t.no_seat n z q p e) }) l h in
+      λ l h. All-weaker S0 S1 (λ gone t. record { opening_is = t.opening_is; prefix = t.prefix; named = t.named; own = t.own; no_seat = unnamed_joined s id v other w some_part at apart gone.by (λ n z _ q p e. t.no_seat n z q p e) }) l h in
       let fit = r.each other w was in
       let named = fit.named its_part in
       let last : S1 (joined_of w) = record {
@@ -71,10 +68,10 @@ module _ (T E : Type 0) (steps : T → E → T → Type 0) (opened : T) (seats :
         no_seat = unnamed_joined s id v other w some_part at apart w.by (λ n z ne q p same. ne (r.one_name n other w.by z w q was (p, same) (its_part, refl)));
       } in
       stay (λ (n : ℕ) (z : P). All S1 z.joined) (set s.views id (both_views v w)) other spent_view (All-nil S1)
-          (λ n z _ q. stay (λ (n : ℕ) (z : P). All S1 z.joined) s.views id (both_views v w)
-              (All-append S1 v.joined (w.joined ++ joined_of w ∷ []) (carry v.joined (r.settled id v at)) (All-push S1 w.joined (joined_of w) (carry w.joined (r.settled other w was)) last))
-              (λ n z _ q. carry z.joined (r.settled n z q)) n z q)
-          i u ati
+      (λ n z _ q. stay (λ (n : ℕ) (z : P). All S1 z.joined) s.views id (both_views v w)
+      (All-append S1 v.joined (w.joined ++ joined_of w ∷ []) (carry v.joined (r.settled id v at)) (All-push S1 w.joined (joined_of w) (carry w.joined (r.settled other w was)) last))
+      (λ n z _ q. carry z.joined (r.settled n z q)) n z q)
+      i u ati
 
   pub joins : (id : ℕ) (v : P) (other : ℕ) (w : P) → v.stage ≡ Idle → w.stage ≡ Idle → 0 < v.parts → 0 < w.parts → Joins {S = Slot T E} Rule id v other w (both_views v w) spent_view
   joins id v other w is its some_part its_part s r at apart there =
@@ -103,14 +100,14 @@ module _ (T E : Type 0) (steps : T → E → T → Type 0) (opened : T) (seats :
         each = stay (Fits opened r.log r.ticket r.cutter r.names seats) one other gone
             record { opening_is = λ p. absurd (omega (arith, p)); prefix = (r.log, refl); named = λ p. absurd (omega (arith, p)); cuts = λ e. absurd (cc e); stage = tt }
             (λ j u _ q. stay (Fits opened r.log r.ticket r.cutter r.names seats) s.views id both
-                record {
-                  opening_is = λ _. fit.opening_is some_part;
-                  prefix = longer-prefix v.seen w.seen r.log fit.prefix fitw.prefix;
-                  named = λ _. fit.named some_part;
-                  cuts = λ e. absurd (cc e);
-                  stage = subst (FitsStage r.log r.ticket both) (sym is) tt;
-                }
-                (λ j u _ e. r.each j u e) j u q);
+            record {
+              opening_is = λ _. fit.opening_is some_part;
+              prefix = longer-prefix v.seen w.seen r.log fit.prefix fitw.prefix;
+              named = λ _. fit.named some_part;
+              cuts = λ e. absurd (cc e);
+              stage = subst (FitsStage r.log r.ticket both) (sym is) tt;
+            }
+            (λ j u _ e. r.each j u e) j u q);
         one_turn = unique_set HasTicket one other gone (unique_same HasTicket s.views id v both r.one_turn at (λ k h. h)) (λ k j u h _ _ _. h);
         one_name = unique_set HasName one other gone (unique_same HasName s.views id v both r.one_name at (λ k h. (some_part, h.1))) (λ k j u h _ _ _. let p = h.0 in omega (arith, p));
         settled = settled_joined s r id v other w some_part its_part at apart was;
@@ -128,9 +125,9 @@ module _ (T E : Type 0) (steps : T → E → T → Type 0) (opened : T) (seats :
   none_inside s r id v at all is j k u a e = dite (ℕ_discrete j id)
       (λ same. let one : u ≡ v = some-injective u v (sym a ∙ (ap (get_elem? s.views) same ∙ at)) in let stages : Inside k ≡ Idle = sym e ∙ (ap (λ (z : P). z.stage) one ∙ is) in cc stages)
       (λ ne.
-          let f : FitsStage r.log r.ticket u (Inside k) = subst (FitsStage r.log r.ticket u) e (r.each j u a).stage in
-          let p : 0 < u.parts = f.2 in
-          omega (arith, p, idle_others s r id v at all j u ne a))
+      let f : FitsStage r.log r.ticket u (Inside k) = subst (FitsStage r.log r.ticket u) e (r.each j u a).stage in
+      let p : 0 < u.parts = f.2 in
+      omega (arith, p, idle_others s r id v at all j u ne a))
 
   -- The value that comes out at the end is what the whole history leads to.
   pub ends : (id : ℕ) (v : P) (ws : List ℕ) (xs : List (Slot T E)) → v.parts ≡ seats → v.stage ≡ Idle → Final (Seen Rule id v) ws xs
@@ -141,7 +138,7 @@ module _ (T E : Type 0) (steps : T → E → T → Type 0) (opened : T) (seats :
       let at = f.1.1 in
       let some_part : 0 < v.parts = let n = r.some_seat in omega (arith, all, n) in
       let t = ⊎_elim {C = (y : Slot T E) × (x : T) × (s.homes ≡ some y ∷ []) × (value_in y ≡ some x) × Leads steps opened r.log x}
-          (λ t. (t.0, t.1, t.2, t.3, t.4)) (λ t. absurd (none_inside s r id v at all is t.1.0 t.1.1 t.1.2 t.1.3 t.1.4)) r.home in (
+      (λ t. (t.0, t.1, t.2, t.3, t.4)) (λ t. absurd (none_inside s r id v at all is t.1.0 t.1.1 t.1.2 t.1.3 t.1.4)) r.home in (
         t.0,
         t.1,
         f.4 0 t.0 (ap (λ (l : List (Opt (Slot T E))). get_elem? l 0) t.2),

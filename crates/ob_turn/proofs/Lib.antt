@@ -1,4 +1,5 @@
 pub mod BellSteps
+pub mod Closing
 pub mod Cuts
 pub mod Entries
 pub mod Joining

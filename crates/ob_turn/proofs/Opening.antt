@@ -1,8 +1,8 @@
 -- The seats of a new turn, cut off one after another.
-use Rattle.std.proofs.Common.{◌≡◌, ℕ, zero, suc, ◌+◌, ◌-◌, ◌<◌, ◌≤◌, true, false, List, [], ◌∷◌, ◌++◌, length, slice_index_or, refl, ap, sym, ◌∙◌, subst, arith, length-append}
+use Rattle.std.proofs.Common.{◌≡◌, ℕ, zero, suc, ◌+◌, ◌-◌, ◌<◌, true, false, List, [], ◌∷◌, ◌++◌, length, slice_index_or, sym, ◌∙◌, subst, arith, length-append}
 use Rattle.atomic_table.specs.Seated.{TableId}
 use Rattle.ob_turn.specs.TurnRule.{kept_back, handed_on, fresh_view}
-use Rattle.ob_turn.specs.TurnCalls.{Turn, TurnSeat, AreSeats, IsFresh}
+use Rattle.ob_turn.specs.TurnCalls.{Turn, TurnSeat, AreSeats}
 
 module _ {T E : Type 0} where
   -- the seat of the caller k has seen and done nothing
@@ -63,7 +63,7 @@ module _ {T E : Type 0} where
       let part : m.parts ≡ 1 = let p = m.all in omega (arith, p, all) in
       let now : last.me ≡ (fresh_view x (length items) 1 true, []) = m.knows ∙ (λ i. (fresh_view x (length items) (part i) true, [])) in
       let each : FreshFrom z x 0 (items ++ last ∷ []) =
-          fresh_longer z x 0 items last m.fresh (m.table, subst (λ (j : ℕ). last.me ≡ (fresh_view x j 1 last.me.0.cuts, [])) (omega arith) (now ∙ (λ i. (fresh_view x (length items) 1 (sym now i).0.cuts, [])))) in
+      fresh_longer z x 0 items last m.fresh (m.table, subst (λ (j : ℕ). last.me ≡ (fresh_view x j 1 last.me.0.cuts, [])) (omega arith) (now ∙ (λ i. (fresh_view x (length items) 1 (sym now i).0.cuts, [])))) in
       let whole : AreSeats turn x seats (items ++ last ∷ []) = record {
         told = told;
         long = long ∙ all;

@@ -1,6 +1,6 @@
 -- Numbers of seats, added up, and numbers that only one seat has.
-use Rattle.std.proofs.Common.{◌≡◌, ◌≢◌, ℕ, zero, suc, ◌+◌, ◌<◌, ◌≤◌, List, [], ◌∷◌, ◌++◌, length, set, refl, ap, sym, ◌∙◌, subst, arith, inl, inr, ⊎_elim, ◌⊎◌}
-use mathlib.Core.Option.{some, none, some-injective, some-ne-none}
+use Rattle.std.proofs.Common.{◌≡◌, ◌≢◌, ℕ, zero, suc, ◌+◌, ◌≤◌, List, [], ◌∷◌, ◌++◌, length, set, refl, ap, sym, ◌∙◌, subst, arith, inl, inr, ⊎_elim, ◌⊎◌}
+use mathlib.Core.Option.{some, some-injective, some-ne-none}
 use lib.ListN.{get_elem?}
 use Rattle.atomic_table.proofs.Lists.{at_set}
 use Rattle.ob_turn.specs.TurnRule.{total, Unique}
@@ -41,13 +41,13 @@ module _ {V : Type 0} where
       → Unique R (set views id w)
   unique_set R views id w old new i j k a b ati atj ra rb = ⊎_elim
       (λ (t : (i ≡ id) × (w ≡ a)). ⊎_elim
-          (λ (u : (j ≡ id) × (w ≡ b)). t.0 ∙ sym u.0)
-          (λ (u : (j ≢ id) × (get_elem? views j ≡ some b)). absurd (new k j b (subst (λ (z : V). R z k) (sym t.1) ra) u.0 u.1 rb))
-          (at_set views id j w b atj))
+      (λ (u : (j ≡ id) × (w ≡ b)). t.0 ∙ sym u.0)
+      (λ (u : (j ≢ id) × (get_elem? views j ≡ some b)). absurd (new k j b (subst (λ (z : V). R z k) (sym t.1) ra) u.0 u.1 rb))
+      (at_set views id j w b atj))
       (λ (t : (i ≢ id) × (get_elem? views i ≡ some a)). ⊎_elim
-          (λ (u : (j ≡ id) × (w ≡ b)). absurd (new k i a (subst (λ (z : V). R z k) (sym u.1) rb) t.0 t.1 ra))
-          (λ (u : (j ≢ id) × (get_elem? views j ≡ some b)). old i j k a b t.1 u.1 ra rb)
-          (at_set views id j w b atj))
+      (λ (u : (j ≡ id) × (w ≡ b)). absurd (new k i a (subst (λ (z : V). R z k) (sym u.1) rb) t.0 t.1 ra))
+      (λ (u : (j ≢ id) × (get_elem? views j ≡ some b)). old i j k a b t.1 u.1 ra rb)
+      (at_set views id j w b atj))
       (at_set views id i w a ati)
 
   -- the seat keeps the number that it has

@@ -1,27 +1,27 @@
 -- Each step of the turn keeps its rule.
-use Rattle.std.proofs.Common.{◌≡◌, ◌≢◌, ℕ, zero, suc, ◌+◌, ◌-◌, ◌*◌, ◌/◌, ◌%◌, ◌^◌, ◌<◌, ◌≤◌, ◌⊎◌, Bool, true, false, List, [], ◌∷◌, ◌++◌, length, set, slice_set, slice_index, refl, ap, sym, ◌∙◌, subst, arith, inl, inr, ⊎_elim, length-append, lt_of_not-le, Option, Some, None}
-use mathlib.Core.Option.{Option as Opt, some, none, some-injective, some-ne-none}
+use Rattle.std.proofs.Common.{◌≡◌, ◌≢◌, ℕ, ◌+◌, ◌%◌, ◌^◌, ◌<◌, ◌≤◌, List, [], ◌∷◌, ◌++◌, length, set, slice_set, slice_index, refl, ap, sym, ◌∙◌, subst, arith, inl, inr, ⊎_elim, length-append, lt_of_not-le, Option}
+use mathlib.Core.Option.{Option as Opt, some, none, some-injective}
 use mathlib.Core.List.{IsPrefix}
 use mathlib.Core.Logic.{dite}
 use native.Mathlib.Decide.{ℕ_discrete, dec_le}
 use lib.ListN.{get_elem?}
 use Rattle.std.specs.declared.snapshot.Snapshot.{Snapshot}
-use Rattle.atomic_table.specs.Table.{State, Me, Step, step, keeps, takes, gives, stepped, put_back, rest, Allows, Splits, Joins, opening}
-use Rattle.atomic_table.proofs.Lists.{at_set, set_again, set_else}
+use Rattle.atomic_table.specs.Table.{State, Me, step, keeps, takes, gives, stepped, put_back, rest, Allows}
+use Rattle.atomic_table.proofs.Lists.{set_again, set_else}
 use Rattle.ob_turn.specs.declared.turn.Entry.{Entry}
 use Rattle.ob_turn.specs.declared.turn.View.{View}
 use Rattle.ob_turn.specs.declared.turn.Stage.{Stage}
 use Rattle.ob_turn.specs.declared.turn.Stage.TheVariants.{Idle, Ready, Waiting, Inside}
 use Rattle.ob_turn.specs.declared.turn.Slot.{Slot}
-use Rattle.ob_turn.specs.declared.turn.Slot.TheVariants.{Rests, Out, Noted, Leaves}
+use Rattle.ob_turn.specs.declared.turn.Slot.TheVariants.{Noted, Leaves}
 use Rattle.ob_turn.specs.declared.turn.Joined.{Joined}
-use Rattle.ob_turn.specs.History.{entry, entries_of, Calls, Leads, Stands, IsAt}
-use Rattle.ob_turn.specs.TurnRule.{value_in, queued, readied, Holds, total, Unique, HasTicket, HasName, parts_of, queued_of, readied_of, staged, FitsStage, Settled, Fits, Home, Kept, Entered, Watches, Arrives, Draws, noting, Notes, left, Goes}
+use Rattle.ob_turn.specs.History.{entry, entries_of, Leads, Stands, IsAt}
+use Rattle.ob_turn.specs.TurnRule.{value_in, queued, readied, Holds, total, HasTicket, HasName, parts_of, queued_of, readied_of, staged, FitsStage, Settled, Fits, Home, Kept, Entered, Watches, Arrives, Draws, noting, Notes, left, Goes}
 use Rattle.ob_turn.proofs.Entries.{entries-same, entries-other, stands-snoc}
 use Rattle.ob_turn.proofs.Prefixes.{prefix_self, prefix_snoc}
 use Rattle.std.specs.List.{All}
 use Rattle.std.proofs.lemmas.List.Elements.{All-weaker}
-use Rattle.ob_turn.proofs.Totals.{total_set, total_snoc, total_at, total_le, set_there, stay, unique_set, unique_same}
+use Rattle.ob_turn.proofs.Totals.{total_set, total_at, total_le, set_there, stay, unique_set, unique_same}
 
 module _ {T E : Type 0} where
   ready_le : (log : List (Entry E)) (ticket : ℕ) (v : View T E) (st : Stage) → FitsStage log ticket v st → readied st ≤ v.parts
@@ -73,9 +73,16 @@ module _ (T E : Type 0) (steps : T → E → T → Type 0) (opened : T) (seats :
       → Home steps opened log homes views → Home steps opened log homes (set views id w)
   home_stays log homes views id v w at nv nw h = ⊎_elim
       (λ t. inl (t.0, t.1, t.2, t.3, t.4, λ by k u e. stay (λ (j : ℕ) (z : P). (z.stage ≢ Inside k)) views id w (nw k) (λ j z _ a. t.5 j k z a) by u e))
-      (λ t. let x = t.1 in inr (t.0, (x.0, x.1, x.2,
+      (λ t. let x = t.1 in inr (
+        t.0,
+        (
+          x.0,
+          x.1,
+          x.2,
           set_else views id x.0 w (λ same. let u : x.2 ≡ v = some-injective x.2 v (sym x.3 ∙ (ap (get_elem? views) same ∙ at)) in nv x.1 (ap (λ (z : P). z.stage) (sym u) ∙ x.4)) ∙ x.3,
-          x.4)))
+          x.4,
+        ),
+      ))
       h
 
   -- What was settled stays so, where a seat keeps its caller and what it knows of those joined into it.
@@ -95,8 +102,8 @@ module _ (T E : Type 0) (steps : T → E → T → Type 0) (opened : T) (seats :
       → (i : ℕ) (u : P) → get_elem? (set views id w) i ≡ some u → All (Settled opened log names (set views id w)) u.joined
   settled_stays log names views id v w at joined named old i u ati =
       All-weaker (Settled opened log names views) (Settled opened log names (set views id w)) (settled_one log names views id v w at named) u.joined
-          (stay (λ (n : ℕ) (z : P). All (Settled opened log names views) z.joined) views id w
-              (subst (All (Settled opened log names views)) (sym joined) (old id v at)) (λ n z _ b. old n z b) i u ati)
+      (stay (λ (n : ℕ) (z : P). All (Settled opened log names views) z.joined) views id w
+      (subst (All (Settled opened log names views)) (sym joined) (old id v at)) (λ n z _ b. old n z b) i u ati)
 
   pub arrives : (slots id : ℕ) (me : M) → me.0.stage ≡ Idle → 0 < me.0.parts → Allows Rule slots id me 0 (λ n. n) (Arrives (step slots 0 0 0 none) me)
   arrives slots id me is some_part s r _ at _ =
@@ -112,40 +119,40 @@ module _ (T E : Type 0) (steps : T → E → T → Type 0) (opened : T) (seats :
         (refl, (λ early. absurd (omega (arith, late, early))), λ _. refl),
       ))
       (λ early.
-          let w : P = staged v Ready in
-          let fit = r.each id v at in
-          let each' : (j : ℕ) (u : P) → get_elem? (set s.views id w) j ≡ some u → Fits opened r.log r.ticket r.cutter r.names seats j u =
-              stay (Fits opened r.log r.ticket r.cutter r.names seats) s.views id w
-                  record { opening_is = fit.opening_is; prefix = fit.prefix; named = fit.named; cuts = fit.cuts; stage = some_part }
-                  (λ j u _ e. r.each j u e) in
-          let parts : total parts_of (set s.views id w) ≡ seats = omega (arith, total_set parts_of s.views id v w at, r.parts) in
-          let few : total readied_of (set s.views id w) ≤ total parts_of (set s.views id w) = total_le readied_of parts_of (set s.views id w) (λ j u e. ready_le r.log r.ticket u u.stage (each' j u e).stage) in
-          let was : queued v.stage ≡ 0 = ap queued is in (
-            w,
-            keeps,
-            tt,
-            record {
-              log = r.log;
-              ticket = r.ticket;
-              cutter = r.cutter;
-              names = r.names;
-              some_seat = r.some_seat;
+      let w : P = staged v Ready in
+      let fit = r.each id v at in
+      let each' : (j : ℕ) (u : P) → get_elem? (set s.views id w) j ≡ some u → Fits opened r.log r.ticket r.cutter r.names seats j u =
+      stay (Fits opened r.log r.ticket r.cutter r.names seats) s.views id w
+      record { opening_is = fit.opening_is; prefix = fit.prefix; named = fit.named; cuts = fit.cuts; stage = some_part }
+      (λ j u _ e. r.each j u e) in
+      let parts : total parts_of (set s.views id w) ≡ seats = omega (arith, total_set parts_of s.views id v w at, r.parts) in
+      let few : total readied_of (set s.views id w) ≤ total parts_of (set s.views id w) = total_le readied_of parts_of (set s.views id w) (λ j u e. ready_le r.log r.ticket u u.stage (each' j u e).stage) in
+      let was : queued v.stage ≡ 0 = ap queued is in (
+        w,
+        keeps,
+        tt,
+        record {
+          log = r.log;
+          ticket = r.ticket;
+          cutter = r.cutter;
+          names = r.names;
+          some_seat = r.some_seat;
           few = r.few;
-              words = same ∙ r.words;
-              parts = parts;
-              queue = omega (arith, total_set queued_of s.views id v w at, was, r.queue);
-              bound = omega (arith, few, parts, found, lt_of_not-le early);
-              each = each';
-              one_turn = unique_set HasTicket s.views id w r.one_turn (λ k j u h _ _ _. h);
-              one_name = unique_same HasName s.views id v w r.one_name at (λ k h. h);
-              settled = settled_stays r.log r.names s.views id v w at refl (λ p. (p, refl)) r.settled;
-              covered = r.covered;
-              legal = r.legal;
-              unnamed = r.unnamed;
-              home = home_stays r.log s.homes s.views id v w at (λ k e. absurd (cc (is, e))) (λ k e. absurd (cc e)) r.home;
-            },
-            (refl, (λ _. refl), λ late. absurd (early late)),
-          ))
+          words = same ∙ r.words;
+          parts = parts;
+          queue = omega (arith, total_set queued_of s.views id v w at, was, r.queue);
+          bound = omega (arith, few, parts, found, lt_of_not-le early);
+          each = each';
+          one_turn = unique_set HasTicket s.views id w r.one_turn (λ k j u h _ _ _. h);
+          one_name = unique_same HasName s.views id v w r.one_name at (λ k h. h);
+          settled = settled_stays r.log r.names s.views id v w at refl (λ p. (p, refl)) r.settled;
+          covered = r.covered;
+          legal = r.legal;
+          unnamed = r.unnamed;
+          home = home_stays r.log s.homes s.views id v w at (λ k e. absurd (cc (is, e))) (λ k e. absurd (cc e)) r.home;
+        },
+        (refl, (λ _. refl), λ late. absurd (early late)),
+      ))
 
   pub draws : (slots id : ℕ) (me : M) → me.0.stage ≡ Ready → Allows Rule slots id me 0 (λ n. (n + 1) % 2 ^ 64) (Draws (step slots 0 1 0 none) me)
   draws slots id me is s r _ at _ =
@@ -160,9 +167,9 @@ module _ (T E : Type 0) (steps : T → E → T → Type 0) (opened : T) (seats :
       let one : readied v.stage ≤ total readied_of s.views = total_at readied_of s.views id v at in
       let fits : (n + 1) % 2 ^ 64 ≡ r.ticket + 1 = grind (arith, found, one, ready, r.bound, r.few) in
       let each' : (j : ℕ) (u : P) → get_elem? (set s.views id w) j ≡ some u → Fits opened r.log (r.ticket + 1) r.cutter r.names seats j u =
-          stay (Fits opened r.log (r.ticket + 1) r.cutter r.names seats) s.views id w
-              record { opening_is = fit.opening_is; prefix = fit.prefix; named = fit.named; cuts = fit.cuts; stage = (omega (arith, r.queue, found), omega (arith, found), some_part) }
-              (λ j u _ e. let f = r.each j u e in record { opening_is = f.opening_is; prefix = f.prefix; named = f.named; cuts = f.cuts; stage = later r.log r.ticket u u.stage f.stage }) in (
+      stay (Fits opened r.log (r.ticket + 1) r.cutter r.names seats) s.views id w
+      record { opening_is = fit.opening_is; prefix = fit.prefix; named = fit.named; cuts = fit.cuts; stage = (omega (arith, r.queue, found), omega (arith, found), some_part) }
+      (λ j u _ e. let f = r.each j u e in record { opening_is = f.opening_is; prefix = f.prefix; named = f.named; cuts = f.cuts; stage = later r.log r.ticket u u.stage f.stage }) in (
         w,
         keeps,
         tt,
@@ -256,13 +263,13 @@ module _ (T E : Type 0) (steps : T → E → T → Type 0) (opened : T) (seats :
       let now : slice_index s.words 1 ≡ length r.log = ap (λ (l : List ℕ). slice_index l 1) r.words in
       dite (ℕ_discrete (slice_index s.words 1) k)
       (λ hit.
-          let e = enters s r id k me at is hit (⊎_elim (λ t. t) (λ t. absurd (out_by s r id k me.0 at is (sym hit ∙ now) s.homes t)) r.home) in (
-            e.0,
-            takes 0 e.1,
-            e.2,
-            e.3,
-            λ n also. let one : k ≡ n = waiting-injective k n (sym is ∙ also) in ((λ miss. absurd (miss (hit ∙ one))), λ _. subst (λ (m : ℕ). Entered steps me m (e.0, (0, e.1) ∷ me.1)) one e.4),
-          ))
+      let e = enters s r id k me at is hit (⊎_elim (λ t. t) (λ t. absurd (out_by s r id k me.0 at is (sym hit ∙ now) s.homes t)) r.home) in (
+        e.0,
+        takes 0 e.1,
+        e.2,
+        e.3,
+        λ n also. let one : k ≡ n = waiting-injective k n (sym is ∙ also) in ((λ miss. absurd (miss (hit ∙ one))), λ _. subst (λ (m : ℕ). Entered steps me m (e.0, (0, e.1) ∷ me.1)) one e.4),
+      ))
       (λ miss. (
         me.0,
         keeps,
@@ -346,21 +353,21 @@ module _ (T E : Type 0) (steps : T → E → T → Type 0) (opened : T) (seats :
       let fits : (n + 1) % 2 ^ 64 ≡ length log = grind (arith, now, here, under, long, r.bound, r.few) in
       let mine : Holds v.stage k = subst (λ (z : Stage). Holds z k) (sym is) refl in
       let other_turn : (j m : ℕ) (u : P) → j ≢ id → get_elem? s.views j ≡ some u → Holds u.stage m → m ≡ k → ⊥ =
-          λ j m u ne a h same. ne (r.one_turn j id k u v a at (subst (Holds u.stage) same h) mine) in
+      λ j m u ne a h same. ne (r.one_turn j id k u v a at (subst (Holds u.stage) same h) mine) in
       let out : s.homes ≡ none ∷ [] = ⊎_elim (λ t. absurd (t.5 id k v at is)) (λ t. t.0) r.home in
       let back : put_back s.homes me.1 ≡ some (Leaves x e) ∷ [] = (λ i. put_back (out i) (holds i)) in
       let led' : Leads steps opened log x = subst (λ (o : Option T). Stands steps o log x) (fit.opening_is some_part) (subst (λ (q : List (Entry E)). Stands steps v.opening (q ++ l ∷ []) x) whole (stands-snoc steps v.opening v.seen led.0 x v.by es led.1 led.2)) in
       let own : entries_of v.by log ≡ v.mine ++ l ∷ [] = entries-same v.by r.log es ∙ ap (λ (q : List (Entry E)). q ++ l ∷ []) named.1 in
       let settled' : (j : ℕ) (u : P) → get_elem? s.views j ≡ some u → All (Settled opened log r.names s.views) u.joined =
-          λ j u a. All-weaker (Settled opened r.log r.names s.views) (Settled opened log r.names s.views)
-              (λ gone t. record {
-                opening_is = t.opening_is;
-                prefix = prefix_snoc gone.seen r.log l t.prefix;
-                named = t.named;
-                own = entries-other gone.by v.by r.log es (λ same. t.no_seat id v at some_part (sym same)) ∙ t.own;
-                no_seat = t.no_seat;
-              })
-              u.joined (r.settled j u a) in (
+      λ j u a. All-weaker (Settled opened r.log r.names s.views) (Settled opened log r.names s.views)
+      (λ gone t. record {
+        opening_is = t.opening_is;
+        prefix = prefix_snoc gone.seen r.log l t.prefix;
+        named = t.named;
+        own = entries-other gone.by v.by r.log es (λ same. t.no_seat id v at some_part (sym same)) ∙ t.own;
+        no_seat = t.no_seat;
+      })
+      u.joined (r.settled j u a) in (
         w,
         gives,
         tt,
@@ -396,9 +403,16 @@ module _ (T E : Type 0) (steps : T → E → T → Type 0) (opened : T) (seats :
           covered = r.covered;
           legal = (x, led');
           unnamed = λ by above. entries-other by v.by r.log es (λ same. let b = named.0 in omega (arith, same, b, above)) ∙ r.unnamed by above;
-          home = inl (Leaves x e, x, back, refl, led', λ j m u a. stay (λ (j : ℕ) (u : P). (m : ℕ) → u.stage ≢ Inside m) s.views id w (λ m p. cc p)
-              (λ j u ne a m p. let f : FitsStage r.log r.ticket u (Inside m) = subst (FitsStage r.log r.ticket u) p (r.each j u a).stage in
-                  other_turn j m u ne a (subst (λ (z : Stage). Holds z m) (sym p) refl) (f.0 ∙ sym here)) j u a m);
+          home = inl (
+            Leaves x e,
+            x,
+            back,
+            refl,
+            led',
+            λ j m u a. stay (λ (j : ℕ) (u : P). (m : ℕ) → u.stage ≢ Inside m) s.views id w (λ m p. cc p)
+                (λ j u ne a m p. let f : FitsStage r.log r.ticket u (Inside m) = subst (FitsStage r.log r.ticket u) p (r.each j u a).stage in
+                other_turn j m u ne a (subst (λ (z : Stage). Holds z m) (sym p) refl) (f.0 ∙ sym here)) j u a m,
+          );
         },
         λ y f also.
             let same : e ≡ f = leaves_injective x y e f (cell_injective (Leaves x e) (Leaves y f) (sym holds ∙ also)) in (

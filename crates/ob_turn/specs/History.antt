@@ -34,6 +34,10 @@ module _ {T E : Type 0} (steps : T → E → T → Type 0) where
   abbrev pub IsAt : View T E → List E → T → Type 0
   IsAt v calls y = (x : T) × Stands v.opening v.seen x × Calls x calls y
 
+  -- y is what that history, and the calls that the seat has noted in this turn, lead to
+  abbrev pub Reaches : View T E → T → Type 0
+  Reaches v y = IsAt v v.noted y
+
   -- The history leads from the value that a seat knows as the opening one to x, begins with all that the seat has seen, and of its caller's entries it has just those that the seat made, each once.
   pub record TellsOf (log : List (Entry E)) (x : T) (opening : Option T) (by : ℕ) (seen mine : List (Entry E)) : Type 0 where
     pub legal : Stands opening log x

@@ -1,6 +1,6 @@
 -- What each call on a turn does to a seat.
-use Rattle.std.specs.Prelude.{◌≡◌, ℕ, ◌+◌, ◌<◌, ◌≤◌, Bool, true, false, List, [], ◌∷◌, ◌++◌, length, map, slice_index_or}
-use Rattle.std.specs.List.{All, sum}
+use Rattle.std.specs.Prelude.{◌≡◌, ℕ, ◌<◌, ◌≤◌, List, [], ◌∷◌, length, slice_index_or}
+use Rattle.std.specs.List.{All, sum_by}
 use mathlib.Core.List.{IsPrefix}
 use Rattle.atomic_table.specs.declared.shared.Seat.{Seat}
 use Rattle.ob_turn.specs.declared.turn.Board.{Board}
@@ -10,7 +10,7 @@ use Rattle.ob_turn.specs.declared.turn.Opened.{Opened}
 use Rattle.ob_turn.specs.declared.turn.Slot.{Slot}
 use Rattle.ob_turn.specs.declared.turn.View.{View}
 use Rattle.ob_turn.specs.declared.turn.Stage.TheVariants.{Idle, Inside}
-use Rattle.ob_turn.specs.History.{entries_of, IsAt, TellsOf, Tells}
+use Rattle.ob_turn.specs.History.{entries_of, Reaches, Tells}
 use Rattle.ob_turn.specs.TurnRule.{fresh_view, noting, left, both_views}
 
 abbrev pub Turn : Type 0 → Type 0 → Type 0
@@ -68,7 +68,7 @@ module _ {T E : Type 0} where
     pub knows : after.me.0 ≡ record before.me.0 { stage = after.me.0.stage; noted = []; seen = after.me.0.seen }
     pub goes_on : IsPrefix before.me.0.seen after.me.0.seen
     pub own : entries_of after.me.0.by after.me.0.seen ≡ after.me.0.mine
-    pub value : IsAt steps after.me.0 [] x
+    pub value : Reaches steps after.me.0 x
 
   -- the seat of a caller that has seen and done nothing, at a turn that began with x
   pub record IsFresh (turn : Turn T E) (x : T) (by : ℕ) (seat : TurnSeat T E) : Type 0 where
@@ -84,7 +84,7 @@ module _ {T E : Type 0} where
   -- these seats are all that there are: they have all parts
   pub record HaveAll (turn : Turn T E) (seats : List (TurnSeat T E)) : Type 0 where
     pub some_seat : 1 ≤ length seats
-    pub parts : sum (map (λ (s : TurnSeat T E). s.me.0.parts) seats) ≡ seats_of turn
+    pub parts : sum_by (λ (s : TurnSeat T E). s.me.0.parts) seats ≡ seats_of turn
 
   -- One whole history leads from the opening value to x. It begins with all that each seat, and each that was joined into one, had seen, and has just the entries that it made, each once. There are no others.
   pub record Whole (steps : T → E → T → Type 0) (turn : Turn T E) (seats : List (TurnSeat T E)) (x : T) : Type 0 where

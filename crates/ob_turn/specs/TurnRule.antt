@@ -14,7 +14,7 @@ use Rattle.ob_turn.specs.declared.turn.Slot.{Slot}
 use Rattle.ob_turn.specs.declared.turn.Slot.TheVariants.{Rests, Out, Noted, Leaves}
 use Rattle.ob_turn.specs.declared.turn.Joined.{Joined}
 use Rattle.ob_turn.specs.BellHistory.{longer}
-use Rattle.ob_turn.specs.History.{entry, entries_of, Leads, Stands, IsAt}
+use Rattle.ob_turn.specs.History.{entry, entries_of, Leads, Stands}
 
 -- the value that a slot has, if it has one
 abbrev pub value_in : {T E : Type 0} → Slot T E → Opt T
@@ -100,7 +100,7 @@ module _ {T E : Type 0} where
     abbrev pub Home : T → List (Entry E) → List (Opt (Slot T E)) → List (View T E) → Type 0
     Home opening log homes views =
         ((y : Slot T E) × (x : T) × (homes ≡ some y ∷ []) × (value_in y ≡ some x) × Leads steps opening log x
-            × ((by k : ℕ) (v : View T E) → get_elem? views by ≡ some v → v.stage ≢ Inside k))
+        × ((by k : ℕ) (v : View T E) → get_elem? views by ≡ some v → v.stage ≢ Inside k))
         ⊎ ((homes ≡ none ∷ []) × ((by k : ℕ) × (v : View T E) × (get_elem? views by ≡ some v) × (v.stage ≡ Inside k)))
 
     -- There is one legal history, as long as tickets were served; served tickets and those that seats hold are the tickets drawn; and what each seat knows is so.

@@ -8,19 +8,34 @@ use std::sync::Wait;
 
 /// A turn that is being taken: the seat, and the value while it is out. It can't be dropped: a
 /// turn ends by `Turn::leave`.
-pub struct Guard<'s, 't, E, T: Stepped<E>> {
+pub struct Guard<'s, 't, T: Stepped<E>, E> {
     pub seat: &'s mut TurnSeat<T, E>,
-    pub turn: &'t Turn<E, T>,
+    pub turn: &'t Turn<T, E>,
     pub value: T,
 }
 
-impl<E, T: Stepped<E>> Turn<E, T> {
+impl<'s, 't, E, T: Stepped<E>> Guard<'s, 't, T, E> {
+    /// Notes a call of this turn, behind those that are noted. It waits for nobody and takes no
+    /// memory, so a turn may have any number of calls, which are one entry of the history.
+    pub fn note(&mut self, call: Snapshot<E>)
+        requires own { IsOf self.old.turn.now self.old.seat.now }
+        requires inside { IsInside self.old.seat.now }
+        ensures noted { NotesCall self.old.seat.now self.new.seat.now call.value }
+        ensures own { IsOf self.new.turn.now self.new.seat.now }
+        ensures value { self.new.value ≡ self.old.value }
+        ensures seat { self.new.seat.ghost_name ≡ self.old.seat.ghost_name }
+    {
+        self.turn.note(self.seat, call);
+    }
+}
+
+impl<E, T: Stepped<E>> Turn<T, E> {
     /// Waits for the seat's turn, as `take` does.
     pub fn enter<'s, 't, R: Wait>(
         &'t self,
         rt: &R,
         seat: &'s mut TurnSeat<T, E>,
-    ) -> Guard<'s, 't, E, T>
+    ) -> Guard<'s, 't, T, E>
         requires own { IsOf self.now seat.old }
         requires idle { IsIdle seat.old }
         ensures seat { result.seat.ghost_name ≡ seat.entry.ghost_name }
@@ -36,7 +51,7 @@ impl<E, T: Stepped<E>> Turn<E, T> {
     }
 
     /// Ends the turn with its last call, as `put` does.
-    pub fn leave(guard: Guard<E, T>, last: Snapshot<E>)
+    pub fn leave(guard: Guard<T, E>, last: Snapshot<E>)
         requires own { IsOf guard.turn.now guard.seat.now }
         requires inside { IsInside guard.seat.now }
         requires value { IsAt T.steps guard.seat.now.me.0 (guard.seat.now.me.0.noted ++ last.value ∷ []) guard.value }

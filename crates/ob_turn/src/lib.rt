@@ -10,4 +10,6 @@ mod turn_end;
 
 pub use bell::{Bell, BellSeat, Heard, Rising};
 pub use guard::Guard;
-pub use turn::{Board, Entry, Joined, OneHistory, Opened, Slot, Stage, Stepped, Turn, TurnSeat, View};
+pub use turn::{
+    Board, Entry, Joined, OneHistory, Opened, Slot, Stage, Stepped, Turn, TurnSeat, View,
+};

@@ -155,4 +155,4 @@ pub struct Board<S, V, K, P: TableRule<S, V, K>> {
 
 /// A value that threads have in turns, behind a ticket lock. Word 0 is the next ticket, word 1
 /// the ticket that is served, and the slot has the value.
-pub type Turn<E, T> = Board<Slot<T, E>, View<T, E>, Opened<T>, OneHistory>;
+pub type Turn<T, E> = Board<Slot<T, E>, View<T, E>, Opened<T>, OneHistory>;

@@ -16,7 +16,7 @@ use std::sync::Wait;
 // The tickets below this may be drawn.
 const LAST: u64 = 1 << 63;
 
-impl<E, T: Stepped<E>> Turn<E, T> {
+impl<E, T: Stepped<E>> Turn<T, E> {
     // Draws a ticket. It waits for good once they are used up.
     fn draw<R: Wait>(&self, rt: &R, seat: &mut TurnSeat<T, E>) -> u64
         requires own { IsOf self.now seat.old }
@@ -110,7 +110,7 @@ impl<E, T: Stepped<E>> Turn<E, T> {
         alloc: Global,
         value: T,
         seats: u32,
-    ) -> Result<(Turn<E, T>, Vec<TurnSeat<T, E>>), AllocError>
+    ) -> Result<(Turn<T, E>, Vec<TurnSeat<T, E>>), AllocError>
         requires { 1 ≤ seats }
         ensures opened { IfOk result (λ r. AreSeats r.0 value seats r.1.items) }
     {
@@ -141,7 +141,7 @@ impl<E, T: Stepped<E>> Turn<E, T> {
         alloc: Global,
         value: T,
         seats: u32,
-    ) -> Result<(Turn<E, T>, Vec<TurnSeat<T, E>>), Memory>
+    ) -> Result<(Turn<T, E>, Vec<TurnSeat<T, E>>), Memory>
         requires { 1 ≤ seats }
         ensures opened { IfOk result (λ r. AreSeats r.0 value seats r.1.items) }
     {

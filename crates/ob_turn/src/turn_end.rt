@@ -4,7 +4,7 @@ ghost use Rattle.ob_turn.specs.TurnCalls.{IsOf, IsIdle, HaveAll, Whole};
 
 use crate::turn::{Board, Slot, Stepped, Turn, TurnSeat};
 
-impl<E, T: Stepped<E>> Turn<E, T> {
+impl<E, T: Stepped<E>> Turn<T, E> {
     /// The value at the end, to the seat that took in all others.
     pub fn close_with(self, seat: TurnSeat<T, E>) -> T
         requires own { IsOf self seat }

@@ -1,6 +1,6 @@
-use Rattle.std.proofs.Common.{rules, ◌≡◌, ◌∙◌, ap, arith}
+use Rattle.std.proofs.Common.{◌∙◌, arith}
 use Rattle.ob_turn.proofs.TurnSteps.{watches}
-use Rattle.ob_turn.proofs.turn_calls.Turn+E+T.wait.Goals as goal
+use Rattle.ob_turn.proofs.turn_calls.Turn+T+E.wait.Goals as goal
 
 pub load-served-requires : goal.load-served-requires
 load-served-requires g c =

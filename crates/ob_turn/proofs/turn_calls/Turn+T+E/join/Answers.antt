@@ -1,6 +1,6 @@
 use Rattle.std.proofs.Common.{arith}
 use Rattle.ob_turn.proofs.Joining.{joins}
-use Rattle.ob_turn.proofs.turn_calls.Turn+E+T.join.Goals as goal
+use Rattle.ob_turn.proofs.turn_calls.Turn+T+E.join.Goals as goal
 
 pub join_seat-requires : goal.join_seat-requires
 join_seat-requires g c = let own = c.requires.own in let p = c.requires.idle.0 in let q = c.requires.idle.1 in

@@ -1,7 +1,6 @@
-use Rattle.std.proofs.Common.{rules, ◌≡◌, ◌∙◌, ap, arith}
-use Rattle.ob_turn.specs.declared.turn.Stage.TheVariants.{Ready}
+use Rattle.std.proofs.Common.{◌≡◌, ◌∙◌, arith}
 use Rattle.ob_turn.proofs.TurnSteps.{arrives, draws}
-use Rattle.ob_turn.proofs.turn_calls.Turn+E+T.draw.Goals as goal
+use Rattle.ob_turn.proofs.turn_calls.Turn+T+E.draw.Goals as goal
 
 pub load-requires : goal.load-requires
 load-requires g c =

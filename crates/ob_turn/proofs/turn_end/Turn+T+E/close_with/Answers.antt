@@ -1,10 +1,10 @@
-use Rattle.std.proofs.Common.{◌≡◌, ap, arith, [], ◌∷◌}
+use Rattle.std.proofs.Common.{◌≡◌, ap, arith, []}
 use Rattle.std.proofs.lemmas.List.Elements.{All-cons, All-nil}
 use Rattle.ob_turn.specs.History.{Tells}
 use Rattle.ob_turn.specs.TurnRule.{value_in}
 use Rattle.ob_turn.specs.TurnCalls.{TurnSeat}
 use Rattle.ob_turn.proofs.Joining.{comes_out, never_empty}
-use Rattle.ob_turn.proofs.turn_end.Turn+E+T.close_with.Goals as goal
+use Rattle.ob_turn.proofs.turn_end.Turn+T+E.close_with.Goals as goal
 
 pub returns-in-Rests : goal.returns-in-Rests
 returns-in-Rests g c =
@@ -33,4 +33,3 @@ unreachable-requires-in-Out g c =
     let v = c.close_with-closed.ensures.values in
     let parts : c.args.seat.me.0.parts ≡ c.args.self.table.shared.key.seats = let p = c.requires.all.parts in omega (arith, p) in
     never_empty _ _ _ _ _ _ _ _ _ parts c.requires.idle.stage v.2 _ c.take-slot.ensures.value (ap value_in c.in-Out.is)
-
