@@ -10,7 +10,7 @@ use Rattle.ob_turn.specs.declared.bell.Heard.{Heard}
 use Rattle.ob_turn.specs.BellHistory.{latest, Rises, Knows, Rung, first_heard, kept_part, new_part, both_heard, spent_heard, Looks, Adds}
 use Rattle.ob_turn.proofs.Prefixes.{prefix_self, prefix_snoc, longer-prefix, longer-whole, longer-other}
 
-latest-snoc : (n x : ℕ) (xs : List ℕ) → latest n (xs ++ x ∷ []) ≡ x
+pub latest-snoc : (n x : ℕ) (xs : List ℕ) → latest n (xs ++ x ∷ []) ≡ x
 latest-snoc n x [] = refl
 latest-snoc n x (y ∷ ys) = latest-snoc y x ys
 

@@ -1,8 +1,7 @@
 -- Histories: the entries of one caller, and what a longer history leads to.
 use Rattle.std.proofs.Common.{◌≡◌, ◌≢◌, ℕ, ◌==◌, Option, Some, None, Bool, true, false, List, [], ◌∷◌, ◌++◌, if◌then◌else◌, refl, ap, sym, subst, eq-eqb, ne_eqb}
 use Rattle.ob_turn.specs.declared.turn.Entry.{Entry}
-use Rattle.ob_turn.specs.declared.turn.View.{View}
-use Rattle.ob_turn.specs.History.{entry, entries_of, Calls, Leads, Stands, IsAt}
+use Rattle.ob_turn.specs.History.{entry, entries_of, Calls, Leads, Stands}
 
 if-cons : {A : Type 0} (b : Bool) (l : A) (xs ys zs : List A) → xs ≡ ys ++ zs → (if b then l ∷ xs else xs) ≡ (if b then l ∷ ys else ys) ++ zs
 if-cons true l xs ys zs e = ap (λ m. l ∷ m) e
@@ -35,7 +34,3 @@ module _ {T E : Type 0} (steps : T → E → T → Type 0) where
   pub stands-snoc : (o : Option T) (ls : List (Entry E)) (y z : T) (by : ℕ) (es : List E) → Stands steps o ls y → Calls steps y es z → Stands steps o (ls ++ entry by es ∷ []) z
   stands-snoc None ls y z by es h st = absurd h
   stands-snoc (Some x) ls y z by es h st = leads-snoc x ls y z by es h st
-
-  -- The value after one more call of a turn.
-  pub next_call : (v : View T E) (es : List E) (x y : T) (e : E) → IsAt steps v es x → steps x e y → IsAt steps v (es ++ e ∷ []) y
-  next_call v es x y e at st = (at.0, at.1, calls-snoc at.0 es x y e at.2 st)

@@ -70,6 +70,13 @@ module _ {T E : Type 0} where
     pub own : entries_of after.me.0.by after.me.0.seen ≡ after.me.0.mine
     pub value : Reaches steps after.me.0 x
 
+  -- The seat's turn goes on: since it began, calls were noted and nothing else changed, and they lead to the value.
+  pub record GoesOn (steps : T → E → T → Type 0) (entered now : TurnSeat T E) (x : T) : Type 0 where
+    pub same : IsSame entered now
+    pub inside : IsInside now
+    pub knows : now.me.0 ≡ record entered.me.0 { noted = now.me.0.noted }
+    pub value : Reaches steps now.me.0 x
+
   -- the seat of a caller that has seen and done nothing, at a turn that began with x
   pub record IsFresh (turn : Turn T E) (x : T) (by : ℕ) (seat : TurnSeat T E) : Type 0 where
     pub own : IsOf turn seat

@@ -4,6 +4,8 @@
 mod bell;
 mod bell_calls;
 mod guard;
+#[cfg(test)]
+mod tests;
 mod turn;
 mod turn_calls;
 mod turn_end;
