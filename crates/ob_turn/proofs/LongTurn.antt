@@ -1,5 +1,5 @@
 -- A turn of several calls, for its caller: it begins, goes on with each call that is noted, and ends with the last.
-use Rattle.std.proofs.Common.{◌≡◌, List, ◌++◌, ◌∷◌, [], refl, sym, ◌∙◌, subst}
+use Rattle.std.proofs.Common.{List, ◌++◌, ◌∷◌, [], refl, sym, ◌∙◌, subst}
 use Rattle.ob_turn.specs.declared.turn.View.{View}
 use Rattle.ob_turn.specs.History.{IsAt, Reaches}
 use Rattle.ob_turn.specs.TurnRule.{noting}

@@ -8,7 +8,8 @@ use ob_base::Memory;
 use std::alloc::Global;
 
 impl Bell {
-    /// A bell at 0, and the one seat that may raise it, with so many parts. It fails only for want of memory.
+    /// A bell at 0, and the one seat that may raise it, with so many parts (1 to `2^32 - 1`), each
+    /// of which can be split off. It fails only for want of memory.
     pub fn new(alloc: Global, seats: u32) -> Result<(Bell, BellSeat), Memory>
         requires { 1 ≤ seats }
         ensures { IfOk result (λ b. IsOf b.0 b.1 × IsFirst seats b.1) }
@@ -26,7 +27,9 @@ impl Bell {
         self.table.shared.load::<Look>(seat, 0)
     }
 
-    /// Raises the number to an epoch that isn't below the one last raised.
+    /// Raises the number to an epoch that isn't below the one last raised. Its linearization point
+    /// is one addition of the difference: no other seat may raise, so the number read before it
+    /// stands until then.
     pub fn raise(&self, seat: &mut BellSeat, epoch: u64)
         requires own { IsOf self.now seat.old }
         requires conductor { seat.old.me.0.raises ≡ true }

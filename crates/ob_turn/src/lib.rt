@@ -1,4 +1,10 @@
-//! What threads share in order: a durable-epoch word, and a ticket lock with one history.
+//! What threads share in order.
+//!
+//! `Turn` is a ticket lock (Mellor-Crummey and Scott, "Algorithms for Scalable Synchronization on
+//! Shared-Memory Multiprocessors") round a value, with one history of the turns that were taken.
+//! `Bell` is a number that one thread raises and all read. The docs of a call name its
+//! linearization point (Herlihy and Wing, "Linearizability: A Correctness Condition for Concurrent
+//! Objects"): the one atomic step at which it takes effect.
 #![tactic(auto)]
 
 mod bell;

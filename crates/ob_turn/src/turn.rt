@@ -154,5 +154,6 @@ pub struct Board<S, V, K, P: TableRule<S, V, K>> {
 }
 
 /// A value that threads have in turns, behind a ticket lock. Word 0 is the next ticket, word 1
-/// the ticket that is served, and the slot has the value.
+/// the ticket that is served, and the slot has the value. There is one history of the turns, as
+/// long as tickets were served, and the value at rest is what it leads to from the opening value.
 pub type Turn<T, E> = Board<Slot<T, E>, View<T, E>, Opened<T>, OneHistory>;

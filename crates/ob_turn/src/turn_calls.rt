@@ -135,8 +135,8 @@ impl<E, T: Stepped<E>> Turn<T, E> {
         Ok((turn, places))
     }
 
-    /// A turn round this value, and a seat for each caller, named by their places. It fails only
-    /// for want of memory.
+    /// A turn round this value, and a seat for each caller (1 to `2^32 - 1` of them), named by
+    /// their places from 0 on. It fails only for want of memory, and then the value is dropped.
     pub fn new(
         alloc: Global,
         value: T,

@@ -1,4 +1,4 @@
-use Rattle.std.proofs.Common.{◌≡◌, ◌++◌, List, length, drop, arith, sym, subst, ◌∙◌, ◌<◌}
+use Rattle.std.proofs.Common.{◌≡◌, ◌++◌, length, drop, arith, sym, subst, ◌∙◌, ◌<◌}
 use Rattle.std.specs.List.{All}
 use Rattle.std.proofs.lemmas.Grind.{common_steps}
 use Rattle.std.proofs.lemmas.List.Elements.{All-append, All-drop, All-take}
