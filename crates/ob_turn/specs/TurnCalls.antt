@@ -51,7 +51,7 @@ module _ {T E : Type 0} where
     pub knows : after.me.0 ≡ noting before.me.0 call
 
   -- The turn is over. Its entry, the calls noted and the last one, stands at the end of the history, of which its caller's entries are those that the seat made.
-  pub record Goes (before after : TurnSeat T E) (last : E) : Type 0 where
+  pub record EndsTurn (before after : TurnSeat T E) (last : E) : Type 0 where
     pub same : IsSame before after
     pub knows : after.me ≡ (left before.me.0 last, [])
     pub own : entries_of after.me.0.by after.me.0.seen ≡ after.me.0.mine

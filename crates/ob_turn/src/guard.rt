@@ -1,6 +1,6 @@
 ghost use Rattle.std.specs.Prelude.{◌≡◌, ◌++◌, [], ◌∷◌};
 ghost use Rattle.ob_turn.specs.History.{IsAt};
-ghost use Rattle.ob_turn.specs.TurnCalls.{IsOf, IsIdle, IsInside, Enters, NotesCall, Goes};
+ghost use Rattle.ob_turn.specs.TurnCalls.{IsOf, IsIdle, IsInside, Enters, NotesCall, EndsTurn};
 
 use crate::turn::{Stepped, Turn, TurnSeat};
 use std::snapshot::Snapshot;
@@ -55,7 +55,7 @@ impl<E, T: Stepped<E>> Turn<T, E> {
         requires own { IsOf guard.turn.now guard.seat.now }
         requires inside { IsInside guard.seat.now }
         requires value { IsAt T.steps guard.seat.now.me.0 (guard.seat.now.me.0.noted ++ last.value ∷ []) guard.value }
-        ensures left { Goes guard.entry.seat.now guard.exit.0.now last.value }
+        ensures left { EndsTurn guard.entry.seat.now guard.exit.0.now last.value }
     {
         let Guard { seat, turn, value } = guard;
         turn.put(seat, value, last);

@@ -1,7 +1,7 @@
 ghost use Rattle.std.specs.Prelude.{◌≡◌, ◌<◌, ◌≤◌, ◌++◌, [], ◌∷◌, true, IfOk};
 ghost use Rattle.ob_turn.specs.History.{IsAt};
 ghost use Rattle.ob_turn.specs.TurnRule.{staged, Entered, kept_back, handed_on};
-ghost use Rattle.ob_turn.specs.TurnCalls.{IsOf, IsSame, IsIdle, IsInside, AreSeats, Enters, NotesCall, Goes, Joins};
+ghost use Rattle.ob_turn.specs.TurnCalls.{IsOf, IsSame, IsIdle, IsInside, AreSeats, Enters, NotesCall, EndsTurn, Joins};
 ghost use Rattle.ob_turn.specs.declared.turn.Stage.TheVariants.{Idle, Waiting};
 
 use crate::turn::{
@@ -86,7 +86,7 @@ impl<E, T: Stepped<E>> Turn<T, E> {
         requires own { IsOf self.now seat.old }
         requires inside { IsInside seat.old }
         requires value { IsAt T.steps seat.old.me.0 (seat.old.me.0.noted ++ last.value ∷ []) value }
-        ensures left { Goes seat.old seat.new last.value }
+        ensures left { EndsTurn seat.old seat.new last.value }
     {
         let shared = &self.table.shared;
         shared.exchange(seat, 0, Slot::Leaves(value, last));
