@@ -1,0 +1,7 @@
+pub mod Aborts
+pub mod Allowed
+pub mod Fine
+pub mod Maps
+pub mod Published
+pub mod Runs
+pub mod Sees

@@ -1,0 +1,10 @@
+//! The transaction manager: transactions, epochs, and how each transaction ended.
+#![tactic(auto)]
+
+mod calls;
+mod clients;
+mod laws;
+
+pub use calls::{Begun, Done, Got, Look, Txn};
+pub use clients::{Client, Holder};
+pub use laws::desk_is_serial;

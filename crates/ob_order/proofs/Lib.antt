@@ -1,0 +1,6 @@
+pub mod Edits
+pub mod Falls
+pub mod Links
+pub mod Newest
+pub mod Steps
+pub mod Tidies

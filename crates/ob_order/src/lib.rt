@@ -1,0 +1,8 @@
+//! Multiversion timestamp ordering over the keys of one epoch.
+#![tactic(auto)]
+
+mod answers;
+mod fate;
+
+pub use answers::{Read, Version, Wrote};
+pub use fate::Fate;
