@@ -1,5 +1,5 @@
 -- The text of a key file, and the keys in it.
-use Rattle.std.proofs.Common.{◌≡◌, ◌==◌, ℕ, zero, suc, ◌+◌, ◌-◌, ◌≤◌, ◌<◌, Bool, true, false, List, [], ◌∷◌, ◌++◌, ◌⊎◌, length, take, drop, get_or, arith, refl, sym, ap, ◌∙◌, if◌then◌else◌, inl, inr, append_assoc, length-take, length-drop, subst, ap₂, drop-cons}
+use Rattle.std.proofs.Common.{◌≡◌, ◌==◌, ℕ, suc, ◌-◌, ◌<◌, Bool, true, false, List, [], ◌∷◌, ◌++◌, length, take, drop, arith, refl, sym, ap, ◌∙◌, if◌then◌else◌, inl, inr, append_assoc, length-drop, subst, ap₂, drop-cons}
 use Rattle.std.specs.Prelude.{slice_index}
 use Rattle.std.proofs.lemmas.Bool.{eqb-true}
 use Rattle.std.proofs.lemmas.List.{take-append-drop, take_all, drop-drop, drop_all, length-take-le}

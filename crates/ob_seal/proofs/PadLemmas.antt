@@ -7,7 +7,7 @@ use Rattle.std.specs.List.{flat_map, range_with_len}
 use Rattle.std.proofs.lemmas.List.{append-nil}
 use Rattle.std.proofs.lemmas.List.Concat.{flat_map-append}
 use Rattle.rand_core.specs.Steps.{word_bytes}
-use Rattle.rand_chacha.specs.ChaCha.{ChaCha, word_at, next_word}
+use Rattle.rand_chacha.specs.ChaCha.{ChaCha, next_word}
 use Rattle.ob_seal.specs.Pads.{word_bytes_at, words_from, pad_place, xored}
 
 abbrev pub at_place : List ℕ → ℕ → ℕ → ChaCha

@@ -9,11 +9,14 @@ use std::marker::Model;
 // No seal has this number.
 const NUMBER_LIMIT: u64 = 1 << 62;
 
-/// What a sealed cell holds: its seal's generation and number, and its plain bytes.
+/// What a sealed cell holds. Its generation and number may be any, as far as none is expected.
 #[derive(Clone, Copy, Debug, PartialEq, Eq)]
 pub struct Opened {
+    /// The generation of its seal.
     pub generation: u64,
+    /// The number of its seal in that generation.
     pub number: u64,
+    /// Its plain bytes.
     pub plain: [u8; 96],
 }
 

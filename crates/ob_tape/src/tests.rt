@@ -101,3 +101,14 @@ fn each_generation_begins_the_list_anew(rt: HostRuntime) -> Result<(), Fail> {
     assert_eq!(rt; first_words(&mut tape, 4), [3, 7, 0, 0, 0, 0, 0, 0]);
     Ok(())
 }
+
+fn is_movable<T: Send + Sync>(_: &T) -> bool {
+    true
+}
+
+#[test]
+fn threads_may_take_tapes(rt: HostRuntime) -> Result<(), Fail> {
+    assert!(rt; is_movable(&ChaChaTape::new(&TAPE_KEY)));
+    assert!(rt; is_movable(&ListTape::new(rt.alloc(), &[1])?));
+    Ok(())
+}

@@ -1,4 +1,3 @@
-use Rattle.std.proofs.Common.{refl}
 use Rattle.ob_seal.proofs.KeyLemmas.{three_parts}
 use Rattle.ob_seal.proofs.keys.Keys.from_bytes.Goals as goal
 

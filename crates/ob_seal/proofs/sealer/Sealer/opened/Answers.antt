@@ -1,4 +1,4 @@
-use Rattle.std.proofs.Common.{◌≡◌, refl, arith, drop}
+use Rattle.std.proofs.Common.{arith}
 use Rattle.ob_seal.proofs.Spelling.{field_spelled, front_spelled}
 use Rattle.ob_seal.proofs.sealer.Sealer.opened.Goals as goal
 

@@ -1,9 +1,9 @@
-use Rattle.std.proofs.Common.{◌≡◌, ◌<◌, ◌^◌, ℕ, List, length, arith, refl, sym, ap, ap₂, ◌∙◌, subst, Ok, rules}
+use Rattle.std.proofs.Common.{sym, ap, ◌∙◌, subst, Ok, rules}
 use Rattle.std.proofs.lemmas.Result.{err_from_is_err_and}
-use Rattle.ob_seal.specs.Seals.{stamped, sealed, sealed_front}
+use Rattle.ob_seal.specs.Seals.{sealed_front}
 use Rattle.ob_seal.specs.declared.sealer.Opened.{Opened}
 use Rattle.ob_seal.specs.Damage.{IsExpected}
-use Rattle.ob_seal.proofs.Spelling.{sealed_stamped, sealed_same, sealed_parts, length-sealed_front, not_other, wrong_seal, sealed_from, opened_same}
+use Rattle.ob_seal.proofs.Spelling.{sealed_stamped, sealed_parts, length-sealed_front, not_other, wrong_seal, sealed_from, opened_same}
 use Rattle.ob_seal.proofs.sealer.Sealer.unseal.Goals as goal
 
 pub returns-in_err-front-clause-round_trip : goal.returns-in_err-front-clause-round_trip
