@@ -1,0 +1,6 @@
+pub mod Counting
+pub mod OrderLaws
+pub mod PartLaws
+pub mod RankLaws
+pub mod Ranges
+pub mod VersionLaws

@@ -1,0 +1,12 @@
+//! Buckets: the permutation of their slots, and what the proxy keeps of each.
+#![tactic(auto)]
+
+mod encode;
+mod meta;
+mod rank;
+
+pub use meta::Meta;
+pub use rank::ranks;
+
+#[cfg(test)]
+mod tests;
