@@ -89,9 +89,13 @@ pub record HasSlots (p : Params) (v : Version) : Type 0 where
 abbrev pub EMPTY : ℕ
 EMPTY = 4294967295
 
--- The marks of a version at an epoch's end: an index that holds a key wasn't shown, and fewer were shown than there are dummies.
+-- no index that holds a key was shown
+abbrev pub IsUnshown : List (Option ℕ) → List Bool → Type 0
+IsUnshown keys used = (j k : ℕ) → slice_index_or keys j None ≡ Some k → slice_index_or used j false ≡ false
+
+-- The marks of a version at an epoch's end: of those indexes, and fewer shown ones than there are dummies.
 pub record MarksObey (dummies : ℕ) (keys : List (Option ℕ)) (used : List Bool) : Type 0 where
-  pub unused : (j k : ℕ) → slice_index_or keys j None ≡ Some k → slice_index_or used j false ≡ false
+  pub unshown : IsUnshown keys used
   pub few : count_by (λ u. u) used < dummies
 
 -- what a version obeys at an epoch's end
@@ -102,7 +106,7 @@ pub record Obeys (p : Params) (v : Version) : Type 0 where
   pub marks : MarksObey p.dummies v.keys v.used
 
 -- its numbers fit their fields
-pub record Fits (v : Version) : Type 0 where
+pub record FitsFields (v : Version) : Type 0 where
   pub generation : v.generation < 2 ^ 64
   pub base : v.base < 2 ^ 64
   pub keys : (j k : ℕ) → key_at v j ≡ Some k → k < EMPTY
@@ -129,10 +133,17 @@ version_bytes v = v.home ∷ to_le_bytes w64 v.generation ++ (to_le_bytes w64 v.
 abbrev pub version_len : Version → ℕ
 version_len v = 17 + 4 * length v.keys + 2 * length v.ranks
 
+-- the bytes spell the version, whatever the rules
+pub record Reads (p : Params) (bytes : List ℕ) (v : Version) : Type 0 where
+  pub home : v.home < 2
+  pub slots : HasSlots p v
+  pub fits : FitsFields v
+  pub is : version_bytes v ≡ bytes
+
 -- the bytes spell a version that obeys the rules
 pub record Spells (p : Params) (bytes : List ℕ) (v : Version) : Type 0 where
   pub obeys : Obeys p v
-  pub fits : Fits v
+  pub fits : FitsFields v
   pub is : version_bytes v ≡ bytes
 
 -- what is spelled is read: two versions that the same bytes spell are one

@@ -1,6 +1,7 @@
 //! Buckets: the permutation of their slots, and what the proxy keeps of each.
 #![tactic(auto)]
 
+mod decode;
 mod encode;
 mod meta;
 mod rank;
