@@ -1,11 +1,14 @@
 -- Versions that are filled.
 use Rattle.std.specs.Prelude.{◌≡◌, ◌<◌, ◌≤◌, ℕ, ◌+◌, ◌-◌, Bool, false, true, List, [], ◌∷◌, ◌++◌, Option, Some, None, map, replicate, length, slice_get, slice_index, slice_index_or}
 use Rattle.std.specs.List.{range_with_len, refill}
-use Rattle.std.proofs.Common.{zero, suc, arith, refl, sym, ap, ◌∙◌, get_or, length-append}
-use Rattle.std.proofs.lemmas.List.{length-map, length-replicate, ext_get_or, get_or-replicate, take_at}
+use Rattle.std.proofs.Common.{zero, suc, arith, refl, sym, ap, ◌∙◌, get_or, length-append, add-one}
+use Rattle.std.proofs.lemmas.List.{length-map, length-replicate, ext_get_or, get_or-replicate, replicate-append-replicate, take_at}
 use Rattle.std.proofs.lemmas.List.FromFn.{length-map-range_with_len, get_or-map-range_with_len, length-range_with_len, get_or-range_with_len}
+use Rattle.ob_base.specs.declared.params.Params.{Params}
+use Rattle.ob_base.specs.Tree.{width}
 use Rattle.ob_bucket.specs.Rank.{rank, ranks_of, IsRanking}
 use Rattle.ob_bucket.specs.Version.{Version, AreRanks, IsWhole, filled, blank}
+use Rattle.ob_bucket.proofs.Counting.{range_more}
 use Rattle.ob_bucket.proofs.RankLaws.{rank_within, rank_apart}
 
 none_among : (m k : ℕ) → get_or (replicate {A = Option ℕ} m None) k None ≡ None
@@ -70,3 +73,28 @@ filled_is v home generation base keys words places ranks used w few long is_plac
 pub replicate_is : (xs : List Bool) (n : ℕ) → length xs ≡ n → ((k : ℕ) → k < n → get_or xs k true ≡ false) → xs ≡ replicate n false
 replicate_is xs n long at = ext_get_or true xs (replicate n false) (long ∙ sym (length-replicate {A = Bool} n false))
     (λ k h. (let low : k < n = omega arith in at k low ∙ sym (get_or-replicate n k false true low)))
+
+-- ---- before any version was written
+
+pub replicate_more : {X : Type 0} (n : ℕ) (x : X) → replicate (n + 1) x ≡ replicate n x ++ x ∷ []
+replicate_more n x = sym (replicate-append-replicate n 1 x)
+
+pub range_up : (n : ℕ) → range_with_len 0 (n + 1) ≡ range_with_len 0 n ++ n ∷ []
+range_up n = rw add-one (range_more 0 n n (omega arith))
+
+pub ranks_own : (n : ℕ) → AreRanks (range_with_len 0 n)
+ranks_own n =
+    let many : length (range_with_len 0 n) ≡ n = length-range_with_len 0 n in
+    let at : (j : ℕ) → j < n → slice_index (range_with_len 0 n) j ≡ j = λ j h. (let e : slice_index (range_with_len 0 n) j ≡ 0 + j = get_or-range_with_len 0 n j 0 h in omega arith) in
+    record {
+      low = λ j h. (let k : j < n = omega arith in omega (arith, at j k));
+      apart = λ i j h k e. (let a : i < n = omega arith in let b : j < n = omega arith in omega (arith, at i a, at j b));
+    }
+
+pub whole_blank : (p : Params) → IsWhole (blank p)
+whole_blank p = record {
+  home = omega arith;
+  keys = omega (arith, length-replicate {A = Option ℕ} p.real None, length-range_with_len 0 (width p));
+  used = length-replicate {A = Bool} (width p) false ∙ sym (length-range_with_len 0 (width p));
+  ranks = ranks_own (width p);
+}

@@ -4,9 +4,11 @@
 mod decode;
 mod encode;
 mod meta;
+mod metas;
 mod rank;
 
-pub use meta::Meta;
+pub use meta::{Meta, spelled_once};
+pub use metas::Metas;
 pub use rank::ranks;
 
 #[cfg(test)]

@@ -33,6 +33,21 @@ impl Model for Meta {
 }
 
 impl Meta {
+    // What is kept of a bucket before any version was written.
+    pub(crate) fn blank(p: &Params) -> Meta
+        ensures { result ≡ blank p.now }
+    {
+        let slots = (p.real + p.dummies) as usize;
+        Meta {
+            home: 0,
+            generation: 0,
+            base: 0,
+            keys: no_keys(p.real as usize),
+            ranks: own_ranks(slots),
+            used: no_marks(slots),
+        }
+    }
+
     /// Which of the bucket's two places in the store holds it, 0 or 1.
     pub fn home(&self) -> u8
         ensures home { result ≡ self.now.home }
@@ -154,8 +169,8 @@ fn put_keys(places: &mut [Option<Key>], keys: &[Key])
     }
 }
 
-// No index was shown.
-fn clear_marks(used: &mut [bool])
+// No mark is set.
+pub(crate) fn clear_marks(used: &mut [bool])
     ensures { used.new ≡ replicate (length used.old) false }
 {
     for mark in used.iter_mut() {
@@ -198,4 +213,46 @@ fn first_with(keys: &[Option<Key>], key: Key) -> Option<u8>
         }
     }
     None
+}
+
+// Real indexes that hold no key.
+fn no_keys(real: usize) -> ArrayVec<Option<Key>, 16>
+    requires { real ≤ 16 }
+    ensures { result.items ≡ replicate real None }
+{
+    let mut keys = ArrayVec::new();
+    for _j in 0..real {
+        keys.push(None);
+    }
+    keys
+}
+
+// Each index in the slot of its own number.
+fn own_ranks(slots: usize) -> ArrayVec<u8, 48>
+    requires { slots ≤ 48 }
+    ensures { result.items ≡ range_with_len 0 slots }
+{
+    let mut ranks = ArrayVec::new();
+    for j in 0..slots {
+        ranks.push(j as u8);
+    }
+    ranks
+}
+
+// Indexes that weren't shown.
+fn no_marks(slots: usize) -> ArrayVec<bool, 48>
+    requires { slots ≤ 48 }
+    ensures { result.items ≡ replicate slots false }
+{
+    let mut used = ArrayVec::new();
+    for _j in 0..slots {
+        used.push(false);
+    }
+    used
+}
+
+/// Bytes spell at most one version that obeys the rules.
+pub fn spelled_once()
+    ensures { SpelledOnce }
+{
 }
