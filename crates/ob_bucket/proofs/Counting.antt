@@ -1,7 +1,7 @@
 -- How many numbers of a list pass a test, and numbers that fill a range.
-use Rattle.std.specs.Prelude.{◌≡◌, ◌≢◌, ℕ, ◌+◌, ◌-◌, ◌<◌, ◌≤◌, Bool, true, false, not, ◌&&◌, List, [], ◌∷◌, ◌++◌, length}
-use Rattle.std.specs.List.{count_by, sum_by, find, range_with_len}
-use Rattle.std.proofs.Common.{zero, suc, add-one, Option, Some, None, cond, ltb, arith, refl, sym, ap, ◌∙◌, get_or, inl, inr, ◌⊎◌, ⊎_elim}
+use Rattle.std.specs.Prelude.{◌≡◌, ◌≢◌, ℕ, ◌+◌, ◌-◌, ◌<◌, ◌≤◌, Bool, true, false, List, [], ◌∷◌, ◌++◌, length}
+use Rattle.std.specs.List.{count_by, find, range_with_len}
+use Rattle.std.proofs.Common.{zero, suc, add-one, Option, Some, None, cond, ltb, arith, refl, sym, ap, ◌∙◌, get_or, inl, inr, ◌⊎◌}
 use Rattle.std.proofs.lemmas.List.Sums.{sum_by-cons, sum_by_push}
 use Rattle.std.proofs.lemmas.Bool.{true≢false, false≢true, cases_eq}
 use Rattle.std.proofs.lemmas.Bool.Decides.{nat_tests}

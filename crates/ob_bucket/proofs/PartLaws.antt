@@ -1,5 +1,5 @@
 -- Parts written into bytes, one behind the other.
-use Rattle.std.specs.Prelude.{◌≡◌, ◌<◌, ◌≤◌, ℕ, ◌+◌, ◌*◌, Bool, List, [], ◌∷◌, ◌++◌, Option, Some, None, take, drop, length, slice_index, slice_index_or, slice_set, if◌then◌else◌}
+use Rattle.std.specs.Prelude.{◌≡◌, ◌<◌, ◌≤◌, ℕ, ◌+◌, ◌*◌, Bool, List, [], ◌∷◌, ◌++◌, Option, Some, None, take, drop, length, slice_set}
 use Rattle.std.specs.List.{flat_map}
 use Rattle.std.specs.Int.{w32, w64, to_le_bytes}
 use Rattle.std.proofs.Common.{zero, suc, arith, refl, sym, ap, ◌∙◌, get_or, false, length-append, length-take, length-drop, append_assoc, add-one}
@@ -19,8 +19,8 @@ parts_joined b at p q m e fits =
     let long : length front ≡ m = omega (arith, length-append (take at b) p, length-take at b) in
     let head : take m (front ++ back) ≡ front = take_at front back m long in
     let tail : drop (m + length q) (front ++ back) ≡ drop (at + length (p ++ q)) b =
-        sym (drop-drop (length q) m (front ++ back)) ∙ ap (drop (length q)) (drop_at front back m long) ∙ drop-drop (length q) (at + length p) b
-        ∙ ap (λ (n : ℕ). drop n b) (let n : length (p ++ q) ≡ length p + length q = length-append p q in let z : (at + length p) + length q ≡ at + length (p ++ q) = omega arith in z) in
+    sym (drop-drop (length q) m (front ++ back)) ∙ ap (drop (length q)) (drop_at front back m long) ∙ drop-drop (length q) (at + length p) b
+    ∙ ap (λ (n : ℕ). drop n b) (let n : length (p ++ q) ≡ length p + length q = length-append p q in let z : (at + length p) + length q ≡ at + length (p ++ q) = omega arith in z) in
     ap (λ (xs : List ℕ). xs ++ q ++ drop (m + length q) (front ++ back)) head ∙ ap (λ (xs : List ℕ). front ++ q ++ xs) tail
     ∙ ap (λ (xs : List ℕ). xs ++ drop (at + length (p ++ q)) b) (append_assoc (take at b) p q)
 
@@ -59,8 +59,8 @@ pub keys_more : (b : List ℕ) (at : ℕ) (keys : List (Option ℕ)) (j : ℕ) (
 keys_more b at keys j number h fits spelled =
     let n : length (take j keys) ≡ j = length-take-le j keys (omega arith) in
     let more : flat_map key_bytes (take (j + 1) keys) ≡ flat_map key_bytes (take j keys) ++ to_le_bytes w32 number =
-        ap (flat_map key_bytes) (take_more keys j None h) ∙ flat_map-append key_bytes (take j keys) (get_or keys j None ∷ [])
-        ∙ ap (λ (xs : List ℕ). flat_map key_bytes (take j keys) ++ xs) (append-nil (key_bytes (get_or keys j None)) ∙ sym spelled) in
+    ap (flat_map key_bytes) (take_more keys j None h) ∙ flat_map-append key_bytes (take j keys) (get_or keys j None ∷ [])
+    ∙ ap (λ (xs : List ℕ). flat_map key_bytes (take j keys) ++ xs) (append-nil (key_bytes (get_or keys j None)) ∙ sym spelled) in
     parts_joined b at (flat_map key_bytes (take j keys)) (to_le_bytes w32 number) (at + 4 * j) (omega (arith, keys_width (take j keys))) (omega arith)
     ∙ ap (with_part b at) (sym more)
 
@@ -86,8 +86,8 @@ indexes_more b at ranks used j r m h same fits is_r is_m =
     let wide : length p ≡ 2 * j = omega (arith, index_width (take j ranks) (take j used) (l ∙ sym n)) in
     let k : j < length used = omega arith in
     let more : index_bytes (take (j + 1) ranks) (take (j + 1) used) ≡ p ++ r ∷ m ∷ [] =
-        ap (λ (xs : List ℕ). index_bytes xs (take (j + 1) used)) (take_more ranks j 0 h) ∙ ap (index_bytes (take j ranks ++ get_or ranks j 0 ∷ [])) (take_more used j false k)
-        ∙ index_push (take j ranks) (take j used) (get_or ranks j 0) (get_or used j false) (l ∙ sym n) ∙ rw (is_r, is_m) refl in
+    ap (λ (xs : List ℕ). index_bytes xs (take (j + 1) used)) (take_more ranks j 0 h) ∙ ap (index_bytes (take j ranks ++ get_or ranks j 0 ∷ [])) (take_more used j false k)
+    ∙ index_push (take j ranks) (take j used) (get_or ranks j 0) (get_or used j false) (l ∙ sym n) ∙ rw (is_r, is_m) refl in
     let whole : length (with_part b at p) ≡ length b = length_part b at p (omega arith) in
     let one : slice_set (with_part b at p) (at + 2 * j) r ≡ with_part b at (p ++ r ∷ []) = set_part (with_part b at p) (at + 2 * j) r (omega arith) ∙ parts_joined b at p (r ∷ []) (at + 2 * j) (omega arith) (omega arith) in
     let long : length (p ++ r ∷ []) ≡ 2 * j + 1 = omega (arith, length-append p (r ∷ [])) in

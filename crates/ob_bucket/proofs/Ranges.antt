@@ -1,11 +1,9 @@
 -- Counting in a range of numbers.
-use Rattle.std.specs.Prelude.{◌≡◌, ◌≢◌, ℕ, ◌+◌, ◌<◌, ◌≤◌, ◌==◌, Bool, true, false, cond, not, ◌||◌, List, [], ◌∷◌, ◌++◌, length}
-use Rattle.std.specs.declared.option.Option.TheVariants.{Some}
-use Rattle.std.specs.List.{count_by, find, range_with_len, list_any}
-use Rattle.std.proofs.Common.{zero, suc, add-one, arith, refl, sym, ap, ◌∙◌, inl, inr, ◌⊎◌}
-use Rattle.std.proofs.lemmas.Bool.{false≢true, cases_eq, cases_Bool, eq-eqb, ne_eqb, or_cases}
-use Rattle.std.proofs.lemmas.List.Sums.{sum_by-append}
-use Rattle.ob_bucket.proofs.Counting.{count_by-cons, count_by-range_more}
+use Rattle.std.specs.Prelude.{◌≡◌, ◌≢◌, ℕ, ◌+◌, ◌<◌, ◌==◌, Bool, false, cond, ◌||◌}
+use Rattle.std.specs.List.{count_by, range_with_len}
+use Rattle.std.proofs.Common.{zero, suc, add-one, arith, refl, sym, inl, inr}
+use Rattle.std.proofs.lemmas.Bool.{cases_eq, eq-eqb, ne_eqb}
+use Rattle.ob_bucket.proofs.Counting.{count_by-range_more}
 
 -- two tests that agree in a range count alike there
 pub count_by-range_agree : (p q : ℕ → Bool) (n : ℕ) → ((j : ℕ) → j < n → p j ≡ q j) → count_by p (range_with_len 0 n) ≡ count_by q (range_with_len 0 n)

@@ -2,17 +2,17 @@
 use Rattle.std.specs.Prelude.{◌≡◌, ◌<◌, ◌≤◌, ℕ, ◌+◌, ◌-◌, ◌*◌, ◌^◌, ◌==◌, Bool, true, false, List, [], ◌∷◌, ◌++◌, Option, Some, None, take, drop, length, slice_index, slice_index_or}
 use Rattle.std.specs.Int.{w32, w64, to_le_bytes, from_le_bytes}
 use Rattle.std.specs.List.{flat_map}
-use Rattle.std.proofs.Common.{zero, suc, arith, refl, sym, ap, subst, ◌∙◌, length-append, get_or, length-drop, length-take, append_assoc, add-one}
-use Rattle.std.proofs.lemmas.List.{take-append-drop, drop-drop, append-nil, drop_more, take_more, take_all, get_or-drop, get_or-append-add, get_or-take}
+use Rattle.std.proofs.Common.{zero, suc, arith, refl, sym, ap, subst, ◌∙◌, length-append, get_or, length-drop, length-take, append_assoc}
+use Rattle.std.proofs.lemmas.List.{take-append-drop, drop-drop, append-nil, drop_more, take_more, take_all, get_or-drop, get_or-append-add}
 use Rattle.std.proofs.lemmas.List.Concat.{flat_map-cons, flat_map-append}
 use Rattle.std.proofs.lemmas.Nat.{from_le_bytes-to_le_bytes_4, from_le_bytes-to_le_bytes_8, le_bytes_4, le_bytes_8}
 use Rattle.ob_base.specs.declared.params.Params.{Params}
 use Rattle.ob_base.specs.Tree.{width}
 use Rattle.ob_base.specs.Layout.{meta_len}
 use Rattle.ob_base.specs.LittleEndian.{field_at}
-use Rattle.ob_bucket.specs.Version.{Version, HasSlots, FitsFields, AreRanks, MarksObey, Obeys, Reads, Spells, SpelledOnce, EMPTY, key_at, used_at, key_bytes, mark_of, index_bytes, version_bytes}
+use Rattle.ob_bucket.specs.Version.{Version, HasSlots, FitsFields, AreRanks, MarksObey, Reads, Spells, SpelledOnce, EMPTY, used_at, key_bytes, mark_of, index_bytes, version_bytes}
 use Rattle.ob_bucket.proofs.VersionLaws.{version_of}
-use Rattle.ob_bucket.proofs.PartLaws.{key_width, keys_width, index_width, index_push}
+use Rattle.ob_bucket.proofs.PartLaws.{key_width, keys_width, index_push}
 
 -- ---- lists
 
@@ -176,12 +176,12 @@ pub parts_are : (bytes : List ℕ) (v : Version) (low : (i : ℕ) → get_or byt
 parts_are bytes v low long home generation base keys indexes =
     let last : take (2 * length v.ranks) (drop (17 + 4 * length v.keys) bytes) ≡ drop (17 + 4 * length v.keys) bytes = take_all (2 * length v.ranks) (drop (17 + 4 * length v.keys) bytes) (omega (arith, length-drop (17 + 4 * length v.keys) bytes)) in
     let e4 : flat_map key_bytes v.keys ++ index_bytes v.ranks v.used ≡ drop 17 bytes =
-        ap (λ (xs : List ℕ). xs ++ index_bytes v.ranks v.used) keys ∙ ap (λ (xs : List ℕ). take (4 * length v.keys) (drop 17 bytes) ++ xs) (indexes ∙ last ∙ sym (drop-drop (4 * length v.keys) 17 bytes))
-        ∙ take-append-drop (4 * length v.keys) (drop 17 bytes) in
+    ap (λ (xs : List ℕ). xs ++ index_bytes v.ranks v.used) keys ∙ ap (λ (xs : List ℕ). take (4 * length v.keys) (drop 17 bytes) ++ xs) (indexes ∙ last ∙ sym (drop-drop (4 * length v.keys) 17 bytes))
+    ∙ take-append-drop (4 * length v.keys) (drop 17 bytes) in
     let e3 : to_le_bytes w64 v.base ++ (flat_map key_bytes v.keys ++ index_bytes v.ranks v.used) ≡ drop 9 bytes =
-        ap (λ (xs : List ℕ). to_le_bytes w64 v.base ++ xs) (e4 ∙ sym (drop-drop 8 9 bytes)) ∙ ap (λ (xs : List ℕ). xs ++ drop 8 (drop 9 bytes)) (field64 bytes 9 v.base low (omega arith) base) ∙ take-append-drop 8 (drop 9 bytes) in
+    ap (λ (xs : List ℕ). to_le_bytes w64 v.base ++ xs) (e4 ∙ sym (drop-drop 8 9 bytes)) ∙ ap (λ (xs : List ℕ). xs ++ drop 8 (drop 9 bytes)) (field64 bytes 9 v.base low (omega arith) base) ∙ take-append-drop 8 (drop 9 bytes) in
     let e2 : to_le_bytes w64 v.generation ++ (to_le_bytes w64 v.base ++ (flat_map key_bytes v.keys ++ index_bytes v.ranks v.used)) ≡ drop 1 bytes =
-        ap (λ (xs : List ℕ). to_le_bytes w64 v.generation ++ xs) (e3 ∙ sym (drop-drop 8 1 bytes)) ∙ ap (λ (xs : List ℕ). xs ++ drop 8 (drop 1 bytes)) (field64 bytes 1 v.generation low (omega arith) generation) ∙ take-append-drop 8 (drop 1 bytes) in
+    ap (λ (xs : List ℕ). to_le_bytes w64 v.generation ++ xs) (e3 ∙ sym (drop-drop 8 1 bytes)) ∙ ap (λ (xs : List ℕ). xs ++ drop 8 (drop 1 bytes)) (field64 bytes 1 v.generation low (omega arith) generation) ∙ take-append-drop 8 (drop 1 bytes) in
     let some : 0 < length bytes = omega arith in
     let e1 : bytes ≡ get_or bytes 0 0 ∷ drop 1 bytes = drop_more bytes 0 0 some in
     ap (λ (xs : List ℕ). v.home ∷ xs) e2 ∙ ap (λ (h : ℕ). h ∷ drop 1 bytes) home ∙ sym e1

@@ -1,6 +1,6 @@
 -- The slots that the first of a list of ranks take.
 use Rattle.std.specs.Prelude.{◌≡◌, ◌<◌, ◌≤◌, ℕ, ◌+◌, Bool, true, false, List, length, replicate, slice_index, slice_index_or, slice_set}
-use Rattle.std.proofs.Common.{zero, suc, arith, refl, sym, ap, ◌∙◌, get_or, inl, inr, get_or-set_same, get_or-set_other}
+use Rattle.std.proofs.Common.{zero, suc, arith, refl, sym, ap, ◌∙◌, inl, inr, get_or-set_same, get_or-set_other}
 use Rattle.std.proofs.lemmas.Bool.{true≢false, false≢true, cases_eq}
 use Rattle.std.proofs.lemmas.List.{length-set}
 use Rattle.ob_bucket.specs.Version.{AreRanks}
@@ -41,16 +41,19 @@ taken_more ranks taken j r h is low free t = record {
   where
     before : (i : ℕ) → i < j → slice_index ranks i ≡ r → ⊥
     before i a e = absurd (true≢false (sym (t.is_taken i a) ∙ ap (λ (s : ℕ). slice_index_or taken s false) e ∙ free))
+
     marked : (i : ℕ) → i < j + 1 → slice_index_or (slice_set taken r true) (slice_index ranks i) false ≡ true
     marked i a = elim (cases_eq i j) [
       | inl e ↦ (let z : slice_index ranks i ≡ r = ap (λ (n : ℕ). slice_index ranks n) e ∙ sym is in ap (λ (s : ℕ). slice_index_or (slice_set taken r true) s false) z ∙ get_or-set_same taken r true false (omega (arith, t.room)))
       | inr ne ↦ get_or-set_other taken r (slice_index ranks i) true false (before i (omega arith)) ∙ t.is_taken i (omega arith)
     ]
+
     by : (s : ℕ) → slice_index_or (slice_set taken r true) s false ≡ true → (i : ℕ) × (i < j + 1) × (slice_index ranks i ≡ s)
     by s e = elim (cases_eq s r) [
       | inl same ↦ (j, omega arith, sym is ∙ sym same)
       | inr ne ↦ (let f : (i : ℕ) × (i < j) × (slice_index ranks i ≡ s) = t.taken_by s (sym (get_or-set_other taken r s true false ne) ∙ e) in (f.0, (let l : f.0 < j = f.1 in omega arith), f.2))
     ]
+
     alone : (i k : ℕ) → i < j + 1 → k < j + 1 → slice_index ranks i ≡ slice_index ranks k → i ≡ k
     alone i k a b e = elim (cases_eq i j) [
       | inl ei ↦ elim (cases_eq k j) [

@@ -1,12 +1,12 @@
 -- Versions that are filled.
-use Rattle.std.specs.Prelude.{◌≡◌, ◌<◌, ◌≤◌, ℕ, ◌+◌, ◌-◌, Bool, false, true, List, [], ◌∷◌, ◌++◌, Option, Some, None, map, replicate, length, slice_get, slice_index, slice_index_or}
+use Rattle.std.specs.Prelude.{◌≡◌, ◌<◌, ◌≤◌, ℕ, ◌+◌, ◌-◌, Bool, false, true, List, [], ◌∷◌, ◌++◌, Option, Some, None, map, replicate, length, slice_get, slice_index}
 use Rattle.std.specs.List.{range_with_len, refill}
 use Rattle.std.proofs.Common.{zero, suc, arith, refl, sym, ap, ◌∙◌, get_or, length-append, add-one}
 use Rattle.std.proofs.lemmas.List.{length-map, length-replicate, ext_get_or, get_or-replicate, replicate-append-replicate, take_at}
 use Rattle.std.proofs.lemmas.List.FromFn.{length-map-range_with_len, get_or-map-range_with_len, length-range_with_len, get_or-range_with_len}
 use Rattle.ob_base.specs.declared.params.Params.{Params}
 use Rattle.ob_base.specs.Tree.{width}
-use Rattle.ob_bucket.specs.Rank.{rank, ranks_of, IsRanking}
+use Rattle.ob_bucket.specs.Rank.{rank, ranks_of}
 use Rattle.ob_bucket.specs.Version.{Version, AreRanks, IsWhole, filled, blank}
 use Rattle.ob_bucket.proofs.Counting.{range_more}
 use Rattle.ob_bucket.proofs.RankLaws.{rank_within, rank_apart}

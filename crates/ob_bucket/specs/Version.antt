@@ -1,5 +1,5 @@
 -- What is kept of a bucket: the version that lies in the store now.
-use Rattle.std.specs.Prelude.{◌≡◌, ◌<◌, ◌≤◌, ◌==◌, ℕ, ◌+◌, ◌-◌, ◌*◌, ◌^◌, Bool, false, not, List, [], ◌∷◌, ◌++◌, Option, Some, None, if◌then◌else◌, map, replicate, length, slice_index, slice_index_or, slice_set}
+use Rattle.std.specs.Prelude.{◌≡◌, ◌<◌, ◌≤◌, ◌==◌, ℕ, ◌+◌, ◌-◌, ◌*◌, ◌^◌, Bool, false, not, List, [], ◌∷◌, ◌++◌, Option, Some, None, if◌then◌else◌, map, replicate, length, slice_index, slice_index_or}
 use Rattle.std.specs.List.{count_by, find, flat_map, range_with_len}
 use Rattle.std.specs.Int.{w32, w64, to_le_bytes}
 use Rattle.ob_base.specs.declared.params.Params.{Params}

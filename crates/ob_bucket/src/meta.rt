@@ -137,14 +137,7 @@ impl Meta {
 
     /// Begins a version: the keys lie in the first real indexes, nothing was shown, and the words
     /// say the slots.
-    pub fn fill(
-        &mut self,
-        home: u8,
-        generation: u64,
-        base: u64,
-        keys: &[Key],
-        words: &[u64],
-    )
+    pub fn fill(&mut self, home: u8, generation: u64, base: u64, keys: &[Key], words: &[u64])
         requires home { home < 2 }
         requires keys { length keys.now ≤ length self.old.keys }
         requires words { length words.now ≡ length self.old.ranks }
@@ -254,5 +247,4 @@ fn no_marks(slots: usize) -> ArrayVec<bool, 48>
 /// Bytes spell at most one version that obeys the rules.
 pub fn spelled_once()
     ensures { SpelledOnce }
-{
-}
+{}

@@ -1,5 +1,5 @@
-use Rattle.std.proofs.Common.{List, Bool, ℕ, refl, sym, arith, ◌+◌, ◌*◌, ◌==◌, slice_index_or}
-use Rattle.ob_bucket.proofs.SpellingLaws.{IndexesRead, indexes_read_more}
+use Rattle.std.proofs.Common.{refl, arith, ◌+◌, ◌*◌, ◌==◌, slice_index_or}
+use Rattle.ob_bucket.proofs.SpellingLaws.{indexes_read_more}
 use Rattle.ob_bucket.proofs.decode.read_indexes.Goals as goal
 
 pub loop-j-preserved : goal.loop-j-preserved

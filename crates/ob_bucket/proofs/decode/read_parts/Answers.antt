@@ -1,5 +1,4 @@
-use Rattle.std.proofs.Common.{◌≡◌, ◌<◌, ℕ, List, Some, None, slice_index_or, sym, ap, ◌∙◌, arith, subst, refl}
-use Rattle.ob_bucket.specs.Version.{Version, FitsFields, HasSlots}
+use Rattle.std.proofs.Common.{◌≡◌, ◌<◌, ℕ, Some, None, slice_index_or, arith, refl}
 use Rattle.ob_bucket.proofs.SpellingLaws.{reads_are, no_mark}
 use Rattle.ob_bucket.proofs.decode.read_parts.Goals as goal
 

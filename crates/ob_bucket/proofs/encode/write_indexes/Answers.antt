@@ -1,5 +1,5 @@
-use Rattle.std.proofs.Common.{◌≡◌, ◌+◌, ◌*◌, ℕ, List, slice_set, slice_index_or, ap, refl, ◌∙◌}
-use Rattle.ob_bucket.proofs.PartLaws.{part_none, indexes_more}
+use Rattle.std.proofs.Common.{◌+◌, ◌*◌, ℕ, List, slice_set, slice_index_or, ap, refl, ◌∙◌}
+use Rattle.ob_bucket.proofs.PartLaws.{indexes_more}
 use Rattle.ob_bucket.proofs.encode.write_indexes.Goals as goal
 
 pub loop-j-preserved : goal.loop-j-preserved

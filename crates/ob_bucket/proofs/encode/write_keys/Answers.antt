@@ -1,5 +1,4 @@
-use Rattle.std.proofs.Common.{◌≡◌, ◌+◌, ◌*◌, ℕ, List, ap, ◌∙◌}
-use Rattle.std.specs.List.{flat_map}
+use Rattle.std.proofs.Common.{◌+◌, ◌*◌, ℕ, List, ap, ◌∙◌}
 use Rattle.std.specs.Int.{w32, to_le_bytes}
 use Rattle.ob_base.specs.LittleEndian.{with_part}
 use Rattle.ob_bucket.proofs.PartLaws.{keys_none, keys_more}

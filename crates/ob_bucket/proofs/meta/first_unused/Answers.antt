@@ -1,4 +1,4 @@
-use Rattle.std.proofs.Common.{◌≡◌, ◌+◌, ◌-◌, ℕ, suc, not, false, slice_index_or, length, sym, arith, rules}
+use Rattle.std.proofs.Common.{◌≡◌, ◌+◌, ◌-◌, suc, not, false, slice_index_or, length, sym, arith, rules}
 use Rattle.ob_bucket.proofs.Counting.{find-range_more, find-range_at}
 use Rattle.ob_bucket.proofs.meta.first_unused.Goals as goal
 

@@ -1,4 +1,4 @@
-use Rattle.std.proofs.Common.{◌≡◌, ◌<◌, ℕ, arith, length}
+use Rattle.std.proofs.Common.{arith, length}
 use Rattle.std.proofs.lemmas.List.FromFn.{fill_by_all}
 use Rattle.ob_bucket.proofs.OrderLaws.{pair_of}
 use Rattle.ob_bucket.proofs.rank.number.Goals as goal

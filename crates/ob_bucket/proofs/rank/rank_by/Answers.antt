@@ -1,9 +1,8 @@
-use Rattle.std.proofs.Common.{◌≡◌, ◌<◌, ℕ, List, subst, arith, length}
+use Rattle.std.proofs.Common.{◌<◌, ℕ, List, subst, arith, length}
 use Rattle.std.specs.List.Sorted.{IsPermutation}
 use Rattle.ob_bucket.specs.Order.{index_at}
 use Rattle.ob_bucket.proofs.OrderLaws.{InOrder, as_many, index_is, are_apart, placed}
 use Rattle.ob_bucket.proofs.rank.rank_by.Goals as goal
-
 
 pub place-requires-clause-within : goal.place-requires-clause-within
 place-requires-clause-within c = λ k h. (

@@ -1,6 +1,6 @@
 use Rattle.std.proofs.Common.{List, ℕ, Bool, Option, subst, sym, IsTrue, false}
 use Rattle.std.proofs.lemmas.Bool.{false≢true}
-use Rattle.ob_bucket.specs.Version.{Version, AreRanks, MarksObey}
+use Rattle.ob_bucket.specs.Version.{AreRanks, MarksObey}
 use Rattle.ob_bucket.proofs.SpellingLaws.{no_ranks, no_marks}
 use Rattle.ob_bucket.proofs.meta.Meta.decode.Goals as goal
 

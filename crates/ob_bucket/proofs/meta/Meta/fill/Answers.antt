@@ -1,4 +1,4 @@
-use Rattle.std.proofs.Common.{◌≡◌, ◌≤◌, ◌-◌, ◌++◌, ℕ, List, Bool, Option, Some, None, false, map, replicate, length, subst, sym, ap, ◌∙◌, ◌<◌}
+use Rattle.std.proofs.Common.{◌≡◌, ◌≤◌, ◌-◌, ◌++◌, ℕ, List, Bool, Option, Some, None, false, map, replicate, length, subst, sym, ap, ◌∙◌}
 use Rattle.std.specs.List.{refill}
 use Rattle.ob_bucket.specs.Rank.{ranks_of}
 use Rattle.ob_bucket.specs.Version.{Version, IsWhole, filled}
