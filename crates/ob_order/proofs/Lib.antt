@@ -4,3 +4,4 @@ pub mod Links
 pub mod Newest
 pub mod Steps
 pub mod Tidies
+pub mod Bases
