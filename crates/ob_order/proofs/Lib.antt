@@ -5,3 +5,4 @@ pub mod Newest
 pub mod Steps
 pub mod Tidies
 pub mod Bases
+pub mod Batches

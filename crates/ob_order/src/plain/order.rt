@@ -7,6 +7,7 @@ ghost use Rattle.ob_order.specs.Order as rules;
 
 use crate::answers::{Read, Version, Wrote};
 use crate::fate::Fate;
+use crate::plain::batches::{add_bases, fill, move_front};
 use crate::plain::read_off::{
     Work, abort_in, add_awaited, add_to, base_of, has_key, make_wait, mark, newest,
 };
@@ -29,7 +30,8 @@ pub struct Order {
 impl Model for Order {
     ghost use Rattle.std.specs.FinMap as finite;
     ghost use Rattle.std.specs.Coded.{codes};
-    ghost use Rattle.ob_order.specs.OrderModel.{OrderModel, bases_code};
+    ghost use Rattle.ob_order.specs.OrderModel.{OrderModel, HasRoom, bases_code};
+    ghost use Rattle.std.specs.Prelude.{length, vec_len, vec_capacity};
     ghost use Rattle.ob_order.specs.Works as told;
 
     ghost Value = { OrderModel };
@@ -41,7 +43,7 @@ impl Model for Order {
       state = record { left = o.left; works = o.works.items; queue = o.queue.items; flying = o.flying.items; bases = finite.from_entries o.bases.items };
     } };
 
-    ghost invariant = { λ o. told.Tidy o.works.items };
+    ghost invariant = { λ o. told.Tidy o.works.items × HasRoom o.params.places o.params.batches o.left (length o.flying.items) (vec_len o.bases) (vec_capacity o.flying) (vec_capacity o.bases) };
 }
 
 // The operation that sets the key to this.
@@ -56,19 +58,62 @@ fn write_op(key: Key, value: Option<Value>) -> Op<Key>
 
 impl Order {
     /// An epoch that begins, with so many batches left to take.
-    pub fn new(alloc: Global, params: &Params, left: u32) -> Order
-        ensures params { result.params ≡ params.now }
-        ensures state { result.state ≡ rules.new_order left }
+    ///
+    /// # Errors
+    /// Memory was wanting.
+    pub fn new(alloc: Global, params: &Params, left: u32) -> Result<Order, Memory>
+        requires { left ≤ params.now.batches }
+        ensures params { IfOk result (λ o. o.params ≡ params.now) }
+        ensures state { IfOk result (λ o. o.state ≡ rules.new_order left) }
     {
-        Order {
+        let _told: Option<Value> = None;
+        let places = params.places as usize;
+        let values = places * params.batches as usize;
+        Ok(Order {
             alloc,
             params: *params,
             left,
             works: Vec::new(alloc),
             queue: Vec::new(alloc),
-            flying: Vec::new(alloc),
-            bases: Vec::new(alloc),
-        }
+            flying: Vec::with_capacity(alloc, places)?,
+            bases: Vec::with_capacity(alloc, values)?,
+        })
+    }
+
+    /// The next epoch begins, with so many batches left to take: all is as after `new`.
+    pub fn clear(&mut self, left: u32)
+        requires { left ≤ self.old.params.batches }
+        ensures { self.new ≡ record self.old { state = rules.new_order left } }
+    {
+        let _told: Option<Value> = None;
+        self.works.clear();
+        self.queue.clear();
+        self.flying.clear();
+        self.bases.clear();
+        self.left = left;
+    }
+
+    /// Takes a batch: the first keys in order of queuing are in flight from now on.
+    pub fn take_batch(&mut self, out: &mut [Option<Key>])
+        requires some_left { 0 < self.old.state.left }
+        requires none_flying { self.old.state.flying ≡ [] }
+        requires places { length out.old ≡ self.old.params.places }
+        ensures batch { out.new ≡ rules.batch_of self.old.params self.old.state }
+        ensures state { self.new ≡ record self.old { state = rules.after_take self.old.params self.old.state } }
+    {
+        fill(out, &self.queue);
+        move_front(&mut self.queue, &mut self.flying, out.len());
+        self.left -= 1;
+    }
+
+    /// The keys in flight have these values from now on.
+    pub fn deliver(&mut self, keys: &[Option<Key>], values: &[Option<Value>])
+        requires batch { keys.now ≡ rules.batch_in_flight self.old.params self.old.state }
+        requires each { length values.now ≡ length keys.now }
+        ensures { self.new ≡ record self.old { state = rules.after_deliver self.old.state keys.now values.now } }
+    {
+        add_bases(&mut self.bases, &self.flying, values);
+        self.flying.clear();
     }
 
     /// Draws the next ticket.

@@ -13,4 +13,4 @@ invariant_of-self c =
     let o : rules.OrderState = record { left = a.left; works = a.works.items; queue = a.queue.items; flying = a.flying.items; bases = finite.from_entries a.bases.items } in
     let made : Version = c.args.version.now in
     let found : rules.answer o c.args.t c.args.key ≡ Some made = subst (λ (m : OrderModel). rules.answer m.state c.args.t c.args.key ≡ Some made) (sym c.self.view_is) c.requires.answered in
-    subst works.Tidy (sym c.add_awaited.ensures) (tidy_got o c.args.t c.args.key made c.self.invariant found)
+    (subst works.Tidy (sym c.add_awaited.ensures) (tidy_got o c.args.t c.args.key made c.self.invariant.0 found), c.self.invariant.1)
