@@ -6,7 +6,8 @@ use Rattle.std.proofs.lemmas.List.{take_more, take_all, take_min, map-append, ap
 use Rattle.std.proofs.lemmas.Option.{slice_get_read, slice_get_past}
 use Rattle.std.proofs.Common.{drop_of_length-le}
 use Rattle.std.proofs.Math.Seq.{take-append_seam}
-use Rattle.ob_order.specs.Order.{places_of, delivered}
+use Rattle.std.proofs.lemmas.List.{length-take}
+use Rattle.ob_order.specs.Order.{Params, OrderState, places_of, batch_of, batch_in_flight, after_take, delivered}
 use Rattle.ob_order.proofs.Steps.{item}
 
 replicate_more : {A : Type 0} (x : A) (n : ℕ) → replicate (suc n) x ≡ replicate n x ++ x ∷ []
@@ -84,3 +85,11 @@ delivered_pads b [] (suc n) [] = refl
 delivered_pads b [] (suc n) (v ∷ values) = delivered_pads b [] n values
 delivered_pads b (k ∷ keys) n [] = refl
 delivered_pads b (k ∷ keys) n (v ∷ values) = delivered_pads (finite.insert b k v) keys n values
+
+-- the batch that was taken is the one in flight
+pub taken_in_flight : (p : Params) (o : OrderState) → batch_of p o ≡ batch_in_flight p (after_take p o)
+taken_in_flight p o = ap (λ n. map Some (take p.places o.queue) ++ replicate n None) (let few = length-take p.places o.queue in omega (arith, few))
+
+pub none_of_length : (xs : List ℕ) → length xs ≡ 0 → xs ≡ []
+none_of_length [] e = refl
+none_of_length (x ∷ xs) e = absurd (omega arith)

@@ -8,3 +8,6 @@ pub mod plain;
 pub use answers::{Read, Version, Wrote};
 pub use fate::Fate;
 pub use plain::Order;
+
+#[cfg(test)]
+mod tests;

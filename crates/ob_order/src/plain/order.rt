@@ -336,6 +336,17 @@ impl Order {
         }
     }
 
+    /// The key of ticket t's get that isn't answered yet.
+    pub fn waiting(&self, t: u64) -> Option<Key>
+        requires { 0 < t }
+        ensures { result ≡ works.waiting_at self.now.state.works t }
+    {
+        match self.works.get((t - 1) as usize) {
+            Some(work) => work.waiting,
+            None => None,
+        }
+    }
+
     /// The ticket because of which ticket t fell, where it fell with another's abort.
     pub fn depends(&self, t: u64) -> Option<u64>
         requires { 0 < t }
@@ -345,6 +356,20 @@ impl Order {
             Some(Fate::Fell { on }) => Some(on),
             _ => None,
         }
+    }
+
+    /// The parameters.
+    pub fn params(&self) -> &Params
+        ensures { result.now ≡ self.now.params }
+    {
+        &self.params
+    }
+
+    /// How many keys are in flight.
+    pub fn in_flight(&self) -> u64
+        ensures { result ≡ length self.now.state.flying }
+    {
+        self.flying.len() as u64
     }
 
     /// How many keys are queued.

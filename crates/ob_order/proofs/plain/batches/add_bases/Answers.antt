@@ -1,4 +1,4 @@
-use Rattle.std.proofs.Common.{◌≡◌, ◌<◌, get_or, length, nat_cmp, Option, List, ℕ, sym, ap, ◌∙◌, arith}
+use Rattle.std.proofs.Common.{◌<◌, get_or, length, nat_cmp, Option, List, ℕ, sym, ap, ◌∙◌, arith}
 use Rattle.std.specs.FinMap as finite
 use Rattle.ob_order.proofs.Batches.{delivered_more, item_any}
 use Rattle.ob_order.proofs.plain.batches.add_bases.Goals as goal
