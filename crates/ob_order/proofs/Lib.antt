@@ -4,3 +4,5 @@ pub mod Links
 pub mod Newest
 pub mod Steps
 pub mod Tidies
+pub mod Bases
+pub mod Batches

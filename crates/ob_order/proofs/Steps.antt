@@ -99,3 +99,9 @@ edit_outside f xs (suc n) l = past xs n (omega arith)
 
 pub edit_zero : {A : Type 0} (f : A → A) (xs : List A) (t : ℕ) → t ≡ 0 → edit f xs t ≡ xs
 edit_zero f xs t e = ap (edit f xs) e
+
+pub live_above : (ws : List Work) (t : ℕ) → goes_on ws t ≡ true → 0 < t
+live_above ws t e = (goes_on_range ws t e).0
+
+pub live_within : (ws : List Work) (t : ℕ) → goes_on ws t ≡ true → t ≤ length ws
+live_within ws t e = (goes_on_range ws t e).1

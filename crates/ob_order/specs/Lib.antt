@@ -1,3 +1,4 @@
 pub mod Chains
 pub mod Order
+pub mod OrderModel
 pub mod Works

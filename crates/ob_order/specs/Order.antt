@@ -115,9 +115,17 @@ after_write o t k v (WritesAreFull keys) = o
 abbrev pub after_abort : OrderState → ℕ → OrderState
 after_abort o t = record o { works = aborted o.works t }
 
--- a batch has the first keys in order of queuing, and pads
+-- n places with the first keys, and pads
+abbrev pub places_of : ℕ → List ℕ → List (Option ℕ)
+places_of n queue = map Some (take n queue) ++ replicate (n - length queue) None
+
+-- a batch has the first keys in order of queuing
 abbrev pub batch_of : Params → OrderState → List (Option ℕ)
-batch_of p o = map Some (take p.places o.queue) ++ replicate (p.places - length o.queue) None
+batch_of p o = places_of p.places o.queue
+
+-- what a batch that is in flight asked for
+abbrev pub batch_in_flight : Params → OrderState → List (Option ℕ)
+batch_in_flight p o = map Some o.flying ++ replicate (p.places - length o.flying) None
 
 -- after a batch was taken: its keys are in flight
 abbrev pub after_take : Params → OrderState → OrderState

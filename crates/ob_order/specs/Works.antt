@@ -46,6 +46,12 @@ goes_on ws t = unwrap_or (option_map (λ w. is_going w.fate) (at_ticket ws t)) f
 abbrev pub fate_at : List Work → ℕ → Option Fate
 fate_at ws t = option_map (λ w. w.fate) (at_ticket ws t)
 
+-- because of which ticket one fell
+abbrev pub fell_on : Fate → Option ℕ
+fell_on Going = None
+fell_on Ended = None
+fell_on (Fell on) = Some on
+
 -- what an operation sets k to: a value, or none for a delete
 abbrev pub write_of : Op ℕ → ℕ → Option (Option (List ℕ))
 write_of (Get j r s) k = None

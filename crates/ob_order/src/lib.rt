@@ -3,6 +3,11 @@
 
 mod answers;
 mod fate;
+pub mod plain;
 
 pub use answers::{Read, Version, Wrote};
 pub use fate::Fate;
+pub use plain::Order;
+
+#[cfg(test)]
+mod tests;

@@ -1,0 +1,7 @@
+//! The order of one epoch, kept as the plain lists that the definitions speak of.
+
+mod batches;
+mod order;
+mod read_off;
+
+pub use order::Order;

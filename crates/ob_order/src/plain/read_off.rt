@@ -1,0 +1,321 @@
+//! What is read off the works, by plain loops over them.
+
+ghost use Rattle.std.specs.Prelude.{◌≡◌, ℕ, ◌+◌, ◌-◌, ◌^◌, ◌<◌, ◌≤◌, length, get_or, set, Option, Some, None, OnOk, OnErr, ◌==◌, true, is_some};
+ghost use Rattle.ob_order.specs.Works as works;
+ghost use Rattle.ob_order.specs.Order.{fresh};
+ghost use Rattle.std.specs.FinMap as finite;
+ghost use Rattle.std.specs.Ordering.{nat_cmp};
+ghost use Rattle.std.specs.List.{list_any};
+
+use crate::answers::Version;
+use crate::fate::Fate;
+use ob_base::{Key, Memory, Op, Value};
+use std::alloc::Global;
+use std::marker::Model;
+
+/// A transaction: its answered operations in order, how it stands, and the key of its get that
+/// isn't answered yet. While it waits, its operations have room for the answer.
+#[derive(Drop)]
+pub struct Work {
+    pub ops: Vec<Op<Key>>,
+    pub fate: Fate,
+    pub waiting: Option<Key>,
+}
+
+impl Model for Work {
+    ghost use Rattle.ob_order.specs.Works as works;
+    ghost use Rattle.std.specs.Prelude.{◌≡◌, ◌<◌, true, is_some, vec_len, vec_capacity};
+
+    ghost Value = { works.Work };
+
+    ghost view = { λ w. record { ops = w.ops.items; fate = w.fate; waiting = w.waiting } };
+
+    ghost invariant = { λ w. is_some w.waiting ≡ true → vec_len w.ops < vec_capacity w.ops };
+}
+
+/// What an operation sets the key to.
+pub fn write_of(op: &Op<Key>, key: Key) -> Option<Option<Value>>
+    ensures { result ≡ works.write_of op.now key }
+{
+    match *op {
+        Op::Get { .. } => None,
+        Op::Put { key: at, value } => { if key == at { Some(Some(value)) } else { None } }
+        Op::Del { key: at } => { if key == at { Some(None) } else { None } }
+    }
+}
+
+/// What the last write of the key sets it to.
+#[tactic(auto, using(crate::proofs::Edits::last_write_more))]
+pub fn last_write(ops: &[Op<Key>], key: Key) -> Option<Option<Value>>
+    ensures { result ≡ works.last_write ops.now key }
+{
+    let mut found = None;
+    for op in ops {
+        found = write_of(op, key).or(found);
+    }
+    found
+}
+
+/// Whether one of these is a Get of the key from the source.
+pub fn reads(ops: &[Op<Key>], key: Key, source: u64) -> bool
+    ensures { result ≡ works.has_get ops.now key source }
+{
+    for op in ops {
+        if let Op::Get {
+            key: at,
+            source: from,
+            ..
+        } = *op
+        {
+            if key == at && source == from {
+                return true;
+            }
+        }
+    }
+    false
+}
+
+/// What a transaction's version of the key is. An aborted one has none.
+pub fn version_in(work: &Work, key: Key) -> Option<Option<Value>>
+    ensures { result ≡ works.version_in work.now key }
+{
+    match work.fate {
+        Fate::Going => last_write(&work.ops, key),
+        _ => None,
+    }
+}
+
+/// The newest version of the key at or below ticket t.
+#[tactic(auto, using(crate::proofs::Steps::newest_more))]
+pub fn newest(list: &[Work], t: usize, key: Key) -> Option<Version>
+    requires { t ≤ length list.now }
+    ensures { result ≡ works.newest list.now t key }
+{
+    let mut found = None;
+    for n in 0..t {
+        let version = match version_in(&list[n], key) {
+            None => None,
+            Some(value) => Some(Version {
+                source: n as u64 + 1,
+                value: value,
+            }),
+        };
+        found = version.or(found);
+    }
+    found
+}
+
+/// The greatest ticket with a Get of the key from the source, aborted or not.
+#[tactic(auto, using(crate::proofs::Steps::greatest_more))]
+pub fn mark(list: &[Work], key: Key, source: u64) -> u64
+    ensures { result ≡ works.mark list.now key source }
+{
+    let mut found = 0;
+    for n in 0..list.len() {
+        let work = &list[n];
+        if reads(&work.ops, key, source) {
+            found = n as u64 + 1;
+        }
+    }
+    found
+}
+
+/// Whether the ticket was drawn and is aborted.
+pub fn is_gone(list: &[Work], t: u64) -> bool
+    ensures { result ≡ works.is_gone list.now t }
+{
+    if t == 0 || t > list.len() as u64 {
+        return false;
+    }
+    let work = &list[(t - 1) as usize];
+    !matches!(work.fate, Fate::Going)
+}
+
+/// The source of a Get, where that ticket is aborted.
+pub fn gone_source(list: &[Work], op: &Op<Key>) -> Option<u64>
+    ensures { result ≡ works.source_in (works.is_gone list.now) op.now }
+{
+    match *op {
+        Op::Get { source, .. } => {
+            if is_gone(list, source) {
+                Some(source)
+            } else {
+                None
+            }
+        }
+        _ => None,
+    }
+}
+
+/// The lesser of two, where there are two.
+pub fn least_of(a: Option<u64>, b: Option<u64>) -> Option<u64>
+    ensures { result ≡ works.least_of a b }
+{
+    match (a, b) {
+        (None, b) => b,
+        (Some(a), None) => Some(a),
+        (Some(a), Some(b)) => Some(a.min(b)),
+    }
+}
+
+/// The least source of these Gets that is aborted.
+#[tactic(auto, using(crate::proofs::Tidies::least_source_more))]
+pub fn least_gone(list: &[Work], ops: &[Op<Key>]) -> Option<u64>
+    ensures { result ≡ works.least_source (works.is_gone list.now) ops.now }
+{
+    let mut least: Option<u64> = None;
+    for op in ops {
+        least = least_of(least, gone_source(list, op));
+    }
+    least
+}
+
+impl Work {
+    /// A transaction that begins.
+    pub fn new(alloc: Global) -> Work
+        ensures { result ≡ fresh }
+    {
+        Work {
+            ops: Vec::new(alloc),
+            fate: Fate::Going,
+            waiting: None,
+        }
+    }
+
+    // Appends an answered operation.
+    fn push_op(&mut self, op: Op<Key>) -> Result<(), Memory>
+        ensures ok { OnOk result (self.new ≡ works.add_op op self.old) }
+        ensures err { OnErr result (self.new ≡ self.old) }
+    {
+        let _told: Option<Value> = None;
+        self.ops.push(op)?;
+        self.waiting = None;
+        Ok(())
+    }
+
+    // Appends the answer that there is room for.
+    fn push_awaited(&mut self, op: Op<Key>)
+        requires { is_some self.old.waiting ≡ true }
+        ensures { self.new ≡ works.add_op op self.old }
+    {
+        let _told: Option<Value> = None;
+        let _ = self.ops.push(op);
+        self.waiting = None;
+    }
+
+    // Waits for the key, with room for the answer.
+    fn wait_for(&mut self, key: Key) -> Result<(), Memory>
+        ensures ok { OnOk result (self.new ≡ works.wait_for key self.old) }
+        ensures err { OnErr result (self.new ≡ self.old) }
+    {
+        let _told: Option<Value> = None;
+        self.ops.reserve(1)?;
+        self.waiting = Some(key);
+        Ok(())
+    }
+}
+
+/// Appends an answered operation to ticket t's.
+pub fn add_to(list: &mut Vec<Work>, t: usize, op: Op<Key>) -> Result<(), Memory>
+    requires t_in { (0 < t) × (t ≤ length list.old.items) }
+    ensures ok { OnOk result (list.new.items ≡ works.with_op list.old.items t op) }
+    ensures err { OnErr result (list.new.items ≡ list.old.items) }
+{
+    list[t - 1].push_op(op)?;
+    Ok(())
+}
+
+/// Appends to ticket t's operations the answer that it waits for.
+pub fn add_awaited(list: &mut Vec<Work>, t: usize, op: Op<Key>)
+    requires t_in { (0 < t) × (t ≤ length list.old.items) }
+    requires waits { is_some (works.waiting_at list.old.items t) ≡ true }
+    ensures { list.new.items ≡ works.with_op list.old.items t op }
+{
+    list[t - 1].push_awaited(op);
+}
+
+/// Ticket t waits for the key.
+pub fn make_wait(list: &mut Vec<Work>, t: usize, key: Key) -> Result<(), Memory>
+    requires t_in { (0 < t) × (t ≤ length list.old.items) }
+    ensures ok { OnOk result (list.new.items ≡ works.edit (works.wait_for key) list.old.items t) }
+    ensures err { OnErr result (list.new.items ≡ list.old.items) }
+{
+    list[t - 1].wait_for(key)?;
+    Ok(())
+}
+
+/// Ends one work.
+fn end(list: &mut [Work], t: usize)
+    requires t_in { (0 < t) × (t ≤ length list.old) }
+    ensures { list.new ≡ works.edit works.end_work list.old t }
+{
+    let work = &mut list[t - 1];
+    work.fate = Fate::Ended;
+}
+
+/// One work falls because of its least source that is aborted, where it has one and goes on.
+fn fall(list: &mut [Work], n: usize, on: Option<u64>)
+    requires n_in { n < length list.old }
+    ensures { (w : works.Work) → w ≡ get_or list.old n w → list.new ≡ set list.old n (works.fall on w) }
+{
+    let work = &mut list[n];
+    if let (Fate::Going, Some(on)) = (work.fate, on) {
+        work.fate = Fate::Fell { on };
+    }
+}
+
+/// The least aborted source of one work.
+fn fell_on(list: &[Work], n: usize) -> Option<u64>
+    requires n_in { n < length list.now }
+    ensures { (w : works.Work) → w ≡ get_or list.now n w → result ≡ works.least_source (works.is_gone list.now) w.ops }
+{
+    let work = &list[n];
+    least_gone(list, &work.ops)
+}
+
+/// Aborts ticket t and those that depend on it, directly or not.
+pub fn abort(list: &mut [Work], t: usize)
+    requires t_in { (0 < t) × (t ≤ length list.old) }
+    requires tidy { works.Tidy list.old }
+    ensures { list.new ≡ works.aborted list.old t }
+{
+    end(list, t);
+    for n in 0..list.len() {
+        let on = fell_on(list, n);
+        fall(list, n, on);
+    }
+}
+
+/// `abort` over a vector.
+pub fn abort_in(list: &mut Vec<Work>, t: usize)
+    requires t_in { (0 < t) × (t ≤ length list.old.items) }
+    requires tidy { works.Tidy list.old.items }
+    ensures { list.new.items ≡ works.aborted list.old.items t }
+{
+    abort(list, t);
+}
+
+/// Whether the key is one of these.
+pub fn has_key(keys: &[Key], key: Key) -> bool
+    ensures { result ≡ list_any (λ j. j == key) keys.now }
+{
+    for at in keys {
+        if *at == key {
+            return true;
+        }
+    }
+    false
+}
+
+/// The base of a key, once it was delivered.
+#[tactic(auto, using(crate::proofs::Bases::base_here, crate::proofs::Bases::base_past))]
+pub fn base_of(bases: &[(Key, Option<Value>)], key: Key) -> Option<Option<Value>>
+    ensures { result ≡ finite.get (finite.from_entries {R = nat_cmp} bases.now) key }
+{
+    for base in bases {
+        if base.0 == key {
+            return Some(base.1);
+        }
+    }
+    None
+}
