@@ -1,0 +1,13 @@
+-- The events of a run of cells.
+use Rattle.std.specs.Prelude.{ℕ, zero, suc, ◌+◌, List, [], ◌∷◌, ◌++◌, map}
+use Rattle.ob_store.specs.declared.event.Event.{Event}
+use Rattle.ob_store.specs.declared.event.Event.TheVariants.{Write}
+
+-- so many numbers, the rising ones from a first one on
+abbrev pub from_on : ℕ → ℕ → List ℕ
+from_on base zero = []
+from_on base (suc n) = from_on base n ++ (base + n) ∷ []
+
+-- a write of each of so many cells, in rising order
+abbrev pub write_events : ℕ → ℕ → List Event
+write_events base n = map (λ cell. Write cell) (from_on base n)
