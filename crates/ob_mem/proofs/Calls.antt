@@ -1,7 +1,8 @@
 -- One call more, and what a crash may leave then.
-use Rattle.std.proofs.Common.{◌≡◌, ◌≢◌, ◌⊎◌, inl, inr, ⊎_elim, ℕ, ◌+◌, ◌-◌, ◌<◌, ◌≤◌, List, [], ◌∷◌, ◌++◌, length, take, Bool, true, false, Result, Ok, Err, Option, if◌then◌else◌, refl, sym, ◌∙◌, ap, subst, arith, length-append}
+use Rattle.std.proofs.Common.{◌≡◌, ◌≢◌, ◌⊎◌, inl, inr, ⊎_elim, ℕ, ◌+◌, ◌-◌, ◌<◌, ◌≤◌, List, [], ◌∷◌, ◌++◌, length, take, Bool, true, false, Contains, Result, Ok, Err, Option, if◌then◌else◌, refl, sym, ◌∙◌, ap, subst, arith, length-append}
 use Rattle.std.proofs.Math.ListN.{set}
 use Rattle.std.proofs.lemmas.Bool.{cases_eq}
+use Rattle.std.proofs.lemmas.List.Elements.{Contains-append_cases}
 use Rattle.std.proofs.lemmas.List.{take_all, take-append-le, get_or-set_other, get_or-set_same, set_past, length-set}
 use Rattle.ob_store.specs.declared.event.Event.{Event}
 use Rattle.ob_store.specs.Disk.{Disk, Image}
@@ -11,7 +12,7 @@ use Rattle.ob_base.specs.declared.fault.Failed.{Failed}
 use Rattle.ob_base.specs.Causes.{Rose}
 use Rattle.ob_mem.specs.declared.call.Call.{Call}
 use Rattle.ob_mem.specs.declared.call.Call.TheVariants.{Wrote, Synced}
-use Rattle.ob_mem.specs.Replay.{Moment, Past, after_call, replay, sure, now_of, with_call, zeros, cell_of, IsAmong, IsUnsure, IsCell, MayLeave, LeftSince, disk_of}
+use Rattle.ob_mem.specs.Replay.{Moment, Past, after_call, replay, sure, now_of, with_call, zeros, cell_of, IsUnsure, IsCell, MayLeave, LeftSince, disk_of}
 
 pub replay-push : (calls : List Call) (call : Call) (s : Moment) → replay (calls ++ call ∷ []) s ≡ after_call call (replay calls s)
 replay-push [] call s = refl
@@ -66,8 +67,14 @@ before_same s cell c k (inr other) ne = refl
 pub other_cell : (s : Moment) (cell : ℕ) (bytes : List ℕ) (k : ℕ) → k ≢ cell → cell_of (after_call (Wrote cell bytes) s).cells k ≡ cell_of s.cells k
 other_cell s cell bytes k ne = get_or-set_other s.cells cell k bytes zeros ne
 
+only_one : (cell k : ℕ) → Contains (cell ∷ []) k → k ≡ cell
+only_one cell k here = let first : here.0 ≡ 0 = omega (arith, here.1) in sym (rw first at here.2)
+
 still_unsure : (s : Moment) (cell : ℕ) (bytes : List ℕ) (k : ℕ) → k ≢ cell → IsUnsure (after_call (Wrote cell bytes) s) k → IsUnsure s k
-still_unsure s cell bytes k ne unsure = (⊎_elim (λ here. absurd (ne here)) (λ was. was) unsure.0, omega (arith, unsure.1, length-set s.cells cell bytes))
+still_unsure s cell bytes k ne unsure = (
+  ⊎_elim (λ was. was) (λ here. absurd (ne (only_one cell k here))) (Contains-append_cases s.unsure (cell ∷ []) k unsure.0),
+  omega (arith, unsure.1, length-set s.cells cell bytes),
+)
 
 torn : (s : Moment) (cell : ℕ) (bytes : List ℕ) (c : Image) → MayLeave (after_call (Wrote cell bytes) s) c → (d : Image) × MayLeave s d × SameBut cell c d
 torn s cell bytes c left = (
@@ -76,12 +83,15 @@ torn s cell bytes c left = (
   (λ k ne. before_same s cell c k (cases_eq k cell) ne),
 )
 
+none_sure : {k : ℕ} → Contains [] k → ⊥
+none_sure some = let lt = some.1 in absurd (omega arith)
+
 shrunk : (s : Moment) (done : Bool) (c : Image) → MayLeave (after_call (Synced done) s) c → MayLeave s c
-shrunk s true c left = λ k. ⊎_elim (λ any. absurd any.0.0) (λ same. inr same) (left k)
+shrunk s true c left = λ k. ⊎_elim (λ any. absurd (none_sure any.0.0)) (λ same. inr same) (left k)
 shrunk s false c left = left
 
 settles : (s : Moment) (c : Image) → MayLeave (after_call (Synced true) s) c → (k : ℕ) → c k ≡ cell_of s.cells k
-settles s c left k = ⊎_elim (λ any. absurd any.0.0) (λ same. same) (left k)
+settles s c left k = ⊎_elim (λ any. absurd (none_sure any.0.0)) (λ same. same) (left k)
 
 -- a store keeps its size
 pub length-replay : (calls : List Call) (s : Moment) → length (replay calls s).cells ≡ length s.cells

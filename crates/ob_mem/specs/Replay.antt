@@ -1,5 +1,5 @@
 -- The disk model, over the list of writes and syncs.
-use Rattle.std.specs.Prelude.{◌≡◌, ◌⊎◌, ◌≤◌, ◌<◌, ℕ, if◌then◌else◌, List, [], ◌∷◌, ◌++◌, ◌^◌, length, take, replicate, slice_set, slice_index_or, ◌==◌, Option, Some, None, All}
+use Rattle.std.specs.Prelude.{◌≡◌, ◌⊎◌, ◌≤◌, ◌<◌, ℕ, if◌then◌else◌, List, [], ◌∷◌, ◌++◌, ◌^◌, length, take, replicate, slice_set, slice_index_or, ◌==◌, Option, Some, None, All, Contains, fold}
 use Rattle.ob_store.specs.declared.event.Event.{Event}
 use Rattle.ob_store.specs.Disk.{Clock, Disk, Image}
 use Rattle.ob_mem.specs.declared.call.Call.{Call}
@@ -12,7 +12,7 @@ pub record Moment : Type 0 where
 
 -- A write counts whatever it answers. A sync that fails makes nothing sure.
 abbrev pub after_call : Call → Moment → Moment
-after_call (Wrote cell bytes) s = record { cells = slice_set s.cells cell bytes; unsure = cell ∷ s.unsure }
+after_call (Wrote cell bytes) s = record { cells = slice_set s.cells cell bytes; unsure = s.unsure ++ cell ∷ [] }
 after_call (Synced done) s = record { cells = s.cells; unsure = if done then [] else s.unsure }
 
 -- the calls in their order, the first one first
@@ -31,13 +31,9 @@ zeros = replicate 128 0
 abbrev pub cell_of : List (List ℕ) → Image
 cell_of cells k = slice_index_or cells k zeros
 
-abbrev pub IsAmong : List ℕ → ℕ → Type 0
-IsAmong [] k = ⊥
-IsAmong (cell ∷ cells) k = (k ≡ cell) ⊎ IsAmong cells k
-
 -- a cell of the store that was written since the last sync that succeeded
 abbrev pub IsUnsure : Moment → ℕ → Type 0
-IsUnsure s k = IsAmong s.unsure k × (k < length s.cells)
+IsUnsure s k = Contains s.unsure k × (k < length s.cells)
 
 -- 128 bytes
 abbrev pub IsCell : List ℕ → Type 0
@@ -67,6 +63,16 @@ with_call past call = record { first = past.first; calls = past.calls ++ call �
 -- a crash at some moment since t might have left it
 abbrev pub LeftSince : Past → Clock → Image → Type 0
 LeftSince past t c = (j : ℕ) × (t 0 ≤ j) × (j ≤ length past.calls) × MayLeave (moment_at past j) c
+
+-- the bytes that are given for a cell, the last ones where there are several
+abbrev pub given : List (ℕ × List ℕ) → ℕ → Option (List ℕ)
+given fillings k = fold (λ found f. if f.0 == k then Some f.1 else found) None fillings
+
+-- A crash at this moment left these fillings in the cells that weren't sure, and in each other cell what it got last.
+pub record IsLeft (s : Moment) (fillings : List (ℕ × List ℕ)) (image : Image) : Type 0 where
+  pub filled : (k : ℕ) (bytes : List ℕ) → IsUnsure s k → given fillings k ≡ Some bytes → image k ≡ bytes
+  pub unfilled : (k : ℕ) → given fillings k ≡ None → image k ≡ cell_of s.cells k
+  pub sure : (k : ℕ) → (IsUnsure s k → ⊥) → image k ≡ cell_of s.cells k
 
 -- all that a store in memory tells
 abbrev pub disk_of : Past → Option (List Event) → ℕ → ℕ → Disk

@@ -1,6 +1,7 @@
 //! Stores, sources and sinks in memory, which fail exactly where they are told to.
 #![tactic(auto)]
 
+mod bare_store;
 mod call;
 mod fail;
 mod log;
@@ -10,6 +11,7 @@ mod sink;
 mod source;
 mod void;
 
+pub use bare_store::{BareLane, BareStore};
 pub use call::Call;
 pub use fail::{Counts, Fail};
 pub use log::MemLane;

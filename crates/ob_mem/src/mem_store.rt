@@ -5,7 +5,7 @@ ghost use Rattle.ob_store.specs.Images.{SameBut, Tears, Shrinks, Elapses, Settle
 ghost use Rattle.ob_store.specs.Calls.{GoesOn, Serves, IsFailed, Keeps, Notes, NotesLane, TellsOn, IsFreshLane, AddsFaults};
 ghost use Rattle.ob_mem.specs.declared.call.Call.TheVariants.{Wrote, Synced};
 ghost use Rattle.ob_mem.specs.Plan.{next_call, FailsExactly};
-ghost use Rattle.ob_mem.specs.Replay.{disk_of, with_call, zeros};
+ghost use Rattle.ob_mem.specs.Replay.{disk_of, with_call, zeros, moment_at, IsLeft, MayLeave};
 ghost use Rattle.ob_mem.specs.Heard.{told, events_of};
 ghost use Rattle.ob_mem.specs.Memory.{disk_of_store};
 ghost use Rattle.ob_mem.specs.Laws.{counts_now, only_now, includes_reads};
@@ -51,6 +51,38 @@ impl MemStore {
             past: History::new(alloc, cells)?,
             log: Log::new(alloc),
             fails,
+            made: Counts {
+                writes: 0,
+                syncs: 0,
+                lanes: 0,
+            },
+            faults: 0,
+        })
+    }
+
+    /// What a crash after so many of the writes and syncs leaves: in each cell that wasn't sure then
+    /// the given bytes, the last ones where several are given, else what it got last. No call of
+    /// this store is planned to fail.
+    ///
+    /// # Errors
+    /// There was no memory for the cells.
+    pub fn crash(&self, moment: usize, bytes: &[(u64, [u8; 128])]) -> Result<MemStore, Memory>
+        ensures left { IfOk result (λ s. IsLeft (moment_at self.now.past moment) bytes.now (disk_of_store s).cells) }
+        ensures possible { IfOk result (λ s. MayLeave (moment_at self.now.past moment) (disk_of_store s).cells) }
+        ensures sure { IfOk result (λ s. Settled (disk_of_store s)) }
+        ensures seen { IfOk result (λ s. (disk_of_store s).seen ≡ Some []) }
+        ensures out { IfOk result (λ s. (disk_of_store s).out ≡ 0) }
+        ensures faults { IfOk result (λ s. (disk_of_store s).faults ≡ 0) }
+        ensures size { IfOk result (λ s. length s.past.first ≡ length self.now.past.first) }
+        ensures fails { IfOk result (λ s. s.fails.items ≡ []) }
+        ensures made { IfOk result (λ s. s.made ≡ record { writes = 0; syncs = 0; lanes = 0 }) }
+        ensures starved { IfOk result (λ s. s.log.starved ≡ 0) }
+    {
+        Ok(MemStore {
+            alloc: self.alloc,
+            past: self.past.crash(self.alloc, moment, bytes)?,
+            log: Log::new(self.alloc),
+            fails: Vec::new(self.alloc),
             made: Counts {
                 writes: 0,
                 syncs: 0,
