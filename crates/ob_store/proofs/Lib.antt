@@ -4,3 +4,4 @@ pub mod Pairs
 pub mod Puts
 pub mod Runs
 pub mod Serving
+pub mod Showing

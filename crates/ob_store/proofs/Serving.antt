@@ -1,5 +1,5 @@
 -- What every call keeps, from call to call.
-use Rattle.std.proofs.Common.{◌≤◌, ℕ, List, Option, Some, None, Result, Ok, Err, refl, ◌∙◌, arith}
+use Rattle.std.proofs.Common.{◌≤◌, ℕ, List, Option, Some, None, Result, Ok, Err, OnOk, OnErr, refl, ◌∙◌, arith}
 use Rattle.ob_base.specs.Causes.{Rose}
 use Rattle.ob_store.specs.declared.event.Event.{Event}
 use Rattle.ob_store.specs.Disk.{Disk}
@@ -58,3 +58,16 @@ serves_err blames told a b e f so p = record { goes = p.goes; out = p.out; tells
 -- calls that went well, and nothing behind them
 pub serves_ok : {T E : Type 0} (blames : E → Type 0) (a b : Disk) (v : T) → GoesOn a b → b.out ≤ a.out → (a.tells → b.tells) → Serves blames a b (Ok v)
 serves_ok blames a b v p out tells = record { goes = p; out = out; tells = tells; cause = tt }
+
+-- what follows from a clause on one answer
+pub on_ok : {T E : Type 0} (P Q : Type 0) (r : Result T E) → (P → Q) → OnOk r P → OnOk r Q
+on_ok P Q (Ok v) f h = f h
+on_ok P Q (Err e) f h = tt
+
+pub on_err : {T E : Type 0} (P Q : Type 0) (r : Result T E) → (P → Q) → OnErr r P → OnErr r Q
+on_err P Q (Ok v) f h = tt
+on_err P Q (Err e) f h = f h
+
+pub if_err : {T E : Type 0} (Q : Type 0) (r : Result T E) → Q → OnErr r Q
+if_err Q (Ok v) q = tt
+if_err Q (Err e) q = q

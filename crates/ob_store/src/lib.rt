@@ -3,6 +3,7 @@
 #![tactic(auto)]
 
 mod event;
+mod noted;
 mod run;
 mod sink_watch;
 mod store;
@@ -10,6 +11,7 @@ mod through;
 mod watch;
 
 pub use event::Event;
+pub use noted::{sync_noted, write_noted};
 pub use run::write_run;
 pub use sink_watch::SinkWatch;
 pub use store::Store;
