@@ -1,6 +1,7 @@
 -- How the events of a run follow one another.
-use Rattle.std.proofs.Common.{List, [], ◌∷◌, ◌++◌, Option, Some, None, Result, Ok, Err, OnErr, sym, ◌∙◌, ap, arith, append_assoc, length}
-use Rattle.std.proofs.lemmas.List.{append-nil, take_all}
+use Rattle.std.proofs.Common.{Err, List, None, Ok, OnErr, Option, Result, Some, [], ap, append_assoc, arith, length, length-append, sym, take, ℕ, ◌++◌, ◌+◌, ◌∙◌, ◌∷◌, ◌≤◌}
+use Rattle.std.proofs.lemmas.List.{append-nil, take_all, take-append-le}
+use Rattle.std.proofs.Math.Seq.{take-append-add}
 use Rattle.ob_store.specs.declared.event.Event.{Event}
 use Rattle.ob_store.specs.Calls.{Notes, NotesFirst}
 
@@ -23,3 +24,11 @@ all_first xs a b p = (length xs, omega arith, rw (take_all (length xs) xs (omega
 pub first_of_two : {T E : Type 0} (r : Result T E) (x y : Event) (a b c : Option (List Event)) → Notes (x ∷ []) a b → Notes (y ∷ []) b c → OnErr r (NotesFirst (x ∷ y ∷ []) a c)
 first_of_two (Ok v) x y a b c p q = tt
 first_of_two (Err e) x y a b c p q = (2, omega arith, joined (x ∷ []) (y ∷ []) a b c p q)
+
+-- some of the first events, of more
+pub first_more : (xs ys : List Event) (a b : Option (List Event)) → NotesFirst xs a b → NotesFirst (xs ++ ys) a b
+first_more xs ys a b p = (p.0, omega (arith, p.1, length-append xs ys), rw (take-append-le p.0 xs ys p.1) p.2)
+
+-- all of them, and some of the next
+pub joined_first : (xs ys : List Event) (a b c : Option (List Event)) → Notes xs a b → NotesFirst ys b c → NotesFirst (xs ++ ys) a c
+joined_first xs ys a b c p q = (length xs + q.0, omega (arith, q.1, length-append xs ys), rw (take-append-add xs ys q.0) (joined xs (take q.0 ys) a b c p q.2))

@@ -71,3 +71,7 @@ on_err P Q (Err e) f h = f h
 pub if_err : {T E : Type 0} (Q : Type 0) (r : Result T E) → Q → OnErr r Q
 if_err Q (Ok v) q = tt
 if_err Q (Err e) q = q
+
+pub if_ok : {T E : Type 0} (Q : Type 0) (r : Result T E) → Q → OnOk r Q
+if_ok Q (Ok v) q = q
+if_ok Q (Err e) q = tt

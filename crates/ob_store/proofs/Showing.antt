@@ -59,3 +59,11 @@ shows_then xs ys a b c p q = record {
 -- all of them are some of them
 pub all_shown : (xs : List Note) (a b : Trace) → Shows xs a b → ShowsFirst xs a b
 all_shown xs a b p = (length xs, omega arith, rw (take_all (length xs) xs (omega arith)) p)
+
+-- some of the first notes, of more
+pub shown_more : (xs ys : List Note) (a b : Trace) → ShowsFirst xs a b → ShowsFirst (xs ++ ys) a b
+shown_more xs ys a b p = (p.0, omega (arith, p.1, length-append xs ys), rw (take-append-le p.0 xs ys p.1) p.2)
+
+-- all of them, and some of the next
+pub shows_first : (xs ys : List Note) (a b c : Trace) → Shows xs a b → ShowsFirst ys b c → ShowsFirst (xs ++ ys) a c
+shows_first xs ys a b c p q = (length xs + q.0, omega (arith, q.1, length-append xs ys), rw (take-append-add xs ys q.0) (shows_then xs (take q.0 ys) a b c p q.2))

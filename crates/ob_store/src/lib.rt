@@ -11,7 +11,7 @@ mod through;
 mod watch;
 
 pub use event::Event;
-pub use noted::{sync_noted, write_noted};
+pub use noted::{read_noted, sync_noted, write_noted};
 pub use run::write_run;
 pub use sink_watch::SinkWatch;
 pub use store::Store;

@@ -2,7 +2,8 @@ ghost use Rattle.std.specs.Prelude.{◌≡◌, [], ◌∷◌, OnOk, OnErr};
 ghost use Rattle.ob_store.specs.declared.event.Event.{Event};
 ghost use Rattle.ob_store.specs.declared.watch.Note.{Note};
 ghost use Rattle.ob_store.specs.Images.{Settled, SameBut, Tears, Shrinks, Elapses};
-ghost use Rattle.ob_store.specs.Calls.{Serves, IsFailed, Keeps, Notes};
+ghost use Rattle.ob_store.specs.Calls.{Serves, IsFailed, Keeps, Notes, TellsOn};
+ghost use Rattle.ob_base.specs.Causes.{HasCause};
 ghost use Rattle.ob_store.specs.Lines.{Shows};
 
 use crate::{Event, Note, Store, Watch};
@@ -52,4 +53,26 @@ pub fn sync_noted<S: Store, W: Watch>(store: &mut S, watch: &mut W) -> Result<()
     store.sync()?;
     watch.note(Note::Sync);
     Ok(())
+}
+
+/// Reads a cell, and shows the read, whatever it answered.
+///
+/// # Errors
+/// The store failed, and the lane's count of faults rose. What `out` has is not told.
+pub fn read_noted<S: Store, W: Watch>(
+    store: &S,
+    lane: &mut S::Lane,
+    cell: u64,
+    out: &mut [u8; 128],
+    watch: &mut W,
+) -> Result<(), Failed>
+    ensures bytes { (S.disk store.now).tells → OnOk result (out.new ≡ (S.disk store.now).cells cell) }
+    ensures seen { Notes (Event.Read cell ∷ []) (S.lane_seen lane.old) (S.lane_seen lane.new) }
+    ensures tells { TellsOn (S.lane_seen lane.old) (S.lane_seen lane.new) (S.lane_faults lane.old) (S.lane_faults lane.new) }
+    ensures cause { HasCause (S.lane_faults lane.old) (S.lane_faults lane.new) result }
+    ensures shown { Shows (Note.Read cell ∷ []) (W.trace watch.old) (W.trace watch.new) }
+{
+    let outcome = store.read(lane, cell, out);
+    watch.note(Note::Read(cell));
+    outcome
 }
