@@ -23,7 +23,9 @@ pub returns-in-Err-judge-clause-value : goal.returns-in-Err-judge-clause-value
 returns-in-Err-judge-clause-value g c = λ tells.
     let tag = g.T.Stamper.tag c.args.stamper.now in
     let old = g.S.Store.disk c.args.store.now in
-    ?
+    subst (λ f. IsGot tag f old.cells (Err c.from.result)) c.first-first.ensures
+    (subst (λ (x : Fault). IsGot tag c.first-first.result old.cells (Err x)) (sym c.from.ensures)
+    (c.in-Err-judge.ensures old.cells (c.in-Ok.ensures.body_zero tells) (c.in-Ok.ensures.gate_zero tells) (c.in-Ok.ensures.body_one tells) (c.in-Ok.ensures.gate_one tells)))
 
 pub returns-in-Err-judge-clause-stands : goal.returns-in-Err-judge-clause-stands
 returns-in-Err-judge-clause-stands g c = λ n tells stands.
