@@ -1,5 +1,5 @@
 -- What a crash leaves, filling by filling.
-use Rattle.std.proofs.Common.{◌≡◌, ◌≢◌, ◌⊎◌, inl, inr, ⊎_elim, ℕ, ◌+◌, ◌<◌, ◌≤◌, List, [], ◌∷◌, ◌++◌, length, take, min, get_or, Option, Some, None, true, false, Contains, refl, sym, ◌∙◌, ap, subst, arith, ◌==◌, if◌then◌else◌}
+use Rattle.std.proofs.Common.{◌≡◌, ◌≢◌, ◌⊎◌, inl, inr, ⊎_elim, ℕ, ◌+◌, ◌<◌, ◌≤◌, List, [], ◌∷◌, ◌++◌, length, take, min, get_or, Some, None, true, false, Contains, refl, sym, ◌∙◌, ap, subst, arith, ◌==◌, if◌then◌else◌}
 use Rattle.std.proofs.Math.ListN.{set}
 use Rattle.std.proofs.lemmas.Bool.{cases_eq, cases_lt}
 use Rattle.std.proofs.lemmas.Bool.Decides.{nat_tests}
@@ -40,23 +40,23 @@ module _ (s : Moment) (fs : List (ℕ × List ℕ)) (cells : List (List ℕ)) (s
   filled_one among = record {
     filled = λ k b unsure found. ⊎_elim
         (λ (here : k ≡ cell).
-            let lt : cell < length s.cells = omega (arith, unsure.1, here) in
-            let is : Some bytes ≡ Some b = sym (given_here fs cell bytes) ∙ ap (λ j. given (fs ++ (cell, bytes) ∷ []) j) (sym here) ∙ found in
-            let same : bytes ≡ b = cc in
-            ap (cell_of (set cells cell bytes)) here ∙ put_here lt ∙ same)
+        let lt : cell < length s.cells = omega (arith, unsure.1, here) in
+        let is : Some bytes ≡ Some b = sym (given_here fs cell bytes) ∙ ap (λ j. given (fs ++ (cell, bytes) ∷ []) j) (sym here) ∙ found in
+        let same : bytes ≡ b = cc in
+        ap (cell_of (set cells cell bytes)) here ∙ put_here lt ∙ same)
         (λ ne. put_there k ne ∙ left.filled k b unsure (sym (given_there fs cell k bytes ne) ∙ found))
         (cases_eq k cell);
     unfilled = λ k none. ⊎_elim
         (λ (here : k ≡ cell).
-            let is : Some bytes ≡ None = sym (given_here fs cell bytes) ∙ ap (λ j. given (fs ++ (cell, bytes) ∷ []) j) (sym here) ∙ none in
-            absurd (let wrong : Some bytes ≡ None = is in cc))
+        let is : Some bytes ≡ None = sym (given_here fs cell bytes) ∙ ap (λ j. given (fs ++ (cell, bytes) ∷ []) j) (sym here) ∙ none in
+        absurd (let wrong : Some bytes ≡ None = is in cc))
         (λ ne. put_there k ne ∙ left.unfilled k (sym (given_there fs cell k bytes ne) ∙ none))
         (cases_eq k cell);
     sure = λ k not_unsure. ⊎_elim
         (λ (here : k ≡ cell). ⊎_elim
-            (λ lt. absurd (not_unsure (subst (λ j. Contains s.unsure j) (sym here) among, omega (arith, lt, here))))
-            (λ out. let past : length cells ≤ cell = omega arith in ap (λ (l : List (List ℕ)). cell_of l k) (set_past cells cell bytes past) ∙ left.sure k not_unsure)
-            (cases_lt cell (length s.cells)))
+        (λ lt. absurd (not_unsure (subst (λ j. Contains s.unsure j) (sym here) among, omega (arith, lt, here))))
+        (λ out. let past : length cells ≤ cell = omega arith in ap (λ (l : List (List ℕ)). cell_of l k) (set_past cells cell bytes past) ∙ left.sure k not_unsure)
+        (cases_lt cell (length s.cells)))
         (λ ne. put_there k ne ∙ left.sure k not_unsure)
         (cases_eq k cell);
   }
@@ -69,8 +69,8 @@ module _ (s : Moment) (fs : List (ℕ × List ℕ)) (cells : List (List ℕ)) (s
         (cases_eq k cell);
     unfilled = λ k none. ⊎_elim
         (λ (here : k ≡ cell).
-            let is : Some bytes ≡ None = sym (given_here fs cell bytes) ∙ ap (λ j. given (fs ++ (cell, bytes) ∷ []) j) (sym here) ∙ none in
-            absurd (let wrong : Some bytes ≡ None = is in cc))
+        let is : Some bytes ≡ None = sym (given_here fs cell bytes) ∙ ap (λ j. given (fs ++ (cell, bytes) ∷ []) j) (sym here) ∙ none in
+        absurd (let wrong : Some bytes ≡ None = is in cc))
         (λ ne. left.unfilled k (sym (given_there fs cell k bytes ne) ∙ none))
         (cases_eq k cell);
     sure = λ k not_unsure. left.sure k not_unsure;
@@ -79,9 +79,9 @@ module _ (s : Moment) (fs : List (ℕ × List ℕ)) (cells : List (List ℕ)) (s
   pub possible_one : Contains s.unsure cell → IsCell bytes → MayLeave s (cell_of cells) → MayLeave s (cell_of (set cells cell bytes))
   possible_one among is may k = ⊎_elim
       (λ (here : k ≡ cell). ⊎_elim
-          (λ lt. inl ((subst (λ j. Contains s.unsure j) (sym here) among, omega (arith, lt, here)), subst (λ (b : List ℕ). IsCell b) (sym (ap (cell_of (set cells cell bytes)) here ∙ put_here lt)) is))
-          (λ out. let past : length cells ≤ cell = omega arith in subst (λ (l : List (List ℕ)). (IsUnsure s k × IsCell (cell_of l k)) ⊎ (cell_of l k ≡ cell_of s.cells k)) (sym (set_past cells cell bytes past)) (may k))
-          (cases_lt cell (length s.cells)))
+      (λ lt. inl ((subst (λ j. Contains s.unsure j) (sym here) among, omega (arith, lt, here)), subst (λ (b : List ℕ). IsCell b) (sym (ap (cell_of (set cells cell bytes)) here ∙ put_here lt)) is))
+      (λ out. let past : length cells ≤ cell = omega arith in subst (λ (l : List (List ℕ)). (IsUnsure s k × IsCell (cell_of l k)) ⊎ (cell_of l k ≡ cell_of s.cells k)) (sym (set_past cells cell bytes past)) (may k))
+      (cases_lt cell (length s.cells)))
       (λ ne. subst (λ (b : List ℕ). (IsUnsure s k × IsCell b) ⊎ (b ≡ cell_of s.cells k)) (sym (put_there k ne)) (may k))
       (cases_eq k cell)
 

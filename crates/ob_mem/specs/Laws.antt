@@ -1,5 +1,5 @@
 -- The moments of a store in memory.
-use Rattle.std.specs.Prelude.{◌≡◌, ◌≤◌, ℕ, List, length, take}
+use Rattle.std.specs.Prelude.{List, length}
 use Rattle.std.proofs.Common.{subst, sym, arith, inr, refl}
 use Rattle.std.proofs.lemmas.List.{take_all}
 use Rattle.ob_store.specs.Disk.{Clock, NotAfter, Image}

@@ -1,5 +1,5 @@
 -- The disk model, over the list of writes and syncs.
-use Rattle.std.specs.Prelude.{◌≡◌, ◌⊎◌, ◌≤◌, ◌<◌, ℕ, if◌then◌else◌, List, [], ◌∷◌, ◌++◌, ◌^◌, length, take, replicate, slice_set, slice_index_or, ◌==◌, Option, Some, None, All, Contains, fold}
+use Rattle.std.specs.Prelude.{◌≡◌, ◌⊎◌, ◌≤◌, ◌<◌, ℕ, if◌then◌else◌, List, [], ◌∷◌, ◌++◌, length, take, replicate, slice_set, slice_index_or, ◌==◌, Option, Some, None, All, Contains, fold}
 use Rattle.ob_store.specs.declared.event.Event.{Event}
 use Rattle.ob_store.specs.Disk.{Clock, Disk, Image}
 use Rattle.ob_mem.specs.declared.call.Call.{Call}

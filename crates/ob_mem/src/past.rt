@@ -88,7 +88,12 @@ impl History {
 
     /// A history that begins with what a crash after so many of the calls leaves: the given bytes in
     /// each cell that wasn't sure then, the last ones where several are given, else what it got last.
-    pub fn crash(&self, alloc: Global, moment: usize, fillings: &[(u64, [u8; 128])]) -> Result<History, AllocError>
+    pub fn crash(
+        &self,
+        alloc: Global,
+        moment: usize,
+        fillings: &[(u64, [u8; 128])],
+    ) -> Result<History, AllocError>
         ensures calls { IfOk result (λ h. h.calls ≡ []) }
         ensures size { IfOk result (λ h. length h.first ≡ length self.now.first) }
         ensures left { IfOk result (λ h. IsLeft (moment_at self.now moment) fillings.now (cell_of h.first)) }

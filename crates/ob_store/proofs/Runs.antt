@@ -2,12 +2,10 @@
 use Rattle.std.proofs.Common.{◌≡◌, ◌≢◌, ◌⊎◌, inl, inr, ⊎_elim, OnErr, ◌-◌, ℕ, zero, suc, ◌+◌, ◌<◌, ◌≤◌, List, [], ◌∷◌, ◌++◌, length, get_or, refl, sym, ◌∙◌, ap, arith, below_more, add-one, take, map, length-append, Result, Ok, Err}
 use Rattle.std.proofs.lemmas.Bool.{cases_eq}
 use Rattle.std.proofs.lemmas.List.{take-append-le, take_all}
-use Rattle.ob_store.specs.declared.event.Event.{Event}
 use Rattle.ob_store.specs.declared.event.Event.TheVariants.{Write}
 use Rattle.ob_store.specs.Disk.{Disk}
 use Rattle.ob_store.specs.Images.{Elapses, Passes, SameBut, SameOff, Tears}
 use Rattle.ob_store.specs.Calls.{GoesOn, Serves, IsFailed, Notes, NotesFirst}
-use Rattle.ob_store.specs.declared.watch.Note.{Note}
 use Rattle.ob_store.specs.declared.watch.Note.TheVariants.{Write as Shown}
 use Rattle.ob_store.specs.Lines.{Trace, Shows, ShowsFirst}
 use Rattle.ob_store.specs.Runs.{write_events, write_notes, from_on}

@@ -1,10 +1,11 @@
 -- What is known of the gates.
-use Rattle.std.proofs.Common.{◌≡◌, ◌≢◌, ◌⊎◌, inl, inr, ⊎_elim, ◌↔◌, ℕ, ◌+◌, ◌*◌, ◌%◌, ◌<◌, ◌≤◌, Bool, true, false, IsTrue, not, ◌||◌, refl, sym, ◌∙◌, ap, subst, arith}
+use Rattle.std.proofs.Common.{replicate, ◌≡◌, ◌≢◌, ◌⊎◌, inl, inr, ⊎_elim, ◌↔◌, ℕ, ◌+◌, ◌*◌, ◌%◌, ◌<◌, ◌≤◌, Bool, true, false, IsTrue, not, ◌||◌, refl, sym, ◌∙◌, ap, subst, arith}
 use Rattle.std.proofs.lemmas.Bool.{cases_eq}
 use Rattle.ob_store.specs.Disk.{Image}
 use Rattle.ob_twin.specs.declared.gates.Open.{Open}
-use Rattle.ob_twin.specs.Bodies.{Tagging, open_gate}
+use Rattle.ob_twin.specs.Bodies.{Tagging, closed_gate}
 use Rattle.ob_twin.specs.Register.{body_at, gate_at, place_of, IsOpen, StandsAt, SameTwo}
+use Rattle.ob_twin.proofs.Moves.{closed-isnt-open}
 use Rattle.ob_twin.specs.Opening.{is_marked, with_mark, is_closed_first, GatesAre}
 
 either : (n : ℕ) → (n % 2 ≡ 0) ⊎ (n % 2 ≡ 1)
@@ -67,3 +68,9 @@ none_are first image shut = record {
   zero = ((λ t. let wrong : false ≡ true = t in cc), (λ o. absurd (shut 0 o)));
   one = ((λ t. let wrong : false ≡ true = t in cc), (λ o. absurd (shut 1 o)));
 }
+
+-- in cells of zeros no gate is open
+pub none_told : (known : Open) (first : ℕ) (image : Image) → known ≡ record { zero = false; one = false } → ((k : ℕ) → image k ≡ replicate 128 0) → GatesAre known first image
+unfolding closed_gate
+none_told known first image is blank =
+    subst (λ (o : Open). GatesAre o first image) (sym is) (none_are first image (λ place opened. closed-isnt-open (sym (blank (gate_at first place)) ∙ opened)))

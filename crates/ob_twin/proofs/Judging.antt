@@ -60,24 +60,30 @@ module _ (tag : Tagging) (first a b : ℕ) (image : Image) (gz bz go bo : List �
   both_read None None p q =
       at_place (λ k. IsOpen first image k → ⊥) (place_none tag first 0 a image gz bz at_zero bz_is gz_is p) (place_none tag first 1 b image go bo at_one bo_is go_is q)
   both_read (Some n) None p q =
-      let here = place_some tag first 0 a image gz bz at_zero bz_is gz_is n p in
-      (all_whole (Some n) None p q, record {
-        some = (0, omega arith, here.0, here.2);
-        greatest = at_place (λ k. IsOpen first image k → number_at first image k ≤ n) (λ _. omega (arith, here.2)) (λ opened. absurd (place_none tag first 1 b image go bo at_one bo_is go_is q opened));
-      })
+      let here = place_some tag first 0 a image gz bz at_zero bz_is gz_is n p in (
+        all_whole (Some n) None p q,
+        record {
+          some = (0, omega arith, here.0, here.2);
+          greatest = at_place (λ k. IsOpen first image k → number_at first image k ≤ n) (λ _. omega (arith, here.2)) (λ opened. absurd (place_none tag first 1 b image go bo at_one bo_is go_is q opened));
+        },
+      )
   both_read None (Some n) p q =
-      let here = place_some tag first 1 b image go bo at_one bo_is go_is n q in
-      (all_whole None (Some n) p q, record {
-        some = (1, omega arith, here.0, here.2);
-        greatest = at_place (λ k. IsOpen first image k → number_at first image k ≤ n) (λ opened. absurd (place_none tag first 0 a image gz bz at_zero bz_is gz_is p opened)) (λ _. omega (arith, here.2));
-      })
+      let here = place_some tag first 1 b image go bo at_one bo_is go_is n q in (
+        all_whole None (Some n) p q,
+        record {
+          some = (1, omega arith, here.0, here.2);
+          greatest = at_place (λ k. IsOpen first image k → number_at first image k ≤ n) (λ opened. absurd (place_none tag first 0 a image gz bz at_zero bz_is gz_is p opened)) (λ _. omega (arith, here.2));
+        },
+      )
   both_read (Some n) (Some m) p q =
       let one = place_some tag first 0 a image gz bz at_zero bz_is gz_is n p in
-      let two = place_some tag first 1 b image go bo at_one bo_is go_is m q in
-      (all_whole (Some n) (Some m) p q, record {
-        some = ⊎_elim (λ none. (1, omega arith, two.0, two.2 ∙ omega arith)) (λ more. (0, omega arith, one.0, one.2 ∙ omega arith)) (cases_eq (n - m) 0);
-        greatest = at_place (λ k. IsOpen first image k → number_at first image k ≤ max n m) (λ _. omega (arith, one.2)) (λ _. omega (arith, two.2));
-      })
+      let two = place_some tag first 1 b image go bo at_one bo_is go_is m q in (
+        all_whole (Some n) (Some m) p q,
+        record {
+          some = ⊎_elim (λ none. (1, omega arith, two.0, two.2 ∙ omega arith)) (λ more. (0, omega arith, one.0, one.2 ∙ omega arith)) (cases_eq (n - m) 0);
+          greatest = at_place (λ k. IsOpen first image k → number_at first image k ≤ max n m) (λ _. omega (arith, one.2)) (λ _. omega (arith, two.2));
+        },
+      )
 
 -- Where a register stands at a number, that is what is read.
 module _ (tag : Tagging) (first n : ℕ) (image : Image) (stands : StandsAt tag first image n) where
@@ -87,14 +93,14 @@ module _ (tag : Tagging) (first n : ℕ) (image : Image) (stands : StandsAt tag 
   at_or_under : (place : ℕ) → place < 2 → IsOpen first image place → IsWhole tag (body_at first place) (image (body_at first place)) × (number_at first image place ≤ n)
   at_or_under place lt opened = ⊎_elim
       (λ (e : place ≡ place_of n).
-          let number = stands.number in
-          let small = stands.small in
-          subst (λ k. IsWhole tag (body_at first k) (image (body_at first k)) × (number_at first image k ≤ n)) (sym e) ((stands.stamped, omega arith), omega arith))
+      let number = stands.number in
+      let small = stands.small in
+      subst (λ k. IsWhole tag (body_at first k) (image (body_at first k)) × (number_at first image k ≤ n)) (sym e) ((stands.stamped, omega arith), omega arith))
       (λ (e : place ≡ place_of (n + 1)).
-          let small = stands.small in
-          let under = stands.other (subst (λ k. IsOpen first image k) e opened) in
-          let le = under.1 in
-          subst (λ k. IsWhole tag (body_at first k) (image (body_at first k)) × (number_at first image k ≤ n)) (sym e) ((under.0, omega arith), le))
+      let small = stands.small in
+      let under = stands.other (subst (λ k. IsOpen first image k) e opened) in
+      let le = under.1 in
+      subst (λ k. IsWhole tag (body_at first k) (image (body_at first k)) × (number_at first image k ≤ n)) (sym e) ((under.0, omega arith), le))
       (either_place place lt)
 
   pub read_at : (r : Result (Option ℕ) Damaged) → IsRead tag first image r → r ≡ Ok (Some n)

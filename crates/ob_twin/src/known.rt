@@ -26,7 +26,10 @@ pub fn with_mark(known: Open, place: u64) -> Open
     ensures { result ≡ with_mark known place }
 {
     if place == 0 {
-        Open { zero: true, ..known }
+        Open {
+            zero: true,
+            ..known
+        }
     } else {
         Open { one: true, ..known }
     }

@@ -17,3 +17,5 @@ pub use stamp::Stamper;
 pub use twin::Twin;
 pub use zero_tag::ZeroTag;
 
+#[cfg(test)]
+mod tests;

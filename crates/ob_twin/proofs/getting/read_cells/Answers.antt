@@ -19,22 +19,31 @@ returns-in_err-read_noted-2-clause-shown_err g c =
 
 pub returns-in_err-read_noted-3-clause-seen_err : goal.returns-in_err-read_noted-3-clause-seen_err
 returns-in_err-read_noted-3-clause-seen_err g c =
-    if_err _ c.from_residual-in_err-read_noted-3.result (3, omega arith,
-    joined (event.Read c.args.first ∷ []) (event.Read (c.args.first + 1) ∷ event.Read (c.args.first + 2) ∷ []) _ _ _ c.read_noted.ensures.seen
-    (joined (event.Read (c.args.first + 1) ∷ []) (event.Read (c.args.first + 2) ∷ []) _ _ _ c.read_noted-2.ensures.seen c.read_noted-3.ensures.seen))
+    if_err _ c.from_residual-in_err-read_noted-3.result (
+      3,
+      omega arith,
+      joined (event.Read c.args.first ∷ []) (event.Read (c.args.first + 1) ∷ event.Read (c.args.first + 2) ∷ []) _ _ _ c.read_noted.ensures.seen
+          (joined (event.Read (c.args.first + 1) ∷ []) (event.Read (c.args.first + 2) ∷ []) _ _ _ c.read_noted-2.ensures.seen c.read_noted-3.ensures.seen),
+    )
 
 pub returns-in_err-read_noted-3-clause-shown_err : goal.returns-in_err-read_noted-3-clause-shown_err
 returns-in_err-read_noted-3-clause-shown_err g c =
-    if_err _ c.from_residual-in_err-read_noted-3.result (3, omega arith,
-    shows_then (note.Read c.args.first ∷ []) (note.Read (c.args.first + 1) ∷ note.Read (c.args.first + 2) ∷ []) _ _ _ c.read_noted.ensures.shown
-    (shows_then (note.Read (c.args.first + 1) ∷ []) (note.Read (c.args.first + 2) ∷ []) _ _ _ c.read_noted-2.ensures.shown c.read_noted-3.ensures.shown))
+    if_err _ c.from_residual-in_err-read_noted-3.result (
+      3,
+      omega arith,
+      shows_then (note.Read c.args.first ∷ []) (note.Read (c.args.first + 1) ∷ note.Read (c.args.first + 2) ∷ []) _ _ _ c.read_noted.ensures.shown
+          (shows_then (note.Read (c.args.first + 1) ∷ []) (note.Read (c.args.first + 2) ∷ []) _ _ _ c.read_noted-2.ensures.shown c.read_noted-3.ensures.shown),
+    )
 
 pub returns-clause-seen_err : goal.returns-clause-seen_err
 returns-clause-seen_err g c =
-    if_err _ c.read_noted-4.result (4, omega arith,
-    joined (event.Read c.args.first ∷ []) (event.Read (c.args.first + 1) ∷ event.Read (c.args.first + 2) ∷ event.Read (c.args.first + 3) ∷ []) _ _ _ c.read_noted.ensures.seen
-    (joined (event.Read (c.args.first + 1) ∷ []) (event.Read (c.args.first + 2) ∷ event.Read (c.args.first + 3) ∷ []) _ _ _ c.read_noted-2.ensures.seen
-    (joined (event.Read (c.args.first + 2) ∷ []) (event.Read (c.args.first + 3) ∷ []) _ _ _ c.read_noted-3.ensures.seen c.read_noted-4.ensures.seen)))
+    if_err _ c.read_noted-4.result (
+      4,
+      omega arith,
+      joined (event.Read c.args.first ∷ []) (event.Read (c.args.first + 1) ∷ event.Read (c.args.first + 2) ∷ event.Read (c.args.first + 3) ∷ []) _ _ _ c.read_noted.ensures.seen
+          (joined (event.Read (c.args.first + 1) ∷ []) (event.Read (c.args.first + 2) ∷ event.Read (c.args.first + 3) ∷ []) _ _ _ c.read_noted-2.ensures.seen
+          (joined (event.Read (c.args.first + 2) ∷ []) (event.Read (c.args.first + 3) ∷ []) _ _ _ c.read_noted-3.ensures.seen c.read_noted-4.ensures.seen)),
+    )
 
 pub returns-clause-shown : goal.returns-clause-shown
 returns-clause-shown g c =
@@ -45,7 +54,10 @@ returns-clause-shown g c =
 
 pub returns-clause-shown_err : goal.returns-clause-shown_err
 returns-clause-shown_err g c =
-    if_err _ c.read_noted-4.result (4, omega arith,
-    shows_then (note.Read c.args.first ∷ []) (note.Read (c.args.first + 1) ∷ note.Read (c.args.first + 2) ∷ note.Read (c.args.first + 3) ∷ []) _ _ _ c.read_noted.ensures.shown
-    (shows_then (note.Read (c.args.first + 1) ∷ []) (note.Read (c.args.first + 2) ∷ note.Read (c.args.first + 3) ∷ []) _ _ _ c.read_noted-2.ensures.shown
-    (shows_then (note.Read (c.args.first + 2) ∷ []) (note.Read (c.args.first + 3) ∷ []) _ _ _ c.read_noted-3.ensures.shown c.read_noted-4.ensures.shown)))
+    if_err _ c.read_noted-4.result (
+      4,
+      omega arith,
+      shows_then (note.Read c.args.first ∷ []) (note.Read (c.args.first + 1) ∷ note.Read (c.args.first + 2) ∷ note.Read (c.args.first + 3) ∷ []) _ _ _ c.read_noted.ensures.shown
+          (shows_then (note.Read (c.args.first + 1) ∷ []) (note.Read (c.args.first + 2) ∷ note.Read (c.args.first + 3) ∷ []) _ _ _ c.read_noted-2.ensures.shown
+          (shows_then (note.Read (c.args.first + 2) ∷ []) (note.Read (c.args.first + 3) ∷ []) _ _ _ c.read_noted-3.ensures.shown c.read_noted-4.ensures.shown)),
+    )

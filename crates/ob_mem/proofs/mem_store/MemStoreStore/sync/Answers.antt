@@ -1,6 +1,5 @@
-use Rattle.std.proofs.Common.{◌≡◌, ◌≤◌, ◌<◌, None, Bool, true, false, not, refl, subst, ap, arith}
+use Rattle.std.proofs.Common.{◌≡◌, None, Bool, true, false, not, refl, subst, ap, arith}
 use Rattle.ob_base.specs.Causes.{Rose}
-use Rattle.ob_mem.specs.declared.call.Call.{Call}
 use Rattle.ob_mem.specs.declared.call.Call.TheVariants.{Synced}
 use Rattle.ob_mem.proofs.Calls.{goes_call, goes_still, shrinks_call, keeps_call, settles_call, time_call, refused, served}
 use Rattle.ob_mem.proofs.mem_store.MemStoreStore.sync.Goals as goal

@@ -1,7 +1,6 @@
-use Rattle.std.proofs.Common.{◌≡◌, ◌≤◌, ◌<◌, None, Bool, true, false, not, refl, subst, length, arith}
+use Rattle.std.proofs.Common.{◌≡◌, None, Bool, true, false, refl, subst, arith}
 use Rattle.ob_base.specs.Causes.{Rose}
-use Rattle.ob_mem.specs.Replay.{now_of}
-use Rattle.ob_mem.proofs.Calls.{goes_call, goes_still, tears_call, tears_still, rest_call, put_call, time_call, time_still, refused, served}
+use Rattle.ob_mem.proofs.Calls.{goes_call, goes_still, tears_call, tears_still, rest_call, put_call, time_call, refused, served}
 use Rattle.ob_mem.proofs.mem_store.MemStoreStore.write.Goals as goal
 
 pub returns-in-Err-clause-serves : goal.returns-in-Err-clause-serves
