@@ -2,11 +2,14 @@
 use Rattle.std.proofs.Common.{replicate, ◌≡◌, ◌≢◌, ◌⊎◌, inl, inr, ⊎_elim, ◌↔◌, ℕ, ◌+◌, ◌*◌, ◌%◌, ◌<◌, ◌≤◌, Bool, true, false, IsTrue, not, ◌||◌, refl, sym, ◌∙◌, ap, subst, arith}
 use Rattle.std.proofs.lemmas.Bool.{cases_eq}
 use Rattle.ob_store.specs.Disk.{Image}
+use Rattle.ob_twin.specs.declared.gates.Gates.{Gates}
 use Rattle.ob_twin.specs.declared.gates.Open.{Open}
+use Rattle.ob_twin.specs.declared.twin.Twin.{Twin}
+use Rattle.ob_twin.specs.declared.twin.Twin.TheVariants.{GENERATION, EPOCH}
 use Rattle.ob_twin.specs.Bodies.{Tagging, closed_gate}
 use Rattle.ob_twin.specs.Register.{body_at, gate_at, place_of, IsOpen, StandsAt, SameTwo}
 use Rattle.ob_twin.proofs.Moves.{closed-isnt-open}
-use Rattle.ob_twin.specs.Opening.{is_marked, with_mark, is_closed_first, GatesAre}
+use Rattle.ob_twin.specs.Opening.{known_of, with_known, is_marked, with_mark, is_closed_first, GatesAre}
 
 either : (n : ℕ) → (n % 2 ≡ 0) ⊎ (n % 2 ≡ 1)
 either n = ⊎_elim (λ e. inl e) (λ ne. inr (omega arith)) (cases_eq (n % 2) 0)
@@ -74,3 +77,8 @@ pub none_told : (known : Open) (first : ℕ) (image : Image) → known ≡ recor
 unfolding closed_gate
 none_told known first image is blank =
     subst (λ (o : Open). GatesAre o first image) (sym is) (none_are first image (λ place opened. closed-isnt-open (sym (blank (gate_at first place)) ∙ opened)))
+
+-- what is known of a register is what was put there
+pub known_again : (twin : Twin) (gates : Gates) (known : Open) → known_of twin (with_known twin gates known) ≡ known
+known_again GENERATION gates known = refl
+known_again EPOCH gates known = refl

@@ -161,3 +161,19 @@ opened_at tag first n gate old mid new small under ready put elsewhere is =
     (λ k a b. elsewhere k b ∙ ready.rest k a b)
     (put ∙ is)
     (elsewhere _ (omega arith) ∙ ready.body)
+
+-- an image with the same cells
+pub kept_everywhere : (tag : Tagging) (first n : ℕ) (from c d : Image) → ((k : ℕ) → c k ≡ d k) → KeepsAt tag first from n d → KeepsAt tag first from n c
+kept_everywhere tag first n from c d same kept =
+    let stands = kept.stands in
+    let b = same (body_at first (n % 2)) in
+    record {
+      stands = record {
+        small = stands.small;
+        open_at = same (gate_at first (n % 2)) ∙ stands.open_at;
+        stamped = subst (λ (l : List ℕ). IsStamped tag (body_at first (n % 2)) l) (sym b) stands.stamped;
+        number = ap number_of b ∙ stands.number;
+        other = λ opened. subst (λ (l : List ℕ). IsStamped tag (body_at first ((n + 1) % 2)) l × (number_of l ≤ n) × (place_of (number_of l) ≡ (n + 1) % 2)) (sym (same (body_at first ((n + 1) % 2)))) (stands.other (sym (same (gate_at first ((n + 1) % 2))) ∙ opened));
+      };
+      rest = λ k out. same k ∙ kept.rest k out;
+    }

@@ -1,4 +1,5 @@
 ghost use Rattle.std.specs.Prelude.{◌≡◌, ◌≢◌, ◌<◌, ◌+◌, ◌%◌, ◌^◌, ◌≤◌, ◌++◌, ℕ, [], OnOk, OnErr, IfErr, IsTrue, if◌then◌else◌};
+ghost use Rattle.ob_store.specs.Disk.{Image};
 ghost use Rattle.ob_store.specs.Images.{Settled, SameBut, LeavesOnly};
 ghost use Rattle.ob_store.specs.Calls.{Serves, IsFailed, Notes, NotesFirst};
 ghost use Rattle.ob_store.specs.Lines.{Shows, ShowsFirst};
@@ -145,12 +146,17 @@ impl Twin {
         ensures done { (S.disk store.old).tells → IsUnder (T.tag stamper.now) (first_of self) (S.disk store.old).cells (place_of (n + 1)) n
             → OnOk result (KeepsAt (T.tag stamper.now) (first_of self) (S.disk store.old).cells n (S.disk store.new).cells) }
         ensures durable { (S.disk store.old).tells → OnOk result (Settled (S.disk store.new)) }
+        ensures reads_new { (S.disk store.old).tells → IsUnder (T.tag stamper.now) (first_of self) (S.disk store.old).cells (place_of (n + 1)) n
+            → OnOk result ((c : Image) → (S.disk store.new).may_leave c → KeepsAt (T.tag stamper.now) (first_of self) (S.disk store.old).cells n c) }
         // A crash at any moment leaves the old number or the new one.
-        ensures any_moment { (m : ℕ) → n ≡ m + 1 → (S.disk store.old).tells → Settled (S.disk store.old) → StandsAt (T.tag stamper.now) (first_of self) (S.disk store.old).cells m
+        ensures old_or_new { (m : ℕ) → n ≡ m + 1 → (S.disk store.old).tells → Settled (S.disk store.old) → StandsAt (T.tag stamper.now) (first_of self) (S.disk store.old).cells m
             → LeavesOnly (S.disk store.old) (S.disk store.new) (OldOrNew (T.tag stamper.now) (first_of self) (S.disk store.old).cells m n) }
         // Where it was refused before the gate, the old one.
-        ensures before { (m : ℕ) → n ≡ m + 1 → (S.disk store.old).tells → Settled (S.disk store.old) → StandsAt (T.tag stamper.now) (first_of self) (S.disk store.old).cells m
+        ensures before_reads_old { (m : ℕ) → n ≡ m + 1 → (S.disk store.old).tells → Settled (S.disk store.old) → StandsAt (T.tag stamper.now) (first_of self) (S.disk store.old).cells m
             → IsBefore result → LeavesOnly (S.disk store.old) (S.disk store.new) (KeepsAt (T.tag stamper.now) (first_of self) (S.disk store.old).cells m) }
+        // Whatever it answered, each image stands at one of the two.
+        ensures unsure_reads_either { (m : ℕ) → n ≡ m + 1 → (S.disk store.old).tells → Settled (S.disk store.old) → StandsAt (T.tag stamper.now) (first_of self) (S.disk store.old).cells m
+            → (c : Image) → (S.disk store.new).may_leave c → OldOrNew (T.tag stamper.now) (first_of self) (S.disk store.old).cells m n c }
         ensures gates { OnOk result (gates.new ≡ with_known self gates.old (with_mark (known_of self gates.old) (place_of n))) }
         ensures gates_err { OnErr result (gates.new ≡ gates.old) }
         ensures tell { (S.disk store.old).tells → OnOk result (GatesAre (known_of self gates.new) (first_of self) (S.disk store.new).cells) }

@@ -1,0 +1,29 @@
+use Rattle.std.proofs.Common.{◌≡◌, ◌+◌, ◌%◌, ◌∙◌, ap, subst, sym, IsTrue, Bool}
+use Rattle.ob_store.specs.Disk.{Clock}
+use Rattle.ob_store.proofs.Moments.{at_the_end}
+use Rattle.ob_twin.specs.declared.gates.Gates.{Gates}
+use Rattle.ob_twin.specs.declared.gates.Open.{Open}
+use Rattle.ob_twin.specs.Register.{first_of, place_of, IsOpen, OldOrNew}
+use Rattle.ob_twin.specs.Opening.{known_of, with_known, with_mark, is_closed_first, GatesAre}
+use Rattle.ob_twin.proofs.Gating.{open_of, are_marked, known_again}
+use Rattle.ob_twin.proofs.twin.Twin.set.Goals as goal
+
+pub returns-in_err-put-clause-unsure_reads_either : goal.returns-in_err-put-clause-unsure_reads_either
+returns-in_err-put-clause-unsure_reads_either g c = λ m next tells settled stands.
+    let tag = g.T.Stamper.tag c.args.stamper.now in
+    let old = g.S.Store.disk c.args.store.now in
+    let new = g.S.Store.disk c.put.new.store in
+    let laws = g.met.S.Store g.world.𝓛 g.world.𝓜 g.world.𝓡 ((λ s x. x), (λ x. x), (λ x. x), λ x. x) in
+    let closes : c.is_closed_first.result ≡ is_closed_first (known_of c.args.self c.args.gates.now) (place_of c.args.n) = c.is_closed_first.ensures ∙ ap (λ (k : Open). is_closed_first k (place_of c.args.n)) c.known_of-known.ensures in
+    at_the_end old new (OldOrNew tag (first_of c.args.self) old.cells m c.args.n) (laws.counts_now c.put.new.store)
+    (c.put.ensures.any_moment m next tells
+    (λ yes_closes. open_of tag (known_of c.args.self c.args.gates.now) (first_of c.args.self) m c.args.n old.cells next (c.requires.told tells) stands (subst (λ (b : Bool). IsTrue b) closes yes_closes))
+    settled stands)
+
+pub returns-clause-tell : goal.returns-clause-tell
+returns-clause-tell g c = λ tells.
+    let old = g.S.Store.disk c.args.store.now in
+    let new = g.S.Store.disk c.put.new.store in
+    subst (λ (k : Open). GatesAre k (first_of c.args.self) new.cells)
+    (sym (ap (λ (x : Gates). known_of c.args.self x) c.set_known.ensures ∙ known_again c.args.self c.args.gates.now c.with_mark.result ∙ c.with_mark.ensures ∙ ap (λ (k : Open). with_mark k (place_of c.args.n)) c.known_of-known.ensures))
+    (are_marked (known_of c.args.self c.args.gates.now) (first_of c.args.self) c.args.n old.cells new.cells (c.requires.told tells) (c.put.ensures.rest tells) (c.in_ok-put.ensures.opened tells))
