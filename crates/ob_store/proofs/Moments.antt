@@ -114,7 +114,3 @@ torn_alone cell old new only passes settled =
     leaves_of (SameBut cell) (λ d. (k : ℕ) → d k ≡ old.cells k) (λ c. SameBut cell c old.cells) old new passes only settled
     (λ c d was step k off. step k off ∙ was k)
     (λ c was k off. was k)
-
--- what a crash may leave at the end of a run is among what it leaves at its moments
-pub at_the_end : (old new : Disk) (P : Image → Type 0) → ((t : Clock) (c : Image) → NotAfter t new.moment → new.may_leave c → new.left_since t c) → LeavesOnly old new P → (c : Image) → new.may_leave c → P c
-at_the_end old new P counts run c left = run.each c (counts old.moment c run.later left)

@@ -7,7 +7,7 @@ use Rattle.std.proofs.lemmas.Slice.Eq.{bytes_eq-Decides}
 use Rattle.std.proofs.lemmas.List.{take_at}
 use Rattle.std.proofs.Math.Seq.{take-append_seam, drop-append_seam}
 use Rattle.std.proofs.lemmas.Nat.{from_le_bytes-to_le_bytes_8}
-use Rattle.ob_store.specs.Disk.{Disk, Image}
+use Rattle.ob_store.specs.Disk.{Clock, Disk, Image, NotAfter}
 use Rattle.ob_store.specs.Images.{SameBut, LeavesOnly}
 use Rattle.ob_store.proofs.Moments.{then_on, weakened}
 use Rattle.ob_twin.specs.Bodies.{Tagging, IsStamped, open_gate, closed_gate, number_of, plain_of, body_of}
@@ -177,3 +177,7 @@ kept_everywhere tag first n from c d same kept =
       };
       rest = λ k out. same k ∙ kept.rest k out;
     }
+
+-- what a crash may leave at the end of a run is among what it leaves at its moments
+pub at_the_end : (old new : Disk) (P : Image → Type 0) → ((t : Clock) (c : Image) → NotAfter t new.moment → new.may_leave c → new.left_since t c) → LeavesOnly old new P → (c : Image) → new.may_leave c → P c
+at_the_end old new P counts run c left = run.each c (counts old.moment c run.later left)

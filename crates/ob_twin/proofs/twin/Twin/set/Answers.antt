@@ -1,6 +1,6 @@
 use Rattle.std.proofs.Common.{◌≡◌, ◌+◌, ◌%◌, ◌∙◌, ap, subst, sym, IsTrue, Bool}
 use Rattle.ob_store.specs.Disk.{Clock}
-use Rattle.ob_store.proofs.Moments.{at_the_end}
+use Rattle.ob_twin.proofs.Moves.{at_the_end}
 use Rattle.ob_twin.specs.declared.gates.Gates.{Gates}
 use Rattle.ob_twin.specs.declared.gates.Open.{Open}
 use Rattle.ob_twin.specs.Register.{first_of, place_of, IsOpen, OldOrNew}
