@@ -1,2 +1,3 @@
+pub mod BookLaws
 pub mod RowLaws
 pub mod StashLaws

@@ -43,10 +43,10 @@ rises (e ∷ es) h (suc i) (suc j) lt k = rises es (t_second (below_all nat_cmp 
 
 -- ---- one comparison
 
-ties : (k : ℕ) → eq_by_cmp nat_cmp k k ≡ true
+pub ties : (k : ℕ) → eq_by_cmp nat_cmp k k ≡ true
 ties k = grind (arith, nat_tests)
 
-differs : (k x : ℕ) → k ≢ x → eq_by_cmp nat_cmp k x ≡ false
+pub differs : (k x : ℕ) → k ≢ x → eq_by_cmp nat_cmp k x ≡ false
 differs k x h = grind (arith, nat_tests)
 
 is_greater : (k x : ℕ) → x < k → nat_cmp k x ≡ Greater

@@ -1,2 +1,3 @@
+pub mod BookMap
 pub mod Kept
 pub mod Rows

@@ -3,12 +3,14 @@
 
 mod book;
 mod entry;
+mod laws;
 mod rows;
 mod stash;
 mod tables;
 
 pub use book::Book;
 pub use entry::Entry;
+pub use laws::books_are_maps;
 pub use stash::Stash;
 pub use tables::Tables;
 
