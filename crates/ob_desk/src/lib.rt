@@ -5,6 +5,7 @@ mod calls;
 mod clients;
 mod desk;
 mod laws;
+mod roll;
 
 pub use calls::{Begun, Done, Got, Look, Txn};
 pub use clients::{Client, Holder};
