@@ -10,7 +10,12 @@ pub enum Op<K> {
         source: u64,
     },
     /// A put.
-    Put { key: K, value: Value },
+    Put {
+        key: K,
+        value: Value,
+    },
     /// A delete.
-    Del { key: K },
+    Del {
+        key: K,
+    },
 }

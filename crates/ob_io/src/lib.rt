@@ -11,6 +11,10 @@ ghost use Rattle.ob_io.specs.Flows.{appended, prepended, count_of, IsAtEnd};
 pub use copy::{put_all, read_all};
 use ob_base::Failed;
 pub use standard::{StdSink, StdSource};
+
+#[cfg(test)]
+mod tests;
+
 use thiserror::Error;
 
 /// Bytes that come in.

@@ -1,1 +1,5 @@
+pub mod Heard
+pub mod Laws
 pub mod Plan
+pub mod Replay
+pub mod Memory

@@ -1,0 +1,5 @@
+pub mod Buckets
+pub mod Lending
+pub mod Order
+pub mod Rank
+pub mod Version

@@ -1,0 +1,5 @@
+pub mod KeyLemmas
+pub mod PadLemmas
+pub mod PieceLaws
+pub mod SpelledAlike
+pub mod Spelling

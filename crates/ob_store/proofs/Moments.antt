@@ -1,0 +1,116 @@
+-- How images go on through a run of calls.
+use Rattle.std.proofs.Common.{◌≡◌, ◌≢◌, ◌⊎◌, inl, inr, ⊎_elim, ℕ, ◌+◌, ◌<◌, ◌≤◌, ◌∙◌, arith}
+use Rattle.ob_store.specs.Disk.{Clock, NotAfter, Disk, Image}
+use Rattle.ob_store.specs.Images.{Elapses, LeavesOnly, Passes, SameBut, SameOff, Tears, Shrinks, Settled}
+
+pub no_later : (t : Clock) → NotAfter t t
+no_later t part = omega arith
+
+pub then_later : (t u v : Clock) → NotAfter t u → NotAfter u v → NotAfter t v
+then_later t u v a b part = omega (arith, a part, b part)
+
+-- before the first call
+pub started : (d : Disk) (P : Image → Type 0) → ((c : Image) → d.left_since d.moment c → P c) → LeavesOnly d d P
+started d P here = record { later = no_later d.moment; each = here; before = λ t c le left. inl left }
+
+-- one call more, after which a crash leaves what has P
+pub goes_on : (old mid new : Disk) (P : Image → Type 0) → LeavesOnly old mid P → NotAfter mid.moment new.moment → Elapses mid new → ((c : Image) → new.may_leave c → P c) → LeavesOnly old new P
+goes_on old mid new P so_far later time here = record {
+  later = then_later old.moment mid.moment new.moment so_far.later later;
+  each = λ c left. ⊎_elim (so_far.each c) (here c) (time old.moment c so_far.later left);
+  before = λ t c le left. ⊎_elim (so_far.before t c le) (λ now. inr (here c now)) (time t c (then_later t old.moment mid.moment le so_far.later) left);
+}
+
+-- one run after another
+pub then_on : (old mid new : Disk) (P : Image → Type 0) → LeavesOnly old mid P → LeavesOnly mid new P → LeavesOnly old new P
+then_on old mid new P first second = record {
+  later = then_later old.moment mid.moment new.moment first.later second.later;
+  each = λ c left. ⊎_elim (first.each c) (λ p. p) (second.before old.moment c first.later left);
+  before = λ t c le left. ⊎_elim (first.before t c le) (λ p. inr p) (second.before t c (then_later t old.moment mid.moment le first.later) left);
+}
+
+-- what has P has Q
+pub weakened : (old new : Disk) (P Q : Image → Type 0) → ((c : Image) → P c → Q c) → LeavesOnly old new P → LeavesOnly old new Q
+weakened old new P Q so run = record {
+  later = run.later;
+  each = λ c left. so c (run.each c left);
+  before = λ t c le left. ⊎_elim (λ was. inl was) (λ p. inr (so c p)) (run.before t c le left);
+}
+
+-- nothing yet
+pub passed_none : (d : Disk) (step : Image → Image → Type 0) → ((c : Image) → step c c) → Passes step d d
+passed_none d step self = record { later = no_later d.moment; now = λ c left. (c, left, self c); since = λ t c le left. inl left }
+
+-- one call more, by a step that is one of those
+pub passed_on : (step one : Image → Image → Type 0) (old mid new : Disk) → ((c d e : Image) → one c d → step d e → step c e) → Passes step old mid → NotAfter mid.moment new.moment → Elapses mid new
+    → ((c : Image) → new.may_leave c → (d : Image) × mid.may_leave d × one c d) → Passes step old new
+passed_on step one old mid new join so_far later time crash = record {
+  later = then_later old.moment mid.moment new.moment so_far.later later;
+  now = joined_now;
+  since = λ t c le left. ⊎_elim (so_far.since t c le) (λ now. inr (joined_now c now)) (time t c (then_later t old.moment mid.moment le so_far.later) left);
+}
+  where
+    joined_now : (c : Image) → new.may_leave c → (e : Image) × old.may_leave e × step c e
+    joined_now c left =
+        let one_back = crash c left in
+        let back = so_far.now one_back.0 one_back.1 in
+        (back.0, back.1, join c one_back.0 back.0 one_back.2 back.2)
+
+-- one run after another, by steps that join
+pub passed_then : (step : Image → Image → Type 0) (old mid new : Disk) → ((c d e : Image) → step c d → step d e → step c e) → Passes step old mid → Passes step mid new → Passes step old new
+passed_then step old mid new join first second = record {
+  later = then_later old.moment mid.moment new.moment first.later second.later;
+  now = λ c left. back_to c (second.now c left);
+  since = λ t c le left. ⊎_elim (first.since t c le) (λ p. inr (back_to c p)) (second.since t c (then_later t old.moment mid.moment le first.later) left);
+}
+  where
+    back_to : (c : Image) → ((d : Image) × mid.may_leave d × step c d) → (e : Image) × old.may_leave e × step c e
+    back_to c one_back =
+        let back = first.now one_back.0 one_back.1 in
+        (back.0, back.1, join c one_back.0 back.0 one_back.2 back.2)
+
+-- what every image before had turns into P
+pub leaves_of : (step : Image → Image → Type 0) (Q P : Image → Type 0) (old new : Disk) → Passes step old new → ((c : Image) → old.left_since old.moment c → old.may_leave c) → ((c : Image) → old.may_leave c → Q c)
+    → ((c d : Image) → Q d → step c d → P c) → ((c : Image) → Q c → P c) → LeavesOnly old new P
+leaves_of step Q P old new run only was so same = record {
+  later = run.later;
+  each = λ c left. ⊎_elim (λ before. same c (was c (only c before))) (λ back. so c back.0 (was back.0 back.1) back.2) (run.since old.moment c (no_later old.moment) left);
+  before = λ t c le left. ⊎_elim (λ before. inl before) (λ back. inr (so c back.0 (was back.0 back.1) back.2)) (run.since t c le left);
+}
+
+-- a write into a run of cells
+pub run_step : (base n i : ℕ) (c d e : Image) → i < n → SameBut (base + i) c d → SameOff base n d e → SameOff base n c e
+run_step base n i c d e lt one run k out = one k (off k out) ∙ run k out
+  where
+    off : (j : ℕ) → (j < base) ⊎ (base + n ≤ j) → j ≢ base + i
+    off j (inl low) = omega arith
+    off j (inr high) = omega arith
+
+pub same_but_again : (cell : ℕ) (c d e : Image) → SameBut cell c d → SameBut cell d e → SameBut cell c e
+same_but_again cell c d e one two k off = one k off ∙ two k off
+
+pub same_off_again : (base n : ℕ) (c d e : Image) → SameOff base n c d → SameOff base n d e → SameOff base n c e
+same_off_again base n c d e one two k off = one k off ∙ two k off
+
+-- one write, whatever it answered
+pub torn_once : (cell : ℕ) (old new : Disk) → NotAfter old.moment new.moment → Elapses old new → Tears cell old new → Passes (SameBut cell) old new
+torn_once cell old new later time tears = record {
+  later = later;
+  now = tears;
+  since = λ t c le left. ⊎_elim (λ was. inl was) (λ now. inr (tears c now)) (time t c le left);
+}
+
+-- one call more that leaves no new image
+pub passed_still : (step : Image → Image → Type 0) (old mid new : Disk) → Passes step old mid → NotAfter mid.moment new.moment → Elapses mid new → Shrinks mid new → Passes step old new
+passed_still step old mid new so_far later time shrinks = record {
+  later = then_later old.moment mid.moment new.moment so_far.later later;
+  now = λ c left. so_far.now c (shrinks c left);
+  since = λ t c le left. ⊎_elim (so_far.since t c le) (λ now. inr (so_far.now c (shrinks c now))) (time t c (then_later t old.moment mid.moment le so_far.later) left);
+}
+
+-- from a settled store on, only this cell is torn
+pub torn_alone : (cell : ℕ) (old new : Disk) → ((c : Image) → old.left_since old.moment c → old.may_leave c) → Passes (SameBut cell) old new → Settled old → LeavesOnly old new (λ c. SameBut cell c old.cells)
+torn_alone cell old new only passes settled =
+    leaves_of (SameBut cell) (λ d. (k : ℕ) → d k ≡ old.cells k) (λ c. SameBut cell c old.cells) old new passes only settled
+    (λ c d was step k off. step k off ∙ was k)
+    (λ c was k off. was k)

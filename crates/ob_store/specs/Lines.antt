@@ -1,0 +1,55 @@
+-- The lines of a trace, and what a note adds to it.
+use Rattle.std.specs.Prelude.{◌≡◌, ◌≤◌, ℕ, List, [], ◌∷◌, ◌++◌, length, take, Bool, true, false, Option, Some, None, decimal}
+use Rattle.std.specs.Borrow.{GName}
+use Rattle.ob_base.specs.Causes.{Rose}
+use Rattle.ob_store.specs.declared.watch.Note.{Note}
+use Rattle.ob_store.specs.declared.watch.Note.TheVariants.{Label, Read, Write, Sync}
+
+-- `L x`, `R c`, `W c` or `S`, and a line feed
+abbrev pub line_of : Note → List ℕ
+line_of (Label x) = 76 ∷ 32 ∷ decimal x ++ 10 ∷ []
+line_of (Read c) = 82 ∷ 32 ∷ decimal c ++ 10 ∷ []
+line_of (Write c) = 87 ∷ 32 ∷ decimal c ++ 10 ∷ []
+line_of Sync = 83 ∷ 10 ∷ []
+
+-- the lines of these notes, one behind the other
+abbrev pub lines_of : List Note → List ℕ
+lines_of [] = []
+lines_of (note ∷ notes) = line_of note ++ lines_of notes
+
+-- All that a watch tells.
+pub record Trace : Type 0 where
+  -- the bytes that it has written, where it tells them
+  pub written : Option (List ℕ)
+  -- it writes no more
+  pub broken : Bool
+  -- how often its sink has failed
+  pub faults : ℕ
+  -- the references that it holds
+  pub anchors : List GName
+
+-- The lines stand behind what was written, or a front of them where the watch breaks. Once broken it writes nothing.
+abbrev pub AddsLines : List ℕ → Bool → Bool → Option (List ℕ) → Option (List ℕ) → Type 0
+AddsLines lines was is None None = Unit {0}
+AddsLines lines true is (Some old) (Some new) = new ≡ old
+AddsLines lines false true (Some old) (Some new) = (n : ℕ) × (n ≤ length lines) × (new ≡ old ++ take n lines)
+AddsLines lines false false (Some old) (Some new) = new ≡ old ++ lines
+AddsLines lines was is None (Some new) = ⊥
+AddsLines lines was is (Some old) None = ⊥
+
+-- a watch breaks only where the count of its sink rose, and stays so
+abbrev pub BreaksOnly : Bool → Bool → ℕ → ℕ → Type 0
+BreaksOnly false true before now = Rose before now
+BreaksOnly true false before now = ⊥
+BreaksOnly was is before now = Unit {0}
+
+-- These notes were shown, and no more.
+pub record Shows (notes : List Note) (old new : Trace) : Type 0 where
+  pub anchors : new.anchors ≡ old.anchors
+  pub faults : old.faults ≤ new.faults
+  pub breaks : BreaksOnly old.broken new.broken old.faults new.faults
+  pub lines : AddsLines (lines_of notes) old.broken new.broken old.written new.written
+
+-- some of these notes, the first ones, were shown
+abbrev pub ShowsFirst : List Note → Trace → Trace → Type 0
+ShowsFirst notes old new = (n : ℕ) × (n ≤ length notes) × Shows (take n notes) old new

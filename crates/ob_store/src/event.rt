@@ -1,0 +1,7 @@
+/// A call on a store, whatever it answered.
+#[derive(Clone, Copy, Debug, PartialEq, Eq)]
+pub enum Event {
+    Read(u64),
+    Write(u64),
+    Sync,
+}

@@ -1,0 +1,11 @@
+pub mod BellSteps
+pub mod Closing
+pub mod Cuts
+pub mod Entries
+pub mod Joining
+pub mod LongTurn
+pub mod Opening
+pub mod Prefixes
+pub mod Seats
+pub mod Totals
+pub mod TurnSteps

@@ -1,0 +1,50 @@
+-- One history of turns, and what it leads to.
+use Rattle.std.specs.Prelude.{◌≡◌, ℕ, List, [], ◌∷◌, ◌==◌, if◌then◌else◌, Option, Some, None}
+use Rattle.std.specs.List.{All}
+use mathlib.Core.List.{IsPrefix}
+use Rattle.ob_turn.specs.declared.turn.Entry.{Entry}
+use Rattle.ob_turn.specs.declared.turn.Joined.{Joined}
+use Rattle.ob_turn.specs.declared.turn.View.{View}
+
+abbrev pub entry : {E : Type 0} → ℕ → List E → Entry E
+entry by calls = record { by = by; calls = calls }
+
+-- the entries of one caller, in order
+abbrev pub entries_of : {E : Type 0} → ℕ → List (Entry E) → List (Entry E)
+entries_of by [] = []
+entries_of by (l ∷ ls) = if by == l.by then l ∷ entries_of by ls else entries_of by ls
+
+module _ {T E : Type 0} (steps : T → E → T → Type 0) where
+  -- these calls lead from x to y, one after another
+  abbrev pub Calls : T → List E → T → Type 0
+  Calls x [] y = x ≡ y
+  Calls x (e ∷ es) y = (z : T) × steps x e z × Calls z es y
+
+  -- these turns lead from x to y: the history is legal
+  abbrev pub Leads : T → List (Entry E) → T → Type 0
+  Leads x [] y = x ≡ y
+  Leads x (l ∷ ls) y = (z : T) × Calls x l.calls z × Leads z ls y
+
+  -- the same from the opening value, where that is known
+  abbrev pub Stands : Option T → List (Entry E) → T → Type 0
+  Stands None ls y = ⊥
+  Stands (Some x) ls y = Leads x ls y
+
+  -- y is what the history that a seat has seen leads to, and then these calls
+  abbrev pub IsAt : View T E → List E → T → Type 0
+  IsAt v calls y = (x : T) × Stands v.opening v.seen x × Calls x calls y
+
+  -- y is what that history, and the calls that the seat has noted in this turn, lead to
+  abbrev pub Reaches : View T E → T → Type 0
+  Reaches v y = IsAt v v.noted y
+
+  -- The history leads from the value that a seat knows as the opening one to x, begins with all that the seat has seen, and of its caller's entries it has just those that the seat made, each once.
+  pub record TellsOf (log : List (Entry E)) (x : T) (opening : Option T) (by : ℕ) (seen mine : List (Entry E)) : Type 0 where
+    pub legal : Stands opening log x
+    pub prefix : IsPrefix seen log
+    pub own : entries_of by log ≡ mine
+
+  -- so it is of a seat, and of all seats that were joined into it
+  pub record Tells (log : List (Entry E)) (x : T) (v : View T E) : Type 0 where
+    pub seat : TellsOf log x v.opening v.by v.seen v.mine
+    pub joined : All (λ (j : Joined T E). TellsOf log x j.opening j.by j.seen j.mine) v.joined

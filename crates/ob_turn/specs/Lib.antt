@@ -1,0 +1,5 @@
+pub mod BellCalls
+pub mod BellHistory
+pub mod History
+pub mod TurnCalls
+pub mod TurnRule

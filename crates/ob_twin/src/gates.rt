@@ -1,0 +1,33 @@
+ghost use Rattle.std.specs.Prelude.{◌≡◌, false};
+
+/// Which gates of a register are known to be open.
+#[derive(Clone, Copy, Debug, PartialEq, Eq)]
+pub struct Open {
+    pub zero: bool,
+    pub one: bool,
+}
+
+/// Which gates of a store's registers are known to be open: those that a get read as open, or that
+/// a set opened since.
+#[derive(Clone, Copy, Debug, PartialEq, Eq)]
+pub struct Gates {
+    pub generation: Open,
+    pub epoch: Open,
+}
+
+impl Gates {
+    /// None is known to be open.
+    pub fn new() -> Gates
+        ensures generation { result.generation ≡ record { zero = false; one = false } }
+        ensures epoch { result.epoch ≡ record { zero = false; one = false } }
+    {
+        let none = Open {
+            zero: false,
+            one: false,
+        };
+        Gates {
+            generation: none,
+            epoch: none,
+        }
+    }
+}

@@ -1,0 +1,176 @@
+ghost use Rattle.std.specs.Prelude.{◌≡◌, ◌≢◌, ◌<◌, ◌+◌, ◌%◌, ◌^◌, ◌≤◌, ◌++◌, ℕ, [], OnOk, OnErr, IfErr, IsTrue, if◌then◌else◌};
+ghost use Rattle.ob_store.specs.Images.{Settled, SameBut, LeavesOnly};
+ghost use Rattle.ob_store.specs.Calls.{Serves, IsFailed, Notes, NotesFirst};
+ghost use Rattle.ob_store.specs.Lines.{Shows, ShowsFirst};
+ghost use Rattle.ob_twin.specs.Bodies.{open_gate};
+ghost use Rattle.ob_twin.specs.Register.{first_of, body_at, gate_at, place_of, IsOpen, IsUnder, StandsAt, KeepsAt, IsPrepared, OldOrNew, SameTwo, IsTornOnly};
+ghost use Rattle.ob_twin.specs.Opening.{known_of, with_known, with_mark, is_closed_first, GatesAre};
+ghost use Rattle.ob_twin.specs.Refused.{IsSetFault, IsBefore};
+ghost use Rattle.ob_twin.specs.Orders.{through_events, through_notes, prepare_events, prepare_notes, set_events, set_notes, unsure_of};
+
+use crate::bytes::{closed_gate, open_gate, plain_of};
+use crate::known::{is_closed_first, known_of, set_known, with_mark};
+use crate::{Gates, SetErr, Stamper, Twin};
+use ob_base::{Failed, Fault};
+use ob_store::{Store, Watch, write_through};
+
+// Closes the gate of a place, where that is needed.
+fn close<S: Store, W: Watch>(
+    store: &mut S,
+    closes: bool,
+    gate: u64,
+    watch: &mut W,
+) -> Result<(), Failed>
+    requires none_out { (S.disk store.old).out ≡ 0 }
+    requires told { (S.disk store.old).tells → (IsTrue closes → ⊥) → (S.disk store.old).cells gate ≢ open_gate }
+    ensures serves { Serves IsFailed (S.disk store.old) (S.disk store.new) result }
+    ensures shut { (S.disk store.old).tells → OnOk result ((S.disk store.new).cells gate ≢ open_gate) }
+    ensures rest { (S.disk store.old).tells → SameBut gate (S.disk store.new).cells (S.disk store.old).cells }
+    ensures durable { (S.disk store.old).tells → Settled (S.disk store.old) → OnOk result (Settled (S.disk store.new)) }
+    ensures any_moment { Settled (S.disk store.old) → LeavesOnly (S.disk store.old) (S.disk store.new) (λ c. IsTornOnly closes gate c (S.disk store.old).cells) }
+    ensures seen { OnOk result (Notes (if closes then through_events gate else []) (S.disk store.old).seen (S.disk store.new).seen) }
+    ensures seen_err { OnErr result (NotesFirst (if closes then through_events gate else []) (S.disk store.old).seen (S.disk store.new).seen) }
+    ensures shown { OnOk result (Shows (if closes then through_notes gate else []) (W.trace watch.old) (W.trace watch.new)) }
+    ensures shown_err { OnErr result (ShowsFirst (if closes then through_notes gate else []) (W.trace watch.old) (W.trace watch.new)) }
+{
+    if closes {
+        return write_through(store, gate, &closed_gate(), watch);
+    }
+    Ok(())
+}
+
+// Writes the body behind a closed gate.
+fn prepare<S: Store, T: Stamper, W: Watch>(
+    store: &mut S,
+    stamper: &T,
+    closes: bool,
+    first: u64,
+    n: u64,
+    watch: &mut W,
+) -> Result<(), Failed>
+    requires none_out { (S.disk store.old).out ≡ 0 }
+    requires small { n < 2 ^ 62 }
+    requires low { first < 16 }
+    requires told { (S.disk store.old).tells → (IsTrue closes → ⊥) → IsOpen first (S.disk store.old).cells (place_of n) → ⊥ }
+    ensures serves { Serves IsFailed (S.disk store.old) (S.disk store.new) result }
+    ensures done { (S.disk store.old).tells → OnOk result (IsPrepared (T.tag stamper.now) first (S.disk store.old).cells n (S.disk store.new).cells) }
+    ensures rest { (S.disk store.old).tells → SameTwo (body_at first (place_of n)) (gate_at first (place_of n)) (S.disk store.new).cells (S.disk store.old).cells }
+    ensures durable { (S.disk store.old).tells → OnOk result (Settled (S.disk store.new)) }
+    ensures any_moment { (m : ℕ) → n ≡ m + 1 → (S.disk store.old).tells → (IsTrue closes → IsOpen first (S.disk store.old).cells (place_of n)) → Settled (S.disk store.old) → StandsAt (T.tag stamper.now) first (S.disk store.old).cells m
+        → LeavesOnly (S.disk store.old) (S.disk store.new) (KeepsAt (T.tag stamper.now) first (S.disk store.old).cells m) }
+    ensures seen { OnOk result (Notes (prepare_events closes first n) (S.disk store.old).seen (S.disk store.new).seen) }
+    ensures seen_err { OnErr result (NotesFirst (prepare_events closes first n) (S.disk store.old).seen (S.disk store.new).seen) }
+    ensures shown { OnOk result (Shows (prepare_notes closes first n) (W.trace watch.old) (W.trace watch.new)) }
+    ensures shown_err { OnErr result (ShowsFirst (prepare_notes closes first n) (W.trace watch.old) (W.trace watch.new)) }
+{
+    let body = first + 2 * (n % 2);
+    close(store, closes, body + 1, watch)?;
+    write_through(store, body, &stamper.stamp(body, &plain_of(n)), watch)
+}
+
+// The body, then the gate over it.
+fn put<S: Store, T: Stamper, W: Watch>(
+    twin: Twin,
+    store: &mut S,
+    stamper: &T,
+    closes: bool,
+    n: u64,
+    watch: &mut W,
+) -> Result<(), SetErr>
+    requires none_out { (S.disk store.old).out ≡ 0 }
+    requires small { n < 2 ^ 62 }
+    requires told { (S.disk store.old).tells → (IsTrue closes → ⊥) → IsOpen (first_of twin) (S.disk store.old).cells (place_of n) → ⊥ }
+    ensures serves { Serves (IsSetFault twin n) (S.disk store.old) (S.disk store.new) result }
+    ensures faults { IfErr result (IsSetFault twin n) }
+    ensures done { (S.disk store.old).tells → IsUnder (T.tag stamper.now) (first_of twin) (S.disk store.old).cells (place_of (n + 1)) n
+        → OnOk result (KeepsAt (T.tag stamper.now) (first_of twin) (S.disk store.old).cells n (S.disk store.new).cells) }
+    ensures opened { (S.disk store.old).tells → OnOk result (IsOpen (first_of twin) (S.disk store.new).cells (place_of n)) }
+    ensures rest { (S.disk store.old).tells → SameTwo (body_at (first_of twin) (place_of n)) (gate_at (first_of twin) (place_of n)) (S.disk store.new).cells (S.disk store.old).cells }
+    ensures durable { (S.disk store.old).tells → OnOk result (Settled (S.disk store.new)) }
+    ensures any_moment { (m : ℕ) → n ≡ m + 1 → (S.disk store.old).tells → (IsTrue closes → IsOpen (first_of twin) (S.disk store.old).cells (place_of n)) → Settled (S.disk store.old) → StandsAt (T.tag stamper.now) (first_of twin) (S.disk store.old).cells m
+        → LeavesOnly (S.disk store.old) (S.disk store.new) (OldOrNew (T.tag stamper.now) (first_of twin) (S.disk store.old).cells m n) }
+    ensures before { (m : ℕ) → n ≡ m + 1 → (S.disk store.old).tells → (IsTrue closes → IsOpen (first_of twin) (S.disk store.old).cells (place_of n)) → Settled (S.disk store.old) → StandsAt (T.tag stamper.now) (first_of twin) (S.disk store.old).cells m
+        → IsBefore result → LeavesOnly (S.disk store.old) (S.disk store.new) (KeepsAt (T.tag stamper.now) (first_of twin) (S.disk store.old).cells m) }
+    ensures seen { OnOk result (Notes (set_events closes (first_of twin) n) (S.disk store.old).seen (S.disk store.new).seen) }
+    ensures seen_err { OnErr result (NotesFirst (set_events closes (first_of twin) n) (S.disk store.old).seen (S.disk store.new).seen) }
+    ensures shown { OnOk result (Shows (set_notes closes (first_of twin) n) (W.trace watch.old) (W.trace watch.new)) }
+    ensures shown_err { OnErr result (ShowsFirst (set_notes closes (first_of twin) n) (W.trace watch.old) (W.trace watch.new)) }
+{
+    let first = twin.first();
+    match prepare(store, stamper, closes, first, n, watch) {
+        Ok(()) => {}
+        Err(Failed) => return Err(SetErr::Before(Fault::StoreFault { unsure: None })),
+    }
+    match write_through(store, first + 2 * (n % 2) + 1, &open_gate(), watch) {
+        Ok(()) => Ok(()),
+        Err(Failed) => Err(SetErr::Unsure(Fault::StoreFault {
+            unsure: unsure_of(twin, n),
+        })),
+    }
+}
+
+// The epoch of which a refused opening of its gate leaves open whether it ended.
+fn unsure_of(twin: Twin, n: u64) -> Option<u64>
+    ensures { result ≡ unsure_of twin n }
+{
+    match twin {
+        Twin::GENERATION => None,
+        Twin::EPOCH => Some(n),
+    }
+}
+
+impl Twin {
+    /// Sets the number: the gate of its place is written closed, unless it is known to be closed and
+    /// the other is open; then the body; then the gate open; each made sure of before the next. So
+    /// once it is done each image that a crash may leave stands at the new number, and at every
+    /// moment before at the old number or the new one.
+    ///
+    /// # Errors
+    /// The store failed, and its count of faults rose. Before: each image stands at the old number.
+    /// Unsure: each stands at the old number or the new one.
+    pub fn set<S: Store, T: Stamper, W: Watch>(
+        self,
+        store: &mut S,
+        stamper: &T,
+        gates: &mut Gates,
+        n: u64,
+        watch: &mut W,
+    ) -> Result<(), SetErr>
+        requires none_out { (S.disk store.old).out ≡ 0 }
+        requires small { n < 2 ^ 62 }
+        requires told { (S.disk store.old).tells → GatesAre (known_of self gates.old) (first_of self) (S.disk store.old).cells }
+        ensures serves { Serves (IsSetFault self n) (S.disk store.old) (S.disk store.new) result }
+        ensures faults { IfErr result (IsSetFault self n) }
+        // Once it is done, each image stands at the new number.
+        ensures done { (S.disk store.old).tells → IsUnder (T.tag stamper.now) (first_of self) (S.disk store.old).cells (place_of (n + 1)) n
+            → OnOk result (KeepsAt (T.tag stamper.now) (first_of self) (S.disk store.old).cells n (S.disk store.new).cells) }
+        ensures durable { (S.disk store.old).tells → OnOk result (Settled (S.disk store.new)) }
+        // A crash at any moment leaves the old number or the new one.
+        ensures any_moment { (m : ℕ) → n ≡ m + 1 → (S.disk store.old).tells → Settled (S.disk store.old) → StandsAt (T.tag stamper.now) (first_of self) (S.disk store.old).cells m
+            → LeavesOnly (S.disk store.old) (S.disk store.new) (OldOrNew (T.tag stamper.now) (first_of self) (S.disk store.old).cells m n) }
+        // Where it was refused before the gate, the old one.
+        ensures before { (m : ℕ) → n ≡ m + 1 → (S.disk store.old).tells → Settled (S.disk store.old) → StandsAt (T.tag stamper.now) (first_of self) (S.disk store.old).cells m
+            → IsBefore result → LeavesOnly (S.disk store.old) (S.disk store.new) (KeepsAt (T.tag stamper.now) (first_of self) (S.disk store.old).cells m) }
+        ensures gates { OnOk result (gates.new ≡ with_known self gates.old (with_mark (known_of self gates.old) (place_of n))) }
+        ensures gates_err { OnErr result (gates.new ≡ gates.old) }
+        ensures tell { (S.disk store.old).tells → OnOk result (GatesAre (known_of self gates.new) (first_of self) (S.disk store.new).cells) }
+        // The order of its writes and syncs.
+        ensures seen { OnOk result (Notes (set_events (is_closed_first (known_of self gates.old) (place_of n)) (first_of self) n) (S.disk store.old).seen (S.disk store.new).seen) }
+        ensures seen_err { OnErr result (NotesFirst (set_events (is_closed_first (known_of self gates.old) (place_of n)) (first_of self) n) (S.disk store.old).seen (S.disk store.new).seen) }
+        ensures shown { OnOk result (Shows (set_notes (is_closed_first (known_of self gates.old) (place_of n)) (first_of self) n) (W.trace watch.old) (W.trace watch.new)) }
+        ensures shown_err { OnErr result (ShowsFirst (set_notes (is_closed_first (known_of self gates.old) (place_of n)) (first_of self) n) (W.trace watch.old) (W.trace watch.new)) }
+    {
+        let known = known_of(self, gates);
+        let place = n % 2;
+        put(
+            self,
+            store,
+            stamper,
+            is_closed_first(known, place),
+            n,
+            watch,
+        )?;
+        set_known(self, gates, with_mark(known, place));
+        Ok(())
+    }
+}
