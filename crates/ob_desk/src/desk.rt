@@ -8,6 +8,7 @@ ghost use Rattle.ob_desk.specs.Calls as calls;
 
 use crate::calls::{Begun, Done, Got, Txn};
 use crate::clients::{Client, Holder};
+use crate::roll::{begin_client, enrol, sign_off};
 use ob_base::{Fault, Key, Memory, Params, Value};
 use ob_order::{Fate, Order, Read, Wrote};
 use ob_serial::{Outcome, Why};
@@ -113,6 +114,81 @@ fn set_asked(holders: &mut Vec<Holder>, t: u64)
 }
 
 impl Desk {
+    /// A desk whose first epoch is this one, with so many batches left to take, for the clients of
+    /// these numbers.
+    ///
+    /// # Errors
+    /// Memory was wanting.
+    pub fn new(
+        alloc: Global,
+        params: &Params,
+        epoch: u64,
+        left: u32,
+        clients: &[u32],
+    ) -> Result<Desk, Memory>
+        requires { desks.MayOpen (record { params = params.now }) epoch left clients.now }
+        ensures { IfOk result (λ d. d ≡ desks.new_desk (record { params = params.now }) epoch left clients.now) }
+    {
+        let order = Order::new(alloc, params, left)?;
+        let clients = enrol(alloc, clients)?;
+        Ok(Desk {
+            order,
+            epoch,
+            holders: Vec::new(alloc),
+            clients,
+        })
+    }
+
+    /// Begins a client's next transaction: it draws the next ticket.
+    ///
+    /// # Errors
+    /// Memory was wanting. All is as before.
+    pub fn begin(&mut self, client: u32) -> Result<Begun, Memory>
+        requires { desks.MayCall self.old (desks.Begin client) }
+        ensures step { IfOk result (λ r. desks.DeskStep self.old (desks.Begin client) (calls.begun_reply r) self.new) }
+        ensures err { OnErr result (self.new ≡ self.old) }
+    {
+        self.holders.reserve(1)?;
+        let ticket = self.order.begin()?;
+        let _ = self.holders.push(Holder {
+            client,
+            asked: false,
+            cause: None,
+        });
+        let txn = Txn {
+            client,
+            epoch: self.epoch,
+            ticket,
+        };
+        begin_client(&mut self.clients, &txn);
+        Ok(Begun::Txn { txn })
+    }
+
+    /// The client makes no more transactions.
+    pub fn sign_off(&mut self, client: u32)
+        requires { desks.MayCall self.old (desks.SignOff client) }
+        ensures { desks.DeskStep self.old (desks.SignOff client) desks.Done self.new }
+    {
+        sign_off(&mut self.clients, client);
+    }
+
+    /// Takes a batch: the first keys in order of queuing, and pads, are in flight from now on.
+    pub fn take_batch(&mut self, out: &mut [Option<Key>])
+        requires may { desks.MayCall self.old desks.TakeBatch }
+        requires places { length out.old ≡ self.old.setup.params.places }
+        ensures { desks.DeskStep self.old desks.TakeBatch (desks.Batch out.new) self.new }
+    {
+        self.order.take_batch(out);
+    }
+
+    /// Delivers the values of the batch in flight.
+    pub fn deliver(&mut self, keys: &[Option<Key>], values: &[Option<Value>])
+        requires { desks.MayCall self.old (desks.Deliver keys.now values.now) }
+        ensures { desks.DeskStep self.old (desks.Deliver keys.now values.now) desks.Done self.new }
+    {
+        self.order.deliver(keys, values);
+    }
+
     // How the client's last transaction ended, if it has.
     fn outcome(&self, txn: &Txn) -> Option<Outcome<Key>>
         ensures { result ≡ desks.outcome_at self.now txn.now }
