@@ -5,3 +5,4 @@ pub mod Maps
 pub mod Published
 pub mod Runs
 pub mod Sees
+pub mod Mapped

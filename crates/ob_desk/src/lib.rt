@@ -3,8 +3,11 @@
 
 mod calls;
 mod clients;
+mod desk;
 mod laws;
+mod roll;
 
 pub use calls::{Begun, Done, Got, Look, Txn};
 pub use clients::{Client, Holder};
+pub use desk::Desk;
 pub use laws::desk_is_serial;
