@@ -1,3 +1,5 @@
 pub mod Laws
 pub mod Serial
 pub mod Views
+pub mod Vaults
+pub mod VaultViews
