@@ -57,6 +57,10 @@ write_op (key, Some value) = Put key value
 abbrev pub with_writes : Map nat_cmp → List (ℕ × Option (List ℕ)) → Map nat_cmp
 with_writes m writes = after nat_cmp m (map write_op writes)
 
+-- the writes that put each entry of a map, in rising order of keys
+abbrev pub entry_writes : Map nat_cmp → List (ℕ × Option (List ℕ))
+entry_writes m = map (λ e. (e.0, Some e.1)) (finite.entries m)
+
 abbrev pub standing_now : VaultState → Standing
 standing_now v = record { epoch = v.epoch; content = v.content }
 

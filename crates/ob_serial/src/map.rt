@@ -1,7 +1,10 @@
-ghost use Rattle.std.specs.Prelude.{◌≡◌, OnOk, OnErr};
+ghost use Rattle.std.specs.Prelude.{◌≡◌, OnOk, OnErr, IfOk, map as map_list};
+ghost use Rattle.std.specs.List.Sorted.{IsStrictlyIncreasing};
 ghost use Rattle.std.specs.FinMap as map;
+ghost use Rattle.ob_serial.specs.VaultViews.{writes_of};
+ghost use Rattle.ob_serial.specs.Vaults.{entry_writes};
 
-use ob_base::{Key, Memory, Value};
+use ob_base::{Key, Memory, Value, Write};
 use std::alloc::Global;
 use std::collections::BTreeMap;
 use std::marker::Model;
@@ -52,6 +55,31 @@ impl PlainMap {
     {
         self.values.insert(key, value)?;
         Ok(())
+    }
+
+    /// How many keys are present.
+    pub fn len(&self) -> usize
+        ensures { result ≡ map.len self.now }
+    {
+        self.values.len()
+    }
+
+    /// The present keys with their values, as writes in rising order of keys.
+    ///
+    /// # Errors
+    /// Memory was wanting.
+    pub fn to_writes(&self, alloc: Global) -> Result<Vec<Write>, Memory>
+        ensures writes { IfOk result (λ writes. writes_of writes.items ≡ entry_writes self.now) }
+        ensures rising { IfOk result (λ writes. IsStrictlyIncreasing (map_list (λ w. w.key) writes.items)) }
+    {
+        let mut writes = Vec::new(alloc);
+        for (key, value) in &self.values {
+            writes.push(Write {
+                key: *key,
+                value: Some(*value),
+            })?;
+        }
+        Ok(writes)
     }
 
     /// Takes a key out, if it is present.
