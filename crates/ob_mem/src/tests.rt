@@ -1,6 +1,6 @@
 use crate::{BareStore, Fail, MemSink, MemSource, MemStore, Void};
 use ob_io::{ReadErr, Sink, Source, put_all, read_all};
-use ob_store::Store;
+use ob_store::{SinkWatch, Store, write_run};
 use std::process::Abort;
 use std::test::Fail as Broken;
 
@@ -117,5 +117,20 @@ fn a_bare_store_reads_what_was_written(rt: HostRuntime) -> Result<(), Broken> {
     assert!(rt; store.write(2, &[5; 128]).is_err());
     assert!(rt; store.sync().is_ok());
     assert_eq!(rt; first_byte(&rt, &mut store, 1), 5);
+    Ok(())
+}
+
+#[test]
+fn a_run_is_written_cell_by_cell(rt: HostRuntime) -> Result<(), Broken> {
+    let alloc = rt.alloc();
+    let mut store = MemStore::new(alloc, 4, [Fail::Write(3)].to_vec(alloc)?)?;
+    let mut sink = MemSink::new(alloc, 40, Vec::new(alloc))?;
+    let mut watch = SinkWatch::new(&mut sink);
+    assert!(rt; write_run(&mut store, 1, &[[5; 128], [6; 128]], &mut watch).is_ok());
+    assert!(rt; write_run(&mut store, 2, &[[7; 128], [8; 128], [9; 128]], &mut watch).is_err());
+    assert_eq!(rt; sink.written(), b"W 1\nW 2\nW 2\nW 3\n".as_slice());
+    for (cell, byte) in [(0, 0), (1, 5), (2, 7), (3, 8)] {
+        assert_eq!(rt; first_byte(&rt, &mut store, cell), byte, "cell {cell}");
+    }
     Ok(())
 }

@@ -6,6 +6,10 @@ use Rattle.ob_store.specs.Disk.{Disk, Image, Clock, NotAfter}
 abbrev pub Settled : Disk → Type 0
 Settled disk = (c : Image) → disk.may_leave c → (k : ℕ) → c k ≡ disk.cells k
 
+-- the two images are the same
+abbrev pub Same : Image → Image → Type 0
+Same a b = a ≡ b
+
 -- the two images differ in this cell alone
 abbrev pub SameBut : ℕ → Image → Image → Type 0
 SameBut cell a b = (k : ℕ) → k ≢ cell → a k ≡ b k

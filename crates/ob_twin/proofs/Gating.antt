@@ -1,5 +1,5 @@
 -- What is known of the gates.
-use Rattle.std.proofs.Common.{replicate, ◌≡◌, ◌≢◌, ◌⊎◌, inl, inr, ⊎_elim, ◌↔◌, ℕ, ◌+◌, ◌*◌, ◌%◌, ◌<◌, ◌≤◌, Bool, true, false, IsTrue, not, ◌||◌, refl, sym, ◌∙◌, ap, subst, arith}
+use Rattle.std.proofs.Common.{replicate, ◌≡◌, ◌⊎◌, inl, inr, ⊎_elim, ℕ, ◌+◌, ◌%◌, Bool, true, false, IsTrue, not, ◌||◌, refl, sym, ◌∙◌, subst, arith}
 use Rattle.std.proofs.lemmas.Bool.{cases_eq}
 use Rattle.ob_store.specs.Disk.{Image}
 use Rattle.ob_twin.specs.declared.gates.Gates.{Gates}
@@ -9,7 +9,7 @@ use Rattle.ob_twin.specs.declared.twin.Twin.TheVariants.{GENERATION, EPOCH}
 use Rattle.ob_twin.specs.Bodies.{Tagging, closed_gate}
 use Rattle.ob_twin.specs.Register.{body_at, gate_at, place_of, IsOpen, StandsAt, SameTwo}
 use Rattle.ob_twin.proofs.Moves.{closed-isnt-open}
-use Rattle.ob_twin.specs.Opening.{known_of, with_known, is_marked, with_mark, is_closed_first, GatesAre}
+use Rattle.ob_twin.specs.Opening.{known_of, with_known, with_mark, is_closed_first, GatesAre}
 
 either : (n : ℕ) → (n % 2 ≡ 0) ⊎ (n % 2 ≡ 1)
 either n = ⊎_elim (λ e. inl e) (λ ne. inr (omega arith)) (cases_eq (n % 2) 0)

@@ -1,11 +1,11 @@
 -- What the four cells of a register tell.
-use Rattle.std.proofs.Common.{◌≡◌, ◌≢◌, ◌⊎◌, inl, inr, ⊎_elim, ℕ, zero, suc, ◌+◌, ◌-◌, ◌*◌, ◌%◌, ◌^◌, ◌<◌, ◌≤◌, max, List, Option, Some, None, Result, Ok, Err, refl, sym, ◌∙◌, ap, subst, arith}
+use Rattle.std.proofs.Common.{◌≡◌, ◌⊎◌, inl, inr, ⊎_elim, ℕ, zero, suc, ◌+◌, ◌-◌, ◌%◌, ◌<◌, ◌≤◌, max, List, Option, Some, None, Result, Ok, Err, sym, ◌∙◌, ap, subst, arith}
 use Rattle.std.proofs.lemmas.Bool.{cases_eq}
 use Rattle.ob_base.specs.declared.fault.Damaged.{Damaged}
 use Rattle.ob_store.specs.Disk.{Image}
-use Rattle.ob_twin.specs.Bodies.{Tagging, IsStamped, IsWhole, open_gate, number_of}
+use Rattle.ob_twin.specs.Bodies.{Tagging, IsWhole, number_of}
 use Rattle.ob_twin.specs.Register.{body_at, gate_at, place_of, IsOpen, number_at, StandsAt}
-use Rattle.ob_twin.specs.Reading.{IsDamage, IsPlace, NoneOpen, AllWhole, Counts, IsFirstDamage, IsRead, greater}
+use Rattle.ob_twin.specs.Reading.{IsDamage, IsPlace, AllWhole, IsRead, greater}
 
 pub at_place : (Q : ℕ → Type 0) → Q 0 → Q 1 → (place : ℕ) → place < 2 → Q place
 at_place Q a b zero lt = a

@@ -1,11 +1,11 @@
 -- Which gates may be open, as far as is known.
-use Rattle.std.specs.Prelude.{◌≡◌, ◌↔◌, ◌<◌, ◌==◌, ◌&&◌, ◌||◌, ℕ, Bool, true, false, not, if◌then◌else◌, IsTrue}
+use Rattle.std.specs.Prelude.{◌↔◌, ◌==◌, ◌||◌, ℕ, Bool, true, not, if◌then◌else◌, IsTrue}
 use Rattle.ob_store.specs.Disk.{Image}
 use Rattle.ob_twin.specs.declared.twin.Twin.{Twin}
 use Rattle.ob_twin.specs.declared.twin.Twin.TheVariants.{GENERATION, EPOCH}
 use Rattle.ob_twin.specs.declared.gates.Open.{Open}
 use Rattle.ob_twin.specs.declared.gates.Gates.{Gates}
-use Rattle.ob_twin.specs.Register.{first_of, IsOpen}
+use Rattle.ob_twin.specs.Register.{IsOpen}
 
 -- what is known of a register's gates
 abbrev pub known_of : Twin → Gates → Open

@@ -5,7 +5,7 @@ use Rattle.ob_base.specs.declared.fault.Fault.{Fault}
 use Rattle.ob_base.specs.declared.fault.Fault.TheVariants as fault
 use Rattle.ob_store.specs.Disk.{Image}
 use Rattle.ob_twin.specs.Bodies.{Tagging, IsStamped, IsMisstamped, IsTooGreat, IsWhole, open_gate, number_of}
-use Rattle.ob_twin.specs.Register.{body_at, gate_at, IsOpen, number_at}
+use Rattle.ob_twin.specs.Register.{body_at, IsOpen, number_at}
 
 -- what is told of a body that breaks a rule: first of its tag, then of its number
 abbrev pub IsDamage : Tagging → ℕ → List ℕ → Damaged → Type 0

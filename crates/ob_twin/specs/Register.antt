@@ -4,7 +4,7 @@ use Rattle.ob_store.specs.Disk.{Image}
 use Rattle.ob_store.specs.Images.{SameBut}
 use Rattle.ob_twin.specs.declared.twin.Twin.{Twin}
 use Rattle.ob_twin.specs.declared.twin.Twin.TheVariants.{GENERATION, EPOCH}
-use Rattle.ob_twin.specs.Bodies.{Tagging, IsStamped, IsWhole, open_gate, number_of, body_of}
+use Rattle.ob_twin.specs.Bodies.{Tagging, IsStamped, open_gate, number_of, body_of}
 
 -- the first of a register's four cells
 abbrev pub first_of : Twin → ℕ

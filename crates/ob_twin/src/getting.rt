@@ -2,7 +2,7 @@ ghost use Rattle.std.specs.Prelude.{◌≡◌, ◌<◌, ◌≤◌, ◌+◌, ◌+
 ghost use Rattle.ob_base.specs.Causes.{HasCause};
 ghost use Rattle.ob_base.specs.declared.fault.Check.TheVariants as check;
 ghost use Rattle.ob_store.specs.Disk.{Image};
-ghost use Rattle.ob_store.specs.Images.{Shrinks};
+ghost use Rattle.ob_store.specs.Images.{Same, Shrinks, Passes};
 ghost use Rattle.ob_store.specs.Calls.{Serves, IsFailed, IsStoreFault, Keeps, Notes, NotesFirst, TellsOn};
 ghost use Rattle.ob_store.specs.Lines.{Shows, ShowsFirst};
 ghost use Rattle.ob_twin.specs.Bodies.{open_gate, number_of, IsWhole};
@@ -62,6 +62,7 @@ fn read_register<S: Store, W: Watch>(
     ensures serves { Serves IsFailed (S.disk store.old) (S.disk store.new) result }
     ensures keeps { Keeps (S.disk store.old) (S.disk store.new) }
     ensures crash { Shrinks (S.disk store.old) (S.disk store.new) }
+    ensures passes { Passes Same (S.disk store.old) (S.disk store.new) }
     ensures body_zero { (S.disk store.old).tells → OnOk result (cells.new.body_zero ≡ (S.disk store.old).cells (body_at first 0)) }
     ensures gate_zero { (S.disk store.old).tells → OnOk result (cells.new.gate_zero ≡ (S.disk store.old).cells (gate_at first 0)) }
     ensures body_one { (S.disk store.old).tells → OnOk result (cells.new.body_one ≡ (S.disk store.old).cells (body_at first 1)) }
@@ -161,6 +162,8 @@ impl Twin {
         ensures gates { (S.disk store.old).tells → IsGates self gates.old gates.new (S.disk store.old).cells result }
         ensures keeps { Keeps (S.disk store.old) (S.disk store.new) }
         ensures crash { Shrinks (S.disk store.old) (S.disk store.new) }
+        // A crash at any moment leaves what it might have left before.
+        ensures passes { Passes Same (S.disk store.old) (S.disk store.new) }
         ensures seen { NotesReads (get_events (first_of self)) (S.disk store.old).seen (S.disk store.new).seen result }
         ensures shown { ShowsReads (get_notes (first_of self)) (W.trace watch.old) (W.trace watch.new) result }
     {

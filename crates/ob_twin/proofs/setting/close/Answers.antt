@@ -1,4 +1,4 @@
-use Rattle.std.proofs.Common.{◌≡◌, ◌∷◌, [], sym, ◌∙◌, arith}
+use Rattle.std.proofs.Common.{sym, ◌∙◌, arith}
 use Rattle.ob_store.proofs.Serving.{on_ok, on_err}
 use Rattle.ob_twin.proofs.Moves.{closed-isnt-open}
 use Rattle.ob_twin.proofs.setting.close.Goals as goal

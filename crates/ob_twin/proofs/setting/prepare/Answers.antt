@@ -1,6 +1,6 @@
-use Rattle.std.proofs.Common.{◌≡◌, ◌≤◌, ◌∷◌, [], ◌++◌, ◌%◌, ap, arith, if◌then◌else◌}
+use Rattle.std.proofs.Common.{[], ◌%◌, arith, if◌then◌else◌}
 use Rattle.ob_store.proofs.Serving.{on_ok, on_err, if_err}
-use Rattle.ob_store.proofs.Events.{joined_first, first_more}
+use Rattle.ob_store.proofs.Events.{joined_first}
 use Rattle.ob_store.proofs.Showing.{shows_then, shows_first, shown_more}
 use Rattle.ob_twin.specs.Register.{body_at, gate_at}
 use Rattle.ob_twin.specs.Orders.{through_events, through_notes}

@@ -1,4 +1,4 @@
-use Rattle.std.proofs.Common.{◌≤◌, ◌+◌, ◌%◌, subst, sym, arith, IsTrue}
+use Rattle.std.proofs.Common.{◌+◌, ◌%◌, subst, sym, arith, IsTrue}
 use Rattle.ob_store.proofs.Events.{joined_first}
 use Rattle.ob_store.proofs.Showing.{shows_then, shows_first, shown_more}
 use Rattle.ob_store.specs.Images.{LeavesOnly}

@@ -1,8 +1,8 @@
-use Rattle.std.proofs.Common.{◌≡◌, Ok, Err, Some, Option, ℕ, sym, subst}
+use Rattle.std.proofs.Common.{Ok, Err, sym, subst}
 use Rattle.ob_base.specs.declared.fault.Fault.{Fault}
 use Rattle.ob_twin.specs.Register.{StandsAt}
 use Rattle.ob_twin.specs.Reading.{IsRead, IsGot}
-use Rattle.ob_twin.proofs.Judging.{read_at, number_read, damage_read}
+use Rattle.ob_twin.proofs.Judging.{number_read, damage_read}
 use Rattle.ob_twin.proofs.twin.Twin.get.Goals as goal
 
 pub returns-in-Ok-judge-clause-value : goal.returns-in-Ok-judge-clause-value

@@ -1,10 +1,9 @@
-use Rattle.std.proofs.Common.{◌≡◌, ◌+◌, ◌%◌, ◌∙◌, ap, subst, sym, IsTrue, Bool}
-use Rattle.ob_store.specs.Disk.{Clock}
+use Rattle.std.proofs.Common.{◌≡◌, ◌∙◌, ap, subst, sym, IsTrue, Bool}
 use Rattle.ob_twin.proofs.Moves.{at_the_end}
 use Rattle.ob_twin.specs.declared.gates.Gates.{Gates}
 use Rattle.ob_twin.specs.declared.gates.Open.{Open}
-use Rattle.ob_twin.specs.Register.{first_of, place_of, IsOpen, OldOrNew}
-use Rattle.ob_twin.specs.Opening.{known_of, with_known, with_mark, is_closed_first, GatesAre}
+use Rattle.ob_twin.specs.Register.{first_of, place_of, OldOrNew}
+use Rattle.ob_twin.specs.Opening.{known_of, with_mark, is_closed_first, GatesAre}
 use Rattle.ob_twin.proofs.Gating.{open_of, are_marked, known_again}
 use Rattle.ob_twin.proofs.twin.Twin.set.Goals as goal
 
