@@ -134,3 +134,33 @@ fn a_run_is_written_cell_by_cell(rt: HostRuntime) -> Result<(), Broken> {
     }
     Ok(())
 }
+
+fn is_read_by_threads<S: Store + Sync>(_: &S) -> bool {
+    true
+}
+
+fn moves_to_a_thread<T: Send>(_: &T) -> bool {
+    true
+}
+
+#[test]
+fn threads_read_stores_through_lanes(rt: HostRuntime) -> Result<(), Broken> {
+    let alloc = rt.alloc();
+    let mut store = MemStore::new(alloc, 4, Vec::new(alloc))?;
+    assert!(rt; is_read_by_threads(&store));
+    let Ok(lane) = store.lane() else {
+        assert!(rt; false);
+        return Ok(());
+    };
+    assert!(rt; moves_to_a_thread(&lane));
+    store.absorb(lane);
+    let mut bare = BareStore::new(alloc, 4)?;
+    assert!(rt; is_read_by_threads(&bare));
+    let Ok(lane) = bare.lane() else {
+        assert!(rt; false);
+        return Ok(());
+    };
+    assert!(rt; moves_to_a_thread(&lane));
+    bare.absorb(lane);
+    Ok(())
+}

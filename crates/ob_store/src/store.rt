@@ -7,14 +7,15 @@ ghost use Rattle.ob_store.specs.Calls.{GoesOn, Serves, IsFailed, Keeps, Notes, N
 
 use ob_base::Failed;
 
-/// Cells of 128 bytes, numbered from 0. Several threads read it at once, each through a lane.
+/// Cells of 128 bytes, numbered from 0. They are read through lanes: where the store is `Sync` and
+/// its lanes are `Send`, by several threads at once.
 ///
 /// Between two syncs a written cell may hold any bytes once a crash comes; the other cells stay.
 /// After a sync that succeeds a crash leaves what a read gives. A write that fails counts as
 /// written, and a sync that fails makes nothing sure.
-pub trait Store: Sync {
+pub trait Store {
     /// What reads, on one thread at a time.
-    type Lane: Send + Drop;
+    type Lane: Drop;
 
     /// All that the store tells.
     ghost disk: { Self → Disk };

@@ -12,9 +12,8 @@ returns-in_err-put-clause-unsure_reads_either g c = λ m next tells settled stan
     let tag = g.T.Stamper.tag c.args.stamper.now in
     let old = g.S.Store.disk c.args.store.now in
     let new = g.S.Store.disk c.put.new.store in
-    let laws = g.met.S.Store g.world.𝓛 g.world.𝓜 g.world.𝓡 ((λ s x. x), (λ x. x), (λ x. x), λ x. x) in
     let closes : c.is_closed_first.result ≡ is_closed_first (known_of c.args.self c.args.gates.now) (place_of c.args.n) = c.is_closed_first.ensures ∙ ap (λ (k : Open). is_closed_first k (place_of c.args.n)) c.known_of-known.ensures in
-    at_the_end old new (OldOrNew tag (first_of c.args.self) old.cells m c.args.n) (laws.counts_now c.put.new.store)
+    at_the_end old new (OldOrNew tag (first_of c.args.self) old.cells m c.args.n) (g.met.S.Store.counts_now c.put.new.store)
     (c.put.ensures.any_moment m next tells
     (λ yes_closes. open_of tag (known_of c.args.self c.args.gates.now) (first_of c.args.self) m c.args.n old.cells next (c.requires.told tells) stands (subst (λ (b : Bool). IsTrue b) closes yes_closes))
     settled stands)
