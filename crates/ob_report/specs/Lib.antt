@@ -1,0 +1,4 @@
+pub mod Report
+pub mod Faults
+pub mod Pieces
+pub mod Printed

@@ -1,0 +1,118 @@
+ghost use Rattle.std.specs.Prelude.{◌≡◌, Some};
+ghost use Rattle.ob_report.specs.Faults.{check_text, field_text, fault_line, fault_status};
+ghost use Rattle.ob_base.specs.declared.fault.Fault.TheVariants as Fault;
+ghost use Rattle.ob_report.specs.Printed.{flow, Prints};
+
+use crate::piece::Piece::{Number, Text};
+use crate::piece::put_pieces;
+use ob_base::{Check, Failed, Fault, Field};
+use ob_io::Sink;
+
+/// The status of a refusal.
+pub fn fault_status(fault: &Fault) -> u8
+    ensures { result ≡ fault_status fault.now }
+{
+    match fault {
+        Fault::Usage | Fault::BadScript { .. } | Fault::BadParams { .. } => 2,
+        Fault::NotStore => 3,
+        Fault::Damaged { .. } => 4,
+        Fault::StoreFault { .. } => 5,
+        Fault::StashFull { .. } => 6,
+        Fault::SourceFault | Fault::SinkFault => 7,
+        Fault::Worn { .. } => 8,
+        Fault::Memory => 9,
+    }
+}
+
+fn check_text(check: Check) -> &'static [u8]
+    ensures { result.now ≡ check_text check }
+{
+    match check {
+        Check::Tag => b"tag",
+        Check::Seal => b"seal",
+        Check::Epoch => b"epoch",
+        Check::Form => b"form",
+    }
+}
+
+fn field_text(field: Field) -> &'static [u8]
+    ensures { result.now ≡ field_text field }
+{
+    match field {
+        Field::N => b"N",
+        Field::L => b"L",
+        Field::Z => b"Z",
+        Field::S => b"S",
+        Field::R => b"R",
+        Field::BR => b"BR",
+        Field::BW => b"BW",
+        Field::E => b"E",
+        Field::T => b"T",
+        Field::LANES => b"LANES",
+        Field::COUNT => b"COUNT",
+        Field::KEYS => b"KEYS",
+    }
+}
+
+fn put_store<S: Sink>(sink: &mut S, unsure: Option<u64>) -> Result<(), Failed>
+    ensures { Prints (fault_line (Some (Fault.StoreFault unsure))) (flow (S.written sink.old) (S.faults sink.old)) (flow (S.written sink.new) (S.faults sink.new)) result }
+{
+    match unsure {
+        None => put_pieces(sink, &[Text(b"fault: store\n")]),
+        Some(epoch) => put_pieces(
+            sink,
+            &[
+                Text(b"fault: store, epoch "),
+                Number(epoch),
+                Text(b" unsure\n"),
+            ],
+        ),
+    }
+}
+
+/// Writes the line of a refusal, `fault: ..` and a line feed.
+///
+/// # Errors
+/// The sink failed. A front of the line is written.
+pub fn fault_text<S: Sink>(fault: &Fault, sink: &mut S) -> Result<(), Failed>
+    ensures { Prints (fault_line (Some fault.now)) (flow (S.written sink.old) (S.faults sink.old)) (flow (S.written sink.new) (S.faults sink.new)) result }
+{
+    match *fault {
+        Fault::Usage => put_pieces(sink, &[Text(b"fault: usage\n")]),
+        Fault::BadScript { line } => put_pieces(
+            sink,
+            &[Text(b"fault: script line "), Number(line), Text(b"\n")],
+        ),
+        Fault::BadParams { field } => put_pieces(
+            sink,
+            &[
+                Text(b"fault: parameter "),
+                Text(field_text(field)),
+                Text(b"\n"),
+            ],
+        ),
+        Fault::NotStore => put_pieces(sink, &[Text(b"fault: not a store\n")]),
+        Fault::Damaged { cell, check, .. } => put_pieces(
+            sink,
+            &[
+                Text(b"fault: damaged cell "),
+                Number(cell),
+                Text(b" "),
+                Text(check_text(check)),
+                Text(b"\n"),
+            ],
+        ),
+        Fault::StoreFault { unsure } => put_store(sink, unsure),
+        Fault::StashFull { rows } => put_pieces(
+            sink,
+            &[Text(b"fault: stash full, "), Number(rows), Text(b" rows\n")],
+        ),
+        Fault::SourceFault => put_pieces(sink, &[Text(b"fault: source\n")]),
+        Fault::SinkFault => put_pieces(sink, &[Text(b"fault: sink\n")]),
+        Fault::Worn { number } => put_pieces(
+            sink,
+            &[Text(b"fault: worn at "), Number(number), Text(b"\n")],
+        ),
+        Fault::Memory => put_pieces(sink, &[Text(b"fault: memory\n")]),
+    }
+}

@@ -1,0 +1,171 @@
+ghost use Rattle.std.specs.Prelude.{◌≡◌, IfSome, Some, None, option_map};
+ghost use Rattle.std.specs.List.{list_all};
+ghost use Rattle.std.specs.Str.{all_ascii_digits};
+ghost use Rattle.ob_script.specs.declared.line.Line.{Line};
+ghost use Rattle.ob_script.specs.Script.{IsSpelled, IsInRange, is_blank, is_plain};
+ghost use Rattle.ob_script.specs.Reading.{cut, is_numeral, number_at, client_at, get_at, put_of, put_at, word_line, named_line, line_at};
+
+use crate::line::{Ask, Line};
+use ob_base::Value;
+
+// What stands before the first such byte, and what behind it.
+pub fn cut(bytes: &[u8], at: u8) -> Option<(&[u8], &[u8])>
+    ensures { option_map (λ p. (p.0.now, p.1.now)) result ≡ cut at bytes.now }
+{
+    for i in 0..bytes.len() {
+        if bytes[i] == at {
+            return Some((&bytes[..i], &bytes[i + 1..]));
+        }
+    }
+    None
+}
+
+fn is_numeral(bytes: &[u8]) -> bool
+    ensures { result ≡ is_numeral bytes.now }
+{
+    match bytes {
+        [] => false,
+        [first, rest @ ..] => { all_digits(bytes) && (*first != b'0' || rest.len() == 0) }
+    }
+}
+
+fn all_digits(bytes: &[u8]) -> bool
+    ensures { result ≡ all_ascii_digits bytes.now }
+{
+    for b in bytes {
+        if !b.is_ascii_digit() {
+            return false;
+        }
+    }
+    true
+}
+
+fn is_plain_text(bytes: &[u8]) -> bool
+    ensures { result ≡ list_all is_plain bytes.now }
+{
+    for b in bytes {
+        if !(32 <= *b && *b <= 126) {
+            return false;
+        }
+    }
+    true
+}
+
+fn number_at(bytes: &[u8]) -> Option<u32>
+    ensures { result ≡ number_at bytes.now }
+{
+    if !is_numeral(bytes) {
+        return None;
+    }
+    let Ok(text) = str::from_utf8(bytes) else {
+        return None;
+    };
+    match text.parse::<u32>() {
+        Ok(n) => Some(n),
+        Err(_) => None,
+    }
+}
+
+fn client_at(bytes: &[u8]) -> Option<Line>
+    ensures { result ≡ client_at bytes.now }
+{
+    let client = number_at(bytes)?;
+    if 1 <= client && client <= 64 {
+        Some(Line::Client { client })
+    } else {
+        None
+    }
+}
+
+fn get_at(keys: u32, bytes: &[u8]) -> Option<Line>
+    ensures { result ≡ get_at keys bytes.now }
+{
+    let key = number_at(bytes)?;
+    if key < keys {
+        Some(Line::Asks {
+            ask: Ask::Get { key },
+        })
+    } else {
+        None
+    }
+}
+
+fn put_of(keys: u32, bytes: &[u8], key: u32) -> Option<Line>
+    ensures { result ≡ put_of keys bytes.now key }
+{
+    if key >= keys {
+        return None;
+    }
+    let Some(value) = Value::new(bytes) else {
+        return None;
+    };
+    if is_plain_text(bytes) {
+        Some(Line::Asks {
+            ask: Ask::Put { key, value },
+        })
+    } else {
+        None
+    }
+}
+
+fn put_at(keys: u32, bytes: &[u8]) -> Option<Line>
+    ensures { result ≡ put_at keys bytes.now }
+{
+    let (key, value) = cut(bytes, b' ')?;
+    put_of(keys, value, number_at(key)?)
+}
+
+fn word_line(text: &[u8]) -> Option<Line>
+    ensures { result ≡ word_line text.now }
+{
+    if text == b"begin".as_slice() {
+        Some(Line::Begin)
+    } else if text == b"commit".as_slice() {
+        Some(Line::Commit)
+    } else {
+        None
+    }
+}
+
+fn named_line(keys: u32, word: &[u8], rest: &[u8]) -> Option<Line>
+    ensures { result ≡ named_line keys word.now rest.now }
+{
+    if word == b"client".as_slice() {
+        client_at(rest)
+    } else if word == b"get".as_slice() {
+        get_at(keys, rest)
+    } else if word == b"put".as_slice() {
+        put_at(keys, rest)
+    } else {
+        None
+    }
+}
+
+fn is_blank(text: &[u8]) -> bool
+    ensures { result ≡ is_blank text.now }
+{
+    match text {
+        [] => true,
+        [first, ..] => *first == b'#',
+    }
+}
+
+fn line_read(keys: u32, text: &[u8]) -> Option<Line>
+    ensures { result ≡ line_at keys text.now }
+{
+    if is_blank(text) {
+        return Some(Line::Blank);
+    }
+    match cut(text, b' ') {
+        None => word_line(text),
+        Some((word, rest)) => named_line(keys, word, rest),
+    }
+}
+
+/// The line with these bytes, where keys are below `keys`.
+pub fn line_of(keys: u32, text: &[u8]) -> Option<Line>
+    ensures found { IfSome result (λ line. IsInRange keys line × IsSpelled line text.now) }
+    ensures only { (line : Line) → IsInRange keys line → IsSpelled line text.now → result ≡ Some line }
+{
+    line_read(keys, text)
+}
