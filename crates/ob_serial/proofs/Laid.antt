@@ -58,7 +58,7 @@ one_over true v own m = refl
 one_over false v own m = refl
 
 -- where a map is another one laid over a third, it stays so under the same operations
-over_after : (ops : List (Op ℕ)) → HasNoDelete ops → (own m below : Map nat_cmp) → ((q : ℕ) → get m q ≡ first_of (get own q) (get below q))
+pub over_after : (ops : List (Op ℕ)) → HasNoDelete ops → (own m below : Map nat_cmp) → ((q : ℕ) → get m q ≡ first_of (get own q) (get below q))
     → (q : ℕ) → get (after nat_cmp m ops) q ≡ first_of (get (after nat_cmp own ops) q) (get below q)
 over_after [] none own m below is q = is q
 over_after (Get key reply source ∷ ops) none own m below is q = over_after ops none own m below is q

@@ -4,3 +4,4 @@ pub mod Views
 pub mod Vaults
 pub mod VaultViews
 pub mod VaultRuns
+pub mod VaultKinds

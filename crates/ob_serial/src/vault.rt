@@ -1,4 +1,4 @@
-ghost use Rattle.std.specs.Prelude.{◌≡◌, ◌<◌, ◌≤◌, ◌+◌, ℕ, List, Bool, false, length, map, IfErr, IfOk};
+ghost use Rattle.std.specs.Prelude.{◌≡◌, ◌<◌, ◌≤◌, ◌+◌, ◌^◌, ℕ, List, Bool, false, length, map, IfErr, IfOk};
 ghost use Rattle.std.specs.List.Sorted.{IsStrictlyIncreasing};
 
 use ob_base::{Fault, Key, Params, Value, Write};
@@ -52,9 +52,10 @@ pub trait Vault {
     /// A call with its answer and the notes shown, in the vault's own terms.
     ghost called: { Self → VaultCall → VaultAnswer → List Note → Self → Type 0 };
 
-    /// The last epoch that ended.
+    /// The last epoch that ended, at most `2^62`.
     fn epoch(&self) -> u64
-        ensures { result ≡ (counts self.now).epoch };
+        ensures epoch { result ≡ (counts self.now).epoch }
+        ensures few { result ≤ 2 ^ 62 };
 
     /// How many batches of the running epoch are left.
     fn left(&self) -> u32
