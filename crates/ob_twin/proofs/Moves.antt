@@ -11,7 +11,7 @@ use Rattle.ob_store.specs.Disk.{Clock, Disk, Image, NotAfter}
 use Rattle.ob_store.specs.Images.{SameBut, LeavesOnly}
 use Rattle.ob_store.proofs.Moments.{then_on, weakened}
 use Rattle.ob_twin.specs.Bodies.{Tagging, IsStamped, open_gate, closed_gate, number_of, plain_of, body_of}
-use Rattle.ob_twin.specs.Register.{body_at, gate_at, place_of, IsOpen, IsUnder, StandsAt, KeepsAt, IsPrepared, OldOrNew, SameTwo, IsTornOnly}
+use Rattle.ob_twin.specs.Register.{body_at, gate_at, place_of, IsOpen, IsUnder, StandsAt, KeepsAt, IsPrepared, OldOrNew, SameOutside, SameTwo, IsTornOnly}
 
 decided : (r : Bool) (P : Type 0) → Decides r P → P ⊎ (P → ⊥)
 decided true P test = inl (test.0 refl)
@@ -50,6 +50,10 @@ number-body tag cell n small = number-plain n (tag cell (plain_of n)) small
 outside : (first k j : ℕ) → (k < first) ⊎ (first + 4 ≤ k) → first ≤ j → j < first + 4 → k ≢ j
 outside first k j (inl low) a b = omega arith
 outside first k j (inr high) a b = omega arith
+
+-- two cells of a register are within it
+pub two_within : (first place : ℕ) (a b : Image) → place < 2 → SameTwo (body_at first place) (gate_at first place) a b → SameOutside first a b
+two_within first place a b lt same k out = same k (outside first k _ out (omega arith) (omega arith)) (outside first k _ out (omega arith) (omega arith))
 
 module _ (tag : Tagging) (first m q : ℕ) (from : Image) (is : q ≡ (m + 1) % 2) (stands : StandsAt tag first from m) where
   pub kept : (c : Image) → SameTwo (body_at first q) (gate_at first q) c from → IsUnder tag first c q m → KeepsAt tag first from m c

@@ -1,4 +1,4 @@
-ghost use Rattle.std.specs.Prelude.{◌≡◌, ◌<◌, ◌≤◌, ◌+◌, ◌++◌, ℕ, [], ◌∷◌, Some, Ok, Err, take, replicate, IfOk, OnOk, OnErr, IfErr, is_ok};
+ghost use Rattle.std.specs.Prelude.{◌≡◌, ◌<◌, ◌≤◌, ◌+◌, ◌^◌, ◌++◌, ℕ, [], ◌∷◌, Some, Ok, Err, take, replicate, IfOk, IfSome, OnOk, OnErr, IfErr, is_ok};
 ghost use Rattle.ob_base.specs.Causes.{HasCause};
 ghost use Rattle.ob_base.specs.declared.fault.Check.TheVariants as check;
 ghost use Rattle.ob_store.specs.Disk.{Image};
@@ -126,8 +126,9 @@ fn greater(a: Option<u64>, b: Option<u64>) -> Option<u64>
 // What the four cells tell.
 fn judge<T: Stamper>(stamper: &T, first: u64, cells: &Cells) -> Result<Option<u64>, Damaged>
     requires { first < 16 }
-    ensures { (image : Image) → cells.now.body_zero ≡ image (body_at first 0) → cells.now.gate_zero ≡ image (gate_at first 0) → cells.now.body_one ≡ image (body_at first 1) → cells.now.gate_one ≡ image (gate_at first 1)
+    ensures read { (image : Image) → cells.now.body_zero ≡ image (body_at first 0) → cells.now.gate_zero ≡ image (gate_at first 0) → cells.now.body_one ≡ image (body_at first 1) → cells.now.gate_one ≡ image (gate_at first 1)
         → IsRead (T.tag stamper.now) first image result }
+    ensures below { IfOk result (λ number. IfSome number (λ n. n < 2 ^ 62)) }
 {
     let zero = match number_in(stamper, first, &cells.gate_zero, &cells.body_zero) {
         Ok(zero) => zero,
@@ -157,6 +158,7 @@ impl Twin {
         ensures serves { Serves IsStoreFault (S.disk store.old) (S.disk store.new) result }
         ensures faults { IfErr result IsGetFault }
         ensures value { (S.disk store.old).tells → IsGot (T.tag stamper.now) (first_of self) (S.disk store.old).cells result }
+        ensures below { IfOk result (λ number. IfSome number (λ n. n < 2 ^ 62)) }
         // A register that stands at a number gives it.
         ensures stands { (n : ℕ) → (S.disk store.old).tells → StandsAt (T.tag stamper.now) (first_of self) (S.disk store.old).cells n → IsOkOr (Some n) IsStoreFault result }
         ensures gates { (S.disk store.old).tells → IsGates self gates.old gates.new (S.disk store.old).cells result }

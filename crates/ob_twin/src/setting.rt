@@ -4,7 +4,7 @@ ghost use Rattle.ob_store.specs.Images.{Settled, SameBut, LeavesOnly};
 ghost use Rattle.ob_store.specs.Calls.{Serves, IsFailed, Notes, NotesFirst};
 ghost use Rattle.ob_store.specs.Lines.{Shows, ShowsFirst};
 ghost use Rattle.ob_twin.specs.Bodies.{open_gate};
-ghost use Rattle.ob_twin.specs.Register.{first_of, body_at, gate_at, place_of, IsOpen, IsUnder, StandsAt, KeepsAt, IsPrepared, OldOrNew, SameTwo, IsTornOnly};
+ghost use Rattle.ob_twin.specs.Register.{first_of, body_at, gate_at, place_of, IsOpen, IsUnder, StandsAt, KeepsAt, IsPrepared, OldOrNew, SameOutside, SameTwo, IsTornOnly};
 ghost use Rattle.ob_twin.specs.Opening.{known_of, with_known, with_mark, is_closed_first, GatesAre};
 ghost use Rattle.ob_twin.specs.Refused.{IsSetFault, IsBefore};
 ghost use Rattle.ob_twin.specs.Orders.{through_events, through_notes, prepare_events, prepare_notes, set_events, set_notes, unsure_of};
@@ -145,6 +145,8 @@ impl Twin {
         // Once it is done, each image stands at the new number.
         ensures done { (S.disk store.old).tells → IsUnder (T.tag stamper.now) (first_of self) (S.disk store.old).cells (place_of (n + 1)) n
             → OnOk result (KeepsAt (T.tag stamper.now) (first_of self) (S.disk store.old).cells n (S.disk store.new).cells) }
+        // No other cell changes.
+        ensures rest { (S.disk store.old).tells → SameOutside (first_of self) (S.disk store.new).cells (S.disk store.old).cells }
         ensures durable { (S.disk store.old).tells → OnOk result (Settled (S.disk store.new)) }
         ensures reads_new { (S.disk store.old).tells → IsUnder (T.tag stamper.now) (first_of self) (S.disk store.old).cells (place_of (n + 1)) n
             → OnOk result ((c : Image) → (S.disk store.new).may_leave c → KeepsAt (T.tag stamper.now) (first_of self) (S.disk store.old).cells n c) }

@@ -10,14 +10,14 @@ returns-in-Ok-judge-clause-value g c = λ tells.
     let tag = g.T.Stamper.tag c.args.stamper.now in
     let old = g.S.Store.disk c.args.store.now in
     subst (λ f. IsRead tag f old.cells (Ok c.in-Ok-judge.number)) c.first-first.ensures
-    (c.in-Ok-judge.ensures old.cells (c.in-Ok.ensures.body_zero tells) (c.in-Ok.ensures.gate_zero tells) (c.in-Ok.ensures.body_one tells) (c.in-Ok.ensures.gate_one tells))
+    (c.in-Ok-judge.ensures.read old.cells (c.in-Ok.ensures.body_zero tells) (c.in-Ok.ensures.gate_zero tells) (c.in-Ok.ensures.body_one tells) (c.in-Ok.ensures.gate_one tells))
 
 pub returns-in-Ok-judge-clause-stands : goal.returns-in-Ok-judge-clause-stands
 returns-in-Ok-judge-clause-stands g c = λ n tells stands.
     let tag = g.T.Stamper.tag c.args.stamper.now in
     let old = g.S.Store.disk c.args.store.now in
     number_read tag c.first-first.result n old.cells (subst (λ f. StandsAt tag f old.cells n) (sym c.first-first.ensures) stands) c.in-Ok-judge.number
-    (c.in-Ok-judge.ensures old.cells (c.in-Ok.ensures.body_zero tells) (c.in-Ok.ensures.gate_zero tells) (c.in-Ok.ensures.body_one tells) (c.in-Ok.ensures.gate_one tells))
+    (c.in-Ok-judge.ensures.read old.cells (c.in-Ok.ensures.body_zero tells) (c.in-Ok.ensures.gate_zero tells) (c.in-Ok.ensures.body_one tells) (c.in-Ok.ensures.gate_one tells))
 
 pub returns-in-Err-judge-clause-value : goal.returns-in-Err-judge-clause-value
 returns-in-Err-judge-clause-value g c = λ tells.
@@ -25,11 +25,11 @@ returns-in-Err-judge-clause-value g c = λ tells.
     let old = g.S.Store.disk c.args.store.now in
     subst (λ f. IsGot tag f old.cells (Err c.from.result)) c.first-first.ensures
     (subst (λ (x : Fault). IsGot tag c.first-first.result old.cells (Err x)) (sym c.from.ensures)
-    (c.in-Err-judge.ensures old.cells (c.in-Ok.ensures.body_zero tells) (c.in-Ok.ensures.gate_zero tells) (c.in-Ok.ensures.body_one tells) (c.in-Ok.ensures.gate_one tells)))
+    (c.in-Err-judge.ensures.read old.cells (c.in-Ok.ensures.body_zero tells) (c.in-Ok.ensures.gate_zero tells) (c.in-Ok.ensures.body_one tells) (c.in-Ok.ensures.gate_one tells)))
 
 pub returns-in-Err-judge-clause-stands : goal.returns-in-Err-judge-clause-stands
 returns-in-Err-judge-clause-stands g c = λ n tells stands.
     let tag = g.T.Stamper.tag c.args.stamper.now in
     let old = g.S.Store.disk c.args.store.now in
     absurd (damage_read tag c.first-first.result n old.cells (subst (λ f. StandsAt tag f old.cells n) (sym c.first-first.ensures) stands) c.in-Err-judge.damaged
-    (c.in-Err-judge.ensures old.cells (c.in-Ok.ensures.body_zero tells) (c.in-Ok.ensures.gate_zero tells) (c.in-Ok.ensures.body_one tells) (c.in-Ok.ensures.gate_one tells)))
+    (c.in-Err-judge.ensures.read old.cells (c.in-Ok.ensures.body_zero tells) (c.in-Ok.ensures.gate_zero tells) (c.in-Ok.ensures.body_one tells) (c.in-Ok.ensures.gate_one tells)))

@@ -1,5 +1,5 @@
-use Rattle.std.proofs.Common.{◌≡◌, ◌∙◌, ap, subst, sym, IsTrue, Bool}
-use Rattle.ob_twin.proofs.Moves.{at_the_end}
+use Rattle.std.proofs.Common.{◌≡◌, ◌∙◌, ap, subst, sym, IsTrue, Bool, arith}
+use Rattle.ob_twin.proofs.Moves.{at_the_end, two_within}
 use Rattle.ob_twin.specs.declared.gates.Gates.{Gates}
 use Rattle.ob_twin.specs.declared.gates.Open.{Open}
 use Rattle.ob_twin.specs.Register.{first_of, place_of, OldOrNew}
@@ -25,3 +25,11 @@ returns-clause-tell g c = λ tells.
     subst (λ (k : Open). GatesAre k (first_of c.args.self) new.cells)
     (sym (ap (λ (x : Gates). known_of c.args.self x) c.set_known.ensures ∙ known_again c.args.self c.args.gates.now c.with_mark.result ∙ c.with_mark.ensures ∙ ap (λ (k : Open). with_mark k (place_of c.args.n)) c.known_of-known.ensures))
     (are_marked (known_of c.args.self c.args.gates.now) (first_of c.args.self) c.args.n old.cells new.cells (c.requires.told tells) (c.put.ensures.rest tells) (c.in_ok-put.ensures.opened tells))
+
+pub returns-in_err-put-clause-rest : goal.returns-in_err-put-clause-rest
+returns-in_err-put-clause-rest g c = λ tells.
+    two_within (first_of c.args.self) (place_of c.args.n) (g.S.Store.disk c.put.new.store).cells (g.S.Store.disk c.args.store.now).cells (omega arith) (c.put.ensures.rest tells)
+
+pub returns-clause-rest : goal.returns-clause-rest
+returns-clause-rest g c = λ tells.
+    two_within (first_of c.args.self) (place_of c.args.n) (g.S.Store.disk c.put.new.store).cells (g.S.Store.disk c.args.store.now).cells (omega arith) (c.put.ensures.rest tells)

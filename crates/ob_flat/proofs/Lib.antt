@@ -1,0 +1,10 @@
+pub mod Moved
+pub mod Areas
+pub mod Spelling
+pub mod Maps
+pub mod RowReads
+pub mod Refusals
+pub mod Soundness
+pub mod Formats
+pub mod Opens
+pub mod Opened

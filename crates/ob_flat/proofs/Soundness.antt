@@ -1,0 +1,122 @@
+-- A vault stays sound, whatever an end of an epoch answers.
+use Rattle.std.proofs.Common.{◌≡◌, ◌⊎◌, inl, inr, ⊎_elim, ℕ, suc, ◌+◌, Bool, true, false, List, Option, Some, None, Err, length, refl, sym, ap, subst, ◌∙◌, arith}
+use Rattle.std.specs.Borrow.{GName}
+use Rattle.ob_base.specs.declared.params.Params.{Params}
+use Rattle.ob_base.specs.declared.fault.Fault.{Fault}
+use Rattle.ob_store.specs.Disk.{Disk, Image, Clock, NotAfter}
+use Rattle.ob_store.specs.Images.{Settled, LeavesOnly}
+use Rattle.ob_store.proofs.Moments.{started, weakened}
+use Rattle.std.specs.Ordering.{nat_cmp}
+use Rattle.ob_serial.specs.Serial.{Map}
+use Rattle.ob_serial.specs.declared.vault.EndErr.{EndErr}
+use Rattle.ob_serial.specs.declared.vault.EndErr.TheVariants.{Before, Unsure}
+use Rattle.ob_serial.specs.Vaults.{VaultState, VaultCounts, VaultAnswer, Fetch, End, Ended, RefusedBy, DoubtBy, Standing, standing_now, standing_next, with_writes, vault_next, counts_of, MayStand, MayStandIn, StandsIn}
+use Rattle.ob_serial.specs.VaultViews.{end_answer}
+use Rattle.ob_flat.specs.Standing.{IsMapOf, StandsFlat}
+use Rattle.ob_flat.specs.declared.opening.Opening.{Opening}
+use Rattle.ob_flat.specs.Openings.{IsOpenedAt}
+use Rattle.ob_flat.specs.Ends.{EndsFrom, EndsAt, EndsIn, StandsAtOne}
+use Rattle.ob_flat.specs.Calls.{FlatHolds, FlatServes, FlatSound, lent, opened_at}
+use Rattle.ob_flat.proofs.Moved.{stands_same}
+
+-- a reference more changes nothing of what crashes leave
+pub lent_leaves : (name other : GName) (old new : Disk) (P : Image → Type 0) → LeavesOnly old new P → LeavesOnly (lent name old) (lent other new) P
+lent_leaves name other old new P run = record { later = run.later; each = run.each; before = run.before }
+
+-- what crashes leave at the end of a run
+at_the_end : (old new : Disk) (P : Image → Type 0) → ((t : Clock) (c : Image) → NotAfter t new.moment → new.may_leave c → new.left_since t c) → LeavesOnly old new P → (c : Image) → new.may_leave c → P c
+at_the_end old new P counts run c left = run.each c (counts old.moment c run.later left)
+
+counts_of_parts : (v : VaultState) (counts : VaultCounts) → counts_of v ≡ counts → (v.epoch ≡ counts.epoch) × (v.left ≡ counts.left) × (v.spent ≡ counts.spent)
+counts_of_parts v counts is = (ap (λ (k : VaultCounts). k.epoch) is, ap (λ (k : VaultCounts). k.left) is, ap (λ (k : VaultCounts). k.spent) is)
+
+counts_made : {epoch epoch' left left' : ℕ} {spent spent' : Bool} → epoch ≡ epoch' → left ≡ left' → spent ≡ spent' → ◌≡◌ {A = VaultCounts} (record { epoch = epoch; left = left; spent = spent }) (record { epoch = epoch'; left = left'; spent = spent' })
+counts_made a b c = λ i. record { epoch = a i; left = b i; spent = c i }
+
+module _ (p : Params) (counts : VaultCounts) (values next : List (Option (List ℕ))) (old new : Disk) (v : VaultState) (writes : List (ℕ × Option (List ℕ))) (sound : FlatSound p counts values old v) (serving : counts.spent ≡ false) where
+  serves : FlatServes p old v
+  serves = sound.serves ((counts_of_parts v counts sound.holds.counts_are).2 ∙ serving)
+
+  -- what the end begins with
+  pub begins : length next ≡ p.keys → ((m : Map nat_cmp) → IsMapOf values m → IsMapOf next (with_writes m writes)) → EndsFrom p old (suc counts.epoch) next (standing_now v) (standing_next v writes)
+  begins whole written =
+      let epoch : v.epoch ≡ counts.epoch = (counts_of_parts v counts sound.holds.counts_are).0 in
+      record {
+        keys = whole;
+        follows = ap suc (sym epoch);
+        is = ap suc epoch;
+        content = written v.content sound.holds.content;
+        tells = serves.tells;
+        settled = serves.settled;
+        stands = serves.stands;
+      }
+
+  one_of : (c : Image) → StandsAtOne p (standing_now v) (standing_next v writes) c → StandsIn (StandsFlat p) (MayStandIn v (End writes)) c
+  one_of c (inl stands) = (standing_now v, stands, inl (inl refl))
+  one_of c (inr stands) = (standing_next v writes, stands, inr refl)
+
+  -- during an end that was refused an image stands for what is allowed
+  pub refused_in : (r : EndErr) → EndsIn p old new (standing_now v) (standing_next v writes) (end_answer (Err r)) → LeavesOnly old new (StandsIn (StandsFlat p) (MayStandIn v (End writes)))
+  refused_in (Before fault) run = weakened old new (λ c. StandsFlat p c (standing_now v)) (StandsIn (StandsFlat p) (MayStandIn v (End writes))) (λ c stands. (standing_now v, stands, inl (inl refl))) run
+  refused_in (Unsure fault) run = weakened old new (StandsAtOne p (standing_now v) (standing_next v writes)) (StandsIn (StandsFlat p) (MayStandIn v (End writes))) one_of run
+
+  -- and during one that went well
+  pub ended_in : EndsIn p old new (standing_now v) (standing_next v writes) Ended → LeavesOnly old new (StandsIn (StandsFlat p) (MayStandIn v (End writes)))
+  ended_in run = weakened old new (StandsAtOne p (standing_now v) (standing_next v writes)) (StandsIn (StandsFlat p) (MayStandIn v (End writes))) one_of run.0
+
+  module _ (counts_now : (t : Clock) (c : Image) → NotAfter t new.moment → new.may_leave c → new.left_since t c) where
+    in_doubt : (c : Image) → StandsAtOne p (standing_now v) (standing_next v writes) c → StandsIn (StandsFlat p) (MayStand (record v { spent = true; doubt = Some (standing_next v writes) })) c
+    in_doubt c (inl stands) = (standing_now v, stands, inl refl)
+    in_doubt c (inr stands) = (standing_next v writes, stands, inr refl)
+
+    stopped : (spent : Bool) → spent ≡ true → counts_of (record v { spent = true }) ≡ record { epoch = counts.epoch; left = counts.left; spent = spent }
+    stopped spent is =
+        let parts = counts_of_parts v counts sound.holds.counts_are in
+        counts_made parts.0 parts.1 (sym is)
+
+    never : (spent : Bool) → spent ≡ true → true ≡ false → ⊥
+    never spent is wrong = cc
+
+    -- after a refused end
+    pub refused_sound : (r : EndErr) (epoch : ℕ) (spent : Bool) → epoch ≡ counts.epoch → spent ≡ true → EndsIn p old new (standing_now v) (standing_next v writes) (end_answer (Err r))
+        → FlatSound p (record { epoch = epoch; left = counts.left; spent = spent }) values new (vault_next v (End writes) (end_answer (Err r)))
+    refused_sound (Before fault) epoch spent same is run = record {
+      holds = record { counts_are = stopped spent is ∙ counts_made (sym same) refl refl; batches = sound.holds.batches; content = sound.holds.content };
+      serves = λ wrong. absurd (never spent is wrong);
+      images = λ c left. (standing_now v, at_the_end old new (λ i. StandsFlat p i (standing_now v)) counts_now run c left, inl refl);
+    }
+    refused_sound (Unsure fault) epoch spent same is run = record {
+      holds = record { counts_are = stopped spent is ∙ counts_made (sym same) refl refl; batches = sound.holds.batches; content = sound.holds.content };
+      serves = λ wrong. absurd (never spent is wrong);
+      images = λ c left. in_doubt c (at_the_end old new (StandsAtOne p (standing_now v) (standing_next v writes)) counts_now run c left);
+    }
+
+  -- after one that went well
+  pub ended_sound : (epoch left : ℕ) (spent : Bool) (kept : List (Option (List ℕ))) → epoch ≡ suc counts.epoch → left ≡ p.batches → spent ≡ false → kept ≡ next → ((m : Map nat_cmp) → IsMapOf values m → IsMapOf next (with_writes m writes))
+      → EndsIn p old new (standing_now v) (standing_next v writes) Ended
+      → FlatSound p (record { epoch = epoch; left = left; spent = spent }) kept new (vault_next v (End writes) Ended)
+  ended_sound epoch left spent kept is full still same written run =
+      let parts = counts_of_parts v counts sound.holds.counts_are in
+      record {
+        holds = record {
+          counts_are = counts_made (ap suc parts.0 ∙ sym is) (sound.holds.batches ∙ sym full) (parts.2 ∙ serving ∙ sym still);
+          batches = sound.holds.batches;
+          content = subst (λ (l : List (Option (List ℕ))). IsMapOf l (with_writes v.content writes)) (sym same) (written v.content sound.holds.content);
+        };
+        serves = λ _. record { tells = run.1.tells; settled = run.1.settled; no_doubt = serves.no_doubt; stands = run.1.stands };
+        images = λ c left. (standing_next v writes, stands_same p (standing_next v writes) c new.cells (run.1.settled c left) run.1.stands, inl refl);
+      }
+
+-- a fetch
+pub fetch_in : (p : Params) (counts : VaultCounts) (values : List (Option (List ℕ))) (old : Disk) (v : VaultState) (keys : List (Option ℕ)) → FlatSound p counts values old v → ((c : Image) → old.left_since old.moment c → old.may_leave c)
+    → LeavesOnly old old (StandsIn (StandsFlat p) (MayStandIn v (Fetch keys)))
+fetch_in p counts values old v keys sound only = started old (StandsIn (StandsFlat p) (MayStandIn v (Fetch keys))) (λ c left. sound.images c (only c left))
+
+-- a vault over a store that was opened
+pub opened_sound : (p : Params) (at : Standing) (opening : Opening) (d : Disk) → d.tells → Settled d → IsOpenedAt p at opening d
+    → FlatSound p (record { epoch = opening.epoch; left = p.batches; spent = false }) opening.values.items d (opened_at p at)
+opened_sound p at opening d tells settled opened = record {
+  holds = record { counts_are = counts_made (sym opened.epoch) refl refl; batches = refl; content = opened.content };
+  serves = λ _. record { tells = tells; settled = settled; no_doubt = refl; stands = opened.stands };
+  images = λ c left. (at, opened.images c left, inl refl);
+}

@@ -1,0 +1,51 @@
+use Rattle.std.proofs.Common.{◌≡◌, ℕ, ◌+◌, ◌<◌, ◌≤◌, List, [], ◌∷◌, ◌++◌, true, None, replicate, inl, inr, ◌∙◌, arith}
+use Rattle.ob_store.specs.declared.event.Event.TheVariants as event
+use Rattle.ob_store.specs.declared.watch.Note.TheVariants as note
+use Rattle.ob_store.specs.Calls.{IsFailed}
+use Rattle.ob_store.specs.Runs.{write_events, write_notes}
+use Rattle.ob_store.proofs.Serving.{if_ok, if_err, on_ok, on_err, goes_then, serves_then}
+use Rattle.ob_store.proofs.Events.{joined, all_first, first_more, joined_first}
+use Rattle.ob_store.proofs.Showing.{shows_then, all_shown, shown_more, shows_first}
+use Rattle.ob_twin.specs.Orders.{through_events, through_notes, set_events, set_notes}
+use Rattle.ob_flat.specs.Orders.{shut_events, shut_notes, rows_events, rows_notes}
+use Rattle.ob_flat.proofs.Formats.{formatted}
+use Rattle.ob_flat.proofs.formatting.lay.Goals as goal
+
+pub returns-in_err-lay_registers-clause-seen_err : goal.returns-in_err-lay_registers-clause-seen_err
+returns-in_err-lay_registers-clause-seen_err g c = if_err _ c.from_residual.result (first_more (through_events 0 ++ (shut_events ++ set_events true 1 1)) ((rows_events 9 c.args.params.now.keys ++ set_events true 5 0) ++ (through_events 0)) _ _ c.in_err-lay_registers.ensures.seen_err)
+
+pub returns-in_err-lay_registers-clause-shown_err : goal.returns-in_err-lay_registers-clause-shown_err
+returns-in_err-lay_registers-clause-shown_err g c = if_err _ c.from_residual.result (shown_more (through_notes 0 ++ (shut_notes ++ set_notes true 1 1)) ((rows_notes 9 c.args.params.now.keys ++ set_notes true 5 0) ++ (through_notes 0)) _ _ c.in_err-lay_registers.ensures.shown_err)
+
+pub returns-in_err-lay_rows-clause-seen_err : goal.returns-in_err-lay_rows-clause-seen_err
+returns-in_err-lay_rows-clause-seen_err g c = if_err _ c.from_residual-in_err-lay_rows.result (joined_first (through_events 0 ++ (shut_events ++ set_events true 1 1)) ((rows_events 9 c.args.params.now.keys ++ set_events true 5 0) ++ (through_events 0)) _ _ _ c.in_ok-lay_registers.ensures.seen (first_more (rows_events 9 c.args.params.now.keys ++ set_events true 5 0) (through_events 0) _ _ c.in_err-lay_rows.ensures.seen_err))
+
+pub returns-in_err-lay_rows-clause-shown_err : goal.returns-in_err-lay_rows-clause-shown_err
+returns-in_err-lay_rows-clause-shown_err g c = if_err _ c.from_residual-in_err-lay_rows.result (shows_first (through_notes 0 ++ (shut_notes ++ set_notes true 1 1)) ((rows_notes 9 c.args.params.now.keys ++ set_notes true 5 0) ++ (through_notes 0)) _ _ _ c.in_ok-lay_registers.ensures.shown (shown_more (rows_notes 9 c.args.params.now.keys ++ set_notes true 5 0) (through_notes 0) _ _ c.in_err-lay_rows.ensures.shown_err))
+
+pub returns-clause-serves : goal.returns-clause-serves
+returns-clause-serves g c =
+    let a = c.in_ok-lay_registers.ensures.serves in
+    let b = c.in_ok-lay_rows.ensures.serves in
+    serves_then IsFailed (g.S.Store.disk c.args.store.now) (g.S.Store.disk c.lay_rows.new.store) (g.S.Store.disk c.write_through.new.store) c.write_through.result
+    (goes_then _ _ _ a.goes b.goes) (let x = a.out in let y = b.out in omega arith) (λ t. b.tells (a.tells t)) c.write_through.ensures.serves
+
+pub returns-clause-stands : goal.returns-clause-stands
+returns-clause-stands g c = λ tells.
+    let a = c.in_ok-lay_registers.ensures in
+    let b = c.in_ok-lay_rows.ensures in
+    let one = a.serves.tells tells in
+    let two = b.serves.tells one in
+    on_ok _ _ c.write_through.result
+    (λ head. formatted c.args.params.now (g.S.Store.disk c.lay_registers.new.store).cells (g.S.Store.disk c.lay_rows.new.store).cells (g.S.Store.disk c.write_through.new.store).cells
+    (a.generation tells) (b.low one) (b.epoch one) (b.rows one) (c.write_through.ensures.rest two) (head ∙ c.head_cell.ensures))
+    (c.write_through.ensures.written two)
+
+pub returns-clause-seen_err : goal.returns-clause-seen_err
+returns-clause-seen_err g c = on_err _ _ c.write_through.result (λ last. joined_first (through_events 0 ++ (shut_events ++ set_events true 1 1)) ((rows_events 9 c.args.params.now.keys ++ set_events true 5 0) ++ (through_events 0)) _ _ _ c.in_ok-lay_registers.ensures.seen (joined_first (rows_events 9 c.args.params.now.keys ++ set_events true 5 0) (through_events 0) _ _ _ c.in_ok-lay_rows.ensures.seen last)) c.write_through.ensures.seen_err
+
+pub returns-clause-shown : goal.returns-clause-shown
+returns-clause-shown g c = on_ok _ _ c.write_through.result (λ last. shows_then (through_notes 0 ++ (shut_notes ++ set_notes true 1 1)) ((rows_notes 9 c.args.params.now.keys ++ set_notes true 5 0) ++ (through_notes 0)) _ _ _ c.in_ok-lay_registers.ensures.shown (shows_then (rows_notes 9 c.args.params.now.keys ++ set_notes true 5 0) (through_notes 0) _ _ _ c.in_ok-lay_rows.ensures.shown last)) c.write_through.ensures.shown
+
+pub returns-clause-shown_err : goal.returns-clause-shown_err
+returns-clause-shown_err g c = on_err _ _ c.write_through.result (λ last. shows_first (through_notes 0 ++ (shut_notes ++ set_notes true 1 1)) ((rows_notes 9 c.args.params.now.keys ++ set_notes true 5 0) ++ (through_notes 0)) _ _ _ c.in_ok-lay_registers.ensures.shown (shows_first (rows_notes 9 c.args.params.now.keys ++ set_notes true 5 0) (through_notes 0) _ _ _ c.in_ok-lay_rows.ensures.shown (1, omega arith, last))) c.write_through.ensures.shown_err

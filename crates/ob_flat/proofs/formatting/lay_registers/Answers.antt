@@ -1,0 +1,48 @@
+use Rattle.std.proofs.Common.{◌≡◌, ℕ, ◌+◌, ◌<◌, ◌≤◌, List, [], ◌∷◌, ◌++◌, true, None, replicate, inl, inr, ◌∙◌, arith}
+use Rattle.ob_store.specs.declared.event.Event.TheVariants as event
+use Rattle.ob_store.specs.declared.watch.Note.TheVariants as note
+use Rattle.ob_store.specs.Calls.{IsFailed}
+use Rattle.ob_store.specs.Runs.{write_events, write_notes}
+use Rattle.ob_store.proofs.Serving.{if_ok, if_err, on_ok, on_err, goes_then, serves_then}
+use Rattle.ob_store.proofs.Events.{joined, all_first, first_more, joined_first}
+use Rattle.ob_store.proofs.Showing.{shows_then, all_shown, shown_more, shows_first}
+use Rattle.ob_twin.specs.Orders.{through_events, through_notes, set_events, set_notes}
+use Rattle.ob_flat.specs.Orders.{shut_events, shut_notes, rows_events, rows_notes}
+use Rattle.ob_flat.proofs.Formats.{failed_then}
+use Rattle.ob_flat.proofs.formatting.lay_registers.Goals as goal
+
+pub returns-in_err-write_through-clause-seen_err : goal.returns-in_err-write_through-clause-seen_err
+returns-in_err-write_through-clause-seen_err g c = if_err _ c.from_residual.result (first_more (through_events 0) (shut_events ++ (set_events true 1 1)) _ _ c.in_err-write_through.ensures.seen_err)
+
+pub returns-in_err-write_through-clause-shown_err : goal.returns-in_err-write_through-clause-shown_err
+returns-in_err-write_through-clause-shown_err g c = if_err _ c.from_residual.result (1, omega arith, c.in_err-write_through.ensures.shown_err)
+
+pub returns-in_err-shut_gates-clause-serves : goal.returns-in_err-shut_gates-clause-serves
+returns-in_err-shut_gates-clause-serves g c =
+    let a = c.in_ok-write_through.ensures.serves in
+    failed_then _ _ _ c.in_err-shut_gates.field-0.0 c.from_residual-in_err-shut_gates.result a.goes a.out c.from_residual-in_err-shut_gates.ensures.0 c.in_err-shut_gates.ensures.serves
+
+pub returns-in_err-shut_gates-clause-seen_err : goal.returns-in_err-shut_gates-clause-seen_err
+returns-in_err-shut_gates-clause-seen_err g c = if_err _ c.from_residual-in_err-shut_gates.result (joined_first (through_events 0) (shut_events ++ (set_events true 1 1)) _ _ _ c.in_ok-write_through.ensures.seen (first_more shut_events (set_events true 1 1) _ _ c.in_err-shut_gates.ensures.seen_err))
+
+pub returns-in_err-shut_gates-clause-shown_err : goal.returns-in_err-shut_gates-clause-shown_err
+returns-in_err-shut_gates-clause-shown_err g c = if_err _ c.from_residual-in_err-shut_gates.result (shows_first (through_notes 0) (shut_notes ++ (set_notes true 1 1)) _ _ _ c.in_ok-write_through.ensures.shown (shown_more shut_notes (set_notes true 1 1) _ _ c.in_err-shut_gates.ensures.shown_err))
+
+pub returns-clause-serves : goal.returns-clause-serves
+returns-clause-serves g c =
+    let a = c.in_ok-write_through.ensures.serves in
+    let b = c.in_ok-shut_gates.ensures.serves in
+    serves_then IsFailed (g.S.Store.disk c.args.store.now) (g.S.Store.disk c.shut_gates.new.store) (g.S.Store.disk c.set_first.new.store) c.set_first.result
+    (goes_then _ _ _ a.goes b.goes) (let x = a.out in let y = b.out in omega arith) (λ t. b.tells (a.tells t)) c.set_first.ensures.serves
+
+pub returns-clause-seen : goal.returns-clause-seen
+returns-clause-seen g c = on_ok _ _ c.set_first.result (λ last. joined (through_events 0) (shut_events ++ (set_events true 1 1)) _ _ _ c.in_ok-write_through.ensures.seen (joined shut_events (set_events true 1 1) _ _ _ c.in_ok-shut_gates.ensures.seen last)) c.set_first.ensures.seen
+
+pub returns-clause-seen_err : goal.returns-clause-seen_err
+returns-clause-seen_err g c = on_err _ _ c.set_first.result (λ last. joined_first (through_events 0) (shut_events ++ (set_events true 1 1)) _ _ _ c.in_ok-write_through.ensures.seen (joined_first shut_events (set_events true 1 1) _ _ _ c.in_ok-shut_gates.ensures.seen last)) c.set_first.ensures.seen_err
+
+pub returns-clause-shown : goal.returns-clause-shown
+returns-clause-shown g c = on_ok _ _ c.set_first.result (λ last. shows_then (through_notes 0) (shut_notes ++ (set_notes true 1 1)) _ _ _ c.in_ok-write_through.ensures.shown (shows_then shut_notes (set_notes true 1 1) _ _ _ c.in_ok-shut_gates.ensures.shown last)) c.set_first.ensures.shown
+
+pub returns-clause-shown_err : goal.returns-clause-shown_err
+returns-clause-shown_err g c = on_err _ _ c.set_first.result (λ last. shows_first (through_notes 0) (shut_notes ++ (set_notes true 1 1)) _ _ _ c.in_ok-write_through.ensures.shown (shows_first shut_notes (set_notes true 1 1) _ _ _ c.in_ok-shut_gates.ensures.shown last)) c.set_first.ensures.shown_err

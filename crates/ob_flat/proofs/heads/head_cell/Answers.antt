@@ -1,0 +1,10 @@
+use Rattle.std.proofs.Common.{ℕ, List, ◌++◌, ◌∙◌, ap, replicate}
+use Rattle.std.specs.List.{flat_map}
+use Rattle.std.specs.Int.{w32, to_le_bytes}
+use Rattle.ob_base.specs.LittleEndian.{with_part}
+use Rattle.ob_flat.specs.Heads.{mark, head_plain, numbers_of}
+use Rattle.ob_flat.proofs.heads.head_cell.Goals as goal
+
+pub returns : goal.returns
+unfolding mark head_plain
+returns c = c.stamp.ensures ∙ ap (λ (l : List ℕ). l ++ replicate 16 0) (c.put_numbers.ensures ∙ ap (λ (l : List ℕ). with_part l 12 (flat_map (λ n. to_le_bytes w32 n) (numbers_of c.args.params.now))) c.put.ensures)

@@ -1,0 +1,90 @@
+-- What a plain vault holds, and what its calls do to its store.
+use Rattle.std.specs.Prelude.{◌≡◌, ◌≤◌, ◌<◌, ◌^◌, ℕ, suc, Bool, false, List, [], ◌∷◌, take, length, map, Option, Some, None}
+use Rattle.std.specs.Borrow.{GName}
+use Rattle.ob_base.specs.declared.params.Params.{Params}
+use Rattle.ob_base.specs.declared.fault.Fault.{Fault}
+use Rattle.ob_base.specs.declared.fault.Fault.TheVariants.{StoreFault, Worn}
+use Rattle.ob_store.specs.declared.watch.Note.{Note}
+use Rattle.ob_store.specs.Disk.{Disk, Image}
+use Rattle.ob_store.specs.Images.{Settled}
+use Rattle.ob_store.specs.Calls.{Holds, Notes, NotesFirst}
+use Rattle.ob_twin.specs.declared.gates.Open.{Open}
+use Rattle.ob_serial.specs.Vaults.{VaultState, VaultCounts, VaultCall, Fetch, End, VaultAnswer, Values, Ended, RefusedBy, DoubtBy, Standing, standing_now, counts_of, MayStand, StandsIn}
+use Rattle.ob_flat.specs.Places.{area_of}
+use Rattle.ob_flat.specs.Rows.{row_cell}
+use Rattle.ob_flat.specs.Standing.{IsMapOf, StandsFlat}
+use Rattle.ob_flat.specs.Orders.{end_events, end_notes}
+
+-- a disk with one reference more
+abbrev pub lent : GName → Disk → Disk
+lent name disk = record disk { anchors = name ∷ disk.anchors }
+
+-- the values are the map's
+pub record FlatHolds (p : Params) (counts : VaultCounts) (values : List (Option (List ℕ))) (v : VaultState) : Type 0 where
+  pub counts_are : counts_of v ≡ counts
+  pub batches : v.batches ≡ p.batches
+  pub content : IsMapOf values v.content
+
+-- While it serves, no write waits for a sync, no end is in doubt, and the store stands for what it holds.
+pub record FlatServes (p : Params) (disk : Disk) (v : VaultState) : Type 0 where
+  pub tells : disk.tells
+  pub settled : Settled disk
+  pub no_doubt : v.doubt ≡ None
+  pub stands : StandsFlat p disk.cells (standing_now v)
+
+-- And each image that a crash may leave stands for what that allows.
+pub record FlatSound (p : Params) (counts : VaultCounts) (values : List (Option (List ℕ))) (disk : Disk) (v : VaultState) : Type 0 where
+  pub holds : FlatHolds p counts values v
+  pub serves : v.spent ≡ false → FlatServes p disk v
+  pub images : (c : Image) → disk.may_leave c → StandsIn (StandsFlat p) (MayStand v) c
+
+-- what a vault holds that was opened at an epoch
+abbrev pub opened_at : Params → Standing → VaultState
+opened_at p at = record { batches = p.batches; epoch = at.epoch; content = at.content; left = p.batches; spent = false; doubt = None }
+
+-- some of these notes, the first ones
+abbrev pub IsFront : List Note → List Note → Type 0
+IsFront notes all = (n : ℕ) × (n ≤ length all) × (notes ≡ take n all)
+
+-- The end of an epoch did all of it.
+pub record IsEnded (keys : ℕ) (known : Open) (epoch : ℕ) (values : List (Option (List ℕ))) (old new : Disk) (notes : List Note) : Type 0 where
+  pub small : suc epoch < 2 ^ 62
+  pub written : old.tells → Holds (area_of keys (suc epoch)) (map (λ value. row_cell value) values) new.cells
+  pub seen : Notes (end_events keys known (suc epoch)) old.seen new.seen
+  pub shown : notes ≡ end_notes keys known (suc epoch)
+
+-- the first of it
+pub record IsCut (keys : ℕ) (known : Open) (epoch : ℕ) (old new : Disk) (notes : List Note) : Type 0 where
+  pub small : suc epoch < 2 ^ 62
+  pub seen : NotesFirst (end_events keys known (suc epoch)) old.seen new.seen
+  pub shown : IsFront notes (end_notes keys known (suc epoch))
+
+-- nothing, since there is no next epoch
+pub record IsWorn {S : Type 0} (epoch : ℕ) (before after : S) (notes : List Note) : Type 0 where
+  pub last : suc epoch ≡ 2 ^ 62
+  pub same : after ≡ before
+  pub shown : notes ≡ []
+
+-- A refused end did the first of it, or nothing.
+abbrev pub RefusedDoes : {S : Type 0} → ℕ → Open → ℕ → S → S → Disk → Disk → List Note → Fault → Type 0
+RefusedDoes keys known epoch before after old new notes (StoreFault unsure) = (unsure ≡ None) × IsCut keys known epoch old new notes
+RefusedDoes keys known epoch before after old new notes (Worn number) = (number ≡ 2 ^ 62) × IsWorn epoch before after notes
+RefusedDoes keys known epoch before after old new notes _ = ⊥
+
+-- What a call does to the store, where the last epoch that ended was this one and this was known of the gates, and the vault then
+-- has these values.
+module _ {S : Type 0} (p : Params) (known : Open) (epoch : ℕ) (values : List (Option (List ℕ))) (before after : S) (old new : Disk) (notes : List Note) where
+  abbrev pub EndDoes : VaultAnswer → Type 0
+  EndDoes Ended = IsEnded p.keys known epoch values old new notes
+  EndDoes (RefusedBy fault) = RefusedDoes p.keys known epoch before after old new notes fault
+  EndDoes (DoubtBy fault) = (fault ≡ StoreFault (Some (suc epoch))) × IsCut p.keys known epoch old new notes
+  EndDoes _ = ⊥
+
+  -- a fetch does nothing to the store, and is never refused
+  abbrev pub FetchDoes : VaultAnswer → Type 0
+  FetchDoes (Values found) = (after ≡ before) × (notes ≡ [])
+  FetchDoes _ = ⊥
+
+  abbrev pub CallDoes : VaultCall → VaultAnswer → Type 0
+  CallDoes (Fetch keys) answer = FetchDoes answer
+  CallDoes (End writes) answer = EndDoes answer

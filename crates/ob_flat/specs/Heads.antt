@@ -1,0 +1,83 @@
+-- The head of a plain vault's store.
+use Rattle.std.specs.Prelude.{◌≡◌, ◌≢◌, ◌⊎◌, ℕ, ◌+◌, ◌*◌, List, [], ◌∷◌, ◌++◌, take, replicate, Option, Some, Result, Ok, Err, codes}
+use Rattle.std.specs.List.{flat_map}
+use Rattle.std.specs.Int.{w32, to_le_bytes}
+use Rattle.ob_base.specs.declared.params.Params.{Params}
+use Rattle.ob_base.specs.declared.fault.Field.{Field}
+use Rattle.ob_base.specs.declared.fault.Field.TheVariants.{N, L, Z, S, R, BR, BW, E, T}
+use Rattle.ob_base.specs.declared.fault.Damaged.{Damaged}
+use Rattle.ob_base.specs.declared.fault.Check.TheVariants.{Form}
+use Rattle.ob_base.specs.declared.fault.Fault.{Fault}
+use Rattle.ob_base.specs.declared.fault.Fault.TheVariants as fault
+use Rattle.ob_base.specs.Fields.{first_out_of_range}
+use Rattle.ob_base.specs.LittleEndian.{field_at}
+use Rattle.ob_twin.specs.Bodies.{Tagging, IsStamped, IsMisstamped}
+use Rattle.ob_flat.specs.Numbers.{told_number}
+
+-- the tag of every stamped cell of this version
+abbrev pub zero_tag : Tagging
+zero_tag cell plain = replicate 16 0
+
+-- a head begins with `OBLADIST` and the version's number
+unfoldable pub mark : List ℕ
+mark = codes "OBLADIST" ++ to_le_bytes w32 101
+
+-- the parameters in their order
+abbrev pub numbers_of : Params → List ℕ
+numbers_of p = p.keys ∷ p.levels ∷ p.real ∷ p.dummies ∷ p.batches ∷ p.places ∷ p.writes ∷ p.evictions ∷ p.room ∷ []
+
+-- behind the mark stand the parameters, of 4 bytes each, and zeros
+unfoldable pub head_plain : Params → List ℕ
+head_plain p = mark ++ flat_map (λ n. to_le_bytes w32 n) (numbers_of p) ++ replicate 64 0
+
+abbrev pub head_cell : Params → List ℕ
+head_cell p = head_plain p ++ zero_tag 0 (head_plain p)
+
+-- the number at one of the nine places behind the mark
+abbrev pub number_at : List ℕ → ℕ → ℕ
+number_at bytes place = field_at w32 bytes (12 + 4 * place)
+
+abbrev pub numbers_in : List ℕ → List ℕ
+numbers_in bytes =
+    number_at bytes 0 ∷ number_at bytes 1 ∷ number_at bytes 2 ∷ number_at bytes 3 ∷ number_at bytes 4
+    ∷ number_at bytes 5 ∷ number_at bytes 6 ∷ number_at bytes 7 ∷ number_at bytes 8 ∷ []
+
+-- the head of these parameters
+pub record IsHead (p : Params) (bytes : List ℕ) : Type 0 where
+  pub marked : take 12 bytes ≡ mark
+  pub stamped : IsStamped zero_tag 0 bytes
+  pub numbers : numbers_in bytes ≡ numbers_of p
+
+-- the first number that is out of its range
+abbrev pub first_bad : List ℕ → Option Field
+first_bad bytes =
+    first_out_of_range (number_at bytes 0) (number_at bytes 1) (number_at bytes 2) (number_at bytes 3) (number_at bytes 4)
+    (number_at bytes 5) (number_at bytes 6) (number_at bytes 7) (number_at bytes 8)
+
+abbrev pub place_of : Field → ℕ
+place_of L = 1
+place_of Z = 2
+place_of S = 3
+place_of R = 4
+place_of BR = 5
+place_of BW = 6
+place_of E = 7
+place_of T = 8
+place_of _ = 0
+
+-- what is told of a number out of its range: the number, and 1, which is the least in each range
+pub record IsBadNumber (bytes : List ℕ) (damaged : Damaged) : Type 0 where
+  pub field : Field
+  pub first : first_bad bytes ≡ Some field
+  pub is : damaged ≡ record { cell = 0; check = Form; kept = told_number (number_at bytes (place_of field)); computed = told_number 1 }
+
+-- what is read of a head, where the store doesn't fail
+abbrev pub IsHeadRead : List ℕ → Result Params Fault → Type 0
+IsHeadRead bytes (Ok p) = IsHead p bytes
+IsHeadRead bytes (Err fault.NotStore) = take 12 bytes ≢ mark
+IsHeadRead bytes (Err (fault.Damaged cell check kept computed)) =
+    (take 12 bytes ≡ mark)
+    × (IsMisstamped zero_tag 0 bytes (record { cell = cell; check = check; kept = kept; computed = computed })
+    ⊎ (IsStamped zero_tag 0 bytes × IsBadNumber bytes (record { cell = cell; check = check; kept = kept; computed = computed })))
+IsHeadRead bytes (Err (fault.StoreFault unsure)) = Unit {0}
+IsHeadRead bytes (Err _) = ⊥

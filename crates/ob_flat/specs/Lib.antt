@@ -1,0 +1,11 @@
+pub mod Places
+pub mod Numbers
+pub mod Heads
+pub mod Rows
+pub mod Standing
+pub mod Orders
+pub mod Noting
+pub mod Registers
+pub mod Openings
+pub mod Ends
+pub mod Calls

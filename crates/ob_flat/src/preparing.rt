@@ -1,0 +1,171 @@
+ghost use Rattle.std.specs.Prelude.{◌≡◌, ◌<◌, ◌^◌, ℕ, suc, [], Err, IfOk, OnOk, OnErr, IfErr, length, replicate, None, ◌≢◌};
+ghost use Rattle.ob_base.specs.declared.params.Params.{Params};
+ghost use Rattle.ob_base.specs.declared.fault.Fault.TheVariants as fault;
+ghost use Rattle.ob_store.specs.declared.event.Event.TheVariants as event;
+ghost use Rattle.ob_store.specs.declared.watch.Note.TheVariants as note;
+ghost use Rattle.ob_store.specs.Disk.{Image};
+ghost use Rattle.ob_store.specs.Images.{Settled, LeavesOnly};
+ghost use Rattle.ob_store.specs.Calls.{Serves, IsStoreFault, Notes, NotesFirst};
+ghost use Rattle.ob_store.specs.Lines.{Shows, ShowsFirst};
+ghost use Rattle.ob_twin.specs.Register.{StandsAt, KeepsAt, SameOutside};
+ghost use Rattle.ob_twin.specs.Opening.{GatesAre};
+ghost use Rattle.ob_serial.specs.Vaults.{Standing};
+ghost use Rattle.ob_flat.specs.Heads.{zero_tag};
+ghost use Rattle.ob_flat.specs.Standing.{StandsFlat, AllStand, StandsAsBefore};
+ghost use Rattle.ob_flat.specs.Orders.{begin_events, begin_notes};
+ghost use Rattle.ob_flat.specs.Registers.{IsBeginFault};
+ghost use Rattle.ob_flat.specs.Openings.{IsOpeningOf, IsOpenFault, IsOpenedAt, OpensIn, OpensFirst};
+
+use crate::opening::Opening;
+use crate::places::area_of;
+use crate::registers::read_registers;
+use crate::rows::read_values;
+use ob_base::{Failed, Fault, Params, Value};
+use ob_store::{Store, Watch, sync_noted};
+use ob_twin::{Gates, SetErr, Twin, ZeroTag};
+use std::alloc::{AllocError, Global};
+
+// So many keys without a value.
+fn blank_values(alloc: Global, keys: u32) -> Result<Vec<Option<Value>>, AllocError>
+    ensures { IfOk result (λ values. values.items ≡ replicate keys None) }
+{
+    let _told: Option<Value> = None;
+    let mut values = Vec::new(alloc);
+    for i in 0..keys {
+        values.push(None)?;
+    }
+    Ok(values)
+}
+
+// Makes sure of what was written before, and begins the next generation.
+fn begin<S: Store, W: Watch>(
+    store: &mut S,
+    gates: &mut Gates,
+    generation: u64,
+    watch: &mut W,
+) -> Result<u64, Fault>
+    requires none_out { (S.disk store.old).out ≡ 0 }
+    requires small { generation < 2 ^ 62 }
+    requires told { (S.disk store.old).tells → GatesAre gates.old.generation 1 (S.disk store.old).cells }
+    ensures serves { Serves IsStoreFault (S.disk store.old) (S.disk store.new) result }
+    ensures faults { IfErr result (IsBeginFault generation) }
+    ensures next { IfOk result (λ next. next ≡ suc generation) }
+    ensures below { IfOk result (λ next. next < 2 ^ 62) }
+    ensures epoch { gates.new.epoch ≡ gates.old.epoch }
+    ensures rest { (S.disk store.old).tells → SameOutside 1 (S.disk store.new).cells (S.disk store.old).cells }
+    ensures durable { (S.disk store.old).tells → OnOk result (Settled (S.disk store.new)) }
+    ensures stands { (p : Params) (at : Standing) → (S.disk store.old).tells → StandsAt zero_tag 1 (S.disk store.old).cells generation → StandsFlat p (S.disk store.old).cells at → OnOk result (StandsFlat p (S.disk store.new).cells at) }
+    ensures crash { (p : Params) (at : Standing) → (S.disk store.old).tells → StandsAt zero_tag 1 (S.disk store.old).cells generation → StandsFlat p (S.disk store.old).cells at → AllStand p (S.disk store.old)
+        → LeavesOnly (S.disk store.old) (S.disk store.new) (StandsAsBefore p (S.disk store.old)) }
+    ensures seen { OnOk result (Notes (begin_events gates.old.generation (suc generation)) (S.disk store.old).seen (S.disk store.new).seen) }
+    ensures seen_err { OnErr result (NotesFirst (begin_events gates.old.generation (suc generation)) (S.disk store.old).seen (S.disk store.new).seen) }
+    ensures shown { OnOk result (Shows (begin_notes gates.old.generation (suc generation)) (W.trace watch.old) (W.trace watch.new)) }
+    ensures shown_err { OnErr result (ShowsFirst (begin_notes gates.old.generation (suc generation)) (W.trace watch.old) (W.trace watch.new)) }
+{
+    let next = generation + 1;
+    if next >= 1 << 62 {
+        return Err(Fault::Worn { number: next });
+    }
+    match sync_noted(store, watch) {
+        Ok(()) => {}
+        Err(Failed) => return Err(Fault::StoreFault { unsure: None }),
+    }
+    match Twin::GENERATION.set(store, &ZeroTag, gates, next, watch) {
+        Ok(()) => Ok(next),
+        Err(SetErr::Before(fault)) => Err(fault),
+        Err(SetErr::Unsure(fault)) => Err(fault),
+    }
+}
+
+// Reads the registers and the rows, and begins the next generation.
+fn open_into<S: Store, W: Watch>(
+    store: &mut S,
+    params: &Params,
+    mut values: Vec<Option<Value>>,
+    next: Vec<Option<Value>>,
+    watch: &mut W,
+) -> Result<Opening, Fault>
+    requires whole { length values.items ≡ params.now.keys }
+    requires room { length next.items ≡ params.now.keys }
+    requires none_out { (S.disk store.old).out ≡ 0 }
+    ensures serves { Serves IsStoreFault (S.disk store.old) (S.disk store.new) result }
+    ensures faults { IfErr result IsOpenFault }
+    ensures value { (S.disk store.old).tells → IsOpeningOf params.now.keys (S.disk store.old).cells result }
+    ensures params { IfOk result (λ opening. opening.params ≡ params.now) }
+    ensures durable { (S.disk store.old).tells → OnOk result (Settled (S.disk store.new)) }
+    ensures tell { (S.disk store.old).tells → IfOk result (λ opening. GatesAre opening.gates.epoch 5 (S.disk store.new).cells) }
+    // Where the store stood for an epoch, the opening has that epoch and its map,
+    ensures opened { (at : Standing) → (S.disk store.old).tells → StandsFlat params.now (S.disk store.old).cells at → IfOk result (λ opening. IsOpenedAt params.now at opening (S.disk store.new)) }
+    // and a crash at any moment leaves what the store, or one of its images, stood for.
+    ensures crash { (at : Standing) → (S.disk store.old).tells → StandsFlat params.now (S.disk store.old).cells at → AllStand params.now (S.disk store.old)
+        → LeavesOnly (S.disk store.old) (S.disk store.new) (StandsAsBefore params.now (S.disk store.old)) }
+    ensures order { IfOk result (λ opening. OpensIn params.now.keys (S.disk store.old) (S.disk store.new) (W.trace watch.old) (W.trace watch.new) opening) }
+    ensures order_err { OnErr result (OpensFirst params.now.keys (S.disk store.old) (S.disk store.new) (W.trace watch.old) (W.trace watch.new)) }
+    ensures no_memory { IfErr result (λ refused. refused ≢ fault.Memory) }
+{
+    let mut gates = Gates::new();
+    let numbers = match read_registers(store, &mut gates, watch) {
+        Ok(numbers) => numbers,
+        Err(fault) => return Err(fault),
+    };
+    let base = area_of(params.keys as u64, numbers.epoch);
+    match read_values(store, base, &mut values, watch) {
+        Ok(()) => {}
+        Err(fault) => return Err(fault),
+    }
+    let generation = match begin(store, &mut gates, numbers.generation, watch) {
+        Ok(generation) => generation,
+        Err(fault) => return Err(fault),
+    };
+    Ok(Opening {
+        params: *params,
+        gates,
+        generation,
+        epoch: numbers.epoch,
+        values,
+        next,
+    })
+}
+
+/// Reads a store of these parameters, as `head` gave them, from cell 1 on: both registers and the
+/// rows of the epoch's area. Then it makes sure of what was written before, and begins the next
+/// generation.
+///
+/// # Errors
+/// Memory was wanting, and nothing was done; or the store failed, and its count of faults rose; or,
+/// in this order, it is no store exactly where a register has no open gate; the first body under an
+/// open gate that breaks a rule is damaged, in the order of cells; or the first row, in its tag, its
+/// presence or its length; or, before anything is written, the next generation would be `2^62`.
+/// Whatever it answers, each image that a crash may leave stands for what the store stood for.
+pub fn prepare<S: Store, W: Watch>(
+    alloc: Global,
+    store: &mut S,
+    params: &Params,
+    watch: &mut W,
+) -> Result<Opening, Fault>
+    requires none_out { (S.disk store.old).out ≡ 0 }
+    ensures serves { Serves IsStoreFault (S.disk store.old) (S.disk store.new) result }
+    ensures faults { IfErr result IsOpenFault }
+    ensures value { (S.disk store.old).tells → IsOpeningOf params.now.keys (S.disk store.old).cells result }
+    ensures params { IfOk result (λ opening. opening.params ≡ params.now) }
+    ensures durable { (S.disk store.old).tells → OnOk result (Settled (S.disk store.new)) }
+    ensures tell { (S.disk store.old).tells → IfOk result (λ opening. GatesAre opening.gates.epoch 5 (S.disk store.new).cells) }
+    // Where the store stood for an epoch, the opening has that epoch and its map,
+    ensures opened { (at : Standing) → (S.disk store.old).tells → StandsFlat params.now (S.disk store.old).cells at → IfOk result (λ opening. IsOpenedAt params.now at opening (S.disk store.new)) }
+    // and a crash at any moment leaves what the store, or one of its images, stood for.
+    ensures crash { (at : Standing) → (S.disk store.old).tells → StandsFlat params.now (S.disk store.old).cells at → AllStand params.now (S.disk store.old)
+        → LeavesOnly (S.disk store.old) (S.disk store.new) (StandsAsBefore params.now (S.disk store.old)) }
+    ensures order { IfOk result (λ opening. OpensIn params.now.keys (S.disk store.old) (S.disk store.new) (W.trace watch.old) (W.trace watch.new) opening) }
+    ensures order_err { OnErr result (OpensFirst params.now.keys (S.disk store.old) (S.disk store.new) (W.trace watch.old) (W.trace watch.new)) }
+    ensures memory { result ≡ Err fault.Memory → (store.new ≡ store.old) × Shows [] (W.trace watch.old) (W.trace watch.new) }
+{
+    let values = match blank_values(alloc, params.keys) {
+        Ok(values) => values,
+        Err(_) => return Err(Fault::Memory),
+    };
+    let next = match blank_values(alloc, params.keys) {
+        Ok(next) => next,
+        Err(_) => return Err(Fault::Memory),
+    };
+    open_into(store, params, values, next, watch)
+}
