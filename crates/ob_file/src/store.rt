@@ -1,0 +1,135 @@
+ghost use Rattle.std.specs.Prelude.{◌≡◌, ◌≤◌, IfOk, None};
+ghost use Rattle.ob_store.specs.Disk.{silent};
+ghost use Rattle.ob_file.specs.Counts.{Counts, with_more};
+
+use crate::cell::{read_cell, sync_file, write_cell};
+use ob_base::Failed;
+use ob_store::Store;
+use std::alloc::{AllocError, Global};
+use std::fs::{File, OpenOptions};
+use std::io;
+use std::rt::Files;
+use thiserror::Error;
+
+/// Why a store's file was not opened.
+#[derive(Debug, Drop, Error)]
+pub enum OpenErr {
+    /// Memory was wanting.
+    #[error(transparent)]
+    Memory(#[from(alloc)] AllocError),
+    /// The file can't be opened for reading and writing.
+    #[error("the file was not opened")]
+    Failed,
+}
+
+/// A store in a file: cell k is the 128 bytes from `128 * k` on, and bytes past the file's end are
+/// zeros. It tells how often it has failed, and nothing of what it holds.
+#[derive(Drop)]
+pub struct FileStore<R: Files<File = File>> {
+    rt: R,
+    path: String,
+    file: File,
+    faults: u64,
+}
+
+/// The file, opened once more.
+#[derive(Drop)]
+pub struct FileLane {
+    file: File,
+    faults: u64,
+}
+
+fn opened<R: Files<File = File>>(rt: &R, path: &str, create: bool) -> io::Result<File> {
+    OpenOptions::new()
+        .read(true)
+        .write(true)
+        .create(create)
+        .open(rt, path)
+}
+
+impl<R: Files<File = File>> FileStore<R> {
+    /// Opens the file of a store. With `create` it makes the file where there is none; it empties
+    /// none.
+    ///
+    /// # Errors
+    /// Memory was wanting, or the file can't be opened for reading and writing.
+    pub fn open(rt: R, alloc: Global, path: &str, create: bool) -> Result<FileStore<R>, OpenErr>
+    where
+        R: Drop,
+        ensures { IfOk result (λ s. s.faults ≡ 0) }
+    {
+        let path = String::from_str(alloc, path)?;
+        let Ok(file) = opened(&rt, path.as_str(), create) else {
+            return Err(OpenErr::Failed);
+        };
+        Ok(FileStore {
+            rt,
+            path,
+            file,
+            faults: 0,
+        })
+    }
+}
+
+// Counts a failure.
+fn count(faults: &mut u64, outcome: Result<(), Failed>) -> Result<(), Failed>
+    ensures same { result ≡ outcome }
+    ensures counts { Counts faults.old faults.new result }
+{
+    if outcome.is_err() {
+        *faults = faults.saturating_add(1);
+    }
+    outcome
+}
+
+impl<R: Files<File = File> + Sync> Store for FileStore<R> {
+    type Lane = FileLane;
+
+    ghost disk = { λ s. silent s.faults };
+
+    ghost lane_faults = { λ l. l.faults };
+
+    ghost lane_seen = { λ _. None };
+
+    ghost counts_now = { λ _ t c le left. absurd left };
+
+    ghost only_now = { λ _ c left. absurd left };
+
+    ghost includes_reads = { λ _ tells leaves. absurd leaves };
+
+    fn lane(&mut self) -> Result<FileLane, Failed>
+        ensures counts { Counts self.old.faults self.new.faults result }
+        ensures fresh { IfOk result (λ lane. lane.faults ≡ 0) }
+    {
+        let Ok(file) = opened(&self.rt, self.path.as_str(), false) else {
+            self.faults = self.faults.saturating_add(1);
+            return Err(Failed);
+        };
+        Ok(FileLane { file, faults: 0 })
+    }
+
+    fn read(&self, lane: &mut FileLane, cell: u64, out: &mut [u8; 128]) -> Result<(), Failed>
+        ensures counts { Counts lane.old.faults lane.new.faults result }
+    {
+        count(&mut lane.faults, read_cell(&lane.file, cell, out))
+    }
+
+    fn absorb(&mut self, lane: FileLane)
+        ensures counts { self.new.faults ≡ with_more lane.faults self.old.faults }
+        ensures later { self.old.faults ≤ self.new.faults }
+    {
+        self.faults = self.faults.saturating_add(lane.faults);
+    }
+
+    fn write(&mut self, cell: u64, bytes: &[u8; 128]) -> Result<(), Failed>
+        ensures counts { Counts self.old.faults self.new.faults result }
+    {
+        count(&mut self.faults, write_cell(&self.file, cell, bytes))
+    }
+
+    fn sync(&mut self) -> Result<(), Failed>
+        ensures counts { Counts self.old.faults self.new.faults result }
+    {
+        count(&mut self.faults, sync_file(&self.file))
+    }
+}
