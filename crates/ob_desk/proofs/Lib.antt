@@ -1,5 +1,6 @@
 pub mod Aborts
 pub mod Allowed
+pub mod Answered
 pub mod Counted
 pub mod Ends
 pub mod Fine

@@ -1,4 +1,5 @@
 pub mod Calls
+pub mod Causes
 pub mod Desk
-pub mod Replay
 pub mod Parts
+pub mod Replay

@@ -13,4 +13,7 @@ pub use beat::{Beat, Eager, Hasty};
 pub use calls::{Begun, Done, Got, Look, Txn};
 pub use clients::{Client, Holder};
 pub use desk::Desk;
-pub use laws::desk_is_serial;
+pub use laws::{causes, desk_is_serial};
+
+#[cfg(test)]
+mod tests;
