@@ -1,5 +1,5 @@
 -- What each answer comes from.
-use Rattle.std.proofs.Common.{◌≡◌, ℕ, zero, suc, Bool, true, false, not, ◌&&◌, if◌then◌else◌, List, [], ◌∷◌, length, Option, None, Some, option_map, option_and_then, unwrap_or, refl, sym, ap, ap₂, ◌∙◌, subst, inl, inr, ◌⊎◌, ⊎_elim, arith}
+use Rattle.std.proofs.Common.{◌≡◌, ℕ, zero, suc, ◌<◌, ◌≤◌, Bool, true, false, not, ◌&&◌, if◌then◌else◌, List, [], ◌∷◌, length, Option, None, Some, option_map, option_and_then, unwrap_or, refl, sym, ap, ap₂, ◌∙◌, subst, inl, inr, ◌⊎◌, ⊎_elim, arith}
 use Rattle.std.proofs.lemmas.Bool.{cases_eq, false≢true}
 use Rattle.std.proofs.lemmas.Option.{none-some, same_Some}
 use Rattle.ob_order.specs.Works.{Work, is_going, at_ticket, edit, goes_on, fate_at, end_work, least_source, aborted_since, fall, cascade, aborted}
@@ -9,9 +9,10 @@ use Rattle.ob_order.specs.Order.{write_reply, again_reply}
 use Rattle.ob_order.specs.declared.answers.Read.TheVariants.{Value as Found, Queued}
 use Rattle.ob_order.specs.declared.answers.Wrote.{Wrote}
 use Rattle.ob_order.specs.declared.answers.Wrote.TheVariants.{Yes, Conflict as Conflicts, Full as WritesAreFull}
+use Rattle.ob_order.proofs.Steps.{goes_on_range}
 use Rattle.ob_order.proofs.Edits.{at_edit_same, at_edit_other}
 use Rattle.ob_desk.specs.Desk.{Holder, Part, DeskState, TxnId, Call, Begin, GetKey, Poll, Write, Commit, Abort, Settled, Looks, SignOff, Stop, Unsure, IsStopped, TakeBatch, Deliver, Close, Publish, Reply, Begun, Refused, Value, Waits, Aborted, Done, IsSettled, Seen, StoppedBy, Batch, Writes, Published, Why, Asked, Depends, EpochEnd, AbortedBy, DeskStep, why_refused, outcome_at, aborted_why, waiting_at, asked_at, why_of, cause_at, why_at, note_cause, end_of, end_unasked, close_to, closing}
-use Rattle.ob_desk.specs.Causes.{read_as, written_as, txn_of, reply_to, RepliesAreExact, AbortedAreTold, EndsUnasked}
+use Rattle.ob_desk.specs.Causes.{read_as, written_as, txn_of, reply_to, RepliesAreExact, AbortedAreTold, EndsUnasked, AskedStay, UnaskedEnd}
 
 -- ---- replies
 
@@ -157,15 +158,15 @@ asked_kept part s why t = ⊎_elim
 not_depends : {A : Type 0} (on : ℕ) (c : Option (Why ℕ)) → why_of (Fell on) c ≡ Some EpochEnd → A
 not_depends on c e = absurd (let same : Depends on ≡ EpochEnd = same_Some _ _ e in cc)
 
+cause_kept : (part : Part) (s t : ℕ) → (t ≡ s → ⊥) → cause_at (edit (note_cause EpochEnd) part.holders s) t ≡ cause_at part.holders t
+cause_kept part s t other = ap (option_and_then (λ h. h.cause)) (at_edit_other (note_cause EpochEnd) part.holders s t other)
+
 -- another's abort doesn't end one for the epoch's end
 ended_before : (part : Part) (s t : ℕ) → (t ≡ s → ⊥) → why_at (end_of part s EpochEnd) t ≡ Some EpochEnd → why_at part t ≡ Some EpochEnd
 ended_before part s t other e = ⊎_elim
-    (λ kept. sym (ap₂ (λ (f : Option Fate) (c : Option (Why ℕ)). option_and_then (λ x. why_of x c) f) kept cause) ∙ e)
+    (λ kept. sym (ap₂ (λ (f : Option Fate) (c : Option (Why ℕ)). option_and_then (λ x. why_of x c) f) kept (cause_kept part s t other)) ∙ e)
     (λ fell. not_depends fell.0 (cause_at (edit (note_cause EpochEnd) part.holders s) t) (sym (ap (option_and_then (λ x. why_of x (cause_at (edit (note_cause EpochEnd) part.holders s) t))) fell.1) ∙ e))
     (aborted_stands part.order.works s t other).either
-  where
-    cause : cause_at (edit (note_cause EpochEnd) part.holders s) t ≡ cause_at part.holders t
-    cause = ap (option_and_then (λ h. h.cause)) (at_edit_other (note_cause EpochEnd) part.holders s t other)
 
 close_asked : (part : Part) (n t : ℕ) → asked_at (close_to part n) t ≡ asked_at part t
 close_asked part zero t = refl
@@ -175,21 +176,21 @@ close_asked part (suc n) t = step (goes_on (close_to part n).order.works (suc n)
     step true = asked_kept (close_to part n) (suc n) EpochEnd t
     step false = refl
 
+both_hold : (a b : Bool) → (a && not b) ≡ true → b ≡ false
+both_hold true true q = absurd (false≢true q)
+both_hold true false q = refl
+both_hold false b q = absurd (false≢true q)
+
 ended_unasked : (part : Part) (n t : ℕ) → why_at (close_to part n) t ≡ Some EpochEnd → (why_at part t ≡ Some EpochEnd) ⊎ (asked_at part t ≡ false)
 ended_unasked part zero t e = inl e
 ended_unasked part (suc n) t e = step (goes_on (close_to part n).order.works (suc n) && not (asked_at (close_to part n) (suc n))) refl (ended_unasked part n t) e
   where
-    unasked : (a b : Bool) → (a && not b) ≡ true → b ≡ false
-    unasked true true q = absurd (false≢true q)
-    unasked true false q = refl
-    unasked false b q = absurd (false≢true q)
-
     step : (b : Bool) → (goes_on (close_to part n).order.works (suc n) && not (asked_at (close_to part n) (suc n))) ≡ b
         → (why_at (close_to part n) t ≡ Some EpochEnd → (why_at part t ≡ Some EpochEnd) ⊎ (asked_at part t ≡ false))
         → why_at (if b then end_of (close_to part n) (suc n) EpochEnd else close_to part n) t ≡ Some EpochEnd → (why_at part t ≡ Some EpochEnd) ⊎ (asked_at part t ≡ false)
     step false is so_far q = so_far q
     step true is so_far q = ⊎_elim
-        (λ same. inr (sym (close_asked part n t) ∙ subst (λ u. asked_at (close_to part n) u ≡ false) (sym same) (unasked _ _ is)))
+        (λ same. inr (sym (close_asked part n t) ∙ subst (λ u. asked_at (close_to part n) u ≡ false) (sym same) (both_hold _ _ is)))
         (λ other. so_far (ended_before (close_to part n) (suc n) t other q))
         (cases_eq t (suc n))
 
@@ -207,3 +208,80 @@ going_why part t e = step (at_ticket part.order.works t) e
 
 pub ends_unasked : EndsUnasked
 ends_unasked part t going e = ⊎_elim (λ before. absurd (none-some EpochEnd (sym (going_why part t going) ∙ before))) (λ q. q) (ended_unasked part (length part.order.works) t e)
+
+-- ---- those that asked, and those that didn't
+
+-- another's abort leaves the cause of one, or fells it
+beside : (part : Part) (s t : ℕ) → (t ≡ s → ⊥) → (why_at part t ≡ None) ⊎ ((on : ℕ) × (why_at part t ≡ Some (Depends on)))
+    → (why_at (end_of part s EpochEnd) t ≡ None) ⊎ ((on : ℕ) × (why_at (end_of part s EpochEnd) t ≡ Some (Depends on)))
+beside part s t other before = ⊎_elim
+    (λ kept.
+    let same : why_at (end_of part s EpochEnd) t ≡ why_at part t = ap₂ (λ (f : Option Fate) (c : Option (Why ℕ)). option_and_then (λ x. why_of x c) f) kept (cause_kept part s t other) in
+    ⊎_elim (λ none. inl (same ∙ none)) (λ fell. inr (fell.0, same ∙ fell.1)) before)
+    (λ fell. inr (fell.0, ap (option_and_then (λ x. why_of x (cause_at (edit (note_cause EpochEnd) part.holders s) t))) fell.1))
+    (aborted_stands part.order.works s t other).either
+
+asked_upto : (part : Part) (t n : ℕ) → goes_on part.order.works t ≡ true → asked_at part t ≡ true → (why_at (close_to part n) t ≡ None) ⊎ ((on : ℕ) × (why_at (close_to part n) t ≡ Some (Depends on)))
+asked_upto part t zero going asked = inl (going_why part t going)
+asked_upto part t (suc n) going asked = step (goes_on (close_to part n).order.works (suc n) && not (asked_at (close_to part n) (suc n))) refl (asked_upto part t n going asked)
+  where
+    step : (b : Bool) → (goes_on (close_to part n).order.works (suc n) && not (asked_at (close_to part n) (suc n))) ≡ b
+        → (why_at (close_to part n) t ≡ None) ⊎ ((on : ℕ) × (why_at (close_to part n) t ≡ Some (Depends on)))
+        → (why_at (if b then end_of (close_to part n) (suc n) EpochEnd else close_to part n) t ≡ None) ⊎ ((on : ℕ) × (why_at (if b then end_of (close_to part n) (suc n) EpochEnd else close_to part n) t ≡ Some (Depends on)))
+    step false is so_far = so_far
+    step true is so_far = ⊎_elim
+        (λ same. absurd (false≢true (sym (subst (λ u. asked_at (close_to part n) u ≡ false) (sym same) (both_hold _ _ is)) ∙ (close_asked part n t ∙ asked))))
+        (λ other. beside (close_to part n) (suc n) t other so_far)
+        (cases_eq t (suc n))
+
+-- at a close nobody that asked to commit is aborted but because of a source
+pub asked_stay : AskedStay
+asked_stay part t going asked = asked_upto part t (length part.order.works) going asked
+
+fate_goes : (ws : List Work) (t : ℕ) → goes_on ws t ≡ unwrap_or (option_map is_going (fate_at ws t)) false
+fate_goes ws t = step (at_ticket ws t)
+  where
+    step : (o : Option Work) → unwrap_or (option_map (λ w. is_going w.fate) o) false ≡ unwrap_or (option_map is_going (option_map (λ w. w.fate) o)) false
+    step None = refl
+    step (Some w) = refl
+
+-- an abort revives none
+stays_gone : (before after : List Work) (t : ℕ) → Stands before after t → goes_on before t ≡ false → goes_on after t ≡ false
+stays_gone before after t h off = ⊎_elim
+    (λ kept. fate_goes after t ∙ (ap (λ f. unwrap_or (option_map is_going f) false) kept ∙ (sym (fate_goes before t) ∙ off)))
+    (λ fell. fate_goes after t ∙ ap (λ f. unwrap_or (option_map is_going f) false) fell.1)
+    h.either
+
+ended_gone : (ws : List Work) (t : ℕ) → goes_on (aborted ws t) t ≡ false
+ended_gone ws t = stays_gone (edit end_work ws t) (aborted ws t) t (cascade_stands ws (edit end_work ws t) (length ws) t)
+    (ap (λ o. unwrap_or (option_map (λ w. is_going w.fate) o) false) (at_edit_same end_work ws t) ∙ none_going (at_ticket ws t))
+  where
+    none_going : (o : Option Work) → unwrap_or (option_map (λ w. is_going w.fate) (option_map end_work o)) false ≡ false
+    none_going None = refl
+    none_going (Some w) = refl
+
+gone_after : (ws : List Work) (s t : ℕ) → goes_on ws t ≡ false → goes_on (aborted ws s) t ≡ false
+gone_after ws s t off = ⊎_elim
+    (λ same. subst (λ q. goes_on (aborted ws q) t ≡ false) same (ended_gone ws t))
+    (λ other. stays_gone ws (aborted ws s) t (aborted_stands ws s t other) off)
+    (cases_eq t s)
+
+unasked_upto : (part : Part) (t n : ℕ) → 0 < t → t ≤ n → asked_at part t ≡ false → goes_on (close_to part n).order.works t ≡ false
+unasked_upto part t zero above within unasked = absurd (omega arith)
+unasked_upto part t (suc n) above within unasked = ⊎_elim
+    (λ same. here same (goes_on (close_to part n).order.works (suc n)) (asked_at (close_to part n) (suc n)) refl (subst (λ u. asked_at (close_to part n) u ≡ false) same (close_asked part n t ∙ unasked)))
+    (λ other. away (goes_on (close_to part n).order.works (suc n) && not (asked_at (close_to part n) (suc n))) (unasked_upto part t n above (omega arith) unasked))
+    (cases_eq t (suc n))
+  where
+    away : (b : Bool) → goes_on (close_to part n).order.works t ≡ false → goes_on (if b then end_of (close_to part n) (suc n) EpochEnd else close_to part n).order.works t ≡ false
+    away true off = gone_after (close_to part n).order.works (suc n) t off
+    away false off = off
+
+    here : t ≡ suc n → (a b : Bool) → goes_on (close_to part n).order.works (suc n) ≡ a → b ≡ false → goes_on (if a && not b then end_of (close_to part n) (suc n) EpochEnd else close_to part n).order.works t ≡ false
+    here same true true is off = absurd (false≢true (sym off))
+    here same true false is off = subst (λ q. goes_on (aborted (close_to part n).order.works q) t ≡ false) same (ended_gone (close_to part n).order.works t)
+    here same false b is off = ap (λ q. goes_on (close_to part n).order.works q) same ∙ is
+
+-- a close leaves none that hasn't asked
+pub unasked_end : UnaskedEnd
+unasked_end part t going unasked = let range = goes_on_range part.order.works t going in unasked_upto part t (length part.order.works) range.0 range.1 unasked

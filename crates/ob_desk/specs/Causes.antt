@@ -1,5 +1,5 @@
 -- What each answer comes from: on a transaction that isn't aborted a call is answered just as these functions say.
-use Rattle.std.specs.Prelude.{ℕ, suc, ◌≡◌, true, false, length}
+use Rattle.std.specs.Prelude.{ℕ, suc, ◌≡◌, ◌⊎◌, true, false}
 use Rattle.std.specs.Option.{option_map, unwrap_or}
 use Rattle.std.specs.declared.option.Option.{Option}
 use Rattle.std.specs.declared.option.Option.TheVariants.{None, Some}
@@ -9,7 +9,7 @@ use Rattle.ob_order.specs.declared.answers.Read.{Read}
 use Rattle.ob_order.specs.declared.answers.Read.TheVariants.{Value as Found, Queued, Full as ReadsAreFull}
 use Rattle.ob_order.specs.declared.answers.Wrote.{Wrote}
 use Rattle.ob_order.specs.declared.answers.Wrote.TheVariants.{Yes, Conflict as Conflicts, Full as WritesAreFull}
-use Rattle.ob_desk.specs.Desk.{DeskState, Part, TxnId, Call, GetKey, Poll, Write, Commit, Abort, Reply, Value, Waits, Aborted, Done, Conflict, ReadsFull, WritesFull, EpochEnd, Asked, Why, AbortedBy, DeskStep, outcome_at, aborted_why, waiting_at, asked_at, why_at, closing}
+use Rattle.ob_desk.specs.Desk.{DeskState, Part, TxnId, Call, GetKey, Poll, Write, Commit, Abort, Reply, Value, Waits, Aborted, Done, Conflict, ReadsFull, WritesFull, Depends, EpochEnd, Asked, Why, AbortedBy, DeskStep, outcome_at, aborted_why, waiting_at, asked_at, why_at, closing}
 
 -- a get's reply: a value, or the key waits, or no batch has a place for it
 abbrev pub read_as : Read → Reply
@@ -53,3 +53,12 @@ AbortedAreTold = (d : DeskState) (call : Call) (x : TxnId) (reply : Reply) (new 
 -- at a close only those end for the epoch's end that haven't asked to commit
 abbrev pub EndsUnasked : Type 0
 EndsUnasked = (part : Part) (t : ℕ) → goes_on part.order.works t ≡ true → why_at (closing part) t ≡ Some EpochEnd → asked_at part t ≡ false
+
+-- who hasn't asked doesn't outlast the close
+abbrev pub UnaskedEnd : Type 0
+UnaskedEnd = (part : Part) (t : ℕ) → goes_on part.order.works t ≡ true → asked_at part t ≡ false → goes_on (closing part).order.works t ≡ false
+
+-- who asked is aborted by a close because of a source alone
+abbrev pub AskedStay : Type 0
+AskedStay = (part : Part) (t : ℕ) → goes_on part.order.works t ≡ true → asked_at part t ≡ true
+    → (why_at (closing part) t ≡ None) ⊎ ((on : ℕ) × (why_at (closing part) t ≡ Some (Depends on)))

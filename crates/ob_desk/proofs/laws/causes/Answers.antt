@@ -9,3 +9,9 @@ returns-clause-aborted c = proved.aborted_are_told
 
 pub returns-clause-epoch_end : goal.returns-clause-epoch_end
 returns-clause-epoch_end c = proved.ends_unasked
+
+pub returns-clause-unasked : goal.returns-clause-unasked
+returns-clause-unasked c = proved.unasked_end
+
+pub returns-clause-asked : goal.returns-clause-asked
+returns-clause-asked c = proved.asked_stay
