@@ -1,18 +1,17 @@
 -- What each answer comes from.
-use Rattle.std.proofs.Common.{◌≡◌, ℕ, zero, suc, ◌<◌, ◌≤◌, Bool, true, false, not, ◌&&◌, if◌then◌else◌, List, [], ◌∷◌, length, Option, None, Some, option_map, option_and_then, unwrap_or, refl, sym, ap, ap₂, ◌∙◌, subst, inl, inr, ◌⊎◌, ⊎_elim, arith}
+use Rattle.std.proofs.Common.{◌≡◌, ℕ, zero, suc, ◌<◌, ◌≤◌, Bool, true, false, not, ◌&&◌, if◌then◌else◌, List, length, Option, None, Some, option_map, option_and_then, unwrap_or, refl, sym, ap, ap₂, ◌∙◌, subst, inl, inr, ◌⊎◌, ⊎_elim, arith}
 use Rattle.std.proofs.lemmas.Bool.{cases_eq, false≢true}
 use Rattle.std.proofs.lemmas.Option.{none-some, same_Some}
 use Rattle.ob_order.specs.Works.{Work, is_going, at_ticket, edit, goes_on, fate_at, end_work, least_source, aborted_since, fall, cascade, aborted}
 use Rattle.ob_order.specs.declared.fate.Fate.{Fate}
 use Rattle.ob_order.specs.declared.fate.Fate.TheVariants.{Going, Ended, Fell}
 use Rattle.ob_order.specs.Order.{write_reply, again_reply}
-use Rattle.ob_order.specs.declared.answers.Read.TheVariants.{Value as Found, Queued}
 use Rattle.ob_order.specs.declared.answers.Wrote.{Wrote}
 use Rattle.ob_order.specs.declared.answers.Wrote.TheVariants.{Yes, Conflict as Conflicts, Full as WritesAreFull}
 use Rattle.ob_order.proofs.Steps.{goes_on_range}
 use Rattle.ob_order.proofs.Edits.{at_edit_same, at_edit_other}
-use Rattle.ob_desk.specs.Desk.{Holder, Part, DeskState, TxnId, Call, Begin, GetKey, Poll, Write, Commit, Abort, Settled, Looks, SignOff, Stop, Unsure, IsStopped, TakeBatch, Deliver, Close, Publish, Reply, Begun, Refused, Value, Waits, Aborted, Done, IsSettled, Seen, StoppedBy, Batch, Writes, Published, Why, Asked, Depends, EpochEnd, AbortedBy, DeskStep, why_refused, outcome_at, aborted_why, waiting_at, asked_at, why_of, cause_at, why_at, note_cause, end_of, end_unasked, close_to, closing}
-use Rattle.ob_desk.specs.Causes.{read_as, written_as, txn_of, reply_to, RepliesAreExact, AbortedAreTold, EndsUnasked, AskedStay, UnaskedEnd}
+use Rattle.ob_desk.specs.Desk.{Holder, Part, DeskState, TxnId, Begin, GetKey, Poll, Write, Commit, Abort, Settled, Looks, SignOff, Stop, Unsure, IsStopped, TakeBatch, Deliver, Close, Publish, Value, Waits, Aborted, Done, Why, Depends, EpochEnd, AbortedBy, why_refused, outcome_at, aborted_why, waiting_at, asked_at, why_of, cause_at, why_at, note_cause, end_of, close_to}
+use Rattle.ob_desk.specs.Causes.{read_as, written_as, reply_to, RepliesAreExact, AbortedAreTold, EndsUnasked, AskedStay, UnaskedEnd}
 
 -- ---- replies
 

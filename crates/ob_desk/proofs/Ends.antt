@@ -1,5 +1,5 @@
 -- The steps that end an epoch, from what the two parts are.
-use Rattle.std.proofs.Common.{◌≡◌, ℕ, zero, suc, ◌+◌, ◌≤◌, ◌^◌, Bool, true, false, not, ◌&&◌, if◌then◌else◌, List, length, Option, None, Some, option_map, unwrap_or, is_some, refl, sym, ap, ap₂, ◌∙◌, subst, arith, add-one}
+use Rattle.std.proofs.Common.{◌≡◌, ℕ, zero, suc, ◌+◌, ◌≤◌, ◌^◌, Bool, true, false, not, ◌&&◌, if◌then◌else◌, List, length, Option, None, Some, option_map, unwrap_or, is_some, refl, sym, ap, ap₂, ◌∙◌, add-one}
 use Rattle.std.specs.Option.{option_or}
 use Rattle.std.proofs.lemmas.Bool.{false≢true}
 use Rattle.std.proofs.lemmas.Option.{none-some}
@@ -7,8 +7,8 @@ use Rattle.ob_serial.specs.Serial.{EpochRecord}
 use Rattle.ob_base.specs.declared.params.Params.{Params}
 use Rattle.ob_order.specs.Works.{goes_on, last_writes}
 use Rattle.ob_desk.specs.declared.part.Part.{Part as CodePart}
-use Rattle.ob_desk.specs.Desk.{Setup, Part, DeskState, Client, Fault, EpochEnd, Committed, UnsureOf, new_part, end_of, end_unasked, close_to, closing, asked_at, settle, stop_part, record_of, MayCall, Close, Publish, Unsure, CloseStep, PublishStep, UnsureStep}
-use Rattle.ob_desk.specs.Parts.{part_of, desk_of, HasRoom, IsKept, KeepsRoom}
+use Rattle.ob_desk.specs.Desk.{Part, DeskState, Client, Fault, EpochEnd, Committed, UnsureOf, new_part, end_of, close_to, closing, asked_at, settle, stop_part, record_of, MayCall, Close, CloseStep, PublishStep, UnsureStep}
+use Rattle.ob_desk.specs.Parts.{part_of, desk_of, IsKept, KeepsRoom}
 
 -- what a flag says of the closed part
 pub none_closed : (b : Bool) (p : Part) → (if b then Some p else None) ≡ None → b ≡ false

@@ -1,5 +1,5 @@
 -- What every step keeps of a part: Gets that still find their versions, true bases, keys in range, one holder a work.
-use Rattle.std.proofs.Common.{◌≡◌, ℕ, zero, suc, ◌+◌, ◌<◌, ◌≤◌, Bool, true, false, cond, not, ◌&&◌, ◌==◌, if◌then◌else◌, nat_lt, List, [], ◌∷◌, ◌++◌, map, length, Option, None, Some, option_map, option_and_then, unwrap_or, slice_get, refl, sym, ap, ap₂, ◌∙◌, subst, inl, inr, ⊎_elim, arith, nat_cmp, length-append, ltb-false, eqb-true}
+use Rattle.std.proofs.Common.{◌≡◌, ℕ, zero, suc, ◌+◌, ◌<◌, ◌≤◌, Bool, true, false, cond, not, ◌&&◌, ◌==◌, if◌then◌else◌, nat_lt, List, [], ◌∷◌, ◌++◌, length, Option, None, Some, option_map, option_and_then, unwrap_or, slice_get, refl, sym, ap, ap₂, ◌∙◌, subst, inl, inr, ⊎_elim, arith, nat_cmp, length-append, ltb-false, eqb-true}
 use Rattle.std.specs.Option.{option_or}
 use Rattle.std.specs.FinMap as finite
 use Rattle.std.specs.FinMap.{get-empty, get-insert}
@@ -9,20 +9,18 @@ use Rattle.std.proofs.lemmas.List.{length-map}
 use Rattle.std.proofs.lemmas.Option.{none-some, same_Some}
 use Rattle.ob_serial.specs.Serial.{Map}
 use Rattle.ob_desk.specs.Desk.{Fault, Why, EpochEnd}
-use Rattle.ob_order.specs.Works.{stop_work, wait_for, edit, Work, is_going, goes_on, version, version_in, newest, source_of, write_of, last_write, mark, with_op, aborted}
+use Rattle.ob_order.specs.Works.{stop_work, wait_for, edit, Work, goes_on, version, version_in, newest, source_of, write_of, mark, with_op, aborted}
 use Rattle.ob_order.specs.Order.{asked, is_asked_for, after_queued, OrderState, fresh, after_begin, answer, found, read_reply, after_answer, again_reply, covered_mark, other_keys, write_reply, write_op, after_write, delivered}
 use Rattle.ob_base.specs.declared.op.Op.{Op}
 use Rattle.ob_base.specs.declared.op.Op.TheVariants.{Get}
 use Rattle.ob_order.specs.declared.answers.Version.{Version}
-use Rattle.ob_order.specs.declared.fate.Fate.{Fate}
-use Rattle.ob_order.specs.declared.fate.Fate.TheVariants.{Going, Ended, Fell}
 use Rattle.ob_base.specs.declared.params.Params.{Params}
 use Rattle.ob_order.specs.declared.answers.Read.{Read}
 use Rattle.ob_order.specs.declared.answers.Read.TheVariants.{Value as Found, Queued, Full as ReadsAreFull}
 use Rattle.ob_order.specs.declared.answers.Wrote.TheVariants.{Yes, Conflict as Conflicts, Full as WritesAreFull}
 use Rattle.ob_desk.specs.Desk.{Holder, Part, new_part, with_order, with_holder, end_of, asked_at, close_to, stop_holder, stop_part}
 use Rattle.ob_order.proofs.Edits.{length-edit, slice_get-push}
-use Rattle.ob_order.proofs.Newest.{Thinned, by_option}
+use Rattle.ob_order.proofs.Newest.{Thinned}
 use Rattle.ob_desk.proofs.Sees.{Reads, answered, reads_got, reads_wrote, reads_begun, reads_none, is_write}
 use Rattle.ob_order.proofs.Newest.{version-with_op}
 use Rattle.ob_order.proofs.Falls.{fallen_waits, fallen_aborted, thinned_from_fallen, length-aborted}

@@ -1,6 +1,5 @@
 -- The room of a part.
-use Rattle.std.proofs.Common.{◌≡◌, ℕ, List, length, map}
-use Rattle.std.proofs.lemmas.List.{length-map}
+use Rattle.std.proofs.Common.{◌≡◌, ℕ, List, length}
 use Rattle.ob_order.specs.Works.{edit}
 use Rattle.ob_order.proofs.Edits.{length-edit}
 

@@ -1,5 +1,5 @@
 -- What each answer comes from: on a transaction that isn't aborted a call is answered just as these functions say.
-use Rattle.std.specs.Prelude.{ℕ, suc, ◌≡◌, ◌⊎◌, true, false}
+use Rattle.std.specs.Prelude.{ℕ, ◌≡◌, ◌⊎◌, true, false}
 use Rattle.std.specs.Option.{option_map, unwrap_or}
 use Rattle.std.specs.declared.option.Option.{Option}
 use Rattle.std.specs.declared.option.Option.TheVariants.{None, Some}

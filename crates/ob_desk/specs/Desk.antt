@@ -8,7 +8,7 @@ use Rattle.std.specs.Ordering.{nat_cmp}
 use Rattle.std.specs.List.Sorted.{IsStrictlyIncreasing}
 use Rattle.std.specs.FinMap as finite
 use Rattle.ob_serial.specs.Serial.{Txn, EpochRecord, Map, after, OneByOne, committed_of}
-use Rattle.ob_order.specs.Works.{Work, is_going, at_ticket, edit, fate_at, waiting_at as waits_in, goes_on, last_writes}
+use Rattle.ob_order.specs.Works.{Work, at_ticket, edit, fate_at, waiting_at as waits_in, goes_on, last_writes}
 use Rattle.ob_desk.specs.Replay.{EachReplays}
 use Rattle.ob_order.specs.Order.{OrderState, new_order, after_begin, answer, read_reply, after_read, again_reply, after_again, write_reply, after_write, after_abort, after_stop, batch_of, after_take, after_deliver, write_op}
 use Rattle.ob_order.specs.declared.fate.Fate.{Fate}

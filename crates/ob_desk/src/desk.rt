@@ -290,6 +290,13 @@ impl Desk {
         Why::Asked
     }
 
+    /// The parameters.
+    pub fn params(&self) -> &Params
+        ensures { result.now ≡ self.now.setup.params }
+    {
+        self.running.order.params()
+    }
+
     /// What the driver of epochs sees of the running one.
     pub fn look(&self) -> Look
         requires { desks.MayCall self.now desks.Looks }

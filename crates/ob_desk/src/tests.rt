@@ -88,7 +88,7 @@ fn sign_off(desk: &mut Desk, client: u32) -> bool {
 fn round(desk: &mut Desk) -> bool {
     let mut keys = [None; 2];
     let values = [None; 2];
-    if !desk.may_take() || desk.places() != 2 {
+    if !desk.may_take() || desk.params().places != 2 {
         return false;
     }
     desk.take_batch(&mut keys);
@@ -97,7 +97,7 @@ fn round(desk: &mut Desk) -> bool {
 }
 
 fn close(desk: &mut Desk, alloc: Global) -> Result<Option<Vec<Write>>, Memory> {
-    let mut out = Vec::with_capacity(alloc, desk.writes() as usize)?;
+    let mut out = Vec::with_capacity(alloc, desk.params().writes as usize)?;
     if !desk.may_close() {
         return Ok(None);
     }

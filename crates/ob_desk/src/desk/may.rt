@@ -174,16 +174,4 @@ impl Desk {
     {
         self.is_closed
     }
-
-    pub fn places(&self) -> u32
-        ensures { result ≡ self.now.setup.params.places }
-    {
-        self.running.order.params().places
-    }
-
-    pub fn writes(&self) -> u32
-        ensures { result ≡ self.now.setup.params.writes }
-    {
-        self.running.order.params().writes
-    }
 }

@@ -1,8 +1,6 @@
 use Rattle.std.proofs.Common.{◌≡◌, ◌≤◌}
 use Rattle.std.specs.List.{count_by, range_with_len}
 use Rattle.ob_order.specs.Works as works
-use Rattle.ob_desk.specs.Desk as desks
-use Rattle.ob_desk.specs.Parts.{part_of}
 use Rattle.ob_desk.proofs.part.count_live.Given as goal
 
 -- the tickets so far are counted

@@ -1,4 +1,4 @@
-use Rattle.std.proofs.Common.{◌≡◌, length}
+use Rattle.std.proofs.Common.{◌≡◌}
 use Rattle.ob_desk.specs.Desk as desks
 use Rattle.ob_desk.specs.Parts.{part_of, KeepsRoom}
 use Rattle.ob_desk.proofs.part.end_unasked.Given as goal

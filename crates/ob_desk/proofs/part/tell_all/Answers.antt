@@ -1,4 +1,4 @@
-use Rattle.std.proofs.Common.{◌≡◌, ℕ, ◌+◌, ◌∷◌, [], ◌++◌, List, map, length, refl, sym, ap, ap₂, subst, ◌∙◌, append_assoc, append-nil, length-append, arith}
+use Rattle.std.proofs.Common.{◌≡◌, ℕ, ◌∷◌, [], ◌++◌, List, map, length, refl, sym, ap, subst, ◌∙◌, append_assoc, append-nil, length-append, arith}
 use Rattle.std.proofs.lemmas.List.{length-map}
 use Rattle.std.specs.Vec.Iter.{into_iter_items}
 use Rattle.ob_serial.specs.declared.records.TxnRecord.{TxnRecord}
