@@ -15,11 +15,11 @@ pub fn desk_is_serial()
 
 /// Where each answer comes from.
 ///
-/// On a transaction that isn't aborted the reply is a function of the order and the call, so each of
-/// Queued, Conflict, ReadsFull, WritesFull and Asked comes exactly where that function says. One that
-/// doesn't go on is told why it was aborted, and nothing happens. And for the epoch's end a close
-/// aborts those alone that haven't asked to commit: none of them outlasts it, and who asked is
-/// aborted because of a source alone.
+/// On a transaction that isn't aborted the reply is a function of the order and the call, so each
+/// of Queued, Conflict, ReadsFull, WritesFull and Asked comes exactly where that function says. One
+/// that doesn't go on is told why it was aborted, and nothing happens. And for the epoch's end a
+/// close aborts those alone that haven't asked to commit: none of them outlasts it, and who asked
+/// is aborted because of a source alone.
 pub fn causes()
     ensures replies { RepliesAreExact }
     ensures aborted { AbortedAreTold }
