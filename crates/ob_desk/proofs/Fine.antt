@@ -1,5 +1,5 @@
 -- What every step keeps of a part: Gets that still find their versions, true bases, keys in range, one holder a work.
-use Rattle.std.proofs.Common.{◌≡◌, ℕ, zero, suc, ◌+◌, ◌<◌, ◌≤◌, Bool, true, false, cond, not, ◌&&◌, ◌==◌, if◌then◌else◌, nat_lt, List, [], ◌∷◌, ◌++◌, map, length, Option, None, Some, option_map, option_and_then, unwrap_or, slice_get, refl, sym, ap, ap₂, ◌∙◌, subst, inl, inr, ⊎_elim, arith, nat_cmp, length-append, ltb-false, eqb-true}
+use Rattle.std.proofs.Common.{◌≡◌, ℕ, zero, suc, ◌+◌, ◌<◌, ◌≤◌, Bool, true, false, cond, not, ◌&&◌, ◌==◌, if◌then◌else◌, nat_lt, List, [], ◌∷◌, ◌++◌, length, Option, None, Some, option_map, option_and_then, unwrap_or, slice_get, refl, sym, ap, ap₂, ◌∙◌, subst, inl, inr, ⊎_elim, arith, nat_cmp, length-append, ltb-false, eqb-true}
 use Rattle.std.specs.Option.{option_or}
 use Rattle.std.specs.FinMap as finite
 use Rattle.std.specs.FinMap.{get-empty, get-insert}
@@ -9,23 +9,22 @@ use Rattle.std.proofs.lemmas.List.{length-map}
 use Rattle.std.proofs.lemmas.Option.{none-some, same_Some}
 use Rattle.ob_serial.specs.Serial.{Map}
 use Rattle.ob_desk.specs.Desk.{Fault, Why, EpochEnd}
-use Rattle.ob_order.specs.Works.{wait_for, edit, Work, is_going, goes_on, version, version_in, newest, source_of, write_of, last_write, mark, with_op, aborted}
+use Rattle.ob_order.specs.Works.{stop_work, wait_for, edit, Work, goes_on, version, version_in, newest, source_of, write_of, mark, with_op, aborted}
 use Rattle.ob_order.specs.Order.{asked, is_asked_for, after_queued, OrderState, fresh, after_begin, answer, found, read_reply, after_answer, again_reply, covered_mark, other_keys, write_reply, write_op, after_write, delivered}
 use Rattle.ob_base.specs.declared.op.Op.{Op}
 use Rattle.ob_base.specs.declared.op.Op.TheVariants.{Get}
 use Rattle.ob_order.specs.declared.answers.Version.{Version}
-use Rattle.ob_order.specs.declared.fate.Fate.{Fate}
-use Rattle.ob_order.specs.declared.fate.Fate.TheVariants.{Going, Ended, Fell}
 use Rattle.ob_base.specs.declared.params.Params.{Params}
 use Rattle.ob_order.specs.declared.answers.Read.{Read}
 use Rattle.ob_order.specs.declared.answers.Read.TheVariants.{Value as Found, Queued, Full as ReadsAreFull}
 use Rattle.ob_order.specs.declared.answers.Wrote.TheVariants.{Yes, Conflict as Conflicts, Full as WritesAreFull}
-use Rattle.ob_desk.specs.Desk.{Holder, Part, new_part, with_order, with_holder, end_of, asked_at, close_to, stop_work, stop_holder, stop_part}
+use Rattle.ob_desk.specs.Desk.{Holder, Part, new_part, with_order, with_holder, end_of, asked_at, close_to, stop_holder, stop_part}
 use Rattle.ob_order.proofs.Edits.{length-edit, slice_get-push}
-use Rattle.ob_order.proofs.Newest.{Thinned, by_option}
+use Rattle.ob_order.proofs.Newest.{Thinned}
 use Rattle.ob_desk.proofs.Sees.{Reads, answered, reads_got, reads_wrote, reads_begun, reads_none, is_write}
 use Rattle.ob_order.proofs.Newest.{version-with_op}
 use Rattle.ob_order.proofs.Falls.{fallen_waits, fallen_aborted, thinned_from_fallen, length-aborted}
+use Rattle.ob_order.proofs.Counts.{stopped_at, none_stopped}
 use Rattle.ob_desk.proofs.Aborts.{reads_waits, reads_aborted}
 
 -- the bases that were delivered are the map's
@@ -189,38 +188,14 @@ fine_close_to m n part (suc u) h = step (goes_on (close_to part u).order.works (
     step true g = fine_end m n (close_to part u) (suc u) EpochEnd g
     step false g = g
 
--- nothing that was stopped goes on
-stopped : (w : Work) → is_going (stop_work w).fate ≡ false
-stopped w = step w.fate
-  where
-    step : (f : Fate) → is_going (if is_going f then Ended else f) ≡ false
-    step Going = refl
-    step Ended = refl
-    step (Fell on) = refl
-
-stopped_at : (ws : List Work) (u : ℕ) (w : Work) → slice_get (map stop_work ws) u ≡ Some w → is_going w.fate ≡ false
-stopped_at [] u w e = absurd (none-some w e)
-stopped_at (v ∷ ws) zero w e = ap (λ x. is_going x.fate) (sym (same_Some _ w e)) ∙ stopped v
-stopped_at (v ∷ ws) (suc u) w e = stopped_at ws u w e
-
 -- what was stopped is fine over any map that its bases are of
 pub fine_stopped : (m last : Map nat_cmp) (n : ℕ) (f : Fault) (part : Part) → Fine m n part → Based last part.order.bases → Fine last n (stop_part f part)
 fine_stopped m last n f part h based = record {
   reads = record { at_each = λ u w there going. absurd (false≢true (sym (stopped_at part.order.works u w there) ∙ going)) };
   based = based;
-  within = record { at_each = λ u k l. none_in u k };
+  within = record { at_each = λ u k l. none_stopped part.order.works u k };
   even = length-map part.holders (stop_holder f) ∙ (h.even ∙ sym (length-map part.order.works stop_work));
 }
-  where
-    by_fate : (b : Bool) (k : ℕ) (ops : List (Op ℕ)) → b ≡ false → (if b then last_write ops k else None) ≡ None
-    by_fate true k ops e = absurd (false≢true (sym e))
-    by_fate false k ops e = refl
-
-    none_in : (u k : ℕ) → version (map stop_work part.order.works) u k ≡ None
-    none_in zero k = refl
-    none_in (suc u) k = by_option (slice_get (map stop_work part.order.works) u)
-        (λ none. ap (option_and_then (λ w. version_in w k)) none)
-        (λ w is. ap (option_and_then (λ w. version_in w k)) is ∙ by_fate (is_going w.fate) k w.ops (stopped_at part.order.works u w is))
 
 -- ---- deliveries
 

@@ -1,8 +1,12 @@
 pub mod Aborts
 pub mod Allowed
+pub mod Answered
+pub mod Counted
+pub mod Ends
 pub mod Fine
 pub mod Maps
 pub mod Published
+pub mod Rooms
 pub mod Runs
 pub mod Sees
-pub mod Mapped
+pub mod Told

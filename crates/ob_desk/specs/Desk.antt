@@ -8,9 +8,9 @@ use Rattle.std.specs.Ordering.{nat_cmp}
 use Rattle.std.specs.List.Sorted.{IsStrictlyIncreasing}
 use Rattle.std.specs.FinMap as finite
 use Rattle.ob_serial.specs.Serial.{Txn, EpochRecord, Map, after, OneByOne, committed_of}
-use Rattle.ob_order.specs.Works.{Work, is_going, at_ticket, edit, fate_at, waiting_at as waits_in, goes_on, last_writes}
+use Rattle.ob_order.specs.Works.{Work, at_ticket, edit, fate_at, waiting_at as waits_in, goes_on, last_writes}
 use Rattle.ob_desk.specs.Replay.{EachReplays}
-use Rattle.ob_order.specs.Order.{OrderState, new_order, after_begin, answer, read_reply, after_read, again_reply, after_again, write_reply, after_write, after_abort, batch_of, after_take, after_deliver, write_op}
+use Rattle.ob_order.specs.Order.{OrderState, new_order, after_begin, answer, read_reply, after_read, again_reply, after_again, write_reply, after_write, after_abort, after_stop, batch_of, after_take, after_deliver, write_op}
 use Rattle.ob_order.specs.declared.fate.Fate.{Fate}
 use Rattle.ob_order.specs.declared.fate.Fate.TheVariants.{Going, Ended, Fell}
 use Rattle.ob_base.specs.declared.params.Params.{Params}
@@ -163,17 +163,13 @@ close_to part (suc n) = end_unasked (close_to part n) (suc n)
 abbrev pub closing : Part → Part
 closing part = close_to part (length part.order.works)
 
--- stopped, if it goes on
-abbrev pub stop_work : Work → Work
-stop_work w = record w { fate = if is_going w.fate then Ended else w.fate }
-
 -- stopped for this fault, if it had no earlier cause
 abbrev pub stop_holder : Fault → Holder → Holder
 stop_holder f h = record h { cause = option_or h.cause (Some (Stopped f)) }
 
 -- all that go on are stopped at once, none because of another
 abbrev pub stop_part : Fault → Part → Part
-stop_part f part = record part { order = record part.order { works = map stop_work part.order.works }; holders = map (stop_holder f) part.holders }
+stop_part f part = record part { order = after_stop part.order; holders = map (stop_holder f) part.holders }
 
 -- the clients with the one of this number changed
 abbrev pub on_client : (Client → Client) → List Client → ℕ → List Client
@@ -463,7 +459,7 @@ MayCall d IsStopped = Unit {0}
 MayCall d TakeBatch = (d.closed ≡ None) × (0 < d.running.order.left) × (d.running.order.flying ≡ [])
 MayCall d (Deliver keys values) = (d.closed ≡ None) × (keys ≡ map Some d.running.order.flying ++ replicate (d.setup.params.places - length d.running.order.flying) None) × (length values ≡ length keys)
 MayCall d Close = (d.closed ≡ None) × (d.running.order.left ≡ 0) × (d.running.order.flying ≡ []) × (d.stop ≡ None)
-MayCall d (Publish epoch left) = (epoch ≡ d.running.epoch) × (left ≡ d.setup.params.batches) × (is_some d.closed ≡ true)
+MayCall d (Publish epoch left) = (epoch ≡ d.running.epoch) × (epoch ≤ 2 ^ 62) × (left ≡ d.setup.params.batches) × (is_some d.closed ≡ true)
 
 -- the map with these writes
 abbrev pub with_writes : Map nat_cmp → List (ℕ × Option (List ℕ)) → Map nat_cmp

@@ -1,3 +1,5 @@
 pub mod Calls
+pub mod Causes
 pub mod Desk
+pub mod Parts
 pub mod Replay

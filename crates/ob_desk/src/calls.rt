@@ -42,7 +42,8 @@ pub enum Done {
 /// What the driver of epochs sees of the running one.
 #[derive(Clone, Copy, Debug, PartialEq, Eq)]
 pub struct Look {
-    /// Transactions that aren't aborted, and asked to commit or have a get that can't be answered yet.
+    /// Transactions that aren't aborted, and asked to commit or have a get that can't be answered
+    /// yet.
     pub waiting: u64,
     /// Transactions that aren't aborted.
     pub live: u64,

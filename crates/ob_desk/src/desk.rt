@@ -1,32 +1,44 @@
-//! The desk, over the order of the running epoch.
+//! The desk, over the running epoch and a closed one.
 
-ghost use Rattle.std.specs.Prelude.{◌≡◌, ℕ, ◌+◌, ◌-◌, ◌<◌, ◌≤◌, length, true, IfOk, OnOk, OnErr, Some, None, [], map};
-ghost use Rattle.std.specs.Option.{option_and_then};
+#[cfg(test)]
+mod may;
+
+ghost use Rattle.std.specs.Prelude.{◌≡◌, ℕ, ◌+◌, ◌-◌, ◌<◌, ◌≤◌, length, true, IfOk, OnOk, OnErr, Some, None, [], map, vec_capacity, is_some};
+ghost use Rattle.std.specs.Option.{option_and_then, option_map, option_or, unwrap_or};
 ghost use Rattle.ob_order.specs.Works as works;
+ghost use Rattle.ob_order.specs.Writes.{pair_of};
+ghost use Rattle.ob_serial.specs.Views.{record_of};
 ghost use Rattle.ob_desk.specs.Desk as desks;
 ghost use Rattle.ob_desk.specs.Calls as calls;
 
-use crate::calls::{Begun, Done, Got, Txn};
-use crate::clients::{Client, Holder};
-use crate::roll::{begin_client, enrol, sign_off};
-use ob_base::{Fault, Key, Memory, Params, Value};
-use ob_order::{Fate, Order, Read, Wrote};
-use ob_serial::{Outcome, Why};
+use crate::calls::{Begun, Done, Got, Look, Txn};
+use crate::clients::Client;
+use crate::part::{
+    Part, ask, count_live, count_waiting, draw, end, end_unasked, new_part, publish, restart, stop,
+    why_in,
+};
+use crate::roll::{begin_client, client_in, count_here, enrol, settle, sign_off};
+use ob_base::{Fault, Key, Memory, Params, Value, Write};
+use ob_order::{Order, Read, Wrote};
+use ob_serial::{EpochRecord, Outcome, Why};
 use std::alloc::Global;
 use std::marker::Model;
+use std::mem;
 
-/// The transactions of the running epoch, with the clients that began them.
+/// The transactions of the running epoch and of a closed one, with the clients that began them.
+/// `other` is the closed epoch where there is one, else what the next epoch will be kept in.
 #[derive(Drop)]
 pub struct Desk {
-    order: Order,
-    epoch: u64,
-    holders: Vec<Holder>,
+    alloc: Global,
+    running: Part,
+    other: Part,
+    is_closed: bool,
     clients: Vec<Client>,
+    stopped: Option<Fault>,
 }
 
 impl Model for Desk {
     ghost use Rattle.std.specs.Coded.{codes};
-    ghost use Rattle.std.specs.Prelude.{None};
     ghost use Rattle.ob_order.specs.OrderModel.{bases_code};
     ghost use Rattle.ob_desk.specs.Desk as desk;
 
@@ -34,83 +46,11 @@ impl Model for Desk {
 
     ghost coded = { Prim.hlevel (codes, bases_code) };
 
-    ghost view = { λ d. record {
-      setup = record { params = d.order.params };
-      clients = d.clients.items;
-      stop = None;
-      running = record { epoch = d.epoch; order = d.order.state; holders = d.holders.items };
-      closed = None;
-    } };
-}
+    ghost use Rattle.ob_desk.specs.Parts.{desk_of, IsKept};
 
-// The client of this number.
-fn client_in(clients: &[Client], number: u32) -> Option<Client>
-    ensures { result ≡ desks.client_in clients.now number }
-{
-    for client in clients {
-        if client.number == number {
-            return Some(*client);
-        }
-    }
-    None
-}
+    ghost view = { λ d. desk_of d.clients.items d.stopped d.running d.is_closed d.other };
 
-fn cause_at(holders: &[Holder], t: u64) -> Option<Why<Key>>
-    ensures { result ≡ desks.cause_at holders.now t }
-{
-    if t == 0 || t > holders.len() as u64 {
-        return None;
-    }
-    holders[(t - 1) as usize].cause
-}
-
-// The cause of an abort, where the ticket is aborted.
-fn why_of(fate: Option<Fate>, cause: Option<Why<Key>>) -> Option<Why<Key>>
-    ensures { result ≡ option_and_then (λ f. desks.why_of f cause) fate }
-{
-    match fate {
-        None => None,
-        Some(Fate::Going) => None,
-        Some(Fate::Ended) => Some(cause.unwrap_or(Why::Asked)),
-        Some(Fate::Fell { on }) => Some(Why::Depends { on }),
-    }
-}
-
-fn why_in(order: &Order, holders: &[Holder], t: u64) -> Option<Why<Key>>
-    ensures { result ≡ desks.why_in order.now.state.works holders.now t }
-{
-    if t == 0 {
-        return None;
-    }
-    why_of(order.fate(t), cause_at(holders, t))
-}
-
-// Notes why the ticket was aborted.
-#[tactic(auto, using(ob_order::proofs::Steps::edit_zero, ob_order::proofs::Steps::edit_outside))]
-fn set_cause(holders: &mut Vec<Holder>, t: u64, why: Why<Key>)
-    ensures { holders.new.items ≡ works.edit (desks.note_cause why) holders.old.items t }
-{
-    if t == 0 {
-        return;
-    }
-    if t > holders.len() as u64 {
-        return;
-    }
-    holders[(t - 1) as usize].cause = Some(why);
-}
-
-// Notes that the ticket asked to commit.
-#[tactic(auto, using(ob_order::proofs::Steps::edit_zero, ob_order::proofs::Steps::edit_outside))]
-fn set_asked(holders: &mut Vec<Holder>, t: u64)
-    ensures { holders.new.items ≡ works.edit desks.note_asked holders.old.items t }
-{
-    if t == 0 {
-        return;
-    }
-    if t > holders.len() as u64 {
-        return;
-    }
-    holders[(t - 1) as usize].asked = true;
+    ghost invariant = { λ d. IsKept d.running d.other d.is_closed d.stopped };
 }
 
 impl Desk {
@@ -130,12 +70,14 @@ impl Desk {
         ensures { IfOk result (λ d. d ≡ desks.new_desk (record { params = params.now }) epoch left clients.now) }
     {
         let order = Order::new(alloc, params, left)?;
-        let clients = enrol(alloc, clients)?;
+        let other = Order::new(alloc, params, left)?;
         Ok(Desk {
-            order,
-            epoch,
-            holders: Vec::new(alloc),
-            clients,
+            alloc,
+            running: new_part(alloc, epoch, order),
+            other: new_part(alloc, epoch, other),
+            is_closed: false,
+            clients: enrol(alloc, clients)?,
+            stopped: None,
         })
     }
 
@@ -148,16 +90,13 @@ impl Desk {
         ensures step { IfOk result (λ r. desks.DeskStep self.old (desks.Begin client) (calls.begun_reply r) self.new) }
         ensures err { OnErr result (self.new ≡ self.old) }
     {
-        self.holders.reserve(1)?;
-        let ticket = self.order.begin()?;
-        let _ = self.holders.push(Holder {
-            client,
-            asked: false,
-            cause: None,
-        });
+        if let Some(fault) = self.stopped {
+            return Ok(Begun::Stopped { fault });
+        }
+        let ticket = draw(&mut self.running, client)?;
         let txn = Txn {
             client,
-            epoch: self.epoch,
+            epoch: self.running.epoch,
             ticket,
         };
         begin_client(&mut self.clients, &txn);
@@ -178,7 +117,7 @@ impl Desk {
         requires places { length out.old ≡ self.old.setup.params.places }
         ensures { desks.DeskStep self.old desks.TakeBatch (desks.Batch out.new) self.new }
     {
-        self.order.take_batch(out);
+        self.running.order.take_batch(out);
     }
 
     /// Delivers the values of the batch in flight.
@@ -186,17 +125,28 @@ impl Desk {
         requires { desks.MayCall self.old (desks.Deliver keys.now values.now) }
         ensures { desks.DeskStep self.old (desks.Deliver keys.now values.now) desks.Done self.new }
     {
-        self.order.deliver(keys, values);
+        self.running.order.deliver(keys, values);
+    }
+
+    // Why the transaction was aborted, where its epoch is running or closed.
+    fn why(&self, txn: &Txn) -> Option<Why<Key>>
+        ensures { result ≡ option_and_then (λ part. desks.why_at part txn.now.ticket) (desks.part_at self.now txn.now.epoch) }
+    {
+        if txn.epoch == self.running.epoch {
+            return why_in(&self.running.order, &self.running.holders, txn.ticket);
+        }
+        if self.is_closed && txn.epoch == self.other.epoch {
+            return why_in(&self.other.order, &self.other.holders, txn.ticket);
+        }
+        None
     }
 
     // How the client's last transaction ended, if it has.
     fn outcome(&self, txn: &Txn) -> Option<Outcome<Key>>
         ensures { result ≡ desks.outcome_at self.now txn.now }
     {
-        if txn.epoch == self.epoch {
-            if let Some(why) = why_in(&self.order, &self.holders, txn.ticket) {
-                return Some(Outcome::Aborted { why });
-            }
+        if let Some(why) = self.why(txn) {
+            return Some(Outcome::Aborted { why });
         }
         match client_in(&self.clients, txn.client) {
             Some(client) => client.outcome,
@@ -219,8 +169,7 @@ impl Desk {
         requires { works.goes_on self.old.running.order.works t ≡ true }
         ensures { self.new ≡ record self.old { running = desks.end_of self.old.running t why } }
     {
-        self.order.abort(t);
-        set_cause(&mut self.holders, t, why);
+        end(&mut self.running, t, why);
     }
 
     /// A get: the value, or the key waits for a batch. Where the batches that are left have no
@@ -236,7 +185,7 @@ impl Desk {
         if let Some(why) = self.why_aborted(txn) {
             return Ok(Got::Aborted { why });
         }
-        match self.order.read(txn.ticket, key)? {
+        match self.running.order.read(txn.ticket, key)? {
             Read::Value { value, .. } => Ok(Got::Value { value }),
             Read::Queued => Ok(Got::Queued),
             Read::Full { queued, left } => {
@@ -256,10 +205,10 @@ impl Desk {
         if let Some(why) = self.why_aborted(txn) {
             return Got::Aborted { why };
         }
-        let Some(key) = self.order.waiting(txn.ticket) else {
+        let Some(key) = self.running.order.waiting(txn.ticket) else {
             return Got::Queued;
         };
-        match self.order.again(txn.ticket, key) {
+        match self.running.order.again(txn.ticket, key) {
             Read::Value { value, .. } => Got::Value { value },
             _ => Got::Queued,
         }
@@ -299,7 +248,7 @@ impl Desk {
         if let Some(why) = self.why_aborted(txn) {
             return Ok(Done::Aborted { why });
         }
-        let why = match self.order.write(txn.ticket, key, value)? {
+        let why = match self.running.order.write(txn.ticket, key, value)? {
             Wrote::Yes => return Ok(Done::Yes),
             Wrote::Conflict { key, reader } => Why::Conflict { key, reader },
             Wrote::Full { keys } => Why::WritesFull { keys },
@@ -317,7 +266,7 @@ impl Desk {
         if let Some(why) = self.why_aborted(txn) {
             return Done::Aborted { why };
         }
-        set_asked(&mut self.holders, txn.ticket);
+        ask(&mut self.running, txn.ticket);
         Done::Yes
     }
 
@@ -339,5 +288,104 @@ impl Desk {
         }
         self.end(txn.ticket, Why::Asked);
         Why::Asked
+    }
+
+    /// The parameters.
+    pub fn params(&self) -> &Params
+        ensures { result.now ≡ self.now.setup.params }
+    {
+        self.running.order.params()
+    }
+
+    /// What the driver of epochs sees of the running one.
+    pub fn look(&self) -> Look
+        requires { desks.MayCall self.now desks.Looks }
+        ensures { desks.DeskStep self.now desks.Looks (desks.Seen result) self.now }
+    {
+        Look {
+            waiting: count_waiting(&self.running),
+            live: count_live(&self.running.order),
+            queued: self.running.order.queued(),
+            left: self.running.order.left(),
+            txns: self.running.order.txns(),
+            clients: count_here(&self.clients),
+        }
+    }
+
+    /// The first fault that the desk was stopped by, or in doubt by, if it was.
+    pub fn stopped(&self) -> Option<Fault>
+        ensures { desks.DeskStep self.now desks.IsStopped (desks.StoppedBy result) self.now }
+    {
+        self.stopped
+    }
+
+    // All that go on are stopped, and the first fault stays.
+    fn halt(&mut self, fault: Fault)
+        ensures { self.new ≡ record self.old { stop = option_or self.old.stop (Some fault); running = desks.stop_part fault self.old.running } }
+    {
+        stop(&mut self.running, fault);
+        self.stopped = self.stopped.or(Some(fault));
+    }
+
+    // The closed epoch is over: those of it that aren't aborted end so.
+    fn give_up(&mut self, otherwise: Outcome<Key>)
+        requires { is_some self.old.stop ≡ true }
+        ensures { self.new ≡ record self.old { closed = None; clients = unwrap_or (option_map (λ c. desks.settle c otherwise self.old.clients) self.old.closed) self.old.clients } }
+    {
+        if self.is_closed {
+            settle(&mut self.clients, &self.other, otherwise);
+            self.is_closed = false;
+        }
+    }
+
+    /// Stops the desk: each transaction that isn't aborted is aborted for this fault, all at once.
+    /// A closed epoch is stopped too, but for want of memory.
+    pub fn stop(&mut self, fault: Fault)
+        ensures { desks.DeskStep self.old (desks.Stop fault) desks.Done self.new }
+    {
+        self.halt(fault);
+        if !matches!(fault, Fault::Memory) {
+            let why = Why::Stopped { fault };
+            self.give_up(Outcome::Aborted { why });
+        }
+    }
+
+    /// It isn't known whether the closed epoch is durable: those of it that aren't aborted are
+    /// unsure, and those of the running one are stopped.
+    pub fn unsure(&mut self, fault: Fault)
+        requires { desks.MayCall self.old (desks.Unsure fault) }
+        ensures { desks.DeskStep self.old (desks.Unsure fault) desks.Done self.new }
+    {
+        self.halt(fault);
+        let epoch = self.other.epoch;
+        self.give_up(Outcome::Unsure { epoch });
+    }
+
+    /// Closes the epoch: those that haven't asked to commit are aborted, and the next epoch runs.
+    /// `out` gets the write batch, which has the last version of each key, in rising keys.
+    pub fn close(&mut self, out: &mut Vec<Write>)
+        requires may { desks.MayCall self.old desks.Close }
+        requires room { self.old.setup.params.writes ≤ vec_capacity out.old }
+        ensures step { desks.DeskStep self.old desks.Close (desks.Writes (map pair_of out.new.items)) self.new }
+        ensures room { vec_capacity out.old ≤ vec_capacity out.new }
+    {
+        end_unasked(&mut self.running);
+        self.running.order.last_writes(out);
+        mem::swap(&mut self.running, &mut self.other);
+        restart(&mut self.running, self.other.epoch + 1);
+        self.is_closed = true;
+    }
+
+    /// The closed epoch is durable: its transactions that aren't aborted are committed. Gives its
+    /// record. The epoch that runs has this number, and had so many batches at its begin.
+    pub fn publish(&mut self, epoch: u64, left: u32) -> EpochRecord<Key>
+        requires { desks.MayCall self.old (desks.Publish epoch left) }
+        ensures { desks.DeskStep self.old (desks.Publish epoch left) (desks.Published (record_of result)) self.new }
+    {
+        let batches = self.running.order.params().batches;
+        prove!(epoch == self.running.epoch && left == batches);
+        settle(&mut self.clients, &self.other, Outcome::Committed);
+        self.is_closed = false;
+        publish(&mut self.other, self.alloc)
     }
 }

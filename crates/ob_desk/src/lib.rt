@@ -1,13 +1,19 @@
 //! The transaction manager: transactions, epochs, and how each transaction ended.
 #![tactic(auto)]
 
+mod beat;
 mod calls;
 mod clients;
 mod desk;
 mod laws;
+mod part;
 mod roll;
 
+pub use beat::{Beat, Eager, Hasty};
 pub use calls::{Begun, Done, Got, Look, Txn};
 pub use clients::{Client, Holder};
 pub use desk::Desk;
-pub use laws::desk_is_serial;
+pub use laws::{causes, desk_is_serial};
+
+#[cfg(test)]
+mod tests;

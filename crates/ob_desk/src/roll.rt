@@ -1,11 +1,15 @@
 //! The list of clients.
 
-ghost use Rattle.std.specs.Prelude.{◌≡◌, ◌==◌, if◌then◌else◌, length, map, IfOk};
+ghost use Rattle.std.specs.Prelude.{◌≡◌, ◌==◌, if◌then◌else◌, not, length, map, IfOk, None};
+ghost use Rattle.std.specs.List.{count_by};
 ghost use Rattle.ob_desk.specs.Desk as desks;
+ghost use Rattle.ob_desk.specs.Parts.{part_of};
 
 use crate::calls::Txn;
 use crate::clients::Client;
-use ob_base::Memory;
+use crate::part::{Part, why_in};
+use ob_base::{Key, Memory};
+use ob_serial::Outcome;
 use std::alloc::Global;
 
 /// Clients that have begun nothing.
@@ -56,5 +60,61 @@ pub fn sign_off(clients: &mut Vec<Client>, number: u32)
 {
     for i in 0..clients.len() {
         sign_off_one(&mut clients[i], number);
+    }
+}
+
+/// The client of this number.
+pub fn client_in(clients: &[Client], number: u32) -> Option<Client>
+    ensures { result ≡ desks.client_in clients.now number }
+{
+    for client in clients {
+        if client.number == number {
+            return Some(*client);
+        }
+    }
+    None
+}
+
+/// How many clients haven't signed off.
+#[tactic(auto, using(crate::proofs::Counted::count_item))]
+pub fn count_here(clients: &[Client]) -> u64
+    ensures { result ≡ count_by (λ c. not c.signed_off) clients.now }
+{
+    let mut count = 0;
+    for client in clients {
+        if !client.signed_off {
+            count += 1;
+        }
+    }
+    count
+}
+
+// How the transaction of a part that ends fared: aborted, or else this.
+fn outcome_in(part: &Part, otherwise: Outcome<Key>, t: u64) -> Outcome<Key>
+    ensures { result ≡ desks.outcome_in (part_of part.now) otherwise t }
+{
+    match why_in(&part.order, &part.holders, t) {
+        Some(why) => Outcome::Aborted { why },
+        None => otherwise,
+    }
+}
+
+fn settle_one(client: &mut Client, part: &Part, otherwise: Outcome<Key>)
+    ensures { client.new ≡ desks.settle_client (part_of part.now) otherwise client.old }
+{
+    if let Some(txn) = client.last {
+        if txn.epoch == part.epoch {
+            client.outcome = Some(outcome_in(part, otherwise, txn.ticket));
+        }
+    }
+}
+
+/// A part ends: each client whose last transaction is of it gets that one's outcome, aborted or
+/// else this.
+pub fn settle(clients: &mut Vec<Client>, part: &Part, otherwise: Outcome<Key>)
+    ensures { clients.new.items ≡ desks.settle (part_of part.now) otherwise clients.old.items }
+{
+    for i in 0..clients.len() {
+        settle_one(&mut clients[i], part, otherwise);
     }
 }

@@ -1,6 +1,9 @@
+pub mod Counts
 pub mod Edits
 pub mod Falls
+pub mod Keeps
 pub mod Links
+pub mod Mapped
 pub mod Newest
 pub mod Steps
 pub mod Tidies

@@ -2,3 +2,4 @@ pub mod Chains
 pub mod Order
 pub mod OrderModel
 pub mod Works
+pub mod Writes

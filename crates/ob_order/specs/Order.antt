@@ -6,7 +6,7 @@ use Rattle.std.specs.declared.option.Option.{Option}
 use Rattle.std.specs.declared.option.Option.TheVariants.{None, Some}
 use Rattle.std.specs.Ordering.{nat_cmp}
 use Rattle.std.specs.FinMap as finite
-use Rattle.ob_order.specs.Works.{Op, Get, Put, Del, Work, Version, Going, edit, wait_for, newest, source_of, mark, with_op, aborted}
+use Rattle.ob_order.specs.Works.{Op, Get, Put, Del, Work, Version, Going, edit, wait_for, stop_work, newest, source_of, mark, with_op, aborted}
 pub use Rattle.ob_base.specs.declared.params.Params.{Params}
 pub use Rattle.ob_order.specs.declared.answers.Read.{Read}
 pub use Rattle.ob_order.specs.declared.answers.Read.TheVariants.{Value as Found, Queued, Full as ReadsAreFull}
@@ -86,9 +86,13 @@ abbrev pub count_below : (ℕ → Bool) → ℕ → ℕ
 count_below p zero = 0
 count_below p (suc n) = count_below p n + (if p n then 1 else 0)
 
--- whether j is another key than k, and has a version of a transaction that isn't aborted
+-- whether a key has a version of a transaction that isn't aborted
+abbrev pub is_written : List Work → ℕ → Bool
+is_written ws j = is_some (newest ws (length ws) j)
+
+-- whether j is another key than k, and has such a version
 abbrev pub is_other_written : List Work → ℕ → ℕ → Bool
-is_other_written ws k j = not (j == k) && is_some (newest ws (length ws) j)
+is_other_written ws k j = not (j == k) && is_written ws j
 
 -- how many keys but k have a version of a transaction that isn't aborted
 abbrev pub other_keys : Params → OrderState → ℕ → ℕ
@@ -114,6 +118,14 @@ after_write o t k v (WritesAreFull keys) = o
 -- after an abort of ticket t
 abbrev pub after_abort : OrderState → ℕ → OrderState
 after_abort o t = record o { works = aborted o.works t }
+
+-- after a stop: all that go on are ended, none because of another
+abbrev pub after_stop : OrderState → OrderState
+after_stop o = record o { works = map stop_work o.works }
+
+-- after the works were handed over
+abbrev pub after_finish : OrderState → OrderState
+after_finish o = record o { works = [] }
 
 -- n places with the first keys, and pads
 abbrev pub places_of : ℕ → List ℕ → List (Option ℕ)

@@ -2,7 +2,8 @@ use Rattle.std.specs.Prelude.{◌+◌, ◌*◌, ◌≤◌, ℕ, List}
 use Rattle.std.proofs.Common.{Option, nat_cmp}
 use Rattle.std.specs.FinMap as finite
 use Rattle.std.specs.Coded.{Coded, coded_ℕ, coded_list, coded_option}
-use Rattle.ob_order.specs.Order.{Params, OrderState}
+use Rattle.ob_order.specs.Works.{Work, Tidy}
+use Rattle.ob_order.specs.Order.{Params, OrderState, count_below, is_written}
 
 -- what callers see of an Order
 pub record OrderModel : Type 0 where
@@ -17,3 +18,8 @@ pub record HasRoom (places batches left flying bases flying_room bases_room : �
   pub flying_fits : places ≤ flying_room
   pub bases_fit : places * batches ≤ bases_room
   pub rest_fits : bases + flying + places * left ≤ bases_room
+
+-- no transaction that goes on has read from one that is gone, and the write batch has a place for each key with a version
+pub record IsKept (p : Params) (ws : List Work) : Type 0 where
+  pub tidy : Tidy ws
+  pub few : count_below (is_written ws) p.keys ≤ p.writes

@@ -124,6 +124,10 @@ with_op ws t o = edit (add_op o) ws t
 abbrev pub end_work : Work → Work
 end_work w = record w { fate = Ended }
 
+-- stopped, if it goes on
+abbrev pub stop_work : Work → Work
+stop_work w = record w { fate = if is_going w.fate then Ended else w.fate }
+
 -- whether ticket s was drawn and is aborted
 abbrev pub is_gone : List Work → ℕ → Bool
 is_gone ws s = unwrap_or (option_map (λ w. not (is_going w.fate)) (at_ticket ws s)) false

@@ -7,7 +7,7 @@ pub mod plain;
 
 pub use answers::{Read, Version, Wrote};
 pub use fate::Fate;
-pub use plain::Order;
+pub use plain::{Order, Work};
 
 #[cfg(test)]
 mod tests;

@@ -5,3 +5,4 @@ mod order;
 mod read_off;
 
 pub use order::Order;
+pub use read_off::Work;

@@ -1,11 +1,15 @@
 //! What goes from the queue into a batch and from a batch into the bases.
 
-ghost use Rattle.std.specs.Prelude.{◌≡◌, ℕ, ◌+◌, ◌-◌, ◌<◌, ◌≤◌, ◌++◌, ◌∷◌, length, map, take, drop, replicate, Some, None, [], vec_len, vec_capacity};
+ghost use Rattle.std.specs.Prelude.{◌≡◌, ℕ, ◌+◌, ◌-◌, ◌<◌, ◌≤◌, ◌++◌, ◌∷◌, length, map, take, drop, replicate, if◌then◌else◌, is_some, true, Some, None, [], vec_len, vec_capacity};
+ghost use Rattle.std.specs.Option.{option_map};
+ghost use Rattle.std.specs.List.{cons_option};
 ghost use Rattle.std.specs.FinMap as finite;
 ghost use Rattle.std.specs.Ordering.{nat_cmp};
 ghost use Rattle.ob_order.specs.Order as rules;
+ghost use Rattle.ob_order.specs.Writes.{pair_of};
 
-use ob_base::{Key, Value};
+use crate::answers::Version;
+use ob_base::{Key, Value, Write};
 
 /// Fills the places of a batch with the first keys, and pads.
 #[tactic(auto, using(crate::proofs::Batches::places_more))]
@@ -55,5 +59,19 @@ pub fn add_bases(bases: &mut Vec<(Key, Option<Value>)>, keys: &[Key], values: &[
     let _told: Option<Value> = None;
     for i in 0..keys.len() {
         add_base(bases, keys[i], values[i]);
+    }
+}
+
+/// Appends the key's write, where it has a version.
+pub fn push_write(out: &mut Vec<Write>, key: Key, version: Option<Version>)
+    requires { is_some version ≡ true → vec_len out.old < vec_capacity out.old }
+    ensures writes { map pair_of out.new.items ≡ map pair_of out.old.items ++ cons_option (option_map (λ v. (key, v.value)) version) [] }
+    ensures len { vec_len out.new ≡ vec_len out.old + (if is_some version then 1 else 0) }
+    ensures room { vec_capacity out.old ≤ vec_capacity out.new }
+{
+    let _told: Option<Value> = None;
+    if let Some(version) = version {
+        let value = version.value;
+        let _ = out.push(Write { key, value });
     }
 }

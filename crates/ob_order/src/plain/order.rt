@@ -1,19 +1,21 @@
 //! One epoch, kept plainly: the list of what each ticket did.
 
-ghost use Rattle.std.specs.Prelude.{◌≡◌, ℕ, ◌+◌, ◌-◌, ◌*◌, ◌==◌, ◌<◌, ◌≤◌, length, true, IfOk, OnOk, OnErr, is_some, Some, None, []};
+ghost use Rattle.std.specs.Prelude.{◌≡◌, ℕ, ◌+◌, ◌-◌, ◌*◌, ◌==◌, ◌<◌, ◌≤◌, length, map, true, IfOk, OnOk, OnErr, is_some, Some, None, [], vec_capacity};
 ghost use Rattle.std.specs.Option.{option_and_then};
 ghost use Rattle.ob_order.specs.Works as works;
 ghost use Rattle.ob_order.specs.Order as rules;
+ghost use Rattle.ob_order.specs.Writes.{pair_of};
 
 use crate::answers::{Read, Version, Wrote};
 use crate::fate::Fate;
-use crate::plain::batches::{add_bases, fill, move_front};
+use crate::plain::batches::{add_bases, fill, move_front, push_write};
 use crate::plain::read_off::{
-    Work, abort_in, add_awaited, add_to, base_of, has_key, make_wait, mark, newest,
+    Work, abort_in, add_awaited, add_to, base_of, has_key, make_wait, mark, newest, stop_all,
 };
-use ob_base::{Key, Memory, Op, Params, Value};
+use ob_base::{Key, Memory, Op, Params, Value, Write};
 use std::alloc::Global;
 use std::marker::Model;
+use std::mem;
 
 /// One epoch without its clients. Tickets count from 1.
 #[derive(Drop)]
@@ -30,9 +32,8 @@ pub struct Order {
 impl Model for Order {
     ghost use Rattle.std.specs.FinMap as finite;
     ghost use Rattle.std.specs.Coded.{codes};
-    ghost use Rattle.ob_order.specs.OrderModel.{OrderModel, HasRoom, bases_code};
+    ghost use Rattle.ob_order.specs.OrderModel.{OrderModel, HasRoom, IsKept, bases_code};
     ghost use Rattle.std.specs.Prelude.{length, vec_len, vec_capacity};
-    ghost use Rattle.ob_order.specs.Works as told;
 
     ghost Value = { OrderModel };
 
@@ -43,7 +44,7 @@ impl Model for Order {
       state = record { left = o.left; works = o.works.items; queue = o.queue.items; flying = o.flying.items; bases = finite.from_entries o.bases.items };
     } };
 
-    ghost invariant = { λ o. told.Tidy o.works.items × HasRoom o.params.places o.params.batches o.left (length o.flying.items) (vec_len o.bases) (vec_capacity o.flying) (vec_capacity o.bases) };
+    ghost invariant = { λ o. IsKept o.params o.works.items × HasRoom o.params.places o.params.batches o.left (length o.flying.items) (vec_len o.bases) (vec_capacity o.flying) (vec_capacity o.bases) };
 }
 
 // The operation that sets the key to this.
@@ -61,6 +62,7 @@ impl Order {
     ///
     /// # Errors
     /// Memory was wanting.
+    #[tactic(auto, using(crate::proofs::Keeps::kept_none))]
     pub fn new(alloc: Global, params: &Params, left: u32) -> Result<Order, Memory>
         requires { left ≤ params.now.batches }
         ensures params { IfOk result (λ o. o.params ≡ params.now) }
@@ -81,6 +83,7 @@ impl Order {
     }
 
     /// The next epoch begins, with so many batches left to take: all is as after `new`.
+    #[tactic(auto, using(crate::proofs::Keeps::kept_none))]
     pub fn clear(&mut self, left: u32)
         requires { left ≤ self.old.params.batches }
         ensures { self.new ≡ record self.old { state = rules.new_order left } }
@@ -269,10 +272,17 @@ impl Order {
         mark(&self.works, key, source)
     }
 
+    // The newest version of the key.
+    fn last_version(&self, key: Key) -> Option<Version>
+        ensures { result ≡ works.newest self.now.state.works (length self.now.state.works) key }
+    {
+        newest(&self.works, self.works.len(), key)
+    }
+
     fn is_other_written(&self, key: Key, at: Key) -> bool
         ensures { result ≡ rules.is_other_written self.now.state.works key at }
     {
-        at != key && newest(&self.works, self.works.len(), at).is_some()
+        at != key && self.last_version(at).is_some()
     }
 
     // How many keys but this one have a version of a transaction that isn't aborted.
@@ -325,6 +335,34 @@ impl Order {
         abort_in(&mut self.works, t as usize);
     }
 
+    /// Aborts all that aren't aborted, at once and none because of another.
+    pub fn stop(&mut self)
+        ensures { self.new ≡ record self.old { state = rules.after_stop self.old.state } }
+    {
+        stop_all(&mut self.works);
+    }
+
+    /// The newest version of each key that has one, in rising keys.
+    pub fn last_writes(&self, out: &mut Vec<Write>)
+        requires room { self.now.params.writes ≤ vec_capacity out.old }
+        ensures writes { map pair_of out.new.items ≡ works.last_writes self.now.params.keys self.now.state.works }
+        ensures room { vec_capacity out.old ≤ vec_capacity out.new }
+    {
+        out.clear();
+        for key in 0..self.params.keys {
+            push_write(out, key, self.last_version(key));
+        }
+    }
+
+    /// Hands over what the transactions did, by ticket. None are left.
+    #[tactic(auto, using(crate::proofs::Keeps::kept_none))]
+    pub fn finish(&mut self) -> Vec<Work>
+        ensures works { result.items ≡ self.old.state.works }
+        ensures state { self.new ≡ record self.old { state = rules.after_finish self.old.state } }
+    {
+        mem::replace(&mut self.works, Vec::new(self.alloc))
+    }
+
     /// How the ticket stands: none where it wasn't drawn.
     pub fn fate(&self, t: u64) -> Option<Fate>
         requires { 0 < t }
@@ -363,6 +401,13 @@ impl Order {
         ensures { result.now ≡ self.now.params }
     {
         &self.params
+    }
+
+    /// How many transactions have begun.
+    pub fn txns(&self) -> u64
+        ensures { result ≡ length self.now.state.works }
+    {
+        self.works.len() as u64
     }
 
     /// How many keys are in flight.

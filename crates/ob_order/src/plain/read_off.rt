@@ -1,6 +1,6 @@
 //! What is read off the works, by plain loops over them.
 
-ghost use Rattle.std.specs.Prelude.{◌≡◌, ℕ, ◌+◌, ◌-◌, ◌^◌, ◌<◌, ◌≤◌, length, get_or, set, Option, Some, None, OnOk, OnErr, ◌==◌, true, is_some};
+ghost use Rattle.std.specs.Prelude.{◌≡◌, ℕ, ◌+◌, ◌-◌, ◌^◌, ◌<◌, ◌≤◌, length, map, get_or, set, Option, Some, None, OnOk, OnErr, ◌==◌, true, is_some};
 ghost use Rattle.ob_order.specs.Works as works;
 ghost use Rattle.ob_order.specs.Order.{fresh};
 ghost use Rattle.std.specs.FinMap as finite;
@@ -171,6 +171,13 @@ pub fn least_gone(list: &[Work], ops: &[Op<Key>]) -> Option<u64>
 }
 
 impl Work {
+    /// Its operations as they were answered, in order.
+    pub fn into_ops(self) -> Vec<Op<Key>>
+        ensures { result.items ≡ self.ops }
+    {
+        self.ops
+    }
+
     /// A transaction that begins.
     pub fn new(alloc: Global) -> Work
         ensures { result ≡ fresh }
@@ -293,6 +300,24 @@ pub fn abort_in(list: &mut Vec<Work>, t: usize)
     ensures { list.new.items ≡ works.aborted list.old.items t }
 {
     abort(list, t);
+}
+
+// Stops one work, if it goes on.
+fn stop(work: &mut Work)
+    ensures { work.new ≡ works.stop_work work.old }
+{
+    if let Fate::Going = work.fate {
+        work.fate = Fate::Ended;
+    }
+}
+
+/// Stops each that goes on.
+pub fn stop_all(list: &mut Vec<Work>)
+    ensures { list.new.items ≡ map works.stop_work list.old.items }
+{
+    for i in 0..list.len() {
+        stop(&mut list[i]);
+    }
 }
 
 /// Whether the key is one of these.

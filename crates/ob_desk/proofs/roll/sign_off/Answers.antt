@@ -1,6 +1,6 @@
 use Rattle.std.proofs.Common.{◌==◌, if◌then◌else◌, set, ap, ◌∙◌, arith}
 use Rattle.ob_desk.specs.Desk as desks
-use Rattle.ob_desk.proofs.Mapped.{mapped_more}
+use Rattle.ob_order.proofs.Mapped.{mapped_more}
 use Rattle.ob_desk.proofs.roll.sign_off.Goals as goal
 
 pub loop-i-preserved : goal.loop-i-preserved

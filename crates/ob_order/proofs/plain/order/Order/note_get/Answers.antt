@@ -1,10 +1,9 @@
 use Rattle.std.proofs.Common.{◌≡◌, Some, sym, subst}
 use Rattle.std.specs.FinMap as finite
-use Rattle.ob_order.specs.Works as works
 use Rattle.ob_order.specs.Works.{Version}
 use Rattle.ob_order.specs.Order as rules
-use Rattle.ob_order.specs.OrderModel.{OrderModel}
-use Rattle.ob_order.proofs.Tidies.{tidy_got}
+use Rattle.ob_order.specs.OrderModel.{OrderModel, IsKept}
+use Rattle.ob_order.proofs.Keeps.{kept_got}
 use Rattle.ob_order.proofs.plain.order.Order.note_get.Goals as goal
 
 pub invariant_of-self-2 : goal.invariant_of-self-2
@@ -13,4 +12,4 @@ invariant_of-self-2 c =
     let o : rules.OrderState = record { left = a.left; works = a.works.items; queue = a.queue.items; flying = a.flying.items; bases = finite.from_entries a.bases.items } in
     let made : Version = c.args.version.now in
     let found : rules.answer o c.args.t c.args.key ≡ Some made = subst (λ (m : OrderModel). rules.answer m.state c.args.t c.args.key ≡ Some made) (sym c.self.view_is) c.requires.answered in
-    (subst works.Tidy (sym c.in_ok-add_to.ensures.ok) (tidy_got o c.args.t c.args.key made c.self.invariant.0 found), c.self.invariant.1)
+    (subst (IsKept a.params) (sym c.in_ok-add_to.ensures.ok) (kept_got a.params o c.args.t c.args.key made c.self.invariant.0 found), c.self.invariant.1)

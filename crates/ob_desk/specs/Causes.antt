@@ -1,0 +1,64 @@
+-- What each answer comes from: on a transaction that isn't aborted a call is answered just as these functions say.
+use Rattle.std.specs.Prelude.{ℕ, ◌≡◌, ◌⊎◌, true, false}
+use Rattle.std.specs.Option.{option_map, unwrap_or}
+use Rattle.std.specs.declared.option.Option.{Option}
+use Rattle.std.specs.declared.option.Option.TheVariants.{None, Some}
+use Rattle.ob_order.specs.Works.{goes_on}
+use Rattle.ob_order.specs.Order.{read_reply, again_reply, write_reply}
+use Rattle.ob_order.specs.declared.answers.Read.{Read}
+use Rattle.ob_order.specs.declared.answers.Read.TheVariants.{Value as Found, Queued, Full as ReadsAreFull}
+use Rattle.ob_order.specs.declared.answers.Wrote.{Wrote}
+use Rattle.ob_order.specs.declared.answers.Wrote.TheVariants.{Yes, Conflict as Conflicts, Full as WritesAreFull}
+use Rattle.ob_desk.specs.Desk.{DeskState, Part, TxnId, Call, GetKey, Poll, Write, Commit, Abort, Reply, Value, Waits, Aborted, Done, Conflict, ReadsFull, WritesFull, Depends, EpochEnd, Asked, Why, AbortedBy, DeskStep, outcome_at, aborted_why, waiting_at, asked_at, why_at, closing}
+
+-- a get's reply: a value, or the key waits, or no batch has a place for it
+abbrev pub read_as : Read → Reply
+read_as (Found value source) = Value value
+read_as Queued = Waits
+read_as (ReadsAreFull queued left) = Aborted (ReadsFull queued left)
+
+-- a put's or delete's: done, or a later reader is in conflict, or the write batch has no place for it
+abbrev pub written_as : Wrote → Reply
+written_as Yes = Done
+written_as (Conflicts key reader) = Aborted (Conflict key reader)
+written_as (WritesAreFull keys) = Aborted (WritesFull keys)
+
+-- the transaction that a call is on
+abbrev pub txn_of : Call → Option TxnId
+txn_of (GetKey x k) = Some x
+txn_of (Poll x) = Some x
+txn_of (Write x k value) = Some x
+txn_of (Commit x) = Some x
+txn_of (Abort x) = Some x
+txn_of _ = None
+
+-- the reply to a call on a transaction that isn't aborted
+abbrev pub reply_to : DeskState → Call → Reply
+reply_to d (GetKey x k) = read_as (read_reply d.setup.params d.running.order x.ticket k)
+reply_to d (Poll x) = unwrap_or (option_map (λ k. read_as (again_reply d.running.order x.ticket k)) (waiting_at d.running x.ticket)) Waits
+reply_to d (Write x k value) = written_as (write_reply d.setup.params d.running.order x.ticket k)
+reply_to d (Commit x) = Done
+reply_to d (Abort x) = Aborted Asked
+reply_to d _ = Done
+
+-- Conflict, ReadsFull, WritesFull, Asked and Queued come exactly where the function says
+abbrev pub RepliesAreExact : Type 0
+RepliesAreExact = (d : DeskState) (call : Call) (x : TxnId) (reply : Reply) (new : DeskState) → txn_of call ≡ Some x → aborted_why (outcome_at d x) ≡ None → DeskStep d call reply new → reply ≡ reply_to d call
+
+-- one that doesn't go on is answered why it was aborted, and nothing happens
+abbrev pub AbortedAreTold : Type 0
+AbortedAreTold = (d : DeskState) (call : Call) (x : TxnId) (reply : Reply) (new : DeskState) → txn_of call ≡ Some x → goes_on d.running.order.works x.ticket ≡ false → DeskStep d call reply new
+    → (why : Why ℕ) × (reply ≡ Aborted why) × (outcome_at d x ≡ Some (AbortedBy why)) × (new ≡ d)
+
+-- at a close only those end for the epoch's end that haven't asked to commit
+abbrev pub EndsUnasked : Type 0
+EndsUnasked = (part : Part) (t : ℕ) → goes_on part.order.works t ≡ true → why_at (closing part) t ≡ Some EpochEnd → asked_at part t ≡ false
+
+-- who hasn't asked doesn't outlast the close
+abbrev pub UnaskedEnd : Type 0
+UnaskedEnd = (part : Part) (t : ℕ) → goes_on part.order.works t ≡ true → asked_at part t ≡ false → goes_on (closing part).order.works t ≡ false
+
+-- who asked is aborted by a close because of a source alone
+abbrev pub AskedStay : Type 0
+AskedStay = (part : Part) (t : ℕ) → goes_on part.order.works t ≡ true → asked_at part t ≡ true
+    → (why_at (closing part) t ≡ None) ⊎ ((on : ℕ) × (why_at (closing part) t ≡ Some (Depends on)))
