@@ -1,0 +1,14 @@
+pub mod Batches
+pub mod Counts
+pub mod Fills
+pub mod Lifts
+pub mod Lows
+pub mod Members
+pub mod NewLaws
+pub mod Paths
+pub mod Ranges
+pub mod Refills
+pub mod Rows
+pub mod Sounds
+pub mod TableLaws
+pub mod Visits

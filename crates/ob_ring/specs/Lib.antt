@@ -1,0 +1,4 @@
+pub mod FlatTable
+pub mod Laws
+pub mod News
+pub mod Sound
