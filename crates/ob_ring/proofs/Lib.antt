@@ -1,3 +1,4 @@
+pub mod Appends
 pub mod Batches
 pub mod Counts
 pub mod Fills
@@ -5,10 +6,14 @@ pub mod Lifts
 pub mod Lows
 pub mod Members
 pub mod NewLaws
+pub mod PathLaws
 pub mod Paths
+pub mod PlanLaws
+pub mod Pushes
 pub mod Ranges
 pub mod Refills
 pub mod Rows
 pub mod Sounds
 pub mod TableLaws
+pub mod TableOf
 pub mod Visits

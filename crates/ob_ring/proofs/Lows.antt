@@ -17,7 +17,7 @@ use Rattle.ob_ring.proofs.Fills.{leaf-placed}
 
 -- ---- buckets of the tree
 
-one_of-map-range : (f : ℕ → ℕ) (a n k : ℕ) → is_one_of (map f (range_with_len a n)) k ≡ true → (i : ℕ) × (i < a + n) × (f i ≡ k)
+pub one_of-map-range : (f : ℕ → ℕ) (a n k : ℕ) → is_one_of (map f (range_with_len a n)) k ≡ true → (i : ℕ) × (i < a + n) × (f i ≡ k)
 one_of-map-range f a zero k e = absurd (false≢true e)
 one_of-map-range f a (suc n) k e = elim (or_cases (f a == k) (is_one_of (map f (range_with_len (a + 1) n)) k) e) [
   | inl at ↦ (a, omega arith, eqb-true (f a) k at)
