@@ -13,7 +13,7 @@ use Rattle.ob_ring.specs.FlatTable.{FlatTable, In, spot_of, asked_row, fetch, le
 use Rattle.ob_schedule.specs.Holes.{Hole, lift_holes, place_holes, passes_before, batch_holes, firsts, final_holes}
 use Rattle.ob_ring.specs.Sound.{Placed, IsSound}
 use Rattle.ob_ring.proofs.Sounds.{sound_fetch, vacant_fetch, sound_lift}
-use Rattle.ob_ring.proofs.Lifts.{length-lift_order}
+use Rattle.ob_ring.proofs.LiftOrder.{length-lift_order}
 use Rattle.ob_ring.specs.Sound.{hole_of, IsCounted}
 use Rattle.ob_ring.proofs.Visits.{VisitsLaw, visits_law, counted_like, map-append, holes-numbered}
 use Rattle.ob_ring.proofs.Paths.{distinct_path}

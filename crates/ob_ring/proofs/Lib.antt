@@ -1,8 +1,11 @@
 pub mod Appends
 pub mod Batches
 pub mod Counts
+pub mod FetchLaws
 pub mod Fills
-pub mod Lifts
+pub mod LiftLaws
+pub mod LiftOrder
+pub mod Listing
 pub mod Lows
 pub mod Members
 pub mod NewLaws
@@ -12,6 +15,8 @@ pub mod PlanLaws
 pub mod Pushes
 pub mod Ranges
 pub mod Refills
+pub mod RingLaws
+pub mod Rooms
 pub mod Rows
 pub mod Sounds
 pub mod TableLaws

@@ -11,7 +11,7 @@ use Rattle.ob_ring.specs.News.{Seen, with_shown, with_all, AreNew, Marks}
 use Rattle.ob_ring.proofs.Members.{IsDistinct}
 use Rattle.ob_ring.specs.Sound.{IsSound}
 use Rattle.ob_ring.proofs.Sounds.{sound_mark, sound_fetch, vacant_fetch, sound_lift}
-use Rattle.ob_ring.proofs.Lifts.{distinct-lift_order, unread_lift_order}
+use Rattle.ob_ring.proofs.LiftOrder.{distinct-lift_order, unread_lift_order}
 use Rattle.ob_ring.specs.Sound.{IsCounted}
 use Rattle.ob_ring.proofs.Visits.{IsVacant, IsNew, index_shown_new, reads_mark_same, reads_mark_other, VisitLaw, visit_law, bump}
 use Rattle.ob_ring.proofs.Batches.{own_is_free, PlaceLaw, place_law, passed}

@@ -14,7 +14,7 @@ use Rattle.std.proofs.lemmas.List.Sums.{length-filter}
 use Rattle.ob_bucket.proofs.Counting.{count_by-range_more}
 use Rattle.ob_ring.proofs.Ranges.{count_by-range_agree, list_any_at}
 use Rattle.ob_ring.proofs.Members.{off_unless, one_of-filter_from}
-use Rattle.ob_ring.proofs.Lifts.{is_at-is, length-lift_order, unread_lift_order}
+use Rattle.ob_ring.proofs.LiftOrder.{is_at-is, length-lift_order, unread_lift_order}
 use Rattle.ob_ring.proofs.Batches.{BatchLaw, batch_law, FinalLaw, final_law}
 use Rattle.ob_ring.proofs.NewLaws.{batch_new, final_new}
 use Rattle.ob_ring.proofs.Refills.{FillsLaw, refill_law, sound_writes, writes_keep, in_range}

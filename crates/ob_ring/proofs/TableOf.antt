@@ -13,7 +13,7 @@ use Rattle.ob_ring.specs.Arrays.{Arrays, IsTableOf, leaf_in}
 use Rattle.ob_ring.specs.Picked.{holder, shown_index, shown_of}
 use Rattle.ob_ring.proofs.Members.{off_unless}
 use Rattle.ob_ring.proofs.Sounds.{out_of-In, spot-leave}
-use Rattle.ob_ring.proofs.Lifts.{is_at-is}
+use Rattle.ob_ring.proofs.LiftOrder.{is_at-is}
 use Rattle.ob_ring.proofs.Ranges.{list_any_at}
 
 -- arrays that agree stand for the same table

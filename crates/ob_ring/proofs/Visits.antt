@@ -12,7 +12,7 @@ use Rattle.ob_ring.proofs.Ranges.{count_by-range_mark, count_by-range_agree, dum
 use Rattle.ob_ring.proofs.Members.{IsDistinct}
 use Rattle.ob_ring.specs.Sound.{IsSound}
 use Rattle.ob_ring.proofs.Sounds.{sound_mark, sound_lift, out_of-In, spot-leave}
-use Rattle.ob_ring.proofs.Lifts.{length-lift_order}
+use Rattle.ob_ring.proofs.LiftOrder.{length-lift_order}
 pub use Rattle.ob_ring.specs.Sound.{IsCounted, hole_of}
 
 abbrev pub bump : ℕ → (ℕ → ℕ) → ℕ → ℕ

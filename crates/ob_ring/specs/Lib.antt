@@ -1,8 +1,10 @@
 pub mod Arrays
+pub mod Fetching
 pub mod FlatTable
 pub mod Laws
 pub mod News
 pub mod Order
 pub mod Paths
 pub mod Picked
+pub mod Ring
 pub mod Sound
