@@ -45,7 +45,7 @@ leaf_else (Some r) x e = absurd (cc)
 
 kept_spot : (p : Params) (s : Buckets) (rest : Rest) (t : FlatTable) (k : ℕ) (o : Option Entry) (found : Option Found) → IsSound p t → IsTableOf p (arrays_of s rest) t → rest.leaf_at k ≡ leaf_of_entry o → IsKeptFound p s k o found → spot_of (t.rows k) ≡ spot_at found
 kept_spot p s rest t k None found sound is e none = leaf_none (t.rows k) (is.leaves_are k ∙ e) ∙ sym (ap spot_at none)
-kept_spot p s rest t k (Some o) found sound is e f = spot_is p (arrays_of s rest) s rest t k o.leaf found sound is (leaf_some (t.rows k) o.leaf 0 (is.leaves_are k ∙ e)) f
+kept_spot p s rest t k (Some o) found sound is e f = spot_is p s (λ u. is_lifted s u) rest t k o.leaf found sound is (leaf_some (t.rows k) o.leaf 0 (is.leaves_are k ∙ e)) f
 
 pub fetched_spot : (p : Params) (s : Buckets) (book : List (Option Entry)) (c : ℕ) (t : FlatTable) (ask : Option ℕ) (found : Option Found) → IsSound p t → IsTableOf p (arrays_of s (rest_of book c)) t → IsAskFound p s book ask found → spot_of (asked_row t ask) ≡ spot_at found
 fetched_spot p s book c t None found sound is none = sym (ap spot_at none)

@@ -2,6 +2,7 @@ pub mod Appends
 pub mod Batches
 pub mod Counts
 pub mod FetchLaws
+pub mod FillParts
 pub mod Fills
 pub mod LiftLaws
 pub mod LiftOrder
@@ -19,6 +20,8 @@ pub mod RingLaws
 pub mod Rooms
 pub mod Rows
 pub mod Sounds
+pub mod Stashes
 pub mod TableLaws
 pub mod TableOf
 pub mod Visits
+pub mod WriteLaws

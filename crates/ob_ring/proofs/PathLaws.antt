@@ -17,6 +17,7 @@ use Rattle.ob_ring.specs.FlatTable.{FlatTable, Row, Spot, InStash, In, spot_of, 
 use Rattle.ob_ring.specs.Sound.{IsSound, Placed}
 use Rattle.ob_ring.specs.Arrays.{Arrays, IsTableOf, AreWhole, Rest, arrays_of}
 use Rattle.ob_ring.specs.Picked.{Picked, Plans, Grows, SameSeals, visit_picked, visits_picked, spot_at}
+use Rattle.ob_ring.specs.Filling.{arrays_in}
 use Rattle.ob_ring.specs.Paths.{IsFound, IsTakenOut}
 use Rattle.ob_ring.proofs.Appends.{append_more, append_none}
 use Rattle.ob_ring.proofs.Lows.{one_of-map-range}
@@ -71,9 +72,9 @@ none_live v key j e on = elim (cases_lt j (length v.keys)) [
 ]
 
 -- the key of a row is found at the row's spot
-pub spot_is : (p : Params) (a : Arrays) (s : Buckets) (r : Rest) (t : FlatTable) (key leaf : ℕ) (found : Option Found) → IsSound p t → IsTableOf p (arrays_of s r) t → leaf_of (t.rows key) 0 ≡ leaf → IsFound p s key leaf found → spot_of (t.rows key) ≡ spot_at found
-spot_is p a s r t key leaf (Some f) sound is e found = (is.spots_are key f.bucket f.index).1 found.2
-spot_is p a s r t key leaf None sound is e found = spot_case (spot_of (t.rows key)) refl
+pub spot_is : (p : Params) (s : Buckets) (lifted : ℕ → Bool) (r : Rest) (t : FlatTable) (key leaf : ℕ) (found : Option Found) → IsSound p t → IsTableOf p (arrays_in s lifted r) t → leaf_of (t.rows key) 0 ≡ leaf → IsFound p s key leaf found → spot_of (t.rows key) ≡ spot_at found
+spot_is p s lifted r t key leaf (Some f) sound is e found = (is.spots_are key f.bucket f.index).1 found.2
+spot_is p s lifted r t key leaf None sound is e found = spot_case (spot_of (t.rows key)) refl
   where
     spot_case : (o : Spot) → spot_of (t.rows key) ≡ o → spot_of (t.rows key) ≡ InStash
     spot_case InStash same = same

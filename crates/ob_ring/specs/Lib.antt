@@ -1,5 +1,6 @@
 pub mod Arrays
 pub mod Fetching
+pub mod Filling
 pub mod FlatTable
 pub mod Laws
 pub mod News
@@ -7,4 +8,6 @@ pub mod Order
 pub mod Paths
 pub mod Picked
 pub mod Ring
+pub mod Settling
 pub mod Sound
+pub mod Writing

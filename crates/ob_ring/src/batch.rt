@@ -79,7 +79,7 @@ pub(crate) fn plan_place(
 }
 
 // The entry that a present key keeps of the i-th place.
-fn own_entry(p: &Params, words: &[u64], first: (u64, u64), i: usize) -> Entry
+pub(crate) fn own_entry(p: &Params, words: &[u64], first: (u64, u64), i: usize) -> Entry
     requires { i < length words.now }
     ensures entry { result ≡ own_entry p.now words.now first i }
     ensures low { result.leaf < 2 ^ p.now.levels }

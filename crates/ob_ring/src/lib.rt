@@ -8,7 +8,10 @@ mod lifts;
 mod order;
 mod path;
 mod reads;
+mod refill;
 mod ring;
+mod settle;
+mod writes;
 
 pub use laws::{lifts_take_all, shown_once, steps_keep_order};
 pub use ring::Ring;

@@ -11,7 +11,7 @@ use ob_base::{Jobs, Key, Params, bucket_of};
 use ob_bucket::Metas;
 
 // Where a key lies on the path of its leaf: none exactly where no bucket of the path holds it.
-fn find_key(p: &Params, metas: &Metas, key: Key, leaf: u32) -> Option<Found>
+pub(crate) fn find_key(p: &Params, metas: &Metas, key: Key, leaf: u32) -> Option<Found>
     requires whole { AreWhole p.now metas.now }
     requires leaf { leaf < 2 ^ p.now.levels }
     ensures { IsFound p.now metas.now key leaf result }

@@ -1,17 +1,21 @@
-ghost use Rattle.std.specs.Prelude.{◌≡◌, ℕ, ◌+◌, ◌%◌, ◌^◌, ◌<◌, ◌≤◌, [], length, IfSome, IfOk, None, slice_index_or, filter, replicate};
+ghost use Rattle.std.specs.Prelude.{◌≡◌, ℕ, ◌+◌, ◌%◌, ◌^◌, ◌<◌, ◌≤◌, [], length, IfSome, IfOk, MatchResult, None, Some, slice_index_or, filter, replicate};
 ghost use Rattle.std.specs.FinMap as finite;
-ghost use Rattle.ob_base.specs.Planned.{most_jobs};
+ghost use Rattle.ob_base.specs.Planned.{most_jobs, job_at};
 ghost use Rattle.ob_bucket.specs.Buckets.{is_lifted, new_buckets};
 ghost use Rattle.ob_schedule.specs.Paths.{by_falling_level};
-ghost use Rattle.ob_ring.specs.FlatTable.{FlatTable};
+ghost use Rattle.ob_ring.specs.FlatTable.{FlatTable, Writes as WritesStep, after};
 ghost use Rattle.ob_ring.specs.Picked.{SameSeals};
 ghost use Rattle.ob_ring.specs.Fetching.{places_of, after_labels};
 ghost use Rattle.ob_ring.specs.Ring.{IsRing, StandsFor, IsBatch, IsLifting, empty_table};
+ghost use Rattle.ob_ring.specs.Settling.{first_fault, rows_after};
+ghost use Rattle.ob_ring.specs.Writing.{write_at, writes_of, leaf_writes, entries_after, values_after};
 ghost use Rattle.ob_tables.specs.Kept.{entry_at};
 
 use crate::batch::plan_places;
 use crate::lifts::{lift_paths, list_lifted};
-use ob_base::{Jobs, Key, Memory, Params};
+use crate::settle::settle_jobs;
+use crate::writes::write_all;
+use ob_base::{Damaged, Jobs, Key, Memory, Params, Write};
 use ob_bucket::Metas;
 use ob_tables::{Book, Stash, Tables};
 use std::alloc::Global;
@@ -107,6 +111,43 @@ impl Ring {
         lift_paths(&self.params, &mut self.tables.metas, self.tables.counter, jobs);
         self.tables.counter = next_counter(&self.params, self.tables.counter);
         list_lifted(&self.params, &mut self.tables.metas);
+    }
+
+    /// Puts what the jobs of the last plan read into the stash.
+    ///
+    /// # Errors
+    /// The first slot that should hold a key's row and holds another key or a length above 64.
+    pub fn settle(&mut self, jobs: &Jobs) -> Result<(), Damaged>
+        requires keys { (i : ℕ) → IfSome (job_at jobs.now.jobs i).key (λ k. k < self.old.p.keys) }
+        ensures kept { self.new ≡ record self.old { stash = self.new.stash } }
+        ensures room { self.new.stash.room ≡ self.old.stash.room }
+        ensures settled { MatchResult result (λ _. (first_fault jobs.now.jobs ≡ None) × (self.new.stash.rows ≡ rows_after self.old.stash.rows jobs.now.jobs)) (λ d. first_fault jobs.now.jobs ≡ Some d) }
+    {
+        settle_jobs(&self.params, &mut self.tables.stash, jobs.jobs())
+    }
+
+    /// Makes an epoch's writes, after the final lifts: the i-th takes the i-th word, whose id is
+    /// that number after `first`. A put sets the key's row in the stash, a del forgets the key.
+    pub fn apply_writes(&mut self, writes: &[Write], words: &[u64], first: (u64, u64))
+        requires keys { (i : ℕ) → i < length writes.now → (write_at writes.now i).key < self.old.p.keys }
+        requires words { length writes.now ≤ length words.now }
+        ensures kept { self.new ≡ record self.old { book = self.new.book; metas = self.new.metas; stash = self.new.stash } }
+        ensures room { self.new.stash.room ≡ self.old.stash.room }
+        ensures entries { (k : ℕ) → entry_at self.new.book k ≡ entries_after (λ i. entry_at self.old.book i) (writes_of self.old.p writes.now words.now first (length writes.now)) k }
+        ensures values { self.new.stash.rows ≡ values_after self.old.stash.rows (writes_of self.old.p writes.now words.now first (length writes.now)) }
+        ensures seals { SameSeals self.old.metas self.new.metas }
+        ensures lifted { self.new.metas.lifted ≡ self.old.metas.lifted }
+        ensures applied { (t : FlatTable) → StandsFor self.old t → StandsFor self.new (after self.old.p t (WritesStep (leaf_writes (writes_of self.old.p writes.now words.now first (length writes.now))))) }
+    {
+        write_all(
+            &self.params,
+            &mut self.tables.book,
+            &mut self.tables.metas,
+            &mut self.tables.stash,
+            writes,
+            words,
+            first,
+        );
     }
 
     /// After the final lifts: the lifted buckets, in the order in which they are filled. After they
