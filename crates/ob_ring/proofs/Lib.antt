@@ -2,6 +2,8 @@ pub mod Appends
 pub mod Batches
 pub mod Counts
 pub mod FetchLaws
+pub mod FillAll
+pub mod FillLaws
 pub mod FillParts
 pub mod Fills
 pub mod LiftLaws

@@ -15,3 +15,6 @@ mod writes;
 
 pub use laws::{lifts_take_all, shown_once, steps_keep_order};
 pub use ring::Ring;
+
+#[cfg(test)]
+mod tests;

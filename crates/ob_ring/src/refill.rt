@@ -1,11 +1,13 @@
-ghost use Rattle.std.specs.Prelude.{◌≡◌, ℕ, ◌<◌, ◌≤◌, ◌+◌, ◌^◌, ◌++◌, ◌∷◌, [], Bool, List, length, take};
-ghost use Rattle.ob_base.specs.Tree.{passes};
-ghost use Rattle.ob_ring.specs.FlatTable.{FlatTable, in_stash, can_go, chosen, stash_size};
+ghost use Rattle.std.specs.Prelude.{◌≡◌, ℕ, ◌<◌, ◌≤◌, ◌+◌, ◌*◌, ◌^◌, ◌==◌, ◌&&◌, not, true, ◌++◌, ◌∷◌, [], Bool, List, length, take, filter};
+ghost use Rattle.ob_base.specs.Tree.{buckets, passes, width};
+ghost use Rattle.ob_ring.specs.FlatTable.{FlatTable, in_stash, can_go, chosen, fill, stash_size};
+ghost use Rattle.ob_bucket.specs.Buckets.{is_lifted};
+ghost use Rattle.ob_schedule.specs.Paths.{by_falling_level};
 ghost use Rattle.ob_ring.specs.Sound.{IsSound};
 ghost use Rattle.ob_ring.specs.Order.{Holds};
 ghost use Rattle.ob_ring.specs.Arrays.{IsTableOf, AreWhole, rest_of};
 ghost use Rattle.ob_ring.specs.Fetching.{IsBook};
-ghost use Rattle.ob_ring.specs.Filling.{arrays_in, is_nowhere};
+ghost use Rattle.ob_ring.specs.Filling.{arrays_in, is_nowhere, FillsOne, FillsTo};
 
 use crate::found::Found;
 use crate::path::find_key;
@@ -97,7 +99,7 @@ fn choose(p: &Params, book: &Book, metas: &Metas, bucket: u32, out: &mut [Key]) 
 }
 
 // How many present keys lie in no bucket.
-fn count_out(p: &Params, book: &Book, metas: &Metas) -> u32
+pub(crate) fn count_out(p: &Params, book: &Book, metas: &Metas) -> u32
     requires book { IsBook p.now book.now }
     requires whole { AreWhole p.now metas.now }
     ensures { (lifted : ℕ → Bool) (counter : ℕ) (t : FlatTable) → IsSound p.now t → IsTableOf p.now (arrays_in metas.now lifted (rest_of book.now counter)) t → result ≡ stash_size p.now t }
@@ -109,4 +111,52 @@ fn count_out(p: &Params, book: &Book, metas: &Metas) -> u32
         }
     }
     many
+}
+
+// Fills a bucket anew, in its other place of the store.
+fn fill_one(
+    p: &Params,
+    book: &Book,
+    metas: &mut Metas,
+    bucket: u32,
+    words: &[u64],
+    generation: u64,
+    base: u64,
+)
+    requires book { IsBook p.now book.now }
+    requires whole { AreWhole p.now metas.old }
+    requires bucket { bucket < buckets p.now }
+    requires words { length words.now ≡ width p.now }
+    ensures fills { FillsOne p.now metas.old metas.new bucket words.now generation base }
+    ensures follows { (lifted : ℕ → Bool) (counter : ℕ) (t : FlatTable) → IsSound p.now t → t.lifted bucket ≡ true → IsTableOf p.now (arrays_in metas.old lifted (rest_of book.now counter)) t → IsTableOf p.now (arrays_in metas.new (λ w. not (w == bucket) && lifted w) (rest_of book.now counter)) (fill p.now t bucket) }
+{
+    let mut keys = [0; 16];
+    let n = choose(p, book, metas, bucket, &mut keys);
+    let home = 1 - metas.get(bucket).home();
+    metas
+        .get_mut(bucket)
+        .fill(home, generation, base, &keys[..n], words);
+}
+
+/// Fills the listed buckets, one after another.
+pub(crate) fn fill_all(
+    p: &Params,
+    book: &Book,
+    metas: &mut Metas,
+    words: &[u64],
+    first: (u64, u64),
+)
+    requires book { IsBook p.now book.now }
+    requires whole { AreWhole p.now metas.old }
+    requires listed { metas.old.order ≡ filter (λ u. is_lifted metas.old u) (by_falling_level (p.now.levels + 1)) }
+    requires words { length words.now ≡ length metas.old.order * width p.now }
+    ensures fills { FillsTo p.now book.now metas.old metas.new words.now first (length metas.old.order) }
+{
+    let width = (p.real + p.dummies) as usize;
+    for i in 0..metas.order().len() {
+        let bucket = metas.order()[i];
+        let from = i * width;
+        let base = first.1.wrapping_add(from as u64);
+        fill_one(p, book, metas, bucket, &words[from..from + width], first.0, base);
+    }
 }

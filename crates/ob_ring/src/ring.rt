@@ -1,21 +1,24 @@
-ghost use Rattle.std.specs.Prelude.{◌≡◌, ℕ, ◌+◌, ◌%◌, ◌^◌, ◌<◌, ◌≤◌, [], length, IfSome, IfOk, MatchResult, None, Some, slice_index_or, filter, replicate};
+ghost use Rattle.std.specs.Prelude.{◌≡◌, ℕ, ◌+◌, ◌*◌, ◌%◌, ◌^◌, ◌<◌, ◌≤◌, [], length, IfSome, IfOk, MatchResult, None, Some, slice_index_or, filter, replicate};
 ghost use Rattle.std.specs.FinMap as finite;
 ghost use Rattle.ob_base.specs.Planned.{most_jobs, job_at};
 ghost use Rattle.ob_bucket.specs.Buckets.{is_lifted, new_buckets};
 ghost use Rattle.ob_schedule.specs.Paths.{by_falling_level};
-ghost use Rattle.ob_ring.specs.FlatTable.{FlatTable, Writes as WritesStep, after};
+ghost use Rattle.ob_ring.specs.FlatTable.{FlatTable, Refill, Writes as WritesStep, after, stash_size};
 ghost use Rattle.ob_ring.specs.Picked.{SameSeals};
 ghost use Rattle.ob_ring.specs.Fetching.{places_of, after_labels};
 ghost use Rattle.ob_ring.specs.Ring.{IsRing, StandsFor, IsBatch, IsLifting, empty_table};
+ghost use Rattle.ob_base.specs.Tree.{width};
+ghost use Rattle.ob_ring.specs.Filling.{AreSealedAnew};
 ghost use Rattle.ob_ring.specs.Settling.{first_fault, rows_after};
 ghost use Rattle.ob_ring.specs.Writing.{write_at, writes_of, leaf_writes, entries_after, values_after};
 ghost use Rattle.ob_tables.specs.Kept.{entry_at};
 
 use crate::batch::plan_places;
 use crate::lifts::{lift_paths, list_lifted};
+use crate::refill::{count_out, fill_all};
 use crate::settle::settle_jobs;
 use crate::writes::write_all;
-use ob_base::{Damaged, Jobs, Key, Memory, Params, Write};
+use ob_base::{Damaged, Jobs, Key, Memory, Params, StashFull, Write};
 use ob_bucket::Metas;
 use ob_tables::{Book, Stash, Tables};
 use std::alloc::Global;
@@ -62,6 +65,27 @@ impl Ring {
                 counter: 0,
             },
         })
+    }
+
+    /// The ring of these tables, which obey the rules of an epoch's end.
+    pub fn of_tables(p: &Params, tables: Tables<Metas>) -> Ring
+        requires { IsRing (record { p = p.now; book = tables.book; metas = tables.metas; stash = tables.stash; counter = tables.counter }) }
+        ensures { result ≡ record { p = p.now; book = tables.book; metas = tables.metas; stash = tables.stash; counter = tables.counter } }
+    {
+        Ring {
+            params: *p,
+            tables,
+        }
+    }
+
+    /// The tables.
+    pub fn tables(&self) -> &Tables<Metas>
+        ensures book { result.now.book ≡ self.now.book }
+        ensures metas { result.now.metas ≡ self.now.metas }
+        ensures stash { result.now.stash ≡ self.now.stash }
+        ensures counter { result.now.counter ≡ self.now.counter }
+    {
+        &self.tables
     }
 
     /// Plans a read batch: for each place what it asks for, or none for a pad, and its word; `first`
@@ -148,6 +172,37 @@ impl Ring {
             words,
             first,
         );
+    }
+
+    /// Fills the listed buckets anew: each takes the first keys of the stash, in rising order, whose
+    /// paths go through it, as many as it has real indexes. Each bucket takes as many words as it
+    /// has slots; its slots are sealed with the numbers from `first` on, those of the buckets before
+    /// it first. The rows' values stay at hand until `forget_written`.
+    ///
+    /// # Errors
+    /// More rows are left than the stash may keep. Then the ring serves no more.
+    pub fn refill(&mut self, words: &[u64], first: (u64, u64)) -> Result<(), StashFull>
+        requires listed { self.old.metas.order ≡ filter (λ u. is_lifted self.old.metas u) (by_falling_level (self.old.p.levels + 1)) }
+        requires words { length words.now ≡ length self.old.metas.order * width self.old.p }
+        ensures kept { self.new ≡ record self.old { metas = self.new.metas } }
+        ensures order { self.new.metas.order ≡ self.old.metas.order }
+        ensures anew { AreSealedAnew self.old.p self.old.metas self.new.metas words.now first (length self.old.metas.order) }
+        ensures refilled { (t : FlatTable) → StandsFor self.old t → StandsFor self.new (after self.old.p t Refill) }
+        ensures rows { (t : FlatTable) → StandsFor self.old t → MatchResult result (λ _. stash_size self.old.p (after self.old.p t Refill) ≤ self.old.p.room) (λ full. (full.rows ≡ stash_size self.old.p (after self.old.p t Refill)) × (self.old.p.room < full.rows)) }
+    {
+        fill_all(
+            &self.params,
+            &self.tables.book,
+            &mut self.tables.metas,
+            words,
+            first,
+        );
+        self.tables.metas.clear_lifted();
+        let rows = count_out(&self.params, &self.tables.book, &self.tables.metas);
+        if rows > self.params.room {
+            return Err(StashFull { rows: rows as u64 });
+        }
+        Ok(())
     }
 
     /// After the final lifts: the lifted buckets, in the order in which they are filled. After they
