@@ -6,6 +6,7 @@ pub mod FillAll
 pub mod FillLaws
 pub mod FillParts
 pub mod Fills
+pub mod Forgetting
 pub mod LiftLaws
 pub mod LiftOrder
 pub mod Listing

@@ -7,6 +7,7 @@ pub mod News
 pub mod Order
 pub mod Paths
 pub mod Picked
+pub mod Plain
 pub mod Ring
 pub mod Settling
 pub mod Sound

@@ -7,6 +7,7 @@ mod laws;
 mod lifts;
 mod order;
 mod path;
+mod plain;
 mod reads;
 mod refill;
 mod ring;

@@ -1,20 +1,22 @@
-ghost use Rattle.std.specs.Prelude.{◌≡◌, ℕ, ◌+◌, ◌*◌, ◌%◌, ◌^◌, ◌<◌, ◌≤◌, [], length, IfSome, IfOk, MatchResult, None, Some, slice_index_or, filter, replicate};
+ghost use Rattle.std.specs.Prelude.{◌≡◌, ℕ, ◌+◌, ◌*◌, ◌%◌, ◌^◌, ◌<◌, ◌≤◌, [], length, IfSome, IfOk, MatchResult, None, Some, slice_index, slice_index_or, filter, replicate};
 ghost use Rattle.std.specs.FinMap as finite;
 ghost use Rattle.ob_base.specs.Planned.{most_jobs, job_at};
-ghost use Rattle.ob_bucket.specs.Buckets.{is_lifted, new_buckets};
+ghost use Rattle.ob_bucket.specs.Buckets.{is_lifted, new_buckets, version_at};
 ghost use Rattle.ob_schedule.specs.Paths.{by_falling_level};
 ghost use Rattle.ob_ring.specs.FlatTable.{FlatTable, Refill, Writes as WritesStep, after, stash_size};
 ghost use Rattle.ob_ring.specs.Picked.{SameSeals};
 ghost use Rattle.ob_ring.specs.Fetching.{places_of, after_labels};
 ghost use Rattle.ob_ring.specs.Ring.{IsRing, StandsFor, IsBatch, IsLifting, empty_table};
-ghost use Rattle.ob_base.specs.Tree.{width};
+ghost use Rattle.ob_base.specs.Tree.{buckets, width};
 ghost use Rattle.ob_ring.specs.Filling.{AreSealedAnew};
+ghost use Rattle.ob_ring.specs.Plain.{key_of_index, index_with, plain_for, without_buckets};
 ghost use Rattle.ob_ring.specs.Settling.{first_fault, rows_after};
 ghost use Rattle.ob_ring.specs.Writing.{write_at, writes_of, leaf_writes, entries_after, values_after};
 ghost use Rattle.ob_tables.specs.Kept.{entry_at};
 
 use crate::batch::plan_places;
 use crate::lifts::{lift_paths, list_lifted};
+use crate::plain::{forget_buckets, key_in, plain_for};
 use crate::refill::{count_out, fill_all};
 use crate::settle::settle_jobs;
 use crate::writes::write_all;
@@ -211,6 +213,27 @@ impl Ring {
         ensures { result.now ≡ self.now.metas.order }
     {
         self.tables.metas.order()
+    }
+
+    /// The plain bytes of a slot of a bucket that was filled: key, length and value of the row that
+    /// lies there, as far as the stash still has it.
+    pub fn plain_of(&self, bucket: u32, slot: u8) -> [u8; 96]
+        requires bucket { bucket < buckets self.now.p }
+        ensures { result ≡ plain_for self.now.stash.rows (key_of_index (version_at self.now.metas.versions bucket) (index_with (version_at self.now.metas.versions bucket) slot)) }
+    {
+        let key = key_in(self.tables.metas.get(bucket), slot);
+        plain_for(&self.tables.stash, key)
+    }
+
+    /// After the filled buckets were written: their rows leave the stash, which then holds the rows
+    /// that lie in no bucket.
+    pub fn forget_written(&mut self)
+        requires within { (i : ℕ) → i < length self.old.metas.order → slice_index self.old.metas.order i < buckets self.old.p }
+        ensures kept { self.new ≡ record self.old { stash = self.new.stash } }
+        ensures room { self.new.stash.room ≡ self.old.stash.room }
+        ensures rows { self.new.stash.rows ≡ without_buckets self.old.stash.rows self.old.metas.versions self.old.metas.order }
+    {
+        forget_buckets(&self.params, &self.tables.metas, &mut self.tables.stash);
     }
 }
 

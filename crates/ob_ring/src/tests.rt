@@ -41,5 +41,5 @@ fn pads_show_dummies_and_lift(rt: HostRuntime) {
     assert!(rt; reads(&p, &jobs, &[(0, 4), (0, 0), (0, 1), (1, 4), (1, 0), (1, 1), (3, 4), (3, 0), (3, 1)]));
     ring.plan_lifts(&mut jobs);
     assert!(rt; reads(&p, &jobs, &[(2, 0), (2, 1), (5, 0), (5, 1)]));
-    assert!(rt; ring.to_refill() == [3, 5, 1, 2, 0]);
+    assert!(rt; ring.to_refill() == [3, 5, 1, 2, 0].as_slice());
 }
