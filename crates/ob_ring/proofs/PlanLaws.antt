@@ -265,9 +265,9 @@ pub visit_shows : (p : Params) (s new : Buckets) (before now : Planned) (ask own
 visit_shows p s new before now ask own spot u many whole hu down at counted more plans =
     plans_like p s new before now (λ t. show_picked p t ask own u) (λ t. visit_picked p t ask spot u) (λ t. mark t u (shown_index p t own u)) (λ t. visit p t spot u) plans
     (λ r t is. (let open' : t.lifted u ≡ false = is.lifted_is u ∙ down in
-        let n : reads p t u ≡ many = reads_are p (arrays_of s r) t u (version_at s.versions u) is (has_version s r u) (whole.slots u hu) ∙ sym counted in
-        let mid : (reads p t u + 1 == p.dummies) ≡ false = ne_eqb (reads p t u + 1) p.dummies (λ e. more (omega arith)) in
-        (rw (open', mid) (λ i. show_picked p t ask (at i) u), rw (open', mid) (λ i. mark t u (shown_index p t (at i) u)))))
+    let n : reads p t u ≡ many = reads_are p (arrays_of s r) t u (version_at s.versions u) is (has_version s r u) (whole.slots u hu) ∙ sym counted in
+    let mid : (reads p t u + 1 == p.dummies) ≡ false = ne_eqb (reads p t u + 1) p.dummies (λ e. more (omega arith)) in
+    (rw (open', mid) (λ i. show_picked p t ask (at i) u), rw (open', mid) (λ i. mark t u (shown_index p t (at i) u)))))
 
 pub visit_lifts : (p : Params) (s mid new : Buckets) (before middle now : Planned) (ask own : Option ℕ) (spot : Spot) (u : ℕ) (many : ℕ) → AreWhole p s → u < buckets p → is_lifted s u ≡ false → own ≡ index_in u spot → many ≡ count_by (used_at (version_at s.versions u)) (range_with_len 0 (length (version_at s.versions u).used)) → (many + 1 ≡ p.dummies) →
     Plans p s mid before middle (λ t. show_picked p t ask own u) (λ t. mark t u (shown_index p t own u)) → Plans p mid new middle now (λ t. lift_picked p t u) (λ t. lift t u) → Plans p s new before now (λ t. visit_picked p t ask spot u) (λ t. visit p t spot u)
@@ -275,9 +275,9 @@ visit_lifts p s mid new before middle now ask own spot u many whole hu down at c
     plans_like p s new before now (λ t. show_picked p t ask own u ++ lift_picked p (mark t u (shown_index p t own u)) u) (λ t. visit_picked p t ask spot u) (λ t. lift (mark t u (shown_index p t own u)) u) (λ t. visit p t spot u)
     (plans_then p s mid new before middle now (λ t. show_picked p t ask own u) (λ t. lift_picked p t u) (λ t. mark t u (shown_index p t own u)) (λ t. lift t u) shows lifts)
     (λ r t is. (let open' : t.lifted u ≡ false = is.lifted_is u ∙ down in
-        let n : reads p t u ≡ many = reads_are p (arrays_of s r) t u (version_at s.versions u) is (has_version s r u) (whole.slots u hu) ∙ sym counted in
-        let end' : (reads p t u + 1 == p.dummies) ≡ true = eq-eqb (reads p t u + 1) p.dummies (omega arith) in
-        (rw (open', end') (λ i. show_picked p t ask (at i) u ++ lift_picked p (mark t u (shown_index p t (at i) u)) u), rw (open', end') (λ i. lift (mark t u (shown_index p t (at i) u)) u))))
+    let n : reads p t u ≡ many = reads_are p (arrays_of s r) t u (version_at s.versions u) is (has_version s r u) (whole.slots u hu) ∙ sym counted in
+    let end' : (reads p t u + 1 == p.dummies) ≡ true = eq-eqb (reads p t u + 1) p.dummies (omega arith) in
+    (rw (open', end') (λ i. show_picked p t ask (at i) u ++ lift_picked p (mark t u (shown_index p t (at i) u)) u), rw (open', end') (λ i. lift (mark t u (shown_index p t (at i) u)) u))))
 
 pub one_counted : (xs : List Bool) (j many next : ℕ) (b : Bool) → many ≡ count_by (λ i. slice_index_or xs i false) (range_with_len 0 j) → slice_index_or xs j false ≡ b → next ≡ many + cond b 1 0 → next ≡ count_by (λ i. slice_index_or xs i false) (range_with_len 0 (j + 1))
 one_counted xs j many next b before is e = e ∙ (λ i. before i + cond (sym is i) 1 0) ∙ sym (count_by-range_more (λ i. slice_index_or xs i false) j)

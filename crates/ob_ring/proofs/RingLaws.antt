@@ -131,3 +131,6 @@ module _ (r : Kept) (p : Params) (book : List (Option Entry)) (metas mid cleared
   refill_counts many counts t s =
       let done : StandsFor (record { p = p; book = book; metas = cleared; stash = stash; counter = counter }) (after p t Refill) = stands t (subst (λ (o : Kept). StandsFor o t) (sym view) s) in
       subst (λ (o : Kept). many ≡ stash_size o.p (after o.p t Refill)) view (counts (λ u. is_lifted cleared u) counter (after p t Refill) (done.orderly).sound done.arrays)
+
+pub listed_still : (p : Params) (old new : Buckets) → new.order ≡ old.order → new.lifted ≡ old.lifted → old.order ≡ filter (λ u. is_lifted old u) (by_falling_level (p.levels + 1)) → new.order ≡ filter (λ u. is_lifted new u) (by_falling_level (p.levels + 1))
+listed_still p old new order lifted e = order ∙ e ∙ (λ i. filter (λ u. slice_index_or (sym lifted i) u false) (by_falling_level (p.levels + 1)))

@@ -1,15 +1,16 @@
 -- What a ring keeps, and the flat table that it stands for.
-use Rattle.std.specs.Prelude.{◌≡◌, ◌≢◌, ℕ, ◌+◌, ◌*◌, ◌%◌, ◌^◌, ◌<◌, ◌≤◌, List, [], ◌∷◌, ◌++◌, map, replicate, Option, false}
+use Rattle.std.specs.Prelude.{◌≡◌, ◌≢◌, ℕ, ◌+◌, ◌*◌, ◌%◌, ◌^◌, ◌<◌, ◌≤◌, List, [], ◌∷◌, ◌++◌, map, filter, length, replicate, Option, false, slice_index}
 use Rattle.std.specs.declared.option.Option.TheVariants.{None, Some}
 use Rattle.std.specs.FinMap as finite
 use Rattle.ob_base.specs.declared.params.Params.{Params}
+use Rattle.ob_base.specs.Tree.{buckets}
 use Rattle.ob_base.specs.Planned.{Planned}
-use Rattle.ob_bucket.specs.Buckets.{Buckets, new_buckets}
+use Rattle.ob_bucket.specs.Buckets.{Buckets, new_buckets, is_lifted}
 use Rattle.ob_tables.specs.declared.entry.Entry.{Entry}
 use Rattle.ob_tables.specs.Kept.{Held}
 use Rattle.ob_ring.specs.FlatTable.{FlatTable, Batch, FinalLifts, after}
 use Rattle.ob_ring.specs.Laws.{IsOrderly}
-use Rattle.ob_schedule.specs.Paths.{eviction_path}
+use Rattle.ob_schedule.specs.Paths.{eviction_path, by_falling_level}
 use Rattle.ob_ring.specs.Arrays.{IsTableOf, AreWhole, arrays_of, rest_of}
 use Rattle.ob_ring.specs.Picked.{job_of, batch_picked, final_picked, places_from}
 use Rattle.ob_ring.specs.Fetching.{IsBook, leaf_places}
@@ -50,3 +51,11 @@ pub record IsBatch (old new : Kept) (now : Planned) (asked : List (Option ℕ ×
 pub record IsLifting (old new : Kept) (now : Planned) (t : FlatTable) : Type 0 where
   pub table : StandsFor new (after old.p t FinalLifts)
   pub jobs : now.jobs ≡ map (job_of old.p (old.metas).versions) (final_picked old.p t (eviction_path old.p t.counter))
+
+-- the list has the lifted buckets, by falling level, then rising number
+abbrev pub IsListed : Kept → Type 0
+IsListed r = (r.metas).order ≡ filter (λ u. is_lifted r.metas u) (by_falling_level ((r.p).levels + 1))
+
+-- each bucket of the list is one of the tree
+abbrev pub AreListedWithin : Kept → Type 0
+AreListedWithin r = (i : ℕ) → i < length (r.metas).order → slice_index (r.metas).order i < buckets r.p

@@ -126,7 +126,14 @@ fn key_shown(own: Option<u8>, ask: Option<Key>) -> Option<Key>
 }
 
 // Plans one read of a bucket, and marks its index.
-fn show(p: &Params, metas: &mut Metas, bucket: u32, own: Option<u8>, ask: Option<Key>, jobs: &mut Jobs)
+fn show(
+    p: &Params,
+    metas: &mut Metas,
+    bucket: u32,
+    own: Option<u8>,
+    ask: Option<Key>,
+    jobs: &mut Jobs,
+)
     requires whole { AreWhole p.now metas.old }
     requires bucket { bucket < buckets p.now }
     requires own { IfSome own (λ j. j < p.now.real) }
@@ -141,7 +148,14 @@ fn show(p: &Params, metas: &mut Metas, bucket: u32, own: Option<u8>, ask: Option
 
 // A place's path goes through a bucket: it shows one index, unless it is lifted, and the last read
 // of its version lifts it.
-pub(crate) fn visit(p: &Params, metas: &mut Metas, bucket: u32, found: Option<Found>, ask: Option<Key>, jobs: &mut Jobs)
+pub(crate) fn visit(
+    p: &Params,
+    metas: &mut Metas,
+    bucket: u32,
+    found: Option<Found>,
+    ask: Option<Key>,
+    jobs: &mut Jobs,
+)
     requires whole { AreWhole p.now metas.old }
     requires bucket { bucket < buckets p.now }
     requires found { IfSome found (λ s. s.index < p.now.real) }

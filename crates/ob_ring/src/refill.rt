@@ -139,13 +139,7 @@ fn fill_one(
 }
 
 /// Fills the listed buckets, one after another.
-pub(crate) fn fill_all(
-    p: &Params,
-    book: &Book,
-    metas: &mut Metas,
-    words: &[u64],
-    first: (u64, u64),
-)
+pub(crate) fn fill_all(p: &Params, book: &Book, metas: &mut Metas, words: &[u64], first: (u64, u64))
     requires book { IsBook p.now book.now }
     requires whole { AreWhole p.now metas.old }
     requires listed { metas.old.order ≡ filter (λ u. is_lifted metas.old u) (by_falling_level (p.now.levels + 1)) }
@@ -157,6 +151,14 @@ pub(crate) fn fill_all(
         let bucket = metas.order()[i];
         let from = i * width;
         let base = first.1.wrapping_add(from as u64);
-        fill_one(p, book, metas, bucket, &words[from..from + width], first.0, base);
+        fill_one(
+            p,
+            book,
+            metas,
+            bucket,
+            &words[from..from + width],
+            first.0,
+            base,
+        );
     }
 }

@@ -6,7 +6,7 @@ ghost use Rattle.ob_schedule.specs.Paths.{by_falling_level};
 ghost use Rattle.ob_ring.specs.FlatTable.{FlatTable, Refill, Writes as WritesStep, after, stash_size};
 ghost use Rattle.ob_ring.specs.Picked.{SameSeals};
 ghost use Rattle.ob_ring.specs.Fetching.{places_of, after_labels};
-ghost use Rattle.ob_ring.specs.Ring.{IsRing, StandsFor, IsBatch, IsLifting, empty_table};
+ghost use Rattle.ob_ring.specs.Ring.{IsRing, StandsFor, IsBatch, IsLifting, IsListed, AreListedWithin, empty_table};
 ghost use Rattle.ob_base.specs.Tree.{buckets, width};
 ghost use Rattle.ob_ring.specs.Filling.{AreSealedAnew};
 ghost use Rattle.ob_ring.specs.Plain.{key_of_index, index_with, plain_for, without_buckets};
@@ -74,10 +74,7 @@ impl Ring {
         requires { IsRing (record { p = p.now; book = tables.book; metas = tables.metas; stash = tables.stash; counter = tables.counter }) }
         ensures { result ≡ record { p = p.now; book = tables.book; metas = tables.metas; stash = tables.stash; counter = tables.counter } }
     {
-        Ring {
-            params: *p,
-            tables,
-        }
+        Ring { params: *p, tables }
     }
 
     /// The tables.
@@ -130,11 +127,16 @@ impl Ring {
         ensures rooms { (jobs.new.room ≡ jobs.old.room) × (jobs.new.place_room ≡ jobs.old.place_room) }
         ensures places { jobs.new.places ≡ [] }
         ensures seals { SameSeals (record self.old.metas { order = self.new.metas.order }) self.new.metas }
-        ensures order { self.new.metas.order ≡ filter (λ u. is_lifted self.new.metas u) (by_falling_level (self.old.p.levels + 1)) }
+        ensures listed { IsListed self.new }
         ensures planned { (t : FlatTable) → StandsFor self.old t → IsLifting self.old self.new jobs.new t }
     {
         jobs.clear();
-        lift_paths(&self.params, &mut self.tables.metas, self.tables.counter, jobs);
+        lift_paths(
+            &self.params,
+            &mut self.tables.metas,
+            self.tables.counter,
+            jobs,
+        );
         self.tables.counter = next_counter(&self.params, self.tables.counter);
         list_lifted(&self.params, &mut self.tables.metas);
     }
@@ -163,6 +165,7 @@ impl Ring {
         ensures values { self.new.stash.rows ≡ values_after self.old.stash.rows (writes_of self.old.p writes.now words.now first (length writes.now)) }
         ensures seals { SameSeals self.old.metas self.new.metas }
         ensures lifted { self.new.metas.lifted ≡ self.old.metas.lifted }
+        ensures listed { IsListed self.old → IsListed self.new }
         ensures applied { (t : FlatTable) → StandsFor self.old t → StandsFor self.new (after self.old.p t (WritesStep (leaf_writes (writes_of self.old.p writes.now words.now first (length writes.now))))) }
     {
         write_all(
@@ -184,10 +187,11 @@ impl Ring {
     /// # Errors
     /// More rows are left than the stash may keep. Then the ring serves no more.
     pub fn refill(&mut self, words: &[u64], first: (u64, u64)) -> Result<(), StashFull>
-        requires listed { self.old.metas.order ≡ filter (λ u. is_lifted self.old.metas u) (by_falling_level (self.old.p.levels + 1)) }
+        requires listed { IsListed self.old }
         requires words { length words.now ≡ length self.old.metas.order * width self.old.p }
         ensures kept { self.new ≡ record self.old { metas = self.new.metas } }
         ensures order { self.new.metas.order ≡ self.old.metas.order }
+        ensures within { AreListedWithin self.new }
         ensures anew { AreSealedAnew self.old.p self.old.metas self.new.metas words.now first (length self.old.metas.order) }
         ensures refilled { (t : FlatTable) → StandsFor self.old t → StandsFor self.new (after self.old.p t Refill) }
         ensures rows { (t : FlatTable) → StandsFor self.old t → MatchResult result (λ _. stash_size self.old.p (after self.old.p t Refill) ≤ self.old.p.room) (λ full. (full.rows ≡ stash_size self.old.p (after self.old.p t Refill)) × (self.old.p.room < full.rows)) }
@@ -228,7 +232,7 @@ impl Ring {
     /// After the filled buckets were written: their rows leave the stash, which then holds the rows
     /// that lie in no bucket.
     pub fn forget_written(&mut self)
-        requires within { (i : ℕ) → i < length self.old.metas.order → slice_index self.old.metas.order i < buckets self.old.p }
+        requires within { AreListedWithin self.old }
         ensures kept { self.new ≡ record self.old { stash = self.new.stash } }
         ensures room { self.new.stash.room ≡ self.old.stash.room }
         ensures rows { self.new.stash.rows ≡ without_buckets self.old.stash.rows self.old.metas.versions self.old.metas.order }
