@@ -1,14 +1,14 @@
 -- A place's key is taken out, and the places of a batch follow one another.
-use Rattle.std.specs.Prelude.{◌≡◌, ◌≢◌, ℕ, ◌+◌, ◌*◌, ◌^◌, ◌<◌, ◌≤◌, ◌==◌, Bool, true, false, cond, List, [], ◌∷◌, ◌++◌, map, length, Option, IfSome, slice_index_or}
+use Rattle.std.specs.Prelude.{◌≡◌, ℕ, ◌+◌, ◌^◌, ◌<◌, Bool, true, false, cond, List, [], ◌∷◌, ◌++◌, map, length, Option, slice_index_or}
 use Rattle.std.specs.declared.option.Option.TheVariants.{None, Some}
-use Rattle.std.proofs.Common.{zero, suc, arith, refl, sym, ap, subst, ◌∙◌, inl, inr, ◌⊎◌, length-append}
+use Rattle.std.proofs.Common.{suc, arith, refl, sym, ap, subst, ◌∙◌, length-append}
 use Rattle.std.proofs.lemmas.Bool.{true≢false, false≢true, eqb-true, eq-eqb}
 use Rattle.ob_base.specs.declared.params.Params.{Params}
 use Rattle.ob_base.specs.declared.job.Job.{Job}
 use Rattle.ob_base.specs.declared.job.Place.{Place}
 use Rattle.ob_base.specs.Tree.{path}
 use Rattle.ob_base.specs.Planned.{Planned}
-use Rattle.ob_bucket.specs.Version.{key_at, used_at}
+use Rattle.ob_bucket.specs.Version.{key_at}
 use Rattle.ob_bucket.specs.Buckets.{Buckets, version_at, is_lifted}
 use Rattle.ob_tables.specs.declared.entry.Entry.{Entry}
 use Rattle.ob_tables.specs.Kept.{entry_at}
@@ -16,10 +16,9 @@ use Rattle.ob_ring.specs.declared.found.Found.{Found}
 use Rattle.ob_ring.specs.FlatTable.{FlatTable, Row, Spot, InStash, In, Batch, spot_of, leaf_of, is_at, asked_row, asks_for, fetched, fetch, leaf_shown, after_place, after_batch, visits, rebound, after_label}
 use Rattle.ob_ring.specs.Sound.{IsSound}
 use Rattle.ob_ring.specs.Laws.{IsOrderly}
-use Rattle.ob_ring.specs.Arrays.{Arrays, IsTableOf, AreWhole, Rest, arrays_of, rest_of, leaf_in, leaf_of_entry}
-use Rattle.ob_ring.specs.Picked.{Picked, Plans, Grows, SameSeals, job_of, visits_picked, place_picked, batch_picked, places_from, spot_at}
-use Rattle.ob_ring.specs.Paths.{IsFound, IsTakenOut}
-use Rattle.ob_ring.specs.Fetching.{IsBook, kept_of, leaf_of_place, IsKeptFound, IsAskFound, IsFetched, GrowsBy, Fetches, leaf_places, after_labels}
+use Rattle.ob_ring.specs.Arrays.{Arrays, IsTableOf, Rest, arrays_of, rest_of, leaf_in, leaf_of_entry}
+use Rattle.ob_ring.specs.Picked.{Picked, Plans, job_of, visits_picked, place_picked, batch_picked, places_from, spot_at}
+use Rattle.ob_ring.specs.Fetching.{IsBook, kept_of, leaf_of_place, IsKeptFound, IsAskFound, IsFetched, Fetches, leaf_places, after_labels}
 use Rattle.ob_ring.proofs.Members.{off_unless}
 use Rattle.ob_ring.proofs.Sounds.{fetched-In}
 use Rattle.ob_ring.proofs.LiftOrder.{is_at-is}

@@ -1,6 +1,6 @@
 -- Buckets that are filled one after another.
-use Rattle.std.specs.Prelude.{◌≡◌, ◌≢◌, ℕ, ◌+◌, ◌-◌, ◌*◌, ◌^◌, ◌<◌, ◌≤◌, ◌==◌, Bool, true, false, not, ◌&&◌, ◌||◌, List, [], ◌∷◌, ◌++◌, take, filter, length, replicate, Option, slice_index, slice_index_or}
-use Rattle.std.proofs.Common.{zero, suc, arith, refl, sym, ap, subst, ◌∙◌, inl, inr, ◌⊎◌, get_or}
+use Rattle.std.specs.Prelude.{◌≡◌, ◌≢◌, ℕ, ◌+◌, ◌<◌, ◌==◌, Bool, true, false, not, ◌&&◌, ◌||◌, List, [], ◌∷◌, ◌++◌, take, filter, length, replicate, Option, slice_index, slice_index_or}
+use Rattle.std.proofs.Common.{zero, suc, arith, refl, sym, ap, subst, ◌∙◌, inl, inr, get_or}
 use Rattle.std.proofs.lemmas.Bool.{true≢false, false≢true, cases_Bool, cases_eq, eqb-true, eq-eqb, ne_eqb}
 use Rattle.std.proofs.lemmas.List.{take_more, take_all}
 use Rattle.ob_base.specs.declared.params.Params.{Params}
@@ -11,8 +11,8 @@ use Rattle.ob_tables.specs.declared.entry.Entry.{Entry}
 use Rattle.ob_schedule.specs.Paths.{is_one_of, by_falling_level}
 use Rattle.ob_ring.specs.FlatTable.{FlatTable, fill, fills, refill_order}
 use Rattle.ob_ring.specs.Sound.{IsSound}
-use Rattle.ob_ring.specs.Arrays.{Arrays, IsTableOf, AreWhole, arrays_of, rest_of}
-use Rattle.ob_ring.specs.Filling.{arrays_in, still_lifted, IsSealedAnew, AreSealedAnew, FillsOne, FillsTo, base_of, words_of}
+use Rattle.ob_ring.specs.Arrays.{IsTableOf, AreWhole, arrays_of, rest_of}
+use Rattle.ob_ring.specs.Filling.{arrays_in, still_lifted, IsSealedAnew, FillsOne, FillsTo, base_of, words_of}
 use Rattle.ob_ring.proofs.Members.{IsDistinct, off_unless, one_of-append, one_of-take, one_of-filter, one_of-filter_from, distinct-take, distinct-filter}
 use Rattle.ob_ring.proofs.Refills.{FillsLaw, fills_law, distinct_levels, of_levels, in_levels}
 use Rattle.ob_ring.proofs.TableOf.{table_like}

@@ -1,22 +1,21 @@
 -- A bucket that is filled anew.
-use Rattle.std.specs.Prelude.{◌≡◌, ◌≢◌, ℕ, ◌+◌, ◌-◌, ◌<◌, ◌≤◌, ◌==◌, Bool, true, false, cond, not, ◌&&◌, ◌||◌, List, [], ◌∷◌, ◌++◌, map, take, filter, replicate, length, Option, slice_index_or, slice_set}
+use Rattle.std.specs.Prelude.{◌≡◌, ℕ, ◌-◌, ◌<◌, ◌≤◌, ◌==◌, Bool, true, false, cond, not, ◌&&◌, List, [], ◌∷◌, ◌++◌, map, take, filter, replicate, length, Option, slice_index_or}
 use Rattle.std.specs.declared.option.Option.TheVariants.{None, Some}
 use Rattle.std.specs.List.{position_or_len, range_with_len}
-use Rattle.std.proofs.Common.{zero, suc, arith, refl, sym, ap, subst, ◌∙◌, inl, inr, ◌⊎◌, get_or, length-append}
+use Rattle.std.proofs.Common.{zero, suc, arith, refl, sym, ap, ◌∙◌, inl, inr, get_or, length-append}
 use Rattle.std.proofs.lemmas.Bool.{true≢false, false≢true, cases_Bool, cases_eq, cases_lt, eqb-true, eq-eqb, ne_eqb, or_left, or_right, and_parts}
 use Rattle.std.proofs.lemmas.List.{length-replicate}
 use Rattle.std.proofs.lemmas.List.FromFn.{length-range_with_len}
 use Rattle.std.proofs.lemmas.List.Sums.{passes_at_first, position_or_len_is}
 use Rattle.ob_base.specs.declared.params.Params.{Params}
 use Rattle.ob_base.specs.Tree.{buckets, below, width}
-use Rattle.ob_bucket.specs.Rank.{ranks_of}
 use Rattle.ob_bucket.specs.Version.{Version, HasSlots, key_at, used_at, filled}
-use Rattle.ob_bucket.specs.Buckets.{Buckets, version_at, with_version, is_lifted}
+use Rattle.ob_bucket.specs.Buckets.{Buckets, version_at, with_version}
 use Rattle.ob_schedule.specs.Paths.{is_one_of}
 use Rattle.ob_ring.specs.FlatTable.{FlatTable, Row, Spot, InStash, In, spot_of, is_stash, can_go, chosen, placed, fill}
 use Rattle.ob_ring.specs.Sound.{IsSound}
 use Rattle.ob_ring.specs.Arrays.{Arrays, IsTableOf, AreWhole, Rest, leaf_in}
-use Rattle.ob_ring.specs.Filling.{arrays_in, IsSealedAnew, FillsOne}
+use Rattle.ob_ring.specs.Filling.{arrays_in, FillsOne}
 use Rattle.ob_ring.proofs.Members.{IsDistinct, off_unless, position_within, distinct-take, distinct-filter, distinct-range, length_take}
 use Rattle.ob_ring.proofs.Fills.{placed-In, chosen_goes}
 use Rattle.ob_ring.proofs.TableOf.{table_like}

@@ -1,9 +1,9 @@
 -- Which keys a bucket takes.
-use Rattle.std.specs.Prelude.{◌≡◌, ℕ, ◌+◌, ◌<◌, ◌≤◌, ◌==◌, Bool, true, false, cond, ◌&&◌, ◌||◌, List, [], ◌∷◌, ◌++◌, map, Option}
+use Rattle.std.specs.Prelude.{◌≡◌, ℕ, ◌+◌, ◌<◌, ◌≤◌, ◌==◌, Bool, true, false, cond, ◌&&◌, ◌||◌, List, [], ◌∷◌, map, Option}
 use Rattle.std.specs.declared.option.Option.TheVariants.{None, Some}
-use Rattle.std.specs.List.{list_any, range_with_len, count_by}
-use Rattle.std.proofs.Common.{zero, suc, arith, refl, sym, ap, ◌∙◌, inl, inr, ◌⊎◌}
-use Rattle.std.proofs.lemmas.Bool.{cases_eq, eq-eqb, ne_eqb, or_left, or_right}
+use Rattle.std.specs.List.{range_with_len, count_by}
+use Rattle.std.proofs.Common.{zero, suc, arith, refl, sym, ap, ◌∙◌, inl, inr}
+use Rattle.std.proofs.lemmas.Bool.{cases_eq, eq-eqb, or_left, or_right}
 use Rattle.ob_base.specs.declared.params.Params.{Params}
 use Rattle.ob_base.specs.Tree.{bucket_of, passes}
 use Rattle.ob_bucket.specs.Buckets.{Buckets}
@@ -12,7 +12,7 @@ use Rattle.ob_tables.specs.declared.entry.Entry.{Entry}
 use Rattle.ob_tables.specs.Kept.{entry_at}
 use Rattle.ob_schedule.specs.Paths.{is_one_of}
 use Rattle.ob_ring.specs.declared.found.Found.{Found}
-use Rattle.ob_ring.specs.FlatTable.{FlatTable, Row, spot_of, leaf_of, is_stash, in_stash, can_go}
+use Rattle.ob_ring.specs.FlatTable.{FlatTable, Row, spot_of, is_stash, in_stash, can_go}
 use Rattle.ob_ring.specs.Sound.{IsSound}
 use Rattle.ob_ring.specs.Arrays.{IsTableOf, rest_of, leaf_in, leaf_of_entry}
 use Rattle.ob_ring.specs.Filling.{arrays_in, is_nowhere}

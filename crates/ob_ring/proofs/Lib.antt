@@ -26,5 +26,6 @@ pub mod Sounds
 pub mod Stashes
 pub mod TableLaws
 pub mod TableOf
+pub mod TestRows
 pub mod Visits
 pub mod WriteLaws

@@ -1,20 +1,17 @@
 -- Buckets that are read out one after another.
-use Rattle.std.specs.Prelude.{◌≡◌, ℕ, ◌+◌, ◌*◌, Bool, true, false, cond, List, [], ◌∷◌, ◌++◌, map}
+use Rattle.std.specs.Prelude.{◌≡◌, ℕ, ◌+◌, Bool, true, false, cond, List, [], ◌∷◌, ◌++◌}
 use Rattle.std.specs.List.{flat_map}
-use Rattle.std.proofs.Common.{zero, suc, arith, refl, sym, ap, ◌∙◌}
-use Rattle.std.proofs.lemmas.List.FromFn.{map-range_with_len_more}
+use Rattle.std.proofs.Common.{suc, arith, refl, sym, ap, ◌∙◌}
 use Rattle.ob_base.specs.declared.params.Params.{Params}
-use Rattle.ob_base.specs.Tree.{bucket_of, path, below, reversed}
+use Rattle.ob_base.specs.Tree.{path, below, reversed}
 use Rattle.ob_base.specs.Planned.{Planned}
 use Rattle.ob_bucket.specs.Buckets.{Buckets, is_lifted}
 use Rattle.ob_bucket.proofs.Counting.{range_more}
-use Rattle.ob_schedule.specs.Paths.{eviction_path}
 use Rattle.ob_ring.specs.FlatTable.{FlatTable, lift, after_final}
 use Rattle.ob_ring.specs.Arrays.{AreWhole}
 use Rattle.ob_ring.specs.Picked.{Picked, Plans, lift_picked, final_picked}
 use Rattle.ob_ring.proofs.Appends.{append_more, append_none}
 use Rattle.ob_ring.proofs.PlanLaws.{plans_like, plans_then, plans_none}
-use Rattle.ob_ring.proofs.PathLaws.{path_to, path_more}
 
 turn_case : (p : Params) (t : FlatTable) (u : ℕ) (b : Bool) → t.lifted u ≡ b → b ≡ true → ([] ≡ final_picked p t (u ∷ [])) × (t ≡ after_final p t (u ∷ []))
 turn_case p t u b is on = (rw (is, on) refl, rw (is, on) refl)

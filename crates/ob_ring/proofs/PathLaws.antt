@@ -1,28 +1,28 @@
 -- Keys on the path of their leaf, and a path's visits.
-use Rattle.std.specs.Prelude.{◌≡◌, ◌≢◌, ℕ, ◌+◌, ◌*◌, ◌^◌, ◌<◌, ◌≤◌, ◌==◌, Bool, true, false, cond, ◌&&◌, ◌||◌, List, [], ◌∷◌, ◌++◌, map, length, Option, slice_index_or, slice_set}
+use Rattle.std.specs.Prelude.{◌≡◌, ◌≢◌, ℕ, ◌+◌, ◌*◌, ◌<◌, ◌≤◌, ◌==◌, Bool, true, false, cond, ◌&&◌, List, [], ◌∷◌, ◌++◌, map, length, Option, slice_index_or, slice_set}
 use Rattle.std.specs.declared.option.Option.TheVariants.{None, Some}
 use Rattle.std.specs.List.{find, range_with_len}
-use Rattle.std.proofs.Common.{zero, suc, add-one, arith, refl, sym, ap, subst, ◌∙◌, inl, inr, ◌⊎◌, get_or}
-use Rattle.std.proofs.lemmas.Bool.{true≢false, false≢true, cases_Bool, cases_eq, cases_lt, eq-eqb, eqb-true, ne_eqb, or_cases, and_parts, and_from}
-use Rattle.std.proofs.lemmas.List.{get_or-set_same, get_or-set_other, length-set}
+use Rattle.std.proofs.Common.{zero, suc, arith, refl, sym, ap, subst, ◌∙◌, inl, inr}
+use Rattle.std.proofs.lemmas.Bool.{true≢false, false≢true, cases_Bool, cases_eq, cases_lt, eq-eqb, eqb-true, ne_eqb}
+use Rattle.std.proofs.lemmas.List.{length-set}
 use Rattle.std.proofs.lemmas.List.FromFn.{map-range_with_len_more}
 use Rattle.std.proofs.Math.Nat.{mul-le-mul_right}
 use Rattle.ob_base.specs.declared.params.Params.{Params}
-use Rattle.ob_base.specs.Tree.{buckets, bucket_of, path, passes, below}
+use Rattle.ob_base.specs.Tree.{buckets, bucket_of, below}
 use Rattle.ob_base.specs.Planned.{Planned}
 use Rattle.ob_bucket.specs.Version.{Version, HasSlots, key_at, used_at, is_key, live_index}
 use Rattle.ob_bucket.specs.Buckets.{Buckets, version_at, with_version}
 use Rattle.ob_ring.specs.declared.found.Found.{Found}
-use Rattle.ob_ring.specs.FlatTable.{FlatTable, Row, Spot, InStash, In, spot_of, leaf_of, is_at, asked_row, visit, visits}
+use Rattle.ob_ring.specs.FlatTable.{FlatTable, Spot, InStash, In, spot_of, leaf_of, visit, visits}
 use Rattle.ob_ring.specs.Sound.{IsSound, Placed}
-use Rattle.ob_ring.specs.Arrays.{Arrays, IsTableOf, AreWhole, Rest, arrays_of}
-use Rattle.ob_ring.specs.Picked.{Picked, Plans, Grows, SameSeals, visit_picked, visits_picked, spot_at}
+use Rattle.ob_ring.specs.Arrays.{IsTableOf, AreWhole, Rest}
+use Rattle.ob_ring.specs.Picked.{Picked, Plans, Grows, visit_picked, visits_picked, spot_at}
 use Rattle.ob_ring.specs.Filling.{arrays_in}
 use Rattle.ob_ring.specs.Paths.{IsFound, IsTakenOut}
 use Rattle.ob_ring.proofs.Appends.{append_more, append_none}
 use Rattle.ob_ring.proofs.Lows.{one_of-map-range}
 use Rattle.ob_ring.proofs.Visits.{visits_push}
-use Rattle.ob_ring.proofs.PlanLaws.{at_same, at_other, at_kept, whole_with, plans_like, plans_then, plans_none, seals_none}
+use Rattle.ob_ring.proofs.PlanLaws.{at_same, at_other, at_kept, whole_with, plans_like, plans_then, seals_none}
 
 -- ---- finding
 

@@ -2,7 +2,7 @@
 use Rattle.std.specs.Prelude.{◌≡◌, ◌≢◌, ℕ, ◌+◌, ◌-◌, ◌<◌, ◌≤◌, ◌==◌, ◌%◌, ◌^◌, Bool, true, false, cond, not, ◌&&◌, ◌||◌, List, [], ◌∷◌, ◌++◌, map, take, filter, length, Option, IfSome, unwrap_or, slice_index, slice_index_or, slice_set}
 use Rattle.std.specs.declared.option.Option.TheVariants.{None, Some}
 use Rattle.std.specs.List.{find, range_with_len, count_by}
-use Rattle.std.proofs.Common.{zero, suc, arith, refl, sym, ap, subst, ◌∙◌, inl, inr, ◌⊎◌, get_or}
+use Rattle.std.proofs.Common.{zero, suc, arith, refl, sym, ap, subst, ◌∙◌, inl, inr}
 use Rattle.std.proofs.lemmas.Bool.{cases_Bool, cases_eq, eq-eqb, ne_eqb}
 use Rattle.std.proofs.lemmas.List.{get_or-set_same, get_or-set_other, length-set}
 use Rattle.ob_base.specs.declared.params.Params.{Params}
@@ -14,8 +14,8 @@ use Rattle.ob_bucket.specs.Version.{Version, HasSlots, key_at, used_at}
 use Rattle.ob_bucket.specs.Buckets.{Buckets, version_at, with_version, is_lifted, no_version}
 use Rattle.ob_ring.specs.FlatTable.{FlatTable, Spot, index_in, mark, lift, lift_order, reads, visit}
 use Rattle.ob_ring.specs.Order.{order_of, is_live, is_spare}
-use Rattle.ob_ring.specs.Arrays.{Arrays, IsTableOf, AreWhole, Rest, arrays_of}
-use Rattle.ob_ring.specs.Picked.{Picked, Plans, SameSeals, job_of, with_jobs, index_of, holder, lift_picked, show_picked, shown_index, shown_of, key_shown, visit_picked, IsEmptied}
+use Rattle.ob_ring.specs.Arrays.{IsTableOf, AreWhole, Rest, arrays_of}
+use Rattle.ob_ring.specs.Picked.{Picked, Plans, SameSeals, job_of, with_jobs, index_of, lift_picked, show_picked, shown_index, shown_of, key_shown, visit_picked, IsEmptied}
 use Rattle.ob_bucket.proofs.Counting.{count_by-range_more}
 use Rattle.ob_ring.proofs.Appends.{append_more, append_none, map-both}
 use Rattle.ob_ring.proofs.TableOf.{table_like, HasVersion, holder_is, order_is, shown_is, reads_are, with_used, with_lifted, mark_is, lift_is}

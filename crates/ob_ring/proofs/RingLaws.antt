@@ -1,17 +1,14 @@
 -- What the ring's calls do, as steps of the flat table.
-use Rattle.std.specs.Prelude.{◌≡◌, ◌≢◌, ℕ, ◌+◌, ◌%◌, ◌^◌, ◌<◌, ◌≤◌, Bool, true, false, cond, List, [], ◌∷◌, ◌++◌, map, length, replicate, filter, Option, slice_index_or}
+use Rattle.std.specs.Prelude.{◌≡◌, ℕ, ◌+◌, ◌%◌, ◌^◌, ◌<◌, Bool, false, List, [], ◌++◌, map, length, replicate, filter, Option, slice_index_or}
 use Rattle.std.specs.declared.option.Option.TheVariants.{None, Some}
-use Rattle.std.specs.List.{count_by, range_with_len}
 use Rattle.std.specs.FinMap as finite
 use Rattle.std.proofs.Common.{zero, suc, arith, refl, sym, ap, subst, ◌∙◌}
-use Rattle.std.proofs.lemmas.Bool.{true≢false}
 use Rattle.std.specs.Ordering.{nat_cmp}
 use Rattle.std.proofs.lemmas.Nat.{pow_pos}
 use Rattle.std.proofs.lemmas.List.{length-replicate}
 use Rattle.std.proofs.lemmas.List.FromFn.{length-range_with_len}
 use Rattle.ob_base.specs.declared.params.Params.{Params}
 use Rattle.ob_base.specs.declared.job.Job.{Job}
-use Rattle.ob_base.specs.declared.job.Place.{Place}
 use Rattle.ob_base.specs.Planned.{Planned}
 use Rattle.ob_base.specs.Tree.{buckets, width}
 use Rattle.ob_bucket.specs.Version.{Version, HasSlots, blank, key_at, used_at}
@@ -19,17 +16,15 @@ use Rattle.ob_bucket.specs.Buckets.{Buckets, new_buckets, version_at, is_lifted,
 use Rattle.ob_tables.specs.declared.entry.Entry.{Entry}
 use Rattle.ob_tables.specs.Kept.{Held, entry_at}
 use Rattle.ob_schedule.specs.Paths.{eviction_path, by_falling_level}
-use Rattle.ob_ring.specs.FlatTable.{FlatTable, Batch, FinalLifts, Refill, stash_size, In, after, after_final, spot_of, reads, indexes}
-use Rattle.ob_ring.specs.Laws.{IsOrderly}
-use Rattle.ob_ring.specs.Arrays.{Arrays, IsTableOf, AreWhole, arrays_of, rest_of, leaf_of_entry}
+use Rattle.ob_ring.specs.FlatTable.{FlatTable, Batch, FinalLifts, Refill, stash_size, after, after_final}
+use Rattle.ob_ring.specs.Arrays.{IsTableOf, AreWhole, arrays_of, rest_of, leaf_of_entry}
 use Rattle.ob_ring.specs.Picked.{Plans, job_of, batch_picked, final_picked, places_from}
-use Rattle.ob_ring.specs.Fetching.{Fetches, IsBook, leaf_places}
+use Rattle.ob_ring.specs.Fetching.{Fetches, leaf_places}
 use Rattle.ob_ring.specs.Ring.{Kept, IsRing, StandsFor, IsBatch, IsLifting, empty_table}
 use Rattle.ob_ring.specs.Sound.{IsSound}
 use Rattle.ob_ring.specs.Filling.{arrays_in, FillsTo}
 use Rattle.ob_ring.proofs.FillAll.{refilled_is}
 use Rattle.ob_ring.proofs.TableLaws.{steps_keep_order, none_counted}
-use Rattle.ob_ring.proofs.TableOf.{table_like}
 
 pub batch_is : (p : Params) (book book' : List (Option Entry)) (metas metas' : Buckets) (stash : Held) (counter : ℕ) (before now : Planned) (asked : List (Option ℕ × Entry)) → Fetches p book book' (record metas { order = [] }) metas' before now asked → before.jobs ≡ [] → before.places ≡ [] → (t : FlatTable) → StandsFor (record { p = p; book = book; metas = metas; stash = stash; counter = counter }) t →
     IsBatch (record { p = p; book = book; metas = metas; stash = stash; counter = counter }) (record { p = p; book = book'; metas = metas'; stash = stash; counter = counter }) now asked t

@@ -5,12 +5,12 @@ use Rattle.std.specs.declared.cmp.Ordering.{Ordering}
 use Rattle.std.specs.Ordering.{nat_cmp, eq_by_cmp, is_eq}
 use Rattle.std.specs.declared.cmp.Ordering.TheVariants.{Less, Equal, Greater}
 use Rattle.std.specs.Cmp.{nat_cmp_total, eq_by_cmp_equiv}
-use Rattle.std.specs.FinMap.{FinMap, get, len, insert, remove, contains_key, empty, get-empty, get-insert, get-remove, len-empty, len-insert, len-remove, same_map, nat_cmp-IsAntisymmetric}
-use Rattle.std.proofs.Common.{zero, suc, arith, refl, sym, ap, subst, ◌∙◌, inl, inr, ◌⊎◌}
+use Rattle.std.specs.FinMap.{get, len, insert, remove, contains_key, empty, get-empty, get-insert, get-remove, len-empty, len-insert, len-remove, same_map, nat_cmp-IsAntisymmetric}
+use Rattle.std.proofs.Common.{zero, suc, arith, refl, sym, ap, ◌∙◌, inl, inr}
 use Rattle.std.proofs.lemmas.Bool.{true≢false, false≢true, cases_Bool}
 use Rattle.ob_base.specs.declared.fault.Damaged.{Damaged}
 use Rattle.ob_base.specs.declared.job.Job.{Job}
-use Rattle.ob_ring.specs.Settling.{Rows, row_value, fault_of, or_else, first_fault, with_row, rows_after}
+use Rattle.ob_ring.specs.Settling.{Rows, fault_of, or_else, first_fault, with_row, rows_after}
 
 abbrev pub AreLow : ℕ → Rows → Type 0
 AreLow n m = (k : ℕ) → get m k ≢ None → k < n

@@ -1,13 +1,13 @@
 -- What the code computes on its arrays is what the flat table says.
-use Rattle.std.specs.Prelude.{◌≡◌, ◌≢◌, ℕ, ◌+◌, ◌-◌, ◌<◌, ◌≤◌, ◌==◌, Bool, true, false, cond, not, ◌&&◌, ◌||◌, List, [], ◌∷◌, ◌++◌, map, take, filter, length, Option, unwrap_or, slice_index_or, slice_set}
+use Rattle.std.specs.Prelude.{◌≡◌, ℕ, ◌+◌, ◌-◌, ◌<◌, ◌≤◌, ◌==◌, Bool, true, false, cond, not, ◌&&◌, ◌||◌, ◌++◌, take, filter, length, Option, unwrap_or}
 use Rattle.std.specs.declared.option.Option.TheVariants.{None, Some}
 use Rattle.std.specs.List.{range_with_len, list_any, find, count_by}
-use Rattle.std.proofs.Common.{zero, suc, arith, refl, sym, ap, subst, ◌∙◌, inl, inr, ◌⊎◌}
-use Rattle.std.proofs.lemmas.Bool.{true≢false, false≢true, cases_Bool, cases_eq, eqb-true, eq-eqb, ne_eqb, and_from, or_left, or_right}
+use Rattle.std.proofs.Common.{zero, suc, arith, refl, sym, ap, ◌∙◌, inl, inr}
+use Rattle.std.proofs.lemmas.Bool.{true≢false, cases_Bool, cases_eq, eq-eqb, and_from, or_left, or_right}
 use Rattle.ob_base.specs.declared.params.Params.{Params}
 use Rattle.ob_base.specs.Tree.{below}
-use Rattle.ob_bucket.specs.Version.{Version, HasSlots, key_at, used_at, next_dummy}
-use Rattle.ob_ring.specs.FlatTable.{FlatTable, Row, Spot, InStash, In, spot_of, is_at, live, index_in, indexes, reads, lift_order, mark, lift, leave, out_of}
+use Rattle.ob_bucket.specs.Version.{Version, HasSlots, key_at, used_at}
+use Rattle.ob_ring.specs.FlatTable.{FlatTable, Row, Spot, InStash, In, spot_of, is_at, live, reads, lift_order, mark, lift, leave, out_of}
 use Rattle.ob_ring.specs.Order.{is_key, is_live, order_of}
 use Rattle.ob_ring.specs.Arrays.{Arrays, IsTableOf, leaf_in}
 use Rattle.ob_ring.specs.Picked.{holder, shown_index, shown_of}

@@ -1,8 +1,8 @@
 -- Writes, one after another.
-use Rattle.std.specs.Prelude.{◌≡◌, ◌≢◌, ℕ, ◌+◌, ◌^◌, ◌<◌, ◌==◌, Bool, true, false, cond, List, [], ◌∷◌, ◌++◌, map, length, Option, slice_index_or}
+use Rattle.std.specs.Prelude.{◌≡◌, ℕ, ◌^◌, ◌<◌, ◌==◌, Bool, true, false, cond, List, [], ◌∷◌, ◌++◌, length, Option, slice_index_or}
 use Rattle.std.specs.declared.option.Option.TheVariants.{None, Some}
-use Rattle.std.proofs.Common.{arith, refl, sym, ap, subst, ◌∙◌, inl, inr, ◌⊎◌}
-use Rattle.std.proofs.lemmas.Bool.{true≢false, cases_Bool, eqb-true, eq-eqb, ne_eqb}
+use Rattle.std.proofs.Common.{arith, refl, sym, ap, subst, ◌∙◌}
+use Rattle.std.proofs.lemmas.Bool.{true≢false, eqb-true, eq-eqb}
 use Rattle.ob_base.specs.declared.params.Params.{Params}
 use Rattle.ob_base.specs.declared.value.Write.{Write}
 use Rattle.ob_bucket.specs.Version.{key_at}
@@ -11,7 +11,6 @@ use Rattle.ob_tables.specs.declared.entry.Entry.{Entry}
 use Rattle.ob_tables.specs.Kept.{entry_at}
 use Rattle.ob_ring.specs.declared.found.Found.{Found}
 use Rattle.ob_ring.specs.FlatTable.{FlatTable, Row, Spot, InStash, In, Writes as WritesStep, spot_of, is_at, written, write, after_writes}
-use Rattle.ob_ring.specs.Laws.{IsOrderly}
 use Rattle.ob_ring.specs.Arrays.{Arrays, IsTableOf, AreWhole, arrays_of, rest_of, leaf_in, leaf_of_entry}
 use Rattle.ob_ring.specs.Picked.{spot_at}
 use Rattle.ob_ring.specs.Paths.{IsTakenOut}

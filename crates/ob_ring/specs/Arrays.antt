@@ -1,9 +1,9 @@
 -- The packed arrays of the planner, and the flat table that they stand for.
-use Rattle.std.specs.Prelude.{◌≡◌, ℕ, ◌<◌, ◌↔◌, Bool, true, false, List, Option, map, length}
+use Rattle.std.specs.Prelude.{◌≡◌, ℕ, ◌<◌, ◌↔◌, Bool, List, Option, length}
 use Rattle.std.specs.declared.option.Option.TheVariants.{None, Some}
 use Rattle.ob_base.specs.declared.params.Params.{Params}
 use Rattle.ob_base.specs.Tree.{buckets}
-use Rattle.ob_bucket.specs.Version.{Version, HasSlots, key_at, used_at}
+use Rattle.ob_bucket.specs.Version.{HasSlots, key_at, used_at}
 use Rattle.ob_bucket.specs.Buckets.{Buckets, version_at, is_lifted}
 use Rattle.ob_tables.specs.declared.entry.Entry.{Entry}
 use Rattle.ob_tables.specs.Kept.{entry_at}

@@ -1,5 +1,5 @@
 -- Buckets that are filled anew.
-use Rattle.std.specs.Prelude.{◌≡◌, ◌≢◌, ℕ, ◌+◌, ◌-◌, ◌*◌, ◌%◌, ◌^◌, ◌<◌, ◌==◌, Bool, true, false, ◌&&◌, not, List, take, drop, length, slice_index, Option}
+use Rattle.std.specs.Prelude.{◌≡◌, ◌≢◌, ℕ, ◌+◌, ◌-◌, ◌*◌, ◌%◌, ◌^◌, ◌<◌, Bool, true, false, ◌&&◌, not, List, take, drop, slice_index, Option}
 use Rattle.ob_base.specs.declared.params.Params.{Params}
 use Rattle.ob_base.specs.Tree.{width}
 use Rattle.ob_bucket.specs.Rank.{ranks_of}

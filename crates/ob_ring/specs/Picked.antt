@@ -1,5 +1,5 @@
 -- The jobs of a plan: what is read of each index that a step shows, and which key lies there.
-use Rattle.std.specs.Prelude.{◌≡◌, ℕ, ◌+◌, ◌%◌, ◌^◌, ◌==◌, ◌≤◌, Bool, cond, not, List, [], ◌∷◌, ◌++◌, map, length, Option, unwrap_or}
+use Rattle.std.specs.Prelude.{◌≡◌, ℕ, ◌+◌, ◌%◌, ◌^◌, ◌==◌, ◌≤◌, cond, not, List, [], ◌∷◌, ◌++◌, map, length, Option, unwrap_or}
 use Rattle.std.specs.declared.option.Option.TheVariants.{None, Some}
 use Rattle.std.specs.List.{find, range_with_len}
 use Rattle.ob_base.specs.declared.params.Params.{Params}
@@ -10,8 +10,7 @@ use Rattle.ob_base.specs.Layout.{slot_cell}
 use Rattle.ob_base.specs.Planned.{Planned}
 use Rattle.ob_bucket.specs.Version.{Version, rank_at, key_at, next_dummy}
 use Rattle.ob_bucket.specs.Buckets.{Buckets, version_at}
-use Rattle.ob_schedule.specs.Paths.{eviction_path}
-use Rattle.ob_ring.specs.FlatTable.{FlatTable, Spot, InStash, In, spot_of, is_at, index_in, asked_row, index_shown, mark, lift, lift_order, reads, visit, fetch, leaf_shown, place_shown, after_place}
+use Rattle.ob_ring.specs.FlatTable.{FlatTable, Spot, InStash, In, spot_of, is_at, index_in, asked_row, index_shown, mark, lift, lift_order, reads, visit, fetch, leaf_shown, after_place}
 use Rattle.ob_ring.specs.declared.found.Found.{Found}
 use Rattle.ob_ring.specs.Arrays.{AreWhole, IsTableOf, arrays_of, Rest}
 

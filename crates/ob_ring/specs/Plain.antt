@@ -1,5 +1,5 @@
 -- What a slot of a filled bucket holds, and the stash after its rows were written.
-use Rattle.std.specs.Prelude.{ℕ, ◌+◌, ◌==◌, List, [], ◌∷◌, Option, length, replicate, unwrap_or}
+use Rattle.std.specs.Prelude.{ℕ, ◌==◌, List, [], ◌∷◌, Option, length, replicate, unwrap_or}
 use Rattle.std.specs.declared.option.Option.TheVariants.{None, Some}
 use Rattle.std.specs.List.{find, range_with_len}
 use Rattle.std.specs.Int.{w32, to_le_bytes}

@@ -1,11 +1,11 @@
 -- What a ring keeps, and the flat table that it stands for.
-use Rattle.std.specs.Prelude.{◌≡◌, ◌≢◌, ℕ, ◌+◌, ◌*◌, ◌%◌, ◌^◌, ◌<◌, ◌≤◌, List, [], ◌∷◌, ◌++◌, map, filter, length, replicate, Option, false, slice_index}
-use Rattle.std.specs.declared.option.Option.TheVariants.{None, Some}
+use Rattle.std.specs.Prelude.{◌≡◌, ◌≢◌, ℕ, ◌+◌, ◌^◌, ◌<◌, ◌≤◌, List, map, filter, length, Option, false, slice_index}
+use Rattle.std.specs.declared.option.Option.TheVariants.{None}
 use Rattle.std.specs.FinMap as finite
 use Rattle.ob_base.specs.declared.params.Params.{Params}
 use Rattle.ob_base.specs.Tree.{buckets}
 use Rattle.ob_base.specs.Planned.{Planned}
-use Rattle.ob_bucket.specs.Buckets.{Buckets, new_buckets, is_lifted}
+use Rattle.ob_bucket.specs.Buckets.{Buckets, is_lifted}
 use Rattle.ob_tables.specs.declared.entry.Entry.{Entry}
 use Rattle.ob_tables.specs.Kept.{Held}
 use Rattle.ob_ring.specs.FlatTable.{FlatTable, Batch, FinalLifts, after}

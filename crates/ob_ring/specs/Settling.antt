@@ -1,5 +1,5 @@
 -- Rows as slots spell them, and the stash after they were read.
-use Rattle.std.specs.Prelude.{◌≡◌, ℕ, ◌+◌, ◌==◌, nat_le, List, [], ◌∷◌, ◌++◌, take, drop, replicate, Option, if◌then◌else◌, slice_index}
+use Rattle.std.specs.Prelude.{ℕ, ◌==◌, nat_le, List, [], ◌∷◌, ◌++◌, take, drop, replicate, Option, if◌then◌else◌, slice_index}
 use Rattle.std.specs.declared.option.Option.TheVariants.{None, Some}
 use Rattle.std.specs.Int.{w32, to_le_bytes}
 use Rattle.std.specs.Ordering.{nat_cmp}

@@ -1,4 +1,4 @@
-use Rattle.std.specs.Prelude.{ℕ, ◌+◌, ◌*◌}
+use Rattle.std.specs.Prelude.{◌+◌, ◌*◌}
 use Rattle.ob_ring.specs.Fetching.{GrowsBy, Fetches, places_of}
 use Rattle.ob_ring.proofs.batch.plan_places.Given as goal
 

@@ -1,4 +1,4 @@
-use Rattle.std.proofs.Common.{ℕ, [], ◌∷◌, arith, ◌∙◌, sym, subst}
+use Rattle.std.proofs.Common.{ℕ, [], ◌∷◌, arith, subst}
 use Rattle.std.specs.Prelude.{◌≡◌, ◌+◌, ◌*◌}
 use Rattle.ob_base.specs.Tree.{bucket_of}
 use Rattle.ob_ring.specs.FlatTable.{after_final}

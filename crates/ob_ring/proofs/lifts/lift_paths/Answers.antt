@@ -1,5 +1,5 @@
-use Rattle.std.proofs.Common.{ℕ, arith, ◌∙◌, sym, subst}
-use Rattle.std.specs.Prelude.{◌≡◌, ◌<◌, ◌≤◌, ◌+◌, ◌*◌}
+use Rattle.std.proofs.Common.{ℕ, arith, ◌∙◌, subst}
+use Rattle.std.specs.Prelude.{◌≡◌, ◌≤◌, ◌+◌, ◌*◌}
 use Rattle.ob_base.specs.Tree.{path, reversed}
 use Rattle.ob_base.specs.Planned.{most_jobs}
 use Rattle.ob_ring.specs.FlatTable.{after_final}

@@ -1,5 +1,4 @@
-use Rattle.std.proofs.Common.{◌∙◌, sym, ap, arith}
-use Rattle.std.specs.Prelude.{◌≡◌, Bool, not, true, false}
+use Rattle.std.proofs.Common.{◌∙◌, sym}
 use Rattle.ob_ring.proofs.LiftLaws.{lifted_now}
 use Rattle.ob_ring.proofs.lifts.lift_standing.Goals as goal
 

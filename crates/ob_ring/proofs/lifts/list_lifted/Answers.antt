@@ -1,5 +1,5 @@
-use Rattle.std.proofs.Common.{ℕ, suc, arith}
-use Rattle.std.specs.Prelude.{◌≡◌, ◌+◌, ◌-◌, ◌*◌, ◌%◌, ◌^◌}
+use Rattle.std.proofs.Common.{ℕ, arith}
+use Rattle.std.specs.Prelude.{◌-◌, ◌*◌, ◌%◌, ◌^◌}
 use Rattle.ob_ring.proofs.Listing.{levels_none, levels_more, levels_room, levels_all, level_many}
 use Rattle.ob_ring.proofs.lifts.list_lifted.Goals as goal
 

@@ -1,5 +1,5 @@
-use Rattle.std.proofs.Common.{ℕ, arith, ◌∙◌, sym, ap, subst, inl, inr, ◌⊎◌}
-use Rattle.std.specs.Prelude.{◌≡◌, ◌≢◌, ◌<◌, length, Option}
+use Rattle.std.proofs.Common.{ℕ, arith, ◌∙◌, sym, ap, inl, inr}
+use Rattle.std.specs.Prelude.{◌≡◌, ◌<◌, length}
 use Rattle.std.specs.declared.option.Option.TheVariants.{None, Some}
 use Rattle.std.proofs.lemmas.Bool.{cases_eq}
 use Rattle.ob_base.specs.Tree.{bucket_of}

@@ -1,6 +1,5 @@
-use Rattle.std.proofs.Common.{ℕ, arith, ◌∙◌, sym, ap, subst}
-use Rattle.std.specs.Prelude.{◌≡◌, ◌<◌, ◌+◌, ◌*◌}
-use Rattle.ob_base.specs.Tree.{path}
+use Rattle.std.proofs.Common.{ℕ, arith, subst}
+use Rattle.std.specs.Prelude.{◌≡◌, ◌+◌, ◌*◌}
 use Rattle.ob_ring.specs.FlatTable.{visit, visits}
 use Rattle.ob_ring.specs.Picked.{Plans, spot_at, visit_picked, visits_picked}
 use Rattle.ob_ring.proofs.PathLaws.{path_to, visits_more, grows_then, product_more}

@@ -1,6 +1,5 @@
 use Rattle.std.proofs.Common.{ℕ, List, take, sym, ap, ◌∙◌, get_or}
 use Rattle.std.proofs.lemmas.List.{take_more}
-use Rattle.ob_bucket.specs.Buckets.{version_at}
 use Rattle.ob_ring.specs.Plain.{without, without_buckets}
 use Rattle.ob_ring.proofs.Forgetting.{buckets_more}
 use Rattle.ob_ring.proofs.plain.forget_buckets.Goals as goal

@@ -1,5 +1,5 @@
 use Rattle.std.proofs.Common.{ℕ, suc, arith, sym, ap, ◌∙◌, length}
-use Rattle.std.specs.Prelude.{◌≡◌, ◌==◌, ◌+◌, Option, None, slice_index}
+use Rattle.std.specs.Prelude.{◌≡◌, ◌==◌, ◌+◌, slice_index}
 use Rattle.std.specs.List.{find, range_with_len}
 use Rattle.std.proofs.lemmas.Bool.{eq-eqb, ne_eqb}
 use Rattle.ob_bucket.proofs.Counting.{find-range_more, find-range_at}

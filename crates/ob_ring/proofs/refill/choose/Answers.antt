@@ -1,7 +1,7 @@
-use Rattle.std.proofs.Common.{ℕ, Bool, List, [], ◌++◌, arith, ◌∙◌, sym, ap, subst}
-use Rattle.std.specs.Prelude.{◌≡◌, ◌≤◌, ◌+◌, take, filter, length}
+use Rattle.std.proofs.Common.{ℕ, [], ◌++◌, arith, ◌∙◌, sym, ap}
+use Rattle.std.specs.Prelude.{◌≡◌, take, filter}
 use Rattle.std.specs.List.{range_with_len}
-use Rattle.ob_ring.specs.FlatTable.{FlatTable, can_go, chosen}
+use Rattle.ob_ring.specs.FlatTable.{can_go}
 use Rattle.ob_ring.specs.Order.{Holds}
 use Rattle.ob_ring.proofs.Pushes.{kept_same, kept_more}
 use Rattle.ob_ring.proofs.refill.choose.Goals as goal

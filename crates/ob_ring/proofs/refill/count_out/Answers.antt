@@ -1,5 +1,5 @@
 use Rattle.std.proofs.Common.{ℕ, arith, ◌∙◌, sym, ap}
-use Rattle.std.specs.Prelude.{◌≡◌, ◌≤◌, ◌+◌, true, false}
+use Rattle.std.specs.Prelude.{◌≡◌, ◌+◌, true, false}
 use Rattle.std.specs.List.{count_by, range_with_len}
 use Rattle.ob_ring.specs.FlatTable.{in_stash}
 use Rattle.ob_ring.proofs.FillParts.{one_more_out}

@@ -1,6 +1,5 @@
-use Rattle.std.proofs.Common.{ℕ, arith, ◌∙◌, sym, ap, subst, length, get_or, take, drop}
+use Rattle.std.proofs.Common.{ℕ, arith, ◌∙◌, ap, subst, length, get_or, take, drop}
 use Rattle.std.specs.Prelude.{◌≡◌, ◌+◌, ◌-◌, ◌*◌}
-use Rattle.ob_bucket.specs.Buckets.{Buckets}
 use Rattle.ob_ring.specs.Filling.{FillsOne, base_of, words_of}
 use Rattle.ob_ring.proofs.FillAll.{listed_within, fills_more, fills_end}
 use Rattle.ob_ring.proofs.refill.fill_all.Goals as goal

@@ -1,6 +1,5 @@
-use Rattle.std.proofs.Common.{ℕ, arith, ◌∙◌, sym, ap, length, take}
-use Rattle.std.specs.Prelude.{◌≡◌, ◌≤◌, ◌-◌}
-use Rattle.ob_bucket.specs.Version.{filled}
+use Rattle.std.proofs.Common.{ℕ, ◌∙◌, ap, take}
+use Rattle.std.specs.Prelude.{◌-◌}
 use Rattle.ob_ring.proofs.FillLaws.{filled_one, filled_follows, taken_few}
 use Rattle.ob_ring.proofs.refill.fill_one.Goals as goal
 

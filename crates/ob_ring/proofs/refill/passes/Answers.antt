@@ -1,5 +1,4 @@
-use Rattle.std.proofs.Common.{ℕ, arith, ◌∙◌, sym, ap}
-use Rattle.std.specs.Prelude.{◌≡◌, ◌==◌, false}
+use Rattle.std.proofs.Common.{arith, ◌∙◌, sym}
 use Rattle.std.proofs.lemmas.Bool.{ne_eqb}
 use Rattle.ob_base.specs.Tree.{bucket_of}
 use Rattle.ob_ring.proofs.FillParts.{passes_at, passes_none}

@@ -1,4 +1,4 @@
-use Rattle.std.specs.Prelude.{◌≡◌, false, ◌==◌, ℕ}
+use Rattle.std.specs.Prelude.{◌≡◌, false, ◌==◌}
 use Rattle.std.specs.List.{list_any}
 use Rattle.ob_ring.proofs.PathLaws.{path_to}
 use Rattle.ob_ring.proofs.refill.passes.Given as goal

@@ -1,4 +1,4 @@
-use Rattle.std.proofs.Common.{ℕ, subst, sym, ap, ◌∙◌}
+use Rattle.std.proofs.Common.{ℕ, subst, sym, ap}
 use Rattle.std.specs.Prelude.{◌<◌, Option, IfSome}
 use Rattle.ob_ring.specs.Settling.{Rows}
 use Rattle.ob_ring.proofs.Stashes.{AreLow, room_left, low_insert}

@@ -1,8 +1,8 @@
-use Rattle.std.proofs.Common.{ℕ, List, [], take, subst, sym, ap, ◌∙◌}
+use Rattle.std.proofs.Common.{List, [], take, subst, sym, ◌∙◌}
 use Rattle.std.proofs.lemmas.List.{take_more}
 use Rattle.ob_base.specs.declared.job.Job.{Job}
 use Rattle.ob_base.specs.Planned.{job_at}
-use Rattle.ob_ring.specs.Settling.{or_else, fault_of, with_row}
+use Rattle.ob_ring.specs.Settling.{or_else, with_row}
 use Rattle.ob_ring.proofs.Stashes.{first_at, fault_both, rows_both}
 use Rattle.ob_ring.proofs.settle.settle_jobs.Invariants.{SoFar}
 use Rattle.ob_ring.proofs.settle.settle_jobs.Goals as goal

@@ -1,6 +1,6 @@
 use Rattle.std.proofs.Common.{sym, subst}
 use Rattle.ob_ring.specs.Ring.{Kept, IsRing, StandsFor, empty_table}
-use Rattle.ob_ring.proofs.RingLaws.{empty_kept, empty_ring, empty_stands}
+use Rattle.ob_ring.proofs.RingLaws.{empty_ring, empty_stands}
 use Rattle.ob_ring.proofs.ring.Ring.empty.Goals as goal
 
 pub invariant_of-result : goal.invariant_of-result

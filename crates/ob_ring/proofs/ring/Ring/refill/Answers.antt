@@ -1,11 +1,7 @@
-use Rattle.std.proofs.Common.{ℕ, arith, sym, ap, subst}
+use Rattle.std.proofs.Common.{ℕ, subst}
 use Rattle.std.specs.Prelude.{◌≡◌, ◌<◌, ◌≤◌}
-use Rattle.ob_base.specs.declared.params.Params.{Params}
-use Rattle.ob_bucket.specs.Buckets.{is_lifted}
-use Rattle.ob_ring.specs.FlatTable.{FlatTable, Refill, after, stash_size}
-use Rattle.ob_ring.specs.Ring.{Kept, StandsFor}
-use Rattle.ob_ring.proofs.TableLaws.{steps_keep_order}
-use Rattle.ob_ring.proofs.FillAll.{refilled_is}
+use Rattle.ob_ring.specs.FlatTable.{Refill, after, stash_size}
+use Rattle.ob_ring.specs.Ring.{Kept}
 use Rattle.ob_ring.proofs.RingLaws.{refill_stands, refill_counts}
 use Rattle.ob_ring.proofs.ring.Ring.refill.Goals as goal
 
