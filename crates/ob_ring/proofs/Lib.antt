@@ -7,6 +7,7 @@ pub mod FillLaws
 pub mod FillParts
 pub mod Fills
 pub mod Forgetting
+pub mod JobLaws
 pub mod LiftLaws
 pub mod LiftOrder
 pub mod Listing

@@ -2,6 +2,7 @@ pub mod Arrays
 pub mod Fetching
 pub mod Filling
 pub mod FlatTable
+pub mod Jobs
 pub mod Laws
 pub mod News
 pub mod Order

@@ -1,3 +1,4 @@
+ghost use Rattle.ob_ring.specs.Jobs.{JobsReadPicks};
 ghost use Rattle.ob_ring.specs.Laws.{StepsKeepOrder, ShownOnce, LiftsTakeAll};
 
 /// Every step of the flat table keeps its order: each present key has one row, on its leaf's path
@@ -16,4 +17,10 @@ pub fn shown_once()
 /// that holds a key.
 pub fn lifts_take_all()
     ensures { LiftsTakeAll }
+{}
+
+/// The jobs of a read batch and of the final lifts read the indexes that the flat table picks, in
+/// its order.
+pub fn jobs_read_picks()
+    ensures { JobsReadPicks }
 {}

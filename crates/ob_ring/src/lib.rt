@@ -14,7 +14,7 @@ mod ring;
 mod settle;
 mod writes;
 
-pub use laws::{lifts_take_all, shown_once, steps_keep_order};
+pub use laws::{jobs_read_picks, lifts_take_all, shown_once, steps_keep_order};
 pub use ring::Ring;
 
 #[cfg(test)]
