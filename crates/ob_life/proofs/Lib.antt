@@ -1,0 +1,12 @@
+pub mod BookLaws
+pub mod EndLaws
+pub mod FreshLaws
+pub mod Has
+pub mod LabelLaws
+pub mod LifeLabels
+pub mod LifeSlots
+pub mod NotesLaws
+pub mod OneLife
+pub mod Pads
+pub mod SlotLaws
+pub mod Traces

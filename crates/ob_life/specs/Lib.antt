@@ -1,0 +1,4 @@
+pub mod Life
+pub mod Calls
+pub mod Laws
+pub mod Bridge

@@ -1,0 +1,15 @@
+pub mod Arrays
+pub mod Fetching
+pub mod Filling
+pub mod FlatTable
+pub mod Jobs
+pub mod Laws
+pub mod News
+pub mod Order
+pub mod Paths
+pub mod Picked
+pub mod Plain
+pub mod Ring
+pub mod Settling
+pub mod Sound
+pub mod Writing

@@ -1,0 +1,6 @@
+/// Where a key lies: a bucket and a real index.
+#[derive(Clone, Copy, Debug, PartialEq, Eq)]
+pub(crate) struct Found {
+    pub(crate) bucket: u32,
+    pub(crate) index: u8,
+}

@@ -1,0 +1,2 @@
+//! The public schedule of a ring store: what each step shows, whoever asks for what.
+#![tactic(auto)]
