@@ -1,5 +1,5 @@
 -- What a store holds as it is formatted.
-use Rattle.std.proofs.Common.{◌≡◌, ◌≢◌, ◌⊎◌, inl, inr, ⊎_elim, ℕ, zero, suc, ◌+◌, ◌<◌, ◌≤◌, List, Option, None, replicate, length, get_or, Result, Ok, Err, true, false, refl, sym, ◌∙◌, ap, subst, arith}
+use Rattle.std.proofs.Common.{◌≡◌, ◌≢◌, ℕ, ◌+◌, ◌<◌, ◌≤◌, List, Option, None, replicate, length, get_or, Result, Ok, Err, true, false, sym, ◌∙◌, subst, arith}
 use Rattle.std.specs.FinMap as finite
 use Rattle.std.specs.Prelude.{IsErr}
 use Rattle.std.specs.Ordering.{nat_cmp}
@@ -9,9 +9,9 @@ use Rattle.ob_store.specs.Calls.{GoesOn, Serves, IsFailed}
 use Rattle.ob_store.proofs.Serving.{goes_then}
 use Rattle.ob_base.specs.declared.params.Params.{Params}
 use Rattle.ob_store.specs.Disk.{Disk, Image}
-use Rattle.ob_store.specs.Images.{SameBut, SameOff}
+use Rattle.ob_store.specs.Images.{SameBut}
 use Rattle.ob_twin.specs.Bodies.{open_gate, closed_gate}
-use Rattle.ob_twin.specs.Register.{IsOpen, gate_at, StandsAt, SameOutside}
+use Rattle.ob_twin.specs.Register.{IsOpen, StandsAt}
 use Rattle.ob_twin.specs.Reading.{NoneOpen}
 use Rattle.ob_twin.proofs.Moves.{closed-isnt-open}
 use Rattle.ob_twin.proofs.Judging.{at_place}
