@@ -52,10 +52,6 @@ pub failed_then : {T U : Type 0} (a b c : Disk) (e : Failed) (r : Result T Faile
 failed_then a b c e (Ok v) goes out err serves = absurd (let wrong : false ≡ true = err in cc)
 failed_then a b c e (Err f) goes out err serves = record { goes = goes_then a b c goes serves.goes; out = (let x = serves.out in omega arith); tells = tt; cause = λ blamed. (let le = goes.faults in let rose = serves.cause tt in omega arith) }
 
--- rows without a value, in cells that stay
-pub rows_moved : (base keys : ℕ) (from to : Image) → ((i : ℕ) → to (base + i) ≡ from (base + i)) → AreRows base from (replicate keys None) → AreRows base to (replicate keys None)
-rows_moved base keys from to same rows i lt = subst (λ (l : List ℕ). IsRow (base + i) l (get_or (replicate keys None) i None)) (sym (same i)) (rows i lt)
-
 -- the store of an empty map
 pub formatted : (p : Params) (a b c : Image) → StandsAt zero_tag 1 a 1 → ((k : ℕ) → k < 5 → b k ≡ a k) → StandsAt zero_tag 5 b 0 → AreRows 9 b (replicate p.keys None) → SameBut 0 c b → c 0 ≡ head_cell p
     → StandsFlat p c (record { epoch = 0; content = finite.empty })
