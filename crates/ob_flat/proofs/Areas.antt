@@ -1,19 +1,19 @@
 -- The two areas of rows, and what the end of an epoch leaves of them.
-use Rattle.std.proofs.Common.{◌≡◌, ◌⊎◌, inl, inr, ⊎_elim, ℕ, suc, ◌+◌, ◌*◌, ◌%◌, ◌<◌, ◌≤◌, List, [], Option, None, length, get_or, map, refl, sym, ◌∙◌, ap, subst, arith}
+use Rattle.std.proofs.Common.{◌≡◌, ◌⊎◌, inl, inr, ⊎_elim, ℕ, suc, ◌+◌, ◌*◌, ◌%◌, ◌<◌, ◌≤◌, List, Option, None, length, get_or, sym, ◌∙◌, ap, subst, arith}
 use Rattle.std.proofs.lemmas.Bool.{cases_eq}
 use Rattle.std.specs.FinMap as finite
 use Rattle.ob_base.specs.declared.params.Params.{Params}
 use Rattle.ob_store.specs.Disk.{Disk, Image}
-use Rattle.ob_store.specs.Images.{SameOff, Passes, LeavesOnly, Settled}
+use Rattle.ob_store.specs.Images.{SameOff, Passes, LeavesOnly}
 use Rattle.ob_store.proofs.Moments.{leaves_of, then_on, weakened}
-use Rattle.ob_twin.specs.Register.{StandsAt, KeepsAt, OldOrNew}
+use Rattle.ob_twin.specs.Register.{KeepsAt, OldOrNew}
 use Rattle.ob_serial.specs.Vaults.{Standing}
 use Rattle.ob_flat.specs.Places.{area_of, row_at}
 use Rattle.ob_flat.specs.Heads.{zero_tag}
 use Rattle.ob_flat.specs.Rows.{IsRow, AreRows}
-use Rattle.ob_flat.specs.Standing.{IsMapOf, StandsFlat}
+use Rattle.ob_flat.specs.Standing.{StandsFlat}
 use Rattle.ob_flat.specs.Ends.{EndsFrom, StandsAtOne}
-use Rattle.ob_flat.proofs.Moved.{stands_moved, stands_same, epoch_set, row_high}
+use Rattle.ob_flat.proofs.Moved.{stands_moved, stands_same, epoch_set}
 
 pub areas : (n m next : ℕ) → next ≡ suc m → ((area_of n m ≡ 9) × (area_of n next ≡ 9 + n)) ⊎ ((area_of n m ≡ 9 + n) × (area_of n next ≡ 9))
 areas n m next is =

@@ -1,5 +1,5 @@
 -- What a store holds as it is formatted.
-use Rattle.std.proofs.Common.{◌≡◌, ◌≢◌, ◌⊎◌, inl, inr, ⊎_elim, ℕ, zero, suc, ◌+◌, ◌<◌, ◌≤◌, List, Option, None, replicate, length, get_or, Result, Ok, Err, true, false, refl, sym, ◌∙◌, ap, subst, arith}
+use Rattle.std.proofs.Common.{◌≡◌, ◌≢◌, ℕ, ◌+◌, ◌<◌, ◌≤◌, List, Option, None, replicate, length, get_or, Result, Ok, Err, true, false, sym, ◌∙◌, subst, arith}
 use Rattle.std.specs.FinMap as finite
 use Rattle.std.specs.Prelude.{IsErr}
 use Rattle.std.specs.Ordering.{nat_cmp}
@@ -9,9 +9,9 @@ use Rattle.ob_store.specs.Calls.{GoesOn, Serves, IsFailed}
 use Rattle.ob_store.proofs.Serving.{goes_then}
 use Rattle.ob_base.specs.declared.params.Params.{Params}
 use Rattle.ob_store.specs.Disk.{Disk, Image}
-use Rattle.ob_store.specs.Images.{SameBut, SameOff}
+use Rattle.ob_store.specs.Images.{SameBut}
 use Rattle.ob_twin.specs.Bodies.{open_gate, closed_gate}
-use Rattle.ob_twin.specs.Register.{IsOpen, gate_at, StandsAt, SameOutside}
+use Rattle.ob_twin.specs.Register.{IsOpen, StandsAt}
 use Rattle.ob_twin.specs.Reading.{NoneOpen}
 use Rattle.ob_twin.proofs.Moves.{closed-isnt-open}
 use Rattle.ob_twin.proofs.Judging.{at_place}
@@ -51,10 +51,6 @@ module _ (a b c d e : Image) (two : a 2 ≡ replicate 128 0) (four : b 4 ≡ rep
 pub failed_then : {T U : Type 0} (a b c : Disk) (e : Failed) (r : Result T Failed) → GoesOn a b → b.out ≤ a.out → IsErr r → Serves {T = U} IsFailed b c (Err e) → Serves {T = T} IsFailed a c r
 failed_then a b c e (Ok v) goes out err serves = absurd (let wrong : false ≡ true = err in cc)
 failed_then a b c e (Err f) goes out err serves = record { goes = goes_then a b c goes serves.goes; out = (let x = serves.out in omega arith); tells = tt; cause = λ blamed. (let le = goes.faults in let rose = serves.cause tt in omega arith) }
-
--- rows without a value, in cells that stay
-pub rows_moved : (base keys : ℕ) (from to : Image) → ((i : ℕ) → to (base + i) ≡ from (base + i)) → AreRows base from (replicate keys None) → AreRows base to (replicate keys None)
-rows_moved base keys from to same rows i lt = subst (λ (l : List ℕ). IsRow (base + i) l (get_or (replicate keys None) i None)) (sym (same i)) (rows i lt)
 
 -- the store of an empty map
 pub formatted : (p : Params) (a b c : Image) → StandsAt zero_tag 1 a 1 → ((k : ℕ) → k < 5 → b k ≡ a k) → StandsAt zero_tag 5 b 0 → AreRows 9 b (replicate p.keys None) → SameBut 0 c b → c 0 ≡ head_cell p

@@ -1,12 +1,12 @@
 -- Values by key as a map, and writes to them.
-use Rattle.std.proofs.Common.{◌≡◌, ◌≢◌, ◌⊎◌, ⊎_elim, ℕ, ◌+◌, ◌<◌, ◌≤◌, List, [], ◌∷◌, ◌++◌, Option, Some, None, length, get_or, map, take, cond, true, false, refl, sym, ◌∙◌, ap, subst, arith, get_or-set_same, get_or-set_other, length-set}
-use Rattle.std.specs.Prelude.{slice_set, slice_get, replicate}
+use Rattle.std.proofs.Common.{◌≡◌, ◌≢◌, ⊎_elim, ℕ, ◌+◌, ◌<◌, ◌≤◌, List, [], ◌∷◌, ◌++◌, Option, Some, None, length, get_or, map, take, cond, true, false, sym, ◌∙◌, ap, subst, arith, get_or-set_same, get_or-set_other, length-set, zero, suc, refl}
+use Rattle.std.specs.Prelude.{slice_set, replicate}
 use Rattle.std.proofs.lemmas.Bool.{cases_eq}
 use Rattle.std.proofs.lemmas.Bool.Decides.{nat_tests}
 use Rattle.std.proofs.lemmas.List.{length-replicate, map-append, map_more, get_or-replicate, get_or_past}
 use Rattle.std.specs.Ordering.{nat_cmp, eq_by_cmp}
 use Rattle.std.specs.Cmp.{nat_cmp_total}
-use Rattle.std.specs.FinMap.{get, get-insert, get-remove, get-empty, empty}
+use Rattle.std.specs.FinMap.{find, from_entries, get-from_entries, get, get-insert, get-remove, get-empty, empty}
 use Rattle.ob_base.specs.declared.value.Write.{Write}
 use Rattle.ob_base.specs.declared.op.Op.{Op}
 use Rattle.ob_serial.specs.Serial.{Map, after, after_op}
@@ -60,3 +60,33 @@ none_of n = record {
   below = λ key low. get-empty nat_cmp key ∙ sym (get_or-replicate n key None None (omega (arith, length-replicate {A = Option (List ℕ)} n None)));
   above = λ key high. get-empty nat_cmp key;
 }
+
+-- the keys that have a value, from this one on
+present_from : ℕ → List (Option (List ℕ)) → List (ℕ × List ℕ)
+present_from k [] = []
+present_from k (None ∷ values) = present_from (k + 1) values
+present_from k (Some v ∷ values) = (k, v) ∷ present_from (k + 1) values
+
+none_before : (q k : ℕ) (values : List (Option (List ℕ))) → q < k → find nat_cmp q (present_from k values) ≡ None
+unfolding present_from
+none_before q k [] lt = refl
+none_before q k (None ∷ values) lt = none_before q (k + 1) values (omega arith)
+none_before q k (Some v ∷ values) lt = rw (differs q k (omega arith)) (none_before q (k + 1) values (omega arith))
+
+found_at : (k : ℕ) (values : List (Option (List ℕ))) (i q : ℕ) → q ≡ k + i → find nat_cmp q (present_from k values) ≡ get_or values i None
+unfolding present_from
+found_at k [] i q is = refl
+found_at k (None ∷ values) zero q is = none_before q (k + 1) values (omega arith)
+found_at k (None ∷ values) (suc i) q is = found_at (k + 1) values i q (omega arith)
+found_at k (Some v ∷ values) zero q is = let same : q ≡ k = omega arith in rw (same, ties k) refl
+found_at k (Some v ∷ values) (suc i) q is = rw (differs q k (omega arith)) (found_at (k + 1) values i q (omega arith))
+
+-- there is a map of any values
+pub some_map : (values : List (Option (List ℕ))) → (m : Map nat_cmp) × IsMapOf values m
+some_map values = (
+  from_entries (present_from 0 values),
+  record {
+    below = λ key low. get-from_entries nat_cmp_total (present_from 0 values) key ∙ found_at 0 values key key (omega arith);
+    above = λ key high. get-from_entries nat_cmp_total (present_from 0 values) key ∙ found_at 0 values key key (omega arith) ∙ get_or_past values key None high;
+  },
+)

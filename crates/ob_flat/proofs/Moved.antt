@@ -1,18 +1,18 @@
 -- What an image stands for is told by few of its cells.
-use Rattle.std.proofs.Common.{◌≡◌, ◌⊎◌, inl, inr, ⊎_elim, ℕ, suc, ◌+◌, ◌*◌, ◌%◌, ◌<◌, ◌≤◌, List, Option, None, refl, sym, ◌∙◌, ap, subst, arith}
+use Rattle.std.proofs.Common.{◌≡◌, inl, inr, ℕ, ◌+◌, ◌%◌, ◌<◌, ◌≤◌, List, Option, None, sym, ◌∙◌, ap, subst, arith}
 use Rattle.std.specs.FinMap as finite
 use Rattle.ob_base.specs.declared.params.Params.{Params}
 use Rattle.ob_store.specs.Disk.{Image}
 use Rattle.ob_store.specs.Calls.{Holds}
 use Rattle.ob_twin.specs.Bodies.{Tagging, IsStamped, number_of}
-use Rattle.ob_twin.specs.Register.{body_at, gate_at, place_of, IsUnder, StandsAt, SameOutside, KeepsAt}
+use Rattle.ob_twin.specs.Register.{body_at, gate_at, place_of, StandsAt, SameOutside, KeepsAt}
 use Rattle.ob_twin.specs.Opening.{GatesAre}
 use Rattle.ob_twin.specs.declared.gates.Open.{Open}
 use Rattle.ob_serial.specs.Vaults.{Standing}
 use Rattle.ob_flat.specs.Places.{area_of, row_at}
 use Rattle.ob_flat.specs.Heads.{zero_tag, IsHead}
 use Rattle.ob_flat.specs.Rows.{IsRow}
-use Rattle.ob_flat.specs.Standing.{IsMapOf, StandsFlat}
+use Rattle.ob_flat.specs.Standing.{StandsFlat}
 
 -- a register stands where its four cells are the same
 pub register_moved : (tag : Tagging) (first n : ℕ) (c d : Image) → ((k : ℕ) → first ≤ k → k < first + 4 → c k ≡ d k) → StandsAt tag first d n → StandsAt tag first c n

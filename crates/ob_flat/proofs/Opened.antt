@@ -1,6 +1,5 @@
 -- What opening finds.
-use Rattle.std.proofs.Common.{◌≡◌, ℕ, suc, ◌+◌, ◌-◌, ◌<◌, ◌≤◌, ◌^◌, List, Option, Some, None, Ok, Err, take, drop, length, get_or, inl, inr, refl, sym, ◌∙◌, ap, subst, arith}
-use Rattle.std.specs.FinMap as finite
+use Rattle.std.proofs.Common.{◌≡◌, ℕ, ◌-◌, ◌^◌, List, Option, Some, None, Err, take, drop, length, inr, refl, sym, ◌∙◌, ap, subst, arith}
 use Rattle.ob_base.specs.declared.params.Params.{Params}
 use Rattle.ob_base.specs.declared.fault.Fault.{Fault}
 use Rattle.ob_base.specs.declared.fault.Fault.TheVariants.{Memory, Usage, BadScript, BadParams, NotStore, Damaged, StoreFault, StashFull, Worn, SourceFault, SinkFault}
@@ -12,9 +11,9 @@ use Rattle.ob_serial.specs.Vaults.{Standing}
 use Rattle.ob_flat.specs.Places.{area_of}
 use Rattle.ob_flat.specs.Heads.{zero_tag}
 use Rattle.ob_flat.specs.Rows.{IsRow, AreRows, IsRowFault, AreRowsRead, IsFirstRowDamage}
-use Rattle.ob_flat.specs.Registers.{Found, IsBeginFault, AreRegisters, IsRegistersFault}
+use Rattle.ob_flat.specs.Registers.{Found, IsBeginFault}
 use Rattle.ob_flat.specs.Standing.{IsMapOf, StandsFlat}
-use Rattle.ob_flat.specs.Openings.{IsOpeningOf, IsRowsDamage, IsWornOut}
+use Rattle.ob_flat.specs.Openings.{IsOpeningOf}
 
 -- a row has one value
 pub row_same : (cell : ℕ) (bytes : List ℕ) (a b : Option (List ℕ)) → IsRow cell bytes a → IsRow cell bytes b → a ≡ b

@@ -1,5 +1,5 @@
 -- What opening leaves and tells.
-use Rattle.std.proofs.Common.{◌≡◌, ◌⊎◌, inl, inr, ⊎_elim, ℕ, suc, ◌+◌, List, Option, None, Result, Ok, Err, OnErr, IfErr, ◌++◌, refl, sym, ◌∙◌, ap, subst, arith}
+use Rattle.std.proofs.Common.{◌≡◌, inl, inr, ⊎_elim, ℕ, List, Option, None, Result, Ok, Err, IfErr, ◌++◌, sym, ◌∙◌, subst}
 use mathlib.Core.Path.{fun_ext}
 use Rattle.ob_base.specs.declared.params.Params.{Params}
 use Rattle.ob_base.specs.declared.fault.Fault.{Fault}
@@ -13,7 +13,7 @@ use Rattle.ob_store.specs.Lines.{Trace, Shows, ShowsFirst}
 use Rattle.ob_store.proofs.Moments.{started, goes_on, then_on, weakened, leaves_of, passed_then}
 use Rattle.ob_store.proofs.Events.{all_first, first_more, joined_first}
 use Rattle.ob_store.proofs.Showing.{all_shown, shown_more, shows_first}
-use Rattle.ob_twin.specs.Register.{StandsAt, OldOrNew}
+use Rattle.ob_twin.specs.Register.{OldOrNew}
 use Rattle.ob_serial.specs.Vaults.{Standing}
 use Rattle.ob_flat.specs.declared.registers.Register.{Register}
 use Rattle.ob_flat.specs.Heads.{zero_tag}

@@ -1,5 +1,5 @@
 -- What a refused end of an epoch leaves and tells.
-use Rattle.std.proofs.Common.{◌≡◌, ℕ, suc, ◌+◌, ◌<◌, ◌^◌, List, Option, Some, None, Err, take, refl, sym, ap, subst, arith}
+use Rattle.std.proofs.Common.{◌≡◌, ℕ, suc, ◌<◌, ◌^◌, List, Option, None, Err, take, refl, sym, subst}
 use Rattle.ob_base.specs.declared.params.Params.{Params}
 use Rattle.ob_base.specs.declared.fault.Fault.{Fault}
 use Rattle.ob_base.specs.declared.fault.Fault.TheVariants.{StoreFault}
@@ -16,7 +16,7 @@ use Rattle.ob_twin.specs.declared.set_err.SetErr.TheVariants.{Before, Unsure}
 use Rattle.ob_twin.specs.Refused.{IsSetFault, IsBefore}
 use Rattle.ob_serial.specs.declared.vault.EndErr.{EndErr}
 use Rattle.ob_serial.specs.declared.vault.EndErr.TheVariants as end
-use Rattle.ob_serial.specs.Vaults.{Standing, VaultAnswer, RefusedBy, DoubtBy}
+use Rattle.ob_serial.specs.Vaults.{Standing, RefusedBy}
 use Rattle.ob_serial.specs.VaultViews.{end_answer}
 use Rattle.ob_flat.specs.Standing.{StandsFlat}
 use Rattle.ob_flat.specs.Orders.{end_events, end_notes}

@@ -1,8 +1,7 @@
 -- A vault stays sound, whatever an end of an epoch answers.
-use Rattle.std.proofs.Common.{◌≡◌, ◌⊎◌, inl, inr, ⊎_elim, ℕ, suc, ◌+◌, Bool, true, false, List, Option, Some, None, Err, length, refl, sym, ap, subst, ◌∙◌, arith}
+use Rattle.std.proofs.Common.{◌≡◌, inl, inr, ℕ, suc, Bool, true, false, List, Option, Some, Err, length, refl, sym, ap, subst, ◌∙◌}
 use Rattle.std.specs.Borrow.{GName}
 use Rattle.ob_base.specs.declared.params.Params.{Params}
-use Rattle.ob_base.specs.declared.fault.Fault.{Fault}
 use Rattle.ob_store.specs.Disk.{Disk, Image, Clock, NotAfter}
 use Rattle.ob_store.specs.Images.{Settled, LeavesOnly}
 use Rattle.ob_store.proofs.Moments.{started, weakened}
@@ -10,13 +9,13 @@ use Rattle.std.specs.Ordering.{nat_cmp}
 use Rattle.ob_serial.specs.Serial.{Map}
 use Rattle.ob_serial.specs.declared.vault.EndErr.{EndErr}
 use Rattle.ob_serial.specs.declared.vault.EndErr.TheVariants.{Before, Unsure}
-use Rattle.ob_serial.specs.Vaults.{VaultState, VaultCounts, VaultAnswer, Fetch, End, Ended, RefusedBy, DoubtBy, Standing, standing_now, standing_next, with_writes, vault_next, counts_of, MayStand, MayStandIn, StandsIn}
+use Rattle.ob_serial.specs.Vaults.{VaultState, VaultCounts, Fetch, End, Ended, Standing, standing_now, standing_next, with_writes, vault_next, counts_of, MayStand, MayStandIn, StandsIn}
 use Rattle.ob_serial.specs.VaultViews.{end_answer}
 use Rattle.ob_flat.specs.Standing.{IsMapOf, StandsFlat}
 use Rattle.ob_flat.specs.declared.opening.Opening.{Opening}
 use Rattle.ob_flat.specs.Openings.{IsOpenedAt}
-use Rattle.ob_flat.specs.Ends.{EndsFrom, EndsAt, EndsIn, StandsAtOne}
-use Rattle.ob_flat.specs.Calls.{FlatHolds, FlatServes, FlatSound, lent, opened_at}
+use Rattle.ob_flat.specs.Ends.{EndsFrom, EndsIn, StandsAtOne}
+use Rattle.ob_flat.specs.Calls.{FlatServes, FlatSound, lent, opened_at}
 use Rattle.ob_flat.proofs.Moved.{stands_same}
 
 -- a reference more changes nothing of what crashes leave

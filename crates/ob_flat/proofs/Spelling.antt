@@ -1,14 +1,13 @@
 -- Rows and heads as they are written are read again.
 use Rattle.std.proofs.Common.{◌≡◌, ℕ, ◌+◌, ◌*◌, ◌-◌, ◌<◌, ◌≤◌, ◌^◌, List, [], ◌∷◌, ◌++◌, Option, Some, None, take, drop, length, get_or, map, replicate, refl, subst, sym, ap, ◌∙◌, arith, append_assoc, add_assoc, length-append}
-use Rattle.std.specs.Prelude.{slice_index}
 use Rattle.std.specs.List.{flat_map}
-use Rattle.std.specs.Int.{w32, to_le_bytes, from_le_bytes}
+use Rattle.std.specs.Int.{w32, to_le_bytes}
 use Rattle.std.proofs.lemmas.List.{take_at, drop_at, drop-replicate, length-replicate, replicate-append-replicate, length-map, get_or-map, get_or-replicate, length-take-le, drop-drop, append-nil, take_more, take-append-drop}
 use Rattle.std.proofs.lemmas.Nat.{from_le_bytes-to_le_bytes_4}
 use Rattle.std.proofs.Math.Seq.{drop-append-add}
 use Rattle.ob_base.specs.declared.params.Params.{Params}
 use Rattle.ob_base.specs.LittleEndian.{with_part}
-use Rattle.ob_flat.specs.Heads.{mark, numbers_of, head_plain, head_cell, number_at, IsHead}
+use Rattle.ob_flat.specs.Heads.{mark, head_plain, head_cell, number_at, IsHead}
 use Rattle.ob_store.specs.Disk.{Image}
 use Rattle.ob_store.specs.Calls.{Holds}
 use Rattle.ob_flat.specs.Rows.{row_cell, row_bytes, IsShort, AreShort, IsRow, AreRows}

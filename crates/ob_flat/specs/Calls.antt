@@ -1,5 +1,5 @@
 -- What a plain vault holds, and what its calls do to its store.
-use Rattle.std.specs.Prelude.{◌≡◌, ◌≤◌, ◌<◌, ◌^◌, ℕ, suc, Bool, false, List, [], ◌∷◌, take, length, map, Option, Some, None}
+use Rattle.std.specs.Prelude.{◌≡◌, ◌≤◌, ◌<◌, ◌^◌, ℕ, suc, false, List, [], ◌∷◌, take, length, map, Option, Some, None}
 use Rattle.std.specs.Borrow.{GName}
 use Rattle.ob_base.specs.declared.params.Params.{Params}
 use Rattle.ob_base.specs.declared.fault.Fault.{Fault}

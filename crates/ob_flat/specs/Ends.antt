@@ -7,7 +7,7 @@ use Rattle.ob_twin.specs.declared.set_err.SetErr.{SetErr}
 use Rattle.ob_twin.specs.declared.set_err.SetErr.TheVariants as set
 use Rattle.ob_serial.specs.declared.vault.EndErr.{EndErr}
 use Rattle.ob_serial.specs.declared.vault.EndErr.TheVariants as end
-use Rattle.ob_serial.specs.Vaults.{Standing, VaultAnswer, Ended, RefusedBy, DoubtBy}
+use Rattle.ob_serial.specs.Vaults.{Standing, VaultAnswer, Ended, RefusedBy}
 use Rattle.ob_flat.specs.Standing.{IsMapOf, StandsFlat}
 
 -- the store stands for an epoch, no write waits for a sync, and these are the values of the next one

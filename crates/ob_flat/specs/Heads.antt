@@ -4,7 +4,7 @@ use Rattle.std.specs.List.{flat_map}
 use Rattle.std.specs.Int.{w32, to_le_bytes}
 use Rattle.ob_base.specs.declared.params.Params.{Params}
 use Rattle.ob_base.specs.declared.fault.Field.{Field}
-use Rattle.ob_base.specs.declared.fault.Field.TheVariants.{N, L, Z, S, R, BR, BW, E, T}
+use Rattle.ob_base.specs.declared.fault.Field.TheVariants.{L, Z, S, R, BR, BW, E, T}
 use Rattle.ob_base.specs.declared.fault.Damaged.{Damaged}
 use Rattle.ob_base.specs.declared.fault.Check.TheVariants.{Form}
 use Rattle.ob_base.specs.declared.fault.Fault.{Fault}

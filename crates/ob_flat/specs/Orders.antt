@@ -1,5 +1,5 @@
 -- The orders of reads, writes and syncs.
-use Rattle.std.specs.Prelude.{ℕ, ◌+◌, Bool, true, List, [], ◌∷◌, ◌++◌, map}
+use Rattle.std.specs.Prelude.{ℕ, true, List, [], ◌∷◌, ◌++◌, map}
 use Rattle.ob_store.specs.declared.event.Event.{Event}
 use Rattle.ob_store.specs.declared.event.Event.TheVariants as event
 use Rattle.ob_store.specs.declared.watch.Note.{Note}

@@ -1,5 +1,5 @@
 -- The row of a key: whether there is a value, its length, and its bytes.
-use Rattle.std.specs.Prelude.{◌≡◌, ◌⊎◌, ◌<◌, ◌≤◌, ℕ, ◌+◌, ◌-◌, List, [], ◌∷◌, ◌++◌, take, drop, length, replicate, slice_index, slice_index_or, Option, Some, None, Result, Ok, Err}
+use Rattle.std.specs.Prelude.{◌≡◌, ◌⊎◌, ◌<◌, ◌≤◌, ℕ, ◌+◌, ◌-◌, List, ◌∷◌, ◌++◌, take, drop, length, replicate, slice_index, slice_index_or, Option, Some, None, Result, Ok, Err}
 use Rattle.ob_base.specs.declared.fault.Damaged.{Damaged}
 use Rattle.ob_base.specs.declared.fault.Check.TheVariants.{Form}
 use Rattle.ob_base.specs.declared.fault.Fault.{Fault}

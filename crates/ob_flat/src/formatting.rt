@@ -5,14 +5,14 @@ ghost use Rattle.ob_store.specs.declared.event.Event.TheVariants as event;
 ghost use Rattle.ob_store.specs.declared.watch.Note.TheVariants as note;
 ghost use Rattle.ob_store.specs.Disk.{Image};
 ghost use Rattle.ob_store.specs.Images.{Settled};
-ghost use Rattle.ob_store.specs.Calls.{Serves, IsFailed, IsStoreFault, Notes, NotesFirst};
+ghost use Rattle.ob_store.specs.Calls.{Serves, IsFailed, IsStoreFault, Holds, Notes, NotesFirst};
 ghost use Rattle.ob_store.specs.Lines.{Shows, ShowsFirst};
 ghost use Rattle.ob_twin.specs.declared.twin.Twin.{Twin};
 ghost use Rattle.ob_twin.specs.Register.{first_of, place_of, IsOpen, StandsAt, SameOutside};
 ghost use Rattle.ob_twin.specs.Reading.{NoneOpen};
 ghost use Rattle.ob_twin.specs.Orders.{through_events, through_notes, set_events, set_notes};
-ghost use Rattle.ob_flat.specs.Heads.{zero_tag};
-ghost use Rattle.ob_flat.specs.Rows.{AreRows};
+ghost use Rattle.ob_flat.specs.Heads.{zero_tag, head_cell};
+ghost use Rattle.ob_flat.specs.Rows.{row_cell};
 ghost use Rattle.ob_flat.specs.Standing.{StandsFlat};
 ghost use Rattle.ob_flat.specs.Orders.{format_events, format_notes, shut_events, shut_notes, rows_events, rows_notes};
 
@@ -88,7 +88,7 @@ fn lay_rows<S: Store, W: Watch>(store: &mut S, keys: u64, watch: &mut W) -> Resu
     requires closed { (S.disk store.old).tells → NoneOpen 5 (S.disk store.old).cells }
     ensures serves { Serves IsFailed (S.disk store.old) (S.disk store.new) result }
     ensures epoch { (S.disk store.old).tells → OnOk result (StandsAt zero_tag 5 (S.disk store.new).cells 0) }
-    ensures rows { (S.disk store.old).tells → OnOk result (AreRows 9 (S.disk store.new).cells (replicate keys None)) }
+    ensures rows { (S.disk store.old).tells → OnOk result (Holds 9 (replicate keys (row_cell None)) (S.disk store.new).cells) }
     ensures low { (S.disk store.old).tells → (k : ℕ) → k < 5 → (S.disk store.new).cells k ≡ (S.disk store.old).cells k }
     ensures seen { OnOk result (Notes (rows_events 9 keys ++ set_events true 5 0) (S.disk store.old).seen (S.disk store.new).seen) }
     ensures seen_err { OnErr result (NotesFirst (rows_events 9 keys ++ set_events true 5 0) (S.disk store.old).seen (S.disk store.new).seen) }
@@ -105,6 +105,8 @@ fn lay<S: Store, W: Watch>(store: &mut S, params: &Params, watch: &mut W) -> Res
     requires none_out { (S.disk store.old).out ≡ 0 }
     ensures serves { Serves IsFailed (S.disk store.old) (S.disk store.new) result }
     ensures stands { (S.disk store.old).tells → OnOk result (StandsFlat params.now (S.disk store.new).cells (record { epoch = 0; content = finite.empty })) }
+    ensures head { (S.disk store.old).tells → OnOk result ((S.disk store.new).cells 0 ≡ head_cell params.now) }
+    ensures rows { (S.disk store.old).tells → OnOk result (Holds 9 (replicate params.now.keys (row_cell None)) (S.disk store.new).cells) }
     ensures durable { (S.disk store.old).tells → OnOk result (Settled (S.disk store.new)) }
     ensures seen { OnOk result (Notes (format_events params.now.keys) (S.disk store.old).seen (S.disk store.new).seen) }
     ensures seen_err { OnErr result (NotesFirst (format_events params.now.keys) (S.disk store.old).seen (S.disk store.new).seen) }
@@ -131,6 +133,9 @@ pub fn format<S: Store, W: Watch>(
     ensures serves { Serves IsStoreFault (S.disk store.old) (S.disk store.new) result }
     ensures faults { IfErr result (λ refused. refused ≡ fault.StoreFault None) }
     ensures stands { (S.disk store.old).tells → OnOk result (StandsFlat params.now (S.disk store.new).cells (record { epoch = 0; content = finite.empty })) }
+    // The bytes that it writes into the head and into each row.
+    ensures head { (S.disk store.old).tells → OnOk result ((S.disk store.new).cells 0 ≡ head_cell params.now) }
+    ensures rows { (S.disk store.old).tells → OnOk result (Holds 9 (replicate params.now.keys (row_cell None)) (S.disk store.new).cells) }
     ensures durable { (S.disk store.old).tells → OnOk result (Settled (S.disk store.new)) }
     ensures images { (S.disk store.old).tells → OnOk result ((c : Image) → (S.disk store.new).may_leave c → StandsFlat params.now c (record { epoch = 0; content = finite.empty })) }
     ensures seen { OnOk result (Notes (format_events params.now.keys) (S.disk store.old).seen (S.disk store.new).seen) }

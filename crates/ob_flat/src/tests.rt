@@ -5,7 +5,7 @@ ghost use Rattle.ob_mem.specs.Memory.{disk_of_store};
 use crate::{FlatVault, cells, format, head, prepare};
 use ob_base::{Check, Fault, Key, Params, Value, Write};
 use ob_mem::{Fail, MemSink, MemStore};
-use ob_serial::{EndErr, Vault};
+use ob_serial::{EndErr, Reply, Request, Vault, serve_all};
 use ob_store::{Blind, SinkWatch, Store, Watch};
 use std::alloc::Global;
 use std::process::Abort;
@@ -350,5 +350,23 @@ fn the_last_numbers_are_worn(rt: HostRuntime) -> Result<(), Broken> {
     assert_eq!(rt; ask(&rt, &mut vault, 0, &mut Blind), None);
     assert!(rt; end_with(&rt, &mut vault, None, &mut Blind) == Err(EndErr::Before(worn)));
     assert!(rt; vault.spent());
+    Ok(())
+}
+
+#[test]
+fn a_list_of_calls_is_served(rt: HostRuntime) -> Result<(), Broken> {
+    let alloc = rt.alloc();
+    let mut store = MemStore::new(alloc, 25, Vec::new(alloc))?;
+    assert!(rt; format(&mut store, &small_params(&rt), &mut Blind).is_ok());
+    let mut vault = open(&rt, alloc, &mut store, &mut Blind);
+    assert!(rt; vault.params().places == 2);
+    assert!(rt; vault.params().keys == 8);
+    assert!(rt; vault.left() == 2);
+    assert!(rt; !vault.spent());
+    let requests = [Request::Fetch([Some(5), None].to_vec(alloc)?)];
+    let replies = serve_all(alloc, &mut vault, &requests, &mut Blind)?;
+    assert_eq!(rt; replies.len(), 1);
+    assert!(rt; matches!(&replies[0], Reply::Values(_)));
+    assert_eq!(rt; vault.left(), 1);
     Ok(())
 }

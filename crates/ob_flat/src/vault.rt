@@ -26,6 +26,8 @@ impl<'a, S: Store> FlatVault<'a, S> {
     ghost use Rattle.std.specs.Prelude.{◌≡◌, false};
     ghost use Rattle.ob_store.specs.Images.{Settled};
     ghost use Rattle.ob_twin.specs.Opening.{GatesAre};
+    ghost use Rattle.std.specs.Ordering.{nat_cmp};
+    ghost use Rattle.ob_serial.specs.Serial.{Map};
     ghost use Rattle.ob_serial.specs.Vaults.{Standing};
     ghost use Rattle.ob_flat.specs.Calls.{FlatHolds, FlatSound, opened_at};
     ghost use Rattle.ob_flat.specs.Openings.{IsOpenedAt};
@@ -43,7 +45,8 @@ impl<'a, S: Store> FlatVault<'a, S> {
         ensures values { result.values.items ≡ opening.values.items }
         ensures left { result.left ≡ opening.params.batches }
         ensures spent { result.held.spent ≡ false }
-        // It holds the map of the opening,
+        // There is a map of what the opening found. The vault holds it,
+        ensures some { (m : Map nat_cmp) × IsMapOf opening.values.items m }
         ensures holds { (at : Standing) → opening.epoch ≡ at.epoch → IsMapOf opening.values.items at.content
             → FlatHolds result.params (record { epoch = result.held.epoch; left = result.left; spent = result.held.spent }) result.values.items (opened_at opening.params at) }
         // and where the store stands for that, it is sound.

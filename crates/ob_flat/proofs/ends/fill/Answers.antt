@@ -5,8 +5,8 @@ use Rattle.ob_store.specs.Runs.{write_events, write_notes}
 use Rattle.ob_store.proofs.Events.{joined, all_first}
 use Rattle.ob_store.proofs.Showing.{shows_then, shows_first}
 use Rattle.ob_store.proofs.Serving.{if_err, on_ok, on_err}
-use Rattle.std.proofs.Common.{length, ◌++◌, zero}
-use Rattle.ob_flat.specs.Orders.{rows_events, rows_notes}
+use Rattle.std.proofs.Common.{length}
+use Rattle.ob_flat.specs.Orders.{rows_events}
 use Rattle.ob_flat.proofs.ends.fill.Goals as goal
 
 pub returns-clause-seen_err : goal.returns-clause-seen_err

@@ -1,5 +1,4 @@
-use Rattle.std.proofs.Common.{◌≡◌, ℕ, suc, ◌+◌, ◌<◌, List, Option, length, map, inl, sym, ap, subst, ◌∙◌, arith, add-one}
-use Rattle.ob_base.specs.declared.params.Params.{Params}
+use Rattle.std.proofs.Common.{◌≡◌, ◌+◌, length, map, inl, subst, arith}
 use Rattle.ob_store.specs.Images.{SameOff, Passes}
 use Rattle.ob_store.specs.Calls.{Holds, Notes}
 use Rattle.ob_store.specs.Lines.{Shows}
@@ -11,13 +10,12 @@ use Rattle.ob_twin.specs.Register.{place_of}
 use Rattle.ob_twin.specs.Opening.{is_closed_first}
 use Rattle.ob_twin.specs.Orders.{set_events, set_notes}
 use Rattle.ob_twin.proofs.Moves.{under_next}
-use Rattle.ob_serial.specs.Vaults.{Standing}
 use Rattle.ob_flat.specs.Places.{area_of}
 use Rattle.ob_flat.specs.Heads.{zero_tag}
-use Rattle.ob_flat.specs.Rows.{row_cell, AreRows}
+use Rattle.ob_flat.specs.Rows.{row_cell}
 use Rattle.ob_flat.specs.Standing.{StandsFlat}
 use Rattle.ob_flat.specs.Orders.{rows_events, rows_notes}
-use Rattle.ob_flat.specs.Ends.{EndsFrom, StandsAtOne}
+use Rattle.ob_flat.specs.Ends.{StandsAtOne}
 use Rattle.ob_flat.proofs.Spelling.{rows_are}
 use Rattle.ob_flat.proofs.Moved.{rows_kept}
 use Rattle.ob_flat.proofs.Areas.{rows_leave, rows_stay, stands_next, ends_at_one, ends_before}

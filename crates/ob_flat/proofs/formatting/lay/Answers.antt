@@ -1,13 +1,11 @@
-use Rattle.std.proofs.Common.{◌≡◌, ℕ, ◌+◌, ◌<◌, ◌≤◌, List, [], ◌∷◌, ◌++◌, true, None, replicate, inl, inr, ◌∙◌, arith}
-use Rattle.ob_store.specs.declared.event.Event.TheVariants as event
-use Rattle.ob_store.specs.declared.watch.Note.TheVariants as note
+use Rattle.std.proofs.Common.{◌++◌, true, ◌∙◌, arith, ◌+◌}
 use Rattle.ob_store.specs.Calls.{IsFailed}
-use Rattle.ob_store.specs.Runs.{write_events, write_notes}
-use Rattle.ob_store.proofs.Serving.{if_ok, if_err, on_ok, on_err, goes_then, serves_then}
-use Rattle.ob_store.proofs.Events.{joined, all_first, first_more, joined_first}
-use Rattle.ob_store.proofs.Showing.{shows_then, all_shown, shown_more, shows_first}
+use Rattle.ob_store.proofs.Serving.{if_err, on_ok, on_err, goes_then, serves_then, if_ok}
+use Rattle.ob_store.proofs.Events.{first_more, joined_first}
+use Rattle.ob_store.proofs.Showing.{shows_then, shown_more, shows_first}
 use Rattle.ob_twin.specs.Orders.{through_events, through_notes, set_events, set_notes}
 use Rattle.ob_flat.specs.Orders.{shut_events, shut_notes, rows_events, rows_notes}
+use Rattle.ob_flat.proofs.Spelling.{blanks_are}
 use Rattle.ob_flat.proofs.Formats.{formatted}
 use Rattle.ob_flat.proofs.formatting.lay.Goals as goal
 
@@ -38,7 +36,7 @@ returns-clause-stands g c = λ tells.
     let two = b.serves.tells one in
     on_ok _ _ c.write_through.result
     (λ head. formatted c.args.params.now (g.S.Store.disk c.lay_registers.new.store).cells (g.S.Store.disk c.lay_rows.new.store).cells (g.S.Store.disk c.write_through.new.store).cells
-    (a.generation tells) (b.low one) (b.epoch one) (b.rows one) (c.write_through.ensures.rest two) (head ∙ c.head_cell.ensures))
+    (a.generation tells) (b.low one) (b.epoch one) (blanks_are 9 c.args.params.now.keys (g.S.Store.disk c.lay_rows.new.store).cells (b.rows one)) (c.write_through.ensures.rest two) (head ∙ c.head_cell.ensures))
     (c.write_through.ensures.written two)
 
 pub returns-clause-seen_err : goal.returns-clause-seen_err
@@ -49,3 +47,14 @@ returns-clause-shown g c = on_ok _ _ c.write_through.result (λ last. shows_then
 
 pub returns-clause-shown_err : goal.returns-clause-shown_err
 returns-clause-shown_err g c = on_err _ _ c.write_through.result (λ last. shows_first (through_notes 0 ++ (shut_notes ++ set_notes true 1 1)) ((rows_notes 9 c.args.params.now.keys ++ set_notes true 5 0) ++ (through_notes 0)) _ _ _ c.in_ok-lay_registers.ensures.shown (shows_first (rows_notes 9 c.args.params.now.keys ++ set_notes true 5 0) (through_notes 0) _ _ _ c.in_ok-lay_rows.ensures.shown (1, omega arith, last))) c.write_through.ensures.shown_err
+
+pub returns-clause-head : goal.returns-clause-head
+returns-clause-head g c = λ tells.
+    let two = c.in_ok-lay_rows.ensures.serves.tells (c.in_ok-lay_registers.ensures.serves.tells tells) in
+    on_ok _ _ c.write_through.result (λ head. head ∙ c.head_cell.ensures) (c.write_through.ensures.written two)
+
+pub returns-clause-rows : goal.returns-clause-rows
+returns-clause-rows g c = λ tells.
+    let one = c.in_ok-lay_registers.ensures.serves.tells tells in
+    let b = c.in_ok-lay_rows.ensures in
+    if_ok _ c.write_through.result (λ i lt. c.write_through.ensures.rest (b.serves.tells one) (9 + i) (omega arith) ∙ b.rows one i lt)

@@ -1,13 +1,10 @@
-use Rattle.std.proofs.Common.{◌≡◌, ℕ, ◌+◌, ◌<◌, ◌≤◌, List, [], ◌∷◌, ◌++◌, true, None, replicate, inl, inr, ◌∙◌, arith}
-use Rattle.ob_store.specs.declared.event.Event.TheVariants as event
-use Rattle.ob_store.specs.declared.watch.Note.TheVariants as note
+use Rattle.std.proofs.Common.{◌++◌, true, arith}
 use Rattle.ob_store.specs.Calls.{IsFailed}
-use Rattle.ob_store.specs.Runs.{write_events, write_notes}
-use Rattle.ob_store.proofs.Serving.{if_ok, if_err, on_ok, on_err, goes_then, serves_then}
-use Rattle.ob_store.proofs.Events.{joined, all_first, first_more, joined_first}
-use Rattle.ob_store.proofs.Showing.{shows_then, all_shown, shown_more, shows_first}
+use Rattle.ob_store.proofs.Serving.{if_err, on_ok, on_err, goes_then, serves_then}
+use Rattle.ob_store.proofs.Events.{joined, first_more, joined_first}
+use Rattle.ob_store.proofs.Showing.{shows_then, shown_more, shows_first}
 use Rattle.ob_twin.specs.Orders.{through_events, through_notes, set_events, set_notes}
-use Rattle.ob_flat.specs.Orders.{shut_events, shut_notes, rows_events, rows_notes}
+use Rattle.ob_flat.specs.Orders.{shut_events, shut_notes}
 use Rattle.ob_flat.proofs.Formats.{failed_then}
 use Rattle.ob_flat.proofs.formatting.lay_registers.Goals as goal
 

@@ -1,15 +1,12 @@
-use Rattle.std.proofs.Common.{◌≡◌, ℕ, ◌+◌, ◌<◌, ◌≤◌, List, [], ◌∷◌, ◌++◌, true, None, replicate, inl, inr, ◌∙◌, arith}
+use Rattle.std.proofs.Common.{◌+◌, [], ◌∷◌, true, inr, ◌∙◌, arith}
 use Rattle.ob_store.specs.declared.event.Event.TheVariants as event
 use Rattle.ob_store.specs.declared.watch.Note.TheVariants as note
-use Rattle.ob_store.specs.Calls.{IsFailed}
 use Rattle.ob_store.specs.Runs.{write_events, write_notes}
-use Rattle.ob_store.proofs.Serving.{if_ok, if_err, on_ok, on_err, goes_then, serves_then}
+use Rattle.ob_store.proofs.Serving.{if_ok, if_err, on_ok, on_err}
 use Rattle.ob_store.proofs.Events.{joined, all_first, first_more, joined_first}
-use Rattle.ob_store.proofs.Showing.{shows_then, all_shown, shown_more, shows_first}
-use Rattle.ob_twin.specs.Orders.{through_events, through_notes, set_events, set_notes}
-use Rattle.ob_flat.specs.Orders.{shut_events, shut_notes, rows_events, rows_notes}
-use Rattle.ob_flat.proofs.Spelling.{blanks_are}
-use Rattle.ob_flat.proofs.Formats.{rows_moved}
+use Rattle.ob_store.proofs.Showing.{shows_then, shown_more, shows_first}
+use Rattle.ob_twin.specs.Orders.{set_events, set_notes}
+use Rattle.ob_flat.specs.Orders.{rows_events, rows_notes}
 use Rattle.ob_flat.proofs.formatting.lay_rows.Goals as goal
 
 pub returns-in_err-sync_noted-clause-seen_err : goal.returns-in_err-sync_noted-clause-seen_err
@@ -20,13 +17,10 @@ returns-in_err-sync_noted-clause-shown_err g c = if_err _ c.from_residual-in_err
 
 pub returns-clause-rows : goal.returns-clause-rows
 returns-clause-rows g c = λ tells.
-    let one = g.S.Store.disk c.write_blanks.new.store in
-    let two = g.S.Store.disk c.sync_noted.new.store in
-    let new = g.S.Store.disk c.set_first.new.store in
     let a = c.in_ok-write_blanks.ensures in
     let told = a.serves.tells tells in
     let keeps = c.sync_noted.ensures.keeps in
-    if_ok _ c.set_first.result (rows_moved 9 c.args.keys one.cells new.cells (λ i. c.set_first.ensures.rest (keeps.tells told) (9 + i) (inr (omega arith)) ∙ keeps.cells told (9 + i)) (blanks_are 9 c.args.keys one.cells (a.written tells)))
+    if_ok _ c.set_first.result (λ i lt. c.set_first.ensures.rest (keeps.tells told) (9 + i) (inr (omega arith)) ∙ keeps.cells told (9 + i) ∙ a.written tells i lt)
 
 pub returns-clause-seen_err : goal.returns-clause-seen_err
 returns-clause-seen_err g c = on_err _ _ c.set_first.result (joined_first (rows_events 9 c.args.keys) (set_events true 5 0) _ _ _ (joined (write_events 9 c.args.keys) (event.Sync ∷ []) _ _ _ c.in_ok-write_blanks.ensures.seen c.sync_noted.ensures.seen)) c.set_first.ensures.seen_err

@@ -1,4 +1,4 @@
-use Rattle.std.proofs.Common.{ℕ, ◌+◌, ◌*◌, ◌≤◌, List, length, get_or, ◌∙◌, ap, arith}
+use Rattle.std.proofs.Common.{ℕ, ◌+◌, ◌*◌, List, get_or, ◌∙◌, ap}
 use Rattle.std.specs.Int.{w32, to_le_bytes}
 use Rattle.ob_base.specs.LittleEndian.{with_part}
 use Rattle.ob_flat.proofs.Spelling.{part_none, number_more}

@@ -1,10 +1,8 @@
-use Rattle.std.proofs.Common.{◌≡◌, ℕ, suc, ◌+◌, ◌<◌, ◌^◌, length, subst, sym, arith, add-one}
-use Rattle.ob_base.specs.declared.params.Params.{Params}
+use Rattle.std.proofs.Common.{suc, ◌+◌, ◌<◌, ◌^◌, subst, sym, arith, add-one}
 use Rattle.ob_store.specs.Calls.{NotesFirst}
 use Rattle.ob_store.specs.Lines.{ShowsFirst}
 use Rattle.ob_twin.specs.declared.twin.Twin.TheVariants.{EPOCH}
 use Rattle.ob_twin.specs.Refused.{IsSetFault}
-use Rattle.ob_serial.specs.Vaults.{Standing}
 use Rattle.ob_flat.specs.Orders.{end_events, end_notes}
 use Rattle.ob_flat.specs.Ends.{EndsFrom}
 use Rattle.ob_flat.proofs.Refusals.{none_done, refused_leaves, refused_tells}

@@ -1,4 +1,4 @@
-use Rattle.std.proofs.Common.{◌≡◌, ℕ, suc, ◌+◌, ◌<◌, [], ◌∷◌, refl, sym, ap, subst, ◌∙◌, arith, add-one}
+use Rattle.std.proofs.Common.{suc, ◌+◌, [], ◌∷◌, refl, subst, add-one}
 use Rattle.ob_store.specs.declared.event.Event.TheVariants as event
 use Rattle.ob_store.specs.declared.watch.Note.TheVariants as note
 use Rattle.ob_store.specs.Calls.{NotesFirst}
@@ -10,7 +10,6 @@ use Rattle.ob_twin.specs.Opening.{is_closed_first}
 use Rattle.ob_twin.specs.Orders.{set_events, set_notes}
 use Rattle.ob_twin.proofs.Moves.{under_next}
 use Rattle.ob_flat.specs.Heads.{zero_tag}
-use Rattle.ob_flat.specs.Orders.{begin_events, begin_notes}
 use Rattle.ob_flat.proofs.Moved.{stands_same, register_moved, generation_set}
 use Rattle.ob_flat.proofs.Opens.{none_before, still_before, set_before}
 use Rattle.ob_flat.proofs.preparing.begin.Goals as goal

@@ -1,4 +1,3 @@
-use Rattle.std.proofs.Common.{ap}
 use Rattle.ob_store.proofs.Showing.{shows_then}
 use Rattle.ob_twin.specs.Orders.{get_events, get_notes}
 use Rattle.ob_flat.specs.declared.registers.Numbers.{Numbers}

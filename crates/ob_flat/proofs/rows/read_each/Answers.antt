@@ -1,4 +1,4 @@
-use Rattle.std.proofs.Common.{◌≡◌, ◌≢◌, ℕ, ◌+◌, ◌<◌, ◌≤◌, List, Option, None, Err, Result, get_or, set, length, subst, sym, arith, below_more, get_or-set_same, get_or-set_other}
+use Rattle.std.proofs.Common.{◌≢◌, ℕ, ◌+◌, ◌<◌, List, Option, None, get_or, set, length, subst, sym, arith, below_more, get_or-set_same, get_or-set_other}
 use Rattle.ob_flat.specs.Rows.{IsRow}
 use Rattle.ob_flat.proofs.RowReads.{noted_next, noted_part, shown_next, shown_part, stopped}
 use Rattle.ob_flat.proofs.rows.read_each.Goals as goal

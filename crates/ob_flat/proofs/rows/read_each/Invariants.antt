@@ -1,4 +1,4 @@
-use Rattle.std.proofs.Common.{◌≡◌, ℕ, ◌+◌, ◌<◌, ◌≤◌, get_or, None}
+use Rattle.std.proofs.Common.{ℕ, ◌+◌, ◌<◌, ◌≤◌, get_or, None}
 use Rattle.ob_store.specs.Calls.{Notes}
 use Rattle.ob_store.specs.Lines.{Shows}
 use Rattle.ob_flat.specs.Orders.{read_events, read_notes}

@@ -1,4 +1,4 @@
-use Rattle.std.proofs.Common.{ℕ, List, [], ◌∷◌, refl, ap, sym, ◌∙◌, length, replicate}
+use Rattle.std.proofs.Common.{ℕ, List, [], ◌∷◌, ap, sym, ◌∙◌, length, replicate}
 use Rattle.ob_base.specs.LittleEndian.{with_part}
 use Rattle.ob_flat.specs.Rows.{row_cell}
 use Rattle.ob_flat.proofs.Spelling.{row_made}

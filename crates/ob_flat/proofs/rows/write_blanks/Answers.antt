@@ -1,4 +1,4 @@
-use Rattle.std.proofs.Common.{◌≡◌, ℕ, ◌<◌, List, [], Option, None, ◌∙◌, sym, subst, length, get_or, replicate, arith}
+use Rattle.std.proofs.Common.{◌≡◌, ◌<◌, [], None, ◌∙◌, sym, subst, length, get_or, replicate, arith}
 use Rattle.std.proofs.lemmas.List.{length-replicate, get_or-replicate}
 use Rattle.ob_store.specs.Calls.{NotesFirst}
 use Rattle.ob_store.specs.Runs.{write_events}

@@ -1,7 +1,6 @@
-use Rattle.std.proofs.Common.{◌≡◌, ℕ, ◌<◌, List, [], Option, None, ◌∙◌, sym, ap, subst, map, length, get_or, refl, arith, below_more}
+use Rattle.std.proofs.Common.{◌≡◌, ℕ, ◌<◌, List, [], Option, None, ◌∙◌, sym, ap, subst, map, length, get_or, arith, below_more}
 use Rattle.std.proofs.lemmas.List.{length-map, get_or-map, get_or_read}
 use Rattle.ob_store.specs.Calls.{NotesFirst}
-use Rattle.ob_store.specs.Lines.{ShowsFirst}
 use Rattle.ob_store.specs.Runs.{write_events}
 use Rattle.ob_store.proofs.Runs.{one_more, noted_err, shown_one, shown_err}
 use Rattle.ob_store.proofs.Serving.{on_err}

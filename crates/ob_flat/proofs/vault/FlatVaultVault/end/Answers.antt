@@ -1,4 +1,4 @@
-use Rattle.std.proofs.Common.{◌≡◌, ℕ, suc, List, Option, length, sym, ap, subst, ◌∙◌, refl}
+use Rattle.std.proofs.Common.{◌≡◌, ℕ, List, Option, length, sym, ap, subst, ◌∙◌, refl}
 use Rattle.std.specs.Ordering.{nat_cmp}
 use Rattle.ob_serial.specs.Serial.{Map}
 use Rattle.ob_serial.specs.Vaults.{standing_now, standing_next, with_writes}
