@@ -1,0 +1,365 @@
+-- What stands while a script is served.
+use Rattle.std.proofs.Common.{◌≡◌, ◌∙◌, ◌<◌, ◌≤◌, ◌⊎◌, ◌+◌, ◌++◌, ◌∷◌, [], ℕ, zero, suc, Bool, true, false, List, Option, Some, None, sym, refl, ap, subst, arith, inl, inr, take, drop, length, get_or, map, decimal, Ok, Err, ⊎_elim, rules}
+use Rattle.std.proofs.lemmas.List.{append-nil, append_assoc, take_more, take-append-drop, length-append, length-map, map-append, take_all}
+use Rattle.std.proofs.lemmas.List.Elements.{All-nil}
+use Rattle.std.specs.Ordering.{nat_cmp}
+use Rattle.std.specs.FinMap.{empty}
+use Rattle.std.specs.Prelude.{flat_map}
+use Rattle.std.proofs.lemmas.List.Concat.{flat_map-append}
+use Rattle.ob_base.specs.declared.params.Params.{Params}
+use Rattle.ob_io.specs.Flows.{appended}
+use Rattle.ob_report.specs.Printed.{Flow, IsPrinted}
+use Rattle.ob_report.specs.Report.{report, record_text}
+use Rattle.ob_serial.specs.Serial.{EpochRecord, Map, Txn, is_committed}
+use Rattle.ob_serial.specs.Vaults.{VaultCall, Fetch, End, VaultAnswer, Values, Ended, RefusedBy, DoubtBy, entry_writes, with_writes, vault_next}
+use Rattle.ob_serial.specs.VaultKinds.{Kind, Called, AllCalled, ended_of, ended_by}
+use Rattle.ob_script.specs.Script.{ScriptTxn}
+use Rattle.ob_client.specs.declared.asks.Base.{Base}
+use Rattle.ob_base.specs.Causes.{Rose}
+use Rattle.ob_base.specs.declared.fault.Fault.{Fault}
+use Rattle.ob_client.specs.Serve.{ServeDone, CloseRefused, IsRefusedLast}
+use Rattle.ob_base.specs.declared.fault.Fault.TheVariants.{Memory, SinkFault}
+use Rattle.ob_client.specs.Calls.{AreFetches, Fetches, RefusesAsk, RefusesEnd, EndsWith, HoldsMap}
+use Rattle.ob_client.specs.Epochs.{EpochServed, NoneCommits, LastMayCommit, RecordsServed, RecordsReplay, AllReplay, committed_ops, record_writes, contents, known_all, known_after, own_of}
+use Rattle.ob_client.specs.Asks.{keys_of, AreBases}
+use Rattle.ob_client.specs.Txns.{TxnRan}
+use Rattle.ob_client.specs.Going.{Going, Progress}
+use Rattle.ob_client.proofs.Chains.{chain_on, chain_join, fetches_hold}
+use Rattle.ob_client.proofs.Progress.{served_more, known_all_more, none_more, last_more, last_of_none, none_ops, one_ops, records_more, replay_more, contents_more}
+
+no_ends : (steps : List (VaultCall × VaultAnswer)) → AreFetches steps → ended_of steps ≡ []
+no_ends [] are = refl
+no_ends ((Fetch keys, Values values) ∷ steps) are = no_ends steps are
+no_ends ((Fetch keys, Ended) ∷ steps) are = absurd are
+no_ends ((Fetch keys, RefusedBy fault) ∷ steps) are = absurd are
+no_ends ((Fetch keys, DoubtBy fault) ∷ steps) are = absurd are
+no_ends ((End writes, answer) ∷ steps) are = absurd are
+
+ended_append : (steps more : List (VaultCall × VaultAnswer)) → ended_of (steps ++ more) ≡ ended_of steps ++ ended_of more
+ended_append [] more = refl
+ended_append (step ∷ steps) more = ap (λ x. ended_by step ++ x) (ended_append steps more) ∙ sym (append_assoc (ended_by step) (ended_of steps) (ended_of more))
+
+appended_twice : (b : Option (List ℕ)) (t u : List ℕ) → appended (appended b t) u ≡ appended b (t ++ u)
+appended_twice None t u = refl
+appended_twice (Some b) t u = ap Some (append_assoc b t u)
+
+one_longer : (n : ℕ) (records : List (EpochRecord ℕ)) (r : EpochRecord ℕ) → suc (n + length records) ≡ n + length (records ++ r ∷ [])
+one_longer n records r = rw length-append (omega arith)
+
+all_of : (text : List ℕ) → take (length text) text ≡ text
+all_of text = take_all (length text) text (omega arith)
+
+whole_text : (before after : Flow) (text : List ℕ) → after.bytes ≡ appended before.bytes text → IsPrinted before after text
+whole_text before after text bytes = record { count = length text; within = omega arith; written = bytes ∙ ap (appended before.bytes) (sym (all_of text)); whole = inl refl }
+
+-- a front of a text, behind a whole one
+behind_text : (before mid after : Flow) (text more : List ℕ) → mid.bytes ≡ appended before.bytes text → before.faults ≤ mid.faults → IsPrinted mid after more → IsPrinted before after (text ++ more)
+behind_text before mid after text more bytes later p = record {
+  count = length text + p.count;
+  within = rw length-append (let w = p.within in omega (arith, w));
+  written = p.written ∙ ap (λ (b : Option (List ℕ)). appended b (take p.count more)) bytes ∙ appended_twice before.bytes text (take p.count more) ∙ ap (appended before.bytes) (sym (take-append text more p.count));
+  whole = ⊎_elim (λ e. inl (ap (λ n. length text + n) e ∙ sym (length-append text more))) (λ r. inr (rose_since before.faults mid.faults after.faults later r)) p.whole;
+}
+  where
+    rose_since : (a b c : ℕ) → a ≤ b → Rose b c → Rose a c
+    rose_since a b c le rose = search rules
+
+    take-append : (xs ys : List ℕ) (n : ℕ) → take (length xs + n) (xs ++ ys) ≡ xs ++ take n ys
+    take-append [] ys n = ap (λ m. take m ys) (no_more n)
+      where
+        no_more : (n : ℕ) → length {A = ℕ} [] + n ≡ n
+        no_more n = omega arith
+    take-append (x ∷ xs) ys n = rw (length_suc x xs n) (ap (λ t. x ∷ t) (take-append xs ys n))
+      where
+        length_suc : (x : ℕ) (xs : List ℕ) (n : ℕ) → length (x ∷ xs) + n ≡ suc (length xs + n)
+        length_suc x xs n = omega arith
+
+module _ {V : Type 0} (k : Kind V) (p : Params) (start : ℕ) (first : V) (before : Flow) where
+  -- a transaction was run
+  pub with_txn : (count : ℕ) (taken : List ScriptTxn) (now new : V) (bases more : List Base) (txns next : List (Txn ℕ)) (after : Flow) (ask : ScriptTxn) (own : Option (Map nat_cmp))
+      → Progress k p start count taken first now bases txns before after → Fetches k now new → TxnRan p (suc count) (keys_of bases) (keys_of more) ask txns next own
+      → Going k p start (taken ++ ask ∷ []) first new next before after
+  with_txn count taken now new bases more txns next after ask own pr f ran =
+      let g = pr.going in
+      record {
+        steps = g.steps ++ f.steps;
+        chain = chain_join k first g.steps now f.steps new g.chain f.chain;
+        records = g.records;
+        done = g.done;
+        front = g.front ++ ask ∷ [];
+        taken_is = ap (λ (t : List ScriptTxn). t ++ ask ∷ []) g.taken_is ∙ append_assoc g.done g.front (ask ∷ []);
+        served = g.served;
+        running = rw ran.txns_are (served_more p (suc start + length g.records) 1 [] g.front txns ask ran.txn g.running (ran.epoch_is ∙ pr.epoch_is) (ran.ticket_is ∙ omega arith) (rw (← pr.known_is) ran.served));
+        replay = λ m held. let (all, holds) = g.replay m held in (all, fetches_hold k now new (contents m g.records) f holds);
+        wrote = ended_append g.steps f.steps ∙ ap (λ x. ended_of g.steps ++ x) (no_ends f.steps f.fetches) ∙ append-nil (ended_of g.steps) ∙ g.wrote;
+        written = g.written;
+        later = g.later;
+      }
+
+  abbrev pub record_at : ℕ → List (Txn ℕ) → EpochRecord ℕ
+  record_at n txns = record { epoch = suc start + n; txns = txns }
+
+  -- the running epoch was closed, and its lines were written
+  pub with_close : (taken : List ScriptTxn) (mid new : V) (txns : List (Txn ℕ)) (after next : Flow) (own : Map nat_cmp) (g : Going k p start taken first mid txns before after)
+      → EndsWith k (entry_writes own) mid new → own ≡ own_of (committed_ops txns) → LastMayCommit txns
+      → ((m : Map nat_cmp) → HoldsMap k first m → AllReplay (contents m g.records) txns)
+      → next.bytes ≡ appended after.bytes (record_text decimal (record_at (length g.records) txns)) → after.faults ≤ next.faults
+      → Going k p start taken first new [] before next
+  with_close taken mid new txns after next own g e own_is last all bytes later =
+      let r : EpochRecord ℕ = record_at (length g.records) txns in
+      let writes : entry_writes own ≡ record_writes r = ap entry_writes own_is in
+      record {
+        steps = g.steps ++ e.before.steps ++ (End (entry_writes own), Ended) ∷ [];
+        chain = chain_on k first (g.steps ++ e.before.steps) e.mid (End (entry_writes own)) Ended new (chain_join k first g.steps mid e.before.steps e.mid g.chain e.before.chain) e.last;
+        records = g.records ++ r ∷ [];
+        done = g.done ++ g.front;
+        front = [];
+        taken_is = g.taken_is ∙ sym (append-nil (g.done ++ g.front));
+        served = records_more p (suc start) g.done g.front g.records r g.served refl g.running last;
+        running = tt;
+        replay = λ m held.
+            let (before_it, holds) = g.replay m held in
+            let (v, at, is) = fetches_hold k mid e.mid (contents m g.records) e.before holds in (
+              replay_more m g.records r before_it (all m held),
+              (vault_next v (End (entry_writes own)) Ended, e.last.holds v at, ap (λ (c : Map nat_cmp). with_writes c (entry_writes own)) is ∙ ap (with_writes (contents m g.records)) writes ∙ sym (contents_more m g.records r)),
+            );
+        wrote = ended_append (g.steps ++ e.before.steps) ((End (entry_writes own), Ended) ∷ [])
+            ∙ ap (λ x. x ++ entry_writes own ∷ []) (ended_append g.steps e.before.steps ∙ ap (λ x. ended_of g.steps ++ x) (no_ends e.before.steps e.before.fetches) ∙ append-nil (ended_of g.steps) ∙ g.wrote)
+            ∙ ap (λ w. map record_writes g.records ++ w ∷ []) writes ∙ sym (map-append record_writes g.records (r ∷ []));
+        written = bytes ∙ ap (λ (b : Option (List ℕ)). appended b (record_text decimal r)) g.written ∙ appended_twice before.bytes (report decimal g.records) (record_text decimal r)
+            ∙ ap (appended before.bytes) (ap (λ x. report decimal g.records ++ x) (sym (append-nil (record_text decimal r))) ∙ sym (flat_map-append (record_text decimal) g.records (r ∷ [])));
+        later = omega (arith, g.later, later);
+      }
+
+  -- nothing was done yet
+  pub started : (bases : List Base) (txns : List (Txn ℕ)) → bases ≡ [] → txns ≡ [] → Progress k p start start [] first first bases txns before before
+  started bases txns no_bases no_txns = record {
+    going = record {
+      steps = [];
+      chain = refl;
+      records = [];
+      done = [];
+      front = [];
+      taken_is = refl;
+      served = refl;
+      running = rw no_txns tt;
+      replay = λ m held. (tt, held);
+      wrote = refl;
+      written = sym (appended_none before.bytes);
+      later = omega arith;
+    };
+    epoch_is = omega arith;
+    none = rw no_txns tt;
+    known_is = rw (no_bases, no_txns) refl;
+    bases_are = λ m held. (rw no_bases (All-nil _), rw no_txns tt);
+  }
+    where
+      appended_none : (b : Option (List ℕ)) → appended b [] ≡ b
+      appended_none None = refl
+      appended_none (Some b) = ap Some (append-nil b)
+
+  -- a transaction was run, and is aborted
+  pub aborted : (count next_count : ℕ) (taken : List ScriptTxn) (now new : V) (bases more : List Base) (txns next : List (Txn ℕ)) (after : Flow) (ask : ScriptTxn)
+      → (pr : Progress k p start count taken first now bases txns before after) → Fetches k now new → (ran : TxnRan p (suc count) (keys_of bases) (keys_of more) ask txns next None)
+      → next_count ≡ count → ((m : Map nat_cmp) → HoldsMap k now m → AreBases m bases → AllReplay m txns → AreBases m more × AllReplay m next)
+      → Progress k p start next_count (taken ++ ask ∷ []) first new more next before after
+  unfolding with_txn
+  aborted count next_count taken now new bases more txns next after ask pr f ran same replays = record {
+    going = with_txn count taken now new bases more txns next after ask None pr f ran;
+    epoch_is = ap suc same ∙ pr.epoch_is;
+    none = rw ran.txns_are (none_more txns ran.txn pr.none ran.commits);
+    known_is = ran.known_is ∙ ap (λ x. known_after x ran.txn.ops) pr.known_is ∙ sym (known_all_more [] txns ran.txn) ∙ ap (known_all []) (sym ran.txns_are);
+    bases_are = λ m held.
+        let (all, holds) = pr.going.replay m held in
+        let (are, done) = pr.bases_are m held in
+        replays (contents m pr.going.records) holds are done;
+  }
+
+  -- a transaction was run, and its epoch has ended
+  pub committed : (count next_count : ℕ) (taken : List ScriptTxn) (now mid new : V) (bases more : List Base) (txns next : List (Txn ℕ)) (after then : Flow) (ask : ScriptTxn) (own : Map nat_cmp) (no_bases : List Base) (no_txns : List (Txn ℕ))
+      → (pr : Progress k p start count taken first now bases txns before after) → Fetches k now mid → (ran : TxnRan p (suc count) (keys_of bases) (keys_of more) ask txns next (Some own))
+      → ((m : Map nat_cmp) → HoldsMap k now m → AreBases m bases → AllReplay m txns → AreBases m more × AllReplay m next)
+      → EndsWith k (entry_writes own) mid new → next_count ≡ suc count → then.bytes ≡ appended after.bytes (record_text decimal (record { epoch = suc count; txns = next })) → after.faults ≤ then.faults
+      → no_bases ≡ [] → no_txns ≡ []
+      → Progress k p start next_count (taken ++ ask ∷ []) first new no_bases no_txns before then
+  unfolding with_txn with_close
+  committed count next_count taken now mid new bases more txns next after then ask own no_bases no_txns pr f ran replays e counted bytes later bases_gone txns_gone =
+      let g = with_txn count taken now mid bases more txns next after ask (Some own) pr f ran in
+      let (is, own_is) = ran.commits in
+      let owned : own ≡ own_of (committed_ops next) = own_is ∙ ap own_of (sym (one_ops txns ran.txn pr.none is)) ∙ ap (λ x. own_of (committed_ops x)) (sym ran.txns_are) in
+      let all : (m : Map nat_cmp) → HoldsMap k first m → AllReplay (contents m g.records) next = λ m held.
+      let (before_it, holds) = pr.going.replay m held in
+      let (are, done) = pr.bases_are m held in
+      (replays (contents m pr.going.records) holds are done).1 in
+      let closed = with_close (taken ++ ask ∷ []) mid new next after then own g e owned (rw ran.txns_are (last_more txns ran.txn pr.none)) all
+      (bytes ∙ ap (λ n. appended after.bytes (record_text decimal (record { epoch = n; txns = next }))) pr.epoch_is) later in
+      rw txns_gone (record {
+        going = closed;
+        epoch_is = ap suc counted ∙ ap suc pr.epoch_is ∙ one_longer (suc start) pr.going.records _;
+        none = tt;
+        known_is = rw bases_gone refl;
+        bases_are = λ m held. (rw bases_gone (All-nil _), tt);
+      })
+
+  -- a batch was refused
+  pub stopped : (count : ℕ) (taken rest script : List ScriptTxn) (now new : V) (bases : List Base) (txns : List (Txn ℕ)) (after : Flow) (fault : Fault)
+      → Progress k p start count taken first now bases txns before after → script ≡ taken ++ rest → RefusesAsk k now new fault → ServeDone k p start script first new before after (Err fault)
+  stopped count taken rest script now new bases txns after fault pr is (inl (memory, f)) = let g = pr.going in record {
+    steps = g.steps ++ f.steps;
+    chain = chain_join k first g.steps now f.steps new g.chain f.chain;
+    records = g.records;
+    front = g.done;
+    rest = g.front ++ rest;
+    script_is = is ∙ ap (λ t. t ++ rest) g.taken_is ∙ append_assoc g.done g.front rest;
+    served = g.served;
+    replay = λ m held. (g.replay m held).0;
+    wrote = ended_append g.steps f.steps ∙ ap (λ x. ended_of g.steps ++ x) (no_ends f.steps f.fetches) ∙ append-nil (ended_of g.steps) ∙ g.wrote;
+    printed = whole_text before after (report decimal g.records) g.written;
+    ends = inl memory;
+  }
+  stopped count taken rest script now new bases txns after fault pr is (inr r) = let g = pr.going in let f = r.before in record {
+    steps = g.steps ++ f.steps ++ (Fetch r.keys, RefusedBy fault) ∷ [];
+    chain = chain_on k first (g.steps ++ f.steps) r.mid (Fetch r.keys) (RefusedBy fault) new (chain_join k first g.steps now f.steps r.mid g.chain f.chain) r.last;
+    records = g.records;
+    front = g.done;
+    rest = g.front ++ rest;
+    script_is = is ∙ ap (λ t. t ++ rest) g.taken_is ∙ append_assoc g.done g.front rest;
+    served = g.served;
+    replay = λ m held. (g.replay m held).0;
+    wrote = ended_append (g.steps ++ f.steps) ((Fetch r.keys, RefusedBy fault) ∷ []) ∙ append-nil (ended_of (g.steps ++ f.steps)) ∙ ended_append g.steps f.steps ∙ ap (λ x. ended_of g.steps ++ x) (no_ends f.steps f.fetches) ∙ append-nil (ended_of g.steps) ∙ g.wrote;
+    printed = whole_text before after (report decimal g.records) g.written;
+    ends = inr (inr (g.steps ++ f.steps, Fetch r.keys, inl refl));
+  }
+
+  -- the whole script was run
+  pub finished : (script : List ScriptTxn) (last : V) (after : Flow) → Going k p start script first last [] before after → ServeDone k p start script first last before after (Ok tt)
+  finished script last after g = record {
+    steps = g.steps;
+    chain = g.chain;
+    records = g.records;
+    front = script;
+    rest = [];
+    script_is = sym (append-nil script);
+    served = rw (g.taken_is, no_front g.front g.running, append-nil g.done) g.served;
+    replay = λ m held. (g.replay m held).0;
+    wrote = g.wrote;
+    printed = whole_text before after (report decimal g.records) g.written;
+    ends = (refl, g.written);
+  }
+    where
+      no_front : (front : List ScriptTxn) → EpochServed p (suc start + length g.records) 1 [] front [] → front ≡ []
+      no_front [] served = refl
+      no_front (a ∷ front) served = absurd served
+
+  -- calls more, of which none ended an epoch
+  more_calls : (taken rest script : List ScriptTxn) (mid new : V) (txns : List (Txn ℕ)) (after : Flow) (fault : Fault) (more : List (VaultCall × VaultAnswer))
+      → (g : Going k p start taken first mid txns before after) → script ≡ taken ++ rest → AllCalled k mid more new → ended_of more ≡ []
+      → ((fault ≡ Memory) ⊎ IsRefusedLast (g.steps ++ more) fault) → ServeDone k p start script first new before after (Err fault)
+  more_calls taken rest script mid new txns after fault more g is chain none ends = record {
+    steps = g.steps ++ more;
+    chain = chain_join k first g.steps mid more new g.chain chain;
+    records = g.records;
+    front = g.done;
+    rest = g.front ++ rest;
+    script_is = is ∙ ap (λ t. t ++ rest) g.taken_is ∙ append_assoc g.done g.front rest;
+    served = g.served;
+    replay = λ m held. (g.replay m held).0;
+    wrote = ended_append g.steps more ∙ ap (λ x. ended_of g.steps ++ x) none ∙ append-nil (ended_of g.steps) ∙ g.wrote;
+    printed = whole_text before after (report decimal g.records) g.written;
+    ends = ⊎_elim (λ memory. inl memory) (λ last. inr (inr last)) ends;
+  }
+
+  none_with : (steps : List (VaultCall × VaultAnswer)) (call : VaultCall) (answer : VaultAnswer) → AreFetches steps → ended_by (call, answer) ≡ [] → ended_of (steps ++ (call, answer) ∷ []) ≡ []
+  none_with steps call answer are none = ended_append steps ((call, answer) ∷ []) ∙ ap (λ x. x ++ ended_of ((call, answer) ∷ [])) (no_ends steps are) ∙ append-nil (ended_by (call, answer)) ∙ none
+
+  -- the epoch's end was refused
+  unended : (taken rest script : List ScriptTxn) (mid new : V) (txns : List (Txn ℕ)) (after : Flow) (writes : List (ℕ × Option (List ℕ))) (fault : Fault)
+      → Going k p start taken first mid txns before after → script ≡ taken ++ rest → RefusesEnd k writes mid new fault → ServeDone k p start script first new before after (Err fault)
+  unended taken rest script mid new txns after writes fault g is (inl (memory, same)) = more_calls taken rest script mid new txns after fault [] g is same refl (inl memory)
+  unended taken rest script mid new txns after writes fault g is (inr (inl r)) =
+      more_calls taken rest script mid new txns after fault (r.before.steps ++ (Fetch r.keys, RefusedBy fault) ∷ []) g is
+      (chain_on k mid r.before.steps r.mid (Fetch r.keys) (RefusedBy fault) new r.before.chain r.last) (none_with r.before.steps (Fetch r.keys) (RefusedBy fault) r.before.fetches refl)
+      (inr (g.steps ++ r.before.steps, Fetch r.keys, inl (sym (append_assoc g.steps r.before.steps _))))
+  unended taken rest script mid new txns after writes fault g is (inr (inr r)) = by_last r.last
+    where
+      by_last : Called k r.mid (End writes) (RefusedBy fault) new ⊎ Called k r.mid (End writes) (DoubtBy fault) new → ServeDone k p start script first new before after (Err fault)
+      by_last (inl last) =
+          more_calls taken rest script mid new txns after fault (r.before.steps ++ (End writes, RefusedBy fault) ∷ []) g is
+          (chain_on k mid r.before.steps r.mid (End writes) (RefusedBy fault) new r.before.chain last) (none_with r.before.steps (End writes) (RefusedBy fault) r.before.fetches refl)
+          (inr (g.steps ++ r.before.steps, End writes, inl (sym (append_assoc g.steps r.before.steps _))))
+      by_last (inr last) =
+          more_calls taken rest script mid new txns after fault (r.before.steps ++ (End writes, DoubtBy fault) ∷ []) g is
+          (chain_on k mid r.before.steps r.mid (End writes) (DoubtBy fault) new r.before.chain last) (none_with r.before.steps (End writes) (DoubtBy fault) r.before.fetches refl)
+          (inr (g.steps ++ r.before.steps, End writes, inr (sym (append_assoc g.steps r.before.steps _))))
+
+  report_more : (records : List (EpochRecord ℕ)) (r : EpochRecord ℕ) → report decimal records ++ record_text decimal r ≡ report decimal (records ++ r ∷ [])
+  report_more records r = ap (λ x. report decimal records ++ x) (sym (append-nil (record_text decimal r))) ∙ sym (flat_map-append (record_text decimal) records (r ∷ []))
+
+  -- the epoch's end was refused, or its lines were not all written
+  pub unclosed : (taken rest script : List ScriptTxn) (mid new : V) (txns : List (Txn ℕ)) (after next : Flow) (own : Map nat_cmp) (fault : Fault) (g : Going k p start taken first mid txns before after)
+      → script ≡ taken ++ rest → own ≡ own_of (committed_ops txns) → LastMayCommit txns → ((m : Map nat_cmp) → HoldsMap k first m → AllReplay (contents m g.records) txns)
+      → CloseRefused k (entry_writes own) (record_text decimal (record_at (length g.records) txns)) mid new after next fault → ServeDone k p start script first new before next (Err fault)
+  unfolding with_close
+  unclosed taken rest script mid new txns after next own fault g is own_is last all (inl (refuses, same)) = subst (λ f. ServeDone k p start script first new before f (Err fault)) (sym same) (unended taken rest script mid new txns after (entry_writes own) fault g is refuses)
+  unclosed taken rest script mid new txns after next own fault g is own_is last all (inr (sink, e, printed, rose)) =
+      let r : EpochRecord ℕ = record_at (length g.records) txns in
+      let told : Flow = record { bytes = appended after.bytes (record_text decimal r); faults = after.faults } in
+      let c = with_close taken mid new txns after told own g e own_is last all refl (omega arith) in
+      record {
+        steps = c.steps;
+        chain = c.chain;
+        records = c.records;
+        front = c.done;
+        rest = rest;
+        script_is = is ∙ ap (λ t. t ++ rest) g.taken_is;
+        served = c.served;
+        replay = λ m held. (c.replay m held).0;
+        wrote = c.wrote;
+        printed = subst (IsPrinted before next) (report_more g.records r) (behind_text before after next (report decimal g.records) (record_text decimal r) g.written g.later printed);
+        ends = inr (inl (sink, rose_from before.faults after.faults next.faults g.later rose));
+      }
+    where
+      rose_from : (a b c : ℕ) → a ≤ b → Rose b c → Rose a c
+      rose_from a b c le rose = search rules
+
+  -- a transaction was run that is to be committed, and the end of its epoch was refused, or its lines were not all written
+  pub uncommitted : (count mid_count : ℕ) (taken rest script : List ScriptTxn) (now mid new : V) (bases more : List Base) (txns next : List (Txn ℕ)) (after then : Flow) (ask : ScriptTxn) (own : Map nat_cmp) (fault : Fault)
+      → (pr : Progress k p start count taken first now bases txns before after) → Fetches k now mid → (ran : TxnRan p (suc count) (keys_of bases) (keys_of more) ask txns next (Some own))
+      → ((m : Map nat_cmp) → HoldsMap k now m → AreBases m bases → AllReplay m txns → AreBases m more × AllReplay m next)
+      → mid_count ≡ count → script ≡ (taken ++ ask ∷ []) ++ rest
+      → CloseRefused k (entry_writes own) (record_text decimal (record { epoch = suc mid_count; txns = next })) mid new after then fault → ServeDone k p start script first new before then (Err fault)
+  unfolding with_txn
+  uncommitted count mid_count taken rest script now mid new bases more txns next after then ask own fault pr f ran replays same is refused =
+      let g = with_txn count taken now mid bases more txns next after ask (Some own) pr f ran in
+      let (will, own_is) = ran.commits in
+      let owned : own ≡ own_of (committed_ops next) = own_is ∙ ap own_of (sym (one_ops txns ran.txn pr.none will)) ∙ ap (λ x. own_of (committed_ops x)) (sym ran.txns_are) in
+      let all : (m : Map nat_cmp) → HoldsMap k first m → AllReplay (contents m g.records) next = λ m held.
+      let (before_it, holds) = pr.going.replay m held in
+      let (are, done) = pr.bases_are m held in
+      (replays (contents m pr.going.records) holds are done).1 in
+      unclosed (taken ++ ask ∷ []) rest script mid new next after then own fault g is owned (rw ran.txns_are (last_more txns ran.txn pr.none)) all
+      (subst (λ n. CloseRefused k (entry_writes own) (record_text decimal (record { epoch = n; txns = next })) mid new after then fault) (ap suc same ∙ pr.epoch_is) refused)
+
+  -- the script is at its end, and no transaction of the running epoch is committed
+  last_owned : (count : ℕ) (script : List ScriptTxn) (now : V) (bases : List Base) (txns : List (Txn ℕ)) (after : Flow) (own : Map nat_cmp)
+      → Progress k p start count script first now bases txns before after → own ≡ empty → own ≡ own_of (committed_ops txns)
+  last_owned count script now bases txns after own pr is = is ∙ ap own_of (sym (none_ops txns pr.none))
+
+  pub ended_last : (count : ℕ) (script : List ScriptTxn) (now new : V) (bases : List Base) (txns : List (Txn ℕ)) (after next : Flow) (own : Map nat_cmp)
+      → Progress k p start count script first now bases txns before after → own ≡ empty → 0 < length txns → EndsWith k (entry_writes own) now new
+      → next.bytes ≡ appended after.bytes (record_text decimal (record { epoch = suc count; txns = txns })) → after.faults ≤ next.faults → ServeDone k p start script first new before next (Ok tt)
+  ended_last count script now new bases txns after next own pr is some e bytes later = finished script new next
+      (with_close script now new txns after next own pr.going e (last_owned count script now bases txns after own pr is) (last_of_none txns some pr.none) (λ m held. (pr.bases_are m held).1)
+      (bytes ∙ ap (λ n. appended after.bytes (record_text decimal (record { epoch = n; txns = txns }))) pr.epoch_is) later)
+
+  pub unended_last : (count : ℕ) (script : List ScriptTxn) (now new : V) (bases : List Base) (txns : List (Txn ℕ)) (after next : Flow) (own : Map nat_cmp) (fault : Fault)
+      → Progress k p start count script first now bases txns before after → own ≡ empty → 0 < length txns
+      → CloseRefused k (entry_writes own) (record_text decimal (record { epoch = suc count; txns = txns })) now new after next fault → ServeDone k p start script first new before next (Err fault)
+  unended_last count script now new bases txns after next own fault pr is some refused =
+      unclosed script [] script now new txns after next own fault pr.going (sym (append-nil script)) (last_owned count script now bases txns after own pr is) (last_of_none txns some pr.none) (λ m held. (pr.bases_are m held).1)
+      (subst (λ n. CloseRefused k (entry_writes own) (record_text decimal (record { epoch = n; txns = txns })) now new after next fault) pr.epoch_is refused)
+
+  -- no transaction is left over
+  pub all_ended : (count : ℕ) (script : List ScriptTxn) (now : V) (bases : List Base) (txns : List (Txn ℕ)) (after : Flow) → Progress k p start count script first now bases txns before after → txns ≡ []
+      → ServeDone k p start script first now before after (Ok tt)
+  all_ended count script now bases txns after pr none = finished script now after (subst (λ ts. Going k p start script first now ts before after) none pr.going)

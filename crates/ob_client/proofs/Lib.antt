@@ -1,0 +1,11 @@
+pub mod Pads
+pub mod Chains
+pub mod Written
+pub mod Known
+pub mod Replaying
+pub mod Owns
+pub mod Meeting
+pub mod Steps
+pub mod Progress
+pub mod Goes
+pub mod Below

@@ -1,0 +1,16 @@
+use Rattle.ob_client.proofs.batch.fetch_first.Goals as goal
+
+pub returns-in-Err-clause-refused : goal.returns-in-Err-clause-refused
+returns-in-Err-clause-refused g c = (
+  _,
+  record {
+    notes = c.in-Err.ensures.called.0;
+    called = c.in-Err.ensures.called.2;
+    answered = c.in-Err.ensures.answered;
+    holds = c.in-Err.ensures.holds;
+    sound = c.in-Err.ensures.sound;
+    images = c.in-Err.ensures.images;
+    alike = c.in-Err.ensures.alike;
+    goes = c.in-Err.ensures.goes;
+  },
+)

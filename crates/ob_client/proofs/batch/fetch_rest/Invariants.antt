@@ -1,0 +1,16 @@
+use Rattle.std.proofs.Common.{◌≡◌, false, length}
+use Rattle.ob_serial.specs.VaultKinds.{kind_of}
+use Rattle.ob_client.specs.Calls.{Fetches}
+use Rattle.ob_client.proofs.batch.fetch_rest.Given as goal
+
+abbrev pub decreases-loop-vault : goal.decreases-loop-vault
+decreases-loop-vault g l = (g.V.Vault.counts l.vault).left
+
+abbrev pub invariant-loop-vault : goal.invariant-loop-vault
+invariant-loop-vault g l = record {
+  params : g.V.Vault.params l.vault ≡ g.V.Vault.params l.fn.vault;
+  serves : (g.V.Vault.counts l.vault).spent ≡ false;
+  epoch : (g.V.Vault.counts l.vault).epoch ≡ (g.V.Vault.counts l.fn.vault).epoch;
+  room : length l.found ≡ l.params.places;
+  chain : Fetches (kind_of g.V.Vault.holds g.V.Vault.sound g.V.Vault.stands g.V.Vault.disk g.V.Vault.called) l.fn.vault l.vault;
+}

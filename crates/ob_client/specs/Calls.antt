@@ -1,0 +1,64 @@
+-- The calls that an epoch makes on a vault.
+use Rattle.std.specs.Prelude.{ℕ, ◌≡◌, ◌<◌, ◌⊎◌, ◌+◌, false, List, [], ◌∷◌, ◌++◌, Option, Some, is_some, true}
+use Rattle.std.specs.FinMap.{get}
+use Rattle.std.specs.Ordering.{nat_cmp}
+use Rattle.ob_base.specs.declared.params.Params.{Params}
+use Rattle.ob_base.specs.declared.fault.Fault.{Fault}
+use Rattle.ob_base.specs.declared.fault.Fault.TheVariants.{Memory}
+use Rattle.ob_serial.specs.Serial.{Map}
+use Rattle.ob_serial.specs.Vaults.{VaultCall, Fetch, End, VaultAnswer, Values, Ended, RefusedBy, DoubtBy, VaultState, VaultCounts}
+use Rattle.ob_serial.specs.VaultKinds.{Kind, Called, AllCalled}
+
+-- each key of the map is below n
+abbrev pub AllKeysBelow : ℕ → Map nat_cmp → Type 0
+AllKeysBelow n m = (key : ℕ) → is_some (get m key) ≡ true → key < n
+
+-- batches that were read
+abbrev pub AreFetches : List (VaultCall × VaultAnswer) → Type 0
+AreFetches [] = Unit {0}
+AreFetches ((Fetch keys, Values values) ∷ steps) = AreFetches steps
+AreFetches (_ ∷ steps) = ⊥
+
+-- the calls with a last one more
+module _ {V : Type 0} (k : Kind V) where
+  -- Batches lead from a vault to a vault.
+  pub record Fetches (old new : V) : Type 0 where
+    pub steps : List (VaultCall × VaultAnswer)
+    pub fetches : AreFetches steps
+    pub chain : AllCalled k old steps new
+
+  -- Batches, and then one that was refused.
+  pub record RefusesFetch (old new : V) (fault : Fault) : Type 0 where
+    pub mid : V
+    pub before : Fetches old mid
+    pub keys : List (Option ℕ)
+    pub last : Called k mid (Fetch keys) (RefusedBy fault) new
+
+  -- Batches, and then the end of the epoch with these writes.
+  pub record EndsWith (writes : List (ℕ × Option (List ℕ))) (old new : V) : Type 0 where
+    pub mid : V
+    pub before : Fetches old mid
+    pub last : Called k mid (End writes) Ended new
+
+  -- Batches, and then the end of the epoch, refused or in doubt.
+  pub record EndRefused (writes : List (ℕ × Option (List ℕ))) (old new : V) (fault : Fault) : Type 0 where
+    pub mid : V
+    pub before : Fetches old mid
+    pub last : Called k mid (End writes) (RefusedBy fault) new ⊎ Called k mid (End writes) (DoubtBy fault) new
+
+  -- An epoch was not ended: for want of memory, or since a batch or the end was refused.
+  abbrev pub RefusesEnd : List (ℕ × Option (List ℕ)) → V → V → Fault → Type 0
+  RefusesEnd writes old new fault = ((fault ≡ Memory) × (new ≡ old)) ⊎ RefusesFetch old new fault ⊎ EndRefused writes old new fault
+
+-- it holds this map
+abbrev pub HoldsMap : {V : Type 0} → Kind V → V → Map nat_cmp → Type 0
+HoldsMap k vault m = (v : VaultState) × k.holds vault v × (v.content ≡ m)
+
+-- A batch was refused, or memory was wanting behind some.
+abbrev pub RefusesAsk : {V : Type 0} → Kind V → V → V → Fault → Type 0
+RefusesAsk k old new fault = ((fault ≡ Memory) × Fetches k old new) ⊎ RefusesFetch k old new fault
+
+-- so many batches of the running epoch were fetched
+pub record IsRunning (p : Params) (c : VaultCounts) (fetched : ℕ) : Type 0 where
+  pub serves : c.spent ≡ false
+  pub left : c.left + fetched ≡ p.batches

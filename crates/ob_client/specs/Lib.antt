@@ -1,0 +1,6 @@
+pub mod Epochs
+pub mod Calls
+pub mod Asks
+pub mod Txns
+pub mod Serve
+pub mod Going
