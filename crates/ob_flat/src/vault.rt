@@ -85,7 +85,7 @@ impl<'a, S: Store> FlatVault<'a, S> {
 
 impl<'a, S: Store> Vault for FlatVault<'a, S> {
     ghost use Rattle.std.specs.Prelude.{◌≡◌, refl};
-    ghost use Rattle.ob_flat.specs.Calls.{FlatHolds, FlatSound, CallDoes, lent};
+    ghost use Rattle.ob_flat.specs.Calls.{FlatHolds, FlatSound, FlatCalled, lent};
     ghost use Rattle.ob_flat.specs.Standing.{StandsFlat};
 
     ghost params = { λ v. v.params };
@@ -100,7 +100,7 @@ impl<'a, S: Store> Vault for FlatVault<'a, S> {
 
     ghost disk = { λ v. lent v.held.store.ghost_name (S.disk v.held.store.now) };
 
-    ghost called = { λ v call answer notes new. CallDoes v.params v.held.gates.epoch v.held.epoch new.values.items v.held.store.now new.held.store.now (S.disk v.held.store.now) (S.disk new.held.store.now) notes call answer };
+    ghost called = { λ v call answer notes new. FlatCalled v.params v.held.gates.epoch v.held.epoch new.values.items v.held.store.now new.held.store.now (S.disk v.held.store.now) (S.disk new.held.store.now) notes call answer new.held.gates.epoch new.held.epoch };
 
     fn epoch(&self) -> u64 {
         self.held.epoch
