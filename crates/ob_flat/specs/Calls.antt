@@ -97,7 +97,8 @@ abbrev pub KnowsNext : Open → ℕ → VaultAnswer → Open → ℕ → Type 0
 KnowsNext known epoch Ended known_new epoch_new = (known_new ≡ with_mark known (place_of (suc epoch))) × (epoch_new ≡ suc epoch)
 KnowsNext known epoch _ known_new epoch_new = (known_new ≡ known) × (epoch_new ≡ epoch)
 
--- What a call does to the store, and what the vault knows then.
-pub record FlatCalled {S : Type 0} (p : Params) (known : Open) (epoch : ℕ) (values : List (Option (List ℕ))) (before after : S) (old new : Disk) (notes : List Note) (call : VaultCall) (answer : VaultAnswer) (known_new : Open) (epoch_new : ℕ) : Type 0 where
+-- What a call does to the store, and what the vault knows then, whose parameters stay.
+pub record FlatCalled {S : Type 0} (p : Params) (known : Open) (epoch : ℕ) (values : List (Option (List ℕ))) (before after : S) (old new : Disk) (notes : List Note) (call : VaultCall) (answer : VaultAnswer) (p_new : Params) (known_new : Open) (epoch_new : ℕ) : Type 0 where
+  pub params : p_new ≡ p
   pub does : CallDoes p known epoch values before after old new notes call answer
   pub knows : KnowsNext known epoch answer known_new epoch_new

@@ -100,7 +100,7 @@ impl<'a, S: Store> Vault for FlatVault<'a, S> {
 
     ghost disk = { λ v. lent v.held.store.ghost_name (S.disk v.held.store.now) };
 
-    ghost called = { λ v call answer notes new. FlatCalled v.params v.held.gates.epoch v.held.epoch new.values.items v.held.store.now new.held.store.now (S.disk v.held.store.now) (S.disk new.held.store.now) notes call answer new.held.gates.epoch new.held.epoch };
+    ghost called = { λ v call answer notes new. FlatCalled v.params v.held.gates.epoch v.held.epoch new.values.items v.held.store.now new.held.store.now (S.disk v.held.store.now) (S.disk new.held.store.now) notes call answer new.params new.held.gates.epoch new.held.epoch };
 
     fn epoch(&self) -> u64 {
         self.held.epoch
