@@ -9,7 +9,7 @@ use Rattle.ob_store.specs.Disk.{Disk}
 use Rattle.ob_store.specs.Calls.{GoesOn}
 use Rattle.ob_store.proofs.Serving.{goes_same, goes_then}
 use Rattle.ob_serial.specs.Serial.{Map}
-use Rattle.ob_client.specs.Calls.{AreFetches, Fetches, RefusesAsk, HoldsMap}
+use Rattle.ob_client.specs.Calls.{AreFetches, AreAnswered, Fetches, RefusesAsk, HoldsMap}
 
 pub chain_on : {V : Type 0} (k : Kind V) (old : V) (steps : List (VaultCall × VaultAnswer)) (mid : V) (call : VaultCall) (answer : VaultAnswer) (new : V)
     → AllCalled k old steps mid → Called k mid call answer new → AllCalled k old (steps ++ (call, answer) ∷ []) new
@@ -60,6 +60,25 @@ fetches_join k a b c f g = record {
 pub refuses_join : {V : Type 0} (k : Kind V) (a b c : V) (fault : Fault) → Fetches k a b → RefusesAsk k b c fault → RefusesAsk k a c fault
 refuses_join k a b c fault f (inl (is, g)) = inl (is, fetches_join k a b c f g)
 refuses_join k a b c fault f (inr r) = inr (record { mid = r.mid; before = fetches_join k a b r.mid f r.before; last = r.last })
+
+pub fetches_answered : (steps : List (VaultCall × VaultAnswer)) → AreFetches steps → AreAnswered steps
+fetches_answered [] are = tt
+fetches_answered ((Fetch some, Values found) ∷ steps) are = fetches_answered steps are
+fetches_answered ((Fetch some, Ended) ∷ steps) are = absurd are
+fetches_answered ((Fetch some, RefusedBy fault) ∷ steps) are = absurd are
+fetches_answered ((Fetch some, DoubtBy fault) ∷ steps) are = absurd are
+fetches_answered ((End writes, answer) ∷ steps) are = absurd are
+
+pub answered_join : (steps more : List (VaultCall × VaultAnswer)) → AreAnswered steps → AreAnswered more → AreAnswered (steps ++ more)
+answered_join [] more are and = and
+answered_join ((Fetch some, Values found) ∷ steps) more are and = answered_join steps more are and
+answered_join ((Fetch some, Ended) ∷ steps) more are and = absurd are
+answered_join ((Fetch some, RefusedBy fault) ∷ steps) more are and = absurd are
+answered_join ((Fetch some, DoubtBy fault) ∷ steps) more are and = absurd are
+answered_join ((End writes, Values found) ∷ steps) more are and = absurd are
+answered_join ((End writes, Ended) ∷ steps) more are and = answered_join steps more are and
+answered_join ((End writes, RefusedBy fault) ∷ steps) more are and = absurd are
+answered_join ((End writes, DoubtBy fault) ∷ steps) more are and = absurd are
 
 chain_holds : {V : Type 0} (k : Kind V) (a : V) (steps : List (VaultCall × VaultAnswer)) (b : V) (m : Map nat_cmp) → AreFetches steps → AllCalled k a steps b → HoldsMap k a m → HoldsMap k b m
 chain_holds k a [] b m are is held = subst (λ x. HoldsMap k x m) (sym is) held

@@ -20,12 +20,14 @@ use Rattle.ob_base.specs.declared.fault.Fault.{Fault}
 use Rattle.ob_store.specs.Calls.{IsStoreFault}
 use Rattle.ob_client.specs.Serve.{ServeDone, CloseRefused, IsRefusedLast}
 use Rattle.ob_base.specs.declared.fault.Fault.TheVariants.{Memory, SinkFault}
-use Rattle.ob_client.specs.Calls.{AreFetches, IsRefusal, Fetches, RefusesFetch, EndRefused, RefusesAsk, RefusesEnd, EndsWith, HoldsMap}
+use Rattle.ob_client.specs.Calls.{AreFetches, AreAnswered, IsRefusal, Fetches, RefusesFetch, EndRefused, RefusesAsk, RefusesEnd, EndsWith, HoldsMap}
 use Rattle.ob_client.specs.Epochs.{EpochServed, NoneCommits, EndsCommitted, EndsUncommitted, EachCommits, EpochsEnd, RecordsServed, RecordsReplay, AllReplay, committed_ops, record_writes, contents, known_all, known_after, own_of}
 use Rattle.ob_client.specs.Asks.{keys_of, AreBases}
 use Rattle.ob_client.specs.Txns.{TxnRan}
 use Rattle.ob_client.specs.Going.{Going, Progress}
-use Rattle.ob_client.proofs.Chains.{chain_on, chain_join, fetches_hold, goes_all, rose_since}
+use Rattle.ob_client.proofs.Chains.{chain_on, chain_join, fetches_hold, fetches_answered, answered_join, goes_all, rose_since}
+use Rattle.ob_client.proofs.OneByOne.{ordered, ran_one_by_one}
+use Rattle.ob_client.proofs.Held.{holds_contents}
 use Rattle.ob_client.proofs.Progress.{served_more, known_all_more, none_more, commits_more, some_of_none, each_more, each_ends, ends_more, none_ops, one_ops, records_more, replay_more, contents_more}
 
 no_ends : (steps : List (VaultCall × VaultAnswer)) → AreFetches steps → ended_of steps ≡ []
@@ -96,7 +98,7 @@ module _ {V : Type 0} (k : Kind V) (epoch : ℕ) (old new : V) (fault : Fault) w
     steps = f.steps ++ (Fetch r.last.keys, RefusedBy fault) ∷ [];
     chain = chain_on k old f.steps r.mid (Fetch r.last.keys) (RefusedBy fault) new f.chain r.last.called;
     none = none_with f.steps (Fetch r.last.keys) (RefusedBy fault) f.fetches refl;
-    last = (f.steps, Fetch r.last.keys, RefusedBy fault, refl, (refl, r.last.is_fault));
+    last = (f.steps, Fetch r.last.keys, RefusedBy fault, refl, fetches_answered f.steps f.fetches, (refl, r.last.is_fault));
     cause = λ store. rose_since (k.disk old).faults (k.disk r.mid).faults (k.disk new).faults (goes_all k old f.steps r.mid f.chain).faults (r.last.cause store);
   }
 
@@ -105,12 +107,13 @@ module _ {V : Type 0} (k : Kind V) (epoch : ℕ) (old new : V) (fault : Fault) w
     steps = f.steps ++ (End writes, r.answer) ∷ [];
     chain = chain_on k old f.steps r.mid (End writes) r.answer new f.chain r.last;
     none = none_with f.steps (End writes) r.answer f.fetches (no_end epoch (End writes) r.answer fault r.refusal);
-    last = (f.steps, End writes, r.answer, refl, r.refusal);
+    last = (f.steps, End writes, r.answer, refl, fetches_answered f.steps f.fetches, r.refusal);
     cause = λ store. rose_since (k.disk old).faults (k.disk r.mid).faults (k.disk new).faults (goes_all k old f.steps r.mid f.chain).faults (r.cause store);
   }
 
-last_behind : (epoch : ℕ) (before steps : List (VaultCall × VaultAnswer)) (fault : Fault) → IsRefusedLast epoch steps fault → IsRefusedLast epoch (before ++ steps) fault
-last_behind epoch before steps fault (front, call, answer, is, refusal) = (before ++ front, call, answer, ap (λ s. before ++ s) is ∙ sym (append_assoc before front ((call, answer) ∷ [])), refusal)
+last_behind : (epoch : ℕ) (before steps : List (VaultCall × VaultAnswer)) (fault : Fault) → AreAnswered before → IsRefusedLast epoch steps fault → IsRefusedLast epoch (before ++ steps) fault
+last_behind epoch before steps fault are (front, call, answer, is, and, refusal) =
+    (before ++ front, call, answer, ap (λ s. before ++ s) is ∙ sym (append_assoc before front ((call, answer) ∷ [])), answered_join before front are and, refusal)
 
 module _ {V : Type 0} (k : Kind V) (p : Params) (start : ℕ) (first : V) (before : Flow) where
   -- a transaction was run
@@ -122,6 +125,7 @@ module _ {V : Type 0} (k : Kind V) (p : Params) (start : ℕ) (first : V) (befor
       record {
         steps = g.steps ++ f.steps;
         chain = chain_join k first g.steps now f.steps new g.chain f.chain;
+        answered = answered_join g.steps f.steps g.answered (fetches_answered f.steps f.fetches);
         records = g.records;
         done = g.done;
         front = g.front ++ ask ∷ [];
@@ -149,6 +153,7 @@ module _ {V : Type 0} (k : Kind V) (p : Params) (start : ℕ) (first : V) (befor
       record {
         steps = g.steps ++ e.before.steps ++ (End (entry_writes own), Ended) ∷ [];
         chain = chain_on k first (g.steps ++ e.before.steps) e.mid (End (entry_writes own)) Ended new (chain_join k first g.steps mid e.before.steps e.mid g.chain e.before.chain) e.last;
+        answered = answered_join (g.steps ++ e.before.steps) ((End (entry_writes own), Ended) ∷ []) (answered_join g.steps e.before.steps g.answered (fetches_answered e.before.steps e.before.fetches)) tt;
         records = g.records ++ r ∷ [];
         done = g.done ++ g.front;
         front = [];
@@ -175,6 +180,7 @@ module _ {V : Type 0} (k : Kind V) (p : Params) (start : ℕ) (first : V) (befor
     going = record {
       steps = [];
       chain = refl;
+      answered = tt;
       records = [];
       done = [];
       front = [];
@@ -244,19 +250,21 @@ module _ {V : Type 0} (k : Kind V) (p : Params) (start : ℕ) (first : V) (befor
 
   -- the whole script was run
   pub finished : (script : List ScriptTxn) (last : V) (txns : List (Txn ℕ)) (after : Flow) (g : Going k p start script first last txns before after) → txns ≡ [] → EpochsEnd [] g.records → ServeDone k p start script first last before after (Ok tt)
-  finished script last txns after g none ends = record {
+  finished script last txns after g none ends = let served : RecordsServed p (suc start) script g.records = rw (g.taken_is, no_front g.front (subst (λ ts. EpochServed p (suc start + length g.records) 1 [] g.front ts) none g.running), append-nil g.done) g.served in record {
     steps = g.steps;
     chain = g.chain;
     records = g.records;
     front = script;
     rest = [];
     script_is = sym (append-nil script);
-    served = rw (g.taken_is, no_front g.front (subst (λ ts. EpochServed p (suc start + length g.records) 1 [] g.front ts) none g.running), append-nil g.done) g.served;
+    served = served;
     epochs_end = ends;
     replay = λ m held. (g.replay m held).0;
     wrote = g.wrote;
     printed = whole_text before after (report decimal g.records) g.written;
-    ends = (refl, g.written);
+    in_order = ordered p (suc start) script g.records served;
+    one_by_one = λ m held. (ran_one_by_one p (suc start) script [] g.records m served ends (g.replay m held).0, (g.replay m held).1);
+    ends = (g.answered, refl, g.written);
   }
     where
       no_front : (front : List ScriptTxn) → EpochServed p (suc start + length g.records) 1 [] front [] → front ≡ []
@@ -266,8 +274,8 @@ module _ {V : Type 0} (k : Kind V) (p : Params) (start : ℕ) (first : V) (befor
   -- calls more, of which none ended an epoch
   more_calls : (taken rest script : List ScriptTxn) (mid new : V) (txns : List (Txn ℕ)) (after : Flow) (fault : Fault) (more : List (VaultCall × VaultAnswer))
       → (g : Going k p start taken first mid txns before after) → EachCommits g.records → script ≡ taken ++ rest → AllCalled k mid more new → ended_of more ≡ []
-      → ((fault ≡ Memory) ⊎ (IsRefusedLast (suc start + length g.records) more fault × (IsStoreFault fault → Rose (k.disk mid).faults (k.disk new).faults))) → ServeDone k p start script first new before after (Err fault)
-  more_calls taken rest script mid new txns after fault more g each is chain none ends = record {
+      → ((AreAnswered more × (fault ≡ Memory)) ⊎ (IsRefusedLast (suc start + length g.records) more fault × (IsStoreFault fault → Rose (k.disk mid).faults (k.disk new).faults))) → ServeDone k p start script first new before after (Err fault)
+  more_calls taken rest script mid new txns after fault more g each is chain none ends = let wrote : ended_of (g.steps ++ more) ≡ map record_writes g.records = ended_append g.steps more ∙ ap (λ x. ended_of g.steps ++ x) none ∙ append-nil (ended_of g.steps) ∙ g.wrote in record {
     steps = g.steps ++ more;
     chain = chain_join k first g.steps mid more new g.chain chain;
     records = g.records;
@@ -277,10 +285,15 @@ module _ {V : Type 0} (k : Kind V) (p : Params) (start : ℕ) (first : V) (befor
     served = g.served;
     epochs_end = each_ends (g.front ++ rest) g.records each;
     replay = λ m held. (g.replay m held).0;
-    wrote = ended_append g.steps more ∙ ap (λ x. ended_of g.steps ++ x) none ∙ append-nil (ended_of g.steps) ∙ g.wrote;
+    wrote = wrote;
     printed = whole_text before after (report decimal g.records) g.written;
-    ends = ⊎_elim (λ memory. inl memory) (λ (last, cause). inr (inr (
-      last_behind (suc start + length g.records) g.steps more fault last,
+    in_order = ordered p (suc start) g.done g.records g.served;
+    one_by_one = λ m held. (
+      ran_one_by_one p (suc start) g.done (g.front ++ rest) g.records m g.served (each_ends (g.front ++ rest) g.records each) (g.replay m held).0,
+      holds_contents k first (g.steps ++ more) new g.records m (chain_join k first g.steps mid more new g.chain chain) wrote held,
+    );
+    ends = ⊎_elim (λ (are, memory). inl (answered_join g.steps more g.answered are, memory)) (λ (last, cause). inr (inr (
+      last_behind (suc start + length g.records) g.steps more fault g.answered last,
       λ store. rose_since (k.disk first).faults (k.disk mid).faults (k.disk new).faults (goes_all k first g.steps mid g.chain).faults (cause store),
     ))) ends;
   }
@@ -294,7 +307,7 @@ module _ {V : Type 0} (k : Kind V) (p : Params) (start : ℕ) (first : V) (befor
   pub stopped : (count : ℕ) (taken rest script : List ScriptTxn) (now new : V) (bases : List Base) (txns : List (Txn ℕ)) (after : Flow) (fault : Fault)
       → Progress k p start count taken first now bases txns before after → script ≡ taken ++ rest → RefusesAsk k now new fault → ServeDone k p start script first new before after (Err fault)
   stopped count taken rest script now new bases txns after fault pr is (inl (memory, f)) =
-      more_calls taken rest script now new txns after fault f.steps pr.going pr.committed is f.chain (no_ends f.steps f.fetches) (inl memory)
+      more_calls taken rest script now new txns after fault f.steps pr.going pr.committed is f.chain (no_ends f.steps f.fetches) (inl (fetches_answered f.steps f.fetches, memory))
   stopped count taken rest script now new bases txns after fault pr is (inr r) =
       refused_calls taken rest script now new txns after fault pr.going pr.committed is (by_fetch k (suc start + length pr.going.records) now new fault r)
 
@@ -302,7 +315,7 @@ module _ {V : Type 0} (k : Kind V) (p : Params) (start : ℕ) (first : V) (befor
   unended : (taken rest script : List ScriptTxn) (mid new : V) (txns : List (Txn ℕ)) (after : Flow) (writes : List (ℕ × Option (List ℕ))) (fault : Fault)
       → (g : Going k p start taken first mid txns before after) → EachCommits g.records → script ≡ taken ++ rest → RefusesEnd k (suc start + length g.records) writes mid new fault
       → ServeDone k p start script first new before after (Err fault)
-  unended taken rest script mid new txns after writes fault g each is (inl (memory, same)) = more_calls taken rest script mid new txns after fault [] g each is same refl (inl memory)
+  unended taken rest script mid new txns after writes fault g each is (inl (memory, same)) = more_calls taken rest script mid new txns after fault [] g each is same refl (inl (tt, memory))
   unended taken rest script mid new txns after writes fault g each is (inr (inl r)) = refused_calls taken rest script mid new txns after fault g each is (by_fetch k (suc start + length g.records) mid new fault r)
   unended taken rest script mid new txns after writes fault g each is (inr (inr r)) = refused_calls taken rest script mid new txns after fault g each is (by_end k (suc start + length g.records) mid new fault writes r)
 
@@ -331,7 +344,9 @@ module _ {V : Type 0} (k : Kind V) (p : Params) (start : ℕ) (first : V) (befor
         replay = λ m held. (c.replay m held).0;
         wrote = c.wrote;
         printed = subst (IsPrinted before next) (report_more g.records r) (behind_text before after next (report decimal g.records) (record_text decimal r) g.written g.later printed);
-        ends = inr (inl (sink, rose_since before.faults after.faults next.faults g.later rose));
+        in_order = ordered p (suc start) c.done c.records c.served;
+        one_by_one = λ m held. (ran_one_by_one p (suc start) c.done rest c.records m c.served (ends_more rest g.records r each last) (c.replay m held).0, (c.replay m held).1);
+        ends = inr (inl (c.answered, sink, rose_since before.faults after.faults next.faults g.later rose));
       }
 
   -- a transaction was run that is to be committed, and the end of its epoch was refused, or its lines were not all written

@@ -52,7 +52,7 @@ ends_more rest [] r each (inl last) = (inl last, tt)
 ends_more rest [] r each (inr (none, last)) = (inr (none, refl, last), tt)
 ends_more rest (q ∷ records) r each last = (inl each.0, ends_more rest records r each.1 last)
 
-none_kept : (txns : List (Txn ℕ)) → NoneCommits txns → filter (λ t. is_committed t) txns ≡ []
+pub none_kept : (txns : List (Txn ℕ)) → NoneCommits txns → filter (λ t. is_committed t) txns ≡ []
 none_kept [] none = refl
 none_kept (u ∷ txns) none = rw none.0 (none_kept txns none.1)
 

@@ -23,6 +23,13 @@ AreFetches [] = Unit {0}
 AreFetches ((Fetch keys, Values values) ∷ steps) = AreFetches steps
 AreFetches (_ ∷ steps) = ⊥
 
+-- none of these calls was refused
+abbrev pub AreAnswered : List (VaultCall × VaultAnswer) → Type 0
+AreAnswered [] = Unit {0}
+AreAnswered ((Fetch keys, Values values) ∷ steps) = AreAnswered steps
+AreAnswered ((End writes, Ended) ∷ steps) = AreAnswered steps
+AreAnswered (_ ∷ steps) = ⊥
+
 -- A vault refuses a call of this epoch with this fault, or leaves the epoch's end in doubt.
 abbrev pub IsRefusal : ℕ → VaultCall → VaultAnswer → Fault → Type 0
 IsRefusal epoch (Fetch keys) (RefusedBy given) fault = (given ≡ fault) × IsFetchFault fault

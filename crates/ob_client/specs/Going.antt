@@ -10,7 +10,7 @@ use Rattle.ob_serial.specs.Vaults.{VaultCall, VaultAnswer}
 use Rattle.ob_serial.specs.VaultKinds.{Kind, AllCalled, ended_of}
 use Rattle.ob_script.specs.Script.{ScriptTxn}
 use Rattle.ob_client.specs.declared.asks.Base.{Base}
-use Rattle.ob_client.specs.Calls.{HoldsMap}
+use Rattle.ob_client.specs.Calls.{AreAnswered, HoldsMap}
 use Rattle.ob_client.specs.Epochs.{EpochServed, NoneCommits, EachCommits, RecordsServed, RecordsReplay, AllReplay, record_writes, contents, known_all}
 use Rattle.ob_client.specs.Asks.{keys_of, AreBases}
 
@@ -18,6 +18,7 @@ use Rattle.ob_client.specs.Asks.{keys_of, AreBases}
 pub record Going {V : Type 0} (k : Kind V) (p : Params) (start : ℕ) (taken : List ScriptTxn) (first now : V) (txns : List (Txn ℕ)) (before after : Flow) : Type 0 where
   pub steps : List (VaultCall × VaultAnswer)
   pub chain : AllCalled k first steps now
+  pub answered : AreAnswered steps
   pub records : List (EpochRecord ℕ)
   pub done : List ScriptTxn
   pub front : List ScriptTxn
