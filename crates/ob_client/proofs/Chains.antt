@@ -1,11 +1,15 @@
 -- Chains of calls that go on.
-use Rattle.std.proofs.Common.{◌≡◌, ℕ, List, [], ◌∷◌, ◌++◌, Option, sym, refl, subst, inl, inr}
+use Rattle.std.proofs.Common.{◌≡◌, ◌≤◌, ℕ, List, [], ◌∷◌, ◌++◌, Option, sym, refl, subst, inl, inr, rules}
 use Rattle.ob_serial.specs.Vaults.{VaultCall, Fetch, End, VaultAnswer, Values, Ended, RefusedBy, DoubtBy, vault_next}
 use Rattle.ob_serial.specs.VaultKinds.{Kind, Called, AllCalled}
 use Rattle.std.specs.Ordering.{nat_cmp}
 use Rattle.ob_base.specs.declared.fault.Fault.{Fault}
+use Rattle.ob_base.specs.Causes.{Rose}
+use Rattle.ob_store.specs.Disk.{Disk}
+use Rattle.ob_store.specs.Calls.{GoesOn}
+use Rattle.ob_store.proofs.Serving.{goes_same, goes_then}
 use Rattle.ob_serial.specs.Serial.{Map}
-use Rattle.ob_client.specs.Calls.{AreFetches, Fetches, RefusesAsk, HoldsMap}
+use Rattle.ob_client.specs.Calls.{AreFetches, AreAnswered, Fetches, RefusesAsk, HoldsMap}
 
 pub chain_on : {V : Type 0} (k : Kind V) (old : V) (steps : List (VaultCall × VaultAnswer)) (mid : V) (call : VaultCall) (answer : VaultAnswer) (new : V)
     → AllCalled k old steps mid → Called k mid call answer new → AllCalled k old (steps ++ (call, answer) ∷ []) new
@@ -55,7 +59,26 @@ fetches_join k a b c f g = record {
 
 pub refuses_join : {V : Type 0} (k : Kind V) (a b c : V) (fault : Fault) → Fetches k a b → RefusesAsk k b c fault → RefusesAsk k a c fault
 refuses_join k a b c fault f (inl (is, g)) = inl (is, fetches_join k a b c f g)
-refuses_join k a b c fault f (inr r) = inr (record { mid = r.mid; before = fetches_join k a b r.mid f r.before; keys = r.keys; last = r.last })
+refuses_join k a b c fault f (inr r) = inr (record { mid = r.mid; before = fetches_join k a b r.mid f r.before; last = r.last })
+
+pub fetches_answered : (steps : List (VaultCall × VaultAnswer)) → AreFetches steps → AreAnswered steps
+fetches_answered [] are = tt
+fetches_answered ((Fetch some, Values found) ∷ steps) are = fetches_answered steps are
+fetches_answered ((Fetch some, Ended) ∷ steps) are = absurd are
+fetches_answered ((Fetch some, RefusedBy fault) ∷ steps) are = absurd are
+fetches_answered ((Fetch some, DoubtBy fault) ∷ steps) are = absurd are
+fetches_answered ((End writes, answer) ∷ steps) are = absurd are
+
+pub answered_join : (steps more : List (VaultCall × VaultAnswer)) → AreAnswered steps → AreAnswered more → AreAnswered (steps ++ more)
+answered_join [] more are and = and
+answered_join ((Fetch some, Values found) ∷ steps) more are and = answered_join steps more are and
+answered_join ((Fetch some, Ended) ∷ steps) more are and = absurd are
+answered_join ((Fetch some, RefusedBy fault) ∷ steps) more are and = absurd are
+answered_join ((Fetch some, DoubtBy fault) ∷ steps) more are and = absurd are
+answered_join ((End writes, Values found) ∷ steps) more are and = absurd are
+answered_join ((End writes, Ended) ∷ steps) more are and = answered_join steps more are and
+answered_join ((End writes, RefusedBy fault) ∷ steps) more are and = absurd are
+answered_join ((End writes, DoubtBy fault) ∷ steps) more are and = absurd are
 
 chain_holds : {V : Type 0} (k : Kind V) (a : V) (steps : List (VaultCall × VaultAnswer)) (b : V) (m : Map nat_cmp) → AreFetches steps → AllCalled k a steps b → HoldsMap k a m → HoldsMap k b m
 chain_holds k a [] b m are is held = subst (λ x. HoldsMap k x m) (sym is) held
@@ -68,3 +91,11 @@ chain_holds k a ((End writes, answer) ∷ steps) b m are called held = absurd ar
 -- batches leave the map as it is
 pub fetches_hold : {V : Type 0} (k : Kind V) (a b : V) (m : Map nat_cmp) → Fetches k a b → HoldsMap k a m → HoldsMap k b m
 fetches_hold k a b m f held = chain_holds k a f.steps b m f.fetches f.chain held
+
+-- A chain of calls goes on with the store: it holds the same references, and its count of faults doesn't fall.
+pub goes_all : {V : Type 0} (k : Kind V) (first : V) (steps : List (VaultCall × VaultAnswer)) (last : V) → AllCalled k first steps last → GoesOn (k.disk first) (k.disk last)
+goes_all k first [] last is = subst (λ x. GoesOn (k.disk first) (k.disk x)) (sym is) (goes_same (k.disk first))
+goes_all k first (step ∷ steps) last (mid, one, rest) = goes_then (k.disk first) (k.disk mid) (k.disk last) one.goes (goes_all k mid steps last rest)
+
+pub rose_since : (a b c : ℕ) → a ≤ b → Rose b c → Rose a c
+rose_since a b c le rose = search rules

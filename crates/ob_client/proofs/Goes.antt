@@ -17,15 +17,18 @@ use Rattle.ob_script.specs.Script.{ScriptTxn}
 use Rattle.ob_client.specs.declared.asks.Base.{Base}
 use Rattle.ob_base.specs.Causes.{Rose}
 use Rattle.ob_base.specs.declared.fault.Fault.{Fault}
+use Rattle.ob_store.specs.Calls.{IsStoreFault}
 use Rattle.ob_client.specs.Serve.{ServeDone, CloseRefused, IsRefusedLast}
 use Rattle.ob_base.specs.declared.fault.Fault.TheVariants.{Memory, SinkFault}
-use Rattle.ob_client.specs.Calls.{AreFetches, Fetches, RefusesAsk, RefusesEnd, EndsWith, HoldsMap}
-use Rattle.ob_client.specs.Epochs.{EpochServed, NoneCommits, LastMayCommit, RecordsServed, RecordsReplay, AllReplay, committed_ops, record_writes, contents, known_all, known_after, own_of}
+use Rattle.ob_client.specs.Calls.{AreFetches, AreAnswered, IsRefusal, Fetches, RefusesFetch, EndRefused, RefusesAsk, RefusesEnd, EndsWith, HoldsMap}
+use Rattle.ob_client.specs.Epochs.{EpochServed, NoneCommits, EndsCommitted, EndsUncommitted, EachCommits, EpochsEnd, RecordsServed, RecordsReplay, AllReplay, committed_ops, record_writes, contents, known_all, known_after, own_of}
 use Rattle.ob_client.specs.Asks.{keys_of, AreBases}
 use Rattle.ob_client.specs.Txns.{TxnRan}
 use Rattle.ob_client.specs.Going.{Going, Progress}
-use Rattle.ob_client.proofs.Chains.{chain_on, chain_join, fetches_hold}
-use Rattle.ob_client.proofs.Progress.{served_more, known_all_more, none_more, last_more, last_of_none, none_ops, one_ops, records_more, replay_more, contents_more}
+use Rattle.ob_client.proofs.Chains.{chain_on, chain_join, fetches_hold, fetches_answered, answered_join, goes_all, rose_since}
+use Rattle.ob_client.proofs.OneByOne.{ordered, ran_one_by_one}
+use Rattle.ob_client.proofs.Held.{holds_contents}
+use Rattle.ob_client.proofs.Progress.{served_more, known_all_more, none_more, commits_more, some_of_none, each_more, each_ends, ends_more, none_ops, one_ops, records_more, replay_more, contents_more}
 
 no_ends : (steps : List (VaultCall × VaultAnswer)) → AreFetches steps → ended_of steps ≡ []
 no_ends [] are = refl
@@ -61,9 +64,6 @@ behind_text before mid after text more bytes later p = record {
   whole = ⊎_elim (λ e. inl (ap (λ n. length text + n) e ∙ sym (length-append text more))) (λ r. inr (rose_since before.faults mid.faults after.faults later r)) p.whole;
 }
   where
-    rose_since : (a b c : ℕ) → a ≤ b → Rose b c → Rose a c
-    rose_since a b c le rose = search rules
-
     take-append : (xs ys : List ℕ) (n : ℕ) → take (length xs + n) (xs ++ ys) ≡ xs ++ take n ys
     take-append [] ys n = ap (λ m. take m ys) (no_more n)
       where
@@ -73,6 +73,47 @@ behind_text before mid after text more bytes later p = record {
       where
         length_suc : (x : ℕ) (xs : List ℕ) (n : ℕ) → length (x ∷ xs) + n ≡ suc (length xs + n)
         length_suc x xs n = omega arith
+
+-- Calls of an epoch, none of which ended one, and the last of which was refused.
+record RefusedCalls {V : Type 0} (k : Kind V) (epoch : ℕ) (old new : V) (fault : Fault) : Type 0 where
+  pub steps : List (VaultCall × VaultAnswer)
+  pub chain : AllCalled k old steps new
+  pub none : ended_of steps ≡ []
+  pub last : IsRefusedLast epoch steps fault
+  pub cause : IsStoreFault fault → Rose (k.disk old).faults (k.disk new).faults
+
+none_with : (steps : List (VaultCall × VaultAnswer)) (call : VaultCall) (answer : VaultAnswer) → AreFetches steps → ended_by (call, answer) ≡ [] → ended_of (steps ++ (call, answer) ∷ []) ≡ []
+none_with steps call answer are none = ended_append steps ((call, answer) ∷ []) ∙ ap (λ x. x ++ ended_of ((call, answer) ∷ [])) (no_ends steps are) ∙ append-nil (ended_by (call, answer)) ∙ none
+
+no_end : (epoch : ℕ) (call : VaultCall) (answer : VaultAnswer) (fault : Fault) → IsRefusal epoch call answer fault → ended_by (call, answer) ≡ []
+no_end epoch (Fetch keys) answer fault refusal = refl
+no_end epoch (End writes) (Values values) fault refusal = absurd refusal
+no_end epoch (End writes) Ended fault refusal = absurd refusal
+no_end epoch (End writes) (RefusedBy given) fault refusal = refl
+no_end epoch (End writes) (DoubtBy given) fault refusal = refl
+
+module _ {V : Type 0} (k : Kind V) (epoch : ℕ) (old new : V) (fault : Fault) where
+  by_fetch : RefusesFetch k old new fault → RefusedCalls k epoch old new fault
+  by_fetch r = let f = r.before in record {
+    steps = f.steps ++ (Fetch r.last.keys, RefusedBy fault) ∷ [];
+    chain = chain_on k old f.steps r.mid (Fetch r.last.keys) (RefusedBy fault) new f.chain r.last.called;
+    none = none_with f.steps (Fetch r.last.keys) (RefusedBy fault) f.fetches refl;
+    last = (f.steps, Fetch r.last.keys, RefusedBy fault, refl, fetches_answered f.steps f.fetches, (refl, r.last.is_fault));
+    cause = λ store. rose_since (k.disk old).faults (k.disk r.mid).faults (k.disk new).faults (goes_all k old f.steps r.mid f.chain).faults (r.last.cause store);
+  }
+
+  by_end : (writes : List (ℕ × Option (List ℕ))) → EndRefused k epoch writes old new fault → RefusedCalls k epoch old new fault
+  by_end writes r = let f = r.before in record {
+    steps = f.steps ++ (End writes, r.answer) ∷ [];
+    chain = chain_on k old f.steps r.mid (End writes) r.answer new f.chain r.last;
+    none = none_with f.steps (End writes) r.answer f.fetches (no_end epoch (End writes) r.answer fault r.refusal);
+    last = (f.steps, End writes, r.answer, refl, fetches_answered f.steps f.fetches, r.refusal);
+    cause = λ store. rose_since (k.disk old).faults (k.disk r.mid).faults (k.disk new).faults (goes_all k old f.steps r.mid f.chain).faults (r.cause store);
+  }
+
+last_behind : (epoch : ℕ) (before steps : List (VaultCall × VaultAnswer)) (fault : Fault) → AreAnswered before → IsRefusedLast epoch steps fault → IsRefusedLast epoch (before ++ steps) fault
+last_behind epoch before steps fault are (front, call, answer, is, and, refusal) =
+    (before ++ front, call, answer, ap (λ s. before ++ s) is ∙ sym (append_assoc before front ((call, answer) ∷ [])), answered_join before front are and, refusal)
 
 module _ {V : Type 0} (k : Kind V) (p : Params) (start : ℕ) (first : V) (before : Flow) where
   -- a transaction was run
@@ -84,6 +125,7 @@ module _ {V : Type 0} (k : Kind V) (p : Params) (start : ℕ) (first : V) (befor
       record {
         steps = g.steps ++ f.steps;
         chain = chain_join k first g.steps now f.steps new g.chain f.chain;
+        answered = answered_join g.steps f.steps g.answered (fetches_answered f.steps f.fetches);
         records = g.records;
         done = g.done;
         front = g.front ++ ask ∷ [];
@@ -101,21 +143,22 @@ module _ {V : Type 0} (k : Kind V) (p : Params) (start : ℕ) (first : V) (befor
 
   -- the running epoch was closed, and its lines were written
   pub with_close : (taken : List ScriptTxn) (mid new : V) (txns : List (Txn ℕ)) (after next : Flow) (own : Map nat_cmp) (g : Going k p start taken first mid txns before after)
-      → EndsWith k (entry_writes own) mid new → own ≡ own_of (committed_ops txns) → LastMayCommit txns
+      → EndsWith k (entry_writes own) mid new → own ≡ own_of (committed_ops txns)
       → ((m : Map nat_cmp) → HoldsMap k first m → AllReplay (contents m g.records) txns)
       → next.bytes ≡ appended after.bytes (record_text decimal (record_at (length g.records) txns)) → after.faults ≤ next.faults
       → Going k p start taken first new [] before next
-  with_close taken mid new txns after next own g e own_is last all bytes later =
+  with_close taken mid new txns after next own g e own_is all bytes later =
       let r : EpochRecord ℕ = record_at (length g.records) txns in
       let writes : entry_writes own ≡ record_writes r = ap entry_writes own_is in
       record {
         steps = g.steps ++ e.before.steps ++ (End (entry_writes own), Ended) ∷ [];
         chain = chain_on k first (g.steps ++ e.before.steps) e.mid (End (entry_writes own)) Ended new (chain_join k first g.steps mid e.before.steps e.mid g.chain e.before.chain) e.last;
+        answered = answered_join (g.steps ++ e.before.steps) ((End (entry_writes own), Ended) ∷ []) (answered_join g.steps e.before.steps g.answered (fetches_answered e.before.steps e.before.fetches)) tt;
         records = g.records ++ r ∷ [];
         done = g.done ++ g.front;
         front = [];
         taken_is = g.taken_is ∙ sym (append-nil (g.done ++ g.front));
-        served = records_more p (suc start) g.done g.front g.records r g.served refl g.running last;
+        served = records_more p (suc start) g.done g.front g.records r g.served refl g.running;
         running = tt;
         replay = λ m held.
             let (before_it, holds) = g.replay m held in
@@ -137,6 +180,7 @@ module _ {V : Type 0} (k : Kind V) (p : Params) (start : ℕ) (first : V) (befor
     going = record {
       steps = [];
       chain = refl;
+      answered = tt;
       records = [];
       done = [];
       front = [];
@@ -149,6 +193,7 @@ module _ {V : Type 0} (k : Kind V) (p : Params) (start : ℕ) (first : V) (befor
       later = omega arith;
     };
     epoch_is = omega arith;
+    committed = tt;
     none = rw no_txns tt;
     known_is = rw (no_bases, no_txns) refl;
     bases_are = λ m held. (rw no_bases (All-nil _), rw no_txns tt);
@@ -167,6 +212,7 @@ module _ {V : Type 0} (k : Kind V) (p : Params) (start : ℕ) (first : V) (befor
   aborted count next_count taken now new bases more txns next after ask pr f ran same replays = record {
     going = with_txn count taken now new bases more txns next after ask None pr f ran;
     epoch_is = ap suc same ∙ pr.epoch_is;
+    committed = pr.committed;
     none = rw ran.txns_are (none_more txns ran.txn pr.none ran.commits);
     known_is = ran.known_is ∙ ap (λ x. known_after x ran.txn.ops) pr.known_is ∙ sym (known_all_more [] txns ran.txn) ∙ ap (known_all []) (sym ran.txns_are);
     bases_are = λ m held.
@@ -191,60 +237,34 @@ module _ {V : Type 0} (k : Kind V) (p : Params) (start : ℕ) (first : V) (befor
       let (before_it, holds) = pr.going.replay m held in
       let (are, done) = pr.bases_are m held in
       (replays (contents m pr.going.records) holds are done).1 in
-      let closed = with_close (taken ++ ask ∷ []) mid new next after then own g e owned (rw ran.txns_are (last_more txns ran.txn pr.none)) all
+      let closed = with_close (taken ++ ask ∷ []) mid new next after then own g e owned all
       (bytes ∙ ap (λ n. appended after.bytes (record_text decimal (record { epoch = n; txns = next }))) pr.epoch_is) later in
       rw txns_gone (record {
         going = closed;
-        epoch_is = ap suc counted ∙ ap suc pr.epoch_is ∙ one_longer (suc start) pr.going.records _;
+        epoch_is = ap suc counted ∙ ap suc pr.epoch_is ∙ one_longer (suc start) pr.going.records (record_at (length pr.going.records) next);
+        committed = each_more pr.going.records (record_at (length pr.going.records) next) pr.committed (rw ran.txns_are (commits_more txns ran.txn pr.none is));
         none = tt;
         known_is = rw bases_gone refl;
         bases_are = λ m held. (rw bases_gone (All-nil _), tt);
       })
 
-  -- a batch was refused
-  pub stopped : (count : ℕ) (taken rest script : List ScriptTxn) (now new : V) (bases : List Base) (txns : List (Txn ℕ)) (after : Flow) (fault : Fault)
-      → Progress k p start count taken first now bases txns before after → script ≡ taken ++ rest → RefusesAsk k now new fault → ServeDone k p start script first new before after (Err fault)
-  stopped count taken rest script now new bases txns after fault pr is (inl (memory, f)) = let g = pr.going in record {
-    steps = g.steps ++ f.steps;
-    chain = chain_join k first g.steps now f.steps new g.chain f.chain;
-    records = g.records;
-    front = g.done;
-    rest = g.front ++ rest;
-    script_is = is ∙ ap (λ t. t ++ rest) g.taken_is ∙ append_assoc g.done g.front rest;
-    served = g.served;
-    replay = λ m held. (g.replay m held).0;
-    wrote = ended_append g.steps f.steps ∙ ap (λ x. ended_of g.steps ++ x) (no_ends f.steps f.fetches) ∙ append-nil (ended_of g.steps) ∙ g.wrote;
-    printed = whole_text before after (report decimal g.records) g.written;
-    ends = inl memory;
-  }
-  stopped count taken rest script now new bases txns after fault pr is (inr r) = let g = pr.going in let f = r.before in record {
-    steps = g.steps ++ f.steps ++ (Fetch r.keys, RefusedBy fault) ∷ [];
-    chain = chain_on k first (g.steps ++ f.steps) r.mid (Fetch r.keys) (RefusedBy fault) new (chain_join k first g.steps now f.steps r.mid g.chain f.chain) r.last;
-    records = g.records;
-    front = g.done;
-    rest = g.front ++ rest;
-    script_is = is ∙ ap (λ t. t ++ rest) g.taken_is ∙ append_assoc g.done g.front rest;
-    served = g.served;
-    replay = λ m held. (g.replay m held).0;
-    wrote = ended_append (g.steps ++ f.steps) ((Fetch r.keys, RefusedBy fault) ∷ []) ∙ append-nil (ended_of (g.steps ++ f.steps)) ∙ ended_append g.steps f.steps ∙ ap (λ x. ended_of g.steps ++ x) (no_ends f.steps f.fetches) ∙ append-nil (ended_of g.steps) ∙ g.wrote;
-    printed = whole_text before after (report decimal g.records) g.written;
-    ends = inr (inr (g.steps ++ f.steps, Fetch r.keys, inl refl));
-  }
-
   -- the whole script was run
-  pub finished : (script : List ScriptTxn) (last : V) (after : Flow) → Going k p start script first last [] before after → ServeDone k p start script first last before after (Ok tt)
-  finished script last after g = record {
+  pub finished : (script : List ScriptTxn) (last : V) (txns : List (Txn ℕ)) (after : Flow) (g : Going k p start script first last txns before after) → txns ≡ [] → EpochsEnd [] g.records → ServeDone k p start script first last before after (Ok tt)
+  finished script last txns after g none ends = let served : RecordsServed p (suc start) script g.records = rw (g.taken_is, no_front g.front (subst (λ ts. EpochServed p (suc start + length g.records) 1 [] g.front ts) none g.running), append-nil g.done) g.served in record {
     steps = g.steps;
     chain = g.chain;
     records = g.records;
     front = script;
     rest = [];
     script_is = sym (append-nil script);
-    served = rw (g.taken_is, no_front g.front g.running, append-nil g.done) g.served;
+    served = served;
+    epochs_end = ends;
     replay = λ m held. (g.replay m held).0;
     wrote = g.wrote;
     printed = whole_text before after (report decimal g.records) g.written;
-    ends = (refl, g.written);
+    in_order = ordered p (suc start) script g.records served;
+    one_by_one = λ m held. (ran_one_by_one p (suc start) script [] g.records m served ends (g.replay m held).0, (g.replay m held).1);
+    ends = (g.answered, refl, g.written);
   }
     where
       no_front : (front : List ScriptTxn) → EpochServed p (suc start + length g.records) 1 [] front [] → front ≡ []
@@ -253,9 +273,9 @@ module _ {V : Type 0} (k : Kind V) (p : Params) (start : ℕ) (first : V) (befor
 
   -- calls more, of which none ended an epoch
   more_calls : (taken rest script : List ScriptTxn) (mid new : V) (txns : List (Txn ℕ)) (after : Flow) (fault : Fault) (more : List (VaultCall × VaultAnswer))
-      → (g : Going k p start taken first mid txns before after) → script ≡ taken ++ rest → AllCalled k mid more new → ended_of more ≡ []
-      → ((fault ≡ Memory) ⊎ IsRefusedLast (g.steps ++ more) fault) → ServeDone k p start script first new before after (Err fault)
-  more_calls taken rest script mid new txns after fault more g is chain none ends = record {
+      → (g : Going k p start taken first mid txns before after) → EachCommits g.records → script ≡ taken ++ rest → AllCalled k mid more new → ended_of more ≡ []
+      → ((AreAnswered more × (fault ≡ Memory)) ⊎ (IsRefusedLast (suc start + length g.records) more fault × (IsStoreFault fault → Rose (k.disk mid).faults (k.disk new).faults))) → ServeDone k p start script first new before after (Err fault)
+  more_calls taken rest script mid new txns after fault more g each is chain none ends = let wrote : ended_of (g.steps ++ more) ≡ map record_writes g.records = ended_append g.steps more ∙ ap (λ x. ended_of g.steps ++ x) none ∙ append-nil (ended_of g.steps) ∙ g.wrote in record {
     steps = g.steps ++ more;
     chain = chain_join k first g.steps mid more new g.chain chain;
     records = g.records;
@@ -263,48 +283,55 @@ module _ {V : Type 0} (k : Kind V) (p : Params) (start : ℕ) (first : V) (befor
     rest = g.front ++ rest;
     script_is = is ∙ ap (λ t. t ++ rest) g.taken_is ∙ append_assoc g.done g.front rest;
     served = g.served;
+    epochs_end = each_ends (g.front ++ rest) g.records each;
     replay = λ m held. (g.replay m held).0;
-    wrote = ended_append g.steps more ∙ ap (λ x. ended_of g.steps ++ x) none ∙ append-nil (ended_of g.steps) ∙ g.wrote;
+    wrote = wrote;
     printed = whole_text before after (report decimal g.records) g.written;
-    ends = ⊎_elim (λ memory. inl memory) (λ last. inr (inr last)) ends;
+    in_order = ordered p (suc start) g.done g.records g.served;
+    one_by_one = λ m held. (
+      ran_one_by_one p (suc start) g.done (g.front ++ rest) g.records m g.served (each_ends (g.front ++ rest) g.records each) (g.replay m held).0,
+      holds_contents k first (g.steps ++ more) new g.records m (chain_join k first g.steps mid more new g.chain chain) wrote held,
+    );
+    ends = ⊎_elim (λ (are, memory). inl (answered_join g.steps more g.answered are, memory)) (λ (last, cause). inr (inr (
+      last_behind (suc start + length g.records) g.steps more fault g.answered last,
+      λ store. rose_since (k.disk first).faults (k.disk mid).faults (k.disk new).faults (goes_all k first g.steps mid g.chain).faults (cause store),
+    ))) ends;
   }
 
-  none_with : (steps : List (VaultCall × VaultAnswer)) (call : VaultCall) (answer : VaultAnswer) → AreFetches steps → ended_by (call, answer) ≡ [] → ended_of (steps ++ (call, answer) ∷ []) ≡ []
-  none_with steps call answer are none = ended_append steps ((call, answer) ∷ []) ∙ ap (λ x. x ++ ended_of ((call, answer) ∷ [])) (no_ends steps are) ∙ append-nil (ended_by (call, answer)) ∙ none
+  refused_calls : (taken rest script : List ScriptTxn) (mid new : V) (txns : List (Txn ℕ)) (after : Flow) (fault : Fault)
+      → (g : Going k p start taken first mid txns before after) → EachCommits g.records → script ≡ taken ++ rest → RefusedCalls k (suc start + length g.records) mid new fault
+      → ServeDone k p start script first new before after (Err fault)
+  refused_calls taken rest script mid new txns after fault g each is r = more_calls taken rest script mid new txns after fault r.steps g each is r.chain r.none (inr (r.last, r.cause))
+
+  -- a batch was refused
+  pub stopped : (count : ℕ) (taken rest script : List ScriptTxn) (now new : V) (bases : List Base) (txns : List (Txn ℕ)) (after : Flow) (fault : Fault)
+      → Progress k p start count taken first now bases txns before after → script ≡ taken ++ rest → RefusesAsk k now new fault → ServeDone k p start script first new before after (Err fault)
+  stopped count taken rest script now new bases txns after fault pr is (inl (memory, f)) =
+      more_calls taken rest script now new txns after fault f.steps pr.going pr.committed is f.chain (no_ends f.steps f.fetches) (inl (fetches_answered f.steps f.fetches, memory))
+  stopped count taken rest script now new bases txns after fault pr is (inr r) =
+      refused_calls taken rest script now new txns after fault pr.going pr.committed is (by_fetch k (suc start + length pr.going.records) now new fault r)
 
   -- the epoch's end was refused
   unended : (taken rest script : List ScriptTxn) (mid new : V) (txns : List (Txn ℕ)) (after : Flow) (writes : List (ℕ × Option (List ℕ))) (fault : Fault)
-      → Going k p start taken first mid txns before after → script ≡ taken ++ rest → RefusesEnd k writes mid new fault → ServeDone k p start script first new before after (Err fault)
-  unended taken rest script mid new txns after writes fault g is (inl (memory, same)) = more_calls taken rest script mid new txns after fault [] g is same refl (inl memory)
-  unended taken rest script mid new txns after writes fault g is (inr (inl r)) =
-      more_calls taken rest script mid new txns after fault (r.before.steps ++ (Fetch r.keys, RefusedBy fault) ∷ []) g is
-      (chain_on k mid r.before.steps r.mid (Fetch r.keys) (RefusedBy fault) new r.before.chain r.last) (none_with r.before.steps (Fetch r.keys) (RefusedBy fault) r.before.fetches refl)
-      (inr (g.steps ++ r.before.steps, Fetch r.keys, inl (sym (append_assoc g.steps r.before.steps _))))
-  unended taken rest script mid new txns after writes fault g is (inr (inr r)) = by_last r.last
-    where
-      by_last : Called k r.mid (End writes) (RefusedBy fault) new ⊎ Called k r.mid (End writes) (DoubtBy fault) new → ServeDone k p start script first new before after (Err fault)
-      by_last (inl last) =
-          more_calls taken rest script mid new txns after fault (r.before.steps ++ (End writes, RefusedBy fault) ∷ []) g is
-          (chain_on k mid r.before.steps r.mid (End writes) (RefusedBy fault) new r.before.chain last) (none_with r.before.steps (End writes) (RefusedBy fault) r.before.fetches refl)
-          (inr (g.steps ++ r.before.steps, End writes, inl (sym (append_assoc g.steps r.before.steps _))))
-      by_last (inr last) =
-          more_calls taken rest script mid new txns after fault (r.before.steps ++ (End writes, DoubtBy fault) ∷ []) g is
-          (chain_on k mid r.before.steps r.mid (End writes) (DoubtBy fault) new r.before.chain last) (none_with r.before.steps (End writes) (DoubtBy fault) r.before.fetches refl)
-          (inr (g.steps ++ r.before.steps, End writes, inr (sym (append_assoc g.steps r.before.steps _))))
+      → (g : Going k p start taken first mid txns before after) → EachCommits g.records → script ≡ taken ++ rest → RefusesEnd k (suc start + length g.records) writes mid new fault
+      → ServeDone k p start script first new before after (Err fault)
+  unended taken rest script mid new txns after writes fault g each is (inl (memory, same)) = more_calls taken rest script mid new txns after fault [] g each is same refl (inl (tt, memory))
+  unended taken rest script mid new txns after writes fault g each is (inr (inl r)) = refused_calls taken rest script mid new txns after fault g each is (by_fetch k (suc start + length g.records) mid new fault r)
+  unended taken rest script mid new txns after writes fault g each is (inr (inr r)) = refused_calls taken rest script mid new txns after fault g each is (by_end k (suc start + length g.records) mid new fault writes r)
 
   report_more : (records : List (EpochRecord ℕ)) (r : EpochRecord ℕ) → report decimal records ++ record_text decimal r ≡ report decimal (records ++ r ∷ [])
   report_more records r = ap (λ x. report decimal records ++ x) (sym (append-nil (record_text decimal r))) ∙ sym (flat_map-append (record_text decimal) records (r ∷ []))
 
   -- the epoch's end was refused, or its lines were not all written
   pub unclosed : (taken rest script : List ScriptTxn) (mid new : V) (txns : List (Txn ℕ)) (after next : Flow) (own : Map nat_cmp) (fault : Fault) (g : Going k p start taken first mid txns before after)
-      → script ≡ taken ++ rest → own ≡ own_of (committed_ops txns) → LastMayCommit txns → ((m : Map nat_cmp) → HoldsMap k first m → AllReplay (contents m g.records) txns)
-      → CloseRefused k (entry_writes own) (record_text decimal (record_at (length g.records) txns)) mid new after next fault → ServeDone k p start script first new before next (Err fault)
+      → EachCommits g.records → script ≡ taken ++ rest → own ≡ own_of (committed_ops txns) → EndsCommitted txns ⊎ ((rest ≡ []) × EndsUncommitted txns) → ((m : Map nat_cmp) → HoldsMap k first m → AllReplay (contents m g.records) txns)
+      → CloseRefused k (suc start + length g.records) (entry_writes own) (record_text decimal (record_at (length g.records) txns)) mid new after next fault → ServeDone k p start script first new before next (Err fault)
   unfolding with_close
-  unclosed taken rest script mid new txns after next own fault g is own_is last all (inl (refuses, same)) = subst (λ f. ServeDone k p start script first new before f (Err fault)) (sym same) (unended taken rest script mid new txns after (entry_writes own) fault g is refuses)
-  unclosed taken rest script mid new txns after next own fault g is own_is last all (inr (sink, e, printed, rose)) =
+  unclosed taken rest script mid new txns after next own fault g each is own_is last all (inl (refuses, same)) = subst (λ f. ServeDone k p start script first new before f (Err fault)) (sym same) (unended taken rest script mid new txns after (entry_writes own) fault g each is refuses)
+  unclosed taken rest script mid new txns after next own fault g each is own_is last all (inr (sink, e, printed, rose)) =
       let r : EpochRecord ℕ = record_at (length g.records) txns in
       let told : Flow = record { bytes = appended after.bytes (record_text decimal r); faults = after.faults } in
-      let c = with_close taken mid new txns after told own g e own_is last all refl (omega arith) in
+      let c = with_close taken mid new txns after told own g e own_is all refl (omega arith) in
       record {
         steps = c.steps;
         chain = c.chain;
@@ -313,21 +340,21 @@ module _ {V : Type 0} (k : Kind V) (p : Params) (start : ℕ) (first : V) (befor
         rest = rest;
         script_is = is ∙ ap (λ t. t ++ rest) g.taken_is;
         served = c.served;
+        epochs_end = ends_more rest g.records r each last;
         replay = λ m held. (c.replay m held).0;
         wrote = c.wrote;
         printed = subst (IsPrinted before next) (report_more g.records r) (behind_text before after next (report decimal g.records) (record_text decimal r) g.written g.later printed);
-        ends = inr (inl (sink, rose_from before.faults after.faults next.faults g.later rose));
+        in_order = ordered p (suc start) c.done c.records c.served;
+        one_by_one = λ m held. (ran_one_by_one p (suc start) c.done rest c.records m c.served (ends_more rest g.records r each last) (c.replay m held).0, (c.replay m held).1);
+        ends = inr (inl (c.answered, sink, rose_since before.faults after.faults next.faults g.later rose));
       }
-    where
-      rose_from : (a b c : ℕ) → a ≤ b → Rose b c → Rose a c
-      rose_from a b c le rose = search rules
 
   -- a transaction was run that is to be committed, and the end of its epoch was refused, or its lines were not all written
   pub uncommitted : (count mid_count : ℕ) (taken rest script : List ScriptTxn) (now mid new : V) (bases more : List Base) (txns next : List (Txn ℕ)) (after then : Flow) (ask : ScriptTxn) (own : Map nat_cmp) (fault : Fault)
       → (pr : Progress k p start count taken first now bases txns before after) → Fetches k now mid → (ran : TxnRan p (suc count) (keys_of bases) (keys_of more) ask txns next (Some own))
       → ((m : Map nat_cmp) → HoldsMap k now m → AreBases m bases → AllReplay m txns → AreBases m more × AllReplay m next)
       → mid_count ≡ count → script ≡ (taken ++ ask ∷ []) ++ rest
-      → CloseRefused k (entry_writes own) (record_text decimal (record { epoch = suc mid_count; txns = next })) mid new after then fault → ServeDone k p start script first new before then (Err fault)
+      → CloseRefused k (suc mid_count) (entry_writes own) (record_text decimal (record { epoch = suc mid_count; txns = next })) mid new after then fault → ServeDone k p start script first new before then (Err fault)
   unfolding with_txn
   uncommitted count mid_count taken rest script now mid new bases more txns next after then ask own fault pr f ran replays same is refused =
       let g = with_txn count taken now mid bases more txns next after ask (Some own) pr f ran in
@@ -337,8 +364,8 @@ module _ {V : Type 0} (k : Kind V) (p : Params) (start : ℕ) (first : V) (befor
       let (before_it, holds) = pr.going.replay m held in
       let (are, done) = pr.bases_are m held in
       (replays (contents m pr.going.records) holds are done).1 in
-      unclosed (taken ++ ask ∷ []) rest script mid new next after then own fault g is owned (rw ran.txns_are (last_more txns ran.txn pr.none)) all
-      (subst (λ n. CloseRefused k (entry_writes own) (record_text decimal (record { epoch = n; txns = next })) mid new after then fault) (ap suc same ∙ pr.epoch_is) refused)
+      unclosed (taken ++ ask ∷ []) rest script mid new next after then own fault g pr.committed is owned (inl (rw ran.txns_are (commits_more txns ran.txn pr.none will))) all
+      (subst (λ n. CloseRefused k n (entry_writes own) (record_text decimal (record { epoch = n; txns = next })) mid new after then fault) (ap suc same ∙ pr.epoch_is) refused)
 
   -- the script is at its end, and no transaction of the running epoch is committed
   last_owned : (count : ℕ) (script : List ScriptTxn) (now : V) (bases : List Base) (txns : List (Txn ℕ)) (after : Flow) (own : Map nat_cmp)
@@ -348,18 +375,20 @@ module _ {V : Type 0} (k : Kind V) (p : Params) (start : ℕ) (first : V) (befor
   pub ended_last : (count : ℕ) (script : List ScriptTxn) (now new : V) (bases : List Base) (txns : List (Txn ℕ)) (after next : Flow) (own : Map nat_cmp)
       → Progress k p start count script first now bases txns before after → own ≡ empty → 0 < length txns → EndsWith k (entry_writes own) now new
       → next.bytes ≡ appended after.bytes (record_text decimal (record { epoch = suc count; txns = txns })) → after.faults ≤ next.faults → ServeDone k p start script first new before next (Ok tt)
-  ended_last count script now new bases txns after next own pr is some e bytes later = finished script new next
-      (with_close script now new txns after next own pr.going e (last_owned count script now bases txns after own pr is) (last_of_none txns some pr.none) (λ m held. (pr.bases_are m held).1)
+  unfolding with_close
+  ended_last count script now new bases txns after next own pr is some e bytes later = finished script new [] next
+      (with_close script now new txns after next own pr.going e (last_owned count script now bases txns after own pr is) (λ m held. (pr.bases_are m held).1)
       (bytes ∙ ap (λ n. appended after.bytes (record_text decimal (record { epoch = n; txns = txns }))) pr.epoch_is) later)
+      refl (ends_more [] pr.going.records (record_at (length pr.going.records) txns) pr.committed (inr (refl, some_of_none txns some pr.none)))
 
   pub unended_last : (count : ℕ) (script : List ScriptTxn) (now new : V) (bases : List Base) (txns : List (Txn ℕ)) (after next : Flow) (own : Map nat_cmp) (fault : Fault)
       → Progress k p start count script first now bases txns before after → own ≡ empty → 0 < length txns
-      → CloseRefused k (entry_writes own) (record_text decimal (record { epoch = suc count; txns = txns })) now new after next fault → ServeDone k p start script first new before next (Err fault)
+      → CloseRefused k (suc count) (entry_writes own) (record_text decimal (record { epoch = suc count; txns = txns })) now new after next fault → ServeDone k p start script first new before next (Err fault)
   unended_last count script now new bases txns after next own fault pr is some refused =
-      unclosed script [] script now new txns after next own fault pr.going (sym (append-nil script)) (last_owned count script now bases txns after own pr is) (last_of_none txns some pr.none) (λ m held. (pr.bases_are m held).1)
-      (subst (λ n. CloseRefused k (entry_writes own) (record_text decimal (record { epoch = n; txns = txns })) now new after next fault) pr.epoch_is refused)
+      unclosed script [] script now new txns after next own fault pr.going pr.committed (sym (append-nil script)) (last_owned count script now bases txns after own pr is) (inr (refl, some_of_none txns some pr.none)) (λ m held. (pr.bases_are m held).1)
+      (subst (λ n. CloseRefused k n (entry_writes own) (record_text decimal (record { epoch = n; txns = txns })) now new after next fault) pr.epoch_is refused)
 
   -- no transaction is left over
   pub all_ended : (count : ℕ) (script : List ScriptTxn) (now : V) (bases : List Base) (txns : List (Txn ℕ)) (after : Flow) → Progress k p start count script first now bases txns before after → txns ≡ []
       → ServeDone k p start script first now before after (Ok tt)
-  all_ended count script now bases txns after pr none = finished script now after (subst (λ ts. Going k p start script first now ts before after) none pr.going)
+  all_ended count script now bases txns after pr none = finished script now txns after pr.going none (each_ends [] pr.going.records pr.committed)

@@ -7,5 +7,7 @@ pub mod Owns
 pub mod Meeting
 pub mod Steps
 pub mod Progress
+pub mod OneByOne
+pub mod Held
 pub mod Goes
 pub mod Below

@@ -7,7 +7,7 @@ use Rattle.ob_base.specs.declared.op.Op.{Op}
 use Rattle.ob_serial.specs.Serial.{EpochRecord, Map, Txn, Replays, is_committed}
 use Rattle.ob_serial.specs.Vaults.{with_writes}
 use Rattle.ob_script.specs.Script.{ScriptTxn}
-use Rattle.ob_client.specs.Epochs.{Served, EpochServed, NoneCommits, LastMayCommit, RecordsServed, RecordsReplay, AllReplay, committed_ops, record_writes, contents, known_all, known_after, own_of}
+use Rattle.ob_client.specs.Epochs.{Served, EpochServed, NoneCommits, EndsCommitted, EndsUncommitted, EachCommits, EpochsEnd, RecordsServed, RecordsReplay, AllReplay, committed_ops, record_writes, contents, known_all, known_after, own_of}
 use Rattle.ob_client.specs.Txns.{CommitsWith}
 
 -- one transaction more of an epoch
@@ -28,18 +28,31 @@ pub none_more : (txns : List (Txn ℕ)) (t : Txn ℕ) → NoneCommits txns → i
 none_more [] t none is = (is, tt)
 none_more (u ∷ txns) t none is = (none.0, none_more txns t none.1 is)
 
--- and any one
-pub last_more : (txns : List (Txn ℕ)) (t : Txn ℕ) → NoneCommits txns → LastMayCommit (txns ++ t ∷ [])
-last_more [] t none = tt
-last_more (u ∷ []) t none = (none.0, tt)
-last_more (u ∷ v ∷ txns) t none = (none.0, last_more (v ∷ txns) t none.1)
+-- and one that is
+pub commits_more : (txns : List (Txn ℕ)) (t : Txn ℕ) → NoneCommits txns → is_committed t ≡ true → EndsCommitted (txns ++ t ∷ [])
+commits_more [] t none is = is
+commits_more (u ∷ []) t none is = (none.0, is)
+commits_more (u ∷ v ∷ txns) t none is = (none.0, commits_more (v ∷ txns) t none.1 is)
 
-pub last_of_none : (txns : List (Txn ℕ)) → 0 < length txns → NoneCommits txns → LastMayCommit txns
-last_of_none [] some none = absurd (omega (arith, some))
-last_of_none (u ∷ []) some none = tt
-last_of_none (u ∷ v ∷ txns) some none = (none.0, last_of_none (v ∷ txns) (omega arith) none.1)
+pub some_of_none : (txns : List (Txn ℕ)) → 0 < length txns → NoneCommits txns → EndsUncommitted txns
+some_of_none [] some none = absurd (omega (arith, some))
+some_of_none (u ∷ txns) some none = none
 
-none_kept : (txns : List (Txn ℕ)) → NoneCommits txns → filter (λ t. is_committed t) txns ≡ []
+-- one epoch more
+pub each_more : (records : List (EpochRecord ℕ)) (r : EpochRecord ℕ) → EachCommits records → EndsCommitted r.txns → EachCommits (records ++ r ∷ [])
+each_more [] r each last = (last, tt)
+each_more (q ∷ records) r each last = (each.0, each_more records r each.1 last)
+
+pub each_ends : (rest : List ScriptTxn) (records : List (EpochRecord ℕ)) → EachCommits records → EpochsEnd rest records
+each_ends rest [] each = tt
+each_ends rest (q ∷ records) each = (inl each.0, each_ends rest records each.1)
+
+pub ends_more : (rest : List ScriptTxn) (records : List (EpochRecord ℕ)) (r : EpochRecord ℕ) → EachCommits records → EndsCommitted r.txns ⊎ ((rest ≡ []) × EndsUncommitted r.txns) → EpochsEnd rest (records ++ r ∷ [])
+ends_more rest [] r each (inl last) = (inl last, tt)
+ends_more rest [] r each (inr (none, last)) = (inr (none, refl, last), tt)
+ends_more rest (q ∷ records) r each last = (inl each.0, ends_more rest records r each.1 last)
+
+pub none_kept : (txns : List (Txn ℕ)) → NoneCommits txns → filter (λ t. is_committed t) txns ≡ []
 none_kept [] none = refl
 none_kept (u ∷ txns) none = rw none.0 (none_kept txns none.1)
 
@@ -55,20 +68,19 @@ one_ops txns t none is = ap (flat_map (λ (u : Txn ℕ). u.ops)) (kept_one txns 
 
 -- one record more
 pub records_more : (p : Params) (epoch : ℕ) (done front : List ScriptTxn) (records : List (EpochRecord ℕ)) (r : EpochRecord ℕ)
-    → RecordsServed p epoch done records → r.epoch ≡ epoch + length records → EpochServed p (epoch + length records) 1 [] front r.txns → LastMayCommit r.txns
+    → RecordsServed p epoch done records → r.epoch ≡ epoch + length records → EpochServed p (epoch + length records) 1 [] front r.txns
     → RecordsServed p epoch (done ++ front) (records ++ r ∷ [])
-records_more p epoch done front [] r is at served last =
+records_more p epoch done front [] r is at served =
     let same : epoch + 0 ≡ epoch = omega arith in
-    (front, [], ap (λ (d : List ScriptTxn). d ++ front) is ∙ sym (append-nil front), at ∙ same, subst (λ e. EpochServed p e 1 [] front r.txns) same served, last, refl)
-records_more p epoch done front (q ∷ records) r (first, behind, is, e, s, l, rest) at served last =
+    (front, [], ap (λ (d : List ScriptTxn). d ++ front) is ∙ sym (append-nil front), at ∙ same, subst (λ e. EpochServed p e 1 [] front r.txns) same served, refl)
+records_more p epoch done front (q ∷ records) r (first, behind, is, e, s, rest) at served =
     let same : epoch + length (q ∷ records) ≡ epoch + 1 + length records = omega arith in (
       first,
       behind ++ front,
       ap (λ (d : List ScriptTxn). d ++ front) is ∙ append_assoc first behind front,
       e,
       s,
-      l,
-      records_more p (epoch + 1) behind front records r rest (at ∙ same) (subst (λ x. EpochServed p x 1 [] front r.txns) same served) last,
+      records_more p (epoch + 1) behind front records r rest (at ∙ same) (subst (λ x. EpochServed p x 1 [] front r.txns) same served),
     )
 
 pub replay_more : (m : Map nat_cmp) (records : List (EpochRecord ℕ)) (r : EpochRecord ℕ) → RecordsReplay m records → AllReplay (contents m records) r.txns → RecordsReplay m (records ++ r ∷ [])

@@ -1,5 +1,5 @@
 -- What one client's transactions do: each runs alone, and a commit ends its epoch.
-use Rattle.std.specs.Prelude.{ℕ, suc, zero, ◌≡◌, ◌≤◌, ◌+◌, Bool, true, false, ◌==◌, List, [], ◌∷◌, ◌++◌, length, map, filter, flat_map, Option, Some, None, is_some, if◌then◌else◌}
+use Rattle.std.specs.Prelude.{ℕ, suc, zero, ◌≡◌, ◌≤◌, ◌+◌, ◌⊎◌, Bool, true, false, ◌==◌, List, [], ◌∷◌, ◌++◌, length, map, filter, flat_map, Option, Some, None, is_some, if◌then◌else◌}
 use Rattle.std.specs.List.{list_any}
 use Rattle.std.specs.FinMap.{get, empty, len}
 use Rattle.std.specs.Ordering.{nat_cmp}
@@ -91,17 +91,32 @@ abbrev pub NoneCommits : List (Txn ℕ) → Type 0
 NoneCommits [] = Unit {0}
 NoneCommits (t ∷ txns) = (is_committed t ≡ false) × NoneCommits txns
 
--- None but the last one, which there is, may be committed.
-abbrev pub LastMayCommit : List (Txn ℕ) → Type 0
-LastMayCommit [] = ⊥
-LastMayCommit (t ∷ []) = Unit {0}
-LastMayCommit (t ∷ u ∷ txns) = (is_committed t ≡ false) × LastMayCommit (u ∷ txns)
+-- They end with the first one that is committed,
+abbrev pub EndsCommitted : List (Txn ℕ) → Type 0
+EndsCommitted [] = ⊥
+EndsCommitted (t ∷ []) = is_committed t ≡ true
+EndsCommitted (t ∷ u ∷ txns) = (is_committed t ≡ false) × EndsCommitted (u ∷ txns)
+
+-- or there are some, and none is committed.
+abbrev pub EndsUncommitted : List (Txn ℕ) → Type 0
+EndsUncommitted [] = ⊥
+EndsUncommitted (t ∷ txns) = NoneCommits (t ∷ txns)
+
+-- Each epoch ends with its first commit.
+abbrev pub EachCommits : List (EpochRecord ℕ) → Type 0
+EachCommits [] = Unit {0}
+EachCommits (r ∷ records) = EndsCommitted r.txns × EachCommits records
+
+-- Each epoch ends with its first commit, but for the last one where nothing of the script is left: that may end without one.
+abbrev pub EpochsEnd : List ScriptTxn → List (EpochRecord ℕ) → Type 0
+EpochsEnd rest [] = Unit {0}
+EpochsEnd rest (r ∷ records) = (EndsCommitted r.txns ⊎ ((rest ≡ []) × (records ≡ []) × EndsUncommitted r.txns)) × EpochsEnd rest records
 
 -- The records are those of these transactions of the script, epoch by epoch from this one on.
 abbrev pub RecordsServed : Params → ℕ → List ScriptTxn → List (EpochRecord ℕ) → Type 0
 RecordsServed p epoch asks [] = asks ≡ []
 RecordsServed p epoch asks (r ∷ records) = (front : List ScriptTxn) × (behind : List ScriptTxn) × (asks ≡ front ++ behind)
-    × (r.epoch ≡ epoch) × EpochServed p epoch 1 [] front r.txns × LastMayCommit r.txns × RecordsServed p (epoch + 1) behind records
+    × (r.epoch ≡ epoch) × EpochServed p epoch 1 [] front r.txns × RecordsServed p (epoch + 1) behind records
 
 -- the operations of the committed transactions
 abbrev pub committed_ops : List (Txn ℕ) → List (Op ℕ)

@@ -10,14 +10,15 @@ use Rattle.ob_serial.specs.Vaults.{VaultCall, VaultAnswer}
 use Rattle.ob_serial.specs.VaultKinds.{Kind, AllCalled, ended_of}
 use Rattle.ob_script.specs.Script.{ScriptTxn}
 use Rattle.ob_client.specs.declared.asks.Base.{Base}
-use Rattle.ob_client.specs.Calls.{HoldsMap}
-use Rattle.ob_client.specs.Epochs.{EpochServed, NoneCommits, RecordsServed, RecordsReplay, AllReplay, record_writes, contents, known_all}
+use Rattle.ob_client.specs.Calls.{AreAnswered, HoldsMap}
+use Rattle.ob_client.specs.Epochs.{EpochServed, NoneCommits, EachCommits, RecordsServed, RecordsReplay, AllReplay, record_writes, contents, known_all}
 use Rattle.ob_client.specs.Asks.{keys_of, AreBases}
 
 -- The epochs that have ended, and their records; and the running epoch, whose transactions may or may not all be done.
 pub record Going {V : Type 0} (k : Kind V) (p : Params) (start : ℕ) (taken : List ScriptTxn) (first now : V) (txns : List (Txn ℕ)) (before after : Flow) : Type 0 where
   pub steps : List (VaultCall × VaultAnswer)
   pub chain : AllCalled k first steps now
+  pub answered : AreAnswered steps
   pub records : List (EpochRecord ℕ)
   pub done : List ScriptTxn
   pub front : List ScriptTxn
@@ -33,6 +34,7 @@ pub record Going {V : Type 0} (k : Kind V) (p : Params) (start : ℕ) (taken : L
 pub record Progress {V : Type 0} (k : Kind V) (p : Params) (start count : ℕ) (taken : List ScriptTxn) (first now : V) (bases : List Base) (txns : List (Txn ℕ)) (before after : Flow) : Type 0 where
   pub going : Going k p start taken first now txns before after
   pub epoch_is : suc count ≡ suc start + length going.records
+  pub committed : EachCommits going.records
   pub none : NoneCommits txns
   pub known_is : keys_of bases ≡ known_all [] txns
   pub bases_are : (m : Map nat_cmp) → HoldsMap k first m → AreBases (contents m going.records) bases × AllReplay (contents m going.records) txns

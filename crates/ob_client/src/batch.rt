@@ -2,9 +2,9 @@ ghost use Rattle.std.specs.Prelude.{◌≡◌, ◌<◌, ◌-◌, ◌+◌, ◌≤
 ghost use Rattle.std.specs.Ordering.{nat_cmp};
 ghost use Rattle.std.specs.FinMap.{get, len};
 ghost use Rattle.ob_serial.specs.Serial.{Map};
-ghost use Rattle.ob_serial.specs.Vaults.{VaultState, VaultCall, VaultAnswer, Fetch, End, Values, RefusedBy, entry_writes};
+ghost use Rattle.ob_serial.specs.Vaults.{VaultState, VaultCall, VaultAnswer, Fetch, End, Values, entry_writes};
 ghost use Rattle.ob_serial.specs.VaultKinds.{kind_of, Called, AllCalled};
-ghost use Rattle.ob_client.specs.Calls.{Fetches, RefusesFetch, EndsWith, RefusesEnd, AllKeysBelow};
+ghost use Rattle.ob_client.specs.Calls.{Fetches, BatchRefused, RefusesFetch, EndsWith, RefusesEnd, AllKeysBelow};
 
 use ob_base::{Fault, Key, Params, Value};
 use ob_serial::{EndErr, PlainMap, Vault};
@@ -28,7 +28,7 @@ fn fetch_first<V: Vault>(
     ensures params { V.params vault.new ≡ params.now }
     ensures counts { OnOk result (V.counts vault.new ≡ record { epoch = (V.counts vault.old).epoch; left = (V.counts vault.old).left - 1; spent = false }) }
     ensures called { OnOk result ((keys : List (Option ℕ)) × (values : List (Option (List ℕ))) × Called (kind_of V.holds V.sound V.stands V.disk V.called) vault.old (Fetch keys) (Values values) vault.new) }
-    ensures refused { IfErr result (λ fault. (keys : List (Option ℕ)) × Called (kind_of V.holds V.sound V.stands V.disk V.called) vault.old (Fetch keys) (RefusedBy fault) vault.new) }
+    ensures refused { IfErr result (BatchRefused (kind_of V.holds V.sound V.stands V.disk V.called) vault.old vault.new) }
     ensures value { (v : VaultState) → V.holds vault.old v → IfOk result (λ value. value ≡ get v.content key) }
 {
     asks[0] = Some(key);
@@ -50,7 +50,7 @@ pub fn fetch_one<V: Vault>(vault: &mut V, params: &Params, key: Key) -> Result<O
     ensures params { V.params vault.new ≡ params.now }
     ensures counts { OnOk result (V.counts vault.new ≡ record { epoch = (V.counts vault.old).epoch; left = (V.counts vault.old).left - 1; spent = false }) }
     ensures called { OnOk result ((keys : List (Option ℕ)) × (values : List (Option (List ℕ))) × Called (kind_of V.holds V.sound V.stands V.disk V.called) vault.old (Fetch keys) (Values values) vault.new) }
-    ensures refused { IfErr result (λ fault. (keys : List (Option ℕ)) × Called (kind_of V.holds V.sound V.stands V.disk V.called) vault.old (Fetch keys) (RefusedBy fault) vault.new) }
+    ensures refused { IfErr result (BatchRefused (kind_of V.holds V.sound V.stands V.disk V.called) vault.old vault.new) }
     ensures value { (v : VaultState) → V.holds vault.old v → IfOk result (λ value. value ≡ get v.content key) }
 {
     let places = params.places as usize;
@@ -81,7 +81,7 @@ fn fetch_pads<V: Vault>(
     ensures room { length found.new ≡ params.now.places }
     ensures counts { OnOk result (V.counts vault.new ≡ record { epoch = (V.counts vault.old).epoch; left = (V.counts vault.old).left - 1; spent = false }) }
     ensures called { OnOk result ((keys : List (Option ℕ)) × (values : List (Option (List ℕ))) × Called (kind_of V.holds V.sound V.stands V.disk V.called) vault.old (Fetch keys) (Values values) vault.new) }
-    ensures refused { IfErr result (λ fault. (keys : List (Option ℕ)) × Called (kind_of V.holds V.sound V.stands V.disk V.called) vault.old (Fetch keys) (RefusedBy fault) vault.new) }
+    ensures refused { IfErr result (BatchRefused (kind_of V.holds V.sound V.stands V.disk V.called) vault.old vault.new) }
 {
     match vault.fetch(asks, found, &mut Blind) {
         Ok(()) => Ok(()),
@@ -142,7 +142,7 @@ pub fn end_epoch<V: Vault>(
     ensures params { V.params vault.new ≡ params.now }
     ensures counts { OnOk result (V.counts vault.new ≡ record { epoch = suc (V.counts vault.old).epoch; left = params.now.batches; spent = false }) }
     ensures called { OnOk result (EndsWith (kind_of V.holds V.sound V.stands V.disk V.called) (entry_writes own.now) vault.old vault.new) }
-    ensures refused { IfErr result (RefusesEnd (kind_of V.holds V.sound V.stands V.disk V.called) (entry_writes own.now) vault.old vault.new) }
+    ensures refused { IfErr result (RefusesEnd (kind_of V.holds V.sound V.stands V.disk V.called) (suc (V.counts vault.old).epoch) (entry_writes own.now) vault.old vault.new) }
 {
     let writes = own.to_writes(alloc)?;
     take_rest(vault, params)?;

@@ -42,7 +42,7 @@ fn close<V: Vault, O: Sink>(
     ensures ended { OnOk result (EndsWith (kind_of V.holds V.sound V.stands V.disk V.called) (entry_writes own.now) vault.old vault.new) }
     ensures written { OnOk result (O.written output.new ≡ appended (O.written output.old) (record_text decimal (record { epoch = suc (V.counts vault.old).epoch; txns = map (λ t. txn_of t) txns.items }))) }
     ensures faults { O.faults output.old ≤ O.faults output.new }
-    ensures refused { IfErr result (CloseRefused (kind_of V.holds V.sound V.stands V.disk V.called) (entry_writes own.now) (record_text decimal (record { epoch = suc (V.counts vault.old).epoch; txns = map (λ t. txn_of t) txns.items }))
+    ensures refused { IfErr result (CloseRefused (kind_of V.holds V.sound V.stands V.disk V.called) (suc (V.counts vault.old).epoch) (entry_writes own.now) (record_text decimal (record { epoch = suc (V.counts vault.old).epoch; txns = map (λ t. txn_of t) txns.items }))
         vault.old vault.new (flow (O.written output.old) (O.faults output.old)) (flow (O.written output.new) (O.faults output.new))) }
 {
     let epoch = vault.epoch() + 1;

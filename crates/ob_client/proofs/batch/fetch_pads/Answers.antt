@@ -1,9 +1,9 @@
 use Rattle.ob_client.proofs.batch.fetch_pads.Goals as goal
 
 pub returns-in-Err-clause-refused : goal.returns-in-Err-clause-refused
-returns-in-Err-clause-refused g c = (
-  _,
-  record {
+returns-in-Err-clause-refused g c = record {
+  keys = _;
+  called = record {
     notes = c.in-Err.ensures.called.0;
     called = c.in-Err.ensures.called.2;
     answered = c.in-Err.ensures.answered;
@@ -12,5 +12,7 @@ returns-in-Err-clause-refused g c = (
     images = c.in-Err.ensures.images;
     alike = c.in-Err.ensures.alike;
     goes = c.in-Err.ensures.goes;
-  },
-)
+  };
+  is_fault = c.in-Err.ensures.faults;
+  cause = c.in-Err.ensures.cause;
+}

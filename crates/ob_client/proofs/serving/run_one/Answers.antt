@@ -36,7 +36,7 @@ pub returns-clause-refused : goal.returns-clause-refused
 returns-clause-refused g c = λ first start before taken rest script pr is.
     uncommitted _ _ _ _ _ _ (g.V.Vault.counts c.run_txn.new.vault).epoch _ _ _ _ _ _ _ _ _ _ _ _ _ _ _ pr c.in-Ok.ensures.called (rw c.in-Some.is at c.in-Ok.ensures.ran) c.in-Ok.ensures.replays
     c.in-Ok.ensures.epoch is
-    (subst (λ (x : Epoch). CloseRefused (kind_of g.V.Vault.holds g.V.Vault.sound g.V.Vault.stands g.V.Vault.disk g.V.Vault.called) (entry_writes c.in-Some.own)
+    (subst (λ (x : Epoch). CloseRefused (kind_of g.V.Vault.holds g.V.Vault.sound g.V.Vault.stands g.V.Vault.disk g.V.Vault.called) (suc (g.V.Vault.counts c.run_txn.new.vault).epoch) (entry_writes c.in-Some.own)
     (record_text decimal (record { epoch = suc (g.V.Vault.counts c.run_txn.new.vault).epoch; txns = map (λ t. txn_of t) x.txns.items })) c.run_txn.new.vault c.close.new.vault
     (flow (g.O.Sink.written c.args.output.now) (g.O.Sink.faults c.args.output.now)) (flow (g.O.Sink.written c.close.new.output) (g.O.Sink.faults c.close.new.output)) c.in-Err-close.fault)
     c.replace-txns.ensures.value c.in-Err-close.ensures.refused)
