@@ -42,6 +42,7 @@ impl<'a, S: Store> FlatVault<'a, S> {
         ensures store { result.held.store.now ≡ store.entry.now }
         ensures params { result.params ≡ opening.params }
         ensures epoch { result.held.epoch ≡ opening.epoch }
+        ensures gates { result.held.gates ≡ opening.gates }
         ensures values { result.values.items ≡ opening.values.items }
         ensures left { result.left ≡ opening.params.batches }
         ensures spent { result.held.spent ≡ false }
