@@ -76,6 +76,16 @@ impl<'a, S: Store> FlatVault<'a, S> {
         }
     }
 
+    /// Gives back the store that it was lent.
+    pub fn into_store(self) -> &'a mut S
+        ensures name { result.ghost_name ≡ self.entry.held.store.ghost_name }
+        ensures store { result.now ≡ self.entry.held.store.now }
+    {
+        let FlatVault { held, .. } = self;
+        let Held { store, .. } = held;
+        store
+    }
+
     /// The parameters of its store.
     pub fn params(&self) -> Params
         ensures { result ≡ self.now.params }
