@@ -1,5 +1,5 @@
 -- What serving a script of one client does.
-use Rattle.std.specs.Prelude.{ℕ, suc, ◌≡◌, ◌⊎◌, ◌≤◌, ◌+◌, List, [], ◌∷◌, ◌++◌, length, map, Option, Result, Ok, Err, decimal}
+use Rattle.std.specs.Prelude.{ℕ, suc, ◌≡◌, ◌⊎◌, ◌+◌, List, [], ◌∷◌, ◌++◌, length, map, flat_map, Option, Result, Ok, Err, OnOk, decimal}
 use Rattle.std.specs.Ordering.{nat_cmp}
 use Rattle.ob_base.specs.Causes.{Rose}
 use Rattle.ob_base.specs.declared.params.Params.{Params}
@@ -7,20 +7,20 @@ use Rattle.ob_base.specs.declared.fault.Fault.{Fault}
 use Rattle.ob_base.specs.declared.fault.Fault.TheVariants.{Memory, SinkFault}
 use Rattle.ob_io.specs.Flows.{appended}
 use Rattle.ob_report.specs.Printed.{Flow, IsPrinted}
-use Rattle.ob_report.specs.Report.{report, record_text}
+use Rattle.ob_report.specs.Report.{report}
 use Rattle.ob_serial.specs.Serial.{EpochRecord, Map, AreInOrder, OneByOne, committed_of}
 use Rattle.ob_serial.specs.Vaults.{VaultCall, VaultAnswer}
 use Rattle.ob_serial.specs.VaultKinds.{Kind, AllCalled, ended_of}
 use Rattle.ob_script.specs.Script.{ScriptTxn}
 use Rattle.ob_store.specs.Calls.{IsStoreFault}
-use Rattle.ob_client.specs.Epochs.{RecordsServed, EpochsEnd, RecordsReplay, record_writes, contents}
-use Rattle.ob_client.specs.Calls.{AreAnswered, IsRefusal, RefusesEnd, EndsWith, HoldsMap}
+use Rattle.ob_client.specs.Epochs.{RecordsServed, EpochsEnd, RecordsReplay, record_writes, record_calls, contents}
+use Rattle.ob_client.specs.Calls.{AreAnswered, IsBegun, calls_of, IsRefusal, RefusesEnd, EndsWith, HoldsMap}
 
--- This epoch's end was refused; or it ended, and the output failed at its lines.
-abbrev pub CloseRefused : {V : Type 0} → Kind V → ℕ → List (ℕ × Option (List ℕ)) → List ℕ → V → V → Flow → Flow → Fault → Type 0
-CloseRefused k epoch writes text old new before after fault =
-    (RefusesEnd k epoch writes old new fault × (after ≡ before))
-    ⊎ ((fault ≡ SinkFault) × EndsWith k writes old new × IsPrinted before after text × Rose before.faults after.faults)
+-- The end of this epoch, with so many batches left, was refused; or it ended, and the output failed at its lines.
+abbrev pub CloseRefused : {V : Type 0} → Kind V → Params → (epoch left : ℕ) → List (ℕ × Option (List ℕ)) → List ℕ → V → V → Flow → Flow → Fault → Type 0
+CloseRefused k p epoch left writes text old new before after fault =
+    (RefusesEnd k p epoch left writes old new fault × (after ≡ before))
+    ⊎ ((fault ≡ SinkFault) × EndsWith k p left writes old new × IsPrinted before after text × Rose before.faults after.faults)
 
 -- The last of these calls, in this epoch, was refused with this fault, or left in doubt; and none before it.
 abbrev pub IsRefusedLast : ℕ → List (VaultCall × VaultAnswer) → Fault → Type 0
@@ -46,6 +46,11 @@ pub record ServeDone {V : Type 0} (k : Kind V) (p : Params) (start : ℕ) (scrip
   -- each transaction replays on the map that its epoch began with, and the epochs that ended were given the records' writes
   pub replay : (m : Map nat_cmp) → HoldsMap k first m → RecordsReplay m records
   pub wrote : ended_of steps ≡ map record_writes records
+  -- the calls are those of the records' epochs, and then the first ones of one epoch more, or none
+  pub begun : List VaultCall
+  pub calls : calls_of steps ≡ flat_map (λ r. record_calls p r) records ++ begun
+  pub is_begun : IsBegun p begun
+  pub whole : OnOk result (begun ≡ [])
   pub printed : IsPrinted before after (report decimal records)
   pub in_order : AreInOrder records
   -- the committed transactions ran one by one on the map that the vault held, and left what it holds now
