@@ -18,14 +18,14 @@ use Rattle.ob_client.specs.declared.asks.Base.{Base}
 use Rattle.ob_base.specs.Causes.{Rose}
 use Rattle.ob_base.specs.declared.fault.Fault.{Fault}
 use Rattle.ob_store.specs.Calls.{IsStoreFault}
-use Rattle.ob_client.specs.Serve.{ServeDone, CloseRefused, IsRefusedLast}
+use Rattle.ob_client.specs.Serve.{ServeDone, CloseRefused, IsRefusedLast, IsUnended, AreBatches}
 use Rattle.ob_base.specs.declared.fault.Fault.TheVariants.{Memory}
-use Rattle.ob_client.specs.Calls.{AreFetches, AreAnswered, IsRefusal, IsBegun, calls_of, fetches_of, batch_of, FetchesNew, RefusesFetch, EndRefused, RefusesAsk, RefusesEnd, EndsWith, HoldsMap}
+use Rattle.ob_client.specs.Calls.{AreFetches, AreAnswered, IsRefusal, IsBegun, calls_of, fetches_of, batch_of, epoch_calls, FetchesNew, RefusesFetch, EndRefused, RefusesAsk, RefusesEnd, EndsWith, HoldsMap}
 use Rattle.ob_client.specs.Epochs.{EpochServed, EndsCommitted, EndsUncommitted, EachCommits, EpochsEnd, RecordsServed, AllReplay, committed_ops, record_writes, record_calls, contents, known_all, known_after, own_of}
 use Rattle.ob_client.specs.Asks.{keys_of, AreBases}
 use Rattle.ob_client.specs.Txns.{TxnRan}
 use Rattle.ob_client.specs.Going.{Going, Progress}
-use Rattle.ob_client.proofs.Schedule.{calls_more, keys_join, closed_calls, none_begun, keys_begun, pads_begun, end_begun}
+use Rattle.ob_client.proofs.Schedule.{epoch_whole, calls_more, keys_join, closed_calls, none_begun, keys_begun, pads_begun, end_begun}
 use Rattle.ob_client.proofs.Chains.{calls_append, asked_append, chain_on, chain_join, fetches_hold, fetches_answered, answered_join, goes_all, rose_since}
 use Rattle.ob_client.proofs.OneByOne.{ordered, ran_one_by_one}
 use Rattle.ob_client.proofs.Held.{holds_contents}
@@ -78,12 +78,16 @@ behind_text before mid after text more bytes later p = record {
         length_suc : (x : ℕ) (xs : List ℕ) (n : ℕ) → length (x ∷ xs) + n ≡ suc (length xs + n)
         length_suc x xs n = omega arith
 
+batches_behind : (p : Params) (known : List ℕ) (asked : List (Option ℕ)) (calls : List VaultCall) → calls ≡ fetches_of p.places asked → fetches_of p.places (map Some known) ++ calls ≡ fetches_of p.places (map Some known ++ asked)
+batches_behind p known asked calls is = ap (λ c. fetches_of p.places (map Some known) ++ c) is ∙ sym (asked_append p.places (map Some known) asked)
+
 -- Calls of an epoch that has read these keys, none of which ended one, and the last of which was refused.
-record RefusedCalls {V : Type 0} (k : Kind V) (p : Params) (known : List ℕ) (epoch : ℕ) (old new : V) (fault : Fault) : Type 0 where
+record RefusedCalls {V : Type 0} (k : Kind V) (p : Params) (known : List ℕ) (epoch : ℕ) (old new : V) (fault : Fault) (All : List VaultCall → Type 0) : Type 0 where
   pub steps : List (VaultCall × VaultAnswer)
   pub chain : AllCalled k old steps new
   pub none : ended_of steps ≡ []
   pub begun : IsBegun p (fetches_of p.places (map Some known) ++ calls_of steps)
+  pub whole : AreBatches p (fetches_of p.places (map Some known) ++ calls_of steps) ⊎ All (fetches_of p.places (map Some known) ++ calls_of steps)
   pub last : IsRefusedLast epoch steps fault
   pub cause : IsStoreFault fault → Rose (k.disk old).faults (k.disk new).faults
 
@@ -97,31 +101,33 @@ no_end epoch (End writes) Ended fault refusal = absurd refusal
 no_end epoch (End writes) (RefusedBy given) fault refusal = refl
 no_end epoch (End writes) (DoubtBy given) fault refusal = refl
 
-module _ {V : Type 0} (k : Kind V) (p : Params) (known : List ℕ) (epoch : ℕ) (old new : V) (fault : Fault) where
+module _ {V : Type 0} (k : Kind V) (p : Params) (known : List ℕ) (epoch : ℕ) (old new : V) (fault : Fault) (All : List VaultCall → Type 0) where
   by_fetch : (asked : List (Option ℕ)) (next : Option ℕ) → RefusesFetch k p asked next old new fault → ((calls : List VaultCall) → calls ≡ fetches_of p.places (asked ++ next ∷ []) → IsBegun p (fetches_of p.places (map Some known) ++ calls))
-      → RefusedCalls k p known epoch old new fault
+      → RefusedCalls k p known epoch old new fault All
   by_fetch asked next r begun = let f = r.before in let call : VaultCall = Fetch (batch_of p.places next) in record {
     steps = f.steps ++ (call, RefusedBy fault) ∷ [];
     chain = chain_on k old f.steps r.mid call (RefusedBy fault) new f.chain r.last.called;
     none = none_with f.steps call (RefusedBy fault) f.fetches refl;
     begun = begun (calls_of (f.steps ++ (call, RefusedBy fault) ∷ [])) (calls_append f.steps ((call, RefusedBy fault) ∷ []) ∙ ap (λ c. c ++ call ∷ []) f.calls ∙ sym (asked_append p.places asked (next ∷ [])));
+    whole = inl (map Some known ++ (asked ++ next ∷ []), batches_behind p known (asked ++ next ∷ []) (calls_of (f.steps ++ (call, RefusedBy fault) ∷ [])) (calls_append f.steps ((call, RefusedBy fault) ∷ []) ∙ ap (λ c. c ++ call ∷ []) f.calls ∙ sym (asked_append p.places asked (next ∷ []))));
     last = (f.steps, call, RefusedBy fault, refl, fetches_answered f.steps f.fetches, (refl, r.last.is_fault));
     cause = λ store. rose_since (k.disk old).faults (k.disk r.mid).faults (k.disk new).faults (goes_all k old f.steps r.mid f.chain).faults (r.last.cause store);
   }
 
-  by_key : (read : List ℕ) (key : ℕ) → length known + length read < p.batches → RefusesFetch k p (map Some read) (Some key) old new fault → RefusedCalls k p known epoch old new fault
+  by_key : (read : List ℕ) (key : ℕ) → length known + length read < p.batches → RefusesFetch k p (map Some read) (Some key) old new fault → RefusedCalls k p known epoch old new fault All
   by_key read key within r = by_fetch (map Some read) (Some key) r
       (λ calls is. keys_begun p known (read ++ key ∷ []) calls (rw length-append (omega (arith, within))) (is ∙ ap (fetches_of p.places) (sym (map-append Some read (key ∷ [])))))
 
-  by_pads : (n left : ℕ) → n < left → left + length known ≡ p.batches → RefusesFetch k p (replicate n None) None old new fault → RefusedCalls k p known epoch old new fault
+  by_pads : (n left : ℕ) → n < left → left + length known ≡ p.batches → RefusesFetch k p (replicate n None) None old new fault → RefusedCalls k p known epoch old new fault All
   by_pads n left within rest r = by_fetch (replicate n None) None r
       (λ calls is. pads_begun p known (n + 1) left calls (omega (arith, within)) rest (is ∙ ap (fetches_of p.places) (replicate-append-replicate n 1 None)))
 
-  by_end : (left : ℕ) (writes : List (ℕ × Option (List ℕ))) → left + length known ≡ p.batches → EndRefused k p epoch left writes old new fault → RefusedCalls k p known epoch old new fault
-  by_end left writes rest r = let f = r.before in record {
+  by_end : (left : ℕ) (writes : List (ℕ × Option (List ℕ))) → left + length known ≡ p.batches → ((calls : List VaultCall) → calls ≡ epoch_calls p known writes → All calls) → EndRefused k p epoch left writes old new fault → RefusedCalls k p known epoch old new fault All
+  by_end left writes rest all r = let f = r.before in record {
     steps = f.steps ++ (End writes, r.answer) ∷ [];
     chain = chain_on k old f.steps r.mid (End writes) r.answer new f.chain r.last;
     begun = end_begun p known left writes (calls_of (f.steps ++ (End writes, r.answer) ∷ [])) rest (calls_append f.steps ((End writes, r.answer) ∷ []) ∙ ap (λ c. c ++ End writes ∷ []) f.calls);
+    whole = inr (all (fetches_of p.places (map Some known) ++ calls_of (f.steps ++ (End writes, r.answer) ∷ [])) (ap (λ c. fetches_of p.places (map Some known) ++ c) (calls_append f.steps ((End writes, r.answer) ∷ []) ∙ ap (λ c. c ++ End writes ∷ []) f.calls) ∙ epoch_whole p known left writes rest));
     none = none_with f.steps (End writes) r.answer f.fetches (no_end epoch (End writes) r.answer fault r.refusal);
     last = (f.steps, End writes, r.answer, refl, fetches_answered f.steps f.fetches, r.refusal);
     cause = λ store. rose_since (k.disk old).faults (k.disk r.mid).faults (k.disk new).faults (goes_all k old f.steps r.mid f.chain).faults (r.cause store);
@@ -290,6 +296,7 @@ module _ {V : Type 0} (k : Kind V) (p : Params) (start : ℕ) (first : V) (befor
     begun = [];
     calls = g.calls ∙ ap (λ ts. flat_map (λ r. record_calls p r) g.records ++ fetches_of p.places (map Some (known_all [] ts))) none;
     is_begun = none_begun p;
+    unended = inl ([], refl);
     whole = refl;
     printed = whole_text before after (report decimal g.records) g.written;
     in_order = ordered p (suc start) script g.records served;
@@ -304,8 +311,9 @@ module _ {V : Type 0} (k : Kind V) (p : Params) (start : ℕ) (first : V) (befor
   -- calls more, of which none ended an epoch
   more_calls : (taken rest script : List ScriptTxn) (mid new : V) (txns : List (Txn ℕ)) (after : Flow) (fault : Fault) (more : List (VaultCall × VaultAnswer))
       → (g : Going k p start taken first mid txns before after) → EachCommits g.records → script ≡ taken ++ rest → AllCalled k mid more new → ended_of more ≡ [] → IsBegun p (fetches_of p.places (map Some (known_all [] txns)) ++ calls_of more)
+      → AreBatches p (fetches_of p.places (map Some (known_all [] txns)) ++ calls_of more) ⊎ IsUnended k p first g.records (suc start + length g.records) (g.front ++ rest) (fetches_of p.places (map Some (known_all [] txns)) ++ calls_of more)
       → ((AreAnswered more × (fault ≡ Memory)) ⊎ (IsRefusedLast (suc start + length g.records) more fault × (IsStoreFault fault → Rose (k.disk mid).faults (k.disk new).faults))) → ServeDone k p start script first new before after (Err fault)
-  more_calls taken rest script mid new txns after fault more g each is chain none begun ends = let wrote : ended_of (g.steps ++ more) ≡ map record_writes g.records = ended_append g.steps more ∙ ap (λ x. ended_of g.steps ++ x) none ∙ append-nil (ended_of g.steps) ∙ g.wrote in record {
+  more_calls taken rest script mid new txns after fault more g each is chain none begun whole ends = let wrote : ended_of (g.steps ++ more) ≡ map record_writes g.records = ended_append g.steps more ∙ ap (λ x. ended_of g.steps ++ x) none ∙ append-nil (ended_of g.steps) ∙ g.wrote in record {
     steps = g.steps ++ more;
     chain = chain_join k first g.steps mid more new g.chain chain;
     records = g.records;
@@ -319,6 +327,7 @@ module _ {V : Type 0} (k : Kind V) (p : Params) (start : ℕ) (first : V) (befor
     begun = fetches_of p.places (map Some (known_all [] txns)) ++ calls_of more;
     calls = calls_more g.steps more (flat_map (λ r. record_calls p r) g.records) (fetches_of p.places (map Some (known_all [] txns))) (calls_of more) g.calls refl;
     is_begun = begun;
+    unended = whole;
     whole = tt;
     printed = whole_text before after (report decimal g.records) g.written;
     in_order = ordered p (suc start) g.done g.records g.served;
@@ -333,9 +342,9 @@ module _ {V : Type 0} (k : Kind V) (p : Params) (start : ℕ) (first : V) (befor
   }
 
   refused_calls : (taken rest script : List ScriptTxn) (mid new : V) (txns : List (Txn ℕ)) (after : Flow) (fault : Fault)
-      → (g : Going k p start taken first mid txns before after) → EachCommits g.records → script ≡ taken ++ rest → RefusedCalls k p (known_all [] txns) (suc start + length g.records) mid new fault
+      → (g : Going k p start taken first mid txns before after) → EachCommits g.records → script ≡ taken ++ rest → RefusedCalls k p (known_all [] txns) (suc start + length g.records) mid new fault (IsUnended k p first g.records (suc start + length g.records) (g.front ++ rest))
       → ServeDone k p start script first new before after (Err fault)
-  refused_calls taken rest script mid new txns after fault g each is r = more_calls taken rest script mid new txns after fault r.steps g each is r.chain r.none r.begun (inr (r.last, r.cause))
+  refused_calls taken rest script mid new txns after fault g each is r = more_calls taken rest script mid new txns after fault r.steps g each is r.chain r.none r.begun r.whole (inr (r.last, r.cause))
 
   -- a batch was refused
   pub stopped : (count : ℕ) (taken rest script : List ScriptTxn) (now new : V) (bases : List Base) (txns : List (Txn ℕ)) (after : Flow) (fault : Fault)
@@ -343,21 +352,24 @@ module _ {V : Type 0} (k : Kind V) (p : Params) (start : ℕ) (first : V) (befor
   stopped count taken rest script now new bases txns after fault pr is (read, inl (memory, within, f)) =
       let same : length (keys_of bases) ≡ length (known_all [] txns) = ap length pr.known_is in
       more_calls taken rest script now new txns after fault f.steps pr.going pr.committed is f.chain (no_ends f.steps f.fetches)
-      (keys_begun p (known_all [] txns) read (calls_of f.steps) (omega (arith, same, within)) f.calls) (inl (fetches_answered f.steps f.fetches, memory))
+      (keys_begun p (known_all [] txns) read (calls_of f.steps) (omega (arith, same, within)) f.calls)
+      (inl (map Some (known_all [] txns) ++ map Some read, batches_behind p (known_all [] txns) (map Some read) (calls_of f.steps) f.calls)) (inl (fetches_answered f.steps f.fetches, memory))
   stopped count taken rest script now new bases txns after fault pr is (read, inr (key, within, r)) =
       let same : length (keys_of bases) ≡ length (known_all [] txns) = ap length pr.known_is in
-      refused_calls taken rest script now new txns after fault pr.going pr.committed is (by_key k p (known_all [] txns) (suc start + length pr.going.records) now new fault read key (omega (arith, same, within)) r)
+      refused_calls taken rest script now new txns after fault pr.going pr.committed is (by_key k p (known_all [] txns) (suc start + length pr.going.records) now new fault (IsUnended k p first pr.going.records (suc start + length pr.going.records) (pr.going.front ++ rest)) read key (omega (arith, same, within)) r)
 
   -- the epoch's end was refused
   unended : (taken rest script : List ScriptTxn) (mid new : V) (txns : List (Txn ℕ)) (after : Flow) (left : ℕ) (writes : List (ℕ × Option (List ℕ))) (fault : Fault)
-      → (g : Going k p start taken first mid txns before after) → EachCommits g.records → script ≡ taken ++ rest → left + length (known_all [] txns) ≡ p.batches → RefusesEnd k p (suc start + length g.records) left writes mid new fault
+      → (g : Going k p start taken first mid txns before after) → EachCommits g.records → script ≡ taken ++ rest → left + length (known_all [] txns) ≡ p.batches
+      → ((calls : List VaultCall) → calls ≡ epoch_calls p (known_all [] txns) writes → IsUnended k p first g.records (suc start + length g.records) (g.front ++ rest) calls) → RefusesEnd k p (suc start + length g.records) left writes mid new fault
       → ServeDone k p start script first new before after (Err fault)
-  unended taken rest script mid new txns after left writes fault g each is rest_is (inl (memory, same)) = more_calls taken rest script mid new txns after fault [] g each is same refl
-      (keys_begun p (known_all [] txns) [] [] (omega (arith, rest_is)) refl) (inl (tt, memory))
-  unended taken rest script mid new txns after left writes fault g each is rest_is (inr (inl (n, within, r))) =
-      refused_calls taken rest script mid new txns after fault g each is (by_pads k p (known_all [] txns) (suc start + length g.records) mid new fault n left within rest_is r)
-  unended taken rest script mid new txns after left writes fault g each is rest_is (inr (inr r)) =
-      refused_calls taken rest script mid new txns after fault g each is (by_end k p (known_all [] txns) (suc start + length g.records) mid new fault left writes rest_is r)
+  unended taken rest script mid new txns after left writes fault g each is rest_is all (inl (memory, same)) = more_calls taken rest script mid new txns after fault [] g each is same refl
+      (keys_begun p (known_all [] txns) [] [] (omega (arith, rest_is)) refl)
+      (inl (map Some (known_all [] txns), append-nil (fetches_of p.places (map Some (known_all [] txns))))) (inl (tt, memory))
+  unended taken rest script mid new txns after left writes fault g each is rest_is all (inr (inl (n, within, r))) =
+      refused_calls taken rest script mid new txns after fault g each is (by_pads k p (known_all [] txns) (suc start + length g.records) mid new fault (IsUnended k p first g.records (suc start + length g.records) (g.front ++ rest)) n left within rest_is r)
+  unended taken rest script mid new txns after left writes fault g each is rest_is all (inr (inr r)) =
+      refused_calls taken rest script mid new txns after fault g each is (by_end k p (known_all [] txns) (suc start + length g.records) mid new fault (IsUnended k p first g.records (suc start + length g.records) (g.front ++ rest)) left writes rest_is all r)
 
   report_more : (records : List (EpochRecord ℕ)) (r : EpochRecord ℕ) → report decimal records ++ record_text decimal r ≡ report decimal (records ++ r ∷ [])
   report_more records r = ap (λ x. report decimal records ++ x) (sym (append-nil (record_text decimal r))) ∙ sym (flat_map-append (record_text decimal) records (r ∷ []))
@@ -367,7 +379,8 @@ module _ {V : Type 0} (k : Kind V) (p : Params) (start : ℕ) (first : V) (befor
       → EachCommits g.records → script ≡ taken ++ rest → left + length (known_all [] txns) ≡ p.batches → own ≡ own_of (committed_ops txns) → EndsCommitted txns ⊎ ((rest ≡ []) × EndsUncommitted txns) → ((m : Map nat_cmp) → HoldsMap k first m → AllReplay (contents m g.records) txns)
       → CloseRefused k p (suc start + length g.records) left (entry_writes own) (record_text decimal (record_at (length g.records) txns)) mid new after next fault → ServeDone k p start script first new before next (Err fault)
   unfolding with_close
-  unclosed taken rest script mid new txns after next own left fault g each is rest_is own_is last all (inl (refuses, same)) = subst (λ f. ServeDone k p start script first new before f (Err fault)) (sym same) (unended taken rest script mid new txns after left (entry_writes own) fault g each is rest_is refuses)
+  unclosed taken rest script mid new txns after next own left fault g each is rest_is own_is last all (inl (refuses, same)) = subst (λ f. ServeDone k p start script first new before f (Err fault)) (sym same) (unended taken rest script mid new txns after left (entry_writes own) fault g each is rest_is
+      (λ calls calls_is. record { next = record_at (length g.records) txns; front = g.front; behind = rest; rest_is = refl; epoch_is = refl; served = g.running; ends = last; replay = all; calls_are = calls_is ∙ ap (λ o. epoch_calls p (known_all [] txns) (entry_writes o)) own_is }) refuses)
   unclosed taken rest script mid new txns after next own left fault g each is rest_is own_is last all (inr (sink, e, printed, rose)) =
       let r : EpochRecord ℕ = record_at (length g.records) txns in
       let told : Flow = record { bytes = appended after.bytes (record_text decimal r); faults = after.faults } in
@@ -386,6 +399,7 @@ module _ {V : Type 0} (k : Kind V) (p : Params) (start : ℕ) (first : V) (befor
         begun = [];
         calls = c.calls;
         is_begun = none_begun p;
+        unended = inl ([], refl);
         whole = tt;
         printed = subst (IsPrinted before next) (report_more g.records r) (behind_text before after next (report decimal g.records) (record_text decimal r) g.written g.later printed);
         in_order = ordered p (suc start) c.done c.records c.served;

@@ -13,8 +13,8 @@ use Rattle.ob_serial.specs.Vaults.{VaultCall, VaultAnswer}
 use Rattle.ob_serial.specs.VaultKinds.{Kind, AllCalled, ended_of}
 use Rattle.ob_script.specs.Script.{ScriptTxn}
 use Rattle.ob_store.specs.Calls.{IsStoreFault}
-use Rattle.ob_client.specs.Epochs.{RecordsServed, EpochsEnd, RecordsReplay, record_writes, record_calls, contents}
-use Rattle.ob_client.specs.Calls.{AreAnswered, IsBegun, calls_of, IsRefusal, RefusesEnd, EndsWith, HoldsMap}
+use Rattle.ob_client.specs.Epochs.{EpochServed, EndsCommitted, EndsUncommitted, AllReplay, RecordsServed, EpochsEnd, RecordsReplay, record_writes, record_calls, contents}
+use Rattle.ob_client.specs.Calls.{AreAnswered, IsBegun, calls_of, fetches_of, IsRefusal, RefusesEnd, EndsWith, HoldsMap}
 
 -- The end of this epoch, with so many batches left, was refused; or it ended, and the output failed at its lines.
 abbrev pub CloseRefused : {V : Type 0} → Kind V → Params → (epoch left : ℕ) → List (ℕ × Option (List ℕ)) → List ℕ → V → V → Flow → Flow → Fault → Type 0
@@ -33,6 +33,22 @@ abbrev pub ServeEnds : ℕ → List ScriptTxn → List (VaultCall × VaultAnswer
 ServeEnds epoch rest steps text before after was is (Ok done) = AreAnswered steps × (rest ≡ []) × (after.bytes ≡ appended before.bytes text)
 ServeEnds epoch rest steps text before after was is (Err fault) = (AreAnswered steps × (fault ≡ Memory)) ⊎ (AreAnswered steps × (fault ≡ SinkFault) × Rose before.faults after.faults) ⊎ (IsRefusedLast epoch steps fault × (IsStoreFault fault → Rose was is))
 
+-- The calls are batches alone.
+abbrev pub AreBatches : Params → List VaultCall → Type 0
+AreBatches p calls = (asked : List (Option ℕ)) × (calls ≡ fetches_of p.places asked)
+
+-- The calls are all those of one record more, whose epoch's end was refused: it has what comes next in the script.
+pub record IsUnended {V : Type 0} (k : Kind V) (p : Params) (first : V) (records : List (EpochRecord ℕ)) (epoch : ℕ) (rest : List ScriptTxn) (calls : List VaultCall) : Type 0 where
+  pub next : EpochRecord ℕ
+  pub front : List ScriptTxn
+  pub behind : List ScriptTxn
+  pub rest_is : rest ≡ front ++ behind
+  pub epoch_is : next.epoch ≡ epoch
+  pub served : EpochServed p epoch 1 [] front next.txns
+  pub ends : EndsCommitted next.txns ⊎ ((behind ≡ []) × EndsUncommitted next.txns)
+  pub replay : (m : Map nat_cmp) → HoldsMap k first m → AllReplay (contents m records) next.txns
+  pub calls_are : calls ≡ record_calls p next
+
 -- A front of the script was run, epoch by epoch behind the last one that had ended, and the records' text is printed.
 pub record ServeDone {V : Type 0} (k : Kind V) (p : Params) (start : ℕ) (script : List ScriptTxn) (first last : V) (before after : Flow) (result : Result (Unit {0}) Fault) : Type 0 where
   pub steps : List (VaultCall × VaultAnswer)
@@ -50,6 +66,7 @@ pub record ServeDone {V : Type 0} (k : Kind V) (p : Params) (start : ℕ) (scrip
   pub begun : List VaultCall
   pub calls : calls_of steps ≡ flat_map (λ r. record_calls p r) records ++ begun
   pub is_begun : IsBegun p begun
+  pub unended : AreBatches p begun ⊎ IsUnended k p first records (suc start + length records) rest begun
   pub whole : OnOk result (begun ≡ [])
   pub printed : IsPrinted before after (report decimal records)
   pub in_order : AreInOrder records
