@@ -1,11 +1,11 @@
 -- The keys of a script's operations are in range.
-use Rattle.std.proofs.Common.{◌≡◌, ◌∙◌, ◌<◌, ◌++◌, ◌∷◌, [], ℕ, List, Bool, true, false, All, Option, Some, None, sym, refl, ap, subst, cond, ◌==◌}
+use Rattle.std.proofs.Common.{◌≡◌, ◌<◌, ◌∷◌, [], ℕ, List, Bool, true, false, Option, Some, None, refl, subst, cond, ◌==◌}
 use Rattle.std.proofs.lemmas.List.Elements.{All-push, All-nil}
 use Rattle.ob_script.specs.declared.line.Ask.{Ask}
 use Rattle.ob_script.specs.declared.line.Ask.TheVariants.{Get, Put}
 use Rattle.ob_script.specs.declared.line.Line.{Line}
 use Rattle.ob_script.specs.declared.line.Line.TheVariants.{Blank, Client, Begin, Asks, Commit}
-use Rattle.ob_script.specs.Script.{Text, ScriptTxn, State, start, step, step_from, IsInRange, Stands, Reads, IsScript, lines_of}
+use Rattle.ob_script.specs.Script.{Text, ScriptTxn, State, start, step, step_from, IsInRange, Reads, IsScript, lines_of}
 use Rattle.ob_client.specs.Asks.{key_of}
 use Rattle.ob_client.specs.Txns.{AsksBelow, ScriptBelow}
 

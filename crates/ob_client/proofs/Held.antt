@@ -1,9 +1,9 @@
 -- What a vault holds behind a chain of calls.
-use Rattle.std.proofs.Common.{◌≡◌, ◌∙◌, ◌+◌, ◌++◌, ◌∷◌, [], ℕ, suc, List, Option, sym, refl, ap, subst, arith, length, map}
+use Rattle.std.proofs.Common.{◌≡◌, ◌∙◌, ◌+◌, ◌∷◌, [], ℕ, List, Option, sym, refl, ap, subst, arith, length, map}
 use Rattle.std.specs.Ordering.{nat_cmp}
 use Rattle.ob_serial.specs.Serial.{EpochRecord, Map}
 use Rattle.ob_serial.specs.Vaults.{VaultState, VaultCall, Fetch, End, VaultAnswer, Values, Ended, RefusedBy, DoubtBy, vault_next, with_writes}
-use Rattle.ob_serial.specs.VaultKinds.{Kind, Called, AllCalled, after_calls, ended_of}
+use Rattle.ob_serial.specs.VaultKinds.{Kind, AllCalled, after_calls, ended_of}
 use Rattle.ob_client.specs.Calls.{HoldsMap}
 use Rattle.ob_client.specs.Epochs.{record_writes, contents}
 

@@ -1,14 +1,13 @@
 -- What is known of keys.
-use Rattle.std.proofs.Common.{◌≡◌, ◌∙◌, ◌<◌, ◌+◌, ◌++◌, ◌∷◌, [], ◌==◌, ◌||◌, ℕ, zero, suc, Bool, true, false, List, length, map, get_or, All, Option, Some, None, sym, refl, ap, arith, subst, rules, IfSome, cond, is_some, nat_eq, ◌≤◌}
+use Rattle.std.proofs.Common.{◌≡◌, ◌∙◌, ◌<◌, ◌+◌, ◌∷◌, [], ◌==◌, ◌||◌, ℕ, zero, suc, Bool, true, false, List, length, get_or, Option, Some, None, refl, ap, arith, rules, cond, is_some, nat_eq, ◌≤◌}
 use Rattle.std.proofs.lemmas.Bool.Decides.{nat_tests}
-use Rattle.std.proofs.lemmas.List.{map-append}
 use Rattle.std.specs.FinMap.{get, insert, len, len-insert}
 use Rattle.std.specs.Cmp.{nat_cmp_total}
 use Rattle.std.specs.Ordering.{nat_cmp}
 use Rattle.ob_serial.specs.Serial.{Map}
 use Rattle.ob_client.specs.declared.asks.Base.{Base}
 use Rattle.ob_client.specs.Epochs.{is_among}
-use Rattle.ob_client.specs.Asks.{keys_of, AreBases, with_key}
+use Rattle.ob_client.specs.Asks.{keys_of}
 
 same_key : (key : ℕ) → (key == key) ≡ true
 same_key key = search rules

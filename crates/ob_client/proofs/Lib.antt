@@ -9,5 +9,6 @@ pub mod Steps
 pub mod Progress
 pub mod OneByOne
 pub mod Held
+pub mod Schedule
 pub mod Goes
 pub mod Below

@@ -1,6 +1,5 @@
 -- Records of transactions that ran one by one.
-use Rattle.std.proofs.Common.{◌≡◌, ◌∙◌, ◌<◌, ◌+◌, ◌⊎◌, ◌++◌, ◌∷◌, [], ℕ, zero, suc, Bool, true, false, List, All, sym, refl, ap, subst, arith, inl, inr, length, map, filter, flat_map}
-use Rattle.std.specs.Prelude.{slice_index}
+use Rattle.std.proofs.Common.{◌≡◌, ◌∙◌, ◌+◌, ◌⊎◌, ◌∷◌, [], ℕ, List, All, sym, refl, ap, subst, arith, inl, inr, length, map, filter, flat_map}
 use Rattle.std.specs.List.{range_with_len}
 use Rattle.std.specs.List.Sorted.{IsStrictlyIncreasing}
 use Rattle.std.specs.FinMap.{empty}
@@ -20,7 +19,7 @@ use Rattle.ob_serial.proofs.Runs.{goes_on}
 use Rattle.ob_script.specs.declared.line.Ask.{Ask}
 use Rattle.ob_script.specs.declared.line.Ask.TheVariants.{Get, Put}
 use Rattle.ob_script.specs.Script.{ScriptTxn}
-use Rattle.ob_client.specs.Epochs.{Meets, EndsAs, Served, EpochServed, NoneCommits, EndsCommitted, EndsUncommitted, EpochsEnd, RecordsServed, RecordsReplay, AllReplay, committed_ops, record_writes, contents, known_after}
+use Rattle.ob_client.specs.Epochs.{Meets, EndsAs, EpochServed, NoneCommits, EndsCommitted, EndsUncommitted, EpochsEnd, RecordsServed, RecordsReplay, AllReplay, committed_ops, record_writes, contents, known_after}
 use Rattle.ob_client.proofs.Progress.{none_kept, none_ops}
 
 -- the epochs have their numbers one by one

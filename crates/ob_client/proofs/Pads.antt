@@ -1,5 +1,5 @@
 -- A batch with one key, or with none.
-use Rattle.std.proofs.Common.{◌≡◌, ◌<◌, ℕ, zero, suc, List, [], ◌∷◌, replicate, set, slice_get, Option, Some, None, refl}
+use Rattle.std.proofs.Common.{◌≡◌, ℕ, zero, suc, List, replicate, set, slice_get, Option, Some, None, refl}
 
 abbrev pub pads : ℕ → List (Option ℕ)
 pads n = replicate n None

@@ -1,14 +1,12 @@
 -- How serving a script goes on.
-use Rattle.std.proofs.Common.{◌≡◌, ◌∙◌, ◌<◌, ◌≤◌, ◌⊎◌, ◌+◌, ◌++◌, ◌∷◌, [], ℕ, zero, suc, Bool, true, false, List, Option, Some, None, sym, refl, ap, subst, arith, inl, inr, take, drop, length, get_or, map, filter, flat_map}
+use Rattle.std.proofs.Common.{◌≡◌, ◌∙◌, ◌<◌, ◌⊎◌, ◌+◌, ◌++◌, ◌∷◌, [], ℕ, true, false, List, sym, refl, ap, subst, arith, inl, inr, length, filter, flat_map}
 use Rattle.std.proofs.lemmas.List.{append-nil, append_assoc}
 use Rattle.std.specs.Ordering.{nat_cmp}
 use Rattle.ob_base.specs.declared.params.Params.{Params}
-use Rattle.ob_base.specs.declared.op.Op.{Op}
-use Rattle.ob_serial.specs.Serial.{EpochRecord, Map, Txn, Replays, is_committed}
+use Rattle.ob_serial.specs.Serial.{EpochRecord, Map, Txn, is_committed}
 use Rattle.ob_serial.specs.Vaults.{with_writes}
 use Rattle.ob_script.specs.Script.{ScriptTxn}
-use Rattle.ob_client.specs.Epochs.{Served, EpochServed, NoneCommits, EndsCommitted, EndsUncommitted, EachCommits, EpochsEnd, RecordsServed, RecordsReplay, AllReplay, committed_ops, record_writes, contents, known_all, known_after, own_of}
-use Rattle.ob_client.specs.Txns.{CommitsWith}
+use Rattle.ob_client.specs.Epochs.{Served, EpochServed, NoneCommits, EndsCommitted, EndsUncommitted, EachCommits, EpochsEnd, RecordsServed, RecordsReplay, AllReplay, committed_ops, record_writes, contents, known_all, known_after}
 
 -- one transaction more of an epoch
 pub served_more : (p : Params) (epoch ticket : ℕ) (known : List ℕ) (asks : List ScriptTxn) (txns : List (Txn ℕ)) (ask : ScriptTxn) (t : Txn ℕ)

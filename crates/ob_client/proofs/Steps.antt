@@ -1,15 +1,14 @@
 -- One operation more of a transaction.
-use Rattle.std.proofs.Common.{◌≡◌, ◌∙◌, ◌<◌, ◌+◌, ◌++◌, ◌∷◌, [], ℕ, List, Option, Some, None, sym, refl, ap, subst, take, drop, length, get_or}
+use Rattle.std.proofs.Common.{◌≡◌, ◌∙◌, ◌<◌, ◌+◌, ◌++◌, ◌∷◌, [], ℕ, List, Some, sym, ap, subst, take, drop, length, get_or}
 use Rattle.std.proofs.lemmas.List.{take_more, drop_more, take-append-drop}
 use Rattle.std.specs.FinMap.{empty}
 use Rattle.std.specs.Ordering.{nat_cmp}
 use Rattle.ob_base.specs.declared.params.Params.{Params}
-use Rattle.ob_base.specs.declared.op.Op.{Op}
 use Rattle.ob_serial.specs.declared.records.Why.{Why}
-use Rattle.ob_serial.specs.Serial.{Map, after, after_op}
+use Rattle.ob_serial.specs.Serial.{Map, after_op}
 use Rattle.ob_script.specs.declared.line.Ask.{Ask}
 use Rattle.ob_client.specs.declared.asks.Running.{Running}
-use Rattle.ob_client.specs.Epochs.{Meets, IsOwnSource, AreOwnSources, known_on, known_after, own_of, IsWhy, IsRefusedAt}
+use Rattle.ob_client.specs.Epochs.{Meets, IsOwnSource, AreOwnSources, known_on, known_after, own_of}
 use Rattle.ob_client.specs.Asks.{Did, Refused}
 use Rattle.ob_client.specs.Txns.{RanTxn}
 use Rattle.ob_client.proofs.Meeting.{meets_more, sourced_more, known_more}

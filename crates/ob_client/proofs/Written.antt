@@ -1,11 +1,11 @@
 -- The writes that a map's entries make.
-use Rattle.std.proofs.Common.{◌≡◌, ◌∙◌, ◌<◌, ◌||◌, ℕ, zero, suc, Bool, true, false, List, [], ◌∷◌, map, length, get_or, sym, refl, ap, arith, subst, rules}
+use Rattle.std.proofs.Common.{◌≡◌, ◌∙◌, ◌<◌, ◌||◌, ℕ, zero, suc, Bool, true, false, List, [], ◌∷◌, map, length, get_or, sym, refl, ap, arith, subst}
 use Rattle.std.proofs.lemmas.List.{length-map, get_or-map}
 use Rattle.std.specs.List.{list_any}
 use Rattle.std.specs.Ordering.{nat_cmp, eq_by_cmp, is_eq}
 use Rattle.std.specs.Cmp.{nat_cmp_is}
 use Rattle.std.specs.declared.cmp.Ordering.TheVariants.{Equal}
-use Rattle.std.specs.FinMap.{get, len, keys, entries, len-entries, contains_key-keys}
+use Rattle.std.specs.FinMap.{len, keys, entries, len-entries, contains_key-keys}
 use Rattle.ob_base.specs.declared.value.Write.{Write}
 use Rattle.ob_serial.specs.Serial.{Map}
 use Rattle.ob_serial.specs.Vaults.{entry_writes}

@@ -1,6 +1,6 @@
 -- What is done for one operation that is asked for.
-use Rattle.std.specs.Prelude.{ℕ, ◌≡◌, ◌<◌, ◌≤◌, Bool, true, false, List, [], ◌∷◌, ◌++◌, length, map, All, Option, Some, None, if◌then◌else◌}
-use Rattle.std.specs.FinMap.{get, empty, len}
+use Rattle.std.specs.Prelude.{ℕ, ◌≡◌, false, List, [], ◌∷◌, ◌++◌, length, map, All, Option, Some, None, if◌then◌else◌}
+use Rattle.std.specs.FinMap.{get}
 use Rattle.std.specs.Ordering.{nat_cmp}
 use Rattle.ob_base.specs.declared.params.Params.{Params}
 use Rattle.ob_base.specs.declared.op.Op.{Op}
@@ -11,7 +11,7 @@ use Rattle.ob_script.specs.declared.line.Ask.{Ask}
 use Rattle.ob_script.specs.declared.line.Ask.TheVariants.{Get, Put}
 use Rattle.ob_client.specs.declared.asks.Base.{Base}
 use Rattle.ob_client.specs.declared.asks.Running.{Running}
-use Rattle.ob_client.specs.Epochs.{Meets, is_among, known_on, known_after, own_of, IsOwnSource, AreOwnSources, IsWhy, IsRefusedAt}
+use Rattle.ob_client.specs.Epochs.{Meets, is_among, known_on, own_of, IsOwnSource, IsWhy}
 
 -- the keys whose values were read
 abbrev pub keys_of : List Base → List ℕ

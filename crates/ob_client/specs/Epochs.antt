@@ -1,5 +1,5 @@
 -- What one client's transactions do: each runs alone, and a commit ends its epoch.
-use Rattle.std.specs.Prelude.{ℕ, suc, zero, ◌≡◌, ◌≤◌, ◌+◌, ◌⊎◌, Bool, true, false, ◌==◌, List, [], ◌∷◌, ◌++◌, length, map, filter, flat_map, Option, Some, None, is_some, if◌then◌else◌}
+use Rattle.std.specs.Prelude.{ℕ, zero, ◌≡◌, ◌≤◌, ◌+◌, ◌⊎◌, Bool, true, false, ◌==◌, List, [], ◌∷◌, ◌++◌, length, filter, flat_map, Option, None, is_some, if◌then◌else◌}
 use Rattle.std.specs.List.{list_any}
 use Rattle.std.specs.FinMap.{get, empty, len}
 use Rattle.std.specs.Ordering.{nat_cmp}
@@ -10,8 +10,10 @@ use Rattle.ob_serial.specs.declared.records.Outcome.{Outcome}
 use Rattle.ob_serial.specs.declared.records.Outcome.TheVariants.{Committed, Aborted, Unsure}
 use Rattle.ob_serial.specs.declared.records.Why.{Why}
 use Rattle.ob_serial.specs.declared.records.Why.TheVariants.{ReadsFull, WritesFull}
-use Rattle.ob_serial.specs.Serial.{Txn, EpochRecord, Map, OpReplays, Replays, after, after_op, is_committed}
+use Rattle.ob_serial.specs.Serial.{Txn, EpochRecord, Map, Replays, after, after_op, is_committed}
 use Rattle.ob_serial.specs.Vaults.{entry_writes, with_writes}
+use Rattle.ob_client.specs.Calls.{epoch_calls}
+use Rattle.ob_serial.specs.Vaults.{VaultCall}
 use Rattle.ob_script.specs.declared.line.Ask.{Ask}
 use Rattle.ob_script.specs.declared.line.Ask.TheVariants.{Get, Put}
 use Rattle.ob_script.specs.Script.{ScriptTxn}
@@ -139,6 +141,10 @@ RecordsReplay m (r ∷ records) = AllReplay m r.txns × RecordsReplay (with_writ
 abbrev pub known_all : List ℕ → List (Txn ℕ) → List ℕ
 known_all known [] = known
 known_all known (t ∷ txns) = known_all (known_after known t.ops) txns
+
+-- the calls of a record's epoch: it asks for each key that its transactions read and that was not known yet, in this order
+abbrev pub record_calls : Params → EpochRecord ℕ → List VaultCall
+record_calls p r = epoch_calls p (known_all [] r.txns) (record_writes r)
 
 -- the map behind the records' epochs
 abbrev pub contents : Map nat_cmp → List (EpochRecord ℕ) → Map nat_cmp

@@ -1,5 +1,5 @@
 -- What stands while a script is served.
-use Rattle.std.specs.Prelude.{ℕ, suc, ◌≡◌, ◌≤◌, ◌+◌, List, [], ◌++◌, length, map, Option, decimal}
+use Rattle.std.specs.Prelude.{ℕ, suc, ◌≡◌, ◌≤◌, ◌+◌, List, [], ◌++◌, length, map, flat_map, Some, decimal}
 use Rattle.std.specs.Ordering.{nat_cmp}
 use Rattle.ob_base.specs.declared.params.Params.{Params}
 use Rattle.ob_io.specs.Flows.{appended}
@@ -10,8 +10,8 @@ use Rattle.ob_serial.specs.Vaults.{VaultCall, VaultAnswer}
 use Rattle.ob_serial.specs.VaultKinds.{Kind, AllCalled, ended_of}
 use Rattle.ob_script.specs.Script.{ScriptTxn}
 use Rattle.ob_client.specs.declared.asks.Base.{Base}
-use Rattle.ob_client.specs.Calls.{AreAnswered, HoldsMap}
-use Rattle.ob_client.specs.Epochs.{EpochServed, NoneCommits, EachCommits, RecordsServed, RecordsReplay, AllReplay, record_writes, contents, known_all}
+use Rattle.ob_client.specs.Calls.{AreAnswered, HoldsMap, calls_of, fetches_of}
+use Rattle.ob_client.specs.Epochs.{EpochServed, NoneCommits, EachCommits, RecordsServed, RecordsReplay, AllReplay, record_writes, record_calls, contents, known_all}
 use Rattle.ob_client.specs.Asks.{keys_of, AreBases}
 
 -- The epochs that have ended, and their records; and the running epoch, whose transactions may or may not all be done.
@@ -27,6 +27,7 @@ pub record Going {V : Type 0} (k : Kind V) (p : Params) (start : ℕ) (taken : L
   pub running : EpochServed p (suc start + length records) 1 [] front txns
   pub replay : (m : Map nat_cmp) → HoldsMap k first m → RecordsReplay m records × HoldsMap k now (contents m records)
   pub wrote : ended_of steps ≡ map record_writes records
+  pub calls : calls_of steps ≡ flat_map (λ r. record_calls p r) records ++ fetches_of p.places (map Some (known_all [] txns))
   pub written : after.bytes ≡ appended before.bytes (report decimal records)
   pub later : before.faults ≤ after.faults
 

@@ -1,13 +1,12 @@
 -- What is done for the transactions of an epoch.
-use Rattle.std.specs.Prelude.{ℕ, ◌≡◌, ◌<◌, ◌≤◌, ◌+◌, true, false, List, [], ◌∷◌, ◌++◌, length, map, All, Option, Some, None}
-use Rattle.std.specs.FinMap.{empty, len}
+use Rattle.std.specs.Prelude.{ℕ, ◌≡◌, ◌<◌, ◌+◌, true, false, List, [], ◌∷◌, ◌++◌, length, map, All, Option, Some, None}
+use Rattle.std.specs.FinMap.{empty}
 use Rattle.std.specs.Ordering.{nat_cmp}
 use Rattle.ob_base.specs.declared.params.Params.{Params}
-use Rattle.ob_base.specs.declared.op.Op.{Op}
 use Rattle.ob_serial.specs.declared.records.Why.{Why}
 use Rattle.ob_serial.specs.declared.records.Outcome.{Outcome}
 use Rattle.ob_serial.specs.declared.records.Outcome.TheVariants.{Committed, Aborted}
-use Rattle.ob_serial.specs.Serial.{Map, Txn, Replays, is_committed}
+use Rattle.ob_serial.specs.Serial.{Map, Txn, is_committed}
 use Rattle.ob_serial.specs.Views.{txn_of}
 use Rattle.ob_script.specs.declared.line.Ask.{Ask}
 use Rattle.ob_script.specs.Script.{ScriptTxn}

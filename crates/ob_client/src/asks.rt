@@ -5,7 +5,7 @@ ghost use Rattle.ob_serial.specs.Serial.{Map, Replays};
 ghost use Rattle.ob_serial.specs.VaultKinds.{kind_of};
 ghost use Rattle.ob_serial.proofs.Laid.{HasNoDelete};
 ghost use Rattle.ob_client.specs.Epochs.{is_among, own_of};
-ghost use Rattle.ob_client.specs.Calls.{Fetches, RefusesAsk, HoldsMap, IsRunning, AllKeysBelow};
+ghost use Rattle.ob_client.specs.Calls.{FetchesNew, RefusesAsk, HoldsMap, IsRunning, AllKeysBelow};
 ghost use Rattle.ob_client.specs.Asks.{keys_of, AreBases, with_key, key_of, ReadsNoMore, Did, Refused, Asked, OwnsReplay};
 ghost use Rattle.ob_script.specs.declared.line.Ask.TheVariants.{Get, Put};
 
@@ -56,8 +56,8 @@ fn read_base<V: Vault>(
     ensures params { V.params vault.new ≡ params.now }
     ensures running { OnOk result (IsRunning params.now (V.counts vault.new) (length bases.new.items)) }
     ensures epoch { OnOk result ((V.counts vault.new).epoch ≡ (V.counts vault.old).epoch) }
-    ensures called { OnOk result (Fetches (kind_of V.holds V.sound V.stands V.disk V.called) vault.old vault.new) }
-    ensures refused { IfErr result (RefusesAsk (kind_of V.holds V.sound V.stands V.disk V.called) vault.old vault.new) }
+    ensures called { OnOk result (FetchesNew (kind_of V.holds V.sound V.stands V.disk V.called) params.now (keys_of bases.old.items) (keys_of bases.new.items) vault.old vault.new) }
+    ensures refused { IfErr result (RefusesAsk (kind_of V.holds V.sound V.stands V.disk V.called) params.now (length (keys_of bases.old.items)) vault.old vault.new) }
     ensures known { IfOk result (λ found. MatchOption found (ReadsNoMore params.now key (keys_of bases.old.items) (keys_of bases.new.items)) (λ base. keys_of bases.new.items ≡ with_key key (keys_of bases.old.items))) }
     ensures value { (m : Map nat_cmp) → HoldsMap (kind_of V.holds V.sound V.stands V.disk V.called) vault.old m → AreBases m bases.old.items
         → IfOk result (λ found. AreBases m bases.new.items × IfSome found (λ base. base.value ≡ get m key)) }
@@ -68,7 +68,10 @@ fn read_base<V: Vault>(
     if vault.left() == 0 {
         return Ok(None);
     }
-    let value = fetch_one(vault, params, key)?;
+    let value = match fetch_one(vault, params, key) {
+        Ok(value) => value,
+        Err(fault) => return Err(fault),
+    };
     let Ok(()) = bases.push(Base { key, value }) else {
         return Err(Fault::Memory);
     };
@@ -91,29 +94,35 @@ fn get<V: Vault>(
     ensures params { V.params vault.new ≡ params.now }
     ensures running { OnOk result (IsRunning params.now (V.counts vault.new) (length bases.new.items)) }
     ensures epoch { OnOk result ((V.counts vault.new).epoch ≡ (V.counts vault.old).epoch) }
-    ensures called { OnOk result (Fetches (kind_of V.holds V.sound V.stands V.disk V.called) vault.old vault.new) }
-    ensures refused { IfErr result (RefusesAsk (kind_of V.holds V.sound V.stands V.disk V.called) vault.old vault.new) }
+    ensures called { OnOk result (FetchesNew (kind_of V.holds V.sound V.stands V.disk V.called) params.now (keys_of bases.old.items) (keys_of bases.new.items) vault.old vault.new) }
+    ensures refused { IfErr result (RefusesAsk (kind_of V.holds V.sound V.stands V.disk V.called) params.now (length (keys_of bases.old.items)) vault.old vault.new) }
     ensures asked { IfOk result (λ why. Asked params.now ticket (Get key) (keys_of bases.old.items) (keys_of bases.new.items) running.old running.new why) }
     ensures replays { (m : Map nat_cmp) → HoldsMap (kind_of V.holds V.sound V.stands V.disk V.called) vault.old m → AreBases m bases.old.items → OwnsReplay m running.old
         → OnOk result (AreBases m bases.new.items × OwnsReplay m running.new) }
 {
     if let Some(value) = running.own.get(key) {
         let reply: Option<Value> = Some(value);
-        running.ops.push(Op::Get {
+        let op = Op::Get {
             key,
             reply,
             source: ticket,
-        })?;
+        };
+        let Ok(()) = running.ops.push(op) else {
+            return Err(Fault::Memory);
+        };
         return Ok(None);
     }
     match read_base(vault, params, bases, key)? {
         None => Ok(Some(Why::ReadsFull { queued: 0, left: 0 })),
         Some(Base { value, .. }) => {
-            running.ops.push(Op::Get {
+            let op = Op::Get {
                 key,
                 reply: value,
                 source: 0,
-            })?;
+            };
+            let Ok(()) = running.ops.push(op) else {
+                return Err(Fault::Memory);
+            };
             Ok(None)
         }
     }
@@ -167,8 +176,8 @@ pub fn do_ask<V: Vault>(
     ensures params { V.params vault.new ≡ params.now }
     ensures running { OnOk result (IsRunning params.now (V.counts vault.new) (length bases.new.items)) }
     ensures epoch { OnOk result ((V.counts vault.new).epoch ≡ (V.counts vault.old).epoch) }
-    ensures called { OnOk result (Fetches (kind_of V.holds V.sound V.stands V.disk V.called) vault.old vault.new) }
-    ensures refused { IfErr result (RefusesAsk (kind_of V.holds V.sound V.stands V.disk V.called) vault.old vault.new) }
+    ensures called { OnOk result (FetchesNew (kind_of V.holds V.sound V.stands V.disk V.called) params.now (keys_of bases.old.items) (keys_of bases.new.items) vault.old vault.new) }
+    ensures refused { IfErr result (RefusesAsk (kind_of V.holds V.sound V.stands V.disk V.called) params.now (length (keys_of bases.old.items)) vault.old vault.new) }
     ensures asked { IfOk result (λ why. Asked params.now ticket ask (keys_of bases.old.items) (keys_of bases.new.items) running.old running.new why) }
     ensures replays { (m : Map nat_cmp) → HoldsMap (kind_of V.holds V.sound V.stands V.disk V.called) vault.old m → AreBases m bases.old.items → OwnsReplay m running.old
         → OnOk result (AreBases m bases.new.items × OwnsReplay m running.new) }

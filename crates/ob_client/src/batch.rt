@@ -4,7 +4,7 @@ ghost use Rattle.std.specs.FinMap.{get, len};
 ghost use Rattle.ob_serial.specs.Serial.{Map};
 ghost use Rattle.ob_serial.specs.Vaults.{VaultState, VaultCall, VaultAnswer, Fetch, End, Values, entry_writes};
 ghost use Rattle.ob_serial.specs.VaultKinds.{kind_of, Called, AllCalled};
-ghost use Rattle.ob_client.specs.Calls.{Fetches, BatchRefused, RefusesFetch, EndsWith, RefusesEnd, AllKeysBelow};
+ghost use Rattle.ob_client.specs.Calls.{Fetches, BatchRefused, RefusesRest, EndsWith, batch_of, RefusesEnd, AllKeysBelow};
 
 use ob_base::{Fault, Key, Params, Value};
 use ob_serial::{EndErr, PlainMap, Vault};
@@ -27,8 +27,8 @@ fn fetch_first<V: Vault>(
     requires room { length found.old ≡ params.now.places }
     ensures params { V.params vault.new ≡ params.now }
     ensures counts { OnOk result (V.counts vault.new ≡ record { epoch = (V.counts vault.old).epoch; left = (V.counts vault.old).left - 1; spent = false }) }
-    ensures called { OnOk result ((keys : List (Option ℕ)) × (values : List (Option (List ℕ))) × Called (kind_of V.holds V.sound V.stands V.disk V.called) vault.old (Fetch keys) (Values values) vault.new) }
-    ensures refused { IfErr result (BatchRefused (kind_of V.holds V.sound V.stands V.disk V.called) vault.old vault.new) }
+    ensures called { OnOk result ((values : List (Option (List ℕ))) × Called (kind_of V.holds V.sound V.stands V.disk V.called) vault.old (Fetch (batch_of params.now.places (Some key))) (Values values) vault.new) }
+    ensures refused { IfErr result (BatchRefused (kind_of V.holds V.sound V.stands V.disk V.called) params.now (Some key) vault.old vault.new) }
     ensures value { (v : VaultState) → V.holds vault.old v → IfOk result (λ value. value ≡ get v.content key) }
 {
     asks[0] = Some(key);
@@ -49,8 +49,8 @@ pub fn fetch_one<V: Vault>(vault: &mut V, params: &Params, key: Key) -> Result<O
     requires below { key < params.now.keys }
     ensures params { V.params vault.new ≡ params.now }
     ensures counts { OnOk result (V.counts vault.new ≡ record { epoch = (V.counts vault.old).epoch; left = (V.counts vault.old).left - 1; spent = false }) }
-    ensures called { OnOk result ((keys : List (Option ℕ)) × (values : List (Option (List ℕ))) × Called (kind_of V.holds V.sound V.stands V.disk V.called) vault.old (Fetch keys) (Values values) vault.new) }
-    ensures refused { IfErr result (BatchRefused (kind_of V.holds V.sound V.stands V.disk V.called) vault.old vault.new) }
+    ensures called { OnOk result ((values : List (Option (List ℕ))) × Called (kind_of V.holds V.sound V.stands V.disk V.called) vault.old (Fetch (batch_of params.now.places (Some key))) (Values values) vault.new) }
+    ensures refused { IfErr result (BatchRefused (kind_of V.holds V.sound V.stands V.disk V.called) params.now (Some key) vault.old vault.new) }
     ensures value { (v : VaultState) → V.holds vault.old v → IfOk result (λ value. value ≡ get v.content key) }
 {
     let places = params.places as usize;
@@ -80,8 +80,8 @@ fn fetch_pads<V: Vault>(
     ensures params { V.params vault.new ≡ params.now }
     ensures room { length found.new ≡ params.now.places }
     ensures counts { OnOk result (V.counts vault.new ≡ record { epoch = (V.counts vault.old).epoch; left = (V.counts vault.old).left - 1; spent = false }) }
-    ensures called { OnOk result ((keys : List (Option ℕ)) × (values : List (Option (List ℕ))) × Called (kind_of V.holds V.sound V.stands V.disk V.called) vault.old (Fetch keys) (Values values) vault.new) }
-    ensures refused { IfErr result (BatchRefused (kind_of V.holds V.sound V.stands V.disk V.called) vault.old vault.new) }
+    ensures called { OnOk result ((values : List (Option (List ℕ))) × Called (kind_of V.holds V.sound V.stands V.disk V.called) vault.old (Fetch (batch_of params.now.places None)) (Values values) vault.new) }
+    ensures refused { IfErr result (BatchRefused (kind_of V.holds V.sound V.stands V.disk V.called) params.now None vault.old vault.new) }
 {
     match vault.fetch(asks, found, &mut Blind) {
         Ok(()) => Ok(()),
@@ -102,11 +102,14 @@ fn fetch_rest<V: Vault>(
     requires room { length found.old ≡ params.now.places }
     ensures params { V.params vault.new ≡ params.now }
     ensures counts { OnOk result (V.counts vault.new ≡ record { epoch = (V.counts vault.old).epoch; left = 0; spent = false }) }
-    ensures called { OnOk result (Fetches (kind_of V.holds V.sound V.stands V.disk V.called) vault.old vault.new) }
-    ensures refused { IfErr result (RefusesFetch (kind_of V.holds V.sound V.stands V.disk V.called) vault.old vault.new) }
+    ensures called { OnOk result (Fetches (kind_of V.holds V.sound V.stands V.disk V.called) params.now (replicate (V.counts vault.old).left None) vault.old vault.new) }
+    ensures refused { IfErr result (RefusesRest (kind_of V.holds V.sound V.stands V.disk V.called) params.now (V.counts vault.old).left vault.old vault.new) }
 {
     while vault.left() > 0 {
-        fetch_pads(vault, params, asks, found)?;
+        match fetch_pads(vault, params, asks, found) {
+            Ok(()) => {}
+            Err(fault) => return Err(fault),
+        }
     }
     Ok(())
 }
@@ -116,8 +119,8 @@ fn take_rest<V: Vault>(vault: &mut V, params: &Params) -> Result<(), Fault>
     requires serves { (V.counts vault.old).spent ≡ false }
     ensures params { V.params vault.new ≡ params.now }
     ensures counts { OnOk result (V.counts vault.new ≡ record { epoch = (V.counts vault.old).epoch; left = 0; spent = false }) }
-    ensures called { OnOk result (Fetches (kind_of V.holds V.sound V.stands V.disk V.called) vault.old vault.new) }
-    ensures refused { IfErr result (RefusesFetch (kind_of V.holds V.sound V.stands V.disk V.called) vault.old vault.new) }
+    ensures called { OnOk result (Fetches (kind_of V.holds V.sound V.stands V.disk V.called) params.now (replicate (V.counts vault.old).left None) vault.old vault.new) }
+    ensures refused { IfErr result (RefusesRest (kind_of V.holds V.sound V.stands V.disk V.called) params.now (V.counts vault.old).left vault.old vault.new) }
 {
     let places = params.places as usize;
     let asks: [Option<Key>; 64] = [None; 64];
@@ -141,8 +144,8 @@ pub fn end_epoch<V: Vault>(
     requires keys { AllKeysBelow params.now.keys own.now }
     ensures params { V.params vault.new ≡ params.now }
     ensures counts { OnOk result (V.counts vault.new ≡ record { epoch = suc (V.counts vault.old).epoch; left = params.now.batches; spent = false }) }
-    ensures called { OnOk result (EndsWith (kind_of V.holds V.sound V.stands V.disk V.called) (entry_writes own.now) vault.old vault.new) }
-    ensures refused { IfErr result (RefusesEnd (kind_of V.holds V.sound V.stands V.disk V.called) (suc (V.counts vault.old).epoch) (entry_writes own.now) vault.old vault.new) }
+    ensures called { OnOk result (EndsWith (kind_of V.holds V.sound V.stands V.disk V.called) params.now (V.counts vault.old).left (entry_writes own.now) vault.old vault.new) }
+    ensures refused { IfErr result (RefusesEnd (kind_of V.holds V.sound V.stands V.disk V.called) params.now (suc (V.counts vault.old).epoch) (V.counts vault.old).left (entry_writes own.now) vault.old vault.new) }
 {
     let writes = own.to_writes(alloc)?;
     take_rest(vault, params)?;

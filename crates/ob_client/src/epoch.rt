@@ -4,7 +4,7 @@ ghost use Rattle.std.specs.Ordering.{nat_cmp};
 ghost use Rattle.ob_serial.specs.Serial.{Map};
 ghost use Rattle.ob_serial.specs.VaultKinds.{kind_of};
 ghost use Rattle.ob_script.specs.ScriptViews.{script_txn_of};
-ghost use Rattle.ob_client.specs.Calls.{Fetches, RefusesAsk, HoldsMap, IsRunning, AllKeysBelow};
+ghost use Rattle.ob_client.specs.Calls.{FetchesNew, RefusesAsk, HoldsMap, IsRunning, AllKeysBelow};
 ghost use Rattle.ob_client.specs.Asks.{keys_of, AreBases};
 ghost use Rattle.ob_client.specs.Epochs.{AllReplay};
 ghost use Rattle.ob_client.specs.Txns.{AsksBelow, TxnRan, txns_in, outcome_of};
@@ -63,8 +63,8 @@ pub fn run_txn<V: Vault>(
     ensures params { V.params vault.new ≡ params.now }
     ensures running { OnOk result (IsRunning params.now (V.counts vault.new) (length epoch.new.bases.items)) }
     ensures epoch { OnOk result ((V.counts vault.new).epoch ≡ (V.counts vault.old).epoch) }
-    ensures called { OnOk result (Fetches (kind_of V.holds V.sound V.stands V.disk V.called) vault.old vault.new) }
-    ensures refused { IfErr result (RefusesAsk (kind_of V.holds V.sound V.stands V.disk V.called) vault.old vault.new) }
+    ensures called { OnOk result (FetchesNew (kind_of V.holds V.sound V.stands V.disk V.called) params.now (keys_of epoch.old.bases.items) (keys_of epoch.new.bases.items) vault.old vault.new) }
+    ensures refused { IfErr result (RefusesAsk (kind_of V.holds V.sound V.stands V.disk V.called) params.now (length (keys_of epoch.old.bases.items)) vault.old vault.new) }
     ensures ran { IfOk result (λ own. TxnRan params.now (suc (V.counts vault.old).epoch) (keys_of epoch.old.bases.items) (keys_of epoch.new.bases.items) (script_txn_of txn.now) (txns_in epoch.old) (txns_in epoch.new) own) }
     ensures replays { (m : Map nat_cmp) → HoldsMap (kind_of V.holds V.sound V.stands V.disk V.called) vault.old m → AreBases m epoch.old.bases.items → AllReplay m (txns_in epoch.old)
         → OnOk result (AreBases m epoch.new.bases.items × AllReplay m (txns_in epoch.new)) }

@@ -39,10 +39,10 @@ fn close<V: Vault, O: Sink>(
     requires keys { AllKeysBelow params.now.keys own.now }
     ensures params { V.params vault.new ≡ params.now }
     ensures counts { OnOk result (V.counts vault.new ≡ record { epoch = suc (V.counts vault.old).epoch; left = params.now.batches; spent = false }) }
-    ensures ended { OnOk result (EndsWith (kind_of V.holds V.sound V.stands V.disk V.called) (entry_writes own.now) vault.old vault.new) }
+    ensures ended { OnOk result (EndsWith (kind_of V.holds V.sound V.stands V.disk V.called) params.now (V.counts vault.old).left (entry_writes own.now) vault.old vault.new) }
     ensures written { OnOk result (O.written output.new ≡ appended (O.written output.old) (record_text decimal (record { epoch = suc (V.counts vault.old).epoch; txns = map (λ t. txn_of t) txns.items }))) }
     ensures faults { O.faults output.old ≤ O.faults output.new }
-    ensures refused { IfErr result (CloseRefused (kind_of V.holds V.sound V.stands V.disk V.called) (suc (V.counts vault.old).epoch) (entry_writes own.now) (record_text decimal (record { epoch = suc (V.counts vault.old).epoch; txns = map (λ t. txn_of t) txns.items }))
+    ensures refused { IfErr result (CloseRefused (kind_of V.holds V.sound V.stands V.disk V.called) params.now (suc (V.counts vault.old).epoch) (V.counts vault.old).left (entry_writes own.now) (record_text decimal (record { epoch = suc (V.counts vault.old).epoch; txns = map (λ t. txn_of t) txns.items }))
         vault.old vault.new (flow (O.written output.old) (O.faults output.old)) (flow (O.written output.new) (O.faults output.new))) }
 {
     let epoch = vault.epoch() + 1;

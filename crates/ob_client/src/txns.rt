@@ -3,7 +3,7 @@ ghost use Rattle.std.specs.FinMap.{len};
 ghost use Rattle.std.specs.Ordering.{nat_cmp};
 ghost use Rattle.ob_serial.specs.Serial.{Map, Replays};
 ghost use Rattle.ob_serial.specs.VaultKinds.{kind_of};
-ghost use Rattle.ob_client.specs.Calls.{Fetches, RefusesAsk, HoldsMap, IsRunning, AllKeysBelow};
+ghost use Rattle.ob_client.specs.Calls.{FetchesNew, RefusesAsk, HoldsMap, IsRunning, AllKeysBelow};
 ghost use Rattle.ob_client.specs.Asks.{keys_of, AreBases, OwnsReplay};
 ghost use Rattle.ob_client.specs.Txns.{AsksBelow, RanTxn};
 
@@ -36,8 +36,8 @@ pub fn run_asks<V: Vault>(
     ensures params { V.params vault.new ≡ params.now }
     ensures running { OnOk result (IsRunning params.now (V.counts vault.new) (length bases.new.items)) }
     ensures epoch { OnOk result ((V.counts vault.new).epoch ≡ (V.counts vault.old).epoch) }
-    ensures called { OnOk result (Fetches (kind_of V.holds V.sound V.stands V.disk V.called) vault.old vault.new) }
-    ensures refused { IfErr result (RefusesAsk (kind_of V.holds V.sound V.stands V.disk V.called) vault.old vault.new) }
+    ensures called { OnOk result (FetchesNew (kind_of V.holds V.sound V.stands V.disk V.called) params.now (keys_of bases.old.items) (keys_of bases.new.items) vault.old vault.new) }
+    ensures refused { IfErr result (RefusesAsk (kind_of V.holds V.sound V.stands V.disk V.called) params.now (length (keys_of bases.old.items)) vault.old vault.new) }
     ensures ran { IfOk result (λ ran. RanTxn params.now (keys_of bases.old.items) (keys_of bases.new.items) ticket asks.now ran.running ran.why) }
     ensures replays { (m : Map nat_cmp) → HoldsMap (kind_of V.holds V.sound V.stands V.disk V.called) vault.old m → AreBases m bases.old.items
         → IfOk result (λ ran. AreBases m bases.new.items × OwnsReplay m ran.running) }

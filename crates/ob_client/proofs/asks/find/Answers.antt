@@ -1,4 +1,4 @@
-use Rattle.std.proofs.Common.{◌∙◌, sym, ap, rules}
+use Rattle.std.proofs.Common.{◌∙◌, sym, ap}
 use Rattle.ob_client.specs.declared.asks.Base.{Base}
 use Rattle.ob_client.proofs.Known.{among_at}
 use Rattle.ob_client.proofs.asks.find.Goals as goal

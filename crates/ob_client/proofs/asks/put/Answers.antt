@@ -1,4 +1,3 @@
-use Rattle.std.proofs.Common.{refl}
 use Rattle.ob_client.proofs.Replaying.{owns_put}
 use Rattle.ob_client.proofs.asks.put.Goals as goal
 

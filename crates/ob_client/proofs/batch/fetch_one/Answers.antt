@@ -1,4 +1,4 @@
-use Rattle.std.proofs.Common.{None, ℕ, arith}
+use Rattle.std.proofs.Common.{None, arith}
 use Rattle.std.proofs.lemmas.List.{take-replicate}
 use Rattle.ob_client.proofs.batch.fetch_one.Goals as goal
 

@@ -1,4 +1,4 @@
-use Rattle.std.proofs.Common.{◌≡◌, false, length}
+use Rattle.std.proofs.Common.{◌≡◌, ◌+◌, ℕ, false, length, replicate, None}
 use Rattle.ob_serial.specs.VaultKinds.{kind_of}
 use Rattle.ob_client.specs.Calls.{Fetches}
 use Rattle.ob_client.proofs.batch.fetch_rest.Given as goal
@@ -12,5 +12,5 @@ invariant-loop-vault g l = record {
   serves : (g.V.Vault.counts l.vault).spent ≡ false;
   epoch : (g.V.Vault.counts l.vault).epoch ≡ (g.V.Vault.counts l.fn.vault).epoch;
   room : length l.found ≡ l.params.places;
-  chain : Fetches (kind_of g.V.Vault.holds g.V.Vault.sound g.V.Vault.stands g.V.Vault.disk g.V.Vault.called) l.fn.vault l.vault;
+  chain : (n : ℕ) × (n + (g.V.Vault.counts l.vault).left ≡ (g.V.Vault.counts l.fn.vault).left) × Fetches (kind_of g.V.Vault.holds g.V.Vault.sound g.V.Vault.stands g.V.Vault.disk g.V.Vault.called) l.params (replicate n None) l.fn.vault l.vault;
 }

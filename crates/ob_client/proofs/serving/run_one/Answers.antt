@@ -1,4 +1,4 @@
-use Rattle.std.proofs.Common.{◌≡◌, ◌∙◌, ◌++◌, ◌∷◌, [], sym, ap, refl, arith, subst, rules, map, ℕ, suc, Ok, Err, decimal}
+use Rattle.std.proofs.Common.{◌∙◌, ◌∷◌, [], ap, subst, map, suc, decimal}
 use Rattle.std.proofs.lemmas.List.{append_assoc}
 use Rattle.ob_io.specs.Flows.{appended}
 use Rattle.ob_report.specs.Printed.{flow}
@@ -22,8 +22,9 @@ returns-in-None-clause-progress g c = λ first start before taken pr.
 
 pub returns-in-Ok-close-clause-progress : goal.returns-in-Ok-close-clause-progress
 returns-in-Ok-close-clause-progress g c = λ first start before taken pr.
-    committed _ _ _ _ _ _ _ _ _ _ _ _ _ _ _ _ _ _ _ _ _ pr c.in-Ok.ensures.called (rw c.in-Some.is at c.in-Ok.ensures.ran) c.in-Ok.ensures.replays
+    committed _ _ _ _ _ _ _ _ _ _ _ _ _ _ _ _ _ _ _ _ _ _ pr c.in-Ok.ensures.called (rw c.in-Some.is at c.in-Ok.ensures.ran) c.in-Ok.ensures.replays
     c.in-Ok-close.ensures.ended
+    c.in-Ok.ensures.running.left
     (ap (λ (x : VaultCounts). x.epoch) c.in-Ok-close.ensures.counts ∙ ap suc c.in-Ok.ensures.epoch)
     (c.in-Ok-close.ensures.written
     ∙ ap (λ n. appended (g.O.Sink.written c.args.output.now) (record_text decimal (record { epoch = suc n; txns = map (λ t. txn_of t) c.replace-txns.result.txns.items }))) c.in-Ok.ensures.epoch
@@ -34,9 +35,9 @@ returns-in-Ok-close-clause-progress g c = λ first start before taken pr.
 
 pub returns-clause-refused : goal.returns-clause-refused
 returns-clause-refused g c = λ first start before taken rest script pr is.
-    uncommitted _ _ _ _ _ _ (g.V.Vault.counts c.run_txn.new.vault).epoch _ _ _ _ _ _ _ _ _ _ _ _ _ _ _ pr c.in-Ok.ensures.called (rw c.in-Some.is at c.in-Ok.ensures.ran) c.in-Ok.ensures.replays
-    c.in-Ok.ensures.epoch is
-    (subst (λ (x : Epoch). CloseRefused (kind_of g.V.Vault.holds g.V.Vault.sound g.V.Vault.stands g.V.Vault.disk g.V.Vault.called) (suc (g.V.Vault.counts c.run_txn.new.vault).epoch) (entry_writes c.in-Some.own)
+    uncommitted _ _ _ _ _ _ (g.V.Vault.counts c.run_txn.new.vault).epoch _ _ _ _ _ _ _ _ _ _ _ _ _ _ _ _ pr c.in-Ok.ensures.called (rw c.in-Some.is at c.in-Ok.ensures.ran) c.in-Ok.ensures.replays
+    c.in-Ok.ensures.epoch c.in-Ok.ensures.running.left is
+    (subst (λ (x : Epoch). CloseRefused (kind_of g.V.Vault.holds g.V.Vault.sound g.V.Vault.stands g.V.Vault.disk g.V.Vault.called) c.args.params.now (suc (g.V.Vault.counts c.run_txn.new.vault).epoch) (g.V.Vault.counts c.run_txn.new.vault).left (entry_writes c.in-Some.own)
     (record_text decimal (record { epoch = suc (g.V.Vault.counts c.run_txn.new.vault).epoch; txns = map (λ t. txn_of t) x.txns.items })) c.run_txn.new.vault c.close.new.vault
     (flow (g.O.Sink.written c.args.output.now) (g.O.Sink.faults c.args.output.now)) (flow (g.O.Sink.written c.close.new.output) (g.O.Sink.faults c.close.new.output)) c.in-Err-close.fault)
     c.replace-txns.ensures.value c.in-Err-close.ensures.refused)

@@ -1,4 +1,4 @@
-use Rattle.std.proofs.Common.{◌≡◌, ◌∙◌, ◌++◌, ◌∷◌, [], sym, ap, refl, ◌<◌, ◌+◌, arith, subst, rules, map, take, drop, length, get_or, List, ℕ}
+use Rattle.std.proofs.Common.{◌≡◌, ◌∙◌, ◌++◌, ◌∷◌, [], sym, ap, refl, ◌<◌, ◌+◌, arith, subst, map, take, drop, length, get_or, List, ℕ}
 use Rattle.std.proofs.lemmas.List.{take-append-drop, map-append, get_or-map, length-map, take_all}
 use Rattle.std.specs.FinMap.{len-empty}
 use Rattle.std.specs.Ordering.{nat_cmp}
@@ -64,10 +64,10 @@ pub returns-in-Ok-close : goal.returns-in-Ok-close
 returns-in-Ok-close g c =
     let whole = take_all c.loop-txn.txn-index c.args.script.now c.loop-txn-test.false in
     let some : 0 < length c.loop-txn.epoch.txns.items = grind (arith, nat_tests, c.if-is_empty.ensures) in
-    record { done = ended_last _ _ _ _ _ _ _ _ _ _ _ _ _ _ (rw whole at c.loop-txn.invariant.progress) c.new-none.ensures (rw (length-map c.loop-txn.epoch.txns.items (λ (t : TxnRecord ℕ). txn_of t)) some) c.in-Ok-close.ensures.ended c.in-Ok-close.ensures.written c.in-Ok-close.ensures.faults }
+    record { done = ended_last _ _ _ _ _ _ _ _ _ _ _ _ _ _ _ (rw whole at c.loop-txn.invariant.progress) c.new-none.ensures (rw (length-map c.loop-txn.epoch.txns.items (λ (t : TxnRecord ℕ). txn_of t)) some) c.in-Ok-close.ensures.ended c.loop-txn.invariant.running.left c.in-Ok-close.ensures.written c.in-Ok-close.ensures.faults }
 
 pub returns : goal.returns
 returns g c =
     let whole = take_all c.loop-txn.txn-index c.args.script.now c.loop-txn-test.false in
     let some : 0 < length c.loop-txn.epoch.txns.items = grind (arith, nat_tests, c.if-is_empty.ensures) in
-    record { done = unended_last _ _ _ _ _ _ _ _ _ _ _ _ _ _ c.in-Err-close.fault (rw whole at c.loop-txn.invariant.progress) c.new-none.ensures (rw (length-map c.loop-txn.epoch.txns.items (λ (t : TxnRecord ℕ). txn_of t)) some) c.in-Err-close.ensures.refused }
+    record { done = unended_last _ _ _ _ _ _ _ _ _ _ _ _ _ _ _ c.in-Err-close.fault (rw whole at c.loop-txn.invariant.progress) c.new-none.ensures (rw (length-map c.loop-txn.epoch.txns.items (λ (t : TxnRecord ℕ). txn_of t)) some) c.loop-txn.invariant.running.left c.in-Err-close.ensures.refused }
