@@ -1,5 +1,5 @@
 -- What a store holds as it is formatted.
-use Rattle.std.proofs.Common.{◌≡◌, ◌≢◌, ℕ, ◌+◌, ◌<◌, ◌≤◌, List, Option, None, replicate, length, get_or, Result, Ok, Err, true, false, sym, ◌∙◌, subst, arith}
+use Rattle.std.proofs.Common.{◌≡◌, ◌≢◌, ℕ, ◌+◌, ◌<◌, ◌≤◌, List, Option, None, replicate, length, Result, Ok, Err, true, false, sym, ◌∙◌, subst, arith}
 use Rattle.std.specs.FinMap as finite
 use Rattle.std.specs.Prelude.{IsErr}
 use Rattle.std.specs.Ordering.{nat_cmp}
@@ -10,14 +10,17 @@ use Rattle.ob_store.proofs.Serving.{goes_then}
 use Rattle.ob_base.specs.declared.params.Params.{Params}
 use Rattle.ob_store.specs.Disk.{Disk, Image}
 use Rattle.ob_store.specs.Images.{SameBut}
+use Rattle.ob_seal.specs.declared.keys.Keys.{Keys}
+use Rattle.ob_seal.specs.Pieces.{onward}
+use Rattle.ob_twin.specs.Keyed.{tagging}
 use Rattle.ob_twin.specs.Bodies.{open_gate, closed_gate}
 use Rattle.ob_twin.specs.Register.{IsOpen, StandsAt}
 use Rattle.ob_twin.specs.Reading.{NoneOpen}
 use Rattle.ob_twin.proofs.Moves.{closed-isnt-open}
 use Rattle.ob_twin.proofs.Judging.{at_place}
-use Rattle.ob_flat.specs.Places.{area_of, row_at}
-use Rattle.ob_flat.specs.Heads.{zero_tag, head_cell, IsHead}
-use Rattle.ob_flat.specs.Rows.{IsRow, AreRows}
+use Rattle.ob_rows.specs.Rows.{IsRow, AreRows}
+use Rattle.ob_flat.specs.Places.{area_of}
+use Rattle.ob_flat.specs.Heads.{head_cell, IsHead}
 use Rattle.ob_flat.specs.Standing.{StandsFlat}
 use Rattle.ob_flat.proofs.Spelling.{head_is}
 use Rattle.ob_flat.proofs.Moved.{register_moved}
@@ -53,20 +56,21 @@ failed_then a b c e (Ok v) goes out err serves = absurd (let wrong : false ≡ t
 failed_then a b c e (Err f) goes out err serves = record { goes = goes_then a b c goes serves.goes; out = (let x = serves.out in omega arith); tells = tt; cause = λ blamed. (let le = goes.faults in let rose = serves.cause tt in omega arith) }
 
 -- the store of an empty map
-pub formatted : (p : Params) (a b c : Image) → StandsAt zero_tag 1 a 1 → ((k : ℕ) → k < 5 → b k ≡ a k) → StandsAt zero_tag 5 b 0 → AreRows 9 b (replicate p.keys None) → SameBut 0 c b → c 0 ≡ head_cell p
-    → StandsFlat p c (record { epoch = 0; content = finite.empty })
-formatted p a b c generation low epoch rows same head = record {
-  head = subst (λ (l : List ℕ). IsHead p l) (sym head) (head_is p);
-  generation = (1, register_moved zero_tag 1 1 c a (λ k from to. same k (omega arith) ∙ low k (omega arith)) generation);
-  epoch = register_moved zero_tag 5 0 c b (λ k from to. same k (omega arith)) epoch;
-  rows = row;
+pub formatted : (keys : Keys) (p : Params) (a b c : Image) → StandsAt (tagging keys) 1 a 1 → ((k : ℕ) → k < 5 → b k ≡ a k) → StandsAt (tagging keys) 5 b 0 → AreRows keys 9 b (replicate p.keys None) → SameBut 0 c b → c 0 ≡ head_cell keys p
+    → StandsFlat keys p 1 c (record { epoch = 0; content = finite.empty })
+formatted keys p a b c generation low epoch rows same head = record {
+  head = subst (λ (l : List ℕ). IsHead keys p l) (sym head) (head_is keys p);
+  begun = register_moved (tagging keys) 1 1 c a (λ k from to. same k (omega arith) ∙ low k (omega arith)) generation;
+  epoch = register_moved (tagging keys) 5 0 c b (λ k from to. same k (omega arith)) epoch;
+  rows = record { generation = rows.0; first = rows.1; each = row };
   no_more = λ key high. finite.get-empty nat_cmp key;
 }
   where
-    row : (key : ℕ) → key < p.keys → IsRow (row_at p.keys 0 key) (c (row_at p.keys 0 key)) (finite.get (finite.empty {X = List ℕ} {R = nat_cmp}) key)
+    row : (key : ℕ) → key < p.keys → IsRow keys (area_of p.keys 0 + key) rows.0 (onward rows.1 key) (c (area_of p.keys 0 + key)) (finite.get (finite.empty {X = List ℕ} {R = nat_cmp}) key)
     row key lt =
         let area : 9 ≡ area_of p.keys 0 = omega arith in
         let few : key < length (replicate {A = Option (List ℕ)} p.keys None) = omega (arith, length-replicate {A = Option (List ℕ)} p.keys None) in
-        let here : IsRow (9 + key) (b (9 + key)) None = subst (λ (v : Option (List ℕ)). IsRow (9 + key) (b (9 + key)) v) (get_or-replicate p.keys key None None lt) (rows key few) in
-        let there : IsRow (9 + key) (c (9 + key)) None = subst (λ (l : List ℕ). IsRow (9 + key) l None) (sym (same (9 + key) (omega arith))) here in
-        subst (λ (v : Option (List ℕ)). IsRow (row_at p.keys 0 key) (c (row_at p.keys 0 key)) v) (sym (finite.get-empty nat_cmp key)) (subst (λ n. IsRow (n + key) (c (n + key)) None) area there)
+        let here : IsRow keys (9 + key) rows.0 (onward rows.1 key) (b (9 + key)) None = subst (λ (v : Option (List ℕ)). IsRow keys (9 + key) rows.0 (onward rows.1 key) (b (9 + key)) v) (get_or-replicate p.keys key None None lt) (rows.2 key few) in
+        let there : IsRow keys (9 + key) rows.0 (onward rows.1 key) (c (9 + key)) None = subst (λ (l : List ℕ). IsRow keys (9 + key) rows.0 (onward rows.1 key) l None) (sym (same (9 + key) (omega arith))) here in
+        subst (λ (v : Option (List ℕ)). IsRow keys (area_of p.keys 0 + key) rows.0 (onward rows.1 key) (c (area_of p.keys 0 + key)) v) (sym (finite.get-empty nat_cmp key))
+        (subst (λ n. IsRow keys (n + key) rows.0 (onward rows.1 key) (c (n + key)) None) area there)

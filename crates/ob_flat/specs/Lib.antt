@@ -1,7 +1,5 @@
 pub mod Places
-pub mod Numbers
 pub mod Heads
-pub mod Rows
 pub mod Standing
 pub mod Orders
 pub mod Noting
