@@ -1,6 +1,7 @@
 pub mod Places
 pub mod Heads
 pub mod Standing
+pub mod Formats
 pub mod Orders
 pub mod Noting
 pub mod Registers

@@ -1,10 +1,10 @@
-ghost use Rattle.std.specs.Prelude.{◌≡◌, ◌<◌, ◌≤◌, ◌≢◌, ◌+◌, ◌^◌, ℕ, [], ◌∷◌, ◌++◌, true, OnOk, OnErr, IfErr, replicate, None};
+ghost use Rattle.std.specs.Prelude.{◌≡◌, ◌⊎◌, ◌<◌, ◌≤◌, ◌≢◌, ◌+◌, ◌^◌, ℕ, [], ◌∷◌, ◌++◌, true, OnOk, OnErr, IfErr, replicate, None};
 ghost use Rattle.std.specs.FinMap as finite;
 ghost use Rattle.ob_base.specs.declared.fault.Fault.TheVariants as fault;
 ghost use Rattle.ob_store.specs.declared.event.Event.TheVariants as event;
 ghost use Rattle.ob_store.specs.declared.watch.Note.TheVariants as note;
 ghost use Rattle.ob_store.specs.Disk.{Image};
-ghost use Rattle.ob_store.specs.Images.{Settled};
+ghost use Rattle.ob_store.specs.Images.{Settled, Passes, LeavesOnly};
 ghost use Rattle.ob_store.specs.Calls.{Serves, IsFailed, IsStoreFault, Holds, Notes, NotesFirst};
 ghost use Rattle.ob_store.specs.Lines.{Shows, ShowsFirst};
 ghost use Rattle.ob_rows.specs.Rows.{row_cells};
@@ -14,6 +14,7 @@ ghost use Rattle.ob_twin.specs.Register.{first_of, place_of, IsOpen, StandsAt, S
 ghost use Rattle.ob_twin.specs.Reading.{NoneOpen};
 ghost use Rattle.ob_twin.specs.Orders.{through_events, through_notes, set_events, set_notes};
 ghost use Rattle.ob_flat.specs.Heads.{head_cell};
+ghost use Rattle.ob_flat.specs.Formats.{SameHead, HasNoHead, IsTornHead, FormatLeaves};
 ghost use Rattle.ob_flat.specs.Standing.{StandsFlat};
 ghost use Rattle.ob_flat.specs.Orders.{format_events, format_notes, shut_events, shut_notes, rows_events, rows_notes};
 
@@ -30,6 +31,8 @@ fn shut_gates<S: Store, W: Watch>(store: &mut S, watch: &mut W) -> Result<(), Fa
     ensures serves { Serves IsFailed (S.disk store.old) (S.disk store.new) result }
     ensures generation { (S.disk store.old).tells → OnOk result (NoneOpen 1 (S.disk store.new).cells) }
     ensures epoch { (S.disk store.old).tells → OnOk result (NoneOpen 5 (S.disk store.new).cells) }
+    ensures head { (S.disk store.old).tells → OnOk result (SameHead (S.disk store.new).cells (S.disk store.old).cells) }
+    ensures passes { Passes SameHead (S.disk store.old) (S.disk store.new) }
     ensures seen { OnOk result (Notes shut_events (S.disk store.old).seen (S.disk store.new).seen) }
     ensures seen_err { OnErr result (NotesFirst shut_events (S.disk store.old).seen (S.disk store.new).seen) }
     ensures shown { OnOk result (Shows shut_notes (W.trace watch.old) (W.trace watch.new)) }
@@ -57,6 +60,8 @@ fn set_first<S: Store, W: Watch>(
     ensures serves { Serves IsFailed (S.disk store.old) (S.disk store.new) result }
     ensures stands { (S.disk store.old).tells → OnOk result (StandsAt (tagging sealer.now.keys) (first_of twin) (S.disk store.new).cells n) }
     ensures rest { (S.disk store.old).tells → SameOutside (first_of twin) (S.disk store.new).cells (S.disk store.old).cells }
+    ensures passes { Passes (SameOutside (first_of twin)) (S.disk store.old) (S.disk store.new) }
+    ensures durable { (S.disk store.old).tells → OnOk result (Settled (S.disk store.new)) }
     ensures seen { OnOk result (Notes (set_events true (first_of twin) n) (S.disk store.old).seen (S.disk store.new).seen) }
     ensures seen_err { OnErr result (NotesFirst (set_events true (first_of twin) n) (S.disk store.old).seen (S.disk store.new).seen) }
     ensures shown { OnOk result (Shows (set_notes true (first_of twin) n) (W.trace watch.old) (W.trace watch.new)) }
@@ -78,6 +83,9 @@ fn lay_registers<S: Store, W: Watch>(
     ensures serves { Serves IsFailed (S.disk store.old) (S.disk store.new) result }
     ensures generation { (S.disk store.old).tells → OnOk result (StandsAt (tagging sealer.now.keys) 1 (S.disk store.new).cells 1) }
     ensures epoch { (S.disk store.old).tells → OnOk result (NoneOpen 5 (S.disk store.new).cells) }
+    ensures blank { (S.disk store.old).tells → OnOk result ((S.disk store.new).cells 0 ≡ replicate 128 0) }
+    ensures durable { (S.disk store.old).tells → OnOk result (Settled (S.disk store.new)) }
+    ensures crash { (S.disk store.old).tells → LeavesOnly (S.disk store.old) (S.disk store.new) (λ c. IsTornHead (S.disk store.old) c ⊎ HasNoHead c) }
     ensures seen { OnOk result (Notes (through_events 0 ++ (shut_events ++ set_events true 1 1)) (S.disk store.old).seen (S.disk store.new).seen) }
     ensures seen_err { OnErr result (NotesFirst (through_events 0 ++ (shut_events ++ set_events true 1 1)) (S.disk store.old).seen (S.disk store.new).seen) }
     ensures shown { OnOk result (Shows (through_notes 0 ++ (shut_notes ++ set_notes true 1 1)) (W.trace watch.old) (W.trace watch.new)) }
@@ -104,6 +112,8 @@ fn lay_rows<S: Store, W: Watch>(
     ensures rows { (S.disk store.old).tells → OnOk result (Holds 9 (row_cells sealer.old.keys 9 sealer.old.generation sealer.old.next (replicate keys None)) (S.disk store.new).cells) }
     ensures same_keys { sealer.new.keys ≡ sealer.old.keys }
     ensures low { (S.disk store.old).tells → (k : ℕ) → k < 5 → (S.disk store.new).cells k ≡ (S.disk store.old).cells k }
+    ensures passes { Passes SameHead (S.disk store.old) (S.disk store.new) }
+    ensures durable { (S.disk store.old).tells → OnOk result (Settled (S.disk store.new)) }
     ensures seen { OnOk result (Notes (rows_events 9 keys ++ set_events true 5 0) (S.disk store.old).seen (S.disk store.new).seen) }
     ensures seen_err { OnErr result (NotesFirst (rows_events 9 keys ++ set_events true 5 0) (S.disk store.old).seen (S.disk store.new).seen) }
     ensures shown { OnOk result (Shows (rows_notes 9 keys ++ set_notes true 5 0) (W.trace watch.old) (W.trace watch.new)) }
@@ -128,6 +138,7 @@ fn lay<S: Store, W: Watch>(
     ensures stands { (S.disk store.old).tells → OnOk result (StandsFlat sealer.old.keys params.now 1 (S.disk store.new).cells (record { epoch = 0; content = finite.empty })) }
     ensures head { (S.disk store.old).tells → OnOk result ((S.disk store.new).cells 0 ≡ head_cell sealer.old.keys params.now) }
     ensures rows { (S.disk store.old).tells → OnOk result (Holds 9 (row_cells sealer.old.keys 9 1 0 (replicate params.now.keys None)) (S.disk store.new).cells) }
+    ensures crash { (S.disk store.old).tells → LeavesOnly (S.disk store.old) (S.disk store.new) (FormatLeaves sealer.old.keys params.now.keys (S.disk store.old)) }
     ensures durable { (S.disk store.old).tells → OnOk result (Settled (S.disk store.new)) }
     ensures seen { OnOk result (Notes (format_events params.now.keys) (S.disk store.old).seen (S.disk store.new).seen) }
     ensures seen_err { OnErr result (NotesFirst (format_events params.now.keys) (S.disk store.old).seen (S.disk store.new).seen) }
@@ -160,6 +171,8 @@ pub fn format<S: Store, W: Watch>(
     ensures rows { (S.disk store.old).tells → OnOk result (Holds 9 (row_cells keys.now 9 1 0 (replicate params.now.keys None)) (S.disk store.new).cells) }
     ensures durable { (S.disk store.old).tells → OnOk result (Settled (S.disk store.new)) }
     ensures images { (S.disk store.old).tells → OnOk result ((c : Image) → (S.disk store.new).may_leave c → StandsFlat keys.now params.now 1 c (record { epoch = 0; content = finite.empty })) }
+    // A crash at any moment leaves a torn head, no store, or all but the head.
+    ensures crash { (S.disk store.old).tells → LeavesOnly (S.disk store.old) (S.disk store.new) (FormatLeaves keys.now params.now.keys (S.disk store.old)) }
     ensures seen { OnOk result (Notes (format_events params.now.keys) (S.disk store.old).seen (S.disk store.new).seen) }
     ensures seen_err { OnErr result (NotesFirst (format_events params.now.keys) (S.disk store.old).seen (S.disk store.new).seen) }
     ensures shown { OnOk result (Shows (format_notes params.now.keys) (W.trace watch.old) (W.trace watch.new)) }

@@ -11,7 +11,7 @@ use Rattle.ob_rows.proofs.Cells.{blanks_short}
 use Rattle.ob_flat.specs.Heads.{head_cell}
 use Rattle.ob_flat.specs.Orders.{shut_events, shut_notes, rows_events, rows_notes}
 use Rattle.ob_flat.proofs.Moved.{rows_written}
-use Rattle.ob_flat.proofs.Formats.{formatted}
+use Rattle.ob_flat.proofs.Formats.{formatted, no_head_left, as_cleared, still_cleared, laid, head_written}
 use Rattle.ob_flat.proofs.formatting.lay.Goals as goal
 
 pub returns-in_err-lay_registers-clause-seen_err : goal.returns-in_err-lay_registers-clause-seen_err
@@ -75,3 +75,34 @@ returns-clause-rows g c = λ tells.
     let here = subst (λ m. Holds 9 (row_cells before.keys 9 1 m (replicate n None)) (g.S.Store.disk c.lay_rows.new.store).cells) c.requires.none_sealed
     (subst (λ m. Holds 9 (row_cells before.keys 9 m before.next (replicate n None)) (g.S.Store.disk c.lay_rows.new.store).cells) c.requires.generation (b.rows one)) in
     if_ok _ c.write_through.result (λ i lt. c.write_through.ensures.rest (b.serves.tells one) (9 + i) (omega arith) ∙ here i lt)
+
+pub returns-in_err-lay_registers-clause-crash : goal.returns-in_err-lay_registers-clause-crash
+returns-in_err-lay_registers-clause-crash g c = λ tells.
+    as_cleared c.args.sealer.now.keys c.args.params.now.keys (g.S.Store.disk c.args.store.now) (g.S.Store.disk c.lay_registers.new.store) (c.lay_registers.ensures.crash tells)
+
+pub returns-in_err-lay_rows-clause-crash : goal.returns-in_err-lay_rows-clause-crash
+returns-in_err-lay_rows-clause-crash g c = λ tells.
+    let mid = g.S.Store.disk c.lay_registers.new.store in
+    let new = g.S.Store.disk c.lay_rows.new.store in
+    let a = c.in_ok-lay_registers.ensures in
+    still_cleared c.args.sealer.now.keys c.args.params.now.keys (g.S.Store.disk c.args.store.now) mid new (c.lay_registers.ensures.crash tells)
+    (no_head_left mid new (g.met.S.Store.only_now c.lay_registers.new.store) (a.blank tells) (a.durable tells) c.lay_rows.ensures.passes)
+
+pub returns-clause-crash : goal.returns-clause-crash
+returns-clause-crash g c = λ tells.
+    let before = c.args.sealer.now in
+    let keys = before.keys in
+    let n = c.args.params.now.keys in
+    let old = g.S.Store.disk c.args.store.now in
+    let mid = g.S.Store.disk c.lay_registers.new.store in
+    let rows = g.S.Store.disk c.lay_rows.new.store in
+    let new = g.S.Store.disk c.write_through.new.store in
+    let a = c.in_ok-lay_registers.ensures in
+    let b = c.in_ok-lay_rows.ensures in
+    let one = a.serves.tells tells in
+    let here = subst (λ m. Holds 9 (row_cells keys 9 1 m (replicate n None)) rows.cells) c.requires.none_sealed
+    (subst (λ m. Holds 9 (row_cells keys 9 m before.next (replicate n None)) rows.cells) c.requires.generation (b.rows one)) in
+    head_written keys n old rows new
+    (still_cleared keys n old mid rows (c.lay_registers.ensures.crash tells) (no_head_left mid rows (g.met.S.Store.only_now c.lay_registers.new.store) (a.blank tells) (a.durable tells) c.lay_rows.ensures.passes))
+    (laid keys n old mid.cells rows.cells (a.generation tells) (b.low one) (b.epoch one) here)
+    (c.write_through.ensures.any_moment (b.durable one))
