@@ -6,10 +6,15 @@ use ob_base::{Fault, Params};
 use ob_flat::{FlatVault, format, head, prepare};
 use ob_mem::{Fail, MemSink, MemStore};
 use ob_script::parse;
+use ob_seal::Keys;
 use ob_store::{Blind, Store};
 use std::alloc::Global;
 use std::process::Abort;
 use std::test::Fail as Broken;
+
+fn test_keys() -> Keys {
+    Keys::from_bytes(&[7; 96])
+}
 
 // Runs a script over a formatted store.
 fn run_script(
@@ -20,9 +25,9 @@ fn run_script(
 ) -> Result<(), Fault>
     requires { (disk_of_store store.old).out ≡ 0 }
 {
-    let params = head(store, &mut Blind)?;
+    let params = head(store, &test_keys(), &mut Blind)?;
     let scripts = parse(alloc, script, params.keys)?;
-    let opening = prepare(alloc, store, &params, &mut Blind)?;
+    let opening = prepare(alloc, store, &test_keys(), &params, &mut Blind)?;
     let mut vault = FlatVault::over(store, opening);
     serve(alloc, &mut vault, &params, scripts.txns(), output)
 }
@@ -36,7 +41,7 @@ fn formatted(rt: &impl Abort, alloc: Global, fails: Vec<Fail>) -> MemStore
         unreachable!()
     };
     let mut store = MemStore::new(alloc, 25, fails).expect(rt, "memory");
-    assert!(rt; format(&mut store, &params, &mut Blind).is_ok());
+    assert!(rt; format(&mut store, &test_keys(), &params, &mut Blind).is_ok());
     store
 }
 

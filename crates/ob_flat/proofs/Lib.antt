@@ -2,7 +2,6 @@ pub mod Moved
 pub mod Areas
 pub mod Spelling
 pub mod Maps
-pub mod RowReads
 pub mod Refusals
 pub mod Soundness
 pub mod Formats

@@ -1,18 +1,25 @@
 -- What an image stands for is told by few of its cells.
-use Rattle.std.proofs.Common.{◌≡◌, inl, inr, ℕ, ◌+◌, ◌%◌, ◌<◌, ◌≤◌, List, Option, None, sym, ◌∙◌, ap, subst, arith}
+use Rattle.std.proofs.Common.{◌≡◌, inl, inr, ℕ, ◌+◌, ◌%◌, ◌^◌, ◌<◌, ◌≤◌, List, length, Option, None, sym, ◌∙◌, ap, subst, arith}
 use Rattle.std.specs.FinMap as finite
 use Rattle.ob_base.specs.declared.params.Params.{Params}
 use Rattle.ob_store.specs.Disk.{Image}
 use Rattle.ob_store.specs.Calls.{Holds}
+use Rattle.std.specs.Ordering.{nat_cmp}
+use Rattle.ob_seal.specs.declared.keys.Keys.{Keys}
+use Rattle.ob_seal.specs.Pieces.{onward}
 use Rattle.ob_twin.specs.Bodies.{Tagging, IsStamped, number_of}
+use Rattle.ob_twin.specs.Keyed.{tagging}
 use Rattle.ob_twin.specs.Register.{body_at, gate_at, place_of, StandsAt, SameOutside, KeepsAt}
 use Rattle.ob_twin.specs.Opening.{GatesAre}
 use Rattle.ob_twin.specs.declared.gates.Open.{Open}
 use Rattle.ob_serial.specs.Vaults.{Standing}
-use Rattle.ob_flat.specs.Places.{area_of, row_at}
-use Rattle.ob_flat.specs.Heads.{zero_tag, IsHead}
-use Rattle.ob_flat.specs.Rows.{IsRow}
-use Rattle.ob_flat.specs.Standing.{StandsFlat}
+use Rattle.ob_serial.specs.Serial.{Map}
+use Rattle.ob_seal.specs.Sealing.{Sealing}
+use Rattle.ob_rows.specs.Rows.{IsRow, AreRows, AreShort, row_cells}
+use Rattle.ob_rows.proofs.Cells.{rows_are}
+use Rattle.ob_flat.specs.Places.{area_of}
+use Rattle.ob_flat.specs.Heads.{IsHead}
+use Rattle.ob_flat.specs.Standing.{HasRows, StandsFlat}
 
 -- a register stands where its four cells are the same
 pub register_moved : (tag : Tagging) (first n : ℕ) (c d : Image) → ((k : ℕ) → first ≤ k → k < first + 4 → c k ≡ d k) → StandsAt tag first d n → StandsAt tag first c n
@@ -39,55 +46,67 @@ gates_moved known first c d same are =
       one = ((λ yes. one ∙ are.one.0 yes), (λ opened. are.one.1 (sym one ∙ opened)));
     }
 
-row_moved : (cell : ℕ) (a b : List ℕ) (value : Option (List ℕ)) → a ≡ b → IsRow cell b value → IsRow cell a value
-row_moved cell a b value same row = subst (λ (l : List ℕ). IsRow cell l value) (sym same) row
+-- rows lie behind the registers
+pub row_high : (n epoch key : ℕ) → 9 ≤ area_of n epoch + key
+row_high n epoch key = omega arith
 
--- the rows lie behind the registers
-pub row_high : (keys epoch key : ℕ) → 9 ≤ row_at keys epoch key
-row_high keys epoch key = omega arith
+-- the rows are the same cells
+pub rows_moved : (keys : Keys) (base n : ℕ) (c d : Image) (content : Map nat_cmp) → ((key : ℕ) → key < n → c (base + key) ≡ d (base + key)) → HasRows keys base n d content → HasRows keys base n c content
+rows_moved keys base n c d content same rows = record {
+  generation = rows.generation;
+  first = rows.first;
+  each = λ key lt. subst (λ (l : List ℕ). IsRow keys (base + key) rows.generation (onward rows.first key) l (finite.get content key)) (sym (same key lt)) (rows.each key lt);
+}
 
 -- the image has the cells that tell what the other stands for
-pub stands_moved : (p : Params) (at : Standing) (c d : Image) → ((k : ℕ) → k < 9 → c k ≡ d k) → ((key : ℕ) → key < p.keys → c (row_at p.keys at.epoch key) ≡ d (row_at p.keys at.epoch key)) → StandsFlat p d at → StandsFlat p c at
-stands_moved p at c d low rows stands = record {
-  head = subst (λ (l : List ℕ). IsHead p l) (sym (low 0 (omega arith))) stands.head;
-  generation = (stands.generation.0, register_moved zero_tag 1 stands.generation.0 c d (λ k from to. low k (omega arith)) stands.generation.1);
-  epoch = register_moved zero_tag 5 at.epoch c d (λ k from to. low k (omega arith)) stands.epoch;
-  rows = λ key lt. row_moved _ _ _ _ (rows key lt) (stands.rows key lt);
+pub stands_moved : (keys : Keys) (p : Params) (g : ℕ) (at : Standing) (c d : Image) → ((k : ℕ) → k < 9 → c k ≡ d k) → ((key : ℕ) → key < p.keys → c (area_of p.keys at.epoch + key) ≡ d (area_of p.keys at.epoch + key))
+    → StandsFlat keys p g d at → StandsFlat keys p g c at
+stands_moved keys p g at c d low rows stands = record {
+  head = subst (λ (l : List ℕ). IsHead keys p l) (sym (low 0 (omega arith))) stands.head;
+  begun = register_moved (tagging keys) 1 g c d (λ k from to. low k (omega arith)) stands.begun;
+  epoch = register_moved (tagging keys) 5 at.epoch c d (λ k from to. low k (omega arith)) stands.epoch;
+  rows = rows_moved keys (area_of p.keys at.epoch) p.keys c d at.content rows stands.rows;
   no_more = stands.no_more;
 }
 
 -- the same image, cell by cell
-pub stands_same : (p : Params) (at : Standing) (c d : Image) → ((k : ℕ) → c k ≡ d k) → StandsFlat p d at → StandsFlat p c at
-stands_same p at c d same stands = stands_moved p at c d (λ k low. same k) (λ key lt. same _) stands
+pub stands_same : (keys : Keys) (p : Params) (g : ℕ) (at : Standing) (c d : Image) → ((k : ℕ) → c k ≡ d k) → StandsFlat keys p g d at → StandsFlat keys p g c at
+stands_same keys p g at c d same stands = stands_moved keys p g at c d (λ k low. same k) (λ key lt. same _) stands
 
--- a set of the generation leaves what the image stands for
-pub generation_set : (p : Params) (at : Standing) (g : ℕ) (c d : Image) → KeepsAt zero_tag 1 d g c → StandsFlat p d at → StandsFlat p c at
-generation_set p at g c d kept stands = record {
-  head = subst (λ (l : List ℕ). IsHead p l) (sym (kept.rest 0 (inl (omega arith)))) stands.head;
-  generation = (g, kept.stands);
-  epoch = register_moved zero_tag 5 at.epoch c d (λ k from to. kept.rest k (inr (omega arith))) stands.epoch;
-  rows = λ key lt. row_moved _ _ _ _ (kept.rest _ (inr (high key))) (stands.rows key lt);
+-- a set of the generation leaves what the image stands for, at the new generation
+pub generation_set : (keys : Keys) (p : Params) (at : Standing) (g n : ℕ) (c d : Image) → KeepsAt (tagging keys) 1 d n c → StandsFlat keys p g d at → StandsFlat keys p n c at
+generation_set keys p at g n c d kept stands = record {
+  head = subst (λ (l : List ℕ). IsHead keys p l) (sym (kept.rest 0 (inl (omega arith)))) stands.head;
+  begun = kept.stands;
+  epoch = register_moved (tagging keys) 5 at.epoch c d (λ k from to. kept.rest k (inr (omega arith))) stands.epoch;
+  rows = rows_moved keys (area_of p.keys at.epoch) p.keys c d at.content (λ key lt. kept.rest _ (inr (high key))) stands.rows;
   no_more = stands.no_more;
 }
   where
-    high : (key : ℕ) → 1 + 4 ≤ row_at p.keys at.epoch key
-    high key = let above : 9 ≤ row_at p.keys at.epoch key = row_high p.keys at.epoch key in omega arith
+    high : (key : ℕ) → 1 + 4 ≤ area_of p.keys at.epoch + key
+    high key = let above : 9 ≤ area_of p.keys at.epoch + key = row_high p.keys at.epoch key in omega arith
 
 -- a set of the epoch makes the image stand for that epoch, with the map of its rows
-pub epoch_set : (p : Params) (now next : Standing) (c d : Image) → KeepsAt zero_tag 5 d next.epoch c → StandsFlat p d now
-    → ((key : ℕ) → key < p.keys → IsRow (row_at p.keys next.epoch key) (d (row_at p.keys next.epoch key)) (finite.get next.content key))
-    → ((key : ℕ) → p.keys ≤ key → finite.get next.content key ≡ None) → StandsFlat p c next
-epoch_set p now next c d kept stands rows no_more = record {
-  head = subst (λ (l : List ℕ). IsHead p l) (sym (kept.rest 0 (inl (omega arith)))) stands.head;
-  generation = (stands.generation.0, register_moved zero_tag 1 stands.generation.0 c d (λ k from to. kept.rest k (inl (omega arith))) stands.generation.1);
+pub epoch_set : (keys : Keys) (p : Params) (g : ℕ) (now next : Standing) (c d : Image) → KeepsAt (tagging keys) 5 d next.epoch c → StandsFlat keys p g d now
+    → HasRows keys (area_of p.keys next.epoch) p.keys d next.content
+    → ((key : ℕ) → p.keys ≤ key → finite.get next.content key ≡ None) → StandsFlat keys p g c next
+epoch_set keys p g now next c d kept stands rows no_more = record {
+  head = subst (λ (l : List ℕ). IsHead keys p l) (sym (kept.rest 0 (inl (omega arith)))) stands.head;
+  begun = register_moved (tagging keys) 1 g c d (λ k from to. kept.rest k (inl (omega arith))) stands.begun;
   epoch = kept.stands;
-  rows = λ key lt. row_moved _ _ _ _ (kept.rest _ (inr (high key))) (rows key lt);
+  rows = rows_moved keys (area_of p.keys next.epoch) p.keys c d next.content (λ key lt. kept.rest _ (inr (high key))) rows;
   no_more = no_more;
 }
   where
-    high : (key : ℕ) → 5 + 4 ≤ row_at p.keys next.epoch key
+    high : (key : ℕ) → 5 + 4 ≤ area_of p.keys next.epoch + key
     high key = row_high p.keys next.epoch key
 
 -- a set of the epoch leaves the rows alone
 pub rows_kept : (n epoch : ℕ) (rows : List (List ℕ)) (c d : Image) → SameOutside 5 c d → Holds (area_of n epoch) rows d → Holds (area_of n epoch) rows c
 rows_kept n epoch rows c d same holds i lt = same (area_of n epoch + i) (inr (row_high n epoch i)) ∙ holds i lt
+
+-- the rows that a sealer wrote
+pub rows_written : (sealing : Sealing) (base : ℕ) (image : Image) (values : List (Option (List ℕ))) → sealing.generation < 2 ^ 62 → sealing.next + length values ≤ 2 ^ 62 → AreShort values
+    → Holds base (row_cells sealing.keys base sealing.generation sealing.next values) image → AreRows sealing.keys base image values
+rows_written sealing base image values small room short holds =
+    (sealing.generation, sealing.next, rows_are sealing.keys base sealing.generation sealing.next image values (omega arith) room short holds)

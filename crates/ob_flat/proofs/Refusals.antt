@@ -1,5 +1,5 @@
 -- What a refused end of an epoch leaves and tells.
-use Rattle.std.proofs.Common.{◌≡◌, ℕ, suc, ◌<◌, ◌^◌, List, Option, None, Err, take, refl, sym, subst}
+use Rattle.std.proofs.Common.{◌≡◌, ℕ, suc, ◌+◌, ◌≤◌, ◌<◌, ◌^◌, List, Option, None, Err, take, refl, sym, subst}
 use Rattle.ob_base.specs.declared.params.Params.{Params}
 use Rattle.ob_base.specs.declared.fault.Fault.{Fault}
 use Rattle.ob_base.specs.declared.fault.Fault.TheVariants.{StoreFault}
@@ -9,6 +9,8 @@ use Rattle.ob_store.specs.Images.{LeavesOnly}
 use Rattle.ob_store.specs.Calls.{NotesFirst}
 use Rattle.ob_store.specs.Lines.{Trace, Shows, ShowsFirst}
 use Rattle.ob_store.proofs.Moments.{started}
+use Rattle.ob_seal.specs.declared.keys.Keys.{Keys}
+use Rattle.ob_rows.specs.Rows.{IsFurther}
 use Rattle.ob_twin.specs.declared.gates.Open.{Open}
 use Rattle.ob_twin.specs.declared.twin.Twin.TheVariants.{EPOCH}
 use Rattle.ob_twin.specs.declared.set_err.SetErr.{SetErr}
@@ -21,31 +23,31 @@ use Rattle.ob_serial.specs.VaultViews.{end_answer}
 use Rattle.ob_flat.specs.Standing.{StandsFlat}
 use Rattle.ob_flat.specs.Orders.{end_events, end_notes}
 use Rattle.ob_flat.specs.Ends.{EndsFrom, StandsAtOne, EndsIn, end_err_of}
-use Rattle.ob_flat.specs.Calls.{EndDoes}
+use Rattle.ob_flat.specs.Calls.{Holding, EndDoes}
 use Rattle.ob_flat.proofs.Moved.{stands_same}
 
 -- nothing was done
-pub none_done : (p : Params) (old : Disk) (epoch : ℕ) (values : List (Option (List ℕ))) (now next : Standing) → EndsFrom p old epoch values now next → ((c : Image) → old.left_since old.moment c → old.may_leave c) → LeavesOnly old old (λ c. StandsFlat p c now)
-none_done p old epoch values now next from only = started old (λ c. StandsFlat p c now) (λ c left. stands_same p now c old.cells (from.settled c (only c left)) from.stands)
+pub none_done : (keys : Keys) (p : Params) (g : ℕ) (old : Disk) (epoch : ℕ) (values : List (Option (List ℕ))) (now next : Standing) → EndsFrom keys p g old epoch values now next → ((c : Image) → old.left_since old.moment c → old.may_leave c) → LeavesOnly old old (λ c. StandsFlat keys p g c now)
+none_done keys p g old epoch values now next from only = started old (λ c. StandsFlat keys p g c now) (λ c left. stands_same keys p g now c old.cells (from.settled c (only c left)) from.stands)
 
 -- what a refused end leaves
-pub refused_leaves : (p : Params) (old new : Disk) (now next : Standing) (refused : SetErr) (r : EndErr) → r ≡ end_err_of refused → (IsBefore (Err refused) → LeavesOnly old new (λ c. StandsFlat p c now)) → LeavesOnly old new (StandsAtOne p now next)
-    → EndsIn p old new now next (end_answer (Err r))
-refused_leaves p old new now next (Before fault) r is before either = subst (λ (e : EndErr). EndsIn p old new now next (end_answer (Err e))) (sym is) (before tt)
-refused_leaves p old new now next (Unsure fault) r is before either = subst (λ (e : EndErr). EndsIn p old new now next (end_answer (Err e))) (sym is) either
+pub refused_leaves : (keys : Keys) (p : Params) (g : ℕ) (old new : Disk) (now next : Standing) (refused : SetErr) (r : EndErr) → r ≡ end_err_of refused → (IsBefore (Err refused) → LeavesOnly old new (λ c. StandsFlat keys p g c now)) → LeavesOnly old new (StandsAtOne keys p g now next)
+    → EndsIn keys p g old new now next (end_answer (Err r))
+refused_leaves keys p g old new now next (Before fault) r is before either = subst (λ (e : EndErr). EndsIn keys p g old new now next (end_answer (Err e))) (sym is) (before tt)
+refused_leaves keys p g old new now next (Unsure fault) r is before either = subst (λ (e : EndErr). EndsIn keys p g old new now next (end_answer (Err e))) (sym is) either
 
-module _ {S : Type 0} (p : Params) (known : Open) (epoch : ℕ) (values : List (Option (List ℕ))) (before after : S) (old new : Disk) where
+module _ {S : Type 0} (p : Params) (known : Open) (epoch : ℕ) (values : List (Option (List ℕ))) (before after : Holding S) (old new : Disk) where
   -- what it tells
-  pub refused_tells : (shown_old shown_new : Trace) (refused : SetErr) (r : EndErr) → r ≡ end_err_of refused → suc epoch < 2 ^ 62 → IsSetFault EPOCH (suc epoch) refused
+  pub refused_tells : (shown_old shown_new : Trace) (refused : SetErr) (r : EndErr) → r ≡ end_err_of refused → suc epoch < 2 ^ 62 → before.sealing.next + p.keys ≤ 2 ^ 62 → IsFurther p.keys before.sealing after.sealing → IsSetFault EPOCH (suc epoch) refused
       → NotesFirst (end_events p.keys known (suc epoch)) old.seen new.seen → ShowsFirst (end_notes p.keys known (suc epoch)) shown_old shown_new
       → (notes : List Note) × Shows notes shown_old shown_new × EndDoes p known epoch values before after old new notes (end_answer (Err r))
-  refused_tells shown_old shown_new (Before fault) r is small says seen shown =
+  refused_tells shown_old shown_new (Before fault) r is small room seals says seen shown =
       let notes = take shown.0 (end_notes p.keys known (suc epoch)) in
-      let first : EndDoes p known epoch values before after old new notes (RefusedBy (StoreFault None)) = (refl, record { small = small; seen = seen; shown = (shown.0, shown.1, refl) }) in
+      let first : EndDoes p known epoch values before after old new notes (RefusedBy (StoreFault None)) = (refl, record { small = small; room = room; seals = seals; seen = seen; shown = (shown.0, shown.1, refl) }) in
       (notes, shown.2, subst (λ (e : EndErr). EndDoes p known epoch values before after old new notes (end_answer (Err e))) (sym is) (subst (λ (f : Fault). EndDoes p known epoch values before after old new notes (RefusedBy f)) (sym says) first))
-  refused_tells shown_old shown_new (Unsure fault) r is small says seen shown =
+  refused_tells shown_old shown_new (Unsure fault) r is small room seals says seen shown =
       let notes = take shown.0 (end_notes p.keys known (suc epoch)) in
-      (notes, shown.2, subst (λ (e : EndErr). EndDoes p known epoch values before after old new notes (end_answer (Err e))) (sym is) (says, record { small = small; seen = seen; shown = (shown.0, shown.1, refl) }))
+      (notes, shown.2, subst (λ (e : EndErr). EndDoes p known epoch values before after old new notes (end_answer (Err e))) (sym is) (says, record { small = small; room = room; seals = seals; seen = seen; shown = (shown.0, shown.1, refl) }))
 
   -- what a refused end tells speaks of no values
   pub values_free : (kept : List (Option (List ℕ))) (notes : List Note) (r : EndErr) → EndDoes p known epoch values before after old new notes (end_answer (Err r)) → EndDoes p known epoch kept before after old new notes (end_answer (Err r))

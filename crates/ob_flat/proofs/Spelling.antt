@@ -1,78 +1,35 @@
--- Rows and heads as they are written are read again.
-use Rattle.std.proofs.Common.{◌≡◌, ℕ, ◌+◌, ◌*◌, ◌-◌, ◌<◌, ◌≤◌, ◌^◌, List, [], ◌∷◌, ◌++◌, Option, Some, None, take, drop, length, get_or, map, replicate, refl, subst, sym, ap, ◌∙◌, arith, append_assoc, add_assoc, length-append}
+-- Heads as they are written are read again.
+use Rattle.std.proofs.Common.{◌≡◌, ℕ, ◌+◌, ◌*◌, ◌<◌, ◌≤◌, ◌^◌, List, [], ◌∷◌, ◌++◌, take, drop, length, get_or, refl, sym, ap, ◌∙◌, arith, append_assoc, add_assoc, length-append}
 use Rattle.std.specs.List.{flat_map}
 use Rattle.std.specs.Int.{w32, to_le_bytes}
-use Rattle.std.proofs.lemmas.List.{take_at, drop_at, drop-replicate, length-replicate, replicate-append-replicate, length-map, get_or-map, get_or-replicate, length-take-le, drop-drop, append-nil, take_more, take-append-drop}
+use Rattle.std.proofs.lemmas.List.{take_at, length-take-le, drop-drop, append-nil, take_more, take-append-drop}
 use Rattle.std.proofs.lemmas.Nat.{from_le_bytes-to_le_bytes_4}
 use Rattle.std.proofs.Math.Seq.{drop-append-add}
 use Rattle.ob_base.specs.declared.params.Params.{Params}
 use Rattle.ob_base.specs.LittleEndian.{with_part}
+use Rattle.ob_seal.specs.declared.keys.Keys.{Keys}
 use Rattle.ob_flat.specs.Heads.{mark, head_plain, head_cell, number_at, IsHead}
-use Rattle.ob_store.specs.Disk.{Image}
-use Rattle.ob_store.specs.Calls.{Holds}
-use Rattle.ob_flat.specs.Rows.{row_cell, row_bytes, IsShort, AreShort, IsRow, AreRows}
-
--- zeros behind a value, up to the end of the cell
-tail_zeros : (v : List ℕ) → length v ≤ 64 → v ++ replicate (110 - length v) 0 ≡ (v ++ replicate (94 - length v) 0) ++ replicate 16 0
-tail_zeros v le =
-    let count : 110 - length v ≡ 94 - length v + 16 = omega arith in
-    ap (λ (k : ℕ). v ++ replicate k 0) count ∙ ap (λ (l : List ℕ). v ++ l) (sym (replicate-append-replicate (94 - length v) 16 0)) ∙ sym (append_assoc v (replicate (94 - length v) 0) (replicate 16 0))
-
-front : ℕ → List ℕ
-front n = replicate 16 0 ++ 1 ∷ n ∷ []
-
--- a value put behind its length
-pub row_made : (v : List ℕ) → length v ≤ 64 → with_part (with_part (replicate 128 0) 16 (1 ∷ length v ∷ [])) 18 v ≡ row_cell (Some v)
-unfolding row_cell front
-row_made v le =
-    ap (λ (tail : List ℕ). front (length v) ++ v ++ tail) (drop-append-add (front (length v)) (replicate 110 0) (length v) ∙ drop-replicate (length v) 110 0)
-    ∙ ap (λ (tail : List ℕ). front (length v) ++ tail) (tail_zeros v le)
-
--- what is written for a value is a row with it
-pub row_is : (cell : ℕ) (value : Option (List ℕ)) → IsShort value → IsRow cell (row_cell value) value
-unfolding row_cell
-row_is cell None short = record { stamped = refl; short = omega arith; has = refl }
-row_is cell (Some v) short =
-    let whole : length (replicate 16 0 ++ row_bytes (Some v)) ≡ 112 = omega (arith, short, length-append v (replicate (94 - length v) 0), length-replicate {A = ℕ} (94 - length v) 0) in
-    record {
-      stamped = drop_at (replicate 16 0 ++ row_bytes (Some v)) (replicate 16 0) 112 whole;
-      short = short;
-      has = (refl, refl, ap (λ (l : List ℕ). take (length v) l) (append_assoc v (replicate (94 - length v) 0) (replicate 16 0)) ∙ take_at v (replicate (94 - length v) 0 ++ replicate 16 0) (length v) refl);
-    }
 
 -- the head that is written is one of its parameters
-pub head_is : (p : Params) → IsHead p (head_cell p)
+pub head_is : (keys : Keys) (p : Params) → IsHead keys p (head_cell keys p)
 unfolding head_plain mark
-head_is p =
+head_is keys p =
     let r = p.in_range in
     let deep : 2 ^ 16 < 2 ^ 32 = omega arith in
-    let a : number_at (head_cell p) 0 ≡ p.keys = from_le_bytes-to_le_bytes_4 p.keys (omega (arith, r.few_keys)) in
-    let b : number_at (head_cell p) 1 ≡ p.levels = from_le_bytes-to_le_bytes_4 p.levels (omega (arith, r.few_levels)) in
-    let c : number_at (head_cell p) 2 ≡ p.real = from_le_bytes-to_le_bytes_4 p.real (omega (arith, r.few_real)) in
-    let d : number_at (head_cell p) 3 ≡ p.dummies = from_le_bytes-to_le_bytes_4 p.dummies (omega (arith, r.few_dummies)) in
-    let e : number_at (head_cell p) 4 ≡ p.batches = from_le_bytes-to_le_bytes_4 p.batches (omega (arith, r.few_batches)) in
-    let f : number_at (head_cell p) 5 ≡ p.places = from_le_bytes-to_le_bytes_4 p.places (omega (arith, r.few_places)) in
-    let g : number_at (head_cell p) 6 ≡ p.writes = from_le_bytes-to_le_bytes_4 p.writes (omega (arith, r.few_writes)) in
-    let h : number_at (head_cell p) 7 ≡ p.evictions = from_le_bytes-to_le_bytes_4 p.evictions (omega (arith, r.few_evictions)) in
-    let i : number_at (head_cell p) 8 ≡ p.room = from_le_bytes-to_le_bytes_4 p.room (omega (arith, r.few_room)) in
+    let a : number_at (head_cell keys p) 0 ≡ p.keys = from_le_bytes-to_le_bytes_4 p.keys (omega (arith, r.few_keys)) in
+    let b : number_at (head_cell keys p) 1 ≡ p.levels = from_le_bytes-to_le_bytes_4 p.levels (omega (arith, r.few_levels)) in
+    let c : number_at (head_cell keys p) 2 ≡ p.real = from_le_bytes-to_le_bytes_4 p.real (omega (arith, r.few_real)) in
+    let d : number_at (head_cell keys p) 3 ≡ p.dummies = from_le_bytes-to_le_bytes_4 p.dummies (omega (arith, r.few_dummies)) in
+    let e : number_at (head_cell keys p) 4 ≡ p.batches = from_le_bytes-to_le_bytes_4 p.batches (omega (arith, r.few_batches)) in
+    let f : number_at (head_cell keys p) 5 ≡ p.places = from_le_bytes-to_le_bytes_4 p.places (omega (arith, r.few_places)) in
+    let g : number_at (head_cell keys p) 6 ≡ p.writes = from_le_bytes-to_le_bytes_4 p.writes (omega (arith, r.few_writes)) in
+    let h : number_at (head_cell keys p) 7 ≡ p.evictions = from_le_bytes-to_le_bytes_4 p.evictions (omega (arith, r.few_evictions)) in
+    let i : number_at (head_cell keys p) 8 ≡ p.room = from_le_bytes-to_le_bytes_4 p.room (omega (arith, r.few_room)) in
     record { marked = refl; stamped = refl; numbers = nine a b c d e f g h i }
   where
     nine : {a b c d e f g h i a' b' c' d' e' f' g' h' i' : ℕ} → a ≡ a' → b ≡ b' → c ≡ c' → d ≡ d' → e ≡ e' → f ≡ f' → g ≡ g' → h ≡ h' → i ≡ i'
         → ◌≡◌ {A = List ℕ} (a ∷ b ∷ c ∷ d ∷ e ∷ f ∷ g ∷ h ∷ i ∷ []) (a' ∷ b' ∷ c' ∷ d' ∷ e' ∷ f' ∷ g' ∷ h' ∷ i' ∷ [])
     nine pa pb pc pd pe pf pg ph pi = cc
-
--- rows that were written are rows with these values
-pub rows_are : (base : ℕ) (image : Image) (values : List (Option (List ℕ))) → AreShort values → Holds base (map (λ value. row_cell value) values) image → AreRows base image values
-rows_are base image values short holds i lt =
-    let cell : image (base + i) ≡ row_cell (get_or values i None) = holds i (omega (arith, length-map values (λ value. row_cell value))) ∙ get_or-map (λ value. row_cell value) values i None [] lt in
-    subst (λ (l : List ℕ). IsRow (base + i) l (get_or values i None)) (sym cell) (row_is (base + i) (get_or values i None) (short i lt))
-
-pub blanks_are : (base n : ℕ) (image : Image) → Holds base (replicate n (row_cell None)) image → AreRows base image (replicate n None)
-blanks_are base n image holds i lt =
-    let few : i < n = omega (arith, length-replicate {A = Option (List ℕ)} n None) in
-    let cell : image (base + i) ≡ row_cell None = holds i (omega (arith, length-replicate {A = List ℕ} n (row_cell None))) ∙ get_or-replicate n i (row_cell None) [] few in
-    subst (λ (v : Option (List ℕ)). IsRow (base + i) (image (base + i)) v) (sym (get_or-replicate n i None None few))
-    (subst (λ (l : List ℕ). IsRow (base + i) l None) (sym cell) (row_is (base + i) None tt))
 
 -- a part behind a part
 pub part_behind : (z a b : List ℕ) (at : ℕ) → at + length a + length b ≤ length z → with_part (with_part z at a) (at + length a) b ≡ with_part z at (a ++ b)

@@ -1,5 +1,5 @@
 -- What a plain vault holds, and what its calls do to its store.
-use Rattle.std.specs.Prelude.{◌≡◌, ◌≤◌, ◌<◌, ◌^◌, ℕ, suc, false, List, [], ◌∷◌, take, length, map, Option, Some, None}
+use Rattle.std.specs.Prelude.{◌≡◌, ◌⊎◌, ◌+◌, ◌≤◌, ◌<◌, ◌^◌, ℕ, suc, false, List, [], ◌∷◌, take, length, Option, Some, None}
 use Rattle.std.specs.Borrow.{GName}
 use Rattle.ob_base.specs.declared.params.Params.{Params}
 use Rattle.ob_base.specs.declared.fault.Fault.{Fault}
@@ -8,12 +8,14 @@ use Rattle.ob_store.specs.declared.watch.Note.{Note}
 use Rattle.ob_store.specs.Disk.{Disk, Image}
 use Rattle.ob_store.specs.Images.{Settled}
 use Rattle.ob_store.specs.Calls.{Holds, Notes, NotesFirst}
+use Rattle.ob_seal.specs.declared.keys.Keys.{Keys}
+use Rattle.ob_seal.specs.Sealing.{Sealing}
+use Rattle.ob_rows.specs.Rows.{row_cells, IsFurther}
 use Rattle.ob_twin.specs.declared.gates.Open.{Open}
 use Rattle.ob_twin.specs.Register.{place_of}
 use Rattle.ob_twin.specs.Opening.{with_mark}
 use Rattle.ob_serial.specs.Vaults.{VaultState, VaultCounts, VaultCall, Fetch, End, VaultAnswer, Values, Ended, RefusedBy, DoubtBy, Standing, standing_now, counts_of, MayStand, StandsIn}
 use Rattle.ob_flat.specs.Places.{area_of}
-use Rattle.ob_flat.specs.Rows.{row_cell}
 use Rattle.ob_flat.specs.Standing.{IsMapOf, StandsFlat}
 use Rattle.ob_flat.specs.Orders.{end_events, end_notes}
 
@@ -27,18 +29,18 @@ pub record FlatHolds (p : Params) (counts : VaultCounts) (values : List (Option 
   pub batches : v.batches ≡ p.batches
   pub content : IsMapOf values v.content
 
--- While it serves, no write waits for a sync, no end is in doubt, and the store stands for what it holds.
-pub record FlatServes (p : Params) (disk : Disk) (v : VaultState) : Type 0 where
+-- While it serves, no write waits for a sync, no end is in doubt, and the store stands for what it holds, at its generation.
+pub record FlatServes (keys : Keys) (p : Params) (g : ℕ) (disk : Disk) (v : VaultState) : Type 0 where
   pub tells : disk.tells
   pub settled : Settled disk
   pub no_doubt : v.doubt ≡ None
-  pub stands : StandsFlat p disk.cells (standing_now v)
+  pub stands : StandsFlat keys p g disk.cells (standing_now v)
 
 -- And each image that a crash may leave stands for what that allows.
-pub record FlatSound (p : Params) (counts : VaultCounts) (values : List (Option (List ℕ))) (disk : Disk) (v : VaultState) : Type 0 where
+pub record FlatSound (keys : Keys) (p : Params) (g : ℕ) (counts : VaultCounts) (values : List (Option (List ℕ))) (disk : Disk) (v : VaultState) : Type 0 where
   pub holds : FlatHolds p counts values v
-  pub serves : v.spent ≡ false → FlatServes p disk v
-  pub images : (c : Image) → disk.may_leave c → StandsIn (StandsFlat p) (MayStand v) c
+  pub serves : v.spent ≡ false → FlatServes keys p g disk v
+  pub images : (c : Image) → disk.may_leave c → StandsIn (StandsFlat keys p g) (MayStand v) c
 
 -- what a vault holds that was opened at an epoch
 abbrev pub opened_at : Params → Standing → VaultState
@@ -48,38 +50,48 @@ opened_at p at = record { batches = p.batches; epoch = at.epoch; content = at.co
 abbrev pub IsFront : List Note → List Note → Type 0
 IsFront notes all = (n : ℕ) × (n ≤ length all) × (notes ≡ take n all)
 
--- The end of an epoch did all of it.
-pub record IsEnded (keys : ℕ) (known : Open) (epoch : ℕ) (values : List (Option (List ℕ))) (old new : Disk) (notes : List Note) : Type 0 where
+-- The end of an epoch did all of it: it sealed a row for each key, under the next seals.
+pub record IsEnded (n : ℕ) (known : Open) (epoch : ℕ) (values : List (Option (List ℕ))) (sealing sealed : Sealing) (old new : Disk) (notes : List Note) : Type 0 where
   pub small : suc epoch < 2 ^ 62
-  pub written : old.tells → Holds (area_of keys (suc epoch)) (map (λ value. row_cell value) values) new.cells
-  pub seen : Notes (end_events keys known (suc epoch)) old.seen new.seen
-  pub shown : notes ≡ end_notes keys known (suc epoch)
+  pub room : sealing.next + n ≤ 2 ^ 62
+  pub written : old.tells → Holds (area_of n (suc epoch)) (row_cells sealing.keys (area_of n (suc epoch)) sealing.generation sealing.next values) new.cells
+  pub seals : sealed ≡ record sealing { next = sealing.next + n }
+  pub seen : Notes (end_events n known (suc epoch)) old.seen new.seen
+  pub shown : notes ≡ end_notes n known (suc epoch)
 
 -- the first of it
-pub record IsCut (keys : ℕ) (known : Open) (epoch : ℕ) (old new : Disk) (notes : List Note) : Type 0 where
+pub record IsCut (n : ℕ) (known : Open) (epoch : ℕ) (sealing sealed : Sealing) (old new : Disk) (notes : List Note) : Type 0 where
   pub small : suc epoch < 2 ^ 62
-  pub seen : NotesFirst (end_events keys known (suc epoch)) old.seen new.seen
-  pub shown : IsFront notes (end_notes keys known (suc epoch))
+  pub room : sealing.next + n ≤ 2 ^ 62
+  pub seals : IsFurther n sealing sealed
+  pub seen : NotesFirst (end_events n known (suc epoch)) old.seen new.seen
+  pub shown : IsFront notes (end_notes n known (suc epoch))
 
--- nothing, since there is no next epoch
-pub record IsWorn {S : Type 0} (epoch : ℕ) (before after : S) (notes : List Note) : Type 0 where
-  pub last : suc epoch ≡ 2 ^ 62
+-- nothing, since there is no next epoch, or not a seal left for each key
+pub record IsWorn {S : Type 0} (n epoch : ℕ) (sealing sealed : Sealing) (before after : S) (notes : List Note) : Type 0 where
+  pub last : (suc epoch ≡ 2 ^ 62) ⊎ (2 ^ 62 < sealing.next + n)
   pub same : after ≡ before
+  pub seals : sealed ≡ sealing
   pub shown : notes ≡ []
 
+-- what a call goes from: the vault's store, and its sealer
+pub record Holding (S : Type 0) : Type 0 where
+  pub store : S
+  pub sealing : Sealing
+
 -- A refused end did the first of it, or nothing.
-abbrev pub RefusedDoes : {S : Type 0} → ℕ → Open → ℕ → S → S → Disk → Disk → List Note → Fault → Type 0
-RefusedDoes keys known epoch before after old new notes (StoreFault unsure) = (unsure ≡ None) × IsCut keys known epoch old new notes
-RefusedDoes keys known epoch before after old new notes (Worn number) = (number ≡ 2 ^ 62) × IsWorn epoch before after notes
-RefusedDoes keys known epoch before after old new notes _ = ⊥
+abbrev pub RefusedDoes : {S : Type 0} → ℕ → Open → ℕ → Holding S → Holding S → Disk → Disk → List Note → Fault → Type 0
+RefusedDoes n known epoch before after old new notes (StoreFault unsure) = (unsure ≡ None) × IsCut n known epoch before.sealing after.sealing old new notes
+RefusedDoes n known epoch before after old new notes (Worn number) = (number ≡ 2 ^ 62) × IsWorn n epoch before.sealing after.sealing before.store after.store notes
+RefusedDoes n known epoch before after old new notes _ = ⊥
 
 -- What a call does to the store, where the last epoch that ended was this one and this was known of the gates, and the vault then
 -- has these values.
-module _ {S : Type 0} (p : Params) (known : Open) (epoch : ℕ) (values : List (Option (List ℕ))) (before after : S) (old new : Disk) (notes : List Note) where
+module _ {S : Type 0} (p : Params) (known : Open) (epoch : ℕ) (values : List (Option (List ℕ))) (before after : Holding S) (old new : Disk) (notes : List Note) where
   abbrev pub EndDoes : VaultAnswer → Type 0
-  EndDoes Ended = IsEnded p.keys known epoch values old new notes
+  EndDoes Ended = IsEnded p.keys known epoch values before.sealing after.sealing old new notes
   EndDoes (RefusedBy fault) = RefusedDoes p.keys known epoch before after old new notes fault
-  EndDoes (DoubtBy fault) = (fault ≡ StoreFault (Some (suc epoch))) × IsCut p.keys known epoch old new notes
+  EndDoes (DoubtBy fault) = (fault ≡ StoreFault (Some (suc epoch))) × IsCut p.keys known epoch before.sealing after.sealing old new notes
   EndDoes _ = ⊥
 
   -- a fetch does nothing to the store, and is never refused
@@ -98,7 +110,7 @@ KnowsNext known epoch Ended known_new epoch_new = (known_new ≡ with_mark known
 KnowsNext known epoch _ known_new epoch_new = (known_new ≡ known) × (epoch_new ≡ epoch)
 
 -- What a call does to the store, and what the vault knows then, whose parameters stay.
-pub record FlatCalled {S : Type 0} (p : Params) (known : Open) (epoch : ℕ) (values : List (Option (List ℕ))) (before after : S) (old new : Disk) (notes : List Note) (call : VaultCall) (answer : VaultAnswer) (p_new : Params) (known_new : Open) (epoch_new : ℕ) : Type 0 where
+pub record FlatCalled {S : Type 0} (p : Params) (known : Open) (epoch : ℕ) (values : List (Option (List ℕ))) (before after : Holding S) (old new : Disk) (notes : List Note) (call : VaultCall) (answer : VaultAnswer) (p_new : Params) (known_new : Open) (epoch_new : ℕ) : Type 0 where
   pub params : p_new ≡ p
   pub does : CallDoes p known epoch values before after old new notes call answer
   pub knows : KnowsNext known epoch answer known_new epoch_new

@@ -11,16 +11,14 @@ use Rattle.ob_base.specs.declared.fault.Fault.{Fault}
 use Rattle.ob_base.specs.declared.fault.Fault.TheVariants as fault
 use Rattle.ob_base.specs.Fields.{first_out_of_range}
 use Rattle.ob_base.specs.LittleEndian.{field_at}
-use Rattle.ob_twin.specs.Bodies.{Tagging, IsStamped, IsMisstamped}
-use Rattle.ob_flat.specs.Numbers.{told_number}
-
--- the tag of every stamped cell of this version
-abbrev pub zero_tag : Tagging
-zero_tag cell plain = replicate 16 0
+use Rattle.ob_seal.specs.declared.keys.Keys.{Keys}
+use Rattle.ob_rows.specs.Numbers.{told_number}
+use Rattle.ob_twin.specs.Bodies.{IsStamped, IsMisstamped}
+use Rattle.ob_twin.specs.Keyed.{tagging}
 
 -- a head begins with `OBLADIST` and the version's number
 unfoldable pub mark : List ℕ
-mark = codes "OBLADIST" ++ to_le_bytes w32 101
+mark = codes "OBLADIST" ++ to_le_bytes w32 102
 
 -- the parameters in their order
 abbrev pub numbers_of : Params → List ℕ
@@ -30,8 +28,8 @@ numbers_of p = p.keys ∷ p.levels ∷ p.real ∷ p.dummies ∷ p.batches ∷ p.
 unfoldable pub head_plain : Params → List ℕ
 head_plain p = mark ++ flat_map (λ n. to_le_bytes w32 n) (numbers_of p) ++ replicate 64 0
 
-abbrev pub head_cell : Params → List ℕ
-head_cell p = head_plain p ++ zero_tag 0 (head_plain p)
+abbrev pub head_cell : Keys → Params → List ℕ
+head_cell keys p = head_plain p ++ tagging keys 0 (head_plain p)
 
 -- the number at one of the nine places behind the mark
 abbrev pub number_at : List ℕ → ℕ → ℕ
@@ -43,9 +41,9 @@ numbers_in bytes =
     ∷ number_at bytes 5 ∷ number_at bytes 6 ∷ number_at bytes 7 ∷ number_at bytes 8 ∷ []
 
 -- the head of these parameters
-pub record IsHead (p : Params) (bytes : List ℕ) : Type 0 where
+pub record IsHead (keys : Keys) (p : Params) (bytes : List ℕ) : Type 0 where
   pub marked : take 12 bytes ≡ mark
-  pub stamped : IsStamped zero_tag 0 bytes
+  pub stamped : IsStamped (tagging keys) 0 bytes
   pub numbers : numbers_in bytes ≡ numbers_of p
 
 -- the first number that is out of its range
@@ -72,12 +70,12 @@ pub record IsBadNumber (bytes : List ℕ) (damaged : Damaged) : Type 0 where
   pub is : damaged ≡ record { cell = 0; check = Form; kept = told_number (number_at bytes (place_of field)); computed = told_number 1 }
 
 -- what is read of a head, where the store doesn't fail
-abbrev pub IsHeadRead : List ℕ → Result Params Fault → Type 0
-IsHeadRead bytes (Ok p) = IsHead p bytes
-IsHeadRead bytes (Err fault.NotStore) = take 12 bytes ≢ mark
-IsHeadRead bytes (Err (fault.Damaged cell check kept computed)) =
+abbrev pub IsHeadRead : Keys → List ℕ → Result Params Fault → Type 0
+IsHeadRead keys bytes (Ok p) = IsHead keys p bytes
+IsHeadRead keys bytes (Err fault.NotStore) = take 12 bytes ≢ mark
+IsHeadRead keys bytes (Err (fault.Damaged cell check kept computed)) =
     (take 12 bytes ≡ mark)
-    × (IsMisstamped zero_tag 0 bytes (record { cell = cell; check = check; kept = kept; computed = computed })
-    ⊎ (IsStamped zero_tag 0 bytes × IsBadNumber bytes (record { cell = cell; check = check; kept = kept; computed = computed })))
-IsHeadRead bytes (Err (fault.StoreFault unsure)) = Unit {0}
-IsHeadRead bytes (Err _) = ⊥
+    × (IsMisstamped (tagging keys) 0 bytes (record { cell = cell; check = check; kept = kept; computed = computed })
+    ⊎ (IsStamped (tagging keys) 0 bytes × IsBadNumber bytes (record { cell = cell; check = check; kept = kept; computed = computed })))
+IsHeadRead keys bytes (Err (fault.StoreFault unsure)) = Unit {0}
+IsHeadRead keys bytes (Err _) = ⊥

@@ -1,8 +1,7 @@
 pub mod Places
-pub mod Numbers
 pub mod Heads
-pub mod Rows
 pub mod Standing
+pub mod Formats
 pub mod Orders
 pub mod Noting
 pub mod Registers

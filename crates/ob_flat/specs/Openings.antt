@@ -7,6 +7,10 @@ use Rattle.ob_base.specs.declared.fault.Fault.TheVariants as fault
 use Rattle.ob_store.specs.Disk.{Disk, Image}
 use Rattle.ob_store.specs.Calls.{Notes, NotesFirst}
 use Rattle.ob_store.specs.Lines.{Trace, Shows, ShowsFirst}
+use Rattle.ob_seal.specs.declared.keys.Keys.{Keys}
+use Rattle.ob_seal.specs.Sealing.{Sealing}
+use Rattle.ob_rows.specs.Rows.{AreRows}
+use Rattle.ob_rows.specs.Reads.{IsFirstRowDamage}
 use Rattle.ob_twin.specs.declared.gates.Open.{Open}
 use Rattle.ob_twin.specs.Opening.{GatesAre}
 use Rattle.ob_twin.specs.Reading.{NoneOpen}
@@ -14,45 +18,44 @@ use Rattle.ob_serial.specs.Vaults.{Standing}
 use Rattle.ob_flat.specs.declared.opening.Opening.{Opening}
 use Rattle.ob_flat.specs.Places.{area_of}
 use Rattle.ob_flat.specs.Registers.{Found, IsRegisterDamage}
-use Rattle.ob_flat.specs.Rows.{AreRows, IsFirstRowDamage}
 use Rattle.ob_flat.specs.Standing.{IsMapOf, StandsFlat}
 use Rattle.ob_flat.specs.Orders.{registers_events, registers_notes, open_events, open_notes}
 
 -- both registers are found, and this is the first row that breaks a rule
-pub record IsRowsDamage (keys : ℕ) (image : Image) (damaged : Damaged) : Type 0 where
+pub record IsRowsDamage (keys : Keys) (n : ℕ) (image : Image) (damaged : Damaged) : Type 0 where
   pub generation : ℕ
   pub epoch : ℕ
-  pub found : Found image generation epoch
-  pub first : IsFirstRowDamage (area_of keys epoch) keys image damaged
+  pub found : Found keys image generation epoch
+  pub first : IsFirstRowDamage keys (area_of n epoch) n image damaged
 
 -- all is found, and the generation was the last one
-pub record IsWornOut (keys : ℕ) (image : Image) : Type 0 where
+pub record IsWornOut (keys : Keys) (n : ℕ) (image : Image) : Type 0 where
   pub epoch : ℕ
   pub values : List (Option (List ℕ))
-  pub found : Found image (2 ^ 62 - 1) epoch
-  pub whole : length values ≡ keys
-  pub rows : AreRows (area_of keys epoch) image values
+  pub found : Found keys image (2 ^ 62 - 1) epoch
+  pub whole : length values ≡ n
+  pub rows : AreRows keys (area_of n epoch) image values
 
 -- all is found, and the generation is the next one
-pub record IsFoundIn (keys : ℕ) (image : Image) (opening : Opening) : Type 0 where
+pub record IsFoundIn (keys : Keys) (n : ℕ) (image : Image) (opening : Opening) : Type 0 where
   pub old : ℕ
-  pub found : Found image old opening.epoch
-  pub next : opening.generation ≡ suc old
-  pub small : opening.generation < 2 ^ 62
-  pub whole : length opening.values.items ≡ keys
-  pub rows : AreRows (area_of keys opening.epoch) image opening.values.items
+  pub found : Found keys image old opening.epoch
+  pub next : opening.sealer.generation ≡ suc old
+  pub small : opening.sealer.generation < 2 ^ 62
+  pub whole : length opening.values.items ≡ n
+  pub rows : AreRows keys (area_of n opening.epoch) image opening.values.items
 
 -- what opening answers
-abbrev pub IsOpeningOf : ℕ → Image → Result Opening Fault → Type 0
-IsOpeningOf keys image (Ok opening) = IsFoundIn keys image opening
-IsOpeningOf keys image (Err fault.NotStore) = NoneOpen 1 image ⊎ NoneOpen 5 image
-IsOpeningOf keys image (Err (fault.Damaged cell check kept computed)) =
-    IsRegisterDamage image (record { cell = cell; check = check; kept = kept; computed = computed })
-    ⊎ IsRowsDamage keys image (record { cell = cell; check = check; kept = kept; computed = computed })
-IsOpeningOf keys image (Err (fault.Worn number)) = (number ≡ 2 ^ 62) × IsWornOut keys image
-IsOpeningOf keys image (Err (fault.StoreFault unsure)) = Unit {0}
-IsOpeningOf keys image (Err fault.Memory) = Unit {0}
-IsOpeningOf keys image (Err _) = ⊥
+abbrev pub IsOpeningOf : Keys → ℕ → Image → Result Opening Fault → Type 0
+IsOpeningOf keys n image (Ok opening) = IsFoundIn keys n image opening
+IsOpeningOf keys n image (Err fault.NotStore) = NoneOpen 1 image ⊎ NoneOpen 5 image
+IsOpeningOf keys n image (Err (fault.Damaged cell check kept computed)) =
+    IsRegisterDamage keys image (record { cell = cell; check = check; kept = kept; computed = computed })
+    ⊎ IsRowsDamage keys n image (record { cell = cell; check = check; kept = kept; computed = computed })
+IsOpeningOf keys n image (Err (fault.Worn number)) = (number ≡ 2 ^ 62) × IsWornOut keys n image
+IsOpeningOf keys n image (Err (fault.StoreFault unsure)) = Unit {0}
+IsOpeningOf keys n image (Err fault.Memory) = Unit {0}
+IsOpeningOf keys n image (Err _) = ⊥
 
 -- the faults of opening, and of reading the head
 abbrev pub IsOpenFault : Fault → Type 0
@@ -69,34 +72,39 @@ IsHeadFault (fault.Damaged cell check kept computed) = Unit {0}
 IsHeadFault (fault.StoreFault unsure) = unsure ≡ None
 IsHeadFault _ = ⊥
 
--- the opening has what the store stood for, and the store stands for it still, whatever crashes
-pub record IsOpenedAt (p : Params) (at : Standing) (opening : Opening) (new : Disk) : Type 0 where
+-- the opening has what the store stood for, and the store stands for it still, at the opening's generation, whatever crashes
+pub record IsOpenedAt (keys : Keys) (p : Params) (at : Standing) (opening : Opening) (new : Disk) : Type 0 where
   pub epoch : opening.epoch ≡ at.epoch
   pub content : IsMapOf opening.values.items at.content
-  pub stands : StandsFlat p new.cells at
-  pub images : (c : Image) → new.may_leave c → StandsFlat p c at
+  pub stands : StandsFlat keys p opening.sealer.generation new.cells at
+  pub images : (c : Image) → new.may_leave c → StandsFlat keys p opening.sealer.generation c at
+
+-- A new generation's sealer has sealed nothing.
+pub record IsFresh (keys : Keys) (sealing : Sealing) : Type 0 where
+  pub keys_are : sealing.keys ≡ keys
+  pub none_sealed : sealing.next ≡ 0
 
 -- The order of an opening that went well.
-pub record OpensIn (keys : ℕ) (old new : Disk) (shown_old shown_new : Trace) (opening : Opening) : Type 0 where
+pub record OpensIn (n : ℕ) (old new : Disk) (shown_old shown_new : Trace) (opening : Opening) : Type 0 where
   -- which gates of the generation's register were open
   pub known : Open
   pub gates : old.tells → GatesAre known 1 old.cells
-  pub seen : Notes (open_events keys opening.epoch known opening.generation) old.seen new.seen
-  pub shown : Shows (open_notes keys opening.epoch known opening.generation) shown_old shown_new
+  pub seen : Notes (open_events n opening.epoch known opening.sealer.generation) old.seen new.seen
+  pub shown : Shows (open_notes n opening.epoch known opening.sealer.generation) shown_old shown_new
 
 -- Of a refused one: some of the first reads, or all of them and some of what follows.
 pub record ReadsFirst (old new : Disk) (shown_old shown_new : Trace) : Type 0 where
   pub seen : NotesFirst registers_events old.seen new.seen
   pub shown : ShowsFirst registers_notes shown_old shown_new
 
-pub record OpensPart (keys : ℕ) (old new : Disk) (shown_old shown_new : Trace) : Type 0 where
+pub record OpensPart (keys : Keys) (n : ℕ) (old new : Disk) (shown_old shown_new : Trace) : Type 0 where
   pub known : Open
   pub gates : old.tells → GatesAre known 1 old.cells
   pub generation : ℕ
   pub epoch : ℕ
-  pub found : old.tells → Found old.cells generation epoch
-  pub seen : NotesFirst (open_events keys epoch known (suc generation)) old.seen new.seen
-  pub shown : ShowsFirst (open_notes keys epoch known (suc generation)) shown_old shown_new
+  pub found : old.tells → Found keys old.cells generation epoch
+  pub seen : NotesFirst (open_events n epoch known (suc generation)) old.seen new.seen
+  pub shown : ShowsFirst (open_notes n epoch known (suc generation)) shown_old shown_new
 
-abbrev pub OpensFirst : ℕ → Disk → Disk → Trace → Trace → Type 0
-OpensFirst keys old new shown_old shown_new = ReadsFirst old new shown_old shown_new ⊎ OpensPart keys old new shown_old shown_new
+abbrev pub OpensFirst : Keys → ℕ → Disk → Disk → Trace → Trace → Type 0
+OpensFirst keys n old new shown_old shown_new = ReadsFirst old new shown_old shown_new ⊎ OpensPart keys n old new shown_old shown_new

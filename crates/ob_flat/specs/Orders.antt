@@ -1,22 +1,16 @@
 -- The orders of reads, writes and syncs.
-use Rattle.std.specs.Prelude.{ℕ, true, List, [], ◌∷◌, ◌++◌, map}
+use Rattle.std.specs.Prelude.{ℕ, true, List, [], ◌∷◌, ◌++◌}
 use Rattle.ob_store.specs.declared.event.Event.{Event}
 use Rattle.ob_store.specs.declared.event.Event.TheVariants as event
 use Rattle.ob_store.specs.declared.watch.Note.{Note}
 use Rattle.ob_store.specs.declared.watch.Note.TheVariants as note
-use Rattle.ob_store.specs.Runs.{from_on, write_events, write_notes}
+use Rattle.ob_store.specs.Runs.{write_events, write_notes}
+use Rattle.ob_rows.specs.Orders.{read_events, read_notes}
 use Rattle.ob_twin.specs.declared.gates.Open.{Open}
 use Rattle.ob_twin.specs.Register.{place_of}
 use Rattle.ob_twin.specs.Opening.{is_closed_first}
 use Rattle.ob_twin.specs.Orders.{through_events, through_notes, set_events, set_notes, get_events, get_notes}
 use Rattle.ob_flat.specs.Places.{area_of}
-
--- a read of each of so many cells, in rising order
-abbrev pub read_events : ℕ → ℕ → List Event
-read_events base n = map (λ cell. event.Read cell) (from_on base n)
-
-abbrev pub read_notes : ℕ → ℕ → List Note
-read_notes base n = map (λ cell. note.Read cell) (from_on base n)
 
 -- so many rows, and a sync
 abbrev pub rows_events : ℕ → ℕ → List Event

@@ -9,7 +9,3 @@ cells p = 9 + 2 * p.keys
 -- the first row of an epoch's area, of so many keys
 abbrev pub area_of : ℕ → ℕ → ℕ
 area_of keys epoch = 9 + epoch % 2 * keys
-
--- the row of a key
-abbrev pub row_at : ℕ → ℕ → ℕ → ℕ
-row_at keys epoch key = area_of keys epoch + key

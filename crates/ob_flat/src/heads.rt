@@ -1,4 +1,4 @@
-ghost use Rattle.std.specs.Prelude.{◌≡◌, ◌↔◌, ◌≤◌, ◌+◌, ◌*◌, ◌^◌, [], ◌∷◌, IsTrue, IfErr, OnOk, OnErr, length, take};
+ghost use Rattle.std.specs.Prelude.{◌≡◌, ◌↔◌, ◌≤◌, ◌+◌, ◌*◌, ◌^◌, [], ◌∷◌, IsTrue, IfErr, OnOk, OnErr, length, take, ◌++◌};
 ghost use Rattle.std.specs.List.{flat_map};
 ghost use Rattle.std.specs.Int.{w32, to_le_bytes};
 ghost use Rattle.ob_base.specs.LittleEndian.{with_part};
@@ -7,18 +7,18 @@ ghost use Rattle.ob_store.specs.declared.watch.Note.TheVariants as note;
 ghost use Rattle.ob_store.specs.Images.{Same, Passes};
 ghost use Rattle.ob_store.specs.Calls.{Serves, IsFailed, IsStoreFault, Keeps, Notes, NotesFirst};
 ghost use Rattle.ob_store.specs.Lines.{Shows, ShowsFirst};
-ghost use Rattle.ob_flat.specs.Heads.{mark, head_plain, head_cell, number_at, place_of, IsHeadRead};
+ghost use Rattle.ob_flat.specs.Heads.{mark, head_plain, number_at, place_of, IsHeadRead};
 ghost use Rattle.ob_flat.specs.Openings.{IsHeadFault};
 ghost use Rattle.ob_flat.specs.Noting.{NotesReads, ShowsReads};
 
-use crate::bytes::put;
-use crate::numbers::bad_number;
 use ob_base::{Failed, Fault, Field, Params, set_u32, u32_at};
+use ob_rows::{bad_number, put};
+use ob_seal::{Keys, Sealer};
 use ob_store::{Store, Watch, read_noted};
-use ob_twin::{Stamper, ZeroTag};
+use ob_twin::Stamper;
 
 // What a head begins with.
-const MARK: [u8; 12] = [b'O', b'B', b'L', b'A', b'D', b'I', b'S', b'T', 101, 0, 0, 0];
+const MARK: [u8; 12] = [b'O', b'B', b'L', b'A', b'D', b'I', b'S', b'T', 102, 0, 0, 0];
 
 // Writes numbers, of 4 bytes each, behind the mark.
 fn put_numbers(plain: &mut [u8], numbers: &[u32])
@@ -31,8 +31,8 @@ fn put_numbers(plain: &mut [u8], numbers: &[u32])
 }
 
 // The head's cell.
-pub fn head_cell(params: &Params) -> [u8; 128]
-    ensures { result ≡ head_cell params.now }
+pub fn head_cell<T: Stamper>(stamper: &T, params: &Params) -> [u8; 128]
+    ensures { result ≡ head_plain params.now ++ T.tag stamper.now 0 (head_plain params.now) }
 {
     let mut plain = [0; 112];
     put(&mut plain, 0, &MARK);
@@ -50,7 +50,7 @@ pub fn head_cell(params: &Params) -> [u8; 128]
             params.room,
         ],
     );
-    ZeroTag.stamp(0, &plain)
+    stamper.stamp(0, &plain)
 }
 
 // Whether a cell begins as a head does.
@@ -88,15 +88,15 @@ fn place_of(field: Field) -> usize
 }
 
 // The parameters that a head spells.
-fn open_head(bytes: &[u8; 128]) -> Result<Params, Fault>
-    ensures read { IsHeadRead bytes.now result }
+fn open_head(sealer: &Sealer, bytes: &[u8; 128]) -> Result<Params, Fault>
+    ensures read { IsHeadRead sealer.now.keys bytes.now result }
     ensures faults { IfErr result IsHeadFault }
     ensures own { IfErr result (λ fault. IsStoreFault fault → ⊥) }
 {
     if !is_marked(bytes) {
         return Err(Fault::NotStore);
     }
-    match ZeroTag.unstamp(0, bytes) {
+    match Stamper::unstamp(sealer, 0, bytes) {
         Ok(_) => {}
         Err(damaged) => return Err(Fault::from(damaged)),
     }
@@ -147,11 +147,11 @@ fn read_cell<S: Store, W: Watch>(
 /// # Errors
 /// The store failed, and its count of faults rose; or, in this order, it is no store exactly where
 /// cell 0 doesn't begin with the mark of this version; the head is damaged where its tag isn't
-/// zeros; or where a parameter is out of its range, and then the first one is told.
-pub fn head<S: Store, W: Watch>(store: &mut S, watch: &mut W) -> Result<Params, Fault>
+/// that of its bytes; or where a parameter is out of its range, and then the first one is told.
+pub fn head<S: Store, W: Watch>(store: &mut S, keys: &Keys, watch: &mut W) -> Result<Params, Fault>
     ensures serves { Serves IsStoreFault (S.disk store.old) (S.disk store.new) result }
     ensures faults { IfErr result IsHeadFault }
-    ensures value { (S.disk store.old).tells → IsHeadRead ((S.disk store.old).cells 0) result }
+    ensures value { (S.disk store.old).tells → IsHeadRead keys.now ((S.disk store.old).cells 0) result }
     ensures keeps { Keeps (S.disk store.old) (S.disk store.new) }
     // A crash at any moment leaves what it might have left before.
     ensures passes { Passes Same (S.disk store.old) (S.disk store.new) }
@@ -160,7 +160,7 @@ pub fn head<S: Store, W: Watch>(store: &mut S, watch: &mut W) -> Result<Params, 
 {
     let mut bytes = [0; 128];
     match read_cell(store, 0, &mut bytes, watch) {
-        Ok(()) => open_head(&bytes),
+        Ok(()) => open_head(&Sealer::new(keys, 0), &bytes),
         Err(Failed) => Err(Fault::StoreFault { unsure: None }),
     }
 }

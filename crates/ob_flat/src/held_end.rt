@@ -1,4 +1,4 @@
-ghost use Rattle.std.specs.Prelude.{◌≡◌, ◌≤◌, ◌+◌, ℕ, suc, List, length, not, is_ok, IfErr, false, if◌then◌else◌};
+ghost use Rattle.std.specs.Prelude.{◌≡◌, ◌⊎◌, ◌<◌, ◌≤◌, ◌+◌, ◌^◌, MatchBool, ℕ, suc, List, length, not, is_ok, IfErr, false, if◌then◌else◌};
 ghost use Rattle.ob_base.specs.Causes.{Rose};
 ghost use Rattle.ob_base.specs.declared.params.Params.{Params};
 ghost use Rattle.ob_store.specs.declared.watch.Note.{Note};
@@ -13,6 +13,7 @@ ghost use Rattle.ob_flat.specs.Ends.{EndsFrom, EndsIn, end_err_of};
 use crate::ends::write_epoch;
 use crate::held::Held;
 use ob_base::{Fault, Value};
+use ob_seal::Sealer;
 use ob_serial::EndErr;
 use ob_store::{Store, Watch};
 use ob_twin::SetErr;
@@ -24,6 +25,18 @@ fn end_err(refused: SetErr) -> EndErr
         SetErr::Before(fault) => EndErr::Before(fault),
         SetErr::Unsure(fault) => EndErr::Unsure(fault),
     }
+}
+
+// Whether there is no such epoch, or so many seals aren't left.
+fn is_worn(epoch: u64, sealer: &Sealer, keys: u64) -> bool
+    requires few { keys ≤ 65536 }
+    ensures { MatchBool result ((2 ^ 62 ≤ epoch) ⊎ (2 ^ 62 < sealer.now.next + keys)) ((epoch < 2 ^ 62) × (sealer.now.next + keys ≤ 2 ^ 62)) }
+{
+    if epoch >= 1 << 62 {
+        return true;
+    }
+    let (_, next) = sealer.next();
+    next + keys > 1 << 62
 }
 
 // Ends an epoch with these values.
@@ -38,19 +51,28 @@ pub fn end_held<'a, S: Store, W: Watch>(
     ensures epoch { held.new.epoch ≡ (if is_ok result then suc held.old.epoch else held.old.epoch) }
     ensures spent { held.new.spent ≡ not (is_ok result) }
     ensures knows { KnowsNext held.old.gates.epoch held.old.epoch (end_answer result) held.new.gates.epoch held.new.epoch }
+    ensures same_keys { held.new.sealer.keys ≡ held.old.sealer.keys }
+    ensures same_generation { held.new.sealer.generation ≡ held.old.sealer.generation }
     ensures goes { GoesOn (S.disk held.old.store.now) (S.disk held.new.store.now) }
     ensures faults { IfErr result (IsEndFault (held.old.epoch + 1)) }
     ensures cause { IfErr result (λ refused. IsStoreEnd refused → Rose (S.disk held.old.store.now).faults (S.disk held.new.store.now).faults) }
-    ensures images { (p : Params) (now next : Standing) → EndsFrom p (S.disk held.old.store.now) (suc held.old.epoch) values.now now next → EndsIn p (S.disk held.old.store.now) (S.disk held.new.store.now) now next (end_answer result) }
+    ensures images { (p : Params) (g : ℕ) (now next : Standing) → EndsFrom held.old.sealer.keys p g (S.disk held.old.store.now) (suc held.old.epoch) values.now now next → EndsIn held.old.sealer.keys p g (S.disk held.old.store.now) (S.disk held.new.store.now) now next (end_answer result) }
     ensures called { (p : Params) → length values.now ≡ p.keys → (notes : List Note) × Shows notes (W.trace watch.old) (W.trace watch.new)
-        × EndDoes p held.old.gates.epoch held.old.epoch values.now held.old.store.now held.new.store.now (S.disk held.old.store.now) (S.disk held.new.store.now) notes (end_answer result) }
+        × EndDoes p held.old.gates.epoch held.old.epoch values.now (record { store = held.old.store.now; sealing = held.old.sealer }) (record { store = held.new.store.now; sealing = held.new.sealer }) (S.disk held.old.store.now) (S.disk held.new.store.now) notes (end_answer result) }
 {
     let epoch = held.epoch + 1;
     held.spent = true;
-    if epoch >= 1 << 62 {
-        return Err(EndErr::Before(Fault::Worn { number: epoch }));
+    if is_worn(epoch, &held.sealer, values.len() as u64) {
+        return Err(EndErr::Before(Fault::Worn { number: 1 << 62 }));
     }
-    match write_epoch(held.store, &mut held.gates, epoch, values, watch) {
+    match write_epoch(
+        held.store,
+        &mut held.sealer,
+        &mut held.gates,
+        epoch,
+        values,
+        watch,
+    ) {
         Ok(()) => {}
         Err(refused) => return Err(end_err(refused)),
     }

@@ -1,18 +1,15 @@
 //! The plain vault: a map by epochs over a store. The end of each epoch writes a row for every key.
 #![tactic(auto)]
 
-mod bytes;
 mod ends;
 mod formatting;
 mod heads;
 mod held;
 mod held_end;
-mod numbers;
 mod opening;
 mod places;
 mod preparing;
 mod registers;
-mod rows;
 mod values;
 mod vault;
 

@@ -1,6 +1,7 @@
 ghost use Rattle.std.specs.Prelude.{◌≡◌, ◌<◌, ◌^◌, length};
 
 use ob_base::{Params, Value};
+use ob_seal::Sealer;
 use ob_twin::Gates;
 
 /// What opening a store found: all that a vault over it begins with.
@@ -10,8 +11,8 @@ pub struct Opening {
     pub params: Params,
     /// Which gates of its registers are open.
     pub gates: Gates,
-    /// The generation that began with this opening, at least 1 and below `2^62`.
-    pub generation: u64,
+    /// The sealer of the generation that began with this opening, below `2^62`. It has sealed nothing.
+    pub sealer: Sealer,
     /// The last epoch that ended, below `2^62`.
     pub epoch: u64,
     /// The value of each key.
@@ -19,6 +20,7 @@ pub struct Opening {
     /// Room for the next values of as many keys.
     pub next: Vec<Option<Value>>,
     pub ghost small: { epoch < 2 ^ 62 },
+    pub ghost generation: { sealer.generation < 2 ^ 62 },
     pub ghost whole: { length values.items ≡ params.keys },
     pub ghost room: { length next.items ≡ params.keys },
 }

@@ -7,22 +7,23 @@ ghost use Rattle.ob_store.specs.Disk.{Image};
 ghost use Rattle.ob_store.specs.Images.{Settled, LeavesOnly};
 ghost use Rattle.ob_store.specs.Calls.{Serves, IsStoreFault, Notes, NotesFirst};
 ghost use Rattle.ob_store.specs.Lines.{Shows, ShowsFirst};
-ghost use Rattle.ob_twin.specs.Register.{StandsAt, KeepsAt, SameOutside};
+ghost use Rattle.ob_twin.specs.Keyed.{tagging};
+ghost use Rattle.ob_twin.specs.Register.{SameOutside};
 ghost use Rattle.ob_twin.specs.Opening.{GatesAre};
 ghost use Rattle.ob_serial.specs.Vaults.{Standing};
-ghost use Rattle.ob_flat.specs.Heads.{zero_tag};
-ghost use Rattle.ob_flat.specs.Standing.{StandsFlat, AllStand, StandsAsBefore};
+ghost use Rattle.ob_flat.specs.Standing.{StandsFlat, Stands, AllStand, StandsAsBefore};
 ghost use Rattle.ob_flat.specs.Orders.{begin_events, begin_notes};
 ghost use Rattle.ob_flat.specs.Registers.{IsBeginFault};
-ghost use Rattle.ob_flat.specs.Openings.{IsOpeningOf, IsOpenFault, IsOpenedAt, OpensIn, OpensFirst};
+ghost use Rattle.ob_flat.specs.Openings.{IsOpeningOf, IsOpenFault, IsOpenedAt, IsFresh, OpensIn, OpensFirst};
 
 use crate::opening::Opening;
 use crate::places::area_of;
 use crate::registers::read_registers;
-use crate::rows::read_values;
 use ob_base::{Failed, Fault, Params, Value};
+use ob_rows::read_values;
+use ob_seal::{Keys, Sealer};
 use ob_store::{Store, Watch, sync_noted};
-use ob_twin::{Gates, SetErr, Twin, ZeroTag};
+use ob_twin::{Gates, SetErr, Twin};
 use std::alloc::{AllocError, Global};
 
 // So many keys without a value.
@@ -40,6 +41,7 @@ fn blank_values(alloc: Global, keys: u32) -> Result<Vec<Option<Value>>, AllocErr
 // Makes sure of what was written before, and begins the next generation.
 fn begin<S: Store, W: Watch>(
     store: &mut S,
+    sealer: &Sealer,
     gates: &mut Gates,
     generation: u64,
     watch: &mut W,
@@ -54,9 +56,9 @@ fn begin<S: Store, W: Watch>(
     ensures epoch { gates.new.epoch ≡ gates.old.epoch }
     ensures rest { (S.disk store.old).tells → SameOutside 1 (S.disk store.new).cells (S.disk store.old).cells }
     ensures durable { (S.disk store.old).tells → OnOk result (Settled (S.disk store.new)) }
-    ensures stands { (p : Params) (at : Standing) → (S.disk store.old).tells → StandsAt zero_tag 1 (S.disk store.old).cells generation → StandsFlat p (S.disk store.old).cells at → OnOk result (StandsFlat p (S.disk store.new).cells at) }
-    ensures crash { (p : Params) (at : Standing) → (S.disk store.old).tells → StandsAt zero_tag 1 (S.disk store.old).cells generation → StandsFlat p (S.disk store.old).cells at → AllStand p (S.disk store.old)
-        → LeavesOnly (S.disk store.old) (S.disk store.new) (StandsAsBefore p (S.disk store.old)) }
+    ensures stands { (p : Params) (at : Standing) → (S.disk store.old).tells → StandsFlat sealer.now.keys p generation (S.disk store.old).cells at → OnOk result (StandsFlat sealer.now.keys p (suc generation) (S.disk store.new).cells at) }
+    ensures crash { (p : Params) (at : Standing) → (S.disk store.old).tells → StandsFlat sealer.now.keys p generation (S.disk store.old).cells at → AllStand sealer.now.keys p (S.disk store.old)
+        → LeavesOnly (S.disk store.old) (S.disk store.new) (StandsAsBefore sealer.now.keys p (S.disk store.old)) }
     ensures seen { OnOk result (Notes (begin_events gates.old.generation (suc generation)) (S.disk store.old).seen (S.disk store.new).seen) }
     ensures seen_err { OnErr result (NotesFirst (begin_events gates.old.generation (suc generation)) (S.disk store.old).seen (S.disk store.new).seen) }
     ensures shown { OnOk result (Shows (begin_notes gates.old.generation (suc generation)) (W.trace watch.old) (W.trace watch.new)) }
@@ -70,7 +72,7 @@ fn begin<S: Store, W: Watch>(
         Ok(()) => {}
         Err(Failed) => return Err(Fault::StoreFault { unsure: None }),
     }
-    match Twin::GENERATION.set(store, &ZeroTag, gates, next, watch) {
+    match Twin::GENERATION.set(store, sealer, gates, next, watch) {
         Ok(()) => Ok(next),
         Err(SetErr::Before(fault)) => Err(fault),
         Err(SetErr::Unsure(fault)) => Err(fault),
@@ -80,6 +82,7 @@ fn begin<S: Store, W: Watch>(
 // Reads the registers and the rows, and begins the next generation.
 fn open_into<S: Store, W: Watch>(
     store: &mut S,
+    sealer: &Sealer,
     params: &Params,
     mut values: Vec<Option<Value>>,
     next: Vec<Option<Value>>,
@@ -90,38 +93,39 @@ fn open_into<S: Store, W: Watch>(
     requires none_out { (S.disk store.old).out ≡ 0 }
     ensures serves { Serves IsStoreFault (S.disk store.old) (S.disk store.new) result }
     ensures faults { IfErr result IsOpenFault }
-    ensures value { (S.disk store.old).tells → IsOpeningOf params.now.keys (S.disk store.old).cells result }
+    ensures value { (S.disk store.old).tells → IsOpeningOf sealer.now.keys params.now.keys (S.disk store.old).cells result }
     ensures params { IfOk result (λ opening. opening.params ≡ params.now) }
+    ensures sealer { IfOk result (λ opening. IsFresh sealer.now.keys opening.sealer) }
     ensures durable { (S.disk store.old).tells → OnOk result (Settled (S.disk store.new)) }
     ensures gates { (S.disk store.old).tells → IfOk result (λ opening. GatesAre opening.gates.epoch 5 (S.disk store.old).cells) }
     ensures tell { (S.disk store.old).tells → IfOk result (λ opening. GatesAre opening.gates.epoch 5 (S.disk store.new).cells) }
     // Where the store stood for an epoch, the opening has that epoch and its map,
-    ensures opened { (at : Standing) → (S.disk store.old).tells → StandsFlat params.now (S.disk store.old).cells at → IfOk result (λ opening. IsOpenedAt params.now at opening (S.disk store.new)) }
+    ensures opened { (at : Standing) → (S.disk store.old).tells → Stands sealer.now.keys params.now (S.disk store.old).cells at → IfOk result (λ opening. IsOpenedAt sealer.now.keys params.now at opening (S.disk store.new)) }
     // and a crash at any moment leaves what the store, or one of its images, stood for.
-    ensures crash { (at : Standing) → (S.disk store.old).tells → StandsFlat params.now (S.disk store.old).cells at → AllStand params.now (S.disk store.old)
-        → LeavesOnly (S.disk store.old) (S.disk store.new) (StandsAsBefore params.now (S.disk store.old)) }
+    ensures crash { (at : Standing) → (S.disk store.old).tells → Stands sealer.now.keys params.now (S.disk store.old).cells at → AllStand sealer.now.keys params.now (S.disk store.old)
+        → LeavesOnly (S.disk store.old) (S.disk store.new) (StandsAsBefore sealer.now.keys params.now (S.disk store.old)) }
     ensures order { IfOk result (λ opening. OpensIn params.now.keys (S.disk store.old) (S.disk store.new) (W.trace watch.old) (W.trace watch.new) opening) }
-    ensures order_err { OnErr result (OpensFirst params.now.keys (S.disk store.old) (S.disk store.new) (W.trace watch.old) (W.trace watch.new)) }
+    ensures order_err { OnErr result (OpensFirst sealer.now.keys params.now.keys (S.disk store.old) (S.disk store.new) (W.trace watch.old) (W.trace watch.new)) }
     ensures no_memory { IfErr result (λ refused. refused ≢ fault.Memory) }
 {
     let mut gates = Gates::new();
-    let numbers = match read_registers(store, &mut gates, watch) {
+    let numbers = match read_registers(store, sealer, &mut gates, watch) {
         Ok(numbers) => numbers,
         Err(fault) => return Err(fault),
     };
     let base = area_of(params.keys as u64, numbers.epoch);
-    match read_values(store, base, &mut values, watch) {
+    match read_values(store, sealer, base, &mut values, watch) {
         Ok(()) => {}
         Err(fault) => return Err(fault),
     }
-    let generation = match begin(store, &mut gates, numbers.generation, watch) {
+    let generation = match begin(store, sealer, &mut gates, numbers.generation, watch) {
         Ok(generation) => generation,
         Err(fault) => return Err(fault),
     };
     Ok(Opening {
         params: *params,
         gates,
-        generation,
+        sealer: Sealer::new(&sealer.keys(), generation),
         epoch: numbers.epoch,
         values,
         next,
@@ -141,24 +145,26 @@ fn open_into<S: Store, W: Watch>(
 pub fn prepare<S: Store, W: Watch>(
     alloc: Global,
     store: &mut S,
+    keys: &Keys,
     params: &Params,
     watch: &mut W,
 ) -> Result<Opening, Fault>
     requires none_out { (S.disk store.old).out ≡ 0 }
     ensures serves { Serves IsStoreFault (S.disk store.old) (S.disk store.new) result }
     ensures faults { IfErr result IsOpenFault }
-    ensures value { (S.disk store.old).tells → IsOpeningOf params.now.keys (S.disk store.old).cells result }
+    ensures value { (S.disk store.old).tells → IsOpeningOf keys.now params.now.keys (S.disk store.old).cells result }
     ensures params { IfOk result (λ opening. opening.params ≡ params.now) }
+    ensures sealer { IfOk result (λ opening. IsFresh keys.now opening.sealer) }
     ensures durable { (S.disk store.old).tells → OnOk result (Settled (S.disk store.new)) }
     ensures gates { (S.disk store.old).tells → IfOk result (λ opening. GatesAre opening.gates.epoch 5 (S.disk store.old).cells) }
     ensures tell { (S.disk store.old).tells → IfOk result (λ opening. GatesAre opening.gates.epoch 5 (S.disk store.new).cells) }
     // Where the store stood for an epoch, the opening has that epoch and its map,
-    ensures opened { (at : Standing) → (S.disk store.old).tells → StandsFlat params.now (S.disk store.old).cells at → IfOk result (λ opening. IsOpenedAt params.now at opening (S.disk store.new)) }
+    ensures opened { (at : Standing) → (S.disk store.old).tells → Stands keys.now params.now (S.disk store.old).cells at → IfOk result (λ opening. IsOpenedAt keys.now params.now at opening (S.disk store.new)) }
     // and a crash at any moment leaves what the store, or one of its images, stood for.
-    ensures crash { (at : Standing) → (S.disk store.old).tells → StandsFlat params.now (S.disk store.old).cells at → AllStand params.now (S.disk store.old)
-        → LeavesOnly (S.disk store.old) (S.disk store.new) (StandsAsBefore params.now (S.disk store.old)) }
+    ensures crash { (at : Standing) → (S.disk store.old).tells → Stands keys.now params.now (S.disk store.old).cells at → AllStand keys.now params.now (S.disk store.old)
+        → LeavesOnly (S.disk store.old) (S.disk store.new) (StandsAsBefore keys.now params.now (S.disk store.old)) }
     ensures order { IfOk result (λ opening. OpensIn params.now.keys (S.disk store.old) (S.disk store.new) (W.trace watch.old) (W.trace watch.new) opening) }
-    ensures order_err { OnErr result (OpensFirst params.now.keys (S.disk store.old) (S.disk store.new) (W.trace watch.old) (W.trace watch.new)) }
+    ensures order_err { OnErr result (OpensFirst keys.now params.now.keys (S.disk store.old) (S.disk store.new) (W.trace watch.old) (W.trace watch.new)) }
     ensures memory { result ≡ Err fault.Memory → (store.new ≡ store.old) × Shows [] (W.trace watch.old) (W.trace watch.new) }
 {
     let values = match blank_values(alloc, params.keys) {
@@ -169,5 +175,5 @@ pub fn prepare<S: Store, W: Watch>(
         Ok(next) => next,
         Err(_) => return Err(Fault::Memory),
     };
-    open_into(store, params, values, next, watch)
+    open_into(store, &Sealer::new(keys, 0), params, values, next, watch)
 }

@@ -4,6 +4,7 @@ ghost use Rattle.ob_store.specs.Disk.{Image};
 ghost use Rattle.ob_store.specs.Images.{Same, Passes};
 ghost use Rattle.ob_store.specs.Calls.{Serves, IsStoreFault, Keeps, Notes, NotesFirst};
 ghost use Rattle.ob_store.specs.Lines.{Shows, ShowsFirst};
+ghost use Rattle.ob_seal.specs.declared.keys.Keys.{Keys};
 ghost use Rattle.ob_twin.specs.Register.{first_of};
 ghost use Rattle.ob_twin.specs.Opening.{known_of, with_known, GatesAre};
 ghost use Rattle.ob_twin.specs.Orders.{get_events, get_notes};
@@ -12,8 +13,9 @@ ghost use Rattle.ob_flat.specs.Orders.{registers_events, registers_notes};
 ghost use Rattle.ob_flat.specs.Registers.{IsRegister, IsBelow, AreRegisters, IsRegistersFault, KnowsGates};
 
 use ob_base::{Damaged, Fault};
+use ob_seal::Sealer;
 use ob_store::{Store, Watch};
-use ob_twin::{Gates, Twin, ZeroTag};
+use ob_twin::{Gates, Twin};
 
 // What is read of a register.
 #[derive(Drop)]
@@ -35,12 +37,13 @@ pub struct Numbers {
 fn read_register<S: Store, W: Watch>(
     twin: Twin,
     store: &mut S,
+    sealer: &Sealer,
     gates: &mut Gates,
     watch: &mut W,
 ) -> Result<Register, Fault>
     ensures serves { Serves IsStoreFault (S.disk store.old) (S.disk store.new) result }
     ensures faults { IfErr result (λ refused. refused ≡ fault.StoreFault None) }
-    ensures value { (S.disk store.old).tells → IfOk result (IsRegister (first_of twin) (S.disk store.old).cells) }
+    ensures value { (S.disk store.old).tells → IfOk result (IsRegister sealer.now.keys (first_of twin) (S.disk store.old).cells) }
     ensures below { IfOk result IsBelow }
     ensures gates { (S.disk store.old).tells → OnOk result (KnowsGates twin gates.old gates.new (S.disk store.old).cells) }
     ensures keeps { Keeps (S.disk store.old) (S.disk store.new) }
@@ -50,7 +53,7 @@ fn read_register<S: Store, W: Watch>(
     ensures shown { OnOk result (Shows (get_notes (first_of twin)) (W.trace watch.old) (W.trace watch.new)) }
     ensures shown_err { OnErr result (ShowsFirst (get_notes (first_of twin)) (W.trace watch.old) (W.trace watch.new)) }
 {
-    match twin.get(store, &ZeroTag, gates, watch) {
+    match twin.get(store, sealer, gates, watch) {
         Ok(None) => Ok(Register::Closed),
         Ok(Some(number)) => Ok(Register::Number(number)),
         Err(
@@ -72,7 +75,7 @@ fn read_register<S: Store, W: Watch>(
 
 // What both registers tell: first whether the store is one, then the damage in the order of cells.
 fn judge(generation: Register, epoch: Register) -> Result<Numbers, Fault>
-    ensures value { (image : Image) → IsRegister 1 image generation → IsRegister 5 image epoch → AreRegisters image result }
+    ensures value { (keys : Keys) (image : Image) → IsRegister keys 1 image generation → IsRegister keys 5 image epoch → AreRegisters keys image result }
     ensures faults { IfErr result IsRegistersFault }
     ensures own { IfErr result (λ refused. IsStoreFault refused → ⊥) }
     ensures below { IsBelow generation → IsBelow epoch → IfOk result (λ numbers. (numbers.generation < 2 ^ 62) × (numbers.epoch < 2 ^ 62)) }
@@ -93,12 +96,13 @@ fn judge(generation: Register, epoch: Register) -> Result<Numbers, Fault>
 // Reads all cells of both registers, and then tells of them.
 pub fn read_registers<S: Store, W: Watch>(
     store: &mut S,
+    sealer: &Sealer,
     gates: &mut Gates,
     watch: &mut W,
 ) -> Result<Numbers, Fault>
     ensures serves { Serves IsStoreFault (S.disk store.old) (S.disk store.new) result }
     ensures faults { IfErr result IsRegistersFault }
-    ensures value { (S.disk store.old).tells → AreRegisters (S.disk store.old).cells result }
+    ensures value { (S.disk store.old).tells → AreRegisters sealer.now.keys (S.disk store.old).cells result }
     ensures below { IfOk result (λ numbers. (numbers.generation < 2 ^ 62) × (numbers.epoch < 2 ^ 62)) }
     ensures generation { (S.disk store.old).tells → OnOk result (GatesAre gates.new.generation 1 (S.disk store.old).cells) }
     ensures epoch { (S.disk store.old).tells → OnOk result (GatesAre gates.new.epoch 5 (S.disk store.old).cells) }
@@ -107,11 +111,11 @@ pub fn read_registers<S: Store, W: Watch>(
     ensures seen { NotesReads registers_events (S.disk store.old).seen (S.disk store.new).seen result }
     ensures shown { ShowsReads registers_notes (W.trace watch.old) (W.trace watch.new) result }
 {
-    let generation = match read_register(Twin::GENERATION, store, gates, watch) {
+    let generation = match read_register(Twin::GENERATION, store, sealer, gates, watch) {
         Ok(generation) => generation,
         Err(fault) => return Err(fault),
     };
-    let epoch = match read_register(Twin::EPOCH, store, gates, watch) {
+    let epoch = match read_register(Twin::EPOCH, store, sealer, gates, watch) {
         Ok(epoch) => epoch,
         Err(fault) => return Err(fault),
     };

@@ -5,6 +5,7 @@ ghost use Rattle.ob_mem.specs.Memory.{disk_of_store};
 use crate::{FlatVault, cells, format, head, prepare};
 use ob_base::{Check, Fault, Key, Params, Value, Write};
 use ob_mem::{Fail, MemSink, MemStore};
+use ob_seal::{Keys, Sealer};
 use ob_serial::{EndErr, Reply, Request, Vault, serve_all};
 use ob_store::{Blind, SinkWatch, Store, Watch};
 use std::alloc::Global;
@@ -22,6 +23,15 @@ fn small_params(rt: &impl Abort) -> Params {
             unreachable!()
         }
     }
+}
+
+// The keys of the bytes 0 to 95.
+fn test_keys() -> Keys {
+    let mut bytes = [0; 96];
+    for i in 0..96 {
+        bytes[i] = i as u8;
+    }
+    Keys::from_bytes(&bytes)
 }
 
 // Asks for a key, beside a pad.
@@ -68,8 +78,9 @@ fn open<'a, W: Watch>(
 ) -> FlatVault<'a, MemStore>
     requires { (disk_of_store store.old).out ≡ 0 }
 {
-    let params = head(store, watch).expect(rt, "a head");
-    let opening = prepare(alloc, store, &params, watch).expect(rt, "an opening");
+    let keys = test_keys();
+    let params = head(store, &keys, watch).expect(rt, "a head");
+    let opening = prepare(alloc, store, &keys, &params, watch).expect(rt, "an opening");
     FlatVault::over(store, opening)
 }
 
@@ -100,17 +111,74 @@ fn bytes_in(rt: &impl Abort, store: &mut MemStore, cell: u64) -> [u8; 128] {
     bytes
 }
 
-// A cell that begins so, with zeros behind.
-fn cell_of(front: &[u8]) -> [u8; 128]
-    requires { length front.now ≤ 128 }
+// The 112 plain bytes of a stamped cell that begin so, with zeros behind.
+fn plain_of(front: &[u8]) -> [u8; 112]
+    requires { length front.now ≤ 112 }
 {
-    let mut cell = [0; 128];
-    cell[..front.len()].copy_from_slice(front);
-    cell
+    let mut plain = [0; 112];
+    plain[..front.len()].copy_from_slice(front);
+    plain
+}
+
+// Stamps what begins so for a cell.
+fn stamped(cell: u64, front: &[u8]) -> [u8; 128]
+    requires { length front.now ≤ 112 }
+{
+    Sealer::new(&test_keys(), 1).stamp(cell, &plain_of(front))
 }
 
 const HEAD: &[u8; 48] =
-    b"OBLADIST\x65\0\0\0\x08\0\0\0\x02\0\0\0\x02\0\0\0\x03\0\0\0\x02\0\0\0\x02\0\0\0\x02\0\0\0\x02\0\0\0\x08\0\0\0";
+    b"OBLADIST\x66\0\0\0\x08\0\0\0\x02\0\0\0\x02\0\0\0\x03\0\0\0\x02\0\0\0\x02\0\0\0\x02\0\0\0\x02\0\0\0\x08\0\0\0";
+
+// Of each cell that has a tag, after a format: its first two words, and its tag, high byte first.
+const FORMATTED: [(u64, u64, u64, u128); 11] = [
+    (
+        0,
+        0x54534944414c424f,
+        0x800000066,
+        0x9d90193ba8a794728a54437386a91823,
+    ),
+    (3, 0x1, 0x0, 0x834a770452230e13583e5a804d7c8af2),
+    (5, 0x0, 0x0, 0xd9a64cdd7375301f15adeae0989cb213),
+    (9, 0x1, 0x0, 0x883e2364ecbf9668601de03b1c1d7db7),
+    (10, 0x1, 0x1, 0x425a58538d75228f0a953e4bc9a52acd),
+    (11, 0x1, 0x2, 0xa2dfe02931c8a4980ea581766a4c45a2),
+    (12, 0x1, 0x3, 0xb3be9f34f38d2b5ecbc61650bf8bdd3e),
+    (13, 0x1, 0x4, 0x8d661a4b0da52ecc400cbc93913296f5),
+    (14, 0x1, 0x5, 0x27c0f5084e273959dc560b4571f6a224),
+    (15, 0x1, 0x6, 0xe1e60f6ae00585a8de96d40d6a41ed8f),
+    (16, 0x1, 0x7, 0x5fcec384a6deb2a65c00873ec4c0a9bf),
+];
+
+// The same after two epochs.
+const TWO_EPOCHS_LATER: [(u64, u64, u64, u128); 21] = [
+    (
+        0,
+        0x54534944414c424f,
+        0x800000066,
+        0x9d90193ba8a794728a54437386a91823,
+    ),
+    (1, 0x2, 0x0, 0x76ce7298d05722600f13c3d92471c78e),
+    (3, 0x1, 0x0, 0x834a770452230e13583e5a804d7c8af2),
+    (5, 0x2, 0x0, 0x2442c181681c10cecc530435953ba1f5),
+    (7, 0x1, 0x0, 0x5a09ae2099f78f24b8a2e6a69b91bbec),
+    (9, 0x2, 0x8, 0x2df0df1f340ebe7d1a4a8dc37b6431fa),
+    (10, 0x2, 0x9, 0xdeaac083bc74bc73be8c69ee53a76a15),
+    (11, 0x2, 0xa, 0xa983ff9329d16fee4019b3d5900110db),
+    (12, 0x2, 0xb, 0xa4f2e88b2cee812be7c365c01ee261da),
+    (13, 0x2, 0xc, 0xa2bc0867e645cdcbe13b768df1c84a88),
+    (14, 0x2, 0xd, 0xb46866c1b86a85dd35806d28e22ccc53),
+    (15, 0x2, 0xe, 0x2501d70af319cec7ac0ee51c41068d9a),
+    (16, 0x2, 0xf, 0xa1328fb83d7eaf71ef2c99e480640179),
+    (17, 0x2, 0x0, 0x021ee5fb419417b9413d5be4d81ddb8e),
+    (18, 0x2, 0x1, 0xf5c2b0a5fc3e9daab0fdf12fa4ec7fa2),
+    (19, 0x2, 0x2, 0x6278909b6987ecd8fe101b2829bff14b),
+    (20, 0x2, 0x3, 0x835efe0b5b047f9460f2a626f01897d5),
+    (21, 0x2, 0x4, 0x872294ddfebc7f0253a0e740d38ff82d),
+    (22, 0x2, 0x5, 0x7b92a5d284855364c392ff56d03fbbfd),
+    (23, 0x2, 0x6, 0x43fb47832423f687ac08efec0d016f15),
+    (24, 0x2, 0x7, 0xb10593c9d4d5491aaffabe4ffd781a87),
+];
 
 const FORMAT: &[u8] = b"\
     W 0\nS\nW 2\nW 4\nW 6\nW 8\nS\nW 4\nS\nW 3\nS\nW 4\nS\nW 9\nW 10\nW 11\nW 12\nW 13\n\
@@ -122,25 +190,40 @@ const TWO_EPOCHS: &[u8] = b"\
     W 7\nS\nW 8\nS\nW 9\nW 10\nW 11\nW 12\nW 13\nW 14\nW 15\nW 16\nS\nW 6\nS\nW 5\nS\n\
     W 6\nS\n";
 
+// Whether a cell's first two words and its tag are these.
+fn has_tag(bytes: &[u8; 128], first: u64, second: u64, tag: u128) -> bool {
+    bytes[..8] == first.to_le_bytes()[..]
+        && bytes[8..16] == second.to_le_bytes()[..]
+        && bytes[112..] == tag.to_be_bytes()[..]
+}
+
+// Looks at cells with a tag, and at those that should be open gates.
+fn look(rt: &impl Abort, store: &mut MemStore, cells: &[(u64, u64, u64, u128)], gates: &[u64]) {
+    for (cell, first, second, tag) in cells {
+        let bytes = bytes_in(rt, store, *cell);
+        assert!(rt; has_tag(&bytes, *first, *second, *tag), "cell {cell}");
+    }
+    for gate in gates {
+        assert_eq!(rt; bytes_in(rt, store, *gate), OPEN, "cell {gate}");
+    }
+}
+
 #[test]
 fn a_format_makes_its_cells_in_order(rt: HostRuntime) -> Result<(), Broken> {
     let alloc = rt.alloc();
     let params = small_params(&rt);
+    let keys = test_keys();
     assert_eq!(rt; cells(&params), 25);
     let mut store = MemStore::new(alloc, 25, Vec::new(alloc))?;
     let mut sink = MemSink::new(alloc, 200, Vec::new(alloc))?;
-    assert!(rt; format(&mut store, &params, &mut SinkWatch::new(&mut sink)).is_ok());
+    let mut watch = SinkWatch::new(&mut sink);
+    assert!(rt; format(&mut store, &keys, &params, &mut watch).is_ok());
     assert_eq!(rt; sink.written(), FORMAT);
-    for cell in 0..25 {
-        let want = match cell {
-            0 => cell_of(HEAD),
-            3 => cell_of(&[1]),
-            4 | 6 => OPEN,
-            _ => [0; 128],
-        };
-        assert_eq!(rt; bytes_in(&rt, &mut store, cell), want, "cell {cell}");
+    look(&rt, &mut store, &FORMATTED, &[4, 6]);
+    for cell in [1, 2, 7, 8, 17, 24] {
+        assert_eq!(rt; bytes_in(&rt, &mut store, cell), [0; 128], "cell {cell}");
     }
-    assert!(rt; head(&mut store, &mut Blind) == Ok(params));
+    assert!(rt; head(&mut store, &keys, &mut Blind) == Ok(params));
     Ok(())
 }
 
@@ -149,63 +232,83 @@ fn two_epochs_make_their_cells_in_order(rt: HostRuntime) -> Result<(), Broken> {
     let alloc = rt.alloc();
     let mut store = MemStore::new(alloc, 25, Vec::new(alloc))?;
     let mut sink = MemSink::new(alloc, 400, Vec::new(alloc))?;
-    assert!(rt; format(&mut store, &small_params(&rt), &mut Blind).is_ok());
+    assert!(rt; format(&mut store, &test_keys(), &small_params(&rt), &mut Blind).is_ok());
     two_epochs(&rt, alloc, &mut store, &mut SinkWatch::new(&mut sink));
     assert_eq!(rt; sink.written(), TWO_EPOCHS);
-    let row = cell_of(b"\0\0\0\0\0\0\0\0\0\0\0\0\0\0\0\0\x01\x02hi");
-    for cell in 0..25 {
-        let want = match cell {
-            0 => cell_of(HEAD),
-            1 | 5 => cell_of(&[2]),
-            3 | 7 => cell_of(&[1]),
-            2 | 4 | 6 | 8 => OPEN,
-            14 | 22 => row,
-            _ => [0; 128],
-        };
-        assert_eq!(rt; bytes_in(&rt, &mut store, cell), want, "cell {cell}");
-    }
+    look(&rt, &mut store, &TWO_EPOCHS_LATER, &[2, 4, 6, 8]);
     Ok(())
 }
 
-// What key 5 has after a crash in which the cells that aren't sure hold these bytes.
+// The greatest generation under which a cell of these rows is sealed.
+fn last_generation(rt: &impl Abort, store: &mut MemStore) -> u64 {
+    let sealer = Sealer::new(&test_keys(), 0);
+    let mut last = 0;
+    for cell in 9..25 {
+        let bytes = bytes_in(rt, store, cell);
+        if let Ok(opened) = sealer.unseal(cell, None, &bytes) {
+            last = opened.generation.max(last);
+        }
+    }
+    last
+}
+
+// What a crash leaves where the cells that aren't sure hold these bytes, or what they got last.
+fn left_after(
+    rt: &impl Abort,
+    store: &MemStore,
+    moment: usize,
+    filling: Option<[u8; 128]>,
+) -> MemStore
+    ensures { (disk_of_store result).out ≡ 0 }
+{
+    let left = match filling {
+        None => store.crash(moment, &[]),
+        Some(bytes) => {
+            let mut fillings = [(0, bytes); 25];
+            for i in 0..25 {
+                fillings[i] = (i as u64, bytes);
+            }
+            store.crash(moment, &fillings)
+        }
+    };
+    left.expect(rt, "memory")
+}
+
+// The epoch and the value of key 5 after a crash, and whether the next generation is above all that
+// sealed a row.
 fn kept_after(
     rt: &impl Abort,
     alloc: Global,
     store: &MemStore,
     moment: usize,
     filling: Option<[u8; 128]>,
-) -> (u64, Option<Value>) {
-    let left = match filling {
-        None => store.crash(moment, &[]),
-        Some(bytes) => store.crash(
-            moment,
-            &[(2, bytes), (4, bytes), (7, bytes), (8, bytes), (22, bytes)],
-        ),
-    };
-    let mut left = left.expect(rt, "memory");
+) -> (u64, Option<Value>, bool) {
+    let sealed = last_generation(rt, &mut left_after(rt, store, moment, filling));
+    let mut left = left_after(rt, store, moment, filling);
     let mut vault = open(rt, alloc, &mut left, &mut Blind);
     let value = ask(rt, &mut vault, 5, &mut Blind);
-    (vault.epoch(), value)
+    (vault.epoch(), value, sealed < vault.generation())
 }
 
 #[test]
 fn a_crash_leaves_the_old_epoch_or_the_new(rt: HostRuntime) -> Result<(), Broken> {
     let alloc = rt.alloc();
     let mut store = MemStore::new(alloc, 25, Vec::new(alloc))?;
-    assert!(rt; format(&mut store, &small_params(&rt), &mut Blind).is_ok());
+    assert!(rt; format(&mut store, &test_keys(), &small_params(&rt), &mut Blind).is_ok());
     two_epochs(&rt, alloc, &mut store, &mut Blind);
-    // The format has 30 writes and syncs, the opening 5, the first end 13. The last write and sync of
-    // an end decide.
-    for moment in 30..49 {
-        for (filling, decides) in [(None, 47), (Some([0; 128]), 48), (Some(OPEN), 47)] {
-            let want = if moment < decides {
-                (0, None)
-            } else {
-                (1, Value::new(b"hi"))
-            };
+    // The format has 30 writes and syncs, the opening 5, the first end 13, the second 15. The last
+    // write and sync of an end decide.
+    for moment in 30..64 {
+        for (filling, first, second) in [
+            (None, 47, 62),
+            (Some([0; 128]), 48, 63),
+            (Some(OPEN), 47, 62),
+        ] {
+            let epoch = (moment >= first) as u64 + (moment >= second) as u64;
+            let value = if epoch == 0 { None } else { Value::new(b"hi") };
             assert_eq!(rt;
                 kept_after(&rt, alloc, &store, moment, filling),
-                want,
+                (epoch, value, true),
                 "at {moment}"
             );
         }
@@ -217,7 +320,7 @@ fn a_crash_leaves_the_old_epoch_or_the_new(rt: HostRuntime) -> Result<(), Broken
 fn first_end(rt: &impl Abort, alloc: Global, mut store: MemStore) -> Result<(), EndErr>
     requires { (disk_of_store store).out ≡ 0 }
 {
-    assert!(rt; format(&mut store, &small_params(rt), &mut Blind).is_ok());
+    assert!(rt; format(&mut store, &test_keys(), &small_params(rt), &mut Blind).is_ok());
     let mut vault = open(rt, alloc, &mut store, &mut Blind);
     assert_eq!(rt; ask(rt, &mut vault, 0, &mut Blind), None);
     assert_eq!(rt; ask(rt, &mut vault, 0, &mut Blind), None);
@@ -253,13 +356,14 @@ fn a_failing_call_of_an_end_is_told(rt: HostRuntime) -> Result<(), Broken> {
 fn refused_with(rt: &impl Abort, alloc: Global, cell: u64, bytes: &[u8; 128]) -> Fault {
     let mut store = MemStore::new(alloc, 25, Vec::new(alloc)).expect(rt, "memory");
     let params = small_params(rt);
-    assert!(rt; format(&mut store, &params, &mut Blind).is_ok());
+    let keys = test_keys();
+    assert!(rt; format(&mut store, &keys, &params, &mut Blind).is_ok());
     assert!(rt; store.write(cell, bytes).is_ok());
-    match head(&mut store, &mut Blind) {
+    match head(&mut store, &keys, &mut Blind) {
         Err(fault) => return fault,
         Ok(_) => {}
     }
-    match prepare(alloc, &mut store, &params, &mut Blind) {
+    match prepare(alloc, &mut store, &keys, &params, &mut Blind) {
         Err(fault) => fault,
         Ok(_) => {
             assert!(rt; false, "the store was opened");
@@ -268,62 +372,147 @@ fn refused_with(rt: &impl Abort, alloc: Global, cell: u64, bytes: &[u8; 128]) ->
     }
 }
 
-fn damaged(cell: u64, check: Check, kept: u8, computed: u8) -> Fault {
-    let mut kept_bytes = [0; 16];
-    let mut computed_bytes = [0; 16];
-    kept_bytes[0] = kept;
-    computed_bytes[0] = computed;
+// A damaged cell, with what is kept and what was computed, high byte first.
+fn damaged(cell: u64, check: Check, kept: u128, computed: u128) -> Fault {
     Fault::Damaged {
         cell,
         check,
-        kept: kept_bytes,
-        computed: computed_bytes,
+        kept: kept.to_be_bytes(),
+        computed: computed.to_be_bytes(),
     }
+}
+
+// A number as it is told of a damaged cell, high byte first.
+fn told(number: u64) -> u128 {
+    u128::from(u64::from_be_bytes(number.to_le_bytes())) << 64
+}
+
+// An identity as it is told of a damaged cell, high byte first.
+fn identity(generation: u64, number: u64) -> u128 {
+    told(generation) | (told(number) >> 64)
+}
+
+#[test]
+fn a_damaged_tag_is_told(rt: HostRuntime) -> Result<(), Broken> {
+    let alloc = rt.alloc();
+    // Of a formatted store's cells the lowest bit of a byte is changed: the tag that is kept, and the
+    // one that was computed.
+    let table = [
+        (
+            0,
+            112,
+            0x9c90193ba8a794728a54437386a91823,
+            0x9d90193ba8a794728a54437386a91823,
+        ),
+        (
+            3,
+            112,
+            0x824a770452230e13583e5a804d7c8af2,
+            0x834a770452230e13583e5a804d7c8af2,
+        ),
+        (
+            5,
+            127,
+            0xd9a64cdd7375301f15adeae0989cb212,
+            0xd9a64cdd7375301f15adeae0989cb213,
+        ),
+        (
+            9,
+            112,
+            0x893e2364ecbf9668601de03b1c1d7db7,
+            0x883e2364ecbf9668601de03b1c1d7db7,
+        ),
+        (
+            16,
+            20,
+            0x5fcec384a6deb2a65c00873ec4c0a9bf,
+            0xc6d7238dbb239e2c0487f75b191deb26,
+        ),
+    ];
+    for (cell, place, kept, computed) in table {
+        let mut store = MemStore::new(alloc, 25, Vec::new(alloc))?;
+        assert!(rt; format(&mut store, &test_keys(), &small_params(&rt), &mut Blind).is_ok());
+        let mut bytes = bytes_in(&rt, &mut store, cell);
+        let place: usize = place;
+        assert!(rt; place < 128);
+        bytes[place] ^= 1;
+        assert_eq!(rt;
+            refused_with(&rt, alloc, cell, &bytes),
+            damaged(cell, Check::Tag, kept, computed),
+            "cell {cell}"
+        );
+    }
+    Ok(())
+}
+
+// A row's cell of these plain bytes, under a seal of this generation and number.
+fn sealed(rt: &impl Abort, cell: u64, generation: u64, number: u64, plain: &[u8; 96]) -> [u8; 128] {
+    let mut sealer = Sealer::new(&test_keys(), generation);
+    for _ in 0..number {
+        assert!(rt; sealer.seal(0, plain).is_ok());
+    }
+    sealer.seal(cell, plain).expect(rt, "a seal")
 }
 
 #[test]
 fn damage_is_named(rt: HostRuntime) -> Result<(), Broken> {
     let alloc = rt.alloc();
-    let mut version = cell_of(HEAD);
-    version[8] = 102;
-    let mut head_tag = cell_of(HEAD);
-    head_tag[112] = 7;
-    let mut real = cell_of(HEAD);
+    let mut version = *HEAD;
+    version[8] = 101;
+    let mut real = *HEAD;
     real[20] = 17;
-    let mut keys = cell_of(HEAD);
+    let mut keys = *HEAD;
     keys[12] = 9;
-    let mut row_tag = [0; 128];
-    row_tag[112] = 7;
-    let mut present = [0; 128];
-    present[16] = 2;
-    present[17] = 65;
-    let mut long = [0; 128];
-    long[17] = 65;
-    let mut number = [0; 128];
-    number[7] = 0x40;
-    let mut great = [0; 16];
-    great[7] = 0x40;
+    let mut present = [0; 96];
+    present[0] = 2;
+    present[1] = 65;
+    let mut long = [0; 96];
+    long[1] = 65;
+    let great = [0, 0, 0, 0, 0, 0, 0, 0x40];
     let table = [
-        (0, version, Fault::NotStore),
-        (0, head_tag, damaged(0, Check::Tag, 7, 0)),
-        (0, real, damaged(0, Check::Form, 17, 1)),
-        (0, keys, damaged(0, Check::Form, 9, 1)),
+        (0, stamped(0, &version), Fault::NotStore),
+        (
+            0,
+            stamped(0, &real),
+            damaged(0, Check::Form, told(17), told(1)),
+        ),
+        (
+            0,
+            stamped(0, &keys),
+            damaged(0, Check::Form, told(9), told(1)),
+        ),
         (4, [0; 128], Fault::NotStore),
         (6, [1; 128], Fault::NotStore),
-        (3, row_tag, damaged(3, Check::Tag, 7, 0)),
         (
             5,
-            number,
-            Fault::Damaged {
-                cell: 5,
-                check: Check::Form,
-                kept: great,
-                computed: [0; 16],
-            },
+            stamped(5, &great),
+            damaged(5, Check::Form, told(1 << 62), told(0)),
         ),
-        (9, row_tag, damaged(9, Check::Tag, 7, 0)),
-        (12, present, damaged(12, Check::Form, 2, 0)),
-        (16, long, damaged(16, Check::Form, 65, 0)),
+        (
+            9,
+            sealed(&rt, 9, 7, 2, &[0; 96]),
+            damaged(10, Check::Seal, identity(1, 1), identity(7, 3)),
+        ),
+        (
+            12,
+            sealed(&rt, 12, 1, 4, &[0; 96]),
+            damaged(12, Check::Seal, identity(1, 4), identity(1, 3)),
+        ),
+        (
+            12,
+            sealed(&rt, 12, 2, 3, &present),
+            damaged(12, Check::Seal, identity(2, 3), identity(1, 3)),
+        ),
+        (
+            12,
+            sealed(&rt, 12, 1, 3, &present),
+            damaged(12, Check::Form, told(2), told(0)),
+        ),
+        (
+            16,
+            sealed(&rt, 16, 1, 7, &long),
+            damaged(16, Check::Form, told(65), told(0)),
+        ),
     ];
     for (cell, bytes, want) in table {
         assert_eq!(rt; refused_with(&rt, alloc, cell, &bytes), want, "cell {cell}");
@@ -331,20 +520,19 @@ fn damage_is_named(rt: HostRuntime) -> Result<(), Broken> {
     Ok(())
 }
 
-// The body of the number `2^62 - 1`.
-fn last_number() -> [u8; 128] {
-    cell_of(&[0xFF, 0xFF, 0xFF, 0xFF, 0xFF, 0xFF, 0xFF, 0x3F])
-}
+// The number `2^62 - 1`.
+const LAST: [u8; 8] = [0xFF, 0xFF, 0xFF, 0xFF, 0xFF, 0xFF, 0xFF, 0x3F];
 
 #[test]
 fn the_last_numbers_are_worn(rt: HostRuntime) -> Result<(), Broken> {
     let alloc = rt.alloc();
     let worn = Fault::Worn { number: 1 << 62 };
-    assert_eq!(rt; refused_with(&rt, alloc, 3, &last_number()), worn);
+    assert_eq!(rt; refused_with(&rt, alloc, 3, &stamped(3, &LAST)), worn);
     let mut store = MemStore::new(alloc, 25, Vec::new(alloc))?;
-    assert!(rt; format(&mut store, &small_params(&rt), &mut Blind).is_ok());
-    assert!(rt; store.write(7, &last_number()).is_ok());
-    assert!(rt; store.write(8, &OPEN).is_ok());
+    assert!(rt; format(&mut store, &test_keys(), &small_params(&rt), &mut Blind).is_ok());
+    two_epochs(&rt, alloc, &mut store, &mut Blind);
+    let mut store = store.crash(1000, &[])?;
+    assert!(rt; store.write(7, &stamped(7, &LAST)).is_ok());
     let mut vault = open(&rt, alloc, &mut store, &mut Blind);
     assert_eq!(rt; ask(&rt, &mut vault, 0, &mut Blind), None);
     assert_eq!(rt; ask(&rt, &mut vault, 0, &mut Blind), None);
@@ -357,7 +545,7 @@ fn the_last_numbers_are_worn(rt: HostRuntime) -> Result<(), Broken> {
 fn a_list_of_calls_is_served(rt: HostRuntime) -> Result<(), Broken> {
     let alloc = rt.alloc();
     let mut store = MemStore::new(alloc, 25, Vec::new(alloc))?;
-    assert!(rt; format(&mut store, &small_params(&rt), &mut Blind).is_ok());
+    assert!(rt; format(&mut store, &test_keys(), &small_params(&rt), &mut Blind).is_ok());
     let mut vault = open(&rt, alloc, &mut store, &mut Blind);
     assert!(rt; vault.params().places == 2);
     assert!(rt; vault.params().keys == 8);

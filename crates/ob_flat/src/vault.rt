@@ -41,6 +41,7 @@ impl<'a, S: Store> FlatVault<'a, S> {
         ensures name { result.held.store.ghost_name ≡ store.entry.ghost_name }
         ensures store { result.held.store.now ≡ store.entry.now }
         ensures params { result.params ≡ opening.params }
+        ensures sealer { result.held.sealer ≡ opening.sealer }
         ensures epoch { result.held.epoch ≡ opening.epoch }
         ensures gates { result.held.gates ≡ opening.gates }
         ensures values { result.values.items ≡ opening.values.items }
@@ -51,13 +52,13 @@ impl<'a, S: Store> FlatVault<'a, S> {
         ensures holds { (at : Standing) → opening.epoch ≡ at.epoch → IsMapOf opening.values.items at.content
             → FlatHolds result.params (record { epoch = result.held.epoch; left = result.left; spent = result.held.spent }) result.values.items (opened_at opening.params at) }
         // and where the store stands for that, it is sound.
-        ensures sound { (at : Standing) → (S.disk store.entry.now).tells → Settled (S.disk store.entry.now) → IsOpenedAt opening.params at opening (S.disk store.entry.now)
-            → FlatSound result.params (record { epoch = result.held.epoch; left = result.left; spent = result.held.spent }) result.values.items (S.disk result.held.store.now) (opened_at opening.params at) }
+        ensures sound { (at : Standing) → (S.disk store.entry.now).tells → Settled (S.disk store.entry.now) → IsOpenedAt opening.sealer.keys opening.params at opening (S.disk store.entry.now)
+            → FlatSound result.held.sealer.keys result.params result.held.sealer.generation (record { epoch = result.held.epoch; left = result.left; spent = result.held.spent }) result.values.items (S.disk result.held.store.now) (opened_at opening.params at) }
     {
         let Opening {
             params,
             gates,
-            generation: _,
+            sealer,
             epoch,
             values,
             next,
@@ -66,6 +67,7 @@ impl<'a, S: Store> FlatVault<'a, S> {
             held: Held {
                 store,
                 gates,
+                sealer,
                 epoch,
                 spent: false,
             },
@@ -84,6 +86,14 @@ impl<'a, S: Store> FlatVault<'a, S> {
         let FlatVault { held, .. } = self;
         let Held { store, .. } = held;
         store
+    }
+
+    /// The generation that its epochs are sealed with.
+    pub fn generation(&self) -> u64
+        ensures { result ≡ self.now.held.sealer.generation }
+    {
+        let (generation, _) = self.held.sealer.next();
+        generation
     }
 
     /// The parameters of its store.
@@ -105,13 +115,13 @@ impl<'a, S: Store> Vault for FlatVault<'a, S> {
 
     ghost holds = { λ v s. FlatHolds v.params (record { epoch = v.held.epoch; left = v.left; spent = v.held.spent }) v.values.items s };
 
-    ghost sound = { λ v s. FlatSound v.params (record { epoch = v.held.epoch; left = v.left; spent = v.held.spent }) v.values.items (S.disk v.held.store.now) s };
+    ghost sound = { λ v s. FlatSound v.held.sealer.keys v.params v.held.sealer.generation (record { epoch = v.held.epoch; left = v.left; spent = v.held.spent }) v.values.items (S.disk v.held.store.now) s };
 
-    ghost stands = { λ v image at. StandsFlat v.params image at };
+    ghost stands = { λ v image at. StandsFlat v.held.sealer.keys v.params v.held.sealer.generation image at };
 
     ghost disk = { λ v. lent v.held.store.ghost_name (S.disk v.held.store.now) };
 
-    ghost called = { λ v call answer notes new. FlatCalled v.params v.held.gates.epoch v.held.epoch new.values.items v.held.store.now new.held.store.now (S.disk v.held.store.now) (S.disk new.held.store.now) notes call answer new.params new.held.gates.epoch new.held.epoch };
+    ghost called = { λ v call answer notes new. FlatCalled v.params v.held.gates.epoch v.held.epoch new.values.items (record { store = v.held.store.now; sealing = v.held.sealer }) (record { store = new.held.store.now; sealing = new.held.sealer }) (S.disk v.held.store.now) (S.disk new.held.store.now) notes call answer new.params new.held.gates.epoch new.held.epoch };
 
     fn epoch(&self) -> u64 {
         self.held.epoch

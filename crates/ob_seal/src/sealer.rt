@@ -79,6 +79,13 @@ impl Sealer {
         }
     }
 
+    /// The keys.
+    pub fn keys(&self) -> Keys
+        ensures { result ≡ self.now.keys }
+    {
+        self.keys
+    }
+
     /// The generation, and the number of the next seal, at most `2^62`.
     pub fn next(&self) -> (u64, u64)
         ensures identity { result ≡ (self.now.generation, self.now.next) }

@@ -1,3 +1,4 @@
 pub mod Moves
 pub mod Judging
 pub mod Gating
+pub mod Tags

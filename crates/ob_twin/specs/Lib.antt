@@ -5,3 +5,4 @@ pub mod Opening
 pub mod Orders
 pub mod Refused
 pub mod Got
+pub mod Keyed

@@ -4,6 +4,7 @@
 mod bytes;
 mod gates;
 mod getting;
+mod keyed;
 mod known;
 mod set_err;
 mod setting;

@@ -1,6 +1,6 @@
 ghost use Rattle.std.specs.Prelude.{◌≡◌, ◌≢◌, ◌<◌, ◌+◌, ◌%◌, ◌^◌, ◌≤◌, ◌++◌, ℕ, [], OnOk, OnErr, IfErr, IsTrue, if◌then◌else◌};
 ghost use Rattle.ob_store.specs.Disk.{Image};
-ghost use Rattle.ob_store.specs.Images.{Settled, SameBut, LeavesOnly};
+ghost use Rattle.ob_store.specs.Images.{Settled, SameBut, LeavesOnly, Passes};
 ghost use Rattle.ob_store.specs.Calls.{Serves, IsFailed, Notes, NotesFirst};
 ghost use Rattle.ob_store.specs.Lines.{Shows, ShowsFirst};
 ghost use Rattle.ob_twin.specs.Bodies.{open_gate};
@@ -29,6 +29,7 @@ fn close<S: Store, W: Watch>(
     ensures rest { (S.disk store.old).tells → SameBut gate (S.disk store.new).cells (S.disk store.old).cells }
     ensures durable { (S.disk store.old).tells → Settled (S.disk store.old) → OnOk result (Settled (S.disk store.new)) }
     ensures any_moment { Settled (S.disk store.old) → LeavesOnly (S.disk store.old) (S.disk store.new) (λ c. IsTornOnly closes gate c (S.disk store.old).cells) }
+    ensures passes { Passes (SameBut gate) (S.disk store.old) (S.disk store.new) }
     ensures seen { OnOk result (Notes (if closes then through_events gate else []) (S.disk store.old).seen (S.disk store.new).seen) }
     ensures seen_err { OnErr result (NotesFirst (if closes then through_events gate else []) (S.disk store.old).seen (S.disk store.new).seen) }
     ensures shown { OnOk result (Shows (if closes then through_notes gate else []) (W.trace watch.old) (W.trace watch.new)) }
@@ -56,6 +57,7 @@ fn prepare<S: Store, T: Stamper, W: Watch>(
     ensures serves { Serves IsFailed (S.disk store.old) (S.disk store.new) result }
     ensures done { (S.disk store.old).tells → OnOk result (IsPrepared (T.tag stamper.now) first (S.disk store.old).cells n (S.disk store.new).cells) }
     ensures rest { (S.disk store.old).tells → SameTwo (body_at first (place_of n)) (gate_at first (place_of n)) (S.disk store.new).cells (S.disk store.old).cells }
+    ensures passes { Passes (SameOutside first) (S.disk store.old) (S.disk store.new) }
     ensures durable { (S.disk store.old).tells → OnOk result (Settled (S.disk store.new)) }
     ensures any_moment { (m : ℕ) → n ≡ m + 1 → (S.disk store.old).tells → (IsTrue closes → IsOpen first (S.disk store.old).cells (place_of n)) → Settled (S.disk store.old) → StandsAt (T.tag stamper.now) first (S.disk store.old).cells m
         → LeavesOnly (S.disk store.old) (S.disk store.new) (KeepsAt (T.tag stamper.now) first (S.disk store.old).cells m) }
@@ -87,6 +89,7 @@ fn put<S: Store, T: Stamper, W: Watch>(
         → OnOk result (KeepsAt (T.tag stamper.now) (first_of twin) (S.disk store.old).cells n (S.disk store.new).cells) }
     ensures opened { (S.disk store.old).tells → OnOk result (IsOpen (first_of twin) (S.disk store.new).cells (place_of n)) }
     ensures rest { (S.disk store.old).tells → SameTwo (body_at (first_of twin) (place_of n)) (gate_at (first_of twin) (place_of n)) (S.disk store.new).cells (S.disk store.old).cells }
+    ensures passes { Passes (SameOutside (first_of twin)) (S.disk store.old) (S.disk store.new) }
     ensures durable { (S.disk store.old).tells → OnOk result (Settled (S.disk store.new)) }
     ensures any_moment { (m : ℕ) → n ≡ m + 1 → (S.disk store.old).tells → (IsTrue closes → IsOpen (first_of twin) (S.disk store.old).cells (place_of n)) → Settled (S.disk store.old) → StandsAt (T.tag stamper.now) (first_of twin) (S.disk store.old).cells m
         → LeavesOnly (S.disk store.old) (S.disk store.new) (OldOrNew (T.tag stamper.now) (first_of twin) (S.disk store.old).cells m n) }
@@ -147,6 +150,8 @@ impl Twin {
             → OnOk result (KeepsAt (T.tag stamper.now) (first_of self) (S.disk store.old).cells n (S.disk store.new).cells) }
         // No other cell changes.
         ensures rest { (S.disk store.old).tells → SameOutside (first_of self) (S.disk store.new).cells (S.disk store.old).cells }
+        // A crash at any moment leaves no other cell changed.
+        ensures passes { Passes (SameOutside (first_of self)) (S.disk store.old) (S.disk store.new) }
         ensures durable { (S.disk store.old).tells → OnOk result (Settled (S.disk store.new)) }
         ensures reads_new { (S.disk store.old).tells → IsUnder (T.tag stamper.now) (first_of self) (S.disk store.old).cells (place_of (n + 1)) n
             → OnOk result ((c : Image) → (S.disk store.new).may_leave c → KeepsAt (T.tag stamper.now) (first_of self) (S.disk store.old).cells n c) }
@@ -170,14 +175,11 @@ impl Twin {
     {
         let known = known_of(self, gates);
         let place = n % 2;
-        put(
-            self,
-            store,
-            stamper,
-            is_closed_first(known, place),
-            n,
-            watch,
-        )?;
+        let closes = is_closed_first(known, place);
+        match put(self, store, stamper, closes, n, watch) {
+            Ok(()) => {}
+            Err(refused) => return Err(refused),
+        }
         set_known(self, gates, with_mark(known, place));
         Ok(())
     }

@@ -1,51 +1,59 @@
-use Rattle.std.proofs.Common.{◌≡◌, ◌+◌, length, map, inl, subst, arith}
-use Rattle.ob_store.specs.Images.{SameOff, Passes}
+use Rattle.std.proofs.Common.{◌≡◌, ◌+◌, length, inl, sym, subst, arith}
+use Rattle.ob_store.specs.Images.{SameOff, Passes, LeavesOnly}
 use Rattle.ob_store.specs.Calls.{Holds, Notes}
 use Rattle.ob_store.specs.Lines.{Shows}
 use Rattle.ob_store.proofs.Moments.{weakened}
 use Rattle.ob_store.proofs.Events.{joined_first}
 use Rattle.ob_store.proofs.Showing.{shows_then, shows_first}
 use Rattle.ob_store.proofs.Serving.{if_ok, on_ok, on_err}
-use Rattle.ob_twin.specs.Register.{place_of}
+use Rattle.ob_seal.specs.declared.keys.Keys.{Keys}
+use Rattle.ob_rows.specs.Rows.{row_cells}
+use Rattle.ob_twin.specs.Keyed.{tagging}
+use Rattle.ob_twin.specs.Register.{place_of, StandsAt, KeepsAt, OldOrNew}
 use Rattle.ob_twin.specs.Opening.{is_closed_first}
 use Rattle.ob_twin.specs.Orders.{set_events, set_notes}
 use Rattle.ob_twin.proofs.Moves.{under_next}
 use Rattle.ob_flat.specs.Places.{area_of}
-use Rattle.ob_flat.specs.Heads.{zero_tag}
-use Rattle.ob_flat.specs.Rows.{row_cell}
 use Rattle.ob_flat.specs.Standing.{StandsFlat}
 use Rattle.ob_flat.specs.Orders.{rows_events, rows_notes}
 use Rattle.ob_flat.specs.Ends.{StandsAtOne}
-use Rattle.ob_flat.proofs.Spelling.{rows_are}
-use Rattle.ob_flat.proofs.Moved.{rows_kept}
+use Rattle.ob_flat.proofs.Moved.{rows_kept, rows_written}
 use Rattle.ob_flat.proofs.Areas.{rows_leave, rows_stay, stands_next, ends_at_one, ends_before}
 use Rattle.ob_flat.proofs.ends.write_epoch.Goals as goal
 
 pub returns-in-Err-clause-old_or_new : goal.returns-in-Err-clause-old_or_new
-returns-in-Err-clause-old_or_new g c = λ p now next from.
+returns-in-Err-clause-old_or_new g c = λ p n now next from.
+    let keys = c.args.sealer.now.keys in
     let old = g.S.Store.disk c.args.store.now in
     let new = g.S.Store.disk c.fill.new.store in
-    weakened old new (λ i. StandsFlat p i now) (StandsAtOne p now next) (λ i stands. inl stands)
-    (rows_leave p old c.args.epoch c.args.values.now now next from new (g.met.S.Store.only_now c.args.store.now)
+    weakened old new (λ i. StandsFlat keys p n i now) (StandsAtOne keys p n now next) (λ i stands. inl stands)
+    (rows_leave keys p n old c.args.epoch c.args.values.now now next from new (g.met.S.Store.only_now c.args.store.now)
     (subst (λ b. Passes (SameOff b (length c.args.values.now)) old new) c.area_of-base.ensures.area c.fill.ensures.passes))
 
 pub returns-in-Err-clause-before : goal.returns-in-Err-clause-before
-returns-in-Err-clause-before g c = λ p now next from is_before.
+returns-in-Err-clause-before g c = λ p n now next from is_before.
+    let keys = c.args.sealer.now.keys in
     let old = g.S.Store.disk c.args.store.now in
     let new = g.S.Store.disk c.fill.new.store in
-    rows_leave p old c.args.epoch c.args.values.now now next from new (g.met.S.Store.only_now c.args.store.now)
+    rows_leave keys p n old c.args.epoch c.args.values.now now next from new (g.met.S.Store.only_now c.args.store.now)
     (subst (λ b. Passes (SameOff b (length c.args.values.now)) old new) c.area_of-base.ensures.area c.fill.ensures.passes)
 
 pub returns-clause-written : goal.returns-clause-written
 returns-clause-written g c = λ tells.
+    let before = c.args.sealer.now in
     let mid = g.S.Store.disk c.fill.new.store in
     let new = g.S.Store.disk c.set.new.store in
-    let rows = map (λ value. row_cell value) c.args.values.now in
+    let n = length c.args.values.now in
     let e = c.in-Ok.ensures in
-    if_ok _ c.set.result (rows_kept (length c.args.values.now) c.args.epoch rows new.cells mid.cells (c.set.ensures.rest (e.serves.tells tells)) (subst (λ b. Holds b rows mid.cells) c.area_of-base.ensures.area (e.written tells)))
+    let base = area_of n c.args.epoch in
+    let rows = row_cells before.keys base before.generation before.next c.args.values.now in
+    if_ok _ c.set.result (rows_kept n c.args.epoch rows new.cells mid.cells (c.set.ensures.rest (e.serves.tells tells))
+    (subst (λ b. Holds b (row_cells before.keys b before.generation before.next c.args.values.now) mid.cells) c.area_of-base.ensures.area (e.written tells)))
 
 pub returns-clause-done : goal.returns-clause-done
-returns-clause-done g c = λ p now next from.
+returns-clause-done g c = λ p k now next from.
+    let before = c.args.sealer.now in
+    let keys = before.keys in
     let old = g.S.Store.disk c.args.store.now in
     let mid = g.S.Store.disk c.fill.new.store in
     let new = g.S.Store.disk c.set.new.store in
@@ -53,15 +61,20 @@ returns-clause-done g c = λ p now next from.
     let e = c.in-Ok.ensures in
     let follows = from.follows in
     let one : c.args.epoch ≡ now.epoch + 1 = omega arith in
+    let same_keys : c.fill.new.sealer.keys ≡ keys = c.fill.ensures.some_sealed.keys in
     let same = subst (λ b. SameOff b n mid.cells old.cells) c.area_of-base.ensures.area (e.rest from.tells) in
-    let rows = rows_are (area_of n c.args.epoch) mid.cells c.args.values.now e.short (subst (λ b. Holds b (map (λ value. row_cell value) c.args.values.now) mid.cells) c.area_of-base.ensures.area (e.written from.tells)) in
-    let stands_mid = rows_stay p old c.args.epoch c.args.values.now now next from mid.cells old.cells same from.stands in
+    let rows = rows_written before (area_of n c.args.epoch) mid.cells c.args.values.now c.requires.generation c.requires.room e.short
+    (subst (λ b. Holds b (row_cells keys b before.generation before.next c.args.values.now) mid.cells) c.area_of-base.ensures.area (e.written from.tells)) in
+    let stands_mid = rows_stay keys p k old c.args.epoch c.args.values.now now next from mid.cells old.cells same from.stands in
     on_ok _ _ c.set.result
-    (λ kept. stands_next p old c.args.epoch c.args.values.now now next from new.cells mid.cells rows stands_mid kept)
-    (c.set.ensures.done (e.serves.tells from.tells) (under_next zero_tag 5 now.epoch c.args.epoch mid.cells one stands_mid.epoch))
+    (λ kept. stands_next keys p k old c.args.epoch c.args.values.now now next from new.cells mid.cells rows stands_mid (subst (λ (s : Keys). KeepsAt (tagging s) 5 mid.cells c.args.epoch new.cells) same_keys kept))
+    (c.set.ensures.done (e.serves.tells from.tells) (under_next (tagging c.fill.new.sealer.keys) 5 now.epoch c.args.epoch mid.cells one
+    (subst (λ (s : Keys). StandsAt (tagging s) 5 mid.cells now.epoch) (sym same_keys) stands_mid.epoch)))
 
 pub returns-clause-old_or_new : goal.returns-clause-old_or_new
-returns-clause-old_or_new g c = λ p now next from.
+returns-clause-old_or_new g c = λ p k now next from.
+    let before = c.args.sealer.now in
+    let keys = before.keys in
     let old = g.S.Store.disk c.args.store.now in
     let mid = g.S.Store.disk c.fill.new.store in
     let new = g.S.Store.disk c.set.new.store in
@@ -69,15 +82,19 @@ returns-clause-old_or_new g c = λ p now next from.
     let e = c.in-Ok.ensures in
     let follows = from.follows in
     let one : c.args.epoch ≡ now.epoch + 1 = omega arith in
+    let same_keys : c.fill.new.sealer.keys ≡ keys = c.fill.ensures.some_sealed.keys in
     let same = subst (λ b. SameOff b n mid.cells old.cells) c.area_of-base.ensures.area (e.rest from.tells) in
-    let rows = rows_are (area_of n c.args.epoch) mid.cells c.args.values.now e.short (subst (λ b. Holds b (map (λ value. row_cell value) c.args.values.now) mid.cells) c.area_of-base.ensures.area (e.written from.tells)) in
-    let stands_mid = rows_stay p old c.args.epoch c.args.values.now now next from mid.cells old.cells same from.stands in
-    ends_at_one p old c.args.epoch c.args.values.now now next from mid new (g.met.S.Store.only_now c.args.store.now)
+    let rows = rows_written before (area_of n c.args.epoch) mid.cells c.args.values.now c.requires.generation c.requires.room e.short
+    (subst (λ b. Holds b (row_cells keys b before.generation before.next c.args.values.now) mid.cells) c.area_of-base.ensures.area (e.written from.tells)) in
+    let stands_mid = rows_stay keys p k old c.args.epoch c.args.values.now now next from mid.cells old.cells same from.stands in
+    ends_at_one keys p k old c.args.epoch c.args.values.now now next from mid new (g.met.S.Store.only_now c.args.store.now)
     (subst (λ b. Passes (SameOff b n) old mid) c.area_of-base.ensures.area e.passes) same rows
-    (c.set.ensures.old_or_new now.epoch one (e.serves.tells from.tells) (e.durable from.tells) stands_mid.epoch)
+    (subst (λ (s : Keys). LeavesOnly mid new (OldOrNew (tagging s) 5 mid.cells now.epoch c.args.epoch)) same_keys
+    (c.set.ensures.old_or_new now.epoch one (e.serves.tells from.tells) (e.durable from.tells) (subst (λ (s : Keys). StandsAt (tagging s) 5 mid.cells now.epoch) (sym same_keys) stands_mid.epoch)))
 
 pub returns-clause-before : goal.returns-clause-before
-returns-clause-before g c = λ p now next from is_before.
+returns-clause-before g c = λ p k now next from is_before.
+    let keys = c.args.sealer.now.keys in
     let old = g.S.Store.disk c.args.store.now in
     let mid = g.S.Store.disk c.fill.new.store in
     let new = g.S.Store.disk c.set.new.store in
@@ -85,11 +102,13 @@ returns-clause-before g c = λ p now next from is_before.
     let e = c.in-Ok.ensures in
     let follows = from.follows in
     let one : c.args.epoch ≡ now.epoch + 1 = omega arith in
+    let same_keys : c.fill.new.sealer.keys ≡ keys = c.fill.ensures.some_sealed.keys in
     let same = subst (λ b. SameOff b n mid.cells old.cells) c.area_of-base.ensures.area (e.rest from.tells) in
-    let stands_mid = rows_stay p old c.args.epoch c.args.values.now now next from mid.cells old.cells same from.stands in
-    ends_before p old c.args.epoch c.args.values.now now next from mid new (g.met.S.Store.only_now c.args.store.now)
+    let stands_mid = rows_stay keys p k old c.args.epoch c.args.values.now now next from mid.cells old.cells same from.stands in
+    ends_before keys p k old c.args.epoch c.args.values.now now next from mid new (g.met.S.Store.only_now c.args.store.now)
     (subst (λ b. Passes (SameOff b n) old mid) c.area_of-base.ensures.area e.passes) same
-    (c.set.ensures.before_reads_old now.epoch one (e.serves.tells from.tells) (e.durable from.tells) stands_mid.epoch is_before)
+    (subst (λ (s : Keys). LeavesOnly mid new (KeepsAt (tagging s) 5 mid.cells now.epoch)) same_keys
+    (c.set.ensures.before_reads_old now.epoch one (e.serves.tells from.tells) (e.durable from.tells) (subst (λ (s : Keys). StandsAt (tagging s) 5 mid.cells now.epoch) (sym same_keys) stands_mid.epoch) is_before))
 
 pub returns-clause-seen_err : goal.returns-clause-seen_err
 returns-clause-seen_err g c =

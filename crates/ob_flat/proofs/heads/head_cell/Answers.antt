@@ -1,4 +1,4 @@
-use Rattle.std.proofs.Common.{ℕ, List, ◌++◌, ◌∙◌, ap, replicate}
+use Rattle.std.proofs.Common.{ℕ, List, ◌++◌, ◌∙◌, ap}
 use Rattle.std.specs.List.{flat_map}
 use Rattle.std.specs.Int.{w32, to_le_bytes}
 use Rattle.ob_base.specs.LittleEndian.{with_part}
@@ -7,4 +7,6 @@ use Rattle.ob_flat.proofs.heads.head_cell.Goals as goal
 
 pub returns : goal.returns
 unfolding mark head_plain
-returns c = c.stamp.ensures ∙ ap (λ (l : List ℕ). l ++ replicate 16 0) (c.put_numbers.ensures ∙ ap (λ (l : List ℕ). with_part l 12 (flat_map (λ n. to_le_bytes w32 n) (numbers_of c.args.params.now))) c.put.ensures)
+returns g c =
+    c.stamp.ensures
+    ∙ ap (λ (l : List ℕ). l ++ g.T.Stamper.tag c.args.stamper.now 0 l) (c.put_numbers.ensures ∙ ap (λ (l : List ℕ). with_part l 12 (flat_map (λ n. to_le_bytes w32 n) (numbers_of c.args.params.now))) c.put.ensures)

@@ -9,38 +9,41 @@ use Rattle.ob_twin.specs.Register.{place_of}
 use Rattle.ob_twin.specs.Opening.{is_closed_first}
 use Rattle.ob_twin.specs.Orders.{set_events, set_notes}
 use Rattle.ob_twin.proofs.Moves.{under_next}
-use Rattle.ob_flat.specs.Heads.{zero_tag}
-use Rattle.ob_flat.proofs.Moved.{stands_same, register_moved, generation_set}
+use Rattle.ob_twin.specs.Keyed.{tagging}
+use Rattle.ob_flat.specs.Standing.{StandsFlat}
+use Rattle.ob_flat.proofs.Moved.{stands_same, generation_set}
 use Rattle.ob_flat.proofs.Opens.{none_before, still_before, set_before}
 use Rattle.ob_flat.proofs.preparing.begin.Goals as goal
 
 pub returns-then-next-clause-crash : goal.returns-then-next-clause-crash
-returns-then-next-clause-crash g c = λ p at tells number stands all. none_before p (g.S.Store.disk c.args.store.now) all (g.met.S.Store.only_now c.args.store.now)
+returns-then-next-clause-crash g c = λ p at tells stands all. none_before c.args.sealer.now.keys p (g.S.Store.disk c.args.store.now) all (g.met.S.Store.only_now c.args.store.now)
 
 pub returns-in-Err-clause-crash : goal.returns-in-Err-clause-crash
-returns-in-Err-clause-crash g c = λ p at tells number stands all.
+returns-in-Err-clause-crash g c = λ p at tells stands all.
     let e = c.sync_noted.ensures in
-    still_before p (g.S.Store.disk c.args.store.now) (g.S.Store.disk c.sync_noted.new.store) all (g.met.S.Store.only_now c.args.store.now) e.serves.goes.later e.time e.crash
+    still_before c.args.sealer.now.keys p (g.S.Store.disk c.args.store.now) (g.S.Store.disk c.sync_noted.new.store) all (g.met.S.Store.only_now c.args.store.now) e.serves.goes.later e.time e.crash
 
 pub returns-in-Ok-set-clause-stands : goal.returns-in-Ok-set-clause-stands
-returns-in-Ok-set-clause-stands g c = λ p at tells number stands.
+returns-in-Ok-set-clause-stands g c = λ p at tells stands.
+    let keys = c.args.sealer.now.keys in
     let old = g.S.Store.disk c.args.store.now in
     let mid = g.S.Store.disk c.sync_noted.new.store in
     let new = g.S.Store.disk c.set.new.store in
     let keeps = c.sync_noted.ensures.keeps in
-    let number_mid = register_moved zero_tag 1 c.args.generation mid.cells old.cells (λ k from to. keeps.cells tells k) number in
-    let stands_mid = stands_same p at mid.cells old.cells (keeps.cells tells) stands in
-    generation_set p at (c.args.generation + 1) new.cells mid.cells (c.in-Ok-set.ensures.done (keeps.tells tells) (under_next zero_tag 1 c.args.generation (c.args.generation + 1) mid.cells refl number_mid)) stands_mid
+    let stands_mid = stands_same keys p c.args.generation at mid.cells old.cells (keeps.cells tells) stands in
+    subst (λ n. StandsFlat keys p n new.cells at) (add-one c.args.generation)
+    (generation_set keys p at c.args.generation (c.args.generation + 1) new.cells mid.cells (c.in-Ok-set.ensures.done (keeps.tells tells) (under_next (tagging keys) 1 c.args.generation (c.args.generation + 1) mid.cells refl stands_mid.begun)) stands_mid)
 
 pub returns-in-Ok-set-clause-crash : goal.returns-in-Ok-set-clause-crash
-returns-in-Ok-set-clause-crash g c = λ p at tells number stands all.
+returns-in-Ok-set-clause-crash g c = λ p at tells stands all.
+    let keys = c.args.sealer.now.keys in
     let old = g.S.Store.disk c.args.store.now in
     let mid = g.S.Store.disk c.sync_noted.new.store in
     let e = c.sync_noted.ensures in
-    let number_mid = register_moved zero_tag 1 c.args.generation mid.cells old.cells (λ k from to. e.keeps.cells tells k) number in
-    set_before p old mid (g.S.Store.disk c.set.new.store) at c.args.generation (c.args.generation + 1)
-    (still_before p old mid all (g.met.S.Store.only_now c.args.store.now) e.serves.goes.later e.time e.crash) stands (stands_same p at mid.cells old.cells (e.keeps.cells tells) stands)
-    (c.set.ensures.old_or_new c.args.generation refl (e.keeps.tells tells) (c.in-Ok.ensures.durable tells) number_mid)
+    let stands_mid = stands_same keys p c.args.generation at mid.cells old.cells (e.keeps.cells tells) stands in
+    set_before keys p old mid (g.S.Store.disk c.set.new.store) at c.args.generation
+    (still_before keys p old mid all (g.met.S.Store.only_now c.args.store.now) e.serves.goes.later e.time e.crash) stands stands_mid
+    (c.set.ensures.old_or_new c.args.generation refl (e.keeps.tells tells) (c.in-Ok.ensures.durable tells) stands_mid.begun)
 
 pub returns-in-Ok-set-clause-shown : goal.returns-in-Ok-set-clause-shown
 returns-in-Ok-set-clause-shown g c =
@@ -52,24 +55,26 @@ returns-in-Ok-set-clause-shown g c =
     (subst (λ m. Shows (set_notes (is_closed_first known (place_of m)) 1 m) b d) (add-one c.args.generation) c.in-Ok-set.ensures.shown)
 
 pub returns-in-Err-Before-clause-crash : goal.returns-in-Err-Before-clause-crash
-returns-in-Err-Before-clause-crash g c = λ p at tells number stands all.
+returns-in-Err-Before-clause-crash g c = λ p at tells stands all.
+    let keys = c.args.sealer.now.keys in
     let old = g.S.Store.disk c.args.store.now in
     let mid = g.S.Store.disk c.sync_noted.new.store in
     let e = c.sync_noted.ensures in
-    let number_mid = register_moved zero_tag 1 c.args.generation mid.cells old.cells (λ k from to. e.keeps.cells tells k) number in
-    set_before p old mid (g.S.Store.disk c.set.new.store) at c.args.generation (c.args.generation + 1)
-    (still_before p old mid all (g.met.S.Store.only_now c.args.store.now) e.serves.goes.later e.time e.crash) stands (stands_same p at mid.cells old.cells (e.keeps.cells tells) stands)
-    (c.set.ensures.old_or_new c.args.generation refl (e.keeps.tells tells) (c.in-Ok.ensures.durable tells) number_mid)
+    let stands_mid = stands_same keys p c.args.generation at mid.cells old.cells (e.keeps.cells tells) stands in
+    set_before keys p old mid (g.S.Store.disk c.set.new.store) at c.args.generation
+    (still_before keys p old mid all (g.met.S.Store.only_now c.args.store.now) e.serves.goes.later e.time e.crash) stands stands_mid
+    (c.set.ensures.old_or_new c.args.generation refl (e.keeps.tells tells) (c.in-Ok.ensures.durable tells) stands_mid.begun)
 
 pub returns-in-Err-Unsure-clause-crash : goal.returns-in-Err-Unsure-clause-crash
-returns-in-Err-Unsure-clause-crash g c = λ p at tells number stands all.
+returns-in-Err-Unsure-clause-crash g c = λ p at tells stands all.
+    let keys = c.args.sealer.now.keys in
     let old = g.S.Store.disk c.args.store.now in
     let mid = g.S.Store.disk c.sync_noted.new.store in
     let e = c.sync_noted.ensures in
-    let number_mid = register_moved zero_tag 1 c.args.generation mid.cells old.cells (λ k from to. e.keeps.cells tells k) number in
-    set_before p old mid (g.S.Store.disk c.set.new.store) at c.args.generation (c.args.generation + 1)
-    (still_before p old mid all (g.met.S.Store.only_now c.args.store.now) e.serves.goes.later e.time e.crash) stands (stands_same p at mid.cells old.cells (e.keeps.cells tells) stands)
-    (c.set.ensures.old_or_new c.args.generation refl (e.keeps.tells tells) (c.in-Ok.ensures.durable tells) number_mid)
+    let stands_mid = stands_same keys p c.args.generation at mid.cells old.cells (e.keeps.cells tells) stands in
+    set_before keys p old mid (g.S.Store.disk c.set.new.store) at c.args.generation
+    (still_before keys p old mid all (g.met.S.Store.only_now c.args.store.now) e.serves.goes.later e.time e.crash) stands stands_mid
+    (c.set.ensures.old_or_new c.args.generation refl (e.keeps.tells tells) (c.in-Ok.ensures.durable tells) stands_mid.begun)
 
 pub returns-in-Err-Before-clause-seen_err : goal.returns-in-Err-Before-clause-seen_err
 returns-in-Err-Before-clause-seen_err g c =

@@ -24,7 +24,7 @@ returns-clause-value g c = λ tells.
     let old = g.S.Store.disk c.args.store.now in
     let mid = g.S.Store.disk c.read_register.new.store in
     let keeps = c.in-Ok.ensures.keeps in
-    c.judge.ensures.value old.cells (c.in-Ok.ensures.value tells) (register_alike 5 mid.cells old.cells c.in-Ok-read_register.epoch (keeps.cells tells) (c.in-Ok-read_register.ensures.value (keeps.tells tells)))
+    c.judge.ensures.value c.args.sealer.now.keys old.cells (c.in-Ok.ensures.value tells) (register_alike c.args.sealer.now.keys 5 mid.cells old.cells c.in-Ok-read_register.epoch (keeps.cells tells) (c.in-Ok-read_register.ensures.value (keeps.tells tells)))
 
 pub returns-clause-shown : goal.returns-clause-shown
 returns-clause-shown g c = shows_own registers_notes _ _ c.judge.result c.judge.ensures.own (shows_then (get_notes 1) (get_notes 5) _ _ _ c.in-Ok.ensures.shown c.in-Ok-read_register.ensures.shown)

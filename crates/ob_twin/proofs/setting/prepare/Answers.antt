@@ -4,7 +4,7 @@ use Rattle.ob_store.proofs.Events.{joined_first}
 use Rattle.ob_store.proofs.Showing.{shows_then, shows_first, shown_more}
 use Rattle.ob_twin.specs.Register.{body_at, gate_at}
 use Rattle.ob_twin.specs.Orders.{through_events, through_notes}
-use Rattle.ob_twin.proofs.Moves.{preparing, closing}
+use Rattle.ob_twin.proofs.Moves.{preparing, closing, passes_within, passes_both}
 use Rattle.ob_twin.proofs.setting.prepare.Goals as goal
 
 pub returns-in_err-close-clause-any_moment : goal.returns-in_err-close-clause-any_moment
@@ -35,3 +35,13 @@ returns-clause-shown_err g c =
     on_err _ _ c.write_through.result
     (λ p. shows_first (if c.args.closes then through_notes (gate_at c.args.first (c.args.n % 2)) else []) (through_notes (body_at c.args.first (c.args.n % 2))) _ _ _ c.in_ok-close.ensures.shown (1, omega arith, p))
     c.write_through.ensures.shown_err
+
+pub returns-in_err-close-clause-passes : goal.returns-in_err-close-clause-passes
+returns-in_err-close-clause-passes g c = passes_within c.args.first (gate_at c.args.first (c.args.n % 2)) _ _ (omega arith) (omega arith) c.close.ensures.passes
+
+pub returns-clause-passes : goal.returns-clause-passes
+returns-clause-passes g c =
+    let first = c.args.first in
+    let mid = g.S.Store.disk c.close.new.store in
+    passes_both first _ mid _ (passes_within first (gate_at first (c.args.n % 2)) _ mid (omega arith) (omega arith) c.close.ensures.passes)
+    (passes_within first (body_at first (c.args.n % 2)) mid _ (omega arith) (omega arith) c.write_through.ensures.passes)

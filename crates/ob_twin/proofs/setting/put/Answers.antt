@@ -1,12 +1,12 @@
 use Rattle.std.proofs.Common.{◌+◌, ◌%◌, subst, sym, arith, IsTrue}
 use Rattle.ob_store.proofs.Events.{joined_first}
 use Rattle.ob_store.proofs.Showing.{shows_then, shows_first, shown_more}
-use Rattle.ob_store.specs.Images.{LeavesOnly}
+use Rattle.ob_store.specs.Images.{LeavesOnly, Passes}
 use Rattle.ob_store.specs.Calls.{NotesFirst}
 use Rattle.ob_store.specs.Lines.{Shows, ShowsFirst}
-use Rattle.ob_twin.specs.Register.{gate_at, StandsAt, KeepsAt, IsUnder, IsOpen, OldOrNew}
+use Rattle.ob_twin.specs.Register.{gate_at, StandsAt, KeepsAt, IsUnder, IsOpen, OldOrNew, SameOutside}
 use Rattle.ob_twin.specs.Orders.{prepare_events, prepare_notes, set_events, set_notes, through_events, through_notes}
-use Rattle.ob_twin.proofs.Moves.{opening, opened_at}
+use Rattle.ob_twin.proofs.Moves.{opening, opened_at, passes_within, passes_both}
 use Rattle.ob_twin.proofs.setting.put.Goals as goal
 
 pub returns-in-Ok-write_through-clause-done : goal.returns-in-Ok-write_through-clause-done
@@ -63,3 +63,19 @@ pub returns-in-Err-write_through-clause-shown_err : goal.returns-in-Err-write_th
 returns-in-Err-write_through-clause-shown_err g c =
     subst (λ f. ShowsFirst (set_notes c.args.closes f c.args.n) (g.W.Watch.trace c.args.watch.now) (g.W.Watch.trace c.write_through.new.watch)) c.first-first.ensures
     (shows_first (prepare_notes c.args.closes c.first-first.result c.args.n) (through_notes (gate_at c.first-first.result (c.args.n % 2))) _ _ _ c.in-Ok.ensures.shown (1, omega arith, c.in-Err-write_through.ensures.shown_err))
+
+pub returns-in-Ok-write_through-clause-passes : goal.returns-in-Ok-write_through-clause-passes
+returns-in-Ok-write_through-clause-passes g c =
+    let old = g.S.Store.disk c.args.store.now in
+    let new = g.S.Store.disk c.write_through.new.store in
+    let first = c.first-first.result in
+    subst (λ f. Passes (SameOutside f) old new) c.first-first.ensures
+    (passes_both first old (g.S.Store.disk c.prepare.new.store) new c.prepare.ensures.passes (passes_within first (gate_at first (c.args.n % 2)) _ new (omega arith) (omega arith) c.write_through.ensures.passes))
+
+pub returns-in-Err-write_through-clause-passes : goal.returns-in-Err-write_through-clause-passes
+returns-in-Err-write_through-clause-passes g c =
+    let old = g.S.Store.disk c.args.store.now in
+    let new = g.S.Store.disk c.write_through.new.store in
+    let first = c.first-first.result in
+    subst (λ f. Passes (SameOutside f) old new) c.first-first.ensures
+    (passes_both first old (g.S.Store.disk c.prepare.new.store) new c.prepare.ensures.passes (passes_within first (gate_at first (c.args.n % 2)) _ new (omega arith) (omega arith) c.write_through.ensures.passes))
