@@ -2,3 +2,4 @@ pub mod Report
 pub mod Faults
 pub mod Pieces
 pub mod Printed
+pub mod Sizes

@@ -4,9 +4,11 @@
 mod fault;
 mod piece;
 mod report;
+mod size;
 
 pub use fault::{fault_status, fault_text};
 pub use report::text;
+pub use size::size_text;
 
 #[cfg(test)]
 mod tests;

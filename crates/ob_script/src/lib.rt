@@ -9,6 +9,7 @@ mod scripts;
 
 pub use line::{Ask, Line, ScriptTxn};
 pub use parsing::{LIMIT, parse};
+pub use reading::number_of;
 pub use scripts::Scripts;
 
 #[cfg(test)]

@@ -1,6 +1,7 @@
-ghost use Rattle.std.specs.Prelude.{◌≡◌, IfSome, Some, None, option_map};
+ghost use Rattle.std.specs.Prelude.{◌≡◌, ◌<◌, ◌^◌, ℕ, IfSome, Some, None, option_map};
 ghost use Rattle.std.specs.List.{list_all};
 ghost use Rattle.std.specs.Str.{all_ascii_digits};
+ghost use Rattle.std.specs.Fmt.{decimal};
 ghost use Rattle.ob_script.specs.declared.line.Line.{Line};
 ghost use Rattle.ob_script.specs.Script.{IsSpelled, IsInRange, is_blank, is_plain};
 ghost use Rattle.ob_script.specs.Reading.{cut, is_numeral, number_at, client_at, get_at, put_of, put_at, word_line, named_line, line_at};
@@ -168,4 +169,13 @@ pub fn line_of(keys: u32, text: &[u8]) -> Option<Line>
     ensures only { (line : Line) → IsInRange keys line → IsSpelled line text.now → result ≡ Some line }
 {
     line_read(keys, text)
+}
+
+/// The number below `2^32` whose canonical decimal these bytes are: digits, without a sign and
+/// without a zero in front of others.
+pub fn number_of(bytes: &[u8]) -> Option<u32>
+    ensures found { IfSome result (λ n. bytes.now ≡ decimal n) }
+    ensures only { (n : ℕ) → n < 2 ^ 32 → bytes.now ≡ decimal n → result ≡ Some n }
+{
+    number_at(bytes)
 }

@@ -1,12 +1,10 @@
-//! The top call: what the program does with its words, its input and its output.
+//! The top call: what the program does with its words, its store, its input and its output.
 #![tactic(auto)]
 
-mod plain;
-mod report;
-mod script;
+mod format;
+mod run;
 mod top;
+mod words;
 
-pub use top::{obladi, refuse};
-
-#[cfg(test)]
-mod tests;
+pub use top::{finish, obladi};
+pub use words::{StoreWanted, store_wanted};

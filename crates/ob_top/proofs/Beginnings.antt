@@ -1,0 +1,70 @@
+-- How the head's read and the opening join.
+use Rattle.std.proofs.Common.{◌≡◌, ◌≤◌, ℕ, suc, List, [], ◌∷◌, Option, Ok, Err, subst, sym, arith, inl, inr, rules}
+use Rattle.ob_base.specs.declared.params.Params.{Params}
+use Rattle.ob_seal.specs.declared.keys.Keys.{Keys}
+use Rattle.ob_base.specs.declared.fault.Fault.{Fault}
+use Rattle.ob_base.specs.Causes.{Rose}
+use Rattle.ob_report.specs.Printed.{Flow}
+use Rattle.ob_store.specs.declared.event.Event.TheVariants as event
+use Rattle.ob_store.specs.Disk.{Disk, Image}
+use Rattle.ob_store.specs.Calls.{Keeps, Notes, GoesOn, IsStoreFault}
+use Rattle.ob_store.specs.Lines.{Trace}
+use Rattle.ob_store.proofs.Events.{joined, joined_first}
+use Rattle.ob_twin.specs.Opening.{GatesAre}
+use Rattle.ob_script.specs.Script.{ScriptTxn}
+use Rattle.ob_twin.specs.declared.gates.Open.{Open}
+use Rattle.ob_flat.specs.declared.opening.Opening.{Opening}
+use Rattle.ob_flat.specs.Heads.{IsHead}
+use Rattle.ob_flat.specs.Registers.{Found}
+use Rattle.ob_flat.specs.Openings.{IsFoundIn, IsOpeningOf, IsOpenFault, OpensIn, OpensFirst}
+use Rattle.ob_flat.specs.Orders.{registers_events, open_events}
+use Rattle.ob_top.specs.Runs.{CameIn, EndsEarly, OpensPartly, IsOpened, begin_events}
+
+pub same_cells : (old mid : Disk) → Keeps old mid → old.tells → mid.cells ≡ old.cells
+same_cells old mid keeps tells = λ i k. keeps.cells tells k i
+
+pub rose_since : (a b c : ℕ) → a ≤ b → Rose b c → Rose a c
+rose_since a b c le rose = search rules
+
+module _ (keys : Keys) (old mid new : Disk) (before : Flow) (p : Params) (script : List ScriptTxn) (shown shown_new : Trace) where
+  -- the head was read, a script came in, and the store was opened
+  pub opened : (opening : Opening) → (old.tells → IsHead keys p (old.cells 0)) → Keeps old mid → Notes (event.Read 0 ∷ []) old.seen mid.seen → CameIn p.keys before script
+      → (mid.tells → IsFoundIn keys p.keys mid.cells opening) → (mid.tells → GatesAre opening.gates.epoch 5 mid.cells) → OpensIn p.keys mid new shown shown_new opening
+      → (known : Open) × IsOpened keys old before p script opening known × Notes (begin_events p.keys opening.epoch known opening.sealer.generation) old.seen new.seen
+  opened opening head keeps seen came found gates order = (
+    order.known,
+    record {
+      head = head;
+      came = came;
+      found = λ tells. subst (λ (i : Image). IsFoundIn keys p.keys i opening) (same_cells old mid keeps tells) (found (keeps.tells tells));
+      generation_gates = λ tells. subst (λ (i : Image). GatesAre order.known 1 i) (same_cells old mid keeps tells) (order.gates (keeps.tells tells));
+      epoch_gates = λ tells. subst (λ (i : Image). GatesAre opening.gates.epoch 5 i) (same_cells old mid keeps tells) (gates (keeps.tells tells));
+    },
+    joined (event.Read 0 ∷ []) (open_events p.keys opening.epoch order.known opening.sealer.generation) old.seen mid.seen new.seen seen order.seen,
+  )
+
+  partly : Keeps old mid → Notes (event.Read 0 ∷ []) old.seen mid.seen → OpensFirst keys p.keys mid new shown shown_new → OpensPartly keys old new p
+  partly keeps seen (inl reads) = inl (joined_first (event.Read 0 ∷ []) registers_events old.seen mid.seen new.seen seen reads.seen)
+  partly keeps seen (inr part) = inr (
+    part.known,
+    part.generation,
+    part.epoch,
+    λ tells. subst (λ (i : Image). GatesAre part.known 1 i) (same_cells old mid keeps tells) (part.gates (keeps.tells tells)),
+    λ tells. subst (λ (i : Image). Found keys i part.generation part.epoch) (same_cells old mid keeps tells) (part.found (keeps.tells tells)),
+    joined_first (event.Read 0 ∷ []) (open_events p.keys part.epoch part.known (suc part.generation)) old.seen mid.seen new.seen seen part.seen,
+  )
+
+  -- the opening was refused
+  pub unopened : (after : Flow) (fault : Fault) → (old.tells → IsHead keys p (old.cells 0)) → Keeps old mid → old.faults ≤ mid.faults → Notes (event.Read 0 ∷ []) old.seen mid.seen → CameIn p.keys before script
+      → IsOpenFault fault → (mid.tells → IsOpeningOf keys p.keys mid.cells (Err fault)) → (IsStoreFault fault → Rose mid.faults new.faults) → OpensFirst keys p.keys mid new shown shown_new
+      → EndsEarly keys old new before after fault
+  unopened after fault head keeps later seen came kind read cause order = inr (inr (record {
+    p = p;
+    head = head;
+    script = script;
+    came = came;
+    kind = kind;
+    read = λ tells. subst (λ (i : Image). IsOpeningOf keys p.keys i (Err fault)) (same_cells old mid keeps tells) (read (keeps.tells tells));
+    cause = λ is. rose_since old.faults mid.faults new.faults later (cause is);
+    seen = partly keeps seen order;
+  }))

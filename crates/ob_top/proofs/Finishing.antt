@@ -1,0 +1,163 @@
+-- How a run or a formatting ends, with its fault's line.
+use Rattle.std.proofs.Common.{◌≡◌, ◌≤◌, ◌+◌, ◌∙◌, ℕ, List, [], ◌∷◌, ◌++◌, length, take, Bool, true, false, Option, Some, None, refl, sym, ap, subst, inl, inr, arith, append_assoc, rules, ⊎_elim, length-append}
+use Rattle.std.proofs.lemmas.List.{append-nil, take_all, take-append-le}
+use Rattle.std.proofs.Math.Seq.{take-append-add}
+use Rattle.std.specs.Prelude.{decimal}
+use Rattle.ob_base.specs.declared.params.Params.{Params}
+use Rattle.ob_seal.specs.declared.keys.Keys.{Keys}
+use Rattle.ob_base.specs.declared.fault.Fault.{Fault}
+use Rattle.ob_base.specs.declared.fault.Fault.TheVariants.{Memory, Usage, BadScript, BadParams, NotStore, Damaged, StoreFault, StashFull, Worn, SourceFault, SinkFault}
+use Rattle.ob_base.specs.Causes.{Rose}
+use Rattle.ob_io.specs.Flows.{appended}
+use Rattle.ob_io.proofs.Pieces.{appended-again}
+use Rattle.ob_report.specs.Printed.{Flow, IsPrinted}
+use Rattle.ob_report.specs.Report.{report}
+use Rattle.ob_report.specs.Faults.{fault_line, status_of}
+use Rattle.ob_report.specs.Sizes.{size_line}
+use Rattle.ob_flat.specs.Places.{cells}
+use Rattle.ob_script.specs.Script.{ScriptTxn}
+use Rattle.ob_store.specs.Disk.{Disk}
+use Rattle.ob_serial.specs.Serial.{EpochRecord}
+use Rattle.ob_top.specs.Outside.{Outside, LineTold, IsFinished}
+use Rattle.ob_top.specs.Formats.{FormatEnds, FormatTold, FormatDone}
+use Rattle.ob_top.specs.Runs.{EndsEarly, HasCause, IsReported, Ran, Went, RunOn, RunDone}
+use Rattle.ob_top.proofs.Beginnings.{rose_since}
+
+-- a text behind one that is whole
+behind : (before mid after : Flow) (text more : List ℕ) → mid.bytes ≡ appended before.bytes text → before.faults ≤ mid.faults → IsPrinted mid after more → IsPrinted before after (text ++ more)
+behind before mid after text more bytes later p = record {
+  count = length text + p.count;
+  within = omega (arith, p.within, length-append text more);
+  written = p.written ∙ rw bytes (appended-again before.bytes text (take p.count more)) ∙ ap (λ (l : List ℕ). appended before.bytes l) (sym (take-append-add text more p.count));
+  whole = ⊎_elim (λ e. inl (ap (λ n. length text + n) e ∙ sym (length-append text more))) (λ r. inr (rose_since before.faults mid.faults after.faults later r)) p.whole;
+}
+
+whole : (before after : Flow) (text : List ℕ) → after.bytes ≡ appended before.bytes text → IsPrinted before after text
+whole before after text bytes = record { count = length text; within = omega arith; written = bytes ∙ ap (λ (l : List ℕ). appended before.bytes l) (sym (take_all (length text) text (omega arith))); whole = inl refl }
+
+-- a front of a text is a front of a longer one, where the output failed
+front : (before after : Flow) (text more : List ℕ) → IsPrinted before after text → Rose before.faults after.faults → IsPrinted before after (text ++ more)
+front before after text more p rose = record {
+  count = p.count;
+  within = omega (arith, p.within, length-append text more);
+  written = p.written ∙ ap (λ (l : List ℕ). appended before.bytes l) (sym (take-append-le p.count text more p.within));
+  whole = inr rose;
+}
+
+module _ (keys : Keys) (old new : Disk) (before mid after : Outside) (input : after.input ≡ mid.input) where
+  early_on : (fault : Fault) → EndsEarly keys old new before.input mid.input fault → EndsEarly keys old new before.input after.input fault
+  early_on fault early = subst (λ (f : Flow). EndsEarly keys old new before.input f fault) (sym input) early
+
+  ran_on : (records : List (EpochRecord ℕ)) (fault : Option Fault) (r : Ran keys old new before mid records fault) → HasCause r.p.keys r.opening.epoch (length records) old new before.output after.output r.rest fault → Ran keys old new before after records fault
+  ran_on records fault r cause = record {
+    p = r.p;
+    script = r.script;
+    opening = r.opening;
+    known = r.known;
+    opened = r.opened;
+    rest = r.rest;
+    is_served = r.is_served;
+    cause = cause;
+    more = r.more;
+    refused = r.refused;
+    seen = r.seen;
+  }
+
+  module _ (status : ℕ) where
+    done_whole : (r : RunOn keys old new before mid None) → IsFinished mid.output after.output None status → RunDone keys old new before after status
+    done_whole r f =
+        let bytes : after.output.bytes ≡ appended before.output.bytes (report decimal r.records) = ap (λ (o : Flow). o.bytes) f.line ∙ r.reported.bytes in
+        record {
+          fault = None;
+          status_is = f.status_is;
+          records = r.records;
+          output_is = whole before.output after.output (report decimal r.records ++ []) (bytes ∙ ap (λ (l : List ℕ). appended before.output.bytes l) (sym (append-nil (report decimal r.records))));
+          all_written = λ is. bytes;
+          went = ran_on r.records None r.went r.went.cause;
+        }
+
+    sink_rose : (records : List (EpochRecord ℕ)) → Went keys old new before mid records (Some SinkFault) → Rose before.output.faults mid.output.faults
+    sink_rose records (inl (none, inl head)) = absurd head.kind
+    sink_rose records (inl (none, inr (inl input))) = absurd input.refused
+    sink_rose records (inl (none, inr (inr opening))) = absurd opening.kind
+    sink_rose records (inr ran) = ran.cause
+
+    sink_went : (records : List (EpochRecord ℕ)) → after.output ≡ mid.output → Went keys old new before mid records (Some SinkFault) → Went keys old new before after records (Some SinkFault)
+    sink_went records same (inl (none, early)) = inl (none, early_on SinkFault early)
+    sink_went records same (inr ran) = inr (ran_on records (Some SinkFault) ran (subst (λ (f : Flow). Rose before.output.faults f.faults) (sym same) ran.cause))
+
+    done_sink : (r : RunOn keys old new before mid (Some SinkFault)) → IsFinished mid.output after.output (Some SinkFault) status → RunDone keys old new before after status
+    done_sink r f = record {
+      fault = Some SinkFault;
+      status_is = f.status_is;
+      records = r.records;
+      output_is = subst (λ (o : Flow). IsPrinted before.output o (report decimal r.records ++ fault_line (Some SinkFault))) (sym f.line)
+      (front before.output mid.output (report decimal r.records) (fault_line (Some SinkFault)) r.reported (sink_rose r.records r.went));
+      all_written = λ is. absurd (no_fault is);
+      went = sink_went r.records f.line r.went;
+    }
+      where
+        no_fault : Some SinkFault ≡ None → ⊥
+        no_fault is = cc is
+
+    -- any other fault, behind the whole report
+    done_other : (fault : Fault) (records : List (EpochRecord ℕ)) → mid.output.bytes ≡ appended before.output.bytes (report decimal records) → before.output.faults ≤ mid.output.faults
+        → IsPrinted mid.output after.output (fault_line (Some fault)) → status ≡ status_of (Some fault) → Went keys old new before after records (Some fault) → RunDone keys old new before after status
+    done_other fault records bytes later line status_is went = record {
+      fault = Some fault;
+      status_is = status_is;
+      records = records;
+      output_is = behind before.output mid.output after.output (report decimal records) (fault_line (Some fault)) bytes later line;
+      all_written = λ is. absurd (no_fault is);
+      went = went;
+    }
+      where
+        no_fault : Some fault ≡ None → ⊥
+        no_fault is = cc is
+
+    went_other : (fault : Fault) (records : List (EpochRecord ℕ)) → ((k epoch n : ℕ) (rest : List ScriptTxn) → HasCause k epoch n old new before.output mid.output rest (Some fault) → HasCause k epoch n old new before.output after.output rest (Some fault))
+        → Went keys old new before mid records (Some fault) → Went keys old new before after records (Some fault)
+    went_other fault records same (inl (none, early)) = inl (none, early_on fault early)
+    went_other fault records same (inr ran) = inr (ran_on records (Some fault) ran (same ran.p.keys ran.opening.epoch (length records) ran.rest ran.cause))
+
+    pub run_done : (fault : Option Fault) → RunOn keys old new before mid fault → IsFinished mid.output after.output fault status → RunDone keys old new before after status
+    run_done None r f = done_whole r f
+    run_done (Some SinkFault) r f = done_sink r f
+    run_done (Some Memory) r f = done_other Memory r.records r.reported.bytes r.reported.later f.line f.status_is (went_other Memory r.records (λ k epoch n rest cause. cause) r.went)
+    run_done (Some Usage) r f = done_other Usage r.records r.reported.bytes r.reported.later f.line f.status_is (went_other Usage r.records (λ k epoch n rest cause. cause) r.went)
+    run_done (Some (BadScript line)) r f = done_other (BadScript line) r.records r.reported.bytes r.reported.later f.line f.status_is (went_other (BadScript line) r.records (λ k epoch n rest cause. cause) r.went)
+    run_done (Some (BadParams field)) r f = done_other (BadParams field) r.records r.reported.bytes r.reported.later f.line f.status_is (went_other (BadParams field) r.records (λ k epoch n rest cause. cause) r.went)
+    run_done (Some NotStore) r f = done_other NotStore r.records r.reported.bytes r.reported.later f.line f.status_is (went_other NotStore r.records (λ k epoch n rest cause. cause) r.went)
+    run_done (Some (Damaged cell check kept computed)) r f = done_other (Damaged cell check kept computed) r.records r.reported.bytes r.reported.later f.line f.status_is (went_other (Damaged cell check kept computed) r.records (λ k epoch n rest cause. cause) r.went)
+    run_done (Some (StoreFault unsure)) r f = done_other (StoreFault unsure) r.records r.reported.bytes r.reported.later f.line f.status_is (went_other (StoreFault unsure) r.records (λ k epoch n rest cause. cause) r.went)
+    run_done (Some (StashFull rows)) r f = done_other (StashFull rows) r.records r.reported.bytes r.reported.later f.line f.status_is (went_other (StashFull rows) r.records (λ k epoch n rest cause. cause) r.went)
+    run_done (Some (Worn number)) r f = done_other (Worn number) r.records r.reported.bytes r.reported.later f.line f.status_is (went_other (Worn number) r.records (λ k epoch n rest cause. cause) r.went)
+    run_done (Some SourceFault) r f = done_other SourceFault r.records r.reported.bytes r.reported.later f.line f.status_is (went_other SourceFault r.records (λ k epoch n rest cause. cause) r.went)
+
+module _ (keys : Keys) (p : Params) (old new : Disk) (before mid after : Flow) where
+  format_told : (fault : Option Fault) → FormatEnds keys p old new before mid fault → LineTold mid after fault → FormatTold keys p old new before after fault
+  format_told None (formatted, bytes) line = (formatted, ap (λ (o : Flow). o.bytes) line ∙ bytes)
+  format_told (Some SinkFault) (formatted, rose, printed) line = (
+    formatted,
+    subst (λ (o : Flow). Rose before.faults o.faults) (sym line) rose,
+    subst (λ (o : Flow). IsPrinted before o (size_line (cells p))) (sym line) printed,
+  )
+  format_told (Some (StoreFault unsure)) (which, rose, seen, same) line = (which, rose, seen, subst (λ (o : Flow). IsPrinted o after (fault_line (Some (StoreFault None)))) same (subst (λ (u : Option ℕ). IsPrinted mid after (fault_line (Some (StoreFault u)))) which line))
+  format_told (Some Memory) ends line = absurd ends
+  format_told (Some Usage) ends line = absurd ends
+  format_told (Some (BadScript bad)) ends line = absurd ends
+  format_told (Some (BadParams field)) ends line = absurd ends
+  format_told (Some NotStore) ends line = absurd ends
+  format_told (Some (Damaged cell check kept computed)) ends line = absurd ends
+  format_told (Some (StashFull rows)) ends line = absurd ends
+  format_told (Some (Worn number)) ends line = absurd ends
+  format_told (Some SourceFault) ends line = absurd ends
+
+pub format_done : (keys : Keys) (p : Params) (old new : Disk) (before mid after : Outside) (status : ℕ) (fault : Option Fault) → FormatEnds keys p old new before.output mid.output fault → mid.input ≡ before.input → after.input ≡ mid.input
+    → IsFinished mid.output after.output fault status → FormatDone keys p old new before after status
+format_done keys p old new before mid after status fault ends first second f = record {
+  fault = fault;
+  status_is = f.status_is;
+  untouched = second ∙ first;
+  told = format_told keys p old new before.output mid.output after.output fault ends f.line;
+}

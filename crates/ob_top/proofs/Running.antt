@@ -1,0 +1,85 @@
+-- How what was begun and what was served join into a run.
+use Rattle.std.proofs.Common.{◌≡◌, ◌≤◌, ◌+◌, ℕ, suc, List, [], ◌∷◌, ◌++◌, length, Option, Some, None, refl, inl, inr, arith}
+use Rattle.ob_base.specs.declared.params.Params.{Params}
+use Rattle.ob_seal.specs.declared.keys.Keys.{Keys}
+use Rattle.ob_base.specs.declared.fault.Fault.{Fault}
+use Rattle.ob_base.specs.declared.fault.Fault.TheVariants.{Memory, Usage, BadScript, BadParams, NotStore, Damaged, StoreFault, StashFull, Worn, SourceFault, SinkFault}
+use Rattle.ob_io.specs.Flows.{appended}
+use Rattle.ob_io.proofs.Pieces.{appended-none}
+use Rattle.ob_report.specs.Printed.{Flow}
+use Rattle.ob_store.specs.Disk.{Disk}
+use Rattle.ob_store.specs.Calls.{Notes}
+use Rattle.ob_store.proofs.Events.{joined}
+use Rattle.ob_twin.specs.declared.gates.Open.{Open}
+use Rattle.ob_serial.specs.Serial.{EpochRecord}
+use Rattle.ob_script.specs.Script.{ScriptTxn}
+use Rattle.ob_flat.specs.declared.opening.Opening.{Opening}
+use Rattle.ob_top.specs.Outside.{Outside, outside}
+use Rattle.ob_top.specs.Runs.{EndsEarly, IsOpened, HasCause, IsReported, Serves, Ran, Went, RunOn, begin_events, ends_events}
+use Rattle.ob_top.proofs.Beginnings.{rose_since}
+
+-- an early end has printed nothing, which is the report of no records
+pub early_reported : (keys : Keys) (old new : Disk) (before after output : Flow) (fault : Fault) → EndsEarly keys old new before after fault → IsReported output output [] (Some fault)
+early_reported keys old new before after output SinkFault (inl head) = absurd head.kind
+early_reported keys old new before after output SinkFault (inr (inl input)) = absurd input.refused
+early_reported keys old new before after output SinkFault (inr (inr opening)) = absurd opening.kind
+early_reported keys old new before after output Memory early = record { bytes = appended-none output.bytes; later = omega arith }
+early_reported keys old new before after output Usage early = record { bytes = appended-none output.bytes; later = omega arith }
+early_reported keys old new before after output (BadScript line) early = record { bytes = appended-none output.bytes; later = omega arith }
+early_reported keys old new before after output (BadParams field) early = record { bytes = appended-none output.bytes; later = omega arith }
+early_reported keys old new before after output NotStore early = record { bytes = appended-none output.bytes; later = omega arith }
+early_reported keys old new before after output (Damaged cell check kept computed) early = record { bytes = appended-none output.bytes; later = omega arith }
+early_reported keys old new before after output (StoreFault unsure) early = record { bytes = appended-none output.bytes; later = omega arith }
+early_reported keys old new before after output (StashFull rows) early = record { bytes = appended-none output.bytes; later = omega arith }
+early_reported keys old new before after output (Worn number) early = record { bytes = appended-none output.bytes; later = omega arith }
+early_reported keys old new before after output SourceFault early = record { bytes = appended-none output.bytes; later = omega arith }
+
+pub ended_early : (keys : Keys) (old new : Disk) (before after output : Flow) (fault : Fault) → EndsEarly keys old new before after fault → RunOn keys old new (outside before output) (outside after output) (Some fault)
+ended_early keys old new before after output fault early = record {
+  records = [];
+  reported = early_reported keys old new before after output fault early;
+  went = inl (refl, early);
+}
+
+module _ (keys epoch n : ℕ) (old mid new : Disk) (before after : Flow) (rest : List ScriptTxn) (later : old.faults ≤ mid.faults) where
+  -- the store's count rose since an earlier moment too
+  pub cause_since : (fault : Option Fault) → HasCause keys epoch n mid new before after rest fault → HasCause keys epoch n old new before after rest fault
+  cause_since None cause = cause
+  cause_since (Some Memory) cause = cause
+  cause_since (Some SinkFault) cause = cause
+  cause_since (Some (StoreFault unsure)) (rose, which) = (rose_since old.faults mid.faults new.faults later rose, which)
+  cause_since (Some (Worn number)) cause = cause
+  cause_since (Some Usage) cause = absurd cause
+  cause_since (Some (BadScript line)) cause = absurd cause
+  cause_since (Some (BadParams field)) cause = absurd cause
+  cause_since (Some NotStore) cause = absurd cause
+  cause_since (Some (Damaged cell check kept computed)) cause = absurd cause
+  cause_since (Some (StashFull rows)) cause = absurd cause
+  cause_since (Some SourceFault) cause = absurd cause
+
+pub went_of : (keys : Keys) (old new : Disk) (before after : Outside) (records : List (EpochRecord ℕ)) (fault : Option Fault) → Ran keys old new before after records fault → Went keys old new before after records fault
+went_of keys old new before after records None ran = ran
+went_of keys old new before after records (Some fault) ran = inr ran
+
+-- The script was run over the store that was opened.
+pub ran : (keys : Keys) (old mid new : Disk) (input input_new output output_new : Flow) (p : Params) (script : List ScriptTxn) (opening : Opening) (known : Open) (fault : Option Fault) → old.faults ≤ mid.faults
+    → IsOpened keys old input p script opening known → Notes (begin_events p.keys opening.epoch known opening.sealer.generation) old.seen mid.seen
+    → Serves p opening.epoch opening.gates.epoch opening.values.items script mid new output output_new fault
+    → RunOn keys old new (outside input output) (outside input_new output_new) fault
+ran keys old mid new input input_new output output_new p script opening known fault later opened seen s = record {
+  records = s.records;
+  reported = s.reported;
+  went = went_of keys old new (outside input output) (outside input_new output_new) s.records fault (record {
+    p = p;
+    script = script;
+    opening = opening;
+    known = known;
+    opened = opened;
+    rest = s.rest;
+    is_served = s.is_served;
+    cause = cause_since p.keys opening.epoch (length s.records) old mid new output output_new s.rest later fault s.cause;
+    more = s.more;
+    refused = s.refused;
+    seen = joined (begin_events p.keys opening.epoch known opening.sealer.generation) (ends_events p.keys opening.gates.epoch opening.epoch (length s.records) ++ s.more) old.seen mid.seen new.seen seen s.seen;
+  });
+}

@@ -1,0 +1,27 @@
+use Rattle.std.proofs.Common.{inl, inr}
+use Rattle.ob_report.specs.Printed.{flow}
+use Rattle.ob_top.proofs.Beginnings.{opened, unopened}
+use Rattle.ob_top.proofs.run.begin.Goals as goal
+
+pub returns-in-Err-read_script-clause-refused : goal.returns-in-Err-read_script-clause-refused
+returns-in-Err-read_script-clause-refused g c = inr (inl (record {
+  p = c.in-Ok.params;
+  head = c.in-Ok.ensures.value;
+  refused = c.in-Err-read_script.ensures.refused;
+  keeps = c.in-Ok.ensures.keeps;
+  seen = c.in-Ok.ensures.seen;
+}))
+
+pub returns-in-Ok-prepare-clause-begun : goal.returns-in-Ok-prepare-clause-begun
+returns-in-Ok-prepare-clause-begun g c =
+    let head = c.in-Ok.ensures in
+    let e = c.in-Ok-prepare.ensures in
+    opened c.args.keys.now (g.S.Store.disk c.args.store.now) (g.S.Store.disk c.head.new.store) (g.S.Store.disk c.prepare.new.store) _ c.in-Ok.params c.in-Ok-read_script.scripts _ _
+    c.in-Ok-prepare.opening head.value head.keeps head.seen c.in-Ok-read_script.ensures.came e.value e.gates e.order
+
+pub returns-in-Err-prepare-clause-refused : goal.returns-in-Err-prepare-clause-refused
+returns-in-Err-prepare-clause-refused g c =
+    let head = c.in-Ok.ensures in
+    let e = c.in-Err-prepare.ensures in
+    unopened c.args.keys.now (g.S.Store.disk c.args.store.now) (g.S.Store.disk c.head.new.store) (g.S.Store.disk c.prepare.new.store) _ c.in-Ok.params c.in-Ok-read_script.scripts _ _
+    _ c.in-Err-prepare.fault head.value head.keeps head.serves.goes.faults head.seen c.in-Ok-read_script.ensures.came e.faults e.value e.serves.cause e.order_err

@@ -1,0 +1,54 @@
+-- What `format` does.
+use Rattle.std.specs.Prelude.{ℕ, ◌≡◌, Option, Some, None}
+use Rattle.std.specs.FinMap.{empty}
+use Rattle.ob_base.specs.declared.params.Params.{Params}
+use Rattle.ob_seal.specs.declared.keys.Keys.{Keys}
+use Rattle.ob_base.specs.declared.fault.Fault.{Fault}
+use Rattle.ob_base.specs.declared.fault.Fault.TheVariants.{StoreFault, SinkFault}
+use Rattle.ob_base.specs.Causes.{Rose}
+use Rattle.ob_io.specs.Flows.{appended}
+use Rattle.ob_report.specs.Faults.{status_of, fault_line}
+use Rattle.ob_report.specs.Sizes.{size_line}
+use Rattle.ob_report.specs.Printed.{Flow, IsPrinted}
+use Rattle.ob_store.specs.Disk.{Disk, Image}
+use Rattle.ob_store.specs.Images.{Settled}
+use Rattle.ob_store.specs.Calls.{Notes, NotesFirst}
+use Rattle.ob_serial.specs.Vaults.{Standing}
+use Rattle.ob_flat.specs.Places.{cells}
+use Rattle.ob_flat.specs.Orders.{format_events}
+use Rattle.ob_flat.specs.Standing.{StandsFlat}
+use Rattle.ob_top.specs.Outside.{Outside}
+
+-- before the first epoch, with no key present
+abbrev pub beginning : Standing
+beginning = record { epoch = 0; content = empty }
+
+-- An empty store was made, of generation 1, by the order of writes and syncs that the number of its keys fixes; nothing waits for a
+-- sync.
+pub record IsFormatted (keys : Keys) (p : Params) (old new : Disk) : Type 0 where
+  pub seen : Notes (format_events p.keys) old.seen new.seen
+  pub stands : old.tells → StandsFlat keys p 1 new.cells beginning
+  pub images : old.tells → (c : Image) → new.may_leave c → StandsFlat keys p 1 c beginning
+  pub durable : old.tells → Settled new
+
+-- How it ends. Its line tells how many cells the store has.
+abbrev pub FormatEnds : Keys → Params → Disk → Disk → Flow → Flow → Option Fault → Type 0
+FormatEnds keys p old new before after None = IsFormatted keys p old new × (after.bytes ≡ appended before.bytes (size_line (cells p)))
+FormatEnds keys p old new before after (Some SinkFault) = IsFormatted keys p old new × Rose before.faults after.faults × IsPrinted before after (size_line (cells p))
+FormatEnds keys p old new before after (Some (StoreFault unsure)) = (unsure ≡ None) × Rose old.faults new.faults × NotesFirst (format_events p.keys) old.seen new.seen × (after ≡ before)
+FormatEnds keys p old new before after (Some _) = ⊥
+
+-- What stands in the output, and the store: behind the whole line; where the line failed; and where the store did.
+abbrev pub FormatTold : Keys → Params → Disk → Disk → Flow → Flow → Option Fault → Type 0
+FormatTold keys p old new before after None = IsFormatted keys p old new × (after.bytes ≡ appended before.bytes (size_line (cells p)))
+FormatTold keys p old new before after (Some SinkFault) = IsFormatted keys p old new × Rose before.faults after.faults × IsPrinted before after (size_line (cells p))
+FormatTold keys p old new before after (Some (StoreFault unsure)) =
+    (unsure ≡ None) × Rose old.faults new.faults × NotesFirst (format_events p.keys) old.seen new.seen × IsPrinted before after (fault_line (Some (StoreFault None)))
+FormatTold keys p old new before after (Some _) = ⊥
+
+-- What `format` has done with parameters in range and a store. It looks at no input.
+pub record FormatDone (keys : Keys) (p : Params) (old new : Disk) (before after : Outside) (status : ℕ) : Type 0 where
+  pub fault : Option Fault
+  pub status_is : status ≡ status_of fault
+  pub untouched : after.input ≡ before.input
+  pub told : FormatTold keys p old new before.output after.output fault

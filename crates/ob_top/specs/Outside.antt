@@ -1,0 +1,49 @@
+-- What is seen of the objects that were handed in.
+use Rattle.std.specs.Prelude.{ℕ, ◌≡◌, ◌⊎◌, Option, Some, None}
+use Rattle.std.specs.Borrow.{MutBor}
+use Rattle.std.proofs.Common.{inl, inr}
+use Rattle.ob_base.specs.declared.fault.Fault.{Fault}
+use Rattle.ob_base.specs.declared.fault.Fault.TheVariants.{SinkFault}
+use Rattle.ob_report.specs.Faults.{status_of, fault_status, fault_line}
+use Rattle.ob_store.specs.Disk.{Disk}
+use Rattle.ob_report.specs.Printed.{Flow, IsPrinted}
+
+-- the bytes that come in and go out, at one moment
+pub record Outside : Type 0 where
+  pub input : Flow
+  pub output : Flow
+
+abbrev pub outside : Flow → Flow → Outside
+outside input output = record { input = input; output = output }
+
+-- what was left behind a reference that may have been handed in
+abbrev pub Left : Type 0 → Type 0
+Left S = Unit {0} ⊎ ((MutBor S × Unit {0}) ⊎ ⊥)
+
+-- A fact of the store that was handed in, as it was and as it is left, where there is one; and a fact for the case that there is none.
+abbrev pub OfStore : {S : Type 0} → Option (MutBor S) → Left S → Type 0 → (S → S → Type 0) → Type 0
+OfStore (Some lent) (inr (inl left)) without with_one = with_one lent.now left.0.now
+OfStore (Some lent) _ without with_one = ⊥
+OfStore None _ without with_one = without
+
+-- no lane of the store is out
+abbrev pub NoneOut : {S : Type 0} → (S → Disk) → Option (MutBor S) → Type 0
+NoneOut disk (Some lent) = (disk lent.now).out ≡ 0
+NoneOut disk None = Unit {0}
+
+-- The line of a fault is written behind what stands there, or a front of it, unless the output itself is what failed.
+abbrev pub LineTold : Flow → Flow → Option Fault → Type 0
+LineTold before after None = after ≡ before
+LineTold before after (Some SinkFault) = after ≡ before
+LineTold before after (Some fault) = IsPrinted before after (fault_line (Some fault))
+
+-- what the end of a call tells
+pub record IsFinished (before after : Flow) (fault : Option Fault) (status : ℕ) : Type 0 where
+  pub status_is : status ≡ status_of fault
+  pub line : LineTold before after fault
+
+-- Nothing was done but to write a refusal's line: the input is untouched.
+pub record IsOnlyTold (fault : Fault) (before after : Outside) (status : ℕ) : Type 0 where
+  pub status_is : status ≡ fault_status fault
+  pub untouched : after.input ≡ before.input
+  pub printed : IsPrinted before.output after.output (fault_line (Some fault))

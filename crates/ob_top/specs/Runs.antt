@@ -1,0 +1,194 @@
+-- What `run` does.
+use Rattle.std.specs.Prelude.{ℕ, zero, suc, ◌≡◌, ◌⊎◌, ◌+◌, ◌*◌, ◌^◌, ◌<◌, ◌≤◌, List, [], ◌∷◌, ◌++◌, length, take, Option, Some, None, Result, Ok, Err, decimal}
+use Rattle.std.specs.Ordering.{nat_cmp}
+use Rattle.ob_base.specs.declared.params.Params.{Params}
+use Rattle.ob_seal.specs.declared.keys.Keys.{Keys}
+use Rattle.ob_base.specs.declared.fault.Fault.{Fault}
+use Rattle.ob_base.specs.declared.fault.Fault.TheVariants.{Memory, BadScript, StoreFault, SourceFault, SinkFault, Worn}
+use Rattle.ob_base.specs.Causes.{Rose}
+use Rattle.ob_io.specs.Flows.{appended, IsInput}
+use Rattle.ob_report.specs.Faults.{status_of, fault_line}
+use Rattle.ob_report.specs.Printed.{Flow, IsPrinted}
+use Rattle.ob_report.specs.Report.{report}
+use Rattle.ob_store.specs.declared.event.Event.{Event}
+use Rattle.ob_store.specs.declared.event.Event.TheVariants as event
+use Rattle.ob_store.specs.Disk.{Disk, Image}
+use Rattle.ob_store.specs.Calls.{Keeps, Notes, NotesFirst, IsStoreFault}
+use Rattle.ob_twin.specs.declared.gates.Open.{Open}
+use Rattle.ob_twin.specs.Register.{place_of}
+use Rattle.ob_twin.specs.Opening.{GatesAre, with_mark}
+use Rattle.ob_serial.specs.Serial.{EpochRecord, Map, OneByOne, AreInOrder, committed_of}
+use Rattle.ob_serial.specs.Vaults.{Standing}
+use Rattle.ob_script.specs.Script.{ScriptTxn, IsScript, IsFirstBad, limit}
+use Rattle.ob_flat.specs.declared.opening.Opening.{Opening}
+use Rattle.ob_flat.specs.Heads.{IsHead, IsHeadRead}
+use Rattle.ob_flat.specs.Openings.{IsFoundIn, IsOpeningOf, IsOpenFault, IsHeadFault}
+use Rattle.ob_flat.specs.Orders.{registers_events, open_events, end_events}
+use Rattle.ob_flat.specs.Registers.{Found}
+use Rattle.ob_flat.specs.Standing.{IsMapOf, StandsFlat}
+use Rattle.ob_client.specs.Serve.{IsWritten}
+use Rattle.ob_client.specs.Epochs.{RecordsServed, RecordsReplay, EpochsEnd, contents}
+use Rattle.ob_top.specs.Outside.{Outside}
+
+-- The schedule of a run: the head is read, the store is opened, and each epoch ends. It depends on the number of keys, on the epoch and
+-- generation found, on which gates were open, and on how many epochs end; on no key, no value and no transaction.
+abbrev pub ends_events : ℕ → Open → ℕ → ℕ → List Event
+ends_events keys known epoch zero = []
+ends_events keys known epoch (suc n) = end_events keys known (suc epoch) ++ ends_events keys (with_mark known (place_of (suc epoch))) (suc epoch) n
+
+-- the gates of the epoch's register that are known to be open behind so many ends
+abbrev pub known_behind : Open → ℕ → ℕ → Open
+known_behind known epoch zero = known
+known_behind known epoch (suc n) = known_behind (with_mark known (place_of (suc epoch))) (suc epoch) n
+
+abbrev pub begin_events : ℕ → ℕ → Open → ℕ → List Event
+begin_events keys epoch known generation = event.Read 0 ∷ open_events keys epoch known generation
+
+-- a script came in
+pub record CameIn (keys : ℕ) (before : Flow) (script : List ScriptTxn) : Type 0 where
+  -- the bytes that came in, up to the first one past the limit
+  pub input : List ℕ
+  pub input_is : IsInput before.bytes limit input
+  pub is_script : IsScript keys input script
+
+-- The input failed, or is no script.
+abbrev pub IsInputRefused : ℕ → Flow → Flow → Fault → Type 0
+IsInputRefused keys before after Memory = Unit {0}
+IsInputRefused keys before after SourceFault = Rose before.faults after.faults
+IsInputRefused keys before after (BadScript line) = (input : List ℕ) × IsInput before.bytes limit input × IsFirstBad keys input line
+IsInputRefused keys before after _ = ⊥
+
+module _ (keys : Keys) (old new : Disk) where
+  -- The head was refused: all that was done is to read it.
+  pub record StopsAtHead (before after : Flow) (fault : Fault) : Type 0 where
+    pub untouched : after ≡ before
+    pub kind : IsHeadFault fault
+    pub read : old.tells → IsHeadRead keys (old.cells 0) (Err fault)
+    pub cause : IsStoreFault fault → Rose old.faults new.faults
+    pub keeps : Keeps old new
+    pub seen : NotesFirst (event.Read 0 ∷ []) old.seen new.seen
+
+  -- The input was refused, once the head was read.
+  pub record StopsAtInput (before after : Flow) (fault : Fault) : Type 0 where
+    pub p : Params
+    pub head : old.tells → IsHead keys p (old.cells 0)
+    pub refused : IsInputRefused p.keys before after fault
+    pub keeps : Keeps old new
+    pub seen : Notes (event.Read 0 ∷ []) old.seen new.seen
+
+  -- Some of the first reads, or all of them and some of what follows.
+  abbrev pub OpensPartly : Params → Type 0
+  OpensPartly p = NotesFirst (event.Read 0 ∷ registers_events) old.seen new.seen
+      ⊎ ((known : Open) × (generation : ℕ) × (epoch : ℕ) × (old.tells → GatesAre known 1 old.cells) × (old.tells → Found keys old.cells generation epoch)
+      × NotesFirst (begin_events p.keys epoch known (suc generation)) old.seen new.seen)
+
+  -- Opening was refused, once the script had come in.
+  pub record StopsAtOpening (before : Flow) (fault : Fault) : Type 0 where
+    pub p : Params
+    pub head : old.tells → IsHead keys p (old.cells 0)
+    pub script : List ScriptTxn
+    pub came : CameIn p.keys before script
+    pub kind : IsOpenFault fault
+    pub read : old.tells → IsOpeningOf keys p.keys old.cells (Err fault)
+    pub cause : IsStoreFault fault → Rose old.faults new.faults
+    pub seen : OpensPartly p
+
+  -- Nothing was run: the head, the input or the opening was refused.
+  abbrev pub EndsEarly : Flow → Flow → Fault → Type 0
+  EndsEarly before after fault = StopsAtHead before after fault ⊎ StopsAtInput before after fault ⊎ StopsAtOpening before fault
+
+-- A script came in for a store of these parameters, and this was found in it.
+pub record IsOpened (keys : Keys) (old : Disk) (before : Flow) (p : Params) (script : List ScriptTxn) (opening : Opening) (known : Open) : Type 0 where
+  pub head : old.tells → IsHead keys p (old.cells 0)
+  pub came : CameIn p.keys before script
+  pub found : old.tells → IsFoundIn keys p.keys old.cells opening
+  -- which gates of the two registers were open
+  pub generation_gates : old.tells → GatesAre known 1 old.cells
+  pub epoch_gates : old.tells → GatesAre opening.gates.epoch 5 old.cells
+
+-- Why serving ended: the script did; memory was wanting; the output failed; the store failed, perhaps at the last write or sync of the
+-- end of the epoch behind n; or that epoch's number would be 2^62, or its
+-- rows would be sealed past that number (each epoch seals a row for each key).
+abbrev pub HasCause : ℕ → ℕ → ℕ → Disk → Disk → Flow → Flow → List ScriptTxn → Option Fault → Type 0
+HasCause keys epoch n old new before after rest None = rest ≡ []
+HasCause keys epoch n old new before after rest (Some Memory) = Unit {0}
+HasCause keys epoch n old new before after rest (Some SinkFault) = Rose before.faults after.faults
+HasCause keys epoch n old new before after rest (Some (StoreFault unsure)) = Rose old.faults new.faults × ((unsure ≡ None) ⊎ (unsure ≡ Some (suc (epoch + n))))
+HasCause keys epoch n old new before after rest (Some (Worn number)) = (number ≡ 2 ^ 62) × ((suc (epoch + n) ≡ 2 ^ 62) ⊎ (2 ^ 62 < keys * n + keys))
+HasCause keys epoch n old new before after rest (Some _) = ⊥
+
+-- what is seen of an end that the store refused: a front of it
+abbrev pub IsRefusedEnd : ℕ → Open → ℕ → ℕ → Option Fault → List Event → Type 0
+IsRefusedEnd keys known epoch n (Some (StoreFault unsure)) more = (k : ℕ) × (more ≡ take k (end_events keys (known_behind known epoch n) (suc (epoch + n))))
+IsRefusedEnd keys known epoch n _ more = more ≡ []
+
+-- A front of the script was served, epoch by epoch behind the last one that had ended.
+pub record IsServed (p : Params) (epoch : ℕ) (values : List (Option (List ℕ))) (script : List ScriptTxn) (records : List (EpochRecord ℕ)) (rest : List ScriptTxn) : Type 0 where
+  pub front : List ScriptTxn
+  pub script_is : script ≡ front ++ rest
+  -- each transaction of it once, in order, with the operations that it asks for, up to one that is refused for a cause
+  pub served : RecordsServed p (suc epoch) front records
+  pub epochs_end : EpochsEnd rest records
+  pub in_order : AreInOrder records
+  -- the committed ones run one by one from the map that was found, and each, also an aborted one, replays on the map of its epoch
+  pub one_by_one : (m : Map nat_cmp) → IsMapOf values m → OneByOne nat_cmp m (committed_of records) (contents m records)
+  pub replay : (m : Map nat_cmp) → IsMapOf values m → RecordsReplay m records
+
+-- The whole report is written, unless the output failed.
+abbrev pub IsReported : Flow → Flow → List (EpochRecord ℕ) → Option Fault → Type 0
+IsReported before after records (Some SinkFault) = IsPrinted before after (report decimal records)
+IsReported before after records _ = IsWritten (report decimal records) before after
+
+-- What serving does to the store and the output.
+pub record Serves (p : Params) (epoch : ℕ) (known : Open) (values : List (Option (List ℕ))) (script : List ScriptTxn) (old new : Disk) (before after : Flow) (fault : Option Fault) : Type 0 where
+  pub records : List (EpochRecord ℕ)
+  pub rest : List ScriptTxn
+  pub is_served : IsServed p epoch values script records rest
+  pub cause : HasCause p.keys epoch (length records) old new before after rest fault
+  pub reported : IsReported before after records fault
+  pub more : List Event
+  pub refused : IsRefusedEnd p.keys known epoch (length records) fault more
+  pub seen : Notes (ends_events p.keys known epoch (length records) ++ more) old.seen new.seen
+  pub later : old.faults ≤ new.faults
+
+-- The script was run, whole or up to a fault.
+pub record Ran (keys : Keys) (old new : Disk) (before after : Outside) (records : List (EpochRecord ℕ)) (fault : Option Fault) : Type 0 where
+  pub p : Params
+  pub script : List ScriptTxn
+  pub opening : Opening
+  pub known : Open
+  pub opened : IsOpened keys old before.input p script opening known
+  pub rest : List ScriptTxn
+  pub is_served : IsServed p opening.epoch opening.values.items script records rest
+  pub cause : HasCause p.keys opening.epoch (length records) old new before.output after.output rest fault
+  -- the trace is the schedule of so many epochs, but for a front of one more end that the store refused
+  pub more : List Event
+  pub refused : IsRefusedEnd p.keys opening.gates.epoch opening.epoch (length records) fault more
+  pub seen : Notes (begin_events p.keys opening.epoch known opening.sealer.generation ++ (ends_events p.keys opening.gates.epoch opening.epoch (length records) ++ more)) old.seen new.seen
+
+-- The run ended early, and nothing was run; or the script was run.
+abbrev pub Went : Keys → Disk → Disk → Outside → Outside → List (EpochRecord ℕ) → Option Fault → Type 0
+Went keys old new before after records None = Ran keys old new before after records None
+Went keys old new before after records (Some fault) = ((records ≡ []) × EndsEarly keys old new before.input after.input fault) ⊎ Ran keys old new before after records (Some fault)
+
+-- What it comes to before the fault's line is written.
+pub record RunOn (keys : Keys) (old new : Disk) (before after : Outside) (fault : Option Fault) : Type 0 where
+  pub records : List (EpochRecord ℕ)
+  pub reported : IsReported before.output after.output records fault
+  pub went : Went keys old new before after records fault
+
+-- What `run` has done with a store that was handed in.
+pub record RunDone (keys : Keys) (old new : Disk) (before after : Outside) (status : ℕ) : Type 0 where
+  -- the fault, where there is one
+  pub fault : Option Fault
+  pub status_is : status ≡ status_of fault
+  -- the records whose lines were to be written, and then the fault's
+  pub records : List (EpochRecord ℕ)
+  pub output_is : IsPrinted before.output after.output (report decimal records ++ fault_line fault)
+  pub all_written : fault ≡ None → after.output.bytes ≡ appended before.output.bytes (report decimal records)
+  pub went : Went keys old new before after records fault
+
+-- the fault of an answer
+abbrev pub fault_of : Result (Unit {0}) Fault → Option Fault
+fault_of (Ok done) = None
+fault_of (Err fault) = Some fault

@@ -1,0 +1,34 @@
+ghost use Rattle.std.specs.Prelude.{◌≡◌};
+ghost use Rattle.ob_report.specs.Printed.{flow};
+ghost use Rattle.ob_top.specs.Formats.{FormatEnds};
+ghost use Rattle.ob_top.specs.Runs.{fault_of};
+
+use ob_base::{Failed, Fault, Params};
+use ob_flat::{cells, format};
+use ob_io::Sink;
+use ob_report::size_text;
+use ob_seal::Keys;
+use ob_store::{Blind, Store};
+
+/// Makes an empty store of these parameters, and then tells how many cells it has.
+///
+/// # Errors
+/// The store failed, and nothing is written; or the output failed, and a front of the line is.
+pub fn format_on<S: Store, O: Sink>(
+    store: &mut S,
+    keys: &Keys,
+    params: &Params,
+    output: &mut O,
+) -> Result<(), Fault>
+    requires none_out { (S.disk store.old).out ≡ 0 }
+    ensures { FormatEnds keys.now params.now (S.disk store.old) (S.disk store.new) (flow (O.written output.old) (O.faults output.old)) (flow (O.written output.new) (O.faults output.new)) (fault_of result) }
+{
+    match format(store, keys, params, &mut Blind) {
+        Ok(()) => {}
+        Err(fault) => return Err(fault),
+    }
+    match size_text(cells(params), output) {
+        Ok(()) => Ok(()),
+        Err(Failed) => Err(Fault::SinkFault),
+    }
+}

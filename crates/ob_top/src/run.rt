@@ -1,0 +1,131 @@
+ghost use Rattle.std.specs.Prelude.{◌≡◌, ◌≤◌, ℕ, List, IfOk, IfErr, OnOk, None};
+ghost use Rattle.ob_base.specs.declared.params.Params.{Params};
+ghost use Rattle.ob_report.specs.Printed.{flow, Flow};
+ghost use Rattle.ob_store.specs.Calls.{GoesOn, Notes};
+ghost use Rattle.ob_store.specs.Images.{Settled};
+ghost use Rattle.ob_twin.specs.Opening.{GatesAre};
+ghost use Rattle.ob_twin.specs.declared.gates.Open.{Open};
+ghost use Rattle.ob_serial.specs.Vaults.{Standing};
+ghost use Rattle.ob_flat.specs.Openings.{IsOpenedAt};
+ghost use Rattle.ob_flat.specs.Standing.{StandsFlat};
+ghost use Rattle.ob_client.specs.Txns.{ScriptBelow};
+ghost use Rattle.ob_top.specs.Runs.{CameIn, IsInputRefused, EndsEarly, IsOpened, Serves, RunOn, begin_events, fault_of};
+ghost use Rattle.ob_top.specs.Outside.{outside};
+
+use ob_base::{Fault, Params};
+use ob_client::serve;
+use ob_flat::{FlatVault, Opening, head, prepare};
+use ob_io::{ReadErr, Sink, Source, read_all};
+use ob_script::{LIMIT, Scripts, parse};
+use ob_seal::Keys;
+use ob_store::{Blind, Store};
+use std::alloc::Global;
+
+// A run of which all is ready: the store's parameters, the script, and what opening found.
+#[derive(Drop)]
+struct Begun {
+    params: Params,
+    scripts: Scripts,
+    opening: Opening,
+}
+
+// Reads the script that comes in.
+fn read_script<I: Source>(alloc: Global, input: &mut I, keys: u32) -> Result<Scripts, Fault>
+    ensures came { IfOk result (λ scripts. CameIn keys (flow (I.left input.old) (I.faults input.old)) scripts) }
+    ensures refused { IfErr result (λ fault. IsInputRefused keys (flow (I.left input.old) (I.faults input.old)) (flow (I.left input.new) (I.faults input.new)) fault) }
+{
+    let bytes = match read_all(alloc, input, LIMIT) {
+        Ok(bytes) => bytes,
+        Err(ReadErr::Memory) => return Err(Fault::Memory),
+        Err(ReadErr::Failed) => return Err(Fault::SourceFault),
+    };
+    parse(alloc, &bytes, keys)
+}
+
+// Reads the head, then the script, and then opens the store.
+fn begin<S: Store, I: Source>(
+    alloc: Global,
+    store: &mut S,
+    keys: &Keys,
+    input: &mut I,
+) -> Result<Begun, Fault>
+    requires none_out { (S.disk store.old).out ≡ 0 }
+    ensures none_out { (S.disk store.new).out ≡ 0 }
+    ensures goes { GoesOn (S.disk store.old) (S.disk store.new) }
+    ensures params { IfOk result (λ begun. begun.opening.params ≡ begun.params) }
+    ensures none_sealed { IfOk result (λ begun. begun.opening.sealer.next ≡ 0) }
+    ensures told { (S.disk store.new).tells → IfOk result (λ begun. GatesAre begun.opening.gates.epoch 5 (S.disk store.new).cells) }
+    ensures begun { IfOk result (λ begun. (known : Open) × IsOpened keys.now (S.disk store.old) (flow (I.left input.old) (I.faults input.old)) begun.params begun.scripts begun.opening known
+        × Notes (begin_events begun.params.keys begun.opening.epoch known begun.opening.sealer.generation) (S.disk store.old).seen (S.disk store.new).seen) }
+    ensures refused { IfErr result (λ fault. EndsEarly keys.now (S.disk store.old) (S.disk store.new) (flow (I.left input.old) (I.faults input.old)) (flow (I.left input.new) (I.faults input.new)) fault) }
+{
+    let params = match head(store, keys, &mut Blind) {
+        Ok(params) => params,
+        Err(fault) => return Err(fault),
+    };
+    let scripts = match read_script(alloc, input, params.keys) {
+        Ok(scripts) => scripts,
+        Err(fault) => return Err(fault),
+    };
+    match prepare(alloc, store, keys, &params, &mut Blind) {
+        Ok(opening) => Ok(Begun {
+            params,
+            scripts,
+            opening,
+        }),
+        Err(fault) => Err(fault),
+    }
+}
+
+// Runs the script over the store that was opened.
+fn serve_on<S: Store, O: Sink>(
+    alloc: Global,
+    store: &mut S,
+    begun: Begun,
+    output: &mut O,
+) -> Result<(), Fault>
+    requires none_out { (S.disk store.old).out ≡ 0 }
+    requires params { begun.opening.params ≡ begun.params }
+    requires none_sealed { begun.opening.sealer.next ≡ 0 }
+    requires told { (S.disk store.old).tells → GatesAre begun.opening.gates.epoch 5 (S.disk store.old).cells }
+    requires below { ScriptBelow begun.params.keys begun.scripts }
+    ensures { Serves begun.params begun.opening.epoch begun.opening.gates.epoch begun.opening.values.items begun.scripts (S.disk store.old) (S.disk store.new)
+        (flow (O.written output.old) (O.faults output.old)) (flow (O.written output.new) (O.faults output.new)) (fault_of result) }
+{
+    let Begun {
+        params,
+        scripts,
+        opening,
+    } = begun;
+    let mut vault = FlatVault::over(store, opening);
+    let ended = serve(alloc, &mut vault, &params, scripts.txns(), output);
+    let _store = vault.into_store();
+    ended
+}
+
+/// Runs the script that comes in over a store, and reports each epoch once it has ended.
+///
+/// # Errors
+/// In this order: the head, the input, the opening; then what the run met.
+pub fn run_on<S: Store, I: Source, O: Sink>(
+    alloc: Global,
+    store: &mut S,
+    keys: &Keys,
+    input: &mut I,
+    output: &mut O,
+) -> Result<(), Fault>
+    requires none_out { (S.disk store.old).out ≡ 0 }
+    ensures { RunOn keys.now (S.disk store.old) (S.disk store.new)
+        (outside (flow (I.left input.old) (I.faults input.old)) (flow (O.written output.old) (O.faults output.old)))
+        (outside (flow (I.left input.new) (I.faults input.new)) (flow (O.written output.new) (O.faults output.new)))
+        (fault_of result) }
+{
+    let begun = match begin(alloc, store, keys, input) {
+        Ok(begun) => begun,
+        Err(fault) => return Err(fault),
+    };
+    match serve_on(alloc, store, begun, output) {
+        Ok(()) => Ok(()),
+        Err(fault) => Err(fault),
+    }
+}
