@@ -301,7 +301,7 @@ module _ {V : Type 0} (k : Kind V) (p : Params) (start : ℕ) (first : V) (befor
     printed = whole_text before after (report decimal g.records) g.written;
     in_order = ordered p (suc start) script g.records served;
     one_by_one = λ m held. (ran_one_by_one p (suc start) script [] g.records m served ends (g.replay m held).0, (g.replay m held).1);
-    ends = (g.answered, refl, g.written);
+    ends = (g.answered, refl, record { bytes = g.written; later = g.later });
   }
     where
       no_front : (front : List ScriptTxn) → EpochServed p (suc start + length g.records) 1 [] front [] → front ≡ []
@@ -335,9 +335,10 @@ module _ {V : Type 0} (k : Kind V) (p : Params) (start : ℕ) (first : V) (befor
       ran_one_by_one p (suc start) g.done (g.front ++ rest) g.records m g.served (each_ends (g.front ++ rest) g.records each) (g.replay m held).0,
       holds_contents k first (g.steps ++ more) new g.records m (chain_join k first g.steps mid more new g.chain chain) wrote held,
     );
-    ends = ⊎_elim (λ (are, memory). inl (answered_join g.steps more g.answered are, memory)) (λ (last, cause). inr (inr (
+    ends = ⊎_elim (λ (are, memory). inl (answered_join g.steps more g.answered are, memory, record { bytes = g.written; later = g.later })) (λ (last, cause). inr (inr (
       last_behind (suc start + length g.records) g.steps more fault g.answered last,
       λ store. rose_since (k.disk first).faults (k.disk mid).faults (k.disk new).faults (goes_all k first g.steps mid g.chain).faults (cause store),
+      record { bytes = g.written; later = g.later },
     ))) ends;
   }
 

@@ -1,5 +1,5 @@
 -- What serving a script of one client does.
-use Rattle.std.specs.Prelude.{ℕ, suc, ◌≡◌, ◌⊎◌, ◌+◌, List, [], ◌∷◌, ◌++◌, length, map, flat_map, Option, Result, Ok, Err, OnOk, decimal}
+use Rattle.std.specs.Prelude.{ℕ, suc, ◌≡◌, ◌⊎◌, ◌≤◌, ◌+◌, List, [], ◌∷◌, ◌++◌, length, map, flat_map, Option, Result, Ok, Err, OnOk, decimal}
 use Rattle.std.specs.Ordering.{nat_cmp}
 use Rattle.ob_base.specs.Causes.{Rose}
 use Rattle.ob_base.specs.declared.params.Params.{Params}
@@ -26,12 +26,20 @@ CloseRefused k p epoch left writes text old new before after fault =
 abbrev pub IsRefusedLast : ℕ → List (VaultCall × VaultAnswer) → Fault → Type 0
 IsRefusedLast epoch steps fault = (front : List (VaultCall × VaultAnswer)) × (call : VaultCall) × (answer : VaultAnswer) × (steps ≡ front ++ (call, answer) ∷ []) × AreAnswered front × IsRefusal epoch call answer fault
 
--- How serving ends: the whole script was run and all lines written; or memory was wanting; or the output failed; or the vault
--- refused a call of the running epoch, and nothing more was done: with a fault of the store only where the store's count of
--- faults rose, from `was` to `is`.
+-- the whole text was written
+pub record IsWritten (text : List ℕ) (before after : Flow) : Type 0 where
+  pub bytes : after.bytes ≡ appended before.bytes text
+  pub later : before.faults ≤ after.faults
+
+-- How serving ends: the whole script was run; or memory was wanting; or the output failed; or the vault refused a call of the running
+-- epoch, and nothing more was done: with a fault of the store only where the store's count of faults rose, from `was` to `is`. All
+-- lines are written, unless the output failed.
 abbrev pub ServeEnds : ℕ → List ScriptTxn → List (VaultCall × VaultAnswer) → List ℕ → Flow → Flow → (was is : ℕ) → Result (Unit {0}) Fault → Type 0
-ServeEnds epoch rest steps text before after was is (Ok done) = AreAnswered steps × (rest ≡ []) × (after.bytes ≡ appended before.bytes text)
-ServeEnds epoch rest steps text before after was is (Err fault) = (AreAnswered steps × (fault ≡ Memory)) ⊎ (AreAnswered steps × (fault ≡ SinkFault) × Rose before.faults after.faults) ⊎ (IsRefusedLast epoch steps fault × (IsStoreFault fault → Rose was is))
+ServeEnds epoch rest steps text before after was is (Ok done) = AreAnswered steps × (rest ≡ []) × IsWritten text before after
+ServeEnds epoch rest steps text before after was is (Err fault) =
+    (AreAnswered steps × (fault ≡ Memory) × IsWritten text before after)
+    ⊎ (AreAnswered steps × (fault ≡ SinkFault) × Rose before.faults after.faults)
+    ⊎ (IsRefusedLast epoch steps fault × (IsStoreFault fault → Rose was is) × IsWritten text before after)
 
 -- The calls are batches alone.
 abbrev pub AreBatches : Params → List VaultCall → Type 0

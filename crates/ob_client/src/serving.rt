@@ -95,14 +95,8 @@ fn run_one<V: Vault, O: Sink>(
     }
 }
 
-/// Runs a script of one client: each transaction by itself, a get by a batch of its own where it
-/// isn't answered yet, and an epoch's end with each commit and at the script's end. Each epoch's
-/// lines are written once it has ended.
-///
-/// # Errors
-/// Memory was wanting; or the vault refused, and is spent; or the output failed, and a front of the
-/// lines is written.
-pub fn serve<V: Vault, O: Sink>(
+// Runs the script.
+fn serve_all<V: Vault, O: Sink>(
     alloc: Global,
     vault: &mut V,
     params: &Params,
@@ -131,4 +125,30 @@ pub fn serve<V: Vault, O: Sink>(
         Ok(()) => Ok(()),
         Err(fault) => Err(fault),
     }
+}
+
+/// Runs a script of one client: each transaction by itself, a get by a batch of its own where it
+/// isn't answered yet, and an epoch's end with each commit and at the script's end. Each epoch's
+/// lines are written once it has ended.
+///
+/// # Errors
+/// Memory was wanting; or the vault refused, and is spent; or the output failed, and a front of the
+/// lines is written.
+pub fn serve<V: Vault, O: Sink>(
+    alloc: Global,
+    vault: &mut V,
+    params: &Params,
+    script: &[ScriptTxn],
+    output: &mut O,
+) -> Result<(), Fault>
+    requires params { V.params vault.old ≡ params.now }
+    requires serves { (V.counts vault.old).spent ≡ false }
+    requires all_left { (V.counts vault.old).left ≡ params.now.batches }
+    requires below { ScriptBelow params.now.keys (script_of script.now) }
+    // It keeps the references that it was lent.
+    ensures anchors { (V.disk vault.new).anchors ≡ (V.disk vault.old).anchors }
+    ensures done { ServeDone (kind_of V.holds V.sound V.stands V.disk V.called) params.now (V.counts vault.old).epoch (script_of script.now) vault.old vault.new
+        (flow (O.written output.old) (O.faults output.old)) (flow (O.written output.new) (O.faults output.new)) result }
+{
+    serve_all(alloc, vault, params, script, output)
 }

@@ -9,6 +9,8 @@ use Rattle.ob_store.specs.Disk.{Disk, Image}
 use Rattle.ob_store.specs.Images.{Settled}
 use Rattle.ob_store.specs.Calls.{Holds, Notes, NotesFirst}
 use Rattle.ob_twin.specs.declared.gates.Open.{Open}
+use Rattle.ob_twin.specs.Register.{place_of}
+use Rattle.ob_twin.specs.Opening.{with_mark}
 use Rattle.ob_serial.specs.Vaults.{VaultState, VaultCounts, VaultCall, Fetch, End, VaultAnswer, Values, Ended, RefusedBy, DoubtBy, Standing, standing_now, counts_of, MayStand, StandsIn}
 use Rattle.ob_flat.specs.Places.{area_of}
 use Rattle.ob_flat.specs.Rows.{row_cell}
@@ -88,3 +90,15 @@ module _ {S : Type 0} (p : Params) (known : Open) (epoch : ℕ) (values : List (
   abbrev pub CallDoes : VaultCall → VaultAnswer → Type 0
   CallDoes (Fetch keys) answer = FetchDoes answer
   CallDoes (End writes) answer = EndDoes answer
+
+-- An end that went well is the last one from then on, and its register's gate is known to be open. Any other call leaves both as they
+-- were.
+abbrev pub KnowsNext : Open → ℕ → VaultAnswer → Open → ℕ → Type 0
+KnowsNext known epoch Ended known_new epoch_new = (known_new ≡ with_mark known (place_of (suc epoch))) × (epoch_new ≡ suc epoch)
+KnowsNext known epoch _ known_new epoch_new = (known_new ≡ known) × (epoch_new ≡ epoch)
+
+-- What a call does to the store, and what the vault knows then, whose parameters stay.
+pub record FlatCalled {S : Type 0} (p : Params) (known : Open) (epoch : ℕ) (values : List (Option (List ℕ))) (before after : S) (old new : Disk) (notes : List Note) (call : VaultCall) (answer : VaultAnswer) (p_new : Params) (known_new : Open) (epoch_new : ℕ) : Type 0 where
+  pub params : p_new ≡ p
+  pub does : CallDoes p known epoch values before after old new notes call answer
+  pub knows : KnowsNext known epoch answer known_new epoch_new

@@ -61,6 +61,8 @@ pub fn write_epoch<S: Store, W: Watch>(
     ensures serves { Serves (IsSetFault EPOCH epoch) (S.disk store.old) (S.disk store.new) result }
     ensures faults { IfErr result (IsSetFault EPOCH epoch) }
     ensures tell { (S.disk store.old).tells → OnOk result (GatesAre gates.new.epoch 5 (S.disk store.new).cells) }
+    ensures gates { OnOk result (gates.new.epoch ≡ with_mark gates.old.epoch (place_of epoch)) }
+    ensures gates_err { OnErr result (gates.new ≡ gates.old) }
     ensures durable { (S.disk store.old).tells → OnOk result (Settled (S.disk store.new)) }
     ensures written { (S.disk store.old).tells → OnOk result (Holds (area_of (length values.now) epoch) (map (λ value. row_cell value) values.now) (S.disk store.new).cells) }
     // Where the store stood for an epoch, it stands for the next one,

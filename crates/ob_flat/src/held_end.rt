@@ -7,7 +7,7 @@ ghost use Rattle.ob_store.specs.Calls.{GoesOn};
 ghost use Rattle.ob_store.specs.Lines.{Shows};
 ghost use Rattle.ob_serial.specs.Vaults.{Standing};
 ghost use Rattle.ob_serial.specs.VaultViews.{end_answer, IsEndFault, IsStoreEnd};
-ghost use Rattle.ob_flat.specs.Calls.{EndDoes};
+ghost use Rattle.ob_flat.specs.Calls.{EndDoes, KnowsNext};
 ghost use Rattle.ob_flat.specs.Ends.{EndsFrom, EndsIn, end_err_of};
 
 use crate::ends::write_epoch;
@@ -37,6 +37,7 @@ pub fn end_held<'a, S: Store, W: Watch>(
     ensures same_reference { held.new.store.ghost_name ≡ held.old.store.ghost_name }
     ensures epoch { held.new.epoch ≡ (if is_ok result then suc held.old.epoch else held.old.epoch) }
     ensures spent { held.new.spent ≡ not (is_ok result) }
+    ensures knows { KnowsNext held.old.gates.epoch held.old.epoch (end_answer result) held.new.gates.epoch held.new.epoch }
     ensures goes { GoesOn (S.disk held.old.store.now) (S.disk held.new.store.now) }
     ensures faults { IfErr result (IsEndFault (held.old.epoch + 1)) }
     ensures cause { IfErr result (λ refused. IsStoreEnd refused → Rose (S.disk held.old.store.now).faults (S.disk held.new.store.now).faults) }

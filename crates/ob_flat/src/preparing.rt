@@ -93,6 +93,7 @@ fn open_into<S: Store, W: Watch>(
     ensures value { (S.disk store.old).tells → IsOpeningOf params.now.keys (S.disk store.old).cells result }
     ensures params { IfOk result (λ opening. opening.params ≡ params.now) }
     ensures durable { (S.disk store.old).tells → OnOk result (Settled (S.disk store.new)) }
+    ensures gates { (S.disk store.old).tells → IfOk result (λ opening. GatesAre opening.gates.epoch 5 (S.disk store.old).cells) }
     ensures tell { (S.disk store.old).tells → IfOk result (λ opening. GatesAre opening.gates.epoch 5 (S.disk store.new).cells) }
     // Where the store stood for an epoch, the opening has that epoch and its map,
     ensures opened { (at : Standing) → (S.disk store.old).tells → StandsFlat params.now (S.disk store.old).cells at → IfOk result (λ opening. IsOpenedAt params.now at opening (S.disk store.new)) }
@@ -149,6 +150,7 @@ pub fn prepare<S: Store, W: Watch>(
     ensures value { (S.disk store.old).tells → IsOpeningOf params.now.keys (S.disk store.old).cells result }
     ensures params { IfOk result (λ opening. opening.params ≡ params.now) }
     ensures durable { (S.disk store.old).tells → OnOk result (Settled (S.disk store.new)) }
+    ensures gates { (S.disk store.old).tells → IfOk result (λ opening. GatesAre opening.gates.epoch 5 (S.disk store.old).cells) }
     ensures tell { (S.disk store.old).tells → IfOk result (λ opening. GatesAre opening.gates.epoch 5 (S.disk store.new).cells) }
     // Where the store stood for an epoch, the opening has that epoch and its map,
     ensures opened { (at : Standing) → (S.disk store.old).tells → StandsFlat params.now (S.disk store.old).cells at → IfOk result (λ opening. IsOpenedAt params.now at opening (S.disk store.new)) }

@@ -42,6 +42,7 @@ impl<'a, S: Store> FlatVault<'a, S> {
         ensures store { result.held.store.now ≡ store.entry.now }
         ensures params { result.params ≡ opening.params }
         ensures epoch { result.held.epoch ≡ opening.epoch }
+        ensures gates { result.held.gates ≡ opening.gates }
         ensures values { result.values.items ≡ opening.values.items }
         ensures left { result.left ≡ opening.params.batches }
         ensures spent { result.held.spent ≡ false }
@@ -75,6 +76,16 @@ impl<'a, S: Store> FlatVault<'a, S> {
         }
     }
 
+    /// Gives back the store that it was lent.
+    pub fn into_store(self) -> &'a mut S
+        ensures name { result.ghost_name ≡ self.entry.held.store.ghost_name }
+        ensures store { result.now ≡ self.entry.held.store.now }
+    {
+        let FlatVault { held, .. } = self;
+        let Held { store, .. } = held;
+        store
+    }
+
     /// The parameters of its store.
     pub fn params(&self) -> Params
         ensures { result ≡ self.now.params }
@@ -85,7 +96,7 @@ impl<'a, S: Store> FlatVault<'a, S> {
 
 impl<'a, S: Store> Vault for FlatVault<'a, S> {
     ghost use Rattle.std.specs.Prelude.{◌≡◌, refl};
-    ghost use Rattle.ob_flat.specs.Calls.{FlatHolds, FlatSound, CallDoes, lent};
+    ghost use Rattle.ob_flat.specs.Calls.{FlatHolds, FlatSound, FlatCalled, lent};
     ghost use Rattle.ob_flat.specs.Standing.{StandsFlat};
 
     ghost params = { λ v. v.params };
@@ -100,7 +111,7 @@ impl<'a, S: Store> Vault for FlatVault<'a, S> {
 
     ghost disk = { λ v. lent v.held.store.ghost_name (S.disk v.held.store.now) };
 
-    ghost called = { λ v call answer notes new. CallDoes v.params v.held.gates.epoch v.held.epoch new.values.items v.held.store.now new.held.store.now (S.disk v.held.store.now) (S.disk new.held.store.now) notes call answer };
+    ghost called = { λ v call answer notes new. FlatCalled v.params v.held.gates.epoch v.held.epoch new.values.items v.held.store.now new.held.store.now (S.disk v.held.store.now) (S.disk new.held.store.now) notes call answer new.params new.held.gates.epoch new.held.epoch };
 
     fn epoch(&self) -> u64 {
         self.held.epoch

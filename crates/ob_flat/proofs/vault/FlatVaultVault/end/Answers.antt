@@ -45,7 +45,7 @@ returns-in-Err-clause-called g c =
     let next = c.deref-2.result.now in
     let whole : length next ≡ self.params.keys = ap length c.deref-2.ensures.value ∙ c.prepare_next.ensures.whole ∙ ap length c.deref.ensures.value ∙ self.whole in
     let told = c.in-Err.ensures.called self.params whole in
-    (told.0, told.1, values_free self.params self.held.gates.epoch self.held.epoch next self.held.store.now c.end_held.new.held.store.now old new self.values.items told.0 c.in-Err.refused told.2)
+    (told.0, told.1, record { params = refl; does = values_free self.params self.held.gates.epoch self.held.epoch next self.held.store.now c.end_held.new.held.store.now old new self.values.items told.0 c.in-Err.refused told.2; knows = c.in-Err.ensures.knows })
 
 pub returns-clause-sound : goal.returns-clause-sound
 returns-clause-sound g c = λ v sound.
@@ -85,4 +85,4 @@ returns-clause-called g c =
     let whole : length next ≡ self.params.keys = ap length c.deref-2.ensures.value ∙ c.prepare_next.ensures.whole ∙ ap length c.deref.ensures.value ∙ self.whole in
     let told = c.in-Ok.ensures.called self.params whole in
     let kept : c.swap.new.x.items ≡ next = ap (λ (l : _). l.items) c.swap.ensures.x_after ∙ sym c.deref-2.ensures.value in
-    (told.0, told.1, subst (λ (l : List (Option (List ℕ))). IsEnded self.params.keys self.held.gates.epoch self.held.epoch l old new told.0) (sym kept) told.2)
+    (told.0, told.1, record { params = refl; does = subst (λ (l : List (Option (List ℕ))). IsEnded self.params.keys self.held.gates.epoch self.held.epoch l old new told.0) (sym kept) told.2; knows = c.in-Ok.ensures.knows })

@@ -5,7 +5,7 @@ use Rattle.ob_script.specs.ScriptViews.{script_of}
 use Rattle.ob_client.specs.Calls.{IsRunning}
 use Rattle.ob_client.specs.Txns.{txns_in}
 use Rattle.ob_client.specs.Going.{Progress}
-use Rattle.ob_client.proofs.serving.serve.Given as goal
+use Rattle.ob_client.proofs.serving.serve_all.Given as goal
 
 abbrev pub invariant-loop-txn : goal.invariant-loop-txn
 invariant-loop-txn g l = record {
