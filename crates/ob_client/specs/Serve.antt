@@ -1,5 +1,5 @@
 -- What serving a script of one client does.
-use Rattle.std.specs.Prelude.{◌≤◌, ℕ, suc, ◌≡◌, ◌⊎◌, ◌+◌, List, [], ◌∷◌, ◌++◌, length, map, flat_map, Option, Result, Ok, Err, OnOk, decimal}
+use Rattle.std.specs.Prelude.{ℕ, suc, ◌≡◌, ◌⊎◌, ◌≤◌, ◌+◌, List, [], ◌∷◌, ◌++◌, length, map, flat_map, Option, Result, Ok, Err, OnOk, decimal}
 use Rattle.std.specs.Ordering.{nat_cmp}
 use Rattle.ob_base.specs.Causes.{Rose}
 use Rattle.ob_base.specs.declared.params.Params.{Params}
