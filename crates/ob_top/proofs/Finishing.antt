@@ -92,7 +92,7 @@ module _ (keys : Keys) (old new : Disk) (before mid after : Outside) (input : af
       status_is = f.status_is;
       records = r.records;
       output_is = subst (λ (o : Flow). IsPrinted before.output o (report decimal r.records ++ fault_line (Some SinkFault))) (sym f.line)
-      (front before.output mid.output (report decimal r.records) (fault_line (Some SinkFault)) r.reported (sink_rose r.records r.went));
+          (front before.output mid.output (report decimal r.records) (fault_line (Some SinkFault)) r.reported (sink_rose r.records r.went));
       all_written = λ is. absurd (no_fault is);
       went = sink_went r.records f.line r.went;
     }

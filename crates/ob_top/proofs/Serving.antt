@@ -154,7 +154,6 @@ module _ {V S : Type 0} (k : Kind V) (disk : S → Disk) (store_of : V → S) (s
           none_before : (m k : ℕ) → (0 + m) + k ≡ m + k
           none_before m k = omega arith
 
-
       worn : (suc (epoch_of mid) ≡ 2 ^ 62) ⊎ (2 ^ 62 < (sealing_of mid).next + (p_of mid).keys) → (suc (epoch_of first + length records) ≡ 2 ^ 62) ⊎ (2 ^ 62 < p.keys * length records + p.keys)
       worn (inl last_one) = inl (sym small ∙ last_one)
       worn (inr no_room) = inr (subst (λ m. 2 ^ 62 < m) room no_room)
@@ -201,7 +200,6 @@ module _ {V S : Type 0} (k : Kind V) (disk : S → Disk) (store_of : V → S) (s
       by_call epoch (Fetch keys) (DoubtBy given) fault refusal one rose written = absurd refusal
       by_call epoch (End writes) (Values values) fault refusal one rose written = absurd refusal
       by_call epoch (End writes) Ended fault refusal one rose written = absurd refusal
-
 
     ending : (epoch : ℕ) (steps : List (VaultCall × VaultAnswer)) (result : Result (Unit {0}) Fault) → AllCalled k first steps last → ended_of steps ≡ map record_writes records
         → IsPrinted before after (report decimal records) → ((v : V) → (k.disk v).faults ≡ (disk (store_of v)).faults)

@@ -8,3 +8,6 @@ mod words;
 
 pub use top::{finish, obladi};
 pub use words::{StoreWanted, store_wanted};
+
+#[cfg(test)]
+mod tests;
