@@ -39,7 +39,7 @@ no_ends ((Fetch keys, RefusedBy fault) ∷ steps) are = absurd are
 no_ends ((Fetch keys, DoubtBy fault) ∷ steps) are = absurd are
 no_ends ((End writes, answer) ∷ steps) are = absurd are
 
-ended_append : (steps more : List (VaultCall × VaultAnswer)) → ended_of (steps ++ more) ≡ ended_of steps ++ ended_of more
+pub ended_append : (steps more : List (VaultCall × VaultAnswer)) → ended_of (steps ++ more) ≡ ended_of steps ++ ended_of more
 ended_append [] more = refl
 ended_append (step ∷ steps) more = ap (λ x. ended_by step ++ x) (ended_append steps more) ∙ sym (append_assoc (ended_by step) (ended_of steps) (ended_of more))
 
@@ -94,7 +94,7 @@ record RefusedCalls {V : Type 0} (k : Kind V) (p : Params) (known : List ℕ) (e
 none_with : (steps : List (VaultCall × VaultAnswer)) (call : VaultCall) (answer : VaultAnswer) → AreFetches steps → ended_by (call, answer) ≡ [] → ended_of (steps ++ (call, answer) ∷ []) ≡ []
 none_with steps call answer are none = ended_append steps ((call, answer) ∷ []) ∙ ap (λ x. x ++ ended_of ((call, answer) ∷ [])) (no_ends steps are) ∙ append-nil (ended_by (call, answer)) ∙ none
 
-no_end : (epoch : ℕ) (call : VaultCall) (answer : VaultAnswer) (fault : Fault) → IsRefusal epoch call answer fault → ended_by (call, answer) ≡ []
+pub no_end : (epoch : ℕ) (call : VaultCall) (answer : VaultAnswer) (fault : Fault) → IsRefusal epoch call answer fault → ended_by (call, answer) ≡ []
 no_end epoch (Fetch keys) answer fault refusal = refl
 no_end epoch (End writes) (Values values) fault refusal = absurd refusal
 no_end epoch (End writes) Ended fault refusal = absurd refusal

@@ -17,10 +17,10 @@ pub sound_after : {V : Type 0} (k : Kind V) (first : V) (steps : List (VaultCall
 sound_after k first [] last v is sound = subst (λ x. k.sound x v) (sym is) sound
 sound_after k first (step ∷ steps) last v (mid, one, rest) sound = sound_after k mid steps last (vault_next v step.0 step.1) rest (one.sound v sound)
 
-no_records : (w : List (ℕ × Option (List ℕ))) (ws : List (List (ℕ × Option (List ℕ)))) → w ∷ ws ≡ [] → ⊥
+pub no_records : (w : List (ℕ × Option (List ℕ))) (ws : List (List (ℕ × Option (List ℕ)))) → w ∷ ws ≡ [] → ⊥
 no_records w ws is = cc is
 
-first_writes : (w x : List (ℕ × Option (List ℕ))) (ws xs : List (List (ℕ × Option (List ℕ)))) → w ∷ ws ≡ x ∷ xs → (w ≡ x) × (ws ≡ xs)
+pub first_writes : (w x : List (ℕ × Option (List ℕ))) (ws xs : List (List (ℕ × Option (List ℕ)))) → w ∷ ws ≡ x ∷ xs → (w ≡ x) × (ws ≡ xs)
 first_writes w x ws xs is = (cc is, cc is)
 
 -- The map is that behind the records' epochs, where the epochs that ended had the records' writes; and there are as many epochs.

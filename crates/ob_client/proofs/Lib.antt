@@ -12,3 +12,5 @@ pub mod Held
 pub mod Schedule
 pub mod Goes
 pub mod Below
+pub mod Ends
+pub mod Leaves

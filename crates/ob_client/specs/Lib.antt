@@ -4,3 +4,4 @@ pub mod Asks
 pub mod Txns
 pub mod Serve
 pub mod Going
+pub mod Left
