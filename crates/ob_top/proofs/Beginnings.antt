@@ -1,5 +1,5 @@
 -- How the head's read and the opening join.
-use Rattle.std.proofs.Common.{◌≡◌, ◌≤◌, ℕ, suc, List, [], ◌∷◌, Option, Ok, Err, subst, sym, arith, inl, inr, rules}
+use Rattle.std.proofs.Common.{◌≡◌, ◌≤◌, ℕ, suc, List, [], ◌∷◌, Option, Ok, Err, subst, sym, arith, inl, inr, rules, ⊎_elim, ◌⊎◌}
 use Rattle.ob_base.specs.declared.params.Params.{Params}
 use Rattle.ob_seal.specs.declared.keys.Keys.{Keys}
 use Rattle.ob_base.specs.declared.fault.Fault.{Fault}
@@ -7,6 +7,10 @@ use Rattle.ob_base.specs.Causes.{Rose}
 use Rattle.ob_report.specs.Printed.{Flow}
 use Rattle.ob_store.specs.declared.event.Event.TheVariants as event
 use Rattle.ob_store.specs.Disk.{Disk, Image}
+use Rattle.ob_store.specs.Images.{Passes, Same, LeavesOnly}
+use Rattle.ob_store.proofs.Moments.{leaves_of, then_on, weakened}
+use Rattle.ob_serial.specs.Vaults.{Standing}
+use Rattle.ob_flat.specs.Standing.{StandsFlat, Stands, AllStand, StandsAsBefore}
 use Rattle.ob_store.specs.Calls.{Keeps, Notes, GoesOn, IsStoreFault}
 use Rattle.ob_store.specs.Lines.{Trace}
 use Rattle.ob_store.proofs.Events.{joined, joined_first}
@@ -25,6 +29,36 @@ same_cells old mid keeps tells = λ i k. keeps.cells tells k i
 
 pub rose_since : (a b c : ℕ) → a ≤ b → Rose b c → Rose a c
 rose_since a b c le rose = search rules
+
+-- What a crash leaves of the head's read and the opening.
+module _ (keys : Keys) (p : Params) (old mid new : Disk) (passes : Passes Same old mid) (keeps : Keeps old mid) (only : (c : Image) → old.left_since old.moment c → old.may_leave c) (tells : old.tells) where
+  back : (P : Image → Type 0) (c : Image) → ((d : Image) → old.may_leave d → P d) → mid.may_leave c → P c
+  back P c was left = let (d, before, same) = passes.now c left in subst P (sym same) (was d before)
+
+  pub all_stand : AllStand keys p old → AllStand keys p mid
+  all_stand all = λ c left. back (λ (i : Image). (at : Standing) × Stands keys p i at) c all left
+
+  pub kept : (at : Standing) → Stands keys p old.cells at → Stands keys p mid.cells at
+  kept at (g, stands) = (g, subst (λ (i : Image). StandsFlat keys p g i at) (sym (same_cells old mid keeps tells)) stands)
+
+  as_before : AllStand keys p old → (c : Image) → old.may_leave c → StandsAsBefore keys p old c
+  as_before all c left = let (at, (g, stands)) = all c left in record { at = at; generation = g; stands = stands; earlier = g; no_lower = omega arith; was = inr (c, left, stands) }
+
+  since_old : (c : Image) → StandsAsBefore keys p mid c → StandsAsBefore keys p old c
+  since_old c b = record {
+    at = b.at;
+    generation = b.generation;
+    stands = b.stands;
+    earlier = b.earlier;
+    no_lower = b.no_lower;
+    was = ⊎_elim (λ cells. inl (subst (λ (i : Image). StandsFlat keys p b.earlier i b.at) (same_cells old mid keeps tells) cells)) (λ (d, left, stands). inr (let (e, before, same) = passes.now d left in (e, before, subst (λ (i : Image). StandsFlat keys p b.earlier i b.at) same stands))) b.was;
+  }
+
+  pub left_opening : (at : Standing) → ((at : Standing) → mid.tells → Stands keys p mid.cells at → AllStand keys p mid → LeavesOnly mid new (StandsAsBefore keys p mid)) → Stands keys p old.cells at → AllStand keys p old
+      → LeavesOnly old new (StandsAsBefore keys p old)
+  left_opening at crash stands all = then_on old mid new (StandsAsBefore keys p old)
+      (leaves_of Same (λ d. old.may_leave d) (StandsAsBefore keys p old) old mid passes only (λ c left. left) (λ c d was same. subst (StandsAsBefore keys p old) (sym same) (as_before all d was)) (λ c was. as_before all c was))
+      (weakened mid new (StandsAsBefore keys p mid) (StandsAsBefore keys p old) since_old (crash at (keeps.tells tells) (kept at stands) (all_stand all)))
 
 module _ (keys : Keys) (old mid new : Disk) (before : Flow) (p : Params) (script : List ScriptTxn) (shown shown_new : Trace) where
   -- the head was read, a script came in, and the store was opened
@@ -57,8 +91,8 @@ module _ (keys : Keys) (old mid new : Disk) (before : Flow) (p : Params) (script
   -- the opening was refused
   pub unopened : (after : Flow) (fault : Fault) → (old.tells → IsHead keys p (old.cells 0)) → Keeps old mid → old.faults ≤ mid.faults → Notes (event.Read 0 ∷ []) old.seen mid.seen → CameIn p.keys before script
       → IsOpenFault fault → (mid.tells → IsOpeningOf keys p.keys mid.cells (Err fault)) → (IsStoreFault fault → Rose mid.faults new.faults) → OpensFirst keys p.keys mid new shown shown_new
-      → EndsEarly keys old new before after fault
-  unopened after fault head keeps later seen came kind read cause order = inr (inr (record {
+      → ((at : Standing) → old.tells → Stands keys p old.cells at → AllStand keys p old → LeavesOnly old new (StandsAsBefore keys p old)) → EndsEarly keys old new before after fault
+  unopened after fault head keeps later seen came kind read cause order left = inr (inr (record {
     p = p;
     head = head;
     script = script;
@@ -67,4 +101,5 @@ module _ (keys : Keys) (old mid new : Disk) (before : Flow) (p : Params) (script
     read = λ tells. subst (λ (i : Image). IsOpeningOf keys p.keys i (Err fault)) (same_cells old mid keeps tells) (read (keeps.tells tells));
     cause = λ is. rose_since old.faults mid.faults new.faults later (cause is);
     seen = partly keeps seen order;
+    left = left;
   }))

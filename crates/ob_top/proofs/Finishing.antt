@@ -61,6 +61,8 @@ module _ (keys : Keys) (old new : Disk) (before mid after : Outside) (input : af
     more = r.more;
     refused = r.refused;
     seen = r.seen;
+    found = r.found;
+    left = r.left;
   }
 
   module _ (status : ℕ) where

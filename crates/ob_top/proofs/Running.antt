@@ -1,5 +1,5 @@
 -- How what was begun and what was served join into a run.
-use Rattle.std.proofs.Common.{◌≡◌, ◌≤◌, ◌+◌, ℕ, suc, List, [], ◌∷◌, ◌++◌, length, Option, Some, None, refl, inl, inr, arith}
+use Rattle.std.proofs.Common.{◌≡◌, ◌≤◌, ◌+◌, ◌⊎◌, ℕ, suc, List, [], ◌∷◌, ◌++◌, length, Option, Some, None, refl, inl, inr, arith}
 use Rattle.ob_base.specs.declared.params.Params.{Params}
 use Rattle.ob_seal.specs.declared.keys.Keys.{Keys}
 use Rattle.ob_base.specs.declared.fault.Fault.{Fault}
@@ -7,7 +7,14 @@ use Rattle.ob_base.specs.declared.fault.Fault.TheVariants.{Memory, Usage, BadScr
 use Rattle.ob_io.specs.Flows.{appended}
 use Rattle.ob_io.proofs.Pieces.{appended-none}
 use Rattle.ob_report.specs.Printed.{Flow}
-use Rattle.ob_store.specs.Disk.{Disk}
+use Rattle.ob_store.specs.Disk.{Disk, Image}
+use Rattle.ob_store.specs.Images.{LeavesOnly, Settled}
+use Rattle.ob_store.proofs.Moments.{then_on, weakened}
+use Rattle.ob_serial.specs.Vaults.{Standing, StandsIn}
+use Rattle.ob_flat.specs.Calls.{opened_at}
+use Rattle.ob_flat.specs.Openings.{IsOpenedAt}
+use Rattle.ob_flat.specs.Standing.{StandsFlat, Stands, AllStand, StandsAsBefore}
+use Rattle.ob_client.specs.Left.{IsLeftStanding}
 use Rattle.ob_store.specs.Calls.{Notes}
 use Rattle.ob_store.proofs.Events.{joined}
 use Rattle.ob_twin.specs.declared.gates.Open.{Open}
@@ -15,7 +22,7 @@ use Rattle.ob_serial.specs.Serial.{EpochRecord}
 use Rattle.ob_script.specs.Script.{ScriptTxn}
 use Rattle.ob_flat.specs.declared.opening.Opening.{Opening}
 use Rattle.ob_top.specs.Outside.{Outside, outside}
-use Rattle.ob_top.specs.Runs.{EndsEarly, IsOpened, HasCause, IsReported, Serves, Ran, Went, RunOn, begin_events, ends_events}
+use Rattle.ob_top.specs.Runs.{EndsEarly, IsOpened, HasCause, IsReported, IsLeft, LeftByRun, Serves, Ran, Went, RunOn, begin_events, ends_events}
 use Rattle.ob_top.proofs.Beginnings.{rose_since}
 
 -- an early end has printed nothing, which is the report of no records
@@ -61,12 +68,27 @@ pub went_of : (keys : Keys) (old new : Disk) (before after : Outside) (records :
 went_of keys old new before after records None ran = ran
 went_of keys old new before after records (Some fault) ran = inr ran
 
+-- What a crash leaves of the opening and of the serving.
+left_both : (keys : Keys) (old mid new : Disk) (p : Params) (opening : Opening) (at : Standing) (records : List (EpochRecord ℕ)) (rest : List ScriptTxn) (fault : Option Fault)
+    → LeavesOnly old mid (StandsAsBefore keys p old) → IsLeft keys p opening.sealer.generation at records rest fault mid new → LeftByRun keys p opening.sealer.generation at records rest fault old new
+left_both keys old mid new p opening at records rest fault first l = record {
+  next = l.next;
+  is_next = l.is_next;
+  since = then_on old mid new (λ c. StandsAsBefore keys p old c ⊎ StandsIn (StandsFlat keys p opening.sealer.generation) (IsLeftStanding (opened_at p at) records l.next) c)
+  (weakened old mid (StandsAsBefore keys p old) (λ c. StandsAsBefore keys p old c ⊎ StandsIn (StandsFlat keys p opening.sealer.generation) (IsLeftStanding (opened_at p at) records l.next) c) (λ c is. inl is) first)
+  (weakened mid new (StandsIn (StandsFlat keys p opening.sealer.generation) (IsLeftStanding (opened_at p at) records l.next)) (λ c. StandsAsBefore keys p old c ⊎ StandsIn (StandsFlat keys p opening.sealer.generation) (IsLeftStanding (opened_at p at) records l.next) c) (λ c is. inr is) l.since);
+  now = l.now;
+}
+
 -- The script was run over the store that was opened.
 pub ran : (keys : Keys) (old mid new : Disk) (input input_new output output_new : Flow) (p : Params) (script : List ScriptTxn) (opening : Opening) (known : Open) (fault : Option Fault) → old.faults ≤ mid.faults
     → IsOpened keys old input p script opening known → Notes (begin_events p.keys opening.epoch known opening.sealer.generation) old.seen mid.seen
-    → Serves p opening.epoch opening.gates.epoch opening.values.items script mid new output output_new fault
+    → (old.tells → mid.tells × Settled mid)
+    → ((at : Standing) → old.tells → Stands keys p old.cells at → IsOpenedAt keys p at opening mid)
+    → ((at : Standing) → old.tells → Stands keys p old.cells at → AllStand keys p old → LeavesOnly old mid (StandsAsBefore keys p old))
+    → Serves keys p opening script mid new output output_new fault
     → RunOn keys old new (outside input output) (outside input_new output_new) fault
-ran keys old mid new input input_new output output_new p script opening known fault later opened seen s = record {
+ran keys old mid new input input_new output output_new p script opening known fault later opened seen durable stood before s = record {
   records = s.records;
   reported = s.reported;
   went = went_of keys old new (outside input output) (outside input_new output_new) s.records fault (record {
@@ -81,5 +103,8 @@ ran keys old mid new input input_new output output_new p script opening known fa
     more = s.more;
     refused = s.refused;
     seen = joined (begin_events p.keys opening.epoch known opening.sealer.generation) (ends_events p.keys opening.gates.epoch opening.epoch (length s.records) ++ s.more) old.seen mid.seen new.seen seen s.seen;
+    found = λ at tells stands. let is = stood at tells stands in (is.epoch, is.content);
+    left = λ at tells stands all. let (told, settled) = durable tells in
+    left_both keys old mid new p opening at s.records s.rest fault (before at tells stands all) (s.left at told settled (stood at tells stands));
   });
 }

@@ -1,5 +1,5 @@
 -- What serving a script does to the store that the vault was lent.
-use Rattle.std.proofs.Common.{◌≡◌, ◌≤◌, ◌<◌, ◌^◌, ◌+◌, ◌*◌, ◌∙◌, ◌⊎◌, ℕ, zero, suc, List, [], ◌∷◌, ◌++◌, length, map, take, Option, Some, None, Result, Ok, Err, refl, sym, ap, subst, inl, inr, arith, rules}
+use Rattle.std.proofs.Common.{◌≡◌, ◌≤◌, ◌<◌, ◌^◌, ◌+◌, ◌*◌, ◌∙◌, ◌⊎◌, ℕ, zero, suc, List, [], ◌∷◌, ◌++◌, length, map, take, Option, Some, None, Result, Ok, Err, refl, sym, ap, subst, inl, inr, arith, rules, ⊎_elim}
 use Rattle.std.proofs.lemmas.List.{append-nil, length-map, append_assoc}
 use Rattle.std.specs.Ordering.{nat_cmp}
 use Rattle.std.specs.Prelude.{decimal}
@@ -13,24 +13,31 @@ use Rattle.ob_report.specs.Report.{report}
 use Rattle.ob_seal.specs.Sealing.{Sealing}
 use Rattle.ob_store.specs.declared.event.Event.{Event}
 use Rattle.ob_store.specs.declared.watch.Note.{Note}
-use Rattle.ob_store.specs.Disk.{Disk}
+use Rattle.ob_store.specs.Disk.{Disk, Image}
+use Rattle.ob_store.specs.Images.{LeavesOnly, Settled}
+use Rattle.ob_store.proofs.Moments.{weakened}
+use Rattle.ob_seal.specs.declared.keys.Keys.{Keys}
 use Rattle.ob_store.specs.Calls.{Notes, IsStoreFault}
 use Rattle.ob_store.proofs.Events.{joined, none_noted}
 use Rattle.ob_twin.specs.declared.gates.Open.{Open}
 use Rattle.ob_twin.specs.Register.{place_of}
 use Rattle.ob_twin.specs.Opening.{with_mark}
 use Rattle.ob_serial.specs.Serial.{EpochRecord, Map}
-use Rattle.ob_serial.specs.Vaults.{VaultCall, Fetch, End, VaultAnswer, Values, Ended, RefusedBy, DoubtBy}
+use Rattle.ob_serial.specs.Vaults.{Standing, StandsIn, VaultCall, Fetch, End, VaultAnswer, Values, Ended, RefusedBy, DoubtBy}
 use Rattle.ob_serial.specs.VaultKinds.{Kind, Called, AllCalled, ended_of, ended_by}
 use Rattle.ob_script.specs.Script.{ScriptTxn}
-use Rattle.ob_flat.specs.Calls.{FlatCalled, RefusedDoes, IsCut, IsWorn, Holding}
+use Rattle.ob_flat.specs.Calls.{FlatCalled, RefusedDoes, IsCut, IsWorn, Holding, opened_at}
 use Rattle.ob_flat.specs.Orders.{end_events}
-use Rattle.ob_flat.specs.Standing.{IsMapOf}
+use Rattle.ob_flat.specs.Standing.{IsMapOf, StandsFlat}
+use Rattle.ob_flat.specs.declared.opening.Opening.{Opening}
+use Rattle.ob_flat.specs.Openings.{IsOpenedAt}
+use Rattle.ob_client.specs.Left.{Rests, OnlyNow, IsLeftStanding, IsLeftNow, TellsDoubt, IsNextOf}
+use Rattle.ob_client.proofs.Leaves.{serve_leaves}
 use Rattle.ob_client.specs.Calls.{AreAnswered, IsRefusal, HoldsMap}
 use Rattle.ob_client.specs.Epochs.{record_writes}
 use Rattle.ob_client.specs.Serve.{ServeDone, ServeEnds, IsRefusedLast, IsWritten}
 use Rattle.ob_client.proofs.Chains.{goes_all}
-use Rattle.ob_top.specs.Runs.{ends_events, known_behind, HasCause, IsRefusedEnd, IsReported, IsServed, Serves, fault_of}
+use Rattle.ob_top.specs.Runs.{ends_events, known_behind, HasCause, IsRefusedEnd, IsReported, IsServed, IsLeft, IsNext, ComesNext, Serves, fault_of}
 
 none_ended : (epoch : ℕ) (call : VaultCall) (answer : VaultAnswer) (fault : Fault) → IsRefusal epoch call answer fault → ended_by (call, answer) ≡ []
 none_ended epoch (Fetch keys) answer fault refusal = refl
@@ -231,33 +238,78 @@ module _ {V S : Type 0} (k : Kind V) (disk : S → Disk) (store_of : V → S) (s
         by_call mid (length (ended_of front)) (ap length (sym none ∙ wrote) ∙ length-map records record_writes) (behind first front mid before_it answered) epoch call answer fault refusal one
         (λ store. subst (λ n. Rose (disk (store_of first)).faults n) (faults last) (subst (λ n. Rose n (k.disk last).faults) (faults first) (rose store))) written
 
-  -- what serving does
-  pub serves : (p : Params) (script : List ScriptTxn) (first last : V) (before after : Flow) (values : List (Option (List ℕ))) (result : Result (Unit {0}) Fault)
-      → ServeDone k p (epoch_of first) script first last before after result → p_of first ≡ p → (sealing_of first).next ≡ 0 → ((v : V) → (k.disk v).faults ≡ (disk (store_of v)).faults) → ((m : Map nat_cmp) → IsMapOf values m → HoldsMap k first m)
-      → Serves p (epoch_of first) (known_of first) values script (disk (store_of first)) (disk (store_of last)) before after (fault_of result)
-  serves p script first last before after values result d params fresh faults holds =
-      let e = ending p first last before after d.rest d.records params fresh _ d.steps result d.chain d.wrote d.printed faults d.ends in
-      record {
-        records = d.records;
-        rest = d.rest;
-        is_served = record {
-          front = d.front;
-          script_is = d.script_is;
-          served = d.served;
-          epochs_end = d.epochs_end;
-          in_order = d.in_order;
-          one_by_one = λ m of. (d.one_by_one m (holds m of)).0;
-          replay = λ m of. d.replay m (holds m of);
-        };
-        cause = e.cause;
-        reported = e.reported;
-        more = e.more;
-        refused = e.refused;
-        seen = e.seen;
-        later = subst (λ n. n ≤ (disk (store_of last)).faults) (faults first) (subst (λ n. (k.disk first).faults ≤ n) (faults last) (goes_all k first d.steps last d.chain).faults);
-      }
+  -- what the lender knows of a vault's words
+  pub record IsLender (keys : Keys) (p : Params) (opening : Opening) (first : V) : Type 1 where
+    pub faults : (v : V) → (k.disk v).faults ≡ (disk (store_of v)).faults
+    pub since : (a b : V) (P : Image → Type 0) → LeavesOnly (k.disk a) (k.disk b) P → LeavesOnly (disk (store_of a)) (disk (store_of b)) P
+    pub now : (v : V) (c : Image) → (disk (store_of v)).may_leave c → (k.disk v).may_leave c
+    pub stands : (c : Image) (at : Standing) → k.stands first c at → StandsFlat keys p opening.sealer.generation c at
+    pub only : OnlyNow k
+    pub rests : Rests k
+    pub holds : (m : Map nat_cmp) → IsMapOf opening.values.items m → HoldsMap k first m
+    pub sound : (at : Standing) → (disk (store_of first)).tells → Settled (disk (store_of first)) → IsOpenedAt keys p at opening (disk (store_of first)) → k.sound first (opened_at p at)
+
+  module _ (keys : Keys) (p : Params) (opening : Opening) (script : List ScriptTxn) (first last : V) (before after : Flow) (epoch_is : epoch_of first ≡ opening.epoch) where
+    comes_next : (result : Result (Unit {0}) Fault) (at : Standing) (d : ServeDone k p (epoch_of first) script first last before after result) (next : Option (EpochRecord ℕ)) → at.epoch ≡ epoch_of first → IsNextOf d next → IsNext p (suc at.epoch + length d.records) d.rest next
+    comes_next result at d None same is = tt
+    comes_next result at d (Some r) same (u, the, last_call) = subst (ComesNext p (suc at.epoch + length d.records) d.rest) the (rw same (record {
+      front = u.front;
+      behind = u.behind;
+      rest_is = u.rest_is;
+      epoch_is = u.epoch_is;
+      served = u.served;
+      ends = u.ends;
+    }))
+
+    doubt_told : (result : Result (Unit {0}) Fault) (epoch n : ℕ) → epoch ≡ n → TellsDoubt epoch result → fault_of result ≡ Some (StoreFault (Some n))
+    doubt_told result epoch n same told = ap fault_of told ∙ ap (λ (m : ℕ). Some (StoreFault (Some m))) same
+
+    standing_in : {P Q : Standing → Type 0} (c : Image) → ((at : Standing) → P at → Q at) → (l : IsLender keys p opening first) → StandsIn (k.stands first) P c → StandsIn (StandsFlat keys p opening.sealer.generation) Q c
+    standing_in c to l (at, stands, is) = (at, l.stands c at stands, to at is)
+
+    left : (result : Result (Unit {0}) Fault) (d : ServeDone k p (epoch_of first) script first last before after result) (l : IsLender keys p opening first) (at : Standing)
+        → (disk (store_of first)).tells → Settled (disk (store_of first)) → IsOpenedAt keys p at opening (disk (store_of first))
+        → IsLeft keys p opening.sealer.generation at d.records d.rest (fault_of result) (disk (store_of first)) (disk (store_of last))
+    left result d l at tells settled opened =
+        let v = opened_at p at in
+        let by = serve_leaves k l.only l.rests p (epoch_of first) script first last before after v (l.sound at tells settled opened) refl result d in
+        let same : at.epoch ≡ epoch_of first = sym opened.epoch ∙ sym epoch_is in
+        record {
+          next = by.next;
+          is_next = comes_next result at d by.next same by.is_next;
+          since = weakened (disk (store_of first)) (disk (store_of last)) (StandsIn (k.stands first) (IsLeftStanding v d.records by.next)) (StandsIn (StandsFlat keys p opening.sealer.generation) (IsLeftStanding v d.records by.next))
+          (λ c is. standing_in c (λ s x. x) l is) (l.since first last _ by.since);
+          now = λ c may. standing_in c
+          (λ s x. ⊎_elim (λ e. inl e) (λ (r, is, told, e). inr (r, is, doubt_told result (suc (epoch_of first) + length d.records) (suc at.epoch + length d.records) (ap (λ e. suc e + length d.records) (sym same)) told, e)) x) l (by.now c (l.now last c may));
+        }
+
+    -- what serving does
+    pub serves : (result : Result (Unit {0}) Fault) → ServeDone k p (epoch_of first) script first last before after result → p_of first ≡ p → (sealing_of first).next ≡ 0 → known_of first ≡ opening.gates.epoch → IsLender keys p opening first
+        → Serves keys p opening script (disk (store_of first)) (disk (store_of last)) before after (fault_of result)
+    serves result d params fresh known l =
+        let e = ending p first last before after d.rest d.records params fresh _ d.steps result d.chain d.wrote d.printed l.faults d.ends in
+        record {
+          records = d.records;
+          rest = d.rest;
+          is_served = record {
+            front = d.front;
+            script_is = d.script_is;
+            served = rw (← epoch_is) d.served;
+            epochs_end = d.epochs_end;
+            in_order = d.in_order;
+            one_by_one = λ m of. (d.one_by_one m (l.holds m of)).0;
+            replay = λ m of. d.replay m (l.holds m of);
+          };
+          cause = rw (← epoch_is) e.cause;
+          reported = e.reported;
+          more = e.more;
+          refused = rw (← epoch_is, ← known) e.refused;
+          seen = rw (← epoch_is, ← known) e.seen;
+          later = subst (λ n. n ≤ (disk (store_of last)).faults) (l.faults first) (subst (λ n. (k.disk first).faults ≤ n) (l.faults last) (goes_all k first d.steps last d.chain).faults);
+          left = λ at tells settled opened. left result d l at tells settled opened;
+        }
 
 -- the same by other names
-pub renamed : {S : Type 0} (disk : S → Disk) (p : Params) (e epoch : ℕ) (k known : Open) (values : List (Option (List ℕ))) (t script : List ScriptTxn) (a old b new : S) (before after : Flow) (fault : Option Fault)
-    → e ≡ epoch → k ≡ known → t ≡ script → a ≡ old → new ≡ b → Serves p e k values t (disk a) (disk b) before after fault → Serves p epoch known values script (disk old) (disk new) before after fault
-renamed disk p e epoch k known values t script a old b new before after fault epoch_is known_is script_is old_is new_is s = rw (← epoch_is, ← known_is, ← script_is, ← old_is, new_is) s
+pub renamed : {S : Type 0} (disk : S → Disk) (keys : Keys) (p : Params) (opening : Opening) (t script : List ScriptTxn) (a old b new : S) (before after : Flow) (fault : Option Fault)
+    → t ≡ script → a ≡ old → new ≡ b → Serves keys p opening t (disk a) (disk b) before after fault → Serves keys p opening script (disk old) (disk new) before after fault
+renamed disk keys p opening t script a old b new before after fault script_is old_is new_is s = rw (← script_is, ← old_is, new_is) s

@@ -13,21 +13,24 @@ use Rattle.ob_report.specs.Report.{report}
 use Rattle.ob_store.specs.declared.event.Event.{Event}
 use Rattle.ob_store.specs.declared.event.Event.TheVariants as event
 use Rattle.ob_store.specs.Disk.{Disk, Image}
+use Rattle.ob_store.specs.Images.{Settled, LeavesOnly, Passes, Same}
 use Rattle.ob_store.specs.Calls.{Keeps, Notes, NotesFirst, IsStoreFault}
 use Rattle.ob_twin.specs.declared.gates.Open.{Open}
 use Rattle.ob_twin.specs.Register.{place_of}
 use Rattle.ob_twin.specs.Opening.{GatesAre, with_mark}
 use Rattle.ob_serial.specs.Serial.{EpochRecord, Map, OneByOne, AreInOrder, committed_of}
-use Rattle.ob_serial.specs.Vaults.{Standing}
+use Rattle.ob_serial.specs.Vaults.{Standing, StandsIn}
 use Rattle.ob_script.specs.Script.{ScriptTxn, IsScript, IsFirstBad, limit}
 use Rattle.ob_flat.specs.declared.opening.Opening.{Opening}
 use Rattle.ob_flat.specs.Heads.{IsHead, IsHeadRead}
-use Rattle.ob_flat.specs.Openings.{IsFoundIn, IsOpeningOf, IsOpenFault, IsHeadFault}
+use Rattle.ob_flat.specs.Openings.{IsOpenedAt, IsFoundIn, IsOpeningOf, IsOpenFault, IsHeadFault}
 use Rattle.ob_flat.specs.Orders.{registers_events, open_events, end_events}
 use Rattle.ob_flat.specs.Registers.{Found}
-use Rattle.ob_flat.specs.Standing.{IsMapOf, StandsFlat}
+use Rattle.ob_flat.specs.Standing.{IsMapOf, StandsFlat, Stands, AllStand, StandsAsBefore}
+use Rattle.ob_flat.specs.Calls.{opened_at}
 use Rattle.ob_client.specs.Serve.{IsWritten}
-use Rattle.ob_client.specs.Epochs.{RecordsServed, RecordsReplay, EpochsEnd, contents}
+use Rattle.ob_client.specs.Epochs.{RecordsServed, RecordsReplay, EpochsEnd, EpochServed, EndsCommitted, EndsUncommitted, contents}
+use Rattle.ob_client.specs.Left.{IsLeftStanding, IsLeftNow}
 use Rattle.ob_top.specs.Outside.{Outside}
 
 -- The schedule of a run: the head is read, the store is opened, and each epoch ends. It depends on the number of keys, on the epoch and
@@ -66,6 +69,8 @@ module _ (keys : Keys) (old new : Disk) where
     pub read : old.tells → IsHeadRead keys (old.cells 0) (Err fault)
     pub cause : IsStoreFault fault → Rose old.faults new.faults
     pub keeps : Keeps old new
+    -- a crash leaves what it might have left before
+    pub passes : Passes Same old new
     pub seen : NotesFirst (event.Read 0 ∷ []) old.seen new.seen
 
   -- The input was refused, once the head was read.
@@ -74,6 +79,8 @@ module _ (keys : Keys) (old new : Disk) where
     pub head : old.tells → IsHead keys p (old.cells 0)
     pub refused : IsInputRefused p.keys before after fault
     pub keeps : Keeps old new
+    -- a crash leaves what it might have left before
+    pub passes : Passes Same old new
     pub seen : Notes (event.Read 0 ∷ []) old.seen new.seen
 
   -- Some of the first reads, or all of them and some of what follows.
@@ -92,6 +99,8 @@ module _ (keys : Keys) (old new : Disk) where
     pub read : old.tells → IsOpeningOf keys p.keys old.cells (Err fault)
     pub cause : IsStoreFault fault → Rose old.faults new.faults
     pub seen : OpensPartly p
+    -- each image that a crash leaves stands as one did before
+    pub left : (at : Standing) → old.tells → Stands keys p old.cells at → AllStand keys p old → LeavesOnly old new (StandsAsBefore keys p old)
 
   -- Nothing was run: the head, the input or the opening was refused.
   abbrev pub EndsEarly : Flow → Flow → Fault → Type 0
@@ -139,17 +148,48 @@ abbrev pub IsReported : Flow → Flow → List (EpochRecord ℕ) → Option Faul
 IsReported before after records (Some SinkFault) = IsPrinted before after (report decimal records)
 IsReported before after records _ = IsWritten (report decimal records) before after
 
+-- The record has what comes next in the script, as the transactions of one epoch.
+pub record ComesNext (p : Params) (epoch : ℕ) (rest : List ScriptTxn) (r : EpochRecord ℕ) : Type 0 where
+  pub front : List ScriptTxn
+  pub behind : List ScriptTxn
+  pub rest_is : rest ≡ front ++ behind
+  pub epoch_is : r.epoch ≡ epoch
+  pub served : EpochServed p epoch 1 [] front r.txns
+  pub ends : EndsCommitted r.txns ⊎ ((behind ≡ []) × EndsUncommitted r.txns)
+
+-- the epoch whose end was begun behind those of the records, where one was
+abbrev pub IsNext : Params → ℕ → List ScriptTxn → Option (EpochRecord ℕ) → Type 0
+IsNext p epoch rest None = Unit {0}
+IsNext p epoch rest (Some r) = ComesNext p epoch rest r
+
+-- What a crash leaves of the store, from when it was opened at an epoch and its map: an image that stands for a front of the records laid
+-- over that map, or for all of them and the epoch whose end was begun. At the return it stands for all of them, or, only where that is
+-- answered, for the epoch in doubt as well; so for none below the last one that is reported.
+pub record IsLeft (keys : Keys) (p : Params) (generation : ℕ) (at : Standing) (records : List (EpochRecord ℕ)) (rest : List ScriptTxn) (fault : Option Fault) (old new : Disk) : Type 0 where
+  pub next : Option (EpochRecord ℕ)
+  pub is_next : IsNext p (suc at.epoch + length records) rest next
+  pub since : LeavesOnly old new (StandsIn (StandsFlat keys p generation) (IsLeftStanding (opened_at p at) records next))
+  pub now : (c : Image) → new.may_leave c → StandsIn (StandsFlat keys p generation) (IsLeftNow (opened_at p at) records next (fault ≡ Some (StoreFault (Some (suc at.epoch + length records))))) c
+
 -- What serving does to the store and the output.
-pub record Serves (p : Params) (epoch : ℕ) (known : Open) (values : List (Option (List ℕ))) (script : List ScriptTxn) (old new : Disk) (before after : Flow) (fault : Option Fault) : Type 0 where
+pub record Serves (keys : Keys) (p : Params) (opening : Opening) (script : List ScriptTxn) (old new : Disk) (before after : Flow) (fault : Option Fault) : Type 0 where
   pub records : List (EpochRecord ℕ)
   pub rest : List ScriptTxn
-  pub is_served : IsServed p epoch values script records rest
-  pub cause : HasCause p.keys epoch (length records) old new before after rest fault
+  pub is_served : IsServed p opening.epoch opening.values.items script records rest
+  pub cause : HasCause p.keys opening.epoch (length records) old new before after rest fault
   pub reported : IsReported before after records fault
   pub more : List Event
-  pub refused : IsRefusedEnd p.keys known epoch (length records) fault more
-  pub seen : Notes (ends_events p.keys known epoch (length records) ++ more) old.seen new.seen
+  pub refused : IsRefusedEnd p.keys opening.gates.epoch opening.epoch (length records) fault more
+  pub seen : Notes (ends_events p.keys opening.gates.epoch opening.epoch (length records) ++ more) old.seen new.seen
   pub later : old.faults ≤ new.faults
+  pub left : (at : Standing) → old.tells → Settled old → IsOpenedAt keys p at opening old → IsLeft keys p opening.sealer.generation at records rest fault old new
+
+-- What a crash leaves of a whole run.
+pub record LeftByRun (keys : Keys) (p : Params) (generation : ℕ) (at : Standing) (records : List (EpochRecord ℕ)) (rest : List ScriptTxn) (fault : Option Fault) (old new : Disk) : Type 0 where
+  pub next : Option (EpochRecord ℕ)
+  pub is_next : IsNext p (suc at.epoch + length records) rest next
+  pub since : LeavesOnly old new (λ c. StandsAsBefore keys p old c ⊎ StandsIn (StandsFlat keys p generation) (IsLeftStanding (opened_at p at) records next) c)
+  pub now : (c : Image) → new.may_leave c → StandsIn (StandsFlat keys p generation) (IsLeftNow (opened_at p at) records next (fault ≡ Some (StoreFault (Some (suc at.epoch + length records))))) c
 
 -- The script was run, whole or up to a fault.
 pub record Ran (keys : Keys) (old new : Disk) (before after : Outside) (records : List (EpochRecord ℕ)) (fault : Option Fault) : Type 0 where
@@ -165,6 +205,10 @@ pub record Ran (keys : Keys) (old new : Disk) (before after : Outside) (records 
   pub more : List Event
   pub refused : IsRefusedEnd p.keys opening.gates.epoch opening.epoch (length records) fault more
   pub seen : Notes (begin_events p.keys opening.epoch known opening.sealer.generation ++ (ends_events p.keys opening.gates.epoch opening.epoch (length records) ++ more)) old.seen new.seen
+  -- Where the store stood for an epoch, as did each image that a crash might have left, opening found that, and each image that a crash
+  -- leaves, at any moment of the call, stands as one did before it or as served.
+  pub found : (at : Standing) → old.tells → Stands keys p old.cells at → (opening.epoch ≡ at.epoch) × IsMapOf opening.values.items at.content
+  pub left : (at : Standing) → old.tells → Stands keys p old.cells at → AllStand keys p old → LeftByRun keys p opening.sealer.generation at records rest fault old new
 
 -- The run ended early, and nothing was run; or the script was run.
 abbrev pub Went : Keys → Disk → Disk → Outside → Outside → List (EpochRecord ℕ) → Option Fault → Type 0

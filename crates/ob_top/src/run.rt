@@ -2,12 +2,12 @@ ghost use Rattle.std.specs.Prelude.{◌≡◌, ◌≤◌, ℕ, List, IfOk, IfErr
 ghost use Rattle.ob_base.specs.declared.params.Params.{Params};
 ghost use Rattle.ob_report.specs.Printed.{flow, Flow};
 ghost use Rattle.ob_store.specs.Calls.{GoesOn, Notes};
-ghost use Rattle.ob_store.specs.Images.{Settled};
+ghost use Rattle.ob_store.specs.Images.{Settled, LeavesOnly};
 ghost use Rattle.ob_twin.specs.Opening.{GatesAre};
 ghost use Rattle.ob_twin.specs.declared.gates.Open.{Open};
 ghost use Rattle.ob_serial.specs.Vaults.{Standing};
-ghost use Rattle.ob_flat.specs.Openings.{IsOpenedAt};
-ghost use Rattle.ob_flat.specs.Standing.{StandsFlat};
+ghost use Rattle.ob_flat.specs.Openings.{IsOpenedAt, IsFresh};
+ghost use Rattle.ob_flat.specs.Standing.{Stands, AllStand, StandsAsBefore};
 ghost use Rattle.ob_client.specs.Txns.{ScriptBelow};
 ghost use Rattle.ob_top.specs.Runs.{CameIn, IsInputRefused, EndsEarly, IsOpened, Serves, RunOn, begin_events, fault_of};
 ghost use Rattle.ob_top.specs.Outside.{outside};
@@ -53,7 +53,11 @@ fn begin<S: Store, I: Source>(
     ensures none_out { (S.disk store.new).out ≡ 0 }
     ensures goes { GoesOn (S.disk store.old) (S.disk store.new) }
     ensures params { IfOk result (λ begun. begun.opening.params ≡ begun.params) }
-    ensures none_sealed { IfOk result (λ begun. begun.opening.sealer.next ≡ 0) }
+    ensures sealer { IfOk result (λ begun. IsFresh keys.now begun.opening.sealer) }
+    ensures durable { (S.disk store.old).tells → OnOk result ((S.disk store.new).tells × Settled (S.disk store.new)) }
+    ensures opened { (at : Standing) → (S.disk store.old).tells → IfOk result (λ begun. Stands keys.now begun.params (S.disk store.old).cells at → IsOpenedAt keys.now begun.params at begun.opening (S.disk store.new)) }
+    ensures left { (at : Standing) → (S.disk store.old).tells → IfOk result (λ begun. Stands keys.now begun.params (S.disk store.old).cells at → AllStand keys.now begun.params (S.disk store.old)
+        → LeavesOnly (S.disk store.old) (S.disk store.new) (StandsAsBefore keys.now begun.params (S.disk store.old))) }
     ensures told { (S.disk store.new).tells → IfOk result (λ begun. GatesAre begun.opening.gates.epoch 5 (S.disk store.new).cells) }
     ensures begun { IfOk result (λ begun. (known : Open) × IsOpened keys.now (S.disk store.old) (flow (I.left input.old) (I.faults input.old)) begun.params begun.scripts begun.opening known
         × Notes (begin_events begun.params.keys begun.opening.epoch known begun.opening.sealer.generation) (S.disk store.old).seen (S.disk store.new).seen) }
@@ -81,15 +85,16 @@ fn begin<S: Store, I: Source>(
 fn serve_on<S: Store, O: Sink>(
     alloc: Global,
     store: &mut S,
+    keys: &Keys,
     begun: Begun,
     output: &mut O,
 ) -> Result<(), Fault>
     requires none_out { (S.disk store.old).out ≡ 0 }
     requires params { begun.opening.params ≡ begun.params }
-    requires none_sealed { begun.opening.sealer.next ≡ 0 }
+    requires sealer { IsFresh keys.now begun.opening.sealer }
     requires told { (S.disk store.old).tells → GatesAre begun.opening.gates.epoch 5 (S.disk store.old).cells }
     requires below { ScriptBelow begun.params.keys begun.scripts }
-    ensures { Serves begun.params begun.opening.epoch begun.opening.gates.epoch begun.opening.values.items begun.scripts (S.disk store.old) (S.disk store.new)
+    ensures { Serves keys.now begun.params begun.opening begun.scripts (S.disk store.old) (S.disk store.new)
         (flow (O.written output.old) (O.faults output.old)) (flow (O.written output.new) (O.faults output.new)) (fault_of result) }
 {
     let Begun {
@@ -124,7 +129,7 @@ pub fn run_on<S: Store, I: Source, O: Sink>(
         Ok(begun) => begun,
         Err(fault) => return Err(fault),
     };
-    match serve_on(alloc, store, begun, output) {
+    match serve_on(alloc, store, keys, begun, output) {
         Ok(()) => Ok(()),
         Err(fault) => Err(fault),
     }

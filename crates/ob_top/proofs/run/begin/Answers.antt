@@ -1,6 +1,6 @@
 use Rattle.std.proofs.Common.{inl, inr}
 use Rattle.ob_report.specs.Printed.{flow}
-use Rattle.ob_top.proofs.Beginnings.{opened, unopened}
+use Rattle.ob_top.proofs.Beginnings.{opened, unopened, left_opening, kept}
 use Rattle.ob_top.proofs.run.begin.Goals as goal
 
 pub returns-in-Err-read_script-clause-refused : goal.returns-in-Err-read_script-clause-refused
@@ -9,6 +9,7 @@ returns-in-Err-read_script-clause-refused g c = inr (inl (record {
   head = c.in-Ok.ensures.value;
   refused = c.in-Err-read_script.ensures.refused;
   keeps = c.in-Ok.ensures.keeps;
+  passes = c.in-Ok.ensures.passes;
   seen = c.in-Ok.ensures.seen;
 }))
 
@@ -25,3 +26,14 @@ returns-in-Err-prepare-clause-refused g c =
     let e = c.in-Err-prepare.ensures in
     unopened c.args.keys.now (g.S.Store.disk c.args.store.now) (g.S.Store.disk c.head.new.store) (g.S.Store.disk c.prepare.new.store) _ c.in-Ok.params c.in-Ok-read_script.scripts _ _
     _ c.in-Err-prepare.fault head.value head.keeps head.serves.goes.faults head.seen c.in-Ok-read_script.ensures.came e.faults e.value e.serves.cause e.order_err
+    (λ at tells stands all. left_opening c.args.keys.now c.in-Ok.params (g.S.Store.disk c.args.store.now) (g.S.Store.disk c.head.new.store) (g.S.Store.disk c.prepare.new.store) head.passes head.keeps (g.met.S.Store.only_now c.args.store.now) tells at e.crash stands all)
+
+pub returns-in-Ok-prepare-clause-opened : goal.returns-in-Ok-prepare-clause-opened
+returns-in-Ok-prepare-clause-opened g c = λ at tells stands.
+    let head = c.in-Ok.ensures in
+    c.in-Ok-prepare.ensures.opened at (head.keeps.tells tells) (kept c.args.keys.now c.in-Ok.params (g.S.Store.disk c.args.store.now) (g.S.Store.disk c.head.new.store) (g.S.Store.disk c.prepare.new.store) head.passes head.keeps (g.met.S.Store.only_now c.args.store.now) tells at stands)
+
+pub returns-in-Ok-prepare-clause-left : goal.returns-in-Ok-prepare-clause-left
+returns-in-Ok-prepare-clause-left g c = λ at tells stands all.
+    let head = c.in-Ok.ensures in
+    left_opening c.args.keys.now c.in-Ok.params (g.S.Store.disk c.args.store.now) (g.S.Store.disk c.head.new.store) (g.S.Store.disk c.prepare.new.store) head.passes head.keeps (g.met.S.Store.only_now c.args.store.now) tells at c.in-Ok-prepare.ensures.crash stands all

@@ -11,9 +11,9 @@ serve_on-requires-clause-below g c = let (known, opened, seen) = c.in-Ok.ensures
 pub returns-in-Ok-serve_on : goal.returns-in-Ok-serve_on
 returns-in-Ok-serve_on g c =
     let (known, opened, seen) = c.in-Ok.ensures.begun in
-    ran c.args.keys.now _ _ _ _ _ _ _ c.in-Ok.begun.params c.in-Ok.begun.scripts c.in-Ok.begun.opening known _ c.in-Ok.ensures.goes.faults opened seen c.in-Ok-serve_on.ensures
+    ran c.args.keys.now _ _ _ _ _ _ _ c.in-Ok.begun.params c.in-Ok.begun.scripts c.in-Ok.begun.opening known _ c.in-Ok.ensures.goes.faults opened seen c.in-Ok.ensures.durable c.in-Ok.ensures.opened c.in-Ok.ensures.left c.in-Ok-serve_on.ensures
 
 pub returns-in-Err-serve_on : goal.returns-in-Err-serve_on
 returns-in-Err-serve_on g c =
     let (known, opened, seen) = c.in-Ok.ensures.begun in
-    ran c.args.keys.now _ _ _ _ _ _ _ c.in-Ok.begun.params c.in-Ok.begun.scripts c.in-Ok.begun.opening known _ c.in-Ok.ensures.goes.faults opened seen c.in-Err-serve_on.ensures
+    ran c.args.keys.now _ _ _ _ _ _ _ c.in-Ok.begun.params c.in-Ok.begun.scripts c.in-Ok.begun.opening known _ c.in-Ok.ensures.goes.faults opened seen c.in-Ok.ensures.durable c.in-Ok.ensures.opened c.in-Ok.ensures.left c.in-Err-serve_on.ensures

@@ -1,5 +1,7 @@
 use Rattle.std.proofs.Common.{refl, ℕ, subst, ◌∙◌, ◌≡◌, List, ◌∷◌, Option, ap, sym, rules}
 use Rattle.std.specs.Borrow.{GName}
+use Rattle.ob_base.specs.declared.params.Params.{Params}
+use Rattle.ob_seal.specs.declared.keys.Keys.{Keys}
 use Rattle.ob_seal.specs.Sealing.{Sealing}
 use Rattle.ob_client.proofs.Chains.{goes_all}
 use Rattle.std.specs.Ordering.{nat_cmp}
@@ -7,8 +9,10 @@ use Rattle.ob_serial.specs.Serial.{Map}
 use Rattle.ob_flat.specs.Standing.{IsMapOf}
 use Rattle.ob_flat.specs.Calls.{opened_at}
 use Rattle.ob_serial.specs.Vaults.{Standing}
+use Rattle.ob_store.specs.Images.{Settled}
+use Rattle.ob_flat.specs.Openings.{IsOpenedAt}
 use Rattle.ob_twin.specs.declared.gates.Gates.{Gates}
-use Rattle.ob_top.proofs.Serving.{serves, renamed}
+use Rattle.ob_top.proofs.Serving.{IsLender, serves, renamed}
 use Rattle.ob_top.proofs.run.serve_on.Goals as goal
 
 first_same : (a b : GName) (xs ys : List GName) → ◌≡◌ {A = List GName} (a ∷ xs) (b ∷ ys) → a ≡ b
@@ -19,9 +23,25 @@ returns g c =
     let d = c.serve-ended.ensures.done in
     let names : c.over-arg-1.given ≡ c.into_store-store.result.ghost_name = sym (c.into_store-store.ensures.name ∙ first_same _ _ _ _ (goes_all _ _ d.steps _ d.chain).anchors ∙ c.over-vault.ensures.name) in
     let same = c.store-1.given.1 names in
+    let params = c.over-vault.ensures.params ∙ c.requires.params in
+    let lender : IsLender _ g.S.Store.disk (λ v. v.held.store.now) (λ v. v.held.sealer) (λ v. v.params) (λ v. v.held.gates.epoch) (λ v. v.held.epoch) (λ v. v.values.items) (λ v call answer notes w does. does)
+    c.args.keys.now c.args.begun.params c.args.begun.opening c.over-vault.result = record {
+      faults = λ v. refl;
+      since = λ a b P l. record { later = l.later; each = l.each; before = l.before };
+      now = λ v i left. left;
+      stands = λ i at stands. rw (← c.requires.sealer.keys_are, ← params, ← c.over-vault.ensures.sealer) stands;
+      only = λ w i left. g.met.S.Store.only_now w.held.store.now i left;
+      rests = λ w v i sound left. sound.images i left;
+      holds = λ m of. let at : Standing = record { epoch = c.args.begun.opening.epoch; content = m } in (opened_at c.args.begun.opening.params at, c.over-vault.ensures.holds at refl of, refl);
+      sound = λ at tells settled opened. rw (← c.requires.params) (c.over-vault.ensures.sound at
+      (subst (λ x. (g.S.Store.disk x).tells) c.over-vault.ensures.store tells)
+      (subst (λ x. Settled (g.S.Store.disk x)) c.over-vault.ensures.store settled)
+      (subst (λ (x : Keys). IsOpenedAt x c.args.begun.opening.params at c.args.begun.opening (g.S.Store.disk c.args.store.now)) (sym c.requires.sealer.keys_are)
+      (subst (λ (x : Params). IsOpenedAt c.args.keys.now x at c.args.begun.opening (g.S.Store.disk c.args.store.now)) (sym c.requires.params)
+      (subst (λ x. IsOpenedAt c.args.keys.now c.args.begun.params at c.args.begun.opening (g.S.Store.disk x)) c.over-vault.ensures.store opened))));
+    } in
     let s = serves _ g.S.Store.disk (λ v. v.held.store.now) (λ v. v.held.sealer) (λ v. v.params) (λ v. v.held.gates.epoch) (λ v. v.held.epoch) (λ v. v.values.items) (λ v call answer notes w does. does)
-    c.args.begun.params _ c.over-vault.result c.serve-ended.new.vault _ _ c.args.begun.opening.values.items c.serve-ended.result
-    c.serve-ended.ensures.done (c.over-vault.ensures.params ∙ c.requires.params) (ap (λ (x : Sealing). x.next) c.over-vault.ensures.sealer ∙ c.requires.none_sealed) (λ v. refl)
-    (λ m of. let at : Standing = record { epoch = c.args.begun.opening.epoch; content = m } in (opened_at c.args.begun.opening.params at, c.over-vault.ensures.holds at refl of, refl)) in
-    renamed g.S.Store.disk c.args.begun.params _ c.args.begun.opening.epoch _ c.args.begun.opening.gates.epoch c.args.begun.opening.values.items _ c.args.begun.scripts _ c.args.store.now _ c.store-1.given.0 _ _ _
-    c.over-vault.ensures.epoch (ap (λ (x : Gates). x.epoch) c.over-vault.ensures.gates) c.txns.ensures c.over-vault.ensures.store (same ∙ c.into_store-store.ensures.store) s
+    c.args.keys.now c.args.begun.params c.args.begun.opening _ c.over-vault.result c.serve-ended.new.vault _ _ c.over-vault.ensures.epoch c.serve-ended.result
+    d params (ap (λ (x : Sealing). x.next) c.over-vault.ensures.sealer ∙ c.requires.sealer.none_sealed) (ap (λ (x : Gates). x.epoch) c.over-vault.ensures.gates) lender in
+    renamed g.S.Store.disk c.args.keys.now c.args.begun.params c.args.begun.opening _ c.args.begun.scripts _ c.args.store.now _ c.store-1.given.0 _ _ _
+    c.txns.ensures c.over-vault.ensures.store (same ∙ c.into_store-store.ensures.store) s
