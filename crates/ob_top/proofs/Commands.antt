@@ -102,7 +102,7 @@ module _ (before mid after : Outside) (status : ℕ) where
             (kept, only_told Usage same input now.status_is now.line)
         by_refusal (inr (field, bad, format, number)) = absurd (true_false (is_format words) format no_format)
     usage_done fault (inl (f, is, inr (form, bad), kept, same)) done no_run no_format = absurd (no_form form no_run no_format)
-    usage_done fault (inr (keys, has, inl (p, format, are, ends, kept))) done no_run no_format = absurd (true_false (is_format words) format no_format)
+    usage_done fault (inr (keys, has, inl (p, format, are, ends, leaves, kept))) done no_run no_format = absurd (true_false (is_format words) format no_format)
     usage_done fault (inr (keys, has, inr (run, rest))) done no_run no_format = absurd (true_false (is_run words) run no_run)
 
     -- the keys are refused
@@ -117,7 +117,7 @@ module _ (before mid after : Outside) (status : ℕ) where
         by_refusal (inr (field, bad, is_format, number)) = inl (field, number, kept, bad_number fault f field is bad same input done)
     format_does fault (inl (f, is, inr (inl run, bad), kept, same)) done format = absurd (one_form words run format)
     format_does fault (inl (f, is, inr (inr (p, also, are), bad), kept, same)) done format = inr (p, are, inl (keys_tell fault f is bad kept same done))
-    format_does fault (inr (keys, has, inl (p, format, are, ends, same))) done also = inr (p, are, inr (keys, has, format_done keys p (disk old) (disk new) before mid after status fault ends same input done))
+    format_does fault (inr (keys, has, inl (p, format, are, ends, leaves, same))) done also = inr (p, are, inr (keys, has, format_done keys p (disk old) (disk new) before mid after status fault ends leaves same input done))
     format_does fault (inr (keys, has, inr (run, rest))) done format = absurd (one_form words run format)
 
     pub run_does : (fault : Option Fault) → CommandDoes disk words text old new before mid fault → IsFinished mid.output after.output fault status → is_run words ≡ true → RunTells
@@ -127,7 +127,7 @@ module _ (before mid after : Outside) (status : ℕ) where
         by_refusal (inl (usage, no_run, format)) = absurd (true_false (is_run words) run no_run)
         by_refusal (inr (field, bad, format, number)) = absurd (one_form words run format)
     run_does fault (inl (f, is, inr (form, bad), kept, same)) done run = inl (keys_tell fault f is bad kept same done)
-    run_does fault (inr (keys, has, inl (p, format, are, ends, kept))) done run = absurd (one_form words run format)
+    run_does fault (inr (keys, has, inl (p, format, are, ends, leaves, kept))) done run = absurd (one_form words run format)
     run_does fault (inr (keys, has, inr (also, on))) done run = inr (keys, has, run_done keys (disk old) (disk new) before mid after input status fault on done)
 
   -- without a store

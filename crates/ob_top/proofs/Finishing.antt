@@ -17,6 +17,8 @@ use Rattle.ob_report.specs.Sizes.{size_line}
 use Rattle.ob_flat.specs.Places.{cells}
 use Rattle.ob_script.specs.Script.{ScriptTxn}
 use Rattle.ob_store.specs.Disk.{Disk}
+use Rattle.ob_store.specs.Images.{LeavesOnly}
+use Rattle.ob_flat.specs.Formats.{FormatLeaves}
 use Rattle.ob_serial.specs.Serial.{EpochRecord}
 use Rattle.ob_top.specs.Outside.{Outside, LineTold, IsFinished}
 use Rattle.ob_top.specs.Formats.{FormatEnds, FormatTold, FormatDone}
@@ -155,11 +157,12 @@ module _ (keys : Keys) (p : Params) (old new : Disk) (before mid after : Flow) w
   format_told (Some (Worn number)) ends line = absurd ends
   format_told (Some SourceFault) ends line = absurd ends
 
-pub format_done : (keys : Keys) (p : Params) (old new : Disk) (before mid after : Outside) (status : ℕ) (fault : Option Fault) → FormatEnds keys p old new before.output mid.output fault → mid.input ≡ before.input → after.input ≡ mid.input
+pub format_done : (keys : Keys) (p : Params) (old new : Disk) (before mid after : Outside) (status : ℕ) (fault : Option Fault) → FormatEnds keys p old new before.output mid.output fault → (old.tells → LeavesOnly old new (FormatLeaves keys p.keys old)) → mid.input ≡ before.input → after.input ≡ mid.input
     → IsFinished mid.output after.output fault status → FormatDone keys p old new before after status
-format_done keys p old new before mid after status fault ends first second f = record {
+format_done keys p old new before mid after status fault ends leaves first second f = record {
   fault = fault;
   status_is = f.status_is;
   untouched = second ∙ first;
   told = format_told keys p old new before.output mid.output after.output fault ends f.line;
+  left = leaves;
 }

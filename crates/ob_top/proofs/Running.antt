@@ -75,8 +75,8 @@ left_both keys old mid new p opening at records rest fault first l = record {
   next = l.next;
   is_next = l.is_next;
   since = then_on old mid new (λ c. StandsAsBefore keys p old c ⊎ StandsIn (StandsFlat keys p opening.sealer.generation) (IsLeftStanding (opened_at p at) records l.next) c)
-  (weakened old mid (StandsAsBefore keys p old) (λ c. StandsAsBefore keys p old c ⊎ StandsIn (StandsFlat keys p opening.sealer.generation) (IsLeftStanding (opened_at p at) records l.next) c) (λ c is. inl is) first)
-  (weakened mid new (StandsIn (StandsFlat keys p opening.sealer.generation) (IsLeftStanding (opened_at p at) records l.next)) (λ c. StandsAsBefore keys p old c ⊎ StandsIn (StandsFlat keys p opening.sealer.generation) (IsLeftStanding (opened_at p at) records l.next) c) (λ c is. inr is) l.since);
+      (weakened old mid (StandsAsBefore keys p old) (λ c. StandsAsBefore keys p old c ⊎ StandsIn (StandsFlat keys p opening.sealer.generation) (IsLeftStanding (opened_at p at) records l.next) c) (λ c is. inl is) first)
+      (weakened mid new (StandsIn (StandsFlat keys p opening.sealer.generation) (IsLeftStanding (opened_at p at) records l.next)) (λ c. StandsAsBefore keys p old c ⊎ StandsIn (StandsFlat keys p opening.sealer.generation) (IsLeftStanding (opened_at p at) records l.next) c) (λ c is. inr is) l.since);
   now = l.now;
 }
 
@@ -105,6 +105,6 @@ ran keys old mid new input input_new output output_new p script opening known fa
     seen = joined (begin_events p.keys opening.epoch known opening.sealer.generation) (ends_events p.keys opening.gates.epoch opening.epoch (length s.records) ++ s.more) old.seen mid.seen new.seen seen s.seen;
     found = λ at tells stands. let is = stood at tells stands in (is.epoch, is.content);
     left = λ at tells stands all. let (told, settled) = durable tells in
-    left_both keys old mid new p opening at s.records s.rest fault (before at tells stands all) (s.left at told settled (stood at tells stands));
+        left_both keys old mid new p opening at s.records s.rest fault (before at tells stands all) (s.left at told settled (stood at tells stands));
   });
 }

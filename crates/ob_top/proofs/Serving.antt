@@ -278,9 +278,9 @@ module _ {V S : Type 0} (k : Kind V) (disk : S → Disk) (store_of : V → S) (s
           next = by.next;
           is_next = comes_next result at d by.next same by.is_next;
           since = weakened (disk (store_of first)) (disk (store_of last)) (StandsIn (k.stands first) (IsLeftStanding v d.records by.next)) (StandsIn (StandsFlat keys p opening.sealer.generation) (IsLeftStanding v d.records by.next))
-          (λ c is. standing_in c (λ s x. x) l is) (l.since first last _ by.since);
+              (λ c is. standing_in c (λ s x. x) l is) (l.since first last _ by.since);
           now = λ c may. standing_in c
-          (λ s x. ⊎_elim (λ e. inl e) (λ (r, is, told, e). inr (r, is, doubt_told result (suc (epoch_of first) + length d.records) (suc at.epoch + length d.records) (ap (λ e. suc e + length d.records) (sym same)) told, e)) x) l (by.now c (l.now last c may));
+              (λ s x. ⊎_elim (λ e. inl e) (λ (r, is, told, e). inr (r, is, doubt_told result (suc (epoch_of first) + length d.records) (suc at.epoch + length d.records) (ap (λ e. suc e + length d.records) (sym same)) told, e)) x) l (by.now c (l.now last c may));
         }
 
     -- what serving does

@@ -11,7 +11,8 @@ use Rattle.ob_report.specs.Faults.{status_of, fault_line}
 use Rattle.ob_report.specs.Sizes.{size_line}
 use Rattle.ob_report.specs.Printed.{Flow, IsPrinted}
 use Rattle.ob_store.specs.Disk.{Disk, Image}
-use Rattle.ob_store.specs.Images.{Settled}
+use Rattle.ob_store.specs.Images.{Settled, LeavesOnly}
+use Rattle.ob_flat.specs.Formats.{FormatLeaves}
 use Rattle.ob_store.specs.Calls.{Notes, NotesFirst}
 use Rattle.ob_serial.specs.Vaults.{Standing}
 use Rattle.ob_flat.specs.Places.{cells}
@@ -52,3 +53,5 @@ pub record FormatDone (keys : Keys) (p : Params) (old new : Disk) (before after 
   pub status_is : status ≡ status_of fault
   pub untouched : after.input ≡ before.input
   pub told : FormatTold keys p old new before.output after.output fault
+  -- A crash at any moment leaves what is no store, or a torn head; or, behind the last sync, the empty store.
+  pub left : old.tells → LeavesOnly old new (FormatLeaves keys p.keys old)

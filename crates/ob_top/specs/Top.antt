@@ -8,6 +8,8 @@ use Rattle.ob_base.specs.declared.fault.Fault.TheVariants.{Usage, BadParams, Sto
 use Rattle.std.specs.Borrow.{Bor}
 use Rattle.ob_seal.specs.declared.keys.Keys.{Keys}
 use Rattle.ob_store.specs.Disk.{Disk}
+use Rattle.ob_store.specs.Images.{LeavesOnly}
+use Rattle.ob_flat.specs.Formats.{FormatLeaves}
 use Rattle.ob_top.specs.Words.{is_run, is_format, AreParams, IsBadNumber, IsRefusedFor, HasKeys, IsKeysRefused}
 use Rattle.ob_top.specs.Outside.{Outside, Left, OfStore, IsOnlyTold}
 use Rattle.ob_top.specs.Formats.{FormatEnds, FormatDone}
@@ -29,7 +31,8 @@ IsRefusedWithout words text fault = IsRefusedBefore words text fault ⊎ (IsGood
 abbrev pub CommandDoes : {S : Type 0} → (S → Disk) → List (List ℕ) → Option (Bor (List ℕ)) → S → S → Outside → Outside → Option Fault → Type 0
 CommandDoes disk words text old new before after fault =
     ((f : Fault) × (fault ≡ Some f) × IsRefusedBefore words text f × (new ≡ old) × (after ≡ before))
-    ⊎ ((keys : Keys) × HasKeys text keys × (((p : Params) × (is_format words ≡ true) × AreParams words p × FormatEnds keys p (disk old) (disk new) before.output after.output fault × (after.input ≡ before.input))
+    ⊎ ((keys : Keys) × HasKeys text keys × (((p : Params) × (is_format words ≡ true) × AreParams words p × FormatEnds keys p (disk old) (disk new) before.output after.output fault
+    × ((disk old).tells → LeavesOnly (disk old) (disk new) (FormatLeaves keys p.keys (disk old))) × (after.input ≡ before.input))
     ⊎ ((is_run words ≡ true) × RunOn keys (disk old) (disk new) before after fault)))
 
 module _ {S : Type 0} (disk : S → Disk) (words : List (List ℕ)) (text : Option (Bor (List ℕ))) (entry : Option (MutBor S)) (exit : Left S) (before after : Outside) (status : ℕ) where

@@ -34,11 +34,11 @@ returns g c =
       rests = λ w v i sound left. sound.images i left;
       holds = λ m of. let at : Standing = record { epoch = c.args.begun.opening.epoch; content = m } in (opened_at c.args.begun.opening.params at, c.over-vault.ensures.holds at refl of, refl);
       sound = λ at tells settled opened. rw (← c.requires.params) (c.over-vault.ensures.sound at
-      (subst (λ x. (g.S.Store.disk x).tells) c.over-vault.ensures.store tells)
-      (subst (λ x. Settled (g.S.Store.disk x)) c.over-vault.ensures.store settled)
-      (subst (λ (x : Keys). IsOpenedAt x c.args.begun.opening.params at c.args.begun.opening (g.S.Store.disk c.args.store.now)) (sym c.requires.sealer.keys_are)
-      (subst (λ (x : Params). IsOpenedAt c.args.keys.now x at c.args.begun.opening (g.S.Store.disk c.args.store.now)) (sym c.requires.params)
-      (subst (λ x. IsOpenedAt c.args.keys.now c.args.begun.params at c.args.begun.opening (g.S.Store.disk x)) c.over-vault.ensures.store opened))));
+          (subst (λ x. (g.S.Store.disk x).tells) c.over-vault.ensures.store tells)
+          (subst (λ x. Settled (g.S.Store.disk x)) c.over-vault.ensures.store settled)
+          (subst (λ (x : Keys). IsOpenedAt x c.args.begun.opening.params at c.args.begun.opening (g.S.Store.disk c.args.store.now)) (sym c.requires.sealer.keys_are)
+          (subst (λ (x : Params). IsOpenedAt c.args.keys.now x at c.args.begun.opening (g.S.Store.disk c.args.store.now)) (sym c.requires.params)
+          (subst (λ x. IsOpenedAt c.args.keys.now c.args.begun.params at c.args.begun.opening (g.S.Store.disk x)) c.over-vault.ensures.store opened))));
     } in
     let s = serves _ g.S.Store.disk (λ v. v.held.store.now) (λ v. v.held.sealer) (λ v. v.params) (λ v. v.held.gates.epoch) (λ v. v.held.epoch) (λ v. v.values.items) (λ v call answer notes w does. does)
     c.args.keys.now c.args.begun.params c.args.begun.opening _ c.over-vault.result c.serve-ended.new.vault _ _ c.over-vault.ensures.epoch c.serve-ended.result
