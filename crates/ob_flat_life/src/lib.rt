@@ -15,3 +15,6 @@ pub fn pads_are_fresh<S: Store>()
     ensures fresh { PadsAreFresh (λ store. S.disk store) }
     ensures durable { GenerationsAreDurable (λ store. S.disk store) }
 {}
+
+#[cfg(test)]
+mod tests;
