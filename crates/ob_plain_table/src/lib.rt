@@ -10,3 +10,6 @@ mod table;
 mod visits;
 
 pub use table::{PlaceShown, PlainTable, Read, Row, Shown, Spot};
+
+#[cfg(test)]
+mod tests;
