@@ -8,6 +8,7 @@ pub mod FillParts
 pub mod Fills
 pub mod Forgetting
 pub mod JobLaws
+pub mod KeysLow
 pub mod LiftLaws
 pub mod LiftOrder
 pub mod Listing

@@ -77,12 +77,13 @@ impl Ring {
         Ring { params: *p, tables }
     }
 
-    /// The tables.
+    /// The tables, which obey the ring's rules.
     pub fn tables(&self) -> &Tables<Metas>
         ensures book { result.now.book ≡ self.now.book }
         ensures metas { result.now.metas ≡ self.now.metas }
         ensures stash { result.now.stash ≡ self.now.stash }
         ensures counter { result.now.counter ≡ self.now.counter }
+        ensures rules { IsRing self.now }
     {
         &self.tables
     }
@@ -104,6 +105,7 @@ impl Ring {
         ensures rooms { (jobs.new.room ≡ jobs.old.room) × (jobs.new.place_room ≡ jobs.old.place_room) }
         ensures labels { (k : ℕ) → entry_at self.new.book k ≡ after_labels (λ i. entry_at self.old.book i) (places_of self.old.p asks.now words.now first (length asks.now)) k }
         ensures seals { SameSeals (record self.old.metas { order = [] }) self.new.metas }
+        ensures keys { (t : FlatTable) → StandsFor self.old t → (i : ℕ) → IfSome (job_at jobs.new.jobs i).key (λ k. k < self.old.p.keys) }
         ensures planned { (t : FlatTable) → StandsFor self.old t → IsBatch self.old self.new jobs.new (places_of self.old.p asks.now words.now first (length asks.now)) t }
     {
         jobs.clear();
@@ -128,6 +130,7 @@ impl Ring {
         ensures places { jobs.new.places ≡ [] }
         ensures seals { SameSeals (record self.old.metas { order = self.new.metas.order }) self.new.metas }
         ensures listed { IsListed self.new }
+        ensures keys { (t : FlatTable) → StandsFor self.old t → (i : ℕ) → IfSome (job_at jobs.new.jobs i).key (λ k. k < self.old.p.keys) }
         ensures planned { (t : FlatTable) → StandsFor self.old t → IsLifting self.old self.new jobs.new t }
     {
         jobs.clear();

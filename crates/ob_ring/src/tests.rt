@@ -147,6 +147,7 @@ fn too_many_rows_are_left(rt: HostRuntime) {
     let p = tiny().expect(&rt, "parameters in range");
     let mut ring = Ring::empty(rt.alloc(), &p).expect(&rt, "memory");
     let mut jobs = Jobs::new(rt.alloc(), &p).expect(&rt, "memory");
+    ring.plan_fetch(&[None], &[0], (2, 0), &mut jobs);
     ring.plan_lifts(&mut jobs);
     let value = Value::new(&[97]).expect(&rt, "few bytes");
     put(&mut ring, 0, value);
