@@ -1,0 +1,3 @@
+pub mod Compares
+pub mod Indexed
+pub mod Marks
