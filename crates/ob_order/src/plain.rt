@@ -2,7 +2,7 @@
 
 mod batches;
 mod order;
-mod read_off;
+pub mod read_off;
 
 pub use order::Order;
 pub use read_off::Work;

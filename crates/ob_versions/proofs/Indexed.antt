@@ -19,7 +19,7 @@ use Rattle.ob_versions.proofs.Marks.{mark_other, mark_here, mark_begun, mark_sam
 
 -- ---- the newest version
 
-none_newest : (ws : List Work) (n k : ℕ) → ((q : ℕ) → q ≤ n → version ws q k ≡ None) → newest ws n k ≡ None
+pub none_newest : (ws : List Work) (n k : ℕ) → ((q : ℕ) → q ≤ n → version ws q k ≡ None) → newest ws n k ≡ None
 none_newest ws zero k h = refl
 none_newest ws (suc n) k h = newest_lower ws n k (h (suc n) (omega arith)) ∙ none_newest ws n k (λ q l. h q (omega arith))
 

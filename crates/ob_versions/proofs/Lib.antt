@@ -1,3 +1,7 @@
 pub mod Compares
+pub mod Counted
 pub mod Indexed
+pub mod Kept
 pub mod Marks
+pub mod Sources
+pub mod Unlinks

@@ -1,8 +1,8 @@
 -- How the marks move with the works.
-use Rattle.std.proofs.Common.{◌≡◌, ℕ, zero, suc, max, ◌+◌, ◌<◌, ◌≤◌, Bool, true, false, ◌==◌, ◌&&◌, ◌||◌, if◌then◌else◌, List, [], ◌∷◌, ◌++◌, length, Option, None, Some, option_map, unwrap_or, slice_get, refl, sym, ap, ap₂, ◌∙◌, subst, ⊎_elim, arith, eq-eqb, ne_eqb, length-append}
+use Rattle.std.proofs.Common.{◌≡◌, ℕ, zero, suc, max, ◌+◌, ◌<◌, ◌≤◌, Bool, true, false, ◌==◌, ◌&&◌, ◌||◌, if◌then◌else◌, List, [], ◌∷◌, ◌++◌, length, Option, None, Some, option_map, option_and_then, unwrap_or, slice_get, refl, sym, ap, ap₂, ◌∙◌, subst, ⊎_elim, arith, eq-eqb, ne_eqb, length-append}
 use Rattle.std.specs.List.{list_any}
 use Rattle.std.proofs.lemmas.Bool.{cases_eq, false≢true}
-use Rattle.ob_order.specs.Works.{Op, Get, Work, at_ticket, add_op, with_op, is_get_of, has_get, has_read, greatest, mark}
+use Rattle.ob_order.specs.Works.{Op, Get, Work, at_ticket, edit, version, version_in, add_op, with_op, is_get_of, has_get, has_read, greatest, mark}
 use Rattle.ob_order.specs.Order.{fresh}
 use Rattle.ob_order.proofs.Edits.{at_edit_same, at_edit_other, length-edit, slice_get-push}
 use Rattle.ob_order.proofs.Falls.{ops_at}
@@ -117,3 +117,31 @@ mark_begun ws k s =
     same : (u : ℕ) → has_read (ws ++ fresh ∷ []) k s u ≡ has_read ws k s u
     same zero = refl
     same (suc u) = ⊎_elim (λ old. ap read old) (λ last. ap read last.2 ∙ sym (ap read last.1)) (slice_get-push ws fresh u)
+
+-- who keeps its operations
+pub ops_edit : (f : Work → Work) (ws : List Work) (t : ℕ) → ((w : Work) → (f w).ops ≡ w.ops) → (u : ℕ) → ops_at (edit f ws t) u ≡ ops_at ws u
+ops_edit f ws t keeps u = ⊎_elim
+    (λ same. subst (λ q. ops_at (edit f ws t) q ≡ ops_at ws q) (sym same) (ap (option_map (λ w. w.ops)) (at_edit_same f ws t) ∙ kept (at_ticket ws t)))
+    (λ other. ap (option_map (λ w. w.ops)) (at_edit_other f ws t u other))
+    (cases_eq u t)
+  where
+    kept : (o : Option Work) → option_map (λ w. w.ops) (option_map f o) ≡ option_map (λ w. w.ops) o
+    kept None = refl
+    kept (Some w) = ap Some (keeps w)
+
+pub version_edit : (f : Work → Work) (ws : List Work) (t : ℕ) → ((w : Work) (k : ℕ) → version_in (f w) k ≡ version_in w k) → (u k : ℕ) → version (edit f ws t) u k ≡ version ws u k
+version_edit f ws t keeps u k = ⊎_elim
+    (λ same. subst (λ q. version (edit f ws t) q k ≡ version ws q k) (sym same) (ap (option_and_then (λ w. version_in w k)) (at_edit_same f ws t) ∙ kept (at_ticket ws t)))
+    (λ other. ap (option_and_then (λ w. version_in w k)) (at_edit_other f ws t u other))
+    (cases_eq u t)
+  where
+    kept : (o : Option Work) → option_and_then (λ w. version_in w k) (option_map f o) ≡ option_and_then (λ w. version_in w k) o
+    kept None = refl
+    kept (Some w) = keeps w k
+
+pub version_begun : (ws : List Work) (u k : ℕ) → version (ws ++ fresh ∷ []) u k ≡ version ws u k
+version_begun ws zero k = refl
+version_begun ws (suc u) k = ⊎_elim
+    (λ old. ap (option_and_then (λ w. version_in w k)) old)
+    (λ last. ap (option_and_then (λ w. version_in w k)) last.2 ∙ sym (ap (option_and_then (λ w. version_in w k)) last.1))
+    (slice_get-push ws fresh u)

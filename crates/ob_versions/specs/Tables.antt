@@ -1,10 +1,14 @@
 -- The versions of all keys, as the code keeps them.
-use Rattle.std.specs.Prelude.{ℕ, zero, suc, max, ◌≡◌, Bool, false, nat_lt, nat_eq, is_some, true}
+use Rattle.std.specs.Prelude.{ℕ, zero, suc, max, ◌≡◌, ◌<◌, Bool, false, nat_lt, nat_eq, ◌==◌, ◌&&◌, if◌then◌else◌, is_some, true}
 use Rattle.std.specs.Option.{option_map, option_and_then, unwrap_or}
 use Rattle.std.specs.declared.option.Option.{Option}
 use Rattle.std.specs.declared.option.Option.TheVariants.{None, Some}
 use Rattle.std.specs.HashMap as hash
 use Rattle.ob_versions.specs.Chains.{Link, Chain, link_in, links_in}
+
+-- read by this ticket too
+abbrev pub raised : ℕ → Link → Link
+raised reader l = record l { mark = max l.mark reader }
 
 module _ {S : Type 0} where
   -- key k's versions
@@ -39,6 +43,7 @@ module _ {S : Type 0} where
   abbrev pub KeepsRoom : hash.HashMap ℕ Chain S → hash.HashMap ℕ Chain S → Type 0
   KeepsRoom m n = (k : ℕ) → is_some (chain_at m k) ≡ true → is_some (chain_at n k) ≡ true
 
--- read by this ticket too
-abbrev pub raised : ℕ → Link → Link
-raised reader l = record l { mark = max l.mark reader }
+  -- what ticket s wrote of key k was read by this reader too, or the value that the epoch began with where s is 0
+  pub record IsRaised (m n : hash.HashMap ℕ Chain S) (k s reader : ℕ) : Type 0 where
+    pub from_write : 0 < s → ((j u : ℕ) → link_at n j u ≡ (if (k == j) && (s == u) then option_map (raised reader) (link_at m j u) else link_at m j u)) × SameBases m n
+    pub from_base : s ≡ 0 → SameLinks m n × ((j : ℕ) → base_mark n j ≡ (if k == j then max (base_mark m j) reader else base_mark m j))

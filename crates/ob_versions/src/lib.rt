@@ -2,6 +2,8 @@
 #![tactic(auto)]
 
 mod chain;
+mod ledger;
 mod table;
+mod unlink;
 
-pub use chain::{Chain, Link};
+pub use ledger::Ledger;

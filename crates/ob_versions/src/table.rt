@@ -90,6 +90,7 @@ pub fn take(table: &mut Table, key: Key, t: u64) -> bool
     ensures last { result ≡ (has_links table.old key && not (has_links table.new key)) }
     ensures links { (k u : ℕ) → link_at table.new k u ≡ (if (key == k) && (t == u) then None else link_at table.old k u) }
     ensures keys { (k : ℕ) → (key ≡ k → ⊥) → has_links table.new k ≡ has_links table.old k }
+    ensures fewer { has_links table.new key ≡ true → has_links table.old key ≡ true }
     ensures bases { SameBases table.old table.new }
     ensures room { KeepsRoom table.old table.new }
 {
