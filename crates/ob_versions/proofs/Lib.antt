@@ -1,5 +1,6 @@
 pub mod Compares
 pub mod Counted
+pub mod Falling
 pub mod Indexed
 pub mod Kept
 pub mod Marks

@@ -1,6 +1,6 @@
 //! What the transactions of an epoch did, by ticket, with the chains of their versions.
 
-ghost use Rattle.std.specs.Prelude.{◌≡◌, ℕ, ◌+◌, ◌-◌, ◌<◌, ◌≤◌, length, true, not, ◌&&◌, ◌==◌, if◌then◌else◌, is_some, IfOk, OnOk, OnErr, MatchOption, Some, None, [], ◌∷◌, ◌++◌, map};
+ghost use Rattle.std.specs.Prelude.{◌≡◌, ℕ, ◌+◌, ◌-◌, ◌<◌, ◌≤◌, length, true, not, ◌&&◌, ◌==◌, if◌then◌else◌, is_some, IfOk, OnOk, OnErr, MatchOption, get_or, set, Some, None, [], ◌∷◌, ◌++◌, map};
 ghost use Rattle.ob_order.specs.Works as works;
 ghost use Rattle.ob_order.specs.Order as rules;
 
@@ -15,7 +15,7 @@ use crate::table::{
 use crate::unlink::{count_where, unlink_at};
 use ob_base::{Key, Memory, Op, Value};
 use ob_order::plain::read_off::{
-    add_awaited, add_to, end_in, fall_in, make_wait, set_waiting,
+    add_awaited, add_to, end_in, fall_in, fell_on, make_wait, set_waiting,
 };
 use ob_order::{Fate, Version, Work};
 use std::alloc::Global;
@@ -139,6 +139,27 @@ fn put_write(
             set_waiting(list, t as usize, waiting);
             Err(error)
         }
+    }
+}
+
+// Whether the work at a place isn't aborted.
+fn goes_on_at(list: &[Work], n: usize) -> bool
+    requires { n < length list.now }
+    ensures { (w : works.Work) → w ≡ get_or list.now n w → result ≡ works.is_going w.fate }
+{
+    let work = &list[n];
+    matches!(work.fate, Fate::Going)
+}
+
+// The least source of the work at a place that is aborted, where it goes on.
+fn falls_on(list: &[Work], n: usize) -> Option<u64>
+    requires { n < length list.now }
+    ensures { (w : works.Work) → w ≡ get_or list.now n w → result ≡ (if works.is_going w.fate then works.least_source (works.is_gone list.now) w.ops else None) }
+{
+    if goes_on_at(list, n) {
+        fell_on(list, n)
+    } else {
+        None
     }
 }
 
@@ -320,5 +341,48 @@ impl Ledger {
     {
         self.written -= unlink_at(&mut self.table, &self.works, t, self.keys);
         fall_in(&mut self.works, t as usize, on);
+    }
+
+    // The work at a place falls because of its least source that is aborted, where it has one and
+    // goes on.
+    fn fall(&mut self, n: u64)
+        requires { n < length self.old.works }
+        ensures { (w : works.Work) → w ≡ get_or self.old.works n w → self.new ≡ record self.old { works = set self.old.works n (works.fall (works.least_source (works.is_gone self.old.works) w.ops) w) } }
+    {
+        if let Some(on) = falls_on(&self.works, n as usize) {
+            self.fall_to(n + 1, on);
+        }
+    }
+
+    /// Aborts ticket t, which isn't aborted, and with it each that depends on it, directly or not.
+    #[tactic(auto, using(ob_order::proofs::Steps::live_above, ob_order::proofs::Steps::live_within))]
+    pub fn abort(&mut self, t: u64)
+        requires live { works.goes_on self.old.works t ≡ true }
+        requires tidy { works.Tidy self.old.works }
+        ensures { self.new ≡ record self.old { works = works.aborted self.old.works t } }
+    {
+        self.end(t);
+        for n in 0..self.len() {
+            self.fall(n);
+        }
+    }
+
+    // Stops the work at a place, if it goes on.
+    fn stop_one(&mut self, n: u64)
+        requires { n < length self.old.works }
+        ensures { (w : works.Work) → w ≡ get_or self.old.works n w → self.new ≡ record self.old { works = set self.old.works n (works.stop_work w) } }
+    {
+        if goes_on_at(&self.works, n as usize) {
+            self.end(n + 1);
+        }
+    }
+
+    /// Aborts all that aren't aborted, at once and none because of another.
+    pub fn stop(&mut self)
+        ensures { self.new ≡ record self.old { works = map works.stop_work self.old.works } }
+    {
+        for n in 0..self.len() {
+            self.stop_one(n);
+        }
     }
 }
