@@ -1,6 +1,6 @@
 //! The order of one epoch, kept as the plain lists that the definitions speak of.
 
-mod batches;
+pub mod batches;
 mod order;
 pub mod read_off;
 

@@ -4,5 +4,6 @@ pub mod Falling
 pub mod Indexed
 pub mod Kept
 pub mod Marks
+pub mod Orders
 pub mod Sources
 pub mod Unlinks

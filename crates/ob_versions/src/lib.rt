@@ -3,7 +3,9 @@
 
 mod chain;
 mod ledger;
+mod order;
 mod table;
 mod unlink;
 
 pub use ledger::Ledger;
+pub use order::Order;
