@@ -9,3 +9,6 @@ mod unlink;
 
 pub use ledger::Ledger;
 pub use order::Order;
+
+#[cfg(test)]
+mod tests;
