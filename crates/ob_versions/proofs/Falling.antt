@@ -16,7 +16,7 @@ set_edit f xs n x l e =
     let back : n + 1 - 1 ≡ n = omega arith in
     edit_set_before f xs (n + 1) x (omega arith) (omega arith) (e ∙ ap (λ i. get_or xs i x) (sym back)) ∙ ap (λ i. set xs i (f x)) back
 
-fall_stays : (o : Option ℕ) (w : Work) → is_going w.fate ≡ false → fall o w ≡ w
+pub fall_stays : (o : Option ℕ) (w : Work) → is_going w.fate ≡ false → fall o w ≡ w
 fall_stays None w e = refl
 fall_stays (Some on) w e = ap (λ (f : Fate). let q : Work = record w { fate = f } in q) (step w.fate e)
   where

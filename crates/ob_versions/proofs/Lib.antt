@@ -1,3 +1,4 @@
+pub mod Bounded
 pub mod Compares
 pub mod Counted
 pub mod Falling

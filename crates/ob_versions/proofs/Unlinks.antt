@@ -86,3 +86,8 @@ count_taken p q k n last c same fewer is count = ⊎_elim
     bits true false h = refl
     bits false true h = absurd (false≢true (h refl))
     bits false false h = refl
+
+-- a value is of the first or else of the second
+pub either : {A : Type 0} (a b : Option A) (B : Type 0) → is_some (option_or a b) ≡ true → (is_some a ≡ true → B) → (is_some b ≡ true → B) → B
+either (Some x) b B e f g = f refl
+either None b B e f g = g e

@@ -1,9 +1,9 @@
 -- The works of an epoch with the index of their versions.
-use Rattle.std.specs.Prelude.{ℕ, ◌≡◌, List, is_some, true}
+use Rattle.std.specs.Prelude.{ℕ, ◌≡◌, ◌≤◌, List, is_some, true, slice_get}
 use Rattle.std.specs.declared.option.Option.{Option}
 use Rattle.std.specs.declared.option.Option.TheVariants.{None, Some}
 use Rattle.std.specs.HashMap as hash
-use Rattle.ob_order.specs.Works.{Op, Get, Put, Del, Work, edit, waiting_at, fall, least_source, is_gone, mark, source_of, newest}
+use Rattle.ob_order.specs.Works.{Op, Get, Put, Del, Work, edit, at_ticket, waiting_at, fall, least_source, is_gone, mark, source_of, newest}
 use Rattle.ob_order.specs.Order.{count_below}
 use Rattle.ob_order.specs.Chains.{Sourced}
 use Rattle.ob_versions.specs.Chains.{Chain}
@@ -39,3 +39,7 @@ key_of (Del k) = Some k
 -- the mark of what a write by ticket t would cover
 abbrev pub covered_mark : List Work → ℕ → ℕ → ℕ
 covered_mark ws t k = mark ws k (source_of (newest ws t k))
+
+-- nobody above this ticket has read what ticket s wrote
+abbrev pub ReadUpTo : List Work → ℕ → ℕ → Type 0
+ReadUpTo ws s last = (u : ℕ) (w : Work) → at_ticket ws u ≡ Some w → (i k : ℕ) (r : Option (List ℕ)) → slice_get w.ops i ≡ Some (Get k r s) → u ≤ last
