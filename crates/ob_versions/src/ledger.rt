@@ -1,18 +1,18 @@
 //! What the transactions of an epoch did, by ticket, with the chains of their versions.
 
-ghost use Rattle.std.specs.Prelude.{◌≡◌, ℕ, ◌+◌, ◌-◌, ◌<◌, ◌≤◌, length, true, not, ◌&&◌, ◌==◌, if◌then◌else◌, is_some, IfOk, OnOk, OnErr, MatchOption, get_or, set, Some, None, [], ◌∷◌, ◌++◌, map};
+ghost use Rattle.std.specs.Prelude.{◌≡◌, ℕ, ◌+◌, ◌-◌, ◌<◌, ◌≤◌, length, max, true, false, not, ◌&&◌, ◌==◌, if◌then◌else◌, is_some, IfOk, OnOk, OnErr, MatchOption, get_or, set, Some, None, [], ◌∷◌, ◌++◌, map};
 ghost use Rattle.ob_order.specs.Works as works;
 ghost use Rattle.ob_order.specs.Order as rules;
 
 ghost use Rattle.std.specs.Option.{option_map, unwrap_or};
 ghost use Rattle.ob_versions.specs.Tables.{chain_at, link_at, has_links, SameLinks, SameBases, SameKeys, KeepsRoom, IsRaised};
-ghost use Rattle.ob_versions.specs.Ledgers.{covered_mark};
+ghost use Rattle.ob_versions.specs.Ledgers.{covered_mark, ReadUpTo};
 
 use crate::chain::Link;
 use crate::table::{
     Table, has_versions, make_room, mark_of_base, newest, put, raise, raise_base,
 };
-use crate::unlink::{count_where, unlink_at};
+use crate::unlink::{count_where, greatest_mark_at, unlink_at};
 use ob_base::{Key, Memory, Op, Value};
 use ob_order::plain::read_off::{
     add_awaited, add_to, end_in, fall_in, fell_on, make_wait, set_waiting,
@@ -343,27 +343,46 @@ impl Ledger {
         fall_in(&mut self.works, t as usize, on);
     }
 
-    // The work at a place falls because of its least source that is aborted, where it has one and
-    // goes on.
-    fn fall(&mut self, n: u64)
-        requires { n < length self.old.works }
-        ensures { (w : works.Work) → w ≡ get_or self.old.works n w → self.new ≡ record self.old { works = set self.old.works n (works.fall (works.least_source (works.is_gone self.old.works) w.ops) w) } }
+    // A ticket that none above has read ticket t's versions, which goes on, but itself.
+    fn last_reader(&self, t: u64) -> u64
+        requires { (0 < t) × (t ≤ length self.now.works) }
+        ensures { works.goes_on self.now.works t ≡ true → ReadUpTo self.now.works t (max result t) }
     {
-        if let Some(on) = falls_on(&self.works, n as usize) {
-            self.fall_to(n + 1, on);
+        greatest_mark_at(&self.table, &self.works, t)
+    }
+
+    // The work at a place falls because of its least source that is aborted, where it has one and
+    // goes on. Answers who has read its versions at most.
+    fn fall(&mut self, n: u64) -> u64
+        requires { n < length self.old.works }
+        ensures falls { (w : works.Work) → w ≡ get_or self.old.works n w → self.new ≡ record self.old { works = set self.old.works n (works.fall (works.least_source (works.is_gone self.old.works) w.ops) w) } }
+        ensures last { works.goes_on self.old.works (n + 1) ≡ true → works.goes_on self.new.works (n + 1) ≡ false → ReadUpTo self.old.works (n + 1) (max result (n + 1)) }
+    {
+        match falls_on(&self.works, n as usize) {
+            Some(on) => {
+                let last = self.last_reader(n + 1);
+                self.fall_to(n + 1, on);
+                last
+            }
+            None => 0,
         }
     }
 
     /// Aborts ticket t, which isn't aborted, and with it each that depends on it, directly or not.
+    /// It looks at the tickets up to the last one that has read what goes.
     #[tactic(auto, using(ob_order::proofs::Steps::live_above, ob_order::proofs::Steps::live_within))]
     pub fn abort(&mut self, t: u64)
         requires live { works.goes_on self.old.works t ≡ true }
         requires tidy { works.Tidy self.old.works }
         ensures { self.new ≡ record self.old { works = works.aborted self.old.works t } }
     {
+        let mut last = self.last_reader(t);
         self.end(t);
-        for n in 0..self.len() {
-            self.fall(n);
+        for n in t..self.len() {
+            if last <= n {
+                return;
+            }
+            last = last.max(self.fall(n));
         }
     }
 

@@ -1,12 +1,12 @@
-use Rattle.std.proofs.Common.{◌≡◌, ℕ, List, Bool, Option, Some, None, ◌+◌, ◌<◌, ◌≤◌, if◌then◌else◌, length, set, get_or, map, take, drop, ◌++◌, sym, ap, ◌∙◌, subst, arith}
+use Rattle.std.proofs.Common.{◌≡◌, ℕ, suc, max, List, Bool, true, false, Option, Some, None, ◌+◌, ◌<◌, ◌≤◌, if◌then◌else◌, length, set, get_or, map, take, drop, ◌++◌, sym, ap, ◌∙◌, subst, arith}
 use Rattle.ob_order.specs.Works as works
 use Rattle.ob_order.specs.Works.{Work}
-use Rattle.ob_versions.specs.Ledgers.{LedgerModel}
+use Rattle.ob_versions.specs.Ledgers.{LedgerModel, ReadUpTo}
 use Rattle.ob_versions.proofs.Falling.{fallen_to}
 use Rattle.ob_versions.proofs.ledger.Ledger.fall.Goals as goal
 
-pub returns-in-Some : goal.returns-in-Some
-returns-in-Some c = λ w at.
+pub returns-in-Some-clause-falls : goal.returns-in-Some-clause-falls
+returns-in-Some-clause-falls c = λ w at.
     let before = c.args.self.now in
     let n = c.args.n in
     let list : c.deref.result.now ≡ before.works = c.deref.ensures.value ∙ ap (λ (d : LedgerModel). d.works) c.self.view_is in
