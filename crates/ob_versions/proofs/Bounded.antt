@@ -1,13 +1,13 @@
 -- An abort may end where nobody above has read what went.
-use Rattle.std.proofs.Common.{◌≡◌, ℕ, zero, suc, max, ◌+◌, ◌<◌, ◌≤◌, Bool, true, false, not, ◌&&◌, if◌then◌else◌, List, [], ◌∷◌, length, Option, None, Some, option_map, option_and_then, unwrap_or, is_some, slice_get, refl, sym, ap, ap₂, ◌∙◌, subst, ⊎_elim, arith}
-use Rattle.std.proofs.lemmas.Bool.{cases_eq, cases_lt, cases_Bool, false≢true}
+use Rattle.std.proofs.Common.{◌≡◌, ℕ, zero, suc, max, ◌<◌, ◌≤◌, Bool, true, false, not, ◌&&◌, if◌then◌else◌, List, [], ◌∷◌, Option, None, Some, option_map, option_and_then, unwrap_or, is_some, slice_get, refl, sym, ap, ap₂, ◌∙◌, subst, ⊎_elim, arith}
+use Rattle.std.proofs.lemmas.Bool.{cases_eq, cases_Bool, false≢true}
 use Rattle.std.proofs.lemmas.Option.{none-some, same_Some}
 use Rattle.std.specs.HashMap as hash
-use Rattle.ob_order.specs.Works.{Op, Get, Put, Del, Work, is_going, at_ticket, edit, edit_index, goes_on, version, version_in, last_write, mark, end_work, aborted_since, least_of, source_in, least_source, fall, cascade, aborted, Rises}
-use Rattle.ob_order.proofs.Edits.{at_edit_same, at_edit_other, slice_get-edit_same, length-edit}
+use Rattle.ob_order.specs.Works.{Op, Get, Put, Del, Work, is_going, at_ticket, edit, edit_index, goes_on, version, version_in, last_write, mark, end_work, aborted_since, least_of, least_source, fall, cascade, Rises}
+use Rattle.ob_order.proofs.Edits.{at_edit_other, slice_get-edit_same}
 use Rattle.ob_order.proofs.Newest.{by_option, mark_bound}
-use Rattle.ob_order.proofs.Falls.{ops_at, Fallen, fallen_ended, fallen_cascade, fallen_then, went_on_before}
-use Rattle.ob_versions.specs.Chains.{Link, Chain}
+use Rattle.ob_order.proofs.Falls.{Fallen, fallen_ended, fallen_cascade, fallen_then, went_on_before}
+use Rattle.ob_versions.specs.Chains.{Chain}
 use Rattle.ob_versions.specs.Tables.{link_at, mark_in}
 use Rattle.ob_versions.specs.Ledgers.{IsLedger, ReadUpTo}
 use Rattle.ob_versions.proofs.Falling.{fall_stays}

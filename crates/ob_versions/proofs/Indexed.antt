@@ -1,21 +1,20 @@
 -- What keeps the index of versions and marks true of the works.
-use Rattle.std.proofs.Common.{◌≡◌, ℕ, zero, suc, max, ◌<◌, ◌≤◌, Bool, true, false, ◌==◌, ◌&&◌, if◌then◌else◌, List, [], ◌∷◌, ◌++◌, length, Option, None, Some, option_map, option_and_then, unwrap_or, is_some, slice_get, refl, sym, ap, ap₂, ◌∙◌, subst, inl, inr, ◌⊎◌, ⊎_elim, arith, eq-eqb, ne_eqb}
-use Rattle.std.proofs.lemmas.Bool.{cases_eq, cases_lt, false≢true}
+use Rattle.std.proofs.Common.{◌≡◌, ℕ, zero, suc, max, ◌<◌, ◌≤◌, Bool, true, false, ◌==◌, ◌&&◌, if◌then◌else◌, List, [], ◌∷◌, ◌++◌, length, Option, None, Some, option_map, option_and_then, unwrap_or, refl, sym, ap, ap₂, ◌∙◌, subst, inl, inr, ◌⊎◌, ⊎_elim, arith, eq-eqb, ne_eqb}
+use Rattle.std.proofs.lemmas.Bool.{cases_eq, false≢true}
 use Rattle.std.specs.Option.{option_or}
 use Rattle.std.proofs.lemmas.Option.{none-some, same_Some}
-use Rattle.ob_order.specs.Works.{Op, Get, Put, Del, Work, is_going, goes_on, at_ticket, edit, with_op, add_op, version, version_in, newest, source_of, mark, write_of, last_write, is_get_of}
+use Rattle.ob_order.specs.Works.{Get, Work, is_going, goes_on, at_ticket, edit, with_op, add_op, version, version_in, newest, source_of, mark, write_of, last_write, is_get_of}
 use Rattle.ob_order.specs.declared.answers.Version.{Version}
-use Rattle.ob_order.specs.Order.{fresh, write_op}
+use Rattle.ob_order.specs.Order.{write_op}
 use Rattle.ob_order.specs.Chains.{IsMark, Sourced}
-use Rattle.ob_order.proofs.Edits.{at_edit_same, at_edit_other, length-edit, slice_get-push, last_write-push}
-use Rattle.ob_order.proofs.Newest.{by_option, newest_own, newest_lower, version-with_op, held_goes}
-use Rattle.ob_order.proofs.Steps.{goes_on_range}
+use Rattle.ob_order.proofs.Edits.{at_edit_same, at_edit_other, length-edit, last_write-push}
+use Rattle.ob_order.proofs.Newest.{by_option, newest_own, newest_lower, version-with_op}
 use Rattle.ob_order.proofs.Falls.{ops_at}
 use Rattle.ob_order.proofs.Links.{conflict_alike, mark_at_put}
 use Rattle.ob_versions.specs.Chains.{Link, IsNewest}
 use Rattle.ob_versions.specs.Tables.{raised}
 use Rattle.ob_versions.specs.Index.{IsIndex}
-use Rattle.ob_versions.proofs.Marks.{mark_other, mark_here, mark_begun, mark_same_ops}
+use Rattle.ob_versions.proofs.Marks.{mark_other, mark_here, mark_same_ops}
 
 -- ---- the newest version
 
@@ -101,12 +100,12 @@ index_got ws links links' base base' t k r s h above within from raises same_bas
       (place k j s u (option_map (raised t) (links j u)) (links j u));
   marks = λ j u l is. ⊎_elim
       (λ here. by_option (links j u)
-          (λ none. absurd (none-some l (sym (ap (option_map (raised t)) none) ∙ (sym (raises j u ∙ here.2) ∙ is))))
-          (λ x there.
-          let l_is : raised t x ≡ l = same_Some (raised t x) l (sym (ap (option_map (raised t)) there) ∙ (sym (raises j u ∙ here.2) ∙ is)) in
-          let before = h.marks j u x there in
-          let now : mark (with_op ws t (Get k r s)) j u ≡ max (mark ws j u) t = mark_here ws t (Get k r s) j u (ap₂ (λ (a b : ℕ). is_get_of a b (Get k r s)) (sym here.0) (sym here.1) ∙ get_of_same k s r) above within in
-          subst (λ (q : Link). IsMark q.mark u (mark (with_op ws t (Get k r s)) j u)) l_is (record { low = omega (arith, now, before.low); high = omega (arith, now, before.high) })))
+      (λ none. absurd (none-some l (sym (ap (option_map (raised t)) none) ∙ (sym (raises j u ∙ here.2) ∙ is))))
+      (λ x there.
+      let l_is : raised t x ≡ l = same_Some (raised t x) l (sym (ap (option_map (raised t)) there) ∙ (sym (raises j u ∙ here.2) ∙ is)) in
+      let before = h.marks j u x there in
+      let now : mark (with_op ws t (Get k r s)) j u ≡ max (mark ws j u) t = mark_here ws t (Get k r s) j u (ap₂ (λ (a b : ℕ). is_get_of a b (Get k r s)) (sym here.0) (sym here.1) ∙ get_of_same k s r) above within in
+      subst (λ (q : Link). IsMark q.mark u (mark (with_op ws t (Get k r s)) j u)) l_is (record { low = omega (arith, now, before.low); high = omega (arith, now, before.high) })))
       (λ other. subst (λ m. IsMark l.mark u m) (sym (mark_other ws t (Get k r s) j u (get_of_other j u k s r other.0))) (h.marks j u l (sym (raises j u ∙ other.1) ∙ is)))
       (place k j s u (option_map (raised t) (links j u)) (links j u));
   bases = λ j. same_bases j ∙ (h.bases j ∙ sym (mark_other ws t (Get k r s) j 0 (get_of_other j 0 k s r (λ p. absurd (let e : s ≡ 0 = p.1 in omega arith)))));

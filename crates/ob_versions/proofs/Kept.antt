@@ -1,20 +1,18 @@
 -- What each call keeps of a ledger.
-use Rattle.std.proofs.Common.{◌≡◌, ℕ, zero, suc, max, ◌+◌, ◌-◌, ◌<◌, ◌≤◌, Bool, true, false, not, ◌==◌, ◌&&◌, nat_lt, if◌then◌else◌, List, [], ◌∷◌, ◌++◌, length, Option, None, Some, option_map, option_and_then, unwrap_or, is_some, slice_get, refl, sym, ap, ap₂, ◌∙◌, subst, inl, inr, ⊎_elim, arith, eq-eqb, ne_eqb}
-use Rattle.std.proofs.lemmas.Bool.{cases_eq, cases_lt, false≢true, lt-ltb, le-ltb}
+use Rattle.std.proofs.Common.{◌≡◌, ℕ, zero, suc, ◌+◌, ◌-◌, ◌<◌, ◌≤◌, Bool, true, false, not, ◌==◌, ◌&&◌, nat_lt, if◌then◌else◌, List, [], ◌∷◌, ◌++◌, length, Option, None, Some, option_map, option_and_then, unwrap_or, is_some, slice_get, refl, sym, ap, ap₂, ◌∙◌, subst, inl, inr, ⊎_elim, arith, eq-eqb, ne_eqb}
+use Rattle.std.proofs.lemmas.Bool.{cases_eq, cases_lt, lt-ltb, le-ltb}
 use Rattle.std.proofs.lemmas.Option.{none-some, same_Some}
 use Rattle.std.specs.Map.{lookup}
 use Rattle.std.specs.HashMap as hash
-use Rattle.ob_order.specs.Works.{Op, Get, Put, Del, Work, is_going, goes_on, at_ticket, edit, edit_index, with_op, wait_for, with_waiting, waiting_at, version, version_in, newest, last_write, source_of}
-use Rattle.ob_order.specs.declared.answers.Version.{Version}
+use Rattle.ob_order.specs.Works.{Op, Get, Work, is_going, goes_on, at_ticket, edit, edit_index, with_op, wait_for, with_waiting, waiting_at, version, version_in, newest, last_write}
 use Rattle.ob_order.specs.Order.{fresh, write_op, count_below, is_other_written}
-use Rattle.ob_order.specs.Chains.{Sourced}
 use Rattle.ob_order.proofs.Counts.{count_same}
 use Rattle.ob_order.proofs.Edits.{length-edit, at_edit_same}
 use Rattle.ob_order.proofs.Newest.{by_option}
 use Rattle.ob_versions.specs.Chains.{Link, Chain, IsNewest, link_in}
 use Rattle.ob_versions.specs.Tables.{chain_at, link_at, base_mark, has_links, SameLinks, SameBases, SameKeys, KeepsRoom, IsRaised}
 use Rattle.ob_versions.specs.Index.{IsIndex}
-use Rattle.ob_versions.specs.Ledgers.{LedgerModel, HasWaits, IsLedger, covered_mark}
+use Rattle.ob_versions.specs.Ledgers.{LedgerModel, IsLedger, covered_mark}
 use Rattle.ob_versions.proofs.Marks.{mark_begun, mark_same_ops, ops_edit, version_edit, version_begun}
 use Rattle.ob_versions.proofs.Indexed.{version_from, newest_is, IsCovered, covered_is, index_moved, index_got, index_got_base, index_wrote, index_ended}
 use Rattle.ob_versions.proofs.Counted.{count_moved, count_stays, others_counted}

@@ -1,8 +1,8 @@
 -- How the marks move with the works.
-use Rattle.std.proofs.Common.{◌≡◌, ℕ, zero, suc, max, ◌+◌, ◌<◌, ◌≤◌, Bool, true, false, ◌==◌, ◌&&◌, ◌||◌, if◌then◌else◌, List, [], ◌∷◌, ◌++◌, length, Option, None, Some, option_map, option_and_then, unwrap_or, slice_get, refl, sym, ap, ap₂, ◌∙◌, subst, ⊎_elim, arith, eq-eqb, ne_eqb, length-append}
+use Rattle.std.proofs.Common.{◌≡◌, ℕ, zero, suc, max, ◌+◌, ◌<◌, ◌≤◌, Bool, true, false, ◌||◌, if◌then◌else◌, List, [], ◌∷◌, ◌++◌, length, Option, None, Some, option_map, option_and_then, unwrap_or, slice_get, refl, sym, ap, ap₂, ◌∙◌, subst, ⊎_elim, arith, length-append}
 use Rattle.std.specs.List.{list_any}
-use Rattle.std.proofs.lemmas.Bool.{cases_eq, false≢true}
-use Rattle.ob_order.specs.Works.{Op, Get, Work, at_ticket, edit, version, version_in, add_op, with_op, is_get_of, has_get, has_read, greatest, mark}
+use Rattle.std.proofs.lemmas.Bool.{cases_eq}
+use Rattle.ob_order.specs.Works.{Op, Work, at_ticket, edit, version, version_in, add_op, with_op, is_get_of, has_get, has_read, greatest, mark}
 use Rattle.ob_order.specs.Order.{fresh}
 use Rattle.ob_order.proofs.Edits.{at_edit_same, at_edit_other, length-edit, slice_get-push}
 use Rattle.ob_order.proofs.Falls.{ops_at}

@@ -1,9 +1,9 @@
 -- Who has read a version of a ticket: that one's operations write the key. And where a get waits there is room for the key's chain.
-use Rattle.std.proofs.Common.{◌≡◌, ℕ, zero, suc, ◌<◌, ◌≤◌, Bool, true, false, if◌then◌else◌, List, [], ◌∷◌, ◌++◌, length, Option, None, Some, option_map, option_and_then, is_some, slice_get, refl, sym, ap, ◌∙◌, subst, inl, inr, ◌⊎◌, ⊎_elim, arith}
+use Rattle.std.proofs.Common.{◌≡◌, ℕ, zero, suc, ◌<◌, Bool, true, false, if◌then◌else◌, List, [], ◌∷◌, ◌++◌, Option, None, Some, option_map, option_and_then, is_some, slice_get, refl, sym, ap, ◌∙◌, subst, ◌⊎◌, ⊎_elim, arith}
 use Rattle.std.proofs.lemmas.Bool.{cases_eq, false≢true}
 use Rattle.std.proofs.lemmas.Option.{none-some, same_Some}
 use Rattle.std.specs.HashMap as hash
-use Rattle.ob_order.specs.Works.{Op, Get, Put, Del, Work, is_going, at_ticket, edit, with_op, version, version_in, last_write, waiting_at}
+use Rattle.ob_order.specs.Works.{Get, Put, Del, Work, is_going, at_ticket, edit, with_op, version, version_in, last_write, waiting_at}
 use Rattle.ob_order.specs.Order.{fresh, write_op}
 use Rattle.ob_order.specs.Chains.{Sourced}
 use Rattle.ob_order.proofs.Edits.{at_edit_same, at_edit_other, slice_get-push}

@@ -1,13 +1,11 @@
 -- Versions go, operation by operation.
-use Rattle.std.proofs.Common.{◌≡◌, ℕ, ◌+◌, ◌<◌, ◌≤◌, Bool, true, false, not, ◌==◌, ◌&&◌, nat_lt, if◌then◌else◌, List, [], ◌∷◌, take, get_or, length, Option, None, Some, is_some, refl, sym, ap, ap₂, ◌∙◌, subst, ⊎_elim, arith, eq-eqb, ne_eqb}
+use Rattle.std.proofs.Common.{◌≡◌, ℕ, ◌+◌, ◌<◌, Bool, true, false, not, ◌==◌, ◌&&◌, nat_lt, if◌then◌else◌, List, take, get_or, length, Option, None, Some, is_some, refl, sym, ap, ap₂, ◌∙◌, ⊎_elim, arith, eq-eqb, ne_eqb}
 use Rattle.std.specs.Option.{option_or}
 use Rattle.std.proofs.lemmas.Bool.{cases_eq, cases_lt, false≢true, lt-ltb, le-ltb}
-use Rattle.std.specs.HashMap as hash
 use Rattle.ob_order.specs.Works.{Op, Get, Put, Del, write_of, last_write}
 use Rattle.ob_order.specs.Order.{count_below}
 use Rattle.ob_order.proofs.Edits.{last_write_more}
-use Rattle.ob_versions.specs.Chains.{Link, Chain}
-use Rattle.ob_versions.specs.Tables.{link_at, has_links}
+use Rattle.ob_versions.specs.Chains.{Link}
 use Rattle.ob_versions.specs.Ledgers.{key_of}
 use Rattle.ob_versions.proofs.Counted.{count_moved, count_stays}
 

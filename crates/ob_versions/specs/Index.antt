@@ -1,5 +1,5 @@
 -- That the versions and marks that the code keeps are those of the works.
-use Rattle.std.specs.Prelude.{ℕ, ◌≡◌, ◌≤◌, max, List}
+use Rattle.std.specs.Prelude.{ℕ, ◌≡◌, List}
 use Rattle.std.specs.Option.{option_map}
 use Rattle.std.specs.declared.option.Option.{Option}
 use Rattle.std.specs.declared.option.Option.TheVariants.{Some}

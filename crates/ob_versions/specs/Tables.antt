@@ -1,8 +1,7 @@
 -- The versions of all keys, as the code keeps them.
-use Rattle.std.specs.Prelude.{ℕ, zero, suc, max, ◌≡◌, ◌<◌, Bool, false, nat_lt, nat_eq, ◌==◌, ◌&&◌, if◌then◌else◌, is_some, true}
+use Rattle.std.specs.Prelude.{ℕ, max, ◌≡◌, ◌<◌, Bool, false, nat_lt, nat_eq, ◌==◌, ◌&&◌, if◌then◌else◌, is_some, true}
 use Rattle.std.specs.Option.{option_map, option_and_then, unwrap_or}
 use Rattle.std.specs.declared.option.Option.{Option}
-use Rattle.std.specs.declared.option.Option.TheVariants.{None, Some}
 use Rattle.std.specs.HashMap as hash
 use Rattle.ob_versions.specs.Chains.{Link, Chain, link_in, links_in}
 

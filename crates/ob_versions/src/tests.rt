@@ -151,7 +151,11 @@ fn same_call(real: &mut Order, plain: &mut plain::Order, word: u32) -> Result<bo
         return Ok(read(real, t, key)? == read_plainly(plain, t, key)?);
     }
     if kind < 12 {
-        let value = if kind == 6 { None } else { Value::new(&[kind as u8]) };
+        let value = if kind == 6 {
+            None
+        } else {
+            Value::new(&[kind as u8])
+        };
         return Ok(write(real, t, key, value)? == write_plainly(plain, t, key, value)?);
     }
     if kind < 14 {

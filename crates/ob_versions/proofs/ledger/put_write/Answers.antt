@@ -1,9 +1,5 @@
-use Rattle.std.proofs.Common.{◌≡◌, ℕ, List, Bool, Option, Some, None, true, ◌+◌, ◌-◌, ◌<◌, ◌≤◌, ◌&&◌, nat_lt, is_some, if◌then◌else◌, length, ◌++◌, ◌∷◌, [], refl, sym, ap, ◌∙◌, subst, arith}
-use Rattle.ob_order.specs.Works.{Op, Work, Get, end_work, fall_to, at_ticket, with_op, version, goes_on, waiting_at, wait_for, with_waiting, edit}
-use Rattle.ob_order.specs.Order.{write_op}
-use Rattle.ob_versions.specs.Ledgers.{LedgerModel, IsLedger, covered_mark}
-use Rattle.ob_versions.specs.Tables.{has_links, base_mark}
-use Rattle.std.specs.Option.{unwrap_or, option_map}
+use Rattle.std.proofs.Common.{◌≡◌, ℕ, List, true, is_some, length, sym, ap, ◌∙◌, subst, arith}
+use Rattle.ob_order.specs.Works.{Op, Work, with_op, waiting_at, wait_for, with_waiting, edit}
 use Rattle.ob_order.proofs.Edits.{length-edit}
 use Rattle.ob_versions.proofs.Kept.{op_after_wait, restored, waits_then}
 use Rattle.ob_versions.proofs.ledger.put_write.Goals as goal

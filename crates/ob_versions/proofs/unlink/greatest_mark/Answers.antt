@@ -1,7 +1,6 @@
-use Rattle.std.proofs.Common.{◌≡◌, ◌≤◌, true, is_some, take, sym, ap, ◌∙◌, arith}
+use Rattle.std.proofs.Common.{is_some, take, sym, ap, ◌∙◌, arith}
 use Rattle.ob_order.specs.Works as works
 use Rattle.ob_order.proofs.Edits.{last_write_more}
-use Rattle.ob_versions.specs.Tables.{mark_in}
 use Rattle.ob_versions.proofs.Unlinks.{either}
 use Rattle.ob_versions.proofs.unlink.greatest_mark.Goals as goal
 

@@ -1,4 +1,4 @@
-use Rattle.std.proofs.Common.{sym, ◌∙◌, arith}
+use Rattle.std.proofs.Common.{◌∙◌, arith}
 use Rattle.ob_versions.specs.Tables.{link_at}
 use Rattle.ob_versions.proofs.Unlinks.{unlinked_more}
 use Rattle.ob_versions.proofs.unlink.unlink.Goals as goal

@@ -1,4 +1,4 @@
-use Rattle.std.proofs.Common.{◌≡◌, ℕ, suc, max, List, true, false, ◌+◌, ◌<◌, ◌≤◌, length, set, get_or, sym, ap, ◌∙◌, subst, arith, add-one}
+use Rattle.std.proofs.Common.{◌≡◌, suc, max, List, true, false, ◌+◌, ◌<◌, ◌≤◌, length, set, get_or, sym, ap, ◌∙◌, subst, arith, add-one}
 use Rattle.ob_order.specs.Works as works
 use Rattle.ob_order.specs.Works.{Work}
 use Rattle.ob_order.proofs.Edits.{length-edit}

@@ -1,7 +1,6 @@
-use Rattle.std.proofs.Common.{◌≡◌, ℕ, suc, max, List, Bool, true, false, Option, Some, None, ◌+◌, ◌<◌, ◌≤◌, if◌then◌else◌, length, set, get_or, map, take, drop, ◌++◌, sym, ap, ◌∙◌, subst, arith}
+use Rattle.std.proofs.Common.{◌≡◌, max}
 use Rattle.ob_order.specs.Works as works
 use Rattle.ob_order.specs.Works.{Work}
-use Rattle.ob_versions.specs.Ledgers.{LedgerModel, ReadUpTo}
 use Rattle.ob_versions.proofs.Bounded.{Bounded}
 use Rattle.ob_versions.proofs.ledger.Ledger.abort.Given as goal
 

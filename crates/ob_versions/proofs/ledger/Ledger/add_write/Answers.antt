@@ -1,9 +1,7 @@
-use Rattle.std.proofs.Common.{◌≡◌, ℕ, List, Bool, Option, Some, None, true, false, ◌+◌, ◌-◌, ◌<◌, ◌≤◌, ◌&&◌, nat_lt, is_some, if◌then◌else◌, length, ◌++◌, ◌∷◌, [], refl, sym, ap, ◌∙◌, subst, arith}
-use Rattle.ob_order.specs.Works.{Op, Work, Get, end_work, fall_to, at_ticket, with_op, version, goes_on, waiting_at, wait_for, with_waiting, edit}
-use Rattle.ob_order.specs.Order.{write_op}
+use Rattle.std.proofs.Common.{◌≡◌, List, Bool, true, false, ◌+◌, ◌≤◌, ◌&&◌, nat_lt, if◌then◌else◌, refl, sym, subst, arith}
+use Rattle.ob_order.specs.Works.{Work, goes_on}
 use Rattle.ob_versions.specs.Ledgers.{LedgerModel, IsLedger, covered_mark}
-use Rattle.ob_versions.specs.Tables.{has_links, base_mark}
-use Rattle.std.specs.Option.{unwrap_or, option_map}
+use Rattle.ob_versions.specs.Tables.{has_links}
 use Rattle.ob_versions.proofs.Kept.{ledger_room, ledger_wrote, count_most}
 use Rattle.ob_versions.proofs.ledger.Ledger.add_write.Goals as goal
 

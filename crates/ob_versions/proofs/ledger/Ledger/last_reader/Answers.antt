@@ -1,4 +1,4 @@
-use Rattle.std.proofs.Common.{◌≡◌, ℕ, suc, max, List, Bool, true, false, Option, Some, None, ◌+◌, ◌<◌, ◌≤◌, if◌then◌else◌, length, set, get_or, map, take, drop, ◌++◌, sym, ap, ◌∙◌, subst, arith}
+use Rattle.std.proofs.Common.{◌≡◌, max, List, true, sym, ap, ◌∙◌, subst}
 use Rattle.ob_order.specs.Works as works
 use Rattle.ob_order.specs.Works.{Work}
 use Rattle.ob_versions.specs.Ledgers.{LedgerModel, ReadUpTo}

@@ -1,4 +1,4 @@
-use Rattle.std.proofs.Common.{◌≡◌, ℕ, List, Option, Some, None, ◌+◌, ◌-◌, ◌++◌, ◌∷◌, [], refl, sym, ap, ◌∙◌, subst, arith}
+use Rattle.std.proofs.Common.{sym, ap, ◌∙◌}
 use Rattle.ob_versions.proofs.Kept.{newest_in}
 use Rattle.std.specs.Option.{option_map}
 use Rattle.ob_versions.proofs.Indexed.{version_from}

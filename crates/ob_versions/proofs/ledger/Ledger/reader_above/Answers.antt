@@ -1,8 +1,4 @@
-use Rattle.std.proofs.Common.{◌≡◌, ℕ, List, Bool, Option, Some, None, true, ◌+◌, ◌-◌, ◌<◌, ◌≤◌, ◌&&◌, nat_lt, is_some, if◌then◌else◌, length, ◌++◌, ◌∷◌, [], refl, sym, ap, ◌∙◌, subst, arith}
-use Rattle.ob_order.specs.Works.{Work, Get, end_work, fall_to, at_ticket, with_op, version, goes_on, waiting_at}
-use Rattle.ob_order.specs.Order.{write_op}
-use Rattle.ob_versions.specs.Ledgers.{LedgerModel, IsLedger, covered_mark}
-use Rattle.ob_versions.specs.Tables.{has_links, base_mark}
+use Rattle.std.proofs.Common.{ap, ◌∙◌}
 use Rattle.std.specs.Option.{unwrap_or, option_map}
 use Rattle.ob_versions.proofs.Kept.{covered_in}
 use Rattle.ob_versions.proofs.ledger.Ledger.reader_above.Goals as goal

@@ -1,5 +1,4 @@
-use Rattle.std.proofs.Common.{◌≡◌, ℕ, List, Bool, Option, Some, None, ◌+◌, ◌<◌, ◌≤◌, if◌then◌else◌, length, set, get_or, map, take, drop, ◌++◌, sym, ap, ◌∙◌, subst, arith}
-use Rattle.ob_order.specs.Works as works
+use Rattle.std.proofs.Common.{◌≡◌, List, get_or, sym, ap, ◌∙◌}
 use Rattle.ob_order.specs.Works.{Work}
 use Rattle.ob_versions.specs.Ledgers.{LedgerModel}
 use Rattle.ob_versions.proofs.Falling.{stopped_here}

@@ -1,11 +1,7 @@
-use Rattle.std.proofs.Common.{◌≡◌, ℕ, ◌<◌, ◌++◌, ◌∷◌, [], map, true, is_some, Some, sym, subst, ap, ◌∙◌}
-use Rattle.std.specs.FinMap as finite
-use Rattle.ob_order.specs.Works as works
-use Rattle.ob_order.specs.declared.answers.Version.{Version}
+use Rattle.std.proofs.Common.{◌++◌, ◌∷◌, []}
 use Rattle.ob_order.specs.Order as rules
-use Rattle.ob_order.specs.OrderModel.{OrderModel, IsKept}
 use Rattle.ob_order.proofs.Keeps.{kept_begun}
-use Rattle.ob_versions.proofs.Orders.{kept_ledger, answer_held}
+use Rattle.ob_versions.proofs.Orders.{kept_ledger}
 use Rattle.ob_versions.proofs.order.Order.begin.Goals as goal
 
 pub invariant_of-self-2 : goal.invariant_of-self-2

@@ -1,9 +1,9 @@
-use Rattle.std.proofs.Common.{◌≡◌, ℕ, ◌<◌, ◌++◌, ◌∷◌, [], map, true, is_some, Some, sym, subst, ap, ◌∙◌}
+use Rattle.std.proofs.Common.{◌≡◌, Some, sym, subst}
 use Rattle.std.specs.FinMap as finite
 use Rattle.ob_order.specs.Works as works
 use Rattle.ob_order.specs.declared.answers.Version.{Version}
 use Rattle.ob_order.specs.Order as rules
-use Rattle.ob_order.specs.OrderModel.{OrderModel, IsKept}
+use Rattle.ob_order.specs.OrderModel.{OrderModel}
 use Rattle.ob_order.proofs.Keeps.{kept_got}
 use Rattle.ob_versions.proofs.Orders.{kept_ledger, answer_held}
 use Rattle.ob_versions.proofs.order.Order.note_get.Goals as goal
