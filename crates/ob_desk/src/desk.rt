@@ -19,8 +19,9 @@ use crate::part::{
 };
 use crate::roll::{begin_client, client_in, count_here, enrol, settle, sign_off};
 use ob_base::{Fault, Key, Memory, Params, Value, Write};
-use ob_order::{Order, Read, Wrote};
+use ob_order::{Read, Wrote};
 use ob_serial::{EpochRecord, Outcome, Why};
+use ob_versions::Order;
 use std::alloc::Global;
 use std::marker::Model;
 use std::mem;

@@ -11,8 +11,9 @@ ghost use Rattle.ob_desk.specs.Parts.{part_of, HasRoom, KeepsRoom, told_at};
 
 use crate::clients::Holder;
 use ob_base::{Fault, Key, Memory, Op, Params, Value};
-use ob_order::{Fate, Order, Work};
+use ob_order::{Fate, Work};
 use ob_serial::{EpochRecord, Outcome, TxnRecord, Why};
+use ob_versions::Order;
 use std::alloc::Global;
 use std::mem;
 

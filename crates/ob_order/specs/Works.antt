@@ -112,6 +112,14 @@ add_op o w = record w { ops = w.ops ++ o ∷ []; waiting = None }
 abbrev pub wait_for : ℕ → Work → Work
 wait_for k w = record w { waiting = Some k }
 
+-- a get of this key that has to wait, or none
+abbrev pub with_waiting : Option ℕ → Work → Work
+with_waiting waiting w = record w { waiting = waiting }
+
+-- because of this ticket aborted
+abbrev pub fall_to : ℕ → Work → Work
+fall_to on w = record w { fate = Fell on }
+
 -- the key of ticket t's get that isn't answered yet
 abbrev pub waiting_at : List Work → ℕ → Option ℕ
 waiting_at ws t = option_and_then (λ w. w.waiting) (at_ticket ws t)

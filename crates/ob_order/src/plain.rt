@@ -1,8 +1,8 @@
 //! The order of one epoch, kept as the plain lists that the definitions speak of.
 
-mod batches;
+pub mod batches;
 mod order;
-mod read_off;
+pub mod read_off;
 
 pub use order::Order;
 pub use read_off::Work;

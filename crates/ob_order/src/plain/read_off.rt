@@ -220,6 +220,28 @@ impl Work {
         self.waiting = Some(key);
         Ok(())
     }
+
+    // Waits for this key, or for none, where there is room for an answer.
+    fn wait_as(&mut self, waiting: Option<Key>)
+        requires { is_some self.old.waiting ≡ true }
+        ensures { self.new ≡ works.with_waiting waiting self.old }
+    {
+        self.waiting = waiting;
+    }
+
+    // Aborted in a call of its own.
+    fn end(&mut self)
+        ensures { self.new ≡ works.end_work self.old }
+    {
+        self.fate = Fate::Ended;
+    }
+
+    // Aborted because of this ticket.
+    fn fall_to(&mut self, on: u64)
+        ensures { self.new ≡ works.fall_to on self.old }
+    {
+        self.fate = Fate::Fell { on };
+    }
 }
 
 /// Appends an answered operation to ticket t's.
@@ -251,6 +273,31 @@ pub fn make_wait(list: &mut Vec<Work>, t: usize, key: Key) -> Result<(), Memory>
     Ok(())
 }
 
+/// Ticket t, which waits, waits for this key, or for none.
+pub fn set_waiting(list: &mut Vec<Work>, t: usize, waiting: Option<Key>)
+    requires t_in { (0 < t) × (t ≤ length list.old.items) }
+    requires waits { is_some (works.waiting_at list.old.items t) ≡ true }
+    ensures { list.new.items ≡ works.edit (works.with_waiting waiting) list.old.items t }
+{
+    list[t - 1].wait_as(waiting);
+}
+
+/// Ticket t is aborted in a call of its own.
+pub fn end_in(list: &mut Vec<Work>, t: usize)
+    requires t_in { (0 < t) × (t ≤ length list.old.items) }
+    ensures { list.new.items ≡ works.edit works.end_work list.old.items t }
+{
+    list[t - 1].end();
+}
+
+/// Ticket t is aborted because of this one.
+pub fn fall_in(list: &mut Vec<Work>, t: usize, on: u64)
+    requires t_in { (0 < t) × (t ≤ length list.old.items) }
+    ensures { list.new.items ≡ works.edit (works.fall_to on) list.old.items t }
+{
+    list[t - 1].fall_to(on);
+}
+
 /// Ends one work.
 fn end(list: &mut [Work], t: usize)
     requires t_in { (0 < t) × (t ≤ length list.old) }
@@ -272,7 +319,7 @@ fn fall(list: &mut [Work], n: usize, on: Option<u64>)
 }
 
 /// The least aborted source of one work.
-fn fell_on(list: &[Work], n: usize) -> Option<u64>
+pub fn fell_on(list: &[Work], n: usize) -> Option<u64>
     requires n_in { n < length list.now }
     ensures { (w : works.Work) → w ≡ get_or list.now n w → result ≡ works.least_source (works.is_gone list.now) w.ops }
 {

@@ -1,0 +1,14 @@
+use Rattle.std.proofs.Common.{◌≡◌, List, true, ◌<◌, ◌≤◌, is_some, length, sym, ap, ◌∙◌, subst}
+use Rattle.ob_order.specs.Works.{Work, with_op, version}
+use Rattle.ob_versions.specs.Ledgers.{LedgerModel, IsLedger}
+use Rattle.ob_versions.proofs.Kept.{ledger_got}
+use Rattle.ob_versions.proofs.ledger.Ledger.add_awaited.Goals as goal
+
+pub invariant_of-self : goal.invariant_of-self
+invariant_of-self c =
+    let a = c.self.inside in
+    let r = subst (λ (d : LedgerModel). (0 < c.args.t) × (c.args.t ≤ length d.works)) (sym c.self.view_is) c.requires.in_range in
+    let from = subst (λ (d : LedgerModel). 0 < c.args.version.now.source → is_some (version d.works c.args.version.now.source c.args.key) ≡ true) (sym c.self.view_is) c.requires.source in
+    let m = c.raise_mark.ensures in
+    subst (λ (ws : List Work). IsLedger a.keys a.written ws c.raise_mark.new.table) (sym (c.add_awaited.ensures ∙ ap (with_op a.works.items c.args.t) c.get_op.ensures))
+    (ledger_got a.keys a.written a.works.items a.table c.raise_mark.new.table c.args.t c.args.key c.args.version.now.value c.args.version.now.source c.self.invariant r.0 r.1 from m.raises m.keys m.room)

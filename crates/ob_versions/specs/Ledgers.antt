@@ -1,0 +1,45 @@
+-- The works of an epoch with the index of their versions.
+use Rattle.std.specs.Prelude.{ℕ, ◌≡◌, ◌≤◌, List, is_some, true, slice_get}
+use Rattle.std.specs.declared.option.Option.{Option}
+use Rattle.std.specs.declared.option.Option.TheVariants.{None, Some}
+use Rattle.std.specs.HashMap as hash
+use Rattle.ob_order.specs.Works.{Op, Get, Put, Del, Work, edit, at_ticket, waiting_at, fall, least_source, is_gone, mark, source_of, newest}
+use Rattle.ob_order.specs.Order.{count_below}
+use Rattle.ob_order.specs.Chains.{Sourced}
+use Rattle.ob_versions.specs.Chains.{Chain}
+use Rattle.ob_versions.specs.Tables.{chain_at, link_at, base_mark, has_links}
+use Rattle.ob_versions.specs.Index.{IsIndex}
+
+-- what callers see of a ledger: the number of keys, and the works by ticket
+pub record LedgerModel : Type 0 where
+  pub keys : ℕ
+  pub works : List Work
+
+-- the key that a get waits for has room for its chain
+abbrev pub HasWaits : {S : Type 0} → List Work → hash.HashMap ℕ Chain S → Type 0
+HasWaits ws m = (t k : ℕ) → waiting_at ws t ≡ Some k → is_some (chain_at m k) ≡ true
+
+-- the chains are those of the works, and so many keys have versions
+pub record IsLedger {S : Type 0} (keys written : ℕ) (ws : List Work) (m : hash.HashMap ℕ Chain S) : Type 0 where
+  pub index : IsIndex ws (λ k t. link_at m k t) (λ k. base_mark m k)
+  pub sourced : Sourced ws
+  pub counted : written ≡ count_below (has_links m) keys
+  pub waits : HasWaits ws m
+
+-- ticket t falls because of its least source that is aborted, where it has one and goes on
+abbrev pub fall_at : List Work → ℕ → List Work
+fall_at ws t = edit (λ w. fall (least_source (is_gone ws) w.ops) w) ws t
+
+-- the key that an operation writes
+abbrev pub key_of : Op ℕ → Option ℕ
+key_of (Get k r s) = None
+key_of (Put k v) = Some k
+key_of (Del k) = Some k
+
+-- the mark of what a write by ticket t would cover
+abbrev pub covered_mark : List Work → ℕ → ℕ → ℕ
+covered_mark ws t k = mark ws k (source_of (newest ws t k))
+
+-- nobody above this ticket has read what ticket s wrote
+abbrev pub ReadUpTo : List Work → ℕ → ℕ → Type 0
+ReadUpTo ws s last = (u : ℕ) (w : Work) → at_ticket ws u ≡ Some w → (i k : ℕ) (r : Option (List ℕ)) → slice_get w.ops i ≡ Some (Get k r s) → u ≤ last
