@@ -39,7 +39,7 @@ is_format words = is_form (codes "format") 11 words
 
 -- The number that a word is: 0, which is in no range, for a word that isn't the canonical decimal of a number below 2^32.
 abbrev pub Denotes : List ℕ → ℕ → Type 0
-Denotes word n = (word ≡ decimal n) ⊎ ((n ≡ 0) × ((m : ℕ) → m < 2 ^ 32 → word ≢ decimal m))
+Denotes word n = ((word ≡ decimal n) × (n < 2 ^ 32)) ⊎ ((n ≡ 0) × ((m : ℕ) → m < 2 ^ 32 → word ≢ decimal m))
 
 abbrev pub AllDenote : List (List ℕ) → List ℕ → Type 0
 AllDenote [] [] = Unit {0}
@@ -79,10 +79,17 @@ IsWanted words Nothing = (fault : Fault) × IsRefusedFor words fault
 IsWanted words Old = is_run words ≡ true
 IsWanted words New = (p : Params) × (is_format words ≡ true) × AreParams words p
 
+-- The digits of a text are those of three keys of 32 bytes each.
+pub record AreKeys (text : List ℕ) (keys : Keys) : Type 0 where
+  pub spelled : decode_of (digits_of text) ≡ Ok (keys.seal ++ keys.tag ++ keys.tape)
+  pub seal_whole : length keys.seal ≡ 32
+  pub tag_whole : length keys.tag ≡ 32
+  pub tape_whole : length keys.tape ≡ 32
+
 -- the keys that were handed in, where a text of keys was
 abbrev pub HasKeys : Option (Bor (List ℕ)) → Keys → Type 0
 HasKeys None keys = ⊥
-HasKeys (Some text) keys = decode_of (digits_of text.now) ≡ Ok (keys.seal ++ keys.tag ++ keys.tape)
+HasKeys (Some text) keys = AreKeys text.now keys
 
 -- There was no text; or it is none of keys.
 abbrev pub IsKeysRefused : Option (Bor (List ℕ)) → Fault → Type 0
