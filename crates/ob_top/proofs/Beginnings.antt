@@ -1,5 +1,5 @@
 -- How the head's read and the opening join.
-use Rattle.std.proofs.Common.{◌≡◌, ◌≤◌, ℕ, suc, List, [], ◌∷◌, Option, Ok, Err, subst, sym, arith, inl, inr, rules, ⊎_elim, ◌⊎◌}
+use Rattle.std.proofs.Common.{◌≡◌, ◌≤◌, ℕ, suc, List, [], ◌∷◌, Err, subst, sym, arith, inl, inr, rules, ⊎_elim}
 use Rattle.ob_base.specs.declared.params.Params.{Params}
 use Rattle.ob_seal.specs.declared.keys.Keys.{Keys}
 use Rattle.ob_base.specs.declared.fault.Fault.{Fault}
@@ -11,7 +11,7 @@ use Rattle.ob_store.specs.Images.{Passes, Same, LeavesOnly}
 use Rattle.ob_store.proofs.Moments.{leaves_of, then_on, weakened}
 use Rattle.ob_serial.specs.Vaults.{Standing}
 use Rattle.ob_flat.specs.Standing.{StandsFlat, Stands, AllStand, StandsAsBefore}
-use Rattle.ob_store.specs.Calls.{Keeps, Notes, GoesOn, IsStoreFault}
+use Rattle.ob_store.specs.Calls.{Keeps, Notes, IsStoreFault}
 use Rattle.ob_store.specs.Lines.{Trace}
 use Rattle.ob_store.proofs.Events.{joined, joined_first}
 use Rattle.ob_twin.specs.Opening.{GatesAre}

@@ -1,9 +1,6 @@
 -- What came of the words, command by command.
-use Rattle.std.proofs.Common.{◌≡◌, ◌⊎◌, ℕ, List, [], ◌∷◌, length, Bool, true, false, ◌&&◌, ◌==◌, Option, Some, None, refl, sym, ap, subst, inl, inr, arith, ◌∙◌}
+use Rattle.std.proofs.Common.{◌≡◌, ◌⊎◌, ℕ, List, [], ◌∷◌, length, Bool, true, false, ◌&&◌, Option, Some, None, refl, sym, ap, subst, inl, inr, arith, ◌∙◌}
 use Rattle.std.proofs.lemmas.Bool.{eqb-true}
-use Rattle.std.specs.List.{list_all}
-use Rattle.std.specs.Str.{bytes_eq}
-use Rattle.std.specs.Prelude.{codes}
 use Rattle.std.specs.Borrow.{Bor}
 use Rattle.ob_base.specs.declared.params.Params.{Params}
 use Rattle.ob_base.specs.declared.fault.Field.TheVariants.{KEYS}
@@ -11,7 +8,7 @@ use Rattle.ob_seal.specs.declared.keys.Keys.{Keys}
 use Rattle.ob_base.specs.declared.fault.Field.{Field}
 use Rattle.ob_base.specs.declared.fault.Fault.{Fault}
 use Rattle.ob_base.specs.declared.fault.Fault.TheVariants.{Memory, Usage, BadScript, BadParams, NotStore, Damaged, StoreFault, StashFull, Worn, SourceFault, SinkFault}
-use Rattle.ob_report.specs.Printed.{Flow, IsPrinted}
+use Rattle.ob_report.specs.Printed.{IsPrinted}
 use Rattle.ob_report.specs.Faults.{fault_line, status_of}
 use Rattle.ob_store.specs.Disk.{Disk}
 use Rattle.ob_top.specs.Words.{is_run, is_format, AreParams, IsBadNumber, IsRefusedFor, HasKeys, IsKeysRefused}

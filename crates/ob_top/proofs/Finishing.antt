@@ -1,5 +1,5 @@
 -- How a run or a formatting ends, with its fault's line.
-use Rattle.std.proofs.Common.{◌≡◌, ◌≤◌, ◌+◌, ◌∙◌, ℕ, List, [], ◌∷◌, ◌++◌, length, take, Bool, true, false, Option, Some, None, refl, sym, ap, subst, inl, inr, arith, append_assoc, rules, ⊎_elim, length-append}
+use Rattle.std.proofs.Common.{◌≡◌, ◌≤◌, ◌+◌, ◌∙◌, ℕ, List, [], ◌++◌, length, take, Option, Some, None, refl, sym, ap, subst, inl, inr, arith, ⊎_elim, length-append}
 use Rattle.std.proofs.lemmas.List.{append-nil, take_all, take-append-le}
 use Rattle.std.proofs.Math.Seq.{take-append-add}
 use Rattle.std.specs.Prelude.{decimal}
@@ -22,7 +22,7 @@ use Rattle.ob_flat.specs.Formats.{FormatLeaves}
 use Rattle.ob_serial.specs.Serial.{EpochRecord}
 use Rattle.ob_top.specs.Outside.{Outside, LineTold, IsFinished}
 use Rattle.ob_top.specs.Formats.{FormatEnds, FormatTold, FormatDone}
-use Rattle.ob_top.specs.Runs.{EndsEarly, HasCause, IsReported, Ran, Went, RunOn, RunDone}
+use Rattle.ob_top.specs.Runs.{EndsEarly, HasCause, Ran, Went, RunOn, RunDone}
 use Rattle.ob_top.proofs.Beginnings.{rose_since}
 
 -- a text behind one that is whole

@@ -1,13 +1,12 @@
 -- How what was begun and what was served join into a run.
-use Rattle.std.proofs.Common.{◌≡◌, ◌≤◌, ◌+◌, ◌⊎◌, ℕ, suc, List, [], ◌∷◌, ◌++◌, length, Option, Some, None, refl, inl, inr, arith}
+use Rattle.std.proofs.Common.{◌≤◌, ◌⊎◌, ℕ, List, [], ◌++◌, length, Option, Some, None, refl, inl, inr, arith}
 use Rattle.ob_base.specs.declared.params.Params.{Params}
 use Rattle.ob_seal.specs.declared.keys.Keys.{Keys}
 use Rattle.ob_base.specs.declared.fault.Fault.{Fault}
 use Rattle.ob_base.specs.declared.fault.Fault.TheVariants.{Memory, Usage, BadScript, BadParams, NotStore, Damaged, StoreFault, StashFull, Worn, SourceFault, SinkFault}
-use Rattle.ob_io.specs.Flows.{appended}
 use Rattle.ob_io.proofs.Pieces.{appended-none}
 use Rattle.ob_report.specs.Printed.{Flow}
-use Rattle.ob_store.specs.Disk.{Disk, Image}
+use Rattle.ob_store.specs.Disk.{Disk}
 use Rattle.ob_store.specs.Images.{LeavesOnly, Settled}
 use Rattle.ob_store.proofs.Moments.{then_on, weakened}
 use Rattle.ob_serial.specs.Vaults.{Standing, StandsIn}

@@ -1,13 +1,12 @@
 -- What serving a script does to the store that the vault was lent.
-use Rattle.std.proofs.Common.{◌≡◌, ◌≤◌, ◌<◌, ◌^◌, ◌+◌, ◌*◌, ◌∙◌, ◌⊎◌, ℕ, zero, suc, List, [], ◌∷◌, ◌++◌, length, map, take, Option, Some, None, Result, Ok, Err, refl, sym, ap, subst, inl, inr, arith, rules, ⊎_elim}
-use Rattle.std.proofs.lemmas.List.{append-nil, length-map, append_assoc}
+use Rattle.std.proofs.Common.{◌≡◌, ◌≤◌, ◌<◌, ◌^◌, ◌+◌, ◌*◌, ◌∙◌, ◌⊎◌, ℕ, suc, List, [], ◌∷◌, ◌++◌, length, map, take, Option, Some, None, Result, Ok, Err, refl, sym, ap, subst, inl, inr, arith, ⊎_elim}
+use Rattle.std.proofs.lemmas.List.{append-nil, length-map}
 use Rattle.std.specs.Ordering.{nat_cmp}
 use Rattle.std.specs.Prelude.{decimal}
 use Rattle.ob_base.specs.declared.params.Params.{Params}
 use Rattle.ob_base.specs.declared.fault.Fault.{Fault}
 use Rattle.ob_base.specs.declared.fault.Fault.TheVariants.{Memory, Usage, BadScript, BadParams, NotStore, Damaged, StoreFault, StashFull, Worn, SourceFault, SinkFault}
 use Rattle.ob_base.specs.Causes.{Rose}
-use Rattle.ob_io.specs.Flows.{appended}
 use Rattle.ob_report.specs.Printed.{Flow, IsPrinted}
 use Rattle.ob_report.specs.Report.{report}
 use Rattle.ob_seal.specs.Sealing.{Sealing}
@@ -20,8 +19,6 @@ use Rattle.ob_seal.specs.declared.keys.Keys.{Keys}
 use Rattle.ob_store.specs.Calls.{Notes, IsStoreFault}
 use Rattle.ob_store.proofs.Events.{joined, none_noted}
 use Rattle.ob_twin.specs.declared.gates.Open.{Open}
-use Rattle.ob_twin.specs.Register.{place_of}
-use Rattle.ob_twin.specs.Opening.{with_mark}
 use Rattle.ob_serial.specs.Serial.{EpochRecord, Map}
 use Rattle.ob_serial.specs.Vaults.{Standing, StandsIn, VaultCall, Fetch, End, VaultAnswer, Values, Ended, RefusedBy, DoubtBy}
 use Rattle.ob_serial.specs.VaultKinds.{Kind, Called, AllCalled, ended_of, ended_by}
@@ -31,13 +28,13 @@ use Rattle.ob_flat.specs.Orders.{end_events}
 use Rattle.ob_flat.specs.Standing.{IsMapOf, StandsFlat}
 use Rattle.ob_flat.specs.declared.opening.Opening.{Opening}
 use Rattle.ob_flat.specs.Openings.{IsOpenedAt}
-use Rattle.ob_client.specs.Left.{Rests, OnlyNow, IsLeftStanding, IsLeftNow, TellsDoubt, IsNextOf}
+use Rattle.ob_client.specs.Left.{Rests, OnlyNow, IsLeftStanding, TellsDoubt, IsNextOf}
 use Rattle.ob_client.proofs.Leaves.{serve_leaves}
 use Rattle.ob_client.specs.Calls.{AreAnswered, IsRefusal, HoldsMap}
 use Rattle.ob_client.specs.Epochs.{record_writes}
-use Rattle.ob_client.specs.Serve.{ServeDone, ServeEnds, IsRefusedLast, IsWritten}
+use Rattle.ob_client.specs.Serve.{ServeDone, ServeEnds, IsWritten}
 use Rattle.ob_client.proofs.Chains.{goes_all}
-use Rattle.ob_top.specs.Runs.{ends_events, known_behind, HasCause, IsRefusedEnd, IsReported, IsServed, IsLeft, IsNext, ComesNext, Serves, fault_of}
+use Rattle.ob_top.specs.Runs.{ends_events, known_behind, HasCause, IsRefusedEnd, IsReported, IsLeft, IsNext, ComesNext, Serves, fault_of}
 
 none_ended : (epoch : ℕ) (call : VaultCall) (answer : VaultAnswer) (fault : Fault) → IsRefusal epoch call answer fault → ended_by (call, answer) ≡ []
 none_ended epoch (Fetch keys) answer fault refusal = refl

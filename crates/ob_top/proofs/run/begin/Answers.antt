@@ -1,5 +1,4 @@
 use Rattle.std.proofs.Common.{inl, inr}
-use Rattle.ob_report.specs.Printed.{flow}
 use Rattle.ob_top.proofs.Beginnings.{opened, unopened, left_opening, kept}
 use Rattle.ob_top.proofs.run.begin.Goals as goal
 

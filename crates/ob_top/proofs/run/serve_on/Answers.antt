@@ -1,12 +1,9 @@
-use Rattle.std.proofs.Common.{refl, ℕ, subst, ◌∙◌, ◌≡◌, List, ◌∷◌, Option, ap, sym, rules}
+use Rattle.std.proofs.Common.{refl, subst, ◌∙◌, ◌≡◌, List, ◌∷◌, ap, sym}
 use Rattle.std.specs.Borrow.{GName}
 use Rattle.ob_base.specs.declared.params.Params.{Params}
 use Rattle.ob_seal.specs.declared.keys.Keys.{Keys}
 use Rattle.ob_seal.specs.Sealing.{Sealing}
 use Rattle.ob_client.proofs.Chains.{goes_all}
-use Rattle.std.specs.Ordering.{nat_cmp}
-use Rattle.ob_serial.specs.Serial.{Map}
-use Rattle.ob_flat.specs.Standing.{IsMapOf}
 use Rattle.ob_flat.specs.Calls.{opened_at}
 use Rattle.ob_serial.specs.Vaults.{Standing}
 use Rattle.ob_store.specs.Images.{Settled}
