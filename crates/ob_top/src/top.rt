@@ -7,6 +7,7 @@ ghost use Rattle.ob_top.specs.Words.{is_run, is_format};
 ghost use Rattle.ob_top.specs.Outside.{outside, IsFinished, NoneOut};
 ghost use Rattle.ob_top.specs.Runs.{fault_of};
 ghost use Rattle.ob_top.specs.Top.{CommandDoes, IsRefusedWithout, UsageDoes, FormatDoes, RunDoes};
+ghost use Rattle.ob_top.specs.Complete.{Completes};
 
 use crate::format::format_on;
 use crate::run::run_on;
@@ -106,6 +107,10 @@ pub fn obladi<R: AllocGlobal, S: Store, I: Source, O: Sink>(
     ensures run { RunDoes S.disk (map (λ w. w.now) words.entry.now) keys.entry store.entry store.exit
         (outside (flow (I.left input.old) (I.faults input.old)) (flow (O.written output.old) (O.faults output.old)))
         (outside (flow (I.left input.new) (I.faults input.new)) (flow (O.written output.new) (O.faults output.new))) result }
+    // What is asked for is done, where nothing stands against it.
+    ensures complete { Completes S.disk (map (λ w. w.now) words.entry.now) keys.entry
+        (outside (flow (I.left input.old) (I.faults input.old)) (flow (O.written output.old) (O.faults output.old)))
+        (outside (flow (I.left input.new) (I.faults input.new)) (flow (O.written output.new) (O.faults output.new))) result store.entry store.exit }
 {
     match store {
         Some(store) => {

@@ -1,5 +1,6 @@
 use Rattle.std.proofs.Common.{refl}
 use Rattle.ob_top.proofs.Commands.{usage_done, format_does, run_does, no_store_usage, no_store_format, no_store_run}
+use Rattle.ob_top.proofs.Completing.{completes}
 use Rattle.ob_top.proofs.top.obladi.Goals as goal
 
 pub returns-in-Some-clause-usage : goal.returns-in-Some-clause-usage
@@ -19,3 +20,10 @@ returns-in-None-clause-format g c = rw c.in-None.is (no_store_format _ _ _ _ _ _
 
 pub returns-in-None-clause-run : goal.returns-in-None-clause-run
 returns-in-None-clause-run g c = rw c.in-None.is (no_store_run _ _ _ _ _ _ _ refl refl c.finish-in-None.ensures c.refusal_of.ensures)
+
+pub returns-in-Some-clause-complete : goal.returns-in-Some-clause-complete
+returns-in-Some-clause-complete g c = rw c.in-Some.is (completes g.S.Store.disk _ _ _ _ _ _ _
+    (format_does _ _ _ _ g.S.Store.disk _ _ _ _ refl _ c.do_on-ended.ensures c.finish.ensures) (run_does _ _ _ _ g.S.Store.disk _ _ _ _ refl _ c.do_on-ended.ensures c.finish.ensures))
+
+pub returns-in-None-clause-complete : goal.returns-in-None-clause-complete
+returns-in-None-clause-complete g c = rw c.in-None.is tt

@@ -1,0 +1,228 @@
+-- What can be done is done.
+use Rattle.std.proofs.Common.{◌≡◌, ◌⊎◌, ◌<◌, ◌≤◌, ◌+◌, ◌*◌, ◌-◌, ◌^◌, ◌++◌, ℕ, suc, List, [], length, take, Option, Some, None, Err, refl, sym, ap, subst, inl, inr, arith, ◌∙◌, length-append}
+use Rattle.std.proofs.lemmas.List.{append-nil}
+use Rattle.std.proofs.Math.Nat.{mul-le-mul_left}
+use Rattle.std.specs.Prelude.{decimal, true}
+use Rattle.std.specs.Borrow.{Bor}
+use Rattle.ob_base.specs.declared.params.Params.{Params}
+use Rattle.ob_base.specs.declared.fault.Damaged.{Damaged}
+use Rattle.ob_base.specs.declared.fault.Fault.{Fault}
+use Rattle.ob_base.specs.declared.fault.Fault.TheVariants as fault
+use Rattle.ob_base.specs.Causes.{Rose}
+use Rattle.ob_io.specs.Flows.{IsInput, appended}
+use Rattle.ob_report.specs.Report.{report}
+use Rattle.ob_report.specs.Faults.{status_of}
+use Rattle.ob_seal.specs.declared.keys.Keys.{Keys}
+use Rattle.ob_store.specs.Disk.{Disk, Image}
+use Rattle.ob_store.specs.Calls.{IsStoreFault}
+use Rattle.ob_serial.specs.Serial.{EpochRecord}
+use Rattle.ob_serial.specs.Vaults.{Standing}
+use Rattle.ob_script.specs.Script.{ScriptTxn, IsScript, IsFirstBad, limit}
+use Rattle.ob_script.proofs.OneReading.{not_both}
+use Rattle.ob_rows.specs.Reads.{IsFirstRowDamage}
+use Rattle.ob_twin.specs.Keyed.{tagging}
+use Rattle.ob_twin.specs.Reading.{AllWhole, IsFirstDamage}
+use Rattle.ob_flat.specs.Heads.{IsHead}
+use Rattle.ob_flat.specs.Registers.{IsRegisterDamage}
+use Rattle.ob_flat.specs.Places.{area_of}
+use Rattle.ob_flat.specs.Openings.{IsOpenFault, IsOpeningOf, IsRowsDamage}
+use Rattle.ob_flat.specs.Standing.{StandsFlat}
+use Rattle.ob_flat.proofs.Opened.{number_found}
+use Rattle.ob_client.specs.Epochs.{RecordsServed}
+use Rattle.ob_base.specs.declared.fault.Field.{Field}
+use Rattle.ob_top.specs.Words.{is_format, is_run, AreParams, IsBadNumber, HasKeys, IsKeysRefused}
+use Rattle.ob_top.specs.Outside.{Outside, IsOnlyTold}
+use Rattle.ob_top.specs.Formats.{FormatTold, FormatDone}
+use Rattle.ob_top.specs.Runs.{CameIn, IsInputRefused, EndsEarly, HasCause, Ran, Went, RunDone}
+use Rattle.ob_top.specs.Complete.{CanFormat, CanRun, RunsWhole, FirstRowTold, RunAnswers, DoesWhatItCan}
+use Rattle.ob_top.proofs.Judged.{head_told, keys_same, not_closed, not_broken, rows_told}
+use Rattle.ob_top.proofs.Counted.{one_script, few_records}
+use Rattle.ob_top.proofs.Named.{no_bad_number, one_keys, keys_stand}
+
+-- ---- format
+
+format_fault : (keys : Keys) (p : Params) (old new : Disk) (before after : Outside) (f : Option Fault) → FormatTold keys p old new before.output after.output f
+    → (Rose old.faults new.faults → ⊥) → (Rose before.output.faults after.output.faults → ⊥) → status_of f ≡ 0
+format_fault keys p old new before after None told store output = refl
+format_fault keys p old new before after (Some fault.SinkFault) told store output = absurd (output told.1)
+format_fault keys p old new before after (Some (fault.StoreFault unsure)) told store output = absurd (store told.1)
+format_fault keys p old new before after (Some fault.Memory) told store output = absurd told
+format_fault keys p old new before after (Some fault.Usage) told store output = absurd told
+format_fault keys p old new before after (Some (fault.BadScript line)) told store output = absurd told
+format_fault keys p old new before after (Some (fault.BadParams field)) told store output = absurd told
+format_fault keys p old new before after (Some fault.NotStore) told store output = absurd told
+format_fault keys p old new before after (Some (fault.Damaged cell check kept computed)) told store output = absurd told
+format_fault keys p old new before after (Some (fault.StashFull rows)) told store output = absurd told
+format_fault keys p old new before after (Some (fault.Worn number)) told store output = absurd told
+format_fault keys p old new before after (Some fault.SourceFault) told store output = absurd told
+
+-- ---- run
+
+module _ (keys : Keys) (p : Params) (g : ℕ) (at : Standing) (image : Image) (stands : StandsFlat keys p g image at) where
+  -- what opening a store that stands may answer
+  abbrev pub OpeningTold : Fault → Type 0
+  OpeningTold f = (status_of (Some f) ≡ 9) ⊎ ((status_of (Some f) ≡ 4) × FirstRowTold keys (area_of p.keys at.epoch) image)
+
+  epoch_found : (n : ℕ) (d : Damaged) → n ≡ p.keys → IsRowsDamage keys n image d → FirstRowTold keys (area_of p.keys at.epoch) image
+  epoch_found n d same rows =
+      let epoch : rows.epoch ≡ at.epoch = number_found keys 5 image at.epoch rows.epoch stands.epoch rows.found.epoch_whole rows.found.epoch_counts in
+      let first : IsFirstRowDamage keys (area_of n at.epoch) n image d = subst (λ e. IsFirstRowDamage keys (area_of n e) n image d) epoch rows.first in
+      rows_told keys (area_of p.keys at.epoch) p.keys image at.content d stands.rows (subst (λ m. IsFirstRowDamage keys (area_of m at.epoch) m image d) same first)
+
+  whole_registers : (d : Damaged) → IsRegisterDamage keys image d → ⊥
+  whole_registers d damage = by_register damage.first
+    where
+      by_register : IsFirstDamage (tagging keys) 1 image d ⊎ (AllWhole (tagging keys) 1 image × IsFirstDamage (tagging keys) 5 image d) → ⊥
+      by_register (inl first) = not_broken keys 1 g image stands.begun d first
+      by_register (inr (whole, first)) = not_broken keys 5 at.epoch image stands.epoch d first
+
+  opening_told : (n : ℕ) (f : Fault) → n ≡ p.keys → suc g < 2 ^ 62 → IsOpenFault f → IsOpeningOf keys n image (Err f) → (IsStoreFault f → ⊥) → OpeningTold f
+  opening_told n fault.Memory same left kind read holds = inl refl
+  opening_told n fault.NotStore same left kind (inl none) holds = absurd (not_closed keys 1 g image stands.begun none)
+  opening_told n fault.NotStore same left kind (inr none) holds = absurd (not_closed keys 5 at.epoch image stands.epoch none)
+  opening_told n (fault.Damaged cell check kept computed) same left kind (inl register) holds = absurd (whole_registers _ register)
+  opening_told n (fault.Damaged cell check kept computed) same left kind (inr rows) holds = inr (refl, epoch_found n _ same rows)
+  opening_told n (fault.Worn number) same left kind (is, worn) holds =
+      let last : 2 ^ 62 - 1 ≡ g = number_found keys 1 image g (2 ^ 62 - 1) stands.begun worn.found.generation_whole worn.found.generation_counts in
+      absurd (omega (arith, last))
+  opening_told n (fault.StoreFault unsure) same left kind read holds = absurd (holds tt)
+  opening_told n fault.Usage same left kind read holds = absurd kind
+  opening_told n (fault.BadScript line) same left kind read holds = absurd kind
+  opening_told n (fault.BadParams field) same left kind read holds = absurd kind
+  opening_told n (fault.StashFull rows) same left kind read holds = absurd kind
+  opening_told n fault.SourceFault same left kind read holds = absurd kind
+  opening_told n fault.SinkFault same left kind read holds = absurd kind
+
+keys_few : (p : Params) → p.keys ≤ 2 ^ 32
+keys_few p = omega (arith, p.in_range.few_keys)
+
+module _ (words : List (List ℕ)) (text : Option (Bor (List ℕ))) (old new : Disk) (before after : Outside) (script : List ScriptTxn) (can : CanRun words text old new before after script) where
+  input_is : (input : List ℕ) → IsInput before.input.bytes limit input → input ≡ take (limit + 1) can.bytes
+  input_is input is = subst (λ (b : Option (List ℕ)). IsInput b limit input) can.told is
+
+  -- a script that came in is the one
+  came_one : (n : ℕ) (came : List ScriptTxn) → n ≡ can.p.keys → CameIn n before.input came → came ≡ script
+  came_one n came same c =
+      let here : IsScript can.p.keys (take (limit + 1) can.bytes) came = subst (λ m. IsScript m (take (limit + 1) can.bytes) came) same (subst (λ (l : List ℕ). IsScript n l came) (input_is c.input c.input_is) c.is_script) in
+      one_script can.p.keys (keys_few can.p) (take (limit + 1) can.bytes) came script here can.is_script
+
+  input_told : (n : ℕ) (f : Fault) → n ≡ can.p.keys → IsInputRefused n before.input after.input f → status_of (Some f) ≡ 9
+  input_told n fault.Memory same refused = refl
+  input_told n fault.SourceFault same refused = absurd (can.input_holds refused)
+  input_told n (fault.BadScript line) same (input, is, bad) =
+      absurd (not_both can.p.keys (keys_few can.p) (take (limit + 1) can.bytes) line script (subst (λ m. IsFirstBad m (take (limit + 1) can.bytes) line) same (subst (λ (l : List ℕ). IsFirstBad n l line) (input_is input is) bad)) can.is_script)
+  input_told n fault.Usage same refused = absurd refused
+  input_told n (fault.BadParams field) same refused = absurd refused
+  input_told n fault.NotStore same refused = absurd refused
+  input_told n (fault.Damaged cell check kept computed) same refused = absurd refused
+  input_told n (fault.StoreFault unsure) same refused = absurd refused
+  input_told n (fault.StashFull rows) same refused = absurd refused
+  input_told n (fault.Worn number) same refused = absurd refused
+  input_told n fault.SinkFault same refused = absurd refused
+
+  one_p : (q : Params) → (old.tells → IsHead can.keys q (old.cells 0)) → q.keys ≡ can.p.keys
+  one_p q head = keys_same can.keys q can.p (old.cells 0) (head can.tells) can.stands.head
+
+  abbrev pub Told : Fault → Type 0
+  Told f = OpeningTold can.keys can.p can.generation can.at old.cells can.stands f
+
+  early : (f : Fault) → EndsEarly can.keys old new before.input after.input f → Told f
+  early f (inl head) = absurd (head_told can.keys can.p (old.cells 0) f can.stands.head head.kind (head.read can.tells) (λ is. can.store_holds (head.cause is)))
+  early f (inr (inl input)) = inl (input_told input.p.keys f (one_p input.p input.head) input.refused)
+  early f (inr (inr opening)) =
+      opening_told can.keys can.p can.generation can.at old.cells can.stands opening.p.keys f (one_p opening.p opening.head) can.generation_left opening.kind (opening.read can.tells) (λ is. can.store_holds (opening.cause is))
+
+  -- neither the epochs nor the seals came to their end
+  not_worn : (k epoch n : ℕ) → k ≡ can.p.keys → epoch ≡ can.at.epoch → n ≤ length script → (suc (epoch + n) ≡ 2 ^ 62) ⊎ (2 ^ 62 < k * n + k) → ⊥
+  not_worn k epoch n keys is few (inl last) = let left = can.epochs_left in omega (arith, last, is)
+  not_worn k epoch n keys is few (inr past) =
+      let more : can.p.keys * n ≤ can.p.keys * length script = mul-le-mul_left can.p.keys few in
+      let now : 2 ^ 62 < can.p.keys * n + can.p.keys = subst (λ m. 2 ^ 62 < m * n + m) keys past in
+      let left = can.seals_left in
+      omega arith
+
+  module _ (records : List (EpochRecord ℕ)) where
+    ran_keys : (f : Option Fault) (r : Ran can.keys old new before after records f) → r.p.keys ≡ can.p.keys
+    ran_keys f r = one_p r.p r.opened.head
+
+    ran_epoch : (f : Option Fault) (r : Ran can.keys old new before after records f) → r.opening.epoch ≡ can.at.epoch
+    ran_epoch f r =
+        let found = (r.opened.found can.tells).found in
+        number_found can.keys 5 old.cells can.at.epoch r.opening.epoch can.stands.epoch found.epoch_whole found.epoch_counts
+
+    ran_script : (f : Option Fault) (r : Ran can.keys old new before after records f) → r.is_served.front ++ r.rest ≡ script
+    ran_script f r = sym r.is_served.script_is ∙ came_one r.p.keys r.script (ran_keys f r) r.opened.came
+
+    ran_few : (f : Option Fault) (r : Ran can.keys old new before after records f) → length records ≤ length script
+    ran_few f r =
+        let few = few_records r.p (suc r.opening.epoch) r.rest r.is_served.front records r.is_served.served r.is_served.epochs_end in
+        omega (arith, ap length (ran_script f r), length-append r.is_served.front r.rest)
+
+    ran_fault : (f : Fault) (k epoch : ℕ) (rest : List ScriptTxn) → k ≡ can.p.keys → epoch ≡ can.at.epoch → length records ≤ length script
+        → HasCause k epoch (length records) old new before.output after.output rest (Some f) → status_of (Some f) ≡ 9
+    ran_fault fault.Memory k epoch rest keys is few cause = refl
+    ran_fault fault.SinkFault k epoch rest keys is few cause = absurd (can.output_holds cause)
+    ran_fault (fault.StoreFault unsure) k epoch rest keys is few cause = absurd (can.store_holds cause.0)
+    ran_fault (fault.Worn number) k epoch rest keys is few cause = absurd (not_worn k epoch (length records) keys is few cause.1)
+    ran_fault fault.Usage k epoch rest keys is few cause = absurd cause
+    ran_fault (fault.BadScript line) k epoch rest keys is few cause = absurd cause
+    ran_fault (fault.BadParams field) k epoch rest keys is few cause = absurd cause
+    ran_fault fault.NotStore k epoch rest keys is few cause = absurd cause
+    ran_fault (fault.Damaged cell check kept computed) k epoch rest keys is few cause = absurd cause
+    ran_fault (fault.StashFull rows) k epoch rest keys is few cause = absurd cause
+    ran_fault fault.SourceFault k epoch rest keys is few cause = absurd cause
+
+    ran_whole : (r : Ran can.keys old new before after records None) → after.output.bytes ≡ appended before.output.bytes (report decimal records) → RunsWhole can.keys old.cells can.at.epoch script before after
+    ran_whole r written =
+        let none : r.rest ≡ [] = r.cause in
+        let front : r.is_served.front ≡ script = sym (append-nil r.is_served.front) ∙ ap (λ (l : List ScriptTxn). r.is_served.front ++ l) (sym none) ∙ ran_script None r in
+        let served : RecordsServed r.p (suc r.opening.epoch) script records = subst (λ (l : List ScriptTxn). RecordsServed r.p (suc r.opening.epoch) l records) front r.is_served.served in
+        record {
+          p = r.p;
+          head = r.opened.head can.tells;
+          records = records;
+          served = subst (λ e. RecordsServed r.p (suc e) script records) (ran_epoch None r) served;
+          written = written;
+        }
+
+    abbrev Answers : ℕ → Type 0
+    Answers status = RunAnswers can.keys can.p old.cells can.at.epoch script before after status
+
+    told_answers : (status : ℕ) (f : Fault) → status ≡ status_of (Some f) → Told f → Answers status
+    told_answers status f is (inl memory) = inr (inl (is ∙ memory))
+    told_answers status f is (inr (damaged, first)) = inr (inr (is ∙ damaged, first))
+
+    answers : (status : ℕ) (f : Option Fault) → status ≡ status_of f → (f ≡ None → after.output.bytes ≡ appended before.output.bytes (report decimal records)) → Went can.keys old new before after records f → Answers status
+    answers status None is written ran = inl (is, ran_whole ran (written refl))
+    answers status (Some f) is written (inl (none, ended)) = told_answers status f is (early f ended)
+    answers status (Some f) is written (inr ran) = inr (inl (is ∙ ran_fault f ran.p.keys ran.opening.epoch ran.rest (ran_keys (Some f) ran) (ran_epoch (Some f) ran) (ran_few (Some f) ran) ran.cause))
+
+  pub run_answers : (status : ℕ) → RunDone can.keys old new before after status → RunAnswers can.keys can.p old.cells can.at.epoch script before after status
+  run_answers status d = answers d.records status d.fault d.status_is d.all_written d.went
+
+-- ---- both
+
+module _ {S : Type 0} (disk : S → Disk) (words : List (List ℕ)) (text : Option (Bor (List ℕ))) (old new : S) (before after : Outside) (status : ℕ) where
+  -- what is told of keys
+  abbrev KeysTell : Type 0
+  KeysTell = (f : Fault) × IsKeysRefused text f × (new ≡ old) × IsOnlyTold f before after status
+
+  abbrev FormatTells : Type 0
+  FormatTells = ((field : Field) × IsBadNumber words field × (new ≡ old) × IsOnlyTold (fault.BadParams field) before after status)
+      ⊎ ((p : Params) × AreParams words p × (KeysTell ⊎ ((keys : Keys) × HasKeys text keys × FormatDone keys p (disk old) (disk new) before after status)))
+
+  abbrev RunTells : Type 0
+  RunTells = KeysTell ⊎ ((keys : Keys) × HasKeys text keys × RunDone keys (disk old) (disk new) before after status)
+
+  format_whole : CanFormat words text (disk old) (disk new) before after → FormatTells → status ≡ 0
+  format_whole can (inl (field, bad, kept, told)) = absurd (no_bad_number words can.p field can.params bad)
+  format_whole can (inr (p, are, inl (f, refused, kept, told))) = absurd (keys_stand text can.keys f can.has refused)
+  format_whole can (inr (p, are, inr (keys, has, d))) = d.status_is ∙ format_fault keys p (disk old) (disk new) before after d.fault d.told can.store_holds can.output_holds
+
+  run_whole : (script : List ScriptTxn) (can : CanRun words text (disk old) (disk new) before after script) → RunTells → RunAnswers can.keys can.p (disk old).cells can.at.epoch script before after status
+  run_whole script can (inl (f, refused, kept, told)) = absurd (keys_stand text can.keys f can.has refused)
+  run_whole script can (inr (keys, has, d)) =
+      run_answers words text (disk old) (disk new) before after script can status (subst (λ (k : Keys). RunDone k (disk old) (disk new) before after status) (one_keys text keys can.keys has can.has) d)
+
+  pub completes : (is_format words ≡ true → FormatTells) → (is_run words ≡ true → RunTells) → DoesWhatItCan disk words text before after status old new
+  completes format run = (λ can. format_whole can (format can.form), λ script can. run_whole script can (run can.form))
