@@ -1,5 +1,5 @@
 -- What reads of rows answer.
-use Rattle.std.specs.Prelude.{◌≡◌, ◌⊎◌, ◌<◌, ◌≤◌, ℕ, zero, suc, ◌+◌, List, length, slice_index, Option, Some, None, Result, Ok, Err}
+use Rattle.std.specs.Prelude.{◌≡◌, ◌⊎◌, ◌<◌, ◌≤◌, ℕ, zero, suc, ◌+◌, ◌^◌, List, length, slice_index, Option, Some, None, Result, Ok, Err}
 use Rattle.ob_base.specs.declared.fault.Damaged.{Damaged}
 use Rattle.ob_base.specs.declared.fault.Check.TheVariants.{Form}
 use Rattle.ob_base.specs.declared.fault.Fault.{Fault}
@@ -31,6 +31,8 @@ IsPlainRead cell plain (Err damaged) = IsFormDamage cell plain damaged
 pub record IsMisformed (keys : Keys) (cell : ℕ) (expected : Option (ℕ × ℕ)) (bytes : List ℕ) (damaged : Damaged) : Type 0 where
   pub generation : ℕ
   pub number : ℕ
+  pub generation_fits : generation < 2 ^ 64
+  pub number_fits : number < 2 ^ 64
   pub plain : List ℕ
   pub whole : length plain ≡ 96
   pub spelled : bytes ≡ sealed keys cell generation number plain
