@@ -34,8 +34,8 @@ use Rattle.ob_top.specs.Words.{is_format, is_run, AreParams, IsBadNumber, HasKey
 use Rattle.ob_top.specs.Outside.{Outside, IsOnlyTold}
 use Rattle.ob_top.specs.Formats.{FormatTold, FormatDone}
 use Rattle.ob_top.specs.Runs.{CameIn, IsInputRefused, EndsEarly, HasCause, Ran, Went, RunDone}
-use Rattle.ob_top.specs.Complete.{CanFormat, CanRun, RunsWhole, FirstRowTold, RunAnswers, DoesWhatItCan}
-use Rattle.ob_top.proofs.Judged.{head_told, keys_same, not_closed, not_broken, rows_told}
+use Rattle.ob_top.specs.Complete.{CanFormat, CanRun, RunsWhole, RunAnswers, DoesWhatItCan}
+use Rattle.ob_top.proofs.Judged.{head_told, keys_same, not_closed, not_broken, rows_obey}
 use Rattle.ob_top.proofs.Counted.{one_script, few_records}
 use Rattle.ob_top.proofs.Named.{no_bad_number, one_keys, keys_stand}
 
@@ -59,15 +59,11 @@ format_fault keys p old new before after (Some fault.SourceFault) told store out
 -- ---- run
 
 module _ (keys : Keys) (p : Params) (g : ℕ) (at : Standing) (image : Image) (stands : StandsFlat keys p g image at) where
-  -- what opening a store that stands may answer
-  abbrev pub OpeningTold : Fault → Type 0
-  OpeningTold f = (status_of (Some f) ≡ 9) ⊎ ((status_of (Some f) ≡ 4) × FirstRowTold keys (area_of p.keys at.epoch) image)
-
-  epoch_found : (n : ℕ) (d : Damaged) → n ≡ p.keys → IsRowsDamage keys n image d → FirstRowTold keys (area_of p.keys at.epoch) image
-  epoch_found n d same rows =
+  whole_rows : (n : ℕ) (d : Damaged) → n ≡ p.keys → IsRowsDamage keys n image d → ⊥
+  whole_rows n d same rows =
       let epoch : rows.epoch ≡ at.epoch = number_found keys 5 image at.epoch rows.epoch stands.epoch rows.found.epoch_whole rows.found.epoch_counts in
       let first : IsFirstRowDamage keys (area_of n at.epoch) n image d = subst (λ e. IsFirstRowDamage keys (area_of n e) n image d) epoch rows.first in
-      rows_told keys (area_of p.keys at.epoch) p.keys image at.content d stands.rows (subst (λ m. IsFirstRowDamage keys (area_of m at.epoch) m image d) same first)
+      rows_obey keys (area_of p.keys at.epoch) p.keys image at.content d stands.rows (subst (λ m. IsFirstRowDamage keys (area_of m at.epoch) m image d) same first)
 
   whole_registers : (d : Damaged) → IsRegisterDamage keys image d → ⊥
   whole_registers d damage = by_register damage.first
@@ -76,12 +72,13 @@ module _ (keys : Keys) (p : Params) (g : ℕ) (at : Standing) (image : Image) (s
       by_register (inl first) = not_broken keys 1 g image stands.begun d first
       by_register (inr (whole, first)) = not_broken keys 5 at.epoch image stands.epoch d first
 
-  opening_told : (n : ℕ) (f : Fault) → n ≡ p.keys → suc g < 2 ^ 62 → IsOpenFault f → IsOpeningOf keys n image (Err f) → (IsStoreFault f → ⊥) → OpeningTold f
-  opening_told n fault.Memory same left kind read holds = inl refl
+  -- opening a store that stands is refused for want of memory alone
+  opening_told : (n : ℕ) (f : Fault) → n ≡ p.keys → suc g < 2 ^ 62 → IsOpenFault f → IsOpeningOf keys n image (Err f) → (IsStoreFault f → ⊥) → status_of (Some f) ≡ 9
+  opening_told n fault.Memory same left kind read holds = refl
   opening_told n fault.NotStore same left kind (inl none) holds = absurd (not_closed keys 1 g image stands.begun none)
   opening_told n fault.NotStore same left kind (inr none) holds = absurd (not_closed keys 5 at.epoch image stands.epoch none)
   opening_told n (fault.Damaged cell check kept computed) same left kind (inl register) holds = absurd (whole_registers _ register)
-  opening_told n (fault.Damaged cell check kept computed) same left kind (inr rows) holds = inr (refl, epoch_found n _ same rows)
+  opening_told n (fault.Damaged cell check kept computed) same left kind (inr rows) holds = absurd (whole_rows n _ same rows)
   opening_told n (fault.Worn number) same left kind (is, worn) holds =
       let last : 2 ^ 62 - 1 ≡ g = number_found keys 1 image g (2 ^ 62 - 1) stands.begun worn.found.generation_whole worn.found.generation_counts in
       absurd (omega (arith, last))
@@ -123,12 +120,9 @@ module _ (words : List (List ℕ)) (text : Option (Bor (List ℕ))) (old new : D
   one_p : (q : Params) → (old.tells → IsHead can.keys q (old.cells 0)) → q.keys ≡ can.p.keys
   one_p q head = keys_same can.keys q can.p (old.cells 0) (head can.tells) can.stands.head
 
-  abbrev pub Told : Fault → Type 0
-  Told f = OpeningTold can.keys can.p can.generation can.at old.cells can.stands f
-
-  early : (f : Fault) → EndsEarly can.keys old new before.input after.input f → Told f
+  early : (f : Fault) → EndsEarly can.keys old new before.input after.input f → status_of (Some f) ≡ 9
   early f (inl head) = absurd (head_told can.keys can.p (old.cells 0) f can.stands.head head.kind (head.read can.tells) (λ is. can.store_holds (head.cause is)))
-  early f (inr (inl input)) = inl (input_told input.p.keys f (one_p input.p input.head) input.refused)
+  early f (inr (inl input)) = input_told input.p.keys f (one_p input.p input.head) input.refused
   early f (inr (inr opening)) =
       opening_told can.keys can.p can.generation can.at old.cells can.stands opening.p.keys f (one_p opening.p opening.head) can.generation_left opening.kind (opening.read can.tells) (λ is. can.store_holds (opening.cause is))
 
@@ -186,18 +180,14 @@ module _ (words : List (List ℕ)) (text : Option (Bor (List ℕ))) (old new : D
         }
 
     abbrev Answers : ℕ → Type 0
-    Answers status = RunAnswers can.keys can.p old.cells can.at.epoch script before after status
-
-    told_answers : (status : ℕ) (f : Fault) → status ≡ status_of (Some f) → Told f → Answers status
-    told_answers status f is (inl memory) = inr (inl (is ∙ memory))
-    told_answers status f is (inr (damaged, first)) = inr (inr (is ∙ damaged, first))
+    Answers status = RunAnswers can.keys old.cells can.at.epoch script before after status
 
     answers : (status : ℕ) (f : Option Fault) → status ≡ status_of f → (f ≡ None → after.output.bytes ≡ appended before.output.bytes (report decimal records)) → Went can.keys old new before after records f → Answers status
     answers status None is written ran = inl (is, ran_whole ran (written refl))
-    answers status (Some f) is written (inl (none, ended)) = told_answers status f is (early f ended)
-    answers status (Some f) is written (inr ran) = inr (inl (is ∙ ran_fault f ran.p.keys ran.opening.epoch ran.rest (ran_keys (Some f) ran) (ran_epoch (Some f) ran) (ran_few (Some f) ran) ran.cause))
+    answers status (Some f) is written (inl (none, ended)) = inr (is ∙ early f ended)
+    answers status (Some f) is written (inr ran) = inr (is ∙ ran_fault f ran.p.keys ran.opening.epoch ran.rest (ran_keys (Some f) ran) (ran_epoch (Some f) ran) (ran_few (Some f) ran) ran.cause)
 
-  pub run_answers : (status : ℕ) → RunDone can.keys old new before after status → RunAnswers can.keys can.p old.cells can.at.epoch script before after status
+  pub run_answers : (status : ℕ) → RunDone can.keys old new before after status → RunAnswers can.keys old.cells can.at.epoch script before after status
   run_answers status d = answers d.records status d.fault d.status_is d.all_written d.went
 
 -- ---- both
@@ -219,7 +209,7 @@ module _ {S : Type 0} (disk : S → Disk) (words : List (List ℕ)) (text : Opti
   format_whole can (inr (p, are, inl (f, refused, kept, told))) = absurd (keys_stand text can.keys f can.has refused)
   format_whole can (inr (p, are, inr (keys, has, d))) = d.status_is ∙ format_fault keys p (disk old) (disk new) before after d.fault d.told can.store_holds can.output_holds
 
-  run_whole : (script : List ScriptTxn) (can : CanRun words text (disk old) (disk new) before after script) → RunTells → RunAnswers can.keys can.p (disk old).cells can.at.epoch script before after status
+  run_whole : (script : List ScriptTxn) (can : CanRun words text (disk old) (disk new) before after script) → RunTells → RunAnswers can.keys (disk old).cells can.at.epoch script before after status
   run_whole script can (inl (f, refused, kept, told)) = absurd (keys_stand text can.keys f can.has refused)
   run_whole script can (inr (keys, has, d)) =
       run_answers words text (disk old) (disk new) before after script can status (subst (λ (k : Keys). RunDone k (disk old) (disk new) before after status) (one_keys text keys can.keys has can.has) d)

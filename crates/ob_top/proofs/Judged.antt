@@ -25,7 +25,6 @@ use Rattle.ob_flat.specs.Heads.{numbers_of, numbers_in, IsHead, IsHeadRead}
 use Rattle.ob_flat.specs.Openings.{IsHeadFault}
 use Rattle.ob_flat.specs.Standing.{HasRows}
 use Rattle.ob_top.specs.Words.{first_out}
-use Rattle.ob_top.specs.Complete.{FirstRowTold}
 
 -- ---- the head
 
@@ -96,15 +95,11 @@ seal_obeys keys cell None g m bytes v d row same (inr wrong) = absurd wrong
 seal_obeys keys cell (Some e) g m bytes v d row same (inr (right, other)) =
     other.differs ((sealed_parts keys cell g m bytes row.plain row.whole row.spelled).1 ∙ ap (λ (p : ℕ × ℕ). identity_bytes p.0 p.1) (sym same))
 
--- a row under the seal that is expected breaks no rule
-row_obeys : (keys : Keys) (cell : ℕ) (e : ℕ × ℕ) (g m : ℕ) (bytes : List ℕ) (v : Option (List ℕ)) (d : Damaged) → IsRow keys cell g m bytes v → e ≡ (g, m) → IsRowDamage keys cell (Some e) bytes d → ⊥
-row_obeys keys cell e g m bytes v d row same (inl damage) = seal_obeys keys cell (Some e) g m bytes v d row same damage
-row_obeys keys cell e g m bytes v d row same (inr mis) =
-    let told : ◌≡◌ {A = ℕ × ℕ} (mis.generation, mis.number) (g, m) = sym mis.sealed_so ∙ same in
-    let generation : mis.generation ≡ g = ap (λ (x : ℕ × ℕ). x.0) told in
-    let number : mis.number ≡ m = ap (λ (x : ℕ × ℕ). x.1) told in
-    let alike = sealed_same keys cell mis.generation g mis.number m mis.plain row.plain (subst (λ x. x < 2 ^ 64) (sym generation) row.generation_fits) row.generation_fits
-    (subst (λ x. x < 2 ^ 64) (sym number) row.number_fits) row.number_fits (mis.whole ∙ sym row.whole) (sym mis.spelled ∙ row.spelled) in
+-- a row under the seal that is expected, if one is, breaks no rule
+row_obeys : (keys : Keys) (cell : ℕ) (expected : Option (ℕ × ℕ)) (g m : ℕ) (bytes : List ℕ) (v : Option (List ℕ)) (d : Damaged) → IsRow keys cell g m bytes v → IsExpected expected g m → IsRowDamage keys cell expected bytes d → ⊥
+row_obeys keys cell expected g m bytes v d row same (inl damage) = seal_obeys keys cell expected g m bytes v d row same damage
+row_obeys keys cell expected g m bytes v d row same (inr mis) =
+    let alike = sealed_same keys cell mis.generation g mis.number m mis.plain row.plain mis.generation_fits row.generation_fits mis.number_fits row.number_fits (mis.whole ∙ sym row.whole) (sym mis.spelled ∙ row.spelled) in
     form_obeys cell row.plain v d row.has row.short (subst (λ (l : List ℕ). IsFormDamage cell l d) alike.2 mis.breaks)
 
 pair : {a b c d : ℕ} → a ≡ c → b ≡ d → ◌≡◌ {A = ℕ × ℕ} (a, b) (c, d)
@@ -114,17 +109,16 @@ onward_same : (f g i : ℕ) → onward f 0 ≡ onward g 0 → onward f i ≡ onw
 onward_same f g i same = omega (arith, same)
 
 module _ (keys : Keys) (base n : ℕ) (image : Image) (content : Map nat_cmp) (d : Damaged) (rows : HasRows keys base n image content) where
-  told_at : (row : ℕ) → row < n → (generation first : ℕ) → ((i : ℕ) → i < row → (value : Option (List ℕ)) × IsRow keys (base + i) generation (onward first i) (image (base + i)) value)
-      → IsRowDamage keys (base + row) (expected_at generation first row) (image (base + row)) d → FirstRowTold keys base image
-  told_at zero lt generation first earlier (inl damage) = absurd (seal_obeys keys (base + 0) None rows.generation (onward rows.first 0) (image (base + 0)) _ d (rows.each 0 lt) tt damage)
-  told_at zero lt generation first earlier (inr mis) = (d, mis)
-  told_at (suc i) lt generation first earlier breaks =
+  obeys_at : (row : ℕ) → row < n → (generation first : ℕ) → ((i : ℕ) → i < row → (value : Option (List ℕ)) × IsRow keys (base + i) generation (onward first i) (image (base + i)) value)
+      → IsRowDamage keys (base + row) (expected_at generation first row) (image (base + row)) d → ⊥
+  obeys_at zero lt generation first earlier breaks = row_obeys keys (base + 0) None rows.generation (onward rows.first 0) (image (base + 0)) _ d (rows.each 0 lt) tt breaks
+  obeys_at (suc i) lt generation first earlier breaks =
       let before = (earlier 0 (omega arith)).1 in
       let here = rows.each 0 (omega arith) in
       let alike = sealed_same keys (base + 0) generation rows.generation (onward first 0) (onward rows.first 0) before.plain here.plain before.generation_fits here.generation_fits before.number_fits here.number_fits
       (before.whole ∙ sym here.whole) (sym before.spelled ∙ here.spelled) in
-      absurd (row_obeys keys (base + suc i) (generation, onward first (suc i)) rows.generation (onward rows.first (suc i)) (image (base + suc i)) _ d (rows.each (suc i) lt) (pair alike.0 (onward_same first rows.first (suc i) alike.1)) breaks)
+      row_obeys keys (base + suc i) (Some (generation, onward first (suc i))) rows.generation (onward rows.first (suc i)) (image (base + suc i)) _ d (rows.each (suc i) lt) (pair alike.0 (onward_same first rows.first (suc i) alike.1)) breaks
 
-  -- no row breaks a rule, but the first may be told to
-  pub rows_told : IsFirstRowDamage keys base n image d → FirstRowTold keys base image
-  rows_told f = told_at f.row f.within f.generation f.first f.earlier f.breaks
+  -- no row breaks a rule
+  pub rows_obey : IsFirstRowDamage keys base n image d → ⊥
+  rows_obey f = obeys_at f.row f.within f.generation f.first f.earlier f.breaks

@@ -1,8 +1,7 @@
 -- When a command must do what it is asked for.
-use Rattle.std.specs.Prelude.{ℕ, suc, ◌≡◌, ◌⊎◌, ◌+◌, ◌*◌, ◌^◌, ◌<◌, ◌≤◌, true, List, length, take, Option, Some, None, decimal}
+use Rattle.std.specs.Prelude.{ℕ, suc, ◌≡◌, ◌⊎◌, ◌+◌, ◌*◌, ◌^◌, ◌<◌, ◌≤◌, true, List, length, take, Option, Some, decimal}
 use Rattle.std.specs.Borrow.{Bor, MutBor}
 use Rattle.ob_base.specs.declared.params.Params.{Params}
-use Rattle.ob_base.specs.declared.fault.Damaged.{Damaged}
 use Rattle.ob_base.specs.Causes.{Rose}
 use Rattle.ob_seal.specs.declared.keys.Keys.{Keys}
 use Rattle.ob_io.specs.Flows.{appended}
@@ -11,17 +10,15 @@ use Rattle.ob_store.specs.Disk.{Disk, Image}
 use Rattle.ob_serial.specs.Serial.{EpochRecord}
 use Rattle.ob_serial.specs.Vaults.{Standing}
 use Rattle.ob_script.specs.Script.{ScriptTxn, IsScript, limit}
-use Rattle.ob_rows.specs.Reads.{IsMisformed}
 use Rattle.ob_flat.specs.Heads.{IsHead}
-use Rattle.ob_flat.specs.Places.{area_of}
 use Rattle.ob_flat.specs.Standing.{StandsFlat}
 use Rattle.ob_client.specs.Epochs.{RecordsServed}
 use Rattle.ob_top.specs.Words.{is_run, is_format, AreParams, HasKeys}
 use Rattle.ob_top.specs.Outside.{Outside, Left, OfStore}
 
 module _ (words : List (List ℕ)) (text : Option (Bor (List ℕ))) (old new : Disk) (before after : Outside) where
-  -- A store can be made: the words are the form of `format`, with numbers in range; the keys are keys; and no fault of the store or of
-  -- the output came up.
+  -- A store can be made: the words are the form of `format`, with numbers in range; the keys are keys; and no count of faults rose,
+  -- the store's or the output's.
   pub record CanFormat : Type 0 where
     pub form : is_format words ≡ true
     pub p : Params
@@ -32,8 +29,8 @@ module _ (words : List (List ℕ)) (text : Option (Bor (List ℕ))) (old new : D
     pub output_holds : Rose before.output.faults after.output.faults → ⊥
 
   -- A script can be run: the words are the form of `run`; the keys are keys; the store tells its cells, and they stand for a map under
-  -- these keys; the bytes that come in are the script; no fault of the store, the input or the output came up; and neither the
-  -- generation, nor the epochs, nor the seals come to their end, were each transaction to end an epoch.
+  -- these keys; the bytes that come in are the script; no count of faults rose, the store's, the input's or the output's; and neither
+  -- the generation, nor the epochs, nor the seals come to their end, even if each transaction ends an epoch.
   pub record CanRun (script : List ScriptTxn) : Type 0 where
     pub form : is_run words ≡ true
     pub keys : Keys
@@ -62,21 +59,16 @@ pub record RunsWhole (keys : Keys) (image : Image) (epoch : ℕ) (script : List 
   pub served : RecordsServed p (suc epoch) script records
   pub written : after.output.bytes ≡ appended before.output.bytes (report decimal records)
 
--- the first of the rows is told to break the rules of plain bytes
-abbrev pub FirstRowTold : Keys → ℕ → Image → Type 0
-FirstRowTold keys base image = (damaged : Damaged) × IsMisformed keys (base + 0) None (image (base + 0)) damaged
-
 -- what a run then answers: all is done, or memory was wanting
-abbrev pub RunAnswers : Keys → Params → Image → ℕ → List ScriptTxn → Outside → Outside → ℕ → Type 0
-RunAnswers keys p image epoch script before after status =
-    ((status ≡ 0) × RunsWhole keys image epoch script before after) ⊎ (status ≡ 9) ⊎ ((status ≡ 4) × FirstRowTold keys (area_of p.keys epoch) image)
+abbrev pub RunAnswers : Keys → Image → ℕ → List ScriptTxn → Outside → Outside → ℕ → Type 0
+RunAnswers keys image epoch script before after status = ((status ≡ 0) × RunsWhole keys image epoch script before after) ⊎ (status ≡ 9)
 
 module _ {S : Type 0} (disk : S → Disk) (words : List (List ℕ)) (text : Option (Bor (List ℕ))) (before after : Outside) (status : ℕ) where
   -- What can be done is done.
   abbrev pub DoesWhatItCan : S → S → Type 0
   DoesWhatItCan old new = (CanFormat words text (disk old) (disk new) before after → status ≡ 0)
       × ((script : List ScriptTxn) (can : CanRun words text (disk old) (disk new) before after script)
-      → RunAnswers can.keys can.p (disk old).cells can.at.epoch script before after status)
+      → RunAnswers can.keys (disk old).cells can.at.epoch script before after status)
 
   abbrev pub Completes : Option (MutBor S) → Left S → Type 0
   Completes entry exit = OfStore entry exit (Unit {0}) DoesWhatItCan
