@@ -232,3 +232,63 @@ fn each_failing_sync_and_read_is_told(rt: HostRuntime) -> Result<(), Broken> {
     }
     Ok(())
 }
+
+// What the next run reports behind so many epochs: key 5 has a value from the first one on.
+fn next_report<R: AllocGlobal>(rt: &R, epochs: u64) -> Result<String, Broken> {
+    let value = if epochs == 0 { "absent" } else { "= hi" };
+    let next = epochs + 1;
+    Ok(format!(in rt.alloc(); "epoch {next}/txn 1 client 1 committed/get 5 {value}/")?)
+}
+
+// How many epochs stand after a crash behind so many writes and syncs of a run of two epochs, where
+// a gate that isn't sure looks open or not.
+fn epochs_at(moment: usize, open: bool) -> u64 {
+    let first = if open { 17 } else { 18 };
+    let second = if open { 32 } else { 33 };
+    if moment < first {
+        0
+    } else if moment < second {
+        1
+    } else {
+        2
+    }
+}
+
+// Crashes a run at each moment, with these bytes in each cell that isn't sure, and runs again.
+fn crash_everywhere<R: AllocGlobal + Abort>(
+    rt: &R,
+    ran: &MemStore,
+    cells: &[(u64, [u8; 128])],
+    open: bool,
+) -> Result<(), Broken> {
+    for moment in 0..34 {
+        let left = ran.crash(moment, cells)?;
+        let report = next_report(rt, epochs_at(moment, open))?;
+        let _ = run_on(
+            rt,
+            &left,
+            "client 1/begin/get 5/commit/",
+            0,
+            report.as_str(),
+        )?;
+    }
+    Ok(())
+}
+
+#[test]
+fn a_crash_at_each_moment_leaves_a_front_of_the_epochs(rt: HostRuntime) -> Result<(), Broken> {
+    let alloc = rt.alloc();
+    let made = formatted(&rt, Vec::new(alloc))?;
+    let report = format!(in alloc; "{FIRST}{SECOND}")?;
+    let ran = run_on(&rt, &made, TWO_EPOCHS, 0, report.as_str())?;
+    let mut zeros = Vec::new(alloc);
+    let mut opens = Vec::new(alloc);
+    for cell in 0..25 {
+        zeros.push((cell, [0; 128]))?;
+        opens.push((cell, [0xA5; 128]))?;
+    }
+    crash_everywhere(&rt, &ran, &[], true)?;
+    crash_everywhere(&rt, &ran, &zeros, false)?;
+    crash_everywhere(&rt, &ran, &opens, true)?;
+    Ok(())
+}
