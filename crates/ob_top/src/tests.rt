@@ -1,4 +1,4 @@
-ghost use Rattle.std.specs.Prelude.{◌≡◌};
+ghost use Rattle.std.specs.Prelude.{◌≤◌};
 ghost use Rattle.ob_mem.specs.Memory.{disk_of_store};
 ghost use Rattle.ob_top.specs.Outside.{NoneOut};
 
@@ -234,7 +234,9 @@ fn each_failing_sync_and_read_is_told(rt: HostRuntime) -> Result<(), Broken> {
 }
 
 // What the next run reports behind so many epochs: key 5 has a value from the first one on.
-fn next_report<R: AllocGlobal>(rt: &R, epochs: u64) -> Result<String, Broken> {
+fn next_report<R: AllocGlobal>(rt: &R, epochs: u64) -> Result<String, Broken>
+    requires { epochs ≤ 2 }
+{
     let value = if epochs == 0 { "absent" } else { "= hi" };
     let next = epochs + 1;
     Ok(format!(in rt.alloc(); "epoch {next}/txn 1 client 1 committed/get 5 {value}/")?)
@@ -242,7 +244,9 @@ fn next_report<R: AllocGlobal>(rt: &R, epochs: u64) -> Result<String, Broken> {
 
 // How many epochs stand after a crash behind so many writes and syncs of a run of two epochs, where
 // a gate that isn't sure looks open or not.
-fn epochs_at(moment: usize, open: bool) -> u64 {
+fn epochs_at(moment: usize, open: bool) -> u64
+    ensures { result ≤ 2 }
+{
     let first = if open { 17 } else { 18 };
     let second = if open { 32 } else { 33 };
     if moment < first {
