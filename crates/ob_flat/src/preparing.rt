@@ -139,9 +139,10 @@ fn open_into<S: Store, W: Watch>(
 /// # Errors
 /// Memory was wanting, and nothing was done; or the store failed, and its count of faults rose; or,
 /// in this order, it is no store exactly where a register has no open gate; the first body under an
-/// open gate that breaks a rule is damaged, in the order of cells; or the first row, in its tag, its
-/// presence or its length; or, before anything is written, the next generation would be `2^62`.
-/// Whatever it answers, each image that a crash may leave stands for what the store stood for.
+/// open gate that breaks a rule is damaged, in the order of cells; or the first row, in its tag,
+/// then in its seal, which is the one behind the row before it, then in its presence, then in its
+/// length; or, before anything is written, the next generation would be `2^62`. Whatever it
+/// answers, each image that a crash may leave stands for what the store stood for.
 pub fn prepare<S: Store, W: Watch>(
     alloc: Global,
     store: &mut S,

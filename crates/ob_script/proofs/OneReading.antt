@@ -2,7 +2,7 @@
 use Rattle.std.proofs.Common.{◌≡◌, ◌≤◌, ◌^◌, ℕ, List, [], ◌∷◌, ◌++◌, Option, Some, None, true, false, sym, ap, ◌∙◌, inl, inr}
 use Rattle.std.specs.Prelude.{is_none}
 use Rattle.ob_script.specs.declared.line.Line.{Line}
-use Rattle.ob_script.specs.Script.{Text, State, Stands, Reads, IsScript, is_within, ScriptTxn, IsFirstBad, IsBad, IsInRange, IsSpelled, step, start}
+use Rattle.ob_script.specs.Script.{Text, State, Stands, Reads, IsScript, is_within, Scripts, IsFirstBad, IsBad, IsInRange, IsSpelled, step, start}
 use Rattle.ob_script.proofs.Lines.{line_only}
 
 same_line : (a b : Line) → ◌≡◌ {A = Option Line} (Some a) (Some b) → a ≡ b
@@ -34,5 +34,5 @@ bad_read n bytes s (text ∷ texts) last bad h within whole = let no_step = bad 
 bad_read n bytes s [] last (inl past) h within whole = let both = sym past ∙ within in cc both
 bad_read n bytes s [] last (inr left_open) h within whole = none_is s.open_asks (ap (λ (x : State). x.open_asks) h ∙ whole) left_open
 
-pub not_both : (n : ℕ) → n ≤ 2 ^ 32 → (bytes : List ℕ) (line : ℕ) (txns : List ScriptTxn) → IsFirstBad n bytes line → IsScript n bytes txns → ⊥
-not_both n small bytes line txns b s = bad_read n bytes b.state b.behind s.last b.bad (parts_read n small start b.before b.behind b.state s.last b.good (rw b.lines_are at s.reads)) s.within s.whole
+pub not_both : (n : ℕ) → n ≤ 2 ^ 32 → (bytes : List ℕ) (line : ℕ) (scripts : Scripts) → IsFirstBad n bytes line → IsScript n bytes scripts → ⊥
+not_both n small bytes line scripts b s = bad_read n bytes b.state b.behind s.last b.bad (parts_read n small start b.before b.behind b.state s.last b.good (rw b.lines_are at s.reads)) s.within s.whole

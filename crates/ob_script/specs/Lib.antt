@@ -1,3 +1,4 @@
+pub mod Integers
 pub mod Script
 pub mod ScriptViews
 pub mod Reading

@@ -3,9 +3,12 @@ use Rattle.std.specs.Prelude.{ℕ, ◌^◌, Bool, false, ◌&&◌, ◌||◌, not
 use Rattle.std.specs.List.{list_all}
 use Rattle.std.specs.Str.{bytes_eq, all_ascii_digits}
 use Rattle.std.specs.Str.Parse.{digits_value}
-use Rattle.ob_script.specs.declared.line.Ask.TheVariants.{Get, Put}
+use Rattle.ob_script.specs.declared.line.Ask.{Ask}
+use Rattle.ob_script.specs.declared.line.Ask.TheVariants.{Get, Put, Del, Add}
+use Rattle.ob_script.specs.declared.line.Ending.TheVariants.{Commit, Abort}
 use Rattle.ob_script.specs.declared.line.Line.{Line}
-use Rattle.ob_script.specs.declared.line.Line.TheVariants.{Blank, Client, Begin, Asks, Commit}
+use Rattle.ob_script.specs.declared.line.Line.TheVariants.{Blank, Client, Begin, Asks, Ends}
+use Rattle.ob_script.specs.Integers.{integer_of}
 use Rattle.ob_script.specs.Script.{is_blank, is_plain}
 
 -- what stands before the first such byte, and what behind it
@@ -24,23 +27,42 @@ number_at bytes = if is_numeral bytes && nat_lt (digits_value 10 bytes) (2 ^ 32)
 abbrev pub client_at : List ℕ → Option Line
 client_at bytes = option_and_then (λ client. if nat_le 1 client && nat_le client 64 then Some (Client client) else None) (number_at bytes)
 
-abbrev pub get_at : ℕ → List ℕ → Option Line
-get_at n bytes = option_and_then (λ key. if nat_lt key n then Some (Asks (Get key)) else None) (number_at bytes)
+abbrev pub key_at : ℕ → List ℕ → Option ℕ
+key_at n bytes = option_and_then (λ key. if nat_lt key n then Some key else None) (number_at bytes)
 
-abbrev pub put_of : ℕ → List ℕ → ℕ → Option Line
-put_of n value key = if nat_lt key n && (nat_le (length value) 64 && list_all is_plain value) then Some (Asks (Put key value)) else None
+abbrev pub get_at : ℕ → List ℕ → Option Ask
+get_at n bytes = option_map Get (key_at n bytes)
 
-abbrev pub put_at : ℕ → List ℕ → Option Line
-put_at n bytes = option_and_then (λ p. option_and_then (put_of n p.1) (number_at p.0)) (cut 32 bytes)
+abbrev pub del_at : ℕ → List ℕ → Option Ask
+del_at n bytes = option_map Del (key_at n bytes)
+
+abbrev pub put_of : List ℕ → ℕ → Option Ask
+put_of value key = if nat_le (length value) 64 && list_all is_plain value then Some (Put key value) else None
+
+abbrev pub add_of : List ℕ → ℕ → Option Ask
+add_of text key = option_map (λ amount. Add key amount) (integer_of text)
+
+abbrev pub put_at : ℕ → List ℕ → Option Ask
+put_at n bytes = option_and_then (λ p. option_and_then (put_of p.1) (key_at n p.0)) (cut 32 bytes)
+
+abbrev pub add_at : ℕ → List ℕ → Option Ask
+add_at n bytes = option_and_then (λ p. option_and_then (add_of p.1) (key_at n p.0)) (cut 32 bytes)
+
+abbrev pub ask_at : ℕ → List ℕ → List ℕ → Option Ask
+ask_at n word rest = if bytes_eq word (codes "get") then get_at n rest
+    else if bytes_eq word (codes "put") then put_at n rest
+    else if bytes_eq word (codes "del") then del_at n rest
+    else if bytes_eq word (codes "add") then add_at n rest
+    else None
 
 abbrev pub word_line : List ℕ → Option Line
-word_line text = if bytes_eq text (codes "begin") then Some Begin else if bytes_eq text (codes "commit") then Some Commit else None
+word_line text = if bytes_eq text (codes "begin") then Some Begin
+    else if bytes_eq text (codes "commit") then Some (Ends Commit)
+    else if bytes_eq text (codes "abort") then Some (Ends Abort)
+    else None
 
 abbrev pub named_line : ℕ → List ℕ → List ℕ → Option Line
-named_line n word rest = if bytes_eq word (codes "client") then client_at rest
-    else if bytes_eq word (codes "get") then get_at n rest
-    else if bytes_eq word (codes "put") then put_at n rest
-    else None
+named_line n word rest = if bytes_eq word (codes "client") then client_at rest else option_map Asks (ask_at n word rest)
 
 abbrev pub line_from : ℕ → List ℕ → Option (List ℕ × List ℕ) → Option Line
 line_from n text None = word_line text

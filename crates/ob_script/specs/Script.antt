@@ -1,11 +1,15 @@
 -- The scripts: which bytes are one, and what they ask for.
-use Rattle.std.specs.Prelude.{ℕ, ◌≡◌, ◌<◌, ◌≤◌, ◌+◌, ◌⊎◌, Bool, true, false, ◌&&◌, not, ◌==◌, nat_le, List, [], ◌∷◌, ◌++◌, length, take, map, filter, codes, Option, Some, None, is_none, if◌then◌else◌}
+use Rattle.std.specs.Prelude.{ℕ, ◌≡◌, ◌<◌, ◌≤◌, ◌+◌, ◌⊎◌, Bool, true, false, ◌&&◌, not, ◌==◌, nat_le, nat_lt, List, [], ◌∷◌, ◌++◌, length, take, filter, codes, Option, Some, None, is_none, if◌then◌else◌, All, Contains, FitsSigned}
 use Rattle.std.specs.List.{slice_split, list_all}
-use Rattle.std.specs.Fmt.{decimal}
+use Rattle.std.specs.Int.{w64}
+use Rattle.std.specs.List.Sorted.{IsStrictlyIncreasing}
+use Rattle.std.specs.Fmt.{decimal, signed_decimal}
 use Rattle.ob_script.specs.declared.line.Ask.{Ask}
-use Rattle.ob_script.specs.declared.line.Ask.TheVariants.{Get, Put}
+use Rattle.ob_script.specs.declared.line.Ask.TheVariants.{Get, Put, Del, Add}
+use Rattle.ob_script.specs.declared.line.Ending.{Ending}
+use Rattle.ob_script.specs.declared.line.Ending.TheVariants.{Commit, Abort}
 use Rattle.ob_script.specs.declared.line.Line.{Line}
-use Rattle.ob_script.specs.declared.line.Line.TheVariants.{Blank, Client, Begin, Asks, Commit}
+use Rattle.ob_script.specs.declared.line.Line.TheVariants.{Blank, Client, Begin, Asks, Ends}
 
 abbrev pub Text : Type 0
 Text = List ℕ
@@ -19,52 +23,85 @@ abbrev pub is_blank : Text → Bool
 is_blank [] = true
 is_blank (byte ∷ bytes) = byte == 35
 
+-- the bytes of an operation
+abbrev pub ask_text : Ask → Text
+ask_text (Get key) = codes "get " ++ decimal key
+ask_text (Put key value) = codes "put " ++ decimal key ++ 32 ∷ value
+ask_text (Del key) = codes "del " ++ decimal key
+ask_text (Add key amount) = codes "add " ++ decimal key ++ 32 ∷ signed_decimal amount
+
+-- and of a transaction's end
+abbrev pub ending_text : Ending → Text
+ending_text Commit = codes "commit"
+ending_text Abort = codes "abort"
+
 -- The line has these bytes, without its end.
 abbrev pub IsSpelled : Line → Text → Type 0
 IsSpelled Blank text = is_blank text ≡ true
 IsSpelled (Client client) text = text ≡ codes "client " ++ decimal client
 IsSpelled Begin text = text ≡ codes "begin"
-IsSpelled (Asks (Get key)) text = text ≡ codes "get " ++ decimal key
-IsSpelled (Asks (Put key value)) text = text ≡ codes "put " ++ decimal key ++ 32 ∷ value
-IsSpelled Commit text = text ≡ codes "commit"
+IsSpelled (Asks ask) text = text ≡ ask_text ask
+IsSpelled (Ends ending) text = text ≡ ending_text ending
 
 abbrev pub is_plain : ℕ → Bool
 is_plain byte = nat_le 32 byte && nat_le byte 126
 
--- the numbers and bytes of a line are in range, where keys are below n
+-- the numbers and bytes of an operation are in range, where keys are below n
+abbrev pub IsAskInRange : ℕ → Ask → Type 0
+IsAskInRange n (Get key) = key < n
+IsAskInRange n (Put key value) = (key < n) × (length value ≤ 64) × (list_all is_plain value ≡ true)
+IsAskInRange n (Del key) = key < n
+IsAskInRange n (Add key amount) = (key < n) × FitsSigned w64 amount
+
+-- those of a line are
 abbrev pub IsInRange : ℕ → Line → Type 0
-IsInRange n Blank = Unit {0}
 IsInRange n (Client client) = (1 ≤ client) × (client ≤ 64)
-IsInRange n Begin = Unit {0}
-IsInRange n (Asks (Get key)) = key < n
-IsInRange n (Asks (Put key value)) = (key < n) × (length value ≤ 64) × (list_all is_plain value ≡ true)
-IsInRange n Commit = Unit {0}
+IsInRange n (Asks ask) = IsAskInRange n ask
+IsInRange n _ = Unit {0}
 
 -- a transaction of a script
 pub record ScriptTxn : Type 0 where
   pub client : ℕ
   pub asks : List Ask
+  pub ending : Ending
 
--- What was read so far: the client, 0 before the first client line; the whole transactions; and the one that is open.
+-- A script that was read: a bound that its keys are below, the clients that its client lines name, and its transactions.
+pub record Scripts : Type 0 where
+  pub keys : ℕ
+  pub clients : List ℕ
+  pub txns : List ScriptTxn
+
+-- What was read so far: the last client that was named, 0 before the first client line; all that were; the whole transactions; and the one that is open.
 pub record State : Type 0 where
   pub client : ℕ
+  pub clients : List ℕ
   pub done : List ScriptTxn
   pub open_asks : Option (List Ask)
 
 abbrev pub start : State
-start = record { client = 0; done = []; open_asks = None }
+start = record { client = 0; clients = []; done = []; open_asks = None }
+
+-- the state with a client named, with a transaction begun, with an operation more, and with a transaction ended
+abbrev pub with_client : ℕ → State → State
+with_client client s = record s { client = client; clients = s.clients ++ client ∷ [] }
+
+abbrev pub with_asks : Option (List Ask) → State → State
+with_asks asks s = record s { open_asks = asks }
+
+abbrev pub with_txn : List Ask → Ending → State → State
+with_txn asks ending s = record s { done = s.done ++ record { client = s.client; asks = asks; ending = ending } ∷ []; open_asks = None }
 
 -- the state after a line that means something, where that may stand there
-abbrev pub step_from : ℕ → List ScriptTxn → Option (List Ask) → Line → Option State
-step_from c done None (Client client) = if c == 0 then Some (record { client = client; done = done; open_asks = None }) else None
-step_from c done None Begin = if c == 0 then None else Some (record { client = c; done = done; open_asks = Some [] })
-step_from c done (Some asks) (Asks ask) = Some (record { client = c; done = done; open_asks = Some (asks ++ ask ∷ []) })
-step_from c done (Some asks) Commit = Some (record { client = c; done = done ++ record { client = c; asks = asks } ∷ []; open_asks = None })
-step_from c done _ _ = None
+abbrev pub step_from : State → Option (List Ask) → Line → Option State
+step_from s None (Client client) = if nat_lt s.client client then Some (with_client client s) else None
+step_from s None Begin = if s.client == 0 then None else Some (with_asks (Some []) s)
+step_from s (Some asks) (Asks ask) = Some (with_asks (Some (asks ++ ask ∷ [])) s)
+step_from s (Some asks) (Ends ending) = Some (with_txn asks ending s)
+step_from s _ _ = None
 
 abbrev pub step : State → Line → Option State
 step s Blank = Some s
-step s line = step_from s.client s.done s.open_asks line
+step s line = step_from s s.open_asks line
 
 -- A line with this text stands there, and leads on to the next state.
 pub record Stands (n : ℕ) (s : State) (text : Text) (next : State) : Type 0 where
@@ -105,13 +142,13 @@ is_within bytes = nat_le (length bytes) limit
 abbrev pub lines_of : List ℕ → List Text
 lines_of bytes = lines_from (is_within bytes) (take limit bytes)
 
--- The bytes are a script of these transactions, on keys below n.
-pub record IsScript (n : ℕ) (bytes : List ℕ) (txns : List ScriptTxn) : Type 0 where
+-- The bytes are this script, on keys below n.
+pub record IsScript (n : ℕ) (bytes : List ℕ) (scripts : Scripts) : Type 0 where
   pub within : is_within bytes ≡ true
   pub last : State
   pub reads : Reads n start (lines_of bytes) last
   pub whole : last.open_asks ≡ None
-  pub txns_are : last.done ≡ txns
+  pub scripts_are : scripts ≡ record { keys = n; clients = last.clients; txns = last.done }
 
 -- What stands behind good lines is bad: a line that may not stand there or, behind all lines, a transaction that is open, or bytes past the limit.
 abbrev pub IsBad : ℕ → List ℕ → State → List Text → Type 0
@@ -128,6 +165,24 @@ pub record IsFirstBad (n : ℕ) (bytes : List ℕ) (number : ℕ) : Type 0 where
   pub bad : IsBad n bytes state behind
   pub number_is : number ≡ length before + 1
 
--- what a client asks for, by transactions
-abbrev pub asks_of : ℕ → List ScriptTxn → List (List Ask)
-asks_of client script = map (λ t. t.asks) (filter (λ t. t.client == client) script)
+-- the key that an operation names
+abbrev pub key_of : Ask → ℕ
+key_of (Get key) = key
+key_of (Put key value) = key
+key_of (Del key) = key
+key_of (Add key amount) = key
+
+-- the keys of all operations are below n
+abbrev pub AreBelow : ℕ → List ScriptTxn → Type 0
+AreBelow n txns = All (λ t. All (λ ask. key_of ask < n) t.asks) txns
+
+-- A script's keys are below its bound. Its clients are from 1 to 64 and rise, and each transaction is of one of them.
+pub record AreSound (scripts : Scripts) : Type 0 where
+  pub below : AreBelow scripts.keys scripts.txns
+  pub named : All (λ c. (1 ≤ c) × (c ≤ 64)) scripts.clients
+  pub rising : IsStrictlyIncreasing scripts.clients
+  pub owned : All (λ t. Contains scripts.clients t.client) scripts.txns
+
+-- the transactions of one client, in order
+abbrev pub asks_by : ℕ → List ScriptTxn → List ScriptTxn
+asks_by client txns = filter (λ t. t.client == client) txns

@@ -7,6 +7,19 @@ pub enum Ask {
     Get { key: Key },
     /// `put K V`, where V is 0 to 64 bytes of 20 to 7E hexadecimal.
     Put { key: Key, value: Value },
+    /// `del K`
+    Del { key: Key },
+    /// `add K I`: the key's value is to be greater by this number. An absent value counts as 0.
+    Add { key: Key, amount: i64 },
+}
+
+/// How a transaction of a script is to end.
+#[derive(Clone, Copy)]
+pub enum Ending {
+    /// `commit`
+    Commit,
+    /// `abort`
+    Abort,
 }
 
 /// A line of a script.
@@ -20,13 +33,14 @@ pub enum Line {
     Begin,
     /// An operation of the transaction that is open.
     Asks { ask: Ask },
-    /// `commit`
-    Commit,
+    /// `commit` or `abort`: the end of the transaction that is open.
+    Ends { ending: Ending },
 }
 
-/// A transaction of a script: its client, and its operations in order.
+/// A transaction of a script: its client, its operations in order, and how it is to end.
 #[derive(Drop)]
 pub struct ScriptTxn {
     pub client: u32,
     pub asks: Vec<Ask>,
+    pub ending: Ending,
 }

@@ -1,5 +1,5 @@
 ghost use Rattle.std.specs.Prelude.{◌≡◌, ◌<◌, ◌∷◌, [], length, take, IfOk, IfErr, IfSome, IfNone};
-ghost use Rattle.ob_script.specs.Script.{limit, lines_from, IsScript};
+ghost use Rattle.ob_script.specs.Script.{limit, lines_from, IsScript, AreSound};
 ghost use Rattle.ob_script.specs.ScriptViews.{IsRefusal};
 
 use crate::reader::Reader;
@@ -39,9 +39,9 @@ fn front(bytes: &[u8]) -> &[u8]
     }
 }
 
-/// Reads a script on keys below `keys`: lines of `client C`, `begin`, `get K`, `put K V` and
-/// `commit`, empty lines and comments (`#` and any bytes), each ended by a line feed, of which the
-/// last may be missing.
+/// Reads a script on keys below `keys`: lines of `client C`, `begin`, `get K`, `put K V`, `del K`,
+/// `add K I`, `commit` and `abort`, empty lines and comments (`#` and any bytes), each ended by a
+/// line feed, of which the last may be missing. Clients are from 1 to 64 and rise.
 ///
 /// # Errors
 /// `BadScript` names the first bad line, counted from 1: the first that breaks the grammar, or the
@@ -49,6 +49,7 @@ fn front(bytes: &[u8]) -> &[u8]
 /// past `LIMIT` where the lines before it are good. `Memory`: memory was wanting.
 pub fn parse(alloc: Global, bytes: &[u8], keys: u32) -> Result<Scripts, Fault>
     ensures script { IfOk result (λ scripts. IsScript keys bytes.now scripts) }
+    ensures sound { IfOk result (λ scripts. AreSound scripts) }
     ensures refusal { IfErr result (λ fault. IsRefusal keys bytes.now fault) }
 {
     let all = bytes.len() <= LIMIT;
@@ -65,5 +66,5 @@ pub fn parse(alloc: Global, bytes: &[u8], keys: u32) -> Result<Scripts, Fault>
     if !all || reader.open_asks.is_some() {
         return Err(Fault::BadScript { line: number });
     }
-    Ok(Scripts::new(reader.done))
+    Ok(Scripts::new(keys, reader.clients, reader.done))
 }

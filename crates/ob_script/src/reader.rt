@@ -3,7 +3,7 @@ ghost use Rattle.ob_script.specs.declared.line.Line.{Line};
 ghost use Rattle.ob_script.specs.Script.{step, start, CanNotStand, Stands};
 ghost use Rattle.ob_script.specs.ScriptViews.{state_of};
 
-use crate::line::{Ask, Line, ScriptTxn};
+use crate::line::{Ask, Ending, Line, ScriptTxn};
 use crate::reading::line_of;
 use std::alloc::{AllocError, Global};
 
@@ -11,6 +11,7 @@ use std::alloc::{AllocError, Global};
 #[derive(Drop)]
 pub struct Reader {
     pub client: u32,
+    pub clients: Vec<u32>,
     pub done: Vec<ScriptTxn>,
     pub open_asks: Option<Vec<Ask>>,
 }
@@ -22,19 +23,21 @@ impl Reader {
     {
         Reader {
             client: 0,
+            clients: Vec::new(alloc),
             done: Vec::new(alloc),
             open_asks: None,
         }
     }
 
-    fn take_client(&mut self, client: u32) -> bool
-        ensures { step (state_of self.old) (Line.Client client) ≡ (if result then Some (state_of self.new) else None) }
+    fn take_client(&mut self, client: u32) -> Result<bool, AllocError>
+        ensures { IfOk result (λ good. step (state_of self.old) (Line.Client client) ≡ (if good then Some (state_of self.new) else None)) }
     {
-        if self.open_asks.is_some() || self.client != 0 {
-            return false;
+        if self.open_asks.is_some() || client <= self.client {
+            return Ok(false);
         }
+        self.clients.push(client)?;
         self.client = client;
-        true
+        Ok(true)
     }
 
     fn take_begin(&mut self, alloc: Global) -> bool
@@ -57,14 +60,18 @@ impl Reader {
         Ok(true)
     }
 
-    fn take_commit(&mut self) -> Result<bool, AllocError>
-        ensures { IfOk result (λ good. step (state_of self.old) Line.Commit ≡ (if good then Some (state_of self.new) else None)) }
+    fn take_end(&mut self, ending: Ending) -> Result<bool, AllocError>
+        ensures { IfOk result (λ good. step (state_of self.old) (Line.Ends ending) ≡ (if good then Some (state_of self.new) else None)) }
     {
         let Some(asks) = self.open_asks.take() else {
             return Ok(false);
         };
         let client = self.client;
-        self.done.push(ScriptTxn { client, asks })?;
+        self.done.push(ScriptTxn {
+            client,
+            asks,
+            ending,
+        })?;
         Ok(true)
     }
 
@@ -83,10 +90,10 @@ impl Reader {
     {
         match line {
             Line::Blank => Ok(true),
-            Line::Client { client } => Ok(self.take_client(client)),
+            Line::Client { client } => self.take_client(client),
             Line::Begin => Ok(self.take_begin(alloc)),
             Line::Asks { ask } => self.take_ask(ask),
-            Line::Commit => self.take_commit(),
+            Line::Ends { ending } => self.take_end(ending),
         }
     }
 }

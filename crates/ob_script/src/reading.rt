@@ -4,10 +4,11 @@ ghost use Rattle.std.specs.Str.{all_ascii_digits};
 ghost use Rattle.std.specs.Fmt.{decimal};
 ghost use Rattle.ob_script.specs.declared.line.Line.{Line};
 ghost use Rattle.ob_script.specs.Script.{IsSpelled, IsInRange, is_blank, is_plain};
-ghost use Rattle.ob_script.specs.Reading.{cut, is_numeral, number_at, client_at, get_at, put_of, put_at, word_line, named_line, line_at};
+ghost use Rattle.ob_script.specs.Reading.{cut, is_numeral, number_at, client_at, key_at, get_at, put_of, put_at, del_at, add_of, add_at, ask_at, word_line, named_line, line_at};
 
-use crate::line::{Ask, Line};
-use ob_base::Value;
+use crate::integers::integer_of;
+use crate::line::{Ask, Ending, Line};
+use ob_base::{Key, Value};
 
 // What stands before the first such byte, and what behind it.
 pub fn cut(bytes: &[u8], at: u8) -> Option<(&[u8], &[u8])>
@@ -78,42 +79,75 @@ fn client_at(bytes: &[u8]) -> Option<Line>
     }
 }
 
-fn get_at(keys: u32, bytes: &[u8]) -> Option<Line>
-    ensures { result ≡ get_at keys bytes.now }
+fn key_at(keys: u32, bytes: &[u8]) -> Option<Key>
+    ensures { result ≡ key_at keys bytes.now }
 {
     let key = number_at(bytes)?;
-    if key < keys {
-        Some(Line::Asks {
-            ask: Ask::Get { key },
-        })
-    } else {
-        None
-    }
+    if key < keys { Some(key) } else { None }
 }
 
-fn put_of(keys: u32, bytes: &[u8], key: u32) -> Option<Line>
-    ensures { result ≡ put_of keys bytes.now key }
+fn get_at(keys: u32, bytes: &[u8]) -> Option<Ask>
+    ensures { result ≡ get_at keys bytes.now }
 {
-    if key >= keys {
-        return None;
-    }
+    let key = key_at(keys, bytes)?;
+    Some(Ask::Get { key })
+}
+
+fn del_at(keys: u32, bytes: &[u8]) -> Option<Ask>
+    ensures { result ≡ del_at keys bytes.now }
+{
+    let key = key_at(keys, bytes)?;
+    Some(Ask::Del { key })
+}
+
+fn put_of(bytes: &[u8], key: Key) -> Option<Ask>
+    ensures { result ≡ put_of bytes.now key }
+{
     let Some(value) = Value::new(bytes) else {
         return None;
     };
     if is_plain_text(bytes) {
-        Some(Line::Asks {
-            ask: Ask::Put { key, value },
-        })
+        Some(Ask::Put { key, value })
     } else {
         None
     }
 }
 
-fn put_at(keys: u32, bytes: &[u8]) -> Option<Line>
+fn add_of(bytes: &[u8], key: Key) -> Option<Ask>
+    ensures { result ≡ add_of bytes.now key }
+{
+    let amount = integer_of(bytes)?;
+    Some(Ask::Add { key, amount })
+}
+
+fn put_at(keys: u32, bytes: &[u8]) -> Option<Ask>
     ensures { result ≡ put_at keys bytes.now }
 {
     let (key, value) = cut(bytes, b' ')?;
-    put_of(keys, value, number_at(key)?)
+    put_of(value, key_at(keys, key)?)
+}
+
+fn add_at(keys: u32, bytes: &[u8]) -> Option<Ask>
+    ensures { result ≡ add_at keys bytes.now }
+{
+    let (key, amount) = cut(bytes, b' ')?;
+    add_of(amount, key_at(keys, key)?)
+}
+
+fn ask_at(keys: u32, word: &[u8], rest: &[u8]) -> Option<Ask>
+    ensures { result ≡ ask_at keys word.now rest.now }
+{
+    if word == b"get".as_slice() {
+        get_at(keys, rest)
+    } else if word == b"put".as_slice() {
+        put_at(keys, rest)
+    } else if word == b"del".as_slice() {
+        del_at(keys, rest)
+    } else if word == b"add".as_slice() {
+        add_at(keys, rest)
+    } else {
+        None
+    }
 }
 
 fn word_line(text: &[u8]) -> Option<Line>
@@ -122,7 +156,11 @@ fn word_line(text: &[u8]) -> Option<Line>
     if text == b"begin".as_slice() {
         Some(Line::Begin)
     } else if text == b"commit".as_slice() {
-        Some(Line::Commit)
+        let ending = Ending::Commit;
+        Some(Line::Ends { ending })
+    } else if text == b"abort".as_slice() {
+        let ending = Ending::Abort;
+        Some(Line::Ends { ending })
     } else {
         None
     }
@@ -132,14 +170,10 @@ fn named_line(keys: u32, word: &[u8], rest: &[u8]) -> Option<Line>
     ensures { result ≡ named_line keys word.now rest.now }
 {
     if word == b"client".as_slice() {
-        client_at(rest)
-    } else if word == b"get".as_slice() {
-        get_at(keys, rest)
-    } else if word == b"put".as_slice() {
-        put_at(keys, rest)
-    } else {
-        None
+        return client_at(rest);
     }
+    let ask = ask_at(keys, word, rest)?;
+    Some(Line::Asks { ask })
 }
 
 fn is_blank(text: &[u8]) -> bool

@@ -52,10 +52,10 @@ pub trait Vault {
     /// A call with its answer and the notes shown, in the vault's own terms.
     ghost called: { Self → VaultCall → VaultAnswer → List Note → Self → Type 0 };
 
-    /// The last epoch that ended, at most `2^62`.
+    /// The last epoch that ended, below `2^62`.
     fn epoch(&self) -> u64
         ensures epoch { result ≡ (counts self.now).epoch }
-        ensures few { result ≤ 2 ^ 62 };
+        ensures few { result < 2 ^ 62 };
 
     /// How many batches of the running epoch are left.
     fn left(&self) -> u32

@@ -15,7 +15,7 @@ use Rattle.ob_store.specs.Calls.{Keeps, Notes, IsStoreFault}
 use Rattle.ob_store.specs.Lines.{Trace}
 use Rattle.ob_store.proofs.Events.{joined, joined_first}
 use Rattle.ob_twin.specs.Opening.{GatesAre}
-use Rattle.ob_script.specs.Script.{ScriptTxn}
+use Rattle.ob_script.specs.Script.{Scripts}
 use Rattle.ob_twin.specs.declared.gates.Open.{Open}
 use Rattle.ob_flat.specs.declared.opening.Opening.{Opening}
 use Rattle.ob_flat.specs.Heads.{IsHead}
@@ -60,7 +60,7 @@ module _ (keys : Keys) (p : Params) (old mid new : Disk) (passes : Passes Same o
       (leaves_of Same (λ d. old.may_leave d) (StandsAsBefore keys p old) old mid passes only (λ c left. left) (λ c d was same. subst (StandsAsBefore keys p old) (sym same) (as_before all d was)) (λ c was. as_before all c was))
       (weakened mid new (StandsAsBefore keys p mid) (StandsAsBefore keys p old) since_old (crash at (keeps.tells tells) (kept at stands) (all_stand all)))
 
-module _ (keys : Keys) (old mid new : Disk) (before : Flow) (p : Params) (script : List ScriptTxn) (shown shown_new : Trace) where
+module _ (keys : Keys) (old mid new : Disk) (before : Flow) (p : Params) (script : Scripts) (shown shown_new : Trace) where
   -- the head was read, a script came in, and the store was opened
   pub opened : (opening : Opening) → (old.tells → IsHead keys p (old.cells 0)) → Keeps old mid → Notes (event.Read 0 ∷ []) old.seen mid.seen → CameIn p.keys before script
       → (mid.tells → IsFoundIn keys p.keys mid.cells opening) → (mid.tells → GatesAre opening.gates.epoch 5 mid.cells) → OpensIn p.keys mid new shown shown_new opening

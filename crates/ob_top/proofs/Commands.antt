@@ -1,6 +1,7 @@
 -- What came of the words, command by command.
-use Rattle.std.proofs.Common.{◌≡◌, ◌⊎◌, ℕ, List, [], ◌∷◌, length, Bool, true, false, ◌&&◌, Option, Some, None, refl, sym, ap, subst, inl, inr, arith, ◌∙◌}
+use Rattle.std.proofs.Common.{◌≡◌, ◌≤◌, ◌⊎◌, ℕ, List, [], ◌∷◌, length, drop, Bool, true, false, ◌&&◌, Option, Some, None, refl, sym, ap, subst, inl, inr, arith, ◌∙◌}
 use Rattle.std.proofs.lemmas.Bool.{eqb-true}
+use Rattle.std.proofs.lemmas.List.{length-drop}
 use Rattle.std.specs.Borrow.{Bor}
 use Rattle.ob_base.specs.declared.params.Params.{Params}
 use Rattle.ob_base.specs.declared.fault.Field.TheVariants.{KEYS}
@@ -11,7 +12,7 @@ use Rattle.ob_base.specs.declared.fault.Fault.TheVariants.{Memory, Usage, BadScr
 use Rattle.ob_report.specs.Printed.{IsPrinted}
 use Rattle.ob_report.specs.Faults.{fault_line, status_of}
 use Rattle.ob_store.specs.Disk.{Disk}
-use Rattle.ob_top.specs.Words.{is_run, is_format, AreParams, IsBadNumber, IsRefusedFor, HasKeys, IsKeysRefused}
+use Rattle.ob_top.specs.Words.{are_run_options, is_run, is_format, AreParams, IsBadNumber, IsRefusedFor, HasKeys, IsKeysRefused}
 use Rattle.ob_top.specs.Outside.{Outside, IsFinished, IsOnlyTold}
 use Rattle.ob_top.specs.Formats.{FormatDone}
 use Rattle.ob_top.specs.Runs.{RunDone}
@@ -22,13 +23,19 @@ both : (a b : Bool) → (a && b) ≡ true → (a ≡ true) × (b ≡ true)
 both true b is = (refl, is)
 both false b is = cc is
 
+few_options : (options : List (List ℕ)) → are_run_options options ≡ true → length options ≤ 1
+few_options [] are = omega arith
+few_options (option ∷ []) are = omega arith
+few_options (option ∷ next ∷ options) are = cc are
+
 -- words are no form of two commands
 one_form : (words : List (List ℕ)) → is_run words ≡ true → is_format words ≡ true → ⊥
 one_form [] run format = cc run
 one_form (word ∷ words) run format =
-    let two = eqb-true (length words) 2 (both _ _ (both _ _ run).1).0 in
+    let few = few_options (drop 3 (word ∷ words)) (both _ _ run).1 in
+    let left = length-drop 3 (word ∷ words) in
     let eleven = eqb-true (length words) 11 (both _ _ (both _ _ format).1).0 in
-    omega (arith, two, eleven)
+    omega (arith, few, left, eleven)
 
 true_false : (b : Bool) → b ≡ true → b ≡ false → ⊥
 true_false b is isnt = cc (sym is ∙ isnt)
@@ -73,7 +80,7 @@ module _ (before mid after : Outside) (status : ℕ) where
       let now : IsFinished mid.output after.output (Some (BadParams field)) status = subst (λ (x : Option Fault). IsFinished mid.output after.output x status) (is ∙ ap Some bad) done in
       only_told (BadParams field) same input now.status_is now.line
 
-  module _ {S : Type 0} (disk : S → Disk) (words : List (List ℕ)) (text : Option (Bor (List ℕ))) (old new : S) (input : after.input ≡ mid.input) where
+  module _ {S : Type 0} (disk : S → Disk) (passes : ℕ → ℕ → ℕ → ℕ → Bool) (words : List (List ℕ)) (text : Option (Bor (List ℕ))) (old new : S) (input : after.input ≡ mid.input) where
     -- what the keys' refusal tells
     abbrev KeysTell : Type 0
     KeysTell = (fault : Fault) × IsKeysRefused text fault × (new ≡ old) × IsOnlyTold fault before after status
@@ -83,13 +90,13 @@ module _ (before mid after : Outside) (status : ℕ) where
         ⊎ ((p : Params) × AreParams words p × (KeysTell ⊎ ((keys : Keys) × HasKeys text keys × FormatDone keys p (disk old) (disk new) before after status)))
 
     abbrev RunTells : Type 0
-    RunTells = KeysTell ⊎ ((keys : Keys) × HasKeys text keys × RunDone keys (disk old) (disk new) before after status)
+    RunTells = KeysTell ⊎ ((keys : Keys) × HasKeys text keys × RunDone disk passes keys (disk old) (disk new) before after status)
 
     no_form : IsGoodForm words → is_run words ≡ false → is_format words ≡ false → ⊥
     no_form (inl run) no_run no_format = true_false (is_run words) run no_run
     no_form (inr (p, format, are)) no_run no_format = true_false (is_format words) format no_format
 
-    pub usage_done : (fault : Option Fault) → CommandDoes disk words text old new before mid fault → IsFinished mid.output after.output fault status → is_run words ≡ false → is_format words ≡ false
+    pub usage_done : (fault : Option Fault) → CommandDoes disk passes words text old new before mid fault → IsFinished mid.output after.output fault status → is_run words ≡ false → is_format words ≡ false
         → (new ≡ old) × IsOnlyTold Usage before after status
     usage_done fault (inl (f, is, inl refused, kept, same)) done no_run no_format = by_refusal (refusals words f refused)
       where
@@ -106,7 +113,7 @@ module _ (before mid after : Outside) (status : ℕ) where
     keys_tell : (fault : Option Fault) (f : Fault) → fault ≡ Some f → IsKeysRefused text f → new ≡ old → mid ≡ before → IsFinished mid.output after.output fault status → KeysTell
     keys_tell fault f is bad kept same done = (f, bad, kept, keys_told text f bad same input (subst (λ (x : Option Fault). IsFinished mid.output after.output x status) is done))
 
-    pub format_does : (fault : Option Fault) → CommandDoes disk words text old new before mid fault → IsFinished mid.output after.output fault status → is_format words ≡ true → FormatTells
+    pub format_does : (fault : Option Fault) → CommandDoes disk passes words text old new before mid fault → IsFinished mid.output after.output fault status → is_format words ≡ true → FormatTells
     format_does fault (inl (f, is, inl refused, kept, same)) done format = by_refusal (refusals words f refused)
       where
         by_refusal : WordsRefused words f → FormatTells
@@ -117,7 +124,7 @@ module _ (before mid after : Outside) (status : ℕ) where
     format_does fault (inr (keys, has, inl (p, format, are, ends, leaves, same))) done also = inr (p, are, inr (keys, has, format_done keys p (disk old) (disk new) before mid after status fault ends leaves same input done))
     format_does fault (inr (keys, has, inr (run, rest))) done format = absurd (one_form words run format)
 
-    pub run_does : (fault : Option Fault) → CommandDoes disk words text old new before mid fault → IsFinished mid.output after.output fault status → is_run words ≡ true → RunTells
+    pub run_does : (fault : Option Fault) → CommandDoes disk passes words text old new before mid fault → IsFinished mid.output after.output fault status → is_run words ≡ true → RunTells
     run_does fault (inl (f, is, inl refused, kept, same)) done run = by_refusal (refusals words f refused)
       where
         by_refusal : WordsRefused words f → RunTells
@@ -125,7 +132,7 @@ module _ (before mid after : Outside) (status : ℕ) where
         by_refusal (inr (field, bad, format, number)) = absurd (one_form words run format)
     run_does fault (inl (f, is, inr (form, bad), kept, same)) done run = inl (keys_tell fault f is bad kept same done)
     run_does fault (inr (keys, has, inl (p, format, are, ends, leaves, kept))) done run = absurd (one_form words run format)
-    run_does fault (inr (keys, has, inr (also, on))) done run = inr (keys, has, run_done keys (disk old) (disk new) before mid after input status fault on done)
+    run_does fault (inr (keys, has, inr (also, on))) done run = inr (keys, has, run_done disk passes keys (disk old) (disk new) before mid after input status fault on done)
 
   -- without a store
   module _ (words : List (List ℕ)) (text : Option (Bor (List ℕ))) (fault : Fault) (same : mid ≡ before) (input : after.input ≡ mid.input) (done : IsFinished mid.output after.output (Some fault) status) where

@@ -1,5 +1,5 @@
 -- What can be done is done.
-use Rattle.std.proofs.Common.{◌≡◌, ◌⊎◌, ◌<◌, ◌≤◌, ◌+◌, ◌*◌, ◌-◌, ◌^◌, ◌++◌, ℕ, suc, List, [], length, take, Option, Some, None, Err, refl, sym, ap, subst, inl, inr, arith, ◌∙◌, length-append}
+use Rattle.std.proofs.Common.{◌≡◌, ◌⊎◌, ◌<◌, ◌≤◌, ◌+◌, ◌*◌, ◌-◌, ◌^◌, ◌++◌, ℕ, Bool, suc, List, [], length, take, Option, Some, None, Err, refl, sym, ap, subst, inl, inr, arith, ◌∙◌, length-append}
 use Rattle.std.proofs.lemmas.List.{append-nil}
 use Rattle.std.proofs.Math.Nat.{mul-le-mul_left}
 use Rattle.std.specs.Prelude.{decimal, true}
@@ -17,7 +17,7 @@ use Rattle.ob_store.specs.Disk.{Disk, Image}
 use Rattle.ob_store.specs.Calls.{IsStoreFault}
 use Rattle.ob_serial.specs.Serial.{EpochRecord}
 use Rattle.ob_serial.specs.Vaults.{Standing}
-use Rattle.ob_script.specs.Script.{ScriptTxn, IsScript, IsFirstBad, limit}
+use Rattle.ob_script.specs.Script.{ScriptTxn, Scripts, IsScript, IsFirstBad, limit}
 use Rattle.ob_script.proofs.OneReading.{not_both}
 use Rattle.ob_rows.specs.Reads.{IsFirstRowDamage}
 use Rattle.ob_twin.specs.Keyed.{tagging}
@@ -28,7 +28,8 @@ use Rattle.ob_flat.specs.Places.{area_of}
 use Rattle.ob_flat.specs.Openings.{IsOpenFault, IsOpeningOf, IsRowsDamage}
 use Rattle.ob_flat.specs.Standing.{StandsFlat}
 use Rattle.ob_flat.proofs.Opened.{number_found}
-use Rattle.ob_client.specs.Epochs.{RecordsServed}
+use Rattle.ob_served.specs.Served.{IsServed, ClientsServedAll}
+use Rattle.ob_served.proofs.Counting.{few_txns, few_epochs}
 use Rattle.ob_base.specs.declared.fault.Field.{Field}
 use Rattle.ob_top.specs.Words.{is_format, is_run, AreParams, IsBadNumber, HasKeys, IsKeysRefused}
 use Rattle.ob_top.specs.Outside.{Outside, IsOnlyTold}
@@ -36,7 +37,7 @@ use Rattle.ob_top.specs.Formats.{FormatTold, FormatDone}
 use Rattle.ob_top.specs.Runs.{CameIn, IsInputRefused, EndsEarly, HasCause, Ran, Went, RunDone}
 use Rattle.ob_top.specs.Complete.{CanFormat, CanRun, RunsWhole, RunAnswers, DoesWhatItCan}
 use Rattle.ob_top.proofs.Judged.{head_told, keys_same, not_closed, not_broken, rows_obey}
-use Rattle.ob_top.proofs.Counted.{one_script, few_records}
+use Rattle.ob_top.proofs.Counted.{one_script}
 use Rattle.ob_top.proofs.Named.{no_bad_number, one_keys, keys_stand}
 
 -- ---- format
@@ -93,12 +94,12 @@ module _ (keys : Keys) (p : Params) (g : ℕ) (at : Standing) (image : Image) (s
 keys_few : (p : Params) → p.keys ≤ 2 ^ 32
 keys_few p = omega (arith, p.in_range.few_keys)
 
-module _ (words : List (List ℕ)) (text : Option (Bor (List ℕ))) (old new : Disk) (before after : Outside) (script : List ScriptTxn) (can : CanRun words text old new before after script) where
+module _ (words : List (List ℕ)) (text : Option (Bor (List ℕ))) (old new : Disk) (before after : Outside) (script : Scripts) (can : CanRun words text old new before after script) where
   input_is : (input : List ℕ) → IsInput before.input.bytes limit input → input ≡ take (limit + 1) can.bytes
   input_is input is = subst (λ (b : Option (List ℕ)). IsInput b limit input) can.told is
 
   -- a script that came in is the one
-  came_one : (n : ℕ) (came : List ScriptTxn) → n ≡ can.p.keys → CameIn n before.input came → came ≡ script
+  came_one : (n : ℕ) (came : Scripts) → n ≡ can.p.keys → CameIn n before.input came → came ≡ script
   came_one n came same c =
       let here : IsScript can.p.keys (take (limit + 1) can.bytes) came = subst (λ m. IsScript m (take (limit + 1) can.bytes) came) same (subst (λ (l : List ℕ). IsScript n l came) (input_is c.input c.input_is) c.is_script) in
       one_script can.p.keys (keys_few can.p) (take (limit + 1) can.bytes) came script here can.is_script
@@ -127,72 +128,73 @@ module _ (words : List (List ℕ)) (text : Option (Bor (List ℕ))) (old new : D
       opening_told can.keys can.p can.generation can.at old.cells can.stands opening.p.keys f (one_p opening.p opening.head) can.generation_left opening.kind (opening.read can.tells) (λ is. can.store_holds (opening.cause is))
 
   -- neither the epochs nor the seals came to their end
-  not_worn : (k epoch n : ℕ) → k ≡ can.p.keys → epoch ≡ can.at.epoch → n ≤ length script → (suc (epoch + n) ≡ 2 ^ 62) ⊎ (2 ^ 62 < k * n + k) → ⊥
+  not_worn : (k epoch n : ℕ) → k ≡ can.p.keys → epoch ≡ can.at.epoch → n ≤ length script.txns → (suc (epoch + n) ≡ 2 ^ 62) ⊎ (2 ^ 62 < k * n + k) → ⊥
   not_worn k epoch n keys is few (inl last) = let left = can.epochs_left in omega (arith, last, is)
   not_worn k epoch n keys is few (inr past) =
-      let more : can.p.keys * n ≤ can.p.keys * length script = mul-le-mul_left can.p.keys few in
+      let more : can.p.keys * n ≤ can.p.keys * length script.txns = mul-le-mul_left can.p.keys few in
       let now : 2 ^ 62 < can.p.keys * n + can.p.keys = subst (λ m. 2 ^ 62 < m * n + m) keys past in
       let left = can.seals_left in
       omega arith
 
-  module _ (records : List (EpochRecord ℕ)) where
-    ran_keys : (f : Option Fault) (r : Ran can.keys old new before after records f) → r.p.keys ≡ can.p.keys
+  module _ {S : Type 0} (disk : S → Disk) (passes : ℕ → ℕ → ℕ → ℕ → Bool) (records : List (EpochRecord ℕ)) where
+    ran_keys : (f : Option Fault) (r : Ran disk passes can.keys old new before after records f) → r.p.keys ≡ can.p.keys
     ran_keys f r = one_p r.p r.opened.head
 
-    ran_epoch : (f : Option Fault) (r : Ran can.keys old new before after records f) → r.opening.epoch ≡ can.at.epoch
+    ran_epoch : (f : Option Fault) (r : Ran disk passes can.keys old new before after records f) → r.opening.epoch ≡ can.at.epoch
     ran_epoch f r =
         let found = (r.opened.found can.tells).found in
         number_found can.keys 5 old.cells can.at.epoch r.opening.epoch can.stands.epoch found.epoch_whole found.epoch_counts
 
-    ran_script : (f : Option Fault) (r : Ran can.keys old new before after records f) → r.is_served.front ++ r.rest ≡ script
-    ran_script f r = sym r.is_served.script_is ∙ came_one r.p.keys r.script (ran_keys f r) r.opened.came
+    ran_script : (f : Option Fault) (r : Ran disk passes can.keys old new before after records f) → r.script ≡ script
+    ran_script f r = came_one r.p.keys r.script (ran_keys f r) r.opened.came
 
-    ran_few : (f : Option Fault) (r : Ran can.keys old new before after records f) → length records ≤ length script
+    ran_few : (f : Option Fault) (r : Ran disk passes can.keys old new before after records f) → length records ≤ length script.txns
     ran_few f r =
-        let few = few_records r.p (suc r.opening.epoch) r.rest r.is_served.front records r.is_served.served r.is_served.epochs_end in
-        omega (arith, ap length (ran_script f r), length-append r.is_served.front r.rest)
+        let served = r.is_served.served in
+        let epochs = few_epochs records served.some in
+        let txns = few_txns r.script.txns records served.first in
+        subst (λ (s : Scripts). length records ≤ length s.txns) (ran_script f r) (omega (arith, epochs, txns))
 
-    ran_fault : (f : Fault) (k epoch : ℕ) (rest : List ScriptTxn) → k ≡ can.p.keys → epoch ≡ can.at.epoch → length records ≤ length script
-        → HasCause k epoch (length records) old new before.output after.output rest (Some f) → status_of (Some f) ≡ 9
-    ran_fault fault.Memory k epoch rest keys is few cause = refl
-    ran_fault fault.SinkFault k epoch rest keys is few cause = absurd (can.output_holds cause)
-    ran_fault (fault.StoreFault unsure) k epoch rest keys is few cause = absurd (can.store_holds cause.0)
-    ran_fault (fault.Worn number) k epoch rest keys is few cause = absurd (not_worn k epoch (length records) keys is few cause.1)
-    ran_fault fault.Usage k epoch rest keys is few cause = absurd cause
-    ran_fault (fault.BadScript line) k epoch rest keys is few cause = absurd cause
-    ran_fault (fault.BadParams field) k epoch rest keys is few cause = absurd cause
-    ran_fault fault.NotStore k epoch rest keys is few cause = absurd cause
-    ran_fault (fault.Damaged cell check kept computed) k epoch rest keys is few cause = absurd cause
-    ran_fault (fault.StashFull rows) k epoch rest keys is few cause = absurd cause
-    ran_fault fault.SourceFault k epoch rest keys is few cause = absurd cause
+    ran_fault : (f : Fault) (k epoch : ℕ) → k ≡ can.p.keys → epoch ≡ can.at.epoch → length records ≤ length script.txns
+        → HasCause k epoch (length records) old new before.output after.output (Some f) → status_of (Some f) ≡ 9
+    ran_fault fault.Memory k epoch keys is few cause = refl
+    ran_fault fault.SinkFault k epoch keys is few cause = absurd (can.output_holds cause)
+    ran_fault (fault.StoreFault unsure) k epoch keys is few cause = absurd (can.store_holds cause.0)
+    ran_fault (fault.Worn number) k epoch keys is few cause = absurd (not_worn k epoch (length records) keys is few cause.1)
+    ran_fault fault.Usage k epoch keys is few cause = absurd cause
+    ran_fault (fault.BadScript line) k epoch keys is few cause = absurd cause
+    ran_fault (fault.BadParams field) k epoch keys is few cause = absurd cause
+    ran_fault fault.NotStore k epoch keys is few cause = absurd cause
+    ran_fault (fault.Damaged cell check kept computed) k epoch keys is few cause = absurd cause
+    ran_fault (fault.StashFull rows) k epoch keys is few cause = absurd cause
+    ran_fault fault.SourceFault k epoch keys is few cause = absurd cause
 
-    ran_whole : (r : Ran can.keys old new before after records None) → after.output.bytes ≡ appended before.output.bytes (report decimal records) → RunsWhole can.keys old.cells can.at.epoch script before after
+    ran_whole : (r : Ran disk passes can.keys old new before after records None) → after.output.bytes ≡ appended before.output.bytes (report decimal records) → RunsWhole passes can.keys old.cells can.at.epoch script before after
     ran_whole r written =
-        let none : r.rest ≡ [] = r.cause in
-        let front : r.is_served.front ≡ script = sym (append-nil r.is_served.front) ∙ ap (λ (l : List ScriptTxn). r.is_served.front ++ l) (sym none) ∙ ran_script None r in
-        let served : RecordsServed r.p (suc r.opening.epoch) script records = subst (λ (l : List ScriptTxn). RecordsServed r.p (suc r.opening.epoch) l records) front r.is_served.served in
+        let same = ran_script None r in
         record {
           p = r.p;
           head = r.opened.head can.tells;
           records = records;
-          served = subst (λ e. RecordsServed r.p (suc e) script records) (ran_epoch None r) served;
+          served = subst (λ (s : Scripts). IsServed passes r.p can.at.epoch r.p.batches s records) same (subst (λ e. IsServed passes r.p e r.p.batches r.script records) (ran_epoch None r) r.is_served.served);
+          all = subst (λ (s : Scripts). ClientsServedAll s records) same (r.is_served.all refl);
           written = written;
         }
 
     abbrev Answers : ℕ → Type 0
-    Answers status = RunAnswers can.keys old.cells can.at.epoch script before after status
+    Answers status = RunAnswers passes can.keys old.cells can.at.epoch script before after status
 
-    answers : (status : ℕ) (f : Option Fault) → status ≡ status_of f → (f ≡ None → after.output.bytes ≡ appended before.output.bytes (report decimal records)) → Went can.keys old new before after records f → Answers status
+    answers : (status : ℕ) (f : Option Fault) → status ≡ status_of f → (f ≡ None → after.output.bytes ≡ appended before.output.bytes (report decimal records)) → Went disk passes can.keys old new before after records f → Answers status
     answers status None is written ran = inl (is, ran_whole ran (written refl))
     answers status (Some f) is written (inl (none, ended)) = inr (is ∙ early f ended)
-    answers status (Some f) is written (inr ran) = inr (is ∙ ran_fault f ran.p.keys ran.opening.epoch ran.rest (ran_keys (Some f) ran) (ran_epoch (Some f) ran) (ran_few (Some f) ran) ran.cause)
+    answers status (Some f) is written (inr ran) = inr (is ∙ ran_fault f ran.p.keys ran.opening.epoch (ran_keys (Some f) ran) (ran_epoch (Some f) ran) (ran_few (Some f) ran) ran.cause)
 
-  pub run_answers : (status : ℕ) → RunDone can.keys old new before after status → RunAnswers can.keys old.cells can.at.epoch script before after status
-  run_answers status d = answers d.records status d.fault d.status_is d.all_written d.went
+  pub run_answers : {S : Type 0} (disk : S → Disk) (passes : ℕ → ℕ → ℕ → ℕ → Bool) (status : ℕ) → RunDone disk passes can.keys old new before after status → RunAnswers passes can.keys old.cells can.at.epoch script before after status
+  run_answers disk passes status d = answers disk passes d.records status d.fault d.status_is d.all_written d.went
 
 -- ---- both
 
-module _ {S : Type 0} (disk : S → Disk) (words : List (List ℕ)) (text : Option (Bor (List ℕ))) (old new : S) (before after : Outside) (status : ℕ) where
+module _ {S : Type 0} (disk : S → Disk) (passes : ℕ → ℕ → ℕ → ℕ → Bool) (words : List (List ℕ)) (text : Option (Bor (List ℕ))) (old new : S) (before after : Outside) (status : ℕ) where
   -- what is told of keys
   abbrev KeysTell : Type 0
   KeysTell = (f : Fault) × IsKeysRefused text f × (new ≡ old) × IsOnlyTold f before after status
@@ -202,17 +204,17 @@ module _ {S : Type 0} (disk : S → Disk) (words : List (List ℕ)) (text : Opti
       ⊎ ((p : Params) × AreParams words p × (KeysTell ⊎ ((keys : Keys) × HasKeys text keys × FormatDone keys p (disk old) (disk new) before after status)))
 
   abbrev RunTells : Type 0
-  RunTells = KeysTell ⊎ ((keys : Keys) × HasKeys text keys × RunDone keys (disk old) (disk new) before after status)
+  RunTells = KeysTell ⊎ ((keys : Keys) × HasKeys text keys × RunDone disk passes keys (disk old) (disk new) before after status)
 
   format_whole : CanFormat words text (disk old) (disk new) before after → FormatTells → status ≡ 0
   format_whole can (inl (field, bad, kept, told)) = absurd (no_bad_number words can.p field can.params bad)
   format_whole can (inr (p, are, inl (f, refused, kept, told))) = absurd (keys_stand text can.keys f can.has refused)
   format_whole can (inr (p, are, inr (keys, has, d))) = d.status_is ∙ format_fault keys p (disk old) (disk new) before after d.fault d.told can.store_holds can.output_holds
 
-  run_whole : (script : List ScriptTxn) (can : CanRun words text (disk old) (disk new) before after script) → RunTells → RunAnswers can.keys (disk old).cells can.at.epoch script before after status
+  run_whole : (script : Scripts) (can : CanRun words text (disk old) (disk new) before after script) → RunTells → RunAnswers passes can.keys (disk old).cells can.at.epoch script before after status
   run_whole script can (inl (f, refused, kept, told)) = absurd (keys_stand text can.keys f can.has refused)
   run_whole script can (inr (keys, has, d)) =
-      run_answers words text (disk old) (disk new) before after script can status (subst (λ (k : Keys). RunDone k (disk old) (disk new) before after status) (one_keys text keys can.keys has can.has) d)
+      run_answers words text (disk old) (disk new) before after script can disk passes status (subst (λ (k : Keys). RunDone disk passes k (disk old) (disk new) before after status) (one_keys text keys can.keys has can.has) d)
 
-  pub completes : (is_format words ≡ true → FormatTells) → (is_run words ≡ true → RunTells) → DoesWhatItCan disk words text before after status old new
+  pub completes : (is_format words ≡ true → FormatTells) → (is_run words ≡ true → RunTells) → DoesWhatItCan disk passes words text before after status old new
   completes format run = (λ can. format_whole can (format can.form), λ script can. run_whole script can (run can.form))

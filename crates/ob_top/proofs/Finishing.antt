@@ -1,5 +1,5 @@
 -- How a run or a formatting ends, with its fault's line.
-use Rattle.std.proofs.Common.{◌≡◌, ◌≤◌, ◌+◌, ◌∙◌, ℕ, List, [], ◌++◌, length, take, Option, Some, None, refl, sym, ap, subst, inl, inr, arith, ⊎_elim, length-append}
+use Rattle.std.proofs.Common.{◌≡◌, ◌≤◌, ◌+◌, ◌∙◌, ℕ, Bool, List, [], ◌++◌, length, take, Option, Some, None, refl, sym, ap, subst, inl, inr, arith, ⊎_elim, length-append}
 use Rattle.std.proofs.lemmas.List.{append-nil, take_all, take-append-le}
 use Rattle.std.proofs.Math.Seq.{take-append-add}
 use Rattle.std.specs.Prelude.{decimal}
@@ -15,7 +15,6 @@ use Rattle.ob_report.specs.Report.{report}
 use Rattle.ob_report.specs.Faults.{fault_line, status_of}
 use Rattle.ob_report.specs.Sizes.{size_line}
 use Rattle.ob_flat.specs.Places.{cells}
-use Rattle.ob_script.specs.Script.{ScriptTxn}
 use Rattle.ob_store.specs.Disk.{Disk}
 use Rattle.ob_store.specs.Images.{LeavesOnly}
 use Rattle.ob_flat.specs.Formats.{FormatLeaves}
@@ -46,29 +45,31 @@ front before after text more p rose = record {
   whole = inr rose;
 }
 
-module _ (keys : Keys) (old new : Disk) (before mid after : Outside) (input : after.input ≡ mid.input) where
+module _ {S : Type 0} (disk : S → Disk) (passes : ℕ → ℕ → ℕ → ℕ → Bool) (keys : Keys) (old new : Disk) (before mid after : Outside) (input : after.input ≡ mid.input) where
   early_on : (fault : Fault) → EndsEarly keys old new before.input mid.input fault → EndsEarly keys old new before.input after.input fault
   early_on fault early = subst (λ (f : Flow). EndsEarly keys old new before.input f fault) (sym input) early
 
-  ran_on : (records : List (EpochRecord ℕ)) (fault : Option Fault) (r : Ran keys old new before mid records fault) → HasCause r.p.keys r.opening.epoch (length records) old new before.output after.output r.rest fault → Ran keys old new before after records fault
+  ran_on : (records : List (EpochRecord ℕ)) (fault : Option Fault) (r : Ran disk passes keys old new before mid records fault) → HasCause r.p.keys r.opening.epoch (length records) old new before.output after.output fault → Ran disk passes keys old new before after records fault
   ran_on records fault r cause = record {
     p = r.p;
     script = r.script;
     opening = r.opening;
     known = r.known;
     opened = r.opened;
-    rest = r.rest;
     is_served = r.is_served;
     cause = cause;
     more = r.more;
     refused = r.refused;
     seen = r.seen;
+    between = r.between;
+    opening_seen = r.opening_seen;
+    serving_seen = r.serving_seen;
     found = r.found;
     left = r.left;
   }
 
   module _ (status : ℕ) where
-    done_whole : (r : RunOn keys old new before mid None) → IsFinished mid.output after.output None status → RunDone keys old new before after status
+    done_whole : (r : RunOn disk passes keys old new before mid None) → IsFinished mid.output after.output None status → RunDone disk passes keys old new before after status
     done_whole r f =
         let bytes : after.output.bytes ≡ appended before.output.bytes (report decimal r.records) = ap (λ (o : Flow). o.bytes) f.line ∙ r.reported.bytes in
         record {
@@ -80,17 +81,17 @@ module _ (keys : Keys) (old new : Disk) (before mid after : Outside) (input : af
           went = ran_on r.records None r.went r.went.cause;
         }
 
-    sink_rose : (records : List (EpochRecord ℕ)) → Went keys old new before mid records (Some SinkFault) → Rose before.output.faults mid.output.faults
+    sink_rose : (records : List (EpochRecord ℕ)) → Went disk passes keys old new before mid records (Some SinkFault) → Rose before.output.faults mid.output.faults
     sink_rose records (inl (none, inl head)) = absurd head.kind
     sink_rose records (inl (none, inr (inl input))) = absurd input.refused
     sink_rose records (inl (none, inr (inr opening))) = absurd opening.kind
     sink_rose records (inr ran) = ran.cause
 
-    sink_went : (records : List (EpochRecord ℕ)) → after.output ≡ mid.output → Went keys old new before mid records (Some SinkFault) → Went keys old new before after records (Some SinkFault)
+    sink_went : (records : List (EpochRecord ℕ)) → after.output ≡ mid.output → Went disk passes keys old new before mid records (Some SinkFault) → Went disk passes keys old new before after records (Some SinkFault)
     sink_went records same (inl (none, early)) = inl (none, early_on SinkFault early)
     sink_went records same (inr ran) = inr (ran_on records (Some SinkFault) ran (subst (λ (f : Flow). Rose before.output.faults f.faults) (sym same) ran.cause))
 
-    done_sink : (r : RunOn keys old new before mid (Some SinkFault)) → IsFinished mid.output after.output (Some SinkFault) status → RunDone keys old new before after status
+    done_sink : (r : RunOn disk passes keys old new before mid (Some SinkFault)) → IsFinished mid.output after.output (Some SinkFault) status → RunDone disk passes keys old new before after status
     done_sink r f = record {
       fault = Some SinkFault;
       status_is = f.status_is;
@@ -106,7 +107,7 @@ module _ (keys : Keys) (old new : Disk) (before mid after : Outside) (input : af
 
     -- any other fault, behind the whole report
     done_other : (fault : Fault) (records : List (EpochRecord ℕ)) → mid.output.bytes ≡ appended before.output.bytes (report decimal records) → before.output.faults ≤ mid.output.faults
-        → IsPrinted mid.output after.output (fault_line (Some fault)) → status ≡ status_of (Some fault) → Went keys old new before after records (Some fault) → RunDone keys old new before after status
+        → IsPrinted mid.output after.output (fault_line (Some fault)) → status ≡ status_of (Some fault) → Went disk passes keys old new before after records (Some fault) → RunDone disk passes keys old new before after status
     done_other fault records bytes later line status_is went = record {
       fault = Some fault;
       status_is = status_is;
@@ -119,24 +120,24 @@ module _ (keys : Keys) (old new : Disk) (before mid after : Outside) (input : af
         no_fault : Some fault ≡ None → ⊥
         no_fault is = cc is
 
-    went_other : (fault : Fault) (records : List (EpochRecord ℕ)) → ((k epoch n : ℕ) (rest : List ScriptTxn) → HasCause k epoch n old new before.output mid.output rest (Some fault) → HasCause k epoch n old new before.output after.output rest (Some fault))
-        → Went keys old new before mid records (Some fault) → Went keys old new before after records (Some fault)
+    went_other : (fault : Fault) (records : List (EpochRecord ℕ)) → ((k epoch n : ℕ) → HasCause k epoch n old new before.output mid.output (Some fault) → HasCause k epoch n old new before.output after.output (Some fault))
+        → Went disk passes keys old new before mid records (Some fault) → Went disk passes keys old new before after records (Some fault)
     went_other fault records same (inl (none, early)) = inl (none, early_on fault early)
-    went_other fault records same (inr ran) = inr (ran_on records (Some fault) ran (same ran.p.keys ran.opening.epoch (length records) ran.rest ran.cause))
+    went_other fault records same (inr ran) = inr (ran_on records (Some fault) ran (same ran.p.keys ran.opening.epoch (length records) ran.cause))
 
-    pub run_done : (fault : Option Fault) → RunOn keys old new before mid fault → IsFinished mid.output after.output fault status → RunDone keys old new before after status
+    pub run_done : (fault : Option Fault) → RunOn disk passes keys old new before mid fault → IsFinished mid.output after.output fault status → RunDone disk passes keys old new before after status
     run_done None r f = done_whole r f
     run_done (Some SinkFault) r f = done_sink r f
-    run_done (Some Memory) r f = done_other Memory r.records r.reported.bytes r.reported.later f.line f.status_is (went_other Memory r.records (λ k epoch n rest cause. cause) r.went)
-    run_done (Some Usage) r f = done_other Usage r.records r.reported.bytes r.reported.later f.line f.status_is (went_other Usage r.records (λ k epoch n rest cause. cause) r.went)
-    run_done (Some (BadScript line)) r f = done_other (BadScript line) r.records r.reported.bytes r.reported.later f.line f.status_is (went_other (BadScript line) r.records (λ k epoch n rest cause. cause) r.went)
-    run_done (Some (BadParams field)) r f = done_other (BadParams field) r.records r.reported.bytes r.reported.later f.line f.status_is (went_other (BadParams field) r.records (λ k epoch n rest cause. cause) r.went)
-    run_done (Some NotStore) r f = done_other NotStore r.records r.reported.bytes r.reported.later f.line f.status_is (went_other NotStore r.records (λ k epoch n rest cause. cause) r.went)
-    run_done (Some (Damaged cell check kept computed)) r f = done_other (Damaged cell check kept computed) r.records r.reported.bytes r.reported.later f.line f.status_is (went_other (Damaged cell check kept computed) r.records (λ k epoch n rest cause. cause) r.went)
-    run_done (Some (StoreFault unsure)) r f = done_other (StoreFault unsure) r.records r.reported.bytes r.reported.later f.line f.status_is (went_other (StoreFault unsure) r.records (λ k epoch n rest cause. cause) r.went)
-    run_done (Some (StashFull rows)) r f = done_other (StashFull rows) r.records r.reported.bytes r.reported.later f.line f.status_is (went_other (StashFull rows) r.records (λ k epoch n rest cause. cause) r.went)
-    run_done (Some (Worn number)) r f = done_other (Worn number) r.records r.reported.bytes r.reported.later f.line f.status_is (went_other (Worn number) r.records (λ k epoch n rest cause. cause) r.went)
-    run_done (Some SourceFault) r f = done_other SourceFault r.records r.reported.bytes r.reported.later f.line f.status_is (went_other SourceFault r.records (λ k epoch n rest cause. cause) r.went)
+    run_done (Some Memory) r f = done_other Memory r.records r.reported.bytes r.reported.later f.line f.status_is (went_other Memory r.records (λ k epoch n cause. cause) r.went)
+    run_done (Some Usage) r f = done_other Usage r.records r.reported.bytes r.reported.later f.line f.status_is (went_other Usage r.records (λ k epoch n cause. cause) r.went)
+    run_done (Some (BadScript line)) r f = done_other (BadScript line) r.records r.reported.bytes r.reported.later f.line f.status_is (went_other (BadScript line) r.records (λ k epoch n cause. cause) r.went)
+    run_done (Some (BadParams field)) r f = done_other (BadParams field) r.records r.reported.bytes r.reported.later f.line f.status_is (went_other (BadParams field) r.records (λ k epoch n cause. cause) r.went)
+    run_done (Some NotStore) r f = done_other NotStore r.records r.reported.bytes r.reported.later f.line f.status_is (went_other NotStore r.records (λ k epoch n cause. cause) r.went)
+    run_done (Some (Damaged cell check kept computed)) r f = done_other (Damaged cell check kept computed) r.records r.reported.bytes r.reported.later f.line f.status_is (went_other (Damaged cell check kept computed) r.records (λ k epoch n cause. cause) r.went)
+    run_done (Some (StoreFault unsure)) r f = done_other (StoreFault unsure) r.records r.reported.bytes r.reported.later f.line f.status_is (went_other (StoreFault unsure) r.records (λ k epoch n cause. cause) r.went)
+    run_done (Some (StashFull rows)) r f = done_other (StashFull rows) r.records r.reported.bytes r.reported.later f.line f.status_is (went_other (StashFull rows) r.records (λ k epoch n cause. cause) r.went)
+    run_done (Some (Worn number)) r f = done_other (Worn number) r.records r.reported.bytes r.reported.later f.line f.status_is (went_other (Worn number) r.records (λ k epoch n cause. cause) r.went)
+    run_done (Some SourceFault) r f = done_other SourceFault r.records r.reported.bytes r.reported.later f.line f.status_is (went_other SourceFault r.records (λ k epoch n cause. cause) r.went)
 
 module _ (keys : Keys) (p : Params) (old new : Disk) (before mid after : Flow) where
   format_told : (fault : Option Fault) → FormatEnds keys p old new before mid fault → LineTold mid after fault → FormatTold keys p old new before after fault

@@ -1,5 +1,5 @@
 -- How what was begun and what was served join into a run.
-use Rattle.std.proofs.Common.{◌≤◌, ◌⊎◌, ℕ, List, [], ◌++◌, length, Option, Some, None, refl, inl, inr, arith}
+use Rattle.std.proofs.Common.{◌≤◌, ◌⊎◌, ℕ, Bool, List, [], ◌++◌, length, Option, Some, None, refl, inl, inr, arith}
 use Rattle.ob_base.specs.declared.params.Params.{Params}
 use Rattle.ob_seal.specs.declared.keys.Keys.{Keys}
 use Rattle.ob_base.specs.declared.fault.Fault.{Fault}
@@ -13,12 +13,12 @@ use Rattle.ob_serial.specs.Vaults.{Standing, StandsIn}
 use Rattle.ob_flat.specs.Calls.{opened_at}
 use Rattle.ob_flat.specs.Openings.{IsOpenedAt}
 use Rattle.ob_flat.specs.Standing.{StandsFlat, Stands, AllStand, StandsAsBefore}
-use Rattle.ob_client.specs.Left.{IsLeftStanding}
+use Rattle.ob_conduct.specs.Left.{IsLeftStanding}
 use Rattle.ob_store.specs.Calls.{Notes}
 use Rattle.ob_store.proofs.Events.{joined}
 use Rattle.ob_twin.specs.declared.gates.Open.{Open}
 use Rattle.ob_serial.specs.Serial.{EpochRecord}
-use Rattle.ob_script.specs.Script.{ScriptTxn}
+use Rattle.ob_script.specs.Script.{Scripts}
 use Rattle.ob_flat.specs.declared.opening.Opening.{Opening}
 use Rattle.ob_top.specs.Outside.{Outside, outside}
 use Rattle.ob_top.specs.Runs.{EndsEarly, IsOpened, HasCause, IsReported, IsLeft, LeftByRun, Serves, Ran, Went, RunOn, begin_events, ends_events}
@@ -40,16 +40,16 @@ early_reported keys old new before after output (StashFull rows) early = record 
 early_reported keys old new before after output (Worn number) early = record { bytes = appended-none output.bytes; later = omega arith }
 early_reported keys old new before after output SourceFault early = record { bytes = appended-none output.bytes; later = omega arith }
 
-pub ended_early : (keys : Keys) (old new : Disk) (before after output : Flow) (fault : Fault) → EndsEarly keys old new before after fault → RunOn keys old new (outside before output) (outside after output) (Some fault)
-ended_early keys old new before after output fault early = record {
+pub ended_early : {S : Type 0} (disk : S → Disk) (passes : ℕ → ℕ → ℕ → ℕ → Bool) (keys : Keys) (old new : Disk) (before after output : Flow) (fault : Fault) → EndsEarly keys old new before after fault → RunOn disk passes keys old new (outside before output) (outside after output) (Some fault)
+ended_early disk passes keys old new before after output fault early = record {
   records = [];
   reported = early_reported keys old new before after output fault early;
   went = inl (refl, early);
 }
 
-module _ (keys epoch n : ℕ) (old mid new : Disk) (before after : Flow) (rest : List ScriptTxn) (later : old.faults ≤ mid.faults) where
+module _ (keys epoch n : ℕ) (old mid new : Disk) (before after : Flow) (later : old.faults ≤ mid.faults) where
   -- the store's count rose since an earlier moment too
-  pub cause_since : (fault : Option Fault) → HasCause keys epoch n mid new before after rest fault → HasCause keys epoch n old new before after rest fault
+  pub cause_since : (fault : Option Fault) → HasCause keys epoch n mid new before after fault → HasCause keys epoch n old new before after fault
   cause_since None cause = cause
   cause_since (Some Memory) cause = cause
   cause_since (Some SinkFault) cause = cause
@@ -63,16 +63,18 @@ module _ (keys epoch n : ℕ) (old mid new : Disk) (before after : Flow) (rest :
   cause_since (Some (StashFull rows)) cause = absurd cause
   cause_since (Some SourceFault) cause = absurd cause
 
-pub went_of : (keys : Keys) (old new : Disk) (before after : Outside) (records : List (EpochRecord ℕ)) (fault : Option Fault) → Ran keys old new before after records fault → Went keys old new before after records fault
-went_of keys old new before after records None ran = ran
-went_of keys old new before after records (Some fault) ran = inr ran
+pub went_of : {S : Type 0} (disk : S → Disk) (passes : ℕ → ℕ → ℕ → ℕ → Bool) (keys : Keys) (old new : Disk) (before after : Outside) (records : List (EpochRecord ℕ)) (fault : Option Fault) → Ran disk passes keys old new before after records fault → Went disk passes keys old new before after records fault
+went_of disk passes keys old new before after records None ran = ran
+went_of disk passes keys old new before after records (Some fault) ran = inr ran
 
 -- What a crash leaves of the opening and of the serving.
-left_both : (keys : Keys) (old mid new : Disk) (p : Params) (opening : Opening) (at : Standing) (records : List (EpochRecord ℕ)) (rest : List ScriptTxn) (fault : Option Fault)
-    → LeavesOnly old mid (StandsAsBefore keys p old) → IsLeft keys p opening.sealer.generation at records rest fault mid new → LeftByRun keys p opening.sealer.generation at records rest fault old new
-left_both keys old mid new p opening at records rest fault first l = record {
+left_both : (keys : Keys) (old mid new : Disk) (p : Params) (opening : Opening) (at : Standing) (script : Scripts) (records : List (EpochRecord ℕ)) (fault : Option Fault)
+    → LeavesOnly old mid (StandsAsBefore keys p old) → IsLeft keys p opening at script records fault mid new → LeftByRun keys p opening at script records fault old mid new
+left_both keys old mid new p opening at script records fault first l = record {
   next = l.next;
   is_next = l.is_next;
+  opening = first;
+  serving = l.since;
   since = then_on old mid new (λ c. StandsAsBefore keys p old c ⊎ StandsIn (StandsFlat keys p opening.sealer.generation) (IsLeftStanding (opened_at p at) records l.next) c)
       (weakened old mid (StandsAsBefore keys p old) (λ c. StandsAsBefore keys p old c ⊎ StandsIn (StandsFlat keys p opening.sealer.generation) (IsLeftStanding (opened_at p at) records l.next) c) (λ c is. inl is) first)
       (weakened mid new (StandsIn (StandsFlat keys p opening.sealer.generation) (IsLeftStanding (opened_at p at) records l.next)) (λ c. StandsAsBefore keys p old c ⊎ StandsIn (StandsFlat keys p opening.sealer.generation) (IsLeftStanding (opened_at p at) records l.next) c) (λ c is. inr is) l.since);
@@ -80,30 +82,32 @@ left_both keys old mid new p opening at records rest fault first l = record {
 }
 
 -- The script was run over the store that was opened.
-pub ran : (keys : Keys) (old mid new : Disk) (input input_new output output_new : Flow) (p : Params) (script : List ScriptTxn) (opening : Opening) (known : Open) (fault : Option Fault) → old.faults ≤ mid.faults
-    → IsOpened keys old input p script opening known → Notes (begin_events p.keys opening.epoch known opening.sealer.generation) old.seen mid.seen
-    → (old.tells → mid.tells × Settled mid)
-    → ((at : Standing) → old.tells → Stands keys p old.cells at → IsOpenedAt keys p at opening mid)
-    → ((at : Standing) → old.tells → Stands keys p old.cells at → AllStand keys p old → LeavesOnly old mid (StandsAsBefore keys p old))
-    → Serves keys p opening script mid new output output_new fault
-    → RunOn keys old new (outside input output) (outside input_new output_new) fault
-ran keys old mid new input input_new output output_new p script opening known fault later opened seen durable stood before s = record {
+pub ran : {S : Type 0} (disk : S → Disk) (passes : ℕ → ℕ → ℕ → ℕ → Bool) (keys : Keys) (old : Disk) (between : S) (new : Disk) (input input_new output output_new : Flow) (p : Params) (script : Scripts) (opening : Opening) (known : Open) (fault : Option Fault) → old.faults ≤ (disk between).faults
+    → IsOpened keys old input p script opening known → Notes (begin_events p.keys opening.epoch known opening.sealer.generation) old.seen (disk between).seen
+    → (old.tells → (disk between).tells × Settled (disk between))
+    → ((at : Standing) → old.tells → Stands keys p old.cells at → IsOpenedAt keys p at opening (disk between))
+    → ((at : Standing) → old.tells → Stands keys p old.cells at → AllStand keys p old → LeavesOnly old (disk between) (StandsAsBefore keys p old))
+    → Serves passes keys p opening script (disk between) new output output_new fault
+    → RunOn disk passes keys old new (outside input output) (outside input_new output_new) fault
+ran disk passes keys old between new input input_new output output_new p script opening known fault later opened seen durable stood before s = record {
   records = s.records;
   reported = s.reported;
-  went = went_of keys old new (outside input output) (outside input_new output_new) s.records fault (record {
+  went = went_of disk passes keys old new (outside input output) (outside input_new output_new) s.records fault (record {
     p = p;
     script = script;
     opening = opening;
     known = known;
     opened = opened;
-    rest = s.rest;
     is_served = s.is_served;
-    cause = cause_since p.keys opening.epoch (length s.records) old mid new output output_new s.rest later fault s.cause;
+    cause = cause_since p.keys opening.epoch (length s.records) old (disk between) new output output_new later fault s.cause;
     more = s.more;
     refused = s.refused;
-    seen = joined (begin_events p.keys opening.epoch known opening.sealer.generation) (ends_events p.keys opening.gates.epoch opening.epoch (length s.records) ++ s.more) old.seen mid.seen new.seen seen s.seen;
-    found = λ at tells stands. let is = stood at tells stands in (is.epoch, is.content);
+    seen = joined (begin_events p.keys opening.epoch known opening.sealer.generation) (ends_events p.keys opening.gates.epoch opening.epoch (length s.records) ++ s.more) old.seen (disk between).seen new.seen seen s.seen;
+    between = between;
+    opening_seen = seen;
+    serving_seen = s.seen;
+    found = stood;
     left = λ at tells stands all. let (told, settled) = durable tells in
-        left_both keys old mid new p opening at s.records s.rest fault (before at tells stands all) (s.left at told settled (stood at tells stands));
+        left_both keys old (disk between) new p opening at script s.records fault (before at tells stands all) (s.left at told settled (stood at tells stands));
   });
 }

@@ -1,6 +1,9 @@
 -- What serving a script does to the store that the vault was lent.
-use Rattle.std.proofs.Common.{◌≡◌, ◌≤◌, ◌<◌, ◌^◌, ◌+◌, ◌*◌, ◌∙◌, ◌⊎◌, ℕ, suc, List, [], ◌∷◌, ◌++◌, length, map, take, Option, Some, None, Result, Ok, Err, refl, sym, ap, subst, inl, inr, arith, ⊎_elim}
-use Rattle.std.proofs.lemmas.List.{append-nil, length-map}
+use Rattle.std.specs.List.{All}
+use Rattle.std.proofs.Common.{Bool, true, false, ◌≡◌, ◌≤◌, ◌<◌, ◌^◌, ◌+◌, ◌*◌, ◌∙◌, ◌⊎◌, ℕ, suc, List, [], ◌∷◌, ◌++◌, length, map, take, Option, Some, None, Result, Ok, Err, refl, sym, ap, subst, inl, inr, arith, ⊎_elim}
+use Rattle.std.proofs.lemmas.List.{append-nil, append_assoc}
+use Rattle.std.proofs.lemmas.List.Elements.{All-head}
+use Rattle.std.proofs.lemmas.Grind.{flat_map-append}
 use Rattle.std.specs.Ordering.{nat_cmp}
 use Rattle.std.specs.Prelude.{decimal}
 use Rattle.ob_base.specs.declared.params.Params.{Params}
@@ -20,28 +23,61 @@ use Rattle.ob_store.specs.Calls.{Notes, IsStoreFault}
 use Rattle.ob_store.proofs.Events.{joined, none_noted}
 use Rattle.ob_twin.specs.declared.gates.Open.{Open}
 use Rattle.ob_serial.specs.Serial.{EpochRecord, Map}
+use Rattle.ob_serial.specs.VaultViews.{end_answer}
+use Rattle.ob_serial.specs.declared.vault.EndErr.{EndErr}
+use Rattle.ob_serial.specs.declared.vault.EndErr.TheVariants.{Before, Unsure}
+use Rattle.ob_served.specs.Served.{ClientsServedAll}
 use Rattle.ob_serial.specs.Vaults.{Standing, StandsIn, VaultCall, Fetch, End, VaultAnswer, Values, Ended, RefusedBy, DoubtBy}
 use Rattle.ob_serial.specs.VaultKinds.{Kind, Called, AllCalled, ended_of, ended_by}
-use Rattle.ob_script.specs.Script.{ScriptTxn}
+use Rattle.ob_script.specs.Script.{ScriptTxn, Scripts, AreSound, asks_by}
 use Rattle.ob_flat.specs.Calls.{FlatCalled, RefusedDoes, IsCut, IsWorn, Holding, opened_at}
 use Rattle.ob_flat.specs.Orders.{end_events}
 use Rattle.ob_flat.specs.Standing.{IsMapOf, StandsFlat}
 use Rattle.ob_flat.specs.declared.opening.Opening.{Opening}
 use Rattle.ob_flat.specs.Openings.{IsOpenedAt}
-use Rattle.ob_client.specs.Left.{Rests, OnlyNow, IsLeftStanding, TellsDoubt, IsNextOf}
-use Rattle.ob_client.proofs.Leaves.{serve_leaves}
-use Rattle.ob_client.specs.Calls.{AreAnswered, IsRefusal, HoldsMap}
-use Rattle.ob_client.specs.Epochs.{record_writes}
-use Rattle.ob_client.specs.Serve.{ServeDone, ServeEnds, IsWritten}
-use Rattle.ob_client.proofs.Chains.{goes_all}
-use Rattle.ob_top.specs.Runs.{ends_events, known_behind, HasCause, IsRefusedEnd, IsReported, IsLeft, IsNext, ComesNext, Serves, fault_of}
+use Rattle.ob_desk.specs.Desk.{DeskState, MayOpen, Call, Reply, new_desk}
+use Rattle.ob_session.specs.Clients.{told_of, has_signed_off, was_refused}
+use Rattle.ob_runner.specs.Meaning.{MeantFirst, MeantAll}
+use Rattle.ob_conduct.specs.Acts.{Act, Batch, EndFails, FetchFails, history, calls, vault_calls, rest_fetches, records as records_of_acts}
+use Rattle.ob_conduct.specs.Conducted.{Conducted, RunEnds, IsWritten, IsShort, IsUnprinted, IsFetchRefused, IsEndRefused, AreAnswered, AreWritten, HoldsMap, fault_in}
+use Rattle.ob_conduct.specs.Left.{Rests, OnlyNow, IsLeftStanding, TellsDoubt, IsNextOf}
+use Rattle.ob_conduct.proofs.Leaving.{run_leaves}
+use Rattle.ob_conduct.proofs.Moving.{goes_all}
+use Rattle.ob_served.proofs.Whole.{is_served, all_served, next_served}
+use Rattle.ob_top.specs.Runs.{ends_events, known_behind, HasCause, IsRefusedEnd, IsReported, IsLeft, IsNext, ComesNext, ScriptServed, Serves, fault_of}
 
-none_ended : (epoch : ℕ) (call : VaultCall) (answer : VaultAnswer) (fault : Fault) → IsRefusal epoch call answer fault → ended_by (call, answer) ≡ []
-none_ended epoch (Fetch keys) answer fault refusal = refl
-none_ended epoch (End writes) (RefusedBy given) fault refusal = refl
-none_ended epoch (End writes) (DoubtBy given) fault refusal = refl
-none_ended epoch (End writes) (Values values) fault refusal = absurd refusal
-none_ended epoch (End writes) Ended fault refusal = absurd refusal
+-- an end that was refused ended nothing
+none_ended : (writes : List (ℕ × Option (List ℕ))) (refused : EndErr) → ended_by (End writes, end_answer (Err refused)) ≡ []
+none_ended writes (Before fault) = refl
+none_ended writes (Unsure fault) = refl
+
+-- each record has its writes
+counted : (written : List (List (ℕ × Option (List ℕ)))) (records : List (EpochRecord ℕ)) → AreWritten written records → length written ≡ length records
+counted [] [] are = refl
+counted [] (r ∷ records) are = absurd are
+counted (w ∷ written) [] are = absurd are
+counted (w ∷ written) (r ∷ records) (one, are) = ap suc (counted written records are)
+
+answered_fetches : (batches : List Batch) → AreAnswered (rest_fetches batches)
+answered_fetches [] = tt
+answered_fetches (batch ∷ batches) = answered_fetches batches
+
+answered_both : (xs ys : List (VaultCall × VaultAnswer)) → AreAnswered xs → AreAnswered ys → AreAnswered (xs ++ ys)
+answered_both [] ys a b = b
+answered_both ((Fetch keys, Values values) ∷ xs) ys a b = answered_both xs ys a b
+answered_both ((End writes, Ended) ∷ xs) ys a b = answered_both xs ys a b
+answered_both ((Fetch keys, Ended) ∷ xs) ys a b = absurd a
+answered_both ((Fetch keys, RefusedBy fault) ∷ xs) ys a b = absurd a
+answered_both ((Fetch keys, DoubtBy fault) ∷ xs) ys a b = absurd a
+answered_both ((End writes, Values values) ∷ xs) ys a b = absurd a
+answered_both ((End writes, RefusedBy fault) ∷ xs) ys a b = absurd a
+answered_both ((End writes, DoubtBy fault) ∷ xs) ys a b = absurd a
+
+-- the calls up to a last act whose last call was refused
+last_call : (front : List Act) (act : Act) (batches : List Batch) (call : VaultCall) (answer : VaultAnswer) → vault_calls act ≡ rest_fetches batches ++ (call, answer) ∷ []
+    → calls (front ++ act ∷ []) ≡ (calls front ++ rest_fetches batches) ++ (call, answer) ∷ []
+last_call front act batches call answer is =
+    flat_map-append vault_calls front (act ∷ []) ∙ ap (λ l. calls front ++ l) (append-nil (vault_calls act) ∙ is) ∙ sym (append_assoc (calls front) (rest_fetches batches) ((call, answer) ∷ []))
 
 module _ {V S : Type 0} (k : Kind V) (disk : S → Disk) (store_of : V → S) (sealing_of : V → Sealing) (p_of : V → Params) (known_of : V → Open) (epoch_of : V → ℕ) (values_of : V → List (Option (List ℕ)))
     (flat : (v : V) (call : VaultCall) (answer : VaultAnswer) (notes : List Note) (w : V) → k.called v call answer notes w
@@ -110,10 +146,10 @@ module _ {V S : Type 0} (k : Kind V) (disk : S → Disk) (store_of : V → S) (s
   none_more [] call answer none = append-nil (ended_by (call, answer)) ∙ none
   none_more (step ∷ front) call answer none = ap (λ l. ended_by step ++ l) (none_more front call answer none)
 
-  module _ (p : Params) (first last : V) (before after : Flow) (rest : List ScriptTxn) (records : List (EpochRecord ℕ)) (params : p_of first ≡ p) (fresh : (sealing_of first).next ≡ 0) where
+  module _ (p : Params) (first last : V) (before after : Flow) (records : List (EpochRecord ℕ)) (params : p_of first ≡ p) (fresh : (sealing_of first).next ≡ 0) where
     -- How it ended: why, what was written, and what was seen.
     pub record Ending (fault : Option Fault) : Type 0 where
-      pub cause : HasCause p.keys (epoch_of first) (length records) (disk (store_of first)) (disk (store_of last)) before after rest fault
+      pub cause : HasCause p.keys (epoch_of first) (length records) (disk (store_of first)) (disk (store_of last)) before after fault
       pub reported : IsReported before after records fault
       pub more : List Event
       pub refused : IsRefusedEnd p.keys (known_of first) (epoch_of first) (length records) fault more
@@ -190,50 +226,69 @@ module _ {V S : Type 0} (k : Kind V) (disk : S → Disk) (store_of : V → S) (s
       by_doubt fault notes doubt one rose written = subst (λ (f : Fault). Ending (Some f)) (sym doubt)
           (by_store (Some (suc (epoch_of mid))) notes (inr refl) one (subst (λ (f : Fault). IsStoreFault f → Rose (disk (store_of first)).faults (disk (store_of last)).faults) doubt rose tt) written)
 
-      -- the last call was refused
-      by_call : (epoch : ℕ) (call : VaultCall) (answer : VaultAnswer) (fault : Fault) → IsRefusal epoch call answer fault → Called k mid call answer last
-          → (IsStoreFault fault → Rose (disk (store_of first)).faults (disk (store_of last)).faults) → IsWritten (report decimal records) before after → Ending (Some fault)
-      by_call epoch (Fetch keys) (RefusedBy given) fault refusal one rose written = absurd (flat mid (Fetch keys) (RefusedBy given) one.notes last one.called).does
-      by_call epoch (End writes) (RefusedBy given) fault (same, kind) one rose written =
-          by_refusal fault one.notes (subst (λ (f : Fault). RefusedDoes (p_of mid).keys (known_of mid) (epoch_of mid) (record { store = store_of mid; sealing = sealing_of mid }) (record { store = store_of last; sealing = sealing_of last }) (disk (store_of mid)) (disk (store_of last)) one.notes f) same (flat mid (End writes) (RefusedBy given) one.notes last one.called).does) rose written
-      by_call epoch (End writes) (DoubtBy given) fault (same, kind) one rose written =
-          let (doubt, was_cut) = (flat mid (End writes) (DoubtBy given) one.notes last one.called).does in
-          by_doubt fault one.notes (sym same ∙ doubt) was_cut rose written
-      by_call epoch (Fetch keys) (Values values) fault refusal one rose written = absurd refusal
-      by_call epoch (Fetch keys) Ended fault refusal one rose written = absurd refusal
-      by_call epoch (Fetch keys) (DoubtBy given) fault refusal one rose written = absurd refusal
-      by_call epoch (End writes) (Values values) fault refusal one rose written = absurd refusal
-      by_call epoch (End writes) Ended fault refusal one rose written = absurd refusal
+      -- the end was refused, or left in doubt
+      by_end : (writes : List (ℕ × Option (List ℕ))) (refused : EndErr) → Called k mid (End writes) (end_answer (Err refused)) last
+          → (IsStoreFault (fault_in refused) → Rose (disk (store_of first)).faults (disk (store_of last)).faults) → IsWritten (report decimal records) before after → Ending (Some (fault_in refused))
+      by_end writes (Before fault) one rose written = by_refusal fault one.notes (flat mid (End writes) (RefusedBy fault) one.notes last one.called).does rose written
+      by_end writes (Unsure fault) one rose written =
+          let (doubt, was_cut) = (flat mid (End writes) (DoubtBy fault) one.notes last one.called).does in
+          by_doubt fault one.notes doubt was_cut rose written
 
-    ending : (epoch : ℕ) (steps : List (VaultCall × VaultAnswer)) (result : Result (Unit {0}) Fault) → AllCalled k first steps last → ended_of steps ≡ map record_writes records
-        → IsPrinted before after (report decimal records) → ((v : V) → (k.disk v).faults ≡ (disk (store_of v)).faults)
-        → ServeEnds epoch rest steps (report decimal records) before after (k.disk first).faults (k.disk last).faults result → Ending (fault_of result)
-    ending epoch steps (Ok done) chain wrote printed faults (answered, none, written) = record {
-      cause = none;
-      reported = written;
-      more = [];
-      refused = refl;
-      seen = ends_alone (length (ended_of steps)) (ap length wrote ∙ length-map records record_writes) (behind first steps last chain answered);
-    }
-    ending epoch steps (Err fault) chain wrote printed faults (inl (answered, memory, written)) = subst (λ (f : Fault). Ending (Some f)) (sym memory) (record {
-      cause = tt;
-      reported = written;
-      more = [];
-      refused = refl;
-      seen = ends_alone (length (ended_of steps)) (ap length wrote ∙ length-map records record_writes) (behind first steps last chain answered);
-    })
-    ending epoch steps (Err fault) chain wrote printed faults (inr (inl (answered, sink, rose))) = subst (λ (f : Fault). Ending (Some f)) (sym sink) (record {
-      cause = rose;
-      reported = printed;
-      more = [];
-      refused = refl;
-      seen = ends_alone (length (ended_of steps)) (ap length wrote ∙ length-map records record_writes) (behind first steps last chain answered);
-    })
-    ending epoch steps (Err fault) chain wrote printed faults (inr (inr ((front, call, answer, steps_are, answered, refusal), rose, written))) =
-        let (mid, before_it, one) = split first front call answer last (subst (λ l. AllCalled k first l last) steps_are chain) in
-        let none : ended_of steps ≡ ended_of front = ap ended_of steps_are ∙ none_more front call answer (none_ended epoch call answer fault refusal) in
-        by_call mid (length (ended_of front)) (ap length (sym none ∙ wrote) ∙ length-map records record_writes) (behind first front mid before_it answered) epoch call answer fault refusal one
-        (λ store. subst (λ n. Rose (disk (store_of first)).faults n) (faults last) (subst (λ n. Rose n (k.disk last).faults) (faults first) (rose store))) written
+    -- no call was refused
+    ends_seen : (steps : List (VaultCall × VaultAnswer)) → AllCalled k first steps last → AreAnswered steps → AreWritten (ended_of steps) records
+        → Notes (ends_events p.keys (known_of first) (epoch_of first) (length records) ++ []) (disk (store_of first)).seen (disk (store_of last)).seen
+    ends_seen steps chain answered wrote = ends_alone (length (ended_of steps)) (counted (ended_of steps) records wrote) (behind first steps last chain answered)
+
+    module _ (faults : (v : V) → (k.disk v).faults ≡ (disk (store_of v)).faults) where
+      rises : Rose (k.disk first).faults (k.disk last).faults → Rose (disk (store_of first)).faults (disk (store_of last)).faults
+      rises rose = subst (λ n. Rose (disk (store_of first)).faults n) (faults last) (subst (λ n. Rose n (k.disk last).faults) (faults first) rose)
+
+      -- a batch is never refused by a plain vault
+      no_fetch : (new : DeskState) (acts : List Act) (fault : Fault) → AllCalled k first (calls acts) last → IsFetchRefused k first last new acts fault → ⊥
+      no_fetch new acts fault chain r =
+          let front = calls r.front ++ rest_fetches r.batches in
+          let (mid, before_it, one) = split first front (Fetch r.keys) (RefusedBy fault) last
+          (subst (λ l. AllCalled k first l last) (ap calls r.acts_are ∙ last_call r.front (FetchFails r.look r.batches r.keys fault) r.batches (Fetch r.keys) (RefusedBy fault) refl) chain) in
+          (flat mid (Fetch r.keys) (RefusedBy fault) one.notes last one.called).does
+
+      end_refused : (old new : DeskState) (acts : List Act) (fault : Fault) → AllCalled k first (calls acts) last → AreWritten (ended_of (calls acts)) records → IsEndRefused k first last old new acts fault
+          → IsWritten (report decimal records) before after → Ending (Some fault)
+      end_refused old new acts fault chain wrote r written =
+          let front = calls r.front ++ rest_fetches r.batches in
+          let calls_are : calls acts ≡ front ++ (End r.writes, end_answer (Err r.refused)) ∷ [] =
+          ap calls r.acts_are ∙ last_call r.front (EndFails r.look r.batches r.writes r.refused) r.batches (End r.writes) (end_answer (Err r.refused)) refl in
+          let (mid, before_it, one) = split first front (End r.writes) (end_answer (Err r.refused)) last (subst (λ l. AllCalled k first l last) calls_are chain) in
+          let none : ended_of (calls acts) ≡ ended_of front = ap ended_of calls_are ∙ none_more front (End r.writes) (end_answer (Err r.refused)) (none_ended r.writes r.refused) in
+          let answered : AreAnswered front = answered_both (calls r.front) (rest_fetches r.batches) r.answered (answered_fetches r.batches) in
+          subst (λ (f : Fault). Ending (Some f)) (sym r.fault_is)
+          (by_end mid (length (ended_of front)) (ap length (sym none) ∙ counted (ended_of (calls acts)) records wrote) (behind first front mid before_it answered) r.writes r.refused one
+          (λ store. rises (r.cause (subst IsStoreFault (sym r.fault_is) store))) written)
+
+      ending : (old new : DeskState) (acts : List Act) (result : Result (Unit {0}) Fault) → AllCalled k first (calls acts) last → AreWritten (ended_of (calls acts)) records
+          → IsPrinted before after (report decimal records) → RunEnds k first last old new acts (report decimal records) before after result → Ending (fault_of result)
+      ending old new acts (Ok done) chain wrote printed (answered, over, written) = record {
+        cause = tt;
+        reported = written;
+        more = [];
+        refused = refl;
+        seen = ends_seen (calls acts) chain answered wrote;
+      }
+      ending old new acts (Err fault) chain wrote printed (inl (short, written)) = subst (λ (f : Fault). Ending (Some f)) (sym short.fault_is) (record {
+        cause = tt;
+        reported = written;
+        more = [];
+        refused = refl;
+        seen = ends_seen (calls acts) chain short.answered wrote;
+      })
+      ending old new acts (Err fault) chain wrote printed (inr (inl unprinted)) = subst (λ (f : Fault). Ending (Some f)) (sym unprinted.fault_is) (record {
+        cause = unprinted.rose;
+        reported = printed;
+        more = [];
+        refused = refl;
+        seen = ends_seen (calls acts) chain unprinted.answered wrote;
+      })
+      ending old new acts (Err fault) chain wrote printed (inr (inr (inl fetch, written))) = absurd (no_fetch new acts fault chain fetch)
+      ending old new acts (Err fault) chain wrote printed (inr (inr (inr end, written))) = end_refused old new acts fault chain wrote end written
 
   -- what the lender knows of a vault's words
   pub record IsLender (keys : Keys) (p : Params) (opening : Opening) (first : V) : Type 1 where
@@ -246,67 +301,90 @@ module _ {V S : Type 0} (k : Kind V) (disk : S → Disk) (store_of : V → S) (s
     pub holds : (m : Map nat_cmp) → IsMapOf opening.values.items m → HoldsMap k first m
     pub sound : (at : Standing) → (disk (store_of first)).tells → Settled (disk (store_of first)) → IsOpenedAt keys p at opening (disk (store_of first)) → k.sound first (opened_at p at)
 
-  module _ (keys : Keys) (p : Params) (opening : Opening) (script : List ScriptTxn) (first last : V) (before after : Flow) (epoch_is : epoch_of first ≡ opening.epoch) where
-    comes_next : (result : Result (Unit {0}) Fault) (at : Standing) (d : ServeDone k p (epoch_of first) script first last before after result) (next : Option (EpochRecord ℕ)) → at.epoch ≡ epoch_of first → IsNextOf d next → IsNext p (suc at.epoch + length d.records) d.rest next
-    comes_next result at d None same is = tt
-    comes_next result at d (Some r) same (u, the, last_call) = subst (ComesNext p (suc at.epoch + length d.records) d.rest) the (rw same (record {
-      front = u.front;
-      behind = u.behind;
-      rest_is = u.rest_is;
-      epoch_is = u.epoch_is;
-      served = u.served;
-      ends = u.ends;
-    }))
+  module _ {U : Type 0} (passes : ℕ → ℕ → ℕ → ℕ → Bool) (client bound : U → ℕ) (plan : U → List ScriptTxn) (fits : U → List (Call × Reply) → Type 0)
+      (means : (u : U) (said : List (Call × Reply)) → fits u said → MeantFirst (plan u) (told_of said) × (has_signed_off said ≡ true → was_refused said ≡ false → MeantAll (plan u) (told_of said)))
+      (keys : Keys) (p : Params) (opening : Opening) (script : Scripts) (sound : AreSound script) (may : MayOpen (record { params = p }) (suc opening.epoch) p.batches script.clients)
+      (new : DeskState) (first last : V) (runners left_runners : List U) (before after : Flow) (result : Result (Unit {0}) Fault)
+      (named : map client runners ≡ script.clients) (planned : All (λ u. plan u ≡ asks_by (client u) script.txns) runners) (epoch_is : epoch_of first ≡ opening.epoch)
+      (d : Conducted k passes client bound plan fits (new_desk (record { params = p }) (suc opening.epoch) p.batches script.clients) new first last runners left_runners before after result) (l : IsLender keys p opening first) where
+    abbrev records : List (EpochRecord ℕ)
+    records = records_of_acts d.acts
 
-    doubt_told : (result : Result (Unit {0}) Fault) (epoch n : ℕ) → epoch ≡ n → TellsDoubt epoch result → fault_of result ≡ Some (StoreFault (Some n))
-    doubt_told result epoch n same told = ap fault_of told ∙ ap (λ (m : ℕ). Some (StoreFault (Some m))) same
+    abbrev base : DeskState
+    base = new_desk (record { params = p }) (suc opening.epoch) p.batches script.clients
 
-    standing_in : {P Q : Standing → Type 0} (c : Image) → ((at : Standing) → P at → Q at) → (l : IsLender keys p opening first) → StandsIn (k.stands first) P c → StandsIn (StandsFlat keys p opening.sealer.generation) Q c
-    standing_in c to l (at, stands, is) = (at, l.stands c at stands, to at is)
+    comes_next : (epoch : ℕ) → epoch ≡ opening.epoch → (next : Option (EpochRecord ℕ)) → IsNextOf d next → IsNext (suc epoch + length records) opening.values.items script records next
+    comes_next epoch same None is = tt
+    comes_next epoch same (Some r) (fault, told, refused, the) = subst (ComesNext (suc epoch + length records) opening.values.items script records) the (record {
+      epoch_is = refused.due_epoch ∙ ap (λ e. suc e + length records) (sym same);
+      served = next_served k passes client bound plan fits means p opening.epoch p.batches script sound may new first last runners left_runners before after result named planned d fault refused;
+      in_order = refused.in_order;
+      one_by_one = λ m of. refused.one_more m (l.holds m of);
+    })
 
-    left : (result : Result (Unit {0}) Fault) (d : ServeDone k p (epoch_of first) script first last before after result) (l : IsLender keys p opening first) (at : Standing)
-        → (disk (store_of first)).tells → Settled (disk (store_of first)) → IsOpenedAt keys p at opening (disk (store_of first))
-        → IsLeft keys p opening.sealer.generation at d.records d.rest (fault_of result) (disk (store_of first)) (disk (store_of last))
-    left result d l at tells settled opened =
+    doubt_told : (epoch n : ℕ) → epoch ≡ n → TellsDoubt epoch result → fault_of result ≡ Some (StoreFault (Some n))
+    doubt_told epoch n same told = ap fault_of told ∙ ap (λ (m : ℕ). Some (StoreFault (Some m))) same
+
+    standing_in : {P Q : Standing → Type 0} (c : Image) → ((at : Standing) → P at → Q at) → StandsIn (k.stands first) P c → StandsIn (StandsFlat keys p opening.sealer.generation) Q c
+    standing_in c to (at, stands, is) = (at, l.stands c at stands, to at is)
+
+    left : (at : Standing) → (disk (store_of first)).tells → Settled (disk (store_of first)) → IsOpenedAt keys p at opening (disk (store_of first))
+        → IsLeft keys p opening at script records (fault_of result) (disk (store_of first)) (disk (store_of last))
+    left at tells settled opened =
         let v = opened_at p at in
-        let by = serve_leaves k l.only l.rests p (epoch_of first) script first last before after v (l.sound at tells settled opened) refl result d in
-        let same : at.epoch ≡ epoch_of first = sym opened.epoch ∙ sym epoch_is in
+        let same : at.epoch ≡ opening.epoch = sym opened.epoch in
+        let by = run_leaves k l.only l.rests passes client bound plan fits base new first last runners left_runners before after v (l.sound at tells settled opened) refl result d in
         record {
           next = by.next;
-          is_next = comes_next result at d by.next same by.is_next;
-          since = weakened (disk (store_of first)) (disk (store_of last)) (StandsIn (k.stands first) (IsLeftStanding v d.records by.next)) (StandsIn (StandsFlat keys p opening.sealer.generation) (IsLeftStanding v d.records by.next))
-              (λ c is. standing_in c (λ s x. x) l is) (l.since first last _ by.since);
+          is_next = comes_next at.epoch same by.next by.is_next;
+          since = weakened (disk (store_of first)) (disk (store_of last)) (StandsIn (k.stands first) (IsLeftStanding v records by.next)) (StandsIn (StandsFlat keys p opening.sealer.generation) (IsLeftStanding v records by.next))
+              (λ c is. standing_in c (λ s x. x) is) (l.since first last (StandsIn (k.stands first) (IsLeftStanding v records by.next)) by.since);
           now = λ c may. standing_in c
-              (λ s x. ⊎_elim (λ e. inl e) (λ (r, is, told, e). inr (r, is, doubt_told result (suc (epoch_of first) + length d.records) (suc at.epoch + length d.records) (ap (λ e. suc e + length d.records) (sym same)) told, e)) x) l (by.now c (l.now last c may));
+              (λ s x. ⊎_elim (λ e. inl e) (λ (r, is, told, e). inr (r, is, doubt_told (suc opening.epoch + length records) (suc at.epoch + length records) (ap (λ e. suc e + length records) (sym same)) told, e)) x) (by.now c (l.now last c may));
         }
+
+    whole : (r : Result (Unit {0}) Fault) → RunEnds k first last base new d.acts (report decimal records) before after r → r ≡ result → fault_of result ≡ None → ClientsServedAll script records
+    whole (Ok done) (answered, over, written) is none = all_served k passes client bound plan fits means p opening.epoch p.batches script sound may new first last runners left_runners before after result named planned d over
+    whole (Err fault) ends is none = absurd (no_fault fault (ap fault_of is ∙ none))
+      where
+        no_fault : (f : Fault) → ◌≡◌ {A = Option Fault} (Some f) None → ⊥
+        no_fault f e = cc e
 
     -- what serving does
-    pub serves : (result : Result (Unit {0}) Fault) → ServeDone k p (epoch_of first) script first last before after result → p_of first ≡ p → (sealing_of first).next ≡ 0 → known_of first ≡ opening.gates.epoch → IsLender keys p opening first
-        → Serves keys p opening script (disk (store_of first)) (disk (store_of last)) before after (fault_of result)
-    serves result d params fresh known l =
-        let e = ending p first last before after d.rest d.records params fresh _ d.steps result d.chain d.wrote d.printed l.faults d.ends in
+    pub serves : p_of first ≡ p → (sealing_of first).next ≡ 0 → known_of first ≡ opening.gates.epoch → Serves passes keys p opening script (disk (store_of first)) (disk (store_of last)) before after (fault_of result)
+    serves params fresh known =
+        let e = ending p first last before after records params fresh l.faults base new d.acts result d.chain d.wrote d.printed d.ends in
         record {
-          records = d.records;
-          rest = d.rest;
+          records = records;
           is_served = record {
-            front = d.front;
-            script_is = d.script_is;
-            served = rw (← epoch_is) d.served;
-            epochs_end = d.epochs_end;
-            in_order = d.in_order;
-            one_by_one = λ m of. (d.one_by_one m (l.holds m of)).0;
-            replay = λ m of. d.replay m (l.holds m of);
+            served = is_served k passes client bound plan fits means p opening.epoch p.batches script sound may new first last runners left_runners before after result named planned d;
+            all = whole result d.ends refl;
+            one_by_one = λ m of. d.one_by_one m (l.holds m of);
           };
-          cause = rw (← epoch_is) e.cause;
+          cause = subst (λ n. HasCause p.keys n (length records) (disk (store_of first)) (disk (store_of last)) before after (fault_of result)) epoch_is e.cause;
           reported = e.reported;
           more = e.more;
-          refused = rw (← epoch_is, ← known) e.refused;
-          seen = rw (← epoch_is, ← known) e.seen;
-          later = subst (λ n. n ≤ (disk (store_of last)).faults) (l.faults first) (subst (λ n. (k.disk first).faults ≤ n) (l.faults last) (goes_all k first d.steps last d.chain).faults);
-          left = λ at tells settled opened. left result d l at tells settled opened;
+          refused = subst (λ (o : Open). IsRefusedEnd p.keys o opening.epoch (length records) (fault_of result) e.more) known (subst (λ n. IsRefusedEnd p.keys (known_of first) n (length records) (fault_of result) e.more) epoch_is e.refused);
+          seen = subst (λ (o : Open). Notes (ends_events p.keys o opening.epoch (length records) ++ e.more) (disk (store_of first)).seen (disk (store_of last)).seen) known
+              (subst (λ n. Notes (ends_events p.keys (known_of first) n (length records) ++ e.more) (disk (store_of first)).seen (disk (store_of last)).seen) epoch_is e.seen);
+          later = subst (λ n. n ≤ (disk (store_of last)).faults) (l.faults first) (subst (λ n. (k.disk first).faults ≤ n) (l.faults last) (goes_all k first (calls d.acts) last d.chain).faults);
+          left = left;
         }
 
+  -- the same, from the epoch that the vault tells
+  pub serves_on : {U : Type 0} (passes : ℕ → ℕ → ℕ → ℕ → Bool) (client bound : U → ℕ) (plan : U → List ScriptTxn) (fits : U → List (Call × Reply) → Type 0)
+      (means : (u : U) (said : List (Call × Reply)) → fits u said → MeantFirst (plan u) (told_of said) × (has_signed_off said ≡ true → was_refused said ≡ false → MeantAll (plan u) (told_of said)))
+      (keys : Keys) (p : Params) (opening : Opening) (script : Scripts) (sound : AreSound script) (may : MayOpen (record { params = p }) (suc opening.epoch) p.batches script.clients)
+      (new : DeskState) (first last : V) (runners left_runners : List U) (before after : Flow) (result : Result (Unit {0}) Fault)
+      → map client runners ≡ script.clients → All (λ u. plan u ≡ asks_by (client u) script.txns) runners → epoch_of first ≡ opening.epoch
+      → Conducted k passes client bound plan fits (new_desk (record { params = p }) (suc (epoch_of first)) p.batches script.clients) new first last runners left_runners before after result
+      → IsLender keys p opening first → p_of first ≡ p → (sealing_of first).next ≡ 0 → known_of first ≡ opening.gates.epoch
+      → Serves passes keys p opening script (disk (store_of first)) (disk (store_of last)) before after (fault_of result)
+  serves_on passes client bound plan fits means keys p opening script sound may new first last runners left_runners before after result named planned epoch_is d l params fresh known =
+      serves passes client bound plan fits means keys p opening script sound may new first last runners left_runners before after result named planned epoch_is
+      (subst (λ e. Conducted k passes client bound plan fits (new_desk (record { params = p }) (suc e) p.batches script.clients) new first last runners left_runners before after result) epoch_is d) l params fresh known
+
 -- the same by other names
-pub renamed : {S : Type 0} (disk : S → Disk) (keys : Keys) (p : Params) (opening : Opening) (t script : List ScriptTxn) (a old b new : S) (before after : Flow) (fault : Option Fault)
-    → t ≡ script → a ≡ old → new ≡ b → Serves keys p opening t (disk a) (disk b) before after fault → Serves keys p opening script (disk old) (disk new) before after fault
-renamed disk keys p opening t script a old b new before after fault script_is old_is new_is s = rw (← script_is, ← old_is, new_is) s
+pub renamed : {S : Type 0} (disk : S → Disk) (passes : ℕ → ℕ → ℕ → ℕ → Bool) (keys : Keys) (p : Params) (opening : Opening) (script : Scripts) (a old b new : S) (before after : Flow) (fault : Option Fault)
+    → a ≡ old → new ≡ b → Serves passes keys p opening script (disk a) (disk b) before after fault → Serves passes keys p opening script (disk old) (disk new) before after fault
+renamed disk passes keys p opening script a old b new before after fault old_is new_is s = rw (← old_is, new_is) s

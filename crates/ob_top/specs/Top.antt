@@ -1,5 +1,5 @@
 -- What the top call promises, command by command.
-use Rattle.std.specs.Prelude.{ℕ, ◌≡◌, ◌⊎◌, true, false, List, Option, Some, None}
+use Rattle.std.specs.Prelude.{ℕ, ◌≡◌, ◌⊎◌, Bool, true, false, List, Option, Some, None}
 use Rattle.std.specs.Borrow.{MutBor}
 use Rattle.ob_base.specs.declared.params.Params.{Params}
 use Rattle.ob_base.specs.declared.fault.Field.{Field}
@@ -28,14 +28,14 @@ abbrev pub IsRefusedWithout : List (List ℕ) → Option (Bor (List ℕ)) → Fa
 IsRefusedWithout words text fault = IsRefusedBefore words text fault ⊎ (IsGoodForm words × ((keys : Keys) × HasKeys text keys) × (fault ≡ StoreFault None))
 
 -- What came of the words over a store, before the fault's line is written.
-abbrev pub CommandDoes : {S : Type 0} → (S → Disk) → List (List ℕ) → Option (Bor (List ℕ)) → S → S → Outside → Outside → Option Fault → Type 0
-CommandDoes disk words text old new before after fault =
+abbrev pub CommandDoes : {S : Type 0} → (S → Disk) → (ℕ → ℕ → ℕ → ℕ → Bool) → List (List ℕ) → Option (Bor (List ℕ)) → S → S → Outside → Outside → Option Fault → Type 0
+CommandDoes disk passes words text old new before after fault =
     ((f : Fault) × (fault ≡ Some f) × IsRefusedBefore words text f × (new ≡ old) × (after ≡ before))
     ⊎ ((keys : Keys) × HasKeys text keys × (((p : Params) × (is_format words ≡ true) × AreParams words p × FormatEnds keys p (disk old) (disk new) before.output after.output fault
     × ((disk old).tells → LeavesOnly (disk old) (disk new) (FormatLeaves keys p.keys (disk old))) × (after.input ≡ before.input))
-    ⊎ ((is_run words ≡ true) × RunOn keys (disk old) (disk new) before after fault)))
+    ⊎ ((is_run words ≡ true) × RunOn disk passes keys (disk old) (disk new) before after fault)))
 
-module _ {S : Type 0} (disk : S → Disk) (words : List (List ℕ)) (text : Option (Bor (List ℕ))) (entry : Option (MutBor S)) (exit : Left S) (before after : Outside) (status : ℕ) where
+module _ {S : Type 0} (disk : S → Disk) (passes : ℕ → ℕ → ℕ → ℕ → Bool) (words : List (List ℕ)) (text : Option (Bor (List ℕ))) (entry : Option (MutBor S)) (exit : Left S) (before after : Outside) (status : ℕ) where
   -- a store that was handed in is as it was
   abbrev pub StoreKept : Type 0
   StoreKept = OfStore entry exit (Unit {0}) (λ old new. new ≡ old)
@@ -59,4 +59,4 @@ module _ {S : Type 0} (disk : S → Disk) (words : List (List ℕ)) (text : Opti
   -- `run`: what is wrong with the keys is told, then that there is no store, before anything is touched.
   abbrev pub RunDoes : Type 0
   RunDoes = is_run words ≡ true → KeysDo
-      ⊎ ((keys : Keys) × HasKeys text keys × OfStore entry exit (IsOnlyTold (StoreFault None) before after status) (λ old new. RunDone keys (disk old) (disk new) before after status))
+      ⊎ ((keys : Keys) × HasKeys text keys × OfStore entry exit (IsOnlyTold (StoreFault None) before after status) (λ old new. RunDone disk passes keys (disk old) (disk new) before after status))

@@ -1,5 +1,5 @@
 -- The words that are a form of a command, and what they name.
-use Rattle.std.specs.Prelude.{ℕ, ◌≡◌, ◌≢◌, ◌⊎◌, ◌<◌, ◌^◌, Bool, true, false, ◌&&◌, not, ◌==◌, List, [], ◌∷◌, ◌++◌, length, drop, codes, Option, Some, None, Ok}
+use Rattle.std.specs.Prelude.{ℕ, ◌≡◌, ◌≢◌, ◌⊎◌, ◌<◌, ◌^◌, Bool, true, false, ◌&&◌, not, ◌==◌, List, [], ◌∷◌, ◌++◌, length, take, drop, codes, Option, Some, None, Ok}
 use Rattle.std.specs.List.{list_all}
 use Rattle.std.specs.Str.{bytes_eq}
 use Rattle.std.specs.Fmt.{decimal}
@@ -29,9 +29,15 @@ abbrev pub is_form : List ℕ → ℕ → List (List ℕ) → Bool
 is_form name operands [] = false
 is_form name operands (word ∷ words) = bytes_eq word name && (length words == operands && list_all is_operand words)
 
--- `run STORE KEYS`
+-- the options of `run`: `--turns`, once, or none
+abbrev pub are_run_options : List (List ℕ) → Bool
+are_run_options [] = true
+are_run_options (option ∷ []) = bytes_eq option (codes "--turns")
+are_run_options (option ∷ next ∷ options) = false
+
+-- `run STORE KEYS`, and then its options
 abbrev pub is_run : List (List ℕ) → Bool
-is_run words = is_form (codes "run") 2 words
+is_run words = is_form (codes "run") 2 (take 3 words) && are_run_options (drop 3 words)
 
 -- `format STORE KEYS N L Z S R BR BW E T`
 abbrev pub is_format : List (List ℕ) → Bool

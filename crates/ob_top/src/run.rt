@@ -1,4 +1,4 @@
-ghost use Rattle.std.specs.Prelude.{◌≡◌, ◌≤◌, ℕ, List, IfOk, IfErr, OnOk, None};
+ghost use Rattle.std.specs.Prelude.{◌≡◌, ◌≤◌, ℕ, List, IfOk, IfErr, OnOk, None, suc, false, map, All, []};
 ghost use Rattle.ob_base.specs.declared.params.Params.{Params};
 ghost use Rattle.ob_report.specs.Printed.{flow, Flow};
 ghost use Rattle.ob_store.specs.Calls.{GoesOn, Notes};
@@ -8,29 +8,41 @@ ghost use Rattle.ob_twin.specs.declared.gates.Open.{Open};
 ghost use Rattle.ob_serial.specs.Vaults.{Standing};
 ghost use Rattle.ob_flat.specs.Openings.{IsOpenedAt, IsFresh};
 ghost use Rattle.ob_flat.specs.Standing.{Stands, AllStand, StandsAsBefore};
-ghost use Rattle.ob_client.specs.Txns.{ScriptBelow};
+ghost use Rattle.ob_desk.specs.Desk.{DeskState, MayOpen, new_desk};
+ghost use Rattle.ob_script.specs.Script.{AreSound};
+ghost use Rattle.ob_runner.specs.Runners.{AreRunners};
+ghost use Rattle.ob_runner.specs.RunnerViews.{client_of, bound_of, plan_of, MayHaveMade};
+ghost use Rattle.ob_conduct.specs.Conducted.{Conducted};
+ghost use Rattle.ob_serial.specs.VaultKinds.{kind_of};
 ghost use Rattle.ob_top.specs.Runs.{CameIn, IsInputRefused, EndsEarly, IsOpened, Serves, RunOn, begin_events, fault_of};
 ghost use Rattle.ob_top.specs.Outside.{outside};
 
-use ob_base::{Fault, Params};
-use ob_client::serve;
+use ob_base::{Fault, Memory, Params};
+use ob_conduct::serve;
+use ob_desk::{Beat, Desk};
 use ob_flat::{FlatVault, Opening, head, prepare};
 use ob_io::{ReadErr, Sink, Source, read_all};
+use ob_runner::{ScriptRunner, runners};
 use ob_script::{LIMIT, Scripts, parse};
 use ob_seal::Keys;
+use ob_serial::Vault;
 use ob_store::{Blind, Store};
 use std::alloc::Global;
+use std::sync::Wait;
 
-// A run of which all is ready: the store's parameters, the script, and what opening found.
+// A run of which all is ready: the store's parameters, the script, what makes its clients' calls,
+// and what opening found.
 #[derive(Drop)]
 struct Begun {
     params: Params,
     scripts: Scripts,
+    runners: Vec<ScriptRunner>,
     opening: Opening,
 }
 
 // Reads the script that comes in.
 fn read_script<I: Source>(alloc: Global, input: &mut I, keys: u32) -> Result<Scripts, Fault>
+    ensures sound { IfOk result (λ scripts. AreSound scripts) }
     ensures came { IfOk result (λ scripts. CameIn keys (flow (I.left input.old) (I.faults input.old)) scripts) }
     ensures refused { IfErr result (λ fault. IsInputRefused keys (flow (I.left input.old) (I.faults input.old)) (flow (I.left input.new) (I.faults input.new)) fault) }
 {
@@ -54,6 +66,9 @@ fn begin<S: Store, I: Source>(
     ensures goes { GoesOn (S.disk store.old) (S.disk store.new) }
     ensures params { IfOk result (λ begun. begun.opening.params ≡ begun.params) }
     ensures sealer { IfOk result (λ begun. IsFresh keys.now begun.opening.sealer) }
+    ensures sound { IfOk result (λ begun. AreSound begun.scripts) }
+    ensures runners { IfOk result (λ begun. AreRunners begun.scripts begun.runners.items) }
+    ensures keys { IfOk result (λ begun. begun.scripts.keys ≡ begun.params.keys) }
     ensures durable { (S.disk store.old).tells → OnOk result ((S.disk store.new).tells × Settled (S.disk store.new)) }
     ensures opened { (at : Standing) → (S.disk store.old).tells → IfOk result (λ begun. Stands keys.now begun.params (S.disk store.old).cells at → IsOpenedAt keys.now begun.params at begun.opening (S.disk store.new)) }
     ensures left { (at : Standing) → (S.disk store.old).tells → IfOk result (λ begun. Stands keys.now begun.params (S.disk store.old).cells at → AllStand keys.now begun.params (S.disk store.old)
@@ -71,39 +86,117 @@ fn begin<S: Store, I: Source>(
         Ok(scripts) => scripts,
         Err(fault) => return Err(fault),
     };
+    let runners = match runners(alloc, &scripts) {
+        Ok(runners) => runners,
+        Err(Memory) => return Err(Fault::Memory),
+    };
     match prepare(alloc, store, keys, &params, &mut Blind) {
         Ok(opening) => Ok(Begun {
             params,
             scripts,
+            runners,
             opening,
         }),
         Err(fault) => Err(fault),
     }
 }
 
+// Runs these clients over a vault and a desk that none has called.
+fn serve_all<R: Wait, V: Vault, O: Sink, B: Beat>(
+    rt: &R,
+    alloc: Global,
+    params: &Params,
+    desk: &mut Desk,
+    runners: &mut Vec<ScriptRunner>,
+    vault: &mut V,
+    beat: &mut B,
+    output: &mut O,
+) -> Result<(), Fault>
+    requires params { V.params vault.old ≡ params.now }
+    requires serves { (V.counts vault.old).spent ≡ false }
+    requires fresh { desk.old ≡ new_desk (record { params = params.now }) (suc (V.counts vault.old).epoch) (V.counts vault.old).left (map client_of runners.old.items) }
+    requires opens { MayOpen (record { params = params.now }) (suc (V.counts vault.old).epoch) (V.counts vault.old).left (map client_of runners.old.items) }
+    requires below { All (λ u. bound_of u ≤ params.now.keys) runners.old.items }
+    requires none_made { All (λ u. MayHaveMade u []) runners.old.items }
+    ensures anchors { (V.disk vault.new).anchors ≡ (V.disk vault.old).anchors }
+    ensures done { Conducted (kind_of V.holds V.sound V.stands V.disk V.called) B.passes client_of bound_of plan_of MayHaveMade desk.old desk.new vault.old vault.new runners.old.items runners.new.items
+        (flow (O.written output.old) (O.faults output.old)) (flow (O.written output.new) (O.faults output.new)) result }
+{
+    serve(rt, alloc, params, desk, runners, vault, beat, output)
+}
+
+// Runs the script's clients over a vault, from a new desk on.
+fn conduct<R: Wait, V: Vault, O: Sink, B: Beat>(
+    rt: &R,
+    alloc: Global,
+    params: &Params,
+    scripts: &Scripts,
+    runners: &mut Vec<ScriptRunner>,
+    vault: &mut V,
+    output: &mut O,
+    beat: &mut B,
+) -> Result<(), Fault>
+    requires params { V.params vault.old ≡ params.now }
+    requires serves { (V.counts vault.old).spent ≡ false }
+    requires left { (V.counts vault.old).left ≡ params.now.batches }
+    requires sound { AreSound scripts.now }
+    requires keys { scripts.now.keys ≡ params.now.keys }
+    requires runners { AreRunners scripts.now runners.old.items }
+    ensures anchors { (V.disk vault.new).anchors ≡ (V.disk vault.old).anchors }
+    ensures done { (new : DeskState) × Conducted (kind_of V.holds V.sound V.stands V.disk V.called) B.passes client_of bound_of plan_of MayHaveMade
+        (new_desk (record { params = params.now }) (suc (V.counts vault.old).epoch) params.now.batches scripts.now.clients) new vault.old vault.new runners.old.items runners.new.items
+        (flow (O.written output.old) (O.faults output.old)) (flow (O.written output.new) (O.faults output.new)) result }
+{
+    let mut desk = match Desk::new(
+        alloc,
+        params,
+        vault.epoch() + 1,
+        vault.left(),
+        scripts.clients(),
+    ) {
+        Ok(desk) => desk,
+        Err(Memory) => return Err(Fault::Memory),
+    };
+    serve_all(rt, alloc, params, &mut desk, runners, vault, beat, output)
+}
+
 // Runs the script over the store that was opened.
-fn serve_on<S: Store, O: Sink>(
+fn serve_on<R: Wait, S: Store, O: Sink, B: Beat>(
+    rt: &R,
     alloc: Global,
     store: &mut S,
     keys: &Keys,
     begun: Begun,
     output: &mut O,
+    beat: &mut B,
 ) -> Result<(), Fault>
     requires none_out { (S.disk store.old).out ≡ 0 }
     requires params { begun.opening.params ≡ begun.params }
     requires sealer { IsFresh keys.now begun.opening.sealer }
     requires told { (S.disk store.old).tells → GatesAre begun.opening.gates.epoch 5 (S.disk store.old).cells }
-    requires below { ScriptBelow begun.params.keys begun.scripts }
-    ensures { Serves keys.now begun.params begun.opening begun.scripts (S.disk store.old) (S.disk store.new)
+    requires sound { AreSound begun.scripts }
+    requires runners { AreRunners begun.scripts begun.runners.items }
+    requires keys { begun.scripts.keys ≡ begun.params.keys }
+    ensures { Serves B.passes keys.now begun.params begun.opening begun.scripts (S.disk store.old) (S.disk store.new)
         (flow (O.written output.old) (O.faults output.old)) (flow (O.written output.new) (O.faults output.new)) (fault_of result) }
 {
     let Begun {
         params,
         scripts,
+        mut runners,
         opening,
     } = begun;
     let mut vault = FlatVault::over(store, opening);
-    let ended = serve(alloc, &mut vault, &params, scripts.txns(), output);
+    let ended = conduct(
+        rt,
+        alloc,
+        &params,
+        &scripts,
+        &mut runners,
+        &mut vault,
+        output,
+        beat,
+    );
     let _store = vault.into_store();
     ended
 }
@@ -112,15 +205,17 @@ fn serve_on<S: Store, O: Sink>(
 ///
 /// # Errors
 /// In this order: the head, the input, the opening; then what the run met.
-pub fn run_on<S: Store, I: Source, O: Sink>(
+pub fn run_on<R: Wait, S: Store, I: Source, O: Sink, B: Beat>(
+    rt: &R,
     alloc: Global,
     store: &mut S,
     keys: &Keys,
     input: &mut I,
     output: &mut O,
+    beat: &mut B,
 ) -> Result<(), Fault>
     requires none_out { (S.disk store.old).out ≡ 0 }
-    ensures { RunOn keys.now (S.disk store.old) (S.disk store.new)
+    ensures { RunOn S.disk B.passes keys.now (S.disk store.old) (S.disk store.new)
         (outside (flow (I.left input.old) (I.faults input.old)) (flow (O.written output.old) (O.faults output.old)))
         (outside (flow (I.left input.new) (I.faults input.new)) (flow (O.written output.new) (O.faults output.new)))
         (fault_of result) }
@@ -129,7 +224,7 @@ pub fn run_on<S: Store, I: Source, O: Sink>(
         Ok(begun) => begun,
         Err(fault) => return Err(fault),
     };
-    match serve_on(alloc, store, keys, begun, output) {
+    match serve_on(rt, alloc, store, keys, begun, output, beat) {
         Ok(()) => Ok(()),
         Err(fault) => Err(fault),
     }

@@ -4,12 +4,14 @@ ghost use Rattle.ob_top.specs.Outside.{NoneOut};
 
 use crate::obladi;
 use ob_base::Params;
+use ob_desk::{Beat, Eager, Hasty};
 use ob_flat::format;
 use ob_mem::{Fail, MemSink, MemSource, MemStore};
 use ob_seal::Keys;
 use ob_store::{Blind, Store};
 use std::alloc::Global;
 use std::process::Abort;
+use std::sync::Wait;
 use std::test::Fail as Broken;
 
 const FORMAT: [&str; 12] = [
@@ -30,7 +32,7 @@ const SECOND: &str = "epoch 2/txn 1 client 1 committed/get 5 = hi/";
 
 // Runs words on a store and a script, with a `/` for each line end, and compares the status and the
 // output.
-fn expect<R: AllocGlobal + Abort>(
+fn expect<R: AllocGlobal + Wait + Abort>(
     rt: &R,
     words: &[&str],
     keys: Option<&[u8]>,
@@ -41,19 +43,35 @@ fn expect<R: AllocGlobal + Abort>(
 ) -> Result<(), Broken>
     requires { NoneOut disk_of_store store }
 {
+    expect_by(rt, words, keys, store, script, &mut Eager, status, output)
+}
+
+// The same with this beat.
+fn expect_by<R: AllocGlobal + Wait + Abort, B: Beat>(
+    rt: &R,
+    words: &[&str],
+    keys: Option<&[u8]>,
+    store: Option<&mut MemStore>,
+    script: &str,
+    beat: &mut B,
+    status: u8,
+    output: &str,
+) -> Result<(), Broken>
+    requires { NoneOut disk_of_store store }
+{
     let alloc = rt.alloc();
     let lines = script.replace(alloc, "/", "\n")?;
     let wanted = output.replace(alloc, "/", "\n")?;
     let mut input = MemSource::new(lines.as_bytes().to_vec(alloc)?, Vec::new(alloc));
     let mut sink = MemSink::new(alloc, 1000, Vec::new(alloc))?;
-    let told = obladi(rt, words, keys, store, &mut input, &mut sink);
+    let told = obladi(rt, words, keys, store, &mut input, &mut sink, beat);
     assert_eq!(rt; told, status, "{script}");
     assert!(rt; sink.written() == wanted.as_bytes(), "{script}");
     Ok(())
 }
 
 // A store of 25 cells that was formatted with words.
-fn formatted<R: AllocGlobal + Abort>(rt: &R, fails: Vec<Fail>) -> Result<MemStore, Broken> {
+fn formatted<R: AllocGlobal + Wait + Abort>(rt: &R, fails: Vec<Fail>) -> Result<MemStore, Broken> {
     let alloc = rt.alloc();
     let mut store = MemStore::new(alloc, 25, fails)?;
     expect(
@@ -69,7 +87,7 @@ fn formatted<R: AllocGlobal + Abort>(rt: &R, fails: Vec<Fail>) -> Result<MemStor
 }
 
 // Runs a script on what a store holds now, and gives what it holds then.
-fn run_on<R: AllocGlobal + Abort>(
+fn run_on<R: AllocGlobal + Wait + Abort>(
     rt: &R,
     store: &MemStore,
     script: &str,
@@ -121,6 +139,8 @@ fn refusals_come_in_their_order(rt: HostRuntime) -> Result<(), Broken> {
     bad_t[11] = "08";
     expect(&rt, &["run"], None, None, "", 2, "fault: usage/")?;
     expect(&rt, &["run", "S", "-k"], keys, None, "", 2, "fault: usage/")?;
+    let twice = ["run", "S", "K", "--turns", "--turns"];
+    expect(&rt, &twice, keys, None, "", 2, "fault: usage/")?;
     expect(&rt, &FORMAT[..11], keys, None, "", 2, "fault: usage/")?;
     expect(&rt, &bad_n, None, None, "", 2, "fault: parameter N/")?;
     expect(&rt, &bad_t, None, None, "", 2, "fault: parameter T/")?;
@@ -165,7 +185,7 @@ fn damage_is_told(rt: HostRuntime) -> Result<(), Broken> {
 }
 
 // The run of two epochs on a formatted store, where one call of the run fails.
-fn failing<R: AllocGlobal + Abort>(rt: &R, fail: Fail, output: &str) -> Result<(), Broken> {
+fn failing<R: AllocGlobal + Wait + Abort>(rt: &R, fail: Fail, output: &str) -> Result<(), Broken> {
     let alloc = rt.alloc();
     let mut fails = Vec::new(alloc);
     fails.push(fail)?;
@@ -259,7 +279,7 @@ fn epochs_at(moment: usize, open: bool) -> u64
 }
 
 // Crashes a run at each moment, with these bytes in each cell that isn't sure, and runs again.
-fn crash_everywhere<R: AllocGlobal + Abort>(
+fn crash_everywhere<R: AllocGlobal + Wait + Abort>(
     rt: &R,
     ran: &MemStore,
     cells: &[(u64, [u8; 128])],
@@ -294,5 +314,162 @@ fn a_crash_at_each_moment_leaves_a_front_of_the_epochs(rt: HostRuntime) -> Resul
     crash_everywhere(&rt, &ran, &[], true)?;
     crash_everywhere(&rt, &ran, &zeros, false)?;
     crash_everywhere(&rt, &ran, &opens, true)?;
+    Ok(())
+}
+
+// The same with several clients, in the form that says so.
+#[test]
+fn clients_share_an_epoch(rt: HostRuntime) -> Result<(), Broken> {
+    let made = formatted(&rt, Vec::new(rt.alloc()))?;
+    let mut store = made.crash(1000, &[])?;
+    let turns = ["run", "S", "K", "--turns"];
+    let script = "client 1/begin/get 7/put 5 a/commit/client 2/begin/get 5/commit";
+    let report =
+        "epoch 1/txn 1 client 1 aborted conflict key 5 reader 2/get 7 absent/txn 2 client 2 committed/get 5 absent/";
+    let keys = Some(KEYS.as_bytes());
+    expect(&rt, &turns, keys, Some(&mut store), script, 0, report)?;
+    let mut left = store.crash(1000, &[])?;
+    let more =
+        "client 3/begin/put 5 x/abort/begin/del 5/put 1 7/commit/client 64/begin/get 5/commit/begin/add 1 -9/commit";
+    let next =
+        "epoch 2/txn 1 client 3 aborted asked/put 5 x/txn 2 client 64 aborted depends on 1/get 5 = x/txn 3 client 3 committed/del 5/put 1 7/txn 4 client 64 committed/get 1 = 7/put 1 -2/";
+    expect(&rt, &turns, keys, Some(&mut left), more, 0, next)
+}
+
+#[test]
+fn a_hasty_beat_ends_epochs_early(rt: HostRuntime) -> Result<(), Broken> {
+    let made = formatted(&rt, Vec::new(rt.alloc()))?;
+    let mut store = made.crash(1000, &[])?;
+    expect_by(
+        &rt,
+        &RUN,
+        Some(KEYS.as_bytes()),
+        Some(&mut store),
+        "client 1/begin/commit",
+        &mut Hasty,
+        0,
+        "epoch 1/txn 1 client 1 aborted epoch end/",
+    )
+}
+
+#[test]
+fn an_add_is_a_get_and_a_put(rt: HostRuntime) -> Result<(), Broken> {
+    let made = formatted(&rt, Vec::new(rt.alloc()))?;
+    let words = "client 1/begin/put 5 hi/add 5 1/commit";
+    let asked = "epoch 1/txn 1 client 1 aborted asked/put 5 hi/get 5 = hi/";
+    let _ = run_on(&rt, &made, words, 0, asked)?;
+    let absent = "client 1/begin/add 5 3/commit";
+    let three = "epoch 1/txn 1 client 1 committed/get 5 absent/put 5 3/";
+    let kept = run_on(&rt, &made, absent, 0, three)?;
+    let full = "client 1/begin/add 5 9223372036854775807/commit";
+    let past = "epoch 2/txn 1 client 1 aborted asked/get 5 = 3/";
+    let _ = run_on(&rt, &kept, full, 0, past)?;
+    Ok(())
+}
+
+#[test]
+fn a_bad_line_is_named(rt: HostRuntime) -> Result<(), Broken> {
+    let made = formatted(&rt, Vec::new(rt.alloc()))?;
+    let scripts = [
+        ("client 65", "fault: script line 1/"),
+        ("client 2/client 1", "fault: script line 2/"),
+        ("client 1/begin/get 08/commit", "fault: script line 3/"),
+        ("client 1/begin/put 8 a/commit", "fault: script line 3/"),
+        ("client 1/begin/add 0 -0/commit", "fault: script line 3/"),
+        ("client 1/commit", "fault: script line 2/"),
+        ("client 1/begin/client 2", "fault: script line 3/"),
+        ("client 1/begin/del 1", "fault: script line 4/"),
+    ];
+    for (script, line) in scripts {
+        let _ = run_on(&rt, &made, script, 2, line)?;
+    }
+    Ok(())
+}
+
+// What the committed transactions of a report leave, line by line.
+#[derive(Drop)]
+struct Replay<'a> {
+    values: Vec<Option<&'a str>>,
+    // Whether the lines are those of a committed transaction.
+    counts: bool,
+    txns: u64,
+}
+
+// Takes an operation's line of a committed transaction: a get finds what the earlier ones left.
+fn take_op<'a, R: Abort>(rt: &R, replay: &mut Replay<'a>, name: &str, rest: &'a str) {
+    let (key, value) = rest.split_once(' ').expect(rt, "a key");
+    let at = key.parse::<usize>().ok().expect(rt, "a number");
+    assert!(rt; at < replay.values.len(), "{rest}");
+    if name == "put" {
+        replay.values[at] = Some(value);
+    } else {
+        let found = value.strip_prefix("= ");
+        assert!(rt; replay.values[at] == found, "{rest}");
+    }
+}
+
+fn take_line<'a, R: Abort>(rt: &R, replay: &mut Replay<'a>, line: &'a str) {
+    let (name, rest) = line.split_once(' ').expect(rt, "a word");
+    if name == "txn" {
+        replay.counts = rest.ends_with(" committed");
+        replay.txns = replay.txns.saturating_add(1);
+    } else if name != "epoch" && replay.counts {
+        take_op(rt, replay, name, rest);
+    }
+}
+
+// Replays a report's committed transactions one by one: how many transactions it tells.
+fn replayed<R: AllocGlobal + Abort>(rt: &R, report: &str) -> Result<u64, Broken> {
+    let mut values = Vec::new(rt.alloc());
+    for _ in 0..16 {
+        values.push(None)?;
+    }
+    let mut replay = Replay {
+        values,
+        counts: false,
+        txns: 0,
+    };
+    for line in report.lines() {
+        take_line(rt, &mut replay, line);
+    }
+    Ok(replay.txns)
+}
+
+// A script of 64 clients, each with 50 transactions over 16 keys.
+fn many_clients<R: AllocGlobal>(rt: &R) -> Result<String, Broken> {
+    let alloc = rt.alloc();
+    let mut script = String::new(alloc);
+    for client in 1..65_u64 {
+        script.push_str(format!(in alloc; "client {client}\n")?.as_str())?;
+        for txn in 0..50_u64 {
+            let read = (client * 7 + txn * 3) % 16;
+            let written = (client * 5 + txn) % 16;
+            let text = format!(in alloc;
+                "begin\nget {read}\nput {written} {client}x{txn}\ncommit\n"
+            )?;
+            script.push_str(text.as_str())?;
+        }
+    }
+    Ok(script)
+}
+
+#[test]
+fn many_clients_are_served_one_by_one(rt: HostRuntime) -> Result<(), Broken> {
+    let alloc = rt.alloc();
+    let words = [
+        "format", "S", "K", "16", "2", "4", "3", "4", "4", "16", "2", "16",
+    ];
+    let keys = Some(KEYS.as_bytes());
+    let mut made = MemStore::new(alloc, 41, Vec::new(alloc))?;
+    expect(&rt, &words, keys, Some(&mut made), "", 0, "store of 41 cells/")?;
+    let mut store = made.crash(1000, &[])?;
+    let script = many_clients(&rt)?;
+    let mut input = MemSource::new(script.as_bytes().to_vec(alloc)?, Vec::new(alloc));
+    let mut sink = MemSink::new(alloc, 1_000_000, Vec::new(alloc))?;
+    let lent = Some(&mut store);
+    let status = obladi(&rt, &RUN, keys, lent, &mut input, &mut sink, &mut Eager);
+    assert_eq!(&rt; status, 0);
+    let report = str::from_utf8(sink.written()).ok().expect(&rt, "a text");
+    assert_eq!(&rt; replayed(&rt, report)?, 3200);
     Ok(())
 }

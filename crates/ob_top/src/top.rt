@@ -13,10 +13,12 @@ use crate::format::format_on;
 use crate::run::run_on;
 use crate::words::{Command, command_of, keys_of};
 use ob_base::Fault;
+use ob_desk::Beat;
 use ob_io::{Sink, Source};
 use ob_report::{fault_status, fault_text};
 use ob_store::Store;
 use std::alloc::Global;
+use std::sync::Wait;
 
 /// Writes the line of a fault behind what stands in the output, if there is one, and answers its
 /// status. Where the output itself has failed nothing more is written.
@@ -34,16 +36,18 @@ pub fn finish<O: Sink>(output: &mut O, ended: Result<(), Fault>) -> u8
 }
 
 // Does what the words ask for over a store.
-fn do_on<S: Store, I: Source, O: Sink>(
+fn do_on<R: Wait, S: Store, I: Source, O: Sink, B: Beat>(
+    rt: &R,
     alloc: Global,
     words: &[&str],
     keys: Option<&[u8]>,
     store: &mut S,
     input: &mut I,
     output: &mut O,
+    beat: &mut B,
 ) -> Result<(), Fault>
     requires none_out { (S.disk store.old).out ≡ 0 }
-    ensures { CommandDoes S.disk (map (λ w. w.now) words.entry.now) keys.entry store.old store.new
+    ensures { CommandDoes S.disk B.passes (map (λ w. w.now) words.entry.now) keys.entry store.old store.new
         (outside (flow (I.left input.old) (I.faults input.old)) (flow (O.written output.old) (O.faults output.old)))
         (outside (flow (I.left input.new) (I.faults input.new)) (flow (O.written output.new) (O.faults output.new))) (fault_of result) }
 {
@@ -57,7 +61,7 @@ fn do_on<S: Store, I: Source, O: Sink>(
     };
     match command {
         Command::Format { params } => format_on(store, &keys, &params, output),
-        Command::Run => run_on(alloc, store, &keys, input, output),
+        Command::Run => run_on(rt, alloc, store, &keys, input, output, beat),
     }
 }
 
@@ -79,42 +83,45 @@ fn refusal_of(words: &[&str], keys: Option<&[u8]>) -> Fault
 /// Does what the words ask for, and answers the status of the process.
 ///
 /// `format STORE KEYS N L Z S R BR BW E T` makes an empty store and prints how many cells it has.
-/// `run STORE KEYS` reads a script of one client, runs its transactions over the store and reports
-/// them, each epoch once it is durable. `store` is the store that the words name, or none where it
-/// wasn't opened; `keys` is the text of the key file that they name, or none where it wasn't read.
+/// `run STORE KEYS [--turns]` reads a script, runs its clients' transactions over the store, and
+/// reports them, each epoch once it is durable. The clients' calls are made by hand, in rounds,
+/// with `--turns` or without. `store` is the store that the words name, or none where it wasn't
+/// opened; `keys` is the text of the key file that they name, or none where it wasn't read; `beat`
+/// says at which looks the driver of epochs acts.
 ///
 /// The status is 0 where all was done and written, and else that of the fault whose line stands
 /// behind the report: 2 for words that are no command, for a number out of its range, for keys that
-/// are none and for a script that breaks the grammar; 3 for what is no store; 4 for damage; 5 where the store failed
-/// or none was handed in; 7 where the key file, the input or the output failed; 8 where a number is worn out;
-/// 9 for want of memory.
-pub fn obladi<R: AllocGlobal, S: Store, I: Source, O: Sink>(
+/// are none and for a script that breaks the grammar; 3 for what is no store; 4 for damage; 5 where
+/// the store failed or none was handed in; 7 where the key file, the input or the output failed; 8
+/// where a number is worn out; 9 for want of memory.
+pub fn obladi<R: AllocGlobal + Wait, S: Store, I: Source, O: Sink, B: Beat>(
     rt: &R,
     words: &[&str],
     keys: Option<&[u8]>,
     store: Option<&mut S>,
     input: &mut I,
     output: &mut O,
+    beat: &mut B,
 ) -> u8
     requires none_out { NoneOut S.disk store }
     // Words that are no form leave everything but the output untouched.
-    ensures usage { UsageDoes S.disk (map (λ w. w.now) words.entry.now) keys.entry store.entry store.exit
+    ensures usage { UsageDoes S.disk B.passes (map (λ w. w.now) words.entry.now) keys.entry store.entry store.exit
         (outside (flow (I.left input.old) (I.faults input.old)) (flow (O.written output.old) (O.faults output.old)))
         (outside (flow (I.left input.new) (I.faults input.new)) (flow (O.written output.new) (O.faults output.new))) result }
-    ensures format { FormatDoes S.disk (map (λ w. w.now) words.entry.now) keys.entry store.entry store.exit
+    ensures format { FormatDoes S.disk B.passes (map (λ w. w.now) words.entry.now) keys.entry store.entry store.exit
         (outside (flow (I.left input.old) (I.faults input.old)) (flow (O.written output.old) (O.faults output.old)))
         (outside (flow (I.left input.new) (I.faults input.new)) (flow (O.written output.new) (O.faults output.new))) result }
-    ensures run { RunDoes S.disk (map (λ w. w.now) words.entry.now) keys.entry store.entry store.exit
+    ensures run { RunDoes S.disk B.passes (map (λ w. w.now) words.entry.now) keys.entry store.entry store.exit
         (outside (flow (I.left input.old) (I.faults input.old)) (flow (O.written output.old) (O.faults output.old)))
         (outside (flow (I.left input.new) (I.faults input.new)) (flow (O.written output.new) (O.faults output.new))) result }
     // What is asked for is done, where nothing stands against it.
-    ensures complete { Completes S.disk (map (λ w. w.now) words.entry.now) keys.entry
+    ensures complete { Completes S.disk B.passes (map (λ w. w.now) words.entry.now) keys.entry
         (outside (flow (I.left input.old) (I.faults input.old)) (flow (O.written output.old) (O.faults output.old)))
         (outside (flow (I.left input.new) (I.faults input.new)) (flow (O.written output.new) (O.faults output.new))) result store.entry store.exit }
 {
     match store {
         Some(store) => {
-            let ended = do_on(rt.alloc(), words, keys, store, input, output);
+            let ended = do_on(rt, rt.alloc(), words, keys, store, input, output, beat);
             finish(output, ended)
         }
         None => finish(output, Err(refusal_of(words, keys))),

@@ -1,6 +1,6 @@
 ghost use Rattle.std.specs.Prelude.{◌≡◌, map, length, MatchResult, IfOk, IfErr, true};
 ghost use Rattle.std.specs.List.{list_all};
-ghost use Rattle.ob_top.specs.Words.{is_operand, is_form, Denotes, AreParams, IsBadNumber, Asks, IsRefusedFor, IsWanted, HasKeys, IsKeysRefused};
+ghost use Rattle.ob_top.specs.Words.{is_operand, is_form, are_run_options, is_run, Denotes, AreParams, IsBadNumber, Asks, IsRefusedFor, IsWanted, HasKeys, IsKeysRefused};
 
 use ob_base::{Fault, Field, Params};
 use ob_script::number_of;
@@ -56,6 +56,27 @@ fn is_form(words: &[&str], name: &str, operands: usize) -> bool
     }
 }
 
+// Whether these are the options of `run`.
+fn are_run_options(options: &[&str]) -> bool
+    ensures { result ≡ are_run_options (map (λ w. w.now) options.entry.now) }
+{
+    match options {
+        [] => true,
+        [option] => *option == "--turns",
+        _ => false,
+    }
+}
+
+// Whether the words are `run` with its operands and options.
+fn is_run(words: &[&str]) -> bool
+    ensures { result ≡ is_run (map (λ w. w.now) words.entry.now) }
+{
+    if words.len() < 3 {
+        return false;
+    }
+    is_form(&words[..3], "run", 2) && are_run_options(&words[3..])
+}
+
 // The number of a word; 0, which is in no range, where it is none.
 fn number_in(word: &str) -> u32
     ensures { Denotes word.now result }
@@ -96,7 +117,7 @@ pub fn command_of(words: &[&str]) -> Result<Command, Fault>
     ensures command { IfOk result (λ command. Asks (map (λ w. w.now) words.entry.now) command) }
     ensures refused { IfErr result (λ fault. IsRefusedFor (map (λ w. w.now) words.entry.now) fault) }
 {
-    if is_form(words, "run", 2) {
+    if is_run(words) {
         return Ok(Command::Run);
     }
     if !is_form(words, "format", 11) {

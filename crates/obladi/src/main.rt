@@ -2,6 +2,7 @@
 #![tactic(auto)]
 
 use ob_base::{Fault, Memory};
+use ob_desk::Eager;
 use ob_file::{FileStore, OpenErr};
 use ob_io::{ReadErr, Sink, StdSink, StdSource, read_all};
 use ob_top::{StoreWanted, finish, obladi, store_wanted};
@@ -84,6 +85,7 @@ fn run<O: Sink>(rt: &HostRuntime, output: &mut O) -> Result<u8, Fault> {
         store.as_mut(),
         &mut input,
         output,
+        &mut Eager,
     ))
 }
 

@@ -4,6 +4,7 @@ use Rattle.std.proofs.lemmas.List.{append-nil}
 use Rattle.ob_script.specs.Script.{Text, start, lines_from, is_within}
 use Rattle.ob_script.specs.ScriptViews.{state_of}
 use Rattle.ob_script.proofs.MoreLines.{reads_more, none_mapped}
+use Rattle.ob_script.proofs.Sound.{read_sound}
 use Rattle.ob_script.proofs.parsing.parse.Goals as goal
 
 pub loop-text-init : goal.loop-text-init
@@ -27,6 +28,10 @@ loop-text-preserved c =
       room = omega (arith, h.room, some.1);
     }
 
+-- all lines are before the end
+pub new-requires : goal.new-requires
+new-requires c = read_sound c.args.keys (state_of c.loop-text.reader) c.loop-text.invariant.before c.loop-text.invariant.good
+
 pub returns-clause-script : goal.returns-clause-script
 returns-clause-script c =
     let h = c.loop-text.invariant in
@@ -36,5 +41,5 @@ returns-clause-script c =
       last = state_of c.loop-text.reader;
       reads = rw (h.lines_are ∙ ap (λ (t : List Text). h.before ++ t) none ∙ append-nil h.before) h.good;
       whole = none_mapped _ c.loop-text.reader.open_asks c.if-is_some.ensures;
-      txns_are = sym c.new.ensures;
+      scripts_are = c.new.ensures;
     }

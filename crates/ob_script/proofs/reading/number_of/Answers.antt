@@ -1,4 +1,4 @@
-use Rattle.std.proofs.Common.{◌≡◌, Option, Some, None, sym, ap, subst, ◌∙◌, List, ℕ}
+use Rattle.std.proofs.Common.{◌≡◌, Option, Some, None, sym, ap, ◌∙◌, List, ℕ}
 use Rattle.std.specs.Prelude.{IfSome}
 use Rattle.std.specs.Fmt.{decimal}
 use Rattle.ob_script.specs.Reading.{number_at}

@@ -12,6 +12,16 @@ returns-in-Err-read_script-clause-refused g c = inr (inl (record {
   seen = c.in-Ok.ensures.seen;
 }))
 
+pub returns-in-Err-runners-clause-refused : goal.returns-in-Err-runners-clause-refused
+returns-in-Err-runners-clause-refused g c = inr (inl (record {
+  p = c.in-Ok.params;
+  head = c.in-Ok.ensures.value;
+  refused = tt;
+  keeps = c.in-Ok.ensures.keeps;
+  passes = c.in-Ok.ensures.passes;
+  seen = c.in-Ok.ensures.seen;
+}))
+
 pub returns-in-Ok-prepare-clause-begun : goal.returns-in-Ok-prepare-clause-begun
 returns-in-Ok-prepare-clause-begun g c =
     let head = c.in-Ok.ensures in

@@ -1,0 +1,14 @@
+pub mod Awaited
+pub mod Closed
+pub mod Desks
+pub mod Due
+pub mod Grows
+pub mod Held
+pub mod Reached
+pub mod Told
+pub mod Records
+pub mod Noted
+pub mod Numbered
+pub mod Callers
+pub mod Unended
+pub mod Alone

@@ -1,0 +1,288 @@
+-- What a crash leaves at any moment of a run.
+use Rattle.std.proofs.Common.{◌≡◌, ◌∙◌, ◌+◌, ◌++◌, ◌∷◌, [], ℕ, suc, Bool, List, Option, Some, None, sym, refl, ap, subst, arith, inl, inr, length, Ok, Err, Result, nat_cmp, decimal}
+use Rattle.std.proofs.lemmas.List.{append-nil, append_assoc, length-append}
+use Rattle.ob_base.specs.declared.fault.Fault.{Fault}
+use Rattle.ob_report.specs.Printed.{Flow}
+use Rattle.ob_report.specs.Report.{report}
+use Rattle.ob_serial.specs.Serial.{EpochRecord, Map, Txn, after, committed_of}
+use Rattle.ob_serial.specs.Vaults.{VaultCall, Fetch, End, VaultAnswer, Values, Ended, RefusedBy, DoubtBy, VaultState, Standing, MayStand, MayStandIn, StandsIn, StandAlike, standing_now, standing_next, with_writes, vault_next}
+use Rattle.ob_serial.specs.VaultViews.{end_answer, IsEndFault}
+use Rattle.ob_serial.specs.VaultKinds.{Kind, Called, AllCalled, after_calls, ended_of, ended_by}
+use Rattle.ob_serial.specs.declared.vault.EndErr.{EndErr}
+use Rattle.ob_serial.specs.declared.vault.EndErr.TheVariants.{Before, Unsure}
+use Rattle.ob_store.specs.Disk.{Image}
+use Rattle.ob_store.specs.Images.{LeavesOnly}
+use Rattle.ob_store.proofs.Moments.{started, then_on, weakened}
+use Rattle.ob_desk.specs.Desk.{DeskState, Call, Reply}
+use Rattle.ob_desk.proofs.Runs.{committed_append}
+use Rattle.ob_conduct.specs.Acts.{Act, FetchFails, EndFails, Batch, calls, records, rest_fetches, vault_calls}
+use Rattle.ob_conduct.specs.Conducted.{after_txns, contents, Makes, AreWritten, AreAnswered, IsFetchRefused, IsEndRefused, RunEnds, Conducted, fault_in}
+use Rattle.ob_conduct.specs.Left.{Rests, OnlyNow, standing_behind, IsFront, IsLeftStanding, TellsDoubt, IsLeftNow, LeftByRun}
+use Rattle.ob_conduct.proofs.Acting.{answered_rest}
+use Rattle.ob_conduct.proofs.Going.{calls_more, ended_append, answered_join}
+
+-- ---- maps behind records
+
+txns_append : (m : Map nat_cmp) (ts us : List (Txn ℕ)) → after_txns m (ts ++ us) ≡ after_txns (after_txns m ts) us
+txns_append m [] us = refl
+txns_append m (t ∷ ts) us = txns_append (after nat_cmp m t.ops) ts us
+
+pub contents_append : (m : Map nat_cmp) (rs qs : List (EpochRecord ℕ)) → contents m (rs ++ qs) ≡ contents (contents m rs) qs
+contents_append m rs qs = ap (after_txns m) (committed_append rs qs) ∙ txns_append m (committed_of rs) (committed_of qs)
+
+-- ---- standings
+
+abbrev standing : ℕ → Map nat_cmp → Standing
+standing epoch content = record { epoch = epoch; content = content }
+
+same_standing : (e f : ℕ) (m n : Map nat_cmp) → e ≡ f → m ≡ n → standing e m ≡ standing f n
+same_standing e f m n epochs maps = ap (λ x. standing x m) epochs ∙ ap (standing f) maps
+
+no_doubt : (at : Standing) → None ≡ Some at → ⊥
+no_doubt at is = cc is
+
+one_doubt : (at next : Standing) → Some next ≡ Some at → at ≡ next
+one_doubt at next is = cc is
+
+-- what stands for something allowed stands for something that this allows
+stands_still : (stands : Image → Standing → Type 0) (A B : Standing → Type 0) → ((at : Standing) → A at → B at) → (c : Image) → StandsIn stands A c → StandsIn stands B c
+stands_still stands A B so c (at, is, allowed) = (at, is, so at allowed)
+
+stands_alike : (old new : Image → Standing → Type 0) → StandAlike old new → (A B : Standing → Type 0) → ((at : Standing) → A at → B at) → (c : Image) → StandsIn new A c → StandsIn old B c
+stands_alike old new alike A B so c (at, is, allowed) = (at, (alike c at).1 is, so at allowed)
+
+-- a vault without doubt: what it holds is behind none of the records,
+now_front : (v : VaultState) (told : List (EpochRecord ℕ)) → v.doubt ≡ None → (at : Standing) → MayStand v at → IsFront v told at
+now_front v told none at (inl is) = ([], told, refl, is ∙ same_standing v.epoch (v.epoch + length {A = EpochRecord ℕ} []) v.content v.content (omega arith) refl)
+now_front v told none at (inr is) = absurd (no_doubt at (sym none ∙ is))
+
+-- and within an end, behind none or the first one of them
+end_front : (v : VaultState) (writes : List (ℕ × Option (List ℕ))) (r : EpochRecord ℕ) (told : List (EpochRecord ℕ)) → Makes writes r → v.doubt ≡ None → (at : Standing) → MayStandIn v (End writes) at → IsFront v (r ∷ told) at
+end_front v writes r told makes none at (inl may) = now_front v (r ∷ told) none at may
+end_front v writes r told makes none at (inr is) =
+    (r ∷ [], told, refl, is ∙ same_standing (suc v.epoch) (v.epoch + length (r ∷ [])) (with_writes v.content writes) (contents v.content (r ∷ [])) (omega arith) (makes v.content))
+
+-- one epoch before the others
+front_more : (v : VaultState) (writes : List (ℕ × Option (List ℕ))) (r : EpochRecord ℕ) (told : List (EpochRecord ℕ)) → Makes writes r → (at : Standing) → IsFront (vault_next v (End writes) Ended) told at → IsFront v (r ∷ told) at
+front_more v writes r told makes at (front, behind, is, at_is) = (
+  r ∷ front,
+  behind,
+  ap (λ x. r ∷ x) is,
+  at_is ∙ same_standing (suc v.epoch + length front) (v.epoch + length (r ∷ front)) (contents (with_writes v.content writes) front) (contents v.content (r ∷ front)) (omega arith)
+      (ap (λ (m : Map nat_cmp). contents m front) (makes v.content) ∙ sym (contents_append v.content (r ∷ []) front)),
+)
+
+-- What it holds is behind the records, and nothing is in doubt.
+record IsBehind (v : VaultState) (told : List (EpochRecord ℕ)) (u : VaultState) : Type 0 where
+  pub content : u.content ≡ contents v.content told
+  pub epoch : u.epoch ≡ v.epoch + length told
+  pub none : u.doubt ≡ None
+
+behind_now : (v u : VaultState) (told : List (EpochRecord ℕ)) → IsBehind v told u → standing_now u ≡ standing_behind v told
+behind_now v u told b = same_standing u.epoch (v.epoch + length told) u.content (contents v.content told) b.epoch b.content
+
+behind_next : (v u : VaultState) (told : List (EpochRecord ℕ)) (r : EpochRecord ℕ) (writes : List (ℕ × Option (List ℕ))) → Makes writes r → IsBehind v told u → standing_next u writes ≡ standing_behind v (told ++ r ∷ [])
+behind_next v u told r writes makes b =
+    let epoch : u.epoch ≡ v.epoch + length told = b.epoch in
+    let longer : length (told ++ r ∷ []) ≡ length told + length (r ∷ []) = length-append told (r ∷ []) in
+    same_standing (suc u.epoch) (v.epoch + length (told ++ r ∷ [])) (with_writes u.content writes) (contents v.content (told ++ r ∷ [])) (omega (arith, epoch, longer))
+    (makes u.content ∙ ap (λ (m : Map nat_cmp). contents m (r ∷ [])) b.content ∙ sym (contents_append v.content told (r ∷ [])))
+
+-- so it is once all were ended
+is_behind : (v : VaultState) (steps : List (VaultCall × VaultAnswer)) (told : List (EpochRecord ℕ)) → AreAnswered steps → AreWritten (ended_of steps) told → v.doubt ≡ None → IsBehind v told (after_calls v steps)
+is_behind v [] [] are wrote none = record { content = refl; epoch = omega arith; none = none }
+is_behind v [] (r ∷ told) are wrote none = absurd wrote
+is_behind v ((Fetch keys, Values values) ∷ steps) told are wrote none = let b = is_behind (vault_next v (Fetch keys) (Values values)) steps told are wrote none in record { content = b.content; epoch = b.epoch; none = b.none }
+is_behind v ((Fetch keys, Ended) ∷ steps) told are wrote none = absurd are
+is_behind v ((Fetch keys, RefusedBy fault) ∷ steps) told are wrote none = absurd are
+is_behind v ((Fetch keys, DoubtBy fault) ∷ steps) told are wrote none = absurd are
+is_behind v ((End writes, Values values) ∷ steps) told are wrote none = absurd are
+is_behind v ((End writes, Ended) ∷ steps) [] are wrote none = absurd wrote
+is_behind v ((End writes, Ended) ∷ steps) (r ∷ told) are (makes, more) none =
+    let b = is_behind (vault_next v (End writes) Ended) steps told are more none in
+    record {
+      content = b.content ∙ ap (λ (m : Map nat_cmp). contents m told) (makes v.content) ∙ sym (contents_append v.content (r ∷ []) told);
+      epoch = let e = b.epoch in omega (arith, e);
+      none = b.none;
+    }
+is_behind v ((End writes, RefusedBy fault) ∷ steps) told are wrote none = absurd are
+is_behind v ((End writes, DoubtBy fault) ∷ steps) told are wrote none = absurd are
+
+-- what a vault behind the records may stand for
+may_front : (v u : VaultState) (told : List (EpochRecord ℕ)) → IsBehind v told u → (at : Standing) → MayStand u at → IsFront v told at
+may_front v u told b at (inl is) = (told, [], sym (append-nil told), is ∙ behind_now v u told b)
+may_front v u told b at (inr is) = absurd (no_doubt at (sym b.none ∙ is))
+
+may_in_end : (v u : VaultState) (told : List (EpochRecord ℕ)) (r : EpochRecord ℕ) (writes : List (ℕ × Option (List ℕ))) → Makes writes r → IsBehind v told u → (at : Standing) → MayStandIn u (End writes) at → IsLeftStanding v told (Some r) at
+may_in_end v u told r writes makes b at (inl may) = inl (may_front v u told b at may)
+may_in_end v u told r writes makes b at (inr is) = inr (r, refl, is ∙ behind_next v u told r writes makes b)
+
+may_now : (v u : VaultState) (told : List (EpochRecord ℕ)) (next : Option (EpochRecord ℕ)) (doubt : Type 0) → IsBehind v told u → (at : Standing) → MayStand u at → IsLeftNow v told next doubt at
+may_now v u told next doubt b at (inl is) = inl (is ∙ behind_now v u told b)
+may_now v u told next doubt b at (inr is) = absurd (no_doubt at (sym b.none ∙ is))
+
+-- what may stand once an end was refused, or left in doubt
+may_unended : (v u : VaultState) (told : List (EpochRecord ℕ)) (r : EpochRecord ℕ) (writes : List (ℕ × Option (List ℕ))) (epoch : ℕ) (refused : EndErr) (fault : Fault) → Makes writes r → IsBehind v told u → fault ≡ fault_in refused → IsEndFault epoch refused
+    → (at : Standing) → MayStand (vault_next u (End writes) (end_answer (Err refused))) at → IsLeftNow v told (Some r) (TellsDoubt epoch (Err fault)) at
+may_unended v u told r writes epoch (Before given) fault makes b is_given is_fault at may = may_now v (vault_next u (End writes) (RefusedBy given)) told (Some r) (TellsDoubt epoch (Err fault)) (record { content = b.content; epoch = b.epoch; none = b.none }) at may
+may_unended v u told r writes epoch (Unsure given) fault makes b is_given is_fault at (inl is) = inl (is ∙ behind_now v u told b)
+may_unended v u told r writes epoch (Unsure given) fault makes b is_given is_fault at (inr is) = inr (r, refl, ap Err (is_given ∙ is_fault), one_doubt at (standing_next u writes) is ∙ behind_next v u told r writes makes b)
+
+-- ---- chains
+
+module _ {V : Type 0} (k : Kind V) where
+  alike_all : (first : V) (steps : List (VaultCall × VaultAnswer)) (last : V) → AllCalled k first steps last → StandAlike (k.stands first) (k.stands last)
+  alike_all first [] last is = subst (λ x. StandAlike (k.stands first) (k.stands x)) (sym is) (λ c at. (λ s. s, λ s. s))
+  alike_all first (step ∷ steps) last (mid, one, rest) =
+      let more = alike_all mid steps last rest in
+      λ c at. (λ s. (more c at).0 ((one.alike c at).0 s), λ s. (one.alike c at).1 ((more c at).1 s))
+
+  chain_last : (first : V) (front : List (VaultCall × VaultAnswer)) (call : VaultCall) (answer : VaultAnswer) (last : V) → AllCalled k first (front ++ (call, answer) ∷ []) last → (mid : V) × AllCalled k first front mid × Called k mid call answer last
+  chain_last first [] call answer last (mid, one, is) = (first, refl, subst (λ x. Called k first call answer x) (sym is) one)
+  chain_last first (step ∷ front) call answer last (next, one, rest) =
+      let (mid, before, final) = chain_last next front call answer last rest in
+      (mid, (next, one, before), final)
+
+  sound_after : (first : V) (steps : List (VaultCall × VaultAnswer)) (last : V) (v : VaultState) → AllCalled k first steps last → k.sound first v → k.sound last (after_calls v steps)
+  sound_after first [] last v is sound = subst (λ x. k.sound x v) (sym is) sound
+  sound_after first (step ∷ steps) last v (mid, one, rest) sound = sound_after mid steps last (vault_next v step.0 step.1) rest (one.sound v sound)
+
+module _ {V : Type 0} (k : Kind V) (only : OnlyNow k) (rests : Rests k) where
+  -- where each call was answered
+  answered_leave : (first : V) (steps : List (VaultCall × VaultAnswer)) (last : V) (v : VaultState) (told : List (EpochRecord ℕ)) → AllCalled k first steps last → AreAnswered steps → AreWritten (ended_of steps) told
+      → k.sound first v → v.doubt ≡ None → LeavesOnly (k.disk first) (k.disk last) (StandsIn (k.stands first) (IsFront v told))
+  answered_leave first [] last v told is are wrote sound none = subst (λ x. LeavesOnly (k.disk first) (k.disk x) (StandsIn (k.stands first) (IsFront v told))) (sym is)
+      (started (k.disk first) (StandsIn (k.stands first) (IsFront v told)) (λ c left. stands_still (k.stands first) (MayStand v) (IsFront v told) (now_front v told none) c (rests first v c sound (only first c left))))
+  answered_leave first ((Fetch keys, Values values) ∷ steps) last v told (mid, one, rest) are wrote sound none =
+      let u : VaultState = vault_next v (Fetch keys) (Values values) in
+      then_on (k.disk first) (k.disk mid) (k.disk last) (StandsIn (k.stands first) (IsFront v told))
+      (weakened (k.disk first) (k.disk mid) (StandsIn (k.stands first) (MayStandIn v (Fetch keys))) (StandsIn (k.stands first) (IsFront v told)) (stands_still (k.stands first) (MayStandIn v (Fetch keys)) (IsFront v told) (now_front v told none)) (one.images v sound))
+      (weakened (k.disk mid) (k.disk last) (StandsIn (k.stands mid) (IsFront u told)) (StandsIn (k.stands first) (IsFront v told)) (stands_alike (k.stands first) (k.stands mid) one.alike (IsFront u told) (IsFront v told) (λ at front. front))
+      (answered_leave mid steps last u told rest are wrote (one.sound v sound) none))
+  answered_leave first ((Fetch keys, Ended) ∷ steps) last v told chain are wrote sound none = absurd are
+  answered_leave first ((Fetch keys, RefusedBy fault) ∷ steps) last v told chain are wrote sound none = absurd are
+  answered_leave first ((Fetch keys, DoubtBy fault) ∷ steps) last v told chain are wrote sound none = absurd are
+  answered_leave first ((End writes, Values values) ∷ steps) last v told chain are wrote sound none = absurd are
+  answered_leave first ((End writes, Ended) ∷ steps) last v [] chain are wrote sound none = absurd wrote
+  answered_leave first ((End writes, Ended) ∷ steps) last v (r ∷ told) (mid, one, rest) are (makes, more) sound none =
+      let u : VaultState = vault_next v (End writes) Ended in
+      then_on (k.disk first) (k.disk mid) (k.disk last) (StandsIn (k.stands first) (IsFront v (r ∷ told)))
+      (weakened (k.disk first) (k.disk mid) (StandsIn (k.stands first) (MayStandIn v (End writes))) (StandsIn (k.stands first) (IsFront v (r ∷ told))) (stands_still (k.stands first) (MayStandIn v (End writes)) (IsFront v (r ∷ told)) (end_front v writes r told makes none)) (one.images v sound))
+      (weakened (k.disk mid) (k.disk last) (StandsIn (k.stands mid) (IsFront u told)) (StandsIn (k.stands first) (IsFront v (r ∷ told))) (stands_alike (k.stands first) (k.stands mid) one.alike (IsFront u told) (IsFront v (r ∷ told)) (front_more v writes r told makes))
+      (answered_leave mid steps last u told rest are more (one.sound v sound) none))
+  answered_leave first ((End writes, RefusedBy fault) ∷ steps) last v told chain are wrote sound none = absurd are
+  answered_leave first ((End writes, DoubtBy fault) ∷ steps) last v told chain are wrote sound none = absurd are
+
+  -- and where one more was made, within which no more may stand than this
+  one_more_leaves : (first : V) (front : List (VaultCall × VaultAnswer)) (mid : V) (call : VaultCall) (answer : VaultAnswer) (last : V) (v : VaultState) (told : List (EpochRecord ℕ)) (B : Standing → Type 0)
+      → AllCalled k first front mid → Called k mid call answer last → AreAnswered front → AreWritten (ended_of front) told → k.sound first v → v.doubt ≡ None
+      → ((at : Standing) → IsFront v told at → B at) → ((at : Standing) → MayStandIn (after_calls v front) call at → B at) → LeavesOnly (k.disk first) (k.disk last) (StandsIn (k.stands first) B)
+  one_more_leaves first front mid call answer last v told B before one are wrote sound none fronts within =
+      then_on (k.disk first) (k.disk mid) (k.disk last) (StandsIn (k.stands first) B)
+      (weakened (k.disk first) (k.disk mid) (StandsIn (k.stands first) (IsFront v told)) (StandsIn (k.stands first) B) (stands_still (k.stands first) (IsFront v told) B fronts) (answered_leave first front mid v told before are wrote sound none))
+      (weakened (k.disk mid) (k.disk last) (StandsIn (k.stands mid) (MayStandIn (after_calls v front) call)) (StandsIn (k.stands first) B) (stands_alike (k.stands first) (k.stands mid) (alike_all k first front mid before) (MayStandIn (after_calls v front) call) B within)
+      (one.images (after_calls v front) (sound_after k first front mid v before sound)))
+
+-- the calls before the last one
+calls_before : (acts front : List Act) (act : Act) (batches : List Batch) (call : VaultCall) (answer : VaultAnswer) → acts ≡ front ++ act ∷ [] → vault_calls act ≡ rest_fetches batches ++ (call, answer) ∷ [] → calls acts ≡ (calls front ++ rest_fetches batches) ++ (call, answer) ∷ []
+calls_before acts front act batches call answer is asks = ap calls is ∙ calls_more front act ∙ ap (λ (x : List (VaultCall × VaultAnswer)). calls front ++ x) asks ∙ sym (append_assoc (calls front) (rest_fetches batches) ((call, answer) ∷ []))
+
+answered_before : (front : List Act) (batches : List Batch) → AreAnswered (calls front) → AreAnswered (calls front ++ rest_fetches batches)
+answered_before front batches are = answered_join (calls front) (rest_fetches batches) are (subst AreAnswered (append-nil (rest_fetches batches)) (answered_rest batches [] tt))
+
+wrote_before : (acts : List Act) (front : List (VaultCall × VaultAnswer)) (call : VaultCall) (answer : VaultAnswer) → calls acts ≡ front ++ (call, answer) ∷ [] → ended_by (call, answer) ≡ [] → AreWritten (ended_of (calls acts)) (records acts) → AreWritten (ended_of front) (records acts)
+wrote_before acts front call answer is none wrote = subst (λ (ws : List (List (ℕ × Option (List ℕ)))). AreWritten ws (records acts))
+    (ap ended_of is ∙ ended_append front ((call, answer) ∷ []) ∙ ap (λ x. ended_of front ++ x) (append-nil (ended_by (call, answer)) ∙ none) ∙ append-nil (ended_of front)) wrote
+
+refused_ends : (writes : List (ℕ × Option (List ℕ))) (refused : EndErr) → ended_by (End writes, end_answer (Err refused)) ≡ []
+refused_ends writes (Before fault) = refl
+refused_ends writes (Unsure fault) = refl
+
+module _ {V U Plan : Type 0} (k : Kind V) (only : OnlyNow k) (rests : Rests k) (passes : ℕ → ℕ → ℕ → ℕ → Bool) (client bound : U → ℕ) (plan : U → Plan) (fits : U → List (Call × Reply) → Type 0) (old new : DeskState) (first last : V) (before_runners after_runners : List U) (before after : Flow)
+    (v : VaultState) (sound : k.sound first v) (none : v.doubt ≡ None) where
+  all_answered : (result : Result (Unit {0}) Fault) (d : Conducted k passes client bound plan fits old new first last before_runners after_runners before after result) → AreAnswered (calls d.acts) → LeftByRun d v
+  all_answered result d are =
+      let told : List (EpochRecord ℕ) = records d.acts in
+      let u : VaultState = after_calls v (calls d.acts) in
+      let b : IsBehind v told u = is_behind v (calls d.acts) told are d.wrote none in
+      let doubt : Type 0 = TellsDoubt (old.running.epoch + length told) result in
+      record {
+        next = None;
+        is_next = tt;
+        since = weakened (k.disk first) (k.disk last) (StandsIn (k.stands first) (IsFront v told)) (StandsIn (k.stands first) (IsLeftStanding v told None))
+            (stands_still (k.stands first) (IsFront v told) (IsLeftStanding v told None) (λ at front. inl front)) (answered_leave k only rests first (calls d.acts) last v told d.chain are d.wrote sound none);
+        now = λ c left. stands_alike (k.stands first) (k.stands last) (alike_all k first (calls d.acts) last d.chain) (MayStand u) (IsLeftNow v told None doubt) (may_now v u told None doubt b) c
+            (rests last u c (sound_after k first (calls d.acts) last v d.chain sound) left);
+      }
+
+  module _ (fault : Fault) (d : Conducted k passes client bound plan fits old new first last before_runners after_runners before after (Err fault)) where
+    by_fetch : IsFetchRefused k first last new d.acts fault → LeftByRun d v
+    by_fetch r =
+        let told : List (EpochRecord ℕ) = records d.acts in
+        let front : List (VaultCall × VaultAnswer) = calls r.front ++ rest_fetches r.batches in
+        let is : calls d.acts ≡ front ++ (Fetch r.keys, RefusedBy fault) ∷ [] = calls_before d.acts r.front (FetchFails r.look r.batches r.keys fault) r.batches (Fetch r.keys) (RefusedBy fault) r.acts_are refl in
+        let are : AreAnswered front = answered_before r.front r.batches r.answered in
+        let wrote : AreWritten (ended_of front) told = wrote_before d.acts front (Fetch r.keys) (RefusedBy fault) is refl d.wrote in
+        let u : VaultState = after_calls v front in
+        let b : IsBehind v told u = is_behind v front told are wrote none in
+        let (mid, chain, one) = chain_last k first front (Fetch r.keys) (RefusedBy fault) last (subst (λ (s : List (VaultCall × VaultAnswer)). AllCalled k first s last) is d.chain) in
+        let doubt : Type 0 = TellsDoubt (old.running.epoch + length told) (Err fault) in
+        record {
+          next = None;
+          is_next = tt;
+          since = one_more_leaves k only rests first front mid (Fetch r.keys) (RefusedBy fault) last v told (IsLeftStanding v told None) chain one are wrote sound none (λ at f. inl f) (λ at may. inl (may_front v u told b at may));
+          now = λ c left. stands_alike (k.stands first) (k.stands last) (alike_all k first (calls d.acts) last d.chain) (MayStand (vault_next u (Fetch r.keys) (RefusedBy fault))) (IsLeftNow v told None doubt)
+              (may_now v (vault_next u (Fetch r.keys) (RefusedBy fault)) told None doubt (record { content = b.content; epoch = b.epoch; none = b.none })) c
+              (rests last (vault_next u (Fetch r.keys) (RefusedBy fault)) c (one.sound u (sound_after k first front mid v chain sound)) left);
+        }
+
+    by_end : IsEndRefused k first last old new d.acts fault → LeftByRun d v
+    by_end r =
+        let told : List (EpochRecord ℕ) = records d.acts in
+        let front : List (VaultCall × VaultAnswer) = calls r.front ++ rest_fetches r.batches in
+        let answer : VaultAnswer = end_answer (Err r.refused) in
+        let is : calls d.acts ≡ front ++ (End r.writes, answer) ∷ [] = calls_before d.acts r.front (EndFails r.look r.batches r.writes r.refused) r.batches (End r.writes) answer r.acts_are refl in
+        let are : AreAnswered front = answered_before r.front r.batches r.answered in
+        let wrote : AreWritten (ended_of front) told = wrote_before d.acts front (End r.writes) answer is (refused_ends r.writes r.refused) d.wrote in
+        let u : VaultState = after_calls v front in
+        let b : IsBehind v told u = is_behind v front told are wrote none in
+        let (mid, chain, one) = chain_last k first front (End r.writes) answer last (subst (λ (s : List (VaultCall × VaultAnswer)). AllCalled k first s last) is d.chain) in
+        let epoch : ℕ = old.running.epoch + length told in
+        record {
+          next = Some r.due;
+          is_next = (fault, refl, r, refl);
+          since = one_more_leaves k only rests first front mid (End r.writes) answer last v told (IsLeftStanding v told (Some r.due)) chain one are wrote sound none (λ at f. inl f) (may_in_end v u told r.due r.writes r.makes b);
+          now = λ c left. stands_alike (k.stands first) (k.stands last) (alike_all k first (calls d.acts) last d.chain) (MayStand (vault_next u (End r.writes) answer)) (IsLeftNow v told (Some r.due) (TellsDoubt epoch (Err fault)))
+              (may_unended v u told r.due r.writes epoch r.refused fault r.makes b r.fault_is r.is_fault) c
+              (rests last (vault_next u (End r.writes) answer) c (one.sound u (sound_after k first front mid v chain sound)) left);
+        }
+
+    refused_leaves : RunEnds k first last old new d.acts (report decimal (records d.acts)) before after (Err fault) → LeftByRun d v
+    refused_leaves (inl (short, written)) = all_answered (Err fault) d short.answered
+    refused_leaves (inr (inl unprinted)) = all_answered (Err fault) d unprinted.answered
+    refused_leaves (inr (inr (inl fetch, written))) = by_fetch fetch
+    refused_leaves (inr (inr (inr end, written))) = by_end end
+
+  -- A crash at any moment of a run leaves what stands behind a front of the records, or behind all of them and the epoch whose end was
+  -- begun; at the return behind all of them, or also that epoch, but this only where the answer tells of doubt.
+  pub run_leaves : (result : Result (Unit {0}) Fault) (d : Conducted k passes client bound plan fits old new first last before_runners after_runners before after result) → LeftByRun d v
+  run_leaves (Ok done) d = all_answered (Ok done) d d.ends.0
+  run_leaves (Err fault) d = refused_leaves fault d d.ends
+
+  -- where the answer tells of no doubt, a crash at the return leaves what stands behind all the records,
+  pub sure_now : (result : Result (Unit {0}) Fault) (d : Conducted k passes client bound plan fits old new first last before_runners after_runners before after result) → (TellsDoubt (old.running.epoch + length (records d.acts)) result → ⊥)
+      → (c : Image) → (k.disk last).may_leave c → StandsIn (k.stands first) (λ at. at ≡ standing_behind v (records d.acts)) c
+  sure_now result d sure c left = let l = run_leaves result d in
+      stands_still (k.stands first) (IsLeftNow v (records d.acts) l.next (TellsDoubt (old.running.epoch + length (records d.acts)) result)) (λ at. at ≡ standing_behind v (records d.acts))
+      (sure_at (records d.acts) l.next (TellsDoubt (old.running.epoch + length (records d.acts)) result) sure) c (l.now c left)
+    where
+      sure_at : (told : List (EpochRecord ℕ)) (next : Option (EpochRecord ℕ)) (doubt : Type 0) → (doubt → ⊥) → (at : Standing) → IsLeftNow v told next doubt at → at ≡ standing_behind v told
+      sure_at told next doubt sure at (inl is) = is
+      sure_at told next doubt sure at (inr (r, is, tells, behind)) = absurd (sure tells)
+
+  told_ok : (epoch : ℕ) (done : Unit {0}) → TellsDoubt epoch (Ok done) → ⊥
+  told_ok epoch done is = cc is
+
+  -- as it does where the run went to its end
+  pub done_now : (done : Unit {0}) (d : Conducted k passes client bound plan fits old new first last before_runners after_runners before after (Ok done)) → (c : Image) → (k.disk last).may_leave c → StandsIn (k.stands first) (λ at. at ≡ standing_behind v (records d.acts)) c
+  done_now done d = sure_now (Ok done) d (told_ok (old.running.epoch + length (records d.acts)) done)

@@ -1,0 +1,12 @@
+pub mod Fit
+pub mod Writes
+pub mod Ready
+pub mod Moving
+pub mod Batches
+pub mod Closing
+pub mod Acting
+pub mod Stepping
+pub mod Going
+pub mod Conducting
+pub mod Leaving
+pub mod Quitting

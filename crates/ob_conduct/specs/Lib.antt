@@ -1,0 +1,5 @@
+pub mod Acts
+pub mod Conducted
+pub mod Left
+pub mod Moves
+pub mod Quitting

@@ -1,0 +1,116 @@
+ghost use Rattle.std.specs.Prelude.{◌≡◌, ◌≤◌, ◌<◌, ◌⊎◌, ℕ, true, MatchBool, None, IfOk, IfErr, OnOk, vec_capacity};
+ghost use Rattle.ob_report.specs.Printed.{flow};
+ghost use Rattle.ob_serial.specs.VaultKinds.{kind_of};
+ghost use Rattle.ob_desk.specs.Desk.{look_at};
+ghost use Rattle.ob_conduct.specs.Acts.{MayAct, IsToFetch};
+ghost use Rattle.ob_conduct.specs.Conducted.{IsOver};
+ghost use Rattle.ob_conduct.specs.Moves.{IsReady, Acted, ActFails};
+
+use crate::batch::fetch_batch;
+use crate::epoch::end_epoch;
+use ob_base::{Fault, Params, Write};
+use ob_desk::{Beat, Desk, Look};
+use ob_io::Sink;
+use ob_serial::Vault;
+
+/// Whether the run goes on behind a look.
+#[derive(Clone, Copy, Debug, PartialEq, Eq)]
+pub enum Round {
+    On,
+    /// Each client has signed off, and no transaction waits for its epoch's end.
+    Over,
+}
+
+// Whether the run is over: no client is left, and no transaction waits for its epoch's end.
+fn is_over(look: &Look) -> bool
+    ensures { MatchBool result ((look.now.clients ≡ 0) × (look.now.txns ≡ 0)) (look.now.clients ≡ 0 → 0 < look.now.txns) }
+{
+    look.clients == 0 && look.txns == 0
+}
+
+// Whether to act at this look.
+fn is_due<B: Beat>(beat: &mut B, look: &Look) -> bool
+    ensures may { MatchBool result (MayAct B.passes look.now) (look.now.clients ≡ 0 → ⊥) }
+    ensures anchors { B.anchors beat.new ≡ B.anchors beat.old }
+{
+    if look.clients == 0 {
+        return true;
+    }
+    beat.due(look.waiting, look.live, look.queued, look.left)
+}
+
+// Whether there is a batch to fetch: keys are queued, and a batch is left for them.
+fn is_to_fetch(look: &Look) -> bool
+    ensures { MatchBool result (IsToFetch look.now) ((look.now.queued ≡ 0) ⊎ (look.now.left ≡ 0)) }
+{
+    look.queued > 0 && look.left > 0
+}
+
+// Fetches a batch, where keys are queued and a batch is left; else ends the epoch, where it has
+// transactions.
+fn act<V: Vault, B: Beat, O: Sink>(
+    params: &Params,
+    desk: &mut Desk,
+    vault: &mut V,
+    output: &mut O,
+    writes: &mut Vec<Write>,
+    look: &Look,
+) -> Result<(), Fault>
+    requires params { V.params vault.old ≡ params.now }
+    requires ready { IsReady params.now desk.old (V.counts vault.old) }
+    requires goes_on { desk.old.stop ≡ None }
+    requires room { params.now.writes ≤ vec_capacity writes.old }
+    requires look { look.now ≡ look_at desk.old }
+    requires may { MayAct B.passes look.now }
+    requires not_over { look.now.clients ≡ 0 → 0 < look.now.txns }
+    ensures params { V.params vault.new ≡ params.now }
+    ensures room { vec_capacity writes.old ≤ vec_capacity writes.new }
+    ensures acted { OnOk result (Acted (kind_of V.holds V.sound V.stands V.disk V.called) params.now B.passes desk.old vault.old (flow (O.written output.old) (O.faults output.old)) desk.new vault.new (V.counts vault.new) (flow (O.written output.new) (O.faults output.new))) }
+    ensures failed { IfErr result (λ fault. ActFails (kind_of V.holds V.sound V.stands V.disk V.called) B.passes desk.old vault.old (flow (O.written output.old) (O.faults output.old)) fault desk.new vault.new (flow (O.written output.new) (O.faults output.new))) }
+{
+    if is_to_fetch(look) {
+        return fetch_batch(params, desk, vault);
+    }
+    if look.txns > 0 {
+        return end_epoch(params, desk, vault, output, writes);
+    }
+    Ok(())
+}
+
+/// The driver looks once, and acts at most once.
+///
+/// # Errors
+/// The desk was stopped; or the vault refused, or the output failed, and the desk is stopped.
+pub fn look_and_act<V: Vault, B: Beat, O: Sink>(
+    params: &Params,
+    desk: &mut Desk,
+    vault: &mut V,
+    beat: &mut B,
+    output: &mut O,
+    writes: &mut Vec<Write>,
+) -> Result<Round, Fault>
+    requires params { V.params vault.old ≡ params.now }
+    requires ready { IsReady params.now desk.old (V.counts vault.old) }
+    requires room { params.now.writes ≤ vec_capacity writes.old }
+    ensures params { V.params vault.new ≡ params.now }
+    ensures room { vec_capacity writes.old ≤ vec_capacity writes.new }
+    ensures anchors { B.anchors beat.new ≡ B.anchors beat.old }
+    ensures acted { OnOk result (Acted (kind_of V.holds V.sound V.stands V.disk V.called) params.now B.passes desk.old vault.old (flow (O.written output.old) (O.faults output.old)) desk.new vault.new (V.counts vault.new) (flow (O.written output.new) (O.faults output.new))) }
+    ensures over { IfOk result (λ round. round ≡ Round.Over → IsOver desk.new) }
+    ensures failed { IfErr result (λ fault. ActFails (kind_of V.holds V.sound V.stands V.disk V.called) B.passes desk.old vault.old (flow (O.written output.old) (O.faults output.old)) fault desk.new vault.new (flow (O.written output.new) (O.faults output.new))) }
+{
+    if let Some(fault) = desk.stopped() {
+        return Err(fault);
+    }
+    let look = desk.look();
+    if is_over(&look) {
+        return Ok(Round::Over);
+    }
+    if !is_due(beat, &look) {
+        return Ok(Round::On);
+    }
+    match act::<V, B, O>(params, desk, vault, output, writes, &look) {
+        Ok(()) => Ok(Round::On),
+        Err(fault) => Err(fault),
+    }
+}

@@ -1,0 +1,21 @@
+ghost use Rattle.std.specs.Prelude.{◌≡◌, ◌≤◌, ℕ, All, map};
+ghost use Rattle.std.specs.List.Sorted.{IsStrictlyIncreasing};
+ghost use Rattle.ob_base.specs.declared.params.Params.{Params};
+ghost use Rattle.ob_serial.specs.Vaults.{VaultCounts};
+ghost use Rattle.ob_conduct.specs.Moves.{IsReady, Heard, Stepped};
+
+use ob_desk::Desk;
+use ob_session::Runner;
+
+/// Each runner in order makes one step.
+pub fn step_all<U: Runner>(desk: &mut Desk, runners: &mut [U])
+    requires below { All (λ u. U.bound u ≤ desk.old.setup.params.keys) runners.old }
+    requires ready { (c : VaultCounts) × IsReady desk.old.setup.params desk.old c }
+    requires heard { Heard U.client U.fits desk.old runners.old }
+    ensures stepped { Stepped U.client U.bound U.plan U.fits desk.old runners.old desk.new runners.new }
+    ensures ready { (p : Params) (c : VaultCounts) → IsReady p desk.old c → IsReady p desk.new c }
+{
+    for i in 0..runners.len() {
+        runners[i].step(desk);
+    }
+}

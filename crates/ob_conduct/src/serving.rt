@@ -1,0 +1,88 @@
+ghost use Rattle.std.specs.Prelude.{◌≡◌, ◌≤◌, ℕ, suc, All, map, [], false, vec_capacity};
+ghost use Rattle.ob_report.specs.Printed.{flow};
+ghost use Rattle.ob_serial.specs.VaultKinds.{kind_of};
+ghost use Rattle.ob_desk.specs.Desk.{MayOpen, new_desk};
+ghost use Rattle.ob_conduct.specs.Conducted.{Conducted};
+
+use crate::look::{Round, look_and_act};
+use crate::rounds::step_all;
+use ob_base::{Fault, Params, Write};
+use ob_desk::{Beat, Desk};
+use ob_io::Sink;
+use ob_serial::Vault;
+use ob_session::Runner;
+use std::alloc::Global;
+use std::sync::Wait;
+
+// Rounds, up to the end of the run.
+fn run_rounds<R: Wait, V: Vault, U: Runner, B: Beat, O: Sink>(
+    rt: &R,
+    params: &Params,
+    desk: &mut Desk,
+    runners: &mut [U],
+    vault: &mut V,
+    beat: &mut B,
+    output: &mut O,
+    writes: &mut Vec<Write>,
+) -> Result<(), Fault>
+    requires params { V.params vault.old ≡ params.now }
+    requires serves { (V.counts vault.old).spent ≡ false }
+    requires fresh { desk.old ≡ new_desk (record { params = params.now }) (suc (V.counts vault.old).epoch) (V.counts vault.old).left (map U.client runners.old) }
+    requires opens { MayOpen (record { params = params.now }) (suc (V.counts vault.old).epoch) (V.counts vault.old).left (map U.client runners.old) }
+    requires below { All (λ u. U.bound u ≤ params.now.keys) runners.old }
+    requires none_made { All (λ u. U.fits u []) runners.old }
+    requires room { params.now.writes ≤ vec_capacity writes.old }
+    ensures params { V.params vault.new ≡ params.now }
+    ensures beat { B.anchors beat.new ≡ B.anchors beat.old }
+    ensures done { Conducted (kind_of V.holds V.sound V.stands V.disk V.called) B.passes U.client U.bound U.plan U.fits desk.old desk.new vault.old vault.new runners.old runners.new
+        (flow (O.written output.old) (O.faults output.old)) (flow (O.written output.new) (O.faults output.new)) result }
+{
+    for _ in rt.forever() {
+        step_all(desk, runners);
+        match look_and_act(params, desk, vault, beat, output, writes) {
+            Ok(Round::On) => {}
+            Ok(Round::Over) => return Ok(()),
+            Err(fault) => return Err(fault),
+        }
+    }
+    unreachable!()
+}
+
+/// Runs the clients over the vault, all by hand. In rounds each runner makes one step; then the
+/// driver looks once, and where no client is left or the beat says so it acts once. The run is over
+/// where each client has signed off and no transaction waits for its epoch's end, or where the desk
+/// is stopped. Each epoch's lines are written once it is durable.
+///
+/// # Errors
+/// Memory was wanting, before the first round or for a client; or the vault refused, and is spent;
+/// or the output failed, and a front of the lines is written. But where memory was wanting before
+/// the first round the desk is stopped.
+pub fn serve<R: Wait, V: Vault, U: Runner, B: Beat, O: Sink>(
+    rt: &R,
+    alloc: Global,
+    params: &Params,
+    desk: &mut Desk,
+    runners: &mut [U],
+    vault: &mut V,
+    beat: &mut B,
+    output: &mut O,
+) -> Result<(), Fault>
+    requires params { V.params vault.old ≡ params.now }
+    requires serves { (V.counts vault.old).spent ≡ false }
+    requires fresh { desk.old ≡ new_desk (record { params = params.now }) (suc (V.counts vault.old).epoch) (V.counts vault.old).left (map U.client runners.old) }
+    requires opens { MayOpen (record { params = params.now }) (suc (V.counts vault.old).epoch) (V.counts vault.old).left (map U.client runners.old) }
+    requires below { All (λ u. U.bound u ≤ params.now.keys) runners.old }
+    requires none_made { All (λ u. U.fits u []) runners.old }
+    ensures params { V.params vault.new ≡ params.now }
+    // It keeps the references that the vault and the beat were lent.
+    ensures anchors { (V.disk vault.new).anchors ≡ (V.disk vault.old).anchors }
+    ensures beat { B.anchors beat.new ≡ B.anchors beat.old }
+    ensures done { Conducted (kind_of V.holds V.sound V.stands V.disk V.called) B.passes U.client U.bound U.plan U.fits desk.old desk.new vault.old vault.new runners.old runners.new
+        (flow (O.written output.old) (O.faults output.old)) (flow (O.written output.new) (O.faults output.new)) result }
+{
+    let mut writes = match Vec::with_capacity(alloc, params.writes as usize) {
+        Ok(writes) => writes,
+        Err(_) => return Err(Fault::Memory),
+    };
+    run_rounds(rt, params, desk, runners, vault, beat, output, &mut writes)
+}

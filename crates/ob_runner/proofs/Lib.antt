@@ -1,0 +1,9 @@
+pub mod Tellings
+pub mod Meetings
+pub mod Works
+pub mod Moves
+pub mod Allowed
+pub mod Steps
+pub mod Turns
+pub mod Scripted
+pub mod Serving

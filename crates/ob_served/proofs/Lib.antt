@@ -1,0 +1,9 @@
+pub mod Meeting
+pub mod Clients
+pub mod Stops
+pub mod Walk
+pub mod EndsWell
+pub mod AllWell
+pub mod Told
+pub mod Counting
+pub mod Whole

@@ -1,0 +1,15 @@
+pub mod Agreement
+pub mod Begins
+pub mod Changes
+pub mod Endings
+pub mod Epochs
+pub mod Fits
+pub mod Lasts
+pub mod Mirrors
+pub mod OtherSteps
+pub mod OwnSteps
+pub mod Parts
+pub mod Rolls
+pub mod Runs
+pub mod State
+pub mod Tellings

@@ -1,0 +1,4 @@
+pub mod Steps
+pub mod Clients
+pub mod Agreeing
+pub mod Records
