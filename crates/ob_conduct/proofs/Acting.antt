@@ -112,6 +112,7 @@ module _ {V : Type 0} (k : Kind V) (p : Params) (passes : ℕ → ℕ → ℕ �
     act = Rests look;
     allowed = may;
     moves = look_moves;
+    drivers = tt;
     quiet = λ client. refl;
     ready = r;
     answered = tt;
@@ -125,6 +126,7 @@ module _ {V : Type 0} (k : Kind V) (p : Params) (passes : ℕ → ℕ → ℕ �
     act = Fetches look batch;
     allowed = (may, fetch);
     moves = moves_join k d d new v v w (look_calls look) (batch_calls batch) [] (rest_fetches (batch ∷ [])) look_moves read.moves;
+    drivers = tt;
     quiet = λ client. refl;
     ready = read.ready;
     answered = tt;
@@ -139,6 +141,7 @@ module _ {V : Type 0} (k : Kind V) (p : Params) (passes : ℕ → ℕ → ℕ �
     allowed = (may, end);
     moves = moves_join k d d new v v w (look_calls look) (rest_calls e.batches ++ end_calls e.closed.writes e.closed.left e.told) [] (rest_fetches e.batches ++ (End e.closed.writes, Ended) ∷ []) look_moves
         (moves_join k d e.mid new v e.mid_vault w (rest_calls e.batches) (end_calls e.closed.writes e.closed.left e.told) (rest_fetches e.batches) ((End e.closed.writes, Ended) ∷ []) e.read.moves e.closed.moves);
+    drivers = tt;
     quiet = λ client. quiet_rest client e.batches (end_calls e.closed.writes e.closed.left e.told);
     ready = e.closed.ready;
     answered = answered_rest e.batches ((End e.closed.writes, Ended) ∷ []) tt;
@@ -162,6 +165,7 @@ module _ {V : Type 0} (k : Kind V) (p : Params) (passes : ℕ → ℕ → ℕ �
     record {
       allowed = allowed f.keys;
       moves = moves_join k d d new v v w (look_calls look) _ [] _ look_moves f.moves;
+      drivers = tt;
       quiet = λ client. quiet_rest client batches ((desk.TakeBatch, desk.Batch f.keys) ∷ (desk.Stop fault, desk.Done) ∷ []);
       next = d.running.epoch;
       told = subst (λ (ws : List (List (ℕ × Option (List ℕ)))). Tells d.running.epoch d.running.epoch ws (published (rest_calls batches ++ (desk.TakeBatch, desk.Batch f.keys) ∷ (desk.Stop fault, desk.Done) ∷ []))) (sym (ended_rest batches ((Fetch f.keys, RefusedBy fault) ∷ [])))
@@ -179,6 +183,7 @@ module _ {V : Type 0} (k : Kind V) (p : Params) (passes : ℕ → ℕ → ℕ �
       allowed = (may, end);
       moves = moves_join k d d new v v w (look_calls look) (rest_calls e.batches ++ steps) [] (rest_fetches e.batches ++ asked) look_moves
           (moves_join k d e.mid new v e.mid_vault w (rest_calls e.batches) steps (rest_fetches e.batches) asked e.read.moves e.fails.moves);
+      drivers = tt;
       quiet = λ client. quiet_rest client e.batches steps ∙ quiet_stop client e.fails.writes e.fails.refused;
       next = d.running.epoch;
       told = subst (λ (ws : List (List (ℕ × Option (List ℕ)))). Tells d.running.epoch d.running.epoch ws (published (rest_calls e.batches ++ steps))) (sym (ended_rest e.batches asked ∙ refused_ends e.fails.writes e.fails.refused))
@@ -232,6 +237,7 @@ module _ {V : Type 0} (k : Kind V) (p : Params) (passes : ℕ → ℕ → ℕ �
           (moves_join k d e.mid new v e.mid_vault w (rest_calls e.batches) steps (rest_fetches e.batches) asked e.read.moves
           (moves_join k e.mid e.closed_desk new e.mid_vault w w (end_calls e.closed.writes e.closed.left e.told) ((desk.Stop SinkFault, desk.Done) ∷ []) asked [] e.closed.moves
           (moves_one k e.closed_desk new w (desk.Stop SinkFault) desk.Done tt e.halt (λ m. (tt, refl)))));
+      drivers = tt;
       quiet = λ client. quiet_rest client e.batches steps;
       next = suc d.running.epoch;
       told = subst (λ (ws : List (List (ℕ × Option (List ℕ)))). Tells d.running.epoch (suc d.running.epoch) ws (published (rest_calls e.batches ++ steps))) (sym (ended_rest e.batches asked))
@@ -264,6 +270,7 @@ halted k p passes d v c before fault r is = let memory : fault ≡ Memory = stop
   record {
     allowed = tt;
     moves = moves_one k d d v desk.IsStopped (desk.StoppedBy (Some Memory)) tt (ap Some (sym memory) ∙ sym is, refl) (λ m. (tt, refl));
+    drivers = tt;
     quiet = λ client. refl;
     next = d.running.epoch;
     told = tells_none d.running.epoch d.running.epoch refl;

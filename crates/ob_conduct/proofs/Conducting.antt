@@ -24,6 +24,7 @@ use Rattle.ob_desk.proofs.Published.{one_by_one_from}
 use Rattle.ob_session.specs.Steps.{Leads}
 use Rattle.ob_session.specs.Clients.{said_by}
 use Rattle.ob_conduct.specs.Acts.{Act, Says, Halts, Rests, Fetches, FetchFails, Ends, EndFails, Unprinted, history, calls, records, desk_calls, vault_calls, look_calls, rest_calls, IsAllowed}
+use Rattle.ob_conduct.specs.Rounds.{AreTurns, InRounds, InTurns}
 use Rattle.ob_conduct.specs.Conducted.{contents, HoldsMap, AreAnswered, IsOver, IsWritten, RunEnds, Conducted}
 use Rattle.ob_conduct.specs.Moves.{IsReady, Moves, Tells, Acted, IsHalted, IsUnread, IsUnended, IsUnwritten, ActFails, IsSaid, Stepped, Heard}
 use Rattle.ob_conduct.proofs.Fit.{fit_new}
@@ -31,6 +32,7 @@ use Rattle.ob_conduct.proofs.Writes.{left_by}
 use Rattle.ob_conduct.proofs.Ready.{own_run}
 use Rattle.ob_conduct.proofs.Moving.{leads_join, run_join, goes_all, rose_since, moves_none, moves_join}
 use Rattle.ob_conduct.proofs.Acting.{tells_none, tells_one, written_none, printed_whole, published_rest}
+use Rattle.ob_conduct.proofs.Turning.{in_rounds_none, in_turns, round_ends}
 use Rattle.ob_conduct.proofs.Stepping.{history_more, said_append}
 use Rattle.ob_conduct.proofs.Going.{history_append, calls_append, calls_more, records_more, published_append, ended_append, answered_join, own_tells, tells_join, in_order, written_then, printed_then}
 
@@ -101,9 +103,10 @@ ready_new p d c clients is serves = subst (λ (x : DeskState). IsReady p x c) (s
 
 module _ {V U Plan : Type 0} (k : Kind V) (p : Params) (passes : ℕ → ℕ → ℕ → ℕ → Bool) (client bound : U → ℕ) (plan : U → Plan) (fits : U → List (Call × Reply) → Type 0) (old : DeskState) (first : V) (were : List U) (before : Flow) where
   -- what was done so far, none of it refused
-  pub record Going (d : DeskState) (v : V) (c : VaultCounts) (are : List U) (now : Flow) : Type 0 where
+  pub record Going (Shape : List Act → Type 0) (d : DeskState) (v : V) (c : VaultCounts) (are : List U) (now : Flow) : Type 0 where
     pub acts : List Act
     pub allowed : All (IsAllowed passes) acts
+    pub shape : Shape acts
     pub moves : Moves k old first (history acts) (calls acts) d v
     pub ready : IsReady p d c
     pub answered : AreAnswered (calls acts)
@@ -114,10 +117,19 @@ module _ {V U Plan : Type 0} (k : Kind V) (p : Params) (passes : ℕ → ℕ →
     pub bounds : map bound are ≡ map bound were
     pub plans : map plan are ≡ map plan were
 
-  pub going_none : (c : VaultCounts) → IsReady p old c → All (λ u. fits u []) were → Going old first c were before
+  -- whole rounds
+  abbrev pub Whole : DeskState → V → VaultCounts → List U → Flow → Type 0
+  Whole = Going (InRounds (map client were))
+
+  -- and the clients' turns of one more
+  abbrev pub Turned : DeskState → V → VaultCounts → List U → Flow → Type 0
+  Turned = Going (InTurns (map client were))
+
+  pub going_none : (c : VaultCounts) → IsReady p old c → All (λ u. fits u []) were → Whole old first c were before
   going_none c r fit = record {
     acts = [];
     allowed = All-nil _;
+    shape = in_rounds_none (map client were);
     moves = moves_none k old first;
     ready = r;
     answered = tt;
@@ -130,10 +142,11 @@ module _ {V U Plan : Type 0} (k : Kind V) (p : Params) (passes : ℕ → ℕ →
   }
 
   -- the runners made their steps
-  pub going_stepped : (d new : DeskState) (v : V) (c : VaultCounts) (are next : List U) (now : Flow) → Going d v c are now → Stepped client bound plan fits d are new next → IsReady p new c → Going new v c next now
+  pub going_stepped : (d new : DeskState) (v : V) (c : VaultCounts) (are next : List U) (now : Flow) → Whole d v c are now → Stepped client bound plan fits (map client are) d are new next → IsReady p new c → Turned new v c next now
   going_stepped d new v c are next now g s r = record {
     acts = g.acts ++ s.acts;
     allowed = All-append (IsAllowed passes) g.acts s.acts g.allowed (All-weaker IsSaid (IsAllowed passes) (said_allowed passes) s.acts s.says);
+    shape = in_turns (map client were) g.acts s.acts g.shape (subst (λ ns. AreTurns ns (history g.acts) s.acts) g.clients (s.turns (history g.acts) g.fitting));
     moves = subst (λ (h : List (Call × Reply)). Moves k old first h (calls (g.acts ++ s.acts)) new v) (sym (history_append g.acts s.acts))
         (subst (λ (asked : List (VaultCall × VaultAnswer)). Moves k old first (history g.acts ++ history s.acts) asked new v) (sym (calls_append g.acts s.acts))
         (moves_join k old d new first v v (history g.acts) (history s.acts) (calls g.acts) (calls s.acts) g.moves (said_moves k s.acts d new v s.says s.leads)));
@@ -156,7 +169,7 @@ module _ {V U Plan : Type 0} (k : Kind V) (p : Params) (passes : ℕ → ℕ →
       same_records = ap published (history_append g.acts s.acts) ∙ published_append (history g.acts) (history s.acts) ∙ ap (λ (x : List (EpochRecord ℕ)). records g.acts ++ x) (said_run empty_map s.acts d new s.says s.leads).2 ∙ append-nil (records g.acts)
 
   -- no runner names a key past the parameters'
-  pub going_below : (d : DeskState) (v : V) (c : VaultCounts) (are : List U) (now : Flow) → Going d v c are now → All (λ u. bound u ≤ p.keys) were → All (λ u. bound u ≤ d.setup.params.keys) are
+  pub going_below : (d : DeskState) (v : V) (c : VaultCounts) (are : List U) (now : Flow) → Whole d v c are now → All (λ u. bound u ≤ p.keys) were → All (λ u. bound u ≤ d.setup.params.keys) are
   going_below d v c are now g below = subst (λ (q : Params). All (λ u. bound u ≤ q.keys) are) (sym g.ready.params) (unmapped are (subst (λ bs. All (λ b. b ≤ p.keys) bs) (sym g.bounds) (All-map (λ b. b ≤ p.keys) bound were below)))
     where
       unmapped : (us : List U) → All (λ b. b ≤ p.keys) (map bound us) → All (λ u. bound u ≤ p.keys) us
@@ -164,7 +177,7 @@ module _ {V U Plan : Type 0} (k : Kind V) (p : Params) (passes : ℕ → ℕ →
       unmapped (u ∷ us) all = All-cons (λ w. bound w ≤ p.keys) u us (All-head (λ b. b ≤ p.keys) (bound u) (map bound us) all) (unmapped us (All-tail (λ b. b ≤ p.keys) (bound u) (map bound us) all))
 
   -- what the runners need to make their next ones
-  pub going_heard : (d : DeskState) (v : V) (c : VaultCounts) (are : List U) (now : Flow) (setup : Setup) (epoch left : ℕ) → Going d v c are now → old ≡ new_desk setup epoch left (map client were) → MayOpen setup epoch left (map client were) → Heard client fits d are
+  pub going_heard : (d : DeskState) (v : V) (c : VaultCounts) (are : List U) (now : Flow) (setup : Setup) (epoch left : ℕ) → Whole d v c are now → old ≡ new_desk setup epoch left (map client were) → MayOpen setup epoch left (map client were) → Heard client fits d are
   going_heard d v c are now setup epoch left g fresh opens = record {
     setup = setup;
     epoch = epoch;
@@ -195,10 +208,11 @@ module _ {V U Plan : Type 0} (k : Kind V) (p : Params) (passes : ℕ → ℕ →
   answered_on acts act so one = subst AreAnswered (sym (calls_more acts act)) (answered_join (calls acts) (vault_calls act) so one)
 
   -- the driver did something
-  pub going_acted : (d new : DeskState) (v w : V) (c next : VaultCounts) (are : List U) (now after : Flow) → Going d v c are now → Acted k p passes d v now new w next after → Going new w next are after
+  pub going_acted : (d new : DeskState) (v w : V) (c next : VaultCounts) (are : List U) (now after : Flow) → Turned d v c are now → Acted k p passes d v now new w next after → Whole new w next are after
   going_acted d new v w c next are now after g a = record {
     acts = g.acts ++ a.act ∷ [];
     allowed = All-push (IsAllowed passes) g.acts a.act g.allowed a.allowed;
+    shape = round_ends (map client were) g.acts a.act g.shape a.drivers;
     moves = moves_on g.acts a.act d new v w g.moves a.moves;
     ready = a.ready;
     answered = answered_on g.acts a.act g.answered a.answered;
@@ -218,13 +232,14 @@ module _ {V U Plan : Type 0} (k : Kind V) (p : Params) (passes : ℕ → ℕ →
     ran_to : (m : Map nat_cmp) (steps : List (Call × Reply)) (last : Map nat_cmp) (d : DeskState) → Run m old steps last d → last ≡ contents m (published steps)
     ran_to m steps last d run = left_by m (committed_of (published steps)) last (ran m steps last d run)
 
-    finish : (acts : List Act) (new : DeskState) (last : V) (next : ℕ) (are : List U) (after : Flow) (result : Result (Unit {0}) Fault) → All (IsAllowed passes) acts → Moves k old first (history acts) (calls acts) new last
+    finish : (acts : List Act) (new : DeskState) (last : V) (next : ℕ) (are : List U) (after : Flow) (result : Result (Unit {0}) Fault) → All (IsAllowed passes) acts → InRounds (map client were) acts → Moves k old first (history acts) (calls acts) new last
         → Tells old.running.epoch next (ended_of (calls acts)) (records acts) → IsPrinted before after (report decimal (records acts)) → All (λ u. fits u (said_by (client u) (history acts))) are
         → map client are ≡ map client were → map bound are ≡ map bound were → map plan are ≡ map plan were → RunEnds k first last old new acts (report decimal (records acts)) before after result
         → Conducted k passes client bound plan fits old new first last were are before after result
-    finish acts new last next are after result allowed moves told printed fitting clients bounds plans ends = record {
+    finish acts new last next are after result allowed rounds moves told printed fitting clients bounds plans ends = record {
       acts = acts;
       allowed = allowed;
+      rounds = rounds;
       leads = moves.leads;
       chain = moves.chain;
       serial = λ m held.
@@ -247,16 +262,16 @@ module _ {V U Plan : Type 0} (k : Kind V) (p : Params) (passes : ℕ → ℕ →
 
     -- nothing was done, for want of memory
     pub done_short : All (λ u. fits u []) were → Conducted k passes client bound plan fits old old first first were were before before (Err Memory)
-    done_short fit = finish [] old first old.running.epoch were before (Err Memory) (All-nil _) (moves_none k old first) (tells_none old.running.epoch old.running.epoch refl) (printed_whole [] before before (written_none before)) fit refl refl refl
+    done_short fit = finish [] old first old.running.epoch were before (Err Memory) (All-nil _) (in_rounds_none (map client were)) (moves_none k old first) (tells_none old.running.epoch old.running.epoch refl) (printed_whole [] before before (written_none before)) fit refl refl refl
         (inl (record { fault_is = refl; answered = tt; ends = inl refl }, written_none before))
 
     -- each client has signed off
-    pub done_over : (d : DeskState) (v : V) (c : VaultCounts) (are : List U) (now : Flow) (done : Unit {0}) → Going d v c are now → IsOver d → Conducted k passes client bound plan fits old d first v were are before now (Ok done)
-    done_over d v c are now done g over = finish g.acts d v d.running.epoch are now (Ok done) g.allowed g.moves g.told (printed_whole (report decimal (records g.acts)) before now g.written) g.fitting g.clients g.bounds g.plans (g.answered, over, g.written)
+    pub done_over : (d : DeskState) (v : V) (c : VaultCounts) (are : List U) (now : Flow) (done : Unit {0}) → Whole d v c are now → IsOver d → Conducted k passes client bound plan fits old d first v were are before now (Ok done)
+    done_over d v c are now done g over = finish g.acts d v d.running.epoch are now (Ok done) g.allowed g.shape g.moves g.told (printed_whole (report decimal (records g.acts)) before now g.written) g.fitting g.clients g.bounds g.plans (g.answered, over, g.written)
 
     -- ---- a run that fails
 
-    module _ (d new : DeskState) (v w : V) (c : VaultCounts) (are : List U) (now after : Flow) (fault : Fault) (g : Going d v c are now) where
+    module _ (d new : DeskState) (v w : V) (c : VaultCounts) (are : List U) (now after : Flow) (fault : Fault) (g : Turned d v c are now) where
       silent_written : (act : Act) → published (desk_calls act) ≡ [] → after ≡ now → IsWritten (report decimal (records (g.acts ++ act ∷ []))) before after
       silent_written act none silent = subst (λ (f : Flow). IsWritten (report decimal (records (g.acts ++ act ∷ []))) before f) (sym silent)
           (subst (λ (rs : List (EpochRecord ℕ)). IsWritten (report decimal rs) before now) (sym (records_more g.acts act ∙ ap (λ (x : List (EpochRecord ℕ)). records g.acts ++ x) none ∙ append-nil (records g.acts))) g.written)
@@ -371,7 +386,7 @@ module _ {V U Plan : Type 0} (k : Kind V) (p : Params) (passes : ℕ → ℕ →
       fails_ends act (inr (inr (inr u))) = unwritten_ends act u
 
       pub done_failed : ActFails k passes d v now fault new w after → Conducted k passes client bound plan fits old new first w were are before after (Err fault)
-      done_failed (act, l, how) = finish (g.acts ++ act ∷ []) new w l.next are after (Err fault) (All-push (IsAllowed passes) g.acts act g.allowed l.allowed) (moves_on g.acts act d new v w g.moves l.moves)
+      done_failed (act, l, how) = finish (g.acts ++ act ∷ []) new w l.next are after (Err fault) (All-push (IsAllowed passes) g.acts act g.allowed l.allowed) (round_ends (map client were) g.acts act g.shape l.drivers) (moves_on g.acts act d new v w g.moves l.moves)
           (tells_on g.acts act d.running.epoch l.next g.told l.told)
           (subst (λ (rs : List (EpochRecord ℕ)). IsPrinted before after (report decimal rs)) (sym (records_more g.acts act)) (printed_then (records g.acts) (published (desk_calls act)) before now after g.written l.printed))
           (fit_on g.acts act are l.quiet g.fitting) g.clients g.bounds g.plans (fails_ends act how)

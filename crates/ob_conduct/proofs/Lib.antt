@@ -5,6 +5,7 @@ pub mod Moving
 pub mod Batches
 pub mod Closing
 pub mod Acting
+pub mod Turning
 pub mod Stepping
 pub mod Going
 pub mod Conducting

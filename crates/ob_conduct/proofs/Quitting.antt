@@ -104,6 +104,7 @@ pub begun_step : (c : ℕ) (old new : DeskState) (x : TxnId) → MayCall old (de
 begun_step c old new x may step = let s : Call × Reply = (desk.Begin c, desk.Begun x) in record {
   made = (new, may, step, refl);
   own = All-cons (IsOwn c) s [] refl (All-nil _);
+  one = λ said q. inl refl;
   fits = λ said q. with_own c (Some x) false false said s (eq_same c) (record {
     at = ap last_of (told_push said s) ∙ last_of-append (told_of said) (begun x ∷ []) (begun x) refl;
     named = λ y is. ap (λ (z : TxnId). z.client) (sym (same_Some x y is) ∙ step.next);
@@ -117,6 +118,7 @@ pub refused_step : (c : ℕ) (old new : DeskState) (fault : Fault) → MayCall o
 refused_step c old new fault may step = let s : Call × Reply = (desk.Begin c, desk.Refused fault) in record {
   made = (new, may, step, refl);
   own = All-cons (IsOwn c) s [] refl (All-nil _);
+  one = λ said q. inl refl;
   fits = λ said q. with_own c None true false said s (eq_same c) (record {
     at = inl (ap last_of (told_push said s ∙ on_last-same (λ t. t) (told_of said) (λ t. refl)) ∙ q.at);
     named = q.named;
@@ -130,6 +132,7 @@ pub stop_step : (c : ℕ) (txn : Option TxnId) (over_now : Bool) (old new : Desk
 stop_step c txn over_now old new step = record {
   made = (new, tt, step, refl);
   own = All-cons (IsOwn c) (desk.Stop Memory, desk.Done) [] refl (All-nil _);
+  one = λ said q. inl refl;
   fits = λ said q. subst (Quits c txn over_now false) (sym (append-nil said)) q;
   stands = λ said q. sym (ap stands_after (append-nil said) ∙ q.stands);
 }
@@ -138,6 +141,7 @@ pub abort_step : (c : ℕ) (old new : DeskState) (x : TxnId) (why : Why ℕ) →
 abort_step c old new x why named may step = let s : Call × Reply = (desk.Abort x, desk.Aborted why) in record {
   made = (new, may, step, refl);
   own = All-cons (IsOwn c) s [] named (All-nil _);
+  one = λ said q. inl refl;
   fits = λ said q. with_own c (Some x) true false said s (mine named) (record {
     at = inr (over (AbortedBy why) (begun x), AbortedBy why, ap last_of (told_push said s) ∙ last_of-on_last (over (AbortedBy why)) (told_of said) (begun x) q.at, refl);
     named = q.named;
@@ -154,6 +158,7 @@ pub sign_step : (c : ℕ) (txn : Option TxnId) (old new : DeskState) → MayCall
 sign_step c txn old new may step = let s : Call × Reply = (desk.SignOff c, desk.Done) in record {
   made = (new, may, step, refl);
   own = All-cons (IsOwn c) s [] refl (All-nil _);
+  one = λ said q. inl refl;
   fits = λ said q. with_own c txn true true said s (eq_same c) (record {
     at = subst (λ (told : List Told). IsAt txn true (last_of told)) (sym (told_push said s ∙ on_last-same (λ t. t) (told_of said) (λ t. refl))) q.at;
     named = q.named;
@@ -167,6 +172,7 @@ pub gone_step : (c : ℕ) (txn : Option TxnId) (over_now : Bool) (d : DeskState)
 gone_step c txn over_now d = record {
   made = refl;
   own = All-nil _;
+  one = λ said q. inr (refl, q.signed_off);
   fits = λ said q. subst (Quits c txn over_now true) (sym (append-nil said)) q;
   stands = λ said q. sym (ap stands_after (append-nil said) ∙ q.stands);
 }

@@ -1,21 +1,22 @@
 -- The steps of runners, one behind the other.
-use Rattle.std.proofs.Common.{◌≡◌, ◌∙◌, ◌<◌, ◌≤◌, ◌+◌, ◌-◌, ℕ, zero, suc, All, List, [], ◌∷◌, ◌++◌, length, map, set, get_or, refl, sym, ap, subst, ⊎_elim, arith}
+use Rattle.std.proofs.Common.{◌≡◌, ◌∙◌, ◌<◌, ◌≤◌, ◌+◌, ◌-◌, ℕ, zero, suc, All, List, [], ◌∷◌, ◌++◌, length, map, set, take, get_or, refl, sym, ap, subst, ⊎_elim, arith}
 use Rattle.std.specs.List.{Contains}
 use Rattle.std.specs.List.Sorted.{IsStrictlyIncreasing}
 use Rattle.std.proofs.lemmas.Bool.{cases_eq, cases_lt}
-use Rattle.std.proofs.lemmas.List.{append-nil, append_assoc, get_or-map, get_or-set_same, get_or-set_other, length-map, length-set}
+use Rattle.std.proofs.lemmas.List.{take_more, append-nil, append_assoc, get_or-map, get_or-set_same, get_or-set_other, length-map, length-set}
 use Rattle.std.proofs.lemmas.List.Elements.{All-nil, All-push, All-map, filter-append}
 use Rattle.std.proofs.lemmas.List.Concat.{flat_map-append}
 use Rattle.std.proofs.Math.Seq.{map-set_same}
 use Rattle.ob_desk.specs.Desk.{DeskState, Call, Reply, new_desk, MayOpen}
 use Rattle.ob_session.specs.Steps.{Leads, IsOwn}
-use Rattle.ob_session.specs.Clients.{said_by, is_of}
+use Rattle.ob_session.specs.Clients.{said_by, is_of, IsOneCall}
 use Rattle.ob_session.specs.Agreeing.{Agrees}
 use Rattle.ob_session.proofs.Runs.{calls_agree}
 use Rattle.ob_conduct.specs.Acts.{Act, Says, history, desk_calls}
 use Rattle.ob_conduct.specs.Moves.{IsSaid, Stepped, Heard}
 use Rattle.ob_conduct.proofs.Moving.{leads_join}
 use Rattle.ob_conduct.proofs.Ready.{other_said}
+use Rattle.ob_conduct.proofs.Turning.{turns_push}
 
 pub history_more : (acts : List Act) (act : Act) → history (acts ++ act ∷ []) ≡ history acts ++ desk_calls act
 history_more acts act = flat_map-append desk_calls acts (act ∷ []) ∙ ap (λ (x : List (Call × Reply)). history acts ++ x) (append-nil (desk_calls act))
@@ -54,13 +55,13 @@ module _ {U Plan : Type 0} (client bound : U → ℕ) (plan : U → Plan) (fits 
       let here : get_or (map bound are) i 0 ≡ bound u = at_map bound are i u lt ∙ ap bound (sym is) in
       subst (λ b. b ≤ n) here (all i 0 (subst (λ l. i < l) (sym (length-map are bound)) lt))
 
-  pub stepped_none : (d : DeskState) (us : List U) → Stepped client bound plan fits d us d us
-  stepped_none d us = record { acts = []; says = All-nil _; leads = refl; clients = refl; bounds = refl; plans = refl; fitting = λ calls all. subst (λ (h : List (Call × Reply)). All (λ u. fits u (said_by (client u) h)) us) (sym (append-nil calls)) all }
+  pub stepped_none : (d : DeskState) (us : List U) → Stepped client bound plan fits [] d us d us
+  stepped_none d us = record { acts = []; says = All-nil _; leads = refl; clients = refl; bounds = refl; plans = refl; fitting = λ calls all. subst (λ (h : List (Call × Reply)). All (λ u. fits u (said_by (client u) h)) us) (sym (append-nil calls)) all; turns = λ calls all. tt }
 
-  pub stepped_more : (old mid new : DeskState) (was are : List U) (i : ℕ) (u v : U) (steps : List (Call × Reply)) → IsStrictlyIncreasing (map client was) → i < length are → u ≡ get_or are i u → Stepped client bound plan fits old was mid are
-      → client v ≡ client u → bound v ≡ bound u → plan v ≡ plan u → All (IsOwn (client u)) steps → Leads mid steps new → ((said : List (Call × Reply)) → fits u said → fits v (said ++ said_by (client u) steps))
-      → Stepped client bound plan fits old was new (set are i v)
-  stepped_more old mid new was are i u v steps rising lt is s same_client same_bound same_plan own leads goes_on = record {
+  pub stepped_more : (numbers : List ℕ) (old mid new : DeskState) (was are : List U) (i : ℕ) (u v : U) (steps : List (Call × Reply)) → IsStrictlyIncreasing (map client was) → i < length are → u ≡ get_or are i u → Stepped client bound plan fits numbers old was mid are
+      → client v ≡ client u → bound v ≡ bound u → plan v ≡ plan u → All (IsOwn (client u)) steps → Leads mid steps new → ((said : List (Call × Reply)) → fits u said → fits v (said ++ said_by (client u) steps)) → ((said : List (Call × Reply)) → fits u said → IsOneCall said steps)
+      → Stepped client bound plan fits (numbers ++ client u ∷ []) old was new (set are i v)
+  stepped_more numbers old mid new was are i u v steps rising lt is s same_client same_bound same_plan own leads goes_on one = record {
     acts = s.acts ++ Says (client u) steps ∷ [];
     says = All-push IsSaid s.acts (Says (client u) steps) s.says own;
     leads = subst (λ (h : List (Call × Reply)). Leads old h new) (sym (history_more s.acts (Says (client u) steps))) (leads_join old (history s.acts) mid steps new s.leads leads);
@@ -68,8 +69,12 @@ module _ {U Plan : Type 0} (client bound : U → ℕ) (plan : U → Plan) (fits 
     bounds = map-set_same bound are i v u (same_bound ∙ ap bound is) ∙ s.bounds;
     plans = map-set_same plan are i v u (same_plan ∙ ap plan is) ∙ s.plans;
     fitting = λ calls all j d within. fit calls (s.fitting calls all) j d within;
+    turns = λ calls all. turns_push numbers calls s.acts (client u) (Says (client u) steps) (s.turns calls all) (refl, one (said_by (client u) (calls ++ history s.acts)) (its calls (s.fitting calls all)));
   }
     where
+      its : (calls : List (Call × Reply)) → All (λ w. fits w (said_by (client w) (calls ++ history s.acts))) are → fits u (said_by (client u) (calls ++ history s.acts))
+      its calls all = subst (λ w. fits w (said_by (client w) (calls ++ history s.acts))) (sym is) (all i u lt)
+
       rises : IsStrictlyIncreasing (map client are)
       rises = subst IsStrictlyIncreasing (sym s.clients) rising
 
@@ -78,7 +83,7 @@ module _ {U Plan : Type 0} (client bound : U → ℕ) (plan : U → Plan) (fits 
 
       here : (calls : List (Call × Reply)) → All (λ w. fits w (said_by (client w) (calls ++ history s.acts))) are → fits v (said_by (client v) (calls ++ history (s.acts ++ Says (client u) steps ∷ [])))
       here calls all = subst (λ c. fits v (said_by c (calls ++ history (s.acts ++ Says (client u) steps ∷ [])))) (sym same_client)
-          (subst (fits v) (sym (joined calls (client u))) (goes_on (said_by (client u) (calls ++ history s.acts)) (subst (λ w. fits w (said_by (client w) (calls ++ history s.acts))) (sym is) (all i u lt))))
+          (subst (fits v) (sym (joined calls (client u))) (goes_on (said_by (client u) (calls ++ history s.acts)) (its calls all)))
 
       there : (calls : List (Call × Reply)) (w : U) → (client u ≡ client w → ⊥) → fits w (said_by (client w) (calls ++ history s.acts)) → fits w (said_by (client w) (calls ++ history (s.acts ++ Says (client u) steps ∷ [])))
       there calls w other fit = subst (fits w) (sym (joined calls (client w) ∙ ap (λ (x : List (Call × Reply)). said_by (client w) (calls ++ history s.acts) ++ x) (other_said (client w) (client u) steps other own) ∙ append-nil (said_by (client w) (calls ++ history s.acts)))) fit
@@ -94,9 +99,14 @@ module _ {U Plan : Type 0} (client bound : U → ℕ) (plan : U → Plan) (fits 
           long : (j : ℕ) → j < length (set are i v) → j < length are
           long j within = subst (λ l. j < l) (length-set are i v) within
 
+  -- the clients that had their turns, with one more
+  pub turns_next : (was are : List U) (i : ℕ) (u : U) → map client are ≡ map client was → i < length are → u ≡ get_or are i u → take i (map client was) ++ client u ∷ [] ≡ take (i + 1) (map client was)
+  turns_next was are i u same lt is = ap (λ n. take i (map client was) ++ n ∷ []) (sym (at_map client are i u lt ∙ ap client (sym is)) ∙ ap (λ ns. get_or ns i 0) same)
+      ∙ sym (take_more (map client was) i 0 (subst (λ l. i < l) (sym (length-map are client) ∙ ap (λ (ns : List ℕ). length ns) same) lt))
+
   -- what was heard before steps is heard behind them
-  pub heard_on : (old new : DeskState) (was are : List U) → Heard client fits old was → Stepped client bound plan fits old was new are → Heard client fits new are
-  heard_on old new was are h s = record {
+  pub heard_on : (numbers : List ℕ) (old new : DeskState) (was are : List U) → Heard client fits old was → Stepped client bound plan fits numbers old was new are → Heard client fits new are
+  heard_on numbers old new was are h s = record {
     setup = h.setup;
     epoch = h.epoch;
     left = h.left;

@@ -21,6 +21,7 @@ use Rattle.ob_desk.specs.declared.calls.Look.{Look}
 use Rattle.ob_session.specs.Steps.{Leads}
 use Rattle.ob_session.specs.Clients.{said_by}
 use Rattle.ob_session.specs.Records.{IsAtRest}
+use Rattle.ob_conduct.specs.Rounds.{InRounds}
 use Rattle.ob_conduct.specs.Acts.{Act, Halts, FetchFails, EndFails, Batch, history, calls, records, look_calls, rest_calls, IsAllowed}
 
 -- the map with the writes of these transactions, in order
@@ -130,6 +131,8 @@ RunEnds k first last old new acts text before after (Err fault) =
 pub record Conducted {V U Plan : Type 0} (k : Kind V) (passes : ℕ → ℕ → ℕ → ℕ → Bool) (client bound : U → ℕ) (plan : U → Plan) (fits : U → List (Call × Reply) → Type 0) (old new : DeskState) (first last : V) (before_runners after_runners : List U) (before after : Flow) (result : Result (Unit {0}) Fault) : Type 0 where
   pub acts : List Act
   pub allowed : All (IsAllowed passes) acts
+  -- in each round every client in order makes one call, or none behind its sign-off, and then the driver does one thing
+  pub rounds : InRounds (map client before_runners) acts
   -- the desk's calls are one history, each of them allowed where it is made, and the vault's calls are one chain
   pub leads : Leads old (history acts) new
   pub chain : AllCalled k first (calls acts) last

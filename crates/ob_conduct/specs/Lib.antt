@@ -3,3 +3,4 @@ pub mod Conducted
 pub mod Left
 pub mod Moves
 pub mod Quitting
+pub mod Rounds

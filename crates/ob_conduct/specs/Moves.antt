@@ -23,6 +23,7 @@ use Rattle.ob_desk.specs.declared.calls.Look.{Look}
 use Rattle.ob_session.specs.Steps.{Leads, IsOwn}
 use Rattle.ob_session.specs.Clients.{said_by}
 use Rattle.ob_conduct.specs.Acts.{Act, Says, Halts, FetchFails, EndFails, Batch, history, look_calls, rest_calls, rest_fetches, end_calls, stop_for, desk_calls, vault_calls, IsAllowed}
+use Rattle.ob_conduct.specs.Rounds.{AreTurns, IsDrivers}
 use Rattle.ob_conduct.specs.Conducted.{HoldsMap, AreAnswered, AreWritten, Makes, IsWritten, fault_in}
 
 -- no key stands in it twice
@@ -173,6 +174,7 @@ pub record Acted {V : Type 0} (k : Kind V) (p : Params) (passes : ℕ → ℕ �
   pub allowed : IsAllowed passes act
   pub moves : Moves k old first (desk_calls act) (vault_calls act) new last
   -- it is no client's
+  pub drivers : IsDrivers act
   pub quiet : (client : ℕ) → said_by client (desk_calls act) ≡ []
   pub ready : IsReady p new c
   pub answered : AreAnswered (vault_calls act)
@@ -183,6 +185,7 @@ pub record Acted {V : Type 0} (k : Kind V) (p : Params) (passes : ℕ → ℕ �
 pub record LastAct {V : Type 0} (k : Kind V) (passes : ℕ → ℕ → ℕ → ℕ → Bool) (old : DeskState) (first : V) (before : Flow) (act : Act) (new : DeskState) (last : V) (after : Flow) : Type 0 where
   pub allowed : IsAllowed passes act
   pub moves : Moves k old first (desk_calls act) (vault_calls act) new last
+  pub drivers : IsDrivers act
   pub quiet : (client : ℕ) → said_by client (desk_calls act) ≡ []
   pub next : ℕ
   pub told : Tells old.running.epoch next (ended_of (vault_calls act)) (published (desk_calls act))
@@ -240,8 +243,8 @@ abbrev pub IsSaid : Act → Type 0
 IsSaid (Says client steps) = All (IsOwn client) steps
 IsSaid _ = ⊥
 
--- A step of each runner: their clients' calls, one behind the other.
-pub record Stepped {U Plan : Type 0} (client bound : U → ℕ) (plan : U → Plan) (fits : U → List (Call × Reply) → Type 0) (old : DeskState) (was : List U) (new : DeskState) (are : List U) : Type 0 where
+-- A step of each runner: their clients' calls, one behind the other. So these clients had their turns.
+pub record Stepped {U Plan : Type 0} (client bound : U → ℕ) (plan : U → Plan) (fits : U → List (Call × Reply) → Type 0) (numbers : List ℕ) (old : DeskState) (was : List U) (new : DeskState) (are : List U) : Type 0 where
   pub acts : List Act
   pub says : All IsSaid acts
   pub leads : Leads old (history acts) new
@@ -249,6 +252,7 @@ pub record Stepped {U Plan : Type 0} (client bound : U → ℕ) (plan : U → Pl
   pub bounds : map bound are ≡ map bound was
   pub plans : map plan are ≡ map plan was
   pub fitting : (calls : List (Call × Reply)) → All (λ u. fits u (said_by (client u) calls)) was → All (λ u. fits u (said_by (client u) (calls ++ history acts))) are
+  pub turns : (calls : List (Call × Reply)) → All (λ u. fits u (said_by (client u) calls)) was → AreTurns numbers calls acts
 
 -- The desk came by these calls from a new one, and each runner has made just its client's calls.
 pub record Heard {U : Type 0} (client : U → ℕ) (fits : U → List (Call × Reply) → Type 0) (d : DeskState) (runners : List U) : Type 0 where

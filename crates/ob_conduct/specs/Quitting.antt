@@ -4,7 +4,7 @@ use Rattle.ob_serial.specs.declared.records.Outcome.{Outcome}
 use Rattle.ob_desk.specs.Desk.{DeskState, Call, Reply}
 use Rattle.ob_desk.specs.declared.calls.Txn.{Txn as TxnId}
 use Rattle.ob_session.specs.Steps.{Leads, IsOwn}
-use Rattle.ob_session.specs.Clients.{Told, begun, told_of, last_of, said_by, has_signed_off, stands_after}
+use Rattle.ob_session.specs.Clients.{Told, begun, told_of, last_of, said_by, has_signed_off, stands_after, IsOneCall}
 use Rattle.ob_session.specs.declared.runner.Step.{Step}
 use Rattle.ob_session.specs.declared.runner.Step.TheVariants as stands
 
@@ -24,5 +24,6 @@ pub record Quits (client : ℕ) (txn : Option TxnId) (over_now gone : Bool) (sai
 pub record QuitterStep (client : ℕ) (txn : Option TxnId) (over_now gone : Bool) (txn_new : Option TxnId) (over_new gone_new : Bool) (old new : DeskState) (steps : List (Call × Reply)) (stand : Step) : Type 0 where
   pub made : Leads old steps new
   pub own : All (IsOwn client) steps
+  pub one : (said : List (Call × Reply)) → Quits client txn over_now gone said → IsOneCall said steps
   pub fits : (said : List (Call × Reply)) → Quits client txn over_now gone said → Quits client txn_new over_new gone_new (said ++ said_by client steps)
   pub stands : (said : List (Call × Reply)) → Quits client txn over_now gone said → stand ≡ stands_after (said ++ said_by client steps)

@@ -12,7 +12,7 @@ pub fn step_all<U: Runner>(desk: &mut Desk, runners: &mut [U])
     requires below { All (λ u. U.bound u ≤ desk.old.setup.params.keys) runners.old }
     requires ready { (c : VaultCounts) × IsReady desk.old.setup.params desk.old c }
     requires heard { Heard U.client U.fits desk.old runners.old }
-    ensures stepped { Stepped U.client U.bound U.plan U.fits desk.old runners.old desk.new runners.new }
+    ensures stepped { Stepped U.client U.bound U.plan U.fits (map U.client runners.old) desk.old runners.old desk.new runners.new }
     ensures ready { (p : Params) (c : VaultCounts) → IsReady p desk.old c → IsReady p desk.new c }
 {
     for i in 0..runners.len() {

@@ -1,8 +1,9 @@
 -- Each step of a runner, by its call and the answer.
-use Rattle.std.proofs.Common.{◌≡◌, ◌<◌, ◌+◌, ℕ, Bool, true, false, ◌==◌, List, [], ◌∷◌, ◌++◌, take, Option, Some, None, refl, sym, ap, subst, ◌∙◌, append-nil, inr, arith, eq-eqb, ℤ}
+use Rattle.std.proofs.Common.{◌≡◌, ◌<◌, ◌+◌, ℕ, Bool, true, false, ◌==◌, List, [], ◌∷◌, ◌++◌, length, take, Option, Some, None, refl, sym, ap, subst, ◌∙◌, append-nil, inl, inr, arith, eq-eqb, ℤ}
 use Rattle.std.specs.Prelude.{slice_get, is_some}
 use Rattle.std.specs.Option.{unwrap_or}
 use Rattle.std.proofs.lemmas.Bool.{false≢true}
+use Rattle.std.proofs.lemmas.List.{nil_from_length}
 use Rattle.std.proofs.lemmas.List.Elements.{All-cons, All-nil}
 use Rattle.ob_base.specs.declared.op.Op.{Op}
 use Rattle.ob_base.specs.declared.op.Op.TheVariants as op
@@ -23,7 +24,7 @@ use Rattle.ob_desk.specs.declared.calls.Done.TheVariants as done_as
 use Rattle.ob_session.specs.declared.runner.Step.{Step}
 use Rattle.ob_session.specs.declared.runner.Step.TheVariants as stands
 use Rattle.ob_session.specs.Steps.{IsOwn}
-use Rattle.ob_session.specs.Clients.{Told, told_next, answered, over, said_by, is_of, stands_behind, stands_after}
+use Rattle.ob_session.specs.Clients.{Told, told_next, answered, over, said_by, is_of, has_signed_off, stands_behind, stands_after, IsOneCall}
 use Rattle.ob_script.specs.declared.line.Ask.{Ask}
 use Rattle.ob_script.specs.declared.line.Ask.TheVariants as ask
 use Rattle.ob_script.specs.declared.line.Ending.TheVariants as ending
@@ -32,7 +33,7 @@ use Rattle.ob_runner.specs.declared.place.Place.{Place}
 use Rattle.ob_runner.specs.declared.place.Place.TheVariants as place
 use Rattle.ob_runner.specs.declared.place.Read.{Read}
 use Rattle.ob_runner.specs.Meaning.{sum_of, Meets, IsMeant}
-use Rattle.ob_runner.specs.Places.{RunnerState, at_place, finished, after_got, after_done, stand_of, ask_with, place_behind, IsCurrent, IsReading, HasRead, IsPlacedIn, IsWithin, InTxn, IsAskAt, Completes, IsAtEnd, IsToAbort, IsInScript, IsAtWork, Fits, MayStep, Halts, calls_at, takes_memory, IsNoStop, StepsTo}
+use Rattle.ob_runner.specs.Places.{RunnerState, at_place, finished, after_got, after_done, stand_of, ask_with, place_behind, IsCurrent, IsReading, HasRead, IsPlacedIn, IsWithin, InTxn, IsAskAt, Completes, IsAtEnd, IsToAbort, IsInScript, IsAtWork, Fits, is_over, MayStep, Halts, calls_at, takes_memory, IsNoStop, StepsTo}
 use Rattle.ob_runner.proofs.Tellings.{last_more}
 use Rattle.ob_runner.proofs.Meetings.{meets_next, meets_sum, no_sum_read}
 use Rattle.ob_runner.proofs.Works.{Works, works, works_waiting, works_asked, in_script, ran, key_below, IsCommitted}
@@ -86,6 +87,16 @@ pub halts : (r : RunnerState) (d mid new : DeskState) (stand : Step) (made : Lis
     → StepsTo r d stand made r new
 halts r d mid new stand made one takes standing same halt = steps_as r d new stand stands.Ran made ((desk.Stop Memory, desk.Done) ∷ []) r r halt.stand_is halt.made_is refl
     (stopped_now r d new one takes standing (subst (λ (q : DeskState). desk.StopStep q Memory new) same halt.stopped))
+
+-- it makes one call, or none behind its sign-off
+pub one_call : (p : Place) (said made : List (Call × Reply)) → length made ≡ calls_at p → has_signed_off said ≡ is_over p → IsOneCall said made
+one_call place.Between said made count signed = inl count
+one_call (place.Next x i) said made count signed = inl count
+one_call (place.Waiting x read) said made count signed = inl count
+one_call (place.Adding x key sum next) said made count signed = inl count
+one_call (place.Asked x) said made count signed = inl count
+one_call place.Stopped said made count signed = inl count
+one_call place.Over said made count signed = inr (nil_from_length made count, signed)
 
 one_by : (p : Place) (x : TxnId) → IsAtWork x p → calls_at p ≡ 1
 one_by (place.Next y i) x at = refl

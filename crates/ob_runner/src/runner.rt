@@ -435,7 +435,7 @@ impl Runner for ScriptRunner {
     ghost use Rattle.std.specs.Prelude.{◌≤◌, ◌++◌, List, All, false};
     ghost use Rattle.ob_desk.specs.Desk.{Call, Reply};
     ghost use Rattle.ob_session.specs.Steps.{Leads, IsOwn};
-    ghost use Rattle.ob_session.specs.Clients.{said_by, stands_after};
+    ghost use Rattle.ob_session.specs.Clients.{said_by, stands_after, IsOneCall};
     ghost use Rattle.ob_session.specs.Agreeing.{Agrees};
     ghost use Rattle.ob_script.specs.Script.{ScriptTxn as Asked};
     ghost use Rattle.ob_script.specs.ScriptViews.{script_of};
@@ -461,11 +461,12 @@ impl Runner for ScriptRunner {
         ensures bound { self.new.keys ≡ self.old.keys }
         ensures plan { script_of self.new.txns.items ≡ script_of self.old.txns.items }
         ensures made { Leads desk.old (steps_of result.1) desk.new }
+        ensures one { (said : List (Call × Reply)) → Fits (runner_state self.old) said → IsOneCall said (steps_of result.1) }
         ensures own { All (IsOwn self.old.client) (steps_of result.1) }
         ensures fits { (said : List (Call × Reply)) → Fits (runner_state self.old) said → Fits (runner_state self.new) (said ++ said_by self.old.client (steps_of result.1)) }
         ensures step { (said : List (Call × Reply)) → Fits (runner_state self.old) said → result.0 ≡ stands_after (said ++ said_by self.old.client (steps_of result.1)) }
 
-        ensures one { length (steps_of result.1) ≡ places.calls_at self.old.place }
+        ensures count { length (steps_of result.1) ≡ places.calls_at self.old.place }
         ensures no_stop { places.takes_memory self.old.place (slice_get (runner_state self.old).script self.old.at) ≡ false → All places.IsNoStop (steps_of result.1) }
     {
         self.call(desk)

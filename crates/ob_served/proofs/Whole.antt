@@ -32,6 +32,7 @@ use Rattle.ob_causes.proofs.Due.{all_signed_off}
 use Rattle.ob_causes.proofs.Alone.{one_client}
 use Rattle.ob_script.specs.Script.{ScriptTxn, Scripts, AreSound, asks_by}
 use Rattle.ob_runner.specs.Meaning.{MeantFirst, MeantAll}
+use Rattle.ob_conduct.specs.Rounds.{InRounds}
 use Rattle.ob_conduct.specs.Acts.{Act, Says, Halts, Rests, Fetches, FetchFails, Ends, EndFails, Unprinted, Batch, desk_calls, look_calls, rest_calls, stop_for, history, records, IsAllowed}
 use Rattle.ob_conduct.specs.Conducted.{Conducted, IsOver, IsEndRefused}
 use Rattle.ob_served.specs.Served.{IsServed, IsDue, IsDueAt, IsPatient, IsLonely, ClientsServed, ClientsServedAll}
@@ -150,6 +151,7 @@ module _ {V U : Type 0} (k : Kind V) (passes : ℕ → ℕ → ℕ → ℕ → B
       acts = d.acts;
       told_are = refl;
       allowed = d.allowed;
+      rounds = subst (λ numbers. InRounds numbers d.acts) named d.rounds;
       desk = new;
       leads = d.leads;
       first = first_served;

@@ -16,6 +16,7 @@ use Rattle.ob_session.specs.Records.{txns_by}
 use Rattle.ob_script.specs.Script.{ScriptTxn, Scripts, asks_by}
 use Rattle.ob_runner.specs.Meaning.{Meets, MeetsFront, MeetsNoSum}
 use Rattle.ob_script.specs.declared.line.Ending.TheVariants.{Commit, Abort}
+use Rattle.ob_conduct.specs.Rounds.{InRounds}
 use Rattle.ob_conduct.specs.Acts.{Act, Says, Halts, Rests, Fetches, FetchFails, Ends, EndFails, Unprinted, history, records, IsAllowed}
 
 -- How a transaction of a script ended, and what it did. A committed one did all that it asks for, and its last line asks for that. One
@@ -73,6 +74,8 @@ pub record IsServed (passes : ℕ → ℕ → ℕ → ℕ → Bool) (p : Params)
   pub acts : List Act
   pub told_are : told ≡ records acts
   pub allowed : All (IsAllowed passes) acts
+  -- in rounds: each client in rising number makes one call, or none behind its sign-off, and then the driver does one thing
+  pub rounds : InRounds script.clients acts
   pub desk : DeskState
   pub leads : Leads (new_desk (record { params = p }) (suc epoch) left script.clients) (history acts) desk
   -- Each client's transactions are a front of its script's, in order, each once, with the operations that it means.

@@ -1,5 +1,5 @@
 -- What one client's calls say of its transactions, by how they were answered.
-use Rattle.std.specs.Prelude.{ℕ, ◌==◌, Bool, true, false, List, [], ◌∷◌, ◌++◌, filter, Option, Some, None}
+use Rattle.std.specs.Prelude.{ℕ, ◌≡◌, ◌⊎◌, ◌==◌, Bool, true, false, List, [], ◌∷◌, ◌++◌, filter, length, Option, Some, None}
 use Rattle.std.specs.Option.{option_map, unwrap_or}
 use Rattle.std.specs.List.{list_any}
 use Rattle.ob_base.specs.declared.op.Op.{Op}
@@ -117,6 +117,10 @@ is_sign_off _ = false
 
 abbrev pub has_signed_off : List (Call × Reply) → Bool
 has_signed_off said = list_any is_sign_off said
+
+-- a step makes one call, or none behind a sign-off
+abbrev pub IsOneCall : List (Call × Reply) → List (Call × Reply) → Type 0
+IsOneCall said steps = (length steps ≡ 1) ⊎ ((steps ≡ []) × (has_signed_off said ≡ true))
 
 -- it was told that no more transactions begin
 abbrev pub is_refusal : Call × Reply → Bool

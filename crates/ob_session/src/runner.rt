@@ -1,7 +1,7 @@
 ghost use Rattle.std.specs.Prelude.{◌≡◌, ◌≤◌, ℕ, All, List, ◌++◌};
 ghost use Rattle.ob_desk.specs.Desk.{Call, Reply};
 ghost use Rattle.ob_session.specs.Steps.{steps_of, Leads, IsOwn};
-ghost use Rattle.ob_session.specs.Clients.{said_by, stands_after};
+ghost use Rattle.ob_session.specs.Clients.{said_by, stands_after, IsOneCall};
 ghost use Rattle.ob_session.specs.Agreeing.{Agrees};
 
 use crate::made::Made;
@@ -49,6 +49,8 @@ pub trait Runner: Drop {
         ensures bound { bound self.new ≡ bound self.old }
         ensures plan { plan self.new ≡ plan self.old }
         ensures made { Leads desk.old (steps_of result.1) desk.new }
+        // It makes one call, and none only behind its sign-off.
+        ensures one { (said : List (Call × Reply)) → fits self.old said → IsOneCall said (steps_of result.1) }
         // Its steps make its client's calls alone, besides `stop` for want of memory and `stopped`.
         ensures own { All (IsOwn (client self.old)) (steps_of result.1) }
         ensures fits { (said : List (Call × Reply)) → fits self.old said → fits self.new (said ++ said_by (client self.old) (steps_of result.1)) }

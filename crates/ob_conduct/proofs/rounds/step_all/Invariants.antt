@@ -1,3 +1,4 @@
+use Rattle.std.proofs.Common.{map, take}
 use Rattle.ob_base.specs.declared.params.Params.{Params}
 use Rattle.ob_serial.specs.Vaults.{VaultCounts}
 use Rattle.ob_conduct.specs.Moves.{IsReady, Stepped}
@@ -5,6 +6,6 @@ use Rattle.ob_conduct.proofs.rounds.step_all.Given as goal
 
 abbrev pub invariant-loop-i : goal.invariant-loop-i
 invariant-loop-i g l = record {
-  stepped : Stepped g.U.Runner.client g.U.Runner.bound g.U.Runner.plan g.U.Runner.fits l.fn.desk l.fn.runners l.desk l.runners;
+  stepped : Stepped g.U.Runner.client g.U.Runner.bound g.U.Runner.plan g.U.Runner.fits (take l.i (map g.U.Runner.client l.fn.runners)) l.fn.desk l.fn.runners l.desk l.runners;
   ready : (p : Params) (c : VaultCounts) → IsReady p l.fn.desk c → IsReady p l.desk c;
 }
