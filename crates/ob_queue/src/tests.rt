@@ -64,6 +64,10 @@ fn take_back(queue: &mut Queue) {
     }
 }
 
+fn value() -> Option<Value> {
+    Value::new(&[1, 2])
+}
+
 #[test]
 fn keys_are_queued_once(rt: HostRuntime) -> Result<(), Fail> {
     let Some(mut queue) = queue_of(rt.alloc(), &[5, 3, 5, 7])? else {
@@ -102,14 +106,13 @@ fn values_are_delivered(rt: HostRuntime) -> Result<(), Fail> {
     let Some(mut queue) = queue_of(rt.alloc(), &[5, 3, 7])? else {
         return Ok(());
     };
-    let value = Value::new(&[1, 2]);
-    assert_eq!(rt; round(&mut queue, [value, None]), [Some(5), Some(3)]);
+    assert_eq!(rt; round(&mut queue, [value(), None]), [Some(5), Some(3)]);
     assert_eq!(rt;
         (queue.base(5), queue.base(3), queue.base(7)),
-        (Some(value), Some(None), None)
+        (Some(value()), Some(None), None)
     );
     assert_eq!(rt; counts(&queue), (1, 0, 1, false));
-    assert_eq!(rt; round(&mut queue, [value, value]), [Some(7), None]);
+    assert_eq!(rt; round(&mut queue, [value(), value()]), [Some(7), None]);
     assert_eq!(rt; counts(&queue), (0, 0, 0, true));
     Ok(())
 }
