@@ -8,9 +8,9 @@ ghost use Rattle.ob_order.specs.Writes.{pair_of};
 
 use crate::ledger::Ledger;
 use ob_base::{Key, Memory, Params, Value, Write};
-use ob_order::plain::batches::{add_bases, fill, move_front, push_write};
-use ob_order::plain::read_off::{base_of, has_key};
+use ob_order::plain::batches::push_write;
 use ob_order::{Fate, Read, Version, Work, Wrote};
+use ob_queue::Queue;
 use std::alloc::Global;
 use std::marker::Model;
 
@@ -18,30 +18,22 @@ use std::marker::Model;
 #[derive(Drop)]
 pub struct Order {
     alloc: Global,
-    params: Params,
-    left: u32,
     ledger: Ledger,
-    queue: Vec<Key>,
-    flying: Vec<Key>,
-    bases: Vec<(Key, Option<Value>)>,
+    queue: Queue,
 }
 
 impl Model for Order {
-    ghost use Rattle.std.specs.FinMap as finite;
     ghost use Rattle.std.specs.Coded.{codes};
-    ghost use Rattle.ob_order.specs.OrderModel.{OrderModel, HasRoom, IsKept, bases_code};
-    ghost use Rattle.std.specs.Prelude.{◌≡◌, length, vec_len, vec_capacity};
+    ghost use Rattle.ob_order.specs.OrderModel.{OrderModel, IsKept, bases_code};
+    ghost use Rattle.std.specs.Prelude.{◌≡◌};
 
     ghost Value = { OrderModel };
 
     ghost coded = { Prim.hlevel (codes, bases_code) };
 
-    ghost view = { λ o. record {
-      params = o.params;
-      state = record { left = o.left; works = o.ledger.works; queue = o.queue.items; flying = o.flying.items; bases = finite.from_entries o.bases.items };
-    } };
+    ghost view = { λ o. record { params = o.queue.params; state = record o.queue.state { works = o.ledger.works } } };
 
-    ghost invariant = { λ o. IsKept o.params o.ledger.works × (o.ledger.keys ≡ o.params.keys) × HasRoom o.params.places o.params.batches o.left (length o.flying.items) (vec_len o.bases) (vec_capacity o.flying) (vec_capacity o.bases) };
+    ghost invariant = { λ o. IsKept o.queue.params o.ledger.works × (o.ledger.keys ≡ o.queue.params.keys) };
 }
 
 impl Order {
@@ -55,17 +47,10 @@ impl Order {
         ensures params { IfOk result (λ o. o.params ≡ params.now) }
         ensures state { IfOk result (λ o. o.state ≡ rules.new_order left) }
     {
-        let _told: Option<Value> = None;
-        let places = params.places as usize;
-        let values = places * params.batches as usize;
         Ok(Order {
             alloc,
-            params: *params,
-            left,
             ledger: Ledger::new(alloc, params.keys),
-            queue: Vec::new(alloc),
-            flying: Vec::with_capacity(alloc, places)?,
-            bases: Vec::with_capacity(alloc, values)?,
+            queue: Queue::new(alloc, params, left)?,
         })
     }
 
@@ -75,12 +60,8 @@ impl Order {
         requires { left ≤ self.old.params.batches }
         ensures { self.new ≡ record self.old { state = rules.new_order left } }
     {
-        let _told: Option<Value> = None;
         self.ledger.clear();
-        self.queue.clear();
-        self.flying.clear();
-        self.bases.clear();
-        self.left = left;
+        self.queue.clear(left);
     }
 
     /// Takes a batch: the first keys in order of queuing are in flight from now on.
@@ -91,9 +72,7 @@ impl Order {
         ensures batch { out.new ≡ rules.batch_of self.old.params self.old.state }
         ensures state { self.new ≡ record self.old { state = rules.after_take self.old.params self.old.state } }
     {
-        fill(out, &self.queue);
-        move_front(&mut self.queue, &mut self.flying, out.len());
-        self.left -= 1;
+        self.queue.take_batch(out);
     }
 
     /// The keys in flight have these values from now on.
@@ -102,8 +81,7 @@ impl Order {
         requires each { length values.now ≡ length keys.now }
         ensures { self.new ≡ record self.old { state = rules.after_deliver self.old.state keys.now values.now } }
     {
-        add_bases(&mut self.bases, &self.flying, values);
-        self.flying.clear();
+        self.queue.deliver(keys, values);
     }
 
     /// Draws the next ticket.
@@ -125,24 +103,11 @@ impl Order {
     {
         match self.ledger.newest(t, key) {
             Some(version) => Some(version),
-            None => match base_of(&self.bases, key) {
+            None => match self.queue.base(key) {
                 Some(value) => Some(Version { source: 0, value }),
                 None => None,
             },
         }
-    }
-
-    fn is_asked_for(&self, key: Key) -> bool
-        ensures { result ≡ rules.is_asked_for self.now.state key }
-    {
-        has_key(&self.queue, key) || has_key(&self.flying, key)
-    }
-
-    // Whether the batches that are left have no place for one more key.
-    fn is_full(&self) -> bool
-        ensures { result ≡ (length self.now.state.queue == self.now.params.places * self.now.state.left) }
-    {
-        self.queue.len() as u64 == u64::from(self.params.places) * u64::from(self.left)
     }
 
     // A get by ticket t was answered with the version.
@@ -172,14 +137,18 @@ impl Order {
         ensures ok { OnOk result (self.new ≡ record self.old { state = rules.after_queued self.old.state t key }) }
         ensures err { OnErr result (self.new ≡ self.old) }
     {
-        if self.is_asked_for(key) {
+        if self.queue.is_asked_for(key) {
             self.ledger.wait(t, key)?;
             return Ok(());
         }
-        self.queue.reserve(1)?;
-        self.ledger.wait(t, key)?;
-        let _ = self.queue.push(key);
-        Ok(())
+        self.queue.ask(key)?;
+        match self.ledger.wait(t, key) {
+            Ok(()) => Ok(()),
+            Err(memory) => {
+                self.queue.take_back();
+                Err(memory)
+            }
+        }
     }
 
     /// A get of the key by ticket t, which isn't aborted: its own version of the key, else the
@@ -200,10 +169,10 @@ impl Order {
             let Version { source, value } = version;
             return Ok(Read::Value { value, source });
         }
-        if !self.is_asked_for(key) && self.is_full() {
+        if !self.queue.is_asked_for(key) && self.queue.is_full() {
             return Ok(Read::Full {
-                queued: self.queue.len() as u64,
-                left: u64::from(self.left),
+                queued: self.queue.queued(),
+                left: self.queue.left(),
             });
         }
         self.note_wait(t, key)?;
@@ -260,9 +229,9 @@ impl Order {
         if let Some(reader) = self.ledger.reader_above(t, key) {
             return Ok(Wrote::Conflict { key, reader });
         }
-        if self.ledger.other_keys(key) == u64::from(self.params.writes) {
+        if self.ledger.other_keys(key) == u64::from(self.queue.params().writes) {
             return Ok(Wrote::Full {
-                keys: u64::from(self.params.writes),
+                keys: u64::from(self.queue.params().writes),
             });
         }
         self.ledger.add_write(t, key, value)?;
@@ -292,7 +261,7 @@ impl Order {
         ensures room { vec_capacity out.old ≤ vec_capacity out.new }
     {
         out.clear();
-        for key in 0..self.params.keys {
+        for key in 0..self.queue.params().keys {
             push_write(out, key, self.last_version(key));
         }
     }
@@ -337,7 +306,7 @@ impl Order {
     pub fn params(&self) -> &Params
         ensures { result.now ≡ self.now.params }
     {
-        &self.params
+        self.queue.params()
     }
 
     /// How many transactions have begun.
@@ -351,20 +320,20 @@ impl Order {
     pub fn in_flight(&self) -> u64
         ensures { result ≡ length self.now.state.flying }
     {
-        self.flying.len() as u64
+        self.queue.in_flight()
     }
 
     /// How many keys are queued.
     pub fn queued(&self) -> u64
         ensures { result ≡ length self.now.state.queue }
     {
-        self.queue.len() as u64
+        self.queue.queued()
     }
 
     /// How many batches aren't taken yet.
     pub fn left(&self) -> u64
         ensures { result ≡ self.now.state.left }
     {
-        u64::from(self.left)
+        self.queue.left()
     }
 }

@@ -6,5 +6,5 @@ use Rattle.ob_versions.proofs.order.Order.abort.Goals as goal
 pub invariant_of-self : goal.invariant_of-self
 invariant_of-self c =
     let a = c.self.inside in
-    let k = kept_ledger a.params (works.aborted a.ledger.works c.args.t) _ a.ledger c.abort.ensures c.self.invariant.1 (kept_aborted a.params a.ledger.works c.args.t c.self.invariant.0) in
-    (k.0, k.1, c.self.invariant.2)
+    let k = kept_ledger a.queue.params (works.aborted a.ledger.works c.args.t) _ a.ledger c.abort.ensures c.self.invariant.1 (kept_aborted a.queue.params a.ledger.works c.args.t c.self.invariant.0) in
+    (k.0, k.1)

@@ -1,5 +1,4 @@
 use Rattle.std.proofs.Common.{◌≡◌, Some, sym, subst}
-use Rattle.std.specs.FinMap as finite
 use Rattle.ob_order.specs.Works as works
 use Rattle.ob_order.specs.declared.answers.Version.{Version}
 use Rattle.ob_order.specs.Order as rules
@@ -11,7 +10,7 @@ use Rattle.ob_versions.proofs.order.Order.note_get.Goals as goal
 pub add_get-requires-clause-source : goal.add_get-requires-clause-source
 add_get-requires-clause-source c =
     let a = c.self.inside in
-    let o : rules.OrderState = record { left = a.left; works = a.ledger.works; queue = a.queue.items; flying = a.flying.items; bases = finite.from_entries a.bases.items } in
+    let o : rules.OrderState = record a.queue.state { works = a.ledger.works } in
     let made : Version = c.args.version.now in
     let found : rules.answer o c.args.t c.args.key ≡ Some made = subst (λ (m : OrderModel). rules.answer m.state c.args.t c.args.key ≡ Some made) (sym c.self.view_is) c.requires.answered in
     answer_held o c.args.t c.args.key made found
@@ -19,8 +18,8 @@ add_get-requires-clause-source c =
 pub invariant_of-self-2 : goal.invariant_of-self-2
 invariant_of-self-2 c =
     let a = c.self.inside in
-    let o : rules.OrderState = record { left = a.left; works = a.ledger.works; queue = a.queue.items; flying = a.flying.items; bases = finite.from_entries a.bases.items } in
+    let o : rules.OrderState = record a.queue.state { works = a.ledger.works } in
     let made : Version = c.args.version.now in
     let found : rules.answer o c.args.t c.args.key ≡ Some made = subst (λ (m : OrderModel). rules.answer m.state c.args.t c.args.key ≡ Some made) (sym c.self.view_is) c.requires.answered in
-    let k = kept_ledger a.params (works.with_op a.ledger.works c.args.t (works.Get c.args.key made.value made.source)) _ a.ledger c.in_ok-add_get.ensures.ok c.self.invariant.1 (kept_got a.params o c.args.t c.args.key made c.self.invariant.0 found) in
-    (k.0, k.1, c.self.invariant.2)
+    let k = kept_ledger a.queue.params (works.with_op a.ledger.works c.args.t (works.Get c.args.key made.value made.source)) _ a.ledger c.in_ok-add_get.ensures.ok c.self.invariant.1 (kept_got a.queue.params o c.args.t c.args.key made c.self.invariant.0 found) in
+    (k.0, k.1)

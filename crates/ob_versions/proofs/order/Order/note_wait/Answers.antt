@@ -1,3 +1,6 @@
+use Rattle.std.proofs.Common.{◌≡◌, sym, ap, subst}
+use Rattle.ob_order.specs.Order.{Params}
+use Rattle.ob_order.specs.OrderModel.{OrderModel, IsKept}
 use Rattle.ob_order.specs.Works as works
 use Rattle.ob_order.proofs.Keeps.{kept_waits}
 use Rattle.ob_versions.proofs.Orders.{kept_ledger}
@@ -6,11 +9,13 @@ use Rattle.ob_versions.proofs.order.Order.note_wait.Goals as goal
 pub invariant_of-self-then-is_asked_for : goal.invariant_of-self-then-is_asked_for
 invariant_of-self-then-is_asked_for c =
     let a = c.self.inside in
-    let k = kept_ledger a.params (works.edit (works.wait_for c.args.key) a.ledger.works c.args.t) _ a.ledger c.in_ok-wait.ensures.ok c.self.invariant.1 (kept_waits a.params a.ledger.works c.args.t c.args.key c.self.invariant.0) in
-    (k.0, k.1, c.self.invariant.2)
+    let k = kept_ledger a.queue.params (works.edit (works.wait_for c.args.key) a.ledger.works c.args.t) _ a.ledger c.in_ok-wait.ensures.ok c.self.invariant.1 (kept_waits a.queue.params a.ledger.works c.args.t c.args.key c.self.invariant.0) in
+    (k.0, k.1)
 
-pub invariant_of-self-2 : goal.invariant_of-self-2
-invariant_of-self-2 c =
+pub invariant_of-self-in-Ok : goal.invariant_of-self-in-Ok
+invariant_of-self-in-Ok c =
     let a = c.self.inside in
-    let k = kept_ledger a.params (works.edit (works.wait_for c.args.key) a.ledger.works c.args.t) _ a.ledger c.in_ok-wait-2.ensures.ok c.self.invariant.1 (kept_waits a.params a.ledger.works c.args.t c.args.key c.self.invariant.0) in
-    (k.0, k.1, c.self.invariant.2)
+    let l = c.wait-2.new.self in
+    let same : a.queue.params ≡ c.ask.new.self.params = sym (ap (λ (m : OrderModel). m.params) c.in_ok-ask.ensures.ok) in
+    let k = kept_ledger a.queue.params (works.edit (works.wait_for c.args.key) a.ledger.works c.args.t) l a.ledger c.in-Ok.ensures.ok c.self.invariant.1 (kept_waits a.queue.params a.ledger.works c.args.t c.args.key c.self.invariant.0) in
+    subst (λ (p : Params). IsKept p l.works × (l.keys ≡ p.keys)) same (k.0, k.1)

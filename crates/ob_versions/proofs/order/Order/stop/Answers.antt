@@ -7,5 +7,5 @@ use Rattle.ob_versions.proofs.order.Order.stop.Goals as goal
 pub invariant_of-self : goal.invariant_of-self
 invariant_of-self c =
     let a = c.self.inside in
-    let k = kept_ledger a.params (map works.stop_work a.ledger.works) _ a.ledger c.stop.ensures c.self.invariant.1 (kept_stopped a.params a.ledger.works) in
-    (k.0, k.1, c.self.invariant.2)
+    let k = kept_ledger a.queue.params (map works.stop_work a.ledger.works) _ a.ledger c.stop.ensures c.self.invariant.1 (kept_stopped a.queue.params a.ledger.works) in
+    (k.0, k.1)

@@ -1,0 +1,10 @@
+//! The keys that an epoch is to read: queued in order, in flight, and the values delivered.
+#![tactic(auto)]
+
+mod bases;
+mod queue;
+
+pub use queue::Queue;
+
+#[cfg(test)]
+mod tests;
