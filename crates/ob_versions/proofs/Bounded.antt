@@ -7,8 +7,8 @@ use Rattle.ob_order.specs.Works.{Op, Get, Put, Del, Work, is_going, at_ticket, e
 use Rattle.ob_order.proofs.Edits.{at_edit_other, slice_get-edit_same}
 use Rattle.ob_order.proofs.Newest.{by_option, mark_bound}
 use Rattle.ob_order.proofs.Falls.{Fallen, fallen_ended, fallen_cascade, fallen_then, went_on_before}
-use Rattle.ob_versions.specs.Chains.{Chain}
-use Rattle.ob_versions.specs.Tables.{link_at, mark_in}
+use Rattle.ob_chains.specs.declared.chain.Chain.{Chain}
+use Rattle.ob_chains.specs.Tables.{link_at, mark_in}
 use Rattle.ob_versions.specs.Ledgers.{IsLedger, ReadUpTo}
 use Rattle.ob_versions.proofs.Falling.{fall_stays}
 

@@ -1,5 +1,4 @@
 pub mod Bounded
-pub mod Compares
 pub mod Counted
 pub mod Falling
 pub mod Indexed
@@ -7,4 +6,3 @@ pub mod Kept
 pub mod Marks
 pub mod Orders
 pub mod Sources
-pub mod Unlinks

@@ -10,8 +10,8 @@ use Rattle.ob_order.proofs.Edits.{at_edit_same, at_edit_other, slice_get-push}
 use Rattle.ob_order.proofs.Newest.{by_option}
 use Rattle.ob_order.proofs.Falls.{ops_at}
 use Rattle.ob_order.proofs.Links.{sourced_op}
-use Rattle.ob_versions.specs.Chains.{Chain}
-use Rattle.ob_versions.specs.Tables.{chain_at, KeepsRoom}
+use Rattle.ob_chains.specs.declared.chain.Chain.{Chain}
+use Rattle.ob_chains.specs.Tables.{chain_at, KeepsRoom}
 use Rattle.ob_versions.specs.Ledgers.{HasWaits}
 
 pub sourced_none : Sourced []

@@ -6,8 +6,8 @@ use Rattle.std.specs.HashMap as hash
 use Rattle.ob_order.specs.Works.{Op, Get, Put, Del, Work, edit, at_ticket, waiting_at, fall, least_source, is_gone, mark, source_of, newest}
 use Rattle.ob_order.specs.Order.{count_below}
 use Rattle.ob_order.specs.Chains.{Sourced}
-use Rattle.ob_versions.specs.Chains.{Chain}
-use Rattle.ob_versions.specs.Tables.{chain_at, link_at, base_mark, has_links}
+use Rattle.ob_chains.specs.declared.chain.Chain.{Chain}
+use Rattle.ob_chains.specs.Tables.{chain_at, link_at, base_mark, has_links}
 use Rattle.ob_versions.specs.Index.{IsIndex}
 
 -- what callers see of a ledger: the number of keys, and the works by ticket
@@ -29,12 +29,6 @@ pub record IsLedger {S : Type 0} (keys written : ℕ) (ws : List Work) (m : hash
 -- ticket t falls because of its least source that is aborted, where it has one and goes on
 abbrev pub fall_at : List Work → ℕ → List Work
 fall_at ws t = edit (λ w. fall (least_source (is_gone ws) w.ops) w) ws t
-
--- the key that an operation writes
-abbrev pub key_of : Op ℕ → Option ℕ
-key_of (Get k r s) = None
-key_of (Put k v) = Some k
-key_of (Del k) = Some k
 
 -- the mark of what a write by ticket t would cover
 abbrev pub covered_mark : List Work → ℕ → ℕ → ℕ

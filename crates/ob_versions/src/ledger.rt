@@ -4,12 +4,12 @@ ghost use Rattle.std.specs.Prelude.{◌≡◌, ℕ, ◌+◌, ◌-◌, ◌<◌, �
 ghost use Rattle.ob_order.specs.Works as works;
 ghost use Rattle.ob_order.specs.Order as rules;
 ghost use Rattle.std.specs.Option.{option_map, unwrap_or};
-ghost use Rattle.ob_versions.specs.Tables.{chain_at, link_at, has_links, SameLinks, SameBases, SameKeys, KeepsRoom, IsRaised};
+ghost use Rattle.ob_chains.specs.Tables.{chain_at, link_at, has_links, SameLinks, SameBases, SameKeys, KeepsRoom, IsRaised};
 ghost use Rattle.ob_versions.specs.Ledgers.{covered_mark, ReadUpTo};
 
-use crate::chain::Link;
-use crate::table::{Table, has_versions, make_room, mark_of_base, newest, put, raise, raise_base};
-use crate::unlink::{count_where, greatest_mark_at, unlink_at};
+use ob_chains::chain::Link;
+use ob_chains::table::{Table, has_versions, make_room, mark_of_base, newest, put, raise, raise_base};
+use ob_chains::unlink::{count_where, greatest_mark_at, unlink_at};
 use ob_base::{Key, Memory, Op, Value};
 use ob_order::plain::read_off::{
     add_awaited, add_to, end_in, fall_in, fell_on, make_wait, set_waiting,

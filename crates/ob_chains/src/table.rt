@@ -2,8 +2,8 @@
 
 ghost use Rattle.std.specs.Prelude.{◌≡◌, ℕ, ◌+◌, ◌<◌, ◌≤◌, max, not, ◌&&◌, if◌then◌else◌, ◌==◌, is_some, true, IfOk, OnOk, OnErr, Some, None};
 ghost use Rattle.std.specs.Option.{option_map};
-ghost use Rattle.ob_versions.specs.Chains.{IsNewest};
-ghost use Rattle.ob_versions.specs.Tables.{chain_at, link_at, base_mark, mark_in, has_links, raised, SameLinks, SameBases, SameKeys, KeepsRoom};
+ghost use Rattle.ob_chains.specs.Chains.{IsNewest, IsNextReader};
+ghost use Rattle.ob_chains.specs.Tables.{chain_at, link_at, base_mark, mark_in, has_links, raised, is_reader, SameLinks, SameBases, SameKeys, SameReaders, KeepsRoom};
 
 use crate::chain::{Chain, Link};
 use ob_base::{Key, Memory, Value};
@@ -62,6 +62,7 @@ pub fn make_room(table: &mut Table, alloc: Global, key: Key) -> Result<(), Memor
     ensures links { SameLinks table.old table.new }
     ensures bases { SameBases table.old table.new }
     ensures keys { SameKeys table.old table.new }
+    ensures readers { SameReaders table.old table.new }
     ensures room { KeepsRoom table.old table.new }
 {
     if !table.contains_key(&key) {
@@ -80,6 +81,7 @@ pub fn put(table: &mut Table, key: Key, t: u64, link: Link) -> Result<bool, Memo
     ensures links { OnOk result ((k u : ℕ) → link_at table.new k u ≡ (if (key == k) && (t == u) then Some link else link_at table.old k u)) }
     ensures keys { OnOk result ((k : ℕ) → has_links table.new k ≡ (if key == k then true else has_links table.old k)) }
     ensures bases { SameBases table.old table.new }
+    ensures readers { SameReaders table.old table.new }
     ensures room { KeepsRoom table.old table.new }
     ensures err_links { OnErr result (SameLinks table.old table.new) }
     ensures err_keys { OnErr result (SameKeys table.old table.new) }
@@ -102,6 +104,7 @@ pub fn take(table: &mut Table, key: Key, t: u64) -> bool
     ensures keys { (k : ℕ) → (key ≡ k → ⊥) → has_links table.new k ≡ has_links table.old k }
     ensures fewer { has_links table.new key ≡ true → has_links table.old key ≡ true }
     ensures bases { SameBases table.old table.new }
+    ensures readers { SameReaders table.old table.new }
     ensures room { KeepsRoom table.old table.new }
 {
     match table.get_mut(&key) {
@@ -115,6 +118,7 @@ pub fn raise(table: &mut Table, key: Key, t: u64, reader: u64)
     ensures links { (k u : ℕ) → link_at table.new k u ≡ (if (key == k) && (t == u) then option_map (raised reader) (link_at table.old k u) else link_at table.old k u) }
     ensures bases { SameBases table.old table.new }
     ensures keys { SameKeys table.old table.new }
+    ensures readers { SameReaders table.old table.new }
     ensures room { KeepsRoom table.old table.new }
 {
     if let Some(chain) = table.get_mut(&key) {
@@ -128,9 +132,39 @@ pub fn raise_base(table: &mut Table, key: Key, reader: u64)
     ensures links { SameLinks table.old table.new }
     ensures bases { (k : ℕ) → base_mark table.new k ≡ (if key == k then max (base_mark table.old k) reader else base_mark table.old k) }
     ensures keys { SameKeys table.old table.new }
+    ensures readers { SameReaders table.old table.new }
     ensures room { KeepsRoom table.old table.new }
 {
     if let Some(chain) = table.get_mut(&key) {
         chain.base_mark = chain.base_mark.max(reader);
+    }
+}
+
+/// The ticket is among the key's readers from now on.
+///
+/// # Errors
+/// Memory was wanting. All is as before.
+pub fn note(table: &mut Table, key: Key, reader: u64) -> Result<(), Memory>
+    requires { is_some (chain_at table.old key) ≡ true }
+    ensures ok { OnOk result ((k u : ℕ) → is_reader table.new k u ≡ (if (key == k) && (reader == u) then true else is_reader table.old k u)) }
+    ensures err { OnErr result (SameReaders table.old table.new) }
+    ensures links { SameLinks table.old table.new }
+    ensures bases { SameBases table.old table.new }
+    ensures keys { SameKeys table.old table.new }
+    ensures room { KeepsRoom table.old table.new }
+{
+    if let Some(chain) = table.get_mut(&key) {
+        chain.note(reader)?;
+    }
+    Ok(())
+}
+
+/// The least reader of the key above the ticket.
+pub fn reader_above(table: &Table, key: Key, t: u64) -> Option<u64>
+    ensures { IsNextReader (is_reader table.now key) t result }
+{
+    match table.get(&key) {
+        Some(chain) => chain.reader_above(t),
+        None => None,
     }
 }

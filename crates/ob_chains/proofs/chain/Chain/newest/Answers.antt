@@ -2,9 +2,9 @@ use Rattle.std.proofs.Common.{refl, sym, subst, arith}
 use Rattle.std.proofs.lemmas.Map.Keys.{le_from_not_gt, ge_from_not_lt}
 use Rattle.std.specs.Option.{IsSome}
 use Rattle.ob_order.proofs.Newest.{by_option}
-use Rattle.ob_versions.specs.Chains.{link_in}
-use Rattle.ob_versions.proofs.Compares.{not_gt_from_le}
-use Rattle.ob_versions.proofs.chain.Chain.newest.Goals as goal
+use Rattle.ob_chains.specs.Chains.{link_in}
+use Rattle.ob_chains.proofs.Compares.{not_gt_from_le}
+use Rattle.ob_chains.proofs.chain.Chain.newest.Goals as goal
 
 pub returns-in-Some : goal.returns-in-Some
 returns-in-Some c =

@@ -2,8 +2,10 @@
 use Rattle.std.specs.Prelude.{ℕ, max, ◌≡◌, ◌<◌, Bool, false, nat_lt, nat_eq, ◌==◌, ◌&&◌, if◌then◌else◌, is_some, true}
 use Rattle.std.specs.Option.{option_map, option_and_then, unwrap_or}
 use Rattle.std.specs.declared.option.Option.{Option}
+use Rattle.std.specs.declared.option.Option.TheVariants.{None, Some}
 use Rattle.std.specs.HashMap as hash
-use Rattle.ob_versions.specs.Chains.{Link, Chain, link_in, links_in}
+use Rattle.ob_order.specs.Works.{Op, Get, Put, Del}
+use Rattle.ob_chains.specs.Chains.{Link, Chain, link_in, links_in, has_reader}
 
 -- read by this ticket too
 abbrev pub raised : ℕ → Link → Link
@@ -30,6 +32,10 @@ module _ {S : Type 0} where
   abbrev pub has_links : hash.HashMap ℕ Chain S → ℕ → Bool
   has_links m k = unwrap_or (option_map (λ c. nat_lt 0 (links_in c)) (chain_at m k)) false
 
+  -- whether ticket u is noted as a reader of key k
+  abbrev pub is_reader : hash.HashMap ℕ Chain S → ℕ → ℕ → Bool
+  is_reader m k u = unwrap_or (option_map (λ c. has_reader c u) (chain_at m k)) false
+
   -- the same versions
   abbrev pub SameLinks : hash.HashMap ℕ Chain S → hash.HashMap ℕ Chain S → Type 0
   SameLinks m n = (k t : ℕ) → link_at n k t ≡ link_at m k t
@@ -42,6 +48,10 @@ module _ {S : Type 0} where
   abbrev pub SameKeys : hash.HashMap ℕ Chain S → hash.HashMap ℕ Chain S → Type 0
   SameKeys m n = (k : ℕ) → has_links n k ≡ has_links m k
 
+  -- the same readers
+  abbrev pub SameReaders : hash.HashMap ℕ Chain S → hash.HashMap ℕ Chain S → Type 0
+  SameReaders m n = (k u : ℕ) → is_reader n k u ≡ is_reader m k u
+
   -- a key that had room for its versions has it still
   abbrev pub KeepsRoom : hash.HashMap ℕ Chain S → hash.HashMap ℕ Chain S → Type 0
   KeepsRoom m n = (k : ℕ) → is_some (chain_at m k) ≡ true → is_some (chain_at n k) ≡ true
@@ -50,3 +60,9 @@ module _ {S : Type 0} where
   pub record IsRaised (m n : hash.HashMap ℕ Chain S) (k s reader : ℕ) : Type 0 where
     pub from_write : 0 < s → ((j u : ℕ) → link_at n j u ≡ (if (k == j) && (s == u) then option_map (raised reader) (link_at m j u) else link_at m j u)) × SameBases m n
     pub from_base : s ≡ 0 → SameLinks m n × ((j : ℕ) → base_mark n j ≡ (if k == j then max (base_mark m j) reader else base_mark m j))
+
+-- the key that an operation writes
+abbrev pub key_of : Op ℕ → Option ℕ
+key_of (Get k r s) = None
+key_of (Put k v) = Some k
+key_of (Del k) = Some k

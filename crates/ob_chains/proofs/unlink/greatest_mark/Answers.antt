@@ -1,8 +1,8 @@
 use Rattle.std.proofs.Common.{is_some, take, sym, ap, ◌∙◌, arith}
 use Rattle.ob_order.specs.Works as works
 use Rattle.ob_order.proofs.Edits.{last_write_more}
-use Rattle.ob_versions.proofs.Unlinks.{either}
-use Rattle.ob_versions.proofs.unlink.greatest_mark.Goals as goal
+use Rattle.ob_chains.proofs.Unlinks.{either}
+use Rattle.ob_chains.proofs.unlink.greatest_mark.Goals as goal
 
 pub loop-op-preserved : goal.loop-op-preserved
 loop-op-preserved c = λ k some.

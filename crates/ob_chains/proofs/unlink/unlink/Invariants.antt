@@ -1,8 +1,8 @@
 use Rattle.std.proofs.Common.{◌≡◌, ℕ, ◌+◌, ◌≤◌, ◌==◌, ◌&&◌, if◌then◌else◌, take, is_some, None}
 use Rattle.ob_order.specs.Works as works
 use Rattle.ob_order.specs.Order.{count_below}
-use Rattle.ob_versions.specs.Tables.{link_at, has_links, SameBases, KeepsRoom}
-use Rattle.ob_versions.proofs.unlink.unlink.Given as goal
+use Rattle.ob_chains.specs.Tables.{link_at, has_links, SameBases, SameReaders, KeepsRoom}
+use Rattle.ob_chains.proofs.unlink.unlink.Given as goal
 
 -- what the operations so far wrote has gone
 abbrev pub invariant-loop-op : goal.invariant-loop-op
@@ -12,3 +12,4 @@ invariant-loop-op l =
     × (l.lost ≤ l.op-index)
     × SameBases l.fn.table l.table
     × KeepsRoom l.fn.table l.table
+    × SameReaders l.fn.table l.table

@@ -3,15 +3,15 @@
 ghost use Rattle.std.specs.Prelude.{◌≡◌, ℕ, ◌+◌, ◌-◌, ◌<◌, ◌≤◌, ◌&&◌, ◌==◌, if◌then◌else◌, length, take, nat_lt, is_some, true, Some, None};
 ghost use Rattle.ob_order.specs.Works as works;
 ghost use Rattle.ob_order.specs.Order.{count_below};
-ghost use Rattle.ob_versions.specs.Tables.{link_at, mark_in, has_links, SameBases, KeepsRoom};
-ghost use Rattle.ob_versions.specs.Ledgers.{key_of};
+ghost use Rattle.ob_chains.specs.Tables.{link_at, mark_in, has_links, SameBases, SameReaders, KeepsRoom};
+ghost use Rattle.ob_chains.specs.Tables.{key_of};
 
 use crate::table::{Table, mark_of_version, take};
 use ob_base::{Key, Op};
 use ob_order::Work;
 
 /// The key that an operation writes.
-fn written_key(op: &Op<Key>) -> Option<Key>
+pub fn written_key(op: &Op<Key>) -> Option<Key>
     ensures { result ≡ key_of op.now }
 {
     match *op {
@@ -35,6 +35,7 @@ fn unlink_one(table: &mut Table, op: &Op<Key>, t: u64, keys: u32) -> u64
     ensures count { count_below (has_links table.old) keys ≡ count_below (has_links table.new) keys + result }
     ensures few { result ≤ 1 }
     ensures bases { SameBases table.old table.new }
+    ensures readers { SameReaders table.old table.new }
     ensures room { KeepsRoom table.old table.new }
 {
     match written_key(op) {
@@ -50,6 +51,7 @@ pub fn unlink(table: &mut Table, ops: &[Op<Key>], t: u64, keys: u32) -> u64
     ensures links { (k u : ℕ) → link_at table.new k u ≡ (if (t == u) && is_some (works.last_write ops.now k) then None else link_at table.old k u) }
     ensures count { count_below (has_links table.old) keys ≡ count_below (has_links table.new) keys + result }
     ensures bases { SameBases table.old table.new }
+    ensures readers { SameReaders table.old table.new }
     ensures room { KeepsRoom table.old table.new }
 {
     let mut lost = 0;
@@ -65,6 +67,7 @@ pub fn unlink_at(table: &mut Table, list: &[Work], t: u64, keys: u32) -> u64
     ensures links { (w : works.Work) → works.at_ticket list.now t ≡ Some w → (k u : ℕ) → link_at table.new k u ≡ (if (t == u) && is_some (works.last_write w.ops k) then None else link_at table.old k u) }
     ensures count { count_below (has_links table.old) keys ≡ count_below (has_links table.new) keys + result }
     ensures bases { SameBases table.old table.new }
+    ensures readers { SameReaders table.old table.new }
     ensures room { KeepsRoom table.old table.new }
 {
     let work = &list[(t - 1) as usize];

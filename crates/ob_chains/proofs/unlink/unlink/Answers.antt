@@ -1,7 +1,7 @@
 use Rattle.std.proofs.Common.{◌∙◌, arith}
-use Rattle.ob_versions.specs.Tables.{link_at}
-use Rattle.ob_versions.proofs.Unlinks.{unlinked_more}
-use Rattle.ob_versions.proofs.unlink.unlink.Goals as goal
+use Rattle.ob_chains.specs.Tables.{link_at}
+use Rattle.ob_chains.proofs.Unlinks.{unlinked_more}
+use Rattle.ob_chains.proofs.unlink.unlink.Goals as goal
 
 pub loop-op-preserved : goal.loop-op-preserved
 loop-op-preserved c =
@@ -12,4 +12,5 @@ loop-op-preserved c =
       omega (arith, so_far.2, one.few),
       λ k. one.bases k ∙ so_far.3 k,
       λ k there. one.room k (so_far.4 k there),
+      λ k u. one.readers k u ∙ so_far.5 k u,
     )

@@ -5,9 +5,9 @@ use Rattle.std.proofs.lemmas.Bool.{cases_eq, cases_lt, false≢true, lt-ltb, le-
 use Rattle.ob_order.specs.Works.{Op, Get, Put, Del, write_of, last_write}
 use Rattle.ob_order.specs.Order.{count_below}
 use Rattle.ob_order.proofs.Edits.{last_write_more}
-use Rattle.ob_versions.specs.Chains.{Link}
-use Rattle.ob_versions.specs.Ledgers.{key_of}
-use Rattle.ob_versions.proofs.Counted.{count_moved, count_stays}
+use Rattle.ob_chains.specs.Chains.{Link}
+use Rattle.ob_chains.specs.Tables.{key_of}
+use Rattle.ob_chains.proofs.Counted.{count_moved, count_stays}
 
 -- one operation more
 pub unlinked_more : (os : List (Op ℕ)) (i k t u : ℕ) (o : Op ℕ) (a b c : Option Link) → i < length os → o ≡ get_or os i o
