@@ -5,4 +5,5 @@ pub mod Indexed
 pub mod Kept
 pub mod Marks
 pub mod Orders
+pub mod Readers
 pub mod Sources

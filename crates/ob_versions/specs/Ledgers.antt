@@ -1,5 +1,5 @@
 -- The works of an epoch with the index of their versions.
-use Rattle.std.specs.Prelude.{ℕ, ◌≡◌, ◌≤◌, List, is_some, true, slice_get}
+use Rattle.std.specs.Prelude.{ℕ, suc, ◌≡◌, ◌<◌, ◌≤◌, List, length, true, false, slice_get}
 use Rattle.std.specs.declared.option.Option.{Option}
 use Rattle.std.specs.declared.option.Option.TheVariants.{None, Some}
 use Rattle.std.specs.HashMap as hash
@@ -7,7 +7,7 @@ use Rattle.ob_order.specs.Works.{Op, Get, Put, Del, Work, edit, at_ticket, waiti
 use Rattle.ob_order.specs.Order.{count_below}
 use Rattle.ob_order.specs.Chains.{Sourced}
 use Rattle.ob_chains.specs.declared.chain.Chain.{Chain}
-use Rattle.ob_chains.specs.Tables.{chain_at, link_at, base_mark, has_links}
+use Rattle.ob_chains.specs.Tables.{link_at, base_mark, has_links, is_reader}
 use Rattle.ob_versions.specs.Index.{IsIndex}
 
 -- what callers see of a ledger: the number of keys, and the works by ticket
@@ -15,16 +15,23 @@ pub record LedgerModel : Type 0 where
   pub keys : ℕ
   pub works : List Work
 
--- the key that a get waits for has room for its chain
-abbrev pub HasWaits : {S : Type 0} → List Work → hash.HashMap ℕ Chain S → Type 0
-HasWaits ws m = (t k : ℕ) → waiting_at ws t ≡ Some k → is_some (chain_at m k) ≡ true
+-- who has read a ticket's version of a key, or waits for the key, is among its readers, and these were drawn
+pub record HasReaders {S : Type 0} (ws : List Work) (m : hash.HashMap ℕ Chain S) : Type 0 where
+  pub gets : (u : ℕ) (w : Work) → slice_get ws u ≡ Some w → (i k : ℕ) (r : Option (List ℕ)) (s : ℕ) → slice_get w.ops i ≡ Some (Get k r s) → 0 < s → is_reader m k (suc u) ≡ true
+  pub waits : (t k : ℕ) → waiting_at ws t ≡ Some k → is_reader m k t ≡ true
+  pub drawn : (k t : ℕ) → is_reader m k t ≡ true → (0 < t) × (t ≤ length ws)
+
+-- no readers went, and none came but this one
+pub record Notes {S : Type 0} (m n : hash.HashMap ℕ Chain S) (t : ℕ) : Type 0 where
+  pub kept : (k u : ℕ) → is_reader m k u ≡ true → is_reader n k u ≡ true
+  pub came : (k u : ℕ) → is_reader n k u ≡ true → is_reader m k u ≡ false → u ≡ t
 
 -- the chains are those of the works, and so many keys have versions
 pub record IsLedger {S : Type 0} (keys written : ℕ) (ws : List Work) (m : hash.HashMap ℕ Chain S) : Type 0 where
   pub index : IsIndex ws (λ k t. link_at m k t) (λ k. base_mark m k)
   pub sourced : Sourced ws
   pub counted : written ≡ count_below (has_links m) keys
-  pub waits : HasWaits ws m
+  pub readers : HasReaders ws m
 
 -- ticket t falls because of its least source that is aborted, where it has one and goes on
 abbrev pub fall_at : List Work → ℕ → List Work

@@ -4,11 +4,11 @@ ghost use Rattle.std.specs.Prelude.{◌≡◌, ℕ, ◌+◌, ◌-◌, ◌<◌, �
 ghost use Rattle.ob_order.specs.Works as works;
 ghost use Rattle.ob_order.specs.Order as rules;
 ghost use Rattle.std.specs.Option.{option_map, unwrap_or};
-ghost use Rattle.ob_chains.specs.Tables.{chain_at, link_at, has_links, SameLinks, SameBases, SameKeys, KeepsRoom, IsRaised};
-ghost use Rattle.ob_versions.specs.Ledgers.{covered_mark, ReadUpTo};
+ghost use Rattle.ob_chains.specs.Tables.{chain_at, link_at, has_links, is_reader, SameLinks, SameBases, SameKeys, SameReaders, IsRaised};
+ghost use Rattle.ob_versions.specs.Ledgers.{covered_mark, ReadUpTo, Notes};
 
 use ob_chains::chain::Link;
-use ob_chains::table::{Table, has_versions, make_room, mark_of_base, newest, put, raise, raise_base};
+use ob_chains::table::{Table, has_versions, make_room, mark_of_base, newest, note, put, raise, raise_base};
 use ob_chains::unlink::{count_where, greatest_mark_at, unlink_at};
 use ob_base::{Key, Memory, Op, Value};
 use ob_order::plain::read_off::{
@@ -87,12 +87,46 @@ fn raise_mark(table: &mut Table, key: Key, source: u64, reader: u64)
     requires { is_some (chain_at table.old key) ≡ true }
     ensures raises { IsRaised table.old table.new key source reader }
     ensures keys { SameKeys table.old table.new }
-    ensures room { KeepsRoom table.old table.new }
+    ensures readers { SameReaders table.old table.new }
 {
     if source == 0 {
         raise_base(table, key, reader);
     } else {
         raise(table, key, source, reader);
+    }
+}
+
+// Room for the key's chain is made, and the ticket is noted there as a reader.
+fn note_reader(table: &mut Table, alloc: Global, key: Key, t: u64) -> Result<(), Memory>
+    ensures ok { OnOk result ((is_some (chain_at table.new key) ≡ true) × (is_reader table.new key t ≡ true)) }
+    ensures notes { Notes table.old table.new t }
+    ensures links { SameLinks table.old table.new }
+    ensures bases { SameBases table.old table.new }
+    ensures keys { SameKeys table.old table.new }
+{
+    make_room(table, alloc, key)?;
+    note(table, key, t)?;
+    Ok(())
+}
+
+// Room for the key's chain is made, and where the source is a ticket the reader is noted there.
+fn note_source(
+    table: &mut Table,
+    alloc: Global,
+    key: Key,
+    source: u64,
+    t: u64,
+) -> Result<(), Memory>
+    ensures ok { OnOk result ((is_some (chain_at table.new key) ≡ true) × (0 < source → is_reader table.new key t ≡ true)) }
+    ensures notes { Notes table.old table.new t }
+    ensures links { SameLinks table.old table.new }
+    ensures bases { SameBases table.old table.new }
+    ensures keys { SameKeys table.old table.new }
+{
+    if source == 0 {
+        make_room(table, alloc, key)
+    } else {
+        note_reader(table, alloc, key, t)
     }
 }
 
@@ -120,7 +154,7 @@ fn put_write(
     ensures links { OnOk result ((k u : ℕ) → link_at table.new k u ≡ (if (key == k) && (t == u) then Some (record { value = value.now; mark = 0 }) else link_at table.old k u)) }
     ensures keys { OnOk result ((k : ℕ) → has_links table.new k ≡ (if key == k then true else has_links table.old k)) }
     ensures bases { SameBases table.old table.new }
-    ensures room { KeepsRoom table.old table.new }
+    ensures readers { SameReaders table.old table.new }
     ensures err { OnErr result (list.new.items ≡ list.old.items) }
     ensures err_links { OnErr result (SameLinks table.old table.new) }
     ensures err_keys { OnErr result (SameKeys table.old table.new) }
@@ -274,7 +308,7 @@ impl Ledger {
         ensures ok { OnOk result (self.new ≡ record self.old { works = works.with_op self.old.works t (works.Get key version.now.value version.now.source) }) }
         ensures err { OnErr result (self.new ≡ self.old) }
     {
-        make_room(&mut self.table, self.alloc, key)?;
+        note_source(&mut self.table, self.alloc, key, version.source, t)?;
         add_to(&mut self.works, t as usize, get_op(key, version))?;
         raise_mark(&mut self.table, key, version.source, t);
         Ok(())
@@ -300,7 +334,7 @@ impl Ledger {
         ensures ok { OnOk result (self.new ≡ record self.old { works = works.edit (works.wait_for key) self.old.works t }) }
         ensures err { OnErr result (self.new ≡ self.old) }
     {
-        make_room(&mut self.table, self.alloc, key)?;
+        note_reader(&mut self.table, self.alloc, key, t)?;
         make_wait(&mut self.works, t as usize, key)?;
         Ok(())
     }

@@ -9,18 +9,18 @@ pub invariant_of-self : goal.invariant_of-self
 invariant_of-self c =
     let a = c.self.inside in
     let e = c.make_room.ensures in
-    let h = ledger_room a.keys a.written a.works.items a.table c.make_room.new.table c.self.invariant e.links e.bases e.keys e.room in
+    let h = ledger_room a.keys a.written a.works.items a.table c.make_room.new.table c.self.invariant e.links e.bases e.keys e.readers in
     h
 
 pub invariant_of-self-in_err-first : goal.invariant_of-self-in_err-first
 invariant_of-self-in_err-first c =
     let a = c.self.inside in
     let e = c.make_room.ensures in
-    let h = ledger_room a.keys a.written a.works.items a.table c.make_room.new.table c.self.invariant e.links e.bases e.keys e.room in
+    let h = ledger_room a.keys a.written a.works.items a.table c.make_room.new.table c.self.invariant e.links e.bases e.keys e.readers in
     let p = c.put_write.ensures in
     let q = c.in_err-first.ensures in
     subst (λ (ws : List Work). IsLedger a.keys a.written ws c.put_write.new.table) (sym q.err)
-    (ledger_room a.keys a.written a.works.items c.make_room.new.table c.put_write.new.table h q.err_links p.bases q.err_keys p.room)
+    (ledger_room a.keys a.written a.works.items c.make_room.new.table c.put_write.new.table h q.err_links p.bases q.err_keys p.readers)
 
 pub overflow_add-self : goal.overflow_add-self
 overflow_add-self c =
@@ -38,10 +38,10 @@ pub invariant_of-self-2 : goal.invariant_of-self-2
 invariant_of-self-2 c =
     let a = c.self.inside in
     let e = c.make_room.ensures in
-    let h = ledger_room a.keys a.written a.works.items a.table c.make_room.new.table c.self.invariant e.links e.bases e.keys e.room in
+    let h = ledger_room a.keys a.written a.works.items a.table c.make_room.new.table c.self.invariant e.links e.bases e.keys e.readers in
     let p = c.put_write.ensures in
     let q = c.in_ok-first.ensures in
     let live = subst (λ (d : LedgerModel). goes_on d.works c.args.t ≡ true) (sym c.self.view_is) c.requires.live in
     let unread = subst (λ (d : LedgerModel). covered_mark d.works c.args.t c.args.key ≤ c.args.t) (sym c.self.view_is) c.requires.unread in
     subst (λ (ws : List Work). IsLedger a.keys (a.written + c.count_where.result) ws c.put_write.new.table) (sym q.ok)
-    (ledger_wrote a.keys a.written a.works.items c.make_room.new.table c.put_write.new.table c.args.t c.args.key c.args.value _ c.in_ok-first.first c.count_where.result h live unread refl refl q.links p.bases q.keys q.first c.count_where.ensures p.room)
+    (ledger_wrote a.keys a.written a.works.items c.make_room.new.table c.put_write.new.table c.args.t c.args.key c.args.value _ c.in_ok-first.first c.count_where.result h live unread refl refl q.links p.bases q.keys q.first c.count_where.ensures p.readers)

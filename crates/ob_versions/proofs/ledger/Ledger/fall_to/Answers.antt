@@ -11,4 +11,4 @@ invariant_of-self c =
     let r = subst (λ (d : LedgerModel). (0 < c.args.t) × (c.args.t ≤ length d.works)) (sym c.self.view_is) c.requires in
     subst (λ (ws : List Work). IsLedger a.keys (a.written - c.unlink_at.result) ws c.unlink_at.new.table) (sym c.fall_in.ensures)
     (ledger_ended a.keys a.written a.works.items a.table c.unlink_at.new.table (fall_to c.args.on) c.args.t c.unlink_at.result c.self.invariant r.0 r.1 (λ x. refl) (λ x. refl) (λ x. refl)
-    (λ x there. e.links x (ap (λ (ws : List Work). at_ticket ws c.args.t) c.deref.ensures.value ∙ there)) e.count e.bases e.room)
+    (λ x there. e.links x (ap (λ (ws : List Work). at_ticket ws c.args.t) c.deref.ensures.value ∙ there)) e.count e.bases e.readers)
