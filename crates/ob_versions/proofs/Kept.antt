@@ -1,5 +1,5 @@
 -- What each call keeps of a ledger.
-use Rattle.std.proofs.Common.{◌≡◌, ℕ, zero, suc, ◌+◌, ◌-◌, ◌<◌, ◌≤◌, Bool, true, false, not, ◌==◌, ◌&&◌, nat_lt, if◌then◌else◌, List, [], ◌∷◌, ◌++◌, length, Option, None, Some, option_map, option_and_then, unwrap_or, is_some, slice_get, refl, sym, ap, ap₂, ◌∙◌, subst, inl, inr, ⊎_elim, arith, eq-eqb, ne_eqb}
+use Rattle.std.proofs.Common.{◌≡◌, ℕ, zero, suc, ◌+◌, ◌-◌, ◌<◌, ◌≤◌, Bool, true, false, not, ◌==◌, ◌&&◌, nat_lt, if◌then◌else◌, List, [], ◌∷◌, ◌++◌, length, Option, None, Some, option_map, option_and_then, unwrap_or, is_some, slice_get, refl, sym, ap, ap₂, ◌∙◌, subst, inl, inr, ⊎_elim, arith, eq-eqb, ne_eqb, length-append}
 use Rattle.std.proofs.lemmas.Bool.{cases_eq, cases_lt, lt-ltb, le-ltb}
 use Rattle.std.proofs.lemmas.Option.{none-some, same_Some}
 use Rattle.std.specs.Map.{lookup}
@@ -13,8 +13,9 @@ use Rattle.ob_chains.specs.declared.chain.Link.{Link}
 use Rattle.ob_chains.specs.declared.chain.Chain.{Chain}
 use Rattle.ob_chains.specs.Chains.{IsNewest, link_in, has_reader}
 use Rattle.ob_chains.specs.Tables.{chain_at, link_at, base_mark, has_links, is_reader, SameLinks, SameBases, SameKeys, SameReaders, IsRaised}
+use Rattle.ob_chains.specs.Agendas.{AgendaModel}
 use Rattle.ob_versions.specs.Index.{IsIndex}
-use Rattle.ob_versions.specs.Ledgers.{LedgerModel, IsLedger, Notes, covered_mark}
+use Rattle.ob_versions.specs.Ledgers.{LedgerModel, IsLedger, IsReady, Notes, covered_mark}
 use Rattle.ob_versions.proofs.Marks.{mark_begun, mark_same_ops, ops_edit, version_edit, version_begun}
 use Rattle.ob_versions.proofs.Indexed.{version_from, newest_is, IsCovered, covered_is, index_moved, index_got, index_got_base, index_wrote, index_ended}
 use Rattle.ob_chains.proofs.Counted.{count_moved, count_stays}
@@ -247,6 +248,24 @@ ledger_ended keys w ws m n f t lost h above within keeps ends waits takes count 
         (λ y some. ap₂ (λ (a b : Bool). if a && b then None else link_at m j u) (eq-eqb t u same) (ap is_some some) ∙ sym (ap (λ a. if a then None else link_at m j u) (eq-eqb t u same))))
         (λ other. ap (λ a. if a && is_some (last_write x.ops j) then None else link_at m j u) (ne_eqb t u other) ∙ sym (ap (λ a. if a then None else link_at m j u) (ne_eqb t u other)))
         (cases_eq t u)
+
+-- ---- the agenda is ready for all tickets
+
+pub ready_none : (vs : List Work) (agenda : AgendaModel) → vs ≡ [] → agenda.tickets ≡ [] → IsReady vs agenda
+ready_none vs agenda e empty = (omega (arith, ap length e), empty)
+
+pub ready_same : (ws vs : List Work) (agenda : AgendaModel) → vs ≡ ws → IsReady ws agenda → IsReady vs agenda
+ready_same ws vs agenda e h = (omega (arith, ap length e, h.0), h.1)
+
+pub ready_edit : (f : Work → Work) (ws vs : List Work) (t : ℕ) (agenda : AgendaModel) → vs ≡ edit f ws t → IsReady ws agenda → IsReady vs agenda
+ready_edit f ws vs t agenda e h = (omega (arith, ap length e, length-edit f ws t, h.0), h.1)
+
+-- there is room for one more
+pub ready_more : (ws vs : List Work) (w : Work) (old new : AgendaModel) → vs ≡ ws ++ w ∷ [] → IsReady ws old → length ws + 1 ≤ new.room → new.tickets ≡ old.tickets → IsReady vs new
+ready_more ws vs w old new e h l same = (omega (arith, ap length e, length-append ws (w ∷ []), l), same ∙ h.1)
+
+pub ready_still : (ws vs : List Work) (old new : AgendaModel) → vs ≡ ws → IsReady ws old → old.room ≤ new.room → new.tickets ≡ old.tickets → IsReady vs new
+ready_still ws vs old new e h l same = (omega (arith, ap length e, h.0, l), same ∙ h.1)
 
 -- ---- works that waited for room
 

@@ -1,4 +1,3 @@
-pub mod Bounded
 pub mod Counted
 pub mod Falling
 pub mod Indexed
@@ -7,3 +6,4 @@ pub mod Marks
 pub mod Orders
 pub mod Readers
 pub mod Sources
+pub mod Pending

@@ -1,5 +1,5 @@
 -- The works of an epoch with the index of their versions.
-use Rattle.std.specs.Prelude.{ℕ, suc, ◌≡◌, ◌<◌, ◌≤◌, List, length, true, false, slice_get}
+use Rattle.std.specs.Prelude.{ℕ, suc, ◌≡◌, ◌<◌, ◌≤◌, List, [], length, true, false, slice_get}
 use Rattle.std.specs.declared.option.Option.{Option}
 use Rattle.std.specs.declared.option.Option.TheVariants.{None, Some}
 use Rattle.std.specs.HashMap as hash
@@ -8,6 +8,7 @@ use Rattle.ob_order.specs.Order.{count_below}
 use Rattle.ob_order.specs.Chains.{Sourced}
 use Rattle.ob_chains.specs.declared.chain.Chain.{Chain}
 use Rattle.ob_chains.specs.Tables.{link_at, base_mark, has_links, is_reader}
+use Rattle.ob_chains.specs.Agendas.{AgendaModel, has_ticket}
 use Rattle.ob_versions.specs.Index.{IsIndex}
 
 -- what callers see of a ledger: the number of keys, and the works by ticket
@@ -41,6 +42,14 @@ fall_at ws t = edit (λ w. fall (least_source (is_gone ws) w.ops) w) ws t
 abbrev pub covered_mark : List Work → ℕ → ℕ → ℕ
 covered_mark ws t k = mark ws k (source_of (newest ws t k))
 
--- nobody above this ticket has read what ticket s wrote
-abbrev pub ReadUpTo : List Work → ℕ → ℕ → Type 0
-ReadUpTo ws s last = (u : ℕ) (w : Work) → at_ticket ws u ≡ Some w → (i k : ℕ) (r : Option (List ℕ)) → slice_get w.ops i ≡ Some (Get k r s) → u ≤ last
+-- each above ticket n that has read what ticket s wrote is one of these
+abbrev pub ReadersIn : List Work → List ℕ → ℕ → ℕ → Type 0
+ReadersIn ws tickets s n = (u : ℕ) (w : Work) → at_ticket ws u ≡ Some w → (i k : ℕ) (r : Option (List ℕ)) → slice_get w.ops i ≡ Some (Get k r s) → n < u → has_ticket tickets u ≡ true
+
+-- ticket u was drawn after ticket t
+abbrev pub IsAbove : ℕ → List Work → ℕ → Type 0
+IsAbove t ws u = (t < u) × (u ≤ length ws)
+
+-- the agenda is empty, with room for all tickets
+abbrev pub IsReady : List Work → AgendaModel → Type 0
+IsReady ws agenda = (length ws ≤ agenda.room) × (agenda.tickets ≡ [])
