@@ -11,8 +11,9 @@ use Rattle.ob_order.proofs.Edits.{at_edit_same, at_edit_other, length-edit, last
 use Rattle.ob_order.proofs.Newest.{by_option, newest_own, newest_lower, version-with_op}
 use Rattle.ob_order.proofs.Falls.{ops_at}
 use Rattle.ob_order.proofs.Links.{conflict_alike, mark_at_put}
-use Rattle.ob_versions.specs.Chains.{Link, IsNewest}
-use Rattle.ob_versions.specs.Tables.{raised}
+use Rattle.ob_chains.specs.declared.chain.Link.{Link}
+use Rattle.ob_chains.specs.Chains.{IsNewest}
+use Rattle.ob_chains.specs.Tables.{raised}
 use Rattle.ob_versions.specs.Index.{IsIndex}
 use Rattle.ob_versions.proofs.Marks.{mark_other, mark_here, mark_same_ops}
 

@@ -1,5 +1,5 @@
 -- What each call keeps of a ledger.
-use Rattle.std.proofs.Common.{◌≡◌, ℕ, zero, suc, ◌+◌, ◌-◌, ◌<◌, ◌≤◌, Bool, true, false, not, ◌==◌, ◌&&◌, nat_lt, if◌then◌else◌, List, [], ◌∷◌, ◌++◌, length, Option, None, Some, option_map, option_and_then, unwrap_or, is_some, slice_get, refl, sym, ap, ap₂, ◌∙◌, subst, inl, inr, ⊎_elim, arith, eq-eqb, ne_eqb}
+use Rattle.std.proofs.Common.{◌≡◌, ℕ, zero, suc, ◌+◌, ◌-◌, ◌<◌, ◌≤◌, Bool, true, false, not, ◌==◌, ◌&&◌, nat_lt, if◌then◌else◌, List, [], ◌∷◌, ◌++◌, length, Option, None, Some, option_map, option_and_then, unwrap_or, is_some, slice_get, refl, sym, ap, ap₂, ◌∙◌, subst, inl, inr, ⊎_elim, arith, eq-eqb, ne_eqb, length-append}
 use Rattle.std.proofs.lemmas.Bool.{cases_eq, cases_lt, lt-ltb, le-ltb}
 use Rattle.std.proofs.lemmas.Option.{none-some, same_Some}
 use Rattle.std.specs.Map.{lookup}
@@ -9,14 +9,19 @@ use Rattle.ob_order.specs.Order.{fresh, write_op, count_below, is_other_written}
 use Rattle.ob_order.proofs.Counts.{count_same}
 use Rattle.ob_order.proofs.Edits.{length-edit, at_edit_same}
 use Rattle.ob_order.proofs.Newest.{by_option}
-use Rattle.ob_versions.specs.Chains.{Link, Chain, IsNewest, link_in}
-use Rattle.ob_versions.specs.Tables.{chain_at, link_at, base_mark, has_links, SameLinks, SameBases, SameKeys, KeepsRoom, IsRaised}
+use Rattle.ob_chains.specs.declared.chain.Link.{Link}
+use Rattle.ob_chains.specs.declared.chain.Chain.{Chain}
+use Rattle.ob_chains.specs.Chains.{IsNewest, link_in, has_reader}
+use Rattle.ob_chains.specs.Tables.{chain_at, link_at, base_mark, has_links, is_reader, SameLinks, SameBases, SameKeys, SameReaders, IsRaised}
+use Rattle.ob_chains.specs.Agendas.{AgendaModel}
 use Rattle.ob_versions.specs.Index.{IsIndex}
-use Rattle.ob_versions.specs.Ledgers.{LedgerModel, IsLedger, covered_mark}
+use Rattle.ob_versions.specs.Ledgers.{LedgerModel, IsLedger, IsReady, Notes, covered_mark}
 use Rattle.ob_versions.proofs.Marks.{mark_begun, mark_same_ops, ops_edit, version_edit, version_begun}
 use Rattle.ob_versions.proofs.Indexed.{version_from, newest_is, IsCovered, covered_is, index_moved, index_got, index_got_base, index_wrote, index_ended}
-use Rattle.ob_versions.proofs.Counted.{count_moved, count_stays, others_counted}
-use Rattle.ob_versions.proofs.Sources.{sourced_none, sourced_begun, sourced_same_ops, sourced_got, sourced_wrote, waits_none, waits_begun, waits_edit}
+use Rattle.ob_chains.proofs.Counted.{count_moved, count_stays}
+use Rattle.ob_versions.proofs.Counted.{others_counted}
+use Rattle.ob_versions.proofs.Sources.{sourced_none, sourced_begun, sourced_same_ops, sourced_got, sourced_wrote}
+use Rattle.ob_versions.proofs.Readers.{readers_none, readers_begun, readers_moved, readers_noted, readers_edit, readers_got, readers_wrote}
 
 abbrev bit : Bool → ℕ
 bit b = if b then 1 else 0
@@ -99,7 +104,7 @@ ledger_none keys m e = record {
   };
   sourced = sourced_none;
   counted = sym (zeros (has_links m) keys (λ j. ap (λ o. unwrap_or (option_map (λ c. nat_lt 0 (length c.links.entries)) o) false) (gone j)));
-  waits = waits_none m;
+  readers = readers_none m (λ k t. ap (λ o. unwrap_or (option_map (λ c. has_reader c t) o) false) (gone k));
 }
   where
     gone : (k : ℕ) → chain_at m k ≡ None
@@ -117,49 +122,58 @@ ledger_begun keys w ws m h = record {
   index = index_moved ws (ws ++ fresh ∷ []) _ _ _ _ h.index (λ k t. version_begun ws t k) (mark_begun ws) (λ k t. refl) (λ k. refl);
   sourced = sourced_begun ws h.sourced;
   counted = h.counted;
-  waits = waits_begun ws m h.waits;
+  readers = readers_begun ws m h.readers;
 }
 
 -- room was made
-pub ledger_room : {S : Type 0} (keys w : ℕ) (ws : List Work) (m n : hash.HashMap ℕ Chain S) → IsLedger keys w ws m → SameLinks m n → SameBases m n → SameKeys m n → KeepsRoom m n → IsLedger keys w ws n
-ledger_room keys w ws m n h links bases same room = record {
+pub ledger_room : {S : Type 0} (keys w : ℕ) (ws : List Work) (m n : hash.HashMap ℕ Chain S) → IsLedger keys w ws m → SameLinks m n → SameBases m n → SameKeys m n → SameReaders m n → IsLedger keys w ws n
+ledger_room keys w ws m n h links bases same readers = record {
   index = index_moved ws ws _ _ _ _ h.index (λ k t. refl) (λ k s. refl) links bases;
   sourced = h.sourced;
   counted = h.counted ∙ sym (count_same (has_links m) (has_links n) keys same);
-  waits = λ t k e. room k (h.waits t k e);
+  readers = readers_moved ws m n h.readers readers;
+}
+
+-- a reader was noted
+pub ledger_noted : {S : Type 0} (keys w : ℕ) (ws : List Work) (m n : hash.HashMap ℕ Chain S) (t : ℕ) → IsLedger keys w ws m → 0 < t → t ≤ length ws → SameLinks m n → SameBases m n → SameKeys m n → Notes m n t → IsLedger keys w ws n
+ledger_noted keys w ws m n t h above within links bases same notes = record {
+  index = index_moved ws ws _ _ _ _ h.index (λ k t. refl) (λ k s. refl) links bases;
+  sourced = h.sourced;
+  counted = h.counted ∙ sym (count_same (has_links m) (has_links n) keys same);
+  readers = readers_noted ws m n t h.readers notes above within;
 }
 
 -- a get waits
-pub ledger_waits : {S : Type 0} (keys w : ℕ) (ws : List Work) (m : hash.HashMap ℕ Chain S) (t k : ℕ) → IsLedger keys w ws m → is_some (chain_at m k) ≡ true → IsLedger keys w (edit (wait_for k) ws t) m
+pub ledger_waits : {S : Type 0} (keys w : ℕ) (ws : List Work) (m : hash.HashMap ℕ Chain S) (t k : ℕ) → IsLedger keys w ws m → is_reader m k t ≡ true → IsLedger keys w (edit (wait_for k) ws t) m
 ledger_waits keys w ws m t k h there = record {
   index = index_moved ws (edit (wait_for k) ws t) _ _ _ _ h.index (λ j u. version_edit (wait_for k) ws t (λ x i. refl) u j) (mark_same_ops ws (edit (wait_for k) ws t) (ops_edit (wait_for k) ws t (λ x. refl)) (length-edit (wait_for k) ws t)) (λ j u. refl) (λ j. refl);
   sourced = sourced_same_ops ws (edit (wait_for k) ws t) h.sourced (ops_edit (wait_for k) ws t (λ x. refl));
   counted = h.counted;
-  waits = waits_edit (wait_for k) ws t m m h.waits (λ j e. e) (λ x j e. inr (subst (λ q. is_some (chain_at m q) ≡ true) (same_Some k j e) there));
+  readers = readers_edit (wait_for k) ws t m h.readers (ops_edit (wait_for k) ws t (λ x. refl)) (λ x j e. inr (subst (λ q. is_reader m q t ≡ true) (same_Some k j e) there));
 }
 
 -- a get was answered
 pub ledger_got : {S : Type 0} (keys w : ℕ) (ws : List Work) (m n : hash.HashMap ℕ Chain S) (t k : ℕ) (r : Option (List ℕ)) (s : ℕ) → IsLedger keys w ws m → 0 < t → t ≤ length ws
-    → (0 < s → is_some (version ws s k) ≡ true) → IsRaised m n k s t → SameKeys m n → KeepsRoom m n → IsLedger keys w (with_op ws t (Get k r s)) n
-ledger_got keys w ws m n t k r s h above within from raises same room = record {
+    → (0 < s → is_some (version ws s k) ≡ true) → (0 < s → is_reader m k t ≡ true) → IsRaised m n k s t → SameKeys m n → SameReaders m n → IsLedger keys w (with_op ws t (Get k r s)) n
+ledger_got keys w ws m n t k r s h above within from noted raises same readers = record {
   index = ⊎_elim
       (λ zero. subst (λ q. IsIndex (with_op ws t (Get k r q)) (λ j u. link_at n j u) (λ j. base_mark n j)) (sym zero) (index_got_base ws _ _ _ _ t k r h.index above within (raises.from_base zero).0 (raises.from_base zero).1))
       (λ other. let l : 0 < s = omega arith in index_got ws _ _ _ _ t k r s h.index above within l (raises.from_write l).0 (raises.from_write l).1)
       (cases_eq s 0);
   sourced = sourced_got ws t k r s h.sourced from;
   counted = h.counted ∙ sym (count_same (has_links m) (has_links n) keys same);
-  waits = waits_edit _ ws t m n h.waits room (λ x j e. absurd (none-some j e));
+  readers = readers_got ws t k r s n (readers_moved ws m n h.readers readers) (λ l. readers k t ∙ noted l);
 }
 
 -- a write that covers nothing that a later ticket has read
 pub ledger_wrote : {S : Type 0} (keys w : ℕ) (ws : List Work) (m n : hash.HashMap ℕ Chain S) (t k : ℕ) (v : Option (List ℕ)) (x : Link) (first : Bool) (c : ℕ) → IsLedger keys w ws m → goes_on ws t ≡ true → covered_mark ws t k ≤ t
     → x.value ≡ v → x.mark ≡ 0 → ((j u : ℕ) → link_at n j u ≡ (if (k == j) && (t == u) then Some x else link_at m j u)) → SameBases m n
-    → ((j : ℕ) → has_links n j ≡ (if k == j then true else has_links m j)) → first ≡ not (has_links m k) → c ≡ bit (first && nat_lt k keys) → KeepsRoom m n → IsLedger keys (w + c) (with_op ws t (write_op k v)) n
-ledger_wrote keys w ws m n t k v x first c h going test value_is unread puts bases has is count room = record {
+    → ((j : ℕ) → has_links n j ≡ (if k == j then true else has_links m j)) → first ≡ not (has_links m k) → c ≡ bit (first && nat_lt k keys) → SameReaders m n → IsLedger keys (w + c) (with_op ws t (write_op k v)) n
+ledger_wrote keys w ws m n t k v x first c h going test value_is unread puts bases has is count readers = record {
   index = index_wrote ws _ _ _ _ t k v x h.index h.sourced going test value_is unread puts bases;
   sourced = sourced_wrote ws t k v h.sourced;
   counted = counted;
-  waits = waits_edit _ ws t m n h.waits room (λ x j e. absurd (none-some j e));
+  readers = readers_wrote ws t k v n (readers_moved ws m n h.readers readers);
 }
   where
     p : ℕ → Bool
@@ -212,12 +226,12 @@ at_some (w ∷ ws) (suc (suc n)) a b = at_some ws (suc n) (omega arith) (omega a
 -- a transaction was aborted, and its versions went
 pub ledger_ended : {S : Type 0} (keys w : ℕ) (ws : List Work) (m n : hash.HashMap ℕ Chain S) (f : Work → Work) (t lost : ℕ) → IsLedger keys w ws m → 0 < t → t ≤ length ws → ((x : Work) → (f x).ops ≡ x.ops) → ((x : Work) → is_going (f x).fate ≡ false) → ((x : Work) → (f x).waiting ≡ x.waiting)
     → ((x : Work) → at_ticket ws t ≡ Some x → (k u : ℕ) → link_at n k u ≡ (if (t == u) && is_some (last_write x.ops k) then None else link_at m k u))
-    → count_below (has_links m) keys ≡ count_below (has_links n) keys + lost → SameBases m n → KeepsRoom m n → IsLedger keys (w - lost) (edit f ws t) n
-ledger_ended keys w ws m n f t lost h above within keeps ends waits takes count bases room = record {
+    → count_below (has_links m) keys ≡ count_below (has_links n) keys + lost → SameBases m n → SameReaders m n → IsLedger keys (w - lost) (edit f ws t) n
+ledger_ended keys w ws m n f t lost h above within keeps ends waits takes count bases readers = record {
   index = let x = at_some ws t above within in index_ended ws _ _ _ _ f t h.index keeps ends (λ j u. takes x.0 x.1 j u ∙ gone x.0 x.1 j u) bases;
   sourced = sourced_same_ops ws (edit f ws t) h.sourced (ops_edit f ws t keeps);
   counted = let before = h.counted in omega (arith, before, count);
-  waits = waits_edit f ws t m n h.waits room (λ x j e. inl (sym (waits x) ∙ e));
+  readers = readers_edit f ws t n (readers_moved ws m n h.readers readers) (ops_edit f ws t keeps) (λ x j e. inl (sym (waits x) ∙ e));
 }
   where
     none_there : (x : Work) → at_ticket ws t ≡ Some x → (j : ℕ) → last_write x.ops j ≡ None → link_at m j t ≡ None
@@ -234,6 +248,24 @@ ledger_ended keys w ws m n f t lost h above within keeps ends waits takes count 
         (λ y some. ap₂ (λ (a b : Bool). if a && b then None else link_at m j u) (eq-eqb t u same) (ap is_some some) ∙ sym (ap (λ a. if a then None else link_at m j u) (eq-eqb t u same))))
         (λ other. ap (λ a. if a && is_some (last_write x.ops j) then None else link_at m j u) (ne_eqb t u other) ∙ sym (ap (λ a. if a then None else link_at m j u) (ne_eqb t u other)))
         (cases_eq t u)
+
+-- ---- the agenda is ready for all tickets
+
+pub ready_none : (vs : List Work) (agenda : AgendaModel) → vs ≡ [] → agenda.tickets ≡ [] → IsReady vs agenda
+ready_none vs agenda e empty = (omega (arith, ap length e), empty)
+
+pub ready_same : (ws vs : List Work) (agenda : AgendaModel) → vs ≡ ws → IsReady ws agenda → IsReady vs agenda
+ready_same ws vs agenda e h = (omega (arith, ap length e, h.0), h.1)
+
+pub ready_edit : (f : Work → Work) (ws vs : List Work) (t : ℕ) (agenda : AgendaModel) → vs ≡ edit f ws t → IsReady ws agenda → IsReady vs agenda
+ready_edit f ws vs t agenda e h = (omega (arith, ap length e, length-edit f ws t, h.0), h.1)
+
+-- there is room for one more
+pub ready_more : (ws vs : List Work) (w : Work) (old new : AgendaModel) → vs ≡ ws ++ w ∷ [] → IsReady ws old → length ws + 1 ≤ new.room → new.tickets ≡ old.tickets → IsReady vs new
+ready_more ws vs w old new e h l same = (omega (arith, ap length e, length-append ws (w ∷ []), l), same ∙ h.1)
+
+pub ready_still : (ws vs : List Work) (old new : AgendaModel) → vs ≡ ws → IsReady ws old → old.room ≤ new.room → new.tickets ≡ old.tickets → IsReady vs new
+ready_still ws vs old new e h l same = (omega (arith, ap length e, h.0, l), same ∙ h.1)
 
 -- ---- works that waited for room
 

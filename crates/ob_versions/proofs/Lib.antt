@@ -1,10 +1,9 @@
-pub mod Bounded
-pub mod Compares
 pub mod Counted
 pub mod Falling
 pub mod Indexed
 pub mod Kept
 pub mod Marks
 pub mod Orders
+pub mod Readers
 pub mod Sources
-pub mod Unlinks
+pub mod Pending

@@ -1,18 +1,14 @@
--- Who has read a version of a ticket: that one's operations write the key. And where a get waits there is room for the key's chain.
+-- Who has read a version of a ticket: that one's operations write the key.
 use Rattle.std.proofs.Common.{◌≡◌, ℕ, zero, suc, ◌<◌, Bool, true, false, if◌then◌else◌, List, [], ◌∷◌, ◌++◌, Option, None, Some, option_map, option_and_then, is_some, slice_get, refl, sym, ap, ◌∙◌, subst, ◌⊎◌, ⊎_elim, arith}
 use Rattle.std.proofs.lemmas.Bool.{cases_eq, false≢true}
 use Rattle.std.proofs.lemmas.Option.{none-some, same_Some}
-use Rattle.std.specs.HashMap as hash
-use Rattle.ob_order.specs.Works.{Get, Put, Del, Work, is_going, at_ticket, edit, with_op, version, version_in, last_write, waiting_at}
+use Rattle.ob_order.specs.Works.{Get, Put, Del, Work, is_going, at_ticket, with_op, version, version_in, last_write}
 use Rattle.ob_order.specs.Order.{fresh, write_op}
 use Rattle.ob_order.specs.Chains.{Sourced}
-use Rattle.ob_order.proofs.Edits.{at_edit_same, at_edit_other, slice_get-push}
+use Rattle.ob_order.proofs.Edits.{slice_get-push}
 use Rattle.ob_order.proofs.Newest.{by_option}
 use Rattle.ob_order.proofs.Falls.{ops_at}
 use Rattle.ob_order.proofs.Links.{sourced_op}
-use Rattle.ob_versions.specs.Chains.{Chain}
-use Rattle.ob_versions.specs.Tables.{chain_at, KeepsRoom}
-use Rattle.ob_versions.specs.Ledgers.{HasWaits}
 
 pub sourced_none : Sourced []
 sourced_none = record { at_each = λ u w there. absurd (none-some w there) }
@@ -62,31 +58,3 @@ sourced_got ws t k r s h from = sourced_op ws t (Get k r s) h (λ j x q e l.
 pub sourced_wrote : (ws : List Work) (t k : ℕ) (v : Option (List ℕ)) → Sourced ws → Sourced (with_op ws t (write_op k v))
 sourced_wrote ws t k None h = sourced_op ws t (Del k) h (λ j r s e. let q : Del k ≡ Get j r s = e in absurd (cc))
 sourced_wrote ws t k (Some v) h = sourced_op ws t (Put k v) h (λ j r s e. let q : Put k v ≡ Get j r s = e in absurd (cc))
-
--- ---- room for a get that waits
-
-pub waits_none : {S : Type 0} (m : hash.HashMap ℕ Chain S) → HasWaits [] m
-waits_none m zero k e = absurd (none-some k e)
-waits_none m (suc t) k e = absurd (none-some k e)
-
-pub waits_begun : {S : Type 0} (ws : List Work) (m : hash.HashMap ℕ Chain S) → HasWaits ws m → HasWaits (ws ++ fresh ∷ []) m
-waits_begun ws m h zero k e = absurd (none-some k e)
-waits_begun ws m h (suc t) k e = ⊎_elim
-    (λ old. h (suc t) k (ap (option_and_then (λ w. w.waiting)) (sym old) ∙ e))
-    (λ last. absurd (none-some k (ap (option_and_then (λ w. w.waiting)) (sym last.2) ∙ e)))
-    (slice_get-push ws fresh t)
-
--- one work is changed, and waits for nothing new, but for what there is room for
-pub waits_edit : {S : Type 0} (f : Work → Work) (ws : List Work) (t : ℕ) (m n : hash.HashMap ℕ Chain S) → HasWaits ws m → KeepsRoom m n
-    → ((w : Work) (k : ℕ) → (f w).waiting ≡ Some k → (w.waiting ≡ Some k) ⊎ (is_some (chain_at n k) ≡ true)) → HasWaits (edit f ws t) n
-waits_edit f ws t m n h room new u k e = ⊎_elim
-    (λ same. step (at_ticket ws t) refl (ap (option_and_then (λ w. w.waiting)) (sym (at_edit_same f ws t)) ∙ subst (λ q. waiting_at (edit f ws t) q ≡ Some k) same e))
-    (λ other. room k (h u k (ap (option_and_then (λ w. w.waiting)) (sym (at_edit_other f ws t u other)) ∙ e)))
-    (cases_eq u t)
-  where
-    step : (o : Option Work) → at_ticket ws t ≡ o → option_and_then (λ w. w.waiting) (option_map f o) ≡ Some k → is_some (chain_at n k) ≡ true
-    step None is e = absurd (none-some k e)
-    step (Some w) is e = ⊎_elim
-        (λ old. room k (h t k (ap (option_and_then (λ w. w.waiting)) is ∙ old)))
-        (λ there. there)
-        (new w k e)

@@ -1,4 +1,2 @@
-pub mod Chains
 pub mod Index
 pub mod Ledgers
-pub mod Tables

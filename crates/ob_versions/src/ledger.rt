@@ -4,23 +4,23 @@ ghost use Rattle.std.specs.Prelude.{◌≡◌, ℕ, ◌+◌, ◌-◌, ◌<◌, �
 ghost use Rattle.ob_order.specs.Works as works;
 ghost use Rattle.ob_order.specs.Order as rules;
 ghost use Rattle.std.specs.Option.{option_map, unwrap_or};
-ghost use Rattle.ob_versions.specs.Tables.{chain_at, link_at, has_links, SameLinks, SameBases, SameKeys, KeepsRoom, IsRaised};
-ghost use Rattle.ob_versions.specs.Ledgers.{covered_mark, ReadUpTo};
+ghost use Rattle.ob_chains.specs.Tables.{chain_at, link_at, has_links, is_reader, SameLinks, SameBases, SameKeys, SameReaders, IsRaised};
+ghost use Rattle.ob_versions.specs.Ledgers.{covered_mark, Notes};
 
-use crate::chain::Link;
-use crate::table::{Table, has_versions, make_room, mark_of_base, newest, put, raise, raise_base};
-use crate::unlink::{count_where, greatest_mark_at, unlink_at};
+use crate::cascade::{abort_in, end_at, goes_on_at};
+use ob_chains::agenda::Agenda;
+use ob_chains::chain::Link;
+use ob_chains::table::{Table, has_versions, make_room, mark_of_base, newest, note, put, raise, raise_base};
+use ob_chains::unlink::count_where;
 use ob_base::{Key, Memory, Op, Value};
-use ob_order::plain::read_off::{
-    add_awaited, add_to, end_in, fall_in, fell_on, make_wait, set_waiting,
-};
+use ob_order::plain::read_off::{add_awaited, add_to, make_wait, set_waiting};
 use ob_order::{Fate, Version, Work};
 use std::alloc::Global;
 use std::collections::HashMap;
 use std::marker::Model;
 use std::mem;
 
-/// The works by ticket, from 1, and an index of their versions by key.
+/// The works by ticket, from 1, an index of their versions by key, and room for an abort.
 #[derive(Drop)]
 pub struct Ledger {
     alloc: Global,
@@ -28,16 +28,17 @@ pub struct Ledger {
     works: Vec<Work>,
     table: Table,
     written: u64,
+    agenda: Agenda,
 }
 
 impl Model for Ledger {
-    ghost use Rattle.ob_versions.specs.Ledgers.{LedgerModel, IsLedger};
+    ghost use Rattle.ob_versions.specs.Ledgers.{LedgerModel, IsLedger, IsReady};
 
     ghost Value = { LedgerModel };
 
     ghost view = { λ l. record { keys = l.keys; works = l.works.items } };
 
-    ghost invariant = { λ l. IsLedger l.keys l.written l.works.items l.table };
+    ghost invariant = { λ l. IsLedger l.keys l.written l.works.items l.table × IsReady l.works.items l.agenda };
 }
 
 // The operation that sets the key to this.
@@ -87,12 +88,46 @@ fn raise_mark(table: &mut Table, key: Key, source: u64, reader: u64)
     requires { is_some (chain_at table.old key) ≡ true }
     ensures raises { IsRaised table.old table.new key source reader }
     ensures keys { SameKeys table.old table.new }
-    ensures room { KeepsRoom table.old table.new }
+    ensures readers { SameReaders table.old table.new }
 {
     if source == 0 {
         raise_base(table, key, reader);
     } else {
         raise(table, key, source, reader);
+    }
+}
+
+// Room for the key's chain is made, and the ticket is noted there as a reader.
+fn note_reader(table: &mut Table, alloc: Global, key: Key, t: u64) -> Result<(), Memory>
+    ensures ok { OnOk result ((is_some (chain_at table.new key) ≡ true) × (is_reader table.new key t ≡ true)) }
+    ensures notes { Notes table.old table.new t }
+    ensures links { SameLinks table.old table.new }
+    ensures bases { SameBases table.old table.new }
+    ensures keys { SameKeys table.old table.new }
+{
+    make_room(table, alloc, key)?;
+    note(table, key, t)?;
+    Ok(())
+}
+
+// Room for the key's chain is made, and where the source is a ticket the reader is noted there.
+fn note_source(
+    table: &mut Table,
+    alloc: Global,
+    key: Key,
+    source: u64,
+    t: u64,
+) -> Result<(), Memory>
+    ensures ok { OnOk result ((is_some (chain_at table.new key) ≡ true) × (0 < source → is_reader table.new key t ≡ true)) }
+    ensures notes { Notes table.old table.new t }
+    ensures links { SameLinks table.old table.new }
+    ensures bases { SameBases table.old table.new }
+    ensures keys { SameKeys table.old table.new }
+{
+    if source == 0 {
+        make_room(table, alloc, key)
+    } else {
+        note_reader(table, alloc, key, t)
     }
 }
 
@@ -120,7 +155,7 @@ fn put_write(
     ensures links { OnOk result ((k u : ℕ) → link_at table.new k u ≡ (if (key == k) && (t == u) then Some (record { value = value.now; mark = 0 }) else link_at table.old k u)) }
     ensures keys { OnOk result ((k : ℕ) → has_links table.new k ≡ (if key == k then true else has_links table.old k)) }
     ensures bases { SameBases table.old table.new }
-    ensures room { KeepsRoom table.old table.new }
+    ensures readers { SameReaders table.old table.new }
     ensures err { OnErr result (list.new.items ≡ list.old.items) }
     ensures err_links { OnErr result (SameLinks table.old table.new) }
     ensures err_keys { OnErr result (SameKeys table.old table.new) }
@@ -139,27 +174,6 @@ fn put_write(
     }
 }
 
-// Whether the work at a place isn't aborted.
-fn goes_on_at(list: &[Work], n: usize) -> bool
-    requires { n < length list.now }
-    ensures { (w : works.Work) → w ≡ get_or list.now n w → result ≡ works.is_going w.fate }
-{
-    let work = &list[n];
-    matches!(work.fate, Fate::Going)
-}
-
-// The least source of the work at a place that is aborted, where it goes on.
-fn falls_on(list: &[Work], n: usize) -> Option<u64>
-    requires { n < length list.now }
-    ensures { (w : works.Work) → w ≡ get_or list.now n w → result ≡ (if works.is_going w.fate then works.least_source (works.is_gone list.now) w.ops else None) }
-{
-    if goes_on_at(list, n) {
-        fell_on(list, n)
-    } else {
-        None
-    }
-}
-
 impl Ledger {
     /// No transactions, and so many keys that count.
     pub fn new(alloc: Global, keys: u32) -> Ledger
@@ -171,6 +185,7 @@ impl Ledger {
             works: Vec::new(alloc),
             table: HashMap::new(alloc),
             written: 0,
+            agenda: Agenda::new(alloc),
         }
     }
 
@@ -201,6 +216,7 @@ impl Ledger {
         ensures ok { OnOk result (self.new ≡ record self.old { works = self.old.works ++ rules.fresh ∷ [] }) }
         ensures err { OnErr result (self.new ≡ self.old) }
     {
+        self.agenda.make_room(self.works.len() as u64 + 1)?;
         self.works.push(Work::new(self.alloc))?;
         Ok(())
     }
@@ -274,7 +290,7 @@ impl Ledger {
         ensures ok { OnOk result (self.new ≡ record self.old { works = works.with_op self.old.works t (works.Get key version.now.value version.now.source) }) }
         ensures err { OnErr result (self.new ≡ self.old) }
     {
-        make_room(&mut self.table, self.alloc, key)?;
+        note_source(&mut self.table, self.alloc, key, version.source, t)?;
         add_to(&mut self.works, t as usize, get_op(key, version))?;
         raise_mark(&mut self.table, key, version.source, t);
         Ok(())
@@ -300,7 +316,7 @@ impl Ledger {
         ensures ok { OnOk result (self.new ≡ record self.old { works = works.edit (works.wait_for key) self.old.works t }) }
         ensures err { OnErr result (self.new ≡ self.old) }
     {
-        make_room(&mut self.table, self.alloc, key)?;
+        note_reader(&mut self.table, self.alloc, key, t)?;
         make_wait(&mut self.works, t as usize, key)?;
         Ok(())
     }
@@ -327,60 +343,30 @@ impl Ledger {
         requires { (0 < t) × (t ≤ length self.old.works) }
         ensures { self.new ≡ record self.old { works = works.edit works.end_work self.old.works t } }
     {
-        self.written -= unlink_at(&mut self.table, &self.works, t, self.keys);
-        end_in(&mut self.works, t as usize);
-    }
-
-    // Ticket t is aborted because of this one.
-    fn fall_to(&mut self, t: u64, on: u64)
-        requires { (0 < t) × (t ≤ length self.old.works) }
-        ensures { self.new ≡ record self.old { works = works.edit (works.fall_to on) self.old.works t } }
-    {
-        self.written -= unlink_at(&mut self.table, &self.works, t, self.keys);
-        fall_in(&mut self.works, t as usize, on);
-    }
-
-    // A ticket that none above has read ticket t's versions, which goes on, but itself.
-    fn last_reader(&self, t: u64) -> u64
-        requires { (0 < t) × (t ≤ length self.now.works) }
-        ensures { works.goes_on self.now.works t ≡ true → ReadUpTo self.now.works t (max result t) }
-    {
-        greatest_mark_at(&self.table, &self.works, t)
-    }
-
-    // The work at a place falls because of its least source that is aborted, where it has one and
-    // goes on. Answers who has read its versions at most.
-    fn fall(&mut self, n: u64) -> u64
-        requires { n < length self.old.works }
-        ensures falls { (w : works.Work) → w ≡ get_or self.old.works n w → self.new ≡ record self.old { works = set self.old.works n (works.fall (works.least_source (works.is_gone self.old.works) w.ops) w) } }
-        ensures last { works.goes_on self.old.works (n + 1) ≡ true → works.goes_on self.new.works (n + 1) ≡ false → ReadUpTo self.old.works (n + 1) (max result (n + 1)) }
-    {
-        match falls_on(&self.works, n as usize) {
-            Some(on) => {
-                let last = self.last_reader(n + 1);
-                self.fall_to(n + 1, on);
-                last
-            }
-            None => 0,
-        }
+        end_at(
+            &mut self.table,
+            &mut self.works,
+            &mut self.written,
+            t,
+            self.keys,
+        );
     }
 
     /// Aborts ticket t, which isn't aborted, and with it each that depends on it, directly or not.
-    /// It looks at the tickets up to the last one that has read what goes.
-    #[tactic(auto, using(ob_order::proofs::Steps::live_above, ob_order::proofs::Steps::live_within))]
+    /// It looks at those that have read what goes, and takes no memory.
     pub fn abort(&mut self, t: u64)
         requires live { works.goes_on self.old.works t ≡ true }
         requires tidy { works.Tidy self.old.works }
         ensures { self.new ≡ record self.old { works = works.aborted self.old.works t } }
     {
-        let mut last = self.last_reader(t);
-        self.end(t);
-        for n in t..self.len() {
-            if last <= n {
-                return;
-            }
-            last = last.max(self.fall(n));
-        }
+        abort_in(
+            &mut self.table,
+            &mut self.works,
+            &mut self.written,
+            &mut self.agenda,
+            t,
+            self.keys,
+        );
     }
 
     // Stops the work at a place, if it goes on.

@@ -1,11 +1,9 @@
 //! The versions of each key in the epoch that runs, by ticket, with the marks of their readers.
 #![tactic(auto)]
 
-mod chain;
+mod cascade;
 mod ledger;
 mod order;
-mod table;
-mod unlink;
 
 pub use ledger::Ledger;
 pub use order::Order;

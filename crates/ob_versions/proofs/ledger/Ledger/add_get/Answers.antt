@@ -1,30 +1,35 @@
 use Rattle.std.proofs.Common.{◌≡◌, List, true, ◌<◌, ◌≤◌, is_some, length, sym, ap, ◌∙◌, subst}
 use Rattle.ob_order.specs.Works.{Work, with_op, version}
 use Rattle.ob_versions.specs.Ledgers.{LedgerModel, IsLedger}
-use Rattle.ob_versions.proofs.Kept.{ledger_room, ledger_got}
+use Rattle.ob_versions.proofs.Kept.{ledger_noted, ledger_got, ready_same, ready_edit}
 use Rattle.ob_versions.proofs.ledger.Ledger.add_get.Goals as goal
 
 pub invariant_of-self : goal.invariant_of-self
 invariant_of-self c =
     let a = c.self.inside in
-    let e = c.make_room.ensures in
-    let h = ledger_room a.keys a.written a.works.items a.table c.make_room.new.table c.self.invariant e.links e.bases e.keys e.room in
-    h
+    let e = c.note_source.ensures in
+    let r = subst (λ (d : LedgerModel). (0 < c.args.t) × (c.args.t ≤ length d.works)) (sym c.self.view_is) c.requires.in_range in
+    let h = ledger_noted a.keys a.written a.works.items a.table c.note_source.new.table c.args.t c.self.invariant.0 r.0 r.1 e.links e.bases e.keys e.notes in
+    (h, c.self.invariant.1)
 
 pub invariant_of-self-in_err-add_to : goal.invariant_of-self-in_err-add_to
 invariant_of-self-in_err-add_to c =
     let a = c.self.inside in
-    let e = c.make_room.ensures in
-    let h = ledger_room a.keys a.written a.works.items a.table c.make_room.new.table c.self.invariant e.links e.bases e.keys e.room in
-    subst (λ (ws : List Work). IsLedger a.keys a.written ws c.make_room.new.table) (sym c.in_err-add_to.ensures.err) h
+    let e = c.note_source.ensures in
+    let r = subst (λ (d : LedgerModel). (0 < c.args.t) × (c.args.t ≤ length d.works)) (sym c.self.view_is) c.requires.in_range in
+    let h = ledger_noted a.keys a.written a.works.items a.table c.note_source.new.table c.args.t c.self.invariant.0 r.0 r.1 e.links e.bases e.keys e.notes in
+    (subst (λ (ws : List Work). IsLedger a.keys a.written ws c.note_source.new.table) (sym c.in_err-add_to.ensures.err) h, ready_same a.works.items c.add_to.new.list.items a.agenda c.in_err-add_to.ensures.err c.self.invariant.1)
 
 pub invariant_of-self-2 : goal.invariant_of-self-2
 invariant_of-self-2 c =
     let a = c.self.inside in
-    let e = c.make_room.ensures in
-    let h = ledger_room a.keys a.written a.works.items a.table c.make_room.new.table c.self.invariant e.links e.bases e.keys e.room in
+    let e = c.note_source.ensures in
     let r = subst (λ (d : LedgerModel). (0 < c.args.t) × (c.args.t ≤ length d.works)) (sym c.self.view_is) c.requires.in_range in
+    let h = ledger_noted a.keys a.written a.works.items a.table c.note_source.new.table c.args.t c.self.invariant.0 r.0 r.1 e.links e.bases e.keys e.notes in
     let from = subst (λ (d : LedgerModel). 0 < c.args.version.now.source → is_some (version d.works c.args.version.now.source c.args.key) ≡ true) (sym c.self.view_is) c.requires.source in
     let m = c.raise_mark.ensures in
-    subst (λ (ws : List Work). IsLedger a.keys a.written ws c.raise_mark.new.table) (sym (c.in_ok-add_to.ensures.ok ∙ ap (with_op a.works.items c.args.t) c.get_op.ensures))
-    (ledger_got a.keys a.written a.works.items c.make_room.new.table c.raise_mark.new.table c.args.t c.args.key c.args.version.now.value c.args.version.now.source h r.0 r.1 from m.raises m.keys m.room)
+    let ops = c.in_ok-add_to.ensures.ok ∙ ap (with_op a.works.items c.args.t) c.get_op.ensures in (
+      subst (λ (ws : List Work). IsLedger a.keys a.written ws c.raise_mark.new.table) (sym ops)
+          (ledger_got a.keys a.written a.works.items c.note_source.new.table c.raise_mark.new.table c.args.t c.args.key c.args.version.now.value c.args.version.now.source h r.0 r.1 from c.in_ok-note_source.ensures.ok.1 m.raises m.keys m.readers),
+      ready_edit _ a.works.items c.add_to.new.list.items c.args.t a.agenda ops c.self.invariant.1,
+    )

@@ -1,0 +1,4 @@
+pub mod Agendas
+pub mod Compares
+pub mod Counted
+pub mod Unlinks

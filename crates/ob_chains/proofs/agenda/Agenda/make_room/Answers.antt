@@ -1,0 +1,8 @@
+use Rattle.ob_chains.proofs.Agendas.{moved_rises}
+use Rattle.ob_chains.proofs.agenda.Agenda.make_room.Goals as goal
+
+pub invariant_of-self : goal.invariant_of-self
+invariant_of-self c = let e = c.reserve.ensures in moved_rises _ _ c.self.inside.tickets.items c.reserve.new.self.items e.items e.capacity c.self.invariant
+
+pub invariant_of-self-2 : goal.invariant_of-self-2
+invariant_of-self-2 c = let e = c.reserve.ensures in moved_rises _ _ c.self.inside.tickets.items c.reserve.new.self.items e.items e.capacity c.self.invariant

@@ -1,0 +1,3 @@
+pub mod Agendas
+pub mod Chains
+pub mod Tables
