@@ -24,10 +24,6 @@ module _ {S : Type 0} where
   abbrev pub base_mark : hash.HashMap ℕ Chain S → ℕ → ℕ
   base_mark m k = unwrap_or (option_map (λ c. c.base_mark) (chain_at m k)) 0
 
-  -- the mark of ticket t's version of key k
-  abbrev pub mark_in : hash.HashMap ℕ Chain S → ℕ → ℕ → ℕ
-  mark_in m k t = unwrap_or (option_map (λ l. l.mark) (link_at m k t)) 0
-
   -- whether key k has versions
   abbrev pub has_links : hash.HashMap ℕ Chain S → ℕ → Bool
   has_links m k = unwrap_or (option_map (λ c. nat_lt 0 (links_in c)) (chain_at m k)) false

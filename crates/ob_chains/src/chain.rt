@@ -3,7 +3,7 @@
 ghost use Rattle.std.specs.Prelude.{◌≡◌, ℕ, ◌+◌, ◌<◌, ◌≤◌, max, if◌then◌else◌, ◌==◌, is_some, true, false, IfOk, OnOk, OnErr, Some, None};
 ghost use Rattle.ob_chains.specs.Chains.{IsNewest, IsNextReader, link_in, links_in, has_reader};
 ghost use Rattle.ob_chains.specs.Tables.{raised};
-ghost use Rattle.std.specs.Option.{option_map, unwrap_or};
+ghost use Rattle.std.specs.Option.{option_map};
 
 use ob_base::{Memory, Value};
 use std::alloc::Global;
@@ -48,16 +48,6 @@ impl Chain {
         match self.links.range(..=t).next_back() {
             Some((at, link)) => Some((*at, *link)),
             None => None,
-        }
-    }
-
-    /// The mark of the ticket's version, or 0.
-    pub fn mark(&self, t: u64) -> u64
-        ensures { result ≡ unwrap_or (option_map (λ l. l.mark) (link_in self.now t)) 0 }
-    {
-        match self.links.get(&t) {
-            Some(link) => link.mark,
-            None => 0,
         }
     }
 

@@ -5,4 +5,6 @@ pub mod agenda;
 pub mod chain;
 pub mod readers;
 pub mod table;
+#[cfg(test)]
+mod tests;
 pub mod unlink;

@@ -3,7 +3,7 @@
 ghost use Rattle.std.specs.Prelude.{◌≡◌, ℕ, ◌+◌, ◌<◌, ◌≤◌, max, not, ◌&&◌, if◌then◌else◌, ◌==◌, is_some, true, IfOk, OnOk, OnErr, Some, None};
 ghost use Rattle.std.specs.Option.{option_map};
 ghost use Rattle.ob_chains.specs.Chains.{IsNewest, IsNextReader};
-ghost use Rattle.ob_chains.specs.Tables.{chain_at, link_at, base_mark, mark_in, has_links, raised, is_reader, SameLinks, SameBases, SameKeys, SameReaders, KeepsRoom};
+ghost use Rattle.ob_chains.specs.Tables.{chain_at, link_at, base_mark, has_links, raised, is_reader, SameLinks, SameBases, SameKeys, SameReaders, KeepsRoom};
 
 use crate::chain::{Chain, Link};
 use ob_base::{Key, Memory, Value};
@@ -29,16 +29,6 @@ pub fn mark_of_base(table: &Table, key: Key) -> u64
 {
     match table.get(&key) {
         Some(chain) => chain.base_mark,
-        None => 0,
-    }
-}
-
-/// The greatest ticket that has read the ticket's version of the key, as it is kept, or 0.
-pub fn mark_of_version(table: &Table, key: Key, t: u64) -> u64
-    ensures { result ≡ mark_in table.now key t }
-{
-    match table.get(&key) {
-        Some(chain) => chain.mark(t),
         None => 0,
     }
 }

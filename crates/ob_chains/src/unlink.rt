@@ -3,10 +3,9 @@
 ghost use Rattle.std.specs.Prelude.{◌≡◌, ℕ, ◌+◌, ◌-◌, ◌<◌, ◌≤◌, ◌&&◌, ◌==◌, if◌then◌else◌, length, take, nat_lt, is_some, true, Some, None};
 ghost use Rattle.ob_order.specs.Works as works;
 ghost use Rattle.ob_order.specs.Order.{count_below};
-ghost use Rattle.ob_chains.specs.Tables.{link_at, mark_in, has_links, SameBases, SameReaders, KeepsRoom};
-ghost use Rattle.ob_chains.specs.Tables.{key_of};
+ghost use Rattle.ob_chains.specs.Tables.{link_at, has_links, key_of, SameBases, SameReaders, KeepsRoom};
 
-use crate::table::{Table, mark_of_version, take};
+use crate::table::{Table, take};
 use ob_base::{Key, Op};
 use ob_order::Work;
 
@@ -72,33 +71,4 @@ pub fn unlink_at(table: &mut Table, list: &[Work], t: u64, keys: u32) -> u64
 {
     let work = &list[(t - 1) as usize];
     unlink(table, &work.ops, t, keys)
-}
-
-fn mark_of_write(table: &Table, op: &Op<Key>, t: u64) -> u64
-    ensures { (k : ℕ) → is_some (works.write_of op.now k) ≡ true → mark_in table.now k t ≤ result }
-{
-    match written_key(op) {
-        None => 0,
-        Some(key) => mark_of_version(table, key, t),
-    }
-}
-
-// The greatest kept mark of what ticket t wrote by these operations.
-fn greatest_mark(table: &Table, ops: &[Op<Key>], t: u64) -> u64
-    ensures { (k : ℕ) → is_some (works.last_write ops.now k) ≡ true → mark_in table.now k t ≤ result }
-{
-    let mut found: u64 = 0;
-    for op in ops {
-        found = found.max(mark_of_write(table, op, t));
-    }
-    found
-}
-
-/// The greatest kept mark of what ticket t wrote.
-pub fn greatest_mark_at(table: &Table, list: &[Work], t: u64) -> u64
-    requires { (0 < t) × (t ≤ length list.now) }
-    ensures { (w : works.Work) → works.at_ticket list.now t ≡ Some w → (k : ℕ) → is_some (works.last_write w.ops k) ≡ true → mark_in table.now k t ≤ result }
-{
-    let work = &list[(t - 1) as usize];
-    greatest_mark(table, &work.ops, t)
 }

@@ -1,6 +1,6 @@
 //! What the transactions of an epoch did, by ticket, with the chains of their versions.
 
-ghost use Rattle.std.specs.Prelude.{◌≡◌, ℕ, ◌+◌, ◌-◌, ◌<◌, ◌≤◌, length, max, true, false, not, ◌&&◌, ◌==◌, if◌then◌else◌, is_some, IfOk, OnOk, OnErr, MatchOption, get_or, set, Some, None, [], ◌∷◌, ◌++◌, map};
+ghost use Rattle.std.specs.Prelude.{◌≡◌, ℕ, ◌+◌, ◌-◌, ◌<◌, ◌≤◌, length, true, not, ◌&&◌, ◌==◌, if◌then◌else◌, is_some, IfOk, OnOk, OnErr, MatchOption, Some, None, [], ◌∷◌, ◌++◌, map};
 ghost use Rattle.ob_order.specs.Works as works;
 ghost use Rattle.ob_order.specs.Order as rules;
 ghost use Rattle.std.specs.Option.{option_map, unwrap_or};

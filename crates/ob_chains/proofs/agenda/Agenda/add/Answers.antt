@@ -1,4 +1,4 @@
-use Rattle.std.proofs.Common.{◌≡◌, ℕ, ◌≤◌, ◌||◌, ◌==◌, sym, ap, ◌∙◌, subst}
+use Rattle.std.proofs.Common.{◌≡◌, ℕ, ◌≤◌, ◌||◌, ◌==◌, sym, subst}
 use Rattle.ob_chains.specs.Agendas.{AgendaModel, has_ticket}
 use Rattle.ob_chains.proofs.Agendas.{missed, found, put_there}
 use Rattle.ob_chains.proofs.agenda.Agenda.add.Goals as goal

@@ -1,5 +1,4 @@
-use Rattle.std.proofs.Common.{◌≤◌, List, sym, ap, ◌∙◌, subst, arith}
-use Rattle.ob_chains.specs.Agendas.{Rises}
+use Rattle.std.proofs.Common.{arith}
 use Rattle.ob_chains.proofs.Agendas.{rest_rises, rest_above, rises_weaker}
 use Rattle.ob_chains.proofs.agenda.Agenda.take_least.Goals as goal
 
