@@ -3,7 +3,7 @@ use Rattle.std.proofs.Common.{◌≡◌, ℕ, zero, suc, ◌<◌, ◌≤◌, Boo
 use Rattle.std.proofs.lemmas.Bool.{cases_eq, cases_Bool, false≢true}
 use Rattle.std.proofs.lemmas.Option.{none-some, same_Some}
 use Rattle.std.specs.HashMap as hash
-use Rattle.ob_order.specs.Works.{Op, Get, Put, Del, Work, at_ticket, edit, with_op, wait_for, waiting_at}
+use Rattle.ob_order.specs.Works.{Op, Get, Put, Del, Work, at_ticket, edit, with_op, waiting_at}
 use Rattle.ob_order.specs.Order.{fresh, write_op}
 use Rattle.ob_order.proofs.Edits.{at_edit_same, at_edit_other, length-edit, slice_get-push}
 use Rattle.ob_order.proofs.Newest.{by_option, with_op_cases}

@@ -1,9 +1,9 @@
 -- The works of an epoch with the index of their versions.
 use Rattle.std.specs.Prelude.{ℕ, suc, ◌≡◌, ◌<◌, ◌≤◌, List, [], length, true, false, slice_get}
 use Rattle.std.specs.declared.option.Option.{Option}
-use Rattle.std.specs.declared.option.Option.TheVariants.{None, Some}
+use Rattle.std.specs.declared.option.Option.TheVariants.{Some}
 use Rattle.std.specs.HashMap as hash
-use Rattle.ob_order.specs.Works.{Op, Get, Put, Del, Work, edit, at_ticket, waiting_at, fall, least_source, is_gone, mark, source_of, newest}
+use Rattle.ob_order.specs.Works.{Get, Work, edit, at_ticket, waiting_at, fall, least_source, is_gone, mark, source_of, newest}
 use Rattle.ob_order.specs.Order.{count_below}
 use Rattle.ob_order.specs.Chains.{Sourced}
 use Rattle.ob_chains.specs.declared.chain.Chain.{Chain}

@@ -47,14 +47,7 @@ pub fn end_at(table: &mut Table, list: &mut Vec<Work>, written: &mut u64, t: u64
 }
 
 // Ticket t is aborted because of this one, and its versions go.
-fn fall_at(
-    table: &mut Table,
-    list: &mut Vec<Work>,
-    written: &mut u64,
-    t: u64,
-    on: u64,
-    keys: u32,
-)
+fn fall_at(table: &mut Table, list: &mut Vec<Work>, written: &mut u64, t: u64, on: u64, keys: u32)
     requires in_range { (0 < t) × (t ≤ length list.old.items) }
     requires kept { IsLedger keys written.old list.old.items table.old }
     ensures list { list.new.items ≡ works.edit (works.fall_to on) list.old.items t }

@@ -1,6 +1,6 @@
 //! What the transactions of an epoch did, by ticket, with the chains of their versions.
 
-ghost use Rattle.std.specs.Prelude.{◌≡◌, ℕ, ◌+◌, ◌-◌, ◌<◌, ◌≤◌, length, true, not, ◌&&◌, ◌==◌, if◌then◌else◌, is_some, IfOk, OnOk, OnErr, MatchOption, Some, None, [], ◌∷◌, ◌++◌, map};
+ghost use Rattle.std.specs.Prelude.{◌≡◌, ℕ, ◌+◌, ◌-◌, ◌<◌, ◌≤◌, length, true, not, ◌&&◌, ◌==◌, if◌then◌else◌, is_some, IfOk, OnOk, OnErr, MatchOption, get_or, set, Some, None, [], ◌∷◌, ◌++◌, map};
 ghost use Rattle.ob_order.specs.Works as works;
 ghost use Rattle.ob_order.specs.Order as rules;
 ghost use Rattle.std.specs.Option.{option_map, unwrap_or};
@@ -8,11 +8,13 @@ ghost use Rattle.ob_chains.specs.Tables.{chain_at, link_at, has_links, is_reader
 ghost use Rattle.ob_versions.specs.Ledgers.{covered_mark, Notes};
 
 use crate::cascade::{abort_in, end_at, goes_on_at};
+use ob_base::{Key, Memory, Op, Value};
 use ob_chains::agenda::Agenda;
 use ob_chains::chain::Link;
-use ob_chains::table::{Table, has_versions, make_room, mark_of_base, newest, note, put, raise, raise_base};
+use ob_chains::table::{
+    Table, has_versions, make_room, mark_of_base, newest, note, put, raise, raise_base,
+};
 use ob_chains::unlink::count_where;
-use ob_base::{Key, Memory, Op, Value};
 use ob_order::plain::read_off::{add_awaited, add_to, make_wait, set_waiting};
 use ob_order::{Fate, Version, Work};
 use std::alloc::Global;

@@ -1,9 +1,9 @@
-use Rattle.std.proofs.Common.{◌≡◌, ℕ, ◌<◌, ◌≤◌, true, List, ◌∷◌, sym, ap, ◌∙◌, subst, arith, length}
+use Rattle.std.proofs.Common.{◌≡◌, List, ap, ◌∙◌, subst, arith, length}
 use Rattle.ob_order.specs.Works.{Work, end_work, edit}
 use Rattle.ob_order.proofs.Edits.{length-edit}
 use Rattle.ob_order.proofs.Falls.{length-cascade}
 use Rattle.ob_order.proofs.Steps.{live_within}
-use Rattle.ob_chains.specs.Agendas.{AgendaModel, has_ticket, Adds}
+use Rattle.ob_chains.specs.Agendas.{Adds}
 use Rattle.ob_versions.specs.Ledgers.{ReadersIn, IsAbove}
 use Rattle.ob_versions.proofs.Pending.{running_begins, running_on, running_ends, next_place, smaller}
 use Rattle.ob_versions.proofs.cascade.abort_in.Goals as goal

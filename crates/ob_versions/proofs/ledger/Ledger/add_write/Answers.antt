@@ -18,8 +18,7 @@ invariant_of-self-in_err-first c =
     let e = c.make_room.ensures in
     let h = ledger_room a.keys a.written a.works.items a.table c.make_room.new.table c.self.invariant.0 e.links e.bases e.keys e.readers in
     let p = c.put_write.ensures in
-    let q = c.in_err-first.ensures in
-    (
+    let q = c.in_err-first.ensures in (
       subst (λ (ws : List Work). IsLedger a.keys a.written ws c.put_write.new.table) (sym q.err)
           (ledger_room a.keys a.written a.works.items c.make_room.new.table c.put_write.new.table h q.err_links p.bases q.err_keys p.readers),
       ready_same a.works.items c.put_write.new.list.items a.agenda q.err c.self.invariant.1,
@@ -45,8 +44,7 @@ invariant_of-self-2 c =
     let p = c.put_write.ensures in
     let q = c.in_ok-first.ensures in
     let live = subst (λ (d : LedgerModel). goes_on d.works c.args.t ≡ true) (sym c.self.view_is) c.requires.live in
-    let unread = subst (λ (d : LedgerModel). covered_mark d.works c.args.t c.args.key ≤ c.args.t) (sym c.self.view_is) c.requires.unread in
-    (
+    let unread = subst (λ (d : LedgerModel). covered_mark d.works c.args.t c.args.key ≤ c.args.t) (sym c.self.view_is) c.requires.unread in (
       subst (λ (ws : List Work). IsLedger a.keys (a.written + c.count_where.result) ws c.put_write.new.table) (sym q.ok)
           (ledger_wrote a.keys a.written a.works.items c.make_room.new.table c.put_write.new.table c.args.t c.args.key c.args.value _ c.in_ok-first.first c.count_where.result h live unread refl refl q.links p.bases q.keys q.first c.count_where.ensures p.readers),
       ready_edit _ a.works.items c.put_write.new.list.items c.args.t a.agenda q.ok c.self.invariant.1,

@@ -1,4 +1,4 @@
-use Rattle.std.proofs.Common.{List, ◌++◌, ◌∷◌, [], length, sym, ap, ◌∙◌, subst, arith}
+use Rattle.std.proofs.Common.{List, ◌++◌, ◌∷◌, [], sym, ap, ◌∙◌, subst, arith}
 use Rattle.ob_order.specs.Works.{Work}
 use Rattle.ob_versions.specs.Ledgers.{IsLedger}
 use Rattle.ob_versions.proofs.Kept.{ledger_begun, ready_more}

@@ -1,6 +1,4 @@
-use Rattle.std.proofs.Common.{◌<◌, ◌≤◌, length, sym, subst}
 use Rattle.ob_order.specs.Works.{end_work}
-use Rattle.ob_versions.specs.Ledgers.{LedgerModel}
 use Rattle.ob_versions.proofs.Kept.{ready_edit}
 use Rattle.ob_versions.proofs.ledger.Ledger.end.Goals as goal
 

@@ -25,8 +25,7 @@ invariant_of-self-2 c =
     let a = c.self.inside in
     let e = c.note_reader.ensures in
     let r = subst (λ (d : LedgerModel). (0 < c.args.t) × (c.args.t ≤ length d.works)) (sym c.self.view_is) c.requires.in_range in
-    let h = ledger_noted a.keys a.written a.works.items a.table c.note_reader.new.table c.args.t c.self.invariant.0 r.0 r.1 e.links e.bases e.keys e.notes in
-    (
+    let h = ledger_noted a.keys a.written a.works.items a.table c.note_reader.new.table c.args.t c.self.invariant.0 r.0 r.1 e.links e.bases e.keys e.notes in (
       subst (λ (ws : List Work). IsLedger a.keys a.written ws c.note_reader.new.table) (sym c.in_ok-make_wait.ensures.ok) (ledger_waits a.keys a.written a.works.items c.note_reader.new.table c.args.t c.args.key h c.in_ok-note_reader.ensures.ok.1),
       ready_edit (wait_for c.args.key) a.works.items c.make_wait.new.list.items c.args.t a.agenda c.in_ok-make_wait.ensures.ok c.self.invariant.1,
     )
