@@ -3,7 +3,7 @@ use Rattle.std.specs.Prelude.{ℕ, suc, ◌≡◌, ◌<◌, ◌≤◌, List, [],
 use Rattle.std.specs.declared.option.Option.{Option}
 use Rattle.std.specs.declared.option.Option.TheVariants.{Some}
 use Rattle.std.specs.HashMap as hash
-use Rattle.ob_order.specs.Works.{Get, Work, edit, at_ticket, waiting_at, fall, least_source, is_gone, mark, source_of, newest}
+use Rattle.ob_order.specs.Works.{Get, Work, at_ticket, waiting_at, mark, source_of, newest}
 use Rattle.ob_order.specs.Order.{count_below}
 use Rattle.ob_order.specs.Chains.{Sourced}
 use Rattle.ob_chains.specs.declared.chain.Chain.{Chain}
@@ -33,10 +33,6 @@ pub record IsLedger {S : Type 0} (keys written : ℕ) (ws : List Work) (m : hash
   pub sourced : Sourced ws
   pub counted : written ≡ count_below (has_links m) keys
   pub readers : HasReaders ws m
-
--- ticket t falls because of its least source that is aborted, where it has one and goes on
-abbrev pub fall_at : List Work → ℕ → List Work
-fall_at ws t = edit (λ w. fall (least_source (is_gone ws) w.ops) w) ws t
 
 -- the mark of what a write by ticket t would cover
 abbrev pub covered_mark : List Work → ℕ → ℕ → ℕ
