@@ -6,10 +6,11 @@ use ob_desk::Eager;
 use ob_file::{FileStore, OpenErr};
 use ob_io::{ReadErr, Sink, StdSink, StdSource, read_all};
 use ob_top::{StoreWanted, finish, obladi, store_wanted};
-use std::alloc::Global;
+use std::alloc::{AllocGlobal, Global};
 use std::fs::File;
 use std::io::ErrorKind;
 use std::process::ExitCode;
+use std::sync::Wait;
 use std::{env, io};
 
 // The most bytes that a key file may have: the digits of 96 bytes, and a line feed.
@@ -71,15 +72,20 @@ fn read_keys(rt: &HostRuntime, words: &[&str]) -> Result<Option<Vec<u8>>, Fault>
     }
 }
 
-// Does what the words ask for, and gives the status.
-fn run<O: Sink>(rt: &HostRuntime, output: &mut O) -> Result<u8, Fault> {
+// Does what the words ask for, and gives the status. A run goes on as long as its clients do, so it
+// takes the runtime as one that may wait too.
+fn run<R: AllocGlobal + Wait, O: Sink>(
+    rt: &HostRuntime,
+    waits: &R,
+    output: &mut O,
+) -> Result<u8, Fault> {
     let mut input = StdSource::new(rt.reader());
     let words = words_of(rt)?;
     let texts = texts_of(rt.alloc(), &words)?;
     let keys = read_keys(rt, &texts)?;
     let mut store = open_store(rt, &texts)?;
     Ok(obladi(
-        rt,
+        waits,
         &texts,
         keys.as_deref(),
         store.as_mut(),
@@ -91,7 +97,7 @@ fn run<O: Sink>(rt: &HostRuntime, output: &mut O) -> Result<u8, Fault> {
 
 fn main(rt: HostRuntime) -> ExitCode {
     let mut output = StdSink::new(io::writer(&rt));
-    let status = match run(&rt, &mut output) {
+    let status = match run(&rt, &rt, &mut output) {
         Ok(status) => status,
         Err(fault) => finish(&mut output, Err(fault)),
     };
