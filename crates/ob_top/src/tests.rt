@@ -461,7 +461,15 @@ fn many_clients_are_served_one_by_one(rt: HostRuntime) -> Result<(), Broken> {
     ];
     let keys = Some(KEYS.as_bytes());
     let mut made = MemStore::new(alloc, 41, Vec::new(alloc))?;
-    expect(&rt, &words, keys, Some(&mut made), "", 0, "store of 41 cells/")?;
+    expect(
+        &rt,
+        &words,
+        keys,
+        Some(&mut made),
+        "",
+        0,
+        "store of 41 cells/",
+    )?;
     let mut store = made.crash(1000, &[])?;
     let script = many_clients(&rt)?;
     let mut input = MemSource::new(script.as_bytes().to_vec(alloc)?, Vec::new(alloc));
