@@ -1,6 +1,6 @@
 -- Worked traces, computed from the public schedule with the fills that the flat table gives: eight keys, seven buckets of two real
 -- and three dummy slots, and words that are all 0 where nothing else is said.
-use Rattle.std.specs.Prelude.{◌≡◌, ℕ, ◌==◌, ◌&&◌, cond, List, [], ◌∷◌, ◌++◌, length, Option}
+use Rattle.std.specs.Prelude.{◌≡◌, ℕ, ◌==◌, ◌&&◌, ◌||◌, cond, List, [], ◌∷◌, ◌++◌, length, Option}
 use Rattle.std.specs.declared.option.Option.TheVariants.{None, Some}
 use Rattle.std.proofs.Common.{refl}
 use Rattle.ob_ring.specs.FlatTable.{FlatTable, Batch, FinalLifts, Writes, Refill, picks, after}
@@ -35,7 +35,7 @@ abbrev fills_1 : Fills
 fills_1 = record { label = λ b i. 0; slot = index_at (picks p0 empty (Batch pads) ++ picks p0 t1 (Batch pads) ++ picks p0 t2 FinalLifts) }
 
 abbrev q1 : Public
-q1 = after_open p0 (public_formatted p0) fills_1 2 0
+q1 = after_open p0 (public_formatted p0) fills_1 (public_formatted p0).gates 2 0
 
 abbrev q2 : Public
 q2 = after_phase p0 q1 (batch_leaves p0 fills_1 0)
@@ -43,7 +43,7 @@ q2 = after_phase p0 q1 (batch_leaves p0 fills_1 0)
 abbrev q3 : Public
 q3 = after_phase p0 q2 (batch_leaves p0 fills_1 1)
 
-opening : open_notes p0 (public_formatted p0) fills_1 2 0 ≡ reads_of (0 ∷ 1 ∷ 2 ∷ 3 ∷ 4 ∷ 5 ∷ 6 ∷ 7 ∷ 8 ∷ 17 ∷ 18 ∷ 19 ∷ 20 ∷ 21 ∷ 22 ∷ 23 ∷ 24 ∷ 25 ∷ 26 ∷ 27 ∷ 13 ∷ 14 ∷ 15 ∷ 16 ∷ []) ++ Sync ∷ Write 1 ∷ Sync ∷ Write 2 ∷ Sync ∷ []
+opening : open_notes p0 (public_formatted p0) fills_1 (public_formatted p0).gates 2 0 ≡ reads_of (1 ∷ 2 ∷ 3 ∷ 4 ∷ 5 ∷ 6 ∷ 7 ∷ 8 ∷ 17 ∷ 18 ∷ 19 ∷ 20 ∷ 21 ∷ 22 ∷ 23 ∷ 24 ∷ 25 ∷ 26 ∷ 27 ∷ 13 ∷ 14 ∷ 15 ∷ 16 ∷ []) ++ Sync ∷ Write 1 ∷ Sync ∷ Write 2 ∷ Sync ∷ []
 unfolding buckets record_cells log_cells checkpoint_len checkpoint_cells home_cells
 opening = refl
 
@@ -61,9 +61,14 @@ unfolding buckets record_cells log_cells checkpoint_len checkpoint_cells home_ce
 end_1 = refl
 
 -- a crash after the first batch, then an opening that repeats it
-again : open_notes p0 q1 fills_1 3 1 ≡ reads_of (0 ∷ 1 ∷ 2 ∷ 3 ∷ 4 ∷ 5 ∷ 6 ∷ 7 ∷ 8 ∷ 17 ∷ 18 ∷ 19 ∷ 20 ∷ 21 ∷ 22 ∷ 23 ∷ 24 ∷ 25 ∷ 26 ∷ 27 ∷ 13 ∷ 14 ∷ 15 ∷ 16 ∷ []) ++ Sync ∷ Write 4 ∷ Sync ∷ Write 3 ∷ Sync ∷ Write 4 ∷ Sync ∷ Label 0 ∷ Read 41 ∷ Read 46 ∷ Read 56 ∷ Label 0 ∷ Read 42 ∷ Read 47 ∷ Read 57 ∷ []
+again : open_notes p0 q1 fills_1 q1.gates 3 1 ≡ reads_of (1 ∷ 2 ∷ 3 ∷ 4 ∷ 5 ∷ 6 ∷ 7 ∷ 8 ∷ 17 ∷ 18 ∷ 19 ∷ 20 ∷ 21 ∷ 22 ∷ 23 ∷ 24 ∷ 25 ∷ 26 ∷ 27 ∷ 13 ∷ 14 ∷ 15 ∷ 16 ∷ []) ++ Sync ∷ Write 4 ∷ Sync ∷ Write 3 ∷ Sync ∷ Write 4 ∷ Sync ∷ Label 0 ∷ Read 41 ∷ Read 46 ∷ Read 56 ∷ Label 0 ∷ Read 42 ∷ Read 47 ∷ Read 57 ∷ []
 unfolding buckets record_cells log_cells checkpoint_len checkpoint_cells home_cells
 again = refl
+
+-- a stop in the write that closes a gate: the next opening finds it closed, and doesn't close it again
+closed_already : open_notes p0 q1 fills_1 (λ c. (c == 2) || (c == 6)) 3 0 ≡ reads_of (1 ∷ 2 ∷ 3 ∷ 4 ∷ 5 ∷ 6 ∷ 7 ∷ 8 ∷ 17 ∷ 18 ∷ 19 ∷ 20 ∷ 21 ∷ 22 ∷ 23 ∷ 24 ∷ 25 ∷ 26 ∷ 27 ∷ 13 ∷ 14 ∷ 15 ∷ 16 ∷ []) ++ Sync ∷ Write 3 ∷ Sync ∷ Write 4 ∷ Sync ∷ []
+unfolding buckets record_cells log_cells checkpoint_len checkpoint_cells home_cells
+closed_already = refl
 
 -- the second epoch, after a put of key 5 whose word is 1
 abbrev t4 : FlatTable

@@ -29,7 +29,7 @@ pub record Public : Type 0 where
   pub homes : ℕ → ℕ
   pub counts : ℕ → ℕ  -- reads of each bucket's version before the running epoch
   pub counter : ℕ
-  pub gates : ℕ → Bool  -- twin gates that opening read as open, or a set opened since
+  pub gates : ℕ → Bool  -- register gates that the run's opening found open, or a set opened since
   pub leaves : List ℕ  -- shown by this attempt so far
 
 -- what fills the holes of an epoch, by name: a batch and a place; a bucket and a number
@@ -103,18 +103,25 @@ after_repeats p q f b (suc n) = after_repeats p (after_phase p q (batch_leaves p
 abbrev pub opens_gate : Public → ℕ → Public
 opens_gate q c = record q { gates = λ d. (d == c) || q.gates d }
 
-abbrev pub begun : Public → Public
-begun q = record q { leaves = [] }
+-- the head is read by itself, before anything else is known
+abbrev pub head_notes : List Note
+head_notes = Read 0 ∷ []
 
--- opening sets this generation, and repeats so many batches
-abbrev pub open_notes : Params → Public → Fills → ℕ → ℕ → List Note
-open_notes p q f generation batches =
-    reads_of (below 9) ++ reads_of (check_cells p (q.epoch % 2))
+-- A run begins with the register gates that its opening found open, and has shown nothing. (A gate whose closing was begun and not
+-- made sure of may be found in either state, so it isn't told by what was known before.)
+abbrev pub begun : (ℕ → Bool) → Public → Public
+begun found q = record q { gates = found; leaves = [] }
+
+-- Behind the head an opening reads both registers, the checkpoint and the log of the next epoch, sets this generation, and repeats so
+-- many batches.
+abbrev pub open_notes : Params → Public → Fills → (ℕ → Bool) → ℕ → ℕ → List Note
+open_notes p q f found generation batches =
+    reads_of (region_cells p GenerationTwin ++ region_cells p EpochTwin) ++ reads_of (check_cells p (q.epoch % 2))
     ++ reads_of (region_cells p (LogArea ((q.epoch + 1) % 2)))
-    ++ (Sync ∷ []) ++ set_twin p GenerationTwin generation (q.gates (gate_cell p GenerationTwin generation)) ++ repeats p (begun q) f 0 batches
+    ++ (Sync ∷ []) ++ set_twin p GenerationTwin generation (found (gate_cell p GenerationTwin generation)) ++ repeats p (begun found q) f 0 batches
 
-abbrev pub after_open : Params → Public → Fills → ℕ → ℕ → Public
-after_open p q f generation batches = after_repeats p (opens_gate (begun q) (gate_cell p GenerationTwin generation)) f 0 batches
+abbrev pub after_open : Params → Public → Fills → (ℕ → Bool) → ℕ → ℕ → Public
+after_open p q f found generation batches = after_repeats p (opens_gate (begun found q) (gate_cell p GenerationTwin generation)) f 0 batches
 
 -- the buckets that an end has lifted: those read to the limit, and those on the eviction paths
 abbrev pub is_lifted : Params → Public → ℕ → Bool

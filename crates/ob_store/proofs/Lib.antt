@@ -5,3 +5,4 @@ pub mod Puts
 pub mod Runs
 pub mod Serving
 pub mod Showing
+pub mod Doing

@@ -1,5 +1,5 @@
 -- A run of cells as far as it is written.
-use Rattle.std.proofs.Common.{◌≡◌, ◌≢◌, ◌⊎◌, inl, inr, ⊎_elim, OnErr, ◌-◌, ℕ, zero, suc, ◌+◌, ◌<◌, ◌≤◌, List, [], ◌∷◌, ◌++◌, length, get_or, refl, sym, ◌∙◌, ap, arith, below_more, add-one, take, map, length-append, Result, Ok, Err}
+use Rattle.std.proofs.Common.{◌≡◌, ◌≢◌, ◌⊎◌, inl, inr, ⊎_elim, OnErr, ◌-◌, ℕ, zero, suc, ◌+◌, ◌<◌, ◌≤◌, List, [], ◌∷◌, ◌++◌, length, get_or, refl, sym, ◌∙◌, ap, arith, below_more, add-one, take, map, length-append, Option, Result, Ok, Err}
 use Rattle.std.proofs.lemmas.Bool.{cases_eq}
 use Rattle.std.proofs.lemmas.List.{take-append-le, take_all}
 use Rattle.ob_store.specs.declared.event.Event.TheVariants.{Write}
@@ -12,7 +12,10 @@ use Rattle.ob_store.specs.Runs.{write_events, write_notes, from_on}
 use Rattle.ob_store.proofs.Showing.{shows_then}
 use Rattle.ob_store.proofs.Moments.{passed_none, passed_on, run_step}
 use Rattle.ob_store.proofs.Serving.{goes_same, goes_then}
+use Rattle.ob_store.specs.declared.event.Event.{Event}
+use Rattle.ob_store.specs.Told.{events_of, Tells, TellsFirst}
 use Rattle.ob_store.proofs.Events.{none_noted, joined}
+use Rattle.ob_store.proofs.Doing.{events_join}
 
 -- so many rows are written
 pub record Writing (base : ℕ) (rows : List (List ℕ)) (i : ℕ) (old now : Disk) : Type 0 where
@@ -95,6 +98,25 @@ module _ (base : ℕ) (rows : List (List ℕ)) (i : ℕ) (old mid new : Disk) (l
   pub noted_err : {T E : Type 0} (r : Result T E) → Notes (Write (base + i) ∷ []) mid.seen new.seen → OnErr r (NotesFirst (write_events base (length rows)) old.seen new.seen)
   noted_err (Ok v) seen = tt
   noted_err (Err e) seen = (i + 1, omega (arith, length_run (λ cell. Write cell) base (length rows)), rw (take_run (λ cell. Write cell) base (length rows) (i + 1) (omega arith)) (noted_one seen))
+
+events_run : (base n : ℕ) → events_of (write_notes base n) ≡ write_events base n
+events_run base zero = refl
+events_run base (suc n) =
+    ap events_of (map_push (λ cell. Shown cell) (from_on base n) (base + n)) ∙ events_join (write_notes base n) (Shown (base + n) ∷ [])
+    ∙ ap (λ (l : List Event). l ++ Write (base + n) ∷ []) (events_run base n) ∙ sym (map_push (λ cell. Write cell) (from_on base n) (base + n))
+
+-- a run was written as far as this, and shown
+pub told_run : (base n : ℕ) (a b : Option (List Event)) (k l : Trace) → Notes (write_events base n) a b → Shows (write_notes base n) k l → Tells (write_notes base n) (write_notes base n) a b k l
+told_run base n a b k l seen shows = record { seen = rw events_run seen; shows = shows }
+
+-- where it was cut short
+pub first_run : (base n i : ℕ) (a b : Option (List Event)) (k l : Trace) → i ≤ n → Tells (write_notes base i) (write_notes base i) a b k l → TellsFirst (write_notes base n) a b k l
+first_run base n i a b k l le tells = record {
+  made = write_notes base i;
+  shown = write_notes base i;
+  cut = record { count = i; few = omega (arith, le, length_run (λ cell. Shown cell) base n); made_are = sym (take_run (λ cell. Shown cell) base n i le); shown_are = inl refl };
+  tells = tells;
+}
 
 -- the notes of a run
 module _ (base n i : ℕ) (lt : i < n) (a b c : Trace) (so_far : Shows (write_notes base i) a b) (one : Shows (Shown (base + i) ∷ []) b c) where

@@ -4,3 +4,4 @@ pub mod Calls
 pub mod Lines
 pub mod Pair
 pub mod Runs
+pub mod Told

@@ -2,6 +2,7 @@
 use Rattle.std.specs.Prelude.{◌≡◌, ◌≤◌, ℕ, List, [], ◌∷◌, ◌++◌, length, take, Bool, true, false, Option, Some, None, decimal}
 use Rattle.std.specs.Borrow.{GName}
 use Rattle.ob_base.specs.Causes.{Rose}
+use Rattle.ob_base.specs.declared.params.Params.{Params}
 use Rattle.ob_store.specs.declared.watch.Note.{Note}
 use Rattle.ob_store.specs.declared.watch.Note.TheVariants.{Label, Read, Write, Sync}
 
@@ -11,6 +12,20 @@ line_of (Label x) = 76 ∷ 32 ∷ decimal x ++ 10 ∷ []
 line_of (Read c) = 82 ∷ 32 ∷ decimal c ++ 10 ∷ []
 line_of (Write c) = 87 ∷ 32 ∷ decimal c ++ 10 ∷ []
 line_of Sync = 83 ∷ 10 ∷ []
+
+-- a blank and a number
+abbrev pub blank_number : ℕ → List ℕ
+blank_number n = 32 ∷ decimal n
+
+-- the line before the notes of a new store: `P` and the nine parameters
+abbrev pub start_line : Params → List ℕ
+start_line p =
+    80 ∷ blank_number p.keys ++ blank_number p.levels ++ blank_number p.real ++ blank_number p.dummies ++ blank_number p.batches ++ blank_number p.places
+    ++ blank_number p.writes ++ blank_number p.evictions ++ blank_number p.room ++ 10 ∷ []
+
+-- the line before the notes of a run: `O`
+abbrev pub open_line : List ℕ
+open_line = 79 ∷ 10 ∷ []
 
 -- the lines of these notes, one behind the other
 abbrev pub lines_of : List Note → List ℕ

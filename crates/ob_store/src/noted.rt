@@ -5,6 +5,7 @@ ghost use Rattle.ob_store.specs.Images.{Settled, SameBut, Tears, Shrinks, Elapse
 ghost use Rattle.ob_store.specs.Calls.{Serves, IsFailed, Keeps, Notes, TellsOn};
 ghost use Rattle.ob_base.specs.Causes.{HasCause};
 ghost use Rattle.ob_store.specs.Lines.{Shows};
+ghost use Rattle.ob_store.specs.Told.{Tells, if_well};
 
 use crate::{Event, Note, Store, Watch};
 use ob_base::Failed;
@@ -28,6 +29,7 @@ pub fn write_noted<S: Store, W: Watch>(
     ensures time { Elapses (S.disk store.old) (S.disk store.new) }
     ensures seen { Notes (Event.Write cell ∷ []) (S.disk store.old).seen (S.disk store.new).seen }
     ensures shown { Shows (Note.Write cell ∷ []) (W.trace watch.old) (W.trace watch.new) }
+    ensures told { Tells (Note.Write cell ∷ []) (Note.Write cell ∷ []) (S.disk store.old).seen (S.disk store.new).seen (W.trace watch.old) (W.trace watch.new) }
 {
     let outcome = store.write(cell, bytes);
     watch.note(Note::Write(cell));
@@ -49,6 +51,7 @@ pub fn sync_noted<S: Store, W: Watch>(store: &mut S, watch: &mut W) -> Result<()
     ensures seen { Notes (Event.Sync ∷ []) (S.disk store.old).seen (S.disk store.new).seen }
     ensures shown { OnOk result (Shows (Note.Sync ∷ []) (W.trace watch.old) (W.trace watch.new)) }
     ensures shown_err { OnErr result (Shows [] (W.trace watch.old) (W.trace watch.new)) }
+    ensures told { Tells (Note.Sync ∷ []) (if_well result (Note.Sync ∷ [])) (S.disk store.old).seen (S.disk store.new).seen (W.trace watch.old) (W.trace watch.new) }
 {
     store.sync()?;
     watch.note(Note::Sync);
@@ -71,6 +74,7 @@ pub fn read_noted<S: Store, W: Watch>(
     ensures tells { TellsOn (S.lane_seen lane.old) (S.lane_seen lane.new) (S.lane_faults lane.old) (S.lane_faults lane.new) }
     ensures cause { HasCause (S.lane_faults lane.old) (S.lane_faults lane.new) result }
     ensures shown { Shows (Note.Read cell ∷ []) (W.trace watch.old) (W.trace watch.new) }
+    ensures told { Tells (Note.Read cell ∷ []) (Note.Read cell ∷ []) (S.lane_seen lane.old) (S.lane_seen lane.new) (W.trace watch.old) (W.trace watch.new) }
 {
     let outcome = store.read(lane, cell, out);
     watch.note(Note::Read(cell));

@@ -3,6 +3,7 @@ ghost use Rattle.ob_store.specs.Images.{SameOff, Passes};
 ghost use Rattle.ob_store.specs.Calls.{Serves, IsFailed, Holds, Notes, NotesFirst};
 ghost use Rattle.ob_store.specs.Runs.{write_events, write_notes};
 ghost use Rattle.ob_store.specs.Lines.{Shows, ShowsFirst};
+ghost use Rattle.ob_store.specs.Told.{Does};
 
 use crate::{Store, Watch, write_noted};
 use ob_base::Failed;
@@ -28,6 +29,7 @@ pub fn write_run<S: Store, W: Watch>(
     ensures seen_err { OnErr result (NotesFirst (write_events base (length rows.now)) (S.disk store.old).seen (S.disk store.new).seen) }
     ensures shown { OnOk result (Shows (write_notes base (length rows.now)) (W.trace watch.old) (W.trace watch.new)) }
     ensures shown_err { OnErr result (ShowsFirst (write_notes base (length rows.now)) (W.trace watch.old) (W.trace watch.new)) }
+    ensures does { Does (write_notes base (length rows.now)) (S.disk store.old).seen (S.disk store.new).seen (W.trace watch.old) (W.trace watch.new) result }
 {
     for (i, row) in rows.iter().enumerate() {
         write_noted(store, base + i as u64, row, watch)?;

@@ -4,6 +4,7 @@ ghost use Rattle.ob_store.specs.declared.watch.Note.{Note};
 ghost use Rattle.ob_store.specs.Images.{Settled, SameBut, LeavesOnly, Passes};
 ghost use Rattle.ob_store.specs.Calls.{Serves, IsFailed, Notes, NotesFirst};
 ghost use Rattle.ob_store.specs.Lines.{Shows};
+ghost use Rattle.ob_store.specs.Told.{Does};
 
 use crate::{Event, Note, Store, Watch, sync_noted, write_noted};
 use ob_base::Failed;
@@ -30,6 +31,7 @@ pub fn write_through<S: Store, W: Watch>(
     ensures seen_err { OnErr result (NotesFirst (Event.Write cell ∷ Event.Sync ∷ []) (S.disk store.old).seen (S.disk store.new).seen) }
     ensures shown { OnOk result (Shows (Note.Write cell ∷ Note.Sync ∷ []) (W.trace watch.old) (W.trace watch.new)) }
     ensures shown_err { OnErr result (Shows (Note.Write cell ∷ []) (W.trace watch.old) (W.trace watch.new)) }
+    ensures does { Does (Note.Write cell ∷ Note.Sync ∷ []) (S.disk store.old).seen (S.disk store.new).seen (W.trace watch.old) (W.trace watch.new) result }
 {
     write_noted(store, cell, bytes, watch)?;
     sync_noted(store, watch)
