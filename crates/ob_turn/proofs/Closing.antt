@@ -25,7 +25,7 @@ module _ {A : Type 0} (P : A → Type 0) where
   pub last_of : (xs : List A) (x : A) → All P (xs ++ x ∷ []) → P x
   last_of xs x h = All-head P x [] (all_right xs (x ∷ []) h)
 
-module _ {T E : Type 0} (steps : T → E → T → Type 0) where
+module _ {T E : Type 0} (steps : ℕ → T → E → T → Type 0) where
   -- whatever the first seat tells of a history, it tells for the second too
   abbrev pub Carries : View T E → View T E → Type 0
   Carries v w = (log : List (Entry E)) (x : T) → Tells steps log x v → Tells steps log x w

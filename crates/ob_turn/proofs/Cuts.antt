@@ -16,7 +16,7 @@ use Rattle.std.proofs.lemmas.List.Elements.{All-nil, All-weaker}
 use Rattle.ob_turn.proofs.Totals.{total_set, total_snoc, stay, stay_longer, unique_same, unique_longer}
 use Rattle.ob_turn.proofs.TurnSteps.{home_stays, settled_stays}
 
-module _ (T E : Type 0) (steps : T → E → T → Type 0) (opened : T) (seats : ℕ) where
+module _ (T E : Type 0) (steps : ℕ → T → E → T → Type 0) (opened : T) (seats : ℕ) where
   abbrev P : Type 0
   P = View T E
 

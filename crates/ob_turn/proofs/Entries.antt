@@ -21,16 +21,16 @@ pub entries-other : {E : Type 0} (by other : ℕ) (ls : List (Entry E)) (es : Li
 entries-other {E = E} by other [] es ne = subst (λ (b : Bool). (if b then entry other es ∷ [] else []) ≡ []) (sym (ne_eqb by other ne)) refl
 entries-other {E = E} by other (l ∷ ls) es ne = if-same (by == l.by) l (entries_of by (ls ++ entry other es ∷ [])) (entries_of by ls) (entries-other by other ls es ne)
 
-module _ {T E : Type 0} (steps : T → E → T → Type 0) where
-  pub calls-snoc : (x : T) (es : List E) (y z : T) (e : E) → Calls steps x es y → steps y e z → Calls steps x (es ++ e ∷ []) z
-  calls-snoc x [] y z e h st = (z, subst (λ u. steps u e z) (sym h) st, refl)
-  calls-snoc x (c ∷ es) y z e h st = (h.0, h.1, calls-snoc h.0 es y z e h.2 st)
+module _ {T E : Type 0} (steps : ℕ → T → E → T → Type 0) where
+  pub calls-snoc : (by : ℕ) (x : T) (es : List E) (y z : T) (e : E) → Calls steps by x es y → steps by y e z → Calls steps by x (es ++ e ∷ []) z
+  calls-snoc by x [] y z e h st = (z, subst (λ u. steps by u e z) (sym h) st, refl)
+  calls-snoc by x (c ∷ es) y z e h st = (h.0, h.1, calls-snoc by h.0 es y z e h.2 st)
 
   -- A turn more, whose calls lead on.
-  pub leads-snoc : (x : T) (ls : List (Entry E)) (y z : T) (by : ℕ) (es : List E) → Leads steps x ls y → Calls steps y es z → Leads steps x (ls ++ entry by es ∷ []) z
-  leads-snoc x [] y z by es h st = (z, subst (λ u. Calls steps u es z) (sym h) st, refl)
+  pub leads-snoc : (x : T) (ls : List (Entry E)) (y z : T) (by : ℕ) (es : List E) → Leads steps x ls y → Calls steps by y es z → Leads steps x (ls ++ entry by es ∷ []) z
+  leads-snoc x [] y z by es h st = (z, subst (λ u. Calls steps by u es z) (sym h) st, refl)
   leads-snoc x (l ∷ ls) y z by es h st = (h.0, h.1, leads-snoc h.0 ls y z by es h.2 st)
 
-  pub stands-snoc : (o : Option T) (ls : List (Entry E)) (y z : T) (by : ℕ) (es : List E) → Stands steps o ls y → Calls steps y es z → Stands steps o (ls ++ entry by es ∷ []) z
+  pub stands-snoc : (o : Option T) (ls : List (Entry E)) (y z : T) (by : ℕ) (es : List E) → Stands steps o ls y → Calls steps by y es z → Stands steps o (ls ++ entry by es ∷ []) z
   stands-snoc None ls y z by es h st = absurd h
   stands-snoc (Some x) ls y z by es h st = leads-snoc x ls y z by es h st

@@ -19,7 +19,7 @@ use Rattle.ob_turn.proofs.Prefixes.{longer-prefix}
 use Rattle.ob_turn.proofs.Totals.{total_set, total_two, stay, unique_set, unique_same}
 use Rattle.ob_turn.proofs.TurnSteps.{home_stays}
 
-module _ (T E : Type 0) (steps : T → E → T → Type 0) (opened : T) (seats : ℕ) where
+module _ (T E : Type 0) (steps : ℕ → T → E → T → Type 0) (opened : T) (seats : ℕ) where
   abbrev P : Type 0
   P = View T E
 

@@ -2,6 +2,7 @@ pub mod BellSteps
 pub mod Closing
 pub mod Cuts
 pub mod Entries
+mod Entering
 pub mod Joining
 pub mod LongTurn
 pub mod Opening

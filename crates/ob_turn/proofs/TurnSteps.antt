@@ -15,7 +15,7 @@ use Rattle.ob_turn.specs.declared.turn.Stage.TheVariants.{Idle, Ready, Waiting, 
 use Rattle.ob_turn.specs.declared.turn.Slot.{Slot}
 use Rattle.ob_turn.specs.declared.turn.Slot.TheVariants.{Noted, Leaves}
 use Rattle.ob_turn.specs.declared.turn.Joined.{Joined}
-use Rattle.ob_turn.specs.History.{entry, entries_of, Leads, Stands, IsAt}
+use Rattle.ob_turn.specs.History.{entry, entries_of, HasPart, Leads, Stands, IsAt}
 use Rattle.ob_turn.specs.TurnRule.{value_in, queued, readied, Holds, total, HasTicket, HasName, parts_of, queued_of, readied_of, staged, FitsStage, Settled, Fits, Home, Kept, Entered, Watches, Arrives, Draws, noting, Notes, left, Goes}
 use Rattle.ob_turn.proofs.Entries.{entries-same, entries-other, stands-snoc}
 use Rattle.ob_turn.proofs.Prefixes.{prefix_self, prefix_snoc}
@@ -53,7 +53,7 @@ module _ {T E : Type 0} where
       (omega (arith, a, ne, here, long), f.1, f.2)
   others_wait log log' ticket k u here long (Inside m) f not = absurd (not m refl (f.0 ∙ sym here))
 
-module _ (T E : Type 0) (steps : T → E → T → Type 0) (opened : T) (seats : ℕ) where
+module _ (T E : Type 0) (steps : ℕ → T → E → T → Type 0) (opened : T) (seats : ℕ) where
   abbrev P : Type 0
   P = View T E
 
@@ -254,7 +254,17 @@ module _ (T E : Type 0) (steps : T → E → T → Type 0) (opened : T) (seats :
           unnamed = r.unnamed;
           home = inr (ap (λ (l : List (Opt (Slot T E))). slice_set l 0 none) t.2, (id, k, w, set_there s.views id v w at, refl));
         },
-        (y, t.1, r.log, refl, t.3, led, fit.prefix, (fit.named stage.2).1),
+        (
+          y,
+          t.1,
+          r.log,
+          refl,
+          t.3,
+          led,
+          fit.prefix,
+          (fit.named stage.2).1,
+          All-weaker (Settled opened r.log r.names s.views) (HasPart r.log) (λ gone q. (q.prefix, q.own)) v.joined (r.settled id v at),
+        ),
       )
 
   pub watches : (slots id : ℕ) (me : M) (k : ℕ) → me.0.stage ≡ Waiting k → Allows Rule slots id me 1 (λ n. n) (Watches steps (step slots 1 0 0 none) me)

@@ -14,25 +14,29 @@ abbrev pub entries_of : {E : Type 0} → ℕ → List (Entry E) → List (Entry 
 entries_of by [] = []
 entries_of by (l ∷ ls) = if by == l.by then l ∷ entries_of by ls else entries_of by ls
 
-module _ {T E : Type 0} (steps : T → E → T → Type 0) where
-  -- these calls lead from x to y, one after another
-  abbrev pub Calls : T → List E → T → Type 0
-  Calls x [] y = x ≡ y
-  Calls x (e ∷ es) y = (z : T) × steps x e z × Calls z es y
+-- the history begins with all that a seat had seen, and of its caller's entries it has just those that the seat made
+abbrev pub HasPart : {T E : Type 0} → List (Entry E) → Joined T E → Type 0
+HasPart log j = IsPrefix j.seen log × (entries_of j.by log ≡ j.mine)
+
+module _ {T E : Type 0} (steps : ℕ → T → E → T → Type 0) where
+  -- these calls of one caller lead from x to y, one after another
+  abbrev pub Calls : ℕ → T → List E → T → Type 0
+  Calls by x [] y = x ≡ y
+  Calls by x (e ∷ es) y = (z : T) × steps by x e z × Calls by z es y
 
   -- these turns lead from x to y: the history is legal
   abbrev pub Leads : T → List (Entry E) → T → Type 0
   Leads x [] y = x ≡ y
-  Leads x (l ∷ ls) y = (z : T) × Calls x l.calls z × Leads z ls y
+  Leads x (l ∷ ls) y = (z : T) × Calls l.by x l.calls z × Leads z ls y
 
   -- the same from the opening value, where that is known
   abbrev pub Stands : Option T → List (Entry E) → T → Type 0
   Stands None ls y = ⊥
   Stands (Some x) ls y = Leads x ls y
 
-  -- y is what the history that a seat has seen leads to, and then these calls
+  -- y is what the history that a seat has seen leads to, and then these calls of its caller
   abbrev pub IsAt : View T E → List E → T → Type 0
-  IsAt v calls y = (x : T) × Stands v.opening v.seen x × Calls x calls y
+  IsAt v calls y = (x : T) × Stands v.opening v.seen x × Calls v.by x calls y
 
   -- y is what that history, and the calls that the seat has noted in this turn, lead to
   abbrev pub Reaches : View T E → T → Type 0

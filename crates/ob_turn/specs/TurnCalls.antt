@@ -10,7 +10,7 @@ use Rattle.ob_turn.specs.declared.turn.Opened.{Opened}
 use Rattle.ob_turn.specs.declared.turn.Slot.{Slot}
 use Rattle.ob_turn.specs.declared.turn.View.{View}
 use Rattle.ob_turn.specs.declared.turn.Stage.TheVariants.{Idle, Inside}
-use Rattle.ob_turn.specs.History.{entries_of, Reaches, Tells}
+use Rattle.ob_turn.specs.History.{entries_of, HasPart, Reaches, Tells}
 use Rattle.ob_turn.specs.TurnRule.{fresh_view, noting, left, both_views}
 
 abbrev pub Turn : Type 0 → Type 0 → Type 0
@@ -61,17 +61,18 @@ module _ {T E : Type 0} where
     pub same : IsSame before after
     pub knows : after.me ≡ (both_views before.me.0 other.me.0, [])
 
-  -- The seat is in its turn. It has seen the whole history, which begins with what it had seen, of which its caller's entries are those that the seat made, and which leads to the value.
-  pub record Enters (steps : T → E → T → Type 0) (before after : TurnSeat T E) (x : T) : Type 0 where
+  -- The seat is in its turn. It has seen the whole history, which begins with what it had seen, of which its caller's entries are those that the seat made, and which leads to the value. So it is of each seat that was joined into it.
+  pub record Enters (steps : ℕ → T → E → T → Type 0) (before after : TurnSeat T E) (x : T) : Type 0 where
     pub same : IsSame before after
     pub inside : IsInside after
     pub knows : after.me.0 ≡ record before.me.0 { stage = after.me.0.stage; noted = []; seen = after.me.0.seen }
     pub goes_on : IsPrefix before.me.0.seen after.me.0.seen
     pub own : entries_of after.me.0.by after.me.0.seen ≡ after.me.0.mine
+    pub joined : All (HasPart after.me.0.seen) before.me.0.joined
     pub value : Reaches steps after.me.0 x
 
   -- The seat's turn goes on: since it began, calls were noted and nothing else changed, and they lead to the value.
-  pub record GoesOn (steps : T → E → T → Type 0) (entered now : TurnSeat T E) (x : T) : Type 0 where
+  pub record GoesOn (steps : ℕ → T → E → T → Type 0) (entered now : TurnSeat T E) (x : T) : Type 0 where
     pub same : IsSame entered now
     pub inside : IsInside now
     pub knows : now.me.0 ≡ record entered.me.0 { noted = now.me.0.noted }
@@ -94,7 +95,7 @@ module _ {T E : Type 0} where
     pub parts : sum_by (λ (s : TurnSeat T E). s.me.0.parts) seats ≡ seats_of turn
 
   -- One whole history leads from the opening value to x. It begins with all that each seat, and each that was joined into one, had seen, and has just the entries that it made, each once. There are no others.
-  pub record Whole (steps : T → E → T → Type 0) (turn : Turn T E) (seats : List (TurnSeat T E)) (x : T) : Type 0 where
+  pub record Whole (steps : ℕ → T → E → T → Type 0) (turn : Turn T E) (seats : List (TurnSeat T E)) (x : T) : Type 0 where
     pub log : List (Entry E)
     pub told : All (λ (s : TurnSeat T E). Tells steps log x s.me.0) seats
     pub no_others : (by : ℕ) → seats_of turn ≤ by → entries_of by log ≡ []

@@ -14,7 +14,7 @@ use Rattle.ob_turn.specs.declared.turn.Slot.{Slot}
 use Rattle.ob_turn.specs.declared.turn.Slot.TheVariants.{Rests, Out, Noted, Leaves}
 use Rattle.ob_turn.specs.declared.turn.Joined.{Joined}
 use Rattle.ob_turn.specs.BellHistory.{longer}
-use Rattle.ob_turn.specs.History.{entry, entries_of, Leads, Stands}
+use Rattle.ob_turn.specs.History.{entry, entries_of, HasPart, Leads, Stands}
 
 -- the value that a slot has, if it has one
 abbrev pub value_in : {T E : Type 0} → Slot T E → Opt T
@@ -95,7 +95,7 @@ module _ {T E : Type 0} where
     pub cuts : v.cuts ≡ true → (by ≡ cutter) × (v.by + 1 ≡ names) × (0 < v.parts) × (v.by + v.parts ≡ seats)
     pub stage : FitsStage log ticket v v.stage
 
-  module _ (steps : T → E → T → Type 0) where
+  module _ (steps : ℕ → T → E → T → Type 0) where
     -- the value is at home, and stands for the history, or the one seat whose turn it is has it
     abbrev pub Home : T → List (Entry E) → List (Opt (Slot T E)) → List (View T E) → Type 0
     Home opening log homes views =
@@ -129,7 +129,7 @@ module _ {T E : Type 0} where
     Entered m k w =
         (y : Slot T E) × (x : T) × (log : List (Entry E))
         × (w ≡ (record m.0 { stage = Inside k; noted = []; seen = log }, (0, y) ∷ m.1))
-        × (value_in y ≡ some x) × Stands steps m.0.opening log x × IsPrefix m.0.seen log × (entries_of m.0.by log ≡ m.0.mine)
+        × (value_in y ≡ some x) × Stands steps m.0.opening log x × IsPrefix m.0.seen log × (entries_of m.0.by log ≡ m.0.mine) × All (HasPart log) m.0.joined
 
     -- a waiting seat enters exactly where its ticket is served
     abbrev pub Watches : Step (Slot T E) → Me (Slot T E) (View T E) → ℕ → Me (Slot T E) (View T E) → Type 0

@@ -10,6 +10,7 @@
 mod bell;
 mod bell_calls;
 mod guard;
+mod sleepers;
 #[cfg(test)]
 mod tests;
 mod turn;

@@ -39,7 +39,7 @@ struct Added {
 impl Stepped<Added> for Counter {
     ghost use Rattle.std.specs.Prelude.{◌≡◌, ◌+◌, ◌-◌, ◌^◌, min};
 
-    ghost steps = { λ x e y. (y ≡ min (x + e.by) (2 ^ 64 - 1)) × (e.now ≡ y) };
+    ghost steps = { λ _ x e y. (y ≡ min (x + e.by) (2 ^ 64 - 1)) × (e.now ≡ y) };
 }
 
 impl Counter {
@@ -115,7 +115,7 @@ fn count_each<R: Threads + Wait + Sync>(
     thread::for_each_mut(
         rt,
         seats,
-        8,
+        64,
         &|_, seat: &mut TurnSeat<Counter, Added>|
             requires { IsOf turn.now seat.old × IsIdle seat.old }
             ensures { IsOf turn.entry.now seat.new × IsIdle seat.new × (seat.new.me.0.parts ≡ seat.old.me.0.parts) }
@@ -140,6 +140,7 @@ fn count_in_threads<R: Threads + Wait + Sync>(
 #[test]
 fn threads_that_count_in_turns_reach_the_sum(rt: HostRuntime) {
     assert_eq!(rt; count_in_threads(&rt, rt.alloc(), 5, 300), Ok(1500));
+    assert_eq!(rt; count_in_threads(&rt, rt.alloc(), 64, 1000), Ok(64000));
 }
 
 // Two additions in one turn, by its guard.

@@ -1,13 +1,15 @@
-ghost use Rattle.std.specs.Prelude.{◌≡◌};
+ghost use Rattle.std.specs.Prelude.{◌≡◌, ℕ};
 
+use crate::sleepers::Sleepers;
 use atomic_table::{Join, Play, Seat, Split, Table, TableRule};
 use std::alloc::Global;
 use std::collections::LinkedList;
 use std::snapshot::Snapshot;
 
-/// What a call in a turn may do to the value that is shared. E names a call and its reply.
+/// What a call in a turn may do to the value that is shared: the caller's place, the value before,
+/// the call and the value behind it. E names a call and its reply.
 pub trait Stepped<E>: Drop {
-    ghost steps: { Self → E → Self → Type 0 };
+    ghost steps: { ℕ → Self → E → Self → Type 0 };
 }
 
 /// A turn in the history: the caller, by its place among the seats, and what it did, in order.
@@ -145,11 +147,12 @@ impl<T, E> Join<View<T, E>> for Cut {
 /// where the value may.
 pub type TurnSeat<T, E> = Seat<Slot<T, E>, View<T, E>>;
 
-/// A table of two words and one slot. It stands apart from the alias `Turn`, so that threads can
-/// be proved to share it.
+/// A table of two words and one slot, and the words on which callers sleep. It stands apart from
+/// the alias `Turn`, so that threads can be proved to share it.
 #[derive(Drop)]
 pub struct Board<S, V, K, P: TableRule<S, V, K>> {
     pub(crate) table: Table<S, V, K, P, Global>,
+    pub(crate) sleepers: Sleepers,
     ghost sized: { (table.shared.table_id.words ≡ 2) × (table.shared.table_id.slots ≡ 1) },
 }
 

@@ -4,6 +4,7 @@ ghost use Rattle.ob_turn.specs.TurnRule.{staged, Entered, kept_back, handed_on};
 ghost use Rattle.ob_turn.specs.TurnCalls.{IsOf, IsSame, IsIdle, IsInside, AreSeats, Enters, NotesCall, EndsTurn, Joins};
 ghost use Rattle.ob_turn.specs.declared.turn.Stage.TheVariants.{Idle, Waiting};
 
+use crate::sleepers::Sleepers;
 use crate::turn::{
     Arrive, Board, Cut, Draw, Go, Note, Opened, Slot, Stepped, Turn, TurnSeat, Watch,
 };
@@ -40,13 +41,22 @@ impl<E, T: Stepped<E>> Turn<T, E> {
         ensures entered { Entered T.steps seat.old.me ticket seat.new.me }
     {
         for _ in rt.forever() {
+            let seen = self.sleepers.seen(ticket);
             let served = self.table.shared.load::<Watch>(seat, 1);
             if served == ticket {
                 return;
             }
-            self.table.shared.park(rt, 1, (served % (1 << 32)) as u32);
+            self.sleepers.sleep(rt, ticket, seen);
         }
         unreachable!()
+    }
+
+    // Wakes who waits for the ticket behind this one, where it is drawn.
+    fn wake_behind(&self, served: u64) {
+        let next = served.saturating_add(1);
+        if next < self.table.shared.peek(0) {
+            self.sleepers.wake(next);
+        }
     }
 
     /// Waits for the seat's turn, and takes the value out. Its linearization point is the load
@@ -80,8 +90,9 @@ impl<E, T: Stepped<E>> Turn<T, E> {
 
     /// Puts the value back, and ends the turn with its last call. Its linearization point is the
     /// addition to the ticket that is served, which puts the turn's entry, the calls noted and
-    /// the last one, at the end of the history. It waits for nobody and takes no memory. `leave`
-    /// does it with a guard.
+    /// the last one, at the end of the history. It waits for nobody and takes no memory. It wakes
+    /// the caller with the next ticket, and makes no system call where none was drawn. `leave` does
+    /// it with a guard.
     pub fn put(&self, seat: &mut TurnSeat<T, E>, value: T, last: Snapshot<E>)
         requires own { IsOf self.now seat.old }
         requires inside { IsInside seat.old }
@@ -90,8 +101,8 @@ impl<E, T: Stepped<E>> Turn<T, E> {
     {
         let shared = &self.table.shared;
         shared.exchange(seat, 0, Slot::Leaves(value, last));
-        shared.fetch_add::<Go>(seat, 1, 1);
-        shared.wake_all(1);
+        let served = shared.fetch_add::<Go>(seat, 1, 1);
+        self.wake_behind(served);
     }
 
     // Cuts off the seat that is done. The other goes on.
@@ -123,7 +134,10 @@ impl<E, T: Stepped<E>> Turn<T, E> {
         let Ok((table, seat)) = Table::new(alloc, &[0, 0], slots, &about) else {
             return Err(AllocError);
         };
-        let turn = Board { table };
+        let turn = Board {
+            table,
+            sleepers: Sleepers::new(alloc, seats)?,
+        };
         let mut places = Vec::new(alloc);
         let mut last = seat;
         for _ in 1..seats {

@@ -12,7 +12,7 @@ impl<E, T: Stepped<E>> Turn<T, E> {
         requires all { HaveAll self (seat ∷ []) }
         ensures whole { Whole T.steps self (seat ∷ []) result }
     {
-        let Board { table } = self;
+        let Board { table, sleepers: _ } = self;
         let mut closed = table.close_with(seat);
         let slot = closed.take(0);
         closed.free();

@@ -8,8 +8,8 @@ use Rattle.ob_turn.specs.TurnRule.{left}
 use Rattle.ob_turn.proofs.TurnSteps.{goes}
 use Rattle.ob_turn.proofs.turn_calls.Turn+T+E.put.Goals as goal
 
-pub fetch_add-requires : goal.fetch_add-requires
-fetch_add-requires g c =
+pub fetch_add-served-requires : goal.fetch_add-served-requires
+fetch_add-served-requires g c =
     let T : Type 0 = g.row.T.Denot in
     let E : Type 0 = g.row.E.Denot in
     let e = c.exchange.ensures in
@@ -26,7 +26,7 @@ returns g c =
     let T : Type 0 = g.row.T.Denot in
     let E : Type 0 = g.row.E.Denot in
     let e = c.exchange.ensures in
-    let f = c.fetch_add.ensures in
+    let f = c.fetch_add-served.ensures in
     let told = f.2 c.args.value c.args.last ((λ i. (e.3 i).1) ∙ ap (λ (l : List (ℕ × Slot T E)). (0, Leaves c.args.value c.args.last) ∷ rest l) c.requires.inside.slot.1) in record {
       left = record {
         same = record { table = f.0 ∙ e.0; id = f.1 ∙ e.1 };
