@@ -1,0 +1,5 @@
+pub mod Lanes
+pub mod Listed
+pub mod Notes
+pub mod PieceParts
+pub mod RunReads

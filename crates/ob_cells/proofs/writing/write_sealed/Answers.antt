@@ -1,0 +1,91 @@
+use Rattle.std.proofs.Common.{◌≡◌, ◌<◌, ◌+◌, ◌∙◌, ap, length, arith, rules, below_more, subst, sym}
+use Rattle.ob_store.specs.Runs.{write_notes}
+use Rattle.ob_store.specs.Told.{Tells}
+use Rattle.ob_store.proofs.Doing.{does_all, does_refused}
+use Rattle.ob_store.proofs.Runs.{one_more, noted_one, passes_one, elsewhere_one, shown_one, told_run, first_run}
+use Rattle.ob_cells.proofs.Listed.{sealed_rows, sealed_at, length-rows, rest_of, passes_of, whole_of}
+use Rattle.ob_cells.proofs.writing.write_sealed.Goals as goal
+
+pub returns-in_err-write_noted-clause-rest : goal.returns-in_err-write_noted-clause-rest
+returns-in_err-write_noted-clause-rest g c = λ tells.
+    let before = c.args.sealer.now in
+    let plain = g.P.Pieces.plain c.args.pieces.now in
+    let rows = sealed_rows before c.args.base c.args.many plain in
+    let old = g.S.Store.disk c.args.store.now in
+    let mid = g.S.Store.disk c.loop-i.store in
+    let new = g.S.Store.disk c.write_noted.new.store in
+    let within : c.loop-i.i < length rows = omega (arith, length-rows before c.args.base c.args.many plain, c.loop-i-test.true) in
+    rest_of before c.args.base c.args.many plain new.cells old.cells
+    (elsewhere_one c.args.base rows c.loop-i.i old mid new within c.loop-i.invariant.writing (λ t. c.write_noted.ensures.rest (c.loop-i.invariant.writing.tells t)) tells)
+
+pub returns-in_err-write_noted-clause-passes : goal.returns-in_err-write_noted-clause-passes
+returns-in_err-write_noted-clause-passes g c =
+    let before = c.args.sealer.now in
+    let plain = g.P.Pieces.plain c.args.pieces.now in
+    let rows = sealed_rows before c.args.base c.args.many plain in
+    let old = g.S.Store.disk c.args.store.now in
+    let mid = g.S.Store.disk c.loop-i.store in
+    let new = g.S.Store.disk c.write_noted.new.store in
+    let within : c.loop-i.i < length rows = omega (arith, length-rows before c.args.base c.args.many plain, c.loop-i-test.true) in
+    let e = c.write_noted.ensures in
+    passes_of before c.args.base c.args.many plain old new (passes_one c.args.base rows c.loop-i.i old mid new within c.loop-i.invariant.writing e.serves.goes e.crash e.time)
+
+pub returns-in_err-write_noted-clause-does : goal.returns-in_err-write_noted-clause-does
+returns-in_err-write_noted-clause-does g c =
+    let before = c.args.sealer.now in
+    let plain = g.P.Pieces.plain c.args.pieces.now in
+    let rows = sealed_rows before c.args.base c.args.many plain in
+    let old = g.S.Store.disk c.args.store.now in
+    let mid = g.S.Store.disk c.loop-i.store in
+    let new = g.S.Store.disk c.write_noted.new.store in
+    let within : c.loop-i.i < length rows = omega (arith, length-rows before c.args.base c.args.many plain, c.loop-i-test.true) in
+    does_refused _ _ _ _ (write_notes c.args.base c.args.many) c.from_residual.result c.from_residual.ensures.0
+    (first_run c.args.base c.args.many (c.loop-i.i + 1) _ _ _ _ (omega (arith, c.loop-i-test.true))
+    (told_run c.args.base (c.loop-i.i + 1) _ _ _ _
+    (noted_one c.args.base rows c.loop-i.i old mid new within c.loop-i.invariant.writing c.write_noted.ensures.seen)
+    (shown_one c.args.base c.args.many c.loop-i.i c.loop-i-test.true _ _ _ c.loop-i.invariant.shown c.write_noted.ensures.shown)))
+
+pub loop-i-preserved : goal.loop-i-preserved
+loop-i-preserved g c =
+    let before = c.args.sealer.now in
+    let was = c.loop-i.sealer in
+    let plain = g.P.Pieces.plain c.args.pieces.now in
+    let rows = sealed_rows before c.args.base c.args.many plain in
+    let old = g.S.Store.disk c.args.store.now in
+    let mid = g.S.Store.disk c.loop-i.store in
+    let new = g.S.Store.disk c.write_noted.new.store in
+    let within : c.loop-i.i < length rows = omega (arith, length-rows before c.args.base c.args.many plain, c.loop-i-test.true) in
+    let e = c.in_ok-write_noted.ensures in
+    let i = c.loop-i.i in
+    let is = c.seal_next.ensures.bytes ∙ sealed_at before was c.args.base c.args.many i plain c.piece.result c.loop-i-test.true c.loop-i.invariant.keys c.loop-i.invariant.generation c.loop-i.invariant.next c.piece.ensures in
+    let long : length (plain i) ≡ 96 = ap length (sym c.piece.ensures) ∙ search rules in
+    record {
+      writing = one_more c.args.base rows i old mid new within c.loop-i.invariant.writing c.seal_next.result is e.serves e.written e.rest e.crash e.time e.seen;
+      shown = shown_one c.args.base c.args.many i c.loop-i-test.true _ _ _ c.loop-i.invariant.shown e.shown;
+      whole = below_more (λ j. length (plain j) ≡ 96) i c.loop-i.invariant.whole long;
+      keys = ap (λ s. s.keys) c.seal_next.ensures.next ∙ c.loop-i.invariant.keys;
+      generation = ap (λ s. s.generation) c.seal_next.ensures.next ∙ c.loop-i.invariant.generation;
+      next = (let now = ap (λ s. s.next) c.seal_next.ensures.next in let then = c.loop-i.invariant.next in omega arith);
+    }
+
+pub returns-clause-written : goal.returns-clause-written
+returns-clause-written g c = λ tells.
+    let before = c.args.sealer.now in
+    let plain = g.P.Pieces.plain c.args.pieces.now in
+    whole_of before c.args.base c.args.many plain c.loop-i.i (g.S.Store.disk c.args.store.now) (g.S.Store.disk c.loop-i.store) (omega arith) c.requires.room c.loop-i.invariant.writing tells
+
+pub returns-clause-rest : goal.returns-clause-rest
+returns-clause-rest g c = λ tells.
+    rest_of c.args.sealer.now c.args.base c.args.many (g.P.Pieces.plain c.args.pieces.now) (g.S.Store.disk c.loop-i.store).cells (g.S.Store.disk c.args.store.now).cells (c.loop-i.invariant.writing.elsewhere tells)
+
+pub returns-clause-passes : goal.returns-clause-passes
+returns-clause-passes g c =
+    passes_of c.args.sealer.now c.args.base c.args.many (g.P.Pieces.plain c.args.pieces.now) (g.S.Store.disk c.args.store.now) (g.S.Store.disk c.loop-i.store) c.loop-i.invariant.writing.passes
+
+pub returns-clause-does : goal.returns-clause-does
+returns-clause-does g c =
+    let whole : c.loop-i.i ≡ c.args.many = omega (arith, c.loop-i-test.false, c.loop-i.auto.i-end) in
+    let so_far = c.loop-i.invariant in
+    does_all _ _ _ _ (write_notes c.args.base c.args.many) tt
+    (subst (λ n. Tells (write_notes c.args.base n) (write_notes c.args.base n) (g.S.Store.disk c.args.store.now).seen (g.S.Store.disk c.loop-i.store).seen (g.W.Watch.trace c.args.watch.now) (g.W.Watch.trace c.loop-i.watch)) whole
+    (told_run c.args.base c.loop-i.i _ _ _ _ so_far.writing.seen so_far.shown))

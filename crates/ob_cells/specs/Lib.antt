@@ -1,0 +1,5 @@
+pub mod Numbers
+pub mod Orders
+pub mod Reads
+pub mod Rules
+pub mod Runs
