@@ -1,0 +1,10 @@
+pub mod Reading
+pub mod Standing
+pub mod Following
+pub mod Plans
+pub mod Numbers
+pub mod Counts
+pub mod Ending
+pub mod Sampling
+pub mod Calling
+pub mod Idling

@@ -1,0 +1,9 @@
+pub mod Table
+pub mod Valued
+pub mod Plans
+pub mod Numbers
+pub mod Counts
+pub mod Ends
+pub mod Samples
+pub mod Calls
+pub mod Idle

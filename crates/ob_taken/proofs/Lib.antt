@@ -1,0 +1,4 @@
+pub mod Taking
+pub mod Moving
+pub mod Going
+pub mod TheLaws

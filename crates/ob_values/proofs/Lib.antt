@@ -1,0 +1,11 @@
+pub mod Spelling
+pub mod Carrying
+pub mod Steps
+pub mod Written
+pub mod Refilling
+pub mod Planned
+pub mod Counted
+pub mod Running
+pub mod Epochs
+pub mod Meeting
+pub mod Sampling
