@@ -1,5 +1,6 @@
 pub mod Report
 pub mod Faults
+pub mod Gathered
 pub mod Pieces
 pub mod Printed
 pub mod Sizes

@@ -1,8 +1,10 @@
 ghost use Rattle.std.specs.Prelude.{◌≡◌, Some};
 ghost use Rattle.ob_report.specs.Faults.{check_text, field_text, fault_line, fault_status};
 ghost use Rattle.ob_base.specs.declared.fault.Fault.TheVariants as Fault;
+ghost use Rattle.ob_report.specs.Gathered.{gathering, Gathers};
 ghost use Rattle.ob_report.specs.Printed.{flow, Prints};
 
+use crate::page::{Page, hand_over};
 use crate::piece::Piece::{Number, Text};
 use crate::piece::put_pieces;
 use ob_base::{Check, Failed, Fault, Field};
@@ -54,13 +56,16 @@ fn field_text(field: Field) -> &'static [u8]
     }
 }
 
-fn put_store<S: Sink>(sink: &mut S, unsure: Option<u64>) -> Result<(), Failed>
-    ensures { Prints (fault_line (Some (Fault.StoreFault unsure))) (flow (S.written sink.old) (S.faults sink.old)) (flow (S.written sink.new) (S.faults sink.new)) result }
+fn put_store<S: Sink>(sink: &mut S, page: &mut Page, unsure: Option<u64>) -> Result<(), Failed>
+    ensures { Gathers (fault_line (Some (Fault.StoreFault unsure)))
+        (gathering (S.written sink.old) (S.faults sink.old) page.old.items)
+        (gathering (S.written sink.new) (S.faults sink.new) page.new.items) result }
 {
     match unsure {
-        None => put_pieces(sink, &[Text(b"fault: store\n")]),
+        None => put_pieces(sink, page, &[Text(b"fault: store\n")]),
         Some(epoch) => put_pieces(
             sink,
+            page,
             &[
                 Text(b"fault: store, epoch "),
                 Number(epoch),
@@ -70,30 +75,31 @@ fn put_store<S: Sink>(sink: &mut S, unsure: Option<u64>) -> Result<(), Failed>
     }
 }
 
-/// Writes the line of a refusal, `fault: ..` and a line feed.
-///
-/// # Errors
-/// The sink failed. A front of the line is written.
-pub fn fault_text<S: Sink>(fault: &Fault, sink: &mut S) -> Result<(), Failed>
-    ensures { Prints (fault_line (Some fault.now)) (flow (S.written sink.old) (S.faults sink.old)) (flow (S.written sink.new) (S.faults sink.new)) result }
+fn put_fault<S: Sink>(sink: &mut S, page: &mut Page, fault: &Fault) -> Result<(), Failed>
+    ensures { Gathers (fault_line (Some fault.now))
+        (gathering (S.written sink.old) (S.faults sink.old) page.old.items)
+        (gathering (S.written sink.new) (S.faults sink.new) page.new.items) result }
 {
     match *fault {
-        Fault::Usage => put_pieces(sink, &[Text(b"fault: usage\n")]),
+        Fault::Usage => put_pieces(sink, page, &[Text(b"fault: usage\n")]),
         Fault::BadScript { line } => put_pieces(
             sink,
+            page,
             &[Text(b"fault: script line "), Number(line), Text(b"\n")],
         ),
         Fault::BadParams { field } => put_pieces(
             sink,
+            page,
             &[
                 Text(b"fault: parameter "),
                 Text(field_text(field)),
                 Text(b"\n"),
             ],
         ),
-        Fault::NotStore => put_pieces(sink, &[Text(b"fault: not a store\n")]),
+        Fault::NotStore => put_pieces(sink, page, &[Text(b"fault: not a store\n")]),
         Fault::Damaged { cell, check, .. } => put_pieces(
             sink,
+            page,
             &[
                 Text(b"fault: damaged cell "),
                 Number(cell),
@@ -102,17 +108,33 @@ pub fn fault_text<S: Sink>(fault: &Fault, sink: &mut S) -> Result<(), Failed>
                 Text(b"\n"),
             ],
         ),
-        Fault::StoreFault { unsure } => put_store(sink, unsure),
+        Fault::StoreFault { unsure } => put_store(sink, page, unsure),
         Fault::StashFull { rows } => put_pieces(
             sink,
+            page,
             &[Text(b"fault: stash full, "), Number(rows), Text(b" rows\n")],
         ),
-        Fault::SourceFault => put_pieces(sink, &[Text(b"fault: source\n")]),
-        Fault::SinkFault => put_pieces(sink, &[Text(b"fault: sink\n")]),
+        Fault::SourceFault => put_pieces(sink, page, &[Text(b"fault: source\n")]),
+        Fault::SinkFault => put_pieces(sink, page, &[Text(b"fault: sink\n")]),
         Fault::Worn { number } => put_pieces(
             sink,
+            page,
             &[Text(b"fault: worn at "), Number(number), Text(b"\n")],
         ),
-        Fault::Memory => put_pieces(sink, &[Text(b"fault: memory\n")]),
+        Fault::Memory => put_pieces(sink, page, &[Text(b"fault: memory\n")]),
     }
+}
+
+/// Writes the line of a refusal, `fault: ..` and a line feed, in one piece.
+///
+/// # Errors
+/// The sink failed. A front of the line is written.
+pub fn fault_text<S: Sink>(fault: &Fault, sink: &mut S) -> Result<(), Failed>
+    ensures { Prints (fault_line (Some fault.now))
+        (flow (S.written sink.old) (S.faults sink.old))
+        (flow (S.written sink.new) (S.faults sink.new)) result }
+{
+    let mut page = Page::new();
+    put_fault(sink, &mut page, fault)?;
+    hand_over(sink, &mut page)
 }

@@ -2,6 +2,7 @@
 #![tactic(auto, using(crate::proofs::Joins::joins))]
 
 mod fault;
+mod page;
 mod piece;
 mod report;
 mod size;

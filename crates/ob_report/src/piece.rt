@@ -1,9 +1,10 @@
-ghost use Rattle.ob_report.specs.Printed.{flow, Prints};
+ghost use Rattle.ob_report.specs.Gathered.{gathering, Gathers};
 ghost use Rattle.ob_report.specs.Pieces.{piece_text, pieces_text};
 
+use crate::page::{Page, put_bytes};
 use itoa::Buffer;
 use ob_base::Failed;
-use ob_io::{Sink, put_all};
+use ob_io::Sink;
 
 /// A part of a line.
 #[derive(Clone, Copy)]
@@ -14,27 +15,35 @@ pub enum Piece<'a> {
     Number(u64),
 }
 
-fn put_piece<S: Sink>(sink: &mut S, piece: &Piece<'_>) -> Result<(), Failed>
-    ensures { Prints (piece_text piece.now) (flow (S.written sink.old) (S.faults sink.old)) (flow (S.written sink.new) (S.faults sink.new)) result }
+fn put_piece<S: Sink>(sink: &mut S, page: &mut Page, piece: &Piece<'_>) -> Result<(), Failed>
+    ensures { Gathers (piece_text piece.now)
+        (gathering (S.written sink.old) (S.faults sink.old) page.old.items)
+        (gathering (S.written sink.new) (S.faults sink.new) page.new.items) result }
 {
     match *piece {
-        Piece::Text(bytes) => put_all(sink, bytes),
+        Piece::Text(bytes) => put_bytes(sink, page, bytes),
         Piece::Number(n) => {
             let mut digits = Buffer::new();
-            put_all(sink, digits.format(n).as_bytes())
+            put_bytes(sink, page, digits.format(n).as_bytes())
         }
     }
 }
 
-/// Writes the pieces, one behind the other.
+/// Gathers the text of the pieces, one behind the other.
 ///
 /// # Errors
-/// The sink failed. A front of their text is written.
-pub fn put_pieces<S: Sink>(sink: &mut S, pieces: &[Piece<'_>]) -> Result<(), Failed>
-    ensures { Prints (pieces_text pieces.now) (flow (S.written sink.old) (S.faults sink.old)) (flow (S.written sink.new) (S.faults sink.new)) result }
+/// The sink failed. A front of what was held and of their text is written.
+pub fn put_pieces<S: Sink>(
+    sink: &mut S,
+    page: &mut Page,
+    pieces: &[Piece<'_>],
+) -> Result<(), Failed>
+    ensures { Gathers (pieces_text pieces.now)
+        (gathering (S.written sink.old) (S.faults sink.old) page.old.items)
+        (gathering (S.written sink.new) (S.faults sink.new) page.new.items) result }
 {
     for piece in pieces {
-        put_piece(sink, piece)?;
+        put_piece(sink, page, piece)?;
     }
     Ok(())
 }

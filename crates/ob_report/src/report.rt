@@ -3,22 +3,32 @@ ghost use Rattle.std.specs.Fmt.{decimal};
 ghost use Rattle.ob_serial.specs.Views.{txn_of, record_of};
 ghost use Rattle.ob_report.specs.Report.{line_end, reply_text, op_line, outcome_text, head_line, txn_text, record_text};
 ghost use Rattle.ob_serial.specs.declared.records.Outcome.TheVariants as Outcome;
+ghost use Rattle.ob_report.specs.Gathered.{gathering, Gathers};
 ghost use Rattle.ob_report.specs.Printed.{flow, Prints};
 
+use crate::page::{Page, hand_over};
 use crate::piece::Piece::{Number, Text};
 use crate::piece::put_pieces;
 use ob_base::{Failed, Key, Op, Value};
 use ob_io::Sink;
 use ob_serial::{EpochRecord, Outcome, TxnRecord, Why};
 
-fn put_get<S: Sink>(sink: &mut S, key: Key, reply: Option<Value>) -> Result<(), Failed>
-    ensures { Prints (codes "get " ++ decimal key ++ reply_text decimal reply ++ line_end) (flow (S.written sink.old) (S.faults sink.old)) (flow (S.written sink.new) (S.faults sink.new)) result }
+fn put_get<S: Sink>(
+    sink: &mut S,
+    page: &mut Page,
+    key: Key,
+    reply: Option<Value>,
+) -> Result<(), Failed>
+    ensures { Gathers (codes "get " ++ decimal key ++ reply_text decimal reply ++ line_end)
+        (gathering (S.written sink.old) (S.faults sink.old) page.old.items)
+        (gathering (S.written sink.new) (S.faults sink.new) page.new.items) result }
 {
     let key = Number(u64::from(key));
     match reply {
-        None => put_pieces(sink, &[Text(b"get "), key, Text(b" absent\n")]),
+        None => put_pieces(sink, page, &[Text(b"get "), key, Text(b" absent\n")]),
         Some(value) => put_pieces(
             sink,
+            page,
             &[
                 Text(b"get "),
                 key,
@@ -30,13 +40,16 @@ fn put_get<S: Sink>(sink: &mut S, key: Key, reply: Option<Value>) -> Result<(), 
     }
 }
 
-fn put_op<S: Sink>(sink: &mut S, op: Op<Key>) -> Result<(), Failed>
-    ensures { Prints (op_line decimal op) (flow (S.written sink.old) (S.faults sink.old)) (flow (S.written sink.new) (S.faults sink.new)) result }
+fn put_op<S: Sink>(sink: &mut S, page: &mut Page, op: Op<Key>) -> Result<(), Failed>
+    ensures { Gathers (op_line decimal op)
+        (gathering (S.written sink.old) (S.faults sink.old) page.old.items)
+        (gathering (S.written sink.new) (S.faults sink.new) page.new.items) result }
 {
     match op {
-        Op::Get { key, reply, .. } => put_get(sink, key, reply),
+        Op::Get { key, reply, .. } => put_get(sink, page, key, reply),
         Op::Put { key, value } => put_pieces(
             sink,
+            page,
             &[
                 Text(b"put "),
                 Number(u64::from(key)),
@@ -45,17 +58,24 @@ fn put_op<S: Sink>(sink: &mut S, op: Op<Key>) -> Result<(), Failed>
                 Text(b"\n"),
             ],
         ),
-        Op::Del { key } => put_pieces(sink, &[Text(b"del "), Number(u64::from(key)), Text(b"\n")]),
+        Op::Del { key } => put_pieces(
+            sink,
+            page,
+            &[Text(b"del "), Number(u64::from(key)), Text(b"\n")],
+        ),
     }
 }
 
-// Writes why a transaction was aborted, and its line's end.
-fn put_why<S: Sink>(sink: &mut S, why: Why<Key>) -> Result<(), Failed>
-    ensures { Prints (outcome_text decimal (Outcome.Aborted why) ++ line_end) (flow (S.written sink.old) (S.faults sink.old)) (flow (S.written sink.new) (S.faults sink.new)) result }
+// Gathers why a transaction was aborted, and its line's end.
+fn put_why<S: Sink>(sink: &mut S, page: &mut Page, why: Why<Key>) -> Result<(), Failed>
+    ensures { Gathers (outcome_text decimal (Outcome.Aborted why) ++ line_end)
+        (gathering (S.written sink.old) (S.faults sink.old) page.old.items)
+        (gathering (S.written sink.new) (S.faults sink.new) page.new.items) result }
 {
     match why {
         Why::Conflict { key, reader } => put_pieces(
             sink,
+            page,
             &[
                 Text(b"aborted conflict key "),
                 Number(u64::from(key)),
@@ -66,10 +86,12 @@ fn put_why<S: Sink>(sink: &mut S, why: Why<Key>) -> Result<(), Failed>
         ),
         Why::Depends { on } => put_pieces(
             sink,
+            page,
             &[Text(b"aborted depends on "), Number(on), Text(b"\n")],
         ),
         Why::ReadsFull { queued, left } => put_pieces(
             sink,
+            page,
             &[
                 Text(b"aborted reads full queued "),
                 Number(queued),
@@ -80,44 +102,52 @@ fn put_why<S: Sink>(sink: &mut S, why: Why<Key>) -> Result<(), Failed>
         ),
         Why::WritesFull { keys } => put_pieces(
             sink,
+            page,
             &[
                 Text(b"aborted writes full keys "),
                 Number(keys),
                 Text(b"\n"),
             ],
         ),
-        Why::EpochEnd => put_pieces(sink, &[Text(b"aborted epoch end\n")]),
-        Why::Asked => put_pieces(sink, &[Text(b"aborted asked\n")]),
-        Why::Stopped { .. } => put_pieces(sink, &[Text(b"aborted stopped\n")]),
+        Why::EpochEnd => put_pieces(sink, page, &[Text(b"aborted epoch end\n")]),
+        Why::Asked => put_pieces(sink, page, &[Text(b"aborted asked\n")]),
+        Why::Stopped { .. } => put_pieces(sink, page, &[Text(b"aborted stopped\n")]),
     }
 }
 
-// Writes how a transaction ended, and its line's end.
-fn put_outcome<S: Sink>(sink: &mut S, outcome: Outcome<Key>) -> Result<(), Failed>
-    ensures { Prints (outcome_text decimal outcome ++ line_end) (flow (S.written sink.old) (S.faults sink.old)) (flow (S.written sink.new) (S.faults sink.new)) result }
+// Gathers how a transaction ended, and its line's end.
+fn put_outcome<S: Sink>(sink: &mut S, page: &mut Page, outcome: Outcome<Key>) -> Result<(), Failed>
+    ensures { Gathers (outcome_text decimal outcome ++ line_end)
+        (gathering (S.written sink.old) (S.faults sink.old) page.old.items)
+        (gathering (S.written sink.new) (S.faults sink.new) page.new.items) result }
 {
     match outcome {
-        Outcome::Committed => put_pieces(sink, &[Text(b"committed\n")]),
-        Outcome::Aborted { why } => put_why(sink, why),
-        Outcome::Unsure { .. } => put_pieces(sink, &[Text(b"unsure\n")]),
+        Outcome::Committed => put_pieces(sink, page, &[Text(b"committed\n")]),
+        Outcome::Aborted { why } => put_why(sink, page, why),
+        Outcome::Unsure { .. } => put_pieces(sink, page, &[Text(b"unsure\n")]),
     }
 }
 
-fn put_ops<S: Sink>(sink: &mut S, ops: &[Op<Key>]) -> Result<(), Failed>
-    ensures { Prints (flat_map (op_line decimal) ops.now) (flow (S.written sink.old) (S.faults sink.old)) (flow (S.written sink.new) (S.faults sink.new)) result }
+fn put_ops<S: Sink>(sink: &mut S, page: &mut Page, ops: &[Op<Key>]) -> Result<(), Failed>
+    ensures { Gathers (flat_map (op_line decimal) ops.now)
+        (gathering (S.written sink.old) (S.faults sink.old) page.old.items)
+        (gathering (S.written sink.new) (S.faults sink.new) page.new.items) result }
 {
     for op in ops {
-        put_op(sink, *op)?;
+        put_op(sink, page, *op)?;
     }
     Ok(())
 }
 
-// Writes a transaction's line.
-fn put_head<S: Sink>(sink: &mut S, txn: &TxnRecord<Key>) -> Result<(), Failed>
-    ensures { Prints (head_line decimal (txn_of txn.now)) (flow (S.written sink.old) (S.faults sink.old)) (flow (S.written sink.new) (S.faults sink.new)) result }
+// Gathers a transaction's line.
+fn put_head<S: Sink>(sink: &mut S, page: &mut Page, txn: &TxnRecord<Key>) -> Result<(), Failed>
+    ensures { Gathers (head_line decimal (txn_of txn.now))
+        (gathering (S.written sink.old) (S.faults sink.old) page.old.items)
+        (gathering (S.written sink.new) (S.faults sink.new) page.new.items) result }
 {
     put_pieces(
         sink,
+        page,
         &[
             Text(b"txn "),
             Number(txn.ticket),
@@ -126,33 +156,58 @@ fn put_head<S: Sink>(sink: &mut S, txn: &TxnRecord<Key>) -> Result<(), Failed>
             Text(b" "),
         ],
     )?;
-    put_outcome(sink, txn.outcome)
+    put_outcome(sink, page, txn.outcome)
 }
 
-fn put_txn<S: Sink>(sink: &mut S, txn: &TxnRecord<Key>) -> Result<(), Failed>
-    ensures { Prints (txn_text decimal (txn_of txn.now)) (flow (S.written sink.old) (S.faults sink.old)) (flow (S.written sink.new) (S.faults sink.new)) result }
+fn put_txn<S: Sink>(sink: &mut S, page: &mut Page, txn: &TxnRecord<Key>) -> Result<(), Failed>
+    ensures { Gathers (txn_text decimal (txn_of txn.now))
+        (gathering (S.written sink.old) (S.faults sink.old) page.old.items)
+        (gathering (S.written sink.new) (S.faults sink.new) page.new.items) result }
 {
-    put_head(sink, txn)?;
-    put_ops(sink, &txn.ops)
+    put_head(sink, page, txn)?;
+    put_ops(sink, page, &txn.ops)
 }
 
-fn put_txns<S: Sink>(sink: &mut S, txns: &[TxnRecord<Key>]) -> Result<(), Failed>
-    ensures { Prints (flat_map (txn_text decimal) (map (λ t. txn_of t) txns.now)) (flow (S.written sink.old) (S.faults sink.old)) (flow (S.written sink.new) (S.faults sink.new)) result }
+fn put_txns<S: Sink>(sink: &mut S, page: &mut Page, txns: &[TxnRecord<Key>]) -> Result<(), Failed>
+    ensures { Gathers (flat_map (txn_text decimal) (map (λ t. txn_of t) txns.now))
+        (gathering (S.written sink.old) (S.faults sink.old) page.old.items)
+        (gathering (S.written sink.new) (S.faults sink.new) page.new.items) result }
 {
     for txn in txns {
-        put_txn(sink, txn)?;
+        put_txn(sink, page, txn)?;
     }
     Ok(())
 }
 
+fn put_record<S: Sink>(
+    sink: &mut S,
+    page: &mut Page,
+    record: &EpochRecord<Key>,
+) -> Result<(), Failed>
+    ensures { Gathers (record_text decimal (record_of «record».now))
+        (gathering (S.written sink.old) (S.faults sink.old) page.old.items)
+        (gathering (S.written sink.new) (S.faults sink.new) page.new.items) result }
+{
+    put_pieces(
+        sink,
+        page,
+        &[Text(b"epoch "), Number(record.epoch), Text(b"\n")],
+    )?;
+    put_txns(sink, page, &record.txns)
+}
+
 /// Writes the lines of an epoch's record: the epoch, and for each transaction its ticket, client
-/// and outcome, and the operations as they were answered.
+/// and outcome, and the operations as they were answered. They are handed over in pieces of 4,096
+/// bytes and what is left, and no memory is taken.
 ///
 /// # Errors
 /// The sink failed. A front of the lines is written.
 pub fn text<S: Sink>(record: &EpochRecord<Key>, sink: &mut S) -> Result<(), Failed>
-    ensures { Prints (record_text decimal (record_of «record».now)) (flow (S.written sink.old) (S.faults sink.old)) (flow (S.written sink.new) (S.faults sink.new)) result }
+    ensures { Prints (record_text decimal (record_of «record».now))
+        (flow (S.written sink.old) (S.faults sink.old))
+        (flow (S.written sink.new) (S.faults sink.new)) result }
 {
-    put_pieces(sink, &[Text(b"epoch "), Number(record.epoch), Text(b"\n")])?;
-    put_txns(sink, &record.txns)
+    let mut page = Page::new();
+    put_record(sink, &mut page, record)?;
+    hand_over(sink, &mut page)
 }

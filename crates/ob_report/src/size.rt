@@ -1,20 +1,36 @@
+ghost use Rattle.ob_report.specs.Gathered.{gathering, Gathers};
 ghost use Rattle.ob_report.specs.Printed.{flow, Prints};
 ghost use Rattle.ob_report.specs.Sizes.{size_line};
 
+use crate::page::{Page, hand_over};
 use crate::piece::Piece::{Number, Text};
 use crate::piece::put_pieces;
 use ob_base::Failed;
 use ob_io::Sink;
 
-/// Writes the line that tells how many cells a new store has, `store of C cells` and a line feed.
+fn put_size<S: Sink>(sink: &mut S, page: &mut Page, cells: u64) -> Result<(), Failed>
+    ensures { Gathers (size_line cells)
+        (gathering (S.written sink.old) (S.faults sink.old) page.old.items)
+        (gathering (S.written sink.new) (S.faults sink.new) page.new.items) result }
+{
+    put_pieces(
+        sink,
+        page,
+        &[Text(b"store of "), Number(cells), Text(b" cells\n")],
+    )
+}
+
+/// Writes the line that tells how many cells a new store has, `store of C cells` and a line feed, in
+/// one piece.
 ///
 /// # Errors
 /// The sink failed. A front of the line is written.
 pub fn size_text<S: Sink>(cells: u64, sink: &mut S) -> Result<(), Failed>
-    ensures { Prints (size_line cells) (flow (S.written sink.old) (S.faults sink.old)) (flow (S.written sink.new) (S.faults sink.new)) result }
+    ensures { Prints (size_line cells)
+        (flow (S.written sink.old) (S.faults sink.old))
+        (flow (S.written sink.new) (S.faults sink.new)) result }
 {
-    put_pieces(
-        sink,
-        &[Text(b"store of "), Number(cells), Text(b" cells\n")],
-    )
+    let mut page = Page::new();
+    put_size(sink, &mut page, cells)?;
+    hand_over(sink, &mut page)
 }

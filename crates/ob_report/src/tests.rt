@@ -178,39 +178,41 @@ fn each_fault_has_its_status_and_line(rt: HostRuntime) -> Result<(), Fail> {
     Ok(())
 }
 
-#[test]
-fn a_sink_that_fails_has_the_pieces_before(rt: HostRuntime) -> Result<(), Fail> {
-    let alloc = rt.alloc();
-    let put = Op::Put {
-        key: 5,
-        value: Value::new(b"hi").unwrap(),
-    };
-    let record = one_txn(alloc, Outcome::Committed, [put].to_vec(alloc)?)?;
-    let pieces = [
-        "epoch ",
-        "1",
-        "/",
-        "txn ",
-        "2",
-        " client ",
-        "3",
-        " ",
-        "committed/",
-        "put ",
-        "5",
-        " ",
-        "hi",
-        "/",
-    ];
-    let mut before = String::new(alloc);
-    for (n, piece) in pieces.iter().enumerate() {
-        let mut sink = MemSink::new(alloc, 100, [n as u64].to_vec(alloc)?)?;
-        assert!(&rt; text(&record, &mut sink).is_err());
-        assert_eq!(&rt; sink.faults(), 1);
-        expect(&rt, &sink, before.as_str())?;
-        before.push_str(piece)?;
+// A record of epoch 1 with one transaction of so many puts of 64 letters.
+fn many_puts(alloc: Global, puts: u32) -> Result<EpochRecord<Key>, AllocError> {
+    let value = Value::new(
+        b"xxxxxxxxxxxxxxxxxxxxxxxxxxxxxxxxxxxxxxxxxxxxxxxxxxxxxxxxxxxxxxxx",
+    ).unwrap();
+    let _told: Option<Value> = None;
+    let mut ops = Vec::new(alloc);
+    for key in 0..puts {
+        ops.push(Op::Put {
+            key: key % 10,
+            value,
+        })?;
     }
-    expect_record(&rt, &record, before.as_str())
+    one_txn(alloc, Outcome::Committed, ops)
+}
+
+#[test]
+fn a_report_is_written_in_pages(rt: HostRuntime) -> Result<(), Fail> {
+    let alloc = rt.alloc();
+    // 33 bytes of the first two lines, and 71 of each put: calls of 4,096 bytes, and one of the rest.
+    for (puts, bytes, calls) in [(0, 33, 1), (57, 4080, 1), (58, 4151, 2), (115, 8198, 3)] {
+        let record = many_puts(alloc, puts)?;
+        let mut whole = MemSink::new(alloc, 10_000, [calls].to_vec(alloc)?)?;
+        assert!(&rt; text(&record, &mut whole).is_ok());
+        assert_eq!(&rt; whole.written().len(), bytes);
+        // A call that fails leaves the pages before it.
+        for n in 0..calls {
+            let mut sink = MemSink::new(alloc, 10_000, [n].to_vec(alloc)?)?;
+            assert!(&rt; text(&record, &mut sink).is_err());
+            assert_eq!(&rt; sink.faults(), 1);
+            assert!(&rt; whole.written().starts_with(sink.written()));
+            assert_eq!(&rt; sink.written().len() as u64, n.wrapping_mul(4096));
+        }
+    }
+    Ok(())
 }
 
 #[test]

@@ -2,7 +2,7 @@ use Rattle.std.proofs.Common.{append_assoc, ◌++◌, decimal}
 use Rattle.std.proofs.lemmas.List.{append-nil}
 use Rattle.std.proofs.lemmas.Result.{err_from_is_err_and}
 use Rattle.ob_report.specs.Report.{outcome_text, line_end}
-use Rattle.ob_report.proofs.Printing.{whole_of, then_as, cut_as}
+use Rattle.ob_report.proofs.Gathering.{whole_of, then_as, cut_as}
 use Rattle.ob_report.proofs.report.put_head.Goals as goal
 
 pub returns-in_err-put_pieces : goal.returns-in_err-put_pieces

@@ -1,6 +1,6 @@
 use Rattle.std.proofs.Common.{refl}
 use Rattle.std.proofs.lemmas.Result.{err_from_is_err_and}
-use Rattle.ob_report.proofs.Printing.{whole_of, then_as, cut}
+use Rattle.ob_report.proofs.Gathering.{whole_of, then_as, cut}
 use Rattle.ob_report.proofs.report.put_txn.Goals as goal
 
 pub returns-in_err-put_head : goal.returns-in_err-put_head

@@ -2,7 +2,7 @@ use Rattle.std.proofs.Common.{decimal}
 use Rattle.std.proofs.lemmas.Result.{err_from_is_err_and}
 use Rattle.ob_serial.specs.Views.{txn_of}
 use Rattle.ob_report.specs.Report.{txn_text}
-use Rattle.ob_report.proofs.Printing.{more, stopped, finished, by_name}
+use Rattle.ob_report.proofs.Gathering.{more, stopped, finished, by_name}
 use Rattle.ob_report.proofs.report.put_txns.Goals as goal
 
 pub returns-in_err-put_txn : goal.returns-in_err-put_txn

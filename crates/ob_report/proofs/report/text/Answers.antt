@@ -1,16 +1,7 @@
-use Rattle.std.proofs.Common.{append_assoc, decimal, map}
-use Rattle.std.specs.Prelude.{flat_map}
-use Rattle.std.proofs.lemmas.List.{append-nil}
-use Rattle.std.proofs.lemmas.Result.{err_from_is_err_and}
-use Rattle.ob_serial.specs.Views.{txn_of}
-use Rattle.ob_report.specs.Report.{txn_text}
-use Rattle.ob_report.proofs.Printing.{whole_of, then_as, cut_as}
+use Rattle.ob_report.proofs.Gathering.{whole_of, printed}
 use Rattle.ob_report.proofs.report.text.Goals as goal
 
-pub returns-in_err-put_pieces : goal.returns-in_err-put_pieces
-returns-in_err-put_pieces g c =
-    let p = err_from_is_err_and c.from_residual.result c.from_residual.ensures.1 in
-    cut_as _ _ (flat_map (txn_text decimal) (map (λ t. txn_of t) c.args.record.now.txns.items)) _ _ p.0 c.from_residual.result c.in_err-put_pieces.ensures p.1 (simp (append_assoc, append-nil))
-
 pub returns : goal.returns
-returns g c = then_as _ _ _ _ _ _ _ (whole_of _ _ _ tt c.in_ok-put_pieces.ensures) (rw c.deref.ensures.value at c.put_txns.ensures) (simp (append_assoc, append-nil))
+returns g c =
+    let gathered = rw c.new-page.ensures at c.in_ok-put_record.ensures in
+    printed _ _ _ _ _ _ _ _ (whole_of _ _ _ tt gathered) c.hand_over.ensures.gathers c.hand_over.ensures.empty
