@@ -1,28 +1,32 @@
--- What a look and what is done at it make: one act of the run.
-use Rattle.std.proofs.Common.{◌≡◌, ◌∙◌, ◌⊎◌, ◌+◌, ℕ, suc, Bool, List, [], ◌∷◌, ◌++◌, length, Option, None, Some, Err, Result, OnOk, IfErr, Ok, refl, sym, ap, subst, inl, inr, arith, nat_cmp, decimal}
+-- What a look and what is done at it make: one thing that the driver does.
+use Rattle.std.proofs.Common.{◌≡◌, ◌∙◌, ◌⊎◌, ◌+◌, ℕ, suc, Bool, All, List, [], ◌∷◌, ◌++◌, length, map, Option, None, Some, Err, Result, OnOk, IfErr, Ok, refl, sym, ap, subst, inl, inr, arith, nat_cmp, decimal}
 use Rattle.std.proofs.lemmas.List.{append-nil, take_all}
 use Rattle.std.proofs.lemmas.List.Elements.{All-nil, All-cons}
 use Rattle.std.proofs.lemmas.Option.{none-some, same_Some}
+use Rattle.ob_base.specs.Causes.{Rose}
 use Rattle.ob_base.specs.declared.fault.Fault.{Fault}
 use Rattle.ob_base.specs.declared.fault.Fault.TheVariants.{Memory, SinkFault}
 use Rattle.ob_base.specs.declared.params.Params.{Params}
+use Rattle.ob_store.specs.Calls.{IsStoreFault}
 use Rattle.ob_io.specs.Flows.{appended}
 use Rattle.ob_report.specs.Printed.{Flow, IsPrinted}
 use Rattle.ob_report.specs.Report.{report, record_text}
-use Rattle.ob_serial.specs.Serial.{Map, EpochRecord}
+use Rattle.ob_serial.specs.Serial.{EpochRecord}
 use Rattle.ob_serial.specs.Vaults.{VaultCall, Fetch, End, VaultAnswer, Ended, RefusedBy, VaultCounts}
 use Rattle.ob_serial.specs.VaultViews.{end_answer, IsEndFault}
 use Rattle.ob_serial.specs.VaultKinds.{Kind, ended_of}
 use Rattle.ob_serial.specs.declared.vault.EndErr.{EndErr}
 use Rattle.ob_serial.specs.declared.vault.EndErr.TheVariants.{Before, Unsure}
 use Rattle.ob_desk.specs.Desk as desk
-use Rattle.ob_desk.specs.Desk.{DeskState, Call, Reply, Run, published, look_at, record_of}
+use Rattle.ob_desk.specs.Desk.{DeskState, Call, Reply, published, look_at, record_of}
 use Rattle.ob_desk.specs.declared.calls.Look.{Look}
 use Rattle.ob_session.specs.Clients.{said_by}
-use Rattle.ob_conduct.specs.Acts.{Halts, Rests, Fetches, FetchFails, Ends, EndFails, Unprinted, Batch, look_calls, batch_calls, rest_calls, rest_fetches, end_calls, unprinted_calls, stop_for, MayAct, IsToFetch, IsToEnd, IsAllowed}
-use Rattle.ob_conduct.specs.Conducted.{HoldsMap, AreAnswered, IsWritten}
-use Rattle.ob_conduct.specs.Moves.{IsReady, Moves, Reads, ReadFails, IsOrdered, Tells, IsDue, EpochEnds, EpochUnended, EpochUnwritten, EpochFails, Acted, ActFails}
-use Rattle.ob_conduct.proofs.Moving.{moves_join, moves_one, looked, leads_join, run_join, goes_all, rose_since}
+use Rattle.ob_conduct.specs.Acts.{Act, Halts, Rests, Takes, Delivers, DeliverFails, FetchFails, Closes, Publishes, Refuses, Unprinted, Batch, history, calls, records, desk_calls, vault_calls, look_calls, rest_calls, rest_fetches, close_calls, publish_calls, stop_calls, stop_for, MayAct, IsToFetch, IsToEnd, IsAllowed}
+use Rattle.ob_conduct.specs.Scenes.{Scene, scene}
+use Rattle.ob_conduct.specs.Records.{AreAnswered, IsWritten}
+use Rattle.ob_conduct.specs.Ready.{IsReady, IsOrdered, Tells, IsDue}
+use Rattle.ob_conduct.specs.Moves.{Moves, Reads, ReadFails, IsClosed, IsEnded, EndFails, Acted, ActFails}
+use Rattle.ob_conduct.proofs.Moving.{moves_join, moves_one, looked, later, rose_since}
 
 -- ---- nothing told, and one record
 
@@ -43,6 +47,10 @@ tells_one epoch next writes told due is = record {
     one : (n : ℕ) → suc n ≡ n + 1
     one n = omega arith
 
+-- the same calls and records by other lists
+told_by : (epoch next : ℕ) (ws vs : List (List (ℕ × Option (List ℕ)))) (rs qs : List (EpochRecord ℕ)) → ws ≡ vs → rs ≡ qs → Tells epoch next vs qs → Tells epoch next ws rs
+told_by epoch next ws vs rs qs writes same t = subst (λ (xs : List (List (ℕ × Option (List ℕ)))). Tells epoch next xs rs) (sym writes) (subst (λ (ys : List (EpochRecord ℕ)). Tells epoch next vs ys) (sym same) t)
+
 append_none : (b : Option (List ℕ)) → b ≡ appended b []
 append_none None = refl
 append_none (Some b) = ap Some (sym (append-nil b))
@@ -53,45 +61,46 @@ written_none f = record { bytes = append_none f.bytes; later = omega arith }
 pub printed_whole : (text : List ℕ) (before after : Flow) → IsWritten text before after → IsPrinted before after text
 printed_whole text before after w = record { count = length text; within = omega arith; written = w.bytes ∙ ap (appended before.bytes) (sym (take_all (length text) text (omega arith))); whole = inl refl }
 
-printed_none : (before after : Flow) → after ≡ before → IsPrinted before after []
-printed_none before after is = printed_whole [] before after (subst (λ (f : Flow). IsWritten [] before f) (sym is) (written_none before))
-
 one_text : (told : EpochRecord ℕ) → record_text decimal told ≡ report decimal (told ∷ [])
 one_text told = sym (append-nil (record_text decimal told))
 
+-- no records, no lines
+silent_written : (rs : List (EpochRecord ℕ)) (f : Flow) → rs ≡ [] → IsWritten (report decimal rs) f f
+silent_written rs f none = subst (λ (xs : List (EpochRecord ℕ)). IsWritten (report decimal xs) f f) (sym none) (written_none f)
+
+silent_printed : (rs : List (EpochRecord ℕ)) (f : Flow) → rs ≡ [] → IsPrinted f f (report decimal rs)
+silent_printed rs f none = printed_whole (report decimal rs) f f (silent_written rs f none)
+
 -- ---- batches tell nothing, and end nothing
 
-pub published_rest : (batches : List Batch) (more : List (Call × Reply)) → published (rest_calls batches ++ more) ≡ published more
-published_rest [] more = refl
-published_rest (batch ∷ batches) more = published_rest batches more
+pub published_rest : (batches : List Batch) (more also : List (Call × Reply)) → published ((rest_calls batches ++ more) ++ also) ≡ published (more ++ also)
+published_rest [] more also = refl
+published_rest (batch ∷ batches) more also = published_rest batches more also
 
-ended_rest : (batches : List Batch) (more : List (VaultCall × VaultAnswer)) → ended_of (rest_fetches batches ++ more) ≡ ended_of more
+pub ended_rest : (batches : List Batch) (more : List (VaultCall × VaultAnswer)) → ended_of (rest_fetches batches ++ more) ≡ ended_of more
 ended_rest [] more = refl
 ended_rest (batch ∷ batches) more = ended_rest batches more
+
+ended_rest_then : (batches : List Batch) (more also : List (VaultCall × VaultAnswer)) → ended_of ((rest_fetches batches ++ more) ++ also) ≡ ended_of (more ++ also)
+ended_rest_then [] more also = refl
+ended_rest_then (batch ∷ batches) more also = ended_rest_then batches more also
 
 pub answered_rest : (batches : List Batch) (more : List (VaultCall × VaultAnswer)) → AreAnswered more → AreAnswered (rest_fetches batches ++ more)
 answered_rest [] more are = are
 answered_rest (batch ∷ batches) more are = answered_rest batches more are
 
 -- nor do they say anything for a client
-quiet_rest : (c : ℕ) (batches : List Batch) (more : List (Call × Reply)) → said_by c (rest_calls batches ++ more) ≡ said_by c more
-quiet_rest c [] more = refl
-quiet_rest c (batch ∷ batches) more = quiet_rest c batches more
+quiet_rest : (c : ℕ) (batches : List Batch) (more also : List (Call × Reply)) → said_by c ((rest_calls batches ++ more) ++ also) ≡ said_by c (more ++ also)
+quiet_rest c [] more also = refl
+quiet_rest c (batch ∷ batches) more also = quiet_rest c batches more also
 
-quiet_stop : (c : ℕ) (writes : List (ℕ × Option (List ℕ))) (refused : EndErr) → said_by c ((desk.Close, desk.Writes writes) ∷ (stop_for refused, desk.Done) ∷ []) ≡ []
+quiet_stop : (c : ℕ) (writes : List (ℕ × Option (List ℕ))) (refused : EndErr) → said_by c (close_calls writes ++ (stop_for refused, desk.Done) ∷ []) ≡ []
 quiet_stop c writes (Before fault) = refl
 quiet_stop c writes (Unsure fault) = refl
 
-refused_ends : (writes : List (ℕ × Option (List ℕ))) (refused : EndErr) → ended_of ((End writes, end_answer (Err refused)) ∷ []) ≡ []
+pub refused_ends : (writes : List (ℕ × Option (List ℕ))) (refused : EndErr) → ended_of ((End writes, end_answer (Err refused)) ∷ []) ≡ []
 refused_ends writes (Before fault) = refl
 refused_ends writes (Unsure fault) = refl
-
-stop_tells : (refused : EndErr) (more : List (Call × Reply)) → published ((stop_for refused, desk.Done) ∷ more) ≡ published more
-stop_tells refused more = refl
-
-allowed_fails : (passes : ℕ → ℕ → ℕ → ℕ → Bool) (look : Look) (batches : List Batch) (keys : List (Option ℕ)) (fault : Fault) → MayAct passes look → IsToEnd look → IsAllowed passes (FetchFails look batches keys fault)
-allowed_fails passes look [] keys fault may end = (may, inr end)
-allowed_fails passes look (batch ∷ batches) keys fault may end = (may, end)
 
 -- for each answer
 pub on_ok : {T E : Type 0} (result : Result T E) (P Q : Type 0) → (P → Q) → OnOk result P → OnOk result Q
@@ -102,179 +111,253 @@ pub if_err : {T E : Type 0} (result : Result T E) (P Q : E → Type 0) → ((e :
 if_err (Ok x) P Q so holds = tt
 if_err (Err e) P Q so holds = so e holds
 
-module _ {V : Type 0} (k : Kind V) (p : Params) (passes : ℕ → ℕ → ℕ → ℕ → Bool) (d : DeskState) (v : V) (c : VaultCounts) (before : Flow) (look : Look) (r : IsReady p d c) (none : d.stop ≡ None) (seen : look ≡ look_at d) where
-  look_moves : Moves k d v (look_calls look) [] d v
-  look_moves = looked k d v look r.none_closed none seen
+-- ---- one act, and two
+
+module _ (passes : ℕ → ℕ → ℕ → ℕ → Bool) where
+  all_one : (x : Act) → IsAllowed passes x → All (IsAllowed passes) (x ∷ [])
+  all_one x one = All-cons (IsAllowed passes) x [] one (All-nil _)
+
+  all_two : (x y : Act) → IsAllowed passes x → IsAllowed passes y → All (IsAllowed passes) (x ∷ y ∷ [])
+  all_two x y one two = All-cons (IsAllowed passes) x (y ∷ []) one (all_one y two)
+
+  all_three : (x y z : Act) → IsAllowed passes x → IsAllowed passes y → IsAllowed passes z → All (IsAllowed passes) (x ∷ y ∷ z ∷ [])
+  all_three x y z one two three = All-cons (IsAllowed passes) x (y ∷ z ∷ []) one (all_two y z two three)
+
+module _ {V : Type 0} (k : Kind V) where
+  one_act : (a b : Scene V) (x : Act) → Moves k a (desk_calls x) (vault_calls x) b → Moves k a (history (x ∷ [])) (calls (x ∷ [])) b
+  one_act a b x m = subst (λ (steps : List (Call × Reply)). Moves k a steps (calls (x ∷ [])) b) (sym (append-nil (desk_calls x)))
+      (subst (λ (asked : List (VaultCall × VaultAnswer)). Moves k a (desk_calls x) asked b) (sym (append-nil (vault_calls x))) m)
+
+  two_acts : (a b c : Scene V) (x y : Act) → Moves k a (desk_calls x) (vault_calls x) b → Moves k b (desk_calls y) (vault_calls y) c → Moves k a (history (x ∷ y ∷ [])) (calls (x ∷ y ∷ [])) c
+  two_acts a b c x y m n = moves_join k a b c (desk_calls x) (history (y ∷ [])) (vault_calls x) (calls (y ∷ [])) m (one_act b c y n)
+
+  three_acts : (a b c d : Scene V) (x y z : Act) → Moves k a (desk_calls x) (vault_calls x) b → Moves k b (desk_calls y) (vault_calls y) c → Moves k c (desk_calls z) (vault_calls z) d → Moves k a (history (x ∷ y ∷ z ∷ [])) (calls (x ∷ y ∷ z ∷ [])) d
+  three_acts a b c d x y z m n o = moves_join k a b d (desk_calls x) (history (y ∷ z ∷ [])) (vault_calls x) (calls (y ∷ z ∷ [])) m (two_acts b c d y z n o)
+
+-- ---- what is done at a look
+
+module _ {V : Type 0} (k : Kind V) (p : Params) (passes : ℕ → ℕ → ℕ → ℕ → Bool) (a : Scene V) (c : VaultCounts) (before : Flow) (look : Look) (r : IsReady p a.desk c) (none : a.desk.stop ≡ None) (seen : look ≡ look_at a.desk) where
+  look_moves : Moves k a (look_calls look) [] a
+  look_moves = looked k a look r.none_closed none seen
+
+  abbrev epoch : ℕ
+  epoch = a.desk.running.epoch
 
   -- nothing was done
-  pub rested : (look.clients ≡ 0 → look.txns ≡ 0) → Acted k p passes d v before d v c before
+  pub rested : (look.clients ≡ 0 → look.txns ≡ 0) → Acted k p passes a before a c before
   rested may = record {
-    act = Rests look;
-    allowed = may;
-    moves = look_moves;
-    drivers = tt;
+    thing = Rests look ∷ [];
+    one = tt;
+    allowed = all_one passes (Rests look) may;
+    moves = one_act k a a (Rests look) look_moves;
     quiet = λ client. refl;
     ready = r;
     answered = tt;
-    told = tells_none d.running.epoch d.running.epoch refl;
+    told = tells_none epoch epoch refl;
     written = written_none before;
   }
 
   -- a batch was fetched
-  pub fetched : (new : DeskState) (w : V) (next : VaultCounts) (batch : Batch) → MayAct passes look → IsToFetch look → Reads k p d v (batch ∷ []) new w next → Acted k p passes d v before new w next before
-  fetched new w next batch may fetch read = record {
-    act = Fetches look batch;
-    allowed = (may, fetch);
-    moves = moves_join k d d new v v w (look_calls look) (batch_calls batch) [] (rest_fetches (batch ∷ [])) look_moves read.moves;
-    drivers = tt;
+  pub fetched : (new : Scene V) (next : VaultCounts) (batch : Batch) → MayAct passes look → IsToFetch look → Reads k p a (batch ∷ []) new next → Acted k p passes a before new next before
+  fetched new next batch may fetch read = record {
+    thing = Takes look batch.keys ∷ Delivers batch ∷ [];
+    one = refl;
+    allowed = all_two passes (Takes look batch.keys) (Delivers batch) (may, fetch) tt;
+    moves = moves_join k a a new (look_calls look) (rest_calls (batch ∷ [])) [] (rest_fetches (batch ∷ [])) look_moves read.moves;
     quiet = λ client. refl;
     ready = read.ready;
     answered = tt;
-    told = tells_none d.running.epoch new.running.epoch read.same_epoch;
+    told = tells_none epoch new.desk.running.epoch read.same_epoch;
     written = written_none before;
   }
 
-  -- an epoch was ended
-  pub ended : (new : DeskState) (w : V) (next : VaultCounts) (after : Flow) → MayAct passes look → IsToEnd look → EpochEnds k p d v before new w next after → Acted k p passes d v before new w next after
-  ended new w next after may end e = record {
-    act = Ends look e.batches e.closed.writes e.closed.left e.told;
-    allowed = (may, end);
-    moves = moves_join k d d new v v w (look_calls look) (rest_calls e.batches ++ end_calls e.closed.writes e.closed.left e.told) [] (rest_fetches e.batches ++ (End e.closed.writes, Ended) ∷ []) look_moves
-        (moves_join k d e.mid new v e.mid_vault w (rest_calls e.batches) (end_calls e.closed.writes e.closed.left e.told) (rest_fetches e.batches) ((End e.closed.writes, Ended) ∷ []) e.read.moves e.closed.moves);
-    drivers = tt;
-    quiet = λ client. quiet_rest client e.batches (end_calls e.closed.writes e.closed.left e.told);
-    ready = e.closed.ready;
-    answered = answered_rest e.batches ((End e.closed.writes, Ended) ∷ []) tt;
-    told = tells;
-    written = subst (λ (rs : List (EpochRecord ℕ)). IsWritten (report decimal rs) before after) (sym (published_rest e.batches (end_calls e.closed.writes e.closed.left e.told)))
-        (subst (λ text. IsWritten text before after) (one_text e.told) e.written);
+  -- the vault refused it
+  pub unfetched : (new : Scene V) (fault : Fault) → MayAct passes look → IsToFetch look → ReadFails k a [] fault new → ActFails k passes a before fault new before
+  unfetched new fault may fetch f = record {
+    thing = Takes look f.keys ∷ DeliverFails f.keys fault ∷ [];
+    one = refl;
+    allowed = all_two passes (Takes look f.keys) (DeliverFails f.keys fault) (may, fetch) tt;
+    moves = moves_join k a a new (look_calls look) ((desk.TakeBatch, desk.Batch f.keys) ∷ stop_calls fault) [] ((Fetch f.keys, RefusedBy fault) ∷ []) look_moves f.moves;
+    quiet = λ client. refl;
+    next = epoch;
+    told = tells_none epoch epoch refl;
+    printed = silent_printed [] before refl;
+    failure = record {
+      front = Takes look f.keys ∷ [];
+      act = DeliverFails f.keys fault;
+      acts_are = refl;
+      answered = tt;
+      told = refl;
+      reason = f.is_fault;
+      cause = f.cause;
+      stopped = f.stopped;
+      lines = written_none before;
+    };
+  }
+
+  -- one of those before a close
+  pub unread : (new : Scene V) (batches : List Batch) (fault : Fault) → MayAct passes look → IsToEnd look → ReadFails k a batches fault new → ActFails k passes a before fault new before
+  unread new batches fault may end f = record {
+    thing = act ∷ [];
+    one = tt;
+    allowed = all_one passes act (may, end);
+    moves = one_act k a new act (moves_join k a a new (look_calls look) (rest_calls batches ++ (desk.TakeBatch, desk.Batch f.keys) ∷ stop_calls fault) [] (rest_fetches batches ++ (Fetch f.keys, RefusedBy fault) ∷ []) look_moves f.moves);
+    quiet = λ client. quiet_rest client batches ((desk.TakeBatch, desk.Batch f.keys) ∷ stop_calls fault) [];
+    next = epoch;
+    told = told_by epoch epoch (ended_of (calls (act ∷ []))) [] (records (act ∷ [])) [] (ended_rest_then batches ((Fetch f.keys, RefusedBy fault) ∷ []) []) tells (tells_none epoch epoch refl);
+    printed = silent_printed (records (act ∷ [])) before tells;
+    failure = record {
+      front = [];
+      act = act;
+      acts_are = refl;
+      answered = tt;
+      told = refl;
+      reason = f.is_fault;
+      cause = f.cause;
+      stopped = f.stopped;
+      lines = silent_written (records (act ∷ [])) before tells;
+    };
   }
     where
-      due : IsDue d.running.epoch e.closed.writes e.told
-      due = subst (λ n. IsDue n e.closed.writes e.told) e.read.same_epoch e.closed.due
+      act : Act
+      act = FetchFails look batches f.keys fault
 
-      tells : Tells d.running.epoch new.running.epoch (ended_of (rest_fetches e.batches ++ (End e.closed.writes, Ended) ∷ [])) (published (look_calls look ++ rest_calls e.batches ++ end_calls e.closed.writes e.closed.left e.told))
-      tells = subst (λ (ws : List (List (ℕ × Option (List ℕ)))). Tells d.running.epoch new.running.epoch ws (published (rest_calls e.batches ++ end_calls e.closed.writes e.closed.left e.told))) (sym (ended_rest e.batches ((End e.closed.writes, Ended) ∷ [])))
-          (subst (λ (rs : List (EpochRecord ℕ)). Tells d.running.epoch new.running.epoch (e.closed.writes ∷ []) rs) (sym (published_rest e.batches (end_calls e.closed.writes e.closed.left e.told)))
-          (tells_one d.running.epoch new.running.epoch e.closed.writes e.told due (e.closed.next_epoch ∙ ap suc e.read.same_epoch)))
+      tells : records (FetchFails look batches f.keys fault ∷ []) ≡ []
+      tells = published_rest batches ((desk.TakeBatch, desk.Batch f.keys) ∷ stop_calls fault) []
 
-  -- a batch was refused
-  pub unread : (new : DeskState) (w : V) (after : Flow) (batches : List Batch) (fault : Fault) → ((keys : List (Option ℕ)) → IsAllowed passes (FetchFails look batches keys fault)) → ReadFails k d v batches fault new w → after ≡ before → ActFails k passes d v before fault new w after
-  unread new w after batches fault allowed f silent = (
-    FetchFails look batches f.keys fault,
-    record {
-      allowed = allowed f.keys;
-      moves = moves_join k d d new v v w (look_calls look) _ [] _ look_moves f.moves;
-      drivers = tt;
-      quiet = λ client. quiet_rest client batches ((desk.TakeBatch, desk.Batch f.keys) ∷ (desk.Stop fault, desk.Done) ∷ []);
-      next = d.running.epoch;
-      told = subst (λ (ws : List (List (ℕ × Option (List ℕ)))). Tells d.running.epoch d.running.epoch ws (published (rest_calls batches ++ (desk.TakeBatch, desk.Batch f.keys) ∷ (desk.Stop fault, desk.Done) ∷ []))) (sym (ended_rest batches ((Fetch f.keys, RefusedBy fault) ∷ [])))
-          (subst (λ (rs : List (EpochRecord ℕ)). Tells d.running.epoch d.running.epoch [] rs) (sym (published_rest batches ((desk.TakeBatch, desk.Batch f.keys) ∷ (desk.Stop fault, desk.Done) ∷ []))) (tells_none d.running.epoch d.running.epoch refl));
-      printed = subst (λ (rs : List (EpochRecord ℕ)). IsPrinted before after (report decimal rs)) (sym (published_rest batches ((desk.TakeBatch, desk.Batch f.keys) ∷ (desk.Stop fault, desk.Done) ∷ []))) (printed_none before after silent);
-    },
-    inr (inl (record { look = look; batches = batches; keys = f.keys; act_is = refl; is_fault = f.is_fault; cause = f.cause; stopped = f.stopped; silent = silent })),
-  )
+  module _ (batches : List Batch) (mid : Scene V) (counts : VaultCounts) (read : Reads k p a batches mid counts) (may : MayAct passes look) (end : IsToEnd look) where
+    -- the epoch was closed
+    closing : (writes : List (ℕ × Option (List ℕ))) (shut : Scene V) → IsClosed k mid writes shut → Moves k a (desk_calls (Closes look batches writes)) (rest_fetches batches) shut
+    closing writes shut closed = subst (λ (asked : List (VaultCall × VaultAnswer)). Moves k a (desk_calls (Closes look batches writes)) asked shut) (append-nil (rest_fetches batches))
+        (moves_join k a a shut (look_calls look) (rest_calls batches ++ close_calls writes) [] (rest_fetches batches ++ []) look_moves
+        (moves_join k a mid shut (rest_calls batches) (close_calls writes) (rest_fetches batches) [] read.moves closed.moves))
 
-  -- the end was refused, or left in doubt
-  pub unended : (new : DeskState) (w : V) (after : Flow) (fault : Fault) → MayAct passes look → IsToEnd look → EpochUnended k p d v before fault new w after → ActFails k passes d v before fault new w after
-  unended new w after fault may end e = (
-    EndFails look e.batches e.fails.writes e.fails.refused,
-    record {
-      allowed = (may, end);
-      moves = moves_join k d d new v v w (look_calls look) (rest_calls e.batches ++ steps) [] (rest_fetches e.batches ++ asked) look_moves
-          (moves_join k d e.mid new v e.mid_vault w (rest_calls e.batches) steps (rest_fetches e.batches) asked e.read.moves e.fails.moves);
-      drivers = tt;
-      quiet = λ client. quiet_rest client e.batches steps ∙ quiet_stop client e.fails.writes e.fails.refused;
-      next = d.running.epoch;
-      told = subst (λ (ws : List (List (ℕ × Option (List ℕ)))). Tells d.running.epoch d.running.epoch ws (published (rest_calls e.batches ++ steps))) (sym (ended_rest e.batches asked ∙ refused_ends e.fails.writes e.fails.refused))
-          (subst (λ (rs : List (EpochRecord ℕ)). Tells d.running.epoch d.running.epoch [] rs) (sym (published_rest e.batches steps)) (tells_none d.running.epoch d.running.epoch refl));
-      printed = subst (λ (rs : List (EpochRecord ℕ)). IsPrinted before after (report decimal rs)) (sym (published_rest e.batches steps)) (printed_none before after e.silent);
-    },
-    inr (inr (inl (record {
-      look = look;
-      batches = e.batches;
-      writes = e.fails.writes;
-      refused = e.fails.refused;
-      act_is = refl;
-      fault_is = e.fails.fault_is;
-      is_fault = subst (λ n. IsEndFault n e.fails.refused) e.read.same_epoch e.fails.is_fault;
-      cause = λ store. rose_since (k.disk v).faults (k.disk e.mid_vault).faults (k.disk w).faults (goes_all k v (rest_fetches e.batches) e.mid_vault e.read.moves.chain).faults (e.fails.cause store);
-      stopped = e.fails.stopped;
-      silent = e.silent;
-      closed_desk = e.fails.closed_desk;
-      closed = e.fails.closed;
-      led = led;
-      leads = leads_join d (look_calls look) d (rest_calls e.batches ++ (desk.Close, desk.Writes e.fails.writes) ∷ []) e.fails.closed_desk look_moves.leads
-          (leads_join d (rest_calls e.batches) e.mid ((desk.Close, desk.Writes e.fails.writes) ∷ []) e.fails.closed_desk e.read.moves.leads e.fails.led);
-      is_closed = e.fails.is_closed;
-      due = subst (λ n. IsDue n e.fails.writes (record_of e.fails.closed)) e.read.same_epoch e.fails.due;
-    }))),
-  )
-    where
-      steps : List (Call × Reply)
-      steps = (desk.Close, desk.Writes e.fails.writes) ∷ (stop_for e.fails.refused, desk.Done) ∷ []
+    due_here : (writes : List (ℕ × Option (List ℕ))) (told : EpochRecord ℕ) → IsDue mid.desk.running.epoch writes told → IsDue epoch writes told
+    due_here writes told due = subst (λ n. IsDue n writes told) read.same_epoch due
 
-      asked : List (VaultCall × VaultAnswer)
-      asked = (End e.fails.writes, end_answer (Err e.fails.refused)) ∷ []
+    -- it was ended, and its lines were written
+    pub ended : (new : Scene V) (next : VaultCounts) (after : Flow) (told : EpochRecord ℕ) → IsEnded k p mid told new next → IsWritten (record_text decimal told) before after → Acted k p passes a before new next after
+    ended new next after told e written = record {
+      thing = thing;
+      one = refl;
+      allowed = all_two passes (Closes look batches e.writes) (Publishes e.writes e.left told) (may, end) tt;
+      moves = two_acts k a e.mid new (Closes look batches e.writes) (Publishes e.writes e.left told) (closing e.writes e.mid e.closed) e.moves;
+      quiet = λ client. quiet_rest client batches (close_calls e.writes) (publish_calls e.left told);
+      ready = e.ready;
+      answered = answered_rest batches ((End e.writes, Ended) ∷ []) tt;
+      told = told_by epoch new.desk.running.epoch (ended_of (calls thing)) (e.writes ∷ []) (records thing) (told ∷ []) (ended_rest batches ((End e.writes, Ended) ∷ [])) tells
+          (tells_one epoch new.desk.running.epoch e.writes told (due_here e.writes told e.due) (e.next_epoch ∙ ap suc read.same_epoch));
+      written = subst (λ (rs : List (EpochRecord ℕ)). IsWritten (report decimal rs) before after) (sym tells) (subst (λ text. IsWritten text before after) (one_text told) written);
+    }
+      where
+        thing : List Act
+        thing = Closes look batches e.writes ∷ Publishes e.writes e.left told ∷ []
 
-      led : (m : Map nat_cmp) → HoldsMap k v m → (next : Map nat_cmp) × Run m d (look_calls look ++ rest_calls e.batches ++ (desk.Close, desk.Writes e.fails.writes) ∷ []) next e.fails.closed_desk
-      led m held =
-          let (n, first, holds) = look_moves.run m held in
-          let (o, second, now) = e.read.moves.run n holds in
-          let (mid, may_close, close_step, is) = e.fails.led in (
-            o,
-            run_join m d (look_calls look) n d (rest_calls e.batches ++ (desk.Close, desk.Writes e.fails.writes) ∷ []) o e.fails.closed_desk first
-                (run_join n d (rest_calls e.batches) o e.mid ((desk.Close, desk.Writes e.fails.writes) ∷ []) o e.fails.closed_desk second (mid, may_close, close_step, tt, (refl, is))),
-          )
+        tells : records (Closes look batches e.writes ∷ Publishes e.writes e.left told ∷ []) ≡ told ∷ []
+        tells = published_rest batches (close_calls e.writes) (publish_calls e.left told)
 
-  -- the output failed behind the publish
-  pub unwritten : (new : DeskState) (w : V) (after : Flow) (fault : Fault) → MayAct passes look → IsToEnd look → EpochUnwritten k p d v before fault new w after → ActFails k passes d v before fault new w after
-  unwritten new w after fault may end e = (
-    Unprinted look e.batches e.closed.writes e.closed.left e.told,
-    record {
-      allowed = (may, end);
-      moves = moves_join k d d new v v w (look_calls look) (rest_calls e.batches ++ steps) [] (rest_fetches e.batches ++ asked) look_moves
-          (moves_join k d e.mid new v e.mid_vault w (rest_calls e.batches) steps (rest_fetches e.batches) asked e.read.moves
-          (moves_join k e.mid e.closed_desk new e.mid_vault w w (end_calls e.closed.writes e.closed.left e.told) ((desk.Stop SinkFault, desk.Done) ∷ []) asked [] e.closed.moves
-          (moves_one k e.closed_desk new w (desk.Stop SinkFault) desk.Done tt e.halt (λ m. (tt, refl)))));
-      drivers = tt;
-      quiet = λ client. quiet_rest client e.batches steps;
-      next = suc d.running.epoch;
-      told = subst (λ (ws : List (List (ℕ × Option (List ℕ)))). Tells d.running.epoch (suc d.running.epoch) ws (published (rest_calls e.batches ++ steps))) (sym (ended_rest e.batches asked))
-          (subst (λ (rs : List (EpochRecord ℕ)). Tells d.running.epoch (suc d.running.epoch) (e.closed.writes ∷ []) rs) (sym (published_rest e.batches steps))
-          (tells_one d.running.epoch (suc d.running.epoch) e.closed.writes e.told (subst (λ n. IsDue n e.closed.writes e.told) e.read.same_epoch e.closed.due) refl));
-      printed = subst (λ (rs : List (EpochRecord ℕ)). IsPrinted before after (report decimal rs)) (sym (published_rest e.batches steps)) (subst (IsPrinted before after) (one_text e.told) e.printed);
-    },
-    inr (inr (inr (record { answered = answered_rest e.batches asked tt; fault_is = e.fault_is; rose = e.rose; stopped = e.stopped }))),
-  )
-    where
-      steps : List (Call × Reply)
-      steps = unprinted_calls e.closed.writes e.closed.left e.told
+    -- its end was refused, or left in doubt
+    pub unended : (new : Scene V) (fault : Fault) → EndFails k mid fault new → ActFails k passes a before fault new before
+    unended new fault e = record {
+      thing = thing;
+      one = refl;
+      allowed = all_two passes (Closes look batches e.writes) (Refuses e.writes e.refused) (may, end) tt;
+      moves = two_acts k a e.mid new (Closes look batches e.writes) (Refuses e.writes e.refused) (closing e.writes e.mid e.closed) e.moves;
+      quiet = λ client. quiet_rest client batches (close_calls e.writes) stop ∙ quiet_stop client e.writes e.refused;
+      next = epoch;
+      told = told_by epoch epoch (ended_of (calls thing)) [] (records thing) [] (ended_rest batches ((End e.writes, end_answer (Err e.refused)) ∷ []) ∙ refused_ends e.writes e.refused) tells (tells_none epoch epoch refl);
+      printed = silent_printed (records thing) before tells;
+      failure = record {
+        front = Closes look batches e.writes ∷ [];
+        act = Refuses e.writes e.refused;
+        acts_are = refl;
+        answered = answered_rest batches [] tt;
+        told = ap Some (sym e.fault_is);
+        reason = record {
+          mid = e.mid;
+          moves = one_act k a e.mid (Closes look batches e.writes) (closing e.writes e.mid e.closed);
+          closed = e.closed.part;
+          is_closed = e.closed.is_closed;
+          due = subst (λ n. IsDue n e.writes (record_of e.closed.part)) here e.closed.due;
+          is_fault = subst (λ n. IsEndFault n e.refused) here e.is_fault;
+        };
+        cause = λ store. rose_since (k.disk a.vault).faults (k.disk mid.vault).faults (k.disk new.vault).faults (later k a mid (rest_calls batches) (rest_fetches batches) read.moves) (e.cause store);
+        stopped = e.stopped;
+        lines = silent_written (records thing) before tells;
+      };
+    }
+      where
+        stop : List (Call × Reply)
+        stop = (stop_for e.refused, desk.Done) ∷ []
 
-      asked : List (VaultCall × VaultAnswer)
-      asked = (End e.closed.writes, Ended) ∷ []
+        thing : List Act
+        thing = Closes look batches e.writes ∷ Refuses e.writes e.refused ∷ []
 
-  pub epoch_fails : (new : DeskState) (w : V) (after : Flow) (fault : Fault) → MayAct passes look → IsToEnd look → EpochFails k p d v before fault new w after → ActFails k passes d v before fault new w after
-  epoch_fails new w after fault may end (inl e) = unread new w after e.batches fault (λ keys. allowed_fails passes look e.batches keys fault may end) e.fails e.silent
-  epoch_fails new w after fault may end (inr (inl e)) = unended new w after fault may end e
-  epoch_fails new w after fault may end (inr (inr e)) = unwritten new w after fault may end e
+        tells : records (Closes look batches e.writes ∷ Refuses e.writes e.refused ∷ []) ≡ []
+        tells = published_rest batches (close_calls e.writes) ((stop_for e.refused, desk.Done) ∷ [])
+
+        none_yet : (n : ℕ) → n ≡ n + length {A = EpochRecord ℕ} []
+        none_yet n = omega arith
+
+        here : mid.desk.running.epoch ≡ epoch + length (records (Closes look batches e.writes ∷ []))
+        here = read.same_epoch ∙ none_yet epoch ∙ ap (λ (rs : List (EpochRecord ℕ)). epoch + length rs) (sym (published_rest batches (close_calls e.writes) []))
+
+    -- the output failed behind the publish
+    pub unwritten : (shut new : Scene V) (next : VaultCounts) (after : Flow) (told : EpochRecord ℕ) → IsEnded k p mid told shut next → Moves k shut (stop_calls SinkFault) [] new → new.desk.stop ≡ Some SinkFault
+        → IsPrinted before after (record_text decimal told) → Rose before.faults after.faults → ActFails k passes a before SinkFault new after
+    unwritten shut new next after told e halt stopped printed rose = record {
+      thing = thing;
+      one = refl;
+      allowed = all_three passes (Closes look batches e.writes) (Publishes e.writes e.left told) Unprinted (may, end) tt tt;
+      moves = three_acts k a e.mid shut new (Closes look batches e.writes) (Publishes e.writes e.left told) Unprinted (closing e.writes e.mid e.closed) e.moves halt;
+      quiet = λ client. quiet_rest client batches (close_calls e.writes) (publish_calls e.left told ++ stop_calls SinkFault);
+      next = suc epoch;
+      told = told_by epoch (suc epoch) (ended_of (calls thing)) (e.writes ∷ []) (records thing) (told ∷ []) (ended_rest batches ((End e.writes, Ended) ∷ [])) tells
+          (tells_one epoch (suc epoch) e.writes told (due_here e.writes told e.due) refl);
+      printed = subst (λ (rs : List (EpochRecord ℕ)). IsPrinted before after (report decimal rs)) (sym tells) (subst (IsPrinted before after) (one_text told) printed);
+      failure = record {
+        front = Closes look batches e.writes ∷ Publishes e.writes e.left told ∷ [];
+        act = Unprinted;
+        acts_are = refl;
+        answered = answered_rest batches ((End e.writes, Ended) ∷ []) tt;
+        told = refl;
+        reason = tt;
+        cause = λ store. absurd store;
+        stopped = stopped;
+        lines = record { whole = []; last = told; told_are = tells; mid = before; written = written_none before; printed = printed; rose = rose };
+      };
+    }
+      where
+        thing : List Act
+        thing = Closes look batches e.writes ∷ Publishes e.writes e.left told ∷ Unprinted ∷ []
+
+        tells : records (Closes look batches e.writes ∷ Publishes e.writes e.left told ∷ Unprinted ∷ []) ≡ told ∷ []
+        tells = published_rest batches (close_calls e.writes) (publish_calls e.left told ++ stop_calls SinkFault)
 
 -- the desk was found stopped: by a client that found no memory
 stop_memory : (a : Option Fault) (fault : Fault) → a ≡ Some fault → (a ≡ None) ⊎ (a ≡ Some Memory) → fault ≡ Memory
 stop_memory a fault is (inl none) = absurd (none-some fault (sym none ∙ is))
 stop_memory a fault is (inr memory) = same_Some fault Memory (sym is ∙ memory)
 
-pub halted : {V : Type 0} (k : Kind V) (p : Params) (passes : ℕ → ℕ → ℕ → ℕ → Bool) (d : DeskState) (v : V) (c : VaultCounts) (before : Flow) (fault : Fault) → IsReady p d c → d.stop ≡ Some fault → ActFails k passes d v before fault d v before
-halted k p passes d v c before fault r is = let memory : fault ≡ Memory = stop_memory d.stop fault is r.stop in (
-  Halts Memory,
-  record {
-    allowed = tt;
-    moves = moves_one k d d v desk.IsStopped (desk.StoppedBy (Some Memory)) tt (ap Some (sym memory) ∙ sym is, refl) (λ m. (tt, refl));
-    drivers = tt;
-    quiet = λ client. refl;
-    next = d.running.epoch;
-    told = tells_none d.running.epoch d.running.epoch refl;
-    printed = printed_none before before refl;
-  },
-  inl (record { act_is = refl; fault_is = memory; silent = refl }),
-)
+pub halted : {V : Type 0} (k : Kind V) (p : Params) (passes : ℕ → ℕ → ℕ → ℕ → Bool) (a : Scene V) (c : VaultCounts) (before : Flow) (fault : Fault) → IsReady p a.desk c → a.desk.stop ≡ Some fault → ActFails k passes a before fault a before
+halted k p passes a c before fault r is = let memory : fault ≡ Memory = stop_memory a.desk.stop fault is r.stop in record {
+  thing = Halts fault ∷ [];
+  one = tt;
+  allowed = all_one passes (Halts fault) tt;
+  moves = moves_one k a.desk a.desk a.vault a.trace desk.IsStopped (desk.StoppedBy (Some fault)) tt (sym is, refl) (λ m. (tt, refl));
+  quiet = λ client. refl;
+  next = a.desk.running.epoch;
+  told = tells_none a.desk.running.epoch a.desk.running.epoch refl;
+  printed = silent_printed [] before refl;
+  failure = record {
+    front = [];
+    act = Halts fault;
+    acts_are = refl;
+    answered = tt;
+    told = refl;
+    reason = memory;
+    cause = λ store. absurd (subst (λ (f : Fault). IsStoreFault f) memory store);
+    stopped = is;
+    lines = written_none before;
+  };
+}

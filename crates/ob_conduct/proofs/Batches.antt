@@ -2,13 +2,15 @@
 use Rattle.std.proofs.Common.{◌≡◌, ◌∙◌, ◌⊎◌, ◌<◌, ◌-◌, ℕ, Bool, true, false, if◌then◌else◌, List, [], ◌∷◌, ◌++◌, length, slice_get, Option, None, Some, refl, sym, ap, subst, nat_cmp}
 use Rattle.std.specs.Option.{option_or}
 use Rattle.std.specs.FinMap as finite
-use Rattle.std.proofs.lemmas.List.{map-append}
+use Rattle.std.proofs.lemmas.List.{map-append, append-nil}
 use Rattle.std.proofs.lemmas.List.Concat.{flat_map-append}
 use Rattle.ob_base.specs.Causes.{Rose}
 use Rattle.ob_base.specs.declared.fault.Fault.{Fault}
 use Rattle.ob_base.specs.declared.fault.Fault.TheVariants.{Memory}
 use Rattle.ob_base.specs.declared.params.Params.{Params}
+use Rattle.ob_store.specs.declared.watch.Note.{Note}
 use Rattle.ob_store.specs.Calls.{IsStoreFault}
+use Rattle.ob_store.specs.Lines.{Trace, Shows}
 use Rattle.ob_serial.specs.Serial.{Map}
 use Rattle.ob_serial.specs.Vaults.{VaultCall, Fetch, VaultAnswer, Values, RefusedBy, VaultCounts, vault_next, counts_next}
 use Rattle.ob_serial.specs.VaultViews.{IsFetchFault}
@@ -17,10 +19,12 @@ use Rattle.ob_order.proofs.Batches.{taken_in_flight}
 use Rattle.ob_desk.specs.Desk as desk
 use Rattle.ob_desk.specs.Desk.{DeskState, Call, Reply, MayCall, TakeStep, DeliverStep, StopStep, stopped_by, is_memory, stop_closed, stop_part, with_order}
 use Rattle.ob_conduct.specs.Acts.{Batch, rest_calls, rest_fetches, batch_calls, batch_fetch}
-use Rattle.ob_conduct.specs.Conducted.{HoldsMap}
-use Rattle.ob_conduct.specs.Moves.{IsFit, IsReady, Moves, Reads, ReadFails}
+use Rattle.ob_conduct.specs.Scenes.{Scene, scene}
+use Rattle.ob_conduct.specs.Records.{HoldsMap}
+use Rattle.ob_conduct.specs.Ready.{IsFit, IsReady}
+use Rattle.ob_conduct.specs.Moves.{Moves, Reads, ReadFails}
 use Rattle.ob_conduct.proofs.Fit.{fit_taken, fit_delivered, batch_placed}
-use Rattle.ob_conduct.proofs.Moving.{moves_none, moves_join, goes_all, rose_since}
+use Rattle.ob_conduct.proofs.Moving.{moves_none, moves_join, later, rose_since}
 
 -- what a vault asks of a batch
 pub batch_below : (p : Params) (d mid : DeskState) (c : VaultCounts) (keys : List (Option ℕ)) → IsReady p d c → TakeStep d keys mid → (i key : ℕ) → slice_get keys i ≡ Some (Some key) → key < p.keys
@@ -64,54 +68,58 @@ delivered_ready p d mid new c keys values r t e = subst (λ (x : DeskState). IsR
 })
 
 module _ {V : Type 0} (k : Kind V) (p : Params) where
-  pub read_one : (d mid new : DeskState) (v w : V) (c next : VaultCounts) (keys : List (Option ℕ)) (values : List (Option (List ℕ))) → IsReady p d c → 0 < c.left → length values ≡ length keys
-      → TakeStep d keys mid → DeliverStep mid keys values new → Called k v (Fetch keys) (Values values) w → next ≡ counts_next p.batches c (Fetch keys) (Values values) → (batch : Batch) × Reads k p d v (batch ∷ []) new w next
-  read_one d mid new v w c next keys values r some whole t e one counts = (
+  pub read_one : (d mid new : DeskState) (v w : V) (t u : Trace) (c next : VaultCounts) (keys : List (Option ℕ)) (values : List (Option (List ℕ))) → IsReady p d c → 0 < c.left → length values ≡ length keys
+      → TakeStep d keys mid → DeliverStep mid keys values new → (one : Called k v (Fetch keys) (Values values) w) → Shows one.notes t u → next ≡ counts_next p.batches c (Fetch keys) (Values values) → (batch : Batch) × Reads k p (scene d v t) (batch ∷ []) (scene new w u) next
+  read_one d mid new v w t u c next keys values r some whole took e one shown counts = (
     record { keys = keys; values = values },
     record {
       moves = record {
-        leads = (mid, may_take p d c r some, t, (new, may_deliver p d mid c keys values r t whole, e, refl));
-        chain = (w, one, refl);
-        run = λ m held. (m, (mid, may_take p d c r some, t, tt, (new, may_deliver p d mid c keys values r t whole, e, fed k v w keys values m one held, (refl, refl))), holds_on k v w keys values m one held);
+        leads = (mid, may_take p d c r some, took, (new, may_deliver p d mid c keys values r took whole, e, refl));
+        notes = one.notes;
+        chain = (w, one, [], sym (append-nil one.notes), (refl, refl));
+        shown = shown;
+        run = λ m held. (m, (mid, may_take p d c r some, took, tt, (new, may_deliver p d mid c keys values r took whole, e, fed k v w keys values m one held, (refl, refl))), holds_on k v w keys values m one held);
       };
-      ready = subst (λ (x : VaultCounts). IsReady p new x) (sym counts) (delivered_ready p d mid new c keys values r t e);
-      same_epoch = ap (λ (x : DeskState). x.running.epoch) e.state ∙ ap (λ (x : DeskState). x.running.epoch) t.state;
-      same_stop = ap (λ (x : DeskState). x.stop) e.state ∙ ap (λ (x : DeskState). x.stop) t.state;
+      ready = subst (λ (x : VaultCounts). IsReady p new x) (sym counts) (delivered_ready p d mid new c keys values r took e);
+      same_epoch = ap (λ (x : DeskState). x.running.epoch) e.state ∙ ap (λ (x : DeskState). x.running.epoch) took.state;
+      same_stop = ap (λ (x : DeskState). x.stop) e.state ∙ ap (λ (x : DeskState). x.stop) took.state;
     },
   )
 
-  pub refuse_one : (d mid new : DeskState) (v w : V) (c : VaultCounts) (keys : List (Option ℕ)) (fault : Fault) → IsReady p d c → d.stop ≡ None → 0 < c.left
-      → TakeStep d keys mid → StopStep mid fault new → Called k v (Fetch keys) (RefusedBy fault) w → IsFetchFault fault → (IsStoreFault fault → Rose (k.disk v).faults (k.disk w).faults) → ReadFails k d v [] fault new w
-  refuse_one d mid new v w c keys fault r none some t e one is_fault cause = record {
+  pub refuse_one : (d mid new : DeskState) (v w : V) (t u : Trace) (c : VaultCounts) (keys : List (Option ℕ)) (fault : Fault) → IsReady p d c → d.stop ≡ None → 0 < c.left
+      → TakeStep d keys mid → StopStep mid fault new → (one : Called k v (Fetch keys) (RefusedBy fault) w) → Shows one.notes t u → IsFetchFault fault → (IsStoreFault fault → Rose (k.disk v).faults (k.disk w).faults) → ReadFails k (scene d v t) [] fault (scene new w u)
+  refuse_one d mid new v w t u c keys fault r none some took e one shown is_fault cause = record {
     keys = keys;
     moves = record {
-      leads = (mid, may_take p d c r some, t, (new, tt, e, refl));
-      chain = (w, one, refl);
-      run = λ m held. (m, (mid, may_take p d c r some, t, tt, (new, tt, e, tt, (refl, refl))), (vault_next held.0 (Fetch keys) (RefusedBy fault), one.holds held.0 held.1, held.2));
+      leads = (mid, may_take p d c r some, took, (new, tt, e, refl));
+      notes = one.notes;
+      chain = (w, one, [], sym (append-nil one.notes), (refl, refl));
+      shown = shown;
+      run = λ m held. (m, (mid, may_take p d c r some, took, tt, (new, tt, e, tt, (refl, refl))), (vault_next held.0 (Fetch keys) (RefusedBy fault), one.holds held.0 held.1, held.2));
     };
     is_fault = is_fault;
     cause = cause;
-    stopped = stop_is mid new fault (ap (λ (x : DeskState). x.stop) t.state ∙ none) e.state;
+    stopped = stop_is mid new fault (ap (λ (x : DeskState). x.stop) took.state ∙ none) e.state;
   }
 
-  pub reads_none : (d : DeskState) (v : V) (c : VaultCounts) → IsReady p d c → Reads k p d v [] d v c
-  reads_none d v c r = record { moves = moves_none k d v; ready = r; same_epoch = refl; same_stop = refl }
+  pub reads_none : (a : Scene V) (c : VaultCounts) → IsReady p a.desk c → Reads k p a [] a c
+  reads_none a c r = record { moves = moves_none k a; ready = r; same_epoch = refl; same_stop = refl }
 
-  pub reads_more : (a b d : DeskState) (u v w : V) (batches : List Batch) (batch : Batch) (e c : VaultCounts) → Reads k p a u batches b v e → Reads k p b v (batch ∷ []) d w c → Reads k p a u (batches ++ batch ∷ []) d w c
-  reads_more a b d u v w batches batch e c first one = record {
-    moves = subst (λ (steps : List (Call × Reply)). Moves k a u steps (rest_fetches (batches ++ batch ∷ [])) d w) (sym (flat_map-append batch_calls batches (batch ∷ [])))
-        (subst (λ (asked : List (VaultCall × VaultAnswer)). Moves k a u (rest_calls batches ++ rest_calls (batch ∷ [])) asked d w) (sym (map-append batch_fetch batches (batch ∷ [])))
-        (moves_join k a b d u v w (rest_calls batches) (rest_calls (batch ∷ [])) (rest_fetches batches) (rest_fetches (batch ∷ [])) first.moves one.moves));
+  pub reads_more : (a b d : Scene V) (batches : List Batch) (batch : Batch) (e c : VaultCounts) → Reads k p a batches b e → Reads k p b (batch ∷ []) d c → Reads k p a (batches ++ batch ∷ []) d c
+  reads_more a b d batches batch e c first one = record {
+    moves = subst (λ (steps : List (Call × Reply)). Moves k a steps (rest_fetches (batches ++ batch ∷ [])) d) (sym (flat_map-append batch_calls batches (batch ∷ [])))
+        (subst (λ (asked : List (VaultCall × VaultAnswer)). Moves k a (rest_calls batches ++ rest_calls (batch ∷ [])) asked d) (sym (map-append batch_fetch batches (batch ∷ [])))
+        (moves_join k a b d (rest_calls batches) (rest_calls (batch ∷ [])) (rest_fetches batches) (rest_fetches (batch ∷ [])) first.moves one.moves));
     ready = one.ready;
     same_epoch = one.same_epoch ∙ first.same_epoch;
     same_stop = one.same_stop ∙ first.same_stop;
   }
 
-  pub fails_behind : (a b d : DeskState) (u v w : V) (batches : List Batch) (e : VaultCounts) (fault : Fault) → Reads k p a u batches b v e → ReadFails k b v [] fault d w → ReadFails k a u batches fault d w
-  fails_behind a b d u v w batches e fault first last = record {
+  pub fails_behind : (a b d : Scene V) (batches : List Batch) (e : VaultCounts) (fault : Fault) → Reads k p a batches b e → ReadFails k b [] fault d → ReadFails k a batches fault d
+  fails_behind a b d batches e fault first last = record {
     keys = last.keys;
-    moves = moves_join k a b d u v w (rest_calls batches) _ (rest_fetches batches) _ first.moves last.moves;
+    moves = moves_join k a b d (rest_calls batches) _ (rest_fetches batches) _ first.moves last.moves;
     is_fault = last.is_fault;
-    cause = λ store. rose_since (k.disk u).faults (k.disk v).faults (k.disk w).faults (goes_all k u (rest_fetches batches) v first.moves.chain).faults (last.cause store);
+    cause = λ store. rose_since (k.disk a.vault).faults (k.disk b.vault).faults (k.disk d.vault).faults (later k a b (rest_calls batches) (rest_fetches batches) first.moves) (last.cause store);
     stopped = last.stopped;
   }

@@ -1,11 +1,14 @@
 -- An epoch that is closed, ended and published, and one whose end is refused.
-use Rattle.std.proofs.Common.{◌≡◌, ◌∙◌, ◌<◌, ◌≤◌, ◌^◌, ◌+◌, ℕ, suc, add-one, true, All, map, length, List, Option, None, Some, refl, sym, ap, subst, inl, arith, nat_cmp}
+use Rattle.std.proofs.Common.{◌≡◌, ◌∙◌, ◌<◌, ◌≤◌, ◌^◌, ◌+◌, ℕ, suc, add-one, true, All, map, length, List, [], Option, None, Some, refl, sym, ap, subst, inl, arith, nat_cmp}
 use Rattle.std.specs.Option.{option_or, is_some}
 use Rattle.std.proofs.lemmas.Option.{same_Some}
 use Rattle.ob_base.specs.Causes.{Rose}
 use Rattle.ob_base.specs.declared.fault.Fault.{Fault}
 use Rattle.ob_base.specs.declared.params.Params.{Params}
+use Rattle.ob_store.specs.declared.watch.Note.{Note}
 use Rattle.ob_store.specs.Calls.{IsStoreFault}
+use Rattle.ob_store.specs.Lines.{Trace, Shows}
+use Rattle.ob_store.proofs.Showing.{shows_none}
 use Rattle.ob_serial.specs.Serial.{Map, EpochRecord}
 use Rattle.ob_serial.specs.Vaults.{VaultCall, End, VaultAnswer, Ended, RefusedBy, DoubtBy, VaultState, VaultCounts, vault_next, counts_next}
 use Rattle.ob_serial.specs.Vaults as vaults
@@ -15,14 +18,16 @@ use Rattle.ob_serial.specs.VaultViews.{IsEndFault, IsStoreEnd}
 use Rattle.ob_serial.specs.VaultKinds.{Kind, Called}
 use Rattle.ob_serial.specs.declared.vault.EndErr.TheVariants.{Before, Unsure}
 use Rattle.std.specs.List.Sorted.{IsStrictlyIncreasing}
-use Rattle.std.proofs.lemmas.List.{length-map}
+use Rattle.std.proofs.lemmas.List.{length-map, append-nil}
 use Rattle.ob_base.specs.declared.value.Write.{Write}
 use Rattle.ob_order.specs.Works.{last_writes}
 use Rattle.ob_order.specs.Writes.{pair_of}
 use Rattle.ob_desk.specs.Desk as desk
 use Rattle.ob_desk.specs.Desk.{DeskState, Part, MayCall, CloseStep, PublishStep, StopStep, UnsureStep, closing, record_of, new_part, base_map}
-use Rattle.ob_conduct.specs.Conducted.{Makes}
-use Rattle.ob_conduct.specs.Moves.{IsFit, IsReady, IsDue, Closes, CloseFails}
+use Rattle.ob_conduct.specs.Scenes.{Scene, scene}
+use Rattle.ob_conduct.specs.Records.{HoldsMap, Makes}
+use Rattle.ob_conduct.specs.Ready.{IsFit, IsReady, IsDue}
+use Rattle.ob_conduct.specs.Moves.{IsClosed, IsEnded, EndFails}
 use Rattle.ob_conduct.proofs.Fit.{fit_new, fit_closing, closing-epoch}
 use Rattle.ob_conduct.proofs.Writes.{same_writes, batch_makes, record_ordered, few_writes, rising_writes, writes_below}
 use Rattle.ob_conduct.proofs.Batches.{stop_is}
@@ -63,9 +68,14 @@ ended_map : (p : Params) (d mid : DeskState) (writes : List (ℕ × Option (List
 ended_map p d mid writes m e = same_writes m writes ∙ ap (desk.with_writes m) e.batch
     ∙ sym (ap (λ (x : DeskState). base_map m x) e.state)
 
-pub ended_with : {V : Type 0} (k : Kind V) (old new : V) (writes as_are : List (ℕ × Option (List ℕ))) (answer as_is : VaultAnswer) → writes ≡ as_are → answer ≡ as_is
-    → Called k old (End writes) answer new → Called k old (End as_are) as_is new
-ended_with k old new writes as_are answer as_is are is last = subst (λ a. Called k old (End as_are) a new) is (subst (λ w. Called k old (End w) answer new) are last)
+-- a call with its notes, which were shown
+pub record CalledShown {V : Type 0} (k : Kind V) (old : V) (call : VaultCall) (answer : VaultAnswer) (new : V) (before after : Trace) : Type 0 where
+  pub one : Called k old call answer new
+  pub shown : Shows one.notes before after
+
+pub ended_with : {V : Type 0} (k : Kind V) (old new : V) (t u : Trace) (writes as_are : List (ℕ × Option (List ℕ))) (answer as_is : VaultAnswer) → writes ≡ as_are → answer ≡ as_is
+    → CalledShown k old (End writes) answer new t u → CalledShown k old (End as_are) as_is new t u
+ended_with k old new t u writes as_are answer as_is are is last = subst (λ a. CalledShown k old (End as_are) a new t u) is (subst (λ w. CalledShown k old (End w) answer new t u) are last)
 
 pub next_fault : (n : ℕ) (refused : EndErr) → IsEndFault (n + 1) refused → IsEndFault (suc n) refused
 next_fault n refused is = subst (λ m. IsEndFault m refused) (add-one n) is
@@ -84,12 +94,28 @@ store_end SourceFault store = absurd store
 store_end SinkFault store = absurd store
 
 module _ {V : Type 0} (k : Kind V) (p : Params) where
-  pub closes : (d mid new : DeskState) (v w : V) (c next : VaultCounts) (writes : List (ℕ × Option (List ℕ))) (told : EpochRecord ℕ) (left : ℕ) → IsReady p d c → d.stop ≡ None → c.left ≡ 0
-      → CloseStep d writes mid → Called k v (End writes) Ended w → next ≡ counts_next p.batches c (End writes) Ended → next.epoch < 2 ^ 62 → left ≡ p.batches → PublishStep mid told new → Closes k p d v told new w next
-  closes d mid new v w c next writes told left r none zero e one counts low left_is pub_step =
+  -- the desk closed its epoch
+  closed_by : (d mid : DeskState) (v : V) (t : Trace) (c : VaultCounts) (writes : List (ℕ × Option (List ℕ))) → IsReady p d c → d.stop ≡ None → c.left ≡ 0 → CloseStep d writes mid → IsClosed k (scene d v t) writes (scene mid v t)
+  closed_by d mid v t c writes r none zero e = record {
+    moves = record {
+      leads = (mid, may_close p d c r none zero, e, refl);
+      notes = [];
+      chain = (refl, refl);
+      shown = shows_none t;
+      run = λ m held. (m, (mid, may_close p d c r none zero, e, tt, (refl, refl)), held);
+    };
+    part = closing d.running;
+    is_closed = closed_part d mid writes e;
+    due = due_of p d mid c writes r e;
+  }
+
+  pub ends : (d mid new : DeskState) (v w : V) (t u : Trace) (c next : VaultCounts) (writes : List (ℕ × Option (List ℕ))) (told : EpochRecord ℕ) (left : ℕ) → IsReady p d c → d.stop ≡ None → c.left ≡ 0
+      → CloseStep d writes mid → CalledShown k v (End writes) Ended w t u → next ≡ counts_next p.batches c (End writes) Ended → next.epoch < 2 ^ 62 → left ≡ p.batches → PublishStep mid told new → IsEnded k p (scene d v t) told (scene new w u) next
+  ends d mid new v w t u c next writes told left r none zero e called counts low left_is pub_step =
+      let one : Called k v (End writes) Ended w = called.one in
       let part_is : closing d.running ≡ pub_step.part = same_Some (closing d.running) pub_step.part (sym (closed_part d mid writes e) ∙ pub_step.is_closed) in
       let told_is : told ≡ record_of (closing d.running) = pub_step.record_is ∙ ap record_of (sym part_is) in
-      let due : IsDue d.running.epoch writes told = subst (λ (t : EpochRecord ℕ). IsDue d.running.epoch writes t) (sym told_is) (due_of p d mid c writes r e) in
+      let due : IsDue d.running.epoch writes told = subst (λ (x : EpochRecord ℕ). IsDue d.running.epoch writes x) (sym told_is) (due_of p d mid c writes r e) in
       let named : suc told.epoch ≡ mid.running.epoch = ap suc due.epoch_is ∙ sym (ap (λ (x : DeskState). x.running.epoch) e.state) in
       let at : next.epoch ≡ suc c.epoch = ap (λ (x : VaultCounts). x.epoch) counts in
       let now : told.epoch ≡ suc c.epoch = due.epoch_is ∙ r.epoch in
@@ -97,17 +123,21 @@ module _ {V : Type 0} (k : Kind V) (p : Params) where
       record {
         writes = writes;
         left = left;
+        mid = scene mid v t;
+        closed = closed_by d mid v t c writes r none zero e;
         moves = record {
-          leads = (mid, may_close p d c r none zero, e, (new, may, pub_step, refl));
-          chain = (w, one, refl);
+          leads = (new, may, pub_step, refl);
+          notes = one.notes;
+          chain = (w, one, [], sym (append-nil one.notes), (refl, refl));
+          shown = called.shown;
           run = λ m held. (
             base_map m mid,
-            (mid, may_close p d c r none zero, e, tt, (new, may, pub_step, tt, (refl, refl))),
+            (new, may, pub_step, tt, (refl, refl)),
             (vault_next held.0 (End writes) Ended, one.holds held.0 held.1, ap (λ (n : Map nat_cmp). vaults.with_writes n writes) held.2 ∙ ended_map p d mid writes m e),
           );
         };
-        ready = ready;
         due = due;
+        ready = ready;
         next_epoch = ap (λ (x : DeskState). x.running.epoch) pub_step.state ∙ ap (λ (x : DeskState). x.running.epoch) e.state;
         same_stop = ap (λ (x : DeskState). x.stop) pub_step.state ∙ ap (λ (x : DeskState). x.stop) e.state;
       }
@@ -125,45 +155,47 @@ module _ {V : Type 0} (k : Kind V) (p : Params) where
       }))
 
   -- the end was refused before its last write,
-  pub close_fails : (d mid new : DeskState) (v w : V) (c : VaultCounts) (writes : List (ℕ × Option (List ℕ))) (fault : Fault) → IsReady p d c → d.stop ≡ None → c.left ≡ 0
-      → CloseStep d writes mid → Called k v (End writes) (RefusedBy fault) w → StopStep mid fault new → IsEndFault (suc c.epoch) (Before fault) → (IsStoreFault fault → Rose (k.disk v).faults (k.disk w).faults) → CloseFails k d v fault new w
-  close_fails d mid new v w c writes fault r none zero e one halt is_fault cause = record {
-    writes = writes;
-    refused = Before fault;
-    moves = record {
-      leads = (mid, may_close p d c r none zero, e, (new, tt, halt, refl));
-      chain = (w, one, refl);
-      run = λ m held. (m, (mid, may_close p d c r none zero, e, tt, (new, tt, halt, tt, (refl, refl))), (vault_next held.0 (End writes) (RefusedBy fault), one.holds held.0 held.1, held.2));
-    };
-    fault_is = refl;
-    is_fault = subst (λ n. IsEndFault n (Before fault)) (sym r.epoch) is_fault;
-    cause = cause;
-    stopped = stop_is mid new fault (ap (λ (x : DeskState). x.stop) e.state ∙ none) halt.state;
-    closed_desk = mid;
-    closed = closing d.running;
-    led = (mid, may_close p d c r none zero, e, refl);
-    is_closed = closed_part d mid writes e;
-    due = due_of p d mid c writes r e;
-  }
+  pub end_fails : (d mid new : DeskState) (v w : V) (t u : Trace) (c : VaultCounts) (writes : List (ℕ × Option (List ℕ))) (fault : Fault) → IsReady p d c → d.stop ≡ None → c.left ≡ 0
+      → CloseStep d writes mid → CalledShown k v (End writes) (RefusedBy fault) w t u → StopStep mid fault new → IsEndFault (suc c.epoch) (Before fault) → (IsStoreFault fault → Rose (k.disk v).faults (k.disk w).faults) → EndFails k (scene d v t) fault (scene new w u)
+  end_fails d mid new v w t u c writes fault r none zero e called halt is_fault cause =
+      let one : Called k v (End writes) (RefusedBy fault) w = called.one in
+      record {
+        writes = writes;
+        refused = Before fault;
+        mid = scene mid v t;
+        closed = closed_by d mid v t c writes r none zero e;
+        moves = record {
+          leads = (new, tt, halt, refl);
+          notes = one.notes;
+          chain = (w, one, [], sym (append-nil one.notes), (refl, refl));
+          shown = called.shown;
+          run = λ m held. (m, (new, tt, halt, tt, (refl, refl)), (vault_next held.0 (End writes) (RefusedBy fault), one.holds held.0 held.1, held.2));
+        };
+        fault_is = refl;
+        is_fault = subst (λ n. IsEndFault n (Before fault)) (sym r.epoch) is_fault;
+        cause = cause;
+        stopped = stop_is mid new fault (ap (λ (x : DeskState). x.stop) e.state ∙ none) halt.state;
+      }
 
   -- or left in doubt
-  pub close_doubts : (d mid new : DeskState) (v w : V) (c : VaultCounts) (writes : List (ℕ × Option (List ℕ))) (fault : Fault) → IsReady p d c → d.stop ≡ None → c.left ≡ 0
-      → CloseStep d writes mid → Called k v (End writes) (DoubtBy fault) w → UnsureStep mid fault new → IsEndFault (suc c.epoch) (Unsure fault) → (IsStoreFault fault → Rose (k.disk v).faults (k.disk w).faults) → CloseFails k d v fault new w
-  close_doubts d mid new v w c writes fault r none zero e one halt is_fault cause = record {
-    writes = writes;
-    refused = Unsure fault;
-    moves = record {
-      leads = (mid, may_close p d c r none zero, e, (new, some_closed d mid writes e, halt, refl));
-      chain = (w, one, refl);
-      run = λ m held. (m, (mid, may_close p d c r none zero, e, tt, (new, some_closed d mid writes e, halt, tt, (refl, refl))), (vault_next held.0 (End writes) (DoubtBy fault), one.holds held.0 held.1, held.2));
-    };
-    fault_is = refl;
-    is_fault = subst (λ n. IsEndFault n (Unsure fault)) (sym r.epoch) is_fault;
-    cause = cause;
-    stopped = ap (λ (x : DeskState). x.stop) halt.state ∙ ap (λ (o : Option Fault). option_or o (Some fault)) (ap (λ (x : DeskState). x.stop) e.state ∙ none);
-    closed_desk = mid;
-    closed = closing d.running;
-    led = (mid, may_close p d c r none zero, e, refl);
-    is_closed = closed_part d mid writes e;
-    due = due_of p d mid c writes r e;
-  }
+  pub end_doubts : (d mid new : DeskState) (v w : V) (t u : Trace) (c : VaultCounts) (writes : List (ℕ × Option (List ℕ))) (fault : Fault) → IsReady p d c → d.stop ≡ None → c.left ≡ 0
+      → CloseStep d writes mid → CalledShown k v (End writes) (DoubtBy fault) w t u → UnsureStep mid fault new → IsEndFault (suc c.epoch) (Unsure fault) → (IsStoreFault fault → Rose (k.disk v).faults (k.disk w).faults) → EndFails k (scene d v t) fault (scene new w u)
+  end_doubts d mid new v w t u c writes fault r none zero e called halt is_fault cause =
+      let one : Called k v (End writes) (DoubtBy fault) w = called.one in
+      record {
+        writes = writes;
+        refused = Unsure fault;
+        mid = scene mid v t;
+        closed = closed_by d mid v t c writes r none zero e;
+        moves = record {
+          leads = (new, some_closed d mid writes e, halt, refl);
+          notes = one.notes;
+          chain = (w, one, [], sym (append-nil one.notes), (refl, refl));
+          shown = called.shown;
+          run = λ m held. (m, (new, some_closed d mid writes e, halt, tt, (refl, refl)), (vault_next held.0 (End writes) (DoubtBy fault), one.holds held.0 held.1, held.2));
+        };
+        fault_is = refl;
+        is_fault = subst (λ n. IsEndFault n (Unsure fault)) (sym r.epoch) is_fault;
+        cause = cause;
+        stopped = ap (λ (x : DeskState). x.stop) halt.state ∙ ap (λ (o : Option Fault). option_or o (Some fault)) (ap (λ (x : DeskState). x.stop) e.state ∙ none);
+      }

@@ -21,7 +21,7 @@ use Rattle.ob_order.proofs.Counts.{none_stopped}
 use Rattle.ob_order.proofs.Keeps.{kept_none, kept_begun, kept_got, kept_waits, kept_wrote, kept_aborted, kept_stopped}
 use Rattle.ob_desk.specs.Desk.{Part, new_part, with_order, with_holder, end_of, asked_at, close_to, closing, stop_holder, stop_part}
 use Rattle.ob_desk.specs.declared.clients.Holder.{Holder}
-use Rattle.ob_conduct.specs.Moves.{IsDistinct, IsBelow, AreWithin, IsFit}
+use Rattle.ob_conduct.specs.Ready.{IsDistinct, IsBelow, AreWithin, IsFit}
 
 -- ---- keys in range
 

@@ -15,11 +15,10 @@ use Rattle.ob_desk.specs.Desk as desk
 use Rattle.ob_desk.specs.Desk.{DeskState, Setup, Call, Reply, Part, Run, MayOpen, new_desk, published, records_told, record_of}
 use Rattle.ob_session.specs.Steps.{Leads, IsOwn}
 use Rattle.ob_conduct.specs.Acts.{Act, history, calls, records, desk_calls, vault_calls}
-use Rattle.ob_conduct.specs.Conducted.{AreWritten, AreAnswered, IsWritten}
-use Rattle.ob_conduct.specs.Moves.{IsOrdered, Tells}
+use Rattle.ob_conduct.specs.Records.{AreWritten, AreAnswered, IsWritten, IsCutShort}
+use Rattle.ob_conduct.specs.Ready.{IsOrdered, Tells}
 use Rattle.ob_conduct.proofs.Writes.{rising}
 use Rattle.ob_conduct.proofs.Moving.{rose_since}
-use Rattle.ob_conduct.proofs.Stepping.{history_more}
 
 -- ---- lists of acts
 
@@ -36,8 +35,8 @@ pub published_append : (steps more : List (Call × Reply)) → published (steps 
 published_append [] more = refl
 published_append (step ∷ steps) more = ap (λ (x : List (EpochRecord ℕ)). records_told step.1 ++ x) (published_append steps more) ∙ sym (append_assoc (records_told step.1) (published steps) (published more))
 
-pub records_more : (acts : List Act) (act : Act) → records (acts ++ act ∷ []) ≡ records acts ++ published (desk_calls act)
-records_more acts act = ap published (history_more acts act) ∙ published_append (history acts) (desk_calls act)
+pub records_append : (acts more : List Act) → records (acts ++ more) ≡ records acts ++ records more
+records_append acts more = ap published (history_append acts more) ∙ published_append (history acts) (history more)
 
 pub ended_append : (steps more : List (VaultCall × VaultAnswer)) → ended_of (steps ++ more) ≡ ended_of steps ++ ended_of more
 ended_append [] more = refl
@@ -128,3 +127,15 @@ printed_then rs qs before mid after w p = subst (IsPrinted before after) (sym (r
   written = p.written ∙ ap (λ (b : Option (List ℕ)). appended b (take p.count (report decimal qs))) w.bytes ∙ appended_twice before.bytes (report decimal rs) (take p.count (report decimal qs)) ∙ ap (appended before.bytes) (sym (take-append (report decimal rs) (report decimal qs) p.count));
   whole = ⊎_elim (λ e. inl (ap (λ n. length (report decimal rs) + n) e ∙ sym (length-append (report decimal rs) (report decimal qs)))) (λ r. inr (rose_since before.faults mid.faults after.faults w.later r)) p.whole;
 })
+
+-- behind a whole text, a text that was cut short
+pub cut_then : (rs qs : List (EpochRecord ℕ)) (before mid after : Flow) → IsWritten (report decimal rs) before mid → IsCutShort qs mid after → IsCutShort (rs ++ qs) before after
+cut_then rs qs before mid after w c = record {
+  whole = rs ++ c.whole;
+  last = c.last;
+  told_are = ap (λ (xs : List (EpochRecord ℕ)). rs ++ xs) c.told_are ∙ sym (append_assoc rs c.whole (c.last ∷ []));
+  mid = c.mid;
+  written = written_then rs c.whole before mid c.mid w c.written;
+  printed = c.printed;
+  rose = c.rose;
+}

@@ -1,9 +1,8 @@
 -- What a crash leaves at any moment of a run.
 use Rattle.std.proofs.Common.{◌≡◌, ◌∙◌, ◌+◌, ◌++◌, ◌∷◌, [], ℕ, suc, Bool, List, Option, Some, None, sym, refl, ap, subst, arith, inl, inr, length, Ok, Err, Result, nat_cmp, decimal}
 use Rattle.std.proofs.lemmas.List.{append-nil, append_assoc, length-append}
+use Rattle.std.proofs.lemmas.Option.{same_Some}
 use Rattle.ob_base.specs.declared.fault.Fault.{Fault}
-use Rattle.ob_report.specs.Printed.{Flow}
-use Rattle.ob_report.specs.Report.{report}
 use Rattle.ob_serial.specs.Serial.{EpochRecord, Map, Txn, after, committed_of}
 use Rattle.ob_serial.specs.Vaults.{VaultCall, Fetch, End, VaultAnswer, Values, Ended, RefusedBy, DoubtBy, VaultState, Standing, MayStand, MayStandIn, StandsIn, StandAlike, standing_now, standing_next, with_writes, vault_next}
 use Rattle.ob_serial.specs.VaultViews.{end_answer, IsEndFault}
@@ -13,13 +12,17 @@ use Rattle.ob_serial.specs.declared.vault.EndErr.TheVariants.{Before, Unsure}
 use Rattle.ob_store.specs.Disk.{Image}
 use Rattle.ob_store.specs.Images.{LeavesOnly}
 use Rattle.ob_store.proofs.Moments.{started, then_on, weakened}
-use Rattle.ob_desk.specs.Desk.{DeskState, Call, Reply}
+use Rattle.ob_desk.specs.Desk.{record_of}
 use Rattle.ob_desk.proofs.Runs.{committed_append}
-use Rattle.ob_conduct.specs.Acts.{Act, FetchFails, EndFails, Batch, calls, records, rest_fetches, vault_calls}
-use Rattle.ob_conduct.specs.Conducted.{after_txns, contents, Makes, AreWritten, AreAnswered, IsFetchRefused, IsEndRefused, RunEnds, Conducted, fault_in}
+use Rattle.ob_conduct.specs.Acts.{Act, Says, Halts, Rests as Looked, Takes, Delivers, DeliverFails, FetchFails, Closes, Publishes, Refuses, Unprinted, calls, records, rest_fetches, vault_calls, fault_in, fault_told}
+use Rattle.ob_conduct.specs.Scenes.{RunState, RunnerKind}
+use Rattle.ob_conduct.specs.Records.{after_txns, contents, Makes, AreWritten, AreAnswered}
+use Rattle.ob_conduct.specs.Moves.{IsUnended, IsReason, Failure}
+use Rattle.ob_conduct.specs.Conducted.{RunEnds, Conducted}
 use Rattle.ob_conduct.specs.Left.{Rests, OnlyNow, standing_behind, IsFront, IsLeftStanding, TellsDoubt, IsLeftNow, LeftByRun}
 use Rattle.ob_conduct.proofs.Acting.{answered_rest}
-use Rattle.ob_conduct.proofs.Going.{calls_more, ended_append, answered_join}
+use Rattle.ob_conduct.proofs.Moving.{called}
+use Rattle.ob_conduct.proofs.Going.{calls_more, records_append, ended_append, answered_join}
 
 -- ---- maps behind records
 
@@ -183,12 +186,11 @@ module _ {V : Type 0} (k : Kind V) (only : OnlyNow k) (rests : Rests k) where
       (weakened (k.disk mid) (k.disk last) (StandsIn (k.stands mid) (MayStandIn (after_calls v front) call)) (StandsIn (k.stands first) B) (stands_alike (k.stands first) (k.stands mid) (alike_all k first front mid before) (MayStandIn (after_calls v front) call) B within)
       (one.images (after_calls v front) (sound_after k first front mid v before sound)))
 
--- the calls before the last one
-calls_before : (acts front : List Act) (act : Act) (batches : List Batch) (call : VaultCall) (answer : VaultAnswer) → acts ≡ front ++ act ∷ [] → vault_calls act ≡ rest_fetches batches ++ (call, answer) ∷ [] → calls acts ≡ (calls front ++ rest_fetches batches) ++ (call, answer) ∷ []
-calls_before acts front act batches call answer is asks = ap calls is ∙ calls_more front act ∙ ap (λ (x : List (VaultCall × VaultAnswer)). calls front ++ x) asks ∙ sym (append_assoc (calls front) (rest_fetches batches) ((call, answer) ∷ []))
+-- ---- a run
 
-answered_before : (front : List Act) (batches : List Batch) → AreAnswered (calls front) → AreAnswered (calls front ++ rest_fetches batches)
-answered_before front batches are = answered_join (calls front) (rest_fetches batches) are (subst AreAnswered (append-nil (rest_fetches batches)) (answered_rest batches [] tt))
+-- the calls up to one that was refused
+calls_before : (acts front : List Act) (act : Act) → acts ≡ front ++ act ∷ [] → calls acts ≡ calls front ++ vault_calls act
+calls_before acts front act is = ap calls is ∙ calls_more front act
 
 wrote_before : (acts : List Act) (front : List (VaultCall × VaultAnswer)) (call : VaultCall) (answer : VaultAnswer) → calls acts ≡ front ++ (call, answer) ∷ [] → ended_by (call, answer) ≡ [] → AreWritten (ended_of (calls acts)) (records acts) → AreWritten (ended_of front) (records acts)
 wrote_before acts front call answer is none wrote = subst (λ (ws : List (List (ℕ × Option (List ℕ)))). AreWritten ws (records acts))
@@ -198,91 +200,126 @@ refused_ends : (writes : List (ℕ × Option (List ℕ))) (refused : EndErr) →
 refused_ends writes (Before fault) = refl
 refused_ends writes (Unsure fault) = refl
 
-module _ {V U Plan : Type 0} (k : Kind V) (only : OnlyNow k) (rests : Rests k) (passes : ℕ → ℕ → ℕ → ℕ → Bool) (client bound : U → ℕ) (plan : U → Plan) (fits : U → List (Call × Reply) → Type 0) (old new : DeskState) (first last : V) (before_runners after_runners : List U) (before after : Flow)
-    (v : VaultState) (sound : k.sound first v) (none : v.doubt ≡ None) where
-  all_answered : (result : Result (Unit {0}) Fault) (d : Conducted k passes client bound plan fits old new first last before_runners after_runners before after result) → AreAnswered (calls d.acts) → LeftByRun d v
-  all_answered result d are =
-      let told : List (EpochRecord ℕ) = records d.acts in
-      let u : VaultState = after_calls v (calls d.acts) in
-      let b : IsBehind v told u = is_behind v (calls d.acts) told are d.wrote none in
-      let doubt : Type 0 = TellsDoubt (old.running.epoch + length told) result in
-      record {
-        next = None;
-        is_next = tt;
-        since = weakened (k.disk first) (k.disk last) (StandsIn (k.stands first) (IsFront v told)) (StandsIn (k.stands first) (IsLeftStanding v told None))
-            (stands_still (k.stands first) (IsFront v told) (IsLeftStanding v told None) (λ at front. inl front)) (answered_leave k only rests first (calls d.acts) last v told d.chain are d.wrote sound none);
-        now = λ c left. stands_alike (k.stands first) (k.stands last) (alike_all k first (calls d.acts) last d.chain) (MayStand u) (IsLeftNow v told None doubt) (may_now v u told None doubt b) c
-            (rests last u c (sound_after k first (calls d.acts) last v d.chain sound) left);
-      }
+module _ {V U Plan : Type 0} (k : Kind V) (only : OnlyNow k) (rests : Rests k) (kind : RunnerKind U Plan) (passes : ℕ → ℕ → ℕ → ℕ → Bool) (old new : RunState V U) (acts : List Act) (v : VaultState) (sound : k.sound old.scene.vault v) (none : v.doubt ≡ None) where
+  abbrev first : V
+  first = old.scene.vault
 
-  module _ (fault : Fault) (d : Conducted k passes client bound plan fits old new first last before_runners after_runners before after (Err fault)) where
-    by_fetch : IsFetchRefused k first last new d.acts fault → LeftByRun d v
-    by_fetch r =
-        let told : List (EpochRecord ℕ) = records d.acts in
-        let front : List (VaultCall × VaultAnswer) = calls r.front ++ rest_fetches r.batches in
-        let is : calls d.acts ≡ front ++ (Fetch r.keys, RefusedBy fault) ∷ [] = calls_before d.acts r.front (FetchFails r.look r.batches r.keys fault) r.batches (Fetch r.keys) (RefusedBy fault) r.acts_are refl in
-        let are : AreAnswered front = answered_before r.front r.batches r.answered in
-        let wrote : AreWritten (ended_of front) told = wrote_before d.acts front (Fetch r.keys) (RefusedBy fault) is refl d.wrote in
-        let u : VaultState = after_calls v front in
-        let b : IsBehind v told u = is_behind v front told are wrote none in
-        let (mid, chain, one) = chain_last k first front (Fetch r.keys) (RefusedBy fault) last (subst (λ (s : List (VaultCall × VaultAnswer)). AllCalled k first s last) is d.chain) in
-        let doubt : Type 0 = TellsDoubt (old.running.epoch + length told) (Err fault) in
+  abbrev last : V
+  last = new.scene.vault
+
+  abbrev told : List (EpochRecord ℕ)
+  told = records acts
+
+  abbrev epoch : ℕ
+  epoch = old.scene.desk.running.epoch + length (records acts)
+
+  module _ (result : Result (Unit {0}) Fault) (d : Conducted k kind passes old new acts result) where
+    chain : AllCalled k first (calls acts) last
+    chain = called k first (calls acts) d.notes last d.chain
+
+    all_answered : AreAnswered (calls acts) → LeftByRun k old new acts result v
+    all_answered are =
+        let u : VaultState = after_calls v (calls acts) in
+        let b : IsBehind v told u = is_behind v (calls acts) told are d.wrote none in
+        let doubt : Type 0 = TellsDoubt epoch result in
         record {
           next = None;
           is_next = tt;
-          since = one_more_leaves k only rests first front mid (Fetch r.keys) (RefusedBy fault) last v told (IsLeftStanding v told None) chain one are wrote sound none (λ at f. inl f) (λ at may. inl (may_front v u told b at may));
-          now = λ c left. stands_alike (k.stands first) (k.stands last) (alike_all k first (calls d.acts) last d.chain) (MayStand (vault_next u (Fetch r.keys) (RefusedBy fault))) (IsLeftNow v told None doubt)
-              (may_now v (vault_next u (Fetch r.keys) (RefusedBy fault)) told None doubt (record { content = b.content; epoch = b.epoch; none = b.none })) c
-              (rests last (vault_next u (Fetch r.keys) (RefusedBy fault)) c (one.sound u (sound_after k first front mid v chain sound)) left);
+          since = weakened (k.disk first) (k.disk last) (StandsIn (k.stands first) (IsFront v told)) (StandsIn (k.stands first) (IsLeftStanding v told None))
+              (stands_still (k.stands first) (IsFront v told) (IsLeftStanding v told None) (λ at front. inl front)) (answered_leave k only rests first (calls acts) last v told chain are d.wrote sound none);
+          now = λ c left. stands_alike (k.stands first) (k.stands last) (alike_all k first (calls acts) last chain) (MayStand u) (IsLeftNow v told None doubt) (may_now v u told None doubt b) c
+              (rests last u c (sound_after k first (calls acts) last v chain sound) left);
         }
 
-    by_end : IsEndRefused k first last old new d.acts fault → LeftByRun d v
-    by_end r =
-        let told : List (EpochRecord ℕ) = records d.acts in
-        let front : List (VaultCall × VaultAnswer) = calls r.front ++ rest_fetches r.batches in
-        let answer : VaultAnswer = end_answer (Err r.refused) in
-        let is : calls d.acts ≡ front ++ (End r.writes, answer) ∷ [] = calls_before d.acts r.front (EndFails r.look r.batches r.writes r.refused) r.batches (End r.writes) answer r.acts_are refl in
-        let are : AreAnswered front = answered_before r.front r.batches r.answered in
-        let wrote : AreWritten (ended_of front) told = wrote_before d.acts front (End r.writes) answer is (refused_ends r.writes r.refused) d.wrote in
+    -- a batch was refused
+    by_fetch : (front : List (VaultCall × VaultAnswer)) (keys : List (Option ℕ)) (fault : Fault) → calls acts ≡ front ++ (Fetch keys, RefusedBy fault) ∷ [] → AreAnswered front → LeftByRun k old new acts result v
+    by_fetch front keys fault is are =
+        let wrote : AreWritten (ended_of front) told = wrote_before acts front (Fetch keys) (RefusedBy fault) is refl d.wrote in
         let u : VaultState = after_calls v front in
         let b : IsBehind v told u = is_behind v front told are wrote none in
-        let (mid, chain, one) = chain_last k first front (End r.writes) answer last (subst (λ (s : List (VaultCall × VaultAnswer)). AllCalled k first s last) is d.chain) in
-        let epoch : ℕ = old.running.epoch + length told in
+        let (mid, before, one) = chain_last k first front (Fetch keys) (RefusedBy fault) last (subst (λ (s : List (VaultCall × VaultAnswer)). AllCalled k first s last) is chain) in
+        let doubt : Type 0 = TellsDoubt epoch result in
         record {
-          next = Some r.due;
-          is_next = (fault, refl, r, refl);
-          since = one_more_leaves k only rests first front mid (End r.writes) answer last v told (IsLeftStanding v told (Some r.due)) chain one are wrote sound none (λ at f. inl f) (may_in_end v u told r.due r.writes r.makes b);
-          now = λ c left. stands_alike (k.stands first) (k.stands last) (alike_all k first (calls d.acts) last d.chain) (MayStand (vault_next u (End r.writes) answer)) (IsLeftNow v told (Some r.due) (TellsDoubt epoch (Err fault)))
-              (may_unended v u told r.due r.writes epoch r.refused fault r.makes b r.fault_is r.is_fault) c
-              (rests last (vault_next u (End r.writes) answer) c (one.sound u (sound_after k first front mid v chain sound)) left);
+          next = None;
+          is_next = tt;
+          since = one_more_leaves k only rests first front mid (Fetch keys) (RefusedBy fault) last v told (IsLeftStanding v told None) before one are wrote sound none (λ at f. inl f) (λ at may. inl (may_front v u told b at may));
+          now = λ c left. stands_alike (k.stands first) (k.stands last) (alike_all k first (calls acts) last chain) (MayStand (vault_next u (Fetch keys) (RefusedBy fault))) (IsLeftNow v told None doubt)
+              (may_now v (vault_next u (Fetch keys) (RefusedBy fault)) told None doubt (record { content = b.content; epoch = b.epoch; none = b.none })) c
+              (rests last (vault_next u (Fetch keys) (RefusedBy fault)) c (one.sound u (sound_after k first front mid v before sound)) left);
         }
 
-    refused_leaves : RunEnds k first last old new d.acts (report decimal (records d.acts)) before after (Err fault) → LeftByRun d v
-    refused_leaves (inl (short, written)) = all_answered (Err fault) d short.answered
-    refused_leaves (inr (inl unprinted)) = all_answered (Err fault) d unprinted.answered
-    refused_leaves (inr (inr (inl fetch, written))) = by_fetch fetch
-    refused_leaves (inr (inr (inr end, written))) = by_end end
+  module _ (fault : Fault) (d : Conducted k kind passes old new acts (Err fault)) (f : Failure k old.scene new.scene acts old.output new.output fault) where
+    -- the end of an epoch was refused, or left in doubt
+    by_end : (writes : List (ℕ × Option (List ℕ))) (refused : EndErr) → f.act ≡ Refuses writes refused → IsUnended k old.scene f.front writes refused → LeftByRun k old new acts (Err fault) v
+    by_end writes refused act_is r =
+        let due : EpochRecord ℕ = record_of r.closed in
+        let answer : VaultAnswer = end_answer (Err refused) in
+        let acts_are : acts ≡ f.front ++ Refuses writes refused ∷ [] = f.acts_are ∙ ap (λ (x : Act). f.front ++ x ∷ []) act_is in
+        let front : List (VaultCall × VaultAnswer) = calls f.front in
+        let is : calls acts ≡ front ++ (End writes, answer) ∷ [] = calls_before acts f.front (Refuses writes refused) acts_are in
+        let wrote : AreWritten (ended_of front) told = wrote_before acts front (End writes) answer is (refused_ends writes refused) d.wrote in
+        let u : VaultState = after_calls v front in
+        let b : IsBehind v told u = is_behind v front told f.answered wrote none in
+        let fault_is : fault ≡ fault_in refused = same_Some fault (fault_in refused) (sym f.told ∙ ap fault_told act_is) in
+        let same_records : records acts ≡ records f.front = ap records acts_are ∙ records_append f.front (Refuses writes refused ∷ []) ∙ append-nil (records f.front) in
+        let is_fault : IsEndFault epoch refused = subst (λ (rs : List (EpochRecord ℕ)). IsEndFault (old.scene.desk.running.epoch + length rs) refused) (sym same_records) r.is_fault in
+        let whole : AllCalled k first (calls acts) last = chain (Err fault) d in
+        let (mid, before, one) = chain_last k first front (End writes) answer last (subst (λ (s : List (VaultCall × VaultAnswer)). AllCalled k first s last) is whole) in
+        record {
+          next = Some due;
+          is_next = (fault, refl, f, (writes, refused, act_is, r, refl));
+          since = one_more_leaves k only rests first front mid (End writes) answer last v told (IsLeftStanding v told (Some due)) before one f.answered wrote sound none (λ at x. inl x) (may_in_end v u told due writes r.due.makes b);
+          now = λ c left. stands_alike (k.stands first) (k.stands last) (alike_all k first (calls acts) last whole) (MayStand (vault_next u (End writes) answer)) (IsLeftNow v told (Some due) (TellsDoubt epoch (Err fault)))
+              (may_unended v u told due writes epoch refused fault r.due.makes b fault_is is_fault) c
+              (rests last (vault_next u (End writes) answer) c (one.sound u (sound_after k first front mid v before sound)) left);
+        }
+
+    -- the calls that stand before the last act
+    before_it : (act : Act) → f.act ≡ act → calls acts ≡ calls f.front ++ vault_calls act
+    before_it act is = calls_before acts f.front f.act f.acts_are ∙ ap (λ (x : Act). calls f.front ++ vault_calls x) is
+
+    no_calls : (act : Act) → f.act ≡ act → vault_calls act ≡ [] → LeftByRun k old new acts (Err fault) v
+    no_calls act is asks = all_answered (Err fault) d (subst AreAnswered (sym (before_it act is ∙ ap (λ (x : List (VaultCall × VaultAnswer)). calls f.front ++ x) asks ∙ append-nil (calls f.front))) f.answered)
+
+    by_act : (act : Act) → f.act ≡ act → IsReason k old.scene f.front act → LeftByRun k old new acts (Err fault) v
+    by_act (Halts given) is reason = no_calls (Halts given) is refl
+    by_act Unprinted is reason = no_calls Unprinted is refl
+    by_act (DeliverFails keys given) is reason = by_fetch (Err fault) d (calls f.front) keys given (before_it (DeliverFails keys given) is) f.answered
+    by_act (FetchFails look batches keys given) is reason = by_fetch (Err fault) d (calls f.front ++ rest_fetches batches) keys given
+        (before_it (FetchFails look batches keys given) is ∙ sym (append_assoc (calls f.front) (rest_fetches batches) ((Fetch keys, RefusedBy given) ∷ [])))
+        (answered_join (calls f.front) (rest_fetches batches) f.answered (subst AreAnswered (append-nil (rest_fetches batches)) (answered_rest batches [] tt)))
+    by_act (Refuses writes refused) is reason = by_end writes refused is reason
+    by_act (Says client steps) is reason = absurd reason
+    by_act (Looked look) is reason = absurd reason
+    by_act (Takes look keys) is reason = absurd reason
+    by_act (Delivers batch) is reason = absurd reason
+    by_act (Closes look batches writes) is reason = absurd reason
+    by_act (Publishes writes left record_told) is reason = absurd reason
+
+  refused_leaves : (fault : Fault) (d : Conducted k kind passes old new acts (Err fault)) → RunEnds k old new acts (Err fault) → LeftByRun k old new acts (Err fault) v
+  refused_leaves fault d (inl short) = all_answered (Err fault) d (subst (λ (xs : List Act). AreAnswered (calls xs)) (sym short.none) tt)
+  refused_leaves fault d (inr f) = by_act fault d f f.act refl f.reason
 
   -- A crash at any moment of a run leaves what stands behind a front of the records, or behind all of them and the epoch whose end was
   -- begun; at the return behind all of them, or also that epoch, but this only where the answer tells of doubt.
-  pub run_leaves : (result : Result (Unit {0}) Fault) (d : Conducted k passes client bound plan fits old new first last before_runners after_runners before after result) → LeftByRun d v
+  pub run_leaves : (result : Result (Unit {0}) Fault) (d : Conducted k kind passes old new acts result) → LeftByRun k old new acts result v
   run_leaves (Ok done) d = all_answered (Ok done) d d.ends.0
   run_leaves (Err fault) d = refused_leaves fault d d.ends
 
   -- where the answer tells of no doubt, a crash at the return leaves what stands behind all the records,
-  pub sure_now : (result : Result (Unit {0}) Fault) (d : Conducted k passes client bound plan fits old new first last before_runners after_runners before after result) → (TellsDoubt (old.running.epoch + length (records d.acts)) result → ⊥)
-      → (c : Image) → (k.disk last).may_leave c → StandsIn (k.stands first) (λ at. at ≡ standing_behind v (records d.acts)) c
+  pub sure_now : (result : Result (Unit {0}) Fault) (d : Conducted k kind passes old new acts result) → (TellsDoubt epoch result → ⊥)
+      → (c : Image) → (k.disk last).may_leave c → StandsIn (k.stands first) (λ at. at ≡ standing_behind v told) c
   sure_now result d sure c left = let l = run_leaves result d in
-      stands_still (k.stands first) (IsLeftNow v (records d.acts) l.next (TellsDoubt (old.running.epoch + length (records d.acts)) result)) (λ at. at ≡ standing_behind v (records d.acts))
-      (sure_at (records d.acts) l.next (TellsDoubt (old.running.epoch + length (records d.acts)) result) sure) c (l.now c left)
+      stands_still (k.stands first) (IsLeftNow v told l.next (TellsDoubt epoch result)) (λ at. at ≡ standing_behind v told)
+      (sure_at l.next (TellsDoubt epoch result) sure) c (l.now c left)
     where
-      sure_at : (told : List (EpochRecord ℕ)) (next : Option (EpochRecord ℕ)) (doubt : Type 0) → (doubt → ⊥) → (at : Standing) → IsLeftNow v told next doubt at → at ≡ standing_behind v told
-      sure_at told next doubt sure at (inl is) = is
-      sure_at told next doubt sure at (inr (r, is, tells, behind)) = absurd (sure tells)
+      sure_at : (next : Option (EpochRecord ℕ)) (doubt : Type 0) → (doubt → ⊥) → (at : Standing) → IsLeftNow v told next doubt at → at ≡ standing_behind v told
+      sure_at next doubt sure at (inl is) = is
+      sure_at next doubt sure at (inr (r, is, tells, behind)) = absurd (sure tells)
 
-  told_ok : (epoch : ℕ) (done : Unit {0}) → TellsDoubt epoch (Ok done) → ⊥
-  told_ok epoch done is = cc is
+  told_ok : (n : ℕ) (done : Unit {0}) → TellsDoubt n (Ok done) → ⊥
+  told_ok n done is = cc is
 
   -- as it does where the run went to its end
-  pub done_now : (done : Unit {0}) (d : Conducted k passes client bound plan fits old new first last before_runners after_runners before after (Ok done)) → (c : Image) → (k.disk last).may_leave c → StandsIn (k.stands first) (λ at. at ≡ standing_behind v (records d.acts)) c
-  done_now done d = sure_now (Ok done) d (told_ok (old.running.epoch + length (records d.acts)) done)
+  pub done_now : (done : Unit {0}) (d : Conducted k kind passes old new acts (Ok done)) → (c : Image) → (k.disk last).may_leave c → StandsIn (k.stands first) (λ at. at ≡ standing_behind v told) c
+  done_now done d = sure_now (Ok done) d (told_ok epoch done)

@@ -15,7 +15,7 @@ use Rattle.ob_desk.specs.Desk.{DeskState, Part, with_order, stopped_by, Call, Be
 use Rattle.ob_desk.proofs.Fine.{read_found, again_found}
 use Rattle.ob_session.specs.Steps.{Leads, IsOwn}
 use Rattle.ob_session.specs.Clients.{said_by, is_of}
-use Rattle.ob_conduct.specs.Moves.{IsFit, IsReady}
+use Rattle.ob_conduct.specs.Ready.{IsFit, IsReady}
 use Rattle.ob_conduct.proofs.Fit.{fit_begun, fit_got, fit_waits, fit_wrote, fit_end, fit_holder, fit_stopped}
 
 same : (p : Params) (c : VaultCounts) (d new : DeskState) → new ≡ d → IsReady p d c → IsReady p new c

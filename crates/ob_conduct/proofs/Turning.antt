@@ -4,7 +4,7 @@ use Rattle.std.proofs.lemmas.List.{append-nil, append_assoc}
 use Rattle.std.proofs.lemmas.List.Concat.{flat_map-append}
 use Rattle.ob_desk.specs.Desk.{Call, Reply}
 use Rattle.ob_conduct.specs.Acts.{Act, desk_calls, history}
-use Rattle.ob_conduct.specs.Rounds.{IsTurn, AreTurns, IsDrivers, OneRound, round_acts, acts_of, AreRounds, InRounds, InTurns}
+use Rattle.ob_conduct.specs.Rounds.{IsTurn, AreTurns, IsOneThing, OneRound, round_acts, acts_of, AreRounds, InRounds, InTurns}
 
 pub turns_push : (clients : List ℕ) (told : List (Call × Reply)) (acts : List Act) (client : ℕ) (act : Act) → AreTurns clients told acts → IsTurn client (told ++ history acts) act → AreTurns (clients ++ client ∷ []) told (acts ++ act ∷ [])
 turns_push [] told [] client act are turn = (subst (λ (h : List (Call × Reply)). IsTurn client h act) (append-nil told) turn, tt)
@@ -15,12 +15,12 @@ turns_push (c ∷ clients) told (a ∷ acts) client act (first, rest) turn = (
   turns_push clients (told ++ desk_calls a) acts client act rest (subst (λ (h : List (Call × Reply)). IsTurn client h act) (sym (append_assoc told (desk_calls a) (history acts))) turn),
 )
 
-pub rounds_push : (clients : List ℕ) (told : List (Call × Reply)) (rounds : List OneRound) (round : OneRound) → AreRounds clients told rounds → AreTurns clients (told ++ history (acts_of rounds)) round.turns → IsDrivers round.act → AreRounds clients told (rounds ++ round ∷ [])
-rounds_push clients told [] round are turns drivers = (subst (λ (h : List (Call × Reply)). AreTurns clients h round.turns) (append-nil told) turns, drivers, tt)
-rounds_push clients told (r ∷ rounds) round (first, driver, rest) turns drivers = (
+pub rounds_push : (clients : List ℕ) (told : List (Call × Reply)) (rounds : List OneRound) (round : OneRound) → AreRounds clients told rounds → AreTurns clients (told ++ history (acts_of rounds)) round.turns → IsOneThing round.thing → AreRounds clients told (rounds ++ round ∷ [])
+rounds_push clients told [] round are turns one = (subst (λ (h : List (Call × Reply)). AreTurns clients h round.turns) (append-nil told) turns, one, tt)
+rounds_push clients told (r ∷ rounds) round (first, driver, rest) turns one = (
   first,
   driver,
-  rounds_push clients (told ++ history (round_acts r)) rounds round rest (subst (λ (h : List (Call × Reply)). AreTurns clients h round.turns) joined turns) drivers,
+  rounds_push clients (told ++ history (round_acts r)) rounds round rest (subst (λ (h : List (Call × Reply)). AreTurns clients h round.turns) joined turns) one,
 )
   where
     joined : told ++ history (acts_of (r ∷ rounds)) ≡ (told ++ history (round_acts r)) ++ history (acts_of rounds)
@@ -42,10 +42,10 @@ in_turns clients acts turns r are = record {
   begun = subst (λ (x : List Act). AreTurns clients (history x) turns) r.acts_are are;
 }
 
--- and then the driver did something
-pub round_ends : (clients : List ℕ) (acts : List Act) (act : Act) → InTurns clients acts → IsDrivers act → InRounds clients (acts ++ act ∷ [])
-round_ends clients acts act t drivers = let round : OneRound = record { turns = t.turns; act = act } in record {
+-- and then the driver did one thing
+pub round_ends : (clients : List ℕ) (acts thing : List Act) → InTurns clients acts → IsOneThing thing → InRounds clients (acts ++ thing)
+round_ends clients acts thing t one = let round : OneRound = record { turns = t.turns; thing = thing } in record {
   rounds = t.rounds ++ round ∷ [];
-  acts_are = ap (λ (x : List Act). x ++ act ∷ []) t.acts_are ∙ append_assoc (acts_of t.rounds) t.turns (act ∷ []) ∙ sym (acts_more t.rounds round);
-  each = rounds_push clients [] t.rounds round t.each t.begun drivers;
+  acts_are = ap (λ (x : List Act). x ++ thing) t.acts_are ∙ append_assoc (acts_of t.rounds) t.turns thing ∙ sym (acts_more t.rounds round);
+  each = rounds_push clients [] t.rounds round t.each t.begun one;
 }

@@ -24,8 +24,8 @@ use Rattle.ob_desk.specs.Desk.{Part, txns_from, record_of, why_of, closing}
 use Rattle.ob_desk.specs.declared.clients.Holder.{Holder}
 use Rattle.ob_desk.specs.Replay.{map_after}
 use Rattle.ob_desk.proofs.Published.{batch_gives}
-use Rattle.ob_conduct.specs.Conducted.{after_txns, Makes}
-use Rattle.ob_conduct.specs.Moves.{IsFit, IsOrdered}
+use Rattle.ob_conduct.specs.Records.{after_txns, Makes}
+use Rattle.ob_conduct.specs.Ready.{IsFit, IsOrdered}
 
 -- ---- few
 

@@ -12,12 +12,12 @@ use Rattle.ob_desk.specs.Desk.{Call, Reply}
 use Rattle.ob_desk.specs.declared.calls.Look.{Look}
 use Rattle.ob_session.specs.Steps.{IsOwn}
 
--- A batch that was taken, fetched and delivered: keys in their places, none for a pad, and their values.
+-- A batch that was fetched and delivered: keys in their places, none for a pad, and their values.
 pub record Batch : Type 0 where
   pub keys : List (Option ℕ)
   pub values : List (Option (List ℕ))
 
--- One thing that was done. All but the first are the driver's; a look is what it saw before.
+-- What was done, act by act. All but the first are the driver's; a look is what it saw before.
 pub data Act : Type 0 where
   -- a client made these calls in a step
   Says : (client : ℕ) (steps : List (Call × Reply)) → Act
@@ -25,17 +25,22 @@ pub data Act : Type 0 where
   Halts : (fault : Fault) → Act
   -- nothing was done at this look
   Rests : (look : Look) → Act
-  -- a batch was fetched
-  Fetches : (look : Look) (batch : Batch) → Act
-  -- batches were fetched, and the vault refused one more with these keys
+  -- a batch was taken, with these keys,
+  Takes : (look : Look) (keys : List (Option ℕ)) → Act
+  -- and the vault read it, and it was delivered,
+  Delivers : (batch : Batch) → Act
+  -- or the vault refused it, and the desk was stopped
+  DeliverFails : (keys : List (Option ℕ)) (fault : Fault) → Act
+  -- to end the epoch batches were fetched, and the vault refused one more with these keys
   FetchFails : (look : Look) (batches : List Batch) (keys : List (Option ℕ)) (fault : Fault) → Act
-  -- The batches that were left were fetched, and the epoch closed, ended with these writes and published as this record, and its lines
-  -- were written. The next epoch has so many batches left.
-  Ends : (look : Look) (batches : List Batch) (writes : List (ℕ × Option (List ℕ))) (left : ℕ) (told : EpochRecord ℕ) → Act
-  -- the epoch was closed, and the vault refused its end
-  EndFails : (look : Look) (batches : List Batch) (writes : List (ℕ × Option (List ℕ))) (refused : EndErr) → Act
-  -- the epoch was ended and published, and the output failed at its lines
-  Unprinted : (look : Look) (batches : List Batch) (writes : List (ℕ × Option (List ℕ))) (left : ℕ) (told : EpochRecord ℕ) → Act
+  -- To end the epoch the batches that were left were fetched, and it was closed with these writes;
+  Closes : (look : Look) (batches : List Batch) (writes : List (ℕ × Option (List ℕ))) → Act
+  -- the vault ended it with them, and it was published as this record: the next epoch has so many batches left;
+  Publishes : (writes : List (ℕ × Option (List ℕ))) (left : ℕ) (told : EpochRecord ℕ) → Act
+  -- or the vault refused its end, or left it in doubt, and the desk was told
+  Refuses : (writes : List (ℕ × Option (List ℕ))) (refused : EndErr) → Act
+  -- the output failed at the lines of the record that was published last, and the desk was stopped
+  Unprinted : Act
 
 -- the calls of a look
 abbrev pub look_calls : Look → List (Call × Reply)
@@ -47,29 +52,41 @@ batch_calls batch = (desk.TakeBatch, desk.Batch batch.keys) ∷ (desk.Deliver ba
 abbrev pub rest_calls : List Batch → List (Call × Reply)
 rest_calls batches = flat_map batch_calls batches
 
--- A publish follows the end that succeeded, and names the epoch that runs.
-abbrev pub end_calls : List (ℕ × Option (List ℕ)) → ℕ → EpochRecord ℕ → List (Call × Reply)
-end_calls writes left told = (desk.Close, desk.Writes writes) ∷ (desk.Publish (suc told.epoch) left, desk.Published told) ∷ []
+-- what a desk is asked to close an epoch
+abbrev pub close_calls : List (ℕ × Option (List ℕ)) → List (Call × Reply)
+close_calls writes = (desk.Close, desk.Writes writes) ∷ []
 
--- Where the output fails behind it, the desk is stopped.
-abbrev pub unprinted_calls : List (ℕ × Option (List ℕ)) → ℕ → EpochRecord ℕ → List (Call × Reply)
-unprinted_calls writes left told = (desk.Close, desk.Writes writes) ∷ (desk.Publish (suc told.epoch) left, desk.Published told) ∷ (desk.Stop SinkFault, desk.Done) ∷ []
+-- A publish names the epoch that runs.
+abbrev pub publish_calls : ℕ → EpochRecord ℕ → List (Call × Reply)
+publish_calls left told = (desk.Publish (suc told.epoch) left, desk.Published told) ∷ []
 
 -- what the desk is told of an end that was refused
 abbrev pub stop_for : EndErr → Call
 stop_for (Before fault) = desk.Stop fault
 stop_for (Unsure fault) = desk.Unsure fault
 
+-- what the desk is told of a fault
+abbrev pub stop_calls : Fault → List (Call × Reply)
+stop_calls fault = (desk.Stop fault, desk.Done) ∷ []
+
+-- the fault of an end that was refused
+abbrev pub fault_in : EndErr → Fault
+fault_in (Before fault) = fault
+fault_in (Unsure fault) = fault
+
 -- the calls of the desk, with their replies
 abbrev pub desk_calls : Act → List (Call × Reply)
 desk_calls (Says client steps) = steps
 desk_calls (Halts fault) = (desk.IsStopped, desk.StoppedBy (Some fault)) ∷ []
 desk_calls (Rests look) = look_calls look
-desk_calls (Fetches look batch) = look_calls look ++ batch_calls batch
-desk_calls (FetchFails look batches keys fault) = look_calls look ++ rest_calls batches ++ (desk.TakeBatch, desk.Batch keys) ∷ (desk.Stop fault, desk.Done) ∷ []
-desk_calls (Ends look batches writes left told) = look_calls look ++ rest_calls batches ++ end_calls writes left told
-desk_calls (EndFails look batches writes refused) = look_calls look ++ rest_calls batches ++ (desk.Close, desk.Writes writes) ∷ (stop_for refused, desk.Done) ∷ []
-desk_calls (Unprinted look batches writes left told) = look_calls look ++ rest_calls batches ++ unprinted_calls writes left told
+desk_calls (Takes look keys) = look_calls look ++ (desk.TakeBatch, desk.Batch keys) ∷ []
+desk_calls (Delivers batch) = (desk.Deliver batch.keys batch.values, desk.Done) ∷ []
+desk_calls (DeliverFails keys fault) = stop_calls fault
+desk_calls (FetchFails look batches keys fault) = look_calls look ++ (rest_calls batches ++ (desk.TakeBatch, desk.Batch keys) ∷ (desk.Stop fault, desk.Done) ∷ [])
+desk_calls (Closes look batches writes) = look_calls look ++ (rest_calls batches ++ close_calls writes)
+desk_calls (Publishes writes left told) = publish_calls left told
+desk_calls (Refuses writes refused) = (stop_for refused, desk.Done) ∷ []
+desk_calls Unprinted = stop_calls SinkFault
 
 abbrev pub batch_fetch : Batch → VaultCall × VaultAnswer
 batch_fetch batch = (Fetch batch.keys, Values batch.values)
@@ -77,16 +94,19 @@ batch_fetch batch = (Fetch batch.keys, Values batch.values)
 abbrev pub rest_fetches : List Batch → List (VaultCall × VaultAnswer)
 rest_fetches batches = map batch_fetch batches
 
--- the calls of the vault, with their answers
+-- The calls of the vault, with their answers: a read stands with its delivery, and an end with what came of it.
 abbrev pub vault_calls : Act → List (VaultCall × VaultAnswer)
 vault_calls (Says client steps) = []
 vault_calls (Halts fault) = []
 vault_calls (Rests look) = []
-vault_calls (Fetches look batch) = batch_fetch batch ∷ []
+vault_calls (Takes look keys) = []
+vault_calls (Delivers batch) = batch_fetch batch ∷ []
+vault_calls (DeliverFails keys fault) = (Fetch keys, RefusedBy fault) ∷ []
 vault_calls (FetchFails look batches keys fault) = rest_fetches batches ++ (Fetch keys, RefusedBy fault) ∷ []
-vault_calls (Ends look batches writes left told) = rest_fetches batches ++ (End writes, Ended) ∷ []
-vault_calls (EndFails look batches writes refused) = rest_fetches batches ++ (End writes, end_answer (Err refused)) ∷ []
-vault_calls (Unprinted look batches writes left told) = rest_fetches batches ++ (End writes, Ended) ∷ []
+vault_calls (Closes look batches writes) = rest_fetches batches
+vault_calls (Publishes writes left told) = (End writes, Ended) ∷ []
+vault_calls (Refuses writes refused) = (End writes, end_answer (Err refused)) ∷ []
+vault_calls Unprinted = []
 
 -- all calls of the desk, in order
 abbrev pub history : List Act → List (Call × Reply)
@@ -115,11 +135,27 @@ IsToEnd look = ((look.queued ≡ 0) ⊎ (look.left ≡ 0)) × (0 < look.txns)
 -- What may be done: by a client, its own calls; by the driver, what its look allows.
 abbrev pub IsAllowed : (ℕ → ℕ → ℕ → ℕ → Bool) → Act → Type 0
 IsAllowed passes (Says client steps) = All (IsOwn client) steps
-IsAllowed passes (Halts fault) = Unit {0}
 IsAllowed passes (Rests look) = look.clients ≡ 0 → look.txns ≡ 0
-IsAllowed passes (Fetches look batch) = MayAct passes look × IsToFetch look
-IsAllowed passes (FetchFails look [] keys fault) = MayAct passes look × (IsToFetch look ⊎ IsToEnd look)
-IsAllowed passes (FetchFails look (batch ∷ batches) keys fault) = MayAct passes look × IsToEnd look
-IsAllowed passes (Ends look batches writes left told) = MayAct passes look × IsToEnd look
-IsAllowed passes (EndFails look batches writes refused) = MayAct passes look × IsToEnd look
-IsAllowed passes (Unprinted look batches writes left told) = MayAct passes look × IsToEnd look
+IsAllowed passes (Takes look keys) = MayAct passes look × IsToFetch look
+IsAllowed passes (FetchFails look batches keys fault) = MayAct passes look × IsToEnd look
+IsAllowed passes (Closes look batches writes) = MayAct passes look × IsToEnd look
+IsAllowed passes (Halts fault) = Unit {0}
+IsAllowed passes (Delivers batch) = Unit {0}
+IsAllowed passes (DeliverFails keys fault) = Unit {0}
+IsAllowed passes (Publishes writes left told) = Unit {0}
+IsAllowed passes (Refuses writes refused) = Unit {0}
+IsAllowed passes Unprinted = Unit {0}
+
+-- the fault that an act tells of
+abbrev pub fault_told : Act → Option Fault
+fault_told (Halts fault) = Some fault
+fault_told (DeliverFails keys fault) = Some fault
+fault_told (FetchFails look batches keys fault) = Some fault
+fault_told (Refuses writes refused) = Some (fault_in refused)
+fault_told Unprinted = Some SinkFault
+fault_told (Says client steps) = None
+fault_told (Rests look) = None
+fault_told (Takes look keys) = None
+fault_told (Delivers batch) = None
+fault_told (Closes look batches writes) = None
+fault_told (Publishes writes left told) = None

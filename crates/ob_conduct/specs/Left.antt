@@ -1,5 +1,5 @@
 -- What a crash leaves of a vault at any moment of a run.
-use Rattle.std.specs.Prelude.{ℕ, ◌≡◌, ◌⊎◌, ◌+◌, Bool, List, [], ◌∷◌, ◌++◌, length, Option, None, Some, Result, Err}
+use Rattle.std.specs.Prelude.{ℕ, ◌≡◌, ◌⊎◌, ◌+◌, List, [], ◌∷◌, ◌++◌, length, Option, None, Some, Result, Err}
 use Rattle.ob_base.specs.declared.fault.Fault.{Fault}
 use Rattle.ob_base.specs.declared.fault.Fault.TheVariants.{StoreFault}
 use Rattle.ob_report.specs.Printed.{Flow}
@@ -8,9 +8,12 @@ use Rattle.ob_serial.specs.Vaults.{VaultState, Standing, MayStand, StandsIn}
 use Rattle.ob_serial.specs.VaultKinds.{Kind}
 use Rattle.ob_store.specs.Disk.{Image}
 use Rattle.ob_store.specs.Images.{LeavesOnly}
-use Rattle.ob_desk.specs.Desk.{DeskState, Call, Reply}
-use Rattle.ob_conduct.specs.Acts.{records}
-use Rattle.ob_conduct.specs.Conducted.{contents, IsEndRefused, Conducted}
+use Rattle.ob_serial.specs.declared.vault.EndErr.{EndErr}
+use Rattle.ob_desk.specs.Desk.{record_of}
+use Rattle.ob_conduct.specs.Acts.{Act, Refuses, records}
+use Rattle.ob_conduct.specs.Scenes.{Scene, RunState}
+use Rattle.ob_conduct.specs.Records.{contents}
+use Rattle.ob_conduct.specs.Moves.{Failure, IsUnended}
 
 -- Each image that a crash may leave of a sound vault stands for what that allows.
 abbrev pub Rests : {V : Type 0} → Kind V → Type 0
@@ -40,18 +43,22 @@ TellsDoubt epoch result = result ≡ Err (StoreFault (Some epoch))
 abbrev pub IsLeftNow : VaultState → List (EpochRecord ℕ) → Option (EpochRecord ℕ) → Type 0 → Standing → Type 0
 IsLeftNow v told next doubt at = (at ≡ standing_behind v told) ⊎ ((r : EpochRecord ℕ) × (next ≡ Some r) × doubt × (at ≡ standing_behind v (told ++ r ∷ [])))
 
-module _ {V U Plan : Type 0} {k : Kind V} {passes : ℕ → ℕ → ℕ → ℕ → Bool} {client bound : U → ℕ} {plan : U → Plan} {fits : U → List (Call × Reply) → Type 0} {old new : DeskState} {first last : V} {before_runners after_runners : List U} {before after : Flow} {result : Result (Unit {0}) Fault} where
+-- The record of an epoch whose end these acts tell to be refused, or left in doubt.
+abbrev pub IsUnendedRecord : {V : Type 0} → {k : Kind V} → {old new : Scene V} → {acts : List Act} → {before after : Flow} → {fault : Fault} → Failure k old new acts before after fault → EpochRecord ℕ → Type 0
+IsUnendedRecord {k = k} {old = old} f r = (writes : List (ℕ × Option (List ℕ))) × (refused : EndErr) × (f.act ≡ Refuses writes refused) × (u : IsUnended k old f.front writes refused) × (record_of u.closed ≡ r)
+
+module _ {V U : Type 0} (k : Kind V) (old new : RunState V U) (acts : List Act) (result : Result (Unit {0}) Fault) where
   -- None: no epoch's end was begun behind those of the records. Some: the end of this record's epoch was, and was refused or left in
   -- doubt with the fault that is answered.
-  abbrev pub IsNextOf : Conducted k passes client bound plan fits old new first last before_runners after_runners before after result → Option (EpochRecord ℕ) → Type 0
-  IsNextOf d None = Unit {0}
-  IsNextOf d (Some r) = (fault : Fault) × (result ≡ Err fault) × (refused : IsEndRefused k first last old new d.acts fault) × (refused.due ≡ r)
+  abbrev pub IsNextOf : Option (EpochRecord ℕ) → Type 0
+  IsNextOf None = Unit {0}
+  IsNextOf (Some r) = (fault : Fault) × (result ≡ Err fault) × (failure : Failure k old.scene new.scene acts old.output new.output fault) × IsUnendedRecord failure r
 
   -- What a crash leaves of a vault that held v when the run began.
-  pub record LeftByRun (d : Conducted k passes client bound plan fits old new first last before_runners after_runners before after result) (v : VaultState) : Type 0 where
+  pub record LeftByRun (v : VaultState) : Type 0 where
     pub next : Option (EpochRecord ℕ)
-    pub is_next : IsNextOf d next
+    pub is_next : IsNextOf next
     -- at any moment of the run, from its first one on,
-    pub since : LeavesOnly (k.disk first) (k.disk last) (StandsIn (k.stands first) (IsLeftStanding v (records d.acts) next))
+    pub since : LeavesOnly (k.disk old.scene.vault) (k.disk new.scene.vault) (StandsIn (k.stands old.scene.vault) (IsLeftStanding v (records acts) next))
     -- and at its return
-    pub now : (c : Image) → (k.disk last).may_leave c → StandsIn (k.stands first) (IsLeftNow v (records d.acts) next (TellsDoubt (old.running.epoch + length (records d.acts)) result)) c
+    pub now : (c : Image) → (k.disk new.scene.vault).may_leave c → StandsIn (k.stands old.scene.vault) (IsLeftNow v (records acts) next (TellsDoubt (old.scene.desk.running.epoch + length (records acts)) result)) c

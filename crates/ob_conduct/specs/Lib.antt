@@ -1,6 +1,9 @@
 pub mod Acts
+pub mod Rounds
+pub mod Scenes
+pub mod Records
+pub mod Ready
+pub mod Moves
 pub mod Conducted
 pub mod Left
-pub mod Moves
 pub mod Quitting
-pub mod Rounds

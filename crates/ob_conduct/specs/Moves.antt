@@ -1,242 +1,144 @@
--- What stands between the acts of a run, and what each part of one does.
-use Rattle.std.specs.Prelude.{ℕ, suc, ◌≡◌, ◌⊎◌, ◌≤◌, ◌<◌, ◌+◌, Bool, false, All, List, [], ◌∷◌, ◌++◌, length, map, slice_get, Option, Some, None, Err, decimal}
-use Rattle.std.specs.List.{range_with_len}
-use Rattle.std.specs.List.Sorted.{IsStrictlyIncreasing}
+-- What each part of an act does, and each act.
+use Rattle.std.specs.Prelude.{ℕ, suc, ◌≡◌, ◌+◌, Bool, All, List, [], ◌∷◌, ◌++◌, length, map, Option, Some, Err, decimal}
 use Rattle.std.specs.Ordering.{nat_cmp}
 use Rattle.ob_base.specs.declared.params.Params.{Params}
 use Rattle.ob_base.specs.Causes.{Rose}
 use Rattle.ob_base.specs.declared.fault.Fault.{Fault}
-use Rattle.ob_base.specs.declared.fault.Fault.TheVariants.{Memory, SinkFault}
+use Rattle.ob_base.specs.declared.fault.Fault.TheVariants.{Memory}
 use Rattle.ob_report.specs.Printed.{Flow, IsPrinted}
-use Rattle.ob_report.specs.Report.{report, record_text}
+use Rattle.ob_report.specs.Report.{report}
+use Rattle.ob_store.specs.declared.watch.Note.{Note}
 use Rattle.ob_store.specs.Calls.{IsStoreFault}
+use Rattle.ob_store.specs.Lines.{Shows}
 use Rattle.ob_serial.specs.Serial.{EpochRecord, Map}
 use Rattle.ob_serial.specs.Vaults.{VaultCall, Fetch, End, VaultAnswer, Ended, RefusedBy, VaultCounts}
 use Rattle.ob_serial.specs.VaultViews.{IsFetchFault, IsEndFault, end_answer}
-use Rattle.ob_serial.specs.VaultKinds.{Kind, AllCalled, ended_of}
+use Rattle.ob_serial.specs.VaultKinds.{Kind, ended_of}
 use Rattle.ob_serial.specs.declared.vault.EndErr.{EndErr}
-use Rattle.ob_order.specs.Works.{Work, version}
-use Rattle.ob_order.specs.OrderModel.{IsKept}
 use Rattle.ob_desk.specs.Desk as desk
-use Rattle.ob_desk.specs.Desk.{DeskState, Setup, Call, Reply, Part, Run, MayOpen, new_desk, record_of, published}
-use Rattle.ob_desk.specs.declared.calls.Look.{Look}
+use Rattle.ob_desk.specs.Desk.{DeskState, Setup, Call, Reply, Part, Run, MayOpen, new_desk, record_of}
 use Rattle.ob_session.specs.Steps.{Leads, IsOwn}
 use Rattle.ob_session.specs.Clients.{said_by}
-use Rattle.ob_conduct.specs.Acts.{Act, Says, Halts, FetchFails, EndFails, Batch, history, look_calls, rest_calls, rest_fetches, end_calls, stop_for, desk_calls, vault_calls, IsAllowed}
-use Rattle.ob_conduct.specs.Rounds.{AreTurns, IsDrivers}
-use Rattle.ob_conduct.specs.Conducted.{HoldsMap, AreAnswered, AreWritten, Makes, IsWritten, fault_in}
+use Rattle.ob_conduct.specs.Acts.{Act, Says, Halts, Rests, Takes, Delivers, DeliverFails, FetchFails, Closes, Publishes, Refuses, Unprinted, Batch, history, calls, records, rest_calls, rest_fetches, close_calls, publish_calls, stop_for, fault_in, fault_told, IsAllowed}
+use Rattle.ob_conduct.specs.Rounds.{AreTurns, IsOneThing}
+use Rattle.ob_conduct.specs.Scenes.{Scene, AllNoted}
+use Rattle.ob_conduct.specs.Records.{HoldsMap, AreAnswered, IsWritten, IsCutShort}
+use Rattle.ob_conduct.specs.Ready.{IsReady, Tells, IsDue}
 
--- no key stands in it twice
-abbrev pub IsDistinct : List ℕ → Type 0
-IsDistinct queue = (i j key : ℕ) → slice_get queue i ≡ Some key → slice_get queue j ≡ Some key → i ≡ j
-
-abbrev pub IsBelow : ℕ → List ℕ → Type 0
-IsBelow n queue = (i key : ℕ) → slice_get queue i ≡ Some key → key < n
-
--- no key from n on has a version
-abbrev pub AreWithin : ℕ → List Work → Type 0
-AreWithin n works = (u key : ℕ) → n ≤ key → version works u key ≡ None
-
--- What always holds of a part: its batches and its writes are ones that a vault takes.
-pub record IsFit (p : Params) (part : Part) : Type 0 where
-  pub distinct : IsDistinct part.order.queue
-  pub below : IsBelow p.keys part.order.queue
-  pub kept : IsKept p part.order.works
-  pub within : AreWithin p.keys part.order.works
-  pub even : length part.holders ≡ length part.order.works
-
--- Between acts: no epoch is closed and no batch in flight, and the desk and the vault are at the same place of the same epoch.
-pub record IsReady (p : Params) (d : DeskState) (c : VaultCounts) : Type 0 where
-  pub params : d.setup.params ≡ p
-  pub none_closed : d.closed ≡ None
-  pub landed : d.running.order.flying ≡ []
-  pub epoch : d.running.epoch ≡ suc c.epoch
-  pub left : d.running.order.left ≡ c.left
-  pub serves : c.spent ≡ false
-  pub stop : (d.stop ≡ None) ⊎ (d.stop ≡ Some Memory)
-  pub fit : IsFit p d.running
-
--- These calls of the desk and of the vault lead from a desk and a vault to a desk and a vault.
-pub record Moves {V : Type 0} (k : Kind V) (old : DeskState) (first : V) (steps : List (Call × Reply)) (asked : List (VaultCall × VaultAnswer)) (new : DeskState) (last : V) : Type 0 where
-  pub leads : Leads old steps new
-  pub chain : AllCalled k first asked last
-  pub run : (m : Map nat_cmp) → HoldsMap k first m → (next : Map nat_cmp) × Run m old steps next new × HoldsMap k last next
+-- These calls of the desk and of the vault lead from one scene to another, and the notes of the vault's calls were shown.
+pub record Moves {V : Type 0} (k : Kind V) (old : Scene V) (steps : List (Call × Reply)) (asked : List (VaultCall × VaultAnswer)) (new : Scene V) : Type 0 where
+  pub leads : Leads old.desk steps new.desk
+  pub notes : List Note
+  pub chain : AllNoted k old.vault asked notes new.vault
+  pub shown : Shows notes old.trace new.trace
+  pub run : (m : Map nat_cmp) → HoldsMap k old.vault m → (next : Map nat_cmp) × Run m old.desk steps next new.desk × HoldsMap k new.vault next
 
 -- Batches were taken, fetched and delivered, and nothing else changed.
-pub record Reads {V : Type 0} (k : Kind V) (p : Params) (old : DeskState) (first : V) (batches : List Batch) (new : DeskState) (last : V) (c : VaultCounts) : Type 0 where
-  pub moves : Moves k old first (rest_calls batches) (rest_fetches batches) new last
-  pub ready : IsReady p new c
-  pub same_epoch : new.running.epoch ≡ old.running.epoch
-  pub same_stop : new.stop ≡ old.stop
+pub record Reads {V : Type 0} (k : Kind V) (p : Params) (old : Scene V) (batches : List Batch) (new : Scene V) (c : VaultCounts) : Type 0 where
+  pub moves : Moves k old (rest_calls batches) (rest_fetches batches) new
+  pub ready : IsReady p new.desk c
+  pub same_epoch : new.desk.running.epoch ≡ old.desk.running.epoch
+  pub same_stop : new.desk.stop ≡ old.desk.stop
 
 -- Batches were, and one more was refused.
-pub record ReadFails {V : Type 0} (k : Kind V) (old : DeskState) (first : V) (batches : List Batch) (fault : Fault) (new : DeskState) (last : V) : Type 0 where
+pub record ReadFails {V : Type 0} (k : Kind V) (old : Scene V) (batches : List Batch) (fault : Fault) (new : Scene V) : Type 0 where
   pub keys : List (Option ℕ)
-  pub moves : Moves k old first (rest_calls batches ++ (desk.TakeBatch, desk.Batch keys) ∷ (desk.Stop fault, desk.Done) ∷ []) (rest_fetches batches ++ (Fetch keys, RefusedBy fault) ∷ []) new last
+  pub moves : Moves k old (rest_calls batches ++ (desk.TakeBatch, desk.Batch keys) ∷ (desk.Stop fault, desk.Done) ∷ []) (rest_fetches batches ++ (Fetch keys, RefusedBy fault) ∷ []) new
   pub is_fault : IsFetchFault fault
-  pub cause : IsStoreFault fault → Rose (k.disk first).faults (k.disk last).faults
-  pub stopped : new.stop ≡ Some fault
+  pub cause : IsStoreFault fault → Rose (k.disk old.vault).faults (k.disk new.vault).faults
+  pub stopped : new.desk.stop ≡ Some fault
 
--- The record's tickets rise, and its transactions are of its epoch.
-pub record IsOrdered (told : EpochRecord ℕ) : Type 0 where
-  pub tickets : IsStrictlyIncreasing (map (λ t. t.ticket) told.txns)
-  pub named : All (λ t. t.epoch ≡ told.epoch) told.txns
-
--- These are the records of the epochs from one number up to another, which had these writes.
-pub record Tells (epoch next : ℕ) (writes : List (List (ℕ × Option (List ℕ)))) (told : List (EpochRecord ℕ)) : Type 0 where
-  pub counted : next ≡ epoch + length told
-  pub numbered : map (λ r. r.epoch) told ≡ range_with_len epoch (length told)
-  pub ordered : All IsOrdered told
-  pub written : AreWritten writes told
-
--- The record of an epoch that the desk closed with these writes.
-pub record IsDue (epoch : ℕ) (writes : List (ℕ × Option (List ℕ))) (due : EpochRecord ℕ) : Type 0 where
-  pub epoch_is : due.epoch ≡ epoch
-  pub ordered : IsOrdered due
-  pub makes : Makes writes due
+-- The desk closed its epoch with these writes.
+pub record IsClosed {V : Type 0} (k : Kind V) (old : Scene V) (writes : List (ℕ × Option (List ℕ))) (new : Scene V) : Type 0 where
+  pub moves : Moves k old (close_calls writes) [] new
+  pub part : Part
+  pub is_closed : new.desk.closed ≡ Some part
+  pub due : IsDue old.desk.running.epoch writes (record_of part)
 
 -- The epoch was closed, ended and published.
-pub record Closes {V : Type 0} (k : Kind V) (p : Params) (old : DeskState) (first : V) (told : EpochRecord ℕ) (new : DeskState) (last : V) (c : VaultCounts) : Type 0 where
+pub record IsEnded {V : Type 0} (k : Kind V) (p : Params) (old : Scene V) (told : EpochRecord ℕ) (new : Scene V) (c : VaultCounts) : Type 0 where
   pub writes : List (ℕ × Option (List ℕ))
   pub left : ℕ
-  pub moves : Moves k old first (end_calls writes left told) ((End writes, Ended) ∷ []) new last
-  pub ready : IsReady p new c
-  pub due : IsDue old.running.epoch writes told
-  pub next_epoch : new.running.epoch ≡ suc old.running.epoch
-  pub same_stop : new.stop ≡ old.stop
+  pub mid : Scene V
+  pub closed : IsClosed k old writes mid
+  pub moves : Moves k mid (publish_calls left told) ((End writes, Ended) ∷ []) new
+  pub due : IsDue old.desk.running.epoch writes told
+  pub ready : IsReady p new.desk c
+  pub next_epoch : new.desk.running.epoch ≡ suc old.desk.running.epoch
+  pub same_stop : new.desk.stop ≡ old.desk.stop
 
 -- The epoch was closed, and its end refused or left in doubt.
-pub record CloseFails {V : Type 0} (k : Kind V) (old : DeskState) (first : V) (fault : Fault) (new : DeskState) (last : V) : Type 0 where
+pub record EndFails {V : Type 0} (k : Kind V) (old : Scene V) (fault : Fault) (new : Scene V) : Type 0 where
   pub writes : List (ℕ × Option (List ℕ))
   pub refused : EndErr
-  pub moves : Moves k old first ((desk.Close, desk.Writes writes) ∷ (stop_for refused, desk.Done) ∷ []) ((End writes, end_answer (Err refused)) ∷ []) new last
+  pub mid : Scene V
+  pub closed : IsClosed k old writes mid
+  pub moves : Moves k mid ((stop_for refused, desk.Done) ∷ []) ((End writes, end_answer (Err refused)) ∷ []) new
   pub fault_is : fault ≡ fault_in refused
-  pub is_fault : IsEndFault old.running.epoch refused
-  pub cause : IsStoreFault fault → Rose (k.disk first).faults (k.disk last).faults
-  pub stopped : new.stop ≡ Some fault
-  pub closed_desk : DeskState
-  pub closed : Part
-  pub led : Leads old ((desk.Close, desk.Writes writes) ∷ []) closed_desk
-  pub is_closed : closed_desk.closed ≡ Some closed
-  pub due : IsDue old.running.epoch writes (record_of closed)
+  pub is_fault : IsEndFault old.desk.running.epoch refused
+  pub cause : IsStoreFault fault → Rose (k.disk old.vault).faults (k.disk new.vault).faults
+  pub stopped : new.desk.stop ≡ Some fault
 
--- The batches that were left were fetched, the epoch was ended, and its lines were written.
-pub record EpochEnds {V : Type 0} (k : Kind V) (p : Params) (old : DeskState) (first : V) (before : Flow) (new : DeskState) (last : V) (c : VaultCounts) (after : Flow) : Type 0 where
-  pub batches : List Batch
-  pub mid : DeskState
-  pub mid_vault : V
-  pub mid_counts : VaultCounts
-  pub told : EpochRecord ℕ
-  pub read : Reads k p old first batches mid mid_vault mid_counts
-  pub closed : Closes k p mid mid_vault told new last c
-  pub written : IsWritten (record_text decimal told) before after
-
--- It was not: a batch was refused, or the end was, or the output failed at the lines and the desk was stopped.
-pub record EpochUnread {V : Type 0} (k : Kind V) (old : DeskState) (first : V) (before : Flow) (fault : Fault) (new : DeskState) (last : V) (after : Flow) : Type 0 where
-  pub batches : List Batch
-  pub fails : ReadFails k old first batches fault new last
-  pub silent : after ≡ before
-
-pub record EpochUnended {V : Type 0} (k : Kind V) (p : Params) (old : DeskState) (first : V) (before : Flow) (fault : Fault) (new : DeskState) (last : V) (after : Flow) : Type 0 where
-  pub batches : List Batch
-  pub mid : DeskState
-  pub mid_vault : V
-  pub mid_counts : VaultCounts
-  pub read : Reads k p old first batches mid mid_vault mid_counts
-  pub fails : CloseFails k mid mid_vault fault new last
-  pub silent : after ≡ before
-
-pub record EpochUnwritten {V : Type 0} (k : Kind V) (p : Params) (old : DeskState) (first : V) (before : Flow) (fault : Fault) (new : DeskState) (last : V) (after : Flow) : Type 0 where
-  pub batches : List Batch
-  pub mid : DeskState
-  pub mid_vault : V
-  pub mid_counts : VaultCounts
-  pub told : EpochRecord ℕ
-  pub closed_desk : DeskState
-  pub closed_counts : VaultCounts
-  pub read : Reads k p old first batches mid mid_vault mid_counts
-  pub closed : Closes k p mid mid_vault told closed_desk last closed_counts
-  pub halt : desk.DeskStep closed_desk (desk.Stop SinkFault) desk.Done new
-  pub fault_is : fault ≡ SinkFault
-  pub printed : IsPrinted before after (record_text decimal told)
-  pub rose : Rose before.faults after.faults
-  pub stopped : new.stop ≡ Some SinkFault
-
-abbrev pub EpochFails : {V : Type 0} → Kind V → Params → DeskState → V → Flow → Fault → DeskState → V → Flow → Type 0
-EpochFails k p old first before fault new last after =
-    EpochUnread k old first before fault new last after
-    ⊎ EpochUnended k p old first before fault new last after
-    ⊎ EpochUnwritten k p old first before fault new last after
-
--- An act that nobody refused.
-pub record Acted {V : Type 0} (k : Kind V) (p : Params) (passes : ℕ → ℕ → ℕ → ℕ → Bool) (old : DeskState) (first : V) (before : Flow) (new : DeskState) (last : V) (c : VaultCounts) (after : Flow) : Type 0 where
-  pub act : Act
-  pub allowed : IsAllowed passes act
-  pub moves : Moves k old first (desk_calls act) (vault_calls act) new last
+-- A thing that the driver did, which nobody refused.
+pub record Acted {V : Type 0} (k : Kind V) (p : Params) (passes : ℕ → ℕ → ℕ → ℕ → Bool) (old : Scene V) (before : Flow) (new : Scene V) (c : VaultCounts) (after : Flow) : Type 0 where
+  pub thing : List Act
+  pub one : IsOneThing thing
+  pub allowed : All (IsAllowed passes) thing
+  pub moves : Moves k old (history thing) (calls thing) new
   -- it is no client's
-  pub drivers : IsDrivers act
-  pub quiet : (client : ℕ) → said_by client (desk_calls act) ≡ []
-  pub ready : IsReady p new c
-  pub answered : AreAnswered (vault_calls act)
-  pub told : Tells old.running.epoch new.running.epoch (ended_of (vault_calls act)) (published (desk_calls act))
-  pub written : IsWritten (report decimal (published (desk_calls act))) before after
+  pub quiet : (client : ℕ) → said_by client (history thing) ≡ []
+  pub ready : IsReady p new.desk c
+  pub answered : AreAnswered (calls thing)
+  pub told : Tells old.desk.running.epoch new.desk.running.epoch (ended_of (calls thing)) (records thing)
+  pub written : IsWritten (report decimal (records thing)) before after
 
--- The last act of a run that fails.
-pub record LastAct {V : Type 0} (k : Kind V) (passes : ℕ → ℕ → ℕ → ℕ → Bool) (old : DeskState) (first : V) (before : Flow) (act : Act) (new : DeskState) (last : V) (after : Flow) : Type 0 where
-  pub allowed : IsAllowed passes act
-  pub moves : Moves k old first (desk_calls act) (vault_calls act) new last
-  pub drivers : IsDrivers act
-  pub quiet : (client : ℕ) → said_by client (desk_calls act) ≡ []
-  pub next : ℕ
-  pub told : Tells old.running.epoch next (ended_of (vault_calls act)) (published (desk_calls act))
-  pub printed : IsPrinted before after (report decimal (published (desk_calls act)))
-
--- How it does: the desk was found stopped,
-pub record IsHalted (old new : DeskState) (act : Act) (before after : Flow) (fault : Fault) : Type 0 where
-  pub act_is : act ≡ Halts Memory
-  pub fault_is : fault ≡ Memory
-  pub silent : after ≡ before
-
--- or a batch was refused,
-pub record IsUnread {V : Type 0} (k : Kind V) (first last : V) (new : DeskState) (act : Act) (before after : Flow) (fault : Fault) : Type 0 where
-  pub look : Look
-  pub batches : List Batch
-  pub keys : List (Option ℕ)
-  pub act_is : act ≡ FetchFails look batches keys fault
-  pub is_fault : IsFetchFault fault
-  pub cause : IsStoreFault fault → Rose (k.disk first).faults (k.disk last).faults
-  pub stopped : new.stop ≡ Some fault
-  pub silent : after ≡ before
-
--- or the end was,
-pub record IsUnended {V : Type 0} (k : Kind V) (first last : V) (old new : DeskState) (act : Act) (before after : Flow) (fault : Fault) : Type 0 where
-  pub look : Look
-  pub batches : List Batch
-  pub writes : List (ℕ × Option (List ℕ))
-  pub refused : EndErr
-  pub act_is : act ≡ EndFails look batches writes refused
-  pub fault_is : fault ≡ fault_in refused
-  pub is_fault : IsEndFault old.running.epoch refused
-  pub cause : IsStoreFault fault → Rose (k.disk first).faults (k.disk last).faults
-  pub stopped : new.stop ≡ Some fault
-  pub silent : after ≡ before
-  pub closed_desk : DeskState
+-- The epoch that is closed behind these acts, and whose end was refused or left in doubt. Its record is `record_of closed`.
+pub record IsUnended {V : Type 0} (k : Kind V) (old : Scene V) (front : List Act) (writes : List (ℕ × Option (List ℕ))) (refused : EndErr) : Type 0 where
+  pub mid : Scene V
+  pub moves : Moves k old (history front) (calls front) mid
   pub closed : Part
-  pub led : (m : Map nat_cmp) → HoldsMap k first m → (next : Map nat_cmp) × Run m old (look_calls look ++ rest_calls batches ++ (desk.Close, desk.Writes writes) ∷ []) next closed_desk
-  pub leads : Leads old (look_calls look ++ rest_calls batches ++ (desk.Close, desk.Writes writes) ∷ []) closed_desk
-  pub is_closed : closed_desk.closed ≡ Some closed
-  pub due : IsDue old.running.epoch writes (record_of closed)
+  pub is_closed : mid.desk.closed ≡ Some closed
+  pub due : IsDue (old.desk.running.epoch + length (records front)) writes (record_of closed)
+  pub is_fault : IsEndFault (old.desk.running.epoch + length (records front)) refused
 
--- or the output failed.
-pub record IsUnwritten (new : DeskState) (act : Act) (before after : Flow) (fault : Fault) : Type 0 where
-  pub answered : AreAnswered (vault_calls act)
-  pub fault_is : fault ≡ SinkFault
-  pub rose : Rose before.faults after.faults
-  pub stopped : new.stop ≡ Some SinkFault
+-- What stands behind the fault that an act tells of: a client found no memory; the vault refused a batch, or an end; or the output failed.
+abbrev pub IsReason : {V : Type 0} → Kind V → Scene V → List Act → Act → Type 0
+IsReason k old front (Halts fault) = fault ≡ Memory
+IsReason k old front (DeliverFails keys fault) = IsFetchFault fault
+IsReason k old front (FetchFails look batches keys fault) = IsFetchFault fault
+IsReason k old front (Refuses writes refused) = IsUnended k old front writes refused
+IsReason k old front Unprinted = Unit {0}
+IsReason k old front _ = ⊥
 
-abbrev pub ActFails : {V : Type 0} → Kind V → (ℕ → ℕ → ℕ → ℕ → Bool) → DeskState → V → Flow → Fault → DeskState → V → Flow → Type 0
-ActFails k passes old first before fault new last after = (act : Act) × LastAct k passes old first before act new last after
-    × (IsHalted old new act before after fault ⊎ IsUnread k first last new act before after fault ⊎ IsUnended k first last old new act before after fault ⊎ IsUnwritten new act before after fault)
+-- All lines are written; where the output failed, all but those of the last record.
+abbrev pub AreLines : Act → List (EpochRecord ℕ) → Flow → Flow → Type 0
+AreLines Unprinted told before after = IsCutShort told before after
+AreLines _ told before after = IsWritten (report decimal told) before after
+
+-- Acts of which the last one tells of a fault: nobody refused those before it, and the desk is stopped with that fault. The vault refused
+-- by its store only where its count of faults rose.
+pub record Failure {V : Type 0} (k : Kind V) (old new : Scene V) (acts : List Act) (before after : Flow) (fault : Fault) : Type 0 where
+  pub front : List Act
+  pub act : Act
+  pub acts_are : acts ≡ front ++ act ∷ []
+  pub answered : AreAnswered (calls front)
+  pub told : fault_told act ≡ Some fault
+  pub reason : IsReason k old front act
+  pub cause : IsStoreFault fault → Rose (k.disk old.vault).faults (k.disk new.vault).faults
+  pub stopped : new.desk.stop ≡ Some fault
+  pub lines : AreLines act (records acts) before after
+
+-- The last thing that the driver did in a run that fails.
+pub record ActFails {V : Type 0} (k : Kind V) (passes : ℕ → ℕ → ℕ → ℕ → Bool) (old : Scene V) (before : Flow) (fault : Fault) (new : Scene V) (after : Flow) : Type 0 where
+  pub thing : List Act
+  pub one : IsOneThing thing
+  pub allowed : All (IsAllowed passes) thing
+  pub moves : Moves k old (history thing) (calls thing) new
+  pub quiet : (client : ℕ) → said_by client (history thing) ≡ []
+  pub next : ℕ
+  pub told : Tells old.desk.running.epoch next (ended_of (calls thing)) (records thing)
+  pub printed : IsPrinted before after (report decimal (records thing))
+  pub failure : Failure k old new thing before after fault
 
 -- a client's own calls
 abbrev pub IsSaid : Act → Type 0

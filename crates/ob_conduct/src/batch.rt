@@ -1,20 +1,23 @@
 ghost use Rattle.std.specs.Prelude.{◌≡◌, ◌<◌, ℕ, length, [], ◌∷◌, List, None, IfErr, OnOk};
 ghost use Rattle.ob_serial.specs.VaultKinds.{kind_of};
 ghost use Rattle.ob_conduct.specs.Acts.{Batch};
-ghost use Rattle.ob_conduct.specs.Moves.{IsReady, Reads, ReadFails};
+ghost use Rattle.ob_conduct.specs.Scenes.{scene};
+ghost use Rattle.ob_conduct.specs.Ready.{IsReady};
+ghost use Rattle.ob_conduct.specs.Moves.{Reads, ReadFails};
 
 use ob_base::{Fault, Key, Params, Value};
 use ob_desk::Desk;
 use ob_serial::Vault;
-use ob_store::Blind;
+use ob_store::Watch;
 
 /// Takes a batch of the desk, fetches it from the vault and delivers it.
 ///
 /// # Errors
 /// The vault refused, and the desk is stopped.
-fn read_batch<V: Vault>(
+fn read_batch<V: Vault, W: Watch>(
     desk: &mut Desk,
     vault: &mut V,
+    watch: &mut W,
     asks: &mut [Option<Key>],
     found: &mut [Option<Value>],
 ) -> Result<(), Fault>
@@ -26,12 +29,12 @@ fn read_batch<V: Vault>(
     ensures params { V.params vault.new ≡ V.params vault.old }
     ensures places { length asks.new ≡ (V.params vault.old).places }
     ensures room { length found.new ≡ (V.params vault.old).places }
-    ensures read { OnOk result ((batch : Batch) × Reads (kind_of V.holds V.sound V.stands V.disk V.called) (V.params vault.old) desk.old vault.old (batch ∷ []) desk.new vault.new (V.counts vault.new)) }
+    ensures read { OnOk result ((batch : Batch) × Reads (kind_of V.holds V.sound V.stands V.disk V.called) (V.params vault.old) (scene desk.old vault.old (W.trace watch.old)) (batch ∷ []) (scene desk.new vault.new (W.trace watch.new)) (V.counts vault.new)) }
     ensures less { OnOk result ((V.counts vault.new).left < (V.counts vault.old).left) }
-    ensures refused { IfErr result (λ fault. ReadFails (kind_of V.holds V.sound V.stands V.disk V.called) desk.old vault.old [] fault desk.new vault.new) }
+    ensures refused { IfErr result (λ fault. ReadFails (kind_of V.holds V.sound V.stands V.disk V.called) (scene desk.old vault.old (W.trace watch.old)) [] fault (scene desk.new vault.new (W.trace watch.new))) }
 {
     desk.take_batch(asks);
-    match vault.fetch(asks, found, &mut Blind) {
+    match vault.fetch(asks, found, watch) {
         Ok(()) => {
             desk.deliver(asks, found);
             Ok(())
@@ -47,25 +50,37 @@ fn read_batch<V: Vault>(
 ///
 /// # Errors
 /// The vault refused, and the desk is stopped.
-pub fn fetch_batch<V: Vault>(params: &Params, desk: &mut Desk, vault: &mut V) -> Result<(), Fault>
+pub fn fetch_batch<V: Vault, W: Watch>(
+    params: &Params,
+    desk: &mut Desk,
+    vault: &mut V,
+    watch: &mut W,
+) -> Result<(), Fault>
     requires params { V.params vault.old ≡ params.now }
     requires ready { IsReady params.now desk.old (V.counts vault.old) }
     requires goes_on { desk.old.stop ≡ None }
     requires some_left { 0 < (V.counts vault.old).left }
     ensures params { V.params vault.new ≡ params.now }
-    ensures read { OnOk result ((batch : Batch) × Reads (kind_of V.holds V.sound V.stands V.disk V.called) params.now desk.old vault.old (batch ∷ []) desk.new vault.new (V.counts vault.new)) }
-    ensures refused { IfErr result (λ fault. ReadFails (kind_of V.holds V.sound V.stands V.disk V.called) desk.old vault.old [] fault desk.new vault.new) }
+    ensures read { OnOk result ((batch : Batch) × Reads (kind_of V.holds V.sound V.stands V.disk V.called) params.now (scene desk.old vault.old (W.trace watch.old)) (batch ∷ []) (scene desk.new vault.new (W.trace watch.new)) (V.counts vault.new)) }
+    ensures refused { IfErr result (λ fault. ReadFails (kind_of V.holds V.sound V.stands V.disk V.called) (scene desk.old vault.old (W.trace watch.old)) [] fault (scene desk.new vault.new (W.trace watch.new))) }
 {
     let places = params.places as usize;
     let mut asks: [Option<Key>; 64] = [None; 64];
     let mut found: [Option<Value>; 64] = [None; 64];
-    read_batch(desk, vault, &mut asks[..places], &mut found[..places])
+    read_batch(
+        desk,
+        vault,
+        watch,
+        &mut asks[..places],
+        &mut found[..places],
+    )
 }
 
 // Takes, fetches and delivers each batch that is left.
-fn read_rest<V: Vault>(
+fn read_rest<V: Vault, W: Watch>(
     desk: &mut Desk,
     vault: &mut V,
+    watch: &mut W,
     asks: &mut [Option<Key>],
     found: &mut [Option<Value>],
 ) -> Result<(), Fault>
@@ -74,12 +89,12 @@ fn read_rest<V: Vault>(
     requires places { length asks.old ≡ (V.params vault.old).places }
     requires room { length found.old ≡ (V.params vault.old).places }
     ensures params { V.params vault.new ≡ V.params vault.old }
-    ensures read { OnOk result ((batches : List Batch) × Reads (kind_of V.holds V.sound V.stands V.disk V.called) (V.params vault.old) desk.old vault.old batches desk.new vault.new (V.counts vault.new)) }
+    ensures read { OnOk result ((batches : List Batch) × Reads (kind_of V.holds V.sound V.stands V.disk V.called) (V.params vault.old) (scene desk.old vault.old (W.trace watch.old)) batches (scene desk.new vault.new (W.trace watch.new)) (V.counts vault.new)) }
     ensures none_left { OnOk result ((V.counts vault.new).left ≡ 0) }
-    ensures refused { IfErr result (λ fault. (batches : List Batch) × ReadFails (kind_of V.holds V.sound V.stands V.disk V.called) desk.old vault.old batches fault desk.new vault.new) }
+    ensures refused { IfErr result (λ fault. (batches : List Batch) × ReadFails (kind_of V.holds V.sound V.stands V.disk V.called) (scene desk.old vault.old (W.trace watch.old)) batches fault (scene desk.new vault.new (W.trace watch.new))) }
 {
     while vault.left() > 0 {
-        match read_batch(desk, vault, asks, found) {
+        match read_batch(desk, vault, watch, asks, found) {
             Ok(()) => {}
             Err(fault) => return Err(fault),
         }
@@ -91,17 +106,28 @@ fn read_rest<V: Vault>(
 ///
 /// # Errors
 /// The vault refused, and the desk is stopped.
-pub fn fetch_rest<V: Vault>(params: &Params, desk: &mut Desk, vault: &mut V) -> Result<(), Fault>
+pub fn fetch_rest<V: Vault, W: Watch>(
+    params: &Params,
+    desk: &mut Desk,
+    vault: &mut V,
+    watch: &mut W,
+) -> Result<(), Fault>
     requires params { V.params vault.old ≡ params.now }
     requires ready { IsReady params.now desk.old (V.counts vault.old) }
     requires goes_on { desk.old.stop ≡ None }
     ensures params { V.params vault.new ≡ params.now }
-    ensures read { OnOk result ((batches : List Batch) × Reads (kind_of V.holds V.sound V.stands V.disk V.called) params.now desk.old vault.old batches desk.new vault.new (V.counts vault.new)) }
+    ensures read { OnOk result ((batches : List Batch) × Reads (kind_of V.holds V.sound V.stands V.disk V.called) params.now (scene desk.old vault.old (W.trace watch.old)) batches (scene desk.new vault.new (W.trace watch.new)) (V.counts vault.new)) }
     ensures none_left { OnOk result ((V.counts vault.new).left ≡ 0) }
-    ensures refused { IfErr result (λ fault. (batches : List Batch) × ReadFails (kind_of V.holds V.sound V.stands V.disk V.called) desk.old vault.old batches fault desk.new vault.new) }
+    ensures refused { IfErr result (λ fault. (batches : List Batch) × ReadFails (kind_of V.holds V.sound V.stands V.disk V.called) (scene desk.old vault.old (W.trace watch.old)) batches fault (scene desk.new vault.new (W.trace watch.new))) }
 {
     let places = params.places as usize;
     let mut asks: [Option<Key>; 64] = [None; 64];
     let mut found: [Option<Value>; 64] = [None; 64];
-    read_rest(desk, vault, &mut asks[..places], &mut found[..places])
+    read_rest(
+        desk,
+        vault,
+        watch,
+        &mut asks[..places],
+        &mut found[..places],
+    )
 }

@@ -1,8 +1,13 @@
-ghost use Rattle.std.specs.Prelude.{◌≡◌, ◌≤◌, ℕ, None, IfOk, IfErr, OnOk, vec_capacity};
+ghost use Rattle.std.specs.Prelude.{◌≡◌, ◌≤◌, ℕ, Bool, None, IfOk, IfErr, OnOk, vec_capacity};
 ghost use Rattle.ob_report.specs.Printed.{flow};
 ghost use Rattle.ob_serial.specs.Views.{record_of};
 ghost use Rattle.ob_serial.specs.VaultKinds.{kind_of};
-ghost use Rattle.ob_conduct.specs.Moves.{IsReady, Closes, CloseFails, EpochEnds, EpochFails};
+ghost use Rattle.ob_desk.specs.Desk.{look_at};
+ghost use Rattle.ob_desk.specs.declared.calls.Look.{Look as Seen};
+ghost use Rattle.ob_conduct.specs.Acts.{MayAct, IsToEnd};
+ghost use Rattle.ob_conduct.specs.Scenes.{scene};
+ghost use Rattle.ob_conduct.specs.Ready.{IsReady};
+ghost use Rattle.ob_conduct.specs.Moves.{IsEnded, EndFails, Acted, ActFails};
 
 use crate::batch::fetch_rest;
 use ob_base::{Failed, Fault, Key, Params, Write};
@@ -10,13 +15,14 @@ use ob_desk::Desk;
 use ob_io::Sink;
 use ob_report::text;
 use ob_serial::{EndErr, EpochRecord, Vault};
-use ob_store::Blind;
+use ob_store::Watch;
 
 // Closes the epoch, ends it in the vault with its writes, and publishes it: its record.
-fn close<V: Vault>(
+fn close<V: Vault, W: Watch>(
     params: &Params,
     desk: &mut Desk,
     vault: &mut V,
+    watch: &mut W,
     writes: &mut Vec<Write>,
 ) -> Result<EpochRecord<Key>, Fault>
     requires params { V.params vault.old ≡ params.now }
@@ -26,11 +32,11 @@ fn close<V: Vault>(
     requires room { params.now.writes ≤ vec_capacity writes.old }
     ensures params { V.params vault.new ≡ params.now }
     ensures room { vec_capacity writes.old ≤ vec_capacity writes.new }
-    ensures closed { IfOk result (λ told. Closes (kind_of V.holds V.sound V.stands V.disk V.called) params.now desk.old vault.old (record_of told) desk.new vault.new (V.counts vault.new)) }
-    ensures refused { IfErr result (λ fault. CloseFails (kind_of V.holds V.sound V.stands V.disk V.called) desk.old vault.old fault desk.new vault.new) }
+    ensures ended { IfOk result (λ told. IsEnded (kind_of V.holds V.sound V.stands V.disk V.called) params.now (scene desk.old vault.old (W.trace watch.old)) (record_of told) (scene desk.new vault.new (W.trace watch.new)) (V.counts vault.new)) }
+    ensures refused { IfErr result (λ fault. EndFails (kind_of V.holds V.sound V.stands V.disk V.called) (scene desk.old vault.old (W.trace watch.old)) fault (scene desk.new vault.new (W.trace watch.new))) }
 {
     desk.close(writes);
-    match vault.end(writes, &mut Blind) {
+    match vault.end(writes, watch) {
         Ok(()) => Ok(desk.publish(vault.epoch() + 1, params.batches)),
         Err(EndErr::Before(fault)) => {
             desk.stop(fault);
@@ -47,10 +53,11 @@ fn close<V: Vault>(
 ///
 /// # Errors
 /// The vault refused, or the output failed. The desk is stopped.
-pub fn end_epoch<V: Vault, O: Sink>(
+pub fn end_epoch<V: Vault, W: Watch, O: Sink>(
     params: &Params,
     desk: &mut Desk,
     vault: &mut V,
+    watch: &mut W,
     output: &mut O,
     writes: &mut Vec<Write>,
 ) -> Result<(), Fault>
@@ -60,14 +67,17 @@ pub fn end_epoch<V: Vault, O: Sink>(
     requires room { params.now.writes ≤ vec_capacity writes.old }
     ensures params { V.params vault.new ≡ params.now }
     ensures room { vec_capacity writes.old ≤ vec_capacity writes.new }
-    ensures ended { OnOk result (EpochEnds (kind_of V.holds V.sound V.stands V.disk V.called) params.now desk.old vault.old (flow (O.written output.old) (O.faults output.old)) desk.new vault.new (V.counts vault.new) (flow (O.written output.new) (O.faults output.new))) }
-    ensures refused { IfErr result (λ fault. EpochFails (kind_of V.holds V.sound V.stands V.disk V.called) params.now desk.old vault.old (flow (O.written output.old) (O.faults output.old)) fault desk.new vault.new (flow (O.written output.new) (O.faults output.new))) }
+    // At a look that shows the desk as it was, and allows it, this is a thing that the driver does.
+    ensures ended { (passes : ℕ → ℕ → ℕ → ℕ → Bool) (look : Seen) → look ≡ look_at desk.old → MayAct passes look → IsToEnd look
+        → OnOk result (Acted (kind_of V.holds V.sound V.stands V.disk V.called) params.now passes (scene desk.old vault.old (W.trace watch.old)) (flow (O.written output.old) (O.faults output.old)) (scene desk.new vault.new (W.trace watch.new)) (V.counts vault.new) (flow (O.written output.new) (O.faults output.new))) }
+    ensures refused { (passes : ℕ → ℕ → ℕ → ℕ → Bool) (look : Seen) → look ≡ look_at desk.old → MayAct passes look → IsToEnd look
+        → IfErr result (λ fault. ActFails (kind_of V.holds V.sound V.stands V.disk V.called) passes (scene desk.old vault.old (W.trace watch.old)) (flow (O.written output.old) (O.faults output.old)) fault (scene desk.new vault.new (W.trace watch.new)) (flow (O.written output.new) (O.faults output.new))) }
 {
-    match fetch_rest(params, desk, vault) {
+    match fetch_rest(params, desk, vault, watch) {
         Ok(()) => {}
         Err(fault) => return Err(fault),
     }
-    let told = match close(params, desk, vault, writes) {
+    let told = match close(params, desk, vault, watch, writes) {
         Ok(told) => told,
         Err(fault) => return Err(fault),
     };

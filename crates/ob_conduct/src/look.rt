@@ -3,8 +3,10 @@ ghost use Rattle.ob_report.specs.Printed.{flow};
 ghost use Rattle.ob_serial.specs.VaultKinds.{kind_of};
 ghost use Rattle.ob_desk.specs.Desk.{look_at};
 ghost use Rattle.ob_conduct.specs.Acts.{MayAct, IsToFetch};
-ghost use Rattle.ob_conduct.specs.Conducted.{IsOver};
-ghost use Rattle.ob_conduct.specs.Moves.{IsReady, Acted, ActFails};
+ghost use Rattle.ob_conduct.specs.Scenes.{scene};
+ghost use Rattle.ob_conduct.specs.Records.{IsOver};
+ghost use Rattle.ob_conduct.specs.Ready.{IsReady};
+ghost use Rattle.ob_conduct.specs.Moves.{Acted, ActFails};
 
 use crate::batch::fetch_batch;
 use crate::epoch::end_epoch;
@@ -12,6 +14,7 @@ use ob_base::{Fault, Params, Write};
 use ob_desk::{Beat, Desk, Look};
 use ob_io::Sink;
 use ob_serial::Vault;
+use ob_store::Watch;
 
 /// Whether the run goes on behind a look.
 #[derive(Clone, Copy, Debug, PartialEq, Eq)]
@@ -48,10 +51,11 @@ fn is_to_fetch(look: &Look) -> bool
 
 // Fetches a batch, where keys are queued and a batch is left; else ends the epoch, where it has
 // transactions.
-fn act<V: Vault, B: Beat, O: Sink>(
+fn act<V: Vault, W: Watch, B: Beat, O: Sink>(
     params: &Params,
     desk: &mut Desk,
     vault: &mut V,
+    watch: &mut W,
     output: &mut O,
     writes: &mut Vec<Write>,
     look: &Look,
@@ -65,14 +69,14 @@ fn act<V: Vault, B: Beat, O: Sink>(
     requires not_over { look.now.clients ≡ 0 → 0 < look.now.txns }
     ensures params { V.params vault.new ≡ params.now }
     ensures room { vec_capacity writes.old ≤ vec_capacity writes.new }
-    ensures acted { OnOk result (Acted (kind_of V.holds V.sound V.stands V.disk V.called) params.now B.passes desk.old vault.old (flow (O.written output.old) (O.faults output.old)) desk.new vault.new (V.counts vault.new) (flow (O.written output.new) (O.faults output.new))) }
-    ensures failed { IfErr result (λ fault. ActFails (kind_of V.holds V.sound V.stands V.disk V.called) B.passes desk.old vault.old (flow (O.written output.old) (O.faults output.old)) fault desk.new vault.new (flow (O.written output.new) (O.faults output.new))) }
+    ensures acted { OnOk result (Acted (kind_of V.holds V.sound V.stands V.disk V.called) params.now B.passes (scene desk.old vault.old (W.trace watch.old)) (flow (O.written output.old) (O.faults output.old)) (scene desk.new vault.new (W.trace watch.new)) (V.counts vault.new) (flow (O.written output.new) (O.faults output.new))) }
+    ensures failed { IfErr result (λ fault. ActFails (kind_of V.holds V.sound V.stands V.disk V.called) B.passes (scene desk.old vault.old (W.trace watch.old)) (flow (O.written output.old) (O.faults output.old)) fault (scene desk.new vault.new (W.trace watch.new)) (flow (O.written output.new) (O.faults output.new))) }
 {
     if is_to_fetch(look) {
-        return fetch_batch(params, desk, vault);
+        return fetch_batch(params, desk, vault, watch);
     }
     if look.txns > 0 {
-        return end_epoch(params, desk, vault, output, writes);
+        return end_epoch(params, desk, vault, watch, output, writes);
     }
     Ok(())
 }
@@ -81,10 +85,11 @@ fn act<V: Vault, B: Beat, O: Sink>(
 ///
 /// # Errors
 /// The desk was stopped; or the vault refused, or the output failed, and the desk is stopped.
-pub fn look_and_act<V: Vault, B: Beat, O: Sink>(
+pub fn look_and_act<V: Vault, W: Watch, B: Beat, O: Sink>(
     params: &Params,
     desk: &mut Desk,
     vault: &mut V,
+    watch: &mut W,
     beat: &mut B,
     output: &mut O,
     writes: &mut Vec<Write>,
@@ -95,9 +100,9 @@ pub fn look_and_act<V: Vault, B: Beat, O: Sink>(
     ensures params { V.params vault.new ≡ params.now }
     ensures room { vec_capacity writes.old ≤ vec_capacity writes.new }
     ensures anchors { B.anchors beat.new ≡ B.anchors beat.old }
-    ensures acted { OnOk result (Acted (kind_of V.holds V.sound V.stands V.disk V.called) params.now B.passes desk.old vault.old (flow (O.written output.old) (O.faults output.old)) desk.new vault.new (V.counts vault.new) (flow (O.written output.new) (O.faults output.new))) }
+    ensures acted { OnOk result (Acted (kind_of V.holds V.sound V.stands V.disk V.called) params.now B.passes (scene desk.old vault.old (W.trace watch.old)) (flow (O.written output.old) (O.faults output.old)) (scene desk.new vault.new (W.trace watch.new)) (V.counts vault.new) (flow (O.written output.new) (O.faults output.new))) }
     ensures over { IfOk result (λ round. round ≡ Round.Over → IsOver desk.new) }
-    ensures failed { IfErr result (λ fault. ActFails (kind_of V.holds V.sound V.stands V.disk V.called) B.passes desk.old vault.old (flow (O.written output.old) (O.faults output.old)) fault desk.new vault.new (flow (O.written output.new) (O.faults output.new))) }
+    ensures failed { IfErr result (λ fault. ActFails (kind_of V.holds V.sound V.stands V.disk V.called) B.passes (scene desk.old vault.old (W.trace watch.old)) (flow (O.written output.old) (O.faults output.old)) fault (scene desk.new vault.new (W.trace watch.new)) (flow (O.written output.new) (O.faults output.new))) }
 {
     if let Some(fault) = desk.stopped() {
         return Err(fault);
@@ -109,7 +114,7 @@ pub fn look_and_act<V: Vault, B: Beat, O: Sink>(
     if !is_due(beat, &look) {
         return Ok(Round::On);
     }
-    match act::<V, B, O>(params, desk, vault, output, writes, &look) {
+    match act::<V, W, B, O>(params, desk, vault, watch, output, writes, &look) {
         Ok(()) => Ok(Round::On),
         Err(fault) => Err(fault),
     }

@@ -2,7 +2,8 @@ ghost use Rattle.std.specs.Prelude.{◌≡◌, ◌≤◌, ℕ, All, map};
 ghost use Rattle.std.specs.List.Sorted.{IsStrictlyIncreasing};
 ghost use Rattle.ob_base.specs.declared.params.Params.{Params};
 ghost use Rattle.ob_serial.specs.Vaults.{VaultCounts};
-ghost use Rattle.ob_conduct.specs.Moves.{IsReady, Heard, Stepped};
+ghost use Rattle.ob_conduct.specs.Ready.{IsReady};
+ghost use Rattle.ob_conduct.specs.Moves.{Heard, Stepped};
 
 use ob_desk::Desk;
 use ob_session::Runner;

@@ -2,7 +2,8 @@ ghost use Rattle.std.specs.Prelude.{◌≡◌, ◌≤◌, ℕ, suc, All, map, []
 ghost use Rattle.ob_report.specs.Printed.{flow};
 ghost use Rattle.ob_serial.specs.VaultKinds.{kind_of};
 ghost use Rattle.ob_desk.specs.Desk.{MayOpen, new_desk};
-ghost use Rattle.ob_conduct.specs.Conducted.{Conducted};
+ghost use Rattle.ob_conduct.specs.Scenes.{scene, run_state, runner_kind};
+ghost use Rattle.ob_conduct.specs.Conducted.{ByHand};
 
 use crate::look::{Round, look_and_act};
 use crate::rounds::step_all;
@@ -11,16 +12,18 @@ use ob_desk::{Beat, Desk};
 use ob_io::Sink;
 use ob_serial::Vault;
 use ob_session::Runner;
+use ob_store::Watch;
 use std::alloc::Global;
 use std::sync::Wait;
 
 // Rounds, up to the end of the run.
-fn run_rounds<R: Wait, V: Vault, U: Runner, B: Beat, O: Sink>(
+fn run_rounds<R: Wait, V: Vault, W: Watch, U: Runner, B: Beat, O: Sink>(
     rt: &R,
     params: &Params,
     desk: &mut Desk,
     runners: &mut [U],
     vault: &mut V,
+    watch: &mut W,
     beat: &mut B,
     output: &mut O,
     writes: &mut Vec<Write>,
@@ -34,12 +37,13 @@ fn run_rounds<R: Wait, V: Vault, U: Runner, B: Beat, O: Sink>(
     requires room { params.now.writes ≤ vec_capacity writes.old }
     ensures params { V.params vault.new ≡ params.now }
     ensures beat { B.anchors beat.new ≡ B.anchors beat.old }
-    ensures done { Conducted (kind_of V.holds V.sound V.stands V.disk V.called) B.passes U.client U.bound U.plan U.fits desk.old desk.new vault.old vault.new runners.old runners.new
-        (flow (O.written output.old) (O.faults output.old)) (flow (O.written output.new) (O.faults output.new)) result }
+    ensures done { ByHand (kind_of V.holds V.sound V.stands V.disk V.called) (runner_kind U.client U.bound U.plan U.fits) B.passes
+        (run_state (scene desk.old vault.old (W.trace watch.old)) runners.old (flow (O.written output.old) (O.faults output.old)))
+        (run_state (scene desk.new vault.new (W.trace watch.new)) runners.new (flow (O.written output.new) (O.faults output.new))) result }
 {
     for _ in rt.forever() {
         step_all(desk, runners);
-        match look_and_act(params, desk, vault, beat, output, writes) {
+        match look_and_act(params, desk, vault, watch, beat, output, writes) {
             Ok(Round::On) => {}
             Ok(Round::Over) => return Ok(()),
             Err(fault) => return Err(fault),
@@ -57,13 +61,14 @@ fn run_rounds<R: Wait, V: Vault, U: Runner, B: Beat, O: Sink>(
 /// Memory was wanting, before the first round or for a client; or the vault refused, and is spent;
 /// or the output failed, and a front of the lines is written. But where memory was wanting before
 /// the first round the desk is stopped.
-pub fn serve<R: Wait, V: Vault, U: Runner, B: Beat, O: Sink>(
+pub fn serve<R: Wait, V: Vault, W: Watch, U: Runner, B: Beat, O: Sink>(
     rt: &R,
     alloc: Global,
     params: &Params,
     desk: &mut Desk,
     runners: &mut [U],
     vault: &mut V,
+    watch: &mut W,
     beat: &mut B,
     output: &mut O,
 ) -> Result<(), Fault>
@@ -77,12 +82,23 @@ pub fn serve<R: Wait, V: Vault, U: Runner, B: Beat, O: Sink>(
     // It keeps the references that the vault and the beat were lent.
     ensures anchors { (V.disk vault.new).anchors ≡ (V.disk vault.old).anchors }
     ensures beat { B.anchors beat.new ≡ B.anchors beat.old }
-    ensures done { Conducted (kind_of V.holds V.sound V.stands V.disk V.called) B.passes U.client U.bound U.plan U.fits desk.old desk.new vault.old vault.new runners.old runners.new
-        (flow (O.written output.old) (O.faults output.old)) (flow (O.written output.new) (O.faults output.new)) result }
+    ensures done { ByHand (kind_of V.holds V.sound V.stands V.disk V.called) (runner_kind U.client U.bound U.plan U.fits) B.passes
+        (run_state (scene desk.old vault.old (W.trace watch.old)) runners.old (flow (O.written output.old) (O.faults output.old)))
+        (run_state (scene desk.new vault.new (W.trace watch.new)) runners.new (flow (O.written output.new) (O.faults output.new))) result }
 {
     let mut writes = match Vec::with_capacity(alloc, params.writes as usize) {
         Ok(writes) => writes,
         Err(_) => return Err(Fault::Memory),
     };
-    run_rounds(rt, params, desk, runners, vault, beat, output, &mut writes)
+    run_rounds(
+        rt,
+        params,
+        desk,
+        runners,
+        vault,
+        watch,
+        beat,
+        output,
+        &mut writes,
+    )
 }

@@ -58,6 +58,7 @@ fn run<R: Wait, B: Beat>(
         &mut desk,
         &mut runners,
         &mut vault,
+        &mut Blind,
         beat,
         output,
     )

@@ -2,8 +2,10 @@
 #![tactic(auto)]
 
 mod cell;
+mod opening;
 mod store;
 
+pub use opening::open_locked;
 pub use store::{FileLane, FileStore, OpenErr};
 
 #[cfg(test)]

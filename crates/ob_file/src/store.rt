@@ -3,11 +3,11 @@ ghost use Rattle.ob_store.specs.Disk.{silent};
 ghost use Rattle.ob_file.specs.Counts.{Counts, with_more};
 
 use crate::cell::{read_cell, sync_file, write_cell};
+use crate::opening::{Node, open_cells};
 use ob_base::Failed;
 use ob_store::Store;
 use std::alloc::{AllocError, Global};
-use std::fs::{File, OpenOptions};
-use std::io;
+use std::fs::File;
 use std::rt::Files;
 use thiserror::Error;
 
@@ -17,18 +17,20 @@ pub enum OpenErr {
     /// Memory was wanting.
     #[error(transparent)]
     Memory(#[from(alloc)] AllocError),
-    /// The file can't be opened for reading and writing.
+    /// The file can't be opened for reading and writing, or another has it locked.
     #[error("the file was not opened")]
     Failed,
 }
 
 /// A store in a file: cell k is the 128 bytes from `128 * k` on, and bytes past the file's end are
-/// zeros. It tells how often it has failed, and nothing of what it holds.
+/// zeros. It tells how often it has failed, and nothing of what it holds. As long as it lives the
+/// file is locked: no other program, and no other store, has it.
 #[derive(Drop)]
 pub struct FileStore<R: Files<File = File>> {
     rt: R,
     path: String,
     file: File,
+    node: Node,
     faults: u64,
 }
 
@@ -39,35 +41,40 @@ pub struct FileLane {
     faults: u64,
 }
 
-fn opened<R: Files<File = File>>(rt: &R, path: &str, create: bool) -> io::Result<File> {
-    OpenOptions::new()
-        .read(true)
-        .write(true)
-        .create(create)
-        .open(rt, path)
-}
-
 impl<R: Files<File = File>> FileStore<R> {
-    /// Opens the file of a store. With `create` it makes the file where there is none; it empties
-    /// none.
+    /// Opens the file of a store, a regular file or a block device, and locks it for itself. With
+    /// `create` it makes the file where there is none; it empties none. Nothing is read or written.
     ///
     /// # Errors
-    /// Memory was wanting, or the file can't be opened for reading and writing.
+    /// Memory was wanting, or the file can't be opened for reading and writing, or be locked: another
+    /// has it locked, or its file system has no locks.
     pub fn open(rt: R, alloc: Global, path: &str, create: bool) -> Result<FileStore<R>, OpenErr>
     where
         R: Drop,
         ensures { IfOk result (λ s. s.faults ≡ 0) }
     {
         let path = String::from_str(alloc, path)?;
-        let Ok(file) = opened(&rt, path.as_str(), create) else {
+        let Ok((file, node)) = open_cells(&rt, path.as_str(), create) else {
             return Err(OpenErr::Failed);
         };
+        if file.try_lock().is_err() {
+            return Err(OpenErr::Failed);
+        }
         Ok(FileStore {
             rt,
             path,
             file,
+            node,
             faults: 0,
         })
+    }
+
+    // The file, opened once more by its path. Another file there is none of this store.
+    fn opened_again(&self) -> Result<File, Failed> {
+        match open_cells(&self.rt, self.path.as_str(), false) {
+            Ok((file, node)) if node == self.node => Ok(file),
+            _ => Err(Failed),
+        }
     }
 }
 
@@ -101,7 +108,7 @@ impl<R: Files<File = File> + Sync> Store for FileStore<R> {
         ensures counts { Counts self.old.faults self.new.faults result }
         ensures fresh { IfOk result (λ lane. lane.faults ≡ 0) }
     {
-        let Ok(file) = opened(&self.rt, self.path.as_str(), false) else {
+        let Ok(file) = self.opened_again() else {
             self.faults = self.faults.saturating_add(1);
             return Err(Failed);
         };

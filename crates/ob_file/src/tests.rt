@@ -1,4 +1,4 @@
-use crate::{FileStore, OpenErr};
+use crate::{FileStore, OpenErr, open_locked};
 use ob_store::Store;
 use std::process::Abort;
 use std::test::Fail;
@@ -38,6 +38,7 @@ fn a_file_keeps_its_cells(rt: HostRuntime) -> Result<(), Fail> {
     assert!(&rt; store.read(&mut lane, 4, &mut cell).is_ok());
     assert_eq!(&rt; cell, filled(0));
     store.absorb(lane);
+    drop(store);
     // Opened again, also as if it weren't there, it is as it was.
     let mut again = FileStore::open(&rt, alloc, path.as_str(), true)?;
     let mut other = again.lane().expect(&rt, "a lane");
@@ -94,8 +95,10 @@ fn what_cannot_be_done_fails(rt: HostRuntime) -> Result<(), Fail> {
     let path = fresh_path(&rt, "none")?;
     let missing = FileStore::open(&rt, alloc, path.as_str(), false);
     assert!(&rt; matches!(missing, Err(OpenErr::Failed)));
-    let folder = FileStore::open(&rt, alloc, "/", true);
-    assert!(&rt; matches!(folder, Err(OpenErr::Failed)));
+    for other in ["/", "/dev/null"] {
+        let opened = FileStore::open(&rt, alloc, other, true);
+        assert!(&rt; matches!(opened, Err(OpenErr::Failed)));
+    }
     let mut store = FileStore::open(&rt, alloc, path.as_str(), true)?;
     // No place of a file is so far.
     assert!(&rt; store.write(u64::MAX / 128, &filled(1)).is_err());
@@ -107,5 +110,30 @@ fn what_cannot_be_done_fails(rt: HostRuntime) -> Result<(), Fail> {
     // A lane of a file that was taken away can't be made.
     fs::remove_file(&rt, path.as_str())?;
     assert!(&rt; store.lane().is_err());
+    Ok(())
+}
+
+#[test]
+fn a_file_is_one_stores_alone(rt: HostRuntime) -> Result<(), Fail> {
+    let alloc = rt.alloc();
+    let path = fresh_path(&rt, "locked")?;
+    let mut store = FileStore::open(&rt, alloc, path.as_str(), true)?;
+    assert!(&rt; store.write(0, &filled(5)).is_ok());
+    assert!(&rt; FileStore::open(&rt, alloc, path.as_str(), true).is_err());
+    assert!(&rt; open_locked(&rt, path.as_str()).is_err());
+    drop(store);
+    // Those who read it may be several, and no store is among them.
+    let first = open_locked(&rt, path.as_str()).expect(&rt, "a file");
+    let second = open_locked(&rt, path.as_str()).expect(&rt, "a file");
+    drop(first);
+    assert!(&rt; FileStore::open(&rt, alloc, path.as_str(), false).is_err());
+    drop(second);
+    let mut store = FileStore::open(&rt, alloc, path.as_str(), false)?;
+    // Where another file has its name, a lane isn't made.
+    let other = fresh_path(&rt, "other")?;
+    fs::write(&rt, other.as_str(), "abc")?;
+    fs::rename(&rt, other.as_str(), path.as_str())?;
+    assert!(&rt; store.lane().is_err());
+    fs::remove_file(&rt, path.as_str())?;
     Ok(())
 }

@@ -1,6 +1,7 @@
 -- What the ends of epochs in a run tell: whom they abort, and that each ends some transaction.
 use Rattle.std.proofs.Common.{◌≡◌, ◌∙◌, ◌⊎◌, ◌<◌, ◌≤◌, ◌++◌, ◌==◌, ℕ, zero, suc, Bool, true, false, List, [], ◌∷◌, length, Option, Some, None, sym, subst, refl, ap, inl, inr, arith}
 use Rattle.std.specs.List.{All}
+use Rattle.std.proofs.lemmas.Option.{same_Some}
 use Rattle.std.proofs.lemmas.Bool.{false≢true}
 use Rattle.std.proofs.lemmas.Bool.Decides.{Decides-eqb}
 use Rattle.std.proofs.lemmas.List.Elements.{All-head, All-tail, All-cons, All-nil, All-weaker}
@@ -13,17 +14,16 @@ use Rattle.ob_serial.specs.declared.vault.EndErr.TheVariants.{Before, Unsure}
 use Rattle.ob_serial.specs.Serial.{Txn, EpochRecord}
 use Rattle.ob_order.specs.Order.{OrderState}
 use Rattle.ob_desk.specs.Desk as desk
-use Rattle.ob_desk.specs.Desk.{DeskState, Setup, MayOpen, Call, Reply, new_desk, look_at, closing, record_of}
+use Rattle.ob_desk.specs.Desk.{DeskState, Setup, Part, MayOpen, Call, Reply, new_desk, look_at, closing, record_of}
 use Rattle.ob_desk.specs.declared.calls.Look.{Look}
 use Rattle.ob_session.specs.Steps.{Leads, IsOwn}
 use Rattle.ob_causes.specs.Ends.{AllAsked, NeedsNoBatch}
 use Rattle.ob_causes.proofs.Due.{waiting_have_asked, signed_off_have_asked, pads_change_nothing, asked_outlast_pads, waiting_are_live, each_has_holder}
 use Rattle.ob_causes.proofs.Closed.{close_loses_none}
 use Rattle.ob_causes.proofs.Unended.{none_ended_yet}
-use Rattle.ob_conduct.specs.Acts.{Act, Says, Halts, Rests, Fetches, FetchFails, Ends, EndFails, Unprinted, Batch, desk_calls, look_calls, rest_calls, batch_calls, end_calls, history, IsAllowed, MayAct, IsToEnd}
-use Rattle.ob_served.specs.Served.{IsDueAt, IsDue}
-use Rattle.ob_served.proofs.Stops.{stops_back}
-use Rattle.ob_served.proofs.Walk.{leads_split, leads_on, IsGrounded, flying, own_calls_fly, Looked, looked, of_batches, one_grounded, told_of_closing, published_grounded, stopped_last, unsure_last, NotEnded, none_ended}
+use Rattle.ob_conduct.specs.Acts.{Act, Says, Halts, Rests, Takes, Delivers, DeliverFails, FetchFails, Closes, Publishes, Refuses, Unprinted, Batch, desk_calls, look_calls, rest_calls, batch_calls, close_calls, publish_calls, stop_calls, stop_for, history, records, IsAllowed, MayAct, IsToEnd}
+use Rattle.ob_served.specs.Served.{IsDueAt}
+use Rattle.ob_served.proofs.Walk.{leads_split, leads_on, flying, none_flies, Looked, looked, of_batches, NotEnded, none_ended}
 
 none_of_length : {A : Type 0} (xs : List A) → length xs ≡ 0 → xs ≡ []
 none_of_length [] e = refl
@@ -34,21 +34,27 @@ pub record EndsWell (passes : ℕ → ℕ → ℕ → ℕ → Bool) (look : Look
   pub due : IsDueAt passes look told
   pub some : 0 < length told.txns
 
-abbrev pub ActsWell : (ℕ → ℕ → ℕ → ℕ → Bool) → Act → Type 0
-ActsWell passes (Ends look batches writes left told) = EndsWell passes look told
-ActsWell passes (Unprinted look batches writes left told) = EndsWell passes look told
-ActsWell passes _ = Unit {0}
+-- Each record that was published is that of the epoch that was closed before it, and it ends well at the look that led to that close.
+abbrev pub AreWell : (ℕ → ℕ → ℕ → ℕ → Bool) → Option Look → List Act → Type 0
+AreWell passes closed [] = Unit {0}
+AreWell passes closed (Closes look batches writes ∷ acts) = AreWell passes (Some look) acts
+AreWell passes closed (Publishes writes left told ∷ acts) = (look : Look) × (closed ≡ Some look) × EndsWell passes look told × AreWell passes None acts
+AreWell passes closed (_ ∷ acts) = AreWell passes closed acts
+
+-- the epoch that is closed ends well at the look that led to its close
+abbrev pub EndsAtLook : (ℕ → ℕ → ℕ → ℕ → Bool) → Option Look → DeskState → Type 0
+EndsAtLook passes closed d = (part : Part) → d.closed ≡ Some part → (look : Look) × (closed ≡ Some look) × EndsWell passes look (record_of part)
 
 module _ (p : Params) (epoch left : ℕ) (clients : List ℕ) (may : MayOpen (record { params = p }) epoch left clients) (passes : ℕ → ℕ → ℕ → ℕ → Bool) where
   abbrev pub base : DeskState
   base = new_desk (record { params = p }) epoch left clients
 
-  module _ (h : List (Call × Reply)) (d : DeskState) (reached : Leads base h d) (grounded : IsGrounded d) where
-    module _ (look : Look) (batches : List Batch) (writes : List (ℕ × Option (List ℕ))) (l : ℕ) (told : EpochRecord ℕ) (more : List (Call × Reply)) (new : DeskState) where
+  module _ (h : List (Call × Reply)) (d : DeskState) (reached : Leads base h d) where
+    module _ (look : Look) (batches : List Batch) (writes : List (ℕ × Option (List ℕ))) (told : EpochRecord ℕ) (new : DeskState) where
       -- from the state at the look, and that behind the batches
-      module _ (same : look ≡ look_at d) (not_stopped : d.stop ≡ None) (b : DeskState) (reads : Leads d (rest_calls batches) b) (told_is : told ≡ record_of (closing b.running)) (to_end : IsToEnd look) where
+      module _ (same : look ≡ look_at d) (landed : flying d ≡ []) (b : DeskState) (reads : Leads d (rest_calls batches) b) (told_is : told ≡ record_of (closing b.running)) (to_end : IsToEnd look) where
         needs : NeedsNoBatch d.running.order
-        needs = record { none_flies = grounded not_stopped; none_due = due to_end.0 }
+        needs = record { none_flies = landed; none_due = due to_end.0 }
           where
             due : (look.queued ≡ 0) ⊎ (look.left ≡ 0) → (d.running.order.queue ≡ []) ⊎ (d.running.order.left ≡ 0)
             due (inl none) = inl (none_of_length d.running.order.queue (ap (λ (x : Look). x.queued) (sym same) ∙ none))
@@ -98,10 +104,16 @@ module _ (p : Params) (epoch left : ℕ) (clients : List ℕ) (may : MayOpen (re
         well : MayAct passes look → EndsWell passes look told
         well act = record { due = by_act act; some = let is = counts in let some = to_end.1 in omega (arith, is, some) }
 
-      pub ends_well : MayAct passes look → IsToEnd look → Leads d (look_calls look ++ rest_calls batches ++ (desk.Close, desk.Writes writes) ∷ (desk.Publish (suc told.epoch) l, desk.Published told) ∷ more) new → EndsWell passes look told
-      ends_well act to_end run =
-          let behind : List (Call × Reply) = (desk.Close, desk.Writes writes) ∷ (desk.Publish (suc told.epoch) l, desk.Published told) ∷ more in
-          let (a, looks, rest) = leads_split d (look_calls look) (rest_calls batches ++ behind) new run in
-          let k = looked d look a looks in
-          let (b, reads, closes) = leads_split a (rest_calls batches) behind new rest in
-          well k.look_is k.not_stopped b (subst (λ x. Leads x (rest_calls batches) b) k.same reads) (told_of_closing b writes l told more new closes) to_end act
+    -- an epoch was closed at this look
+    pub closes_well : (look : Look) (batches : List Batch) (writes : List (ℕ × Option (List ℕ))) (new : DeskState) → MayAct passes look → IsToEnd look → Leads d (desk_calls (Closes look batches writes)) new → EndsAtLook passes (Some look) new
+    closes_well look batches writes new act to_end run part is =
+        let (a, looks, rest) = leads_split d (look_calls look) (rest_calls batches ++ close_calls writes) new run in
+        let k = looked d look a looks in
+        let (b, reads, (last, may_close, closes, same)) = leads_split a (rest_calls batches) (close_calls writes) new rest in
+        let read : Leads d (rest_calls batches) b = subst (λ x. Leads x (rest_calls batches) b) k.same reads in
+        let part_is : closing b.running ≡ part = same_Some (closing b.running) part (sym (ap (λ (x : DeskState). x.closed) (same ∙ closes.state)) ∙ is) in (
+          look,
+          refl,
+          subst (λ (q : Part). EndsWell passes look (record_of q)) part_is
+              (well look batches writes (record_of (closing b.running)) new k.look_is (none_flies d batches b read may_close.2) b read refl to_end act),
+        )

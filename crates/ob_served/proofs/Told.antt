@@ -10,17 +10,13 @@ use Rattle.ob_desk.specs.Desk as desk
 use Rattle.ob_desk.specs.Desk.{DeskState, DeskStep, Call, Reply, published, records_told}
 use Rattle.ob_desk.specs.declared.calls.Look.{Look}
 use Rattle.ob_session.specs.Steps.{Leads, IsOwn}
-use Rattle.ob_conduct.specs.Acts.{Act, Says, Halts, Rests, Fetches, FetchFails, Ends, EndFails, Unprinted, Batch, desk_calls, look_calls, rest_calls, batch_calls, end_calls, history, records, IsAllowed}
+use Rattle.ob_conduct.specs.Acts.{Act, Says, Halts, Rests, Takes, Delivers, DeliverFails, FetchFails, Closes, Publishes, Refuses, Unprinted, Batch, desk_calls, look_calls, rest_calls, batch_calls, close_calls, publish_calls, stop_calls, stop_for, history, records, IsAllowed, MayAct, IsToEnd}
 use Rattle.ob_served.proofs.Walk.{leads_split}
-use Rattle.ob_served.proofs.EndsWell.{EndsWell, ActsWell}
+use Rattle.ob_served.proofs.EndsWell.{EndsWell, AreWell}
 
 pub published_append : (xs ys : List (Call × Reply)) → published (xs ++ ys) ≡ published xs ++ published ys
 published_append [] ys = refl
 published_append (step ∷ xs) ys = ap (λ l. records_told step.1 ++ l) (published_append xs ys) ∙ sym (append_assoc (records_told step.1) (published xs) (published ys))
-
-published_rest : (batches : List Batch) → published (rest_calls batches) ≡ []
-published_rest [] = refl
-published_rest (batch ∷ batches) = published_append (batch_calls batch) (rest_calls batches) ∙ published_rest batches
 
 -- a client's call tells no record
 own_tells : (client : ℕ) (d : DeskState) (call : Call) (reply : Reply) (new : DeskState) → IsOwn client (call, reply) → DeskStep d call reply new → records_told reply ≡ []
@@ -54,33 +50,66 @@ own_calls_tell c d [] new own run = refl
 own_calls_tell c d (step ∷ steps) new own (mid, may, made, run) =
     ap (λ l. l ++ published steps) (own_tells c d step.0 step.1 mid (All-head (IsOwn c) step steps own) made) ∙ own_calls_tell c mid steps new (All-tail (IsOwn c) step steps own) run
 
--- behind a look and batches
-behind : (look : Look) (batches : List Batch) (steps : List (Call × Reply)) → published (look_calls look ++ rest_calls batches ++ steps) ≡ published steps
-behind look batches steps = published_append (rest_calls batches) steps ∙ ap (λ l. l ++ published steps) (published_rest batches)
+-- batches tell none
+pub published_batches : (batches : List Batch) (more : List (Call × Reply)) → published (rest_calls batches ++ more) ≡ published more
+published_batches [] more = refl
+published_batches (batch ∷ batches) more = published_batches batches more
+
+-- nor does any act but a publish
+abbrev IsNoPublish : Act → Type 0
+IsNoPublish (Publishes writes left told) = ⊥
+IsNoPublish _ = Unit {0}
+
+act_tells : (passes : ℕ → ℕ → ℕ → ℕ → Bool) (d : DeskState) (act : Act) (new : DeskState) → IsAllowed passes act → Leads d (desk_calls act) new → IsNoPublish act → published (desk_calls act) ≡ []
+act_tells passes d (Says client steps) new allowed run other = own_calls_tell client d steps new allowed run
+act_tells passes d (Halts fault) new allowed run other = refl
+act_tells passes d (Rests look) new allowed run other = refl
+act_tells passes d (Takes look keys) new allowed run other = refl
+act_tells passes d (Delivers batch) new allowed run other = refl
+act_tells passes d (DeliverFails keys fault) new allowed run other = refl
+act_tells passes d (FetchFails look batches keys fault) new allowed run other = published_batches batches ((desk.TakeBatch, desk.Batch keys) ∷ (desk.Stop fault, desk.Done) ∷ [])
+act_tells passes d (Closes look batches writes) new allowed run other = published_batches batches (close_calls writes)
+act_tells passes d (Publishes writes left told) new allowed run other = absurd other
+act_tells passes d (Refuses writes refused) new allowed run other = refl
+act_tells passes d Unprinted new allowed run other = refl
 
 module _ (passes : ℕ → ℕ → ℕ → ℕ → Bool) (P : EpochRecord ℕ → Type 0) (tells : (look : Look) (told : EpochRecord ℕ) → EndsWell passes look told → P told) where
-  none : (steps : List (Call × Reply)) → published steps ≡ [] → All P (published steps)
-  none steps is = subst (All P) (sym is) (All-nil P)
+  -- behind an act that tells none
+  silent : (d : DeskState) (act : Act) (acts : List Act) (new : DeskState) → IsAllowed passes act → Leads d (desk_calls act) new → IsNoPublish act → All P (records acts) → All P (records (act ∷ acts))
+  silent d act acts new allowed run other rest = subst (All P) (sym (published_append (desk_calls act) (history acts) ∙ ap (λ l. l ++ records acts) (act_tells passes d act new allowed run other))) rest
 
-  one : (look : Look) (told : EpochRecord ℕ) → EndsWell passes look told → All P (told ∷ [])
-  one look told well = All-cons P told [] (tells look told well) (All-nil P)
-
-  act_tells : (d : DeskState) (act : Act) (new : DeskState) → IsAllowed passes act → ActsWell passes act → Leads d (desk_calls act) new → All P (published (desk_calls act))
-  act_tells d (Says client steps) new allowed well run = none steps (own_calls_tell client d steps new allowed run)
-  act_tells d (Halts fault) new allowed well run = All-nil P
-  act_tells d (Rests look) new allowed well run = All-nil P
-  act_tells d (Fetches look batch) new allowed well run = All-nil P
-  act_tells d (FetchFails look batches keys fault) new allowed well run = none (desk_calls (FetchFails look batches keys fault)) (behind look batches ((desk.TakeBatch, desk.Batch keys) ∷ (desk.Stop fault, desk.Done) ∷ []))
-  act_tells d (Ends look batches writes l told) new allowed well run = subst (All P) (sym (behind look batches (end_calls writes l told))) (one look told well)
-  act_tells d (EndFails look batches writes (Before fault)) new allowed well run = none (desk_calls (EndFails look batches writes (Before fault))) (behind look batches ((desk.Close, desk.Writes writes) ∷ (desk.Stop fault, desk.Done) ∷ []))
-  act_tells d (EndFails look batches writes (Unsure fault)) new allowed well run = none (desk_calls (EndFails look batches writes (Unsure fault))) (behind look batches ((desk.Close, desk.Writes writes) ∷ (desk.Unsure fault, desk.Done) ∷ []))
-  act_tells d (Unprinted look batches writes l told) new allowed well run = subst (All P) (sym (behind look batches (end_calls writes l told ++ (desk.Stop SinkFault, desk.Done) ∷ []))) (one look told well)
-
-  pub records_tell_all : (d : DeskState) (acts : List Act) (new : DeskState) → All (IsAllowed passes) acts → All (ActsWell passes) acts → Leads d (history acts) new → All P (records acts)
-  records_tell_all d [] new allowed well run = All-nil P
-  records_tell_all d (act ∷ acts) new allowed well run =
-      let (mid, first, rest) = leads_split d (desk_calls act) (history acts) new run in
-      subst (All P) (sym (published_append (desk_calls act) (history acts)))
-      (All-append P (published (desk_calls act)) (records acts)
-      (act_tells d act mid (All-head (IsAllowed passes) act acts allowed) (All-head (ActsWell passes) act acts well) first)
-      (records_tell_all mid acts new (All-tail (IsAllowed passes) act acts allowed) (All-tail (ActsWell passes) act acts well) rest))
+  pub records_tell_all : (closed : Option Look) (d : DeskState) (acts : List Act) (new : DeskState) → All (IsAllowed passes) acts → AreWell passes closed acts → Leads d (history acts) new → All P (records acts)
+  records_tell_all closed d [] new allowed well run = All-nil P
+  records_tell_all closed d (Publishes writes left told ∷ acts) new allowed (look, at, ends, well) run =
+      let (mid, first, rest) = leads_split d (desk_calls (Publishes writes left told)) (history acts) new run in
+      All-cons P told (records acts) (tells look told ends) (records_tell_all None mid acts new (All-tail (IsAllowed passes) (Publishes writes left told) acts allowed) well rest)
+  records_tell_all closed d (Says client steps ∷ acts) new allowed well run =
+      let (mid, first, rest) = leads_split d (desk_calls (Says client steps)) (history acts) new run in
+      silent d (Says client steps) acts mid (All-head (IsAllowed passes) (Says client steps) acts allowed) first tt (records_tell_all closed mid acts new (All-tail (IsAllowed passes) (Says client steps) acts allowed) well rest)
+  records_tell_all closed d (Halts fault ∷ acts) new allowed well run =
+      let (mid, first, rest) = leads_split d (desk_calls (Halts fault)) (history acts) new run in
+      silent d (Halts fault) acts mid (All-head (IsAllowed passes) (Halts fault) acts allowed) first tt (records_tell_all closed mid acts new (All-tail (IsAllowed passes) (Halts fault) acts allowed) well rest)
+  records_tell_all closed d (Rests look ∷ acts) new allowed well run =
+      let (mid, first, rest) = leads_split d (desk_calls (Rests look)) (history acts) new run in
+      silent d (Rests look) acts mid (All-head (IsAllowed passes) (Rests look) acts allowed) first tt (records_tell_all closed mid acts new (All-tail (IsAllowed passes) (Rests look) acts allowed) well rest)
+  records_tell_all closed d (Takes look keys ∷ acts) new allowed well run =
+      let (mid, first, rest) = leads_split d (desk_calls (Takes look keys)) (history acts) new run in
+      silent d (Takes look keys) acts mid (All-head (IsAllowed passes) (Takes look keys) acts allowed) first tt (records_tell_all closed mid acts new (All-tail (IsAllowed passes) (Takes look keys) acts allowed) well rest)
+  records_tell_all closed d (Delivers batch ∷ acts) new allowed well run =
+      let (mid, first, rest) = leads_split d (desk_calls (Delivers batch)) (history acts) new run in
+      silent d (Delivers batch) acts mid (All-head (IsAllowed passes) (Delivers batch) acts allowed) first tt (records_tell_all closed mid acts new (All-tail (IsAllowed passes) (Delivers batch) acts allowed) well rest)
+  records_tell_all closed d (DeliverFails keys fault ∷ acts) new allowed well run =
+      let (mid, first, rest) = leads_split d (desk_calls (DeliverFails keys fault)) (history acts) new run in
+      silent d (DeliverFails keys fault) acts mid (All-head (IsAllowed passes) (DeliverFails keys fault) acts allowed) first tt (records_tell_all closed mid acts new (All-tail (IsAllowed passes) (DeliverFails keys fault) acts allowed) well rest)
+  records_tell_all closed d (FetchFails look batches keys fault ∷ acts) new allowed well run =
+      let (mid, first, rest) = leads_split d (desk_calls (FetchFails look batches keys fault)) (history acts) new run in
+      silent d (FetchFails look batches keys fault) acts mid (All-head (IsAllowed passes) (FetchFails look batches keys fault) acts allowed) first tt (records_tell_all closed mid acts new (All-tail (IsAllowed passes) (FetchFails look batches keys fault) acts allowed) well rest)
+  records_tell_all closed d (Closes look batches writes ∷ acts) new allowed well run =
+      let (mid, first, rest) = leads_split d (desk_calls (Closes look batches writes)) (history acts) new run in
+      silent d (Closes look batches writes) acts mid (All-head (IsAllowed passes) (Closes look batches writes) acts allowed) first tt (records_tell_all (Some look) mid acts new (All-tail (IsAllowed passes) (Closes look batches writes) acts allowed) well rest)
+  records_tell_all closed d (Refuses writes refused ∷ acts) new allowed well run =
+      let (mid, first, rest) = leads_split d (desk_calls (Refuses writes refused)) (history acts) new run in
+      silent d (Refuses writes refused) acts mid (All-head (IsAllowed passes) (Refuses writes refused) acts allowed) first tt (records_tell_all closed mid acts new (All-tail (IsAllowed passes) (Refuses writes refused) acts allowed) well rest)
+  records_tell_all closed d (Unprinted ∷ acts) new allowed well run =
+      let (mid, first, rest) = leads_split d (desk_calls Unprinted) (history acts) new run in
+      silent d Unprinted acts mid (All-head (IsAllowed passes) Unprinted acts allowed) first tt (records_tell_all closed mid acts new (All-tail (IsAllowed passes) Unprinted acts allowed) well rest)

@@ -8,8 +8,10 @@ use Rattle.std.proofs.lemmas.Option.{none-some, same_Some}
 use Rattle.std.proofs.lemmas.List.Elements.{All-head, All-tail, All-cons, All-nil, All-append}
 use Rattle.ob_base.specs.declared.params.Params.{Params}
 use Rattle.ob_base.specs.declared.fault.Fault.{Fault}
+use Rattle.ob_base.specs.declared.fault.Fault.TheVariants.{SinkFault}
 use Rattle.ob_serial.specs.declared.records.Outcome.TheVariants.{Committed, Aborted as AbortedBy}
 use Rattle.ob_serial.specs.declared.records.Why.TheVariants.{EpochEnd}
+use Rattle.ob_serial.specs.declared.vault.EndErr.{EndErr}
 use Rattle.ob_serial.specs.declared.vault.EndErr.TheVariants as ended
 use Rattle.ob_serial.specs.Serial.{Txn, EpochRecord}
 use Rattle.ob_order.specs.Works.{Work}
@@ -21,8 +23,7 @@ use Rattle.ob_desk.specs.declared.clients.Holder.{Holder}
 use Rattle.ob_serial.specs.declared.records.Why.{Why}
 use Rattle.ob_session.specs.Steps.{Leads, IsOwn}
 use Rattle.ob_causes.specs.Ends.{Always, AllAsked, NeedsNoBatch, IsOfBatch, WaitingHaveAsked, SignedOffHaveAsked, AskedOutlastPads, PadsChangeNothing}
-use Rattle.ob_conduct.specs.Acts.{Act, Says, Halts, Rests, Fetches, FetchFails, Ends, EndFails, Unprinted, Batch, desk_calls, look_calls, rest_calls, batch_calls, end_calls, history, IsAllowed, MayAct, IsToEnd}
-use Rattle.ob_served.specs.Served.{IsDueAt, IsDue}
+use Rattle.ob_conduct.specs.Acts.{Act, Says, Halts, Rests, Takes, Delivers, DeliverFails, FetchFails, Closes, Publishes, Refuses, Unprinted, Batch, desk_calls, look_calls, rest_calls, batch_calls, close_calls, publish_calls, stop_calls, stop_for, history, records, IsAllowed, MayAct, IsToEnd}
 
 -- ---- chains of calls
 
@@ -34,63 +35,115 @@ pub leads_on : (d : DeskState) (xs ys : List (Call × Reply)) (mid new : DeskSta
 leads_on d [] ys mid new is run = subst (λ x. Leads x ys new) is run
 leads_on d (step ∷ xs) ys mid new (next, may, made, front) run = (next, may, made, leads_on next xs ys mid new front run)
 
--- ---- between acts nothing is in flight, unless the desk is stopped
+-- ---- an epoch is closed by a close alone
 
-abbrev pub IsGrounded : DeskState → Type 0
-IsGrounded d = d.stop ≡ None → d.running.order.flying ≡ []
+abbrev pub NotClose : Call × Reply → Type 0
+NotClose (desk.Close, reply) = ⊥
+NotClose _ = Unit {0}
 
-no_none : (a : Option Fault) (f : Fault) → option_or a (Some f) ≡ None → ⊥
-no_none None f e = none-some f (sym e)
-no_none (Some g) f e = none-some g (sym e)
-
-asked_flying : (o : OrderState) (k : ℕ) → (asked o k).flying ≡ o.flying
-asked_flying o k = by (is_asked_for o k)
+pub closed_back : (d : DeskState) (call : Call) (reply : Reply) (new : DeskState) → DeskStep d call reply new → NotClose (call, reply) → (part : Part) → new.closed ≡ Some part → d.closed ≡ Some part
+closed_back d (desk.Begin client) (desk.Begun x) new step other part is = ap (λ (s : DeskState). s.closed) (sym step.state) ∙ is
+closed_back d (desk.Begin client) (desk.Refused f) new step other part is = ap (λ (s : DeskState). s.closed) (sym step.same) ∙ is
+closed_back d (desk.GetKey x k) (desk.Value value) new step other part is = ap (λ (s : DeskState). s.closed) (sym step.state) ∙ is
+closed_back d (desk.GetKey x k) desk.Waits new step other part is = ap (λ (s : DeskState). s.closed) (sym step.state) ∙ is
+closed_back d (desk.GetKey x k) (desk.Aborted why) new (inl step) other part is = ap (λ (s : DeskState). s.closed) (sym step.same) ∙ is
+closed_back d (desk.GetKey x k) (desk.Aborted why) new (inr step) other part is = ap (λ (s : DeskState). s.closed) (sym step.state) ∙ is
+closed_back d (desk.Poll x) (desk.Value value) new step other part is = ap (λ (s : DeskState). s.closed) (sym step.state) ∙ is
+closed_back d (desk.Poll x) desk.Waits new step other part is = ap (λ (s : DeskState). s.closed) (sym step.same) ∙ is
+closed_back d (desk.Poll x) (desk.Aborted why) new step other part is = ap (λ (s : DeskState). s.closed) (sym step.same) ∙ is
+closed_back d (desk.Write x k value) desk.Done new step other part is = ap (λ (s : DeskState). s.closed) (sym step.state) ∙ is
+closed_back d (desk.Write x k value) (desk.Aborted why) new (inl step) other part is = ap (λ (s : DeskState). s.closed) (sym step.same) ∙ is
+closed_back d (desk.Write x k value) (desk.Aborted why) new (inr step) other part is = ap (λ (s : DeskState). s.closed) (sym step.state) ∙ is
+closed_back d (desk.Commit x) desk.Done new step other part is = ap (λ (s : DeskState). s.closed) (sym step.state) ∙ is
+closed_back d (desk.Commit x) (desk.Aborted why) new step other part is = ap (λ (s : DeskState). s.closed) (sym step.same) ∙ is
+closed_back d (desk.Abort x) (desk.Aborted why) new (inl step) other part is = ap (λ (s : DeskState). s.closed) (sym step.same) ∙ is
+closed_back d (desk.Abort x) (desk.Aborted why) new (inr step) other part is = ap (λ (s : DeskState). s.closed) (sym step.state) ∙ is
+closed_back d (desk.Settled x) (desk.IsSettled outcome) new step other part is = ap (λ (s : DeskState). s.closed) (sym step.1) ∙ is
+closed_back d desk.Looks (desk.Seen look) new step other part is = ap (λ (s : DeskState). s.closed) (sym step.1) ∙ is
+closed_back d (desk.SignOff client) desk.Done new step other part is = ap (λ (s : DeskState). s.closed) (sym step.state) ∙ is
+closed_back d (desk.Stop f) desk.Done new step other part is = halted (is_memory f) (ap (λ (s : DeskState). s.closed) (sym step.state) ∙ is)
   where
-    by : (b : Bool) → (if b then o else record o { queue = o.queue ++ k ∷ [] }).flying ≡ o.flying
-    by true = refl
-    by false = refl
+    halted : (b : Bool) → (if b then record d { stop = option_or d.stop (Some f); running = stop_part f d.running } else stop_closed f (record d { stop = option_or d.stop (Some f); running = stop_part f d.running })).closed ≡ Some part → d.closed ≡ Some part
+    halted true e = e
+    halted false e = absurd (none-some part e)
+closed_back d (desk.Unsure f) desk.Done new step other part is = absurd (none-some part (ap (λ (s : DeskState). s.closed) (sym step.state) ∙ is))
+closed_back d desk.IsStopped (desk.StoppedBy fault) new step other part is = ap (λ (s : DeskState). s.closed) (sym step.1) ∙ is
+closed_back d desk.TakeBatch (desk.Batch keys) new step other part is = ap (λ (s : DeskState). s.closed) (sym step.state) ∙ is
+closed_back d (desk.Deliver keys values) desk.Done new step other part is = ap (λ (s : DeskState). s.closed) (sym step.state) ∙ is
+closed_back d (desk.Publish epoch left) (desk.Published told) new step other part is = absurd (none-some part (ap (λ (s : DeskState). s.closed) (sym step.state) ∙ is))
+closed_back d desk.Close reply new step other part is = absurd other
+closed_back d _ _ new step other part is = absurd step
 
--- a client's call takes no batch
+pub closed_before : (d : DeskState) (steps : List (Call × Reply)) (new : DeskState) → Leads d steps new → All NotClose steps → (part : Part) → new.closed ≡ Some part → d.closed ≡ Some part
+closed_before d [] new run other part is = ap (λ (s : DeskState). s.closed) (sym run) ∙ is
+closed_before d (step ∷ steps) new (mid, may, made, run) other part is =
+    closed_back d step.0 step.1 mid made (All-head NotClose step steps other) part (closed_before mid steps new run (All-tail NotClose step steps other) part is)
+
+-- a client's calls close none
+own_closes : (client : ℕ) (call : Call) (reply : Reply) → IsOwn client (call, reply) → NotClose (call, reply)
+own_closes c desk.Close reply own = absurd own
+own_closes c (desk.Begin number) reply own = tt
+own_closes c (desk.GetKey x k) reply own = tt
+own_closes c (desk.Poll x) reply own = tt
+own_closes c (desk.Write x k value) reply own = tt
+own_closes c (desk.Commit x) reply own = tt
+own_closes c (desk.Abort x) reply own = tt
+own_closes c (desk.Settled x) reply own = tt
+own_closes c (desk.SignOff number) reply own = tt
+own_closes c (desk.Stop f) reply own = tt
+own_closes c desk.IsStopped reply own = tt
+own_closes c desk.Looks reply own = tt
+own_closes c (desk.Unsure f) reply own = tt
+own_closes c desk.TakeBatch reply own = tt
+own_closes c (desk.Deliver keys values) reply own = tt
+own_closes c (desk.Publish epoch left) reply own = tt
+
+pub own_close_none : (client : ℕ) (steps : List (Call × Reply)) → All (IsOwn client) steps → All NotClose steps
+own_close_none c [] own = All-nil NotClose
+own_close_none c (step ∷ steps) own = All-cons NotClose step steps (own_closes c step.0 step.1 (All-head (IsOwn c) step steps own)) (own_close_none c steps (All-tail (IsOwn c) step steps own))
+
+batches_close_none : (batches : List Batch) (more : List (Call × Reply)) → All NotClose more → All NotClose (rest_calls batches ++ more)
+batches_close_none [] more none = none
+batches_close_none (batch ∷ batches) more none = All-cons NotClose (desk.TakeBatch, desk.Batch batch.keys) ((desk.Deliver batch.keys batch.values, desk.Done) ∷ (rest_calls batches ++ more)) tt
+    (All-cons NotClose (desk.Deliver batch.keys batch.values, desk.Done) (rest_calls batches ++ more) tt (batches_close_none batches more none))
+
+one_close_none : (step : Call × Reply) → NotClose step → All NotClose (step ∷ [])
+one_close_none step one = All-cons NotClose step [] one (All-nil NotClose)
+
+look_close_none : (look : Look) (more : List (Call × Reply)) → All NotClose more → All NotClose (look_calls look ++ more)
+look_close_none look more none = All-cons NotClose (desk.IsStopped, desk.StoppedBy None) ((desk.Looks, desk.Seen look) ∷ more) tt (All-cons NotClose (desk.Looks, desk.Seen look) more tt none)
+
+stop_close_none : (refused : EndErr) → All NotClose ((stop_for refused, desk.Done) ∷ [])
+stop_close_none (ended.Before fault) = one_close_none (desk.Stop fault, desk.Done) tt
+stop_close_none (ended.Unsure fault) = one_close_none (desk.Unsure fault, desk.Done) tt
+
+-- nor do the driver's other acts
+abbrev IsNoClose : Act → Type 0
+IsNoClose (Closes look batches writes) = ⊥
+IsNoClose _ = Unit {0}
+
+pub act_closes_none : (passes : ℕ → ℕ → ℕ → ℕ → Bool) (act : Act) → IsAllowed passes act → IsNoClose act → All NotClose (desk_calls act)
+act_closes_none passes (Says client steps) allowed other = own_close_none client steps allowed
+act_closes_none passes (Halts fault) allowed other = one_close_none (desk.IsStopped, desk.StoppedBy (Some fault)) tt
+act_closes_none passes (Rests look) allowed other = look_close_none look [] (All-nil NotClose)
+act_closes_none passes (Takes look keys) allowed other = look_close_none look ((desk.TakeBatch, desk.Batch keys) ∷ []) (one_close_none (desk.TakeBatch, desk.Batch keys) tt)
+act_closes_none passes (Delivers batch) allowed other = one_close_none (desk.Deliver batch.keys batch.values, desk.Done) tt
+act_closes_none passes (DeliverFails keys fault) allowed other = one_close_none (desk.Stop fault, desk.Done) tt
+act_closes_none passes (FetchFails look batches keys fault) allowed other = look_close_none look (rest_calls batches ++ (desk.TakeBatch, desk.Batch keys) ∷ (desk.Stop fault, desk.Done) ∷ [])
+    (batches_close_none batches ((desk.TakeBatch, desk.Batch keys) ∷ (desk.Stop fault, desk.Done) ∷ []) (All-cons NotClose (desk.TakeBatch, desk.Batch keys) ((desk.Stop fault, desk.Done) ∷ []) tt (one_close_none (desk.Stop fault, desk.Done) tt)))
+act_closes_none passes (Closes look batches writes) allowed other = absurd other
+act_closes_none passes (Publishes writes left told) allowed other = one_close_none (desk.Publish (suc told.epoch) left, desk.Published told) tt
+act_closes_none passes (Refuses writes refused) allowed other = stop_close_none refused
+act_closes_none passes Unprinted allowed other = one_close_none (desk.Stop SinkFault, desk.Done) tt
+
+-- ---- in flight is nothing at a look that leads to a close
+
 abbrev pub flying : DeskState → List ℕ
 flying d = d.running.order.flying
 
-pub own_flies : (client : ℕ) (d : DeskState) (call : Call) (reply : Reply) (new : DeskState) → IsOwn client (call, reply) → DeskStep d call reply new → flying new ≡ flying d
-own_flies c d (desk.Begin client) (desk.Begun x) new own step = ap flying step.state
-own_flies c d (desk.Begin client) (desk.Refused f) new own step = ap flying step.same
-own_flies c d (desk.GetKey x k) (desk.Value value) new own step = ap flying step.state
-own_flies c d (desk.GetKey x k) desk.Waits new own step = ap flying step.state ∙ asked_flying d.running.order k
-own_flies c d (desk.GetKey x k) (desk.Aborted why) new own (inl step) = ap flying step.same
-own_flies c d (desk.GetKey x k) (desk.Aborted why) new own (inr step) = ap flying step.state
-own_flies c d (desk.Poll x) (desk.Value value) new own step = ap flying step.state
-own_flies c d (desk.Poll x) desk.Waits new own step = ap flying step.same
-own_flies c d (desk.Poll x) (desk.Aborted why) new own step = ap flying step.same
-own_flies c d (desk.Write x k value) desk.Done new own step = ap flying step.state
-own_flies c d (desk.Write x k value) (desk.Aborted why) new own (inl step) = ap flying step.same
-own_flies c d (desk.Write x k value) (desk.Aborted why) new own (inr step) = ap flying step.state
-own_flies c d (desk.Commit x) desk.Done new own step = ap flying step.state
-own_flies c d (desk.Commit x) (desk.Aborted why) new own step = ap flying step.same
-own_flies c d (desk.Abort x) (desk.Aborted why) new own (inl step) = ap flying step.same
-own_flies c d (desk.Abort x) (desk.Aborted why) new own (inr step) = ap flying step.state
-own_flies c d (desk.Settled x) (desk.IsSettled outcome) new own step = ap flying step.1
-own_flies c d (desk.SignOff client) desk.Done new own step = ap flying step.state
-own_flies c d (desk.Stop f) desk.Done new own step = ap flying step.state ∙ by (is_memory f)
-  where
-    by : (b : Bool) → flying (if b then record d { stop = option_or d.stop (Some f); running = stop_part f d.running } else stop_closed f (record d { stop = option_or d.stop (Some f); running = stop_part f d.running })) ≡ flying d
-    by true = refl
-    by false = refl
-own_flies c d desk.IsStopped (desk.StoppedBy fault) new own step = ap flying step.1
-own_flies c d desk.Looks reply new own step = absurd own
-own_flies c d (desk.Unsure f) reply new own step = absurd own
-own_flies c d desk.TakeBatch reply new own step = absurd own
-own_flies c d (desk.Deliver keys values) reply new own step = absurd own
-own_flies c d desk.Close reply new own step = absurd own
-own_flies c d (desk.Publish epoch left) reply new own step = absurd own
-own_flies c d _ _ new own step = absurd step
-
-pub own_calls_fly : (client : ℕ) (d : DeskState) (steps : List (Call × Reply)) (new : DeskState) → All (IsOwn client) steps → Leads d steps new → flying new ≡ flying d
-own_calls_fly c d [] new own run = ap flying run
-own_calls_fly c d (step ∷ steps) new own (mid, may, made, run) =
-    own_calls_fly c mid steps new (All-tail (IsOwn c) step steps own) run ∙ own_flies c d step.0 step.1 mid (All-head (IsOwn c) step steps own) made
+pub none_flies : (d : DeskState) (batches : List Batch) (b : DeskState) → Leads d (rest_calls batches) b → flying b ≡ [] → flying d ≡ []
+none_flies d [] b run none = ap flying (sym run) ∙ none
+none_flies d (batch ∷ batches) b (mid, may, took, rest) none = may.2
 
 -- ---- the driver's calls
 
@@ -115,35 +168,6 @@ of_batches (batch ∷ batches) = All-append IsOfBatch (batch_calls batch) (rest_
   where
     both : (batch : Batch) → All IsOfBatch (batch_calls batch)
     both batch = All-cons IsOfBatch (desk.TakeBatch, desk.Batch batch.keys) ((desk.Deliver batch.keys batch.values, desk.Done) ∷ []) tt (All-cons IsOfBatch (desk.Deliver batch.keys batch.values, desk.Done) [] tt (All-nil IsOfBatch))
-
--- a batch was delivered
-pub one_grounded : (d : DeskState) (batch : Batch) (new : DeskState) → Leads d (batch_calls batch) new → flying new ≡ []
-one_grounded d batch new (a, may, took, (b, also, gave, is)) = ap flying (is ∙ gave.state)
-
--- the record that was told is that of the part that was closed
-pub told_of_closing : (d : DeskState) (writes : List (ℕ × Option (List ℕ))) (left : ℕ) (told : EpochRecord ℕ) (more : List (Call × Reply)) (new : DeskState)
-    → Leads d ((desk.Close, desk.Writes writes) ∷ (desk.Publish (suc told.epoch) left, desk.Published told) ∷ more) new → told ≡ record_of (closing d.running)
-told_of_closing d writes left told more new (a, may, closes, (b, also, publishes, run)) =
-    publishes.record_is ∙ ap record_of (sym (same_Some (closing d.running) publishes.part (ap (λ (x : DeskState). x.closed) (sym closes.state) ∙ publishes.is_closed)))
-
--- behind a publish another epoch runs, with nothing in flight
-pub published_grounded : (d : DeskState) (writes : List (ℕ × Option (List ℕ))) (left : ℕ) (told : EpochRecord ℕ) (new : DeskState) → Leads d (end_calls writes left told) new → flying new ≡ []
-published_grounded d writes left told new (a, may, closes, (b, also, publishes, is)) = ap flying (is ∙ publishes.state ∙ ap (λ (x : DeskState). record x { closed = None; clients = desk.settle publishes.part Committed x.clients }) closes.state)
-
--- a stop that ends an act leaves a desk that is stopped
-pub stopped_last : (d : DeskState) (steps : List (Call × Reply)) (f : Fault) (new : DeskState) → Leads d (steps ++ (desk.Stop f, desk.Done) ∷ []) new → new.stop ≡ None → ⊥
-stopped_last d steps f new run none =
-    let (mid, front, (last, may, stops, is)) = leads_split d steps ((desk.Stop f, desk.Done) ∷ []) new run in
-    no_none mid.stop f (by mid (is_memory f) (ap (λ (x : DeskState). x.stop) (sym (is ∙ stops.state)) ∙ none))
-  where
-    by : (m : DeskState) (b : Bool) → (if b then record m { stop = option_or m.stop (Some f); running = stop_part f m.running } else stop_closed f (record m { stop = option_or m.stop (Some f); running = stop_part f m.running })).stop ≡ None → option_or m.stop (Some f) ≡ None
-    by m true e = e
-    by m false e = e
-
-pub unsure_last : (d : DeskState) (steps : List (Call × Reply)) (f : Fault) (new : DeskState) → Leads d (steps ++ (desk.Unsure f, desk.Done) ∷ []) new → new.stop ≡ None → ⊥
-unsure_last d steps f new run none =
-    let (mid, front, (last, may, stops, is)) = leads_split d steps ((desk.Unsure f, desk.Done) ∷ []) new run in
-    no_none mid.stop f (ap (λ (x : DeskState). x.stop) (sym (is ∙ stops.state)) ∙ none)
 
 -- ---- the record of a part in which nobody was aborted for the epoch's end
 

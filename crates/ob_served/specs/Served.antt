@@ -17,7 +17,7 @@ use Rattle.ob_script.specs.Script.{ScriptTxn, Scripts, asks_by}
 use Rattle.ob_runner.specs.Meaning.{Meets, MeetsFront, MeetsNoSum}
 use Rattle.ob_script.specs.declared.line.Ending.TheVariants.{Commit, Abort}
 use Rattle.ob_conduct.specs.Rounds.{InRounds}
-use Rattle.ob_conduct.specs.Acts.{Act, Says, Halts, Rests, Fetches, FetchFails, Ends, EndFails, Unprinted, history, records, IsAllowed}
+use Rattle.ob_conduct.specs.Acts.{Act, Says, Halts, Rests, Takes, Delivers, DeliverFails, FetchFails, Closes, Publishes, Refuses, Unprinted, history, records, IsAllowed}
 
 -- How a transaction of a script ended, and what it did. A committed one did all that it asks for, and its last line asks for that. One
 -- that is aborted because its client asked for that did all too, and its last line asks for that; or its last get was that of an add that
@@ -51,10 +51,13 @@ ClientsServedAll script told = (client : ℕ) → ServedAll (asks_by client scri
 abbrev pub IsDueAt : (ℕ → ℕ → ℕ → ℕ → Bool) → Look → EpochRecord ℕ → Type 0
 IsDueAt passes look told = All (λ t. t.outcome ≡ Aborted EpochEnd → (passes look.waiting look.live look.queued look.left ≡ true) × (look.waiting < look.live)) told.txns
 
-abbrev pub IsDue : (ℕ → ℕ → ℕ → ℕ → Bool) → Act → Type 0
-IsDue passes (Ends look batches writes left told) = IsDueAt passes look told
-IsDue passes (Unprinted look batches writes left told) = IsDueAt passes look told
-IsDue passes _ = Unit {0}
+-- Each record that was published is that of the epoch that was closed before it, and is due at the look that led to that close. None: no
+-- epoch is closed; Some: one is, since this look.
+abbrev pub AreDue : (ℕ → ℕ → ℕ → ℕ → Bool) → Option Look → List Act → Type 0
+AreDue passes closed [] = Unit {0}
+AreDue passes closed (Closes look batches writes ∷ acts) = AreDue passes (Some look) acts
+AreDue passes closed (Publishes writes left told ∷ acts) = (look : Look) × (closed ≡ Some look) × IsDueAt passes look told × AreDue passes None acts
+AreDue passes closed (_ ∷ acts) = AreDue passes closed acts
 
 -- A beat that is due only where all that are live wait.
 abbrev pub IsPatient : (ℕ → ℕ → ℕ → ℕ → Bool) → Type 0
@@ -82,7 +85,7 @@ pub record IsServed (passes : ℕ → ℕ → ℕ → ℕ → Bool) (p : Params)
   pub first : ClientsServed script told
   -- How each transaction ended is shown by its record; and for the end of its epoch one is aborted only where the beat was due.
   pub shown : All (λ r. All (λ t. IsOutcome p r t t.outcome) r.txns) told
-  pub due : All (IsDue passes) acts
+  pub due : AreDue passes None acts
   -- epochs and tickets are numbered one by one, and each epoch has a transaction
   pub numbered : AreNumbered (suc epoch) told
   pub some : All (λ r. 0 < length r.txns) told

@@ -5,6 +5,7 @@ use Rattle.ob_seal.specs.declared.keys.Keys.{Keys}
 use Rattle.ob_base.specs.declared.fault.Fault.{Fault}
 use Rattle.ob_base.specs.Causes.{Rose}
 use Rattle.ob_report.specs.Printed.{Flow}
+use Rattle.ob_store.specs.declared.event.Event.{Event}
 use Rattle.ob_store.specs.declared.event.Event.TheVariants as event
 use Rattle.ob_store.specs.Disk.{Disk, Image}
 use Rattle.ob_store.specs.Images.{Passes, Same, LeavesOnly}
@@ -20,9 +21,12 @@ use Rattle.ob_twin.specs.declared.gates.Open.{Open}
 use Rattle.ob_flat.specs.declared.opening.Opening.{Opening}
 use Rattle.ob_flat.specs.Heads.{IsHead}
 use Rattle.ob_flat.specs.Registers.{Found}
-use Rattle.ob_flat.specs.Openings.{IsFoundIn, IsOpeningOf, IsOpenFault, OpensIn, OpensFirst}
+use Rattle.ob_flat.specs.Openings.{IsFoundIn, IsOpenedAt, IsOpeningOf, IsOpenFault, OpensIn, OpensFirst}
 use Rattle.ob_flat.specs.Orders.{registers_events, open_events}
-use Rattle.ob_top.specs.Runs.{CameIn, EndsEarly, OpensPartly, IsOpened, begin_events}
+use Rattle.ob_kinds.specs.Kinds as kinds
+use Rattle.ob_top.specs.Flat.{flat_kind, FlatOpensPartly}
+use Rattle.ob_top.specs.Runs.{CameIn, EndsEarly, IsOpened, begin_events}
+use Rattle.ob_top.proofs.FlatSteps.{open_same}
 
 pub same_cells : (old mid : Disk) → Keeps old mid → old.tells → mid.cells ≡ old.cells
 same_cells old mid keeps tells = λ i k. keeps.cells tells k i
@@ -31,6 +35,16 @@ pub rose_since : (a b c : ℕ) → a ≤ b → Rose b c → Rose a c
 rose_since a b c le rose = search rules
 
 -- What a crash leaves of the head's read and the opening.
+-- in the words of the kind of store
+as_kind : (keys : Keys) (p : Params) (old : Disk) (c : Image) → StandsAsBefore keys p old c → kinds.StandsAsBefore flat_kind keys p old c
+as_kind keys p old c b = record { at = b.at; generation = b.generation; stands = b.stands; earlier = b.earlier; no_lower = b.no_lower; was = b.was }
+
+pub opened_kind : (keys : Keys) (p : Params) (at : Standing) (opening : Opening) (new : Disk) → IsOpenedAt keys p at opening new → kinds.IsOpenedAt flat_kind keys p at opening new
+opened_kind keys p at opening new o = record { epoch = o.epoch; content = o.content; stands = o.stands; images = o.images }
+
+pub kind_opened : (keys : Keys) (p : Params) (at : Standing) (opening : Opening) (new : Disk) → kinds.IsOpenedAt flat_kind keys p at opening new → IsOpenedAt keys p at opening new
+kind_opened keys p at opening new o = record { epoch = o.epoch; content = o.content; stands = o.stands; images = o.images }
+
 module _ (keys : Keys) (p : Params) (old mid new : Disk) (passes : Passes Same old mid) (keeps : Keeps old mid) (only : (c : Image) → old.left_since old.moment c → old.may_leave c) (tells : old.tells) where
   back : (P : Image → Type 0) (c : Image) → ((d : Image) → old.may_leave d → P d) → mid.may_leave c → P c
   back P c was left = let (d, before, same) = passes.now c left in subst P (sym same) (was d before)
@@ -55,29 +69,29 @@ module _ (keys : Keys) (p : Params) (old mid new : Disk) (passes : Passes Same o
   }
 
   pub left_opening : (at : Standing) → ((at : Standing) → mid.tells → Stands keys p mid.cells at → AllStand keys p mid → LeavesOnly mid new (StandsAsBefore keys p mid)) → Stands keys p old.cells at → AllStand keys p old
-      → LeavesOnly old new (StandsAsBefore keys p old)
-  left_opening at crash stands all = then_on old mid new (StandsAsBefore keys p old)
+      → LeavesOnly old new (kinds.StandsAsBefore flat_kind keys p old)
+  left_opening at crash stands all = weakened old new (StandsAsBefore keys p old) (kinds.StandsAsBefore flat_kind keys p old) (as_kind keys p old) (then_on old mid new (StandsAsBefore keys p old)
       (leaves_of Same (λ d. old.may_leave d) (StandsAsBefore keys p old) old mid passes only (λ c left. left) (λ c d was same. subst (StandsAsBefore keys p old) (sym same) (as_before all d was)) (λ c was. as_before all c was))
-      (weakened mid new (StandsAsBefore keys p mid) (StandsAsBefore keys p old) since_old (crash at (keeps.tells tells) (kept at stands) (all_stand all)))
+      (weakened mid new (StandsAsBefore keys p mid) (StandsAsBefore keys p old) since_old (crash at (keeps.tells tells) (kept at stands) (all_stand all))))
 
 module _ (keys : Keys) (old mid new : Disk) (before : Flow) (p : Params) (script : Scripts) (shown shown_new : Trace) where
   -- the head was read, a script came in, and the store was opened
   pub opened : (opening : Opening) → (old.tells → IsHead keys p (old.cells 0)) → Keeps old mid → Notes (event.Read 0 ∷ []) old.seen mid.seen → CameIn p.keys before script
       → (mid.tells → IsFoundIn keys p.keys mid.cells opening) → (mid.tells → GatesAre opening.gates.epoch 5 mid.cells) → OpensIn p.keys mid new shown shown_new opening
-      → (known : Open) × IsOpened keys old before p script opening known × Notes (begin_events p.keys opening.epoch known opening.sealer.generation) old.seen new.seen
+      → (known : Open) × IsOpened flat_kind keys old before p script opening known × Notes (begin_events flat_kind p opening known) old.seen new.seen
   opened opening head keeps seen came found gates order = (
     order.known,
     record {
       head = head;
       came = came;
-      found = λ tells. subst (λ (i : Image). IsFoundIn keys p.keys i opening) (same_cells old mid keeps tells) (found (keeps.tells tells));
-      generation_gates = λ tells. subst (λ (i : Image). GatesAre order.known 1 i) (same_cells old mid keeps tells) (order.gates (keeps.tells tells));
-      epoch_gates = λ tells. subst (λ (i : Image). GatesAre opening.gates.epoch 5 i) (same_cells old mid keeps tells) (gates (keeps.tells tells));
+      finds = λ tells. subst (λ (i : Image). IsFoundIn keys p.keys i opening × GatesAre opening.gates.epoch 5 i) (same_cells old mid keeps tells) (found (keeps.tells tells), gates (keeps.tells tells));
+      starts = λ tells. subst (λ (i : Image). GatesAre order.known 1 i) (same_cells old mid keeps tells) (order.gates (keeps.tells tells));
     },
-    joined (event.Read 0 ∷ []) (open_events p.keys opening.epoch order.known opening.sealer.generation) old.seen mid.seen new.seen seen order.seen,
+    subst (λ (l : List Event). Notes (event.Read 0 ∷ l) old.seen new.seen) (sym (open_same p.keys opening.epoch order.known opening.sealer.generation))
+        (joined (event.Read 0 ∷ []) (open_events p.keys opening.epoch order.known opening.sealer.generation) old.seen mid.seen new.seen seen order.seen),
   )
 
-  partly : Keeps old mid → Notes (event.Read 0 ∷ []) old.seen mid.seen → OpensFirst keys p.keys mid new shown shown_new → OpensPartly keys old new p
+  partly : Keeps old mid → Notes (event.Read 0 ∷ []) old.seen mid.seen → OpensFirst keys p.keys mid new shown shown_new → FlatOpensPartly keys p old new
   partly keeps seen (inl reads) = inl (joined_first (event.Read 0 ∷ []) registers_events old.seen mid.seen new.seen seen reads.seen)
   partly keeps seen (inr part) = inr (
     part.known,
@@ -91,7 +105,7 @@ module _ (keys : Keys) (old mid new : Disk) (before : Flow) (p : Params) (script
   -- the opening was refused
   pub unopened : (after : Flow) (fault : Fault) → (old.tells → IsHead keys p (old.cells 0)) → Keeps old mid → old.faults ≤ mid.faults → Notes (event.Read 0 ∷ []) old.seen mid.seen → CameIn p.keys before script
       → IsOpenFault fault → (mid.tells → IsOpeningOf keys p.keys mid.cells (Err fault)) → (IsStoreFault fault → Rose mid.faults new.faults) → OpensFirst keys p.keys mid new shown shown_new
-      → ((at : Standing) → old.tells → Stands keys p old.cells at → AllStand keys p old → LeavesOnly old new (StandsAsBefore keys p old)) → EndsEarly keys old new before after fault
+      → ((at : Standing) → old.tells → Stands keys p old.cells at → AllStand keys p old → LeavesOnly old new (kinds.StandsAsBefore flat_kind keys p old)) → EndsEarly flat_kind keys old new before after fault
   unopened after fault head keeps later seen came kind read cause order left = inr (inr (record {
     p = p;
     head = head;

@@ -1,53 +1,52 @@
 -- What came of the words, command by command.
-use Rattle.std.proofs.Common.{◌≡◌, ◌≤◌, ◌⊎◌, ℕ, List, [], ◌∷◌, length, drop, Bool, true, false, ◌&&◌, Option, Some, None, refl, sym, ap, subst, inl, inr, arith, ◌∙◌}
-use Rattle.std.proofs.lemmas.Bool.{eqb-true}
-use Rattle.std.proofs.lemmas.List.{length-drop}
+use Rattle.std.proofs.Common.{◌≡◌, ◌⊎◌, ℕ, List, Bool, Option, Some, None, refl, sym, ap, subst, inl, inr, ◌∙◌}
 use Rattle.std.specs.Borrow.{Bor}
 use Rattle.ob_base.specs.declared.params.Params.{Params}
-use Rattle.ob_base.specs.declared.fault.Field.TheVariants.{KEYS}
-use Rattle.ob_seal.specs.declared.keys.Keys.{Keys}
 use Rattle.ob_base.specs.declared.fault.Field.{Field}
+use Rattle.ob_base.specs.declared.fault.Field.TheVariants.{KEYS, LANES}
 use Rattle.ob_base.specs.declared.fault.Fault.{Fault}
 use Rattle.ob_base.specs.declared.fault.Fault.TheVariants.{Memory, Usage, BadScript, BadParams, NotStore, Damaged, StoreFault, StashFull, Worn, SourceFault, SinkFault}
+use Rattle.ob_seal.specs.declared.keys.Keys.{Keys}
 use Rattle.ob_report.specs.Printed.{IsPrinted}
 use Rattle.ob_report.specs.Faults.{fault_line, status_of}
 use Rattle.ob_store.specs.Disk.{Disk}
-use Rattle.ob_top.specs.Words.{are_run_options, is_run, is_format, AreParams, IsBadNumber, IsRefusedFor, HasKeys, IsKeysRefused}
+use Rattle.ob_words.specs.Reading.{Asked, asked_by, format_asked, run_asked}
+use Rattle.ob_top.specs.declared.words.Command.{Command}
+use Rattle.ob_top.specs.declared.words.Command.TheVariants.{Format, Run}
+use Rattle.ob_top.specs.Words.{AreParams, IsBadNumber, AreLanes, AreBadLanes, IsCommandOf, IsOutOfRange, IsRefusedFor, HasKeys, IsKeysRefused}
 use Rattle.ob_top.specs.Outside.{Outside, IsFinished, IsOnlyTold}
 use Rattle.ob_top.specs.Formats.{FormatDone}
+use Rattle.ob_top.specs.Flat.{flat_kind}
 use Rattle.ob_top.specs.Runs.{RunDone}
-use Rattle.ob_top.specs.Top.{IsGoodForm, CommandDoes, IsRefusedWithout}
+use Rattle.ob_top.specs.Top.{CommandDoes, IsRefusedWithout}
 use Rattle.ob_top.proofs.Finishing.{run_done, format_done}
 
-both : (a b : Bool) → (a && b) ≡ true → (a ≡ true) × (b ≡ true)
-both true b is = (refl, is)
-both false b is = cc is
+-- ---- words ask for one thing at most
 
-few_options : (options : List (List ℕ)) → are_run_options options ≡ true → length options ≤ 1
-few_options [] are = omega arith
-few_options (option ∷ []) are = omega arith
-few_options (option ∷ next ∷ options) are = cc are
+pub one_asked : (words : List (List ℕ)) (a b : Asked) → asked_by words ≡ Some a → asked_by words ≡ Some b → a ≡ b
+one_asked words a b first second = let same : Some a ≡ Some b = sym first ∙ second in cc same
 
--- words are no form of two commands
-one_form : (words : List (List ℕ)) → is_run words ≡ true → is_format words ≡ true → ⊥
-one_form [] run format = cc run
-one_form (word ∷ words) run format =
-    let few = few_options (drop 3 (word ∷ words)) (both _ _ run).1 in
-    let left = length-drop 3 (word ∷ words) in
-    let eleven = eqb-true (length words) 11 (both _ _ (both _ _ format).1).0 in
-    omega (arith, few, left, eleven)
+nothing_asked : (words : List (List ℕ)) (a : Asked) → asked_by words ≡ None → asked_by words ≡ Some a → ⊥
+nothing_asked words a none some = let same : None ≡ Some a = sym none ∙ some in cc same
 
-true_false : (b : Bool) → b ≡ true → b ≡ false → ⊥
-true_false b is isnt = cc (sym is ∙ isnt)
+params_at : (store keys : List ℕ) (numbers : List (List ℕ)) (command : Command) → IsCommandOf (format_asked store keys numbers) command → (p : Params) × AreParams numbers p
+params_at store keys numbers (Format p) fits = (p, fits)
+params_at store keys numbers (Run k) fits = absurd fits
 
--- the two refusals of words
+lanes_at : (store keys : List ℕ) (lanes : Option (List ℕ)) (turns : Bool) (command : Command) → IsCommandOf (run_asked store keys lanes turns) command → (k : ℕ) × AreLanes lanes k
+lanes_at store keys lanes turns (Format p) fits = absurd fits
+lanes_at store keys lanes turns (Run k) fits = (k, fits)
+
+-- the three refusals of words
 abbrev WordsRefused : List (List ℕ) → Fault → Type 0
-WordsRefused words f = ((f ≡ Usage) × (is_run words ≡ false) × (is_format words ≡ false)) ⊎ ((field : Field) × (f ≡ BadParams field) × (is_format words ≡ true) × IsBadNumber words field)
+WordsRefused words f =
+    (f ≡ Memory) ⊎ (((f ≡ Usage) × (asked_by words ≡ None))
+    ⊎ ((field : Field) × (f ≡ BadParams field) × ((asked : Asked) × (asked_by words ≡ Some asked) × IsOutOfRange asked field)))
 
 refusals : (words : List (List ℕ)) (f : Fault) → IsRefusedFor words f → WordsRefused words f
-refusals words Usage (run, format) = inl (refl, run, format)
-refusals words (BadParams field) (format, bad) = inr (field, refl, format, bad)
-refusals words Memory never = absurd never
+refusals words Memory refused = inl refl
+refusals words Usage none = inr (inl (refl, none))
+refusals words (BadParams field) out = inr (inr (field, refl, out))
 refusals words (BadScript line) never = absurd never
 refusals words NotStore never = absurd never
 refusals words (Damaged cell check kept computed) never = absurd never
@@ -57,126 +56,173 @@ refusals words (Worn number) never = absurd never
 refusals words SourceFault never = absurd never
 refusals words SinkFault never = absurd never
 
-module _ (before mid after : Outside) (status : ℕ) where
+-- one of the first two of three
+early : {A B C : Type 0} → A ⊎ B → A ⊎ (B ⊎ C)
+early (inl a) = inl a
+early (inr b) = inr (inl b)
+
+module _ (before mid after : Outside) (status : ℕ) (input : after.input ≡ mid.input) where
   -- a refusal before anything was touched
-  only_told : (fault : Fault) → mid ≡ before → after.input ≡ mid.input → status ≡ status_of (Some fault) → IsPrinted mid.output after.output (fault_line (Some fault)) → IsOnlyTold fault before after status
-  only_told fault same input status_is line = record {
+  only_told : (fault : Fault) → mid ≡ before → status ≡ status_of (Some fault) → IsPrinted mid.output after.output (fault_line (Some fault)) → IsOnlyTold fault before after status
+  only_told fault same status_is line = record {
     status_is = status_is;
     untouched = input ∙ ap (λ (o : Outside). o.input) same;
     printed = subst (λ (o : Outside). IsPrinted o.output after.output (fault_line (Some fault))) same line;
   }
 
   -- so are keys that are refused
-  keys_told : (text : Option (Bor (List ℕ))) (f : Fault) → IsKeysRefused text f → mid ≡ before → after.input ≡ mid.input → IsFinished mid.output after.output (Some f) status → IsOnlyTold f before after status
-  keys_told None f is same input done =
+  keys_told : (text : Option (Bor (List ℕ))) (f : Fault) → IsKeysRefused text f → mid ≡ before → IsFinished mid.output after.output (Some f) status → IsOnlyTold f before after status
+  keys_told None f is same done =
       let now : IsFinished mid.output after.output (Some SourceFault) status = subst (λ (x : Fault). IsFinished mid.output after.output (Some x) status) is done in
-      subst (λ (x : Fault). IsOnlyTold x before after status) (sym is) (only_told SourceFault same input now.status_is now.line)
-  keys_told (Some text) f (is, none) same input done =
+      subst (λ (x : Fault). IsOnlyTold x before after status) (sym is) (only_told SourceFault same now.status_is now.line)
+  keys_told (Some text) f (is, none) same done =
       let now : IsFinished mid.output after.output (Some (BadParams KEYS)) status = subst (λ (x : Fault). IsFinished mid.output after.output (Some x) status) is done in
-      subst (λ (x : Fault). IsOnlyTold x before after status) (sym is) (only_told (BadParams KEYS) same input now.status_is now.line)
+      subst (λ (x : Fault). IsOnlyTold x before after status) (sym is) (only_told (BadParams KEYS) same now.status_is now.line)
 
-  bad_number : (fault : Option Fault) (f : Fault) (field : Field) → fault ≡ Some f → f ≡ BadParams field → mid ≡ before → after.input ≡ mid.input → IsFinished mid.output after.output fault status → IsOnlyTold (BadParams field) before after status
-  bad_number fault f field is bad same input done =
-      let now : IsFinished mid.output after.output (Some (BadParams field)) status = subst (λ (x : Option Fault). IsFinished mid.output after.output x status) (is ∙ ap Some bad) done in
-      only_told (BadParams field) same input now.status_is now.line
+  -- what was refused before anything was touched
+  module _ (Kept : Type 0) (kept : Kept) (same : mid ≡ before) (words : List (List ℕ)) (text : Option (Bor (List ℕ))) (fault : Option Fault) (f : Fault) (is : fault ≡ Some f) (done : IsFinished mid.output after.output fault status) where
+    abbrev Tells : Fault → Type 0
+    Tells g = Kept × IsOnlyTold g before after status
 
-  module _ {S : Type 0} (disk : S → Disk) (passes : ℕ → ℕ → ℕ → ℕ → Bool) (words : List (List ℕ)) (text : Option (Bor (List ℕ))) (old new : S) (input : after.input ≡ mid.input) where
-    -- what the keys' refusal tells
+    memory_told : f ≡ Memory → Tells Memory
+    memory_told memory =
+        let now : IsFinished mid.output after.output (Some Memory) status = subst (λ (x : Option Fault). IsFinished mid.output after.output x status) (is ∙ ap Some memory) done in
+        (kept, only_told Memory same now.status_is now.line)
+
+    usage_told : f ≡ Usage → Tells Usage
+    usage_told usage =
+        let now : IsFinished mid.output after.output (Some Usage) status = subst (λ (x : Option Fault). IsFinished mid.output after.output x status) (is ∙ ap Some usage) done in
+        (kept, only_told Usage same now.status_is now.line)
+
+    number_told : (field : Field) → f ≡ BadParams field → Tells (BadParams field)
+    number_told field bad =
+        let now : IsFinished mid.output after.output (Some (BadParams field)) status = subst (λ (x : Option Fault). IsFinished mid.output after.output x status) (is ∙ ap Some bad) done in
+        (kept, only_told (BadParams field) same now.status_is now.line)
+
+    none_told : f ≡ StoreFault None → IsOnlyTold (StoreFault None) before after status
+    none_told none =
+        let now : IsFinished mid.output after.output (Some (StoreFault None)) status = subst (λ (x : Option Fault). IsFinished mid.output after.output x status) (is ∙ ap Some none) done in
+        only_told (StoreFault None) same now.status_is now.line
+
+    keys_tell : IsKeysRefused text f → (g : Fault) × IsKeysRefused text g × Tells g
+    keys_tell bad = (f, bad, (kept, keys_told text f bad same (subst (λ (x : Option Fault). IsFinished mid.output after.output x status) is done)))
+
+    usage_tells : IsRefusedFor words f → asked_by words ≡ None → Tells Usage ⊎ Tells Memory
+    usage_tells refused nothing = by_refusal (refusals words f refused)
+      where
+        by_refusal : WordsRefused words f → Tells Usage ⊎ Tells Memory
+        by_refusal (inl memory) = inr (memory_told memory)
+        by_refusal (inr (inl (usage, none))) = inl (usage_told usage)
+        by_refusal (inr (inr (field, bad, (asked, by, out)))) = absurd (nothing_asked words asked nothing by)
+
+    format_tells : (store keys : List ℕ) (numbers : List (List ℕ)) → IsRefusedFor words f → asked_by words ≡ Some (format_asked store keys numbers)
+        → Tells Memory ⊎ ((field : Field) × IsBadNumber numbers field × Tells (BadParams field))
+    format_tells store keys numbers refused asks = by_refusal (refusals words f refused)
+      where
+        by_refusal : WordsRefused words f → Tells Memory ⊎ ((field : Field) × IsBadNumber numbers field × Tells (BadParams field))
+        by_refusal (inl memory) = inl (memory_told memory)
+        by_refusal (inr (inl (usage, none))) = absurd (nothing_asked words (format_asked store keys numbers) none asks)
+        by_refusal (inr (inr (field, bad, (asked, by, out)))) =
+            inr (field, subst (λ (a : Asked). IsOutOfRange a field) (one_asked words asked (format_asked store keys numbers) by asks) out, number_told field bad)
+
+    run_tells : (store keys : List ℕ) (lanes : Option (List ℕ)) (turns : Bool) → IsRefusedFor words f → asked_by words ≡ Some (run_asked store keys lanes turns)
+        → Tells Memory ⊎ (AreBadLanes lanes × Tells (BadParams LANES))
+    run_tells store keys lanes turns refused asks = by_refusal (refusals words f refused)
+      where
+        by_refusal : WordsRefused words f → Tells Memory ⊎ (AreBadLanes lanes × Tells (BadParams LANES))
+        by_refusal (inl memory) = inl (memory_told memory)
+        by_refusal (inr (inl (usage, none))) = absurd (nothing_asked words (run_asked store keys lanes turns) none asks)
+        by_refusal (inr (inr (field, bad, (asked, by, out)))) =
+            let bad_lanes = subst (λ (a : Asked). IsOutOfRange a field) (one_asked words asked (run_asked store keys lanes turns) by asks) out in
+            inr (bad_lanes.1, number_told LANES (bad ∙ ap BadParams bad_lanes.0))
+
+  -- the command of a request is the one that the words ask for
+  params_asked : (words : List (List ℕ)) (asked : Asked) (command : Command) (store keys : List ℕ) (numbers : List (List ℕ)) → asked_by words ≡ Some asked → IsCommandOf asked command
+      → asked_by words ≡ Some (format_asked store keys numbers) → IsCommandOf (format_asked store keys numbers) command
+  params_asked words asked command store keys numbers by fits asks = subst (λ (a : Asked). IsCommandOf a command) (one_asked words asked (format_asked store keys numbers) by asks) fits
+
+  lanes_asked : (words : List (List ℕ)) (asked : Asked) (command : Command) (store keys : List ℕ) (lanes : Option (List ℕ)) (turns : Bool) → asked_by words ≡ Some asked → IsCommandOf asked command
+      → asked_by words ≡ Some (run_asked store keys lanes turns) → IsCommandOf (run_asked store keys lanes turns) command
+  lanes_asked words asked command store keys lanes turns by fits asks = subst (λ (a : Asked). IsCommandOf a command) (one_asked words asked (run_asked store keys lanes turns) by asks) fits
+
+  -- ---- with a store
+
+  module _ {S : Type 0} (disk : S → Disk) (passes : ℕ → ℕ → ℕ → ℕ → Bool) (words : List (List ℕ)) (text : Option (Bor (List ℕ))) (old new : S) where
+    abbrev Tell : Fault → Type 0
+    Tell f = (new ≡ old) × IsOnlyTold f before after status
+
     abbrev KeysTell : Type 0
-    KeysTell = (fault : Fault) × IsKeysRefused text fault × (new ≡ old) × IsOnlyTold fault before after status
+    KeysTell = (f : Fault) × IsKeysRefused text f × Tell f
 
-    abbrev FormatTells : Type 0
-    FormatTells = ((field : Field) × IsBadNumber words field × (new ≡ old) × IsOnlyTold (BadParams field) before after status)
-        ⊎ ((p : Params) × AreParams words p × (KeysTell ⊎ ((keys : Keys) × HasKeys text keys × FormatDone keys p (disk old) (disk new) before after status)))
+    abbrev FormatTells : List (List ℕ) → Type 0
+    FormatTells numbers = Tell Memory ⊎ (((field : Field) × IsBadNumber numbers field × Tell (BadParams field))
+        ⊎ ((p : Params) × AreParams numbers p × (KeysTell ⊎ ((keys : Keys) × HasKeys text keys × FormatDone keys p (disk old) (disk new) before after status))))
 
-    abbrev RunTells : Type 0
-    RunTells = KeysTell ⊎ ((keys : Keys) × HasKeys text keys × RunDone disk passes keys (disk old) (disk new) before after status)
+    abbrev RunTells : Option (List ℕ) → Type 0
+    RunTells lanes = Tell Memory ⊎ ((AreBadLanes lanes × Tell (BadParams LANES))
+        ⊎ ((k : ℕ) × AreLanes lanes k × (KeysTell ⊎ ((keys : Keys) × HasKeys text keys × RunDone flat_kind disk passes keys (disk old) (disk new) before after status))))
 
-    no_form : IsGoodForm words → is_run words ≡ false → is_format words ≡ false → ⊥
-    no_form (inl run) no_run no_format = true_false (is_run words) run no_run
-    no_form (inr (p, format, are)) no_run no_format = true_false (is_format words) format no_format
+    pub usage_done : (fault : Option Fault) → CommandDoes disk passes words text old new before mid fault → IsFinished mid.output after.output fault status → asked_by words ≡ None → Tell Usage ⊎ Tell Memory
+    usage_done fault (inl (f, is, inl refused, kept, same)) done nothing = usage_tells (new ≡ old) kept same words text fault f is done refused nothing
+    usage_done fault (inl (f, is, inr ((command, (asked, by, fits)), bad), kept, same)) done nothing = absurd (nothing_asked words asked nothing by)
+    usage_done fault (inr (keys, has, inl (p, (asked, by, fits), ends, leaves, same))) done nothing = absurd (nothing_asked words asked nothing by)
+    usage_done fault (inr (keys, has, inr (k, (asked, by, fits), on))) done nothing = absurd (nothing_asked words asked nothing by)
 
-    pub usage_done : (fault : Option Fault) → CommandDoes disk passes words text old new before mid fault → IsFinished mid.output after.output fault status → is_run words ≡ false → is_format words ≡ false
-        → (new ≡ old) × IsOnlyTold Usage before after status
-    usage_done fault (inl (f, is, inl refused, kept, same)) done no_run no_format = by_refusal (refusals words f refused)
-      where
-        by_refusal : WordsRefused words f → (new ≡ old) × IsOnlyTold Usage before after status
-        by_refusal (inl (usage, run, format)) =
-            let now : IsFinished mid.output after.output (Some Usage) status = subst (λ (x : Option Fault). IsFinished mid.output after.output x status) (is ∙ ap Some usage) done in
-            (kept, only_told Usage same input now.status_is now.line)
-        by_refusal (inr (field, bad, format, number)) = absurd (true_false (is_format words) format no_format)
-    usage_done fault (inl (f, is, inr (form, bad), kept, same)) done no_run no_format = absurd (no_form form no_run no_format)
-    usage_done fault (inr (keys, has, inl (p, format, are, ends, leaves, kept))) done no_run no_format = absurd (true_false (is_format words) format no_format)
-    usage_done fault (inr (keys, has, inr (run, rest))) done no_run no_format = absurd (true_false (is_run words) run no_run)
+    pub format_does : (fault : Option Fault) → CommandDoes disk passes words text old new before mid fault → IsFinished mid.output after.output fault status
+        → (store keys : List ℕ) (numbers : List (List ℕ)) → asked_by words ≡ Some (format_asked store keys numbers) → FormatTells numbers
+    format_does fault (inl (f, is, inl refused, kept, same)) done store keys numbers asks = early (format_tells (new ≡ old) kept same words text fault f is done store keys numbers refused asks)
+    format_does fault (inl (f, is, inr ((command, (asked, by, fits)), bad), kept, same)) done store keys numbers asks =
+        let (p, are) = params_at store keys numbers command (params_asked words asked command store keys numbers by fits asks) in
+        inr (inr (p, are, inl (keys_tell (new ≡ old) kept same words text fault f is done bad)))
+    format_does fault (inr (found, has, inl (p, (asked, by, fits), ends, leaves, same))) done store keys numbers asks =
+        inr (inr (p, params_asked words asked (Format p) store keys numbers by fits asks, inr (found, has, format_done found p (disk old) (disk new) before mid after status fault ends leaves same input done)))
+    format_does fault (inr (found, has, inr (k, (asked, by, fits), on))) done store keys numbers asks = absurd (params_asked words asked (Run k) store keys numbers by fits asks)
 
-    -- the keys are refused
-    keys_tell : (fault : Option Fault) (f : Fault) → fault ≡ Some f → IsKeysRefused text f → new ≡ old → mid ≡ before → IsFinished mid.output after.output fault status → KeysTell
-    keys_tell fault f is bad kept same done = (f, bad, kept, keys_told text f bad same input (subst (λ (x : Option Fault). IsFinished mid.output after.output x status) is done))
+    pub run_does : (fault : Option Fault) → CommandDoes disk passes words text old new before mid fault → IsFinished mid.output after.output fault status
+        → (store keys : List ℕ) (lanes : Option (List ℕ)) (turns : Bool) → asked_by words ≡ Some (run_asked store keys lanes turns) → RunTells lanes
+    run_does fault (inl (f, is, inl refused, kept, same)) done store keys lanes turns asks = early (run_tells (new ≡ old) kept same words text fault f is done store keys lanes turns refused asks)
+    run_does fault (inl (f, is, inr ((command, (asked, by, fits)), bad), kept, same)) done store keys lanes turns asks =
+        let (k, are) = lanes_at store keys lanes turns command (lanes_asked words asked command store keys lanes turns by fits asks) in
+        inr (inr (k, are, inl (keys_tell (new ≡ old) kept same words text fault f is done bad)))
+    run_does fault (inr (found, has, inl (p, (asked, by, fits), ends, leaves, same))) done store keys lanes turns asks = absurd (lanes_asked words asked (Format p) store keys lanes turns by fits asks)
+    run_does fault (inr (found, has, inr (k, (asked, by, fits), on))) done store keys lanes turns asks =
+        inr (inr (k, lanes_asked words asked (Run k) store keys lanes turns by fits asks, inr (found, has, run_done disk passes found (disk old) (disk new) before mid after input status fault on done)))
 
-    pub format_does : (fault : Option Fault) → CommandDoes disk passes words text old new before mid fault → IsFinished mid.output after.output fault status → is_format words ≡ true → FormatTells
-    format_does fault (inl (f, is, inl refused, kept, same)) done format = by_refusal (refusals words f refused)
-      where
-        by_refusal : WordsRefused words f → FormatTells
-        by_refusal (inl (usage, run, no_format)) = absurd (true_false (is_format words) format no_format)
-        by_refusal (inr (field, bad, is_format, number)) = inl (field, number, kept, bad_number fault f field is bad same input done)
-    format_does fault (inl (f, is, inr (inl run, bad), kept, same)) done format = absurd (one_form words run format)
-    format_does fault (inl (f, is, inr (inr (p, also, are), bad), kept, same)) done format = inr (p, are, inl (keys_tell fault f is bad kept same done))
-    format_does fault (inr (keys, has, inl (p, format, are, ends, leaves, same))) done also = inr (p, are, inr (keys, has, format_done keys p (disk old) (disk new) before mid after status fault ends leaves same input done))
-    format_does fault (inr (keys, has, inr (run, rest))) done format = absurd (one_form words run format)
+  -- ---- without one
 
-    pub run_does : (fault : Option Fault) → CommandDoes disk passes words text old new before mid fault → IsFinished mid.output after.output fault status → is_run words ≡ true → RunTells
-    run_does fault (inl (f, is, inl refused, kept, same)) done run = by_refusal (refusals words f refused)
-      where
-        by_refusal : WordsRefused words f → RunTells
-        by_refusal (inl (usage, no_run, format)) = absurd (true_false (is_run words) run no_run)
-        by_refusal (inr (field, bad, format, number)) = absurd (one_form words run format)
-    run_does fault (inl (f, is, inr (form, bad), kept, same)) done run = inl (keys_tell fault f is bad kept same done)
-    run_does fault (inr (keys, has, inl (p, format, are, ends, leaves, kept))) done run = absurd (one_form words run format)
-    run_does fault (inr (keys, has, inr (also, on))) done run = inr (keys, has, run_done disk passes keys (disk old) (disk new) before mid after input status fault on done)
+  module _ (words : List (List ℕ)) (text : Option (Bor (List ℕ))) (fault : Fault) (same : mid ≡ before) (done : IsFinished mid.output after.output (Some fault) status) where
+    abbrev Alone : Fault → Type 0
+    Alone f = Unit {0} × IsOnlyTold f before after status
 
-  -- without a store
-  module _ (words : List (List ℕ)) (text : Option (Bor (List ℕ))) (fault : Fault) (same : mid ≡ before) (input : after.input ≡ mid.input) (done : IsFinished mid.output after.output (Some fault) status) where
     abbrev KeysAlone : Type 0
-    KeysAlone = (f : Fault) × IsKeysRefused text f × Unit {0} × IsOnlyTold f before after status
+    KeysAlone = (f : Fault) × IsKeysRefused text f × Alone f
 
-    none_told : fault ≡ StoreFault None → IsOnlyTold (StoreFault None) before after status
-    none_told is =
-        let now : IsFinished mid.output after.output (Some (StoreFault None)) status = subst (λ (x : Fault). IsFinished mid.output after.output (Some x) status) is done in
-        only_told (StoreFault None) same input now.status_is now.line
+    abbrev NoneAlone : Type 0
+    NoneAlone = KeysAlone ⊎ ((keys : Keys) × HasKeys text keys × IsOnlyTold (StoreFault None) before after status)
 
-    pub no_store_usage : IsRefusedWithout words text fault → is_run words ≡ false → is_format words ≡ false → Unit {0} × IsOnlyTold Usage before after status
-    no_store_usage (inl (inl refused)) no_run no_format = by_refusal (refusals words fault refused)
-      where
-        by_refusal : WordsRefused words fault → Unit {0} × IsOnlyTold Usage before after status
-        by_refusal (inl (usage, run, format)) =
-            let now : IsFinished mid.output after.output (Some Usage) status = subst (λ (x : Fault). IsFinished mid.output after.output (Some x) status) usage done in
-            (tt, only_told Usage same input now.status_is now.line)
-        by_refusal (inr (field, bad, format, number)) = absurd (true_false (is_format words) format no_format)
-    no_store_usage (inl (inr (inl run, bad))) no_run no_format = absurd (true_false (is_run words) run no_run)
-    no_store_usage (inl (inr (inr (p, format, are), bad))) no_run no_format = absurd (true_false (is_format words) format no_format)
-    no_store_usage (inr (inl run, has, is)) no_run no_format = absurd (true_false (is_run words) run no_run)
-    no_store_usage (inr (inr (p, format, are), has, is)) no_run no_format = absurd (true_false (is_format words) format no_format)
+    keys_alone : IsKeysRefused text fault → KeysAlone
+    keys_alone bad = keys_tell (Unit {0}) tt same words text (Some fault) fault refl done bad
 
-    abbrev FormatAlone : Type 0
-    FormatAlone = ((field : Field) × IsBadNumber words field × Unit {0} × IsOnlyTold (BadParams field) before after status)
-        ⊎ ((p : Params) × AreParams words p × (KeysAlone ⊎ ((keys : Keys) × HasKeys text keys × IsOnlyTold (StoreFault None) before after status)))
+    none_alone : fault ≡ StoreFault None → IsOnlyTold (StoreFault None) before after status
+    none_alone is = none_told (Unit {0}) tt same words text (Some fault) fault refl done is
 
-    pub no_store_format : IsRefusedWithout words text fault → is_format words ≡ true → FormatAlone
-    no_store_format (inl (inl refused)) format = by_refusal (refusals words fault refused)
-      where
-        by_refusal : WordsRefused words fault → FormatAlone
-        by_refusal (inl (usage, run, no_format)) = absurd (true_false (is_format words) format no_format)
-        by_refusal (inr (field, bad, is_format, number)) = inl (field, number, tt, bad_number (Some fault) fault field refl bad same input done)
-    no_store_format (inl (inr (inl run, bad))) format = absurd (one_form words run format)
-    no_store_format (inl (inr (inr (p, also, are), bad))) format = inr (p, are, inl (fault, bad, tt, keys_told text fault bad same input done))
-    no_store_format (inr (inl run, has, is)) format = absurd (one_form words run format)
-    no_store_format (inr (inr (p, also, are), (keys, has), is)) format = inr (p, are, inr (keys, has, none_told is))
+    pub no_store_usage : IsRefusedWithout words text fault → asked_by words ≡ None → Alone Usage ⊎ Alone Memory
+    no_store_usage (inl (inl refused)) nothing = usage_tells (Unit {0}) tt same words text (Some fault) fault refl done refused nothing
+    no_store_usage (inl (inr ((command, (asked, by, fits)), bad))) nothing = absurd (nothing_asked words asked nothing by)
+    no_store_usage (inr ((command, (asked, by, fits)), has, is)) nothing = absurd (nothing_asked words asked nothing by)
 
-    pub no_store_run : IsRefusedWithout words text fault → is_run words ≡ true → KeysAlone ⊎ ((keys : Keys) × HasKeys text keys × IsOnlyTold (StoreFault None) before after status)
-    no_store_run (inl (inl refused)) run = by_refusal (refusals words fault refused)
-      where
-        by_refusal : WordsRefused words fault → KeysAlone ⊎ ((keys : Keys) × HasKeys text keys × IsOnlyTold (StoreFault None) before after status)
-        by_refusal (inl (usage, no_run, format)) = absurd (true_false (is_run words) run no_run)
-        by_refusal (inr (field, bad, format, number)) = absurd (one_form words run format)
-    no_store_run (inl (inr (form, bad))) run = inl (fault, bad, tt, keys_told text fault bad same input done)
-    no_store_run (inr (form, (keys, has), is)) run = inr (keys, has, none_told is)
+    pub no_store_format : IsRefusedWithout words text fault → (store keys : List ℕ) (numbers : List (List ℕ)) → asked_by words ≡ Some (format_asked store keys numbers)
+        → Alone Memory ⊎ (((field : Field) × IsBadNumber numbers field × Alone (BadParams field)) ⊎ ((p : Params) × AreParams numbers p × NoneAlone))
+    no_store_format (inl (inl refused)) store keys numbers asks = early (format_tells (Unit {0}) tt same words text (Some fault) fault refl done store keys numbers refused asks)
+    no_store_format (inl (inr ((command, (asked, by, fits)), bad))) store keys numbers asks =
+        let (p, are) = params_at store keys numbers command (params_asked words asked command store keys numbers by fits asks) in inr (inr (p, are, inl (keys_alone bad)))
+    no_store_format (inr ((command, (asked, by, fits)), (found, has), is)) store keys numbers asks =
+        let (p, are) = params_at store keys numbers command (params_asked words asked command store keys numbers by fits asks) in inr (inr (p, are, inr (found, has, none_alone is)))
+
+    pub no_store_run : IsRefusedWithout words text fault → (store keys : List ℕ) (lanes : Option (List ℕ)) (turns : Bool) → asked_by words ≡ Some (run_asked store keys lanes turns)
+        → Alone Memory ⊎ ((AreBadLanes lanes × Alone (BadParams LANES)) ⊎ ((k : ℕ) × AreLanes lanes k × NoneAlone))
+    no_store_run (inl (inl refused)) store keys lanes turns asks = early (run_tells (Unit {0}) tt same words text (Some fault) fault refl done store keys lanes turns refused asks)
+    no_store_run (inl (inr ((command, (asked, by, fits)), bad))) store keys lanes turns asks =
+        let (k, are) = lanes_at store keys lanes turns command (lanes_asked words asked command store keys lanes turns by fits asks) in inr (inr (k, are, inl (keys_alone bad)))
+    no_store_run (inr ((command, (asked, by, fits)), (found, has), is)) store keys lanes turns asks =
+        let (k, are) = lanes_at store keys lanes turns command (lanes_asked words asked command store keys lanes turns by fits asks) in inr (inr (k, are, inr (found, has, none_alone is)))

@@ -2,7 +2,7 @@
 use Rattle.std.proofs.Common.{◌≡◌, ◌⊎◌, ◌<◌, ◌≤◌, ◌+◌, ◌*◌, ◌-◌, ◌^◌, ◌++◌, ℕ, Bool, suc, List, [], length, take, Option, Some, None, Err, refl, sym, ap, subst, inl, inr, arith, ◌∙◌, length-append}
 use Rattle.std.proofs.lemmas.List.{append-nil}
 use Rattle.std.proofs.Math.Nat.{mul-le-mul_left}
-use Rattle.std.specs.Prelude.{decimal, true}
+use Rattle.std.specs.Prelude.{decimal}
 use Rattle.std.specs.Borrow.{Bor}
 use Rattle.ob_base.specs.declared.params.Params.{Params}
 use Rattle.ob_base.specs.declared.fault.Damaged.{Damaged}
@@ -31,14 +31,20 @@ use Rattle.ob_flat.proofs.Opened.{number_found}
 use Rattle.ob_served.specs.Served.{IsServed, ClientsServedAll}
 use Rattle.ob_served.proofs.Counting.{few_txns, few_epochs}
 use Rattle.ob_base.specs.declared.fault.Field.{Field}
-use Rattle.ob_top.specs.Words.{is_format, is_run, AreParams, IsBadNumber, HasKeys, IsKeysRefused}
+use Rattle.ob_base.specs.declared.fault.Field.TheVariants.{LANES}
+use Rattle.ob_words.specs.Reading.{asked_by, format_asked, run_asked}
+use Rattle.ob_top.specs.Words.{AreParams, IsBadNumber, AreLanes, AreBadLanes, HasKeys, IsKeysRefused}
 use Rattle.ob_top.specs.Outside.{Outside, IsOnlyTold}
 use Rattle.ob_top.specs.Formats.{FormatTold, FormatDone}
+use Rattle.ob_top.specs.Flat.{flat_kind}
+use Rattle.ob_kinds.specs.Phases.{Shape, shapes}
+use Rattle.ob_conduct.specs.Acts.{calls}
+use Rattle.ob_flat.specs.declared.opening.Opening.{Opening}
 use Rattle.ob_top.specs.Runs.{CameIn, IsInputRefused, EndsEarly, HasCause, Ran, Went, RunDone}
 use Rattle.ob_top.specs.Complete.{CanFormat, CanRun, RunsWhole, RunAnswers, DoesWhatItCan}
 use Rattle.ob_top.proofs.Judged.{head_told, keys_same, not_closed, not_broken, rows_obey}
 use Rattle.ob_top.proofs.Counted.{one_script}
-use Rattle.ob_top.proofs.Named.{no_bad_number, one_keys, keys_stand}
+use Rattle.ob_top.proofs.Named.{no_bad_number, no_bad_lanes, one_keys, keys_stand}
 
 -- ---- format
 
@@ -94,7 +100,7 @@ module _ (keys : Keys) (p : Params) (g : ℕ) (at : Standing) (image : Image) (s
 keys_few : (p : Params) → p.keys ≤ 2 ^ 32
 keys_few p = omega (arith, p.in_range.few_keys)
 
-module _ (words : List (List ℕ)) (text : Option (Bor (List ℕ))) (old new : Disk) (before after : Outside) (script : Scripts) (can : CanRun words text old new before after script) where
+module _ (words : List (List ℕ)) (text : Option (Bor (List ℕ))) (old new : Disk) (before after : Outside) (script : Scripts) (can : CanRun words text old new before after flat_kind script) where
   input_is : (input : List ℕ) → IsInput before.input.bytes limit input → input ≡ take (limit + 1) can.bytes
   input_is input is = subst (λ (b : Option (List ℕ)). IsInput b limit input) can.told is
 
@@ -121,60 +127,62 @@ module _ (words : List (List ℕ)) (text : Option (Bor (List ℕ))) (old new : D
   one_p : (q : Params) → (old.tells → IsHead can.keys q (old.cells 0)) → q.keys ≡ can.p.keys
   one_p q head = keys_same can.keys q can.p (old.cells 0) (head can.tells) can.stands.head
 
-  early : (f : Fault) → EndsEarly can.keys old new before.input after.input f → status_of (Some f) ≡ 9
+  early : (f : Fault) → EndsEarly flat_kind can.keys old new before.input after.input f → status_of (Some f) ≡ 9
   early f (inl head) = absurd (head_told can.keys can.p (old.cells 0) f can.stands.head head.kind (head.read can.tells) (λ is. can.store_holds (head.cause is)))
   early f (inr (inl input)) = input_told input.p.keys f (one_p input.p input.head) input.refused
   early f (inr (inr opening)) =
-      opening_told can.keys can.p can.generation can.at old.cells can.stands opening.p.keys f (one_p opening.p opening.head) can.generation_left opening.kind (opening.read can.tells) (λ is. can.store_holds (opening.cause is))
+      opening_told can.keys can.p can.generation can.at old.cells can.stands opening.p.keys f (one_p opening.p opening.head) can.lasts.0 opening.kind (opening.read can.tells) (λ is. can.store_holds (opening.cause is))
 
   -- neither the epochs nor the seals came to their end
   not_worn : (k epoch n : ℕ) → k ≡ can.p.keys → epoch ≡ can.at.epoch → n ≤ length script.txns → (suc (epoch + n) ≡ 2 ^ 62) ⊎ (2 ^ 62 < k * n + k) → ⊥
-  not_worn k epoch n keys is few (inl last) = let left = can.epochs_left in omega (arith, last, is)
+  not_worn k epoch n keys is few (inl last) = let left = can.lasts.1 in omega (arith, last, is)
   not_worn k epoch n keys is few (inr past) =
       let more : can.p.keys * n ≤ can.p.keys * length script.txns = mul-le-mul_left can.p.keys few in
       let now : 2 ^ 62 < can.p.keys * n + can.p.keys = subst (λ m. 2 ^ 62 < m * n + m) keys past in
-      let left = can.seals_left in
+      let left = can.lasts.2 in
       omega arith
 
   module _ {S : Type 0} (disk : S → Disk) (passes : ℕ → ℕ → ℕ → ℕ → Bool) (records : List (EpochRecord ℕ)) where
-    ran_keys : (f : Option Fault) (r : Ran disk passes can.keys old new before after records f) → r.p.keys ≡ can.p.keys
+    ran_keys : (f : Option Fault) (r : Ran flat_kind disk passes can.keys old new before after records f) → r.p.keys ≡ can.p.keys
     ran_keys f r = one_p r.p r.opened.head
 
-    ran_epoch : (f : Option Fault) (r : Ran disk passes can.keys old new before after records f) → r.opening.epoch ≡ can.at.epoch
+    ran_epoch : (f : Option Fault) (r : Ran flat_kind disk passes can.keys old new before after records f) → r.found.epoch ≡ can.at.epoch
     ran_epoch f r =
-        let found = (r.opened.found can.tells).found in
-        number_found can.keys 5 old.cells can.at.epoch r.opening.epoch can.stands.epoch found.epoch_whole found.epoch_counts
+        let found = (r.opened.finds can.tells).0.found in
+        number_found can.keys 5 old.cells can.at.epoch r.found.epoch can.stands.epoch found.epoch_whole found.epoch_counts
 
-    ran_script : (f : Option Fault) (r : Ran disk passes can.keys old new before after records f) → r.script ≡ script
+    ran_script : (f : Option Fault) (r : Ran flat_kind disk passes can.keys old new before after records f) → r.script ≡ script
     ran_script f r = came_one r.p.keys r.script (ran_keys f r) r.opened.came
 
-    ran_few : (f : Option Fault) (r : Ran disk passes can.keys old new before after records f) → length records ≤ length script.txns
+    ran_few : (f : Option Fault) (r : Ran flat_kind disk passes can.keys old new before after records f) → length records ≤ length script.txns
     ran_few f r =
         let served = r.is_served.served in
         let epochs = few_epochs records served.some in
         let txns = few_txns r.script.txns records served.first in
         subst (λ (s : Scripts). length records ≤ length s.txns) (ran_script f r) (omega (arith, epochs, txns))
 
-    ran_fault : (f : Fault) (k epoch : ℕ) → k ≡ can.p.keys → epoch ≡ can.at.epoch → length records ≤ length script.txns
-        → HasCause k epoch (length records) old new before.output after.output (Some f) → status_of (Some f) ≡ 9
-    ran_fault fault.Memory k epoch keys is few cause = refl
-    ran_fault fault.SinkFault k epoch keys is few cause = absurd (can.output_holds cause)
-    ran_fault (fault.StoreFault unsure) k epoch keys is few cause = absurd (can.store_holds cause.0)
-    ran_fault (fault.Worn number) k epoch keys is few cause = absurd (not_worn k epoch (length records) keys is few cause.1)
-    ran_fault fault.Usage k epoch keys is few cause = absurd cause
-    ran_fault (fault.BadScript line) k epoch keys is few cause = absurd cause
-    ran_fault (fault.BadParams field) k epoch keys is few cause = absurd cause
-    ran_fault fault.NotStore k epoch keys is few cause = absurd cause
-    ran_fault (fault.Damaged cell check kept computed) k epoch keys is few cause = absurd cause
-    ran_fault (fault.StashFull rows) k epoch keys is few cause = absurd cause
-    ran_fault fault.SourceFault k epoch keys is few cause = absurd cause
+    ran_fault : (f : Fault) (q : Params) (found : Opening) (so_far : List Shape) → q.keys ≡ can.p.keys → found.epoch ≡ can.at.epoch → length records ≤ length script.txns
+        → HasCause flat_kind q found so_far (length records) old new before.output after.output (Some f) → status_of (Some f) ≡ 9
+    ran_fault fault.Memory q found so_far keys is few cause = refl
+    ran_fault fault.SinkFault q found so_far keys is few cause = absurd (can.output_holds cause)
+    ran_fault (fault.StoreFault unsure) q found so_far keys is few cause = absurd (can.store_holds cause.0)
+    ran_fault (fault.Worn number) q found so_far keys is few cause = absurd (not_worn q.keys found.epoch (length records) keys is few cause.1)
+    ran_fault fault.Usage q found so_far keys is few cause = absurd cause
+    ran_fault (fault.BadScript line) q found so_far keys is few cause = absurd cause
+    ran_fault (fault.BadParams field) q found so_far keys is few cause = absurd cause
+    ran_fault fault.NotStore q found so_far keys is few cause = absurd cause
+    ran_fault (fault.Damaged cell check kept computed) q found so_far keys is few cause = absurd cause
+    ran_fault (fault.StashFull rows) q found so_far keys is few cause = absurd cause
+    ran_fault fault.SourceFault q found so_far keys is few cause = absurd cause
 
-    ran_whole : (r : Ran disk passes can.keys old new before after records None) → after.output.bytes ≡ appended before.output.bytes (report decimal records) → RunsWhole passes can.keys old.cells can.at.epoch script before after
+    ran_whole : (r : Ran flat_kind disk passes can.keys old new before after records None) → after.output.bytes ≡ appended before.output.bytes (report decimal records) → RunsWhole flat_kind passes can.keys old.cells can.at.epoch script before after
     ran_whole r written =
         let same = ran_script None r in
         record {
           p = r.p;
           head = r.opened.head can.tells;
+          found = r.found;
+          finds = r.opened.finds can.tells;
           records = records;
           served = subst (λ (s : Scripts). IsServed passes r.p can.at.epoch r.p.batches s records) same (subst (λ e. IsServed passes r.p e r.p.batches r.script records) (ran_epoch None r) r.is_served.served);
           all = subst (λ (s : Scripts). ClientsServedAll s records) same (r.is_served.all refl);
@@ -182,39 +190,49 @@ module _ (words : List (List ℕ)) (text : Option (Bor (List ℕ))) (old new : D
         }
 
     abbrev Answers : ℕ → Type 0
-    Answers status = RunAnswers passes can.keys old.cells can.at.epoch script before after status
+    Answers status = RunAnswers flat_kind passes can.keys old.cells can.at.epoch script before after status
 
-    answers : (status : ℕ) (f : Option Fault) → status ≡ status_of f → (f ≡ None → after.output.bytes ≡ appended before.output.bytes (report decimal records)) → Went disk passes can.keys old new before after records f → Answers status
+    answers : (status : ℕ) (f : Option Fault) → status ≡ status_of f → (f ≡ None → after.output.bytes ≡ appended before.output.bytes (report decimal records)) → Went flat_kind disk passes can.keys old new before after records f → Answers status
     answers status None is written ran = inl (is, ran_whole ran (written refl))
     answers status (Some f) is written (inl (none, ended)) = inr (is ∙ early f ended)
-    answers status (Some f) is written (inr ran) = inr (is ∙ ran_fault f ran.p.keys ran.opening.epoch (ran_keys (Some f) ran) (ran_epoch (Some f) ran) (ran_few (Some f) ran) ran.cause)
+    answers status (Some f) is written (inr ran) = inr (is ∙ ran_fault f ran.p ran.found (shapes (calls ran.is_served.served.acts)) (ran_keys (Some f) ran) (ran_epoch (Some f) ran) (ran_few (Some f) ran) ran.cause)
 
-  pub run_answers : {S : Type 0} (disk : S → Disk) (passes : ℕ → ℕ → ℕ → ℕ → Bool) (status : ℕ) → RunDone disk passes can.keys old new before after status → RunAnswers passes can.keys old.cells can.at.epoch script before after status
+  pub run_answers : {S : Type 0} (disk : S → Disk) (passes : ℕ → ℕ → ℕ → ℕ → Bool) (status : ℕ) → RunDone flat_kind disk passes can.keys old new before after status → RunAnswers flat_kind passes can.keys old.cells can.at.epoch script before after status
   run_answers disk passes status d = answers disk passes d.records status d.fault d.status_is d.all_written d.went
 
 -- ---- both
 
 module _ {S : Type 0} (disk : S → Disk) (passes : ℕ → ℕ → ℕ → ℕ → Bool) (words : List (List ℕ)) (text : Option (Bor (List ℕ))) (old new : S) (before after : Outside) (status : ℕ) where
+  abbrev Tell : Fault → Type 0
+  Tell f = (new ≡ old) × IsOnlyTold f before after status
+
   -- what is told of keys
   abbrev KeysTell : Type 0
-  KeysTell = (f : Fault) × IsKeysRefused text f × (new ≡ old) × IsOnlyTold f before after status
+  KeysTell = (f : Fault) × IsKeysRefused text f × Tell f
 
-  abbrev FormatTells : Type 0
-  FormatTells = ((field : Field) × IsBadNumber words field × (new ≡ old) × IsOnlyTold (fault.BadParams field) before after status)
-      ⊎ ((p : Params) × AreParams words p × (KeysTell ⊎ ((keys : Keys) × HasKeys text keys × FormatDone keys p (disk old) (disk new) before after status)))
+  abbrev FormatTells : List (List ℕ) → Type 0
+  FormatTells numbers = Tell fault.Memory ⊎ (((field : Field) × IsBadNumber numbers field × Tell (fault.BadParams field))
+      ⊎ ((p : Params) × AreParams numbers p × (KeysTell ⊎ ((keys : Keys) × HasKeys text keys × FormatDone keys p (disk old) (disk new) before after status))))
 
-  abbrev RunTells : Type 0
-  RunTells = KeysTell ⊎ ((keys : Keys) × HasKeys text keys × RunDone disk passes keys (disk old) (disk new) before after status)
+  abbrev RunTells : Option (List ℕ) → Type 0
+  RunTells lanes = Tell fault.Memory ⊎ ((AreBadLanes lanes × Tell (fault.BadParams LANES))
+      ⊎ ((k : ℕ) × AreLanes lanes k × (KeysTell ⊎ ((keys : Keys) × HasKeys text keys × RunDone flat_kind disk passes keys (disk old) (disk new) before after status))))
 
-  format_whole : CanFormat words text (disk old) (disk new) before after → FormatTells → status ≡ 0
-  format_whole can (inl (field, bad, kept, told)) = absurd (no_bad_number words can.p field can.params bad)
-  format_whole can (inr (p, are, inl (f, refused, kept, told))) = absurd (keys_stand text can.keys f can.has refused)
-  format_whole can (inr (p, are, inr (keys, has, d))) = d.status_is ∙ format_fault keys p (disk old) (disk new) before after d.fault d.told can.store_holds can.output_holds
+  format_whole : (can : CanFormat words text (disk old) (disk new) before after) → FormatTells can.numbers → (status ≡ 0) ⊎ (status ≡ 9)
+  format_whole can (inl (kept, told)) = inr told.status_is
+  format_whole can (inr (inl (field, bad, (kept, told)))) = absurd (no_bad_number can.numbers can.p field can.params bad)
+  format_whole can (inr (inr (p, are, inl (f, refused, (kept, told))))) = absurd (keys_stand text can.keys f can.has refused)
+  format_whole can (inr (inr (p, are, inr (keys, has, d)))) = inl (d.status_is ∙ format_fault keys p (disk old) (disk new) before after d.fault d.told can.store_holds can.output_holds)
 
-  run_whole : (script : Scripts) (can : CanRun words text (disk old) (disk new) before after script) → RunTells → RunAnswers passes can.keys (disk old).cells can.at.epoch script before after status
-  run_whole script can (inl (f, refused, kept, told)) = absurd (keys_stand text can.keys f can.has refused)
-  run_whole script can (inr (keys, has, d)) =
-      run_answers words text (disk old) (disk new) before after script can disk passes status (subst (λ (k : Keys). RunDone disk passes k (disk old) (disk new) before after status) (one_keys text keys can.keys has can.has) d)
+  run_whole : (script : Scripts) (can : CanRun words text (disk old) (disk new) before after flat_kind script) → RunTells can.lanes → RunAnswers flat_kind passes can.keys (disk old).cells can.at.epoch script before after status
+  run_whole script can (inl (kept, told)) = inr told.status_is
+  run_whole script can (inr (inl (bad, (kept, told)))) = absurd (no_bad_lanes can.lanes can.k can.in_range bad)
+  run_whole script can (inr (inr (k, are, inl (f, refused, (kept, told))))) = absurd (keys_stand text can.keys f can.has refused)
+  run_whole script can (inr (inr (k, are, inr (keys, has, d)))) =
+      run_answers words text (disk old) (disk new) before after script can disk passes status (subst (λ (k : Keys). RunDone flat_kind disk passes k (disk old) (disk new) before after status) (one_keys text keys can.keys has can.has) d)
 
-  pub completes : (is_format words ≡ true → FormatTells) → (is_run words ≡ true → RunTells) → DoesWhatItCan disk passes words text before after status old new
-  completes format run = (λ can. format_whole can (format can.form), λ script can. run_whole script can (run can.form))
+  pub completes : ((store keys : List ℕ) (numbers : List (List ℕ)) → asked_by words ≡ Some (format_asked store keys numbers) → FormatTells numbers)
+      → ((store keys : List ℕ) (lanes : Option (List ℕ)) (turns : Bool) → asked_by words ≡ Some (run_asked store keys lanes turns) → RunTells lanes)
+      → DoesWhatItCan disk passes words text before after status old new
+  completes format run =
+      (λ can. format_whole can (format can.store_path can.keys_path can.numbers can.asked), λ script can. run_whole script can (run can.store_path can.keys_path can.lanes can.turns can.asked))

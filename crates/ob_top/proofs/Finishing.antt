@@ -21,6 +21,10 @@ use Rattle.ob_flat.specs.Formats.{FormatLeaves}
 use Rattle.ob_serial.specs.Serial.{EpochRecord}
 use Rattle.ob_top.specs.Outside.{Outside, LineTold, IsFinished}
 use Rattle.ob_top.specs.Formats.{FormatEnds, FormatTold, FormatDone}
+use Rattle.ob_top.specs.Flat.{flat_kind}
+use Rattle.ob_kinds.specs.Phases.{Shape, shapes}
+use Rattle.ob_flat.specs.declared.opening.Opening.{Opening}
+use Rattle.ob_conduct.specs.Acts.{calls}
 use Rattle.ob_top.specs.Runs.{EndsEarly, HasCause, Ran, Went, RunOn, RunDone}
 use Rattle.ob_top.proofs.Beginnings.{rose_since}
 
@@ -46,30 +50,30 @@ front before after text more p rose = record {
 }
 
 module _ {S : Type 0} (disk : S → Disk) (passes : ℕ → ℕ → ℕ → ℕ → Bool) (keys : Keys) (old new : Disk) (before mid after : Outside) (input : after.input ≡ mid.input) where
-  early_on : (fault : Fault) → EndsEarly keys old new before.input mid.input fault → EndsEarly keys old new before.input after.input fault
-  early_on fault early = subst (λ (f : Flow). EndsEarly keys old new before.input f fault) (sym input) early
+  early_on : (fault : Fault) → EndsEarly flat_kind keys old new before.input mid.input fault → EndsEarly flat_kind keys old new before.input after.input fault
+  early_on fault early = subst (λ (f : Flow). EndsEarly flat_kind keys old new before.input f fault) (sym input) early
 
-  ran_on : (records : List (EpochRecord ℕ)) (fault : Option Fault) (r : Ran disk passes keys old new before mid records fault) → HasCause r.p.keys r.opening.epoch (length records) old new before.output after.output fault → Ran disk passes keys old new before after records fault
+  ran_on : (records : List (EpochRecord ℕ)) (fault : Option Fault) (r : Ran flat_kind disk passes keys old new before mid records fault) → HasCause flat_kind r.p r.found (shapes (calls r.is_served.served.acts)) (length records) old new before.output after.output fault → Ran flat_kind disk passes keys old new before after records fault
   ran_on records fault r cause = record {
     p = r.p;
     script = r.script;
-    opening = r.opening;
-    known = r.known;
+    found = r.found;
+    start = r.start;
     opened = r.opened;
     is_served = r.is_served;
     cause = cause;
-    more = r.more;
-    refused = r.refused;
+    events = r.events;
+    traced = r.traced;
     seen = r.seen;
     between = r.between;
     opening_seen = r.opening_seen;
     serving_seen = r.serving_seen;
-    found = r.found;
+    stood = r.stood;
     left = r.left;
   }
 
   module _ (status : ℕ) where
-    done_whole : (r : RunOn disk passes keys old new before mid None) → IsFinished mid.output after.output None status → RunDone disk passes keys old new before after status
+    done_whole : (r : RunOn flat_kind disk passes keys old new before mid None) → IsFinished mid.output after.output None status → RunDone flat_kind disk passes keys old new before after status
     done_whole r f =
         let bytes : after.output.bytes ≡ appended before.output.bytes (report decimal r.records) = ap (λ (o : Flow). o.bytes) f.line ∙ r.reported.bytes in
         record {
@@ -81,17 +85,17 @@ module _ {S : Type 0} (disk : S → Disk) (passes : ℕ → ℕ → ℕ → ℕ 
           went = ran_on r.records None r.went r.went.cause;
         }
 
-    sink_rose : (records : List (EpochRecord ℕ)) → Went disk passes keys old new before mid records (Some SinkFault) → Rose before.output.faults mid.output.faults
+    sink_rose : (records : List (EpochRecord ℕ)) → Went flat_kind disk passes keys old new before mid records (Some SinkFault) → Rose before.output.faults mid.output.faults
     sink_rose records (inl (none, inl head)) = absurd head.kind
     sink_rose records (inl (none, inr (inl input))) = absurd input.refused
     sink_rose records (inl (none, inr (inr opening))) = absurd opening.kind
     sink_rose records (inr ran) = ran.cause
 
-    sink_went : (records : List (EpochRecord ℕ)) → after.output ≡ mid.output → Went disk passes keys old new before mid records (Some SinkFault) → Went disk passes keys old new before after records (Some SinkFault)
+    sink_went : (records : List (EpochRecord ℕ)) → after.output ≡ mid.output → Went flat_kind disk passes keys old new before mid records (Some SinkFault) → Went flat_kind disk passes keys old new before after records (Some SinkFault)
     sink_went records same (inl (none, early)) = inl (none, early_on SinkFault early)
     sink_went records same (inr ran) = inr (ran_on records (Some SinkFault) ran (subst (λ (f : Flow). Rose before.output.faults f.faults) (sym same) ran.cause))
 
-    done_sink : (r : RunOn disk passes keys old new before mid (Some SinkFault)) → IsFinished mid.output after.output (Some SinkFault) status → RunDone disk passes keys old new before after status
+    done_sink : (r : RunOn flat_kind disk passes keys old new before mid (Some SinkFault)) → IsFinished mid.output after.output (Some SinkFault) status → RunDone flat_kind disk passes keys old new before after status
     done_sink r f = record {
       fault = Some SinkFault;
       status_is = f.status_is;
@@ -107,7 +111,7 @@ module _ {S : Type 0} (disk : S → Disk) (passes : ℕ → ℕ → ℕ → ℕ 
 
     -- any other fault, behind the whole report
     done_other : (fault : Fault) (records : List (EpochRecord ℕ)) → mid.output.bytes ≡ appended before.output.bytes (report decimal records) → before.output.faults ≤ mid.output.faults
-        → IsPrinted mid.output after.output (fault_line (Some fault)) → status ≡ status_of (Some fault) → Went disk passes keys old new before after records (Some fault) → RunDone disk passes keys old new before after status
+        → IsPrinted mid.output after.output (fault_line (Some fault)) → status ≡ status_of (Some fault) → Went flat_kind disk passes keys old new before after records (Some fault) → RunDone flat_kind disk passes keys old new before after status
     done_other fault records bytes later line status_is went = record {
       fault = Some fault;
       status_is = status_is;
@@ -120,24 +124,24 @@ module _ {S : Type 0} (disk : S → Disk) (passes : ℕ → ℕ → ℕ → ℕ 
         no_fault : Some fault ≡ None → ⊥
         no_fault is = cc is
 
-    went_other : (fault : Fault) (records : List (EpochRecord ℕ)) → ((k epoch n : ℕ) → HasCause k epoch n old new before.output mid.output (Some fault) → HasCause k epoch n old new before.output after.output (Some fault))
-        → Went disk passes keys old new before mid records (Some fault) → Went disk passes keys old new before after records (Some fault)
+    went_other : (fault : Fault) (records : List (EpochRecord ℕ)) → ((p : Params) (found : Opening) (so_far : List Shape) (n : ℕ) → HasCause flat_kind p found so_far n old new before.output mid.output (Some fault) → HasCause flat_kind p found so_far n old new before.output after.output (Some fault))
+        → Went flat_kind disk passes keys old new before mid records (Some fault) → Went flat_kind disk passes keys old new before after records (Some fault)
     went_other fault records same (inl (none, early)) = inl (none, early_on fault early)
-    went_other fault records same (inr ran) = inr (ran_on records (Some fault) ran (same ran.p.keys ran.opening.epoch (length records) ran.cause))
+    went_other fault records same (inr ran) = inr (ran_on records (Some fault) ran (same ran.p ran.found (shapes (calls ran.is_served.served.acts)) (length records) ran.cause))
 
-    pub run_done : (fault : Option Fault) → RunOn disk passes keys old new before mid fault → IsFinished mid.output after.output fault status → RunDone disk passes keys old new before after status
+    pub run_done : (fault : Option Fault) → RunOn flat_kind disk passes keys old new before mid fault → IsFinished mid.output after.output fault status → RunDone flat_kind disk passes keys old new before after status
     run_done None r f = done_whole r f
     run_done (Some SinkFault) r f = done_sink r f
-    run_done (Some Memory) r f = done_other Memory r.records r.reported.bytes r.reported.later f.line f.status_is (went_other Memory r.records (λ k epoch n cause. cause) r.went)
-    run_done (Some Usage) r f = done_other Usage r.records r.reported.bytes r.reported.later f.line f.status_is (went_other Usage r.records (λ k epoch n cause. cause) r.went)
-    run_done (Some (BadScript line)) r f = done_other (BadScript line) r.records r.reported.bytes r.reported.later f.line f.status_is (went_other (BadScript line) r.records (λ k epoch n cause. cause) r.went)
-    run_done (Some (BadParams field)) r f = done_other (BadParams field) r.records r.reported.bytes r.reported.later f.line f.status_is (went_other (BadParams field) r.records (λ k epoch n cause. cause) r.went)
-    run_done (Some NotStore) r f = done_other NotStore r.records r.reported.bytes r.reported.later f.line f.status_is (went_other NotStore r.records (λ k epoch n cause. cause) r.went)
-    run_done (Some (Damaged cell check kept computed)) r f = done_other (Damaged cell check kept computed) r.records r.reported.bytes r.reported.later f.line f.status_is (went_other (Damaged cell check kept computed) r.records (λ k epoch n cause. cause) r.went)
-    run_done (Some (StoreFault unsure)) r f = done_other (StoreFault unsure) r.records r.reported.bytes r.reported.later f.line f.status_is (went_other (StoreFault unsure) r.records (λ k epoch n cause. cause) r.went)
-    run_done (Some (StashFull rows)) r f = done_other (StashFull rows) r.records r.reported.bytes r.reported.later f.line f.status_is (went_other (StashFull rows) r.records (λ k epoch n cause. cause) r.went)
-    run_done (Some (Worn number)) r f = done_other (Worn number) r.records r.reported.bytes r.reported.later f.line f.status_is (went_other (Worn number) r.records (λ k epoch n cause. cause) r.went)
-    run_done (Some SourceFault) r f = done_other SourceFault r.records r.reported.bytes r.reported.later f.line f.status_is (went_other SourceFault r.records (λ k epoch n cause. cause) r.went)
+    run_done (Some Memory) r f = done_other Memory r.records r.reported.bytes r.reported.later f.line f.status_is (went_other Memory r.records (λ p found so_far n cause. cause) r.went)
+    run_done (Some Usage) r f = done_other Usage r.records r.reported.bytes r.reported.later f.line f.status_is (went_other Usage r.records (λ p found so_far n cause. cause) r.went)
+    run_done (Some (BadScript line)) r f = done_other (BadScript line) r.records r.reported.bytes r.reported.later f.line f.status_is (went_other (BadScript line) r.records (λ p found so_far n cause. cause) r.went)
+    run_done (Some (BadParams field)) r f = done_other (BadParams field) r.records r.reported.bytes r.reported.later f.line f.status_is (went_other (BadParams field) r.records (λ p found so_far n cause. cause) r.went)
+    run_done (Some NotStore) r f = done_other NotStore r.records r.reported.bytes r.reported.later f.line f.status_is (went_other NotStore r.records (λ p found so_far n cause. cause) r.went)
+    run_done (Some (Damaged cell check kept computed)) r f = done_other (Damaged cell check kept computed) r.records r.reported.bytes r.reported.later f.line f.status_is (went_other (Damaged cell check kept computed) r.records (λ p found so_far n cause. cause) r.went)
+    run_done (Some (StoreFault unsure)) r f = done_other (StoreFault unsure) r.records r.reported.bytes r.reported.later f.line f.status_is (went_other (StoreFault unsure) r.records (λ p found so_far n cause. cause) r.went)
+    run_done (Some (StashFull rows)) r f = done_other (StashFull rows) r.records r.reported.bytes r.reported.later f.line f.status_is (went_other (StashFull rows) r.records (λ p found so_far n cause. cause) r.went)
+    run_done (Some (Worn number)) r f = done_other (Worn number) r.records r.reported.bytes r.reported.later f.line f.status_is (went_other (Worn number) r.records (λ p found so_far n cause. cause) r.went)
+    run_done (Some SourceFault) r f = done_other SourceFault r.records r.reported.bytes r.reported.later f.line f.status_is (went_other SourceFault r.records (λ p found so_far n cause. cause) r.went)
 
 module _ (keys : Keys) (p : Params) (old new : Disk) (before mid after : Flow) where
   format_told : (fault : Option Fault) → FormatEnds keys p old new before mid fault → LineTold mid after fault → FormatTold keys p old new before after fault

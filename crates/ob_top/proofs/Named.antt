@@ -1,5 +1,5 @@
 -- Words name one list of numbers, and a text one triple of keys.
-use Rattle.std.proofs.Common.{◌≡◌, ◌<◌, ◌^◌, ◌*◌, ◌++◌, ℕ, List, [], ◌∷◌, drop, length, Option, Some, None, refl, sym, ap, inl, inr, arith, ◌∙◌, length-append}
+use Rattle.std.proofs.Common.{◌≡◌, ◌<◌, ◌^◌, ◌*◌, ◌++◌, ℕ, List, [], ◌∷◌, length, Option, Some, None, refl, sym, ap, inl, inr, arith, ◌∙◌, length-append}
 use Rattle.std.specs.Borrow.{Bor}
 use Rattle.std.proofs.lemmas.Fmt.{decimal_injective}
 use Rattle.hex.proofs.HexLemmas.{decode_of-ok, decode_of-same}
@@ -11,7 +11,7 @@ use Rattle.ob_seal.specs.KeyText.{digits_of}
 use Rattle.ob_seal.proofs.KeyLemmas.{is_key_text}
 use Rattle.ob_seal.proofs.SpelledAlike.{split_same}
 use Rattle.ob_flat.specs.Heads.{numbers_of}
-use Rattle.ob_top.specs.Words.{Denotes, AllDenote, AreParams, IsBadNumber, AreKeys, HasKeys, IsKeysRefused, first_out}
+use Rattle.ob_top.specs.Words.{Denotes, AllDenote, AreParams, IsBadNumber, AreLanes, AreBadLanes, AreKeys, HasKeys, IsKeysRefused, first_out}
 use Rattle.ob_top.proofs.Judged.{none_some}
 
 one_number : (word : List ℕ) (m n : ℕ) → 0 < m → m < 2 ^ 32 → Denotes word m → Denotes word n → m ≡ n
@@ -73,8 +73,13 @@ params_small p =
 -- where the numbers are in range, none is told to be out of it
 pub no_bad_number : (words : List (List ℕ)) (p : Params) (field : Field) → AreParams words p → IsBadNumber words field → ⊥
 no_bad_number words p field good bad =
-    let same = one_list (drop 3 words) (numbers_of p) bad.numbers (params_small p) good.denote bad.denote in
+    let same = one_list words (numbers_of p) bad.numbers (params_small p) good.denote bad.denote in
     none_some (first_out bad.numbers) field (ap first_out (sym same) ∙ good.in_range) bad.first
+
+-- nor lanes that are
+pub no_bad_lanes : (lanes : Option (List ℕ)) (k : ℕ) → AreLanes lanes k → AreBadLanes lanes → ⊥
+no_bad_lanes None k are bad = absurd bad
+no_bad_lanes (Some word) k (is, some, few) bad = bad k some few is
 
 keys_made : (a : Keys) (s t u : List ℕ) → a.seal ≡ s → a.tag ≡ t → a.tape ≡ u → a ≡ record { seal = s; tag = t; tape = u }
 keys_made a s t u p q r = rw (← p, ← q, ← r) refl

@@ -10,8 +10,8 @@ use Rattle.ob_runner.specs.RunnerViews.{client_of, bound_of, MayHaveMade}
 use Rattle.ob_runner.specs.Runners.{IsNewOf, AreRunners}
 use Rattle.ob_desk.specs.Desk.{MayOpen, new_desk}
 
-pub may_open : (p : Params) (epoch : ℕ) (script : Scripts) → epoch < 2 ^ 62 → AreSound script → MayOpen (record { params = p }) (suc epoch) p.batches script.clients
-may_open p epoch script small sound = record { few_left = omega arith; low_epoch = omega (arith, small); named = sound.named; rising = sound.rising }
+pub may_open : (p : Params) (epoch left : ℕ) (script : Scripts) → epoch < 2 ^ 62 → left ≤ p.batches → AreSound script → MayOpen (record { params = p }) (suc epoch) left script.clients
+may_open p epoch left script small few sound = record { few_left = few; low_epoch = omega (arith, small); named = sound.named; rising = sound.rising }
 
 module _ (script : Scripts) (runners : List ScriptRunner) (are : AreRunners script runners) where
   pub none_made : All (λ u. MayHaveMade u []) runners
@@ -20,8 +20,8 @@ module _ (script : Scripts) (runners : List ScriptRunner) (are : AreRunners scri
   pub below_all : (keys : ℕ) → script.keys ≡ keys → All (λ u. bound_of u ≤ keys) runners
   below_all keys same = All-weaker (IsNewOf script) (λ u. bound_of u ≤ keys) (λ u n. let b = n.bound ∙ same in omega (arith, b)) runners are.new
 
-  pub opens_all : (p : Params) (epoch left : ℕ) → epoch < 2 ^ 62 → left ≡ p.batches → AreSound script → MayOpen (record { params = p }) (suc epoch) left (map client_of runners)
-  opens_all p epoch left small all sound = subst (MayOpen (record { params = p }) (suc epoch) left) (sym are.clients_are) (subst (λ l. MayOpen (record { params = p }) (suc epoch) l script.clients) (sym all) (may_open p epoch script small sound))
+  pub opens_all : (p : Params) (epoch left : ℕ) → epoch < 2 ^ 62 → left ≤ p.batches → AreSound script → MayOpen (record { params = p }) (suc epoch) left (map client_of runners)
+  opens_all p epoch left small few sound = subst (MayOpen (record { params = p }) (suc epoch) left) (sym are.clients_are) (may_open p epoch left script small few sound)
 
 -- a new desk by other names of its epoch, batches and clients
 pub new_same : (p : Params) (a e l m : ℕ) (xs ys : List ℕ) → a ≡ suc e → l ≡ m → xs ≡ ys → new_desk (record { params = p }) a l xs ≡ new_desk (record { params = p }) (suc e) m ys

@@ -10,9 +10,11 @@ use Rattle.ob_store.specs.Disk.{Disk}
 use Rattle.ob_store.specs.Images.{LeavesOnly, Settled}
 use Rattle.ob_store.proofs.Moments.{then_on, weakened}
 use Rattle.ob_serial.specs.Vaults.{Standing, StandsIn}
-use Rattle.ob_flat.specs.Calls.{opened_at}
-use Rattle.ob_flat.specs.Openings.{IsOpenedAt}
-use Rattle.ob_flat.specs.Standing.{StandsFlat, Stands, AllStand, StandsAsBefore}
+use Rattle.ob_kinds.specs.Phases.{Shape, shapes}
+use Rattle.ob_kinds.specs.Kinds.{Stands, AllStand, StandsAsBefore, IsOpenedAt, opened_with}
+use Rattle.ob_flat.specs.Standing.{StandsFlat}
+use Rattle.ob_conduct.specs.Acts.{calls}
+use Rattle.ob_top.specs.Flat.{flat_kind}
 use Rattle.ob_conduct.specs.Left.{IsLeftStanding}
 use Rattle.ob_store.specs.Calls.{Notes}
 use Rattle.ob_store.proofs.Events.{joined}
@@ -21,11 +23,11 @@ use Rattle.ob_serial.specs.Serial.{EpochRecord}
 use Rattle.ob_script.specs.Script.{Scripts}
 use Rattle.ob_flat.specs.declared.opening.Opening.{Opening}
 use Rattle.ob_top.specs.Outside.{Outside, outside}
-use Rattle.ob_top.specs.Runs.{EndsEarly, IsOpened, HasCause, IsReported, IsLeft, LeftByRun, Serves, Ran, Went, RunOn, begin_events, ends_events}
+use Rattle.ob_top.specs.Runs.{EndsEarly, IsOpened, HasCause, IsReported, IsLeft, LeftByRun, Serves, Ran, Went, RunOn, begin_events}
 use Rattle.ob_top.proofs.Beginnings.{rose_since}
 
 -- an early end has printed nothing, which is the report of no records
-pub early_reported : (keys : Keys) (old new : Disk) (before after output : Flow) (fault : Fault) → EndsEarly keys old new before after fault → IsReported output output [] (Some fault)
+pub early_reported : (keys : Keys) (old new : Disk) (before after output : Flow) (fault : Fault) → EndsEarly flat_kind keys old new before after fault → IsReported output output [] (Some fault)
 early_reported keys old new before after output SinkFault (inl head) = absurd head.kind
 early_reported keys old new before after output SinkFault (inr (inl input)) = absurd input.refused
 early_reported keys old new before after output SinkFault (inr (inr opening)) = absurd opening.kind
@@ -40,74 +42,74 @@ early_reported keys old new before after output (StashFull rows) early = record 
 early_reported keys old new before after output (Worn number) early = record { bytes = appended-none output.bytes; later = omega arith }
 early_reported keys old new before after output SourceFault early = record { bytes = appended-none output.bytes; later = omega arith }
 
-pub ended_early : {S : Type 0} (disk : S → Disk) (passes : ℕ → ℕ → ℕ → ℕ → Bool) (keys : Keys) (old new : Disk) (before after output : Flow) (fault : Fault) → EndsEarly keys old new before after fault → RunOn disk passes keys old new (outside before output) (outside after output) (Some fault)
+pub ended_early : {S : Type 0} (disk : S → Disk) (passes : ℕ → ℕ → ℕ → ℕ → Bool) (keys : Keys) (old new : Disk) (before after output : Flow) (fault : Fault) → EndsEarly flat_kind keys old new before after fault → RunOn flat_kind disk passes keys old new (outside before output) (outside after output) (Some fault)
 ended_early disk passes keys old new before after output fault early = record {
   records = [];
   reported = early_reported keys old new before after output fault early;
   went = inl (refl, early);
 }
 
-module _ (keys epoch n : ℕ) (old mid new : Disk) (before after : Flow) (later : old.faults ≤ mid.faults) where
+module _ (p : Params) (found : Opening) (so_far : List Shape) (n : ℕ) (old mid new : Disk) (before after : Flow) (later : old.faults ≤ mid.faults) where
   -- the store's count rose since an earlier moment too
-  pub cause_since : (fault : Option Fault) → HasCause keys epoch n mid new before after fault → HasCause keys epoch n old new before after fault
+  pub cause_since : (fault : Option Fault) → HasCause flat_kind p found so_far n mid new before after fault → HasCause flat_kind p found so_far n old new before after fault
   cause_since None cause = cause
   cause_since (Some Memory) cause = cause
   cause_since (Some SinkFault) cause = cause
   cause_since (Some (StoreFault unsure)) (rose, which) = (rose_since old.faults mid.faults new.faults later rose, which)
   cause_since (Some (Worn number)) cause = cause
-  cause_since (Some Usage) cause = absurd cause
-  cause_since (Some (BadScript line)) cause = absurd cause
-  cause_since (Some (BadParams field)) cause = absurd cause
-  cause_since (Some NotStore) cause = absurd cause
-  cause_since (Some (Damaged cell check kept computed)) cause = absurd cause
-  cause_since (Some (StashFull rows)) cause = absurd cause
-  cause_since (Some SourceFault) cause = absurd cause
+  cause_since (Some Usage) cause = cause
+  cause_since (Some (BadScript line)) cause = cause
+  cause_since (Some (BadParams field)) cause = cause
+  cause_since (Some NotStore) cause = cause
+  cause_since (Some (Damaged cell check kept computed)) cause = cause
+  cause_since (Some (StashFull rows)) cause = cause
+  cause_since (Some SourceFault) cause = cause
 
-pub went_of : {S : Type 0} (disk : S → Disk) (passes : ℕ → ℕ → ℕ → ℕ → Bool) (keys : Keys) (old new : Disk) (before after : Outside) (records : List (EpochRecord ℕ)) (fault : Option Fault) → Ran disk passes keys old new before after records fault → Went disk passes keys old new before after records fault
+pub went_of : {S : Type 0} (disk : S → Disk) (passes : ℕ → ℕ → ℕ → ℕ → Bool) (keys : Keys) (old new : Disk) (before after : Outside) (records : List (EpochRecord ℕ)) (fault : Option Fault) → Ran flat_kind disk passes keys old new before after records fault → Went flat_kind disk passes keys old new before after records fault
 went_of disk passes keys old new before after records None ran = ran
 went_of disk passes keys old new before after records (Some fault) ran = inr ran
 
 -- What a crash leaves of the opening and of the serving.
-left_both : (keys : Keys) (old mid new : Disk) (p : Params) (opening : Opening) (at : Standing) (script : Scripts) (records : List (EpochRecord ℕ)) (fault : Option Fault)
-    → LeavesOnly old mid (StandsAsBefore keys p old) → IsLeft keys p opening at script records fault mid new → LeftByRun keys p opening at script records fault old mid new
-left_both keys old mid new p opening at script records fault first l = record {
+left_both : (keys : Keys) (old mid new : Disk) (p : Params) (found : Opening) (at : Standing) (script : Scripts) (records : List (EpochRecord ℕ)) (fault : Option Fault)
+    → LeavesOnly old mid (StandsAsBefore flat_kind keys p old) → IsLeft flat_kind keys p found at script records fault mid new → LeftByRun flat_kind keys p found at script records fault old mid new
+left_both keys old mid new p found at script records fault first l = record {
   next = l.next;
   is_next = l.is_next;
   opening = first;
   serving = l.since;
-  since = then_on old mid new (λ c. StandsAsBefore keys p old c ⊎ StandsIn (StandsFlat keys p opening.sealer.generation) (IsLeftStanding (opened_at p at) records l.next) c)
-      (weakened old mid (StandsAsBefore keys p old) (λ c. StandsAsBefore keys p old c ⊎ StandsIn (StandsFlat keys p opening.sealer.generation) (IsLeftStanding (opened_at p at) records l.next) c) (λ c is. inl is) first)
-      (weakened mid new (StandsIn (StandsFlat keys p opening.sealer.generation) (IsLeftStanding (opened_at p at) records l.next)) (λ c. StandsAsBefore keys p old c ⊎ StandsIn (StandsFlat keys p opening.sealer.generation) (IsLeftStanding (opened_at p at) records l.next) c) (λ c is. inr is) l.since);
+  since = then_on old mid new (λ c. StandsAsBefore flat_kind keys p old c ⊎ StandsIn (StandsFlat keys p found.sealer.generation) (IsLeftStanding (opened_with p p.batches at) records l.next) c)
+      (weakened old mid (StandsAsBefore flat_kind keys p old) (λ c. StandsAsBefore flat_kind keys p old c ⊎ StandsIn (StandsFlat keys p found.sealer.generation) (IsLeftStanding (opened_with p p.batches at) records l.next) c) (λ c is. inl is) first)
+      (weakened mid new (StandsIn (StandsFlat keys p found.sealer.generation) (IsLeftStanding (opened_with p p.batches at) records l.next)) (λ c. StandsAsBefore flat_kind keys p old c ⊎ StandsIn (StandsFlat keys p found.sealer.generation) (IsLeftStanding (opened_with p p.batches at) records l.next) c) (λ c is. inr is) l.since);
   now = l.now;
 }
 
 -- The script was run over the store that was opened.
-pub ran : {S : Type 0} (disk : S → Disk) (passes : ℕ → ℕ → ℕ → ℕ → Bool) (keys : Keys) (old : Disk) (between : S) (new : Disk) (input input_new output output_new : Flow) (p : Params) (script : Scripts) (opening : Opening) (known : Open) (fault : Option Fault) → old.faults ≤ (disk between).faults
-    → IsOpened keys old input p script opening known → Notes (begin_events p.keys opening.epoch known opening.sealer.generation) old.seen (disk between).seen
+pub ran : {S : Type 0} (disk : S → Disk) (passes : ℕ → ℕ → ℕ → ℕ → Bool) (keys : Keys) (old : Disk) (between : S) (new : Disk) (input input_new output output_new : Flow) (p : Params) (script : Scripts) (found : Opening) (start : Open) (fault : Option Fault) → old.faults ≤ (disk between).faults
+    → IsOpened flat_kind keys old input p script found start → Notes (begin_events flat_kind p found start) old.seen (disk between).seen
     → (old.tells → (disk between).tells × Settled (disk between))
-    → ((at : Standing) → old.tells → Stands keys p old.cells at → IsOpenedAt keys p at opening (disk between))
-    → ((at : Standing) → old.tells → Stands keys p old.cells at → AllStand keys p old → LeavesOnly old (disk between) (StandsAsBefore keys p old))
-    → Serves passes keys p opening script (disk between) new output output_new fault
-    → RunOn disk passes keys old new (outside input output) (outside input_new output_new) fault
-ran disk passes keys old between new input input_new output output_new p script opening known fault later opened seen durable stood before s = record {
+    → ((at : Standing) → old.tells → Stands flat_kind keys p old.cells at → IsOpenedAt flat_kind keys p at found (disk between))
+    → ((at : Standing) → old.tells → Stands flat_kind keys p old.cells at → AllStand flat_kind keys p old → LeavesOnly old (disk between) (StandsAsBefore flat_kind keys p old))
+    → Serves flat_kind passes keys p found script (disk between) new output output_new fault
+    → RunOn flat_kind disk passes keys old new (outside input output) (outside input_new output_new) fault
+ran disk passes keys old between new input input_new output output_new p script found start fault later opened seen durable stood before s = record {
   records = s.records;
   reported = s.reported;
   went = went_of disk passes keys old new (outside input output) (outside input_new output_new) s.records fault (record {
     p = p;
     script = script;
-    opening = opening;
-    known = known;
+    found = found;
+    start = start;
     opened = opened;
     is_served = s.is_served;
-    cause = cause_since p.keys opening.epoch (length s.records) old (disk between) new output output_new later fault s.cause;
-    more = s.more;
-    refused = s.refused;
-    seen = joined (begin_events p.keys opening.epoch known opening.sealer.generation) (ends_events p.keys opening.gates.epoch opening.epoch (length s.records) ++ s.more) old.seen (disk between).seen new.seen seen s.seen;
+    cause = cause_since p found (shapes (calls s.is_served.served.acts)) (length s.records) old (disk between) new output output_new later fault s.cause;
+    events = s.events;
+    traced = s.traced;
+    seen = joined (begin_events flat_kind p found start) s.events old.seen (disk between).seen new.seen seen s.seen;
     between = between;
     opening_seen = seen;
     serving_seen = s.seen;
-    found = stood;
+    stood = stood;
     left = λ at tells stands all. let (told, settled) = durable tells in
-        left_both keys old (disk between) new p opening at script s.records fault (before at tells stands all) (s.left at told settled (stood at tells stands));
+        left_both keys old (disk between) new p found at script s.records fault (before at tells stands all) (s.left at told settled (stood at tells stands));
   });
 }

@@ -1,8 +1,8 @@
--- What serving a script does to the store that the vault was lent.
+-- What serving a script does to the store that the vault was lent, whatever the kind of store.
 use Rattle.std.specs.List.{All}
-use Rattle.std.proofs.Common.{Bool, true, false, ◌≡◌, ◌≤◌, ◌<◌, ◌^◌, ◌+◌, ◌*◌, ◌∙◌, ◌⊎◌, ℕ, suc, List, [], ◌∷◌, ◌++◌, length, map, take, Option, Some, None, Result, Ok, Err, refl, sym, ap, subst, inl, inr, arith, ⊎_elim}
+use Rattle.std.proofs.Common.{Bool, true, false, ◌≡◌, ◌≤◌, ◌+◌, ◌∙◌, ◌⊎◌, ℕ, suc, List, [], ◌∷◌, ◌++◌, length, map, Option, Some, None, Result, Ok, Err, refl, sym, ap, subst, inl, inr, arith, ⊎_elim}
 use Rattle.std.proofs.lemmas.List.{append-nil, append_assoc}
-use Rattle.std.proofs.lemmas.List.Elements.{All-head}
+use Rattle.std.proofs.lemmas.Option.{same_Some}
 use Rattle.std.proofs.lemmas.Grind.{flat_map-append}
 use Rattle.std.specs.Ordering.{nat_cmp}
 use Rattle.std.specs.Prelude.{decimal}
@@ -12,39 +12,46 @@ use Rattle.ob_base.specs.declared.fault.Fault.TheVariants.{Memory, Usage, BadScr
 use Rattle.ob_base.specs.Causes.{Rose}
 use Rattle.ob_report.specs.Printed.{Flow, IsPrinted}
 use Rattle.ob_report.specs.Report.{report}
-use Rattle.ob_seal.specs.Sealing.{Sealing}
 use Rattle.ob_store.specs.declared.event.Event.{Event}
 use Rattle.ob_store.specs.declared.watch.Note.{Note}
 use Rattle.ob_store.specs.Disk.{Disk, Image}
 use Rattle.ob_store.specs.Images.{LeavesOnly, Settled}
-use Rattle.ob_store.proofs.Moments.{weakened}
-use Rattle.ob_seal.specs.declared.keys.Keys.{Keys}
+use Rattle.ob_store.specs.Lines.{Trace}
 use Rattle.ob_store.specs.Calls.{Notes, IsStoreFault}
 use Rattle.ob_store.proofs.Events.{joined, none_noted}
-use Rattle.ob_twin.specs.declared.gates.Open.{Open}
+use Rattle.ob_store.proofs.Moments.{weakened}
+use Rattle.ob_seal.specs.declared.keys.Keys.{Keys}
 use Rattle.ob_serial.specs.Serial.{EpochRecord, Map}
 use Rattle.ob_serial.specs.VaultViews.{end_answer}
 use Rattle.ob_serial.specs.declared.vault.EndErr.{EndErr}
 use Rattle.ob_serial.specs.declared.vault.EndErr.TheVariants.{Before, Unsure}
-use Rattle.ob_served.specs.Served.{ClientsServedAll}
-use Rattle.ob_serial.specs.Vaults.{Standing, StandsIn, VaultCall, Fetch, End, VaultAnswer, Values, Ended, RefusedBy, DoubtBy}
+use Rattle.ob_serial.specs.Vaults.{Standing, StandsIn, VaultState, VaultCall, Fetch, End, VaultAnswer, Values, Ended, RefusedBy, DoubtBy}
 use Rattle.ob_serial.specs.VaultKinds.{Kind, Called, AllCalled, ended_of, ended_by}
+use Rattle.ob_kinds.specs.Phases.{Shape, Fetches, Ends, events_of, shapes, refused}
+use Rattle.ob_kinds.specs.Kinds.{StoreKind, IsOpenedAt, opened_with}
+use Rattle.ob_kinds.specs.Shown.{steps_phases, public_behind, IsCut}
+use Rattle.ob_kinds.specs.Laws.{AllAnswered}
+use Rattle.ob_kinds.proofs.Shapes.{events_join, shapes_join, answered_not_refused, refused_last}
 use Rattle.ob_script.specs.Script.{ScriptTxn, Scripts, AreSound, asks_by}
-use Rattle.ob_flat.specs.Calls.{FlatCalled, RefusedDoes, IsCut, IsWorn, Holding, opened_at}
-use Rattle.ob_flat.specs.Orders.{end_events}
-use Rattle.ob_flat.specs.Standing.{IsMapOf, StandsFlat}
-use Rattle.ob_flat.specs.declared.opening.Opening.{Opening}
-use Rattle.ob_flat.specs.Openings.{IsOpenedAt}
 use Rattle.ob_desk.specs.Desk.{DeskState, MayOpen, Call, Reply, new_desk}
 use Rattle.ob_session.specs.Clients.{told_of, has_signed_off, was_refused}
 use Rattle.ob_runner.specs.Meaning.{MeantFirst, MeantAll}
-use Rattle.ob_conduct.specs.Acts.{Act, Batch, EndFails, FetchFails, history, calls, vault_calls, rest_fetches, records as records_of_acts}
-use Rattle.ob_conduct.specs.Conducted.{Conducted, RunEnds, IsWritten, IsShort, IsUnprinted, IsFetchRefused, IsEndRefused, AreAnswered, AreWritten, HoldsMap, fault_in}
+use Rattle.ob_conduct.specs.Acts.{Act, Says, Halts, Rests as Looked, Takes, Delivers, DeliverFails, FetchFails, Closes, Publishes, Refuses, Unprinted, calls, vault_calls, rest_fetches, fault_in, fault_told, records as records_of_acts}
+use Rattle.ob_conduct.specs.Rounds.{InRounds}
+use Rattle.ob_conduct.specs.Scenes.{Scene, scene, RunState, run_state, RunnerKind}
+use Rattle.ob_conduct.specs.Records.{IsWritten, AreAnswered, AreWritten, HoldsMap}
+use Rattle.ob_conduct.specs.Moves.{Failure, IsReason, AreLines, IsUnended}
+use Rattle.ob_conduct.specs.Conducted.{Conducted, ByHand, RunEnds}
 use Rattle.ob_conduct.specs.Left.{Rests, OnlyNow, IsLeftStanding, TellsDoubt, IsNextOf}
 use Rattle.ob_conduct.proofs.Leaving.{run_leaves}
-use Rattle.ob_conduct.proofs.Moving.{goes_all}
-use Rattle.ob_served.proofs.Whole.{is_served, all_served, next_served}
-use Rattle.ob_top.specs.Runs.{ends_events, known_behind, HasCause, IsRefusedEnd, IsReported, IsLeft, IsNext, ComesNext, ScriptServed, Serves, fault_of}
+use Rattle.ob_conduct.proofs.Moving.{goes_all, called, rose_since}
+use Rattle.ob_conduct.proofs.Acting.{written_none, answered_rest}
+use Rattle.ob_conduct.proofs.Going.{answered_join}
+use Rattle.ob_conduct.proofs.Conducting.{due_epoch, due_in_order, due_one_by_one}
+use Rattle.ob_served.specs.Served.{IsServed, ClientsServedAll}
+use Rattle.ob_served.proofs.Whole.{is_served, its_acts, all_served, next_served}
+use Rattle.ob_top.specs.Runs.{HasCause, IsTraced, IsReported, IsLeft, IsNext, ComesNext, Serves, fault_of}
+use Rattle.ob_top.proofs.Steps.{Goes, Stops, CallDoes}
 
 -- an end that was refused ended nothing
 none_ended : (writes : List (ℕ × Option (List ℕ))) (refused : EndErr) → ended_by (End writes, end_answer (Err refused)) ≡ []
@@ -58,85 +65,72 @@ counted [] (r ∷ records) are = absurd are
 counted (w ∷ written) [] are = absurd are
 counted (w ∷ written) (r ∷ records) (one, are) = ap suc (counted written records are)
 
-answered_fetches : (batches : List Batch) → AreAnswered (rest_fetches batches)
-answered_fetches [] = tt
-answered_fetches (batch ∷ batches) = answered_fetches batches
+all_answered : (steps : List (VaultCall × VaultAnswer)) → AreAnswered steps → AllAnswered steps
+all_answered [] are = tt
+all_answered ((Fetch keys, Values values) ∷ steps) are = all_answered steps are
+all_answered ((End writes, Ended) ∷ steps) are = all_answered steps are
+all_answered ((Fetch keys, Ended) ∷ steps) are = absurd are
+all_answered ((Fetch keys, RefusedBy fault) ∷ steps) are = absurd are
+all_answered ((Fetch keys, DoubtBy fault) ∷ steps) are = absurd are
+all_answered ((End writes, Values values) ∷ steps) are = absurd are
+all_answered ((End writes, RefusedBy fault) ∷ steps) are = absurd are
+all_answered ((End writes, DoubtBy fault) ∷ steps) are = absurd are
 
-answered_both : (xs ys : List (VaultCall × VaultAnswer)) → AreAnswered xs → AreAnswered ys → AreAnswered (xs ++ ys)
-answered_both [] ys a b = b
-answered_both ((Fetch keys, Values values) ∷ xs) ys a b = answered_both xs ys a b
-answered_both ((End writes, Ended) ∷ xs) ys a b = answered_both xs ys a b
-answered_both ((Fetch keys, Ended) ∷ xs) ys a b = absurd a
-answered_both ((Fetch keys, RefusedBy fault) ∷ xs) ys a b = absurd a
-answered_both ((Fetch keys, DoubtBy fault) ∷ xs) ys a b = absurd a
-answered_both ((End writes, Values values) ∷ xs) ys a b = absurd a
-answered_both ((End writes, RefusedBy fault) ∷ xs) ys a b = absurd a
-answered_both ((End writes, DoubtBy fault) ∷ xs) ys a b = absurd a
+-- the calls before a last act, and its own
+last_calls : (acts front : List Act) (act : Act) → acts ≡ front ++ act ∷ [] → calls acts ≡ calls front ++ vault_calls act
+last_calls acts front act is = ap calls is ∙ flat_map-append vault_calls front (act ∷ []) ∙ ap (λ l. calls front ++ l) (append-nil (vault_calls act))
 
--- the calls up to a last act whose last call was refused
-last_call : (front : List Act) (act : Act) (batches : List Batch) (call : VaultCall) (answer : VaultAnswer) → vault_calls act ≡ rest_fetches batches ++ (call, answer) ∷ []
-    → calls (front ++ act ∷ []) ≡ (calls front ++ rest_fetches batches) ++ (call, answer) ∷ []
-last_call front act batches call answer is =
-    flat_map-append vault_calls front (act ∷ []) ∙ ap (λ l. calls front ++ l) (append-nil (vault_calls act) ∙ is) ∙ sym (append_assoc (calls front) (rest_fetches batches) ((call, answer) ∷ []))
+module _ {V S : Type 0} (k : Kind V) (store : StoreKind) (disk : S → Disk) (store_of : V → S) (p : Params) (found : store.Found) (At : store.Public → List Shape → ℕ → V → Type 0)
+    (does : (q : store.Public) (so_far : List Shape) (n : ℕ) (v : V) (call : VaultCall) (answer : VaultAnswer) (notes : List Note) (w : V) → At q so_far n v → k.called v call answer notes w
+    → CallDoes store p found At (disk (store_of v)) (disk (store_of w)) w q so_far n call answer) where
+  -- Behind calls that were all answered: what they drew, what was seen, and where the vault is.
+  pub record Behind (q : store.Public) (so_far : List Shape) (n : ℕ) (first : V) (steps : List (VaultCall × VaultAnswer)) (last : V) : Type 0 where
+    pub taken : List (Shape × store.Drawn)
+    pub shapes_are : map (λ s. s.0) taken ≡ shapes steps
+    pub at : At (public_behind store p q taken) (so_far ++ shapes steps) (n + length (ended_of steps)) last
+    pub seen : Notes (events_of (steps_phases store p q taken)) (disk (store_of first)).seen (disk (store_of last)).seen
 
-module _ {V S : Type 0} (k : Kind V) (disk : S → Disk) (store_of : V → S) (sealing_of : V → Sealing) (p_of : V → Params) (known_of : V → Open) (epoch_of : V → ℕ) (values_of : V → List (Option (List ℕ)))
-    (flat : (v : V) (call : VaultCall) (answer : VaultAnswer) (notes : List Note) (w : V) → k.called v call answer notes w
-    → FlatCalled (p_of v) (known_of v) (epoch_of v) (values_of w) (record { store = store_of v; sealing = sealing_of v }) (record { store = store_of w; sealing = sealing_of w }) (disk (store_of v)) (disk (store_of w)) notes call answer (p_of w) (known_of w) (epoch_of w)) where
-  -- Behind so many ends: what is known, and what was seen.
-  pub record Behind (first last : V) (n : ℕ) : Type 0 where
-    pub params : p_of last ≡ p_of first
-    pub epoch : epoch_of last ≡ epoch_of first + n
-    pub known : known_of last ≡ known_behind (known_of first) (epoch_of first) n
-    pub sealed : (sealing_of last).next ≡ (sealing_of first).next + (p_of first).keys * n
-    pub seen : Notes (ends_events (p_of first).keys (known_of first) (epoch_of first) n) (disk (store_of first)).seen (disk (store_of last)).seen
-
-  stays : (first : V) → Behind first first 0
-  stays first = record { params = refl; epoch = omega arith; known = refl; sealed = no_more (p_of first).keys (sealing_of first).next; seen = none_noted _ }
+  stays : (q : store.Public) (so_far : List Shape) (n : ℕ) (v : V) → At q so_far n v → Behind q so_far n v [] v
+  stays q so_far n v at = record {
+    taken = [];
+    shapes_are = refl;
+    at = subst (λ (l : List Shape). At q l (n + length {A = List (ℕ × Option (List ℕ))} []) v) (sym (append-nil so_far)) (subst (λ m. At q so_far m v) (no_more n) at);
+    seen = none_noted _;
+  }
     where
-      no_more : (k m : ℕ) → m ≡ m + k * 0
-      no_more k m = omega arith
+      no_more : (m : ℕ) → m ≡ m + length {A = List (ℕ × Option (List ℕ))} []
+      no_more m = omega arith
 
-  -- a batch before them
-  after_fetch : (first mid last : V) (keys : List (Option ℕ)) (values : List (Option (List ℕ))) (n : ℕ) → Called k first (Fetch keys) (Values values) mid → Behind mid last n → Behind first last n
-  after_fetch first mid last keys values n one b =
-      let f = flat first (Fetch keys) (Values values) one.notes mid one.called in
-      let (same, none) = f.does in
-      let (known, epoch) = f.knows in
-      record {
-        params = b.params ∙ f.params;
-        epoch = b.epoch ∙ ap (λ e. e + n) epoch;
-        known = b.known ∙ rw (known, epoch) refl;
-        sealed = b.sealed ∙ rw (f.params, ap (λ (h : Holding S). h.sealing.next) same) refl;
-        seen = subst (λ (s : S). Notes (ends_events (p_of first).keys (known_of first) (epoch_of first) n) (disk s).seen (disk (store_of last)).seen) (ap (λ (h : Holding S). h.store) same) (rw (f.params, known, epoch) at b.seen);
-      }
+  -- one call before them
+  before_it : (q : store.Public) (so_far : List Shape) (n : ℕ) (first mid last : V) (shape : Shape) (m : ℕ) (step : VaultCall × VaultAnswer) (steps : List (VaultCall × VaultAnswer)) → shapes (step ∷ steps) ≡ shape ∷ shapes steps
+      → m + length (ended_of steps) ≡ n + length (ended_of (step ∷ steps)) → (one : Goes store p At (disk (store_of first)) (disk (store_of mid)) mid q so_far shape m) → Behind (store.next p q shape one.drawn) (so_far ++ shape ∷ []) m mid steps last
+      → Behind q so_far n first (step ∷ steps) last
+  before_it q so_far n first mid last shape m step steps is counts one b = record {
+    taken = (shape, one.drawn) ∷ b.taken;
+    shapes_are = ap (λ (l : List Shape). shape ∷ l) b.shapes_are ∙ sym is;
+    at = subst (λ (l : List Shape). At (public_behind store p q ((shape, one.drawn) ∷ b.taken)) l (n + length (ended_of (step ∷ steps))) last) (append_assoc so_far (shape ∷ []) (shapes steps) ∙ ap (λ (l : List Shape). so_far ++ l) (sym is))
+        (subst (λ i. At (public_behind store p q ((shape, one.drawn) ∷ b.taken)) ((so_far ++ shape ∷ []) ++ shapes steps) i last) counts b.at);
+    seen = subst (λ (l : List Event). Notes l (disk (store_of first)).seen (disk (store_of last)).seen) (sym (events_join (store.phases p q shape one.drawn) (steps_phases store p (store.next p q shape one.drawn) b.taken)))
+        (joined (events_of (store.phases p q shape one.drawn)) (events_of (steps_phases store p (store.next p q shape one.drawn) b.taken)) _ _ _ one.seen b.seen);
+  }
 
-  -- an end before them
-  after_end : (first mid last : V) (writes : List (ℕ × Option (List ℕ))) (n : ℕ) → Called k first (End writes) Ended mid → Behind mid last n → Behind first last (suc n)
-  after_end first mid last writes n one b =
-      let f = flat first (End writes) Ended one.notes mid one.called in
-      let (known, epoch) = f.knows in
-      record {
-        params = b.params ∙ f.params;
-        epoch = b.epoch ∙ rw epoch (omega arith);
-        known = b.known ∙ rw (known, epoch) refl;
-        sealed = b.sealed ∙ rw (f.params, ap (λ (x : Sealing). x.next) f.does.seals) (one_more (p_of first).keys n (sealing_of first).next);
-        seen = joined (end_events (p_of first).keys (known_of first) (suc (epoch_of first))) _ _ _ _ f.does.seen (rw (f.params, known, epoch) at b.seen);
-      }
+  pub behind : (q : store.Public) (so_far : List Shape) (n : ℕ) (first : V) (steps : List (VaultCall × VaultAnswer)) (last : V) → At q so_far n first → AllCalled k first steps last → AreAnswered steps → Behind q so_far n first steps last
+  behind q so_far n first [] last at chain answered = subst (λ w. Behind q so_far n first [] w) (sym chain) (stays q so_far n first at)
+  behind q so_far n first ((Fetch keys, Values values) ∷ steps) last at (mid, one, rest) answered =
+      let goes = does q so_far n first (Fetch keys) (Values values) one.notes mid at one.called in
+      before_it q so_far n first mid last Fetches n (Fetch keys, Values values) steps refl refl goes (behind (store.next p q Fetches goes.drawn) (so_far ++ Fetches ∷ []) n mid steps last goes.at rest answered)
+  behind q so_far n first ((End writes, Ended) ∷ steps) last at (mid, one, rest) answered =
+      let goes = does q so_far n first (End writes) Ended one.notes mid at one.called in
+      before_it q so_far n first mid last Ends (suc n) (End writes, Ended) steps refl (one_more n (length (ended_of steps))) goes (behind (store.next p q Ends goes.drawn) (so_far ++ Ends ∷ []) (suc n) mid steps last goes.at rest answered)
     where
-      one_more : (k n m : ℕ) → (m + k) + k * n ≡ m + k * suc n
-      one_more k n m = omega arith
-
-  -- calls that were all answered
-  pub behind : (first : V) (steps : List (VaultCall × VaultAnswer)) (last : V) → AllCalled k first steps last → AreAnswered steps → Behind first last (length (ended_of steps))
-  behind first [] last chain answered = subst (λ w. Behind first w 0) (sym chain) (stays first)
-  behind first ((Fetch keys, Values values) ∷ steps) last (mid, one, rest) answered = after_fetch first mid last keys values _ one (behind mid steps last rest answered)
-  behind first ((End writes, Ended) ∷ steps) last (mid, one, rest) answered = after_end first mid last writes _ one (behind mid steps last rest answered)
-  behind first ((Fetch keys, Ended) ∷ steps) last chain answered = absurd answered
-  behind first ((Fetch keys, RefusedBy fault) ∷ steps) last chain answered = absurd answered
-  behind first ((Fetch keys, DoubtBy fault) ∷ steps) last chain answered = absurd answered
-  behind first ((End writes, Values values) ∷ steps) last chain answered = absurd answered
-  behind first ((End writes, RefusedBy fault) ∷ steps) last chain answered = absurd answered
-  behind first ((End writes, DoubtBy fault) ∷ steps) last chain answered = absurd answered
+      one_more : (i j : ℕ) → suc i + j ≡ i + suc j
+      one_more i j = omega arith
+  behind q so_far n first ((Fetch keys, Ended) ∷ steps) last at chain answered = absurd answered
+  behind q so_far n first ((Fetch keys, RefusedBy fault) ∷ steps) last at chain answered = absurd answered
+  behind q so_far n first ((Fetch keys, DoubtBy fault) ∷ steps) last at chain answered = absurd answered
+  behind q so_far n first ((End writes, Values values) ∷ steps) last at chain answered = absurd answered
+  behind q so_far n first ((End writes, RefusedBy fault) ∷ steps) last at chain answered = absurd answered
+  behind q so_far n first ((End writes, DoubtBy fault) ∷ steps) last at chain answered = absurd answered
 
   split : (first : V) (front : List (VaultCall × VaultAnswer)) (call : VaultCall) (answer : VaultAnswer) (last : V) → AllCalled k first (front ++ (call, answer) ∷ []) last → (mid : V) × AllCalled k first front mid × Called k mid call answer last
   split first [] call answer last (end, one, same) = (first, refl, subst (λ w. Called k first call answer w) (sym same) one)
@@ -146,245 +140,276 @@ module _ {V S : Type 0} (k : Kind V) (disk : S → Disk) (store_of : V → S) (s
   none_more [] call answer none = append-nil (ended_by (call, answer)) ∙ none
   none_more (step ∷ front) call answer none = ap (λ l. ended_by step ++ l) (none_more front call answer none)
 
-  module _ (p : Params) (first last : V) (before after : Flow) (records : List (EpochRecord ℕ)) (params : p_of first ≡ p) (fresh : (sealing_of first).next ≡ 0) where
-    -- How it ended: why, what was written, and what was seen.
-    pub record Ending (fault : Option Fault) : Type 0 where
-      pub cause : HasCause p.keys (epoch_of first) (length records) (disk (store_of first)) (disk (store_of last)) before after fault
+  module _ (first last : V) (before after : Flow) (records : List (EpochRecord ℕ)) (begun : At (store.public found) [] 0 first) where
+    abbrev old_disk : Disk
+    old_disk = disk (store_of first)
+
+    abbrev new_disk : Disk
+    new_disk = disk (store_of last)
+
+    -- How it ended, after these calls: why, what was written, and what was seen.
+    pub record Ending (asked : List (VaultCall × VaultAnswer)) (fault : Option Fault) : Type 0 where
+      pub cause : HasCause store p found (shapes asked) (length records) (disk (store_of first)) (disk (store_of last)) before after fault
       pub reported : IsReported before after records fault
-      pub more : List Event
-      pub refused : IsRefusedEnd p.keys (known_of first) (epoch_of first) (length records) fault more
-      pub seen : Notes (ends_events p.keys (known_of first) (epoch_of first) (length records) ++ more) (disk (store_of first)).seen (disk (store_of last)).seen
+      pub events : List Event
+      pub traced : IsTraced store p (store.public found) asked fault events
+      pub seen : Notes events (disk (store_of first)).seen (disk (store_of last)).seen
 
-    -- so many ends, and no more
-    ends_alone : (n : ℕ) → n ≡ length records → Behind first last n → Notes (ends_events p.keys (known_of first) (epoch_of first) (length records) ++ []) (disk (store_of first)).seen (disk (store_of last)).seen
-    ends_alone n is b = rw (append-nil (ends_events p.keys (known_of first) (epoch_of first) (length records))) (rw (params, is) at b.seen)
-
-    -- and a front of one more
-    module _ (mid : V) (n : ℕ) (is : n ≡ length records) (b : Behind first mid n) where
-      small : suc (epoch_of mid) ≡ suc (epoch_of first + length records)
-      small = ap suc (b.epoch ∙ ap (λ m. epoch_of first + m) is)
-
-      cut : (notes : List Note) → IsCut (p_of mid).keys (known_of mid) (epoch_of mid) (sealing_of mid) (sealing_of last) (disk (store_of mid)) (disk (store_of last)) notes
-          → (more : List Event) × ((c : ℕ) × (more ≡ take c (end_events p.keys (known_behind (known_of first) (epoch_of first) (length records)) (suc (epoch_of first + length records)))))
-          × Notes (ends_events p.keys (known_of first) (epoch_of first) (length records) ++ more) (disk (store_of first)).seen (disk (store_of last)).seen
-      cut notes one =
-          let (c, within, seen) = one.seen in
-          let all : end_events (p_of mid).keys (known_of mid) (suc (epoch_of mid)) ≡ end_events p.keys (known_behind (known_of first) (epoch_of first) (length records)) (suc (epoch_of first + length records)) =
-          rw (b.params ∙ params, b.known, small, is) refl in
-          let front = end_events p.keys (known_behind (known_of first) (epoch_of first) (length records)) (suc (epoch_of first + length records)) in
-          (take c front, (c, refl), joined (ends_events p.keys (known_of first) (epoch_of first) (length records)) (take c front) _ _ _ (rw (params, is) at b.seen) (rw all at seen))
-
-      -- the end was refused with this fault
-      by_store : (unsure : Option ℕ) (notes : List Note) → (unsure ≡ None) ⊎ (unsure ≡ Some (suc (epoch_of mid))) → IsCut (p_of mid).keys (known_of mid) (epoch_of mid) (sealing_of mid) (sealing_of last) (disk (store_of mid)) (disk (store_of last)) notes
-          → Rose (disk (store_of first)).faults (disk (store_of last)).faults → IsWritten (report decimal records) before after → Ending (Some (StoreFault unsure))
-      by_store unsure notes which one rose written =
-          let (more, front, seen) = cut notes one in
-          record {
-            cause = (rose, subst (λ e. (unsure ≡ None) ⊎ (unsure ≡ Some e)) small which);
-            reported = written;
-            more = more;
-            refused = front;
-            seen = seen;
-          }
-
-      -- so many rows were sealed
-      room : (sealing_of mid).next + (p_of mid).keys ≡ p.keys * length records + p.keys
-      room = rw (b.sealed, b.params ∙ params, params, fresh, is) (none_before (p.keys * length records) p.keys)
-        where
-          none_before : (m k : ℕ) → (0 + m) + k ≡ m + k
-          none_before m k = omega arith
-
-      worn : (suc (epoch_of mid) ≡ 2 ^ 62) ⊎ (2 ^ 62 < (sealing_of mid).next + (p_of mid).keys) → (suc (epoch_of first + length records) ≡ 2 ^ 62) ⊎ (2 ^ 62 < p.keys * length records + p.keys)
-      worn (inl last_one) = inl (sym small ∙ last_one)
-      worn (inr no_room) = inr (subst (λ m. 2 ^ 62 < m) room no_room)
-
-      by_worn : (number : ℕ) (notes : List Note) → number ≡ 2 ^ 62 → IsWorn (p_of mid).keys (epoch_of mid) (sealing_of mid) (sealing_of last) (store_of mid) (store_of last) notes → IsWritten (report decimal records) before after → Ending (Some (Worn number))
-      by_worn number notes is_last one written = record {
-        cause = (is_last, worn one.last);
-        reported = written;
-        more = [];
-        refused = refl;
-        seen = rw (append-nil (ends_events p.keys (known_of first) (epoch_of first) (length records))) (rw one.same (rw (params, is) at b.seen));
-      }
-
-      by_refusal : (fault : Fault) (notes : List Note) → RefusedDoes (p_of mid).keys (known_of mid) (epoch_of mid) (record { store = store_of mid; sealing = sealing_of mid }) (record { store = store_of last; sealing = sealing_of last }) (disk (store_of mid)) (disk (store_of last)) notes fault
-          → (IsStoreFault fault → Rose (disk (store_of first)).faults (disk (store_of last)).faults) → IsWritten (report decimal records) before after → Ending (Some fault)
-      by_refusal (StoreFault unsure) notes (none, one) rose written = by_store unsure notes (inl none) one (rose tt) written
-      by_refusal (Worn number) notes (is_last, one) rose written = by_worn number notes is_last one written
-      by_refusal Memory notes does rose written = absurd does
-      by_refusal Usage notes does rose written = absurd does
-      by_refusal (BadScript line) notes does rose written = absurd does
-      by_refusal (BadParams field) notes does rose written = absurd does
-      by_refusal NotStore notes does rose written = absurd does
-      by_refusal (Damaged cell check kept computed) notes does rose written = absurd does
-      by_refusal (StashFull rows) notes does rose written = absurd does
-      by_refusal SourceFault notes does rose written = absurd does
-      by_refusal SinkFault notes does rose written = absurd does
-
-      by_doubt : (fault : Fault) (notes : List Note) → (fault ≡ StoreFault (Some (suc (epoch_of mid)))) → IsCut (p_of mid).keys (known_of mid) (epoch_of mid) (sealing_of mid) (sealing_of last) (disk (store_of mid)) (disk (store_of last)) notes
-          → (IsStoreFault fault → Rose (disk (store_of first)).faults (disk (store_of last)).faults) → IsWritten (report decimal records) before after → Ending (Some fault)
-      by_doubt fault notes doubt one rose written = subst (λ (f : Fault). Ending (Some f)) (sym doubt)
-          (by_store (Some (suc (epoch_of mid))) notes (inr refl) one (subst (λ (f : Fault). IsStoreFault f → Rose (disk (store_of first)).faults (disk (store_of last)).faults) doubt rose tt) written)
-
-      -- the end was refused, or left in doubt
-      by_end : (writes : List (ℕ × Option (List ℕ))) (refused : EndErr) → Called k mid (End writes) (end_answer (Err refused)) last
-          → (IsStoreFault (fault_in refused) → Rose (disk (store_of first)).faults (disk (store_of last)).faults) → IsWritten (report decimal records) before after → Ending (Some (fault_in refused))
-      by_end writes (Before fault) one rose written = by_refusal fault one.notes (flat mid (End writes) (RefusedBy fault) one.notes last one.called).does rose written
-      by_end writes (Unsure fault) one rose written =
-          let (doubt, was_cut) = (flat mid (End writes) (DoubtBy fault) one.notes last one.called).does in
-          by_doubt fault one.notes doubt was_cut rose written
+    none_cut : (q : store.Public) (one : Option Shape) (fault : Option Fault) → one ≡ None → IsCut store p q one fault []
+    none_cut q one fault is = subst (λ (o : Option Shape). IsCut store p q o fault []) (sym is) refl
 
     -- no call was refused
-    ends_seen : (steps : List (VaultCall × VaultAnswer)) → AllCalled k first steps last → AreAnswered steps → AreWritten (ended_of steps) records
-        → Notes (ends_events p.keys (known_of first) (epoch_of first) (length records) ++ []) (disk (store_of first)).seen (disk (store_of last)).seen
-    ends_seen steps chain answered wrote = ends_alone (length (ended_of steps)) (counted (ended_of steps) records wrote) (behind first steps last chain answered)
+    ends_alone : (asked : List (VaultCall × VaultAnswer)) → AllCalled k first asked last → AreAnswered asked → (fault : Option Fault) → HasCause store p found (shapes asked) (length records) (disk (store_of first)) (disk (store_of last)) before after fault
+        → IsReported before after records fault → Ending asked fault
+    ends_alone asked chain answered fault cause reported =
+        let b = behind (store.public found) [] 0 first asked last begun chain answered in
+        record {
+          cause = cause;
+          reported = reported;
+          events = events_of (steps_phases store p (store.public found) b.taken) ++ [];
+          traced = record {
+            steps = b.taken;
+            shapes_are = b.shapes_are;
+            more = [];
+            cut = none_cut (public_behind store p (store.public found) b.taken) (refused asked) fault (answered_not_refused asked (all_answered asked answered));
+            events_are = refl;
+          };
+          seen = subst (λ (l : List Event). Notes l (disk (store_of first)).seen (disk (store_of last)).seen) (sym (append-nil (events_of (steps_phases store p (store.public found) b.taken)))) b.seen;
+        }
 
     module _ (faults : (v : V) → (k.disk v).faults ≡ (disk (store_of v)).faults) where
       rises : Rose (k.disk first).faults (k.disk last).faults → Rose (disk (store_of first)).faults (disk (store_of last)).faults
       rises rose = subst (λ n. Rose (disk (store_of first)).faults n) (faults last) (subst (λ n. Rose n (k.disk last).faults) (faults first) rose)
 
-      -- a batch is never refused by a plain vault
-      no_fetch : (new : DeskState) (acts : List Act) (fault : Fault) → AllCalled k first (calls acts) last → IsFetchRefused k first last new acts fault → ⊥
-      no_fetch new acts fault chain r =
-          let front = calls r.front ++ rest_fetches r.batches in
-          let (mid, before_it, one) = split first front (Fetch r.keys) (RefusedBy fault) last
-          (subst (λ l. AllCalled k first l last) (ap calls r.acts_are ∙ last_call r.front (FetchFails r.look r.batches r.keys fault) r.batches (Fetch r.keys) (RefusedBy fault) refl) chain) in
-          (flat mid (Fetch r.keys) (RefusedBy fault) one.notes last one.called).does
+      -- the vault refused a call
+      cause_of : (so_far : List Shape) (n : ℕ) (shape : Shape) (fault : Fault) (mid : V) (q : store.Public) → Stops store p found (disk (store_of mid)) (disk (store_of last)) q so_far n shape fault → so_far ≡ so_far → n ≡ length records
+          → (IsStoreFault fault → Rose (k.disk first).faults (k.disk last).faults) → HasCause store p found so_far (length records) (disk (store_of first)) (disk (store_of last)) before after (Some fault)
+      cause_of so_far n shape (StoreFault unsure) mid q s same is rose = (rises (rose tt), subst (λ m. (unsure ≡ None) ⊎ (unsure ≡ Some (suc (store.epoch found + m)))) is s.why)
+      cause_of so_far n shape Memory mid q s same is rose = tt
+      cause_of so_far n shape SinkFault mid q s same is rose = absurd s.why
+      cause_of so_far n shape (Worn number) mid q s same is rose = subst (λ m. store.causes p found so_far m (Worn number)) is s.why
+      cause_of so_far n shape Usage mid q s same is rose = subst (λ m. store.causes p found so_far m Usage) is s.why
+      cause_of so_far n shape (BadScript line) mid q s same is rose = subst (λ m. store.causes p found so_far m (BadScript line)) is s.why
+      cause_of so_far n shape (BadParams field) mid q s same is rose = subst (λ m. store.causes p found so_far m (BadParams field)) is s.why
+      cause_of so_far n shape NotStore mid q s same is rose = subst (λ m. store.causes p found so_far m NotStore) is s.why
+      cause_of so_far n shape (Damaged cell check kept computed) mid q s same is rose = subst (λ m. store.causes p found so_far m (Damaged cell check kept computed)) is s.why
+      cause_of so_far n shape (StashFull rows) mid q s same is rose = subst (λ m. store.causes p found so_far m (StashFull rows)) is s.why
+      cause_of so_far n shape SourceFault mid q s same is rose = subst (λ m. store.causes p found so_far m SourceFault) is s.why
 
-      end_refused : (old new : DeskState) (acts : List Act) (fault : Fault) → AllCalled k first (calls acts) last → AreWritten (ended_of (calls acts)) records → IsEndRefused k first last old new acts fault
-          → IsWritten (report decimal records) before after → Ending (Some fault)
-      end_refused old new acts fault chain wrote r written =
-          let front = calls r.front ++ rest_fetches r.batches in
-          let calls_are : calls acts ≡ front ++ (End r.writes, end_answer (Err r.refused)) ∷ [] =
-          ap calls r.acts_are ∙ last_call r.front (EndFails r.look r.batches r.writes r.refused) r.batches (End r.writes) (end_answer (Err r.refused)) refl in
-          let (mid, before_it, one) = split first front (End r.writes) (end_answer (Err r.refused)) last (subst (λ l. AllCalled k first l last) calls_are chain) in
-          let none : ended_of (calls acts) ≡ ended_of front = ap ended_of calls_are ∙ none_more front (End r.writes) (end_answer (Err r.refused)) (none_ended r.writes r.refused) in
-          let answered : AreAnswered front = answered_both (calls r.front) (rest_fetches r.batches) r.answered (answered_fetches r.batches) in
-          subst (λ (f : Fault). Ending (Some f)) (sym r.fault_is)
-          (by_end mid (length (ended_of front)) (ap length (sym none) ∙ counted (ended_of (calls acts)) records wrote) (behind first front mid before_it answered) r.writes r.refused one
-          (λ store. rises (r.cause (subst IsStoreFault (sym r.fault_is) store))) written)
+      -- the output doesn't fail a vault's call
+      all_reported : (store_fault : Fault) (so_far : List Shape) (n : ℕ) (shape : Shape) (q : store.Public) (a b : Disk) → Stops store p found a b q so_far n shape store_fault → IsWritten (report decimal records) before after → IsReported before after records (Some store_fault)
+      all_reported SinkFault so_far n shape q a b s written = absurd s.why
+      all_reported Memory so_far n shape q a b s written = written
+      all_reported Usage so_far n shape q a b s written = written
+      all_reported (BadScript line) so_far n shape q a b s written = written
+      all_reported (BadParams field) so_far n shape q a b s written = written
+      all_reported NotStore so_far n shape q a b s written = written
+      all_reported (Damaged cell check kept computed) so_far n shape q a b s written = written
+      all_reported (StoreFault unsure) so_far n shape q a b s written = written
+      all_reported (StashFull rows) so_far n shape q a b s written = written
+      all_reported (Worn number) so_far n shape q a b s written = written
+      all_reported SourceFault so_far n shape q a b s written = written
 
-      ending : (old new : DeskState) (acts : List Act) (result : Result (Unit {0}) Fault) → AllCalled k first (calls acts) last → AreWritten (ended_of (calls acts)) records
-          → IsPrinted before after (report decimal records) → RunEnds k first last old new acts (report decimal records) before after result → Ending (fault_of result)
-      ending old new acts (Ok done) chain wrote printed (answered, over, written) = record {
-        cause = tt;
-        reported = written;
-        more = [];
-        refused = refl;
-        seen = ends_seen (calls acts) chain answered wrote;
-      }
-      ending old new acts (Err fault) chain wrote printed (inl (short, written)) = subst (λ (f : Fault). Ending (Some f)) (sym short.fault_is) (record {
-        cause = tt;
-        reported = written;
-        more = [];
-        refused = refl;
-        seen = ends_seen (calls acts) chain short.answered wrote;
-      })
-      ending old new acts (Err fault) chain wrote printed (inr (inl unprinted)) = subst (λ (f : Fault). Ending (Some f)) (sym unprinted.fault_is) (record {
-        cause = unprinted.rose;
-        reported = printed;
-        more = [];
-        refused = refl;
-        seen = ends_seen (calls acts) chain unprinted.answered wrote;
-      })
-      ending old new acts (Err fault) chain wrote printed (inr (inr (inl fetch, written))) = absurd (no_fetch new acts fault chain fetch)
-      ending old new acts (Err fault) chain wrote printed (inr (inr (inr end, written))) = end_refused old new acts fault chain wrote end written
+      -- a last call was refused with this fault, behind others that were answered
+      cut_short : (front : List (VaultCall × VaultAnswer)) (call : VaultCall) (answer : VaultAnswer) (shape : Shape) (fault : Fault) → AllCalled k first (front ++ (call, answer) ∷ []) last → AreAnswered front → AreWritten (ended_of front) records
+          → refused ((call, answer) ∷ []) ≡ Some shape → shapes ((call, answer) ∷ []) ≡ []
+          → ((q : store.Public) (so_far : List Shape) (n : ℕ) (v : V) (notes : List Note) (w : V) → At q so_far n v → k.called v call answer notes w → Stops store p found (disk (store_of v)) (disk (store_of w)) q so_far n shape fault)
+          → (IsStoreFault fault → Rose (k.disk first).faults (k.disk last).faults) → IsWritten (report decimal records) before after → Ending (front ++ (call, answer) ∷ []) (Some fault)
+      cut_short front call answer shape fault chain answered wrote is none stops cause written =
+          let (mid, before_last, one) = split first front call answer last chain in
+          let b = behind (store.public found) [] 0 first front mid begun before_last answered in
+          let q = public_behind store p (store.public found) b.taken in
+          let s = stops q (shapes front) (0 + length (ended_of front)) mid one.notes last b.at one.called in
+          let all : shapes (front ++ (call, answer) ∷ []) ≡ shapes front = shapes_join front ((call, answer) ∷ []) ∙ ap (λ (l : List Shape). shapes front ++ l) none ∙ append-nil (shapes front) in
+          record {
+            cause = subst (λ (l : List Shape). HasCause store p found l (length records) (disk (store_of first)) (disk (store_of last)) before after (Some fault)) (sym all)
+                (cause_of (shapes front) (0 + length (ended_of front)) shape fault mid q s refl (none_before (length (ended_of front)) ∙ counted (ended_of front) records wrote) cause);
+            reported = all_reported fault (shapes front) (0 + length (ended_of front)) shape q (disk (store_of mid)) (disk (store_of last)) s written;
+            events = events_of (steps_phases store p (store.public found) b.taken) ++ s.more;
+            traced = record {
+              steps = b.taken;
+              shapes_are = b.shapes_are ∙ sym all;
+              more = s.more;
+              cut = subst (λ (o : Option Shape). IsCut store p q o (Some fault) s.more) (sym (refused_last front (call, answer) (all_answered front answered) ∙ is)) s.cut;
+              events_are = refl;
+            };
+            seen = joined (events_of (steps_phases store p (store.public found) b.taken)) s.more _ _ _ b.seen s.seen;
+          }
+        where
+          none_before : (m : ℕ) → 0 + m ≡ m
+          none_before m = omega arith
+
+      -- a refused batch, and a refused end
+      by_fetch : (front : List (VaultCall × VaultAnswer)) (keys : List (Option ℕ)) (fault : Fault) → AllCalled k first (front ++ (Fetch keys, RefusedBy fault) ∷ []) last → AreAnswered front → AreWritten (ended_of front) records
+          → (IsStoreFault fault → Rose (k.disk first).faults (k.disk last).faults) → IsWritten (report decimal records) before after → Ending (front ++ (Fetch keys, RefusedBy fault) ∷ []) (Some fault)
+      by_fetch front keys fault chain answered wrote cause written = cut_short front (Fetch keys) (RefusedBy fault) Fetches fault chain answered wrote refl refl (λ q so_far n v notes w at one. does q so_far n v (Fetch keys) (RefusedBy fault) notes w at one) cause written
+
+      by_end : (front : List (VaultCall × VaultAnswer)) (writes : List (ℕ × Option (List ℕ))) (refusal : EndErr) → AllCalled k first (front ++ (End writes, end_answer (Err refusal)) ∷ []) last → AreAnswered front → AreWritten (ended_of front) records
+          → (IsStoreFault (fault_in refusal) → Rose (k.disk first).faults (k.disk last).faults) → IsWritten (report decimal records) before after → Ending (front ++ (End writes, end_answer (Err refusal)) ∷ []) (Some (fault_in refusal))
+      by_end front writes (Before fault) chain answered wrote cause written = cut_short front (End writes) (RefusedBy fault) Ends fault chain answered wrote refl refl (λ q so_far n v notes w at one. does q so_far n v (End writes) (RefusedBy fault) notes w at one) cause written
+      by_end front writes (Unsure fault) chain answered wrote cause written = cut_short front (End writes) (DoubtBy fault) Ends fault chain answered wrote refl refl (λ q so_far n v notes w at one. does q so_far n v (End writes) (DoubtBy fault) notes w at one) cause written
+
+      module _ (acts : List Act) (same : records_of_acts acts ≡ records) (chain : AllCalled k first (calls acts) last) (wrote : AreWritten (ended_of (calls acts)) records) (printed : IsPrinted before after (report decimal records)) where
+        module _ (d e : DeskState) (t u : Trace) (fault : Fault) (f : Failure k (scene d first t) (scene e last u) acts before after fault) where
+          its_calls : (act : Act) → f.act ≡ act → calls acts ≡ calls f.front ++ vault_calls act
+          its_calls act is = last_calls acts f.front act (f.acts_are ∙ ap (λ (x : Act). f.front ++ x ∷ []) is)
+
+          its_fault : (act : Act) (other : Fault) → f.act ≡ act → fault_told act ≡ Some other → Ending (calls acts) (Some other) → Ending (calls acts) (Some fault)
+          its_fault act other is tells = subst (λ (x : Option Fault). Ending (calls acts) x) (sym (sym f.told ∙ ap fault_told is ∙ tells))
+
+          -- it asked the vault for nothing
+          answered_all : (act : Act) → f.act ≡ act → vault_calls act ≡ [] → AreAnswered (calls acts)
+          answered_all act is asks = subst AreAnswered (sym (its_calls act is ∙ ap (λ l. calls f.front ++ l) asks ∙ append-nil (calls f.front))) f.answered
+
+          -- it was refused one call, behind these
+          by_last : (front : List (VaultCall × VaultAnswer)) (call : VaultCall) (answer : VaultAnswer) (given : Fault) → fault ≡ given → calls acts ≡ front ++ (call, answer) ∷ [] → ended_by (call, answer) ≡ []
+              → (AllCalled k first (front ++ (call, answer) ∷ []) last → AreWritten (ended_of front) records → (IsStoreFault given → Rose (k.disk first).faults (k.disk last).faults) → Ending (front ++ (call, answer) ∷ []) (Some given)) → Ending (calls acts) (Some fault)
+          by_last front call answer given fault_is are none so = subst (λ l. Ending l (Some fault)) (sym are) (subst (λ (x : Fault). Ending (front ++ (call, answer) ∷ []) (Some x)) (sym fault_is)
+              (so (subst (λ l. AllCalled k first l last) are chain) (subst (λ ws. AreWritten ws records) (ap ended_of are ∙ none_more front call answer none) wrote) (λ is. f.cause (subst IsStoreFault (sym fault_is) is))))
+
+          told_by : (act : Act) (given : Fault) → f.act ≡ act → fault_told act ≡ Some given → fault ≡ given
+          told_by act given is tells = same_Some fault given (sym f.told ∙ ap fault_told is ∙ tells)
+
+          by_act : (act : Act) → f.act ≡ act → IsReason k (scene d first t) f.front act → AreLines act records before after → Ending (calls acts) (Some fault)
+          by_act (Halts given) is reason lines = its_fault (Halts given) Memory is (ap Some reason) (ends_alone (calls acts) chain (answered_all (Halts given) is refl) (Some Memory) tt lines)
+          by_act Unprinted is reason lines = its_fault Unprinted SinkFault is refl
+              (ends_alone (calls acts) chain (answered_all Unprinted is refl) (Some SinkFault) (rose_since before.faults lines.mid.faults after.faults lines.written.later lines.rose) printed)
+          by_act (DeliverFails keys given) is reason lines = by_last (calls f.front) (Fetch keys) (RefusedBy given) given (told_by (DeliverFails keys given) given is refl) (its_calls (DeliverFails keys given) is) refl
+              (λ c w cause. by_fetch (calls f.front) keys given c f.answered w cause lines)
+          by_act (FetchFails look batches keys given) is reason lines = by_last (calls f.front ++ rest_fetches batches) (Fetch keys) (RefusedBy given) given (told_by (FetchFails look batches keys given) given is refl)
+              (its_calls (FetchFails look batches keys given) is ∙ sym (append_assoc (calls f.front) (rest_fetches batches) ((Fetch keys, RefusedBy given) ∷ []))) refl
+              (λ c w cause. by_fetch (calls f.front ++ rest_fetches batches) keys given c (answered_join (calls f.front) (rest_fetches batches) f.answered (subst AreAnswered (append-nil (rest_fetches batches)) (answered_rest batches [] tt))) w cause lines)
+          by_act (Refuses writes refusal) is reason lines = by_last (calls f.front) (End writes) (end_answer (Err refusal)) (fault_in refusal) (told_by (Refuses writes refusal) (fault_in refusal) is refl) (its_calls (Refuses writes refusal) is) (none_ended writes refusal)
+              (λ c w cause. by_end (calls f.front) writes refusal c f.answered w cause lines)
+          by_act (Says client steps) is reason lines = absurd reason
+          by_act (Looked look) is reason lines = absurd reason
+          by_act (Takes look keys) is reason lines = absurd reason
+          by_act (Delivers batch) is reason lines = absurd reason
+          by_act (Closes look batches writes) is reason lines = absurd reason
+          by_act (Publishes writes left told) is reason lines = absurd reason
+
+        ending : {U : Type 0} (d e : DeskState) (t u : Trace) (were are : List U) (result : Result (Unit {0}) Fault) → RunEnds k (run_state (scene d first t) were before) (run_state (scene e last u) are after) acts result → Ending (calls acts) (fault_of result)
+        ending d e t u were are (Ok done) (answered, over, written) = ends_alone (calls acts) chain answered None tt (subst (λ (rs : List (EpochRecord ℕ)). IsWritten (report decimal rs) before after) same written)
+        ending d e t u were are (Err fault) (inl short) = subst (λ (f : Fault). Ending (calls acts) (Some f)) (sym short.fault_is)
+            (ends_alone (calls acts) chain (subst (λ (xs : List Act). AreAnswered (calls xs)) (sym short.none) tt) (Some Memory) tt
+            (subst (λ (f : Flow). IsWritten (report decimal records) before f) (sym short.silent) (subst (λ (rs : List (EpochRecord ℕ)). IsWritten (report decimal rs) before before) (sym (ap records_of_acts short.none) ∙ same) (written_none before))))
+        ending d e t u were are (Err fault) (inr f) = by_act d e t u fault f f.act refl f.reason (subst (λ (rs : List (EpochRecord ℕ)). AreLines f.act rs before after) same f.lines)
 
   -- what the lender knows of a vault's words
-  pub record IsLender (keys : Keys) (p : Params) (opening : Opening) (first : V) : Type 1 where
+  pub record IsLender (keys : Keys) (first : V) : Type 1 where
     pub faults : (v : V) → (k.disk v).faults ≡ (disk (store_of v)).faults
     pub since : (a b : V) (P : Image → Type 0) → LeavesOnly (k.disk a) (k.disk b) P → LeavesOnly (disk (store_of a)) (disk (store_of b)) P
     pub now : (v : V) (c : Image) → (disk (store_of v)).may_leave c → (k.disk v).may_leave c
-    pub stands : (c : Image) (at : Standing) → k.stands first c at → StandsFlat keys p opening.sealer.generation c at
+    pub stands : (c : Image) (at : Standing) → k.stands first c at → store.stands keys p (store.generation found) c at
     pub only : OnlyNow k
     pub rests : Rests k
-    pub holds : (m : Map nat_cmp) → IsMapOf opening.values.items m → HoldsMap k first m
-    pub sound : (at : Standing) → (disk (store_of first)).tells → Settled (disk (store_of first)) → IsOpenedAt keys p at opening (disk (store_of first)) → k.sound first (opened_at p at)
+    pub holds : (m : Map nat_cmp) → store.is_map found m → HoldsMap k first m
+    pub sound : (at : Standing) → (disk (store_of first)).tells → Settled (disk (store_of first)) → IsOpenedAt store keys p at found (disk (store_of first)) → k.sound first (opened_with p (store.left p found) at)
 
-  module _ {U : Type 0} (passes : ℕ → ℕ → ℕ → ℕ → Bool) (client bound : U → ℕ) (plan : U → List ScriptTxn) (fits : U → List (Call × Reply) → Type 0)
-      (means : (u : U) (said : List (Call × Reply)) → fits u said → MeantFirst (plan u) (told_of said) × (has_signed_off said ≡ true → was_refused said ≡ false → MeantAll (plan u) (told_of said)))
-      (keys : Keys) (p : Params) (opening : Opening) (script : Scripts) (sound : AreSound script) (may : MayOpen (record { params = p }) (suc opening.epoch) p.batches script.clients)
-      (new : DeskState) (first last : V) (runners left_runners : List U) (before after : Flow) (result : Result (Unit {0}) Fault)
-      (named : map client runners ≡ script.clients) (planned : All (λ u. plan u ≡ asks_by (client u) script.txns) runners) (epoch_is : epoch_of first ≡ opening.epoch)
-      (d : Conducted k passes client bound plan fits (new_desk (record { params = p }) (suc opening.epoch) p.batches script.clients) new first last runners left_runners before after result) (l : IsLender keys p opening first) where
-    abbrev records : List (EpochRecord ℕ)
-    records = records_of_acts d.acts
-
+  module _ {U : Type 0} (passes : ℕ → ℕ → ℕ → ℕ → Bool) (kind : RunnerKind U (List ScriptTxn))
+      (means : (u : U) (said : List (Call × Reply)) → kind.fits u said → MeantFirst (kind.plan u) (told_of said) × (has_signed_off said ≡ true → was_refused said ≡ false → MeantAll (kind.plan u) (told_of said)))
+      (keys : Keys) (script : Scripts) (sound : AreSound script) (may : MayOpen (record { params = p }) (suc (store.epoch found)) (store.left p found) script.clients)
+      (first : V) (trace : Trace) (runners : List U) (before : Flow) (end : RunState V U) (result : Result (Unit {0}) Fault)
+      (named : map kind.client runners ≡ script.clients) (planned : All (λ u. kind.plan u ≡ asks_by (kind.client u) script.txns) runners) where
     abbrev base : DeskState
-    base = new_desk (record { params = p }) (suc opening.epoch) p.batches script.clients
+    base = new_desk (record { params = p }) (suc (store.epoch found)) (store.left p found) script.clients
 
-    comes_next : (epoch : ℕ) → epoch ≡ opening.epoch → (next : Option (EpochRecord ℕ)) → IsNextOf d next → IsNext (suc epoch + length records) opening.values.items script records next
-    comes_next epoch same None is = tt
-    comes_next epoch same (Some r) (fault, told, refused, the) = subst (ComesNext (suc epoch + length records) opening.values.items script records) the (record {
-      epoch_is = refused.due_epoch ∙ ap (λ e. suc e + length records) (sym same);
-      served = next_served k passes client bound plan fits means p opening.epoch p.batches script sound may new first last runners left_runners before after result named planned d fault refused;
-      in_order = refused.in_order;
-      one_by_one = λ m of. refused.one_more m (l.holds m of);
-    })
+    abbrev begin : RunState V U
+    begin = run_state (scene base first trace) runners before
 
-    doubt_told : (epoch n : ℕ) → epoch ≡ n → TellsDoubt epoch result → fault_of result ≡ Some (StoreFault (Some n))
-    doubt_told epoch n same told = ap fault_of told ∙ ap (λ (m : ℕ). Some (StoreFault (Some m))) same
+    module _ (acts : List Act) (d : Conducted k kind passes begin end acts result) (rounds : InRounds (map kind.client runners) acts) (l : IsLender keys first) where
+      abbrev last : V
+      last = end.scene.vault
 
-    standing_in : {P Q : Standing → Type 0} (c : Image) → ((at : Standing) → P at → Q at) → StandsIn (k.stands first) P c → StandsIn (StandsFlat keys p opening.sealer.generation) Q c
-    standing_in c to (at, stands, is) = (at, l.stands c at stands, to at is)
+      abbrev after : Flow
+      after = end.output
 
-    left : (at : Standing) → (disk (store_of first)).tells → Settled (disk (store_of first)) → IsOpenedAt keys p at opening (disk (store_of first))
-        → IsLeft keys p opening at script records (fault_of result) (disk (store_of first)) (disk (store_of last))
-    left at tells settled opened =
-        let v = opened_at p at in
-        let same : at.epoch ≡ opening.epoch = sym opened.epoch in
-        let by = run_leaves k l.only l.rests passes client bound plan fits base new first last runners left_runners before after v (l.sound at tells settled opened) refl result d in
-        record {
-          next = by.next;
-          is_next = comes_next at.epoch same by.next by.is_next;
-          since = weakened (disk (store_of first)) (disk (store_of last)) (StandsIn (k.stands first) (IsLeftStanding v records by.next)) (StandsIn (StandsFlat keys p opening.sealer.generation) (IsLeftStanding v records by.next))
-              (λ c is. standing_in c (λ s x. x) is) (l.since first last (StandsIn (k.stands first) (IsLeftStanding v records by.next)) by.since);
-          now = λ c may. standing_in c
-              (λ s x. ⊎_elim (λ e. inl e) (λ (r, is, told, e). inr (r, is, doubt_told (suc opening.epoch + length records) (suc at.epoch + length records) (ap (λ e. suc e + length records) (sym same)) told, e)) x) (by.now c (l.now last c may));
-        }
+      abbrev records : List (EpochRecord ℕ)
+      records = records_of_acts acts
 
-    whole : (r : Result (Unit {0}) Fault) → RunEnds k first last base new d.acts (report decimal records) before after r → r ≡ result → fault_of result ≡ None → ClientsServedAll script records
-    whole (Ok done) (answered, over, written) is none = all_served k passes client bound plan fits means p opening.epoch p.batches script sound may new first last runners left_runners before after result named planned d over
-    whole (Err fault) ends is none = absurd (no_fault fault (ap fault_of is ∙ none))
-      where
-        no_fault : (f : Fault) → ◌≡◌ {A = Option Fault} (Some f) None → ⊥
-        no_fault f e = cc e
+      comes_next : (epoch : ℕ) → epoch ≡ store.epoch found → (next : Option (EpochRecord ℕ)) → IsNextOf k begin end acts result next → IsNext store found (suc epoch + length records) script records next
+      comes_next epoch same None is = tt
+      comes_next epoch same (Some r) (fault, told, f, (writes, refused, act_is, u, the)) =
+          let is = f.acts_are ∙ ap (λ (x : Act). f.front ++ x ∷ []) act_is in
+          subst (ComesNext store found (suc epoch + length records) script records) the (record {
+            epoch_is = due_epoch k kind p passes begin (record { params = p }) (suc (store.epoch found)) (store.left p found) script.clients refl acts end result d f.front writes refused is u ∙ ap (λ e. suc e + length records) (sym same);
+            served = next_served k passes kind means p (store.epoch found) (store.left p found) script sound may first trace runners before end acts result named planned d f.front writes refused is u;
+            in_order = due_in_order k kind p passes begin (record { params = p }) (suc (store.epoch found)) (store.left p found) script.clients refl acts end result d f.front writes refused is u;
+            one_by_one = λ m of. due_one_by_one k kind p passes begin (record { params = p }) (suc (store.epoch found)) (store.left p found) script.clients refl acts end result d f.front writes refused is u m (l.holds m of);
+          })
 
-    -- what serving does
-    pub serves : p_of first ≡ p → (sealing_of first).next ≡ 0 → known_of first ≡ opening.gates.epoch → Serves passes keys p opening script (disk (store_of first)) (disk (store_of last)) before after (fault_of result)
-    serves params fresh known =
-        let e = ending p first last before after records params fresh l.faults base new d.acts result d.chain d.wrote d.printed d.ends in
-        record {
-          records = records;
-          is_served = record {
-            served = is_served k passes client bound plan fits means p opening.epoch p.batches script sound may new first last runners left_runners before after result named planned d;
-            all = whole result d.ends refl;
-            one_by_one = λ m of. d.one_by_one m (l.holds m of);
-          };
-          cause = subst (λ n. HasCause p.keys n (length records) (disk (store_of first)) (disk (store_of last)) before after (fault_of result)) epoch_is e.cause;
-          reported = e.reported;
-          more = e.more;
-          refused = subst (λ (o : Open). IsRefusedEnd p.keys o opening.epoch (length records) (fault_of result) e.more) known (subst (λ n. IsRefusedEnd p.keys (known_of first) n (length records) (fault_of result) e.more) epoch_is e.refused);
-          seen = subst (λ (o : Open). Notes (ends_events p.keys o opening.epoch (length records) ++ e.more) (disk (store_of first)).seen (disk (store_of last)).seen) known
-              (subst (λ n. Notes (ends_events p.keys (known_of first) n (length records) ++ e.more) (disk (store_of first)).seen (disk (store_of last)).seen) epoch_is e.seen);
-          later = subst (λ n. n ≤ (disk (store_of last)).faults) (l.faults first) (subst (λ n. (k.disk first).faults ≤ n) (l.faults last) (goes_all k first (calls d.acts) last d.chain).faults);
-          left = left;
-        }
+      doubt_told : (epoch n : ℕ) → epoch ≡ n → TellsDoubt epoch result → fault_of result ≡ Some (StoreFault (Some n))
+      doubt_told epoch n same told = ap fault_of told ∙ ap (λ (m : ℕ). Some (StoreFault (Some m))) same
 
-  -- the same, from the epoch that the vault tells
-  pub serves_on : {U : Type 0} (passes : ℕ → ℕ → ℕ → ℕ → Bool) (client bound : U → ℕ) (plan : U → List ScriptTxn) (fits : U → List (Call × Reply) → Type 0)
-      (means : (u : U) (said : List (Call × Reply)) → fits u said → MeantFirst (plan u) (told_of said) × (has_signed_off said ≡ true → was_refused said ≡ false → MeantAll (plan u) (told_of said)))
-      (keys : Keys) (p : Params) (opening : Opening) (script : Scripts) (sound : AreSound script) (may : MayOpen (record { params = p }) (suc opening.epoch) p.batches script.clients)
-      (new : DeskState) (first last : V) (runners left_runners : List U) (before after : Flow) (result : Result (Unit {0}) Fault)
-      → map client runners ≡ script.clients → All (λ u. plan u ≡ asks_by (client u) script.txns) runners → epoch_of first ≡ opening.epoch
-      → Conducted k passes client bound plan fits (new_desk (record { params = p }) (suc (epoch_of first)) p.batches script.clients) new first last runners left_runners before after result
-      → IsLender keys p opening first → p_of first ≡ p → (sealing_of first).next ≡ 0 → known_of first ≡ opening.gates.epoch
-      → Serves passes keys p opening script (disk (store_of first)) (disk (store_of last)) before after (fault_of result)
-  serves_on passes client bound plan fits means keys p opening script sound may new first last runners left_runners before after result named planned epoch_is d l params fresh known =
-      serves passes client bound plan fits means keys p opening script sound may new first last runners left_runners before after result named planned epoch_is
-      (subst (λ e. Conducted k passes client bound plan fits (new_desk (record { params = p }) (suc e) p.batches script.clients) new first last runners left_runners before after result) epoch_is d) l params fresh known
+      standing_in : {P Q : Standing → Type 0} (c : Image) → ((at : Standing) → P at → Q at) → StandsIn (k.stands first) P c → StandsIn (store.stands keys p (store.generation found)) Q c
+      standing_in c to (at, stands, is) = (at, l.stands c at stands, to at is)
+
+      left : (at : Standing) → (disk (store_of first)).tells → Settled (disk (store_of first)) → IsOpenedAt store keys p at found (disk (store_of first))
+          → IsLeft store keys p found at script records (fault_of result) (disk (store_of first)) (disk (store_of last))
+      left at tells settled opened =
+          let v = opened_with p (store.left p found) at in
+          let same : at.epoch ≡ store.epoch found = sym opened.epoch in
+          let by = run_leaves k l.only l.rests kind passes begin end acts v (l.sound at tells settled opened) refl result d in
+          record {
+            next = by.next;
+            is_next = comes_next at.epoch same by.next by.is_next;
+            since = weakened (disk (store_of first)) (disk (store_of last)) (StandsIn (k.stands first) (IsLeftStanding v records by.next)) (StandsIn (store.stands keys p (store.generation found)) (IsLeftStanding v records by.next))
+                (λ c is. standing_in c (λ s x. x) is) (l.since first last (StandsIn (k.stands first) (IsLeftStanding v records by.next)) by.since);
+            now = λ c may. standing_in c
+                (λ s x. ⊎_elim (λ e. inl e) (λ (r, is, told, e). inr (r, is, doubt_told (suc (store.epoch found) + length records) (suc at.epoch + length records) (ap (λ e. suc e + length records) (sym same)) told, e)) x) (by.now c (l.now last c may));
+          }
+
+      whole : (r : Result (Unit {0}) Fault) → RunEnds k begin end acts r → r ≡ result → fault_of result ≡ None → ClientsServedAll script records
+      whole (Ok done) (answered, over, written) is none = all_served k passes kind means p (store.epoch found) (store.left p found) script sound may first trace runners before end acts result named planned d over
+      whole (Err fault) ends is none = absurd (no_fault fault (ap fault_of is ∙ none))
+        where
+          no_fault : (f : Fault) → ◌≡◌ {A = Option Fault} (Some f) None → ⊥
+          no_fault f e = cc e
+
+      chain : AllCalled k first (calls acts) last
+      chain = called k first (calls acts) d.notes last d.chain
+
+      abbrev is_run : IsServed passes p (store.epoch found) (store.left p found) script records
+      is_run = is_served k passes kind means p (store.epoch found) (store.left p found) script sound may first trace runners before end acts result named planned d rounds
+
+      acts_are : acts ≡ (is_served k passes kind means p (store.epoch found) (store.left p found) script sound may first trace runners before end acts result named planned d rounds).acts
+      acts_are = sym (its_acts k passes kind means p (store.epoch found) (store.left p found) script sound may first trace runners before end acts result named planned d rounds)
+
+      -- what serving does
+      pub serves : At (store.public found) [] 0 first → Serves store passes keys p found script (disk (store_of first)) (disk (store_of last)) before after (fault_of result)
+      serves begun =
+          let e = ending first last before after records begun l.faults acts refl chain d.wrote d.printed base end.scene.desk trace end.scene.trace runners end.runners result d.ends in
+          record {
+            records = records;
+            is_served = record {
+              served = is_run;
+              all = whole result d.ends refl;
+              one_by_one = λ m of. d.one_by_one m (l.holds m of);
+            };
+            cause = subst (λ (xs : List Act). HasCause store p found (shapes (calls xs)) (length records) (disk (store_of first)) (disk (store_of last)) before after (fault_of result)) acts_are e.cause;
+            reported = e.reported;
+            events = e.events;
+            traced = subst (λ (xs : List Act). IsTraced store p (store.public found) (calls xs) (fault_of result) e.events) acts_are e.traced;
+            seen = e.seen;
+            later = subst (λ n. n ≤ (disk (store_of last)).faults) (l.faults first) (subst (λ n. (k.disk first).faults ≤ n) (l.faults last) (goes_all k first (calls acts) d.notes last d.chain).faults);
+            left = left;
+          }
+
+  -- the same, from the epoch and the batches left that the vault tells
+  pub serves_on : {U : Type 0} (passes : ℕ → ℕ → ℕ → ℕ → Bool) (kind : RunnerKind U (List ScriptTxn))
+      (means : (u : U) (said : List (Call × Reply)) → kind.fits u said → MeantFirst (kind.plan u) (told_of said) × (has_signed_off said ≡ true → was_refused said ≡ false → MeantAll (kind.plan u) (told_of said)))
+      (keys : Keys) (script : Scripts) (sound : AreSound script) (may : MayOpen (record { params = p }) (suc (store.epoch found)) (store.left p found) script.clients)
+      (first : V) (trace : Trace) (runners : List U) (before : Flow) (end : RunState V U) (result : Result (Unit {0}) Fault) (epoch left : ℕ)
+      → map kind.client runners ≡ script.clients → All (λ u. kind.plan u ≡ asks_by (kind.client u) script.txns) runners → epoch ≡ store.epoch found → left ≡ store.left p found
+      → ByHand k kind passes (run_state (scene (new_desk (record { params = p }) (suc epoch) left script.clients) first trace) runners before) end result
+      → IsLender keys first → At (store.public found) [] 0 first
+      → Serves store passes keys p found script (disk (store_of first)) (disk (store_of end.scene.vault)) before end.output (fault_of result)
+  serves_on passes kind means keys script sound may first trace runners before end result epoch left named planned epoch_is left_is run l begun =
+      let (acts, d, rounds) = subst (λ n. ByHand k kind passes (run_state (scene (new_desk (record { params = p }) (suc (store.epoch found)) n script.clients) first trace) runners before) end result) left_is
+      (subst (λ e. ByHand k kind passes (run_state (scene (new_desk (record { params = p }) (suc e) left script.clients) first trace) runners before) end result) epoch_is run) in
+      serves passes kind means keys script sound may first trace runners before end result named planned acts d rounds l begun
 
 -- the same by other names
-pub renamed : {S : Type 0} (disk : S → Disk) (passes : ℕ → ℕ → ℕ → ℕ → Bool) (keys : Keys) (p : Params) (opening : Opening) (script : Scripts) (a old b new : S) (before after : Flow) (fault : Option Fault)
-    → a ≡ old → new ≡ b → Serves passes keys p opening script (disk a) (disk b) before after fault → Serves passes keys p opening script (disk old) (disk new) before after fault
-renamed disk passes keys p opening script a old b new before after fault old_is new_is s = rw (← old_is, new_is) s
+pub renamed : (store : StoreKind) {S : Type 0} (disk : S → Disk) (passes : ℕ → ℕ → ℕ → ℕ → Bool) (keys : Keys) (p : Params) (found : store.Found) (script : Scripts) (a old b new : S) (before after : Flow) (fault : Option Fault)
+    → a ≡ old → new ≡ b → Serves store passes keys p found script (disk a) (disk b) before after fault → Serves store passes keys p found script (disk old) (disk new) before after fault
+renamed store disk passes keys p found script a old b new before after fault old_is new_is s = rw (← old_is, new_is) s

@@ -1,47 +1,20 @@
--- The words that are a form of a command, and what they name.
-use Rattle.std.specs.Prelude.{ℕ, ◌≡◌, ◌≢◌, ◌⊎◌, ◌<◌, ◌^◌, Bool, true, false, ◌&&◌, not, ◌==◌, List, [], ◌∷◌, ◌++◌, length, take, drop, codes, Option, Some, None, Ok}
-use Rattle.std.specs.List.{list_all}
-use Rattle.std.specs.Str.{bytes_eq}
+-- What a request of the words comes to: the numbers that it names, and the files; and what the keys' text comes to.
+use Rattle.std.specs.Prelude.{ℕ, ◌≡◌, ◌≢◌, ◌⊎◌, ◌<◌, ◌≤◌, ◌^◌, Bool, true, false, List, [], ◌∷◌, ◌++◌, length, Option, Some, None, Ok}
 use Rattle.std.specs.Fmt.{decimal}
 use Rattle.ob_base.specs.declared.params.Params.{Params}
 use Rattle.ob_base.specs.declared.fault.Field.{Field}
-use Rattle.ob_base.specs.declared.fault.Field.TheVariants.{KEYS}
+use Rattle.ob_base.specs.declared.fault.Field.TheVariants.{KEYS, LANES}
 use Rattle.ob_base.specs.declared.fault.Fault.{Fault}
-use Rattle.ob_base.specs.declared.fault.Fault.TheVariants.{Usage, BadParams, SourceFault}
+use Rattle.ob_base.specs.declared.fault.Fault.TheVariants.{Memory, Usage, BadParams, SourceFault}
 use Rattle.ob_base.specs.Fields.{first_out_of_range}
 use Rattle.std.specs.Borrow.{Bor}
 use Rattle.ob_seal.specs.declared.keys.Keys.{Keys}
 use Rattle.ob_seal.specs.KeyText.{IsKeyText, digits_of}
 use Rattle.hex.specs.Hex.{decode_of}
 use Rattle.ob_flat.specs.Heads.{numbers_of}
+use Rattle.ob_words.specs.Reading.{Asked, asked_by, format_asked, run_asked}
 use Rattle.ob_top.specs.declared.words.Command.{Command}
 use Rattle.ob_top.specs.declared.words.Command.TheVariants.{Format, Run}
-use Rattle.ob_top.specs.declared.words.StoreWanted.{StoreWanted}
-use Rattle.ob_top.specs.declared.words.StoreWanted.TheVariants.{Nothing, Old, New}
-
--- An operand isn't empty and doesn't begin as an option does.
-abbrev pub is_operand : List ℕ → Bool
-is_operand [] = false
-is_operand (byte ∷ bytes) = not (byte == 45)
-
--- whether the words are this name and so many operands
-abbrev pub is_form : List ℕ → ℕ → List (List ℕ) → Bool
-is_form name operands [] = false
-is_form name operands (word ∷ words) = bytes_eq word name && (length words == operands && list_all is_operand words)
-
--- the options of `run`: `--turns`, once, or none
-abbrev pub are_run_options : List (List ℕ) → Bool
-are_run_options [] = true
-are_run_options (option ∷ []) = bytes_eq option (codes "--turns")
-are_run_options (option ∷ next ∷ options) = false
-
--- `run STORE KEYS`, and then its options
-abbrev pub is_run : List (List ℕ) → Bool
-is_run words = is_form (codes "run") 2 (take 3 words) && are_run_options (drop 3 words)
-
--- `format STORE KEYS N L Z S R BR BW E T`
-abbrev pub is_format : List (List ℕ) → Bool
-is_format words = is_form (codes "format") 11 words
 
 -- The number that a word is: 0, which is in no range, for a word that isn't the canonical decimal of a number below 2^32.
 abbrev pub Denotes : List ℕ → ℕ → Type 0
@@ -57,33 +30,70 @@ abbrev pub first_out : List ℕ → Option Field
 first_out (n ∷ l ∷ z ∷ s ∷ r ∷ br ∷ bw ∷ e ∷ t ∷ []) = first_out_of_range n l z s r br bw e t
 first_out _ = None
 
--- The words behind the two operands are the parameters' numbers, each in its range.
+-- The words of `format` behind its files are the parameters' numbers, each in its range.
 pub record AreParams (words : List (List ℕ)) (p : Params) : Type 0 where
-  pub denote : AllDenote (drop 3 words) (numbers_of p)
+  pub denote : AllDenote words (numbers_of p)
   pub in_range : first_out (numbers_of p) ≡ None
 
 -- this field is the first whose number is out of its range
 pub record IsBadNumber (words : List (List ℕ)) (field : Field) : Type 0 where
   pub numbers : List ℕ
-  pub denote : AllDenote (drop 3 words) numbers
+  pub denote : AllDenote words numbers
   pub first : first_out numbers ≡ Some field
+
+-- How many lanes `--lanes` gives, from 1 to 16 as a canonical decimal; 4, where it isn't there.
+abbrev pub AreLanes : Option (List ℕ) → ℕ → Type 0
+AreLanes None k = k ≡ 4
+AreLanes (Some word) k = (word ≡ decimal k) × (1 ≤ k) × (k ≤ 16)
+
+-- it is there, and gives none of these
+abbrev pub AreBadLanes : Option (List ℕ) → Type 0
+AreBadLanes None = ⊥
+AreBadLanes (Some word) = (k : ℕ) → 1 ≤ k → k ≤ 16 → word ≢ decimal k
+
+-- the command of a request, whose numbers are in range
+abbrev pub IsCommandOf : Asked → Command → Type 0
+IsCommandOf (format_asked store keys numbers) (Format p) = AreParams numbers p
+IsCommandOf (run_asked store keys lanes turns) (Run k) = AreLanes lanes k
+IsCommandOf _ _ = ⊥
+
+-- the first number of a request that is out of its range
+abbrev pub IsOutOfRange : Asked → Field → Type 0
+IsOutOfRange (format_asked store keys numbers) field = IsBadNumber numbers field
+IsOutOfRange (run_asked store keys lanes turns) field = (field ≡ LANES) × AreBadLanes lanes
 
 -- the words ask for this
 abbrev pub Asks : List (List ℕ) → Command → Type 0
-Asks words Run = is_run words ≡ true
-Asks words (Format p) = (is_format words ≡ true) × AreParams words p
+Asks words command = (asked : Asked) × (asked_by words ≡ Some asked) × IsCommandOf asked command
 
--- They ask for nothing, since they are no form, or since a number is out of its range.
+-- They ask for nothing, since they are no command with its operands and options, or since a number is out of its range; or memory was
+-- wanting.
 abbrev pub IsRefusedFor : List (List ℕ) → Fault → Type 0
-IsRefusedFor words Usage = (is_run words ≡ false) × (is_format words ≡ false)
-IsRefusedFor words (BadParams field) = (is_format words ≡ true) × IsBadNumber words field
+IsRefusedFor words Usage = asked_by words ≡ None
+IsRefusedFor words (BadParams field) = (asked : Asked) × (asked_by words ≡ Some asked) × IsOutOfRange asked field
+IsRefusedFor words Memory = Unit {0}
 IsRefusedFor words _ = ⊥
 
--- the store that the words call for
-abbrev pub IsWanted : List (List ℕ) → StoreWanted → Type 0
-IsWanted words Nothing = (fault : Fault) × IsRefusedFor words fault
-IsWanted words Old = is_run words ≡ true
-IsWanted words New = (p : Params) × (is_format words ≡ true) × AreParams words p
+-- a request's store: its path, and whether it may be made
+abbrev pub store_file : Asked → List ℕ × Bool
+store_file (format_asked store keys numbers) = (store, true)
+store_file (run_asked store keys lanes turns) = (store, false)
+
+-- the path of its keys
+abbrev pub keys_file : Asked → List ℕ
+keys_file (format_asked store keys numbers) = keys
+keys_file (run_asked store keys lanes turns) = keys
+
+-- The files that a request calls for: none, where a number is out of its range.
+abbrev pub AreFilesOf : Asked → Option (List ℕ × Bool) → Option (List ℕ) → Type 0
+AreFilesOf asked store keys =
+    ((field : Field) × IsOutOfRange asked field × (store ≡ None) × (keys ≡ None))
+    ⊎ ((command : Command) × IsCommandOf asked command × (store ≡ Some (store_file asked)) × (keys ≡ Some (keys_file asked)))
+
+-- The files that the words call for: none, where they are no command with its operands and options.
+abbrev pub AreWanted : List (List ℕ) → Option (List ℕ × Bool) → Option (List ℕ) → Type 0
+AreWanted words store keys =
+    ((asked_by words ≡ None) × (store ≡ None) × (keys ≡ None)) ⊎ ((asked : Asked) × (asked_by words ≡ Some asked) × AreFilesOf asked store keys)
 
 -- The digits of a text are those of three keys of 32 bytes each.
 pub record AreKeys (text : List ℕ) (keys : Keys) : Type 0 where

@@ -7,7 +7,7 @@ mod top;
 mod words;
 
 pub use top::{finish, obladi};
-pub use words::{StoreWanted, store_wanted};
+pub use words::{Paths, store_wanted};
 
 #[cfg(test)]
 mod tests;

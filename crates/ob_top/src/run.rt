@@ -6,13 +6,15 @@ ghost use Rattle.ob_store.specs.Images.{Settled, LeavesOnly};
 ghost use Rattle.ob_twin.specs.Opening.{GatesAre};
 ghost use Rattle.ob_twin.specs.declared.gates.Open.{Open};
 ghost use Rattle.ob_serial.specs.Vaults.{Standing};
-ghost use Rattle.ob_flat.specs.Openings.{IsOpenedAt, IsFresh};
-ghost use Rattle.ob_flat.specs.Standing.{Stands, AllStand, StandsAsBefore};
+ghost use Rattle.ob_flat.specs.Openings.{IsFresh};
+ghost use Rattle.ob_kinds.specs.Kinds.{Stands, AllStand, StandsAsBefore, IsOpenedAt};
+ghost use Rattle.ob_top.specs.Flat.{flat_kind};
 ghost use Rattle.ob_desk.specs.Desk.{DeskState, MayOpen, new_desk};
 ghost use Rattle.ob_script.specs.Script.{AreSound};
 ghost use Rattle.ob_runner.specs.Runners.{AreRunners};
 ghost use Rattle.ob_runner.specs.RunnerViews.{client_of, bound_of, plan_of, MayHaveMade};
-ghost use Rattle.ob_conduct.specs.Conducted.{Conducted};
+ghost use Rattle.ob_conduct.specs.Scenes.{scene, run_state, runner_kind};
+ghost use Rattle.ob_conduct.specs.Conducted.{ByHand};
 ghost use Rattle.ob_serial.specs.VaultKinds.{kind_of};
 ghost use Rattle.ob_top.specs.Runs.{CameIn, IsInputRefused, EndsEarly, IsOpened, Serves, RunOn, begin_events, fault_of};
 ghost use Rattle.ob_top.specs.Outside.{outside};
@@ -26,7 +28,7 @@ use ob_runner::{ScriptRunner, runners};
 use ob_script::{LIMIT, Scripts, parse};
 use ob_seal::Keys;
 use ob_serial::Vault;
-use ob_store::{Blind, Store};
+use ob_store::{Blind, Store, Watch};
 use std::alloc::Global;
 use std::sync::Wait;
 
@@ -70,13 +72,13 @@ fn begin<S: Store, I: Source>(
     ensures runners { IfOk result (λ begun. AreRunners begun.scripts begun.runners.items) }
     ensures keys { IfOk result (λ begun. begun.scripts.keys ≡ begun.params.keys) }
     ensures durable { (S.disk store.old).tells → OnOk result ((S.disk store.new).tells × Settled (S.disk store.new)) }
-    ensures opened { (at : Standing) → (S.disk store.old).tells → IfOk result (λ begun. Stands keys.now begun.params (S.disk store.old).cells at → IsOpenedAt keys.now begun.params at begun.opening (S.disk store.new)) }
-    ensures left { (at : Standing) → (S.disk store.old).tells → IfOk result (λ begun. Stands keys.now begun.params (S.disk store.old).cells at → AllStand keys.now begun.params (S.disk store.old)
-        → LeavesOnly (S.disk store.old) (S.disk store.new) (StandsAsBefore keys.now begun.params (S.disk store.old))) }
+    ensures opened { (at : Standing) → (S.disk store.old).tells → IfOk result (λ begun. Stands flat_kind keys.now begun.params (S.disk store.old).cells at → IsOpenedAt flat_kind keys.now begun.params at begun.opening (S.disk store.new)) }
+    ensures left { (at : Standing) → (S.disk store.old).tells → IfOk result (λ begun. Stands flat_kind keys.now begun.params (S.disk store.old).cells at → AllStand flat_kind keys.now begun.params (S.disk store.old)
+        → LeavesOnly (S.disk store.old) (S.disk store.new) (StandsAsBefore flat_kind keys.now begun.params (S.disk store.old))) }
     ensures told { (S.disk store.new).tells → IfOk result (λ begun. GatesAre begun.opening.gates.epoch 5 (S.disk store.new).cells) }
-    ensures begun { IfOk result (λ begun. (known : Open) × IsOpened keys.now (S.disk store.old) (flow (I.left input.old) (I.faults input.old)) begun.params begun.scripts begun.opening known
-        × Notes (begin_events begun.params.keys begun.opening.epoch known begun.opening.sealer.generation) (S.disk store.old).seen (S.disk store.new).seen) }
-    ensures refused { IfErr result (λ fault. EndsEarly keys.now (S.disk store.old) (S.disk store.new) (flow (I.left input.old) (I.faults input.old)) (flow (I.left input.new) (I.faults input.new)) fault) }
+    ensures begun { IfOk result (λ begun. (start : Open) × IsOpened flat_kind keys.now (S.disk store.old) (flow (I.left input.old) (I.faults input.old)) begun.params begun.scripts begun.opening start
+        × Notes (begin_events flat_kind begun.params begun.opening start) (S.disk store.old).seen (S.disk store.new).seen) }
+    ensures refused { IfErr result (λ fault. EndsEarly flat_kind keys.now (S.disk store.old) (S.disk store.new) (flow (I.left input.old) (I.faults input.old)) (flow (I.left input.new) (I.faults input.new)) fault) }
 {
     let params = match head(store, keys, &mut Blind) {
         Ok(params) => params,
@@ -102,13 +104,14 @@ fn begin<S: Store, I: Source>(
 }
 
 // Runs these clients over a vault and a desk that none has called.
-fn serve_all<R: Wait, V: Vault, O: Sink, B: Beat>(
+fn serve_all<R: Wait, V: Vault, W: Watch, O: Sink, B: Beat>(
     rt: &R,
     alloc: Global,
     params: &Params,
     desk: &mut Desk,
     runners: &mut Vec<ScriptRunner>,
     vault: &mut V,
+    watch: &mut W,
     beat: &mut B,
     output: &mut O,
 ) -> Result<(), Fault>
@@ -119,33 +122,35 @@ fn serve_all<R: Wait, V: Vault, O: Sink, B: Beat>(
     requires below { All (λ u. bound_of u ≤ params.now.keys) runners.old.items }
     requires none_made { All (λ u. MayHaveMade u []) runners.old.items }
     ensures anchors { (V.disk vault.new).anchors ≡ (V.disk vault.old).anchors }
-    ensures done { Conducted (kind_of V.holds V.sound V.stands V.disk V.called) B.passes client_of bound_of plan_of MayHaveMade desk.old desk.new vault.old vault.new runners.old.items runners.new.items
-        (flow (O.written output.old) (O.faults output.old)) (flow (O.written output.new) (O.faults output.new)) result }
+    ensures done { ByHand (kind_of V.holds V.sound V.stands V.disk V.called) (runner_kind client_of bound_of plan_of MayHaveMade) B.passes
+        (run_state (scene desk.old vault.old (W.trace watch.old)) runners.old.items (flow (O.written output.old) (O.faults output.old)))
+        (run_state (scene desk.new vault.new (W.trace watch.new)) runners.new.items (flow (O.written output.new) (O.faults output.new))) result }
 {
-    serve(rt, alloc, params, desk, runners, vault, beat, output)
+    serve(rt, alloc, params, desk, runners, vault, watch, beat, output)
 }
 
 // Runs the script's clients over a vault, from a new desk on.
-fn conduct<R: Wait, V: Vault, O: Sink, B: Beat>(
+fn conduct<R: Wait, V: Vault, W: Watch, O: Sink, B: Beat>(
     rt: &R,
     alloc: Global,
     params: &Params,
     scripts: &Scripts,
     runners: &mut Vec<ScriptRunner>,
     vault: &mut V,
+    watch: &mut W,
     output: &mut O,
     beat: &mut B,
 ) -> Result<(), Fault>
     requires params { V.params vault.old ≡ params.now }
     requires serves { (V.counts vault.old).spent ≡ false }
-    requires left { (V.counts vault.old).left ≡ params.now.batches }
+    requires few { (V.counts vault.old).left ≤ params.now.batches }
     requires sound { AreSound scripts.now }
     requires keys { scripts.now.keys ≡ params.now.keys }
     requires runners { AreRunners scripts.now runners.old.items }
     ensures anchors { (V.disk vault.new).anchors ≡ (V.disk vault.old).anchors }
-    ensures done { (new : DeskState) × Conducted (kind_of V.holds V.sound V.stands V.disk V.called) B.passes client_of bound_of plan_of MayHaveMade
-        (new_desk (record { params = params.now }) (suc (V.counts vault.old).epoch) params.now.batches scripts.now.clients) new vault.old vault.new runners.old.items runners.new.items
-        (flow (O.written output.old) (O.faults output.old)) (flow (O.written output.new) (O.faults output.new)) result }
+    ensures done { (new : DeskState) × ByHand (kind_of V.holds V.sound V.stands V.disk V.called) (runner_kind client_of bound_of plan_of MayHaveMade) B.passes
+        (run_state (scene (new_desk (record { params = params.now }) (suc (V.counts vault.old).epoch) (V.counts vault.old).left scripts.now.clients) vault.old (W.trace watch.old)) runners.old.items (flow (O.written output.old) (O.faults output.old)))
+        (run_state (scene new vault.new (W.trace watch.new)) runners.new.items (flow (O.written output.new) (O.faults output.new))) result }
 {
     let mut desk = match Desk::new(
         alloc,
@@ -157,7 +162,9 @@ fn conduct<R: Wait, V: Vault, O: Sink, B: Beat>(
         Ok(desk) => desk,
         Err(Memory) => return Err(Fault::Memory),
     };
-    serve_all(rt, alloc, params, &mut desk, runners, vault, beat, output)
+    serve_all(
+        rt, alloc, params, &mut desk, runners, vault, watch, beat, output,
+    )
 }
 
 // Runs the script over the store that was opened.
@@ -177,7 +184,7 @@ fn serve_on<R: Wait, S: Store, O: Sink, B: Beat>(
     requires sound { AreSound begun.scripts }
     requires runners { AreRunners begun.scripts begun.runners.items }
     requires keys { begun.scripts.keys ≡ begun.params.keys }
-    ensures { Serves B.passes keys.now begun.params begun.opening begun.scripts (S.disk store.old) (S.disk store.new)
+    ensures { Serves flat_kind B.passes keys.now begun.params begun.opening begun.scripts (S.disk store.old) (S.disk store.new)
         (flow (O.written output.old) (O.faults output.old)) (flow (O.written output.new) (O.faults output.new)) (fault_of result) }
 {
     let Begun {
@@ -194,6 +201,7 @@ fn serve_on<R: Wait, S: Store, O: Sink, B: Beat>(
         &scripts,
         &mut runners,
         &mut vault,
+        &mut Blind,
         output,
         beat,
     );
@@ -215,7 +223,7 @@ pub fn run_on<R: Wait, S: Store, I: Source, O: Sink, B: Beat>(
     beat: &mut B,
 ) -> Result<(), Fault>
     requires none_out { (S.disk store.old).out ≡ 0 }
-    ensures { RunOn S.disk B.passes keys.now (S.disk store.old) (S.disk store.new)
+    ensures { RunOn flat_kind S.disk B.passes keys.now (S.disk store.old) (S.disk store.new)
         (outside (flow (I.left input.old) (I.faults input.old)) (flow (O.written output.old) (O.faults output.old)))
         (outside (flow (I.left input.new) (I.faults input.new)) (flow (O.written output.new) (O.faults output.new)))
         (fault_of result) }

@@ -2,7 +2,7 @@ ghost use Rattle.std.specs.Prelude.{◌≤◌};
 ghost use Rattle.ob_mem.specs.Memory.{disk_of_store};
 ghost use Rattle.ob_top.specs.Outside.{NoneOut};
 
-use crate::obladi;
+use crate::{obladi, store_wanted};
 use ob_base::Params;
 use ob_desk::{Beat, Eager, Hasty};
 use ob_flat::format;
@@ -20,6 +20,56 @@ const FORMAT: [&str; 12] = [
 
 const RUN: [&str; 3] = ["run", "S", "K"];
 
+// Words that are refused, whether keys are handed in, and what is told.
+const REFUSED: [(&str, bool, &str); 16] = [
+    ("", true, "fault: usage/"),
+    ("run", false, "fault: usage/"),
+    ("run S K X", true, "fault: usage/"),
+    ("run S -k", true, "fault: usage/"),
+    ("run S K --turns --turns", true, "fault: usage/"),
+    ("run S K --trace F", true, "fault: usage/"),
+    ("audit", true, "fault: usage/"),
+    ("--help", true, "fault: usage/"),
+    ("format S K 8 2 2 3 2 2 2 2", true, "fault: usage/"),
+    ("format S K 9 2 2 3 2 2 2 2 8", false, "fault: parameter N/"),
+    (
+        "format S K 8 2 2 3 2 2 2 2 08",
+        false,
+        "fault: parameter T/",
+    ),
+    ("run S K --lanes 0", true, "fault: parameter LANES/"),
+    ("run S K --lanes 17", false, "fault: parameter LANES/"),
+    ("run S K --lanes 08", false, "fault: parameter LANES/"),
+    ("run --lanes x S K", false, "fault: parameter LANES/"),
+    (
+        "run S K --lanes 4294967296",
+        false,
+        "fault: parameter LANES/",
+    ),
+];
+
+// Words of a run.
+const RUNS: [&str; 7] = [
+    "run S K --turns",
+    "run S K --lanes 1",
+    "run S K --turns --lanes 16",
+    "run S K --lanes 16 --turns",
+    "run S K --lanes=2",
+    "run --lanes 2 S K",
+    "run S --turns K",
+];
+
+// Words, and the files that they call for: a `+` stands before the path of a store that may be made.
+const WANTED: [(&str, &str); 7] = [
+    ("run S K", "S K"),
+    ("run --lanes 2 S K --turns", "S K"),
+    ("run S --lanes 17 K", ""),
+    ("run S", ""),
+    ("format S K 8 2 2 3 2 2 2 2 8", "+S K"),
+    ("format S K 9 2 2 3 2 2 2 2 8", ""),
+    ("format S K 8 2 2 3 2 2 2 2", ""),
+];
+
 // The keys of the bytes 0 to 95.
 const KEYS: &str =
     "000102030405060708090a0b0c0d0e0f101112131415161718191a1b1c1d1e1f202122232425262728292a2b2c2d2e2f303132333435363738393a3b3c3d3e3f404142434445464748494a4b4c4d4e4f505152535455565758595a5b5c5d5e5f";
@@ -29,6 +79,15 @@ const TWO_EPOCHS: &str = "client 1/begin/put 5 hi/commit/begin/get 5/commit/";
 const FIRST: &str = "epoch 1/txn 1 client 1 committed/put 5 hi/";
 
 const SECOND: &str = "epoch 2/txn 1 client 1 committed/get 5 = hi/";
+
+// The words of a line, each behind a blank.
+fn words_of<'a, R: AllocGlobal>(rt: &R, line: &'a str) -> Result<Vec<&'a str>, Broken> {
+    let mut words = Vec::new(rt.alloc());
+    for word in line.split(' ') {
+        words.push(word)?;
+    }
+    Ok(words)
+}
 
 // Runs words on a store and a script, with a `/` for each line end, and compares the status and the
 // output.
@@ -129,21 +188,47 @@ fn a_next_run_finds_what_the_first_one_left(rt: HostRuntime) -> Result<(), Broke
 }
 
 #[test]
+fn each_form_of_a_run_runs(rt: HostRuntime) -> Result<(), Broken> {
+    let alloc = rt.alloc();
+    let made = formatted(&rt, Vec::new(alloc))?;
+    let report = format!(in alloc; "{FIRST}{SECOND}")?;
+    for line in RUNS {
+        let mut store = made.crash(1000, &[])?;
+        let keys = Some(KEYS.as_bytes());
+        let words = words_of(&rt, line)?;
+        let lent = Some(&mut store);
+        expect(&rt, &words, keys, lent, TWO_EPOCHS, 0, report.as_str())?;
+    }
+    Ok(())
+}
+
+#[test]
+fn what_words_do_not_call_for_is_not_wanted(rt: HostRuntime) -> Result<(), Broken> {
+    let alloc = rt.alloc();
+    for (line, wanted) in WANTED {
+        let words = words_of(&rt, line)?;
+        let paths = store_wanted(alloc, &words)?;
+        let files = match (paths.store, paths.keys) {
+            (Some((store, true)), Some(keys)) => format!(in alloc; "+{store} {keys}")?,
+            (Some((store, false)), Some(keys)) => format!(in alloc; "{store} {keys}")?,
+            (None, None) => String::new(alloc),
+            _ => format!(in alloc; "one of two")?,
+        };
+        assert!(&rt; files.as_str() == wanted, "{line}: {files}");
+    }
+    Ok(())
+}
+
+#[test]
 fn refusals_come_in_their_order(rt: HostRuntime) -> Result<(), Broken> {
     let alloc = rt.alloc();
     let keys = Some(KEYS.as_bytes());
     let short = Some(&KEYS.as_bytes()[..190]);
-    let mut bad_n = FORMAT;
-    bad_n[3] = "9";
-    let mut bad_t = FORMAT;
-    bad_t[11] = "08";
-    expect(&rt, &["run"], None, None, "", 2, "fault: usage/")?;
-    expect(&rt, &["run", "S", "-k"], keys, None, "", 2, "fault: usage/")?;
-    let twice = ["run", "S", "K", "--turns", "--turns"];
-    expect(&rt, &twice, keys, None, "", 2, "fault: usage/")?;
-    expect(&rt, &FORMAT[..11], keys, None, "", 2, "fault: usage/")?;
-    expect(&rt, &bad_n, None, None, "", 2, "fault: parameter N/")?;
-    expect(&rt, &bad_t, None, None, "", 2, "fault: parameter T/")?;
+    for (line, has_keys, told) in REFUSED {
+        let text = if has_keys { keys } else { None };
+        let words = words_of(&rt, line)?;
+        expect(&rt, &words, text, None, "", 2, told)?;
+    }
     expect(&rt, &FORMAT, None, None, "", 7, "fault: source/")?;
     expect(&rt, &RUN, short, None, "", 2, "fault: parameter KEYS/")?;
     expect(&rt, &RUN, keys, None, "begin", 5, "fault: store/")?;

@@ -1,9 +1,5 @@
-ghost use Rattle.std.specs.Prelude.{◌≡◌, map, false, true};
-ghost use Rattle.ob_base.specs.declared.params.Params.{Params};
-ghost use Rattle.ob_base.specs.declared.fault.Field.{Field};
-ghost use Rattle.ob_base.specs.declared.fault.Fault.TheVariants as fault;
+ghost use Rattle.std.specs.Prelude.{◌≡◌, map};
 ghost use Rattle.ob_report.specs.Printed.{flow};
-ghost use Rattle.ob_top.specs.Words.{is_run, is_format};
 ghost use Rattle.ob_top.specs.Outside.{outside, IsFinished, NoneOut};
 ghost use Rattle.ob_top.specs.Runs.{fault_of};
 ghost use Rattle.ob_top.specs.Top.{CommandDoes, IsRefusedWithout, UsageDoes, FormatDoes, RunDoes};
@@ -51,7 +47,7 @@ fn do_on<R: Wait, S: Store, I: Source, O: Sink, B: Beat>(
         (outside (flow (I.left input.old) (I.faults input.old)) (flow (O.written output.old) (O.faults output.old)))
         (outside (flow (I.left input.new) (I.faults input.new)) (flow (O.written output.new) (O.faults output.new))) (fault_of result) }
 {
-    let command = match command_of(words) {
+    let command = match command_of(alloc, words) {
         Ok(command) => command,
         Err(fault) => return Err(fault),
     };
@@ -61,16 +57,16 @@ fn do_on<R: Wait, S: Store, I: Source, O: Sink, B: Beat>(
     };
     match command {
         Command::Format { params } => format_on(store, &keys, &params, output),
-        Command::Run => run_on(rt, alloc, store, &keys, input, output, beat),
+        Command::Run { .. } => run_on(rt, alloc, store, &keys, input, output, beat),
     }
 }
 
 // Why nothing is done without a store: what the words or the keys are refused for, or that there is
 // none.
-fn refusal_of(words: &[&str], keys: Option<&[u8]>) -> Fault
+fn refusal_of(alloc: Global, words: &[&str], keys: Option<&[u8]>) -> Fault
     ensures { IsRefusedWithout (map (λ w. w.now) words.entry.now) keys.entry result }
 {
-    match command_of(words) {
+    match command_of(alloc, words) {
         Ok(_) => {}
         Err(fault) => return fault,
     }
@@ -83,14 +79,14 @@ fn refusal_of(words: &[&str], keys: Option<&[u8]>) -> Fault
 /// Does what the words ask for, and answers the status of the process.
 ///
 /// `format STORE KEYS N L Z S R BR BW E T` makes an empty store and prints how many cells it has.
-/// `run STORE KEYS [--turns]` reads a script, runs its clients' transactions over the store, and
-/// reports them, each epoch once it is durable. The clients' calls are made by hand, in rounds,
-/// with `--turns` or without. `store` is the store that the words name, or none where it wasn't
+/// `run STORE KEYS [--lanes K] [--turns]` reads a script, runs its clients' transactions over the
+/// store, and reports them, each epoch once it is durable. The clients' calls are made by hand, in
+/// rounds, with `--turns` or without. `store` is the store that the words name, or none where it wasn't
 /// opened; `keys` is the text of the key file that they name, or none where it wasn't read; `beat`
 /// says at which looks the driver of epochs acts.
 ///
 /// The status is 0 where all was done and written, and else that of the fault whose line stands
-/// behind the report: 2 for words that are no command, for a number out of its range, for keys that
+/// behind the report: 2 for words that are no command, for a number or lanes out of range, for keys that
 /// are none and for a script that breaks the grammar; 3 for what is no store; 4 for damage; 5 where
 /// the store failed or none was handed in; 7 where the key file, the input or the output failed; 8
 /// where a number is worn out; 9 for want of memory.
@@ -104,7 +100,7 @@ pub fn obladi<R: AllocGlobal + Wait, S: Store, I: Source, O: Sink, B: Beat>(
     beat: &mut B,
 ) -> u8
     requires none_out { NoneOut S.disk store }
-    // Words that are no form leave everything but the output untouched.
+    // Words that are no command leave everything but the output untouched.
     ensures usage { UsageDoes S.disk B.passes (map (λ w. w.now) words.entry.now) keys.entry store.entry store.exit
         (outside (flow (I.left input.old) (I.faults input.old)) (flow (O.written output.old) (O.faults output.old)))
         (outside (flow (I.left input.new) (I.faults input.new)) (flow (O.written output.new) (O.faults output.new))) result }
@@ -124,6 +120,6 @@ pub fn obladi<R: AllocGlobal + Wait, S: Store, I: Source, O: Sink, B: Beat>(
             let ended = do_on(rt, rt.alloc(), words, keys, store, input, output, beat);
             finish(output, ended)
         }
-        None => finish(output, Err(refusal_of(words, keys))),
+        None => finish(output, Err(refusal_of(rt.alloc(), words, keys))),
     }
 }

@@ -1,81 +1,36 @@
-ghost use Rattle.std.specs.Prelude.{◌≡◌, map, length, MatchResult, IfOk, IfErr, true};
-ghost use Rattle.std.specs.List.{list_all};
-ghost use Rattle.ob_top.specs.Words.{is_operand, is_form, are_run_options, is_run, Denotes, AreParams, IsBadNumber, Asks, IsRefusedFor, IsWanted, HasKeys, IsKeysRefused};
+ghost use Rattle.std.specs.Prelude.{◌≡◌, ◌∷◌, [], map, option_map, MatchResult, IfOk, IfErr};
+ghost use Rattle.ob_words.specs.Reading.{asked_of};
+ghost use Rattle.ob_top.specs.Words.{Denotes, AreParams, IsBadNumber, AreLanes, AreBadLanes, IsCommandOf, IsOutOfRange, Asks, IsRefusedFor, AreFilesOf, AreWanted, HasKeys, IsKeysRefused};
 
-use ob_base::{Fault, Field, Params};
+use ob_base::{Fault, Field, Memory, Params};
 use ob_script::number_of;
 use ob_seal::Keys;
+use ob_words::{Request, WordsErr, read_words};
+use std::alloc::Global;
 
 /// What the words ask for.
 #[derive(Clone, Copy, Debug, PartialEq, Eq)]
 pub enum Command {
     /// An empty store is made, of these parameters.
     Format { params: Params },
-    /// The script that comes in is run.
-    Run,
+    /// The script that comes in is run. The vault's batches may have so many lanes, from 1 to 16.
+    Run { lanes: u32 },
 }
 
-/// Which store the words call for; its path is the word behind the command's.
+/// The files that the words call for.
 #[derive(Clone, Copy, Debug, PartialEq, Eq)]
-pub enum StoreWanted {
-    /// None, since the words are refused.
-    Nothing,
-    /// One that is there.
-    Old,
-    /// One that is made where there is none.
-    New,
+pub struct Paths<'a> {
+    /// The store's path, and whether it may be made.
+    pub store: Option<(&'a str, bool)>,
+    /// The key file's path.
+    pub keys: Option<&'a str>,
 }
 
-fn is_operand(word: &str) -> bool
-    ensures { result ≡ is_operand word.now }
-{
-    match word.as_bytes() {
-        [] => false,
-        [first, ..] => *first != b'-',
-    }
-}
+// How many lanes a run has where no word says it.
+const LANES: u32 = 4;
 
-fn are_operands(words: &[&str]) -> bool
-    ensures { result ≡ list_all is_operand (map (λ w. w.now) words.entry.now) }
-{
-    for word in words {
-        if !is_operand(word) {
-            return false;
-        }
-    }
-    true
-}
-
-// Whether the words are a name and so many operands.
-fn is_form(words: &[&str], name: &str, operands: usize) -> bool
-    ensures { result ≡ is_form name.now operands (map (λ w. w.now) words.entry.now) }
-{
-    match words {
-        [] => false,
-        [word, rest @ ..] => *word == name && rest.len() == operands && are_operands(rest),
-    }
-}
-
-// Whether these are the options of `run`.
-fn are_run_options(options: &[&str]) -> bool
-    ensures { result ≡ are_run_options (map (λ w. w.now) options.entry.now) }
-{
-    match options {
-        [] => true,
-        [option] => *option == "--turns",
-        _ => false,
-    }
-}
-
-// Whether the words are `run` with its operands and options.
-fn is_run(words: &[&str]) -> bool
-    ensures { result ≡ is_run (map (λ w. w.now) words.entry.now) }
-{
-    if words.len() < 3 {
-        return false;
-    }
-    is_form(&words[..3], "run", 2) && are_run_options(&words[3..])
-}
+// The most lanes that a run may have.
+const MOST_LANES: u32 = 16;
 
 // The number of a word; 0, which is in no range, where it is none.
 fn number_in(word: &str) -> u32
@@ -87,44 +42,87 @@ fn number_in(word: &str) -> u32
     }
 }
 
-// The parameters that the words of `format` name, or the first field out of its range.
-fn params_in(words: &[&str]) -> Result<Params, Field>
-    requires whole { length words.now ≡ 12 }
-    ensures { MatchResult result (λ p. AreParams (map (λ w. w.now) words.entry.now) p) (λ field. IsBadNumber (map (λ w. w.now) words.entry.now) field) }
+// The parameters of nine words, or the first field out of its range.
+fn params_in(
+    n: &str,
+    l: &str,
+    z: &str,
+    s: &str,
+    r: &str,
+    br: &str,
+    bw: &str,
+    e: &str,
+    t: &str,
+) -> Result<Params, Field>
+    ensures { MatchResult result (λ p. AreParams (n.now ∷ l.now ∷ z.now ∷ s.now ∷ r.now ∷ br.now ∷ bw.now ∷ e.now ∷ t.now ∷ []) p)
+        (λ field. IsBadNumber (n.now ∷ l.now ∷ z.now ∷ s.now ∷ r.now ∷ br.now ∷ bw.now ∷ e.now ∷ t.now ∷ []) field) }
 {
-    match words {
-        [_, _, _, n, l, z, s, r, br, bw, e, t] => Params::new(
-            number_in(n),
-            number_in(l),
-            number_in(z),
-            number_in(s),
-            number_in(r),
-            number_in(br),
-            number_in(bw),
-            number_in(e),
-            number_in(t),
-        ),
-        _ => unreachable!(),
+    Params::new(
+        number_in(n),
+        number_in(l),
+        number_in(z),
+        number_in(s),
+        number_in(r),
+        number_in(br),
+        number_in(bw),
+        number_in(e),
+        number_in(t),
+    )
+}
+
+// How many lanes the word of `--lanes` gives, if it is there.
+fn lanes_in(word: Option<&str>) -> Result<u32, Field>
+    ensures { MatchResult result (λ k. AreLanes (option_map (λ w. w.now) word.entry) k)
+        (λ field. (field ≡ Field.LANES) × AreBadLanes (option_map (λ w. w.now) word.entry)) }
+{
+    let Some(word) = word else {
+        return Ok(LANES);
+    };
+    match number_of(word.as_bytes()) {
+        Some(k @ 1..=MOST_LANES) => Ok(k),
+        _ => Err(Field::LANES),
+    }
+}
+
+// The command of a request, or the first field that is out of its range.
+fn command_in(request: &Request<'_>) -> Result<Command, Field>
+    ensures { MatchResult result (λ command. IsCommandOf (asked_of request.now) command) (λ field. IsOutOfRange (asked_of request.now) field) }
+{
+    match request {
+        Request::Format {
+            n,
+            l,
+            z,
+            s,
+            r,
+            br,
+            bw,
+            e,
+            t,
+            ..
+        } => match params_in(n, l, z, s, r, br, bw, e, t) {
+            Ok(params) => Ok(Command::Format { params }),
+            Err(field) => Err(field),
+        },
+        Request::Run { lanes, .. } => match lanes_in(*lanes) {
+            Ok(lanes) => Ok(Command::Run { lanes }),
+            Err(field) => Err(field),
+        },
     }
 }
 
 /// What the words ask for.
 ///
 /// # Errors
-/// `Usage` for words that are no form, and `BadParams` for a form of `format` with a number out of
-/// its range, the first one.
-pub fn command_of(words: &[&str]) -> Result<Command, Fault>
+/// `Usage` for words that are no command with its operands and options; `BadParams` for a number out
+/// of its range, the first one; and `Memory`.
+pub fn command_of(alloc: Global, words: &[&str]) -> Result<Command, Fault>
     ensures command { IfOk result (λ command. Asks (map (λ w. w.now) words.entry.now) command) }
     ensures refused { IfErr result (λ fault. IsRefusedFor (map (λ w. w.now) words.entry.now) fault) }
 {
-    if is_run(words) {
-        return Ok(Command::Run);
-    }
-    if !is_form(words, "format", 11) {
-        return Err(Fault::Usage);
-    }
-    match params_in(words) {
-        Ok(params) => Ok(Command::Format { params }),
+    let request = read_words(alloc, words)?;
+    match command_in(&request) {
+        Ok(command) => Ok(command),
         Err(field) => Err(Fault::BadParams { field }),
     }
 }
@@ -145,15 +143,42 @@ pub fn keys_of(text: Option<&[u8]>) -> Result<Keys, Fault>
     }
 }
 
-/// Which store the words call for, so that nothing else is opened or made.
-pub fn store_wanted(words: &[&str]) -> StoreWanted
-    ensures { IsWanted (map (λ w. w.now) words.entry.now) result }
+// The files of a request: none where a number is out of its range.
+fn paths_of<'a>(request: &Request<'a>) -> Paths<'a>
+    ensures { AreFilesOf (asked_of request.now) (option_map (λ s. (s.0.now, s.1)) result.store) (option_map (λ k. k.now) result.keys) }
 {
-    let Ok(command) = command_of(words) else {
-        return StoreWanted::Nothing;
-    };
-    match command {
-        Command::Format { .. } => StoreWanted::New,
-        Command::Run => StoreWanted::Old,
+    if command_in(request).is_err() {
+        return Paths {
+            store: None,
+            keys: None,
+        };
+    }
+    match request {
+        Request::Format { store, keys, .. } => Paths {
+            store: Some((*store, true)),
+            keys: Some(*keys),
+        },
+        Request::Run { store, keys, .. } => Paths {
+            store: Some((*store, false)),
+            keys: Some(*keys),
+        },
+    }
+}
+
+/// The files that the words call for, so that nothing else is opened or made: none where they are
+/// refused, or where a number is out of its range.
+///
+/// # Errors
+/// Memory was wanting.
+pub fn store_wanted<'a>(alloc: Global, words: &'a [&'a str]) -> Result<Paths<'a>, Memory>
+    ensures { IfOk result (λ paths. AreWanted (map (λ w. w.now) words.entry.now) (option_map (λ s. (s.0.now, s.1)) paths.store) (option_map (λ k. k.now) paths.keys)) }
+{
+    match read_words(alloc, words) {
+        Ok(request) => Ok(paths_of(&request)),
+        Err(WordsErr::Usage) => Ok(Paths {
+            store: None,
+            keys: None,
+        }),
+        Err(WordsErr::Memory) => Err(Memory),
     }
 }

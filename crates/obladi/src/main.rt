@@ -3,9 +3,9 @@
 
 use ob_base::{Fault, Memory};
 use ob_desk::Eager;
-use ob_file::{FileStore, OpenErr};
+use ob_file::{FileStore, OpenErr, open_locked};
 use ob_io::{ReadErr, Sink, StdSink, StdSource, read_all};
-use ob_top::{StoreWanted, finish, obladi, store_wanted};
+use ob_top::{Paths, finish, obladi, store_wanted};
 use std::alloc::{AllocGlobal, Global};
 use std::fs::File;
 use std::io::ErrorKind;
@@ -33,42 +33,57 @@ fn texts_of(alloc: Global, words: &[String]) -> Result<Vec<&str>, Memory> {
     Ok(texts)
 }
 
-// The store's file that the words name: none where they call for none, or where it can't be opened.
-fn open_store<'a>(
-    rt: &'a HostRuntime,
-    words: &[&str],
-) -> Result<Option<FileStore<&'a HostRuntime>>, Fault> {
-    let create = match store_wanted(words) {
-        StoreWanted::Nothing => return Ok(None),
-        StoreWanted::Old => false,
-        StoreWanted::New => true,
-    };
-    let Some(path) = words.get(1) else {
-        return Ok(None);
-    };
-    match FileStore::open(rt, rt.alloc(), path, create) {
-        Ok(store) => Ok(Some(store)),
-        Err(OpenErr::Failed) => Ok(None),
-        Err(OpenErr::Memory(_)) => Err(Fault::Memory),
-    }
+// The files that the words name, each locked as long as these live: the key file against writers, and
+// the store against all.
+#[derive(Drop)]
+struct Opened<'a> {
+    keys: Option<File>,
+    store: Option<FileStore<&'a HostRuntime>>,
 }
 
-// The text of the key file that the words name, up to a byte more than keys may have: none where the
-// words call for none, or where it can't be read.
-fn read_keys(rt: &HostRuntime, words: &[&str]) -> Result<Option<Vec<u8>>, Fault> {
-    if store_wanted(words) == StoreWanted::Nothing {
-        return Ok(None);
-    }
-    let Some(path) = words.get(2) else {
-        return Ok(None);
+// Opens and locks the files of these paths, before anything is read or written: none where the words
+// call for none, or where it can't be had. Where the two are one file the key file's lock refuses the
+// store. Without a key file no store is opened or made.
+fn open_files<'a>(rt: &'a HostRuntime, paths: &Paths) -> Result<Opened<'a>, Fault> {
+    let mut opened = Opened {
+        keys: None,
+        store: None,
     };
-    let Ok(file) = File::open(rt, path) else {
+    let (Some((store, create)), Some(keys)) = (paths.store, paths.keys) else {
+        return Ok(opened);
+    };
+    let Ok(keys) = open_locked(rt, keys) else {
+        return Ok(opened);
+    };
+    opened.keys = Some(keys);
+    match FileStore::open(rt, rt.alloc(), store, create) {
+        Ok(store) => opened.store = Some(store),
+        Err(OpenErr::Failed) => {}
+        Err(OpenErr::Memory(_)) => return Err(Fault::Memory),
+    }
+    Ok(opened)
+}
+
+// The text of a key file, up to a byte more than keys may have: none where there is no file, or where
+// it can't be read.
+fn read_keys(rt: &HostRuntime, file: Option<&File>) -> Result<Option<Vec<u8>>, Fault> {
+    let Some(file) = file else {
         return Ok(None);
     };
     match read_all(rt.alloc(), &mut StdSource::new(file), KEY_TEXT) {
         Ok(text) => Ok(Some(text)),
         Err(ReadErr::Failed) => Ok(None),
         Err(ReadErr::Memory) => Err(Fault::Memory),
+    }
+}
+
+// Takes those of the descriptors 0 to 2 that were handed over closed, so that no file that is opened
+// later is one of them: an input so taken is empty, and an output refuses what is written.
+fn hold_standard(rt: &HostRuntime) -> Result<[File; 3], Fault> {
+    let open = || File::open(rt, "/dev/null");
+    match (open(), open(), open()) {
+        (Ok(input), Ok(output), Ok(errors)) => Ok([input, output, errors]),
+        _ => Err(Fault::StoreFault { unsure: None }),
     }
 }
 
@@ -79,16 +94,17 @@ fn run<R: AllocGlobal + Wait, O: Sink>(
     waits: &R,
     output: &mut O,
 ) -> Result<u8, Fault> {
-    let mut input = StdSource::new(rt.reader());
     let words = words_of(rt)?;
     let texts = texts_of(rt.alloc(), &words)?;
-    let keys = read_keys(rt, &texts)?;
-    let mut store = open_store(rt, &texts)?;
+    let paths = store_wanted(rt.alloc(), &texts)?;
+    let mut opened = open_files(rt, &paths)?;
+    let keys = read_keys(rt, opened.keys.as_ref())?;
+    let mut input = StdSource::new(rt.reader());
     Ok(obladi(
         waits,
         &texts,
         keys.as_deref(),
-        store.as_mut(),
+        opened.store.as_mut(),
         &mut input,
         output,
         &mut Eager,
@@ -96,8 +112,13 @@ fn run<R: AllocGlobal + Wait, O: Sink>(
 }
 
 fn main(rt: HostRuntime) -> ExitCode {
+    let standard = hold_standard(&rt);
     let mut output = StdSink::new(io::writer(&rt));
-    let status = match run(&rt, &rt, &mut output) {
+    let ended = match &standard {
+        Ok(_) => run(&rt, &rt, &mut output),
+        Err(fault) => Err(*fault),
+    };
+    let status = match ended {
         Ok(status) => status,
         Err(fault) => finish(&mut output, Err(fault)),
     };

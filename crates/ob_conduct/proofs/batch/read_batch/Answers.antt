@@ -11,15 +11,17 @@ fetch-requires-clause-distinct g c = batch_distinct _ c.args.desk.now c.take_bat
 pub returns-in-Ok-clause-read : goal.returns-in-Ok-clause-read
 returns-in-Ok-clause-read g c =
     let e = c.in-Ok.ensures in
-    read_one _ (g.V.Vault.params c.args.vault.now) c.args.desk.now c.take_batch.new.self c.deliver.new.self c.args.vault.now c.fetch.new.self (g.V.Vault.counts c.args.vault.now) (g.V.Vault.counts c.fetch.new.self) c.take_batch.new.out c.fetch.new.out
+    read_one _ (g.V.Vault.params c.args.vault.now) c.args.desk.now c.take_batch.new.self c.deliver.new.self c.args.vault.now c.fetch.new.self (g.W.Watch.trace c.args.watch.now) (g.W.Watch.trace c.fetch.new.watch)
+    (g.V.Vault.counts c.args.vault.now) (g.V.Vault.counts c.fetch.new.self) c.take_batch.new.out c.fetch.new.out
     c.requires.ready c.requires.some_left (search rules) c.take_batch.ensures c.deliver.ensures
     (record { notes = e.called.0; called = e.called.2; answered = e.answered; holds = e.holds; sound = e.sound; images = e.images; alike = e.alike; goes = e.goes })
-    e.counts
+    e.called.1 e.counts
 
 pub returns-in-Err-clause-refused : goal.returns-in-Err-clause-refused
 returns-in-Err-clause-refused g c =
     let e = c.in-Err.ensures in
-    refuse_one _ (g.V.Vault.params c.args.vault.now) c.args.desk.now c.take_batch.new.self c.stop.new.self c.args.vault.now c.fetch.new.self (g.V.Vault.counts c.args.vault.now) c.take_batch.new.out c.in-Err.fault
+    refuse_one _ (g.V.Vault.params c.args.vault.now) c.args.desk.now c.take_batch.new.self c.stop.new.self c.args.vault.now c.fetch.new.self (g.W.Watch.trace c.args.watch.now) (g.W.Watch.trace c.fetch.new.watch)
+    (g.V.Vault.counts c.args.vault.now) c.take_batch.new.out c.in-Err.fault
     c.requires.ready c.requires.goes_on c.requires.some_left c.take_batch.ensures c.stop.ensures
     (record { notes = e.called.0; called = e.called.2; answered = e.answered; holds = e.holds; sound = e.sound; images = e.images; alike = e.alike; goes = e.goes })
-    e.faults e.cause
+    e.called.1 e.faults e.cause

@@ -1,7 +1,8 @@
 use Rattle.std.proofs.Common.{map, take}
 use Rattle.ob_base.specs.declared.params.Params.{Params}
 use Rattle.ob_serial.specs.Vaults.{VaultCounts}
-use Rattle.ob_conduct.specs.Moves.{IsReady, Stepped}
+use Rattle.ob_conduct.specs.Ready.{IsReady}
+use Rattle.ob_conduct.specs.Moves.{Stepped}
 use Rattle.ob_conduct.proofs.rounds.step_all.Given as goal
 
 abbrev pub invariant-loop-i : goal.invariant-loop-i

@@ -7,14 +7,14 @@ loop-init g c = record {
   params = c.requires.params;
   beat = refl;
   room = c.requires.room;
-  going = going_none _ _ _ _ _ _ _ _ _ _ _ _ (ready_new c.args.params.now c.args.desk.now (g.V.Vault.counts c.args.vault.now) _ c.requires.fresh c.requires.serves) c.requires.none_made;
+  going = going_none _ _ _ _ _ _ (ready_new c.args.params.now c.args.desk.now (g.V.Vault.counts c.args.vault.now) _ c.requires.fresh c.requires.serves) c.requires.none_made;
 }
 
 pub step_all-requires-clause-below : goal.step_all-requires-clause-below
-step_all-requires-clause-below g c = going_below _ _ _ _ _ _ _ _ _ _ _ _ _ _ _ _ c.loop.invariant.going c.requires.below
+step_all-requires-clause-below g c = going_below _ _ _ _ _ _ _ c.loop.invariant.going c.requires.below
 
 pub step_all-requires-clause-heard : goal.step_all-requires-clause-heard
-step_all-requires-clause-heard g c = going_heard _ _ _ _ _ _ _ _ _ _ _ _ _ _ _ _ _ _ _ c.loop.invariant.going c.requires.fresh c.requires.opens
+step_all-requires-clause-heard g c = going_heard _ _ _ _ _ _ _ _ _ _ c.loop.invariant.going c.requires.fresh c.requires.opens
 
 pub look_and_act-requires-clause-ready : goal.look_and_act-requires-clause-ready
 look_and_act-requires-clause-ready g c = c.step_all.ensures.ready c.args.params.now (g.V.Vault.counts c.loop.vault) c.loop.invariant.going.ready
@@ -27,20 +27,20 @@ loop-preserved g c =
       params = e.params;
       beat = e.anchors ∙ i.beat;
       room = omega (arith, i.room, e.room);
-      going = going_acted _ _ _ _ _ _ _ _ _ _ _ _ _ _ _ _ _ _ _ _ (going_stepped _ _ _ _ _ _ _ _ _ _ _ _ _ _ _ _ _ _ i.going c.step_all.ensures.stepped (c.step_all.ensures.ready c.args.params.now (g.V.Vault.counts c.loop.vault) i.going.ready)) e.acted;
+      going = going_acted _ _ _ _ _ _ _ _ _ _ (going_stepped _ _ _ _ _ _ _ _ _ i.going c.step_all.ensures.stepped (c.step_all.ensures.ready c.args.params.now (g.V.Vault.counts c.loop.vault) i.going.ready)) e.acted;
     }
 
 pub returns-in-Ok-Over-clause-done : goal.returns-in-Ok-Over-clause-done
 returns-in-Ok-Over-clause-done g c =
     let i = c.loop.invariant in
     let e = c.in-Ok-Over.ensures in
-    done_over _ _ _ _ _ _ _ _ _ _ _ _ _ _ _ c.requires.fresh _ _ _ _ _ _
-    (going_acted _ _ _ _ _ _ _ _ _ _ _ _ _ _ _ _ _ _ _ _ (going_stepped _ _ _ _ _ _ _ _ _ _ _ _ _ _ _ _ _ _ i.going c.step_all.ensures.stepped (c.step_all.ensures.ready c.args.params.now (g.V.Vault.counts c.loop.vault) i.going.ready)) e.acted)
+    done_over _ _ _ _ _ _ _ _ _ c.requires.fresh _ _ _
+    (going_acted _ _ _ _ _ _ _ _ _ _ (going_stepped _ _ _ _ _ _ _ _ _ i.going c.step_all.ensures.stepped (c.step_all.ensures.ready c.args.params.now (g.V.Vault.counts c.loop.vault) i.going.ready)) e.acted)
     (e.over c.in-Ok-Over.field-0-is)
 
 pub returns-in-Err-clause-done : goal.returns-in-Err-clause-done
 returns-in-Err-clause-done g c =
     let i = c.loop.invariant in
-    done_failed _ _ _ _ _ _ _ _ _ _ _ _ _ _ _ c.requires.fresh _ _ _ _ _ _ _ _ c.in-Err.fault
-    (going_stepped _ _ _ _ _ _ _ _ _ _ _ _ _ _ _ _ _ _ i.going c.step_all.ensures.stepped (c.step_all.ensures.ready c.args.params.now (g.V.Vault.counts c.loop.vault) i.going.ready))
+    done_failed _ _ _ _ _ _ _ _ _ c.requires.fresh _ _ _ _ c.in-Err.fault
+    (going_stepped _ _ _ _ _ _ _ _ _ i.going c.step_all.ensures.stepped (c.step_all.ensures.ready c.args.params.now (g.V.Vault.counts c.loop.vault) i.going.ready))
     c.in-Err.ensures.failed

@@ -1,5 +1,5 @@
 use Rattle.std.proofs.Common.{inl, inr}
-use Rattle.ob_top.proofs.Beginnings.{opened, unopened, left_opening, kept}
+use Rattle.ob_top.proofs.Beginnings.{opened, opened_kind, unopened, left_opening, kept}
 use Rattle.ob_top.proofs.run.begin.Goals as goal
 
 pub returns-in-Err-read_script-clause-refused : goal.returns-in-Err-read_script-clause-refused
@@ -40,7 +40,7 @@ returns-in-Err-prepare-clause-refused g c =
 pub returns-in-Ok-prepare-clause-opened : goal.returns-in-Ok-prepare-clause-opened
 returns-in-Ok-prepare-clause-opened g c = λ at tells stands.
     let head = c.in-Ok.ensures in
-    c.in-Ok-prepare.ensures.opened at (head.keeps.tells tells) (kept c.args.keys.now c.in-Ok.params (g.S.Store.disk c.args.store.now) (g.S.Store.disk c.head.new.store) (g.S.Store.disk c.prepare.new.store) head.passes head.keeps (g.met.S.Store.only_now c.args.store.now) tells at stands)
+    opened_kind c.args.keys.now c.in-Ok.params at c.in-Ok-prepare.opening (g.S.Store.disk c.prepare.new.store) (c.in-Ok-prepare.ensures.opened at (head.keeps.tells tells) (kept c.args.keys.now c.in-Ok.params (g.S.Store.disk c.args.store.now) (g.S.Store.disk c.head.new.store) (g.S.Store.disk c.prepare.new.store) head.passes head.keeps (g.met.S.Store.only_now c.args.store.now) tells at stands))
 
 pub returns-in-Ok-prepare-clause-left : goal.returns-in-Ok-prepare-clause-left
 returns-in-Ok-prepare-clause-left g c = λ at tells stands all.

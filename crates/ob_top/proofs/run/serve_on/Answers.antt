@@ -1,4 +1,4 @@
-use Rattle.std.proofs.Common.{refl, subst, ◌∙◌, ◌≡◌, List, ◌∷◌, ap, sym}
+use Rattle.std.proofs.Common.{refl, arith, subst, ◌∙◌, ◌≡◌, List, ◌∷◌, ap, sym}
 use Rattle.std.specs.Borrow.{GName}
 use Rattle.ob_base.specs.declared.params.Params.{Params}
 use Rattle.ob_seal.specs.declared.keys.Keys.{Keys}
@@ -13,8 +13,12 @@ use Rattle.ob_runner.proofs.Scripted.{is_its_script}
 use Rattle.ob_runner.specs.RunnerViews.{runner_state, client_of, bound_of, plan_of, MayHaveMade}
 use Rattle.ob_runner.specs.Runners.{IsNewOf}
 use Rattle.ob_script.specs.Script.{asks_by}
+use Rattle.ob_conduct.specs.Scenes.{runner_kind}
 use Rattle.ob_top.proofs.Opens.{may_open}
-use Rattle.ob_top.proofs.Serving.{IsLender, serves_on, renamed}
+use Rattle.ob_top.specs.Flat.{flat_kind}
+use Rattle.ob_top.proofs.Beginnings.{kind_opened}
+use Rattle.ob_top.proofs.Serving.{renamed}
+use Rattle.ob_top.proofs.FlatServing.{IsFlatLender, flat_serves}
 use Rattle.ob_top.proofs.run.serve_on.Goals as goal
 
 first_same : (a b : GName) (xs ys : List GName) → ◌≡◌ {A = List GName} (a ∷ xs) (b ∷ ys) → a ≡ b
@@ -26,8 +30,8 @@ returns g c =
     let names : c.over-arg-1.given ≡ c.into_store-store.result.ghost_name = sym (c.into_store-store.ensures.name ∙ first_same _ _ _ _ c.conduct-ended.ensures.anchors ∙ c.over-vault.ensures.name) in
     let same = c.store-1.given.1 names in
     let params = c.over-vault.ensures.params ∙ c.requires.params in
-    let lender : IsLender _ g.S.Store.disk (λ v. v.held.store.now) (λ v. v.held.sealer) (λ v. v.params) (λ v. v.held.gates.epoch) (λ v. v.held.epoch) (λ v. v.values.items) (λ v call answer notes w does. does)
-    c.args.keys.now c.args.begun.params c.args.begun.opening c.over-vault.result = record {
+    let lender : IsFlatLender _ g.S.Store.disk (λ v. v.held.store.now) (λ v. v.held.sealer) (λ v. v.params) (λ v. v.held.gates.epoch) (λ v. v.held.epoch) (λ v. v.values.items) (λ v call answer notes w does. does)
+    c.args.begun.params c.args.begun.opening c.args.keys.now c.over-vault.result = record {
       faults = λ v. refl;
       since = λ a b P l. record { later = l.later; each = l.each; before = l.before };
       now = λ v i left. left;
@@ -40,13 +44,15 @@ returns g c =
           (subst (λ x. Settled (g.S.Store.disk x)) c.over-vault.ensures.store settled)
           (subst (λ (x : Keys). IsOpenedAt x c.args.begun.opening.params at c.args.begun.opening (g.S.Store.disk c.args.store.now)) (sym c.requires.sealer.keys_are)
           (subst (λ (x : Params). IsOpenedAt c.args.keys.now x at c.args.begun.opening (g.S.Store.disk c.args.store.now)) (sym c.requires.params)
-          (subst (λ x. IsOpenedAt c.args.keys.now c.args.begun.params at c.args.begun.opening (g.S.Store.disk x)) c.over-vault.ensures.store opened))));
+          (subst (λ x. IsOpenedAt c.args.keys.now c.args.begun.params at c.args.begun.opening (g.S.Store.disk x)) c.over-vault.ensures.store (kind_opened c.args.keys.now c.args.begun.params at c.args.begun.opening (g.S.Store.disk _) opened)))));
     } in
-    let s = serves_on _ g.S.Store.disk (λ v. v.held.store.now) (λ v. v.held.sealer) (λ v. v.params) (λ v. v.held.gates.epoch) (λ v. v.held.epoch) (λ v. v.values.items) (λ v call answer notes w does. does)
-    _ client_of bound_of plan_of MayHaveMade (λ r said fit. is_its_script (runner_state r) said fit)
-    c.args.keys.now c.args.begun.params c.args.begun.opening c.args.begun.scripts c.requires.sound (may_open c.args.begun.params c.args.begun.opening.epoch c.args.begun.scripts c.args.begun.opening.small c.requires.sound)
-    new c.over-vault.result c.conduct-ended.new.vault c.args.begun.runners.items _ _ _ c.conduct-ended.result
+    let s = flat_serves _ g.S.Store.disk (λ v. v.held.store.now) (λ v. v.held.sealer) (λ v. v.params) (λ v. v.held.gates.epoch) (λ v. v.held.epoch) (λ v. v.values.items) (λ v call answer notes w does. does)
+    c.args.begun.params c.args.begun.opening
+    _ (runner_kind client_of bound_of plan_of MayHaveMade) (λ r said fit. is_its_script (runner_state r) said fit)
+    c.args.keys.now c.args.begun.scripts c.requires.sound (may_open c.args.begun.params c.args.begun.opening.epoch _ c.args.begun.scripts c.args.begun.opening.small (omega arith) c.requires.sound)
+    c.over-vault.result _ c.args.begun.runners.items _ _ c.conduct-ended.result _ _
     c.requires.runners.clients_are (All-weaker (IsNewOf c.args.begun.scripts) (λ r. plan_of r ≡ asks_by (client_of r) c.args.begun.scripts.txns) (λ r n. n.plan) c.args.begun.runners.items c.requires.runners.new) c.over-vault.ensures.epoch
-    d lender params (ap (λ (x : Sealing). x.next) c.over-vault.ensures.sealer ∙ c.requires.sealer.none_sealed) (ap (λ (x : Gates). x.epoch) c.over-vault.ensures.gates) in
-    renamed g.S.Store.disk _ c.args.keys.now c.args.begun.params c.args.begun.opening c.args.begun.scripts _ c.args.store.now _ c.store-1.given.0 _ _ _
+    (c.over-vault.ensures.left ∙ ap (λ (q : Params). q.batches) c.requires.params)
+    d lender params (ap (λ (x : Gates). x.epoch) c.over-vault.ensures.gates) c.over-vault.ensures.epoch (ap (λ (x : Sealing). x.next) c.over-vault.ensures.sealer ∙ c.requires.sealer.none_sealed) in
+    renamed flat_kind g.S.Store.disk _ c.args.keys.now c.args.begun.params c.args.begun.opening c.args.begun.scripts _ c.args.store.now _ c.store-1.given.0 _ _ _
     c.over-vault.ensures.store (same ∙ c.into_store-store.ensures.store) s

@@ -1,0 +1,41 @@
+-- The desk, the vault and the trace at one moment of a run, and the words of its runners.
+use Rattle.std.specs.Prelude.{ℕ, ◌≡◌, List, [], ◌∷◌, ◌++◌}
+use Rattle.ob_report.specs.Printed.{Flow}
+use Rattle.ob_store.specs.declared.watch.Note.{Note}
+use Rattle.ob_store.specs.Lines.{Trace}
+use Rattle.ob_serial.specs.Vaults.{VaultCall, VaultAnswer}
+use Rattle.ob_serial.specs.VaultKinds.{Kind, Called}
+use Rattle.ob_desk.specs.Desk.{DeskState, Call, Reply}
+
+-- the desk, the vault, and what its watch tells
+pub record Scene (V : Type 0) : Type 0 where
+  pub desk : DeskState
+  pub vault : V
+  pub trace : Trace
+
+abbrev pub scene : {V : Type 0} → DeskState → V → Trace → Scene V
+scene desk vault trace = record { desk = desk; vault = vault; trace = trace }
+
+-- and the runners, and what stands in the output
+pub record RunState (V U : Type 0) : Type 0 where
+  pub scene : Scene V
+  pub runners : List U
+  pub output : Flow
+
+abbrev pub run_state : {V U : Type 0} → Scene V → List U → Flow → RunState V U
+run_state scene runners output = record { scene = scene; runners = runners; output = output }
+
+-- the words of a kind of runner
+pub record RunnerKind (U Plan : Type 0) : Type 1 where
+  pub client : U → ℕ
+  pub bound : U → ℕ
+  pub plan : U → Plan
+  pub fits : U → List (Call × Reply) → Type 0
+
+abbrev pub runner_kind : {U Plan : Type 0} → (U → ℕ) → (U → ℕ) → (U → Plan) → (U → List (Call × Reply) → Type 0) → RunnerKind U Plan
+runner_kind client bound plan fits = record { client = client; bound = bound; plan = plan; fits = fits }
+
+-- Calls with their answers lead from a vault to a vault, and these are the notes of them, one behind the other.
+abbrev pub AllNoted : {V : Type 0} → Kind V → V → List (VaultCall × VaultAnswer) → List Note → V → Type 0
+AllNoted k old [] notes new = (new ≡ old) × (notes ≡ [])
+AllNoted {V} k old (step ∷ steps) notes new = (mid : V) × (one : Called k old step.0 step.1 mid) × (more : List Note) × (notes ≡ one.notes ++ more) × AllNoted k mid steps more new

@@ -1,0 +1,4 @@
+pub mod Phases
+pub mod Kinds
+pub mod Shown
+pub mod Laws

@@ -1,0 +1,40 @@
+-- What is seen of the calls of a vault: phases of reads, of writes, and syncs.
+use Rattle.std.specs.Prelude.{ℕ, List, [], ◌∷◌, ◌++◌, map, flat_map, Option, Some, None}
+use Rattle.ob_store.specs.declared.event.Event.{Event}
+use Rattle.ob_store.specs.declared.event.Event.TheVariants as event
+use Rattle.ob_serial.specs.Vaults.{VaultCall, Fetch, End, VaultAnswer, Values, Ended, RefusedBy, DoubtBy}
+
+-- Cells that are read, in this order; cells that are written; a sync.
+pub data Phase : Type 0 where
+  Reads : (cells : List ℕ) → Phase
+  Writes : (cells : List ℕ) → Phase
+  Syncs : Phase
+
+abbrev pub phase_events : Phase → List Event
+phase_events (Reads cells) = map (λ cell. event.Read cell) cells
+phase_events (Writes cells) = map (λ cell. event.Write cell) cells
+phase_events Syncs = event.Sync ∷ []
+
+-- the events of phases, one behind the other
+abbrev pub events_of : List Phase → List Event
+events_of phases = flat_map phase_events phases
+
+-- What a call is, with its keys, values and writes erased: a batch that is fetched, or the end of an epoch.
+pub data Shape : Type 0 where
+  Fetches : Shape
+  Ends : Shape
+
+-- the calls that were answered, in order
+abbrev pub shapes : List (VaultCall × VaultAnswer) → List Shape
+shapes [] = []
+shapes ((Fetch keys, Values values) ∷ steps) = Fetches ∷ shapes steps
+shapes ((End writes, Ended) ∷ steps) = Ends ∷ shapes steps
+shapes (_ ∷ steps) = shapes steps
+
+-- the last call, where it was refused or left in doubt
+abbrev pub refused : List (VaultCall × VaultAnswer) → Option Shape
+refused [] = None
+refused ((Fetch keys, RefusedBy fault) ∷ []) = Some Fetches
+refused ((End writes, RefusedBy fault) ∷ []) = Some Ends
+refused ((End writes, DoubtBy fault) ∷ []) = Some Ends
+refused (_ ∷ steps) = refused steps

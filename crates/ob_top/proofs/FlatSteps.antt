@@ -1,0 +1,165 @@
+-- What a call of the plain vault shows.
+use Rattle.std.proofs.Common.{◌≡◌, ◌∙◌, ◌⊎◌, ◌+◌, ◌*◌, ◌^◌, ◌<◌, ◌≤◌, ℕ, suc, Bool, true, false, if◌then◌else◌, List, [], ◌∷◌, ◌++◌, length, take, map, Option, Some, None, refl, sym, ap, subst, inl, inr, arith}
+use Rattle.std.proofs.lemmas.List.{append-nil, append_assoc}
+use Rattle.ob_base.specs.declared.params.Params.{Params}
+use Rattle.ob_base.specs.declared.fault.Fault.{Fault}
+use Rattle.ob_base.specs.declared.fault.Fault.TheVariants.{Memory, Usage, BadScript, BadParams, NotStore, Damaged, StoreFault, StashFull, Worn, SourceFault, SinkFault}
+use Rattle.ob_seal.specs.Sealing.{Sealing}
+use Rattle.ob_store.specs.declared.event.Event.{Event}
+use Rattle.ob_store.specs.declared.event.Event.TheVariants as event
+use Rattle.ob_store.specs.declared.watch.Note.{Note}
+use Rattle.ob_store.specs.Disk.{Disk}
+use Rattle.ob_store.specs.Runs.{write_events}
+use Rattle.ob_store.specs.Calls.{Notes}
+use Rattle.ob_store.proofs.Events.{none_noted}
+use Rattle.ob_twin.specs.declared.gates.Open.{Open}
+use Rattle.ob_twin.specs.Register.{place_of, gate_at, body_at}
+use Rattle.ob_twin.specs.Opening.{is_closed_first, with_mark}
+use Rattle.ob_twin.specs.Orders.{set_events, through_events}
+use Rattle.ob_serial.specs.Vaults.{VaultCall, Fetch, End, VaultAnswer, Values, Ended, RefusedBy, DoubtBy}
+use Rattle.ob_kinds.specs.Phases.{Shape, Fetches, Ends, events_of}
+use Rattle.ob_kinds.proofs.Shapes.{events_join}
+use Rattle.ob_flat.specs.declared.opening.Opening.{Opening}
+use Rattle.ob_flat.specs.Places.{area_of}
+use Rattle.ob_flat.specs.Calls.{FlatCalled, RefusedDoes, IsCut, IsWorn, Holding}
+use Rattle.ob_flat.specs.Orders.{end_events, open_events, rows_events, registers_events, begin_events}
+use Rattle.ob_rows.specs.Orders.{read_events}
+use Rattle.ob_top.specs.Flat.{FlatPublic, flat_kind, set_phases, through_phases, end_phases, open_phases, FlatCauses}
+use Rattle.ob_top.proofs.Steps.{Stops, Goes, CallDoes, IsWhy}
+
+-- ---- phases and orders
+
+closed_phases : (closed_first : Bool) (cell : ℕ) → events_of (if closed_first then through_phases cell else []) ≡ (if closed_first then through_events cell else [])
+closed_phases true cell = refl
+closed_phases false cell = refl
+
+set_same : (closed_first : Bool) (first n : ℕ) → events_of (set_phases closed_first first n) ≡ set_events closed_first first n
+set_same closed_first first n =
+    events_join ((if closed_first then through_phases (gate_at first (place_of n)) else []) ++ through_phases (body_at first (place_of n))) (through_phases (gate_at first (place_of n)))
+    ∙ ap (λ (l : List Event). l ++ through_events (gate_at first (place_of n)))
+    (events_join (if closed_first then through_phases (gate_at first (place_of n)) else []) (through_phases (body_at first (place_of n))) ∙ ap (λ (l : List Event). l ++ through_events (body_at first (place_of n))) (closed_phases closed_first (gate_at first (place_of n))))
+
+pub end_same : (keys : ℕ) (known : Open) (epoch : ℕ) → events_of (end_phases keys known epoch) ≡ end_events keys known epoch
+end_same keys known epoch = sym (append_assoc (write_events (area_of keys epoch) keys) (event.Sync ∷ []) (events_of (set_phases (is_closed_first known (place_of epoch)) 5 epoch))) ∙ ap (λ (l : List Event). rows_events (area_of keys epoch) keys ++ l) (set_same (is_closed_first known (place_of epoch)) 5 epoch)
+
+pub open_same : (keys epoch : ℕ) (known : Open) (generation : ℕ) → events_of (open_phases keys epoch known generation) ≡ open_events keys epoch known generation
+open_same keys epoch known generation = ap (λ (l : List Event). registers_events ++ (read_events (area_of keys epoch) keys ++ (event.Sync ∷ l))) (set_same (is_closed_first known (place_of generation)) 1 generation)
+
+-- ---- calls
+
+-- a front of a list is one of a list that is the same
+taken : (c : ℕ) (xs ys : List Event) → xs ≡ ys → take c xs ≡ take c ys
+taken c xs ys is = ap (take c) is
+
+no_false : true ≡ false → ⊥
+no_false is = cc is
+
+module _ {V S : Type 0} (called : V → VaultCall → VaultAnswer → List Note → V → Type 0) (disk : S → Disk) (store_of : V → S) (sealing_of : V → Sealing) (p_of : V → Params) (known_of : V → Open) (epoch_of : V → ℕ) (values_of : V → List (Option (List ℕ)))
+    (flat : (v : V) (call : VaultCall) (answer : VaultAnswer) (notes : List Note) (w : V) → called v call answer notes w
+    → FlatCalled (p_of v) (known_of v) (epoch_of v) (values_of w) (record { store = store_of v; sealing = sealing_of v }) (record { store = store_of w; sealing = sealing_of w }) (disk (store_of v)) (disk (store_of w)) notes call answer (p_of w) (known_of w) (epoch_of w))
+    (p : Params) (found : Opening) where
+  -- where the vault is behind so many ends
+  pub record FlatAt (q : FlatPublic) (so_far : List Shape) (n : ℕ) (v : V) : Type 0 where
+    pub params : p_of v ≡ p
+    pub known : known_of v ≡ q.known
+    pub epoch : epoch_of v ≡ q.epoch
+    pub counted : q.epoch ≡ found.epoch + n
+    pub sealed : (sealing_of v).next ≡ p.keys * n
+
+  module _ (q : FlatPublic) (so_far : List Shape) (n : ℕ) (v w : V) (notes : List Note) (at : FlatAt q so_far n v) where
+    -- the order of an end here
+    its_end : events_of (end_phases p.keys q.known (suc q.epoch)) ≡ end_events (p_of v).keys (known_of v) (suc (epoch_of v))
+    its_end = end_same p.keys q.known (suc q.epoch) ∙ sym (rw (at.params, at.known, at.epoch) refl)
+
+    fetched : (keys : List (Option ℕ)) (values : List (Option (List ℕ))) → called v (Fetch keys) (Values values) notes w → Goes flat_kind p FlatAt (disk (store_of v)) (disk (store_of w)) w q so_far Fetches n
+    fetched keys values one =
+        let f = flat v (Fetch keys) (Values values) notes w one in
+        let (same, none) = f.does in
+        let (known, epoch) = f.knows in
+        record {
+          drawn = tt;
+          seen = subst (λ (s : S). Notes [] (disk (store_of v)).seen (disk s).seen) (sym (ap (λ (h : Holding S). h.store) same)) (none_noted (disk (store_of v)).seen);
+          at = record { params = f.params ∙ at.params; known = known ∙ at.known; epoch = epoch ∙ at.epoch; counted = at.counted; sealed = ap (λ (h : Holding S). h.sealing.next) same ∙ at.sealed };
+        }
+
+    ended : (writes : List (ℕ × Option (List ℕ))) → called v (End writes) Ended notes w → Goes flat_kind p FlatAt (disk (store_of v)) (disk (store_of w)) w q so_far Ends (suc n)
+    ended writes one =
+        let f = flat v (End writes) Ended notes w one in
+        let (known, epoch) = f.knows in
+        record {
+          drawn = tt;
+          seen = subst (λ (l : List Event). Notes l (disk (store_of v)).seen (disk (store_of w)).seen) (sym its_end) f.does.seen;
+          at = record {
+            params = f.params ∙ at.params;
+            known = known ∙ rw (at.known, at.epoch) refl;
+            epoch = epoch ∙ ap suc at.epoch;
+            counted = ap suc at.counted ∙ one_more found.epoch n;
+            sealed = ap (λ (x : Sealing). x.next) f.does.seals ∙ rw (at.sealed, at.params) (more_rows p.keys n);
+          };
+        }
+      where
+        one_more : (i j : ℕ) → suc (i + j) ≡ i + suc j
+        one_more i j = omega arith
+
+        more_rows : (i j : ℕ) → i * j + i ≡ i * suc j
+        more_rows i j = omega arith
+
+    -- a front of an end
+    by_store : (unsure : Option ℕ) → (unsure ≡ None) ⊎ (unsure ≡ Some (suc (epoch_of v))) → IsCut (p_of v).keys (known_of v) (epoch_of v) (sealing_of v) (sealing_of w) (disk (store_of v)) (disk (store_of w)) notes
+        → Stops flat_kind p found (disk (store_of v)) (disk (store_of w)) q so_far n Ends (StoreFault unsure)
+    by_store unsure which one =
+        let (c, within, seen) = one.seen in
+        record {
+          more = take c (end_events (p_of v).keys (known_of v) (suc (epoch_of v)));
+          cut = (tt, c, taken c _ _ (sym its_end), λ no. absurd (no_false no));
+          seen = seen;
+          why = subst (λ e. (unsure ≡ None) ⊎ (unsure ≡ Some (suc e))) (at.epoch ∙ at.counted) which;
+        }
+
+    by_worn : (number : ℕ) → number ≡ 2 ^ 62 → IsWorn (p_of v).keys (epoch_of v) (sealing_of v) (sealing_of w) (store_of v) (store_of w) notes → Stops flat_kind p found (disk (store_of v)) (disk (store_of w)) q so_far n Ends (Worn number)
+    by_worn number is one = record {
+      more = [];
+      cut = (tt, 0, refl, λ no. refl);
+      seen = subst (λ (s : S). Notes [] (disk (store_of v)).seen (disk s).seen) (sym one.same) (none_noted (disk (store_of v)).seen);
+      why = (is, last one.last);
+    }
+      where
+        last : (suc (epoch_of v) ≡ 2 ^ 62) ⊎ (2 ^ 62 < (sealing_of v).next + (p_of v).keys) → (suc (found.epoch + n) ≡ 2 ^ 62) ⊎ (2 ^ 62 < p.keys * n + p.keys)
+        last (inl end) = inl (ap suc (sym at.counted ∙ sym at.epoch) ∙ end)
+        last (inr past) = inr (subst (λ m. 2 ^ 62 < m) (rw (at.sealed, at.params) refl) past)
+
+    refused : (fault : Fault) → RefusedDoes (p_of v).keys (known_of v) (epoch_of v) (record { store = store_of v; sealing = sealing_of v }) (record { store = store_of w; sealing = sealing_of w }) (disk (store_of v)) (disk (store_of w)) notes fault
+        → Stops flat_kind p found (disk (store_of v)) (disk (store_of w)) q so_far n Ends fault
+    refused (StoreFault unsure) (none, one) = by_store unsure (inl none) one
+    refused (Worn number) (is, one) = by_worn number is one
+    refused Memory does = absurd does
+    refused Usage does = absurd does
+    refused (BadScript line) does = absurd does
+    refused (BadParams field) does = absurd does
+    refused NotStore does = absurd does
+    refused (Damaged cell check kept computed) does = absurd does
+    refused (StashFull rows) does = absurd does
+    refused SourceFault does = absurd does
+    refused SinkFault does = absurd does
+
+    doubted : (fault : Fault) → fault ≡ StoreFault (Some (suc (epoch_of v))) → IsCut (p_of v).keys (known_of v) (epoch_of v) (sealing_of v) (sealing_of w) (disk (store_of v)) (disk (store_of w)) notes → Stops flat_kind p found (disk (store_of v)) (disk (store_of w)) q so_far n Ends fault
+    doubted fault is one = subst (λ (f : Fault). Stops flat_kind p found (disk (store_of v)) (disk (store_of w)) q so_far n Ends f) (sym is) (by_store (Some (suc (epoch_of v))) (inr refl) one)
+
+  -- each call
+  pub flat_does : (q : FlatPublic) (so_far : List Shape) (n : ℕ) (v : V) (call : VaultCall) (answer : VaultAnswer) (notes : List Note) (w : V) → FlatAt q so_far n v → called v call answer notes w
+      → CallDoes flat_kind p found FlatAt (disk (store_of v)) (disk (store_of w)) w q so_far n call answer
+  flat_does q so_far n v (Fetch keys) (Values values) notes w at one = fetched q so_far n v w notes at keys values one
+  flat_does q so_far n v (End writes) Ended notes w at one = ended q so_far n v w notes at writes one
+  flat_does q so_far n v (Fetch keys) (RefusedBy fault) notes w at one = absurd (flat v (Fetch keys) (RefusedBy fault) notes w one).does
+  flat_does q so_far n v (End writes) (RefusedBy fault) notes w at one = refused q so_far n v w notes at fault (flat v (End writes) (RefusedBy fault) notes w one).does
+  flat_does q so_far n v (End writes) (DoubtBy fault) notes w at one = let (is, cut) = (flat v (End writes) (DoubtBy fault) notes w one).does in doubted q so_far n v w notes at fault is cut
+  flat_does q so_far n v (Fetch keys) Ended notes w at one = tt
+  flat_does q so_far n v (Fetch keys) (DoubtBy fault) notes w at one = tt
+  flat_does q so_far n v (End writes) (Values values) notes w at one = tt
+
+  -- a vault that was just opened
+  pub flat_begun : (v : V) → p_of v ≡ p → known_of v ≡ found.gates.epoch → epoch_of v ≡ found.epoch → (sealing_of v).next ≡ 0 → FlatAt (record { known = found.gates.epoch; epoch = found.epoch }) [] 0 v
+  flat_begun v params known epoch fresh = record { params = params; known = known; epoch = epoch; counted = omega arith; sealed = fresh ∙ none p.keys }
+    where
+      none : (i : ℕ) → 0 ≡ i * 0
+      none i = omega arith

@@ -1,0 +1,101 @@
+-- The plain vault's store, as a kind of store.
+use Rattle.std.specs.Prelude.{ℕ, suc, ◌≡◌, ◌⊎◌, ◌+◌, ◌*◌, ◌^◌, ◌<◌, ◌≤◌, Bool, true, false, if◌then◌else◌, List, [], ◌∷◌, ◌++◌, Err}
+use Rattle.ob_base.specs.declared.params.Params.{Params}
+use Rattle.ob_base.specs.declared.fault.Fault.{Fault}
+use Rattle.ob_base.specs.declared.fault.Fault.TheVariants.{StoreFault, Worn}
+use Rattle.ob_seal.specs.declared.keys.Keys.{Keys}
+use Rattle.ob_store.specs.declared.event.Event.TheVariants as event
+use Rattle.ob_store.specs.Disk.{Disk}
+use Rattle.ob_store.specs.Runs.{from_on}
+use Rattle.ob_store.specs.Calls.{NotesFirst}
+use Rattle.ob_twin.specs.declared.gates.Open.{Open}
+use Rattle.ob_twin.specs.Register.{place_of, gate_at, body_at}
+use Rattle.ob_twin.specs.Opening.{GatesAre, with_mark, is_closed_first}
+use Rattle.ob_flat.specs.declared.opening.Opening.{Opening}
+use Rattle.ob_flat.specs.Places.{area_of}
+use Rattle.ob_flat.specs.Heads.{IsHead, IsHeadRead}
+use Rattle.ob_flat.specs.Registers.{Found}
+use Rattle.ob_flat.specs.Openings.{IsFoundIn, IsOpeningOf, IsOpenFault, IsHeadFault}
+use Rattle.ob_flat.specs.Orders.{registers_events, open_events}
+use Rattle.ob_flat.specs.Standing.{IsMapOf, StandsFlat}
+use Rattle.ob_kinds.specs.Phases.{Phase, Reads, Writes, Syncs, Shape, Fetches, Ends}
+use Rattle.ob_kinds.specs.Kinds.{StoreKind}
+
+-- a cell that is written, and a sync
+abbrev pub through_phases : ℕ → List Phase
+through_phases cell = Writes (cell ∷ []) ∷ Syncs ∷ []
+
+-- a register is set: the gate closed where that is needed, the body, and the gate open
+abbrev pub set_phases : Bool → ℕ → ℕ → List Phase
+set_phases closed_first first n = ((if closed_first then through_phases (gate_at first (place_of n)) else []) ++ through_phases (body_at first (place_of n))) ++ through_phases (gate_at first (place_of n))
+
+-- the end of an epoch: its rows, a sync, and its number
+abbrev pub end_phases : ℕ → Open → ℕ → List Phase
+end_phases keys known epoch = (Writes (from_on (area_of keys epoch) keys) ∷ Syncs ∷ []) ++ set_phases (is_closed_first known (place_of epoch)) 5 epoch
+
+-- an opening: both registers, the rows of the epoch's area, a sync and the new generation
+abbrev pub open_phases : ℕ → ℕ → Open → ℕ → List Phase
+open_phases keys epoch known generation =
+    (Reads (1 ∷ 2 ∷ 3 ∷ 4 ∷ []) ∷ Reads (5 ∷ 6 ∷ 7 ∷ 8 ∷ []) ∷ Reads (from_on (area_of keys epoch) keys) ∷ Syncs ∷ []) ++ set_phases (is_closed_first known (place_of generation)) 1 generation
+
+-- What the trace depends on: the last epoch that ended, and which gates of its register are known to be open.
+pub record FlatPublic : Type 0 where
+  pub known : Open
+  pub epoch : ℕ
+
+-- A fetch shows nothing.
+abbrev pub flat_phases : Params → FlatPublic → Shape → List Phase
+flat_phases p q Fetches = []
+flat_phases p q Ends = end_phases p.keys q.known (suc q.epoch)
+
+abbrev pub flat_next : FlatPublic → Shape → FlatPublic
+flat_next q Fetches = q
+flat_next q Ends = record { known = with_mark q.known (place_of (suc q.epoch)); epoch = suc q.epoch }
+
+-- The next epoch's number would be 2^62, or its rows would be sealed past that number: each epoch seals a row for each key.
+abbrev pub FlatCauses : ℕ → ℕ → ℕ → Fault → Type 0
+FlatCauses keys epoch n (Worn number) = (number ≡ 2 ^ 62) × ((suc (epoch + n) ≡ 2 ^ 62) ⊎ (2 ^ 62 < keys * n + keys))
+FlatCauses keys epoch n _ = ⊥
+
+-- neither the generation, nor the epochs, nor the seals come to their end
+abbrev pub FlatLasts : Params → ℕ → ℕ → ℕ → Type 0
+FlatLasts p generation epoch n = (suc generation < 2 ^ 62) × (suc (epoch + n) < 2 ^ 62) × (p.keys * n + p.keys ≤ 2 ^ 62)
+
+-- a store that fails does so within a call
+abbrev pub is_store_fault : Fault → Bool
+is_store_fault (StoreFault unsure) = true
+is_store_fault _ = false
+
+-- Some of the first reads, or all of them and some of what follows.
+abbrev pub FlatOpensPartly : Keys → Params → Disk → Disk → Type 0
+FlatOpensPartly keys p old new = NotesFirst (event.Read 0 ∷ registers_events) old.seen new.seen
+    ⊎ ((known : Open) × (generation : ℕ) × (epoch : ℕ) × (old.tells → GatesAre known 1 old.cells) × (old.tells → Found keys old.cells generation epoch)
+    × NotesFirst (event.Read 0 ∷ open_events p.keys epoch known (suc generation)) old.seen new.seen)
+
+abbrev pub flat_kind : StoreKind
+flat_kind = record {
+  is_head = IsHead;
+  head_read = IsHeadRead;
+  head_fault = IsHeadFault;
+  stands = StandsFlat;
+  Found = Opening;
+  epoch = λ found. found.epoch;
+  left = λ p found. p.batches;
+  generation = λ found. found.sealer.generation;
+  is_map = λ found m. IsMapOf found.values.items m;
+  finds = λ keys p image found. IsFoundIn keys p.keys image found × GatesAre found.gates.epoch 5 image;
+  refuses = λ keys p image fault. IsOpeningOf keys p.keys image (Err fault);
+  open_fault = IsOpenFault;
+  Start = Open;
+  starts = λ keys p image found known. GatesAre known 1 image;
+  opens = λ p found known. open_phases p.keys found.epoch known found.sealer.generation;
+  opens_partly = FlatOpensPartly;
+  Public = FlatPublic;
+  public = λ found. record { known = found.gates.epoch; epoch = found.epoch };
+  Drawn = Unit {0};
+  phases = λ p q shape drawn. flat_phases p q shape;
+  next = λ p q shape drawn. flat_next q shape;
+  causes = λ p found behind n fault. FlatCauses p.keys found.epoch n fault;
+  begins = is_store_fault;
+  lasts = FlatLasts;
+}

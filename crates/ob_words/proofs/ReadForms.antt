@@ -1,0 +1,100 @@
+-- The forms are read as they say, and what is too short or names no command is refused.
+use Rattle.std.proofs.Common.{◌≡◌, ◌≢◌, ◌<◌, Bool, true, false, List, [], ◌∷◌, map, length, Option, Some, None, refl, inl, inr, ap, ap₂, sym, ◌∙◌, codes}
+use Rattle.std.specs.Prelude.{option_and_then, unwrap_or}
+use Rattle.std.specs.Str.{bytes_eq}
+use Rattle.std.proofs.lemmas.Slice.Eq.{bytes_eq-Decides}
+use Rattle.clap.specs.Walk.{Row, Text, first_of}
+use Rattle.clap.specs.Kinds.{Kinds, or_else}
+use Rattle.clap.specs.Faults.{fault_of}
+use Rattle.ob_words.specs.Commands.{program}
+use Rattle.ob_words.specs.Forms.{Choice, AreChoices, ArePlain, IsPlain, IsNoName, lanes_in, turns_in}
+use Rattle.ob_words.specs.Reading.{Asked, asked_at, asked_by, text_at, run_asked, format_asked, unless_refused}
+use Rattle.ob_words.proofs.Built.{run_built, format_built}
+use Rattle.ob_words.proofs.Few.{few_fail}
+use Rattle.ob_words.proofs.Run.{choice_row, flag_text, run_end, run_keys, run_lanes_read, run_passes, run_reads, run_store, run_turns_text, run_words}
+use Rattle.ob_words.proofs.Format.{format_passes, format_reads, format_words}
+use Rattle.ob_words.proofs.Asks.{asked_at_all}
+use Rattle.ob_words.proofs.Top.{IsNoCommand, no_command_fails, no_words_fail, format_fault, format_subcommand, run_fault, run_subcommand}
+
+abbrev reads_by : Option (Text × List Row) → Option Asked
+reads_by o = option_and_then (λ p. asked_at p.0 p.1) o
+
+is_true : (t : Bool) → bytes_eq (flag_text t) (codes "true") ≡ t
+is_true true = refl
+is_true false = refl
+
+-- words without a fault ask for what is read of them
+pub read_is : (words : List Text) (asked : Option Asked) → fault_of program words ≡ [] → asked_at_all words ≡ asked → asked_by words ≡ asked
+unfolding asked_by
+read_is words asked passes read = ap (λ k. unless_refused k (asked_at_all words)) passes ∙ read
+
+refused_at : (kinds : Kinds) (asked : Option Asked) → (kinds ≡ [] → ⊥) → unless_refused kinds asked ≡ None
+refused_at [] asked fails = absurd (fails refl)
+refused_at (kind ∷ kinds) asked fails = refl
+
+-- and words with one ask for nothing
+pub refused_is : (words : List Text) → (fault_of program words ≡ [] → ⊥) → asked_by words ≡ None
+unfolding asked_by
+refused_is words fails = refused_at (fault_of program words) (asked_at_all words) fails
+
+pub run_law : (store keys : Text) (cs : List Choice) → IsPlain store → IsPlain keys → AreChoices cs
+    → asked_by (codes "run" ∷ run_words store keys cs) ≡ Some (run_asked store keys (lanes_in cs) (turns_in cs))
+run_law store keys cs ps pk fine =
+    let rest = run_words store keys cs in
+    let rows = run_end store keys (map choice_row cs) in
+    let none = run_fault rest ∙ ap (λ k. or_else k []) (run_passes store keys cs ps pk fine) in
+    let read = ap reads_by (run_subcommand rest) ∙ ap (λ r. asked_at (codes "run") r) (run_reads store keys cs ps pk fine) in
+    let flag : bytes_eq (text_at (codes "turns") rows) (codes "true") ≡ turns_in cs =
+    ap (λ o. bytes_eq (unwrap_or o []) (codes "true")) (run_turns_text store keys cs (turns_in cs) refl) ∙ is_true (turns_in cs) in
+    let one = ap (λ o. run_asked (unwrap_or o []) (text_at (codes "KEYS") rows) (first_of (codes "lanes") rows)
+    (bytes_eq (text_at (codes "turns") rows) (codes "true"))) (run_store store keys (map choice_row cs) _ refl) in
+    let two = ap (λ o. run_asked store (unwrap_or o []) (first_of (codes "lanes") rows)
+    (bytes_eq (text_at (codes "turns") rows) (codes "true"))) (run_keys store keys (map choice_row cs) _ refl) in
+    let three = ap₂ (λ (o : Option Text) (b : Bool). run_asked store keys o b) (run_lanes_read store keys cs _ refl) flag in
+    read_is (codes "run" ∷ rest) _ none (read ∙ ap (λ (a : Asked). Some a) (one ∙ two ∙ three))
+
+pub format_law : (store keys n l z s r br bw e t : Text) → ArePlain (format_words store keys n l z s r br bw e t)
+    → asked_by (codes "format" ∷ format_words store keys n l z s r br bw e t) ≡ Some (format_asked store keys (n ∷ l ∷ z ∷ s ∷ r ∷ br ∷ bw ∷ e ∷ t ∷ []))
+format_law store keys n l z s r br bw e t plain =
+    let rest = format_words store keys n l z s r br bw e t in
+    read_is (codes "format" ∷ rest) _
+    (format_fault rest ∙ ap (λ k. or_else k []) (format_passes store keys n l z s r br bw e t plain))
+    (ap reads_by (format_subcommand rest) ∙ ap (λ x. asked_at (codes "format") x) (format_reads store keys n l z s r br bw e t plain))
+
+empty_left : (a b : Kinds) → or_else a b ≡ [] → a ≡ []
+empty_left [] b e = refl
+empty_left (k ∷ ks) b e = cc
+
+run_fails : (rest : List Text) → length rest < 2 → fault_of program (codes "run" ∷ rest) ≡ [] → ⊥
+run_fails rest few e = few_fail run_built (codes "KEYS") 2 rest (inl refl, (inr (refl, refl), (inl refl, (inl refl, tt)))) (λ x. refl)
+    (inr (inl (refl, refl))) refl few (empty_left _ [] (sym (run_fault rest) ∙ e))
+
+format_fails : (rest : List Text) → length rest < 11 → fault_of program (codes "format" ∷ rest) ≡ [] → ⊥
+format_fails rest few e = few_fail format_built (codes "T") 11 rest
+    (inl refl, (inl refl, (inl refl, (inl refl, (inl refl, (inl refl, (inl refl, (inl refl, (inl refl, (inl refl, (inr (refl, refl), tt))))))))))) (λ x. refl)
+    (inr (inr (inr (inr (inr (inr (inr (inr (inr (inr (inl (refl, refl)))))))))))) refl few (empty_left _ [] (sym (format_fault rest) ∙ e))
+
+other_name : (name word : Text) → word ≢ name → bytes_eq name word ≡ false
+other_name name word ne = go (bytes_eq name word) refl
+  where
+    go : (t : Bool) → bytes_eq name word ≡ t → t ≡ false
+    go true e = absurd (ne (sym ((bytes_eq-Decides name word).0 e)))
+    go false e = refl
+
+name_fails : (word : Text) (rest : List Text) → IsNoName word → fault_of program (word ∷ rest) ≡ [] → ⊥
+name_fails word rest other e =
+    let f = other_name (codes "format") word other.0 in
+    let r = other_name (codes "run") word other.1 in
+    let no : IsNoCommand word = simp (f, r) in no_command_fails word rest no e
+
+pub no_words : asked_by [] ≡ None
+no_words = refused_is [] no_words_fail
+
+pub no_name : (word : Text) (rest : List Text) → IsNoName word → asked_by (word ∷ rest) ≡ None
+no_name word rest other = refused_is (word ∷ rest) (name_fails word rest other)
+
+pub run_short : (rest : List Text) → length rest < 2 → asked_by (codes "run" ∷ rest) ≡ None
+run_short rest few = refused_is (codes "run" ∷ rest) (run_fails rest few)
+
+pub format_short : (rest : List Text) → length rest < 11 → asked_by (codes "format" ∷ rest) ≡ None
+format_short rest few = refused_is (codes "format" ∷ rest) (format_fails rest few)

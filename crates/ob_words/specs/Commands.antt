@@ -1,0 +1,49 @@
+-- The commands of the program, as a parse of their words has them.
+use Rattle.std.specs.Prelude.{true, false, [], ◌∷◌, Some, codes}
+use Rattle.clap.specs.Walk.{Rule, Text}
+use Rattle.clap.specs.Simple.{App, Shape, new_rule, new_shape}
+use Rattle.clap.specs.declared.builder.ArgAction.TheVariants.{SetTrue}
+
+-- a word that has to be there, a value behind `--id`, and `--id` alone
+abbrev pub operand : Text → Rule
+operand id = record (new_rule id) { required = true }
+
+abbrev pub option : Text → Rule
+option id = record (new_rule id) { long = Some id }
+
+abbrev pub flag : Text → Rule
+flag id = record (new_rule id) { long = Some id; action = Some SetTrue }
+
+-- `format STORE KEYS N L Z S R BR BW E T`
+abbrev pub format_shape : Shape
+format_shape = record (new_shape (codes "format")) {
+  rules = operand (codes "STORE") ∷ operand (codes "KEYS") ∷ operand (codes "N") ∷ operand (codes "L")
+      ∷ operand (codes "Z") ∷ operand (codes "S") ∷ operand (codes "R") ∷ operand (codes "BR")
+      ∷ operand (codes "BW") ∷ operand (codes "E") ∷ operand (codes "T") ∷ [];
+}
+
+-- `run STORE KEYS [--lanes K] [--turns]`
+abbrev pub run_shape : Shape
+run_shape = record (new_shape (codes "run")) {
+  rules = operand (codes "STORE") ∷ operand (codes "KEYS") ∷ option (codes "lanes") ∷ flag (codes "turns") ∷ [];
+}
+
+-- each command alone
+abbrev pub format_app : App
+format_app = record { top = format_shape; subs = [] }
+
+abbrev pub run_app : App
+run_app = record { top = run_shape; subs = [] }
+
+-- the program: the first word names a command, and no word asks for help
+abbrev pub program : App
+program = record {
+  top = record (new_shape (codes "obladi")) {
+    is_leaf = false;
+    no_binary_name = true;
+    disable_help_flag = true;
+    disable_help_subcommand = true;
+    subcommand_required = true;
+  };
+  subs = format_shape ∷ run_shape ∷ [];
+}

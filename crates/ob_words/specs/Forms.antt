@@ -1,0 +1,56 @@
+-- The forms of a command line: a command's name, its operands, then some of its options.
+use Rattle.std.specs.Prelude.{◌≡◌, ◌≢◌, ◌<◌, Bool, true, false, Option, Some, None, List, [], ◌∷◌, length, slice_index, codes}
+use Rattle.std.specs.Str.{bytes_eq}
+use Rattle.clap.specs.Walk.{Text}
+
+-- A plain word isn't empty and doesn't begin with `-`.
+abbrev pub IsPlain : Text → Type 0
+IsPlain word = (0 < length word) × (slice_index word 0 ≢ 45)
+
+abbrev pub ArePlain : List Text → Type 0
+ArePlain [] = Unit {0}
+ArePlain (word ∷ words) = IsPlain word × ArePlain words
+
+-- an option of `run`, with its value
+pub data Choice : Type 0 where
+  lanes : Text → Choice
+  turns : Choice
+
+abbrev pub id_of : Choice → Text
+id_of (lanes k) = codes "lanes"
+id_of turns = codes "turns"
+
+-- the words of options
+abbrev pub words_of : List Choice → List Text
+words_of [] = []
+words_of (lanes k ∷ choices) = codes "--lanes" ∷ k ∷ words_of choices
+words_of (turns ∷ choices) = codes "--turns" ∷ words_of choices
+
+abbrev pub HasPlainValue : Choice → Type 0
+HasPlainValue (lanes k) = IsPlain k
+HasPlainValue turns = Unit {0}
+
+-- none of the options has this id
+abbrev pub IsWithout : Text → List Choice → Type 0
+IsWithout id [] = Unit {0}
+IsWithout id (choice ∷ choices) = (bytes_eq id (id_of choice) ≡ false) × IsWithout id choices
+
+-- the values are plain, and each option is there at most once
+abbrev pub AreChoices : List Choice → Type 0
+AreChoices [] = Unit {0}
+AreChoices (choice ∷ choices) = HasPlainValue choice × IsWithout (id_of choice) choices × AreChoices choices
+
+-- what the options say
+abbrev pub lanes_in : List Choice → Option Text
+lanes_in [] = None
+lanes_in (lanes k ∷ choices) = Some k
+lanes_in (turns ∷ choices) = lanes_in choices
+
+abbrev pub turns_in : List Choice → Bool
+turns_in [] = false
+turns_in (turns ∷ choices) = true
+turns_in (lanes k ∷ choices) = turns_in choices
+
+-- the word is no command's name
+abbrev pub IsNoName : Text → Type 0
+IsNoName word = (word ≢ codes "format") × (word ≢ codes "run")

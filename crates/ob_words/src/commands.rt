@@ -1,0 +1,88 @@
+ghost use Rattle.std.specs.Prelude.{◌≡◌, IfOk, false};
+ghost use Rattle.clap.specs.Words.{app_of, with_rule};
+ghost use Rattle.clap.specs.declared.Command.TheViews.{out-Command};
+ghost use Rattle.ob_words.specs.Commands.{operand, option, flag, format_app, run_app, program};
+
+use clap::{Arg, ArgAction, Command};
+use std::alloc::{AllocError, Global};
+
+// The command with one more word that has to be there.
+fn with_operand<'a>(
+    alloc: Global,
+    command: Command<'a>,
+    id: &'a str,
+) -> Result<Command<'a>, AllocError>
+    ensures app { IfOk result (λ c. app_of c ≡ with_rule (app_of command.entry) (operand id.entry.now)) }
+    ensures local { IfOk result (λ c. (out-Command c).has_globals ≡ (out-Command command.entry).has_globals) }
+{
+    command.arg(Arg::new(alloc, id).required(true))
+}
+
+// The command with an option: a value behind the word `--id`.
+fn with_option<'a>(
+    alloc: Global,
+    command: Command<'a>,
+    id: &'a str,
+) -> Result<Command<'a>, AllocError>
+    ensures app { IfOk result (λ c. app_of c ≡ with_rule (app_of command.entry) (option id.entry.now)) }
+    ensures local { IfOk result (λ c. (out-Command c).has_globals ≡ (out-Command command.entry).has_globals) }
+{
+    command.arg(Arg::new(alloc, id).long(id))
+}
+
+// The command with a flag: the word `--id` alone.
+fn with_flag<'a>(
+    alloc: Global,
+    command: Command<'a>,
+    id: &'a str,
+) -> Result<Command<'a>, AllocError>
+    ensures app { IfOk result (λ c. app_of c ≡ with_rule (app_of command.entry) (flag id.entry.now)) }
+    ensures local { IfOk result (λ c. (out-Command c).has_globals ≡ (out-Command command.entry).has_globals) }
+{
+    command.arg(Arg::new(alloc, id).long(id).action(ArgAction::SetTrue))
+}
+
+fn run_command<'a>(alloc: Global) -> Result<Command<'a>, AllocError>
+    ensures app { IfOk result (λ c. app_of c ≡ run_app) }
+    ensures local { IfOk result (λ c. (out-Command c).has_globals ≡ false) }
+{
+    let command = Command::new(alloc, "run");
+    let command = with_operand(alloc, command, "STORE")?;
+    let command = with_operand(alloc, command, "KEYS")?;
+    let command = with_option(alloc, command, "lanes")?;
+    with_flag(alloc, command, "turns")
+}
+
+fn format_command<'a>(alloc: Global) -> Result<Command<'a>, AllocError>
+    ensures app { IfOk result (λ c. app_of c ≡ format_app) }
+    ensures local { IfOk result (λ c. (out-Command c).has_globals ≡ false) }
+{
+    let command = Command::new(alloc, "format");
+    let command = with_operand(alloc, command, "STORE")?;
+    let command = with_operand(alloc, command, "KEYS")?;
+    let command = with_operand(alloc, command, "N")?;
+    let command = with_operand(alloc, command, "L")?;
+    let command = with_operand(alloc, command, "Z")?;
+    let command = with_operand(alloc, command, "S")?;
+    let command = with_operand(alloc, command, "R")?;
+    let command = with_operand(alloc, command, "BR")?;
+    let command = with_operand(alloc, command, "BW")?;
+    let command = with_operand(alloc, command, "E")?;
+    with_operand(alloc, command, "T")
+}
+
+/// The program, whose first word names a command. No word asks for help.
+///
+/// # Errors
+/// Memory was wanting.
+pub fn program_command<'a>(alloc: Global) -> Result<Command<'a>, AllocError>
+    ensures app { IfOk result (λ c. app_of c ≡ program) }
+{
+    let command = Command::new(alloc, "obladi")
+        .no_binary_name(true)
+        .disable_help_flag(true)
+        .disable_help_subcommand(true)
+        .subcommand_required(true);
+    let command = command.subcommand(format_command(alloc)?)?;
+    command.subcommand(run_command(alloc)?)
+}

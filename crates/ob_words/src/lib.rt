@@ -1,0 +1,15 @@
+//! What the words ask for, exactly: the program's commands, as a parse by `clap` reads their words.
+//!
+//! A command more is one line of the program's builder, one variant of [`Request`] with its arm, and
+//! its shape and what is read of it in `specs/`.
+#![tactic(auto)]
+
+mod commands;
+mod laws;
+mod request;
+
+pub use laws::{forms_are_read, others_are_refused};
+pub use request::{Request, WordsErr, read_words};
+
+#[cfg(test)]
+mod tests;
