@@ -79,6 +79,10 @@ cells p = 9 + 2 * log_cells p + 2 * checkpoint_cells p + 2 * home_cells p
 abbrev pub log_cell : Params → ℕ → ℕ → ℕ → ℕ
 log_cell p area batch part = 9 + area * log_cells p + (batch * (record_cells p + 1) + part)
 
+-- the gate that opens a batch's record
+abbrev pub log_gate : Params → ℕ → ℕ → ℕ
+log_gate p area batch = log_cell p area batch (record_cells p)
+
 abbrev pub check_cell : Params → ℕ → ℕ → ℕ
 check_cell p area i = 9 + 2 * log_cells p + area * checkpoint_cells p + i
 

@@ -42,6 +42,9 @@ pub struct Damaged {
     pub computed: [u8; 16],
 }
 
+/// Epochs, generations and the numbers of seals are below this one.
+pub const NUMBER_LIMIT: u64 = 1 << 62;
+
 /// The next number of a kind is `2^62`, which may not be used.
 #[derive(Clone, Copy, Debug, PartialEq, Eq)]
 pub struct Worn {

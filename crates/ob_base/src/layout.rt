@@ -1,9 +1,18 @@
 ghost use Rattle.std.specs.Prelude.{◌≡◌, ◌+◌, ◌^◌, ◌<◌, ◌≤◌};
 ghost use Rattle.ob_base.specs.Tree.{buckets, width};
-ghost use Rattle.ob_base.specs.Layout.{record_cells, checkpoint_len, checkpoint_cells, meta_len, log_cells, home_cells, cells, log_cell, check_cell, slot_cell, RegionsApart, RegionsWithin, AddressesLie, AddressesApart};
+ghost use Rattle.ob_base.specs.Layout.{record_cells, checkpoint_len, checkpoint_cells, meta_len, log_cells, home_cells, cells, log_cell, log_gate, check_cell, slot_cell, RegionsApart, RegionsWithin, AddressesLie, AddressesApart};
 
 use crate::params::Params;
 use crate::tree;
+
+/// The first cell of the register of the generation, behind the head.
+pub const GENERATION_CELL: u64 = 1;
+
+/// The first cell of the register of the epoch, behind the four of the generation's.
+pub const EPOCH_CELL: u64 = 5;
+
+/// The first cell behind the head and both registers: the ring store's log, the plain store's rows.
+pub const BODY_CELL: u64 = 9;
 
 /// The body cells of a batch's record.
 #[tactic(auto, unfolding(crate::specs::Layout::record_cells))]
@@ -66,12 +75,13 @@ fn home_cells(p: &Params) -> u64
     tree::buckets(p) as u64 * width(p)
 }
 
-/// How many cells a store has.
+/// How many cells a ring store has: the head, two registers, and two log areas, two checkpoint
+/// areas and two homes. The plain store, which lays no tree, has a count of its own.
 pub fn cells(p: &Params) -> u64
     ensures cells { result ≡ cells p.now }
     ensures few { result < 2 ^ 24 }
 {
-    9 + 2 * log_cells(p) + 2 * checkpoint_cells(p) + 2 * home_cells(p)
+    BODY_CELL + 2 * log_cells(p) + 2 * checkpoint_cells(p) + 2 * home_cells(p)
 }
 
 /// The cell of a part of a batch's record in log area 0 or 1: the body's cells are the first
@@ -83,7 +93,17 @@ pub fn log_cell(p: &Params, area: u8, batch: u32, part: u64) -> u64
     ensures cell { result ≡ log_cell p.now area batch part }
     ensures within { result < cells p.now }
 {
-    9 + area as u64 * log_cells(p) + (batch as u64 * (record_cells(p) + 1) + part)
+    BODY_CELL + area as u64 * log_cells(p) + (batch as u64 * (record_cells(p) + 1) + part)
+}
+
+/// The gate of a batch's record in log area 0 or 1: the cell behind the record's body.
+pub fn log_gate(p: &Params, area: u8, batch: u32) -> u64
+    requires area { area < 2 }
+    requires batch { batch < p.now.batches }
+    ensures cell { result ≡ log_gate p.now area batch }
+    ensures within { result < cells p.now }
+{
+    log_cell(p, area, batch, record_cells(p))
 }
 
 /// The cell of checkpoint area 0 or 1 with this number.
@@ -93,7 +113,7 @@ pub fn check_cell(p: &Params, area: u8, i: u64) -> u64
     ensures cell { result ≡ check_cell p.now area i }
     ensures within { result < cells p.now }
 {
-    9 + 2 * log_cells(p) + area as u64 * checkpoint_cells(p) + i
+    BODY_CELL + 2 * log_cells(p) + area as u64 * checkpoint_cells(p) + i
 }
 
 /// The cell of a physical slot of a bucket in home 0 or 1.
@@ -104,7 +124,8 @@ pub fn slot_cell(p: &Params, home: u8, bucket: u32, slot: u8) -> u64
     ensures cell { result ≡ slot_cell p.now home bucket slot }
     ensures within { result < cells p.now }
 {
-    9 + 2 * log_cells(p)
+    BODY_CELL
+        + 2 * log_cells(p)
         + 2 * checkpoint_cells(p)
         + home as u64 * home_cells(p)
         + (bucket as u64 * width(p) + slot as u64)

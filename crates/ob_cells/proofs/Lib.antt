@@ -1,4 +1,3 @@
-pub mod Lanes
 pub mod Listed
 pub mod Notes
 pub mod PieceParts

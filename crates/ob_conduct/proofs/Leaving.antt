@@ -19,7 +19,7 @@ use Rattle.ob_conduct.specs.Scenes.{RunState, RunnerKind}
 use Rattle.ob_conduct.specs.Records.{after_txns, contents, Makes, AreWritten, AreAnswered}
 use Rattle.ob_conduct.specs.Moves.{IsUnended, IsReason, Failure}
 use Rattle.ob_conduct.specs.Conducted.{RunEnds, Conducted}
-use Rattle.ob_conduct.specs.Left.{Rests, OnlyNow, standing_behind, IsFront, IsLeftStanding, TellsDoubt, IsLeftNow, LeftByRun}
+use Rattle.ob_conduct.specs.Left.{Rests, OnlyNow, standing_behind, IsFront, IsLeftStanding, TellsDoubt, IsLeftNow, next_at, IsBetween, Stages, LeftByRun}
 use Rattle.ob_conduct.proofs.Acting.{answered_rest}
 use Rattle.ob_conduct.proofs.Moving.{called}
 use Rattle.ob_conduct.proofs.Going.{calls_more, records_append, ended_append, answered_join}
@@ -186,6 +186,96 @@ module _ {V : Type 0} (k : Kind V) (only : OnlyNow k) (rests : Rests k) where
       (weakened (k.disk mid) (k.disk last) (StandsIn (k.stands mid) (MayStandIn (after_calls v front) call)) (StandsIn (k.stands first) B) (stands_alike (k.stands first) (k.stands mid) (alike_all k first front mid before) (MayStandIn (after_calls v front) call) B within)
       (one.images (after_calls v front) (sound_after k first front mid v before sound)))
 
+  -- ---- stages
+
+  module _ (stands : Image → Standing → Type 0) where
+    -- what a vault without doubt stands for, and what it may stand for within a call
+    now_between : (u : VaultState) (next : Option (EpochRecord ℕ)) → u.doubt ≡ None → (at : Standing) → MayStand u at → IsBetween (standing_now u) next at
+    now_between u next none at (inl is) = inl is
+    now_between u next none at (inr is) = absurd (no_doubt at (sym none ∙ is))
+
+    end_between : (u : VaultState) (writes : List (ℕ × Option (List ℕ))) (r : EpochRecord ℕ) → Makes writes r → u.doubt ≡ None → (at : Standing) → MayStandIn u (End writes) at → IsBetween (standing_now u) (Some r) at
+    end_between u writes r makes none at (inl may) = now_between u (Some r) none at may
+    end_between u writes r makes none at (inr is) = inr (r, refl, is ∙ same_standing (suc u.epoch) (suc u.epoch) (with_writes u.content writes) (contents u.content (r ∷ [])) refl (makes u.content))
+
+    none_between : (at : Standing) (next : Option (EpochRecord ℕ)) (x : Standing) → IsBetween at None x → IsBetween at next x
+    none_between at next x (inl is) = inl is
+    none_between at next x (inr (r, is, same)) = absurd (no_record r is)
+      where
+        no_record : (r : EpochRecord ℕ) → None ≡ Some r → ⊥
+        no_record r is = cc is
+
+    -- one call more in a stage
+    longer : (from cur mid : V) (at : Standing) (before next : Option (EpochRecord ℕ)) (B : Standing → Type 0) → StandAlike stands (k.stands cur) → LeavesOnly (k.disk from) (k.disk cur) (StandsIn stands (IsBetween at before))
+        → ((x : Standing) → IsBetween at before x → IsBetween at next x) → LeavesOnly (k.disk cur) (k.disk mid) (StandsIn (k.stands cur) B) → ((x : Standing) → B x → IsBetween at next x)
+        → LeavesOnly (k.disk from) (k.disk mid) (StandsIn stands (IsBetween at next))
+    longer from cur mid at before next B alike so_far widen one within =
+        then_on (k.disk from) (k.disk cur) (k.disk mid) (StandsIn stands (IsBetween at next))
+        (weakened (k.disk from) (k.disk cur) (StandsIn stands (IsBetween at before)) (StandsIn stands (IsBetween at next)) (stands_still stands (IsBetween at before) (IsBetween at next) widen) so_far)
+        (weakened (k.disk cur) (k.disk mid) (StandsIn (k.stands cur) B) (StandsIn stands (IsBetween at next)) (stands_alike stands (k.stands cur) alike B (IsBetween at next) within) one)
+
+    -- a stage begins
+    begins : (mid : V) (u : VaultState) → k.sound mid u → u.doubt ≡ None → StandAlike stands (k.stands mid) → LeavesOnly (k.disk mid) (k.disk mid) (StandsIn stands (IsBetween (standing_now u) None))
+    begins mid u sound none alike = started (k.disk mid) (StandsIn stands (IsBetween (standing_now u) None))
+        (λ c left. stands_alike stands (k.stands mid) alike (MayStand u) (IsBetween (standing_now u) None) (now_between u None none) c (rests mid u c sound (only mid c left)))
+
+    alike_then : (a b : V) → StandAlike stands (k.stands a) → StandAlike (k.stands a) (k.stands b) → StandAlike stands (k.stands b)
+    alike_then a b one two = λ c at. (λ s. (two c at).0 ((one c at).0 s), λ s. (one c at).1 ((two c at).1 s))
+
+    staged : (from cur : V) (steps : List (VaultCall × VaultAnswer)) (last : V) (u : VaultState) (told : List (EpochRecord ℕ)) → LeavesOnly (k.disk from) (k.disk cur) (StandsIn stands (IsBetween (standing_now u) None)) → StandAlike stands (k.stands cur)
+        → AllCalled k cur steps last → AreAnswered steps → AreWritten (ended_of steps) told → k.sound cur u → u.doubt ≡ None → Stages k stands (standing_now u) told None from last
+    staged from cur [] last u [] so_far alike is are wrote sound none = subst (λ x. LeavesOnly (k.disk from) (k.disk x) (StandsIn stands (IsBetween (standing_now u) None))) (sym is) so_far
+    staged from cur [] last u (r ∷ told) so_far alike is are wrote sound none = absurd wrote
+    staged from cur ((Fetch keys, Values values) ∷ steps) last u told so_far alike (mid, one, rest) are wrote sound none =
+        staged from mid steps last (vault_next u (Fetch keys) (Values values)) told
+        (longer from cur mid (standing_now u) None None (MayStandIn u (Fetch keys)) alike so_far (λ x is. is) (one.images u sound) (now_between u None none))
+        (alike_then cur mid alike one.alike) rest are wrote (one.sound u sound) none
+    staged from cur ((Fetch keys, Ended) ∷ steps) last u told so_far alike chain are wrote sound none = absurd are
+    staged from cur ((Fetch keys, RefusedBy fault) ∷ steps) last u told so_far alike chain are wrote sound none = absurd are
+    staged from cur ((Fetch keys, DoubtBy fault) ∷ steps) last u told so_far alike chain are wrote sound none = absurd are
+    staged from cur ((End writes, Values values) ∷ steps) last u told so_far alike chain are wrote sound none = absurd are
+    staged from cur ((End writes, Ended) ∷ steps) last u [] so_far alike chain are wrote sound none = absurd wrote
+    staged from cur ((End writes, Ended) ∷ steps) last u (r ∷ told) so_far alike (mid, one, rest) are (makes, more) sound none =
+        let w : VaultState = vault_next u (End writes) Ended in
+        let after = alike_then cur mid alike one.alike in (
+          mid,
+          longer from cur mid (standing_now u) None (Some r) (MayStandIn u (End writes)) alike so_far (none_between (standing_now u) (Some r)) (one.images u sound) (end_between u writes r makes none),
+          subst (λ (at : Standing). Stages k stands at told None mid last) (same_standing (suc u.epoch) (suc u.epoch) (with_writes u.content writes) (contents u.content (r ∷ [])) refl (makes u.content))
+              (staged mid mid steps last w told (begins mid w (one.sound u sound) none after) after rest are more (one.sound u sound) none),
+        )
+    staged from cur ((End writes, RefusedBy fault) ∷ steps) last u told so_far alike chain are wrote sound none = absurd are
+    staged from cur ((End writes, DoubtBy fault) ∷ steps) last u told so_far alike chain are wrote sound none = absurd are
+
+    -- what stands behind all of them
+    abbrev behind_all : Standing → List (EpochRecord ℕ) → Standing
+    behind_all at [] = at
+    behind_all at (r ∷ told) = behind_all (next_at at r) told
+
+    all_behind : (at : Standing) (told : List (EpochRecord ℕ)) → behind_all at told ≡ standing (at.epoch + length told) (contents at.content told)
+    all_behind at [] = same_standing at.epoch (at.epoch + length {A = EpochRecord ℕ} []) at.content at.content (omega arith) refl
+    all_behind at (r ∷ told) = all_behind (next_at at r) told ∙ same_standing (suc at.epoch + length told) (at.epoch + length (r ∷ told)) (contents (contents at.content (r ∷ [])) told) (contents at.content (r ∷ told)) (omega arith) (sym (contents_append at.content (r ∷ []) told))
+
+    -- the last stage goes on
+    on_to : (from mid last : V) (at : Standing) (told : List (EpochRecord ℕ)) (next : Option (EpochRecord ℕ)) → Stages k stands at told None from mid → LeavesOnly (k.disk mid) (k.disk last) (StandsIn stands (IsBetween (behind_all at told) next)) → Stages k stands at told next from last
+    on_to from mid last at [] next so_far more =
+        then_on (k.disk from) (k.disk mid) (k.disk last) (StandsIn stands (IsBetween at next))
+        (weakened (k.disk from) (k.disk mid) (StandsIn stands (IsBetween at None)) (StandsIn stands (IsBetween at next)) (stands_still stands (IsBetween at None) (IsBetween at next) (none_between at next)) so_far) more
+    on_to from mid last at (r ∷ told) next (one, first, rest) more = (one, first, on_to one mid last (next_at at r) told next rest more)
+
+  -- the stages of a run whose last call was made behind others that were answered
+  last_staged : (first : V) (front : List (VaultCall × VaultAnswer)) (mid : V) (call : VaultCall) (answer : VaultAnswer) (last : V) (v : VaultState) (told : List (EpochRecord ℕ)) (next : Option (EpochRecord ℕ))
+      → AllCalled k first front mid → Called k mid call answer last → AreAnswered front → AreWritten (ended_of front) told → k.sound first v → v.doubt ≡ None
+      → ((at : Standing) → MayStandIn (after_calls v front) call at → IsBetween (standing_now (after_calls v front)) next at) → Stages k (k.stands first) (standing_now v) told next first last
+  last_staged first front mid call answer last v told next before one are wrote sound none within =
+      let u : VaultState = after_calls v front in
+      let same : standing_now u ≡ behind_all (k.stands first) (standing_now v) told = behind_now v u told (is_behind v front told are wrote none) ∙ sym (all_behind (k.stands first) (standing_now v) told) in
+      let alike = alike_all k first front mid before in
+      on_to (k.stands first) first mid last (standing_now v) told next
+      (staged (k.stands first) first first front mid v told (begins (k.stands first) first v sound none (λ c at. (λ s. s, λ s. s))) (λ c at. (λ s. s, λ s. s)) before are wrote sound none)
+      (subst (λ (at : Standing). LeavesOnly (k.disk mid) (k.disk last) (StandsIn (k.stands first) (IsBetween at next))) same
+      (weakened (k.disk mid) (k.disk last) (StandsIn (k.stands mid) (MayStandIn u call)) (StandsIn (k.stands first) (IsBetween (standing_now u) next))
+      (stands_alike (k.stands first) (k.stands mid) alike (MayStandIn u call) (IsBetween (standing_now u) next) within) (one.images u (sound_after k first front mid v before sound))))
+
 -- ---- a run
 
 -- the calls up to one that was refused
@@ -227,6 +317,7 @@ module _ {V U Plan : Type 0} (k : Kind V) (only : OnlyNow k) (rests : Rests k) (
           is_next = tt;
           since = weakened (k.disk first) (k.disk last) (StandsIn (k.stands first) (IsFront v told)) (StandsIn (k.stands first) (IsLeftStanding v told None))
               (stands_still (k.stands first) (IsFront v told) (IsLeftStanding v told None) (λ at front. inl front)) (answered_leave k only rests first (calls acts) last v told chain are d.wrote sound none);
+          stages = staged k only rests (k.stands first) first first (calls acts) last v told (begins k only rests (k.stands first) first v sound none (λ c at. (λ s. s, λ s. s))) (λ c at. (λ s. s, λ s. s)) chain are d.wrote sound none;
           now = λ c left. stands_alike (k.stands first) (k.stands last) (alike_all k first (calls acts) last chain) (MayStand u) (IsLeftNow v told None doubt) (may_now v u told None doubt b) c
               (rests last u c (sound_after k first (calls acts) last v chain sound) left);
         }
@@ -243,6 +334,7 @@ module _ {V U Plan : Type 0} (k : Kind V) (only : OnlyNow k) (rests : Rests k) (
           next = None;
           is_next = tt;
           since = one_more_leaves k only rests first front mid (Fetch keys) (RefusedBy fault) last v told (IsLeftStanding v told None) before one are wrote sound none (λ at f. inl f) (λ at may. inl (may_front v u told b at may));
+          stages = last_staged k only rests first front mid (Fetch keys) (RefusedBy fault) last v told None before one are wrote sound none (now_between k only rests (k.stands first) u None b.none);
           now = λ c left. stands_alike (k.stands first) (k.stands last) (alike_all k first (calls acts) last chain) (MayStand (vault_next u (Fetch keys) (RefusedBy fault))) (IsLeftNow v told None doubt)
               (may_now v (vault_next u (Fetch keys) (RefusedBy fault)) told None doubt (record { content = b.content; epoch = b.epoch; none = b.none })) c
               (rests last (vault_next u (Fetch keys) (RefusedBy fault)) c (one.sound u (sound_after k first front mid v before sound)) left);
@@ -269,6 +361,7 @@ module _ {V U Plan : Type 0} (k : Kind V) (only : OnlyNow k) (rests : Rests k) (
           next = Some due;
           is_next = (fault, refl, f, (writes, refused, act_is, r, refl));
           since = one_more_leaves k only rests first front mid (End writes) answer last v told (IsLeftStanding v told (Some due)) before one f.answered wrote sound none (λ at x. inl x) (may_in_end v u told due writes r.due.makes b);
+          stages = last_staged k only rests first front mid (End writes) answer last v told (Some due) before one f.answered wrote sound none (end_between k only rests (k.stands first) u writes due r.due.makes b.none);
           now = λ c left. stands_alike (k.stands first) (k.stands last) (alike_all k first (calls acts) last whole) (MayStand (vault_next u (End writes) answer)) (IsLeftNow v told (Some due) (TellsDoubt epoch (Err fault)))
               (may_unended v u told due writes epoch refused fault r.due.makes b fault_is is_fault) c
               (rests last (vault_next u (End writes) answer) c (one.sound u (sound_after k first front mid v before sound)) left);

@@ -1,10 +1,10 @@
 -- What a crash leaves of a vault at any moment of a run.
-use Rattle.std.specs.Prelude.{ℕ, ◌≡◌, ◌⊎◌, ◌+◌, List, [], ◌∷◌, ◌++◌, length, Option, None, Some, Result, Err}
+use Rattle.std.specs.Prelude.{ℕ, suc, ◌≡◌, ◌⊎◌, ◌+◌, List, [], ◌∷◌, ◌++◌, length, Option, None, Some, Result, Err}
 use Rattle.ob_base.specs.declared.fault.Fault.{Fault}
 use Rattle.ob_base.specs.declared.fault.Fault.TheVariants.{StoreFault}
 use Rattle.ob_report.specs.Printed.{Flow}
 use Rattle.ob_serial.specs.Serial.{EpochRecord}
-use Rattle.ob_serial.specs.Vaults.{VaultState, Standing, MayStand, StandsIn}
+use Rattle.ob_serial.specs.Vaults.{VaultState, Standing, MayStand, StandsIn, standing_now}
 use Rattle.ob_serial.specs.VaultKinds.{Kind}
 use Rattle.ob_store.specs.Disk.{Image}
 use Rattle.ob_store.specs.Images.{LeavesOnly}
@@ -43,6 +43,21 @@ TellsDoubt epoch result = result ≡ Err (StoreFault (Some epoch))
 abbrev pub IsLeftNow : VaultState → List (EpochRecord ℕ) → Option (EpochRecord ℕ) → Type 0 → Standing → Type 0
 IsLeftNow v told next doubt at = (at ≡ standing_behind v told) ⊎ ((r : EpochRecord ℕ) × (next ≡ Some r) × doubt × (at ≡ standing_behind v (told ++ r ∷ [])))
 
+-- what stands behind one more epoch
+abbrev pub next_at : Standing → EpochRecord ℕ → Standing
+next_at at r = record { epoch = suc at.epoch; content = contents at.content (r ∷ []) }
+
+-- It is this, or what stands behind the next epoch, where there is one.
+abbrev pub IsBetween : Standing → Option (EpochRecord ℕ) → Standing → Type 0
+IsBetween at next found = (found ≡ at) ⊎ ((r : EpochRecord ℕ) × (next ≡ Some r) × (found ≡ next_at at r))
+
+-- Stages of a run, one behind each epoch's end. From one to the next a crash leaves what stands behind the epochs so far, or behind one
+-- more; from the last one on, that or what stands behind the epoch whose end was begun.
+abbrev pub Stages : {V : Type 0} → Kind V → (Image → Standing → Type 0) → Standing → List (EpochRecord ℕ) → Option (EpochRecord ℕ) → V → V → Type 0
+Stages k stands at [] next from last = LeavesOnly (k.disk from) (k.disk last) (StandsIn stands (IsBetween at next))
+Stages {V} k stands at (r ∷ told) next from last =
+    (mid : V) × LeavesOnly (k.disk from) (k.disk mid) (StandsIn stands (IsBetween at (Some r))) × Stages k stands (next_at at r) told next mid last
+
 -- The record of an epoch whose end these acts tell to be refused, or left in doubt.
 abbrev pub IsUnendedRecord : {V : Type 0} → {k : Kind V} → {old new : Scene V} → {acts : List Act} → {before after : Flow} → {fault : Fault} → Failure k old new acts before after fault → EpochRecord ℕ → Type 0
 IsUnendedRecord {k = k} {old = old} f r = (writes : List (ℕ × Option (List ℕ))) × (refused : EndErr) × (f.act ≡ Refuses writes refused) × (u : IsUnended k old f.front writes refused) × (record_of u.closed ≡ r)
@@ -60,5 +75,7 @@ module _ {V U : Type 0} (k : Kind V) (old new : RunState V U) (acts : List Act) 
     pub is_next : IsNextOf next
     -- at any moment of the run, from its first one on,
     pub since : LeavesOnly (k.disk old.scene.vault) (k.disk new.scene.vault) (StandsIn (k.stands old.scene.vault) (IsLeftStanding v (records acts) next))
+    -- from each epoch's end on, that epoch and those before it,
+    pub stages : Stages k (k.stands old.scene.vault) (standing_now v) (records acts) next old.scene.vault new.scene.vault
     -- and at its return
     pub now : (c : Image) → (k.disk new.scene.vault).may_leave c → StandsIn (k.stands old.scene.vault) (IsLeftNow v (records acts) next (TellsDoubt (old.scene.desk.running.epoch + length (records acts)) result)) c

@@ -1,9 +1,9 @@
 pub mod Moved
 pub mod Areas
-pub mod Spelling
 pub mod Maps
 pub mod Refusals
 pub mod Soundness
 pub mod Formats
 pub mod Opens
 pub mod Opened
+pub mod Tellings

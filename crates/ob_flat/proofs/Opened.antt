@@ -11,10 +11,12 @@ use Rattle.ob_twin.specs.Reading.{AllWhole, Counts}
 use Rattle.ob_twin.proofs.Judging.{number_read}
 use Rattle.ob_serial.specs.Vaults.{Standing}
 use Rattle.ob_flat.specs.Places.{area_of}
-use Rattle.ob_rows.specs.Rows.{AreRows}
-use Rattle.ob_rows.specs.Reads.{IsRowFault, AreRowsRead, IsFirstRowDamage}
-use Rattle.ob_rows.proofs.Cells.{row_same}
-use Rattle.ob_flat.specs.Registers.{Found, IsBeginFault}
+use Rattle.ob_flat_rows.specs.Rows.{AreRows}
+use Rattle.ob_cells.specs.Reads.{IsCellFault}
+use Rattle.ob_flat_rows.specs.Reads.{AreRowsRead, IsFirstRowDamage}
+use Rattle.ob_flat_rows.proofs.Cells.{row_same}
+use Rattle.ob_start.specs.Registers.{Found}
+use Rattle.ob_start.specs.Beginning.{IsBeginFault}
 use Rattle.ob_flat.specs.Standing.{IsMapOf, StandsFlat}
 use Rattle.ob_flat.specs.Openings.{IsOpeningOf}
 
@@ -30,7 +32,7 @@ pub number_found : (keys : Keys) (first : ℕ) (image : Image) (g n : ℕ) → S
 number_found keys first image g n stands whole counts = let same : Some n ≡ Some g = number_read (tagging keys) first g image stands (Some n) (whole, counts) in cc
 
 -- rows that weren't read
-pub rows_opening : (keys : Keys) (n : ℕ) (image : Image) (g e : ℕ) (values : List (Option (List ℕ))) (f : Fault) → Found keys image g e → length values ≡ n → IsRowFault f → AreRowsRead keys (area_of n e) image values (Err f) → IsOpeningOf keys n image (Err f)
+pub rows_opening : (keys : Keys) (n : ℕ) (image : Image) (g e : ℕ) (values : List (Option (List ℕ))) (f : Fault) → Found keys image g e → length values ≡ n → IsCellFault f → AreRowsRead keys (area_of n e) image values (Err f) → IsOpeningOf keys n image (Err f)
 rows_opening keys n image g e values (Damaged cell check kept computed) found whole fault read =
     inr (record { generation = g; epoch = e; found = found; first = subst (λ m. IsFirstRowDamage keys (area_of n e) m image (record { cell = cell; check = check; kept = kept; computed = computed })) whole read })
 rows_opening keys n image g e values (StoreFault unsure) found whole fault read = tt

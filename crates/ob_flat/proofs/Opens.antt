@@ -1,27 +1,25 @@
 -- What opening leaves and tells.
-use Rattle.std.proofs.Common.{◌≡◌, inl, inr, ⊎_elim, ◌⊎◌, ℕ, ◌+◌, arith, List, Option, None, Result, Ok, Err, IfErr, ◌++◌, sym, ◌∙◌, subst}
+use Rattle.std.proofs.Common.{◌≡◌, inl, inr, ⊎_elim, ◌⊎◌, ℕ, suc, ◌+◌, arith, Result, Ok, Err, refl, sym, ◌∙◌, subst, add-one}
 use mathlib.Core.Path.{fun_ext}
 use Rattle.ob_base.specs.declared.params.Params.{Params}
 use Rattle.ob_base.specs.declared.fault.Fault.{Fault}
 use Rattle.ob_base.specs.declared.fault.Fault.TheVariants.{Memory, Usage, BadScript, BadParams, NotStore, Damaged, StoreFault, StashFull, Worn, SourceFault, SinkFault}
-use Rattle.ob_store.specs.declared.event.Event.{Event}
-use Rattle.ob_store.specs.declared.watch.Note.{Note}
-use Rattle.ob_store.specs.Disk.{Disk, Image, NotAfter}
-use Rattle.ob_store.specs.Images.{Same, Shrinks, Elapses, Passes, LeavesOnly}
-use Rattle.ob_store.specs.Calls.{IsStoreFault, Notes, NotesFirst}
-use Rattle.ob_store.specs.Lines.{Trace, Shows, ShowsFirst}
-use Rattle.ob_store.proofs.Moments.{started, goes_on, then_on, weakened, leaves_of, passed_then}
-use Rattle.ob_store.proofs.Events.{all_first, first_more, joined_first}
-use Rattle.ob_store.proofs.Showing.{all_shown, shown_more, shows_first}
+use Rattle.ob_store.specs.Disk.{Disk, Image}
+use Rattle.ob_store.specs.Images.{Same, Passes, LeavesOnly}
+use Rattle.ob_store.specs.Calls.{IsStoreFault, Keeps}
+use Rattle.ob_store.specs.Lines.{Trace}
+use Rattle.ob_store.proofs.Moments.{started, then_on, weakened, leaves_of, passed_none, passed_then}
+use Rattle.ob_store.proofs.Events.{none_noted}
 use Rattle.ob_seal.specs.declared.keys.Keys.{Keys}
 use Rattle.ob_twin.specs.Keyed.{tagging}
 use Rattle.ob_twin.specs.Register.{OldOrNew}
+use Rattle.ob_store.proofs.Lanes.{first_none}
 use Rattle.ob_serial.specs.Vaults.{Standing}
-use Rattle.ob_flat.specs.declared.registers.Register.{Register}
-use Rattle.ob_flat.specs.Noting.{NotesReads, ShowsReads}
-use Rattle.ob_flat.specs.Registers.{IsRegister}
+use Rattle.ob_start.specs.Beginning.{BeginsFrom, BeginLeaves, IsBeginFault, IsWornFault}
+use Rattle.ob_flat.specs.Orders.{found_notes}
+use Rattle.ob_flat.specs.Openings.{OpensFrom, ReadsAlone}
 use Rattle.ob_flat.specs.Standing.{StandsFlat, Stands, AllStand, StandsAsBefore}
-use Rattle.ob_flat.proofs.Moved.{generation_set}
+use Rattle.ob_flat.proofs.Moved.{stands_same, generation_set}
 
 -- each image that may be left stands as before
 pub all_before : (keys : Keys) (p : Params) (d : Disk) → AllStand keys p d → (c : Image) → d.may_leave c → StandsAsBefore keys p d c
@@ -30,10 +28,6 @@ all_before keys p d all c left = let at = all c left in record { at = at.0; gene
 -- no call
 pub none_before : (keys : Keys) (p : Params) (d : Disk) → AllStand keys p d → ((c : Image) → d.left_since d.moment c → d.may_leave c) → LeavesOnly d d (StandsAsBefore keys p d)
 none_before keys p d all only = started d (StandsAsBefore keys p d) (λ c left. all_before keys p d all c (only c left))
-
--- a call that leaves no new image
-pub still_before : (keys : Keys) (p : Params) (old new : Disk) → AllStand keys p old → ((c : Image) → old.left_since old.moment c → old.may_leave c) → NotAfter old.moment new.moment → Elapses old new → Shrinks old new → LeavesOnly old new (StandsAsBefore keys p old)
-still_before keys p old new all only later time shrinks = goes_on old old new (StandsAsBefore keys p old) (none_before keys p old all only) later time (λ c left. all_before keys p old all c (shrinks c left))
 
 -- reads
 pub reads_before : (keys : Keys) (p : Params) (old new : Disk) → AllStand keys p old → ((c : Image) → old.left_since old.moment c → old.may_leave c) → Passes Same old new → LeavesOnly old new (StandsAsBefore keys p old)
@@ -73,66 +67,6 @@ set_before keys p old mid new at g first stands stands_mid last =
     either)
     last)
 
--- ---- what is shown
-
-pub reads_cut : (V : Type 0) (xs ys : List Event) (a b : Option (List Event)) (f : Fault) → f ≡ StoreFault None → NotesFirst xs a b → NotesReads {V = V} (xs ++ ys) a b (Err f)
-reads_cut V xs ys a b f is first = subst (λ (e : Fault). NotesReads {V = V} (xs ++ ys) a b (Err e)) (sym is) (first_more xs ys a b first)
-
-pub reads_cut_then : (V : Type 0) (xs ys : List Event) (a b c : Option (List Event)) (f : Fault) → f ≡ StoreFault None → Notes xs a b → NotesFirst ys b c → NotesReads {V = V} (xs ++ ys) a c (Err f)
-reads_cut_then V xs ys a b c f is all first = subst (λ (e : Fault). NotesReads {V = V} (xs ++ ys) a c (Err e)) (sym is) (joined_first xs ys a b c all first)
-
-pub shown_cut : (V : Type 0) (xs ys : List Note) (a b : Trace) (f : Fault) → f ≡ StoreFault None → ShowsFirst xs a b → ShowsReads {V = V} (xs ++ ys) a b (Err f)
-shown_cut V xs ys a b f is first = subst (λ (e : Fault). ShowsReads {V = V} (xs ++ ys) a b (Err e)) (sym is) (shown_more xs ys a b first)
-
-pub shown_cut_then : (V : Type 0) (xs ys : List Note) (a b c : Trace) (f : Fault) → f ≡ StoreFault None → Shows xs a b → ShowsFirst ys b c → ShowsReads {V = V} (xs ++ ys) a c (Err f)
-shown_cut_then V xs ys a b c f is all first = subst (λ (e : Fault). ShowsReads {V = V} (xs ++ ys) a c (Err e)) (sym is) (shows_first xs ys a b c all first)
-
--- a refusal that isn't the store's shows all reads
-pub shows_own : {V : Type 0} (notes : List Note) (a b : Trace) (r : Result V Fault) → IfErr r (λ f. IsStoreFault f → ⊥) → Shows notes a b → ShowsReads notes a b r
-shows_own notes a b (Ok v) own shows = shows
-shows_own notes a b (Err (StoreFault unsure)) own shows = absurd (own tt)
-shows_own notes a b (Err Memory) own shows = shows
-shows_own notes a b (Err Usage) own shows = shows
-shows_own notes a b (Err (BadScript line)) own shows = shows
-shows_own notes a b (Err (BadParams field)) own shows = shows
-shows_own notes a b (Err NotStore) own shows = shows
-shows_own notes a b (Err (Damaged cell check kept computed)) own shows = shows
-shows_own notes a b (Err (StashFull rows)) own shows = shows
-shows_own notes a b (Err (Worn number)) own shows = shows
-shows_own notes a b (Err SourceFault) own shows = shows
-shows_own notes a b (Err SinkFault) own shows = shows
-
--- the same cells have the same registers
-pub register_alike : (keys : Keys) (first : ℕ) (a b : Image) (r : Register) → ((k : ℕ) → a k ≡ b k) → IsRegister keys first a r → IsRegister keys first b r
-register_alike keys first a b r same is = subst (λ (image : Image). IsRegister keys first image r) (fun_ext (λ k. same k)) is
-
--- what is noted of a refused call is some of its reads
-pub reads_front : (V : Type 0) (xs : List Event) (a b : Option (List Event)) (f : Fault) → NotesReads {V = V} xs a b (Err f) → NotesFirst xs a b
-reads_front V xs a b (StoreFault unsure) notes = notes
-reads_front V xs a b Memory notes = all_first xs a b notes
-reads_front V xs a b Usage notes = all_first xs a b notes
-reads_front V xs a b (BadScript line) notes = all_first xs a b notes
-reads_front V xs a b (BadParams field) notes = all_first xs a b notes
-reads_front V xs a b NotStore notes = all_first xs a b notes
-reads_front V xs a b (Damaged cell check kept computed) notes = all_first xs a b notes
-reads_front V xs a b (StashFull rows) notes = all_first xs a b notes
-reads_front V xs a b (Worn number) notes = all_first xs a b notes
-reads_front V xs a b SourceFault notes = all_first xs a b notes
-reads_front V xs a b SinkFault notes = all_first xs a b notes
-
-pub shown_front : (V : Type 0) (xs : List Note) (a b : Trace) (f : Fault) → ShowsReads {V = V} xs a b (Err f) → ShowsFirst xs a b
-shown_front V xs a b (StoreFault unsure) shows = shows
-shown_front V xs a b Memory shows = all_shown xs a b shows
-shown_front V xs a b Usage shows = all_shown xs a b shows
-shown_front V xs a b (BadScript line) shows = all_shown xs a b shows
-shown_front V xs a b (BadParams field) shows = all_shown xs a b shows
-shown_front V xs a b NotStore shows = all_shown xs a b shows
-shown_front V xs a b (Damaged cell check kept computed) shows = all_shown xs a b shows
-shown_front V xs a b (StashFull rows) shows = all_shown xs a b shows
-shown_front V xs a b (Worn number) shows = all_shown xs a b shows
-shown_front V xs a b SourceFault shows = all_shown xs a b shows
-shown_front V xs a b SinkFault shows = all_shown xs a b shows
-
 -- reads, and then reads
 pub reads_both : (a b c : Disk) → Passes Same a b → Passes Same b c → Passes Same a c
 reads_both a b c first second = passed_then Same a b c (λ x y z one two. one ∙ two) first second
@@ -142,3 +76,72 @@ pub begun_before : (keys : Keys) (p : Params) (old mid new : Disk) → AllStand 
     → LeavesOnly mid new (StandsAsBefore keys p mid) → LeavesOnly old new (StandsAsBefore keys p old)
 begun_before keys p old mid new all only passes same last =
     then_on old mid new (StandsAsBefore keys p old) (reads_before keys p old mid all only passes) (weakened mid new (StandsAsBefore keys p mid) (StandsAsBefore keys p old) (as_before keys p old mid passes same) last)
+
+-- a generation that is begun, or not
+module _ {S : Type 0} (disk : S → Disk) (keys : Keys) (p : Params) (at : Standing) (g : ℕ) (old new : S) (stands : StandsFlat keys p g (disk old).cells at) (tells : (disk old).tells) (all : AllStand keys p (disk old))
+    (only : (c : Image) → (disk old).left_since (disk old).moment c → (disk old).may_leave c) where
+  from_sync : BeginsFrom disk keys g old new → LeavesOnly (disk old) (disk new) (StandsAsBefore keys p (disk old))
+  from_sync b = set_before keys p (disk old) (disk b.synced) (disk new) at g (reads_before keys p (disk old) (disk b.synced) all only b.until) stands
+      (stands_same keys p g at (disk b.synced).cells (disk old).cells (b.keeps.cells tells) stands)
+      (subst (λ n. LeavesOnly (disk b.synced) (disk new) (OldOrNew (tagging keys) 1 (disk b.synced).cells g n)) (sym (add-one g)) (b.since tells stands.begun))
+
+  pub begin_before : (r : Result ℕ Fault) → BeginLeaves disk keys g old new r → LeavesOnly (disk old) (disk new) (StandsAsBefore keys p (disk old))
+  begin_before (Ok next) leaves = from_sync leaves
+  begin_before (Err refused) leaves = ⊎_elim (λ passes. reads_before keys p (disk old) (disk new) all only passes) from_sync leaves
+
+pub keeps_both : (a b c : Disk) → Keeps a b → Keeps b c → Keeps a c
+keeps_both a b c first second = record { tells = λ t. second.tells (first.tells t); cells = λ t k. second.cells (first.tells t) k ∙ first.cells t k }
+
+-- from the first sync of an opening on, where a generation is begun behind reads
+module _ {S : Type 0} (disk : S → Disk) (keys : Keys) (p : Params) (g : ℕ) (old mid new : S) (passes : Passes Same (disk old) (disk mid)) (keeps : Keeps (disk old) (disk mid))
+    (number : (h : ℕ) (at : Standing) → (disk old).tells → StandsFlat keys p h (disk old).cells at → g ≡ h) where
+  pub opens_from : BeginsFrom disk keys g mid new → OpensFrom disk keys p old new
+  opens_from b = record {
+    synced = b.synced;
+    until = reads_both (disk old) (disk mid) (disk b.synced) passes b.until;
+    keeps = keeps_both (disk old) (disk mid) (disk b.synced) keeps b.keeps;
+    settled = λ tells. b.settled (keeps.tells tells);
+    since = λ h at tells stands.
+        let told = keeps.tells tells in
+        let same = number h at tells stands in
+        let at_mid = stands_same keys p g at (disk mid).cells (disk old).cells (keeps.cells tells) (subst (λ n. StandsFlat keys p n (disk old).cells at) (sym same) stands) in
+        let at_sync = stands_same keys p g at (disk b.synced).cells (disk mid).cells (b.keeps.cells told) at_mid in
+        subst (λ n. LeavesOnly (disk b.synced) (disk new) (λ c. StandsFlat keys p n c at ⊎ StandsFlat keys p (suc n) c at)) same
+        (weakened (disk b.synced) (disk new) (OldOrNew (tagging keys) 1 (disk b.synced).cells g (suc g)) (λ c. StandsFlat keys p g c at ⊎ StandsFlat keys p (suc g) c at)
+        (λ c either. ⊎_elim (λ kept. inl (generation_set keys p at g g c (disk b.synced).cells kept at_sync)) (λ kept. inr (generation_set keys p at g (suc g) c (disk b.synced).cells kept at_sync)) either)
+        (b.since told at_mid.begun));
+  }
+
+  -- or it isn't begun
+  pub opens_or_not : Passes Same (disk mid) (disk new) ⊎ BeginsFrom disk keys g mid new → Passes Same (disk old) (disk new) ⊎ OpensFrom disk keys p old new
+  opens_or_not leaves = ⊎_elim (λ still. inl (reads_both (disk old) (disk mid) (disk new) passes still)) (λ begun. inr (opens_from begun)) leaves
+
+-- ---- what a refused opening did
+
+-- nothing
+pub none_alone : (n : ℕ) (d : Disk) (t : Trace) → ReadsAlone n d d t t
+none_alone n d t = record {
+  epoch = 0;
+  told = first_none (found_notes n 0) d.seen d.seen t (none_noted d.seen);
+  keeps = record { tells = λ told. told; cells = λ told k. refl };
+  passes = passed_none d Same (λ c. refl);
+}
+
+-- nothing more
+pub alone_still : {S W : Type 0} (disk : S → Disk) (trace : W → Trace) (n : ℕ) (old : Disk) (shown : Trace) (s t : S) (v w : W) → (t ≡ s) × (w ≡ v) → ReadsAlone n old (disk s) shown (trace v) → ReadsAlone n old (disk t) shown (trace w)
+alone_still disk trace n old shown s t v w same alone =
+    subst (λ x. ReadsAlone n old (disk x) shown (trace w)) (sym same.0) (subst (λ x. ReadsAlone n old (disk s) shown (trace x)) (sym same.1) alone)
+
+-- a generation that didn't begin for another reason than the store's is worn
+pub worn_out : (g : ℕ) (f : Fault) → IsBeginFault g f → (IsStoreFault f → ⊥) → IsWornFault f
+worn_out g (Worn number) fault own = tt
+worn_out g (StoreFault unsure) fault own = absurd (own tt)
+worn_out g Memory fault own = absurd fault
+worn_out g Usage fault own = absurd fault
+worn_out g (BadScript line) fault own = absurd fault
+worn_out g (BadParams field) fault own = absurd fault
+worn_out g NotStore fault own = absurd fault
+worn_out g (Damaged cell check kept computed) fault own = absurd fault
+worn_out g (StashFull rows) fault own = absurd fault
+worn_out g SourceFault fault own = absurd fault
+worn_out g SinkFault fault own = absurd fault

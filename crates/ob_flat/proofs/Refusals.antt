@@ -1,16 +1,17 @@
 -- What a refused end of an epoch leaves and tells.
-use Rattle.std.proofs.Common.{◌≡◌, ℕ, suc, ◌+◌, ◌≤◌, ◌<◌, ◌^◌, List, Option, None, Err, take, refl, sym, subst}
+use Rattle.std.proofs.Common.{◌≡◌, ◌⊎◌, inl, inr, ⊎_elim, ℕ, suc, ◌+◌, ◌≤◌, ◌<◌, ◌^◌, List, Option, None, Err, refl, sym, subst}
 use Rattle.ob_base.specs.declared.params.Params.{Params}
 use Rattle.ob_base.specs.declared.fault.Fault.{Fault}
 use Rattle.ob_base.specs.declared.fault.Fault.TheVariants.{StoreFault}
 use Rattle.ob_store.specs.declared.watch.Note.{Note}
 use Rattle.ob_store.specs.Disk.{Disk, Image}
 use Rattle.ob_store.specs.Images.{LeavesOnly}
-use Rattle.ob_store.specs.Calls.{NotesFirst}
-use Rattle.ob_store.specs.Lines.{Trace, Shows, ShowsFirst}
+use Rattle.ob_store.specs.Calls.{Notes}
+use Rattle.ob_store.specs.Lines.{Trace, Shows}
+use Rattle.ob_store.specs.Told.{events_of}
 use Rattle.ob_store.proofs.Moments.{started}
 use Rattle.ob_seal.specs.declared.keys.Keys.{Keys}
-use Rattle.ob_rows.specs.Rows.{IsFurther}
+use Rattle.ob_cells.specs.Runs.{IsFurther}
 use Rattle.ob_twin.specs.declared.gates.Open.{Open}
 use Rattle.ob_twin.specs.declared.twin.Twin.TheVariants.{EPOCH}
 use Rattle.ob_twin.specs.declared.set_err.SetErr.{SetErr}
@@ -21,8 +22,8 @@ use Rattle.ob_serial.specs.declared.vault.EndErr.TheVariants as end
 use Rattle.ob_serial.specs.Vaults.{Standing, RefusedBy}
 use Rattle.ob_serial.specs.VaultViews.{end_answer}
 use Rattle.ob_flat.specs.Standing.{StandsFlat}
-use Rattle.ob_flat.specs.Orders.{end_events, end_notes}
-use Rattle.ob_flat.specs.Ends.{EndsFrom, StandsAtOne, EndsIn, end_err_of}
+use Rattle.ob_flat.specs.Orders.{end_events, end_gate_notes}
+use Rattle.ob_flat.specs.Ends.{EndsFrom, StandsAtOne, EndsIn, EndTells, end_err_of}
 use Rattle.ob_flat.specs.Calls.{Holding, EndDoes}
 use Rattle.ob_flat.proofs.Moved.{stands_same}
 
@@ -36,20 +37,24 @@ pub refused_leaves : (keys : Keys) (p : Params) (g : ℕ) (old new : Disk) (now 
 refused_leaves keys p g old new now next (Before fault) r is before either = subst (λ (e : EndErr). EndsIn keys p g old new now next (end_answer (Err e))) (sym is) (before tt)
 refused_leaves keys p g old new now next (Unsure fault) r is before either = subst (λ (e : EndErr). EndsIn keys p g old new now next (end_answer (Err e))) (sym is) either
 
-module _ {S : Type 0} (p : Params) (known : Open) (epoch : ℕ) (values : List (Option (List ℕ))) (before after : Holding S) (old new : Disk) where
-  -- what it tells
-  pub refused_tells : (shown_old shown_new : Trace) (refused : SetErr) (r : EndErr) → r ≡ end_err_of refused → suc epoch < 2 ^ 62 → before.sealing.next + p.keys ≤ 2 ^ 62 → IsFurther p.keys before.sealing after.sealing → IsSetFault EPOCH (suc epoch) refused
-      → NotesFirst (end_events p.keys known (suc epoch)) old.seen new.seen → ShowsFirst (end_notes p.keys known (suc epoch)) shown_old shown_new
-      → (notes : List Note) × Shows notes shown_old shown_new × EndDoes p known epoch values before after old new notes (end_answer (Err r))
-  refused_tells shown_old shown_new (Before fault) r is small room seals says seen shown =
-      let notes = take shown.0 (end_notes p.keys known (suc epoch)) in
-      let first : EndDoes p known epoch values before after old new notes (RefusedBy (StoreFault None)) = (refl, record { small = small; room = room; seals = seals; seen = seen; shown = (shown.0, shown.1, refl) }) in
-      (notes, shown.2, subst (λ (e : EndErr). EndDoes p known epoch values before after old new notes (end_answer (Err e))) (sym is) (subst (λ (f : Fault). EndDoes p known epoch values before after old new notes (RefusedBy f)) (sym says) first))
-  refused_tells shown_old shown_new (Unsure fault) r is small room seals says seen shown =
-      let notes = take shown.0 (end_notes p.keys known (suc epoch)) in
-      (notes, shown.2, subst (λ (e : EndErr). EndDoes p known epoch values before after old new notes (end_answer (Err e))) (sym is) (says, record { small = small; room = room; seals = seals; seen = seen; shown = (shown.0, shown.1, refl) }))
+module _ {S : Type 0} (p : Params) (known : Open) (epoch : ℕ) (values : List (Option (List ℕ))) (before after : Holding S) (old new : Disk) (shown_old shown_new : Trace) where
+  abbrev pub Telling : EndErr → Type 0
+  Telling r = (notes : List Note) × Shows notes shown_old shown_new × EndDoes p known epoch values before after old new notes (end_answer (Err r))
 
-  -- what a refused end tells speaks of no values
+  -- what it tells
+  pub refused_tells : (refused : SetErr) (r : EndErr) → r ≡ end_err_of refused → suc epoch < 2 ^ 62 → before.sealing.next + p.keys ≤ 2 ^ 62 → IsFurther p.keys before.sealing after.sealing → IsSetFault EPOCH (suc epoch) refused
+      → EndTells p.keys known (suc epoch) old.seen new.seen shown_old shown_new (Err refused) → Telling r
+  refused_tells (Before fault) r is small room seals says first =
+      let short : EndDoes p known epoch values before after old new first.shown (RefusedBy (StoreFault None)) = (refl, record { small = small; room = room; seals = seals; made = first.made; cut = first.cut; seen = first.tells.seen }) in
+      subst Telling (sym is) (first.shown, first.tells.shows, subst (λ (f : Fault). EndDoes p known epoch values before after old new first.shown (RefusedBy f)) (sym says) short)
+  refused_tells (Unsure fault) r is small room seals says either =
+      let notes = end_gate_notes p.keys known (suc epoch) in
+      let shows : Shows notes shown_old shown_new = ⊎_elim (λ gate. gate.shows) (λ all. all.shows) either in
+      let seen : Notes (events_of notes) old.seen new.seen ⊎ Notes (end_events p.keys known (suc epoch)) old.seen new.seen = ⊎_elim (λ gate. inl gate.seen) (λ all. inr all.seen) either in
+      subst Telling (sym is) (notes, shows, (says, record { small = small; room = room; seals = seals; shown = refl; seen = seen }))
+
+-- what a refused end tells speaks of no values
+module _ {S : Type 0} (p : Params) (known : Open) (epoch : ℕ) (values : List (Option (List ℕ))) (before after : Holding S) (old new : Disk) where
   pub values_free : (kept : List (Option (List ℕ))) (notes : List Note) (r : EndErr) → EndDoes p known epoch values before after old new notes (end_answer (Err r)) → EndDoes p known epoch kept before after old new notes (end_answer (Err r))
   values_free kept notes (end.Before fault) does = does
   values_free kept notes (end.Unsure fault) does = does

@@ -1,5 +1,5 @@
 -- What a plain vault holds, and what its calls do to its store.
-use Rattle.std.specs.Prelude.{◌≡◌, ◌⊎◌, ◌+◌, ◌≤◌, ◌<◌, ◌^◌, ℕ, suc, false, List, [], ◌∷◌, take, length, Option, Some, None}
+use Rattle.std.specs.Prelude.{◌≡◌, ◌⊎◌, ◌+◌, ◌≤◌, ◌<◌, ◌^◌, ℕ, suc, false, List, [], ◌∷◌, Option, Some, None}
 use Rattle.std.specs.Borrow.{GName}
 use Rattle.ob_base.specs.declared.params.Params.{Params}
 use Rattle.ob_base.specs.declared.fault.Fault.{Fault}
@@ -7,17 +7,19 @@ use Rattle.ob_base.specs.declared.fault.Fault.TheVariants.{StoreFault, Worn}
 use Rattle.ob_store.specs.declared.watch.Note.{Note}
 use Rattle.ob_store.specs.Disk.{Disk, Image}
 use Rattle.ob_store.specs.Images.{Settled}
-use Rattle.ob_store.specs.Calls.{Holds, Notes, NotesFirst}
+use Rattle.ob_store.specs.Calls.{Holds, Notes}
+use Rattle.ob_store.specs.Told.{events_of, IsCut}
 use Rattle.ob_seal.specs.declared.keys.Keys.{Keys}
 use Rattle.ob_seal.specs.Sealing.{Sealing}
-use Rattle.ob_rows.specs.Rows.{row_cells, IsFurther}
+use Rattle.ob_cells.specs.Runs.{IsFurther}
+use Rattle.ob_flat_rows.specs.Rows.{row_cells}
 use Rattle.ob_twin.specs.declared.gates.Open.{Open}
 use Rattle.ob_twin.specs.Register.{place_of}
 use Rattle.ob_twin.specs.Opening.{with_mark}
 use Rattle.ob_serial.specs.Vaults.{VaultState, VaultCounts, VaultCall, Fetch, End, VaultAnswer, Values, Ended, RefusedBy, DoubtBy, Standing, standing_now, counts_of, MayStand, StandsIn}
 use Rattle.ob_flat.specs.Places.{area_of}
 use Rattle.ob_flat.specs.Standing.{IsMapOf, StandsFlat}
-use Rattle.ob_flat.specs.Orders.{end_events, end_notes}
+use Rattle.ob_flat.specs.Orders.{end_events, end_notes, end_prepare_notes, end_gate_notes}
 
 -- a disk with one reference more
 abbrev pub lent : GName → Disk → Disk
@@ -46,10 +48,6 @@ pub record FlatSound (keys : Keys) (p : Params) (g : ℕ) (counts : VaultCounts)
 abbrev pub opened_at : Params → Standing → VaultState
 opened_at p at = record { batches = p.batches; epoch = at.epoch; content = at.content; left = p.batches; spent = false; doubt = None }
 
--- some of these notes, the first ones
-abbrev pub IsFront : List Note → List Note → Type 0
-IsFront notes all = (n : ℕ) × (n ≤ length all) × (notes ≡ take n all)
-
 -- The end of an epoch did all of it: it sealed a row for each key, under the next seals.
 pub record IsEnded (n : ℕ) (known : Open) (epoch : ℕ) (values : List (Option (List ℕ))) (sealing sealed : Sealing) (old new : Disk) (notes : List Note) : Type 0 where
   pub small : suc epoch < 2 ^ 62
@@ -59,13 +57,22 @@ pub record IsEnded (n : ℕ) (known : Open) (epoch : ℕ) (values : List (Option
   pub seen : Notes (end_events n known (suc epoch)) old.seen new.seen
   pub shown : notes ≡ end_notes n known (suc epoch)
 
--- the first of it
-pub record IsCut (n : ℕ) (known : Open) (epoch : ℕ) (sealing sealed : Sealing) (old new : Disk) (notes : List Note) : Type 0 where
+-- It was refused before the write that opens its gate: it did the first of what comes before that write.
+pub record IsCutShort (n : ℕ) (known : Open) (epoch : ℕ) (sealing sealed : Sealing) (old new : Disk) (notes : List Note) : Type 0 where
   pub small : suc epoch < 2 ^ 62
   pub room : sealing.next + n ≤ 2 ^ 62
   pub seals : IsFurther n sealing sealed
-  pub seen : NotesFirst (end_events n known (suc epoch)) old.seen new.seen
-  pub shown : IsFront notes (end_notes n known (suc epoch))
+  pub made : List Note
+  pub cut : IsCut (end_prepare_notes n known (suc epoch)) made notes
+  pub seen : Notes (events_of made) old.seen new.seen
+
+-- It is left in doubt: that write was made, and the sync behind it or not.
+pub record IsInDoubt (n : ℕ) (known : Open) (epoch : ℕ) (sealing sealed : Sealing) (old new : Disk) (notes : List Note) : Type 0 where
+  pub small : suc epoch < 2 ^ 62
+  pub room : sealing.next + n ≤ 2 ^ 62
+  pub seals : IsFurther n sealing sealed
+  pub shown : notes ≡ end_gate_notes n known (suc epoch)
+  pub seen : Notes (events_of (end_gate_notes n known (suc epoch))) old.seen new.seen ⊎ Notes (end_events n known (suc epoch)) old.seen new.seen
 
 -- nothing, since there is no next epoch, or not a seal left for each key
 pub record IsWorn {S : Type 0} (n epoch : ℕ) (sealing sealed : Sealing) (before after : S) (notes : List Note) : Type 0 where
@@ -79,9 +86,9 @@ pub record Holding (S : Type 0) : Type 0 where
   pub store : S
   pub sealing : Sealing
 
--- A refused end did the first of it, or nothing.
+-- A refused end did the first of what comes before its gate, or nothing.
 abbrev pub RefusedDoes : {S : Type 0} → ℕ → Open → ℕ → Holding S → Holding S → Disk → Disk → List Note → Fault → Type 0
-RefusedDoes n known epoch before after old new notes (StoreFault unsure) = (unsure ≡ None) × IsCut n known epoch before.sealing after.sealing old new notes
+RefusedDoes n known epoch before after old new notes (StoreFault unsure) = (unsure ≡ None) × IsCutShort n known epoch before.sealing after.sealing old new notes
 RefusedDoes n known epoch before after old new notes (Worn number) = (number ≡ 2 ^ 62) × IsWorn n epoch before.sealing after.sealing before.store after.store notes
 RefusedDoes n known epoch before after old new notes _ = ⊥
 
@@ -91,7 +98,7 @@ module _ {S : Type 0} (p : Params) (known : Open) (epoch : ℕ) (values : List (
   abbrev pub EndDoes : VaultAnswer → Type 0
   EndDoes Ended = IsEnded p.keys known epoch values before.sealing after.sealing old new notes
   EndDoes (RefusedBy fault) = RefusedDoes p.keys known epoch before after old new notes fault
-  EndDoes (DoubtBy fault) = (fault ≡ StoreFault (Some (suc epoch))) × IsCut p.keys known epoch before.sealing after.sealing old new notes
+  EndDoes (DoubtBy fault) = (fault ≡ StoreFault (Some (suc epoch))) × IsInDoubt p.keys known epoch before.sealing after.sealing old new notes
   EndDoes _ = ⊥
 
   -- a fetch does nothing to the store, and is never refused

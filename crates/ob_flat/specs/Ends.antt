@@ -1,14 +1,19 @@
 -- What the end of an epoch begins with, and what it may leave.
-use Rattle.std.specs.Prelude.{◌≡◌, ◌⊎◌, ℕ, suc, List, length, Option}
+use Rattle.std.specs.Prelude.{◌≡◌, ◌⊎◌, ℕ, suc, List, length, Option, Result, Ok, Err}
 use Rattle.ob_base.specs.declared.params.Params.{Params}
 use Rattle.ob_store.specs.Disk.{Disk, Image}
 use Rattle.ob_store.specs.Images.{Settled, LeavesOnly}
+use Rattle.ob_store.specs.declared.event.Event.{Event}
+use Rattle.ob_store.specs.Lines.{Trace}
+use Rattle.ob_store.specs.Told.{Tells, TellsFirst}
 use Rattle.ob_seal.specs.declared.keys.Keys.{Keys}
 use Rattle.ob_twin.specs.declared.set_err.SetErr.{SetErr}
 use Rattle.ob_twin.specs.declared.set_err.SetErr.TheVariants as set
 use Rattle.ob_serial.specs.declared.vault.EndErr.{EndErr}
 use Rattle.ob_serial.specs.declared.vault.EndErr.TheVariants as end
 use Rattle.ob_serial.specs.Vaults.{Standing, VaultAnswer, Ended, RefusedBy}
+use Rattle.ob_twin.specs.declared.gates.Open.{Open}
+use Rattle.ob_flat.specs.Orders.{end_notes, end_prepare_notes, end_gate_notes}
 use Rattle.ob_flat.specs.Standing.{IsMapOf, StandsFlat}
 
 -- the store stands for an epoch, at a generation, no write waits for a sync, and these are the values of the next one
@@ -41,3 +46,10 @@ EndsIn keys p g old new now next _ = LeavesOnly old new (StandsAtOne keys p g no
 abbrev pub end_err_of : SetErr → EndErr
 end_err_of (set.Before fault) = end.Before fault
 end_err_of (set.Unsure fault) = end.Unsure fault
+
+-- what the writing of an epoch does, by its answer: as a set does, behind the rows
+abbrev pub EndTells : ℕ → Open → ℕ → Option (List Event) → Option (List Event) → Trace → Trace → Result (Unit {0}) SetErr → Type 0
+EndTells n known epoch old new before after (Ok done) = Tells (end_notes n known epoch) (end_notes n known epoch) old new before after
+EndTells n known epoch old new before after (Err (set.Before fault)) = TellsFirst (end_prepare_notes n known epoch) old new before after
+EndTells n known epoch old new before after (Err (set.Unsure fault)) =
+    Tells (end_gate_notes n known epoch) (end_gate_notes n known epoch) old new before after ⊎ Tells (end_notes n known epoch) (end_gate_notes n known epoch) old new before after

@@ -1,25 +1,12 @@
 -- What a crash leaves while a store is formatted.
-use Rattle.std.specs.Prelude.{◌≡◌, ◌≢◌, ◌⊎◌, ℕ, take, replicate, None}
+use Rattle.std.specs.Prelude.{◌⊎◌, ℕ, replicate, None}
 use Rattle.ob_store.specs.Disk.{Disk, Image}
-use Rattle.ob_store.specs.Images.{SameBut}
 use Rattle.ob_store.specs.Calls.{Holds}
 use Rattle.ob_seal.specs.declared.keys.Keys.{Keys}
-use Rattle.ob_rows.specs.Rows.{row_cells}
+use Rattle.ob_flat_rows.specs.Rows.{row_cells}
 use Rattle.ob_twin.specs.Keyed.{tagging}
 use Rattle.ob_twin.specs.Register.{StandsAt}
-use Rattle.ob_flat.specs.Heads.{mark}
-
--- the two images have the same head
-abbrev pub SameHead : Image → Image → Type 0
-SameHead a b = a 0 ≡ b 0
-
--- the image is no store
-abbrev pub HasNoHead : Image → Type 0
-HasNoHead image = take 12 (image 0) ≢ mark
-
--- an image that might have been left before, but for its head, which may hold anything
-abbrev pub IsTornHead : Disk → Image → Type 0
-IsTornHead old image = (d : Image) × old.may_leave d × SameBut 0 image d
+use Rattle.ob_start.specs.Laying.{HasNoHead, IsTornHead}
 
 -- a new store, but for its head, which may hold anything
 pub record IsLaid (keys : Keys) (n : ℕ) (image : Image) : Type 0 where

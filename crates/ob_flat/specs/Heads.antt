@@ -1,81 +1,20 @@
--- The head of a plain vault's store.
-use Rattle.std.specs.Prelude.{◌≡◌, ◌≢◌, ◌⊎◌, ℕ, ◌+◌, ◌*◌, List, [], ◌∷◌, ◌++◌, take, replicate, Option, Some, Result, Ok, Err, codes}
-use Rattle.std.specs.List.{flat_map}
-use Rattle.std.specs.Int.{w32, to_le_bytes}
+-- The head of a plain vault's store: that of version 102.
+use Rattle.std.specs.Prelude.{ℕ, List, Result}
 use Rattle.ob_base.specs.declared.params.Params.{Params}
-use Rattle.ob_base.specs.declared.fault.Field.{Field}
-use Rattle.ob_base.specs.declared.fault.Field.TheVariants.{L, Z, S, R, BR, BW, E, T}
-use Rattle.ob_base.specs.declared.fault.Damaged.{Damaged}
-use Rattle.ob_base.specs.declared.fault.Check.TheVariants.{Form}
 use Rattle.ob_base.specs.declared.fault.Fault.{Fault}
-use Rattle.ob_base.specs.declared.fault.Fault.TheVariants as fault
-use Rattle.ob_base.specs.Fields.{first_out_of_range}
-use Rattle.ob_base.specs.LittleEndian.{field_at}
 use Rattle.ob_seal.specs.declared.keys.Keys.{Keys}
-use Rattle.ob_rows.specs.Numbers.{told_number}
-use Rattle.ob_twin.specs.Bodies.{IsStamped, IsMisstamped}
-use Rattle.ob_twin.specs.Keyed.{tagging}
+use Rattle.ob_start.specs.Heads as start
 
--- a head begins with `OBLADIST` and the version's number
-unfoldable pub mark : List ℕ
-mark = codes "OBLADIST" ++ to_le_bytes w32 102
-
--- the parameters in their order
-abbrev pub numbers_of : Params → List ℕ
-numbers_of p = p.keys ∷ p.levels ∷ p.real ∷ p.dummies ∷ p.batches ∷ p.places ∷ p.writes ∷ p.evictions ∷ p.room ∷ []
-
--- behind the mark stand the parameters, of 4 bytes each, and zeros
-unfoldable pub head_plain : Params → List ℕ
-head_plain p = mark ++ flat_map (λ n. to_le_bytes w32 n) (numbers_of p) ++ replicate 64 0
+abbrev pub version : ℕ
+version = 102
 
 abbrev pub head_cell : Keys → Params → List ℕ
-head_cell keys p = head_plain p ++ tagging keys 0 (head_plain p)
-
--- the number at one of the nine places behind the mark
-abbrev pub number_at : List ℕ → ℕ → ℕ
-number_at bytes place = field_at w32 bytes (12 + 4 * place)
-
-abbrev pub numbers_in : List ℕ → List ℕ
-numbers_in bytes =
-    number_at bytes 0 ∷ number_at bytes 1 ∷ number_at bytes 2 ∷ number_at bytes 3 ∷ number_at bytes 4
-    ∷ number_at bytes 5 ∷ number_at bytes 6 ∷ number_at bytes 7 ∷ number_at bytes 8 ∷ []
+head_cell keys p = start.head_cell keys version p
 
 -- the head of these parameters
-pub record IsHead (keys : Keys) (p : Params) (bytes : List ℕ) : Type 0 where
-  pub marked : take 12 bytes ≡ mark
-  pub stamped : IsStamped (tagging keys) 0 bytes
-  pub numbers : numbers_in bytes ≡ numbers_of p
-
--- the first number that is out of its range
-abbrev pub first_bad : List ℕ → Option Field
-first_bad bytes =
-    first_out_of_range (number_at bytes 0) (number_at bytes 1) (number_at bytes 2) (number_at bytes 3) (number_at bytes 4)
-    (number_at bytes 5) (number_at bytes 6) (number_at bytes 7) (number_at bytes 8)
-
-abbrev pub place_of : Field → ℕ
-place_of L = 1
-place_of Z = 2
-place_of S = 3
-place_of R = 4
-place_of BR = 5
-place_of BW = 6
-place_of E = 7
-place_of T = 8
-place_of _ = 0
-
--- what is told of a number out of its range: the number, and 1, which is the least in each range
-pub record IsBadNumber (bytes : List ℕ) (damaged : Damaged) : Type 0 where
-  pub field : Field
-  pub first : first_bad bytes ≡ Some field
-  pub is : damaged ≡ record { cell = 0; check = Form; kept = told_number (number_at bytes (place_of field)); computed = told_number 1 }
+abbrev pub IsHead : Keys → Params → List ℕ → Type 0
+IsHead keys p bytes = start.IsHead keys version p bytes
 
 -- what is read of a head, where the store doesn't fail
 abbrev pub IsHeadRead : Keys → List ℕ → Result Params Fault → Type 0
-IsHeadRead keys bytes (Ok p) = IsHead keys p bytes
-IsHeadRead keys bytes (Err fault.NotStore) = take 12 bytes ≢ mark
-IsHeadRead keys bytes (Err (fault.Damaged cell check kept computed)) =
-    (take 12 bytes ≡ mark)
-    × (IsMisstamped (tagging keys) 0 bytes (record { cell = cell; check = check; kept = kept; computed = computed })
-    ⊎ (IsStamped (tagging keys) 0 bytes × IsBadNumber bytes (record { cell = cell; check = check; kept = kept; computed = computed })))
-IsHeadRead keys bytes (Err (fault.StoreFault unsure)) = Unit {0}
-IsHeadRead keys bytes (Err _) = ⊥
+IsHeadRead keys bytes result = start.IsHeadRead keys version bytes result

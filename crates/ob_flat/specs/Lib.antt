@@ -4,7 +4,6 @@ pub mod Standing
 pub mod Formats
 pub mod Orders
 pub mod Noting
-pub mod Registers
 pub mod Openings
 pub mod Ends
 pub mod Calls

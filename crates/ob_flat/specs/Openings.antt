@@ -5,21 +5,24 @@ use Rattle.ob_base.specs.declared.fault.Damaged.{Damaged}
 use Rattle.ob_base.specs.declared.fault.Fault.{Fault}
 use Rattle.ob_base.specs.declared.fault.Fault.TheVariants as fault
 use Rattle.ob_store.specs.Disk.{Disk, Image}
-use Rattle.ob_store.specs.Calls.{Notes, NotesFirst}
-use Rattle.ob_store.specs.Lines.{Trace, Shows, ShowsFirst}
+use Rattle.ob_store.specs.Images.{Same, Settled, Passes, LeavesOnly}
+use Rattle.ob_store.specs.Calls.{Keeps}
+use Rattle.ob_store.specs.Lines.{Trace}
+use Rattle.ob_store.specs.Told.{Tells, TellsFirst}
 use Rattle.ob_seal.specs.declared.keys.Keys.{Keys}
 use Rattle.ob_seal.specs.Sealing.{Sealing}
-use Rattle.ob_rows.specs.Rows.{AreRows}
-use Rattle.ob_rows.specs.Reads.{IsFirstRowDamage}
+use Rattle.ob_flat_rows.specs.Rows.{AreRows}
+use Rattle.ob_flat_rows.specs.Reads.{IsFirstRowDamage}
 use Rattle.ob_twin.specs.declared.gates.Open.{Open}
 use Rattle.ob_twin.specs.Opening.{GatesAre}
 use Rattle.ob_twin.specs.Reading.{NoneOpen}
 use Rattle.ob_serial.specs.Vaults.{Standing}
 use Rattle.ob_flat.specs.declared.opening.Opening.{Opening}
 use Rattle.ob_flat.specs.Places.{area_of}
-use Rattle.ob_flat.specs.Registers.{Found, IsRegisterDamage}
+use Rattle.ob_start.specs.Registers.{Found, IsRegisterDamage}
+use Rattle.ob_start.specs.Orders.{registers_notes}
 use Rattle.ob_flat.specs.Standing.{IsMapOf, StandsFlat}
-use Rattle.ob_flat.specs.Orders.{registers_events, registers_notes, open_events, open_notes}
+use Rattle.ob_flat.specs.Orders.{found_notes, open_notes}
 
 -- both registers are found, and this is the first row that breaks a rule
 pub record IsRowsDamage (keys : Keys) (n : ℕ) (image : Image) (damaged : Damaged) : Type 0 where
@@ -57,7 +60,7 @@ IsOpeningOf keys n image (Err (fault.StoreFault unsure)) = Unit {0}
 IsOpeningOf keys n image (Err fault.Memory) = Unit {0}
 IsOpeningOf keys n image (Err _) = ⊥
 
--- the faults of opening, and of reading the head
+-- the faults of opening
 abbrev pub IsOpenFault : Fault → Type 0
 IsOpenFault fault.Memory = Unit {0}
 IsOpenFault fault.NotStore = Unit {0}
@@ -65,12 +68,6 @@ IsOpenFault (fault.Damaged cell check kept computed) = Unit {0}
 IsOpenFault (fault.Worn number) = Unit {0}
 IsOpenFault (fault.StoreFault unsure) = unsure ≡ None
 IsOpenFault _ = ⊥
-
-abbrev pub IsHeadFault : Fault → Type 0
-IsHeadFault fault.NotStore = Unit {0}
-IsHeadFault (fault.Damaged cell check kept computed) = Unit {0}
-IsHeadFault (fault.StoreFault unsure) = unsure ≡ None
-IsHeadFault _ = ⊥
 
 -- the opening has what the store stood for, and the store stands for it still, at the opening's generation, whatever crashes
 pub record IsOpenedAt (keys : Keys) (p : Params) (at : Standing) (opening : Opening) (new : Disk) : Type 0 where
@@ -84,18 +81,40 @@ pub record IsFresh (keys : Keys) (sealing : Sealing) : Type 0 where
   pub keys_are : sealing.keys ≡ keys
   pub none_sealed : sealing.next ≡ 0
 
+-- What an opening that went well begins with: the store's parameters, a fresh sealer, no write that waits for a sync, and the gates
+-- of the epoch's register as they were and are.
+pub record Begins (keys : Keys) (p : Params) (old new : Disk) (opening : Opening) : Type 0 where
+  pub params : opening.params ≡ p
+  pub sealer : IsFresh keys opening.sealer
+  pub durable : old.tells → Settled new
+  pub gates : old.tells → GatesAre opening.gates.epoch 5 old.cells
+  pub tell : old.tells → GatesAre opening.gates.epoch 5 new.cells
+
+-- Its first sync succeeded, and the store was this one then: no write waited. Until then a crash leaves what it might have left
+-- before; from then on an image that stands for what the store stood for, at its generation or the next one.
+pub record OpensFrom {S : Type 0} (disk : S → Disk) (keys : Keys) (p : Params) (old new : S) : Type 0 where
+  pub synced : S
+  pub until : Passes Same (disk old) (disk synced)
+  pub keeps : Keeps (disk old) (disk synced)
+  pub settled : (disk old).tells → Settled (disk synced)
+  pub since : (g : ℕ) (at : Standing) → (disk old).tells → StandsFlat keys p g (disk old).cells at
+      → LeavesOnly (disk synced) (disk new) (λ c. StandsFlat keys p g c at ⊎ StandsFlat keys p (suc g) c at)
+
+-- a refused one may have left all images as they were
+abbrev pub OpeningLeaves : {S : Type 0} → (S → Disk) → Keys → Params → S → S → Result Opening Fault → Type 0
+OpeningLeaves disk keys p old new (Ok opening) = OpensFrom disk keys p old new
+OpeningLeaves disk keys p old new (Err refused) = Passes Same (disk old) (disk new) ⊎ OpensFrom disk keys p old new
+
 -- The order of an opening that went well.
 pub record OpensIn (n : ℕ) (old new : Disk) (shown_old shown_new : Trace) (opening : Opening) : Type 0 where
   -- which gates of the generation's register were open
   pub known : Open
   pub gates : old.tells → GatesAre known 1 old.cells
-  pub seen : Notes (open_events n opening.epoch known opening.sealer.generation) old.seen new.seen
-  pub shown : Shows (open_notes n opening.epoch known opening.sealer.generation) shown_old shown_new
+  pub told : Tells (open_notes n opening.epoch known opening.sealer.generation) (open_notes n opening.epoch known opening.sealer.generation) old.seen new.seen shown_old shown_new
 
 -- Of a refused one: some of the first reads, or all of them and some of what follows.
-pub record ReadsFirst (old new : Disk) (shown_old shown_new : Trace) : Type 0 where
-  pub seen : NotesFirst registers_events old.seen new.seen
-  pub shown : ShowsFirst registers_notes shown_old shown_new
+abbrev pub ReadsFirst : Disk → Disk → Trace → Trace → Type 0
+ReadsFirst old new shown_old shown_new = TellsFirst registers_notes old.seen new.seen shown_old shown_new
 
 pub record OpensPart (keys : Keys) (n : ℕ) (old new : Disk) (shown_old shown_new : Trace) : Type 0 where
   pub known : Open
@@ -103,8 +122,14 @@ pub record OpensPart (keys : Keys) (n : ℕ) (old new : Disk) (shown_old shown_n
   pub generation : ℕ
   pub epoch : ℕ
   pub found : old.tells → Found keys old.cells generation epoch
-  pub seen : NotesFirst (open_events n epoch known (suc generation)) old.seen new.seen
-  pub shown : ShowsFirst (open_notes n epoch known (suc generation)) shown_old shown_new
+  pub told : TellsFirst (open_notes n epoch known (suc generation)) old.seen new.seen shown_old shown_new
 
 abbrev pub OpensFirst : Keys → ℕ → Disk → Disk → Trace → Trace → Type 0
 OpensFirst keys n old new shown_old shown_new = ReadsFirst old new shown_old shown_new ⊎ OpensPart keys n old new shown_old shown_new
+
+-- It read, and did nothing else: no cell changed, and no image that a crash may leave.
+pub record ReadsAlone (n : ℕ) (old new : Disk) (shown_old shown_new : Trace) : Type 0 where
+  pub epoch : ℕ
+  pub told : TellsFirst (found_notes n epoch) old.seen new.seen shown_old shown_new
+  pub keeps : Keeps old new
+  pub passes : Passes Same old new

@@ -3,22 +3,23 @@ ghost use Rattle.ob_base.specs.Causes.{Rose};
 ghost use Rattle.ob_base.specs.declared.params.Params.{Params};
 ghost use Rattle.ob_store.specs.Disk.{Image};
 ghost use Rattle.ob_store.specs.Images.{Settled, SameOff, LeavesOnly, Passes};
-ghost use Rattle.ob_store.specs.Calls.{Serves, IsFailed, Holds, Notes, NotesFirst};
-ghost use Rattle.ob_store.specs.Lines.{Shows, ShowsFirst};
-ghost use Rattle.ob_rows.specs.Rows.{row_cells, AreShort, IsFurther};
+ghost use Rattle.ob_store.specs.Calls.{Serves, IsFailed, Holds};
+ghost use Rattle.ob_store.specs.Told.{Does};
+ghost use Rattle.ob_cells.specs.Runs.{IsFurther};
+ghost use Rattle.ob_flat_rows.specs.Rows.{row_cells, AreShort};
 ghost use Rattle.ob_twin.specs.declared.twin.Twin.TheVariants.{EPOCH};
 ghost use Rattle.ob_twin.specs.Register.{place_of};
 ghost use Rattle.ob_twin.specs.Opening.{GatesAre, is_closed_first, with_mark};
 ghost use Rattle.ob_twin.specs.Refused.{IsSetFault, IsBefore};
 ghost use Rattle.ob_serial.specs.Vaults.{Standing};
 ghost use Rattle.ob_flat.specs.Places.{area_of};
-ghost use Rattle.ob_flat.specs.Orders.{rows_events, rows_notes, end_events, end_notes};
-ghost use Rattle.ob_flat.specs.Ends.{EndsFrom, StandsAtOne};
+ghost use Rattle.ob_flat.specs.Orders.{rows_notes};
+ghost use Rattle.ob_flat.specs.Ends.{EndsFrom, StandsAtOne, EndTells};
 ghost use Rattle.ob_flat.specs.Standing.{StandsFlat};
 
 use crate::places::area_of;
 use ob_base::{Failed, Fault, Value};
-use ob_rows::write_rows;
+use ob_flat_rows::write_rows;
 use ob_seal::Sealer;
 use ob_store::{Store, Watch, sync_noted};
 use ob_twin::{Gates, SetErr, Twin};
@@ -42,10 +43,7 @@ pub fn fill<S: Store, W: Watch>(
     ensures rest { (S.disk store.old).tells → SameOff base (length values.now) (S.disk store.new).cells (S.disk store.old).cells }
     ensures durable { (S.disk store.old).tells → OnOk result (Settled (S.disk store.new)) }
     ensures passes { Passes (SameOff base (length values.now)) (S.disk store.old) (S.disk store.new) }
-    ensures seen { OnOk result (Notes (rows_events base (length values.now)) (S.disk store.old).seen (S.disk store.new).seen) }
-    ensures seen_err { OnErr result (NotesFirst (rows_events base (length values.now)) (S.disk store.old).seen (S.disk store.new).seen) }
-    ensures shown { OnOk result (Shows (rows_notes base (length values.now)) (W.trace watch.old) (W.trace watch.new)) }
-    ensures shown_err { OnErr result (ShowsFirst (rows_notes base (length values.now)) (W.trace watch.old) (W.trace watch.new)) }
+    ensures does { Does (rows_notes base (length values.now)) (S.disk store.old).seen (S.disk store.new).seen (W.trace watch.old) (W.trace watch.new) result }
 {
     write_rows(store, sealer, base, values, watch)?;
     sync_noted(store, watch)
@@ -81,10 +79,8 @@ pub fn write_epoch<S: Store, W: Watch>(
     ensures old_or_new { (p : Params) (g : ℕ) (now next : Standing) → EndsFrom sealer.old.keys p g (S.disk store.old) epoch values.now now next → LeavesOnly (S.disk store.old) (S.disk store.new) (StandsAtOne sealer.old.keys p g now next) }
     // or the old one where it was refused before the last write.
     ensures before { (p : Params) (g : ℕ) (now next : Standing) → EndsFrom sealer.old.keys p g (S.disk store.old) epoch values.now now next → IsBefore result → LeavesOnly (S.disk store.old) (S.disk store.new) (λ c. StandsFlat sealer.old.keys p g c now) }
-    ensures seen { OnOk result (Notes (end_events (length values.now) gates.old.epoch epoch) (S.disk store.old).seen (S.disk store.new).seen) }
-    ensures seen_err { OnErr result (NotesFirst (end_events (length values.now) gates.old.epoch epoch) (S.disk store.old).seen (S.disk store.new).seen) }
-    ensures shown { OnOk result (Shows (end_notes (length values.now) gates.old.epoch epoch) (W.trace watch.old) (W.trace watch.new)) }
-    ensures shown_err { OnErr result (ShowsFirst (end_notes (length values.now) gates.old.epoch epoch) (W.trace watch.old) (W.trace watch.new)) }
+    // Unsure only where the write was made that opens the gate.
+    ensures does { EndTells (length values.now) gates.old.epoch epoch (S.disk store.old).seen (S.disk store.new).seen (W.trace watch.old) (W.trace watch.new) result }
 {
     let base = area_of(values.len() as u64, epoch);
     match fill(store, sealer, base, values, watch) {

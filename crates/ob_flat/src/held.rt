@@ -17,6 +17,6 @@ pub struct Held<'a, S: Store> {
     pub spent: bool,
     ghost small: { epoch < 2 ^ 62 },
     ghost generation: { sealer.generation < 2 ^ 62 },
-    ghost none_out: { spent ≡ false → (S.disk store.now).out ≡ 0 },
+    ghost none_out: { (S.disk store.now).out ≡ 0 },
     ghost told: { spent ≡ false → (S.disk store.now).tells → GatesAre gates.epoch 5 (S.disk store.now).cells },
 }

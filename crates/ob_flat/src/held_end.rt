@@ -1,9 +1,8 @@
 ghost use Rattle.std.specs.Prelude.{◌≡◌, ◌⊎◌, ◌<◌, ◌≤◌, ◌+◌, ◌^◌, MatchBool, ℕ, suc, List, length, not, is_ok, IfErr, false, if◌then◌else◌};
-ghost use Rattle.ob_base.specs.Causes.{Rose};
 ghost use Rattle.ob_base.specs.declared.params.Params.{Params};
 ghost use Rattle.ob_store.specs.declared.watch.Note.{Note};
 ghost use Rattle.ob_store.specs.Images.{Settled, LeavesOnly};
-ghost use Rattle.ob_store.specs.Calls.{GoesOn};
+ghost use Rattle.ob_store.specs.Calls.{Serves};
 ghost use Rattle.ob_store.specs.Lines.{Shows};
 ghost use Rattle.ob_serial.specs.Vaults.{Standing};
 ghost use Rattle.ob_serial.specs.VaultViews.{end_answer, IsEndFault, IsStoreEnd};
@@ -12,7 +11,7 @@ ghost use Rattle.ob_flat.specs.Ends.{EndsFrom, EndsIn, end_err_of};
 
 use crate::ends::write_epoch;
 use crate::held::Held;
-use ob_base::{Fault, Value};
+use ob_base::{Fault, NUMBER_LIMIT, Value};
 use ob_seal::Sealer;
 use ob_serial::EndErr;
 use ob_store::{Store, Watch};
@@ -32,11 +31,11 @@ fn is_worn(epoch: u64, sealer: &Sealer, keys: u64) -> bool
     requires few { keys ≤ 65536 }
     ensures { MatchBool result ((2 ^ 62 ≤ epoch) ⊎ (2 ^ 62 < sealer.now.next + keys)) ((epoch < 2 ^ 62) × (sealer.now.next + keys ≤ 2 ^ 62)) }
 {
-    if epoch >= 1 << 62 {
+    if epoch >= NUMBER_LIMIT {
         return true;
     }
     let (_, next) = sealer.next();
-    next + keys > 1 << 62
+    next + keys > NUMBER_LIMIT
 }
 
 // Ends an epoch with these values.
@@ -53,9 +52,8 @@ pub fn end_held<'a, S: Store, W: Watch>(
     ensures knows { KnowsNext held.old.gates.epoch held.old.epoch (end_answer result) held.new.gates.epoch held.new.epoch }
     ensures same_keys { held.new.sealer.keys ≡ held.old.sealer.keys }
     ensures same_generation { held.new.sealer.generation ≡ held.old.sealer.generation }
-    ensures goes { GoesOn (S.disk held.old.store.now) (S.disk held.new.store.now) }
+    ensures serves { Serves IsStoreEnd (S.disk held.old.store.now) (S.disk held.new.store.now) result }
     ensures faults { IfErr result (IsEndFault (held.old.epoch + 1)) }
-    ensures cause { IfErr result (λ refused. IsStoreEnd refused → Rose (S.disk held.old.store.now).faults (S.disk held.new.store.now).faults) }
     ensures images { (p : Params) (g : ℕ) (now next : Standing) → EndsFrom held.old.sealer.keys p g (S.disk held.old.store.now) (suc held.old.epoch) values.now now next → EndsIn held.old.sealer.keys p g (S.disk held.old.store.now) (S.disk held.new.store.now) now next (end_answer result) }
     ensures called { (p : Params) → length values.now ≡ p.keys → (notes : List Note) × Shows notes (W.trace watch.old) (W.trace watch.new)
         × EndDoes p held.old.gates.epoch held.old.epoch values.now (record { store = held.old.store.now; sealing = held.old.sealer }) (record { store = held.new.store.now; sealing = held.new.sealer }) (S.disk held.old.store.now) (S.disk held.new.store.now) notes (end_answer result) }
@@ -63,7 +61,9 @@ pub fn end_held<'a, S: Store, W: Watch>(
     let epoch = held.epoch + 1;
     held.spent = true;
     if is_worn(epoch, &held.sealer, values.len() as u64) {
-        return Err(EndErr::Before(Fault::Worn { number: 1 << 62 }));
+        return Err(EndErr::Before(Fault::Worn {
+            number: NUMBER_LIMIT,
+        }));
     }
     match write_epoch(
         held.store,

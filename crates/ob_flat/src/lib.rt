@@ -9,7 +9,6 @@ mod held_end;
 mod opening;
 mod places;
 mod preparing;
-mod registers;
 mod values;
 mod vault;
 

@@ -1,29 +1,20 @@
-ghost use Rattle.std.specs.Prelude.{◌≡◌, ◌<◌, ◌^◌, ℕ, suc, [], Err, IfOk, OnOk, OnErr, IfErr, length, replicate, None, ◌≢◌};
-ghost use Rattle.ob_base.specs.declared.params.Params.{Params};
+ghost use Rattle.std.specs.Prelude.{◌≡◌, ◌≢◌, ◌+◌, [], Err, IfOk, OnErr, IfErr, length, replicate, None};
 ghost use Rattle.ob_base.specs.declared.fault.Fault.TheVariants as fault;
-ghost use Rattle.ob_store.specs.declared.event.Event.TheVariants as event;
-ghost use Rattle.ob_store.specs.declared.watch.Note.TheVariants as note;
-ghost use Rattle.ob_store.specs.Disk.{Image};
-ghost use Rattle.ob_store.specs.Images.{Settled, LeavesOnly};
-ghost use Rattle.ob_store.specs.Calls.{Serves, IsStoreFault, Notes, NotesFirst};
-ghost use Rattle.ob_store.specs.Lines.{Shows, ShowsFirst};
-ghost use Rattle.ob_twin.specs.Keyed.{tagging};
-ghost use Rattle.ob_twin.specs.Register.{SameOutside};
-ghost use Rattle.ob_twin.specs.Opening.{GatesAre};
+ghost use Rattle.ob_store.specs.Images.{LeavesOnly};
+ghost use Rattle.ob_store.specs.Calls.{Serves, IsStoreFault};
+ghost use Rattle.ob_store.specs.Lines.{Shows};
 ghost use Rattle.ob_serial.specs.Vaults.{Standing};
-ghost use Rattle.ob_flat.specs.Standing.{StandsFlat, Stands, AllStand, StandsAsBefore};
-ghost use Rattle.ob_flat.specs.Orders.{begin_events, begin_notes};
-ghost use Rattle.ob_flat.specs.Registers.{IsBeginFault};
-ghost use Rattle.ob_flat.specs.Openings.{IsOpeningOf, IsOpenFault, IsOpenedAt, IsFresh, OpensIn, OpensFirst};
+ghost use Rattle.ob_flat.specs.Standing.{Stands, AllStand, StandsAsBefore};
+ghost use Rattle.ob_flat.specs.Openings.{IsOpeningOf, IsOpenFault, IsOpenedAt, Begins, OpeningLeaves, OpensIn, OpensFirst, ReadsAlone};
 
 use crate::opening::Opening;
 use crate::places::area_of;
-use crate::registers::read_registers;
-use ob_base::{Failed, Fault, Params, Value};
-use ob_rows::read_values;
+use ob_base::{Fault, Params, Value};
+use ob_flat_rows::read_values;
 use ob_seal::{Keys, Sealer};
-use ob_store::{Store, Watch, sync_noted};
-use ob_twin::{Gates, SetErr, Twin};
+use ob_start::{begin, read_registers};
+use ob_store::{Store, Watch};
+use ob_twin::Gates;
 use std::alloc::{AllocError, Global};
 
 // So many keys without a value.
@@ -36,47 +27,6 @@ fn blank_values(alloc: Global, keys: u32) -> Result<Vec<Option<Value>>, AllocErr
         values.push(None)?;
     }
     Ok(values)
-}
-
-// Makes sure of what was written before, and begins the next generation.
-fn begin<S: Store, W: Watch>(
-    store: &mut S,
-    sealer: &Sealer,
-    gates: &mut Gates,
-    generation: u64,
-    watch: &mut W,
-) -> Result<u64, Fault>
-    requires none_out { (S.disk store.old).out ≡ 0 }
-    requires small { generation < 2 ^ 62 }
-    requires told { (S.disk store.old).tells → GatesAre gates.old.generation 1 (S.disk store.old).cells }
-    ensures serves { Serves IsStoreFault (S.disk store.old) (S.disk store.new) result }
-    ensures faults { IfErr result (IsBeginFault generation) }
-    ensures next { IfOk result (λ next. next ≡ suc generation) }
-    ensures below { IfOk result (λ next. next < 2 ^ 62) }
-    ensures epoch { gates.new.epoch ≡ gates.old.epoch }
-    ensures rest { (S.disk store.old).tells → SameOutside 1 (S.disk store.new).cells (S.disk store.old).cells }
-    ensures durable { (S.disk store.old).tells → OnOk result (Settled (S.disk store.new)) }
-    ensures stands { (p : Params) (at : Standing) → (S.disk store.old).tells → StandsFlat sealer.now.keys p generation (S.disk store.old).cells at → OnOk result (StandsFlat sealer.now.keys p (suc generation) (S.disk store.new).cells at) }
-    ensures crash { (p : Params) (at : Standing) → (S.disk store.old).tells → StandsFlat sealer.now.keys p generation (S.disk store.old).cells at → AllStand sealer.now.keys p (S.disk store.old)
-        → LeavesOnly (S.disk store.old) (S.disk store.new) (StandsAsBefore sealer.now.keys p (S.disk store.old)) }
-    ensures seen { OnOk result (Notes (begin_events gates.old.generation (suc generation)) (S.disk store.old).seen (S.disk store.new).seen) }
-    ensures seen_err { OnErr result (NotesFirst (begin_events gates.old.generation (suc generation)) (S.disk store.old).seen (S.disk store.new).seen) }
-    ensures shown { OnOk result (Shows (begin_notes gates.old.generation (suc generation)) (W.trace watch.old) (W.trace watch.new)) }
-    ensures shown_err { OnErr result (ShowsFirst (begin_notes gates.old.generation (suc generation)) (W.trace watch.old) (W.trace watch.new)) }
-{
-    let next = generation + 1;
-    if next >= 1 << 62 {
-        return Err(Fault::Worn { number: next });
-    }
-    match sync_noted(store, watch) {
-        Ok(()) => {}
-        Err(Failed) => return Err(Fault::StoreFault { unsure: None }),
-    }
-    match Twin::GENERATION.set(store, sealer, gates, next, watch) {
-        Ok(()) => Ok(next),
-        Err(SetErr::Before(fault)) => Err(fault),
-        Err(SetErr::Unsure(fault)) => Err(fault),
-    }
 }
 
 // Reads the registers and the rows, and begins the next generation.
@@ -94,18 +44,18 @@ fn open_into<S: Store, W: Watch>(
     ensures serves { Serves IsStoreFault (S.disk store.old) (S.disk store.new) result }
     ensures faults { IfErr result IsOpenFault }
     ensures value { (S.disk store.old).tells → IsOpeningOf sealer.now.keys params.now.keys (S.disk store.old).cells result }
-    ensures params { IfOk result (λ opening. opening.params ≡ params.now) }
-    ensures sealer { IfOk result (λ opening. IsFresh sealer.now.keys opening.sealer) }
-    ensures durable { (S.disk store.old).tells → OnOk result (Settled (S.disk store.new)) }
-    ensures gates { (S.disk store.old).tells → IfOk result (λ opening. GatesAre opening.gates.epoch 5 (S.disk store.old).cells) }
-    ensures tell { (S.disk store.old).tells → IfOk result (λ opening. GatesAre opening.gates.epoch 5 (S.disk store.new).cells) }
+    ensures begins { IfOk result (Begins sealer.now.keys params.now (S.disk store.old) (S.disk store.new)) }
     // Where the store stood for an epoch, the opening has that epoch and its map,
     ensures opened { (at : Standing) → (S.disk store.old).tells → Stands sealer.now.keys params.now (S.disk store.old).cells at → IfOk result (λ opening. IsOpenedAt sealer.now.keys params.now at opening (S.disk store.new)) }
     // and a crash at any moment leaves what the store, or one of its images, stood for.
     ensures crash { (at : Standing) → (S.disk store.old).tells → Stands sealer.now.keys params.now (S.disk store.old).cells at → AllStand sealer.now.keys params.now (S.disk store.old)
         → LeavesOnly (S.disk store.old) (S.disk store.new) (StandsAsBefore sealer.now.keys params.now (S.disk store.old)) }
+    // From its first sync on each stands for what the store stood for.
+    ensures since { OpeningLeaves S.disk sealer.now.keys params.now store.old store.new result }
     ensures order { IfOk result (λ opening. OpensIn params.now.keys (S.disk store.old) (S.disk store.new) (W.trace watch.old) (W.trace watch.new) opening) }
     ensures order_err { OnErr result (OpensFirst sealer.now.keys params.now.keys (S.disk store.old) (S.disk store.new) (W.trace watch.old) (W.trace watch.new)) }
+    // Refused, unless its store failed, it has read and done nothing else.
+    ensures unwritten { IfErr result (λ refused. (IsStoreFault refused → ⊥) → ReadsAlone params.now.keys (S.disk store.old) (S.disk store.new) (W.trace watch.old) (W.trace watch.new)) }
     ensures no_memory { IfErr result (λ refused. refused ≢ fault.Memory) }
 {
     let mut gates = Gates::new();
@@ -154,18 +104,18 @@ pub fn prepare<S: Store, W: Watch>(
     ensures serves { Serves IsStoreFault (S.disk store.old) (S.disk store.new) result }
     ensures faults { IfErr result IsOpenFault }
     ensures value { (S.disk store.old).tells → IsOpeningOf keys.now params.now.keys (S.disk store.old).cells result }
-    ensures params { IfOk result (λ opening. opening.params ≡ params.now) }
-    ensures sealer { IfOk result (λ opening. IsFresh keys.now opening.sealer) }
-    ensures durable { (S.disk store.old).tells → OnOk result (Settled (S.disk store.new)) }
-    ensures gates { (S.disk store.old).tells → IfOk result (λ opening. GatesAre opening.gates.epoch 5 (S.disk store.old).cells) }
-    ensures tell { (S.disk store.old).tells → IfOk result (λ opening. GatesAre opening.gates.epoch 5 (S.disk store.new).cells) }
+    ensures begins { IfOk result (Begins keys.now params.now (S.disk store.old) (S.disk store.new)) }
     // Where the store stood for an epoch, the opening has that epoch and its map,
     ensures opened { (at : Standing) → (S.disk store.old).tells → Stands keys.now params.now (S.disk store.old).cells at → IfOk result (λ opening. IsOpenedAt keys.now params.now at opening (S.disk store.new)) }
     // and a crash at any moment leaves what the store, or one of its images, stood for.
     ensures crash { (at : Standing) → (S.disk store.old).tells → Stands keys.now params.now (S.disk store.old).cells at → AllStand keys.now params.now (S.disk store.old)
         → LeavesOnly (S.disk store.old) (S.disk store.new) (StandsAsBefore keys.now params.now (S.disk store.old)) }
+    // From its first sync on each stands for what the store stood for.
+    ensures since { OpeningLeaves S.disk keys.now params.now store.old store.new result }
     ensures order { IfOk result (λ opening. OpensIn params.now.keys (S.disk store.old) (S.disk store.new) (W.trace watch.old) (W.trace watch.new) opening) }
     ensures order_err { OnErr result (OpensFirst keys.now params.now.keys (S.disk store.old) (S.disk store.new) (W.trace watch.old) (W.trace watch.new)) }
+    // Refused, unless its store failed, it has read and done nothing else.
+    ensures unwritten { IfErr result (λ refused. (IsStoreFault refused → ⊥) → ReadsAlone params.now.keys (S.disk store.old) (S.disk store.new) (W.trace watch.old) (W.trace watch.new)) }
     ensures memory { result ≡ Err fault.Memory → (store.new ≡ store.old) × Shows [] (W.trace watch.old) (W.trace watch.new) }
 {
     let values = match blank_values(alloc, params.keys) {

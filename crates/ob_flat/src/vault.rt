@@ -78,10 +78,11 @@ impl<'a, S: Store> FlatVault<'a, S> {
         }
     }
 
-    /// Gives back the store that it was lent.
+    /// Gives back the store that it was lent, with no lane out.
     pub fn into_store(self) -> &'a mut S
         ensures name { result.ghost_name ≡ self.entry.held.store.ghost_name }
         ensures store { result.now ≡ self.entry.held.store.now }
+        ensures none_out { (S.disk result.now).out ≡ 0 }
     {
         let FlatVault { held, .. } = self;
         let Held { store, .. } = held;

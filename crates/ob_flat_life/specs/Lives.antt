@@ -6,7 +6,7 @@ use Rattle.ob_store.specs.Images.{Settled, LeavesOnly}
 use Rattle.ob_store.specs.Calls.{GoesOn}
 use Rattle.ob_seal.specs.declared.keys.Keys.{Keys}
 use Rattle.ob_seal.specs.Sealing.{Sealing}
-use Rattle.ob_rows.specs.Rows.{IsFurther}
+use Rattle.ob_cells.specs.Runs.{IsFurther}
 use Rattle.ob_twin.specs.Keyed.{tagging}
 use Rattle.ob_twin.specs.Register.{StandsAt}
 use Rattle.ob_serial.specs.Vaults.{VaultCounts, VaultState, VaultAnswer, End, Standing, MayStandIn, StandsIn, vault_next}

@@ -1,9 +1,10 @@
 -- A kind of store, as the layers above a vault see it.
-use Rattle.std.specs.Prelude.{ℕ, ◌≡◌, ◌⊎◌, ◌≤◌, Bool, false, List, Option, None, Result}
+use Rattle.std.specs.Prelude.{ℕ, ◌≡◌, ◌⊎◌, ◌≤◌, false, List, Option, None, Result}
 use Rattle.std.specs.Ordering.{nat_cmp}
 use Rattle.ob_base.specs.declared.params.Params.{Params}
 use Rattle.ob_base.specs.declared.fault.Fault.{Fault}
 use Rattle.ob_seal.specs.declared.keys.Keys.{Keys}
+use Rattle.ob_store.specs.declared.event.Event.{Event}
 use Rattle.ob_store.specs.Disk.{Disk, Image}
 use Rattle.ob_serial.specs.Serial.{Map}
 use Rattle.ob_serial.specs.Vaults.{VaultState, Standing}
@@ -27,11 +28,12 @@ pub record StoreKind : Type 1 where
   pub finds : Keys → Params → Image → Found → Type 0
   pub refuses : Keys → Params → Image → Fault → Type 0
   pub open_fault : Fault → Type 0
-  -- What else the order of an opening depends on, how it stands in an image, and the order; and what is seen of one that was refused.
+  -- What else the order of an opening depends on, how it stands in an image, and the order; and what is seen of one that was
+  -- refused with a fault.
   pub Start : Type 0
   pub starts : Keys → Params → Image → Found → Start → Type 0
   pub opens : Params → Found → Start → List Phase
-  pub opens_partly : Keys → Params → Disk → Disk → Type 0
+  pub opens_partly : Keys → Params → Disk → Disk → Fault → Type 0
   -- What else the trace depends on: what is public of a vault, as an opening leaves it; what a call draws; its phases, and what is
   -- public behind it.
   pub Public : Type 0
@@ -39,9 +41,10 @@ pub record StoreKind : Type 1 where
   pub Drawn : Type 0
   pub phases : Params → Public → Shape → Drawn → List Phase
   pub next : Params → Public → Shape → Drawn → Public
-  -- Why a vault refuses a call behind these, and so many epochs that ended, besides its store; and whether some of the call may be seen where it refuses with this fault.
+  -- What may be seen of a call that was refused with this fault, or left in doubt by it.
+  pub cut : Params → Public → Shape → Drawn → Fault → List Event → Type 0
+  -- why a vault refuses a call behind these, and so many epochs that ended, besides its store
   pub causes : Params → Found → List Shape → ℕ → Fault → Type 0
-  pub begins : Fault → Bool
   -- from this generation and this epoch on so many more epochs can end without a number that comes to its end
   pub lasts : Params → ℕ → ℕ → ℕ → Type 0
 

@@ -1,9 +1,9 @@
 -- What is seen of a vault's calls: a function of their shapes and of what they drew, from what is public of the vault before them.
-use Rattle.std.specs.Prelude.{ℕ, ◌≡◌, Bool, false, List, [], ◌∷◌, ◌++◌, take, Option, Some, None}
+use Rattle.std.specs.Prelude.{◌≡◌, List, [], ◌∷◌, ◌++◌, Option, Some, None}
 use Rattle.ob_base.specs.declared.params.Params.{Params}
 use Rattle.ob_base.specs.declared.fault.Fault.{Fault}
 use Rattle.ob_store.specs.declared.event.Event.{Event}
-use Rattle.ob_kinds.specs.Phases.{Phase, Shape, events_of}
+use Rattle.ob_kinds.specs.Phases.{Phase, Shape}
 use Rattle.ob_kinds.specs.Kinds.{StoreKind}
 
 module _ (kind : StoreKind) (p : Params) where
@@ -21,8 +21,7 @@ module _ (kind : StoreKind) (p : Params) where
   public_behind q [] = q
   public_behind q (step ∷ steps) = public_behind (kind.next p q step.0 step.1) steps
 
-  -- What is seen of a call that was refused with a fault: a front of it, or nothing where such a refusal comes before it. None: no call
-  -- was refused.
+  -- What is seen of a call that was refused with a fault, as its kind of store tells. None: no call was refused.
   abbrev pub IsCut : kind.Public → Option Shape → Option Fault → List Event → Type 0
-  IsCut q (Some shape) (Some fault) more = (drawn : kind.Drawn) × (k : ℕ) × (more ≡ take k (events_of (kind.phases p q shape drawn))) × (kind.begins fault ≡ false → more ≡ [])
+  IsCut q (Some shape) (Some fault) more = (drawn : kind.Drawn) × kind.cut p q shape drawn fault more
   IsCut q _ _ more = more ≡ []

@@ -3,11 +3,8 @@ ghost use Rattle.ob_seal.specs.Seals.{sealed, sealed_front, stamped, identity_by
 ghost use Rattle.ob_seal.specs.Damage.{IsExpected, IsDamage, IsOtherIdentity, IsWrongTag};
 
 use crate::{Keys, cells};
-use ob_base::{Check, Damaged, Worn, u64_at};
+use ob_base::{Check, Damaged, NUMBER_LIMIT, Worn, u64_at};
 use std::marker::Model;
-
-// No seal has this number.
-const NUMBER_LIMIT: u64 = 1 << 62;
 
 /// What a sealed cell holds. Its generation and number may be any, as far as none is expected.
 #[derive(Clone, Copy, Debug, PartialEq, Eq)]

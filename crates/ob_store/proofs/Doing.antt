@@ -1,12 +1,13 @@
 -- How what a row of steps told goes on from call to call.
-use Rattle.std.proofs.Common.{◌≡◌, inl, inr, ⊎_elim, ◌+◌, List, [], ◌∷◌, ◌++◌, length, Option, Result, Ok, Err, refl, sym, ◌∙◌, ap, arith, append_assoc, length-append}
+use Rattle.std.proofs.Common.{◌≡◌, ◌≤◌, inl, inr, ⊎_elim, ◌+◌, ℕ, List, [], ◌∷◌, ◌++◌, length, take, drop, Option, Result, Ok, Err, subst, refl, sym, ◌∙◌, ap, arith, append_assoc, length-append}
 use Rattle.std.specs.Result.{IsErr}
-use Rattle.std.proofs.lemmas.List.{append-nil, take-append-le, take_all}
+use Rattle.std.proofs.lemmas.List.{append-nil, take-append-drop, take-append-le, take_all, take_at}
 use Rattle.std.proofs.Math.Seq.{take-append-add}
 use Rattle.ob_store.specs.declared.event.Event.{Event}
 use Rattle.ob_store.specs.declared.event.Event.TheVariants as event
 use Rattle.ob_store.specs.declared.watch.Note.{Note}
 use Rattle.ob_store.specs.declared.watch.Note.TheVariants.{Label, Read, Write, Sync}
+use Rattle.ob_store.specs.Calls.{Notes, NotesFirst}
 use Rattle.ob_store.specs.Lines.{Trace}
 use Rattle.ob_store.specs.Told.{notes_of, events_of, Tells, IsCut, TellsFirst, Does, if_well}
 use Rattle.ob_store.proofs.Events.{none_noted, joined}
@@ -119,3 +120,27 @@ module _ (a b c : Option (List Event)) (k l m : Trace) where
   pub does_sync : {T E : Type 0} (xs : List Note) (r : Result T E) → Tells xs xs a b k l → Tells (Sync ∷ []) (if_well r (Sync ∷ [])) b c l m → Does (xs ++ Sync ∷ []) a c k m r
   does_sync xs (Ok v) p q = record { all = tells_then xs xs (Sync ∷ []) (Sync ∷ []) a b c k l m p q; first = tt }
   does_sync {T} xs (Err e) p q = record { all = tt; first = first_sync {T = T} xs (Err e) p q }
+
+-- a sync that failed, before others
+pub sync_cut : (ys : List Note) (a b : Option (List Event)) (k l : Trace) → Tells (Sync ∷ []) [] a b k l → TellsFirst ((Sync ∷ []) ++ ys) a b k l
+sync_cut ys a b k l tells = record { made = Sync ∷ []; shown = []; cut = cut_more (Sync ∷ []) ys (Sync ∷ []) [] (cut_sync []); tells = tells }
+
+-- the events of some of the first steps are some of the first events
+front_events : (n : ℕ) (steps : List Note) → events_of (take n steps) ≡ take (length (events_of (take n steps))) (events_of steps)
+front_events n steps =
+    sym (ap (λ (l : List Event). take (length (events_of (take n steps))) l) (ap events_of (sym (take-append-drop n steps)) ∙ events_join (take n steps) (drop n steps))
+    ∙ take_at (events_of (take n steps)) (events_of (drop n steps)) (length (events_of (take n steps))) refl)
+
+front_short : (n : ℕ) (steps : List Note) → length (events_of (take n steps)) ≤ length (events_of steps)
+front_short n steps =
+    let whole = ap (λ (l : List Note). length (events_of l)) (sym (take-append-drop n steps)) ∙ ap length (events_join (take n steps) (drop n steps)) ∙ length-append (events_of (take n steps)) (events_of (drop n steps)) in
+    omega (arith, whole)
+
+pub cut_noted : (steps made shown : List Note) (a b : Option (List Event)) → IsCut steps made shown → Notes (events_of made) a b → NotesFirst (events_of steps) a b
+cut_noted steps made shown a b cut seen =
+    let n = cut.count in
+    (length (events_of (take n steps)), front_short n steps, subst (λ (l : List Event). Notes l a b) (ap events_of cut.made_are ∙ front_events n steps) seen)
+
+-- some of the first steps
+pub first_noted : (steps : List Note) (a b : Option (List Event)) (k l : Trace) → TellsFirst steps a b k l → NotesFirst (events_of steps) a b
+first_noted steps a b k l first = cut_noted steps first.made first.shown a b first.cut first.tells.seen

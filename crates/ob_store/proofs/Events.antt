@@ -20,11 +20,6 @@ joined xs ys None None (Some c) p q = absurd q
 pub all_first : (xs : List Event) (a b : Option (List Event)) → Notes xs a b → NotesFirst xs a b
 all_first xs a b p = (length xs, omega arith, rw (take_all (length xs) xs (omega arith)) p)
 
--- a refused second call
-pub first_of_two : {T E : Type 0} (r : Result T E) (x y : Event) (a b c : Option (List Event)) → Notes (x ∷ []) a b → Notes (y ∷ []) b c → OnErr r (NotesFirst (x ∷ y ∷ []) a c)
-first_of_two (Ok v) x y a b c p q = tt
-first_of_two (Err e) x y a b c p q = (2, omega arith, joined (x ∷ []) (y ∷ []) a b c p q)
-
 -- some of the first events, of more
 pub first_more : (xs ys : List Event) (a b : Option (List Event)) → NotesFirst xs a b → NotesFirst (xs ++ ys) a b
 first_more xs ys a b p = (p.0, omega (arith, p.1, length-append xs ys), rw (take-append-le p.0 xs ys p.1) p.2)

@@ -1,4 +1,5 @@
 pub mod Events
+pub mod Lanes
 pub mod Moments
 pub mod Pairs
 pub mod Puts

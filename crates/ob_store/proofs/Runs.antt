@@ -1,21 +1,18 @@
 -- A run of cells as far as it is written.
-use Rattle.std.proofs.Common.{◌≡◌, ◌≢◌, ◌⊎◌, inl, inr, ⊎_elim, OnErr, ◌-◌, ℕ, zero, suc, ◌+◌, ◌<◌, ◌≤◌, List, [], ◌∷◌, ◌++◌, length, get_or, refl, sym, ◌∙◌, ap, arith, below_more, add-one, take, map, length-append, Option, Result, Ok, Err}
+use Rattle.std.proofs.Common.{◌≡◌, ◌≢◌, ◌⊎◌, inl, inr, ⊎_elim, ◌-◌, ℕ, zero, suc, ◌+◌, ◌<◌, ◌≤◌, List, [], ◌∷◌, ◌++◌, length, get_or, refl, sym, ◌∙◌, ap, arith, below_more, add-one, take, map, length-append, Option, Result, Ok, Err}
 use Rattle.std.proofs.lemmas.Bool.{cases_eq}
 use Rattle.std.proofs.lemmas.List.{take-append-le, take_all}
-use Rattle.ob_store.specs.declared.event.Event.TheVariants.{Write}
 use Rattle.ob_store.specs.Disk.{Disk}
 use Rattle.ob_store.specs.Images.{Elapses, Passes, SameBut, SameOff, Tears}
-use Rattle.ob_store.specs.Calls.{GoesOn, Serves, IsFailed, Notes, NotesFirst}
-use Rattle.ob_store.specs.declared.watch.Note.TheVariants.{Write as Shown}
-use Rattle.ob_store.specs.Lines.{Trace, Shows, ShowsFirst}
-use Rattle.ob_store.specs.Runs.{write_events, write_notes, from_on}
-use Rattle.ob_store.proofs.Showing.{shows_then}
+use Rattle.ob_store.specs.Calls.{GoesOn, Serves, IsFailed}
+use Rattle.ob_store.specs.declared.watch.Note.TheVariants.{Write}
+use Rattle.ob_store.specs.Lines.{Trace}
+use Rattle.ob_store.specs.Runs.{write_notes, from_on}
 use Rattle.ob_store.proofs.Moments.{passed_none, passed_on, run_step}
 use Rattle.ob_store.proofs.Serving.{goes_same, goes_then}
 use Rattle.ob_store.specs.declared.event.Event.{Event}
-use Rattle.ob_store.specs.Told.{events_of, Tells, TellsFirst}
-use Rattle.ob_store.proofs.Events.{none_noted, joined}
-use Rattle.ob_store.proofs.Doing.{events_join}
+use Rattle.ob_store.specs.Told.{Tells, TellsFirst}
+use Rattle.ob_store.proofs.Doing.{tells_then}
 
 -- so many rows are written
 pub record Writing (base : ℕ) (rows : List (List ℕ)) (i : ℕ) (old now : Disk) : Type 0 where
@@ -24,7 +21,6 @@ pub record Writing (base : ℕ) (rows : List (List ℕ)) (i : ℕ) (old now : Di
   pub here : old.tells → (j : ℕ) → j < i → now.cells (base + j) ≡ get_or rows j []
   pub elsewhere : old.tells → SameOff base (length rows) now.cells old.cells
   pub passes : Passes (SameOff base (length rows)) old now
-  pub seen : Notes (write_events base i) old.seen now.seen
   pub out : now.out ≡ 0
 
 pub begun : (base : ℕ) (rows : List (List ℕ)) (d : Disk) → d.out ≡ 0 → Writing base rows 0 d d
@@ -34,7 +30,6 @@ begun base rows d none = record {
   here = λ t j lt. absurd (omega arith);
   elsewhere = λ t k off. refl;
   passes = passed_none d (SameOff base (length rows)) (λ c k off. refl);
-  seen = none_noted d.seen;
   out = none;
 }
 
@@ -77,12 +72,9 @@ module _ (base : ℕ) (rows : List (List ℕ)) (i : ℕ) (old mid new : Disk) (l
   pub elsewhere_one : (old.tells → SameBut (base + i) new.cells mid.cells) → old.tells → SameOff base (length rows) new.cells old.cells
   elsewhere_one rest t k off = rest t k (away base (length rows) i k lt off) ∙ so_far.elsewhere t k off
 
-  pub noted_one : Notes (Write (base + i) ∷ []) mid.seen new.seen → Notes (write_events base (i + 1)) old.seen new.seen
-  noted_one seen = rw (run_next (λ cell. Write cell) base i) (joined (write_events base i) (Write (base + i) ∷ []) old.seen mid.seen new.seen so_far.seen seen)
-
   pub one_more : (row : List ℕ) → row ≡ get_or rows i [] → Serves {T = Unit {0}} IsFailed mid new (Ok tt) → (mid.tells → new.cells (base + i) ≡ row)
-      → (mid.tells → SameBut (base + i) new.cells mid.cells) → Tears (base + i) mid new → Elapses mid new → Notes (Write (base + i) ∷ []) mid.seen new.seen → Writing base rows (i + 1) old new
-  one_more row is serves put rest tears time seen = record {
+      → (mid.tells → SameBut (base + i) new.cells mid.cells) → Tears (base + i) mid new → Elapses mid new → Writing base rows (i + 1) old new
+  one_more row is serves put rest tears time = record {
     goes = goes_then old mid new so_far.goes serves.goes;
     tells = λ t. serves.tells (so_far.tells t);
     here = λ t. below_more (λ j. new.cells (base + j) ≡ get_or rows j []) i
@@ -90,39 +82,20 @@ module _ (base : ℕ) (rows : List (List ℕ)) (i : ℕ) (old mid new : Disk) (l
         (put (so_far.tells t) ∙ is);
     elsewhere = elsewhere_one (λ t. rest (so_far.tells t));
     passes = passes_one serves.goes tears time;
-    seen = noted_one seen;
     out = let none = so_far.out in let still = serves.out in omega arith;
   }
 
-  -- where the write is refused
-  pub noted_err : {T E : Type 0} (r : Result T E) → Notes (Write (base + i) ∷ []) mid.seen new.seen → OnErr r (NotesFirst (write_events base (length rows)) old.seen new.seen)
-  noted_err (Ok v) seen = tt
-  noted_err (Err e) seen = (i + 1, omega (arith, length_run (λ cell. Write cell) base (length rows)), rw (take_run (λ cell. Write cell) base (length rows) (i + 1) (omega arith)) (noted_one seen))
-
-events_run : (base n : ℕ) → events_of (write_notes base n) ≡ write_events base n
-events_run base zero = refl
-events_run base (suc n) =
-    ap events_of (map_push (λ cell. Shown cell) (from_on base n) (base + n)) ∙ events_join (write_notes base n) (Shown (base + n) ∷ [])
-    ∙ ap (λ (l : List Event). l ++ Write (base + n) ∷ []) (events_run base n) ∙ sym (map_push (λ cell. Write cell) (from_on base n) (base + n))
-
--- a run was written as far as this, and shown
-pub told_run : (base n : ℕ) (a b : Option (List Event)) (k l : Trace) → Notes (write_events base n) a b → Shows (write_notes base n) k l → Tells (write_notes base n) (write_notes base n) a b k l
-told_run base n a b k l seen shows = record { seen = rw events_run seen; shows = shows }
+-- a run was written as far as this, and shown: one write more
+pub told_next : (base i : ℕ) (a b c : Option (List Event)) (k l m : Trace) → Tells (write_notes base i) (write_notes base i) a b k l → Tells (Write (base + i) ∷ []) (Write (base + i) ∷ []) b c l m
+    → Tells (write_notes base (i + 1)) (write_notes base (i + 1)) a c k m
+told_next base i a b c k l m p q =
+    rw (run_next (λ cell. Write cell) base i) (tells_then (write_notes base i) (write_notes base i) (Write (base + i) ∷ []) (Write (base + i) ∷ []) a b c k l m p q)
 
 -- where it was cut short
 pub first_run : (base n i : ℕ) (a b : Option (List Event)) (k l : Trace) → i ≤ n → Tells (write_notes base i) (write_notes base i) a b k l → TellsFirst (write_notes base n) a b k l
 first_run base n i a b k l le tells = record {
   made = write_notes base i;
   shown = write_notes base i;
-  cut = record { count = i; few = omega (arith, le, length_run (λ cell. Shown cell) base n); made_are = sym (take_run (λ cell. Shown cell) base n i le); shown_are = inl refl };
+  cut = record { count = i; few = omega (arith, le, length_run (λ cell. Write cell) base n); made_are = sym (take_run (λ cell. Write cell) base n i le); shown_are = inl refl };
   tells = tells;
 }
-
--- the notes of a run
-module _ (base n i : ℕ) (lt : i < n) (a b c : Trace) (so_far : Shows (write_notes base i) a b) (one : Shows (Shown (base + i) ∷ []) b c) where
-  pub shown_one : Shows (write_notes base (i + 1)) a c
-  shown_one = rw (run_next (λ cell. Shown cell) base i) (shows_then (write_notes base i) (Shown (base + i) ∷ []) a b c so_far one)
-
-  pub shown_err : {T E : Type 0} (r : Result T E) → OnErr r (ShowsFirst (write_notes base n) a c)
-  shown_err (Ok v) = tt
-  shown_err (Err e) = (i + 1, omega (arith, length_run (λ cell. Shown cell) base n), rw (take_run (λ cell. Shown cell) base n (i + 1) (omega arith)) shown_one)

@@ -1,7 +1,5 @@
--- The events and notes of a run of cells.
+-- The notes of a run of cells.
 use Rattle.std.specs.Prelude.{ℕ, zero, suc, ◌+◌, List, [], ◌∷◌, ◌++◌, map}
-use Rattle.ob_store.specs.declared.event.Event.{Event}
-use Rattle.ob_store.specs.declared.event.Event.TheVariants as event
 use Rattle.ob_store.specs.declared.watch.Note.{Note}
 use Rattle.ob_store.specs.declared.watch.Note.TheVariants as note
 
@@ -11,8 +9,5 @@ from_on base zero = []
 from_on base (suc n) = from_on base n ++ (base + n) ∷ []
 
 -- a write of each of so many cells, in rising order
-abbrev pub write_events : ℕ → ℕ → List Event
-write_events base n = map (λ cell. event.Write cell) (from_on base n)
-
 abbrev pub write_notes : ℕ → ℕ → List Note
 write_notes base n = map (λ cell. note.Write cell) (from_on base n)

@@ -1,13 +1,11 @@
-ghost use Rattle.std.specs.Prelude.{◌≡◌, [], ◌∷◌, OnOk, OnErr};
-ghost use Rattle.ob_store.specs.declared.event.Event.{Event};
+ghost use Rattle.std.specs.Prelude.{◌≡◌, [], ◌∷◌, OnOk};
 ghost use Rattle.ob_store.specs.declared.watch.Note.{Note};
 ghost use Rattle.ob_store.specs.Images.{Settled, SameBut, Tears, Shrinks, Elapses};
-ghost use Rattle.ob_store.specs.Calls.{Serves, IsFailed, Keeps, Notes, TellsOn};
+ghost use Rattle.ob_store.specs.Calls.{Serves, IsFailed, Keeps, TellsOn};
 ghost use Rattle.ob_base.specs.Causes.{HasCause};
-ghost use Rattle.ob_store.specs.Lines.{Shows};
 ghost use Rattle.ob_store.specs.Told.{Tells, if_well};
 
-use crate::{Event, Note, Store, Watch};
+use crate::{Note, Store, Watch};
 use ob_base::Failed;
 
 /// Writes a cell, and shows the write, whatever it answered.
@@ -27,8 +25,6 @@ pub fn write_noted<S: Store, W: Watch>(
     ensures rest { (S.disk store.old).tells → SameBut cell (S.disk store.new).cells (S.disk store.old).cells }
     ensures crash { Tears cell (S.disk store.old) (S.disk store.new) }
     ensures time { Elapses (S.disk store.old) (S.disk store.new) }
-    ensures seen { Notes (Event.Write cell ∷ []) (S.disk store.old).seen (S.disk store.new).seen }
-    ensures shown { Shows (Note.Write cell ∷ []) (W.trace watch.old) (W.trace watch.new) }
     ensures told { Tells (Note.Write cell ∷ []) (Note.Write cell ∷ []) (S.disk store.old).seen (S.disk store.new).seen (W.trace watch.old) (W.trace watch.new) }
 {
     let outcome = store.write(cell, bytes);
@@ -48,9 +44,6 @@ pub fn sync_noted<S: Store, W: Watch>(store: &mut S, watch: &mut W) -> Result<()
     ensures keeps { Keeps (S.disk store.old) (S.disk store.new) }
     ensures crash { Shrinks (S.disk store.old) (S.disk store.new) }
     ensures time { Elapses (S.disk store.old) (S.disk store.new) }
-    ensures seen { Notes (Event.Sync ∷ []) (S.disk store.old).seen (S.disk store.new).seen }
-    ensures shown { OnOk result (Shows (Note.Sync ∷ []) (W.trace watch.old) (W.trace watch.new)) }
-    ensures shown_err { OnErr result (Shows [] (W.trace watch.old) (W.trace watch.new)) }
     ensures told { Tells (Note.Sync ∷ []) (if_well result (Note.Sync ∷ [])) (S.disk store.old).seen (S.disk store.new).seen (W.trace watch.old) (W.trace watch.new) }
 {
     store.sync()?;
@@ -70,10 +63,8 @@ pub fn read_noted<S: Store, W: Watch>(
     watch: &mut W,
 ) -> Result<(), Failed>
     ensures bytes { (S.disk store.now).tells → OnOk result (out.new ≡ (S.disk store.now).cells cell) }
-    ensures seen { Notes (Event.Read cell ∷ []) (S.lane_seen lane.old) (S.lane_seen lane.new) }
     ensures tells { TellsOn (S.lane_seen lane.old) (S.lane_seen lane.new) (S.lane_faults lane.old) (S.lane_faults lane.new) }
     ensures cause { HasCause (S.lane_faults lane.old) (S.lane_faults lane.new) result }
-    ensures shown { Shows (Note.Read cell ∷ []) (W.trace watch.old) (W.trace watch.new) }
     ensures told { Tells (Note.Read cell ∷ []) (Note.Read cell ∷ []) (S.lane_seen lane.old) (S.lane_seen lane.new) (W.trace watch.old) (W.trace watch.new) }
 {
     let outcome = store.read(lane, cell, out);

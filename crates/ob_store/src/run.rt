@@ -1,8 +1,7 @@
-ghost use Rattle.std.specs.Prelude.{◌≡◌, ◌<◌, ◌+◌, ◌^◌, length, OnOk, OnErr};
+ghost use Rattle.std.specs.Prelude.{◌≡◌, ◌<◌, ◌+◌, ◌^◌, length, OnOk};
 ghost use Rattle.ob_store.specs.Images.{SameOff, Passes};
-ghost use Rattle.ob_store.specs.Calls.{Serves, IsFailed, Holds, Notes, NotesFirst};
-ghost use Rattle.ob_store.specs.Runs.{write_events, write_notes};
-ghost use Rattle.ob_store.specs.Lines.{Shows, ShowsFirst};
+ghost use Rattle.ob_store.specs.Calls.{Serves, IsFailed, Holds};
+ghost use Rattle.ob_store.specs.Runs.{write_notes};
 ghost use Rattle.ob_store.specs.Told.{Does};
 
 use crate::{Store, Watch, write_noted};
@@ -25,10 +24,6 @@ pub fn write_run<S: Store, W: Watch>(
     ensures written { (S.disk store.old).tells → OnOk result (Holds base rows.now (S.disk store.new).cells) }
     ensures rest { (S.disk store.old).tells → SameOff base (length rows.now) (S.disk store.new).cells (S.disk store.old).cells }
     ensures passes { Passes (SameOff base (length rows.now)) (S.disk store.old) (S.disk store.new) }
-    ensures seen { OnOk result (Notes (write_events base (length rows.now)) (S.disk store.old).seen (S.disk store.new).seen) }
-    ensures seen_err { OnErr result (NotesFirst (write_events base (length rows.now)) (S.disk store.old).seen (S.disk store.new).seen) }
-    ensures shown { OnOk result (Shows (write_notes base (length rows.now)) (W.trace watch.old) (W.trace watch.new)) }
-    ensures shown_err { OnErr result (ShowsFirst (write_notes base (length rows.now)) (W.trace watch.old) (W.trace watch.new)) }
     ensures does { Does (write_notes base (length rows.now)) (S.disk store.old).seen (S.disk store.new).seen (W.trace watch.old) (W.trace watch.new) result }
 {
     for (i, row) in rows.iter().enumerate() {

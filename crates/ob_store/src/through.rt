@@ -1,12 +1,10 @@
-ghost use Rattle.std.specs.Prelude.{◌≡◌, [], ◌∷◌, OnOk, OnErr};
-ghost use Rattle.ob_store.specs.declared.event.Event.{Event};
+ghost use Rattle.std.specs.Prelude.{◌≡◌, [], ◌∷◌, OnOk};
 ghost use Rattle.ob_store.specs.declared.watch.Note.{Note};
 ghost use Rattle.ob_store.specs.Images.{Settled, SameBut, LeavesOnly, Passes};
-ghost use Rattle.ob_store.specs.Calls.{Serves, IsFailed, Notes, NotesFirst};
-ghost use Rattle.ob_store.specs.Lines.{Shows};
+ghost use Rattle.ob_store.specs.Calls.{Serves, IsFailed};
 ghost use Rattle.ob_store.specs.Told.{Does};
 
-use crate::{Event, Note, Store, Watch, sync_noted, write_noted};
+use crate::{Note, Store, Watch, sync_noted, write_noted};
 use ob_base::Failed;
 
 /// Writes a cell and makes sure of it. A crash at any moment of it changes no other cell. The write
@@ -27,10 +25,6 @@ pub fn write_through<S: Store, W: Watch>(
     ensures durable { (S.disk store.old).tells → OnOk result (Settled (S.disk store.new)) }
     ensures passes { Passes (SameBut cell) (S.disk store.old) (S.disk store.new) }
     ensures any_moment { Settled (S.disk store.old) → LeavesOnly (S.disk store.old) (S.disk store.new) (λ c. SameBut cell c (S.disk store.old).cells) }
-    ensures seen { OnOk result (Notes (Event.Write cell ∷ Event.Sync ∷ []) (S.disk store.old).seen (S.disk store.new).seen) }
-    ensures seen_err { OnErr result (NotesFirst (Event.Write cell ∷ Event.Sync ∷ []) (S.disk store.old).seen (S.disk store.new).seen) }
-    ensures shown { OnOk result (Shows (Note.Write cell ∷ Note.Sync ∷ []) (W.trace watch.old) (W.trace watch.new)) }
-    ensures shown_err { OnErr result (Shows (Note.Write cell ∷ []) (W.trace watch.old) (W.trace watch.new)) }
     ensures does { Does (Note.Write cell ∷ Note.Sync ∷ []) (S.disk store.old).seen (S.disk store.new).seen (W.trace watch.old) (W.trace watch.new) result }
 {
     write_noted(store, cell, bytes, watch)?;

@@ -1,18 +1,21 @@
 -- How the head's read and the opening join.
-use Rattle.std.proofs.Common.{◌≡◌, ◌≤◌, ℕ, suc, List, [], ◌∷◌, Err, subst, sym, arith, inl, inr, rules, ⊎_elim}
+use Rattle.std.proofs.Common.{◌≡◌, ◌≤◌, ◌∙◌, ℕ, suc, List, [], ◌∷◌, Option, Err, subst, sym, arith, inl, inr, rules, ⊎_elim}
 use Rattle.ob_base.specs.declared.params.Params.{Params}
 use Rattle.ob_seal.specs.declared.keys.Keys.{Keys}
 use Rattle.ob_base.specs.declared.fault.Fault.{Fault}
+use Rattle.ob_base.specs.declared.fault.Fault.TheVariants.{Memory, Usage, BadScript, BadParams, NotStore, Damaged, StoreFault, StashFull, Worn, SourceFault, SinkFault}
 use Rattle.ob_base.specs.Causes.{Rose}
 use Rattle.ob_report.specs.Printed.{Flow}
 use Rattle.ob_store.specs.declared.event.Event.{Event}
 use Rattle.ob_store.specs.declared.event.Event.TheVariants as event
 use Rattle.ob_store.specs.Disk.{Disk, Image}
 use Rattle.ob_store.specs.Images.{Passes, Same, LeavesOnly}
-use Rattle.ob_store.proofs.Moments.{leaves_of, then_on, weakened}
+use Rattle.ob_store.proofs.Moments.{leaves_of, passed_then, then_on, weakened}
 use Rattle.ob_serial.specs.Vaults.{Standing}
 use Rattle.ob_flat.specs.Standing.{StandsFlat, Stands, AllStand, StandsAsBefore}
-use Rattle.ob_store.specs.Calls.{Keeps, Notes, IsStoreFault}
+use Rattle.ob_store.specs.Calls.{Keeps, Notes, NotesFirst, IsStoreFault}
+use Rattle.ob_store.specs.Told.{events_of}
+use Rattle.ob_store.proofs.Doing.{first_noted}
 use Rattle.ob_store.specs.Lines.{Trace}
 use Rattle.ob_store.proofs.Events.{joined, joined_first}
 use Rattle.ob_twin.specs.Opening.{GatesAre}
@@ -20,9 +23,10 @@ use Rattle.ob_script.specs.Script.{Scripts}
 use Rattle.ob_twin.specs.declared.gates.Open.{Open}
 use Rattle.ob_flat.specs.declared.opening.Opening.{Opening}
 use Rattle.ob_flat.specs.Heads.{IsHead}
-use Rattle.ob_flat.specs.Registers.{Found}
-use Rattle.ob_flat.specs.Openings.{IsFoundIn, IsOpenedAt, IsOpeningOf, IsOpenFault, OpensIn, OpensFirst}
-use Rattle.ob_flat.specs.Orders.{registers_events, open_events}
+use Rattle.ob_start.specs.Registers.{Found}
+use Rattle.ob_start.specs.Orders.{registers_notes}
+use Rattle.ob_flat.specs.Openings.{IsFoundIn, IsOpenedAt, IsOpeningOf, IsOpenFault, OpensIn, OpensFirst, ReadsAlone}
+use Rattle.ob_flat.specs.Orders.{registers_events, found_notes, open_notes, open_events}
 use Rattle.ob_kinds.specs.Kinds as kinds
 use Rattle.ob_top.specs.Flat.{flat_kind, FlatOpensPartly}
 use Rattle.ob_top.specs.Runs.{CameIn, EndsEarly, IsOpened, begin_events}
@@ -88,25 +92,51 @@ module _ (keys : Keys) (old mid new : Disk) (before : Flow) (p : Params) (script
       starts = λ tells. subst (λ (i : Image). GatesAre order.known 1 i) (same_cells old mid keeps tells) (order.gates (keeps.tells tells));
     },
     subst (λ (l : List Event). Notes (event.Read 0 ∷ l) old.seen new.seen) (sym (open_same p.keys opening.epoch order.known opening.sealer.generation))
-        (joined (event.Read 0 ∷ []) (open_events p.keys opening.epoch order.known opening.sealer.generation) old.seen mid.seen new.seen seen order.seen),
+        (joined (event.Read 0 ∷ []) (open_events p.keys opening.epoch order.known opening.sealer.generation) old.seen mid.seen new.seen seen order.told.seen),
   )
 
-  partly : Keeps old mid → Notes (event.Read 0 ∷ []) old.seen mid.seen → OpensFirst keys p.keys mid new shown shown_new → FlatOpensPartly keys p old new
-  partly keeps seen (inl reads) = inl (joined_first (event.Read 0 ∷ []) registers_events old.seen mid.seen new.seen seen reads.seen)
-  partly keeps seen (inr part) = inr (
+  by_store : (unsure : Option ℕ) → Keeps old mid → Notes (event.Read 0 ∷ []) old.seen mid.seen → OpensFirst keys p.keys mid new shown shown_new → FlatOpensPartly keys p old new (StoreFault unsure)
+  by_store unsure keeps seen (inl reads) = inl (joined_first (event.Read 0 ∷ []) registers_events old.seen mid.seen new.seen seen (first_noted registers_notes mid.seen new.seen shown shown_new reads))
+  by_store unsure keeps seen (inr part) = inr (
     part.known,
     part.generation,
     part.epoch,
     λ tells. subst (λ (i : Image). GatesAre part.known 1 i) (same_cells old mid keeps tells) (part.gates (keeps.tells tells)),
     λ tells. subst (λ (i : Image). Found keys i part.generation part.epoch) (same_cells old mid keeps tells) (part.found (keeps.tells tells)),
-    joined_first (event.Read 0 ∷ []) (open_events p.keys part.epoch part.known (suc part.generation)) old.seen mid.seen new.seen seen part.seen,
+    joined_first (event.Read 0 ∷ []) (open_events p.keys part.epoch part.known (suc part.generation)) old.seen mid.seen new.seen seen
+        (first_noted (open_notes p.keys part.epoch part.known (suc part.generation)) mid.seen new.seen shown shown_new part.told),
+  )
+
+  by_reads : Notes (event.Read 0 ∷ []) old.seen mid.seen → ReadsAlone p.keys mid new shown shown_new → (epoch : ℕ) × NotesFirst (event.Read 0 ∷ events_of (found_notes p.keys epoch)) old.seen new.seen
+  by_reads seen alone = (alone.epoch, joined_first (event.Read 0 ∷ []) (events_of (found_notes p.keys alone.epoch)) old.seen mid.seen new.seen seen (first_noted (found_notes p.keys alone.epoch) mid.seen new.seen shown shown_new alone.told))
+
+  partly : (fault : Fault) → Keeps old mid → Notes (event.Read 0 ∷ []) old.seen mid.seen → OpensFirst keys p.keys mid new shown shown_new → ((IsStoreFault fault → ⊥) → ReadsAlone p.keys mid new shown shown_new)
+      → FlatOpensPartly keys p old new fault
+  partly (StoreFault unsure) keeps seen first alone = by_store unsure keeps seen first
+  partly Memory keeps seen first alone = by_reads seen (alone (λ no. no))
+  partly Usage keeps seen first alone = by_reads seen (alone (λ no. no))
+  partly (BadScript line) keeps seen first alone = by_reads seen (alone (λ no. no))
+  partly (BadParams field) keeps seen first alone = by_reads seen (alone (λ no. no))
+  partly NotStore keeps seen first alone = by_reads seen (alone (λ no. no))
+  partly (Damaged cell check kept computed) keeps seen first alone = by_reads seen (alone (λ no. no))
+  partly (StashFull rows) keeps seen first alone = by_reads seen (alone (λ no. no))
+  partly (Worn number) keeps seen first alone = by_reads seen (alone (λ no. no))
+  partly SourceFault keeps seen first alone = by_reads seen (alone (λ no. no))
+  partly SinkFault keeps seen first alone = by_reads seen (alone (λ no. no))
+
+  -- nothing was written
+  unwritten : Keeps old mid → Passes Same old mid → ReadsAlone p.keys mid new shown shown_new → Keeps old new × Passes Same old new
+  unwritten keeps passes alone = (
+    record { tells = λ t. alone.keeps.tells (keeps.tells t); cells = λ t k. alone.keeps.cells (keeps.tells t) k ∙ keeps.cells t k },
+    passed_then Same old mid new (λ c d e one run. one ∙ run) passes alone.passes,
   )
 
   -- the opening was refused
   pub unopened : (after : Flow) (fault : Fault) → (old.tells → IsHead keys p (old.cells 0)) → Keeps old mid → old.faults ≤ mid.faults → Notes (event.Read 0 ∷ []) old.seen mid.seen → CameIn p.keys before script
       → IsOpenFault fault → (mid.tells → IsOpeningOf keys p.keys mid.cells (Err fault)) → (IsStoreFault fault → Rose mid.faults new.faults) → OpensFirst keys p.keys mid new shown shown_new
+      → Passes Same old mid → ((IsStoreFault fault → ⊥) → ReadsAlone p.keys mid new shown shown_new)
       → ((at : Standing) → old.tells → Stands keys p old.cells at → AllStand keys p old → LeavesOnly old new (kinds.StandsAsBefore flat_kind keys p old)) → EndsEarly flat_kind keys old new before after fault
-  unopened after fault head keeps later seen came kind read cause order left = inr (inr (record {
+  unopened after fault head keeps later seen came kind read cause order passes alone left = inr (inr (record {
     p = p;
     head = head;
     script = script;
@@ -114,6 +144,7 @@ module _ (keys : Keys) (old mid new : Disk) (before : Flow) (p : Params) (script
     kind = kind;
     read = λ tells. subst (λ (i : Image). IsOpeningOf keys p.keys i (Err fault)) (same_cells old mid keeps tells) (read (keeps.tells tells));
     cause = λ is. rose_since old.faults mid.faults new.faults later (cause is);
-    seen = partly keeps seen order;
+    seen = partly fault keeps seen order alone;
+    unwritten = λ kind. unwritten keeps passes (alone kind);
     left = left;
   }))

@@ -19,17 +19,17 @@ use Rattle.ob_serial.specs.Serial.{EpochRecord}
 use Rattle.ob_serial.specs.Vaults.{Standing}
 use Rattle.ob_script.specs.Script.{ScriptTxn, Scripts, IsScript, IsFirstBad, limit}
 use Rattle.ob_script.proofs.OneReading.{not_both}
-use Rattle.ob_rows.specs.Reads.{IsFirstRowDamage}
+use Rattle.ob_flat_rows.specs.Reads.{IsFirstRowDamage}
 use Rattle.ob_twin.specs.Keyed.{tagging}
 use Rattle.ob_twin.specs.Reading.{AllWhole, IsFirstDamage}
 use Rattle.ob_flat.specs.Heads.{IsHead}
-use Rattle.ob_flat.specs.Registers.{IsRegisterDamage}
+use Rattle.ob_start.specs.Registers.{IsRegisterDamage}
 use Rattle.ob_flat.specs.Places.{area_of}
 use Rattle.ob_flat.specs.Openings.{IsOpenFault, IsOpeningOf, IsRowsDamage}
 use Rattle.ob_flat.specs.Standing.{StandsFlat}
 use Rattle.ob_flat.proofs.Opened.{number_found}
-use Rattle.ob_served.specs.Served.{IsServed, ClientsServedAll}
-use Rattle.ob_served.proofs.Counting.{few_txns, few_epochs}
+use Rattle.ob_script_runs.specs.Served.{IsServed, ClientsServedAll}
+use Rattle.ob_script_runs.proofs.Counting.{few_txns, few_epochs}
 use Rattle.ob_base.specs.declared.fault.Field.{Field}
 use Rattle.ob_base.specs.declared.fault.Field.TheVariants.{LANES}
 use Rattle.ob_words.specs.Reading.{asked_by, format_asked, run_asked}
@@ -40,7 +40,7 @@ use Rattle.ob_top.specs.Flat.{flat_kind}
 use Rattle.ob_kinds.specs.Phases.{Shape, shapes}
 use Rattle.ob_conduct.specs.Acts.{calls}
 use Rattle.ob_flat.specs.declared.opening.Opening.{Opening}
-use Rattle.ob_top.specs.Runs.{CameIn, IsInputRefused, EndsEarly, HasCause, Ran, Went, RunDone}
+use Rattle.ob_top.specs.Runs.{CameIn, IsInputRefused, EndsEarly, EndsFor, Ran, Went, RunDone}
 use Rattle.ob_top.specs.Complete.{CanFormat, CanRun, RunsWhole, RunAnswers, DoesWhatItCan}
 use Rattle.ob_top.proofs.Judged.{head_told, keys_same, not_closed, not_broken, rows_obey}
 use Rattle.ob_top.proofs.Counted.{one_script}
@@ -162,7 +162,7 @@ module _ (words : List (List ℕ)) (text : Option (Bor (List ℕ))) (old new : D
         subst (λ (s : Scripts). length records ≤ length s.txns) (ran_script f r) (omega (arith, epochs, txns))
 
     ran_fault : (f : Fault) (q : Params) (found : Opening) (so_far : List Shape) → q.keys ≡ can.p.keys → found.epoch ≡ can.at.epoch → length records ≤ length script.txns
-        → HasCause flat_kind q found so_far (length records) old new before.output after.output (Some f) → status_of (Some f) ≡ 9
+        → EndsFor flat_kind q found so_far (length records) old new before.output after.output (Some f) → status_of (Some f) ≡ 9
     ran_fault fault.Memory q found so_far keys is few cause = refl
     ran_fault fault.SinkFault q found so_far keys is few cause = absurd (can.output_holds cause)
     ran_fault (fault.StoreFault unsure) q found so_far keys is few cause = absurd (can.store_holds cause.0)

@@ -17,6 +17,8 @@ use Rattle.ob_report.specs.Sizes.{size_line}
 use Rattle.ob_flat.specs.Places.{cells}
 use Rattle.ob_store.specs.Disk.{Disk}
 use Rattle.ob_store.specs.Images.{LeavesOnly}
+use Rattle.ob_store.specs.Calls.{NotesFirst, IsStoreFault}
+use Rattle.ob_flat.specs.Orders.{format_events}
 use Rattle.ob_flat.specs.Formats.{FormatLeaves}
 use Rattle.ob_serial.specs.Serial.{EpochRecord}
 use Rattle.ob_top.specs.Outside.{Outside, LineTold, IsFinished}
@@ -25,7 +27,7 @@ use Rattle.ob_top.specs.Flat.{flat_kind}
 use Rattle.ob_kinds.specs.Phases.{Shape, shapes}
 use Rattle.ob_flat.specs.declared.opening.Opening.{Opening}
 use Rattle.ob_conduct.specs.Acts.{calls}
-use Rattle.ob_top.specs.Runs.{EndsEarly, HasCause, Ran, Went, RunOn, RunDone}
+use Rattle.ob_top.specs.Runs.{EndsEarly, EndsFor, Ran, Went, RunOn, RunDone}
 use Rattle.ob_top.proofs.Beginnings.{rose_since}
 
 -- a text behind one that is whole
@@ -49,11 +51,17 @@ front before after text more p rose = record {
   whole = inr rose;
 }
 
+-- a store that failed while it was made
+pub format_failed : (keys : Keys) (p : Params) (old new : Disk) (before : Flow) (fault : Fault) → fault ≡ StoreFault None → (IsStoreFault fault → Rose old.faults new.faults) → NotesFirst (format_events p.keys) old.seen new.seen
+    → FormatEnds keys p old new before before (Some fault)
+format_failed keys p old new before fault is cause seen =
+    subst (λ (f : Fault). FormatEnds keys p old new before before (Some f)) (sym is) (refl, cause (subst IsStoreFault (sym is) tt), seen, refl)
+
 module _ {S : Type 0} (disk : S → Disk) (passes : ℕ → ℕ → ℕ → ℕ → Bool) (keys : Keys) (old new : Disk) (before mid after : Outside) (input : after.input ≡ mid.input) where
   early_on : (fault : Fault) → EndsEarly flat_kind keys old new before.input mid.input fault → EndsEarly flat_kind keys old new before.input after.input fault
   early_on fault early = subst (λ (f : Flow). EndsEarly flat_kind keys old new before.input f fault) (sym input) early
 
-  ran_on : (records : List (EpochRecord ℕ)) (fault : Option Fault) (r : Ran flat_kind disk passes keys old new before mid records fault) → HasCause flat_kind r.p r.found (shapes (calls r.is_served.served.acts)) (length records) old new before.output after.output fault → Ran flat_kind disk passes keys old new before after records fault
+  ran_on : (records : List (EpochRecord ℕ)) (fault : Option Fault) (r : Ran flat_kind disk passes keys old new before mid records fault) → EndsFor flat_kind r.p r.found (shapes (calls r.is_served.served.acts)) (length records) old new before.output after.output fault → Ran flat_kind disk passes keys old new before after records fault
   ran_on records fault r cause = record {
     p = r.p;
     script = r.script;
@@ -124,7 +132,7 @@ module _ {S : Type 0} (disk : S → Disk) (passes : ℕ → ℕ → ℕ → ℕ 
         no_fault : Some fault ≡ None → ⊥
         no_fault is = cc is
 
-    went_other : (fault : Fault) (records : List (EpochRecord ℕ)) → ((p : Params) (found : Opening) (so_far : List Shape) (n : ℕ) → HasCause flat_kind p found so_far n old new before.output mid.output (Some fault) → HasCause flat_kind p found so_far n old new before.output after.output (Some fault))
+    went_other : (fault : Fault) (records : List (EpochRecord ℕ)) → ((p : Params) (found : Opening) (so_far : List Shape) (n : ℕ) → EndsFor flat_kind p found so_far n old new before.output mid.output (Some fault) → EndsFor flat_kind p found so_far n old new before.output after.output (Some fault))
         → Went flat_kind disk passes keys old new before mid records (Some fault) → Went flat_kind disk passes keys old new before after records (Some fault)
     went_other fault records same (inl (none, early)) = inl (none, early_on fault early)
     went_other fault records same (inr ran) = inr (ran_on records (Some fault) ran (same ran.p ran.found (shapes (calls ran.is_served.served.acts)) (length records) ran.cause))

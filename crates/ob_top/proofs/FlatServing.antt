@@ -21,7 +21,7 @@ use Rattle.ob_runner.specs.Meaning.{MeantFirst, MeantAll}
 use Rattle.ob_conduct.specs.Scenes.{scene, RunState, run_state, RunnerKind}
 use Rattle.ob_conduct.specs.Conducted.{ByHand}
 use Rattle.ob_top.specs.Flat.{flat_kind}
-use Rattle.ob_top.specs.Runs.{Serves, fault_of}
+use Rattle.ob_top.specs.Runs.{ServedOver, fault_of}
 use Rattle.ob_top.proofs.FlatSteps.{FlatAt, flat_does, flat_begun}
 use Rattle.ob_top.proofs.Serving.{IsLender, serves_on}
 
@@ -39,7 +39,7 @@ module _ {V S : Type 0} (k : Kind V) (disk : S → Disk) (store_of : V → S) (s
       → map kind.client runners ≡ script.clients → All (λ u. kind.plan u ≡ asks_by (kind.client u) script.txns) runners → epoch ≡ found.epoch → left ≡ p.batches
       → ByHand k kind passes (run_state (scene (new_desk (record { params = p }) (suc epoch) left script.clients) first trace) runners before) end result
       → IsFlatLender keys first → p_of first ≡ p → known_of first ≡ found.gates.epoch → epoch_of first ≡ found.epoch → (sealing_of first).next ≡ 0
-      → Serves flat_kind passes keys p found script (disk (store_of first)) (disk (store_of end.scene.vault)) before end.output (fault_of result)
+      → ServedOver flat_kind disk passes keys p found script (disk (store_of first)) (disk (store_of end.scene.vault)) before end.output (fault_of result)
   flat_serves passes kind means keys script sound may first trace runners before end result epoch left named planned epoch_is left_is run l params known at fresh =
       serves_on k flat_kind disk store_of p found (FlatAt k.called disk store_of sealing_of p_of known_of epoch_of values_of flat p found) (flat_does k.called disk store_of sealing_of p_of known_of epoch_of values_of flat p found)
       passes kind means keys script sound may first trace runners before end result epoch left named planned epoch_is left_is run l (flat_begun k.called disk store_of sealing_of p_of known_of epoch_of values_of flat p found first params known at fresh)

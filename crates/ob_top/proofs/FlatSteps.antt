@@ -1,6 +1,6 @@
 -- What a call of the plain vault shows.
-use Rattle.std.proofs.Common.{◌≡◌, ◌∙◌, ◌⊎◌, ◌+◌, ◌*◌, ◌^◌, ◌<◌, ◌≤◌, ℕ, suc, Bool, true, false, if◌then◌else◌, List, [], ◌∷◌, ◌++◌, length, take, map, Option, Some, None, refl, sym, ap, subst, inl, inr, arith}
-use Rattle.std.proofs.lemmas.List.{append-nil, append_assoc}
+use Rattle.std.proofs.Common.{◌≡◌, ◌∙◌, ◌⊎◌, ◌+◌, ◌*◌, ◌^◌, ◌<◌, ◌≤◌, ℕ, suc, Bool, true, false, if◌then◌else◌, List, [], ◌∷◌, ◌++◌, length, take, map, Option, Some, None, refl, sym, ap, subst, inl, inr, ⊎_elim, arith}
+use Rattle.std.proofs.lemmas.List.{append-nil}
 use Rattle.ob_base.specs.declared.params.Params.{Params}
 use Rattle.ob_base.specs.declared.fault.Fault.{Fault}
 use Rattle.ob_base.specs.declared.fault.Fault.TheVariants.{Memory, Usage, BadScript, BadParams, NotStore, Damaged, StoreFault, StashFull, Worn, SourceFault, SinkFault}
@@ -8,51 +8,83 @@ use Rattle.ob_seal.specs.Sealing.{Sealing}
 use Rattle.ob_store.specs.declared.event.Event.{Event}
 use Rattle.ob_store.specs.declared.event.Event.TheVariants as event
 use Rattle.ob_store.specs.declared.watch.Note.{Note}
+use Rattle.ob_store.specs.declared.watch.Note.TheVariants as note
 use Rattle.ob_store.specs.Disk.{Disk}
-use Rattle.ob_store.specs.Runs.{write_events}
+use Rattle.ob_store.specs.Runs.{write_notes, from_on}
+use Rattle.ob_store.specs.Told as told
 use Rattle.ob_store.specs.Calls.{Notes}
 use Rattle.ob_store.proofs.Events.{none_noted}
+use Rattle.ob_store.proofs.Doing.{cut_noted, events_join as notes_join}
 use Rattle.ob_twin.specs.declared.gates.Open.{Open}
 use Rattle.ob_twin.specs.Register.{place_of, gate_at, body_at}
 use Rattle.ob_twin.specs.Opening.{is_closed_first, with_mark}
-use Rattle.ob_twin.specs.Orders.{set_events, through_events}
+use Rattle.ob_twin.specs.Orders.{set_notes, prepare_notes, gate_notes, through_notes}
 use Rattle.ob_serial.specs.Vaults.{VaultCall, Fetch, End, VaultAnswer, Values, Ended, RefusedBy, DoubtBy}
-use Rattle.ob_kinds.specs.Phases.{Shape, Fetches, Ends, events_of}
+use Rattle.ob_kinds.specs.Phases.{Phase, Reads, Writes, Syncs, Shape, Fetches, Ends, events_of}
 use Rattle.ob_kinds.proofs.Shapes.{events_join}
 use Rattle.ob_flat.specs.declared.opening.Opening.{Opening}
 use Rattle.ob_flat.specs.Places.{area_of}
-use Rattle.ob_flat.specs.Calls.{FlatCalled, RefusedDoes, IsCut, IsWorn, Holding}
-use Rattle.ob_flat.specs.Orders.{end_events, open_events, rows_events, registers_events, begin_events}
-use Rattle.ob_rows.specs.Orders.{read_events}
-use Rattle.ob_top.specs.Flat.{FlatPublic, flat_kind, set_phases, through_phases, end_phases, open_phases, FlatCauses}
+use Rattle.ob_flat.specs.Calls.{FlatCalled, RefusedDoes, IsCutShort, IsInDoubt, IsWorn, Holding}
+use Rattle.ob_flat.specs.Orders.{end_events, end_prepare_notes, end_gate_notes, open_events, rows_notes}
+use Rattle.ob_start.specs.Orders.{registers_notes, begin_notes}
+use Rattle.ob_cells.specs.Orders.{read_notes}
+use Rattle.ob_top.specs.Flat.{FlatPublic, flat_kind, prepare_phases, set_phases, through_phases, end_phases, end_prepare_phases, end_gate_phases, open_phases, FlatCauses}
 use Rattle.ob_top.proofs.Steps.{Stops, Goes, CallDoes, IsWhy}
 
 -- ---- phases and orders
 
-closed_phases : (closed_first : Bool) (cell : ℕ) → events_of (if closed_first then through_phases cell else []) ≡ (if closed_first then through_events cell else [])
-closed_phases true cell = refl
-closed_phases false cell = refl
+reads_same : (cells : List ℕ) → map (λ cell. event.Read cell) cells ≡ told.events_of (map (λ cell. note.Read cell) cells)
+reads_same [] = refl
+reads_same (cell ∷ cells) = ap (λ (l : List Event). event.Read cell ∷ l) (reads_same cells)
 
-set_same : (closed_first : Bool) (first n : ℕ) → events_of (set_phases closed_first first n) ≡ set_events closed_first first n
+writes_same : (cells : List ℕ) → map (λ cell. event.Write cell) cells ≡ told.events_of (map (λ cell. note.Write cell) cells)
+writes_same [] = refl
+writes_same (cell ∷ cells) = ap (λ (l : List Event). event.Write cell ∷ l) (writes_same cells)
+
+both : (xs ys : List Phase) (ms ns : List Note) → events_of xs ≡ told.events_of ms → events_of ys ≡ told.events_of ns → events_of (xs ++ ys) ≡ told.events_of (ms ++ ns)
+both xs ys ms ns p q = events_join xs ys ∙ rw (p, q) refl ∙ sym (notes_join ms ns)
+
+closed_same : (closed_first : Bool) (cell : ℕ) → events_of (if closed_first then through_phases cell else []) ≡ told.events_of (if closed_first then through_notes cell else [])
+closed_same true cell = refl
+closed_same false cell = refl
+
+prepare_same : (closed_first : Bool) (first n : ℕ) → events_of (prepare_phases closed_first first n) ≡ told.events_of (prepare_notes closed_first first n)
+prepare_same closed_first first n =
+    both (if closed_first then through_phases (gate_at first (place_of n)) else []) (through_phases (body_at first (place_of n)))
+    (if closed_first then through_notes (gate_at first (place_of n)) else []) (through_notes (body_at first (place_of n))) (closed_same closed_first (gate_at first (place_of n))) refl
+
+set_same : (closed_first : Bool) (first n : ℕ) → events_of (set_phases closed_first first n) ≡ told.events_of (set_notes closed_first first n)
 set_same closed_first first n =
-    events_join ((if closed_first then through_phases (gate_at first (place_of n)) else []) ++ through_phases (body_at first (place_of n))) (through_phases (gate_at first (place_of n)))
-    ∙ ap (λ (l : List Event). l ++ through_events (gate_at first (place_of n)))
-    (events_join (if closed_first then through_phases (gate_at first (place_of n)) else []) (through_phases (body_at first (place_of n))) ∙ ap (λ (l : List Event). l ++ through_events (body_at first (place_of n))) (closed_phases closed_first (gate_at first (place_of n))))
+    both (prepare_phases closed_first first n) (through_phases (gate_at first (place_of n))) (prepare_notes closed_first first n) (through_notes (gate_at first (place_of n))) (prepare_same closed_first first n) refl
 
-pub end_same : (keys : ℕ) (known : Open) (epoch : ℕ) → events_of (end_phases keys known epoch) ≡ end_events keys known epoch
-end_same keys known epoch = sym (append_assoc (write_events (area_of keys epoch) keys) (event.Sync ∷ []) (events_of (set_phases (is_closed_first known (place_of epoch)) 5 epoch))) ∙ ap (λ (l : List Event). rows_events (area_of keys epoch) keys ++ l) (set_same (is_closed_first known (place_of epoch)) 5 epoch)
+rows_same : (base keys : ℕ) → events_of (Writes (from_on base keys) ∷ Syncs ∷ []) ≡ told.events_of (rows_notes base keys)
+rows_same base keys =
+    both (Writes (from_on base keys) ∷ []) (Syncs ∷ []) (write_notes base keys) (note.Sync ∷ []) (append-nil (map (λ cell. event.Write cell) (from_on base keys)) ∙ writes_same (from_on base keys)) refl
+
+module _ (keys : ℕ) (known : Open) (epoch : ℕ) where
+  behind_rows : (ys : List Phase) (ns : List Note) → events_of ys ≡ told.events_of ns → events_of ((Writes (from_on (area_of keys epoch) keys) ∷ Syncs ∷ []) ++ ys) ≡ told.events_of (rows_notes (area_of keys epoch) keys ++ ns)
+  behind_rows ys ns is = both (Writes (from_on (area_of keys epoch) keys) ∷ Syncs ∷ []) ys (rows_notes (area_of keys epoch) keys) ns (rows_same (area_of keys epoch) keys) is
+
+  pub end_same : events_of (end_phases keys known epoch) ≡ end_events keys known epoch
+  end_same = behind_rows (set_phases (is_closed_first known (place_of epoch)) 5 epoch) (set_notes (is_closed_first known (place_of epoch)) 5 epoch) (set_same (is_closed_first known (place_of epoch)) 5 epoch)
+
+  end_prepare_same : events_of (end_prepare_phases keys known epoch) ≡ told.events_of (end_prepare_notes keys known epoch)
+  end_prepare_same = behind_rows (prepare_phases (is_closed_first known (place_of epoch)) 5 epoch) (prepare_notes (is_closed_first known (place_of epoch)) 5 epoch) (prepare_same (is_closed_first known (place_of epoch)) 5 epoch)
+
+  end_gate_same : events_of (end_gate_phases keys known epoch) ≡ told.events_of (end_gate_notes keys known epoch)
+  end_gate_same = behind_rows (prepare_phases (is_closed_first known (place_of epoch)) 5 epoch ++ Writes (gate_at 5 (place_of epoch) ∷ []) ∷ []) (gate_notes (is_closed_first known (place_of epoch)) 5 epoch)
+      (both (prepare_phases (is_closed_first known (place_of epoch)) 5 epoch) (Writes (gate_at 5 (place_of epoch) ∷ []) ∷ []) (prepare_notes (is_closed_first known (place_of epoch)) 5 epoch) (note.Write (gate_at 5 (place_of epoch)) ∷ [])
+      (prepare_same (is_closed_first known (place_of epoch)) 5 epoch) refl)
 
 pub open_same : (keys epoch : ℕ) (known : Open) (generation : ℕ) → events_of (open_phases keys epoch known generation) ≡ open_events keys epoch known generation
-open_same keys epoch known generation = ap (λ (l : List Event). registers_events ++ (read_events (area_of keys epoch) keys ++ (event.Sync ∷ l))) (set_same (is_closed_first known (place_of generation)) 1 generation)
+open_same keys epoch known generation =
+    both (Reads (1 ∷ 2 ∷ 3 ∷ 4 ∷ []) ∷ Reads (5 ∷ 6 ∷ 7 ∷ 8 ∷ []) ∷ []) (Reads (from_on (area_of keys epoch) keys) ∷ Syncs ∷ set_phases (is_closed_first known (place_of generation)) 1 generation)
+    registers_notes (read_notes (area_of keys epoch) keys ++ begin_notes known generation) refl
+    (both (Reads (from_on (area_of keys epoch) keys) ∷ []) (Syncs ∷ set_phases (is_closed_first known (place_of generation)) 1 generation) (read_notes (area_of keys epoch) keys) (begin_notes known generation)
+    (append-nil (map (λ cell. event.Read cell) (from_on (area_of keys epoch) keys)) ∙ reads_same (from_on (area_of keys epoch) keys))
+    (both (Syncs ∷ []) (set_phases (is_closed_first known (place_of generation)) 1 generation) (note.Sync ∷ []) (set_notes (is_closed_first known (place_of generation)) 1 generation) refl (set_same (is_closed_first known (place_of generation)) 1 generation)))
 
 -- ---- calls
-
--- a front of a list is one of a list that is the same
-taken : (c : ℕ) (xs ys : List Event) → xs ≡ ys → take c xs ≡ take c ys
-taken c xs ys is = ap (take c) is
-
-no_false : true ≡ false → ⊥
-no_false is = cc is
 
 module _ {V S : Type 0} (called : V → VaultCall → VaultAnswer → List Note → V → Type 0) (disk : S → Disk) (store_of : V → S) (sealing_of : V → Sealing) (p_of : V → Params) (known_of : V → Open) (epoch_of : V → ℕ) (values_of : V → List (Option (List ℕ)))
     (flat : (v : V) (call : VaultCall) (answer : VaultAnswer) (notes : List Note) (w : V) → called v call answer notes w
@@ -104,22 +136,38 @@ module _ {V S : Type 0} (called : V → VaultCall → VaultAnswer → List Note 
         more_rows : (i j : ℕ) → i * j + i ≡ i * suc j
         more_rows i j = omega arith
 
-    -- a front of an end
-    by_store : (unsure : Option ℕ) → (unsure ≡ None) ⊎ (unsure ≡ Some (suc (epoch_of v))) → IsCut (p_of v).keys (known_of v) (epoch_of v) (sealing_of v) (sealing_of w) (disk (store_of v)) (disk (store_of w)) notes
-        → Stops flat_kind p found (disk (store_of v)) (disk (store_of w)) q so_far n Ends (StoreFault unsure)
-    by_store unsure which one =
-        let (c, within, seen) = one.seen in
+    its_prepare : events_of (end_prepare_phases p.keys q.known (suc q.epoch)) ≡ told.events_of (end_prepare_notes (p_of v).keys (known_of v) (suc (epoch_of v)))
+    its_prepare = end_prepare_same p.keys q.known (suc q.epoch) ∙ sym (rw (at.params, at.known, at.epoch) refl)
+
+    its_gate : events_of (end_gate_phases p.keys q.known (suc q.epoch)) ≡ told.events_of (end_gate_notes (p_of v).keys (known_of v) (suc (epoch_of v)))
+    its_gate = end_gate_same p.keys q.known (suc q.epoch) ∙ sym (rw (at.params, at.known, at.epoch) refl)
+
+    -- some of the first of what comes before the gate
+    short : IsCutShort (p_of v).keys (known_of v) (epoch_of v) (sealing_of v) (sealing_of w) (disk (store_of v)) (disk (store_of w)) notes → Stops flat_kind p found (disk (store_of v)) (disk (store_of w)) q so_far n Ends (StoreFault None)
+    short one =
+        let (c, within, seen) = cut_noted (end_prepare_notes (p_of v).keys (known_of v) (suc (epoch_of v))) one.made notes (disk (store_of v)).seen (disk (store_of w)).seen one.cut one.seen in
         record {
-          more = take c (end_events (p_of v).keys (known_of v) (suc (epoch_of v)));
-          cut = (tt, c, taken c _ _ (sym its_end), λ no. absurd (no_false no));
+          more = take c (told.events_of (end_prepare_notes (p_of v).keys (known_of v) (suc (epoch_of v))));
+          cut = (tt, (c, ap (take c) (sym its_prepare)));
           seen = seen;
-          why = subst (λ e. (unsure ≡ None) ⊎ (unsure ≡ Some (suc e))) (at.epoch ∙ at.counted) which;
+          why = inl refl;
         }
+
+    -- all of it, and the gate's write
+    doubtful : IsInDoubt (p_of v).keys (known_of v) (epoch_of v) (sealing_of v) (sealing_of w) (disk (store_of v)) (disk (store_of w)) notes
+        → Stops flat_kind p found (disk (store_of v)) (disk (store_of w)) q so_far n Ends (StoreFault (Some (suc (epoch_of v))))
+    doubtful one = ⊎_elim
+        (λ gate. record { more = told.events_of (end_gate_notes (p_of v).keys (known_of v) (suc (epoch_of v))); cut = (tt, inl (sym its_gate)); seen = gate; why = inr next })
+        (λ all. record { more = end_events (p_of v).keys (known_of v) (suc (epoch_of v)); cut = (tt, inr (sym its_end)); seen = all; why = inr next })
+        one.seen
+      where
+        next : Some (suc (epoch_of v)) ≡ Some (suc (found.epoch + n))
+        next = ap (λ e. Some (suc e)) (at.epoch ∙ at.counted)
 
     by_worn : (number : ℕ) → number ≡ 2 ^ 62 → IsWorn (p_of v).keys (epoch_of v) (sealing_of v) (sealing_of w) (store_of v) (store_of w) notes → Stops flat_kind p found (disk (store_of v)) (disk (store_of w)) q so_far n Ends (Worn number)
     by_worn number is one = record {
       more = [];
-      cut = (tt, 0, refl, λ no. refl);
+      cut = (tt, refl);
       seen = subst (λ (s : S). Notes [] (disk (store_of v)).seen (disk s).seen) (sym one.same) (none_noted (disk (store_of v)).seen);
       why = (is, last one.last);
     }
@@ -130,7 +178,7 @@ module _ {V S : Type 0} (called : V → VaultCall → VaultAnswer → List Note 
 
     refused : (fault : Fault) → RefusedDoes (p_of v).keys (known_of v) (epoch_of v) (record { store = store_of v; sealing = sealing_of v }) (record { store = store_of w; sealing = sealing_of w }) (disk (store_of v)) (disk (store_of w)) notes fault
         → Stops flat_kind p found (disk (store_of v)) (disk (store_of w)) q so_far n Ends fault
-    refused (StoreFault unsure) (none, one) = by_store unsure (inl none) one
+    refused (StoreFault unsure) (none, one) = subst (λ (u : Option ℕ). Stops flat_kind p found (disk (store_of v)) (disk (store_of w)) q so_far n Ends (StoreFault u)) (sym none) (short one)
     refused (Worn number) (is, one) = by_worn number is one
     refused Memory does = absurd does
     refused Usage does = absurd does
@@ -142,8 +190,9 @@ module _ {V S : Type 0} (called : V → VaultCall → VaultAnswer → List Note 
     refused SourceFault does = absurd does
     refused SinkFault does = absurd does
 
-    doubted : (fault : Fault) → fault ≡ StoreFault (Some (suc (epoch_of v))) → IsCut (p_of v).keys (known_of v) (epoch_of v) (sealing_of v) (sealing_of w) (disk (store_of v)) (disk (store_of w)) notes → Stops flat_kind p found (disk (store_of v)) (disk (store_of w)) q so_far n Ends fault
-    doubted fault is one = subst (λ (f : Fault). Stops flat_kind p found (disk (store_of v)) (disk (store_of w)) q so_far n Ends f) (sym is) (by_store (Some (suc (epoch_of v))) (inr refl) one)
+    doubted : (fault : Fault) → fault ≡ StoreFault (Some (suc (epoch_of v))) → IsInDoubt (p_of v).keys (known_of v) (epoch_of v) (sealing_of v) (sealing_of w) (disk (store_of v)) (disk (store_of w)) notes
+        → Stops flat_kind p found (disk (store_of v)) (disk (store_of w)) q so_far n Ends fault
+    doubted fault is one = subst (λ (f : Fault). Stops flat_kind p found (disk (store_of v)) (disk (store_of w)) q so_far n Ends f) (sym is) (doubtful one)
 
   -- each call
   pub flat_does : (q : FlatPublic) (so_far : List Shape) (n : ℕ) (v : V) (call : VaultCall) (answer : VaultAnswer) (notes : List Note) (w : V) → FlatAt q so_far n v → called v call answer notes w

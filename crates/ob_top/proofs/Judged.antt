@@ -19,10 +19,11 @@ use Rattle.ob_twin.specs.Register.{place_of, StandsAt}
 use Rattle.ob_twin.specs.Reading.{NoneOpen, IsFirstDamage}
 use Rattle.ob_twin.proofs.Judging.{damage_read}
 use Rattle.ob_serial.specs.Serial.{Map}
-use Rattle.ob_rows.specs.Rows.{HasValue, IsRow}
-use Rattle.ob_rows.specs.Reads.{IsFormDamage, IsRowDamage, expected_at, IsFirstRowDamage}
-use Rattle.ob_flat.specs.Heads.{numbers_of, numbers_in, IsHead, IsHeadRead}
-use Rattle.ob_flat.specs.Openings.{IsHeadFault}
+use Rattle.ob_flat_rows.specs.Rows.{HasValue, IsRow}
+use Rattle.ob_cells.specs.Reads.{expected_at}
+use Rattle.ob_flat_rows.specs.Reads.{IsFormDamage, IsRowDamage, IsFirstRowDamage}
+use Rattle.ob_start.specs.Heads.{numbers_of, numbers_in, IsHeadFault}
+use Rattle.ob_flat.specs.Heads.{IsHead, IsHeadRead}
 use Rattle.ob_flat.specs.Standing.{HasRows}
 use Rattle.ob_top.specs.Words.{first_out}
 

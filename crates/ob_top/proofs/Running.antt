@@ -23,7 +23,7 @@ use Rattle.ob_serial.specs.Serial.{EpochRecord}
 use Rattle.ob_script.specs.Script.{Scripts}
 use Rattle.ob_flat.specs.declared.opening.Opening.{Opening}
 use Rattle.ob_top.specs.Outside.{Outside, outside}
-use Rattle.ob_top.specs.Runs.{EndsEarly, IsOpened, HasCause, IsReported, IsLeft, LeftByRun, Serves, Ran, Went, RunOn, begin_events}
+use Rattle.ob_top.specs.Runs.{EndsEarly, IsOpened, EndsFor, IsReported, IsLeft, LeftByWholeRun, ServedOver, Ran, Went, RunOn, begin_events}
 use Rattle.ob_top.proofs.Beginnings.{rose_since}
 
 -- an early end has printed nothing, which is the report of no records
@@ -51,7 +51,7 @@ ended_early disk passes keys old new before after output fault early = record {
 
 module _ (p : Params) (found : Opening) (so_far : List Shape) (n : ℕ) (old mid new : Disk) (before after : Flow) (later : old.faults ≤ mid.faults) where
   -- the store's count rose since an earlier moment too
-  pub cause_since : (fault : Option Fault) → HasCause flat_kind p found so_far n mid new before after fault → HasCause flat_kind p found so_far n old new before after fault
+  pub cause_since : (fault : Option Fault) → EndsFor flat_kind p found so_far n mid new before after fault → EndsFor flat_kind p found so_far n old new before after fault
   cause_since None cause = cause
   cause_since (Some Memory) cause = cause
   cause_since (Some SinkFault) cause = cause
@@ -70,13 +70,13 @@ went_of disk passes keys old new before after records None ran = ran
 went_of disk passes keys old new before after records (Some fault) ran = inr ran
 
 -- What a crash leaves of the opening and of the serving.
-left_both : (keys : Keys) (old mid new : Disk) (p : Params) (found : Opening) (at : Standing) (script : Scripts) (records : List (EpochRecord ℕ)) (fault : Option Fault)
-    → LeavesOnly old mid (StandsAsBefore flat_kind keys p old) → IsLeft flat_kind keys p found at script records fault mid new → LeftByRun flat_kind keys p found at script records fault old mid new
-left_both keys old mid new p found at script records fault first l = record {
+left_both : {S : Type 0} (disk : S → Disk) (keys : Keys) (old mid new : Disk) (p : Params) (found : Opening) (at : Standing) (script : Scripts) (records : List (EpochRecord ℕ)) (fault : Option Fault)
+    → LeavesOnly old mid (StandsAsBefore flat_kind keys p old) → IsLeft flat_kind keys p found at script records fault disk mid new → LeftByWholeRun flat_kind keys p found at script records fault disk old mid new
+left_both disk keys old mid new p found at script records fault first l = record {
   next = l.next;
   is_next = l.is_next;
   opening = first;
-  serving = l.since;
+  stages = l.stages;
   since = then_on old mid new (λ c. StandsAsBefore flat_kind keys p old c ⊎ StandsIn (StandsFlat keys p found.sealer.generation) (IsLeftStanding (opened_with p p.batches at) records l.next) c)
       (weakened old mid (StandsAsBefore flat_kind keys p old) (λ c. StandsAsBefore flat_kind keys p old c ⊎ StandsIn (StandsFlat keys p found.sealer.generation) (IsLeftStanding (opened_with p p.batches at) records l.next) c) (λ c is. inl is) first)
       (weakened mid new (StandsIn (StandsFlat keys p found.sealer.generation) (IsLeftStanding (opened_with p p.batches at) records l.next)) (λ c. StandsAsBefore flat_kind keys p old c ⊎ StandsIn (StandsFlat keys p found.sealer.generation) (IsLeftStanding (opened_with p p.batches at) records l.next) c) (λ c is. inr is) l.since);
@@ -89,7 +89,7 @@ pub ran : {S : Type 0} (disk : S → Disk) (passes : ℕ → ℕ → ℕ → ℕ
     → (old.tells → (disk between).tells × Settled (disk between))
     → ((at : Standing) → old.tells → Stands flat_kind keys p old.cells at → IsOpenedAt flat_kind keys p at found (disk between))
     → ((at : Standing) → old.tells → Stands flat_kind keys p old.cells at → AllStand flat_kind keys p old → LeavesOnly old (disk between) (StandsAsBefore flat_kind keys p old))
-    → Serves flat_kind passes keys p found script (disk between) new output output_new fault
+    → ServedOver flat_kind disk passes keys p found script (disk between) new output output_new fault
     → RunOn flat_kind disk passes keys old new (outside input output) (outside input_new output_new) fault
 ran disk passes keys old between new input input_new output output_new p script found start fault later opened seen durable stood before s = record {
   records = s.records;
@@ -110,6 +110,6 @@ ran disk passes keys old between new input input_new output output_new p script 
     serving_seen = s.seen;
     stood = stood;
     left = λ at tells stands all. let (told, settled) = durable tells in
-        left_both keys old (disk between) new p found at script s.records fault (before at tells stands all) (s.left at told settled (stood at tells stands));
+        left_both disk keys old (disk between) new p found at script s.records fault (before at tells stands all) (s.left at told settled (stood at tells stands));
   });
 }

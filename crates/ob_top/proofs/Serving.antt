@@ -17,7 +17,7 @@ use Rattle.ob_store.specs.declared.watch.Note.{Note}
 use Rattle.ob_store.specs.Disk.{Disk, Image}
 use Rattle.ob_store.specs.Images.{LeavesOnly, Settled}
 use Rattle.ob_store.specs.Lines.{Trace}
-use Rattle.ob_store.specs.Calls.{Notes, IsStoreFault}
+use Rattle.ob_store.specs.Calls.{GoesOn, Notes, IsStoreFault}
 use Rattle.ob_store.proofs.Events.{joined, none_noted}
 use Rattle.ob_store.proofs.Moments.{weakened}
 use Rattle.ob_seal.specs.declared.keys.Keys.{Keys}
@@ -33,24 +33,24 @@ use Rattle.ob_kinds.specs.Shown.{steps_phases, public_behind, IsCut}
 use Rattle.ob_kinds.specs.Laws.{AllAnswered}
 use Rattle.ob_kinds.proofs.Shapes.{events_join, shapes_join, answered_not_refused, refused_last}
 use Rattle.ob_script.specs.Script.{ScriptTxn, Scripts, AreSound, asks_by}
-use Rattle.ob_desk.specs.Desk.{DeskState, MayOpen, Call, Reply, new_desk}
+use Rattle.ob_desk.specs.Desk.{DeskState, MayOpen, Run, Call, Reply, new_desk}
 use Rattle.ob_session.specs.Clients.{told_of, has_signed_off, was_refused}
 use Rattle.ob_runner.specs.Meaning.{MeantFirst, MeantAll}
-use Rattle.ob_conduct.specs.Acts.{Act, Says, Halts, Rests as Looked, Takes, Delivers, DeliverFails, FetchFails, Closes, Publishes, Refuses, Unprinted, calls, vault_calls, rest_fetches, fault_in, fault_told, records as records_of_acts}
+use Rattle.ob_conduct.specs.Acts.{Act, Says, Halts, Rests as Looked, Takes, Delivers, DeliverFails, FetchFails, Closes, Publishes, Refuses, Unprinted, calls, history, vault_calls, rest_fetches, fault_in, fault_told, records as records_of_acts}
 use Rattle.ob_conduct.specs.Rounds.{InRounds}
 use Rattle.ob_conduct.specs.Scenes.{Scene, scene, RunState, run_state, RunnerKind}
-use Rattle.ob_conduct.specs.Records.{IsWritten, AreAnswered, AreWritten, HoldsMap}
+use Rattle.ob_conduct.specs.Records.{IsWritten, AreAnswered, AreWritten, HoldsMap, contents}
 use Rattle.ob_conduct.specs.Moves.{Failure, IsReason, AreLines, IsUnended}
 use Rattle.ob_conduct.specs.Conducted.{Conducted, ByHand, RunEnds}
-use Rattle.ob_conduct.specs.Left.{Rests, OnlyNow, IsLeftStanding, TellsDoubt, IsNextOf}
+use Rattle.ob_conduct.specs.Left.{Rests, OnlyNow, IsLeftStanding, TellsDoubt, IsNextOf, IsBetween, Stages, next_at}
 use Rattle.ob_conduct.proofs.Leaving.{run_leaves}
 use Rattle.ob_conduct.proofs.Moving.{goes_all, called, rose_since}
 use Rattle.ob_conduct.proofs.Acting.{written_none, answered_rest}
 use Rattle.ob_conduct.proofs.Going.{answered_join}
 use Rattle.ob_conduct.proofs.Conducting.{due_epoch, due_in_order, due_one_by_one}
-use Rattle.ob_served.specs.Served.{IsServed, ClientsServedAll}
-use Rattle.ob_served.proofs.Whole.{is_served, its_acts, all_served, next_served}
-use Rattle.ob_top.specs.Runs.{HasCause, IsTraced, IsReported, IsLeft, IsNext, ComesNext, Serves, fault_of}
+use Rattle.ob_script_runs.specs.Served.{IsServed, ClientsServedAll}
+use Rattle.ob_script_runs.proofs.Whole.{is_served, its_acts, its_desk, all_served, next_served}
+use Rattle.ob_top.specs.Runs.{EndsWith, EndsFor, IsTraced, IsReported, IsLeft, StagedFrom, IsNext, ComesNext, ServedOver, fault_of}
 use Rattle.ob_top.proofs.Steps.{Goes, Stops, CallDoes}
 
 -- an end that was refused ended nothing
@@ -149,7 +149,7 @@ module _ {V S : Type 0} (k : Kind V) (store : StoreKind) (disk : S → Disk) (st
 
     -- How it ended, after these calls: why, what was written, and what was seen.
     pub record Ending (asked : List (VaultCall × VaultAnswer)) (fault : Option Fault) : Type 0 where
-      pub cause : HasCause store p found (shapes asked) (length records) (disk (store_of first)) (disk (store_of last)) before after fault
+      pub cause : EndsFor store p found (shapes asked) (length records) (disk (store_of first)) (disk (store_of last)) before after fault
       pub reported : IsReported before after records fault
       pub events : List Event
       pub traced : IsTraced store p (store.public found) asked fault events
@@ -159,7 +159,7 @@ module _ {V S : Type 0} (k : Kind V) (store : StoreKind) (disk : S → Disk) (st
     none_cut q one fault is = subst (λ (o : Option Shape). IsCut store p q o fault []) (sym is) refl
 
     -- no call was refused
-    ends_alone : (asked : List (VaultCall × VaultAnswer)) → AllCalled k first asked last → AreAnswered asked → (fault : Option Fault) → HasCause store p found (shapes asked) (length records) (disk (store_of first)) (disk (store_of last)) before after fault
+    ends_alone : (asked : List (VaultCall × VaultAnswer)) → AllCalled k first asked last → AreAnswered asked → (fault : Option Fault) → EndsFor store p found (shapes asked) (length records) (disk (store_of first)) (disk (store_of last)) before after fault
         → IsReported before after records fault → Ending asked fault
     ends_alone asked chain answered fault cause reported =
         let b = behind (store.public found) [] 0 first asked last begun chain answered in
@@ -183,7 +183,7 @@ module _ {V S : Type 0} (k : Kind V) (store : StoreKind) (disk : S → Disk) (st
 
       -- the vault refused a call
       cause_of : (so_far : List Shape) (n : ℕ) (shape : Shape) (fault : Fault) (mid : V) (q : store.Public) → Stops store p found (disk (store_of mid)) (disk (store_of last)) q so_far n shape fault → so_far ≡ so_far → n ≡ length records
-          → (IsStoreFault fault → Rose (k.disk first).faults (k.disk last).faults) → HasCause store p found so_far (length records) (disk (store_of first)) (disk (store_of last)) before after (Some fault)
+          → (IsStoreFault fault → Rose (k.disk first).faults (k.disk last).faults) → EndsFor store p found so_far (length records) (disk (store_of first)) (disk (store_of last)) before after (Some fault)
       cause_of so_far n shape (StoreFault unsure) mid q s same is rose = (rises (rose tt), subst (λ m. (unsure ≡ None) ⊎ (unsure ≡ Some (suc (store.epoch found + m)))) is s.why)
       cause_of so_far n shape Memory mid q s same is rose = tt
       cause_of so_far n shape SinkFault mid q s same is rose = absurd s.why
@@ -222,7 +222,7 @@ module _ {V S : Type 0} (k : Kind V) (store : StoreKind) (disk : S → Disk) (st
           let s = stops q (shapes front) (0 + length (ended_of front)) mid one.notes last b.at one.called in
           let all : shapes (front ++ (call, answer) ∷ []) ≡ shapes front = shapes_join front ((call, answer) ∷ []) ∙ ap (λ (l : List Shape). shapes front ++ l) none ∙ append-nil (shapes front) in
           record {
-            cause = subst (λ (l : List Shape). HasCause store p found l (length records) (disk (store_of first)) (disk (store_of last)) before after (Some fault)) (sym all)
+            cause = subst (λ (l : List Shape). EndsFor store p found l (length records) (disk (store_of first)) (disk (store_of last)) before after (Some fault)) (sym all)
                 (cause_of (shapes front) (0 + length (ended_of front)) shape fault mid q s refl (none_before (length (ended_of front)) ∙ counted (ended_of front) records wrote) cause);
             reported = all_reported fault (shapes front) (0 + length (ended_of front)) shape q (disk (store_of mid)) (disk (store_of last)) s written;
             events = events_of (steps_phases store p (store.public found) b.taken) ++ s.more;
@@ -298,6 +298,7 @@ module _ {V S : Type 0} (k : Kind V) (store : StoreKind) (disk : S → Disk) (st
   -- what the lender knows of a vault's words
   pub record IsLender (keys : Keys) (first : V) : Type 1 where
     pub faults : (v : V) → (k.disk v).faults ≡ (disk (store_of v)).faults
+    pub goes : (v w : V) → GoesOn (k.disk v) (k.disk w) → GoesOn (disk (store_of v)) (disk (store_of w))
     pub since : (a b : V) (P : Image → Type 0) → LeavesOnly (k.disk a) (k.disk b) P → LeavesOnly (disk (store_of a)) (disk (store_of b)) P
     pub now : (v : V) (c : Image) → (disk (store_of v)).may_leave c → (k.disk v).may_leave c
     pub stands : (c : Image) (at : Standing) → k.stands first c at → store.stands keys p (store.generation found) c at
@@ -344,8 +345,16 @@ module _ {V S : Type 0} (k : Kind V) (store : StoreKind) (disk : S → Disk) (st
       standing_in : {P Q : Standing → Type 0} (c : Image) → ((at : Standing) → P at → Q at) → StandsIn (k.stands first) P c → StandsIn (store.stands keys p (store.generation found)) Q c
       standing_in c to (at, stands, is) = (at, l.stands c at stands, to at is)
 
+      as_stored : (P : Standing → Type 0) (from to : V) → LeavesOnly (k.disk from) (k.disk to) (StandsIn (k.stands first) P) → LeavesOnly (disk (store_of from)) (disk (store_of to)) (StandsIn (store.stands keys p (store.generation found)) P)
+      as_stored P from to leaves = weakened (disk (store_of from)) (disk (store_of to)) (StandsIn (k.stands first) P) (StandsIn (store.stands keys p (store.generation found)) P)
+          (λ c is. standing_in c (λ s x. x) is) (l.since from to (StandsIn (k.stands first) P) leaves)
+
+      staged_stores : (at : Standing) (told : List (EpochRecord ℕ)) (next : Option (EpochRecord ℕ)) (from to : V) → Stages k (k.stands first) at told next from to → StagedFrom store keys p found at script records (fault_of result) disk at told next (disk (store_of from)) (disk (store_of to))
+      staged_stores at [] next from to leaves = as_stored (IsBetween at next) from to leaves
+      staged_stores at (r ∷ told) next from to (mid, leaves, rest) = (store_of mid, as_stored (IsBetween at (Some r)) from mid leaves, staged_stores (next_at at r) told next mid to rest)
+
       left : (at : Standing) → (disk (store_of first)).tells → Settled (disk (store_of first)) → IsOpenedAt store keys p at found (disk (store_of first))
-          → IsLeft store keys p found at script records (fault_of result) (disk (store_of first)) (disk (store_of last))
+          → IsLeft store keys p found at script records (fault_of result) disk (disk (store_of first)) (disk (store_of last))
       left at tells settled opened =
           let v = opened_with p (store.left p found) at in
           let same : at.epoch ≡ store.epoch found = sym opened.epoch in
@@ -355,6 +364,7 @@ module _ {V S : Type 0} (k : Kind V) (store : StoreKind) (disk : S → Disk) (st
             is_next = comes_next at.epoch same by.next by.is_next;
             since = weakened (disk (store_of first)) (disk (store_of last)) (StandsIn (k.stands first) (IsLeftStanding v records by.next)) (StandsIn (store.stands keys p (store.generation found)) (IsLeftStanding v records by.next))
                 (λ c is. standing_in c (λ s x. x) is) (l.since first last (StandsIn (k.stands first) (IsLeftStanding v records by.next)) by.since);
+            stages = staged_stores at records by.next first last by.stages;
             now = λ c may. standing_in c
                 (λ s x. ⊎_elim (λ e. inl e) (λ (r, is, told, e). inr (r, is, doubt_told (suc (store.epoch found) + length records) (suc at.epoch + length records) (ap (λ e. suc e + length records) (sym same)) told, e)) x) (by.now c (l.now last c may));
           }
@@ -375,8 +385,16 @@ module _ {V S : Type 0} (k : Kind V) (store : StoreKind) (disk : S → Disk) (st
       acts_are : acts ≡ (is_served k passes kind means p (store.epoch found) (store.left p found) script sound may first trace runners before end acts result named planned d rounds).acts
       acts_are = sym (its_acts k passes kind means p (store.epoch found) (store.left p found) script sound may first trace runners before end acts result named planned d rounds)
 
+      desk_is : end.scene.desk ≡ (is_served k passes kind means p (store.epoch found) (store.left p found) script sound may first trace runners before end acts result named planned d rounds).desk
+      desk_is = sym (its_desk k passes kind means p (store.epoch found) (store.left p found) script sound may first trace runners before end acts result named planned d rounds)
+
+      ends_with : (r : Result (Unit {0}) Fault) → RunEnds k begin end acts r → EndsWith (fault_of r) acts end.scene.desk
+      ends_with (Ok done) (answered, over, written) = over
+      ends_with (Err fault) (inl short) = inl (short.fault_is, short.none)
+      ends_with (Err fault) (inr f) = inr (f.front, f.act, f.acts_are, f.told)
+
       -- what serving does
-      pub serves : At (store.public found) [] 0 first → Serves store passes keys p found script (disk (store_of first)) (disk (store_of last)) before after (fault_of result)
+      pub serves : At (store.public found) [] 0 first → ServedOver store disk passes keys p found script (disk (store_of first)) (disk (store_of last)) before after (fault_of result)
       serves begun =
           let e = ending first last before after records begun l.faults acts refl chain d.wrote d.printed base end.scene.desk trace end.scene.trace runners end.runners result d.ends in
           record {
@@ -384,14 +402,18 @@ module _ {V S : Type 0} (k : Kind V) (store : StoreKind) (disk : S → Disk) (st
             is_served = record {
               served = is_run;
               all = whole result d.ends refl;
+              ends = subst (λ (x : DeskState). EndsWith (fault_of result) is_run.acts x) desk_is (subst (λ (xs : List Act). EndsWith (fault_of result) xs end.scene.desk) acts_are (ends_with result d.ends));
+              opens = may;
+              fed = λ m of. subst (λ (x : DeskState). Run m base (history is_run.acts) (contents m records) x) desk_is
+                  (subst (λ (xs : List Act). Run m base (history xs) (contents m records) end.scene.desk) acts_are (d.serial m (l.holds m of)).0);
               one_by_one = λ m of. d.one_by_one m (l.holds m of);
             };
-            cause = subst (λ (xs : List Act). HasCause store p found (shapes (calls xs)) (length records) (disk (store_of first)) (disk (store_of last)) before after (fault_of result)) acts_are e.cause;
+            cause = subst (λ (xs : List Act). EndsFor store p found (shapes (calls xs)) (length records) (disk (store_of first)) (disk (store_of last)) before after (fault_of result)) acts_are e.cause;
             reported = e.reported;
             events = e.events;
             traced = subst (λ (xs : List Act). IsTraced store p (store.public found) (calls xs) (fault_of result) e.events) acts_are e.traced;
             seen = e.seen;
-            later = subst (λ n. n ≤ (disk (store_of last)).faults) (l.faults first) (subst (λ n. (k.disk first).faults ≤ n) (l.faults last) (goes_all k first (calls acts) d.notes last d.chain).faults);
+            goes = l.goes first last (goes_all k first (calls acts) d.notes last d.chain);
             left = left;
           }
 
@@ -403,7 +425,7 @@ module _ {V S : Type 0} (k : Kind V) (store : StoreKind) (disk : S → Disk) (st
       → map kind.client runners ≡ script.clients → All (λ u. kind.plan u ≡ asks_by (kind.client u) script.txns) runners → epoch ≡ store.epoch found → left ≡ store.left p found
       → ByHand k kind passes (run_state (scene (new_desk (record { params = p }) (suc epoch) left script.clients) first trace) runners before) end result
       → IsLender keys first → At (store.public found) [] 0 first
-      → Serves store passes keys p found script (disk (store_of first)) (disk (store_of end.scene.vault)) before end.output (fault_of result)
+      → ServedOver store disk passes keys p found script (disk (store_of first)) (disk (store_of end.scene.vault)) before end.output (fault_of result)
   serves_on passes kind means keys script sound may first trace runners before end result epoch left named planned epoch_is left_is run l begun =
       let (acts, d, rounds) = subst (λ n. ByHand k kind passes (run_state (scene (new_desk (record { params = p }) (suc (store.epoch found)) n script.clients) first trace) runners before) end result) left_is
       (subst (λ e. ByHand k kind passes (run_state (scene (new_desk (record { params = p }) (suc e) left script.clients) first trace) runners before) end result) epoch_is run) in
@@ -411,5 +433,5 @@ module _ {V S : Type 0} (k : Kind V) (store : StoreKind) (disk : S → Disk) (st
 
 -- the same by other names
 pub renamed : (store : StoreKind) {S : Type 0} (disk : S → Disk) (passes : ℕ → ℕ → ℕ → ℕ → Bool) (keys : Keys) (p : Params) (found : store.Found) (script : Scripts) (a old b new : S) (before after : Flow) (fault : Option Fault)
-    → a ≡ old → new ≡ b → Serves store passes keys p found script (disk a) (disk b) before after fault → Serves store passes keys p found script (disk old) (disk new) before after fault
+    → a ≡ old → new ≡ b → ServedOver store disk passes keys p found script (disk a) (disk b) before after fault → ServedOver store disk passes keys p found script (disk old) (disk new) before after fault
 renamed store disk passes keys p found script a old b new before after fault old_is new_is s = rw (← old_is, new_is) s

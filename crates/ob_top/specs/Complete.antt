@@ -11,7 +11,7 @@ use Rattle.ob_serial.specs.Serial.{EpochRecord}
 use Rattle.ob_serial.specs.Vaults.{Standing}
 use Rattle.ob_script.specs.Script.{Scripts, IsScript, limit}
 use Rattle.ob_kinds.specs.Kinds.{StoreKind}
-use Rattle.ob_served.specs.Served.{IsServed, ClientsServedAll}
+use Rattle.ob_script_runs.specs.Served.{IsServed, ClientsServedAll}
 use Rattle.ob_words.specs.Reading.{asked_by, format_asked, run_asked}
 use Rattle.ob_top.specs.Words.{AreParams, AreLanes, HasKeys}
 use Rattle.ob_top.specs.Outside.{Outside, Left, OfStore}

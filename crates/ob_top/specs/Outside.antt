@@ -6,6 +6,7 @@ use Rattle.ob_base.specs.declared.fault.Fault.{Fault}
 use Rattle.ob_base.specs.declared.fault.Fault.TheVariants.{SinkFault}
 use Rattle.ob_report.specs.Faults.{status_of, fault_status, fault_line}
 use Rattle.ob_store.specs.Disk.{Disk}
+use Rattle.ob_store.specs.Calls.{GoesOn}
 use Rattle.ob_report.specs.Printed.{Flow, IsPrinted}
 
 -- the bytes that come in and go out, at one moment
@@ -30,6 +31,10 @@ OfStore None _ without with_one = without
 abbrev pub NoneOut : {S : Type 0} → (S → Disk) → Option (MutBor S) → Type 0
 NoneOut disk (Some lent) = (disk lent.now).out ≡ 0
 NoneOut disk None = Unit {0}
+
+-- A store that was handed in goes on from what it was, and no lane of it is out, whatever was answered.
+abbrev pub StoreGoesOn : {S : Type 0} → (S → Disk) → Option (MutBor S) → Left S → Type 0
+StoreGoesOn disk entry exit = OfStore entry exit (Unit {0}) (λ old new. GoesOn (disk old) (disk new) × ((disk new).out ≡ 0))
 
 -- The line of a fault is written behind what stands there, or a front of it, unless the output itself is what failed.
 abbrev pub LineTold : Flow → Flow → Option Fault → Type 0

@@ -14,18 +14,19 @@ use Rattle.ob_store.specs.declared.event.Event.{Event}
 use Rattle.ob_store.specs.declared.event.Event.TheVariants as event
 use Rattle.ob_store.specs.Disk.{Disk, Image}
 use Rattle.ob_store.specs.Images.{Settled, LeavesOnly, Passes, Same}
-use Rattle.ob_store.specs.Calls.{Keeps, Notes, IsStoreFault}
+use Rattle.ob_store.specs.Calls.{GoesOn, Keeps, Notes, IsStoreFault}
 use Rattle.ob_serial.specs.Serial.{EpochRecord, Map, OneByOne, AreInOrder, committed_of}
 use Rattle.ob_serial.specs.Vaults.{VaultCall, VaultAnswer, VaultState, Standing, StandsIn}
 use Rattle.ob_kinds.specs.Phases.{Reads, Shape, events_of, shapes, refused}
 use Rattle.ob_kinds.specs.Kinds.{StoreKind, Stands, AllStand, StandsAsBefore, IsOpenedAt, opened_with}
 use Rattle.ob_kinds.specs.Shown.{steps_phases, public_behind, IsCut}
+use Rattle.ob_desk.specs.Desk.{DeskState, MayOpen, Run, new_desk}
 use Rattle.ob_script.specs.Script.{Scripts, IsScript, IsFirstBad, limit}
 use Rattle.ob_flat.specs.Noting.{NotesReads}
-use Rattle.ob_conduct.specs.Acts.{calls}
-use Rattle.ob_conduct.specs.Records.{IsWritten, contents}
-use Rattle.ob_conduct.specs.Left.{IsLeftStanding, IsLeftNow}
-use Rattle.ob_served.specs.Served.{IsServed, ClientsServed, ClientsServedAll}
+use Rattle.ob_conduct.specs.Acts.{Act, calls, history, fault_told}
+use Rattle.ob_conduct.specs.Records.{IsWritten, IsOver, contents}
+use Rattle.ob_conduct.specs.Left.{IsLeftStanding, IsLeftNow, IsBetween, next_at}
+use Rattle.ob_script_runs.specs.Served.{IsServed, ClientsServed, ClientsServedAll}
 use Rattle.ob_top.specs.Outside.{Outside}
 
 -- What is seen of the opening: the head's read, and the order that the kind of store gives.
@@ -87,7 +88,9 @@ module _ (store : StoreKind) (keys : Keys) (old new : Disk) where
     pub kind : store.open_fault fault
     pub read : old.tells → store.refuses keys p old.cells fault
     pub cause : IsStoreFault fault → Rose old.faults new.faults
-    pub seen : store.opens_partly keys p old new
+    pub seen : store.opens_partly keys p old new fault
+    -- unless its store failed, no cell is written, and a crash leaves what it might have left before
+    pub unwritten : (IsStoreFault fault → ⊥) → Keeps old new × Passes Same old new
     -- each image that a crash leaves stands as one did before
     pub left : (at : Standing) → old.tells → Stands store keys p old.cells at → AllStand store keys p old → LeavesOnly old new (StandsAsBefore store keys p old)
 
@@ -105,18 +108,28 @@ pub record IsOpened (store : StoreKind) (keys : Keys) (old : Disk) (before : Flo
 
 -- Why serving ended: the script did; memory was wanting; the output failed; the store failed, perhaps at the last write or sync of the
 -- end of the epoch behind n; or the vault refused for a cause of its kind, behind calls of these shapes.
-abbrev pub HasCause : (store : StoreKind) → Params → store.Found → List Shape → ℕ → Disk → Disk → Flow → Flow → Option Fault → Type 0
-HasCause store p found behind n old new before after None = Unit {0}
-HasCause store p found behind n old new before after (Some Memory) = Unit {0}
-HasCause store p found behind n old new before after (Some SinkFault) = Rose before.faults after.faults
-HasCause store p found behind n old new before after (Some (StoreFault unsure)) = Rose old.faults new.faults × ((unsure ≡ None) ⊎ (unsure ≡ Some (suc (store.epoch found + n))))
-HasCause store p found behind n old new before after (Some fault) = store.causes p found behind n fault
+abbrev pub EndsFor : (store : StoreKind) → Params → store.Found → List Shape → ℕ → Disk → Disk → Flow → Flow → Option Fault → Type 0
+EndsFor store p found behind n old new before after None = Unit {0}
+EndsFor store p found behind n old new before after (Some Memory) = Unit {0}
+EndsFor store p found behind n old new before after (Some SinkFault) = Rose before.faults after.faults
+EndsFor store p found behind n old new before after (Some (StoreFault unsure)) = Rose old.faults new.faults × ((unsure ≡ None) ⊎ (unsure ≡ Some (suc (store.epoch found + n))))
+EndsFor store p found behind n old new before after (Some fault) = store.causes p found behind n fault
+
+-- How serving ended. Without a fault each client has signed off, nothing waits, and the desk isn't stopped; else the last act tells of the
+-- fault, or nothing was done for want of memory.
+abbrev pub EndsWith : Option Fault → List Act → DeskState → Type 0
+EndsWith None acts desk = IsOver desk
+EndsWith (Some fault) acts desk = ((fault ≡ Memory) × (acts ≡ [])) ⊎ ((front : List Act) × (act : Act) × (acts ≡ front ++ act ∷ []) × (fault_told act ≡ Some fault))
 
 -- A script was served from a map on, all of each client's part where there was no fault. The committed transactions ran one by one from
 -- that map, in the order of their epochs and tickets.
 pub record ScriptServed (store : StoreKind) (passes : ℕ → ℕ → ℕ → ℕ → Bool) (p : Params) (found : store.Found) (script : Scripts) (records : List (EpochRecord ℕ)) (fault : Option Fault) : Type 0 where
   pub served : IsServed passes p (store.epoch found) (store.left p found) script records
   pub all : fault ≡ None → ClientsServedAll script records
+  pub ends : EndsWith fault served.acts served.desk
+  -- what batches delivered is the map's, so the acts are a run from that map
+  pub opens : MayOpen (record { params = p }) (suc (store.epoch found)) (store.left p found) script.clients
+  pub fed : (m : Map nat_cmp) → store.is_map found m → Run m (new_desk (record { params = p }) (suc (store.epoch found)) (store.left p found) script.clients) (history served.acts) (contents m records) served.desk
   pub one_by_one : (m : Map nat_cmp) → store.is_map found m → OneByOne nat_cmp m (committed_of records) (contents m records)
 
 -- The whole report is written, unless the output failed.
@@ -146,6 +159,12 @@ module _ (store : StoreKind) (keys : Keys) (p : Params) (found : store.Found) (a
   abbrev pub StandsNow : (Standing → Type 0) → Image → Type 0
   StandsNow allowed = StandsIn (store.stands keys p (store.generation found)) allowed
 
+  -- Stages of serving, one behind each epoch's end. From one to the next a crash leaves what stands behind the epochs so far, or behind one
+  -- more; from the last one on, that or what stands behind the epoch whose end was begun.
+  abbrev pub StagedFrom : {S : Type 0} → (S → Disk) → Standing → List (EpochRecord ℕ) → Option (EpochRecord ℕ) → Disk → Disk → Type 0
+  StagedFrom disk now [] next from last = LeavesOnly from last (StandsNow (IsBetween now next))
+  StagedFrom {S} disk now (r ∷ told) next from last = (mid : S) × LeavesOnly from (disk mid) (StandsNow (IsBetween now (Some r))) × StagedFrom disk (next_at now r) told next (disk mid) last
+
   -- the answer tells that the end of the epoch behind the records is in doubt
   abbrev pub IsDoubt : Type 0
   IsDoubt = fault ≡ Some (StoreFault (Some (suc at.epoch + length records)))
@@ -153,36 +172,37 @@ module _ (store : StoreKind) (keys : Keys) (p : Params) (found : store.Found) (a
   -- What a crash leaves of the store, from when it was opened at an epoch and its map: an image that stands for a front of the records
   -- laid over that map, or for all of them and the epoch whose end was begun. At the return it stands for all of them, or, only where that
   -- is answered, for the epoch in doubt as well; so for none below the last one that is reported.
-  pub record IsLeft (old new : Disk) : Type 0 where
+  pub record IsLeft {S : Type 0} (disk : S → Disk) (old new : Disk) : Type 0 where
     pub next : Option (EpochRecord ℕ)
     pub is_next : IsNext store found (suc at.epoch + length records) script records next
     pub since : LeavesOnly old new (StandsNow (IsLeftStanding held records next))
+    pub stages : StagedFrom disk at records next old new
     pub now : (c : Image) → new.may_leave c → StandsNow (IsLeftNow held records next IsDoubt) c
 
   -- What a crash leaves of a whole run: of the opening, from old to opened, and of serving, from then on to new.
-  pub record LeftByRun (old opened new : Disk) : Type 0 where
+  pub record LeftByWholeRun {S : Type 0} (disk : S → Disk) (old opened new : Disk) : Type 0 where
     pub next : Option (EpochRecord ℕ)
     pub is_next : IsNext store found (suc at.epoch + length records) script records next
     -- until the store is opened, an image that stands as one did before;
     pub opening : LeavesOnly old opened (StandsAsBefore store keys p old)
-    -- from then on, only one that stands as served;
-    pub serving : LeavesOnly opened new (StandsNow (IsLeftStanding held records next))
+    -- from then on, only one that stands as served, and from each epoch's end on for that epoch at least;
+    pub stages : StagedFrom disk at records next opened new
     -- so one of them at any moment of the call;
     pub since : LeavesOnly old new (λ c. StandsAsBefore store keys p old c ⊎ StandsNow (IsLeftStanding held records next) c)
     -- and at its return
     pub now : (c : Image) → new.may_leave c → StandsNow (IsLeftNow held records next IsDoubt) c
 
 -- What serving does to the store and the output.
-pub record Serves (store : StoreKind) (passes : ℕ → ℕ → ℕ → ℕ → Bool) (keys : Keys) (p : Params) (found : store.Found) (script : Scripts) (old new : Disk) (before after : Flow) (fault : Option Fault) : Type 0 where
+pub record ServedOver (store : StoreKind) {S : Type 0} (disk : S → Disk) (passes : ℕ → ℕ → ℕ → ℕ → Bool) (keys : Keys) (p : Params) (found : store.Found) (script : Scripts) (old new : Disk) (before after : Flow) (fault : Option Fault) : Type 0 where
   pub records : List (EpochRecord ℕ)
   pub is_served : ScriptServed store passes p found script records fault
-  pub cause : HasCause store p found (shapes (calls is_served.served.acts)) (length records) old new before after fault
+  pub cause : EndsFor store p found (shapes (calls is_served.served.acts)) (length records) old new before after fault
   pub reported : IsReported before after records fault
   pub events : List Event
   pub traced : IsTraced store p (store.public found) (calls is_served.served.acts) fault events
   pub seen : Notes events old.seen new.seen
-  pub later : old.faults ≤ new.faults
-  pub left : (at : Standing) → old.tells → Settled old → IsOpenedAt store keys p at found old → IsLeft store keys p found at script records fault old new
+  pub goes : GoesOn old new
+  pub left : (at : Standing) → old.tells → Settled old → IsOpenedAt store keys p at found old → IsLeft store keys p found at script records fault disk old new
 
 module _ (store : StoreKind) {S : Type 0} (disk : S → Disk) (passes : ℕ → ℕ → ℕ → ℕ → Bool) where
   -- The script was run, whole or up to a fault.
@@ -193,7 +213,7 @@ module _ (store : StoreKind) {S : Type 0} (disk : S → Disk) (passes : ℕ → 
     pub start : store.Start
     pub opened : IsOpened store keys old before.input p script found start
     pub is_served : ScriptServed store passes p found script records fault
-    pub cause : HasCause store p found (shapes (calls is_served.served.acts)) (length records) old new before.output after.output fault
+    pub cause : EndsFor store p found (shapes (calls is_served.served.acts)) (length records) old new before.output after.output fault
     -- the trace is that of the opening, and then that of the vault's calls
     pub events : List Event
     pub traced : IsTraced store p (store.public found) (calls is_served.served.acts) fault events
@@ -205,7 +225,7 @@ module _ (store : StoreKind) {S : Type 0} (disk : S → Disk) (passes : ℕ → 
     -- Where the store stood for an epoch, opening found that, and the opened store stands for it, whatever crashes. Where each image that a
     -- crash might have left stood too, each that a crash leaves stands as one did before, until the store is opened, and then as served.
     pub stood : (at : Standing) → old.tells → Stands store keys p old.cells at → IsOpenedAt store keys p at found (disk between)
-    pub left : (at : Standing) → old.tells → Stands store keys p old.cells at → AllStand store keys p old → LeftByRun store keys p found at script records fault old (disk between) new
+    pub left : (at : Standing) → old.tells → Stands store keys p old.cells at → AllStand store keys p old → LeftByWholeRun store keys p found at script records fault disk old (disk between) new
 
   -- The run ended early, and nothing was run; or the script was run.
   abbrev pub Went : Keys → Disk → Disk → Outside → Outside → List (EpochRecord ℕ) → Option Fault → Type 0

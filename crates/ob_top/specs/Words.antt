@@ -11,7 +11,7 @@ use Rattle.std.specs.Borrow.{Bor}
 use Rattle.ob_seal.specs.declared.keys.Keys.{Keys}
 use Rattle.ob_seal.specs.KeyText.{IsKeyText, digits_of}
 use Rattle.hex.specs.Hex.{decode_of}
-use Rattle.ob_flat.specs.Heads.{numbers_of}
+use Rattle.ob_start.specs.Heads.{numbers_of}
 use Rattle.ob_words.specs.Reading.{Asked, asked_by, format_asked, run_asked}
 use Rattle.ob_top.specs.declared.words.Command.{Command}
 use Rattle.ob_top.specs.declared.words.Command.TheVariants.{Format, Run}

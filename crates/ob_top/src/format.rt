@@ -1,6 +1,7 @@
 ghost use Rattle.std.specs.Prelude.{◌≡◌};
 ghost use Rattle.ob_report.specs.Printed.{flow};
 ghost use Rattle.ob_store.specs.Images.{LeavesOnly};
+ghost use Rattle.ob_store.specs.Calls.{GoesOn};
 ghost use Rattle.ob_flat.specs.Formats.{FormatLeaves};
 ghost use Rattle.ob_top.specs.Formats.{FormatEnds};
 ghost use Rattle.ob_top.specs.Runs.{fault_of};
@@ -23,6 +24,8 @@ pub fn format_on<S: Store, O: Sink>(
     output: &mut O,
 ) -> Result<(), Fault>
     requires none_out { (S.disk store.old).out ≡ 0 }
+    ensures goes { GoesOn (S.disk store.old) (S.disk store.new) }
+    ensures none_out { (S.disk store.new).out ≡ 0 }
     ensures ends { FormatEnds keys.now params.now (S.disk store.old) (S.disk store.new) (flow (O.written output.old) (O.faults output.old)) (flow (O.written output.new) (O.faults output.new)) (fault_of result) }
     ensures left { (S.disk store.old).tells → LeavesOnly (S.disk store.old) (S.disk store.new) (FormatLeaves keys.now params.now.keys (S.disk store.old)) }
 {

@@ -16,7 +16,7 @@ ghost use Rattle.ob_runner.specs.RunnerViews.{client_of, bound_of, plan_of, MayH
 ghost use Rattle.ob_conduct.specs.Scenes.{scene, run_state, runner_kind};
 ghost use Rattle.ob_conduct.specs.Conducted.{ByHand};
 ghost use Rattle.ob_serial.specs.VaultKinds.{kind_of};
-ghost use Rattle.ob_top.specs.Runs.{CameIn, IsInputRefused, EndsEarly, IsOpened, Serves, RunOn, begin_events, fault_of};
+ghost use Rattle.ob_top.specs.Runs.{CameIn, IsInputRefused, EndsEarly, IsOpened, ServedOver, RunOn, begin_events, fault_of};
 ghost use Rattle.ob_top.specs.Outside.{outside};
 
 use ob_base::{Fault, Memory, Params};
@@ -184,7 +184,8 @@ fn serve_on<R: Wait, S: Store, O: Sink, B: Beat>(
     requires sound { AreSound begun.scripts }
     requires runners { AreRunners begun.scripts begun.runners.items }
     requires keys { begun.scripts.keys ≡ begun.params.keys }
-    ensures { Serves flat_kind B.passes keys.now begun.params begun.opening begun.scripts (S.disk store.old) (S.disk store.new)
+    ensures none_out { (S.disk store.new).out ≡ 0 }
+    ensures serves { ServedOver flat_kind S.disk B.passes keys.now begun.params begun.opening begun.scripts (S.disk store.old) (S.disk store.new)
         (flow (O.written output.old) (O.faults output.old)) (flow (O.written output.new) (O.faults output.new)) (fault_of result) }
 {
     let Begun {
@@ -223,7 +224,9 @@ pub fn run_on<R: Wait, S: Store, I: Source, O: Sink, B: Beat>(
     beat: &mut B,
 ) -> Result<(), Fault>
     requires none_out { (S.disk store.old).out ≡ 0 }
-    ensures { RunOn flat_kind S.disk B.passes keys.now (S.disk store.old) (S.disk store.new)
+    ensures goes { GoesOn (S.disk store.old) (S.disk store.new) }
+    ensures none_out { (S.disk store.new).out ≡ 0 }
+    ensures done { RunOn flat_kind S.disk B.passes keys.now (S.disk store.old) (S.disk store.new)
         (outside (flow (I.left input.old) (I.faults input.old)) (flow (O.written output.old) (O.faults output.old)))
         (outside (flow (I.left input.new) (I.faults input.new)) (flow (O.written output.new) (O.faults output.new)))
         (fault_of result) }

@@ -1,4 +1,4 @@
-ghost use Rattle.std.specs.Prelude.{◌≤◌};
+ghost use Rattle.std.specs.Prelude.{◌≡◌, ◌≤◌};
 ghost use Rattle.ob_mem.specs.Memory.{disk_of_store};
 ghost use Rattle.ob_top.specs.Outside.{NoneOut};
 
@@ -185,6 +185,56 @@ fn a_next_run_finds_what_the_first_one_left(rt: HostRuntime) -> Result<(), Broke
     let writes = "epoch 5/txn 1 client 1 aborted writes full keys 2/put 0 a/put 1 b/";
     let _ = run_on(&rt, &next, wide, 0, writes)?;
     Ok(())
+}
+
+// Runs words on a store and a script, and leaves no lane of the store out.
+fn call_on<R: AllocGlobal + Wait>(
+    rt: &R,
+    words: &[&str],
+    store: &mut MemStore,
+    input: &mut MemSource,
+    sink: &mut MemSink,
+) -> u8
+    requires { (disk_of_store store.old).out ≡ 0 }
+    ensures { (disk_of_store store.new).out ≡ 0 }
+{
+    let keys = Some(KEYS.as_bytes());
+    obladi(rt, words, keys, Some(store), input, sink, &mut Eager)
+}
+
+// The same, where it goes well, with the output compared.
+fn expect_on<R: AllocGlobal + Wait + Abort>(
+    rt: &R,
+    words: &[&str],
+    store: &mut MemStore,
+    script: &str,
+    output: &str,
+) -> Result<(), Broken>
+    requires { (disk_of_store store.old).out ≡ 0 }
+    ensures { (disk_of_store store.new).out ≡ 0 }
+{
+    let alloc = rt.alloc();
+    let lines = script.replace(alloc, "/", "\n")?;
+    let wanted = output.replace(alloc, "/", "\n")?;
+    let mut input = MemSource::new(lines.as_bytes().to_vec(alloc)?, Vec::new(alloc));
+    let mut sink = MemSink::new(alloc, 1000, Vec::new(alloc))?;
+    let told = call_on(rt, words, store, &mut input, &mut sink);
+    assert_eq!(rt; told, 0, "{script}");
+    assert!(rt; sink.written() == wanted.as_bytes(), "{script}");
+    Ok(())
+}
+
+// No crash comes between these calls: what each promises is what the next one asks for.
+#[test]
+fn a_store_is_formatted_and_run_twice(rt: HostRuntime) -> Result<(), Broken> {
+    let alloc = rt.alloc();
+    let mut store = MemStore::new(alloc, 25, Vec::new(alloc))?;
+    let both = format!(in alloc; "{FIRST}{SECOND}")?;
+    let again = "client 1/begin/get 5/commit/";
+    let found = "epoch 3/txn 1 client 1 committed/get 5 = hi/";
+    expect_on(&rt, &FORMAT, &mut store, "", "store of 25 cells/")?;
+    expect_on(&rt, &RUN, &mut store, TWO_EPOCHS, both.as_str())?;
+    expect_on(&rt, &RUN, &mut store, again, found)
 }
 
 #[test]

@@ -1,6 +1,7 @@
 ghost use Rattle.std.specs.Prelude.{◌≡◌, map};
 ghost use Rattle.ob_report.specs.Printed.{flow};
-ghost use Rattle.ob_top.specs.Outside.{outside, IsFinished, NoneOut};
+ghost use Rattle.ob_store.specs.Calls.{GoesOn};
+ghost use Rattle.ob_top.specs.Outside.{outside, IsFinished, NoneOut, StoreGoesOn};
 ghost use Rattle.ob_top.specs.Runs.{fault_of};
 ghost use Rattle.ob_top.specs.Top.{CommandDoes, IsRefusedWithout, UsageDoes, FormatDoes, RunDoes};
 ghost use Rattle.ob_top.specs.Complete.{Completes};
@@ -43,7 +44,9 @@ fn do_on<R: Wait, S: Store, I: Source, O: Sink, B: Beat>(
     beat: &mut B,
 ) -> Result<(), Fault>
     requires none_out { (S.disk store.old).out ≡ 0 }
-    ensures { CommandDoes S.disk B.passes (map (λ w. w.now) words.entry.now) keys.entry store.old store.new
+    ensures goes { GoesOn (S.disk store.old) (S.disk store.new) }
+    ensures none_out { (S.disk store.new).out ≡ 0 }
+    ensures does { CommandDoes S.disk B.passes (map (λ w. w.now) words.entry.now) keys.entry store.old store.new
         (outside (flow (I.left input.old) (I.faults input.old)) (flow (O.written output.old) (O.faults output.old)))
         (outside (flow (I.left input.new) (I.faults input.new)) (flow (O.written output.new) (O.faults output.new))) (fault_of result) }
 {
@@ -100,6 +103,8 @@ pub fn obladi<R: AllocGlobal + Wait, S: Store, I: Source, O: Sink, B: Beat>(
     beat: &mut B,
 ) -> u8
     requires none_out { NoneOut S.disk store }
+    // A store that was handed in can be handed in again.
+    ensures goes { StoreGoesOn S.disk store.entry store.exit }
     // Words that are no command leave everything but the output untouched.
     ensures usage { UsageDoes S.disk B.passes (map (λ w. w.now) words.entry.now) keys.entry store.entry store.exit
         (outside (flow (I.left input.old) (I.faults input.old)) (flow (O.written output.old) (O.faults output.old)))

@@ -157,15 +157,6 @@ closing tag first m n closes old new next stands opened so_far =
     let is : n % 2 ≡ (m + 1) % 2 = ap (λ x. x % 2) next in
     weakened old new (λ c. IsTornOnly closes (gate_at first (n % 2)) c old.cells) (KeepsAt tag first old.cells m) (λ c torn. kept_torn tag first m (n % 2) old.cells is stands closes c opened torn) so_far
 
--- once the gate is open
-pub opened_at : (tag : Tagging) (first n : ℕ) (gate : List ℕ) (old mid new : Disk) → n < 2 ^ 62 → IsUnder tag first old.cells ((n + 1) % 2) n → IsPrepared tag first old.cells n mid.cells
-    → new.cells (gate_at first (n % 2)) ≡ gate → SameBut (gate_at first (n % 2)) new.cells mid.cells → gate ≡ open_gate → KeepsAt tag first old.cells n new.cells
-opened_at tag first n gate old mid new small under ready put elsewhere is =
-    new_one tag first n old.cells small under new.cells
-    (λ k a b. elsewhere k b ∙ ready.rest k a b)
-    (put ∙ is)
-    (elsewhere _ (omega arith) ∙ ready.body)
-
 -- an image with the same cells
 pub kept_everywhere : (tag : Tagging) (first n : ℕ) (from c d : Image) → ((k : ℕ) → c k ≡ d k) → KeepsAt tag first from n d → KeepsAt tag first from n c
 kept_everywhere tag first n from c d same kept =

@@ -5,8 +5,8 @@ use Rattle.ob_base.specs.declared.fault.Fault.TheVariants.{StoreFault}
 use Rattle.ob_store.specs.declared.event.Event.{Event}
 use Rattle.ob_store.specs.declared.watch.Note.{Note}
 use Rattle.ob_store.specs.Disk.{Image}
-use Rattle.ob_store.specs.Calls.{Notes, NotesFirst}
-use Rattle.ob_store.specs.Lines.{Trace, Shows, ShowsFirst}
+use Rattle.ob_store.specs.Lines.{Trace}
+use Rattle.ob_store.specs.Told.{Tells, TellsFirst}
 use Rattle.ob_twin.specs.declared.twin.Twin.{Twin}
 use Rattle.ob_twin.specs.declared.gates.Gates.{Gates}
 use Rattle.ob_twin.specs.declared.gates.Open.{Open}
@@ -24,10 +24,6 @@ IsGates twin old new image (Err (StoreFault unsure)) = new ≡ old
 IsGates twin old new image _ = (known : Open) × (new ≡ with_known twin old known) × GatesAre known (first_of twin) image
 
 -- all the reads, unless the store failed: then the first of them
-abbrev pub NotesReads : List Event → Option (List Event) → Option (List Event) → Result (Option ℕ) Fault → Type 0
-NotesReads events old new (Err (StoreFault unsure)) = NotesFirst events old new
-NotesReads events old new _ = Notes events old new
-
-abbrev pub ShowsReads : List Note → Trace → Trace → Result (Option ℕ) Fault → Type 0
-ShowsReads notes old new (Err (StoreFault unsure)) = ShowsFirst notes old new
-ShowsReads notes old new _ = Shows notes old new
+abbrev pub DoesReads : {V : Type 0} → List Note → Option (List Event) → Option (List Event) → Trace → Trace → Result V Fault → Type 0
+DoesReads notes old new before after (Err (StoreFault unsure)) = TellsFirst notes old new before after
+DoesReads notes old new before after _ = Tells notes notes old new before after

@@ -1,11 +1,12 @@
 -- Which gates may be open, as far as is known.
-use Rattle.std.specs.Prelude.{◌↔◌, ◌==◌, ◌||◌, ℕ, Bool, true, not, if◌then◌else◌, IsTrue}
+use Rattle.std.specs.Prelude.{◌↔◌, ◌==◌, ◌||◌, ℕ, Bool, true, not, if◌then◌else◌, IsTrue, Result, Ok, Err}
 use Rattle.ob_store.specs.Disk.{Image}
 use Rattle.ob_twin.specs.declared.twin.Twin.{Twin}
 use Rattle.ob_twin.specs.declared.twin.Twin.TheVariants.{GENERATION, EPOCH}
 use Rattle.ob_twin.specs.declared.gates.Open.{Open}
 use Rattle.ob_twin.specs.declared.gates.Gates.{Gates}
-use Rattle.ob_twin.specs.Register.{IsOpen}
+use Rattle.ob_twin.specs.declared.set_err.SetErr.{SetErr}
+use Rattle.ob_twin.specs.Register.{place_of, IsOpen}
 
 -- what is known of a register's gates
 abbrev pub known_of : Twin → Gates → Open
@@ -31,3 +32,8 @@ pub record GatesAre (known : Open) (first : ℕ) (image : Image) : Type 0 where
 -- The gate of a place is closed first where it may be open, and where no gate of the register is.
 abbrev pub is_closed_first : Open → ℕ → Bool
 is_closed_first known place = is_marked known place || not (known.zero || known.one)
+
+-- once a number is set, its gate is known to be open
+abbrev pub gates_set : Twin → ℕ → Gates → Result (Unit {0}) SetErr → Gates
+gates_set twin n gates (Ok done) = with_known twin gates (with_mark (known_of twin gates) (place_of n))
+gates_set twin n gates (Err refused) = gates

@@ -69,3 +69,9 @@ pub record IsPrepared (tag : Tagging) (first : ℕ) (from : Image) (n : ℕ) (im
   pub body : image (body_at first (place_of n)) ≡ body_of tag (body_at first (place_of n)) n
   pub shut : image (gate_at first (place_of n)) ≢ open_gate
   pub rest : SameTwo (body_at first (place_of n)) (gate_at first (place_of n)) image from
+
+-- the number's body stands under an open gate, and each other cell is as before
+pub record IsPut (tag : Tagging) (first : ℕ) (from : Image) (n : ℕ) (image : Image) : Type 0 where
+  pub body : image (body_at first (place_of n)) ≡ body_of tag (body_at first (place_of n)) n
+  pub opened : IsOpen first image (place_of n)
+  pub rest : SameTwo (body_at first (place_of n)) (gate_at first (place_of n)) image from

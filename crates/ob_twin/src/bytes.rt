@@ -1,6 +1,7 @@
 ghost use Rattle.std.specs.Prelude.{◌≡◌, ◌↔◌, IsTrue};
 ghost use Rattle.ob_twin.specs.Bodies.{open_gate, closed_gate, number_of, plain_of};
 
+/// An open gate: A5 in every byte.
 #[tactic(auto, unfolding(crate::specs::Bodies::open_gate))]
 pub fn open_gate() -> [u8; 128]
     ensures { result ≡ open_gate }
@@ -8,6 +9,7 @@ pub fn open_gate() -> [u8; 128]
     [0xA5; 128]
 }
 
+/// A closed gate as it is written: zeros.
 #[tactic(auto, unfolding(crate::specs::Bodies::closed_gate))]
 pub fn closed_gate() -> [u8; 128]
     ensures { result ≡ closed_gate }
@@ -15,6 +17,7 @@ pub fn closed_gate() -> [u8; 128]
     [0; 128]
 }
 
+/// Whether a cell is an open gate. Any other bytes are a closed one.
 #[tactic(auto, unfolding(crate::specs::Bodies::open_gate))]
 pub fn is_open(gate: &[u8; 128]) -> bool
     ensures { IsTrue result ↔ gate.now ≡ open_gate }

@@ -3,19 +3,19 @@ ghost use Rattle.ob_base.specs.Causes.{HasCause};
 ghost use Rattle.ob_base.specs.declared.fault.Check.TheVariants as check;
 ghost use Rattle.ob_store.specs.Disk.{Image};
 ghost use Rattle.ob_store.specs.Images.{Same, Shrinks, Passes};
-ghost use Rattle.ob_store.specs.Calls.{Serves, IsFailed, IsStoreFault, Keeps, Notes, NotesFirst, TellsOn};
-ghost use Rattle.ob_store.specs.Lines.{Shows, ShowsFirst};
+ghost use Rattle.ob_store.specs.Calls.{Serves, IsFailed, IsStoreFault, Keeps, TellsOn};
+ghost use Rattle.ob_store.specs.Told.{Does};
 ghost use Rattle.ob_twin.specs.Bodies.{open_gate, number_of, IsWhole};
 ghost use Rattle.ob_twin.specs.Register.{first_of, body_at, gate_at, StandsAt};
 ghost use Rattle.ob_twin.specs.Reading.{IsDamage, IsPlace, IsRead, IsGot, IsGetFault, greater};
 ghost use Rattle.ob_twin.specs.Opening.{known_of, with_known, GatesAre};
-ghost use Rattle.ob_twin.specs.Orders.{get_events, get_notes};
-ghost use Rattle.ob_twin.specs.Got.{IsOkOr, IsGates, NotesReads, ShowsReads};
+ghost use Rattle.ob_twin.specs.Orders.{get_notes};
+ghost use Rattle.ob_twin.specs.Got.{IsOkOr, IsGates, DoesReads};
 
 use crate::bytes::{is_open, number_of};
 use crate::known::set_known;
 use crate::{Gates, Open, Stamper, Twin};
-use ob_base::{Check, Damaged, Failed, Fault};
+use ob_base::{Check, Damaged, Failed, Fault, NUMBER_LIMIT};
 use ob_store::{Store, Watch, read_noted};
 
 // The four cells of a register.
@@ -39,11 +39,8 @@ fn read_cells<S: Store, W: Watch>(
     ensures gate_zero { (S.disk store.now).tells → OnOk result (cells.new.gate_zero ≡ (S.disk store.now).cells (gate_at first 0)) }
     ensures body_one { (S.disk store.now).tells → OnOk result (cells.new.body_one ≡ (S.disk store.now).cells (body_at first 1)) }
     ensures gate_one { (S.disk store.now).tells → OnOk result (cells.new.gate_one ≡ (S.disk store.now).cells (gate_at first 1)) }
-    ensures seen { OnOk result (Notes (get_events first) (S.lane_seen lane.old) (S.lane_seen lane.new)) }
-    ensures seen_err { OnErr result (NotesFirst (get_events first) (S.lane_seen lane.old) (S.lane_seen lane.new)) }
     ensures cause { HasCause (S.lane_faults lane.old) (S.lane_faults lane.new) result }
-    ensures shown { OnOk result (Shows (get_notes first) (W.trace watch.old) (W.trace watch.new)) }
-    ensures shown_err { OnErr result (ShowsFirst (get_notes first) (W.trace watch.old) (W.trace watch.new)) }
+    ensures does { Does (get_notes first) (S.lane_seen lane.old) (S.lane_seen lane.new) (W.trace watch.old) (W.trace watch.new) result }
 {
     read_noted(store, lane, first, &mut cells.body_zero, watch)?;
     read_noted(store, lane, first + 1, &mut cells.gate_zero, watch)?;
@@ -67,10 +64,7 @@ fn read_register<S: Store, W: Watch>(
     ensures gate_zero { (S.disk store.old).tells → OnOk result (cells.new.gate_zero ≡ (S.disk store.old).cells (gate_at first 0)) }
     ensures body_one { (S.disk store.old).tells → OnOk result (cells.new.body_one ≡ (S.disk store.old).cells (body_at first 1)) }
     ensures gate_one { (S.disk store.old).tells → OnOk result (cells.new.gate_one ≡ (S.disk store.old).cells (gate_at first 1)) }
-    ensures seen { OnOk result (Notes (get_events first) (S.disk store.old).seen (S.disk store.new).seen) }
-    ensures seen_err { OnErr result (NotesFirst (get_events first) (S.disk store.old).seen (S.disk store.new).seen) }
-    ensures shown { OnOk result (Shows (get_notes first) (W.trace watch.old) (W.trace watch.new)) }
-    ensures shown_err { OnErr result (ShowsFirst (get_notes first) (W.trace watch.old) (W.trace watch.new)) }
+    ensures does { Does (get_notes first) (S.disk store.old).seen (S.disk store.new).seen (W.trace watch.old) (W.trace watch.new) result }
 {
     let mut lane = store.lane()?;
     let outcome = read_cells(store, &mut lane, first, cells, watch);
@@ -92,7 +86,7 @@ fn number_in<T: Stamper>(
     }
     stamper.unstamp(cell, body)?;
     let n = number_of(body);
-    if n >= 1 << 62 {
+    if n >= NUMBER_LIMIT {
         return Err(too_great(cell, body));
     }
     Ok(Some(n))
@@ -166,8 +160,7 @@ impl Twin {
         ensures crash { Shrinks (S.disk store.old) (S.disk store.new) }
         // A crash at any moment leaves what it might have left before.
         ensures passes { Passes Same (S.disk store.old) (S.disk store.new) }
-        ensures seen { NotesReads (get_events (first_of self)) (S.disk store.old).seen (S.disk store.new).seen result }
-        ensures shown { ShowsReads (get_notes (first_of self)) (W.trace watch.old) (W.trace watch.new) result }
+        ensures does { DoesReads (get_notes (first_of self)) (S.disk store.old).seen (S.disk store.new).seen (W.trace watch.old) (W.trace watch.new) result }
     {
         let first = self.first();
         let mut cells = Cells {

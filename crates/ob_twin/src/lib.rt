@@ -12,6 +12,7 @@ mod stamp;
 mod twin;
 mod zero_tag;
 
+pub use bytes::{closed_gate, is_open, open_gate};
 pub use gates::{Gates, Open};
 pub use set_err::SetErr;
 pub use stamp::Stamper;

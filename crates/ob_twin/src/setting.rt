@@ -1,19 +1,19 @@
-ghost use Rattle.std.specs.Prelude.{◌≡◌, ◌≢◌, ◌<◌, ◌+◌, ◌%◌, ◌^◌, ◌≤◌, ◌++◌, ℕ, [], OnOk, OnErr, IfErr, IsTrue, if◌then◌else◌};
+ghost use Rattle.std.specs.Prelude.{◌≡◌, ◌≢◌, ◌<◌, ◌+◌, ◌%◌, ◌^◌, ◌≤◌, ℕ, [], OnOk, OnErr, IfErr, IsTrue, if◌then◌else◌};
 ghost use Rattle.ob_store.specs.Disk.{Image};
 ghost use Rattle.ob_store.specs.Images.{Settled, SameBut, LeavesOnly, Passes};
-ghost use Rattle.ob_store.specs.Calls.{Serves, IsFailed, Notes, NotesFirst};
-ghost use Rattle.ob_store.specs.Lines.{Shows, ShowsFirst};
+ghost use Rattle.ob_store.specs.Calls.{Serves, IsFailed};
+ghost use Rattle.ob_store.specs.Told.{Does};
 ghost use Rattle.ob_twin.specs.Bodies.{open_gate};
-ghost use Rattle.ob_twin.specs.Register.{first_of, body_at, gate_at, place_of, IsOpen, IsUnder, StandsAt, KeepsAt, IsPrepared, OldOrNew, SameOutside, SameTwo, IsTornOnly};
-ghost use Rattle.ob_twin.specs.Opening.{known_of, with_known, with_mark, is_closed_first, GatesAre};
-ghost use Rattle.ob_twin.specs.Refused.{IsSetFault, IsBefore};
-ghost use Rattle.ob_twin.specs.Orders.{through_events, through_notes, prepare_events, prepare_notes, set_events, set_notes, unsure_of};
+ghost use Rattle.ob_twin.specs.Register.{first_of, body_at, gate_at, place_of, IsOpen, IsUnder, StandsAt, KeepsAt, IsPrepared, IsPut, SameOutside, SameTwo, IsTornOnly};
+ghost use Rattle.ob_twin.specs.Opening.{known_of, gates_set, is_closed_first, GatesAre};
+ghost use Rattle.ob_twin.specs.Refused.{IsSetFault, SetLeaves};
+ghost use Rattle.ob_twin.specs.Orders.{through_notes, prepare_notes, GateDoes, SetDoes, unsure_of};
 
 use crate::bytes::{closed_gate, open_gate, plain_of};
 use crate::known::{is_closed_first, known_of, set_known, with_mark};
 use crate::{Gates, SetErr, Stamper, Twin};
 use ob_base::{Failed, Fault};
-use ob_store::{Store, Watch, write_through};
+use ob_store::{Store, Watch, sync_noted, write_noted, write_through};
 
 // Closes the gate of a place, where that is needed.
 fn close<S: Store, W: Watch>(
@@ -30,10 +30,7 @@ fn close<S: Store, W: Watch>(
     ensures durable { (S.disk store.old).tells → Settled (S.disk store.old) → OnOk result (Settled (S.disk store.new)) }
     ensures any_moment { Settled (S.disk store.old) → LeavesOnly (S.disk store.old) (S.disk store.new) (λ c. IsTornOnly closes gate c (S.disk store.old).cells) }
     ensures passes { Passes (SameBut gate) (S.disk store.old) (S.disk store.new) }
-    ensures seen { OnOk result (Notes (if closes then through_events gate else []) (S.disk store.old).seen (S.disk store.new).seen) }
-    ensures seen_err { OnErr result (NotesFirst (if closes then through_events gate else []) (S.disk store.old).seen (S.disk store.new).seen) }
-    ensures shown { OnOk result (Shows (if closes then through_notes gate else []) (W.trace watch.old) (W.trace watch.new)) }
-    ensures shown_err { OnErr result (ShowsFirst (if closes then through_notes gate else []) (W.trace watch.old) (W.trace watch.new)) }
+    ensures does { Does (if closes then through_notes gate else []) (S.disk store.old).seen (S.disk store.new).seen (W.trace watch.old) (W.trace watch.new) result }
 {
     if closes {
         return write_through(store, gate, &closed_gate(), watch);
@@ -61,14 +58,26 @@ fn prepare<S: Store, T: Stamper, W: Watch>(
     ensures durable { (S.disk store.old).tells → OnOk result (Settled (S.disk store.new)) }
     ensures any_moment { (m : ℕ) → n ≡ m + 1 → (S.disk store.old).tells → (IsTrue closes → IsOpen first (S.disk store.old).cells (place_of n)) → Settled (S.disk store.old) → StandsAt (T.tag stamper.now) first (S.disk store.old).cells m
         → LeavesOnly (S.disk store.old) (S.disk store.new) (KeepsAt (T.tag stamper.now) first (S.disk store.old).cells m) }
-    ensures seen { OnOk result (Notes (prepare_events closes first n) (S.disk store.old).seen (S.disk store.new).seen) }
-    ensures seen_err { OnErr result (NotesFirst (prepare_events closes first n) (S.disk store.old).seen (S.disk store.new).seen) }
-    ensures shown { OnOk result (Shows (prepare_notes closes first n) (W.trace watch.old) (W.trace watch.new)) }
-    ensures shown_err { OnErr result (ShowsFirst (prepare_notes closes first n) (W.trace watch.old) (W.trace watch.new)) }
+    ensures does { Does (prepare_notes closes first n) (S.disk store.old).seen (S.disk store.new).seen (W.trace watch.old) (W.trace watch.new) result }
 {
     let body = first + 2 * (n % 2);
     close(store, closes, body + 1, watch)?;
     write_through(store, body, &stamper.stamp(body, &plain_of(n)), watch)
+}
+
+// Opens a gate, and makes sure of it. The write is made, whatever is answered.
+fn open<S: Store, W: Watch>(store: &mut S, gate: u64, watch: &mut W) -> Result<(), Failed>
+    requires none_out { (S.disk store.old).out ≡ 0 }
+    ensures serves { Serves IsFailed (S.disk store.old) (S.disk store.new) result }
+    ensures opened { (S.disk store.old).tells → OnOk result ((S.disk store.new).cells gate ≡ open_gate) }
+    ensures rest { (S.disk store.old).tells → SameBut gate (S.disk store.new).cells (S.disk store.old).cells }
+    ensures durable { (S.disk store.old).tells → OnOk result (Settled (S.disk store.new)) }
+    ensures passes { Passes (SameBut gate) (S.disk store.old) (S.disk store.new) }
+    ensures any_moment { Settled (S.disk store.old) → LeavesOnly (S.disk store.old) (S.disk store.new) (λ c. SameBut gate c (S.disk store.old).cells) }
+    ensures does { GateDoes gate (S.disk store.old).seen (S.disk store.new).seen (W.trace watch.old) (W.trace watch.new) result }
+{
+    write_noted(store, gate, &open_gate(), watch)?;
+    sync_noted(store, watch)
 }
 
 // The body, then the gate over it.
@@ -85,27 +94,20 @@ fn put<S: Store, T: Stamper, W: Watch>(
     requires told { (S.disk store.old).tells → (IsTrue closes → ⊥) → IsOpen (first_of twin) (S.disk store.old).cells (place_of n) → ⊥ }
     ensures serves { Serves (IsSetFault twin n) (S.disk store.old) (S.disk store.new) result }
     ensures faults { IfErr result (IsSetFault twin n) }
-    ensures done { (S.disk store.old).tells → IsUnder (T.tag stamper.now) (first_of twin) (S.disk store.old).cells (place_of (n + 1)) n
-        → OnOk result (KeepsAt (T.tag stamper.now) (first_of twin) (S.disk store.old).cells n (S.disk store.new).cells) }
-    ensures opened { (S.disk store.old).tells → OnOk result (IsOpen (first_of twin) (S.disk store.new).cells (place_of n)) }
+    ensures done { (S.disk store.old).tells → OnOk result (IsPut (T.tag stamper.now) (first_of twin) (S.disk store.old).cells n (S.disk store.new).cells) }
     ensures rest { (S.disk store.old).tells → SameTwo (body_at (first_of twin) (place_of n)) (gate_at (first_of twin) (place_of n)) (S.disk store.new).cells (S.disk store.old).cells }
     ensures passes { Passes (SameOutside (first_of twin)) (S.disk store.old) (S.disk store.new) }
     ensures durable { (S.disk store.old).tells → OnOk result (Settled (S.disk store.new)) }
     ensures any_moment { (m : ℕ) → n ≡ m + 1 → (S.disk store.old).tells → (IsTrue closes → IsOpen (first_of twin) (S.disk store.old).cells (place_of n)) → Settled (S.disk store.old) → StandsAt (T.tag stamper.now) (first_of twin) (S.disk store.old).cells m
-        → LeavesOnly (S.disk store.old) (S.disk store.new) (OldOrNew (T.tag stamper.now) (first_of twin) (S.disk store.old).cells m n) }
-    ensures before { (m : ℕ) → n ≡ m + 1 → (S.disk store.old).tells → (IsTrue closes → IsOpen (first_of twin) (S.disk store.old).cells (place_of n)) → Settled (S.disk store.old) → StandsAt (T.tag stamper.now) (first_of twin) (S.disk store.old).cells m
-        → IsBefore result → LeavesOnly (S.disk store.old) (S.disk store.new) (KeepsAt (T.tag stamper.now) (first_of twin) (S.disk store.old).cells m) }
-    ensures seen { OnOk result (Notes (set_events closes (first_of twin) n) (S.disk store.old).seen (S.disk store.new).seen) }
-    ensures seen_err { OnErr result (NotesFirst (set_events closes (first_of twin) n) (S.disk store.old).seen (S.disk store.new).seen) }
-    ensures shown { OnOk result (Shows (set_notes closes (first_of twin) n) (W.trace watch.old) (W.trace watch.new)) }
-    ensures shown_err { OnErr result (ShowsFirst (set_notes closes (first_of twin) n) (W.trace watch.old) (W.trace watch.new)) }
+        → LeavesOnly (S.disk store.old) (S.disk store.new) (SetLeaves (T.tag stamper.now) (first_of twin) (S.disk store.old).cells m n result) }
+    ensures does { SetDoes closes (first_of twin) n (S.disk store.old).seen (S.disk store.new).seen (W.trace watch.old) (W.trace watch.new) result }
 {
     let first = twin.first();
     match prepare(store, stamper, closes, first, n, watch) {
         Ok(()) => {}
         Err(Failed) => return Err(SetErr::Before(Fault::StoreFault { unsure: None })),
     }
-    match write_through(store, first + 2 * (n % 2) + 1, &open_gate(), watch) {
+    match open(store, first + 2 * (n % 2) + 1, watch) {
         Ok(()) => Ok(()),
         Err(Failed) => Err(SetErr::Unsure(Fault::StoreFault {
             unsure: unsure_of(twin, n),
@@ -145,33 +147,23 @@ impl Twin {
         requires told { (S.disk store.old).tells → GatesAre (known_of self gates.old) (first_of self) (S.disk store.old).cells }
         ensures serves { Serves (IsSetFault self n) (S.disk store.old) (S.disk store.new) result }
         ensures faults { IfErr result (IsSetFault self n) }
-        // Once it is done, each image stands at the new number.
-        ensures done { (S.disk store.old).tells → IsUnder (T.tag stamper.now) (first_of self) (S.disk store.old).cells (place_of (n + 1)) n
-            → OnOk result (KeepsAt (T.tag stamper.now) (first_of self) (S.disk store.old).cells n (S.disk store.new).cells) }
+        // Once it is done, the number's body, each byte of it, stands under an open gate.
+        ensures done { (S.disk store.old).tells → OnOk result (IsPut (T.tag stamper.now) (first_of self) (S.disk store.old).cells n (S.disk store.new).cells) }
         // No other cell changes.
         ensures rest { (S.disk store.old).tells → SameOutside (first_of self) (S.disk store.new).cells (S.disk store.old).cells }
         // A crash at any moment leaves no other cell changed.
         ensures passes { Passes (SameOutside (first_of self)) (S.disk store.old) (S.disk store.new) }
         ensures durable { (S.disk store.old).tells → OnOk result (Settled (S.disk store.new)) }
+        // Once it is done, each image stands at the new number.
         ensures reads_new { (S.disk store.old).tells → IsUnder (T.tag stamper.now) (first_of self) (S.disk store.old).cells (place_of (n + 1)) n
             → OnOk result ((c : Image) → (S.disk store.new).may_leave c → KeepsAt (T.tag stamper.now) (first_of self) (S.disk store.old).cells n c) }
-        // A crash at any moment leaves the old number or the new one.
+        // A crash at any moment leaves the old number or the new one; the old one where it was refused before the gate.
         ensures old_or_new { (m : ℕ) → n ≡ m + 1 → (S.disk store.old).tells → Settled (S.disk store.old) → StandsAt (T.tag stamper.now) (first_of self) (S.disk store.old).cells m
-            → LeavesOnly (S.disk store.old) (S.disk store.new) (OldOrNew (T.tag stamper.now) (first_of self) (S.disk store.old).cells m n) }
-        // Where it was refused before the gate, the old one.
-        ensures before_reads_old { (m : ℕ) → n ≡ m + 1 → (S.disk store.old).tells → Settled (S.disk store.old) → StandsAt (T.tag stamper.now) (first_of self) (S.disk store.old).cells m
-            → IsBefore result → LeavesOnly (S.disk store.old) (S.disk store.new) (KeepsAt (T.tag stamper.now) (first_of self) (S.disk store.old).cells m) }
-        // Whatever it answered, each image stands at one of the two.
-        ensures unsure_reads_either { (m : ℕ) → n ≡ m + 1 → (S.disk store.old).tells → Settled (S.disk store.old) → StandsAt (T.tag stamper.now) (first_of self) (S.disk store.old).cells m
-            → (c : Image) → (S.disk store.new).may_leave c → OldOrNew (T.tag stamper.now) (first_of self) (S.disk store.old).cells m n c }
-        ensures gates { OnOk result (gates.new ≡ with_known self gates.old (with_mark (known_of self gates.old) (place_of n))) }
-        ensures gates_err { OnErr result (gates.new ≡ gates.old) }
+            → LeavesOnly (S.disk store.old) (S.disk store.new) (SetLeaves (T.tag stamper.now) (first_of self) (S.disk store.old).cells m n result) }
+        ensures gates { gates.new ≡ gates_set self n gates.old result }
         ensures tell { (S.disk store.old).tells → OnOk result (GatesAre (known_of self gates.new) (first_of self) (S.disk store.new).cells) }
-        // The order of its writes and syncs.
-        ensures seen { OnOk result (Notes (set_events (is_closed_first (known_of self gates.old) (place_of n)) (first_of self) n) (S.disk store.old).seen (S.disk store.new).seen) }
-        ensures seen_err { OnErr result (NotesFirst (set_events (is_closed_first (known_of self gates.old) (place_of n)) (first_of self) n) (S.disk store.old).seen (S.disk store.new).seen) }
-        ensures shown { OnOk result (Shows (set_notes (is_closed_first (known_of self gates.old) (place_of n)) (first_of self) n) (W.trace watch.old) (W.trace watch.new)) }
-        ensures shown_err { OnErr result (ShowsFirst (set_notes (is_closed_first (known_of self gates.old) (place_of n)) (first_of self) n) (W.trace watch.old) (W.trace watch.new)) }
+        // The order of its writes and syncs. It is unsure only where the gate was written.
+        ensures does { SetDoes (is_closed_first (known_of self gates.old) (place_of n)) (first_of self) n (S.disk store.old).seen (S.disk store.new).seen (W.trace watch.old) (W.trace watch.new) result }
     {
         let known = known_of(self, gates);
         let place = n % 2;

@@ -8,7 +8,7 @@ use crate::calls::Txn;
 use crate::desk::Desk;
 use crate::part::{goes_on, has_asked};
 use crate::roll::client_in;
-use ob_base::Key;
+use ob_base::{Key, NUMBER_LIMIT};
 
 impl Desk {
     fn is_here(&self, number: u32) -> bool
@@ -144,7 +144,7 @@ impl Desk {
     {
         self.is_closed
             && epoch == self.running.epoch
-            && epoch <= 1 << 62
+            && epoch <= NUMBER_LIMIT
             && left == self.running.order.params().batches
     }
 

@@ -2,7 +2,7 @@ use Rattle.std.proofs.Common.{◌≡◌, ◌<◌, ◌+◌, ◌∙◌, ap, length
 use Rattle.ob_store.specs.Runs.{write_notes}
 use Rattle.ob_store.specs.Told.{Tells}
 use Rattle.ob_store.proofs.Doing.{does_all, does_refused}
-use Rattle.ob_store.proofs.Runs.{one_more, noted_one, passes_one, elsewhere_one, shown_one, told_run, first_run}
+use Rattle.ob_store.proofs.Runs.{one_more, passes_one, elsewhere_one, told_next, first_run}
 use Rattle.ob_cells.proofs.Listed.{sealed_rows, sealed_at, length-rows, rest_of, passes_of, whole_of}
 use Rattle.ob_cells.proofs.writing.write_sealed.Goals as goal
 
@@ -32,18 +32,9 @@ returns-in_err-write_noted-clause-passes g c =
 
 pub returns-in_err-write_noted-clause-does : goal.returns-in_err-write_noted-clause-does
 returns-in_err-write_noted-clause-does g c =
-    let before = c.args.sealer.now in
-    let plain = g.P.Pieces.plain c.args.pieces.now in
-    let rows = sealed_rows before c.args.base c.args.many plain in
-    let old = g.S.Store.disk c.args.store.now in
-    let mid = g.S.Store.disk c.loop-i.store in
-    let new = g.S.Store.disk c.write_noted.new.store in
-    let within : c.loop-i.i < length rows = omega (arith, length-rows before c.args.base c.args.many plain, c.loop-i-test.true) in
     does_refused _ _ _ _ (write_notes c.args.base c.args.many) c.from_residual.result c.from_residual.ensures.0
     (first_run c.args.base c.args.many (c.loop-i.i + 1) _ _ _ _ (omega (arith, c.loop-i-test.true))
-    (told_run c.args.base (c.loop-i.i + 1) _ _ _ _
-    (noted_one c.args.base rows c.loop-i.i old mid new within c.loop-i.invariant.writing c.write_noted.ensures.seen)
-    (shown_one c.args.base c.args.many c.loop-i.i c.loop-i-test.true _ _ _ c.loop-i.invariant.shown c.write_noted.ensures.shown)))
+    (told_next c.args.base c.loop-i.i _ _ _ _ _ _ c.loop-i.invariant.told c.write_noted.ensures.told))
 
 pub loop-i-preserved : goal.loop-i-preserved
 loop-i-preserved g c =
@@ -60,8 +51,8 @@ loop-i-preserved g c =
     let is = c.seal_next.ensures.bytes ∙ sealed_at before was c.args.base c.args.many i plain c.piece.result c.loop-i-test.true c.loop-i.invariant.keys c.loop-i.invariant.generation c.loop-i.invariant.next c.piece.ensures in
     let long : length (plain i) ≡ 96 = ap length (sym c.piece.ensures) ∙ search rules in
     record {
-      writing = one_more c.args.base rows i old mid new within c.loop-i.invariant.writing c.seal_next.result is e.serves e.written e.rest e.crash e.time e.seen;
-      shown = shown_one c.args.base c.args.many i c.loop-i-test.true _ _ _ c.loop-i.invariant.shown e.shown;
+      writing = one_more c.args.base rows i old mid new within c.loop-i.invariant.writing c.seal_next.result is e.serves e.written e.rest e.crash e.time;
+      told = told_next c.args.base i _ _ _ _ _ _ c.loop-i.invariant.told e.told;
       whole = below_more (λ j. length (plain j) ≡ 96) i c.loop-i.invariant.whole long;
       keys = ap (λ s. s.keys) c.seal_next.ensures.next ∙ c.loop-i.invariant.keys;
       generation = ap (λ s. s.generation) c.seal_next.ensures.next ∙ c.loop-i.invariant.generation;
@@ -85,7 +76,6 @@ returns-clause-passes g c =
 pub returns-clause-does : goal.returns-clause-does
 returns-clause-does g c =
     let whole : c.loop-i.i ≡ c.args.many = omega (arith, c.loop-i-test.false, c.loop-i.auto.i-end) in
-    let so_far = c.loop-i.invariant in
     does_all _ _ _ _ (write_notes c.args.base c.args.many) tt
     (subst (λ n. Tells (write_notes c.args.base n) (write_notes c.args.base n) (g.S.Store.disk c.args.store.now).seen (g.S.Store.disk c.loop-i.store).seen (g.W.Watch.trace c.args.watch.now) (g.W.Watch.trace c.loop-i.watch)) whole
-    (told_run c.args.base c.loop-i.i _ _ _ _ so_far.writing.seen so_far.shown))
+    c.loop-i.invariant.told)

@@ -1,30 +1,41 @@
-use Rattle.std.proofs.Common.{◌≡◌, ◌<◌, ◌≤◌, ◌^◌, ℕ, List, Option, None, ◌++◌, true, ◌∙◌, ap, subst, arith, rules, ◌+◌, length, replicate}
+use Rattle.std.proofs.Common.{◌≡◌, ◌<◌, ◌≤◌, ◌^◌, ℕ, List, [], Option, None, ◌++◌, true, ◌∙◌, ap, subst, arith, rules, ◌+◌, length, replicate}
 use Rattle.std.proofs.lemmas.List.{length-replicate}
 use Rattle.ob_store.specs.Calls.{IsFailed, Holds}
-use Rattle.ob_store.proofs.Serving.{if_err, on_ok, on_err, goes_then, serves_then, if_ok}
-use Rattle.ob_store.proofs.Events.{first_more, joined_first}
-use Rattle.ob_store.proofs.Showing.{shows_then, shown_more, shows_first}
-use Rattle.ob_twin.specs.Orders.{through_events, through_notes, set_events, set_notes}
+use Rattle.ob_store.proofs.Serving.{on_ok, goes_then, serves_then, if_ok}
+use Rattle.ob_store.proofs.Doing.{does_refused, does_then, first_more, first_behind}
+use Rattle.ob_twin.specs.Orders.{through_notes, set_notes}
 use Rattle.ob_seal.specs.declared.keys.Keys.{Keys}
-use Rattle.ob_rows.specs.Rows.{row_cells}
-use Rattle.ob_rows.proofs.Cells.{blanks_short}
+use Rattle.ob_flat_rows.specs.Rows.{row_cells}
+use Rattle.ob_flat_rows.proofs.Cells.{blanks_short}
+use Rattle.ob_start.specs.Orders.{lay_notes}
+use Rattle.ob_start.proofs.Clearing.{no_head_left}
 use Rattle.ob_flat.specs.Heads.{head_cell}
-use Rattle.ob_flat.specs.Orders.{shut_events, shut_notes, rows_events, rows_notes}
+use Rattle.ob_flat.specs.Orders.{rows_notes, format_notes}
 use Rattle.ob_flat.proofs.Moved.{rows_written}
-use Rattle.ob_flat.proofs.Formats.{formatted, no_head_left, as_cleared, still_cleared, laid, head_written}
+use Rattle.ob_flat.proofs.Formats.{formatted, as_cleared, still_cleared, laid, head_written}
 use Rattle.ob_flat.proofs.formatting.lay.Goals as goal
 
-pub returns-in_err-lay_registers-clause-seen_err : goal.returns-in_err-lay_registers-clause-seen_err
-returns-in_err-lay_registers-clause-seen_err g c = if_err _ c.from_residual.result (first_more (through_events 0 ++ (shut_events ++ set_events true 1 1)) ((rows_events 9 c.args.params.now.keys ++ set_events true 5 0) ++ (through_events 0)) _ _ c.in_err-lay_registers.ensures.seen_err)
+pub lay_registers-requires-clause-behind : goal.lay_registers-requires-clause-behind
+lay_registers-requires-clause-behind g c = λ i lt. absurd (omega arith)
 
-pub returns-in_err-lay_registers-clause-shown_err : goal.returns-in_err-lay_registers-clause-shown_err
-returns-in_err-lay_registers-clause-shown_err g c = if_err _ c.from_residual.result (shown_more (through_notes 0 ++ (shut_notes ++ set_notes true 1 1)) ((rows_notes 9 c.args.params.now.keys ++ set_notes true 5 0) ++ (through_notes 0)) _ _ c.in_err-lay_registers.ensures.shown_err)
+pub returns-in_err-lay_registers-clause-does : goal.returns-in_err-lay_registers-clause-does
+returns-in_err-lay_registers-clause-does g c =
+    let n = c.args.params.now.keys in
+    does_refused _ _ _ _ (format_notes n) c.from_residual.result c.from_residual.ensures.0
+    (first_more _ _ _ _ (lay_notes []) ((rows_notes 9 n ++ set_notes true 5 0) ++ through_notes 0) c.in_err-lay_registers.ensures.does.first)
 
-pub returns-in_err-lay_rows-clause-seen_err : goal.returns-in_err-lay_rows-clause-seen_err
-returns-in_err-lay_rows-clause-seen_err g c = if_err _ c.from_residual-in_err-lay_rows.result (joined_first (through_events 0 ++ (shut_events ++ set_events true 1 1)) ((rows_events 9 c.args.params.now.keys ++ set_events true 5 0) ++ (through_events 0)) _ _ _ c.in_ok-lay_registers.ensures.seen (first_more (rows_events 9 c.args.params.now.keys ++ set_events true 5 0) (through_events 0) _ _ c.in_err-lay_rows.ensures.seen_err))
+pub returns-in_err-lay_rows-clause-does : goal.returns-in_err-lay_rows-clause-does
+returns-in_err-lay_rows-clause-does g c =
+    let n = c.args.params.now.keys in
+    does_refused _ _ _ _ (format_notes n) c.from_residual-in_err-lay_rows.result c.from_residual-in_err-lay_rows.ensures.0
+    (first_behind _ _ _ _ _ _ (lay_notes []) ((rows_notes 9 n ++ set_notes true 5 0) ++ through_notes 0) c.in_ok-lay_registers.ensures.does.all
+    (first_more _ _ _ _ (rows_notes 9 n ++ set_notes true 5 0) (through_notes 0) c.in_err-lay_rows.ensures.does.first))
 
-pub returns-in_err-lay_rows-clause-shown_err : goal.returns-in_err-lay_rows-clause-shown_err
-returns-in_err-lay_rows-clause-shown_err g c = if_err _ c.from_residual-in_err-lay_rows.result (shows_first (through_notes 0 ++ (shut_notes ++ set_notes true 1 1)) ((rows_notes 9 c.args.params.now.keys ++ set_notes true 5 0) ++ (through_notes 0)) _ _ _ c.in_ok-lay_registers.ensures.shown (shown_more (rows_notes 9 c.args.params.now.keys ++ set_notes true 5 0) (through_notes 0) _ _ c.in_err-lay_rows.ensures.shown_err))
+pub returns-clause-does : goal.returns-clause-does
+returns-clause-does g c =
+    let n = c.args.params.now.keys in
+    does_then _ _ _ _ _ _ (lay_notes []) ((rows_notes 9 n ++ set_notes true 5 0) ++ through_notes 0) c.write_through.result c.in_ok-lay_registers.ensures.does.all
+    (does_then _ _ _ _ _ _ (rows_notes 9 n ++ set_notes true 5 0) (through_notes 0) c.write_through.result c.in_ok-lay_rows.ensures.does.all c.write_through.ensures.does)
 
 pub returns-clause-serves : goal.returns-clause-serves
 returns-clause-serves g c =
@@ -50,15 +61,6 @@ returns-clause-stands g c = λ tells.
     (λ written. formatted before.keys c.args.params.now (g.S.Store.disk c.lay_registers.new.store).cells cells (g.S.Store.disk c.write_through.new.store).cells
     (a.generation tells) (b.low one) (b.epoch one) (rows_written before 9 cells (replicate n None) small room (blanks_short n) (b.rows one)) (c.write_through.ensures.rest two) (written ∙ head))
     (c.write_through.ensures.written two)
-
-pub returns-clause-seen_err : goal.returns-clause-seen_err
-returns-clause-seen_err g c = on_err _ _ c.write_through.result (λ last. joined_first (through_events 0 ++ (shut_events ++ set_events true 1 1)) ((rows_events 9 c.args.params.now.keys ++ set_events true 5 0) ++ (through_events 0)) _ _ _ c.in_ok-lay_registers.ensures.seen (joined_first (rows_events 9 c.args.params.now.keys ++ set_events true 5 0) (through_events 0) _ _ _ c.in_ok-lay_rows.ensures.seen last)) c.write_through.ensures.seen_err
-
-pub returns-clause-shown : goal.returns-clause-shown
-returns-clause-shown g c = on_ok _ _ c.write_through.result (λ last. shows_then (through_notes 0 ++ (shut_notes ++ set_notes true 1 1)) ((rows_notes 9 c.args.params.now.keys ++ set_notes true 5 0) ++ (through_notes 0)) _ _ _ c.in_ok-lay_registers.ensures.shown (shows_then (rows_notes 9 c.args.params.now.keys ++ set_notes true 5 0) (through_notes 0) _ _ _ c.in_ok-lay_rows.ensures.shown last)) c.write_through.ensures.shown
-
-pub returns-clause-shown_err : goal.returns-clause-shown_err
-returns-clause-shown_err g c = on_err _ _ c.write_through.result (λ last. shows_first (through_notes 0 ++ (shut_notes ++ set_notes true 1 1)) ((rows_notes 9 c.args.params.now.keys ++ set_notes true 5 0) ++ (through_notes 0)) _ _ _ c.in_ok-lay_registers.ensures.shown (shows_first (rows_notes 9 c.args.params.now.keys ++ set_notes true 5 0) (through_notes 0) _ _ _ c.in_ok-lay_rows.ensures.shown (1, omega arith, last))) c.write_through.ensures.shown_err
 
 pub returns-clause-head : goal.returns-clause-head
 returns-clause-head g c = λ tells.

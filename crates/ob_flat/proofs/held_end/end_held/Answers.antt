@@ -1,11 +1,8 @@
-use Rattle.std.proofs.Common.{suc, ◌+◌, ◌<◌, ◌≤◌, ◌^◌, length, subst, sym, arith, add-one, rules}
-use Rattle.ob_store.specs.Calls.{NotesFirst}
-use Rattle.ob_store.specs.Lines.{ShowsFirst}
-use Rattle.ob_rows.specs.Rows.{IsFurther}
+use Rattle.std.proofs.Common.{suc, ◌+◌, ◌<◌, ◌≤◌, ◌^◌, length, Err, subst, sym, arith, add-one, rules}
+use Rattle.ob_cells.specs.Runs.{IsFurther}
 use Rattle.ob_twin.specs.declared.twin.Twin.TheVariants.{EPOCH}
 use Rattle.ob_twin.specs.Refused.{IsSetFault}
-use Rattle.ob_flat.specs.Orders.{end_events, end_notes}
-use Rattle.ob_flat.specs.Ends.{EndsFrom}
+use Rattle.ob_flat.specs.Ends.{EndsFrom, EndTells}
 use Rattle.ob_flat.proofs.Refusals.{none_done, refused_leaves, refused_tells}
 use Rattle.ob_flat.proofs.held_end.end_held.Goals as goal
 
@@ -34,8 +31,8 @@ returns-in-Err-clause-called g c = λ p keys.
     refused_tells p known c.args.held.now.epoch c.args.values.now (record { store = c.args.held.now.store.now; sealing = c.args.held.now.sealer }) (record { store = c.write_epoch.new.store; sealing = c.write_epoch.new.sealer }) old new shown_old shown_new
     c.in-Err.refused c.end_err.result c.end_err.ensures small (subst (λ k. c.args.held.now.sealer.next + k ≤ 2 ^ 62) keys room) (subst (λ k. IsFurther k c.args.held.now.sealer c.write_epoch.new.sealer) keys e.some_sealed)
     (subst (λ n. IsSetFault EPOCH n c.in-Err.refused) next e.faults)
-    (subst (λ n. NotesFirst (end_events p.keys known n) old.seen new.seen) next (subst (λ k. NotesFirst (end_events k known (c.args.held.now.epoch + 1)) old.seen new.seen) keys e.seen_err))
-    (subst (λ n. ShowsFirst (end_notes p.keys known n) shown_old shown_new) next (subst (λ k. ShowsFirst (end_notes k known (c.args.held.now.epoch + 1)) shown_old shown_new) keys e.shown_err))
+    (subst (λ n. EndTells p.keys known n old.seen new.seen shown_old shown_new (Err c.in-Err.refused)) next
+    (subst (λ k. EndTells k known (c.args.held.now.epoch + 1) old.seen new.seen shown_old shown_new (Err c.in-Err.refused)) keys e.does))
 
 pub returns-clause-images : goal.returns-clause-images
 returns-clause-images g c = λ p n now next from.

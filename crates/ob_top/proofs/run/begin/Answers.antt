@@ -1,6 +1,22 @@
-use Rattle.std.proofs.Common.{inl, inr}
+use Rattle.std.proofs.Common.{Err, [], ◌∷◌, inl, inr, refl}
+use Rattle.ob_base.specs.declared.params.Params.{Params}
+use Rattle.ob_store.specs.declared.watch.Note.TheVariants.{Read}
+use Rattle.ob_flat.proofs.Tellings.{reads_noted}
 use Rattle.ob_top.proofs.Beginnings.{opened, opened_kind, unopened, left_opening, kept}
 use Rattle.ob_top.proofs.run.begin.Goals as goal
+
+pub returns-in-Err-clause-refused : goal.returns-in-Err-clause-refused
+returns-in-Err-clause-refused g c =
+    let e = c.in-Err.ensures in
+    inl (record {
+      untouched = refl;
+      kind = e.faults;
+      read = e.value;
+      cause = e.serves.cause;
+      keeps = e.keeps;
+      passes = e.passes;
+      seen = reads_noted {V = Params} (Read 0 ∷ []) _ _ _ _ (Err c.in-Err.fault) e.does;
+    })
 
 pub returns-in-Err-read_script-clause-refused : goal.returns-in-Err-read_script-clause-refused
 returns-in-Err-read_script-clause-refused g c = inr (inl (record {
@@ -9,7 +25,7 @@ returns-in-Err-read_script-clause-refused g c = inr (inl (record {
   refused = c.in-Err-read_script.ensures.refused;
   keeps = c.in-Ok.ensures.keeps;
   passes = c.in-Ok.ensures.passes;
-  seen = c.in-Ok.ensures.seen;
+  seen = c.in-Ok.ensures.does.seen;
 }))
 
 pub returns-in-Err-runners-clause-refused : goal.returns-in-Err-runners-clause-refused
@@ -19,7 +35,7 @@ returns-in-Err-runners-clause-refused g c = inr (inl (record {
   refused = tt;
   keeps = c.in-Ok.ensures.keeps;
   passes = c.in-Ok.ensures.passes;
-  seen = c.in-Ok.ensures.seen;
+  seen = c.in-Ok.ensures.does.seen;
 }))
 
 pub returns-in-Ok-prepare-clause-begun : goal.returns-in-Ok-prepare-clause-begun
@@ -27,14 +43,14 @@ returns-in-Ok-prepare-clause-begun g c =
     let head = c.in-Ok.ensures in
     let e = c.in-Ok-prepare.ensures in
     opened c.args.keys.now (g.S.Store.disk c.args.store.now) (g.S.Store.disk c.head.new.store) (g.S.Store.disk c.prepare.new.store) _ c.in-Ok.params c.in-Ok-read_script.scripts _ _
-    c.in-Ok-prepare.opening head.value head.keeps head.seen c.in-Ok-read_script.ensures.came e.value e.gates e.order
+    c.in-Ok-prepare.opening head.value head.keeps head.does.seen c.in-Ok-read_script.ensures.came e.value e.begins.gates e.order
 
 pub returns-in-Err-prepare-clause-refused : goal.returns-in-Err-prepare-clause-refused
 returns-in-Err-prepare-clause-refused g c =
     let head = c.in-Ok.ensures in
     let e = c.in-Err-prepare.ensures in
     unopened c.args.keys.now (g.S.Store.disk c.args.store.now) (g.S.Store.disk c.head.new.store) (g.S.Store.disk c.prepare.new.store) _ c.in-Ok.params c.in-Ok-read_script.scripts _ _
-    _ c.in-Err-prepare.fault head.value head.keeps head.serves.goes.faults head.seen c.in-Ok-read_script.ensures.came e.faults e.value e.serves.cause e.order_err
+    _ c.in-Err-prepare.fault head.value head.keeps head.serves.goes.faults head.does.seen c.in-Ok-read_script.ensures.came e.faults e.value e.serves.cause e.order_err head.passes e.unwritten
     (λ at tells stands all. left_opening c.args.keys.now c.in-Ok.params (g.S.Store.disk c.args.store.now) (g.S.Store.disk c.head.new.store) (g.S.Store.disk c.prepare.new.store) head.passes head.keeps (g.met.S.Store.only_now c.args.store.now) tells at e.crash stands all)
 
 pub returns-in-Ok-prepare-clause-opened : goal.returns-in-Ok-prepare-clause-opened

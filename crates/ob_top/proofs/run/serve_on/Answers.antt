@@ -24,8 +24,11 @@ use Rattle.ob_top.proofs.run.serve_on.Goals as goal
 first_same : (a b : GName) (xs ys : List GName) → ◌≡◌ {A = List GName} (a ∷ xs) (b ∷ ys) → a ≡ b
 first_same a b xs ys is = cc is
 
-pub returns : goal.returns
-returns g c =
+rest_same : (a b : GName) (xs ys : List GName) → ◌≡◌ {A = List GName} (a ∷ xs) (b ∷ ys) → xs ≡ ys
+rest_same a b xs ys is = cc is
+
+pub returns-clause-serves : goal.returns-clause-serves
+returns-clause-serves g c =
     let (new, d) = c.conduct-ended.ensures.done in
     let names : c.over-arg-1.given ≡ c.into_store-store.result.ghost_name = sym (c.into_store-store.ensures.name ∙ first_same _ _ _ _ c.conduct-ended.ensures.anchors ∙ c.over-vault.ensures.name) in
     let same = c.store-1.given.1 names in
@@ -33,6 +36,7 @@ returns g c =
     let lender : IsFlatLender _ g.S.Store.disk (λ v. v.held.store.now) (λ v. v.held.sealer) (λ v. v.params) (λ v. v.held.gates.epoch) (λ v. v.held.epoch) (λ v. v.values.items) (λ v call answer notes w does. does)
     c.args.begun.params c.args.begun.opening c.args.keys.now c.over-vault.result = record {
       faults = λ v. refl;
+      goes = λ v w one. record { anchors = rest_same _ _ _ _ one.anchors; faults = one.faults; later = one.later; kept = one.kept; told = one.told; leaves = one.leaves; seen = one.seen };
       since = λ a b P l. record { later = l.later; each = l.each; before = l.before };
       now = λ v i left. left;
       stands = λ i at stands. rw (← c.requires.sealer.keys_are, ← params, ← c.over-vault.ensures.sealer) stands;
@@ -56,3 +60,8 @@ returns g c =
     d lender params (ap (λ (x : Gates). x.epoch) c.over-vault.ensures.gates) c.over-vault.ensures.epoch (ap (λ (x : Sealing). x.next) c.over-vault.ensures.sealer ∙ c.requires.sealer.none_sealed) in
     renamed flat_kind g.S.Store.disk _ c.args.keys.now c.args.begun.params c.args.begun.opening c.args.begun.scripts _ c.args.store.now _ c.store-1.given.0 _ _ _
     c.over-vault.ensures.store (same ∙ c.into_store-store.ensures.store) s
+
+pub returns-clause-none_out : goal.returns-clause-none_out
+returns-clause-none_out g c =
+    let names : c.over-arg-1.given ≡ c.into_store-store.result.ghost_name = sym (c.into_store-store.ensures.name ∙ first_same _ _ _ _ c.conduct-ended.ensures.anchors ∙ c.over-vault.ensures.name) in
+    subst (λ x. (g.S.Store.disk x).out ≡ 0) (sym (c.store-1.given.1 names)) c.into_store-store.ensures.none_out

@@ -1,7 +1,0 @@
--- How a number is told where a cell is damaged.
-use Rattle.std.specs.Prelude.{ℕ, List, ◌++◌, replicate}
-use Rattle.std.specs.Int.{w64, to_le_bytes}
-
--- 8 bytes of the number, low byte first, and 8 zeros
-unfoldable pub told_number : ℕ → List ℕ
-told_number n = to_le_bytes w64 n ++ replicate 8 0

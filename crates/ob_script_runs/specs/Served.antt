@@ -1,0 +1,93 @@
+-- What the records of a run tell of the scripts that were run.
+use Rattle.std.specs.Prelude.{ℕ, suc, ◌≡◌, ◌⊎◌, ◌<◌, Bool, true, All, List, [], ◌∷◌, ◌++◌, length, map, Option, Some, None}
+use Rattle.std.specs.List.{range_with_len}
+use Rattle.ob_base.specs.declared.params.Params.{Params}
+use Rattle.ob_base.specs.declared.op.Op.{Op}
+use Rattle.ob_serial.specs.declared.records.Outcome.{Outcome}
+use Rattle.ob_serial.specs.declared.records.Outcome.TheVariants.{Committed, Aborted, Unsure}
+use Rattle.ob_serial.specs.declared.records.Why.{Why}
+use Rattle.ob_serial.specs.declared.records.Why.TheVariants.{Conflict, Depends, ReadsFull, WritesFull, EpochEnd, Asked, Stopped}
+use Rattle.ob_serial.specs.Serial.{Txn, EpochRecord, AreInOrder}
+use Rattle.ob_desk.specs.Desk.{DeskState, new_desk}
+use Rattle.ob_desk.specs.declared.calls.Look.{Look}
+use Rattle.ob_session.specs.Steps.{Leads}
+use Rattle.ob_outcomes.specs.Shown.{IsOutcome, AreNumbered}
+use Rattle.ob_session.specs.Records.{txns_by}
+use Rattle.ob_script.specs.Script.{ScriptTxn, Scripts, asks_by}
+use Rattle.ob_runner.specs.Meaning.{Meets, MeetsFront, MeetsNoSum}
+use Rattle.ob_script.specs.declared.line.Ending.TheVariants.{Commit, Abort}
+use Rattle.ob_conduct.specs.Rounds.{InRounds}
+use Rattle.ob_conduct.specs.Acts.{Act, Says, Halts, Rests, Takes, Delivers, DeliverFails, FetchFails, Closes, Publishes, Refuses, Unprinted, history, records, IsAllowed}
+
+-- How a transaction of a script ended, and what it did. A committed one did all that it asks for, and its last line asks for that. One
+-- that is aborted because its client asked for that did all too, and its last line asks for that; or its last get was that of an add that
+-- has no sum. Another one did a front of what it asks for.
+abbrev pub EndsAs : ScriptTxn → List (Op ℕ) → Outcome ℕ → Type 0
+EndsAs ask ops Committed = Meets ask.asks ops × (ask.ending ≡ Commit)
+EndsAs ask ops (Aborted Asked) = (Meets ask.asks ops × (ask.ending ≡ Abort)) ⊎ MeetsNoSum ask.asks ops
+EndsAs ask ops (Aborted why) = MeetsFront ask.asks ops
+EndsAs ask ops (Unsure epoch) = ⊥
+
+-- These are the first of the script's transactions, in order, each once, and no others.
+abbrev pub ServedFirst : List ScriptTxn → List (Txn ℕ) → Type 0
+ServedFirst asks [] = Unit {0}
+ServedFirst [] (t ∷ txns) = ⊥
+ServedFirst (ask ∷ asks) (t ∷ txns) = EndsAs ask t.ops t.outcome × ServedFirst asks txns
+
+-- They are all of them.
+abbrev pub ServedAll : List ScriptTxn → List (Txn ℕ) → Type 0
+ServedAll [] [] = Unit {0}
+ServedAll (ask ∷ asks) (t ∷ txns) = EndsAs ask t.ops t.outcome × ServedAll asks txns
+ServedAll _ _ = ⊥
+
+-- of each client
+abbrev pub ClientsServed : Scripts → List (EpochRecord ℕ) → Type 0
+ClientsServed script told = (client : ℕ) → ServedFirst (asks_by client script.txns) (txns_by client told)
+
+abbrev pub ClientsServedAll : Scripts → List (EpochRecord ℕ) → Type 0
+ClientsServedAll script told = (client : ℕ) → ServedAll (asks_by client script.txns) (txns_by client told)
+
+-- Only where the beat was due, and fewer waited than were live, is a transaction aborted for the end of its epoch.
+abbrev pub IsDueAt : (ℕ → ℕ → ℕ → ℕ → Bool) → Look → EpochRecord ℕ → Type 0
+IsDueAt passes look told = All (λ t. t.outcome ≡ Aborted EpochEnd → (passes look.waiting look.live look.queued look.left ≡ true) × (look.waiting < look.live)) told.txns
+
+-- Each record that was published is that of the epoch that was closed before it, and is due at the look that led to that close. None: no
+-- epoch is closed; Some: one is, since this look.
+abbrev pub AreDue : (ℕ → ℕ → ℕ → ℕ → Bool) → Option Look → List Act → Type 0
+AreDue passes closed [] = Unit {0}
+AreDue passes closed (Closes look batches writes ∷ acts) = AreDue passes (Some look) acts
+AreDue passes closed (Publishes writes left told ∷ acts) = (look : Look) × (closed ≡ Some look) × IsDueAt passes look told × AreDue passes None acts
+AreDue passes closed (_ ∷ acts) = AreDue passes closed acts
+
+-- A beat that is due only where all that are live wait.
+abbrev pub IsPatient : (ℕ → ℕ → ℕ → ℕ → Bool) → Type 0
+IsPatient passes = (waiting live queued left : ℕ) → passes waiting live queued left ≡ true → waiting ≡ live
+
+-- It is committed, or had no place for a read or a write, or its client asked for its abort.
+abbrev pub IsLonely : Outcome ℕ → Type 0
+IsLonely Committed = Unit {0}
+IsLonely (Aborted (ReadsFull queued left)) = Unit {0}
+IsLonely (Aborted (WritesFull keys)) = Unit {0}
+IsLonely (Aborted Asked) = Unit {0}
+IsLonely _ = ⊥
+
+-- A run of a script, whatever the vault: from a new desk on, whose first epoch is the one behind this, with so many batches left.
+pub record IsServed (passes : ℕ → ℕ → ℕ → ℕ → Bool) (p : Params) (epoch left : ℕ) (script : Scripts) (told : List (EpochRecord ℕ)) : Type 0 where
+  -- what was done, in order: calls of the desk, each of them allowed where it is made, of which the records are told
+  pub acts : List Act
+  pub told_are : told ≡ records acts
+  pub allowed : All (IsAllowed passes) acts
+  -- in rounds: each client in rising number makes one call, or none behind its sign-off, and then the driver does one thing
+  pub rounds : InRounds script.clients acts
+  pub desk : DeskState
+  pub leads : Leads (new_desk (record { params = p }) (suc epoch) left script.clients) (history acts) desk
+  -- Each client's transactions are a front of its script's, in order, each once, with the operations that it means.
+  pub first : ClientsServed script told
+  -- How each transaction ended is shown by its record; and for the end of its epoch one is aborted only where the beat was due.
+  pub shown : All (λ r. All (λ t. IsOutcome p r t t.outcome) r.txns) told
+  pub due : AreDue passes None acts
+  -- epochs and tickets are numbered one by one, and each epoch has a transaction
+  pub numbered : AreNumbered (suc epoch) told
+  pub some : All (λ r. 0 < length r.txns) told
+  -- With one client, and a beat that is due only where all wait, no other transaction has a part in a cause.
+  pub alone : (client : ℕ) → script.clients ≡ client ∷ [] → IsPatient passes → All (λ r. All (λ t. IsLonely t.outcome) r.txns) told

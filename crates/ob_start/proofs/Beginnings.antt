@@ -1,0 +1,62 @@
+-- How a generation is begun.
+use Rattle.std.proofs.Common.{◌≡◌, ℕ, suc, ◌+◌, ◌^◌, ◌<◌, List, [], ◌∷◌, ◌++◌, Option, Result, refl, ◌∙◌, subst, add-one}
+use Rattle.ob_store.specs.declared.event.Event.{Event}
+use Rattle.ob_store.specs.declared.watch.Note.{Note}
+use Rattle.ob_store.specs.declared.watch.Note.TheVariants.{Sync}
+use Rattle.ob_store.specs.Disk.{Disk, Image, NotAfter}
+use Rattle.ob_store.specs.Images.{Same, Shrinks, Elapses, Passes, Settled, LeavesOnly}
+use Rattle.ob_store.specs.Calls.{Keeps}
+use Rattle.ob_store.specs.Lines.{Trace}
+use Rattle.ob_store.specs.Told.{Tells, TellsFirst, Does}
+use Rattle.ob_store.proofs.Moments.{passed_none, passed_still}
+use Rattle.ob_store.proofs.Doing.{cut_sync, cut_more, does_then}
+use Rattle.ob_seal.specs.declared.keys.Keys.{Keys}
+use Rattle.ob_twin.specs.declared.gates.Open.{Open}
+use Rattle.ob_twin.specs.declared.set_err.SetErr.{SetErr}
+use Rattle.ob_twin.specs.Bodies.{Tagging}
+use Rattle.ob_twin.specs.Keyed.{tagging}
+use Rattle.ob_twin.specs.Register.{place_of, StandsAt, KeepsAt, IsPut, OldOrNew}
+use Rattle.ob_twin.specs.Opening.{is_closed_first}
+use Rattle.ob_twin.specs.Orders.{set_notes, SetDoes}
+use Rattle.ob_twin.specs.Refused.{SetLeaves}
+use Rattle.ob_twin.proofs.Moves.{under_next}
+use Rattle.ob_twin.proofs.Frames.{register_moved}
+use Rattle.ob_twin.proofs.Sets.{set_does, put_stands, leaves_either}
+use Rattle.ob_start.specs.Orders.{begin_notes}
+use Rattle.ob_start.specs.Beginning.{BeginsFrom}
+
+-- a sync that leaves no new image
+pub still : (old new : Disk) → NotAfter old.moment new.moment → Elapses old new → Shrinks old new → Passes Same old new
+still old new later time shrinks = passed_still Same old old new (passed_none old Same (λ c. refl)) later time shrinks
+
+-- the sync, and the generation set behind it
+pub begin_does : (known : Open) (g : ℕ) (a b c : Option (List Event)) (k l m : Trace) (r : Result (Unit {0}) SetErr) → Tells (Sync ∷ []) (Sync ∷ []) a b k l → SetDoes (is_closed_first known (place_of (g + 1))) 1 (g + 1) b c l m r
+    → Does (begin_notes known (suc g)) a c k m r
+begin_does known g a b c k l m r sync set =
+    subst (λ n. Does (begin_notes known n) a c k m r) (add-one g)
+    (does_then a b c k l m (Sync ∷ []) (set_notes (is_closed_first known (place_of (g + 1))) 1 (g + 1)) r sync (set_does (is_closed_first known (place_of (g + 1))) 1 (g + 1) b c l m r set))
+
+-- the same register stands where the cells are the same
+pub stands_again : (tag : Tagging) (first n : ℕ) (mid old : Image) → ((k : ℕ) → mid k ≡ old k) → StandsAt tag first old n → StandsAt tag first mid n
+stands_again tag first n mid old same stands = register_moved tag first n mid old (λ k from to. same k) stands
+
+-- where the register stood, it stands at the next generation
+pub next_stands : (tag : Tagging) (g : ℕ) (old mid new : Image) → g + 1 < 2 ^ 62 → ((k : ℕ) → mid k ≡ old k) → StandsAt tag 1 old g → IsPut tag 1 mid (g + 1) new → KeepsAt tag 1 old (suc g) new
+next_stands tag g old mid new small same stands put =
+    let kept = put_stands tag 1 (g + 1) mid new small (under_next tag 1 g (g + 1) mid refl (stands_again tag 1 g mid old same stands)) put in
+    subst (λ n. KeepsAt tag 1 old n new) (add-one g) (record { stands = kept.stands; rest = λ k out. kept.rest k out ∙ same k })
+
+-- from the sync on
+pub begins : {S : Type 0} (disk : S → Disk) (keys : Keys) (g : ℕ) (old mid new : S) (r : Result (Unit {0}) SetErr) → Passes Same (disk old) (disk mid) → Keeps (disk old) (disk mid) → ((disk old).tells → Settled (disk mid))
+    → ((m : ℕ) → g + 1 ≡ m + 1 → (disk mid).tells → Settled (disk mid) → StandsAt (tagging keys) 1 (disk mid).cells m → LeavesOnly (disk mid) (disk new) (SetLeaves (tagging keys) 1 (disk mid).cells m (g + 1) r))
+    → BeginsFrom disk keys g old new
+begins disk keys g old mid new r until keeps settled set = record {
+  synced = mid;
+  until = until;
+  keeps = keeps;
+  settled = settled;
+  since = λ tells stands.
+      subst (λ n. LeavesOnly (disk mid) (disk new) (OldOrNew (tagging keys) 1 (disk mid).cells g n)) (add-one g)
+      (leaves_either (tagging keys) 1 g (g + 1) (disk mid).cells (disk mid) (disk new) r
+      (set g refl (keeps.tells tells) (settled tells) (stands_again (tagging keys) 1 g (disk mid).cells (disk old).cells (keeps.cells tells) stands)));
+}

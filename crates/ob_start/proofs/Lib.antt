@@ -1,0 +1,5 @@
+pub mod Spelling
+pub mod Noted
+pub mod Beginnings
+pub mod Shutting
+pub mod Clearing

@@ -1,0 +1,87 @@
+use Rattle.std.proofs.Common.{suc, inl, inr, refl, subst, Result, Ok, arith}
+use Rattle.ob_store.specs.Images.{Same}
+use Rattle.ob_store.proofs.Events.{none_noted}
+use Rattle.ob_store.proofs.Moments.{passed_none}
+use Rattle.ob_store.proofs.Doing.{does_all, does_err, sync_cut}
+use Rattle.ob_store.specs.Told.{Does}
+use Rattle.ob_twin.specs.declared.set_err.SetErr.{SetErr}
+use Rattle.ob_twin.specs.Keyed.{tagging}
+use Rattle.ob_twin.specs.Register.{place_of}
+use Rattle.ob_twin.specs.Opening.{is_closed_first}
+use Rattle.ob_twin.specs.Orders.{set_notes}
+use Rattle.ob_store.proofs.Lanes.{first_none}
+use Rattle.ob_start.specs.Orders.{begin_notes}
+use Rattle.ob_start.proofs.Beginnings.{still, begin_does, next_stands, begins}
+use Rattle.ob_start.proofs.beginning.begin.Goals as goal
+
+pub returns-then-next-ge-NUMBER_LIMIT-clause-does : goal.returns-then-next-ge-NUMBER_LIMIT-clause-does
+returns-then-next-ge-NUMBER_LIMIT-clause-does g c =
+    let notes = begin_notes c.args.gates.now.generation (suc c.args.generation) in
+    does_err _ _ _ _ notes _ (first_none notes _ _ _ (none_noted (g.S.Store.disk c.args.store.now).seen))
+
+pub returns-then-next-ge-NUMBER_LIMIT-clause-leaves : goal.returns-then-next-ge-NUMBER_LIMIT-clause-leaves
+returns-then-next-ge-NUMBER_LIMIT-clause-leaves g c = inl (passed_none (g.S.Store.disk c.args.store.now) Same (λ image. refl))
+
+pub returns-in-Err-clause-does : goal.returns-in-Err-clause-does
+returns-in-Err-clause-does g c =
+    let n = suc c.args.generation in
+    let known = c.args.gates.now.generation in
+    does_err _ _ _ _ (begin_notes known n) _ (sync_cut (set_notes (is_closed_first known (place_of n)) 1 n) _ _ _ _ c.in-Err.ensures.told)
+
+pub returns-in-Err-clause-leaves : goal.returns-in-Err-clause-leaves
+returns-in-Err-clause-leaves g c =
+    let e = c.sync_noted.ensures in
+    inl (still (g.S.Store.disk c.args.store.now) (g.S.Store.disk c.sync_noted.new.store) e.serves.goes.later e.time e.crash)
+
+pub returns-in-Ok-set-clause-does : goal.returns-in-Ok-set-clause-does
+returns-in-Ok-set-clause-does g c =
+    let known = c.args.gates.now.generation in
+    does_all _ _ _ _ (begin_notes known (suc c.args.generation)) _ (begin_does known c.args.generation
+    (g.S.Store.disk c.args.store.now).seen (g.S.Store.disk c.sync_noted.new.store).seen (g.S.Store.disk c.set.new.store).seen (g.W.Watch.trace c.args.watch.now) (g.W.Watch.trace c.sync_noted.new.watch) (g.W.Watch.trace c.set.new.watch) (Ok tt)
+    c.in-Ok.ensures.told c.in-Ok-set.ensures.does).all
+
+pub returns-in-Ok-set-clause-stands : goal.returns-in-Ok-set-clause-stands
+returns-in-Ok-set-clause-stands g c = λ tells stands.
+    let keeps = c.sync_noted.ensures.keeps in
+    next_stands (tagging c.args.sealer.now.keys) c.args.generation (g.S.Store.disk c.args.store.now).cells (g.S.Store.disk c.sync_noted.new.store).cells (g.S.Store.disk c.set.new.store).cells
+    (omega arith) (keeps.cells tells) stands (c.in-Ok-set.ensures.done (keeps.tells tells))
+
+pub returns-in-Ok-set-clause-leaves : goal.returns-in-Ok-set-clause-leaves
+returns-in-Ok-set-clause-leaves g c =
+    let e = c.sync_noted.ensures in
+    begins g.S.Store.disk c.args.sealer.now.keys c.args.generation c.args.store.now c.sync_noted.new.store c.set.new.store c.set.result
+    (still (g.S.Store.disk c.args.store.now) (g.S.Store.disk c.sync_noted.new.store) e.serves.goes.later e.time e.crash) e.keeps c.in-Ok.ensures.durable c.set.ensures.old_or_new
+
+pub returns-in-Err-Before-clause-does : goal.returns-in-Err-Before-clause-does
+returns-in-Err-Before-clause-does g c =
+    let notes = begin_notes c.args.gates.now.generation (suc c.args.generation) in
+    let old = (g.S.Store.disk c.args.store.now).seen in
+    let mid = (g.S.Store.disk c.sync_noted.new.store).seen in
+    let new = (g.S.Store.disk c.set.new.store).seen in
+    let before = g.W.Watch.trace c.args.watch.now in
+    let after = g.W.Watch.trace c.set.new.watch in
+    let all = begin_does c.args.gates.now.generation c.args.generation old mid new before (g.W.Watch.trace c.sync_noted.new.watch) after c.set.result c.in-Ok.ensures.told c.set.ensures.does in
+    does_err old new before after notes c.in-Err-Before.fault (subst (λ (r : Result (Unit {0}) SetErr). Does notes old new before after r) c.in-Err-Before.is all).first
+
+pub returns-in-Err-Before-clause-leaves : goal.returns-in-Err-Before-clause-leaves
+returns-in-Err-Before-clause-leaves g c =
+    let e = c.sync_noted.ensures in
+    inr (begins g.S.Store.disk c.args.sealer.now.keys c.args.generation c.args.store.now c.sync_noted.new.store c.set.new.store c.set.result
+    (still (g.S.Store.disk c.args.store.now) (g.S.Store.disk c.sync_noted.new.store) e.serves.goes.later e.time e.crash) e.keeps c.in-Ok.ensures.durable c.set.ensures.old_or_new)
+
+pub returns-in-Err-Unsure-clause-does : goal.returns-in-Err-Unsure-clause-does
+returns-in-Err-Unsure-clause-does g c =
+    let notes = begin_notes c.args.gates.now.generation (suc c.args.generation) in
+    let old = (g.S.Store.disk c.args.store.now).seen in
+    let mid = (g.S.Store.disk c.sync_noted.new.store).seen in
+    let new = (g.S.Store.disk c.set.new.store).seen in
+    let before = g.W.Watch.trace c.args.watch.now in
+    let after = g.W.Watch.trace c.set.new.watch in
+    let all = begin_does c.args.gates.now.generation c.args.generation old mid new before (g.W.Watch.trace c.sync_noted.new.watch) after c.set.result c.in-Ok.ensures.told c.set.ensures.does in
+    does_err old new before after notes c.in-Err-Unsure.fault (subst (λ (r : Result (Unit {0}) SetErr). Does notes old new before after r) c.in-Err-Unsure.is all).first
+
+pub returns-in-Err-Unsure-clause-leaves : goal.returns-in-Err-Unsure-clause-leaves
+returns-in-Err-Unsure-clause-leaves g c =
+    let e = c.sync_noted.ensures in
+    inr (begins g.S.Store.disk c.args.sealer.now.keys c.args.generation c.args.store.now c.sync_noted.new.store c.set.new.store c.set.result
+    (still (g.S.Store.disk c.args.store.now) (g.S.Store.disk c.sync_noted.new.store) e.serves.goes.later e.time e.crash) e.keeps c.in-Ok.ensures.durable c.set.ensures.old_or_new)

@@ -1,0 +1,5 @@
+pub mod Heads
+pub mod Registers
+pub mod Orders
+pub mod Laying
+pub mod Beginning
