@@ -1,0 +1,24 @@
+ghost use Rattle.std.specs.Prelude.{◌≡◌};
+ghost use Rattle.ob_batch.specs.Errors.{fault_of};
+
+use ob_base::Fault;
+
+/// Why a batch of jobs was refused.
+#[derive(Clone, Copy, Debug, PartialEq, Eq)]
+pub enum JobsErr {
+    /// A lane was refused, and nothing was read.
+    NotBegun(Fault),
+    /// All jobs were read, and this is what the first failing one gave.
+    Job(Fault),
+}
+
+impl From<JobsErr> for Fault {
+    ghost from_gives = { λ e f. f ≡ fault_of e };
+
+    fn from(error: JobsErr) -> Fault {
+        match error {
+            JobsErr::NotBegun(fault) => fault,
+            JobsErr::Job(fault) => fault,
+        }
+    }
+}
