@@ -1,0 +1,9 @@
+pub mod AppendLaws
+pub mod Apart
+pub mod OnceLaws
+pub mod OneAsk
+pub mod Opens
+pub mod PlaceReads
+pub mod ReadBack
+pub mod Spelled
+pub mod Told

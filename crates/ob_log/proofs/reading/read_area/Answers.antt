@@ -1,0 +1,21 @@
+use Rattle.std.proofs.Common.{◌≡◌, ◌≤◌, ◌<◌, ◌+◌, ◌*◌, ◌^◌, Err, length, arith, sym, subst}
+use Rattle.ob_base.proofs.Bounds.{cells_le}
+use Rattle.ob_log.specs.Reads.{AreRead}
+use Rattle.ob_log.proofs.Opens.{area_few}
+use Rattle.ob_log.proofs.reading.read_area.Goals as goal
+
+pub read_cells-requires : goal.read_cells-requires
+read_cells-requires g c = record {
+  fits = omega (arith, c.requires.area, area_few c.args.p.now, cells_le c.args.p.now, c.log_cell-base.ensures.within);
+}
+
+pub open_records-requires-clause-fits : goal.open_records-requires-clause-fits
+open_records-requires-clause-fits g c = omega (arith, cells_le c.args.p.now, c.log_cell-base.ensures.within)
+
+pub returns-in-Ok-open_records-clause-value : goal.returns-in-Ok-open_records-clause-value
+returns-in-Ok-open_records-clause-value g c = λ tells. c.in-Ok-open_records.ensures (g.S.Store.disk c.args.store.now).cells (c.in-Ok.ensures.bytes tells)
+
+pub returns-in-Err-open_records-clause-value : goal.returns-in-Err-open_records-clause-value
+returns-in-Err-open_records-clause-value g c = λ tells.
+    subst (λ f. AreRead c.args.sealer.now.keys c.args.p.now c.args.epoch (g.S.Store.disk c.args.store.now).cells (Err f)) (sym c.from.ensures)
+    (c.in-Err-open_records.ensures (g.S.Store.disk c.args.store.now).cells (c.in-Ok.ensures.bytes tells))
