@@ -1,0 +1,17 @@
+pub mod PlaceLaws
+pub mod RuleLaws
+pub mod Ranges
+pub mod MarkLaws
+pub mod Loose
+pub mod KeptLaws
+pub mod SpellLaws
+pub mod Passing
+pub mod VersionReads
+pub mod Members
+pub mod ContentReads
+pub mod BuildLaws
+pub mod ReadLaws
+pub mod TextReads
+pub mod RisingKeys
+pub mod TextRules
+pub mod BackLaws

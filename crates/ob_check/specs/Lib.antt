@@ -1,0 +1,8 @@
+pub mod Fields
+pub mod First
+pub mod Marks
+pub mod Reading
+pub mod Rules
+pub mod Written
+pub mod Fresh
+pub mod ReadBack
