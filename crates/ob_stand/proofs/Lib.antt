@@ -1,0 +1,14 @@
+pub mod Frames
+pub mod OnceLaws
+pub mod EndLaws
+pub mod AppendLaws
+pub mod OpenLaws
+pub mod SoundLaws
+pub mod FreshLaws
+pub mod FormatLaws
+pub mod EndImaging
+pub mod Sampling
+pub mod ReadLaws
+pub mod FillLaws
+pub mod VaultLaws
+pub mod Laws

@@ -1,0 +1,13 @@
+pub mod Stands
+pub mod Spare
+pub mod Once
+pub mod Ends
+pub mod EndImages
+pub mod Appends
+pub mod Opens
+pub mod Sound
+pub mod Fresh
+pub mod Samples
+pub mod Reads
+pub mod Fills
+pub mod Vaults
