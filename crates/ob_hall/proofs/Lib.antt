@@ -1,0 +1,15 @@
+pub mod Numbers
+pub mod Histories
+pub mod Agreeing
+pub mod Allowed
+pub mod Making
+pub mod Turning
+pub mod Seating
+pub mod Chaining
+pub mod Asking
+pub mod Gathering
+pub mod Stepping
+pub mod Afterwards
+pub mod Keeping
+pub mod Sent
+pub mod Trying

@@ -1,0 +1,17 @@
+use Rattle.std.proofs.Common.{refl, ◌≡◌, [], ◌∷◌}
+use Rattle.ob_desk.specs.Desk as desk
+use Rattle.ob_session.specs.Steps.{steps_of}
+use Rattle.ob_hall.proofs.Turning as turning
+use Rattle.ob_hall.proofs.calls.Hall.sign_off.Goals as goal
+
+pub sign_off-requires : goal.sign_off-requires
+sign_off-requires g c = turning.sign_off_allowed c.args.self.now c.args.pass.now c.enter-desk.new.pass c.enter-desk.result c.requires.ready c.enter-desk.ensures.entered c.requires.between
+
+pub leave_client-requires-clause-desk : goal.leave_client-requires-clause-desk
+leave_client-requires-clause-desk g c =
+    turning.leave_one c.args.self.now c.args.pass.now c.enter-desk.new.pass c.enter-desk.result c.requires.ready c.enter-desk.ensures.entered c.sign_off.new.self (steps_of c.one.result) (desk.SignOff c.args.pass.now.client) desk.Done c.one.ensures (turning.sign_off_allowed c.args.self.now c.args.pass.now c.enter-desk.new.pass c.enter-desk.result c.requires.ready c.enter-desk.ensures.entered c.requires.between) c.sign_off.ensures refl
+
+pub returns-clause-one_history : goal.returns-clause-one_history
+returns-clause-one_history g c =
+    turning.tells_one c.args.self.now c.args.pass.now c.enter-desk.new.pass c.enter-desk.result c.requires.ready c.enter-desk.ensures.entered c.leave_client.new.pass c.sign_off.new.self (steps_of c.one.result) (desk.SignOff c.args.pass.now.client) desk.Done (λ calls. calls ≡ (desk.SignOff c.args.pass.now.client, desk.Done) ∷ [])
+    c.one.ensures (turning.sign_off_allowed c.args.self.now c.args.pass.now c.enter-desk.new.pass c.enter-desk.result c.requires.ready c.enter-desk.ensures.entered c.requires.between) c.sign_off.ensures refl c.leave_client.ensures.left refl

@@ -1,0 +1,93 @@
+ghost use Rattle.std.specs.Prelude.{◌≡◌, ◌≤◌, [], ◌∷◌, ◌++◌, true};
+ghost use Rattle.ob_turn.specs.History.{IsAt};
+ghost use Rattle.ob_turn.specs.TurnCalls.{IsInside};
+ghost use Rattle.ob_session.specs.Steps.{steps_of};
+ghost use Rattle.ob_hall.specs.Turns.{IsTurn};
+ghost use Rattle.ob_hall.specs.Passes.{IsPassOf, IsOutOfTurn, EntersTurn, NotesTurn, LeavesTurn, IsTold, IsRaised, told_by, may_raise};
+ghost use Rattle.ob_hall.specs.Calling.{IsReady, StandsAs};
+
+use crate::hall::{Beside, Hall, Pass};
+use crate::turned::Turned;
+use ob_desk::Desk;
+use ob_session::Made;
+use std::snapshot::Snapshot;
+use std::sync::Wait;
+use std::sync::atomic::Ordering::SeqCst;
+
+impl Hall {
+    /// Waits for the pass's turn, and takes the desk out. The pass has then seen the whole history,
+    /// which leads to the desk.
+    pub fn enter<R: Wait>(&self, rt: &R, pass: &mut Pass) -> Desk
+        requires own { IsPassOf self.now pass.old }
+        requires idle { IsOutOfTurn pass.old }
+        ensures entered { EntersTurn self.now pass.old pass.new result }
+        ensures own { IsPassOf self.now pass.new }
+    {
+        self.turn.take(rt, &mut pass.seat)
+    }
+
+    /// Notes calls of this turn, behind those that are noted. It waits for nobody and takes no
+    /// memory.
+    pub fn note(&self, pass: &mut Pass, calls: Snapshot<Turned>)
+        requires own { IsPassOf self.now pass.old }
+        requires inside { IsInside pass.old.seat }
+        ensures noted { NotesTurn pass.old pass.new calls.value }
+        ensures own { IsPassOf self.now pass.new }
+    {
+        self.turn.note(&mut pass.seat, calls)
+    }
+
+    /// Puts the desk back, and ends the turn with its last calls. It waits for nobody and takes no
+    /// memory.
+    pub fn leave(&self, pass: &mut Pass, desk: Desk, last: Snapshot<Turned>)
+        requires own { IsPassOf self.now pass.old }
+        requires inside { IsInside pass.old.seat }
+        requires desk { IsAt IsTurn pass.old.seat.me.0 (pass.old.seat.me.0.noted ++ last.value ∷ []) desk }
+        ensures left { LeavesTurn pass.old pass.new last.value }
+        ensures own { IsPassOf self.now pass.new }
+        ensures idle { IsOutOfTurn pass.new }
+    {
+        self.turn.put(&mut pass.seat, desk, last)
+    }
+
+    // Ends a client's turn with what it did.
+    pub(crate) fn leave_client(&self, pass: &mut Pass, desk: Desk, made: Made)
+        requires own { IsPassOf self.now pass.old }
+        requires inside { IsInside pass.old.seat }
+        requires desk { IsAt IsTurn pass.old.seat.me.0 (pass.old.seat.me.0.noted ++ steps_of made ∷ []) desk }
+        ensures left { LeavesTurn pass.old pass.new (steps_of made) }
+    {
+        let turned = Turned::client(made);
+        self.leave(pass, desk, Snapshot::of(&turned));
+    }
+
+    /// The epoch last raised, 0 before the first. It waits for nobody and takes no memory, and is
+    /// never below what this pass was told before.
+    pub fn durable(&self, pass: &mut Pass) -> u64
+        requires own { IsPassOf self.now pass.old }
+        ensures durable_last_raised { IsTold pass.old pass.new result }
+        ensures own { IsPassOf self.now pass.new }
+        ensures ready { IsReady self.now pass.old → IsReady self.now pass.new }
+        ensures stands { StandsAs pass.old pass.new }
+    {
+        self.bell.durable(&mut pass.ear)
+    }
+
+    /// Raises the durable epoch to one that isn't below the last, by the driver's pass.
+    pub fn raise(&self, pass: &mut Pass, epoch: u64)
+        requires own { IsPassOf self.now pass.old }
+        requires driver { may_raise pass.old ≡ true }
+        requires rising { told_by pass.old ≤ epoch }
+        ensures raised { IsRaised pass.old pass.new epoch }
+        ensures own { IsPassOf self.now pass.new }
+    {
+        self.bell.raise(&mut pass.ear, epoch)
+    }
+
+    /// Wakes the callers that sleep until there is news. The driver calls it where a call that
+    /// waits may now be answered.
+    pub fn wake(&self) {
+        self.news.fetch_add(1, SeqCst);
+        self.news.wake_all();
+    }
+}

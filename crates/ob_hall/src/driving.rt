@@ -1,0 +1,60 @@
+ghost use Rattle.std.specs.Prelude.{◌≡◌, ◌≤◌};
+ghost use Rattle.ob_session.specs.Clients.{stands_after};
+ghost use Rattle.ob_session.specs.declared.runner.Step.TheVariants as steps;
+ghost use Rattle.ob_hall.specs.Passes.{opening_of, said_of};
+ghost use Rattle.ob_hall.specs.Calling.{IsReady, Tells};
+ghost use Rattle.ob_hall.specs.Driving.{TurnSays, DriveSays};
+
+use crate::hall::{Hall, Pass};
+use ob_session::{Runner, Step};
+use std::sync::Wait;
+use std::sync::atomic::Ordering::SeqCst;
+
+/// One step of a runner, in one turn of its client's pass.
+pub fn take_turn<R: Wait, U: Runner>(rt: &R, hall: &Hall, pass: &mut Pass, runner: &mut U) -> Step
+    requires ready { IsReady hall.now pass.old }
+    requires client { U.client runner.old ≡ pass.old.client }
+    requires bound { U.bound runner.old ≤ (opening_of hall.now).setup.params.keys }
+    requires fits { U.fits runner.old (said_of pass.old) }
+    ensures one_history { Tells hall.now pass.old pass.new (TurnSays pass.old.client (said_of pass.old)) }
+    ensures fits { U.fits runner.new (said_of pass.new) }
+    ensures step { result ≡ stands_after (said_of pass.new) }
+    ensures client { U.client runner.new ≡ U.client runner.old }
+    ensures bound { U.bound runner.new ≡ U.bound runner.old }
+    ensures plan { U.plan runner.new ≡ U.plan runner.old }
+    ensures ready { IsReady hall.now pass.new }
+{
+    let mut desk = hall.enter(rt, pass);
+    let (step, made) = runner.step(&mut desk);
+    hall.leave_client(pass, desk, made);
+    step
+}
+
+/// Steps of a runner, in turns of its client's pass, until it has signed off. Where its last call
+/// can't be answered yet it sleeps in between.
+pub fn drive<R: Wait, U: Runner>(rt: &R, hall: &Hall, pass: &mut Pass, runner: &mut U)
+    requires ready { IsReady hall.now pass.old }
+    requires client { U.client runner.old ≡ pass.old.client }
+    requires bound { U.bound runner.old ≤ (opening_of hall.now).setup.params.keys }
+    requires fits { U.fits runner.old (said_of pass.old) }
+    ensures one_history { Tells hall.now pass.old pass.new (DriveSays pass.old.client) }
+    ensures fits { U.fits runner.new (said_of pass.new) }
+    ensures signed_off { stands_after (said_of pass.new) ≡ steps.Done }
+    ensures client { U.client runner.new ≡ U.client runner.old }
+    ensures bound { U.bound runner.new ≡ U.bound runner.old }
+    ensures plan { U.plan runner.new ≡ U.plan runner.old }
+    ensures ready { IsReady hall.now pass.new }
+{
+    let mut seen = hall.news.load(SeqCst);
+    let mut step = take_turn(rt, hall, pass, runner);
+    for _ in rt.forever() {
+        match step {
+            Step::Done => return,
+            Step::Waits => hall.nap(rt, seen),
+            Step::Ran => {}
+        }
+        seen = hall.news.load(SeqCst);
+        step = take_turn(rt, hall, pass, runner);
+    }
+    unreachable!()
+}

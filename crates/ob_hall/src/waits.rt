@@ -1,0 +1,184 @@
+ghost use Rattle.std.specs.Prelude.{◌≡◌, ◌<◌, ℕ, [], ◌∷◌, IfOk, OnErr};
+ghost use Rattle.ob_desk.specs.Desk as desks;
+ghost use Rattle.ob_desk.specs.Calls.{got_reply, done_reply};
+ghost use Rattle.ob_desk.specs.declared.calls.Txn.{Txn as TxnId};
+ghost use Rattle.ob_session.specs.Steps.{steps_of};
+ghost use Rattle.ob_hall.specs.Passes.{opening_of, last_of_pass};
+ghost use Rattle.ob_hall.specs.Calling.{IsReady, IsBetween, IsIn, HasNotSignedOff, StaysIn, Tells};
+ghost use Rattle.ob_hall.specs.Waiting.{IsWaiting, HasBegun, AskSays, AskStands, IsAnswer, GetSays, CommitSays};
+
+use crate::calls::{Refused, no_call};
+use crate::hall::{Hall, Pass};
+use ob_base::{Key, Memory, Value};
+use ob_desk::{Done, Got, Txn};
+use ob_serial::Outcome;
+use ob_session::{Made, Said};
+use std::sync::Wait;
+use std::sync::atomic::Ordering::SeqCst;
+use std::time::Duration;
+
+// A caller that waits asks again after at most so many milliseconds.
+const NAP: u64 = 5;
+
+impl Hall {
+    // A get's first turn.
+    fn ask<R: Wait>(&self, rt: &R, pass: &mut Pass, txn: &Txn, key: Key) -> Result<Got, Memory>
+        requires ready { IsReady self.now pass.old }
+        requires inside { IsIn pass.old txn.now }
+        requires key { key < (opening_of self.now).setup.params.keys }
+        ensures one_history { Tells self.now pass.old pass.new (AskSays txn.now key result) }
+        ensures stands { AskStands result pass.new txn.now }
+        ensures last { last_of_pass pass.new ≡ last_of_pass pass.old }
+        ensures ready { IsReady self.now pass.new }
+    {
+        let mut desk = self.enter(rt, pass);
+        match desk.get(txn, key) {
+            Ok(reply) => {
+                self.leave_client(pass, desk, got(txn, key, &reply));
+                Ok(reply)
+            }
+            Err(memory) => {
+                self.leave_client(pass, desk, no_call());
+                Err(memory)
+            }
+        }
+    }
+
+    // A turn in which it's asked once more for a get's key.
+    fn ask_again<R: Wait>(&self, rt: &R, pass: &mut Pass, txn: &Txn) -> Got
+        requires ready { IsReady self.now pass.old }
+        requires waiting { IsWaiting pass.old txn.now }
+        ensures one_history { Tells self.now pass.old pass.new (λ calls. calls ≡ (desks.Poll txn.now, got_reply result) ∷ []) }
+        ensures last { last_of_pass pass.new ≡ last_of_pass pass.old }
+        ensures ready { IsReady self.now pass.new }
+    {
+        let mut desk = self.enter(rt, pass);
+        let reply = desk.poll(txn);
+        self.leave_client(pass, desk, got_again(txn, &reply));
+        reply
+    }
+
+    // A turn in which it's asked to commit.
+    fn ask_to_commit<R: Wait>(&self, rt: &R, pass: &mut Pass, txn: &Txn) -> Done
+        requires ready { IsReady self.now pass.old }
+        requires inside { IsIn pass.old txn.now }
+        ensures one_history { Tells self.now pass.old pass.new (λ calls. calls ≡ (desks.Commit txn.now, done_reply result) ∷ []) }
+        ensures last { last_of_pass pass.new ≡ last_of_pass pass.old }
+        ensures ready { IsReady self.now pass.new }
+    {
+        let mut desk = self.enter(rt, pass);
+        let reply = desk.commit(txn);
+        self.leave_client(pass, desk, Made::one(Said::Commit { txn: *txn, reply }));
+        reply
+    }
+
+    // A turn in which it's asked how the transaction ended, if it has.
+    fn ask_for_end<R: Wait>(&self, rt: &R, pass: &mut Pass, txn: &Txn) -> Option<Outcome<Key>>
+        requires ready { IsReady self.now pass.old }
+        requires begun { HasBegun pass.old txn.now }
+        ensures one_history { Tells self.now pass.old pass.new (λ calls. calls ≡ (desks.Settled txn.now, desks.IsSettled result) ∷ []) }
+        ensures last { last_of_pass pass.new ≡ last_of_pass pass.old }
+        ensures ready { IsReady self.now pass.new }
+    {
+        let desk = self.enter(rt, pass);
+        let outcome = desk.settled(txn);
+        self.leave_client(pass, desk, Made::one(Said::Settled { txn: *txn, outcome }));
+        outcome
+    }
+
+    // Sleeps until the driver has news that weren't there yet when it was last asked, or a while.
+    pub(crate) fn nap<R: Wait>(&self, rt: &R, seen: u64) {
+        self.asks.fetch_add(1, SeqCst);
+        self.asks.wake_all();
+        self.news
+            .park_timeout(rt, (seen % (1 << 32)) as u32, Duration::from_millis(NAP));
+    }
+
+    /// A key's value, none where it is absent. Where the key has to be fetched it asks again, in a
+    /// turn each, and sleeps in between.
+    ///
+    /// # Errors
+    /// The transaction is aborted; or memory was wanting at the first turn, and the desk is as
+    /// before.
+    pub fn get<R: Wait>(&self, rt: &R, pass: &mut Pass, key: Key) -> Result<Option<Value>, Refused>
+        requires ready { IsReady self.now pass.old }
+        requires inside { (x : TxnId) × IsIn pass.old x }
+        requires key { key < (opening_of self.now).setup.params.keys }
+        ensures one_history { (x : TxnId) → IsIn pass.old x → Tells self.now pass.old pass.new (GetSays x key result) }
+        ensures last { last_of_pass pass.new ≡ last_of_pass pass.old }
+        ensures stands { (x : TxnId) → IsIn pass.old x → StaysIn result pass.old pass.new x }
+        ensures ready { IsReady self.now pass.new }
+    {
+        let Some(txn) = pass.last else { unreachable!() };
+        let mut seen = self.news.load(SeqCst);
+        let Ok(mut reply) = self.ask(rt, pass, &txn, key) else {
+            return Err(Refused::Memory);
+        };
+        for _ in rt.forever() {
+            match end_of(&reply) {
+                Some(answer) => return answer,
+                None => self.nap(rt, seen),
+            }
+            seen = self.news.load(SeqCst);
+            reply = self.ask_again(rt, pass, &txn);
+        }
+        unreachable!()
+    }
+
+    /// Asks to commit, and waits until the transaction has ended: it asks how in a turn each, and
+    /// sleeps in between.
+    pub fn commit<R: Wait>(&self, rt: &R, pass: &mut Pass) -> Outcome<Key>
+        requires ready { IsReady self.now pass.old }
+        requires inside { (x : TxnId) × IsIn pass.old x }
+        ensures one_history { (x : TxnId) → IsIn pass.old x → Tells self.now pass.old pass.new (CommitSays x result) }
+        ensures last { last_of_pass pass.new ≡ last_of_pass pass.old }
+        ensures stands { HasNotSignedOff pass.old → IsBetween pass.new }
+        ensures ready { IsReady self.now pass.new }
+    {
+        let Some(txn) = pass.last else { unreachable!() };
+        match self.ask_to_commit(rt, pass, &txn) {
+            Done::Yes => {}
+            Done::Aborted { why } => return Outcome::Aborted { why },
+        }
+        for _ in rt.forever() {
+            let seen = self.news.load(SeqCst);
+            match self.ask_for_end(rt, pass, &txn) {
+                Some(outcome) => return outcome,
+                None => self.nap(rt, seen),
+            }
+        }
+        unreachable!()
+    }
+}
+
+// How a get ended that was answered so, if it did.
+fn end_of(got: &Got) -> Option<Result<Option<Value>, Refused>>
+    ensures { IsAnswer got.now result }
+{
+    match got {
+        Got::Value { value } => Some(Ok(*value)),
+        Got::Aborted { why } => Some(Err(Refused::Aborted { why: *why })),
+        Got::Queued => None,
+    }
+}
+
+// A get with its reply.
+fn got(txn: &Txn, key: Key, reply: &Got) -> Made
+    ensures { steps_of result ≡ (desks.GetKey txn.now key, got_reply reply.now) ∷ [] }
+{
+    Made::one(Said::Get {
+        txn: *txn,
+        key,
+        reply: *reply,
+    })
+}
+
+// A poll with its reply.
+fn got_again(txn: &Txn, reply: &Got) -> Made
+    ensures { steps_of result ≡ (desks.Poll txn.now, got_reply reply.now) ∷ [] }
+{
+    Made::one(Said::Poll {
+        txn: *txn,
+        reply: *reply,
+    })
+}
