@@ -42,6 +42,7 @@ use std::io::Read;
 
 const TIMES: u64 = 20;
 const CELLS: u64 = 33163;
+const BATCHES: u64 = 500;
 
 fn put_keys(bytes: &mut Vec<u8>) -> Option<()> {
     for k in 0..65536 {
@@ -87,6 +88,14 @@ fn some_text(alloc: Global) -> Option<Vec<u8>> {
     Some(bytes)
 }
 
+// The first cell of the checkpoint's area.
+fn first_cell(p: &Params) -> Option<u64> {
+    if checkpoint_cells(p) == 0 {
+        return None;
+    }
+    Some(check_cell(p, 0, 0))
+}
+
 // The checkpoint in a store.
 fn stored(alloc: Global, p: &Params, sealer: &mut Sealer) -> Option<BareStore> {
     let text = some_text(alloc)?;
@@ -98,7 +107,7 @@ fn stored(alloc: Global, p: &Params, sealer: &mut Sealer) -> Option<BareStore> {
     if next > 1 << 40 {
         return None;
     }
-    let base = check_cell(p, 0, 0);
+    let base = first_cell(p)?;
     let many = checkpoint_cells(p);
     if base > 1 << 40 {
         return None;
@@ -172,7 +181,7 @@ fn open_all(sealer: &mut Sealer, times: u64) -> u64 {
 // A batch of the first cells of the checkpoint, which have the numbers from 0 on.
 fn batch(alloc: Global, p: &Params) -> Option<Jobs> {
     let mut jobs = Jobs::new(alloc, p).ok()?;
-    let base = check_cell(p, 0, 0);
+    let base = first_cell(p)?;
     for i in 0..1000 {
         if jobs.jobs().len() < jobs.room() {
             jobs.push(Job {
@@ -194,7 +203,7 @@ fn run_all(
     jobs: &mut Jobs,
 ) -> u64 {
     let mut done = 0;
-    for n in 0..500 {
+    for n in 0..BATCHES {
         if jobs.jobs().len() <= crew.jobs() {
             done += u64::from(run_jobs(store, crew, sealer, jobs).is_ok());
         }
