@@ -1,8 +1,11 @@
-use Rattle.std.proofs.Common.{[], sym, subst, rules, arith}
+use Rattle.std.proofs.Common.{[], refl, sym, subst, rules, arith}
 use Rattle.ob_conduct.specs.declared.tests.quitter.Quitter.{Quitter}
 use Rattle.ob_conduct.specs.Quitting.{Quits}
 use Rattle.ob_conduct.proofs.Quitting.{two_open, both}
 use Rattle.ob_conduct.proofs.tests.run.Goals as goal
+
+pub new-requires-3 : goal.new-requires-3
+new-requires-3 g c = two_open _ _ _ _ _ (search rules) (omega (arith, c.epoch.ensures.epoch, c.epoch.ensures.few)) refl refl
 
 pub serve-requires-clause-opens : goal.serve-requires-clause-opens
 serve-requires-clause-opens g c = two_open _ _ _ _ _ (search rules) (omega (arith, c.epoch.ensures.epoch, c.epoch.ensures.few)) c.new.ensures.client c.new-2.ensures.client
