@@ -5,7 +5,7 @@ use Rattle.std.proofs.Math.Nat.{mul-le-mul_right, mul-le-mul_left, pow-le-pow_ri
 use Rattle.std.specs.Int.{div_ceil}
 use Rattle.ob_base.specs.declared.params.Params.{Params}
 use Rattle.ob_base.specs.Tree.{buckets, width}
-use Rattle.ob_base.specs.Layout.{record_cells, record_len, checkpoint_len, checkpoint_cells, meta_len, log_cells, home_cells, cells}
+use Rattle.ob_base.specs.Layout.{record_cells, record_len, checkpoint_len, checkpoint_cells, meta_len, log_cells, home_cells, ring_cells}
 
 -- a product is at most that of its factors' bounds
 pub product_le : (a b m n : ℕ) → a ≤ m → b ≤ n → a * b ≤ m * n
@@ -53,5 +53,5 @@ pub checkpoint_cells_le : (p : Params) → checkpoint_cells p ≤ 256735
 unfolding checkpoint_cells
 checkpoint_cells_le p = div_ceil_le (checkpoint_len p) 96 256735 (omega arith) (omega (arith, checkpoint_len_le p))
 
-pub cells_le : (p : Params) → cells p < 2 ^ 24
+pub cells_le : (p : Params) → ring_cells p < 2 ^ 24
 cells_le p = omega (arith, log_cells_le p, checkpoint_cells_le p, home_cells_le p)

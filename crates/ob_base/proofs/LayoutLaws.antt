@@ -5,7 +5,9 @@ use Rattle.std.proofs.lemmas.Bool.{cases_order, cases_eq}
 use Rattle.std.proofs.Math.Nat.{mul-le-mul_right}
 use Rattle.ob_base.specs.declared.params.Params.{Params}
 use Rattle.ob_base.specs.Tree.{buckets, width}
-use Rattle.ob_base.specs.Layout.{Region, Head, GenerationTwin, EpochTwin, LogArea, CheckArea, Home, size_of, start_of, Lies, IsRegion, record_cells, checkpoint_cells, log_cells, home_cells, cells, log_cell, check_cell, slot_cell, RegionsApart, RegionsWithin, AddressesLie, AddressesApart, Address, AtHead, AtGeneration, AtEpoch, AtLog, AtCheck, AtSlot, IsAddress, cell_of, region_of}
+use Rattle.ob_base.specs.Layout.{Region, Head, GenerationTwin, EpochTwin, LogArea, CheckArea, Home, size_of, start_of, Lies, IsRegion, record_cells, checkpoint_len, checkpoint_cells, log_cells}
+use Rattle.ob_base.specs.Layout.{home_cells, ring_cells, log_cell, check_cell, slot_cell, RegionsApart, RegionsWithin, AddressesLie, AddressesApart, Address, AtHead, AtGeneration, AtEpoch, AtLog}
+use Rattle.ob_base.specs.Layout.{AtCheck, AtSlot, IsAddress, cell_of, region_of}
 
 -- a row of a table of fixed width ends where the next begins
 pub row_fits : (n w b i : ℕ) → b < n → i < w → b * w + i < n * w
@@ -129,7 +131,7 @@ region_is p (AtLog area batch part) h = h.0
 region_is p (AtCheck area part) h = h.0
 region_is p (AtSlot home bucket slot) h = h.0
 
-pub cell_within : (p : Params) (a : Address) → IsAddress p a → cell_of p a < cells p
+pub cell_within : (p : Params) (a : Address) → IsAddress p a → cell_of p a < ring_cells p
 cell_within p a h = regions_within p (region_of a) (cell_of p a) (region_is p a h) (addresses_lie p a h)
 
 -- addresses of two regions
@@ -171,3 +173,8 @@ addresses_apart p (AtSlot h u s) (AtSlot x v t) ha hb e = elim (cases_eq h x) [
   | inr ne ↦ other_region p (AtSlot h u s) (AtSlot x v t) ha hb (λ q. (let s : h ≡ x = cc in ne s)) e
 ]
 addresses_apart p a b ha hb e = other_region p a b ha hb (λ q. cc) e
+
+-- a checkpoint's cells have room for its bytes
+pub checkpoint_cells_hold : (p : Params) → checkpoint_len p ≤ 96 * checkpoint_cells p
+unfolding checkpoint_cells
+checkpoint_cells_hold p = omega arith

@@ -72,8 +72,8 @@ pub record Lies (p : Params) (r : Region) (cell : ℕ) : Type 0 where
   pub to : cell < start_of p r + size_of p r
 
 -- the cells of a store
-abbrev pub cells : Params → ℕ
-cells p = 9 + 2 * log_cells p + 2 * checkpoint_cells p + 2 * home_cells p
+abbrev pub ring_cells : Params → ℕ
+ring_cells p = 9 + 2 * log_cells p + 2 * checkpoint_cells p + 2 * home_cells p
 
 -- a part of a batch's record: its gate is the part behind its body
 abbrev pub log_cell : Params → ℕ → ℕ → ℕ → ℕ
@@ -130,7 +130,7 @@ RegionsApart = (p : Params) (r s : Region) (cell : ℕ) → IsRegion r → IsReg
 
 -- each region lies in the store
 abbrev pub RegionsWithin : Type 0
-RegionsWithin = (p : Params) (r : Region) (cell : ℕ) → IsRegion r → Lies p r cell → cell < cells p
+RegionsWithin = (p : Params) (r : Region) (cell : ℕ) → IsRegion r → Lies p r cell → cell < ring_cells p
 
 -- each address lies in its region
 abbrev pub AddressesLie : Type 0

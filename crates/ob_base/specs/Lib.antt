@@ -5,4 +5,6 @@ pub mod LittleEndian
 pub mod Padded
 pub mod Parameters
 pub mod Planned
+pub mod Repeats
 pub mod Tree
+pub mod Writes

@@ -1,3 +1,5 @@
+//! Refusals that all crates share: what failed, what is damaged, what is exhausted.
+
 /// An object that was handed in failed: its count of faults rose in the call.
 #[derive(Clone, Copy, Debug, PartialEq, Eq)]
 pub struct Failed;

@@ -1,3 +1,5 @@
+//! A planned read of a slot, and a place of a read batch.
+
 use crate::value::Key;
 
 /// A slot to be read: its cell, the identity with which that is sealed, and the key that lies

@@ -1,3 +1,5 @@
+//! The jobs of a plan, with room made once.
+
 ghost use Rattle.std.specs.Prelude.{◌≡◌, ◌++◌, ◌∷◌, [], ◌<◌, ◌≤◌, length, IfOk, Some};
 ghost use Rattle.ob_base.specs.Planned.{most_jobs, with_result};
 
@@ -34,7 +36,14 @@ impl Jobs {
     /// # Errors
     /// Memory was wanting.
     pub fn new(alloc: Global, p: &Params) -> Result<Jobs, Memory>
-        ensures { IfOk result (λ s. s ≡ record { jobs = []; places = []; room = most_jobs p.now; place_room = p.now.places }) }
+        ensures { IfOk result (λ s. s
+            ≡ record {
+              jobs = [];
+              places = [];
+              room = most_jobs p.now;
+              place_room =
+                  p.now.places;
+            }) }
     {
         let shown = p.places * (p.real + 1);
         let lifted = p.evictions * p.real;

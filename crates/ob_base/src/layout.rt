@@ -1,6 +1,8 @@
+//! The cells of a ring store: registers, slots, checkpoints and log, by their formulas.
+
 ghost use Rattle.std.specs.Prelude.{◌≡◌, ◌+◌, ◌^◌, ◌<◌, ◌≤◌};
 ghost use Rattle.ob_base.specs.Tree.{buckets, width};
-ghost use Rattle.ob_base.specs.Layout.{record_cells, checkpoint_len, checkpoint_cells, meta_len, log_cells, home_cells, cells, log_cell, log_gate, check_cell, slot_cell, RegionsApart, RegionsWithin, AddressesLie, AddressesApart};
+ghost use Rattle.ob_base.specs.Layout.{record_cells, checkpoint_len, checkpoint_cells, meta_len, log_cells, home_cells, ring_cells, log_cell, log_gate, check_cell, slot_cell, RegionsApart, RegionsWithin, AddressesLie, AddressesApart};
 
 use crate::params::Params;
 use crate::tree;
@@ -77,8 +79,8 @@ fn home_cells(p: &Params) -> u64
 
 /// How many cells a ring store has: the head, two registers, and two log areas, two checkpoint
 /// areas and two homes. The plain store, which lays no tree, has a count of its own.
-pub fn cells(p: &Params) -> u64
-    ensures cells { result ≡ cells p.now }
+pub fn ring_cells(p: &Params) -> u64
+    ensures cells { result ≡ ring_cells p.now }
     ensures few { result < 2 ^ 24 }
 {
     BODY_CELL + 2 * log_cells(p) + 2 * checkpoint_cells(p) + 2 * home_cells(p)
@@ -91,7 +93,7 @@ pub fn log_cell(p: &Params, area: u8, batch: u32, part: u64) -> u64
     requires batch { batch < p.now.batches }
     requires part { part < record_cells p.now + 1 }
     ensures cell { result ≡ log_cell p.now area batch part }
-    ensures within { result < cells p.now }
+    ensures within { result < ring_cells p.now }
 {
     BODY_CELL + area as u64 * log_cells(p) + (batch as u64 * (record_cells(p) + 1) + part)
 }
@@ -101,7 +103,7 @@ pub fn log_gate(p: &Params, area: u8, batch: u32) -> u64
     requires area { area < 2 }
     requires batch { batch < p.now.batches }
     ensures cell { result ≡ log_gate p.now area batch }
-    ensures within { result < cells p.now }
+    ensures within { result < ring_cells p.now }
 {
     log_cell(p, area, batch, record_cells(p))
 }
@@ -111,7 +113,7 @@ pub fn check_cell(p: &Params, area: u8, i: u64) -> u64
     requires area { area < 2 }
     requires i { i < checkpoint_cells p.now }
     ensures cell { result ≡ check_cell p.now area i }
-    ensures within { result < cells p.now }
+    ensures within { result < ring_cells p.now }
 {
     BODY_CELL + 2 * log_cells(p) + area as u64 * checkpoint_cells(p) + i
 }
@@ -122,7 +124,7 @@ pub fn slot_cell(p: &Params, home: u8, bucket: u32, slot: u8) -> u64
     requires bucket { bucket < buckets p.now }
     requires slot { slot < width p.now }
     ensures cell { result ≡ slot_cell p.now home bucket slot }
-    ensures within { result < cells p.now }
+    ensures within { result < ring_cells p.now }
 {
     BODY_CELL
         + 2 * log_cells(p)

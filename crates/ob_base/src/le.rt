@@ -1,3 +1,5 @@
+//! Little-endian numbers in a row of bytes.
+
 ghost use Rattle.std.specs.Prelude.{◌≡◌, ◌+◌, ◌≤◌, length};
 ghost use Rattle.std.specs.Int.{w32, w64, to_le_bytes};
 ghost use Rattle.ob_base.specs.LittleEndian.{field_at, with_part};

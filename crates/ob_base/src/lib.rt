@@ -16,9 +16,9 @@ pub use fault::{Check, Damaged, Failed, Fault, Field, Memory, NUMBER_LIMIT, Stas
 pub use job::{Job, Place};
 pub use jobs::Jobs;
 pub use layout::{
-    BODY_CELL, EPOCH_CELL, GENERATION_CELL, addresses_apart, addresses_lie, cells, check_cell,
+    BODY_CELL, EPOCH_CELL, GENERATION_CELL, addresses_apart, addresses_lie, check_cell,
     checkpoint_cells, checkpoint_len, log_cell, log_gate, meta_len, record_cells, regions_apart,
-    regions_within, slot_cell,
+    regions_within, ring_cells, slot_cell,
 };
 pub use le::{set_u32, set_u64, u32_at, u64_at};
 pub use op::Op;

@@ -1,3 +1,5 @@
+//! An operation of a transaction, as it was answered.
+
 use crate::value::Value;
 
 /// An operation of a transaction as it was answered. Keys are of any kind `K`.

@@ -1,3 +1,5 @@
+//! The nine parameters of a store, in range.
+
 ghost use Rattle.std.specs.Prelude.{◌≡◌, MatchResult, IfOk, Some, None};
 ghost use Rattle.ob_base.specs.Parameters.{AreInRange};
 ghost use Rattle.ob_base.specs.Fields.{first_out_of_range};
@@ -45,8 +47,11 @@ impl Params {
         e: u32,
         t: u32,
     ) -> Result<Params, Field>
-        ensures made { IfOk result (λ p. (p.keys ≡ n) × (p.levels ≡ l) × (p.real ≡ z) × (p.dummies ≡ s) × (p.batches ≡ r) × (p.places ≡ br) × (p.writes ≡ bw) × (p.evictions ≡ e) × (p.room ≡ t)) }
-        ensures first { MatchResult result (λ p. first_out_of_range n l z s r br bw e t ≡ None) (λ field. first_out_of_range n l z s r br bw e t ≡ Some field) }
+        ensures made { IfOk result (λ p. (p.keys ≡ n) × (p.levels ≡ l) × (p.real ≡ z)
+            × (p.dummies ≡ s) × (p.batches ≡ r) × (p.places ≡ br) × (p.writes ≡ bw)
+            × (p.evictions ≡ e) × (p.room ≡ t)) }
+        ensures first { MatchResult result (λ p. first_out_of_range n l z s r br bw e t
+            ≡ None) (λ field. first_out_of_range n l z s r br bw e t ≡ Some field) }
     {
         if !(1 <= n && n <= 65536) {
             return Err(Field::N);

@@ -1,3 +1,5 @@
+//! What std's own errors of memory become.
+
 ghost use Rattle.std.specs.Prelude.{◌≡◌};
 ghost use Rattle.ob_base.specs.declared.fault.Fault.TheVariants as fault;
 

@@ -1,11 +1,13 @@
+//! Parameters, values, numbers, layouts and paths of small stores.
+
 ghost use Rattle.std.specs.Prelude.{◌≡◌, IfSome};
 ghost use Rattle.ob_base.specs.Tree.{buckets, width};
 ghost use Rattle.ob_base.specs.Layout.{record_cells, checkpoint_cells};
 ghost use Rattle.ob_base.specs.Planned.{most_jobs};
 
 use crate::{
-    Field, Job, Jobs, Params, Place, Value, bucket_of, buckets, cells, check_cell,
-    checkpoint_cells, checkpoint_len, log_cell, record_cells, reverse, set_u32, set_u64, slot_cell,
+    Field, Job, Jobs, Params, Place, Value, bucket_of, buckets, check_cell, checkpoint_cells,
+    checkpoint_len, log_cell, record_cells, reverse, ring_cells, set_u32, set_u64, slot_cell,
     u32_at, u64_at,
 };
 
@@ -53,7 +55,8 @@ fn numbers_stand_low_byte_first(rt: HostRuntime) {
 }
 
 fn small() -> Option<Params>
-    ensures { IfSome result (λ p. (p.levels ≡ 2) × (p.batches ≡ 2) × (p.places ≡ 2) × (width p ≡ 5) × (buckets p ≡ 7) × (record_cells p ≡ 1) × (checkpoint_cells p ≡ 11) × (most_jobs p ≡ 18)) }
+    ensures { IfSome result (λ p. (p.levels ≡ 2) × (p.batches ≡ 2) × (p.places ≡ 2) × (width p ≡ 5)
+        × (buckets p ≡ 7) × (record_cells p ≡ 1) × (checkpoint_cells p ≡ 11) × (most_jobs p ≡ 18)) }
 {
     match Params::new(8, 2, 2, 3, 2, 2, 2, 2, 8) {
         Ok(p) => Some(p),
@@ -64,7 +67,7 @@ fn small() -> Option<Params>
 #[test]
 fn regions_of_a_small_store(rt: HostRuntime) {
     let p = small().expect(&rt, "parameters in range");
-    assert_eq!(rt; cells(&p), 109);
+    assert_eq!(rt; ring_cells(&p), 109);
     assert_eq!(rt; record_cells(&p), 1);
     assert_eq!(rt; checkpoint_len(&p), 985);
     assert_eq!(rt; checkpoint_cells(&p), 11);

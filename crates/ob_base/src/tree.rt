@@ -1,3 +1,5 @@
+//! Buckets and leaves of the tree of Ring ORAM.
+
 ghost use Rattle.std.specs.Prelude.{◌≡◌, ◌≤◌, ◌<◌, ◌^◌};
 ghost use Rattle.ob_base.specs.Tree.{buckets, bucket_of, reversed};
 

@@ -1,3 +1,5 @@
+//! Keys, values of at most 64 bytes, and writes.
+
 ghost use Rattle.std.specs.Prelude.{◌≡◌, ◌<◌, ◌≤◌, ◌++◌, length, drop, MatchOption};
 
 use std::marker::Model;
@@ -42,7 +44,8 @@ fn copy_over(all: &mut [u8], bytes: &[u8])
 impl Value {
     /// The value of these bytes: none exactly where there are more than 64.
     pub fn new(bytes: &[u8]) -> Option<Value>
-        ensures { MatchOption result (64 < length bytes.now) (λ v. (v ≡ bytes.now) × (length bytes.now ≤ 64)) }
+        ensures { MatchOption result (64 < length bytes.now) (λ v. (v ≡ bytes.now)
+            × (length bytes.now ≤ 64)) }
     {
         if bytes.len() > 64 {
             return None;

@@ -18,7 +18,8 @@ use Rattle.ob_store.specs.declared.event.Event.TheVariants.{Read}
 use Rattle.ob_store.specs.Disk.{Image}
 use Rattle.ob_store.specs.Calls.{IsStoreFault, Notes}
 use Rattle.ob_store.proofs.Events.{joined}
-use Rattle.ob_batch.specs.Jobs.{IsPlainOf, IsJobRead, IsReadFault, outcome_at, plain_of, plain_at, AreOutcomes, AreCaused, IsFirstErr, IsFirstFailing, AreFilled, AreJobsRead, cells_of}
+use Rattle.ob_store.proofs.Serving.{rose_later}
+use Rattle.ob_batch.specs.Jobs.{IsPlainOf, IsJobRead, IsReadFault, job_outcome, plain_of, plain_at, AreOutcomes, AreCaused, IsFirstErr, IsFirstFailing, AreFilled, AreJobsRead, cells_of}
 use Rattle.ob_batch.specs.Lanes.{reads_of_lane, reads_of_lanes, ReadByLanes}
 
 abbrev pub Outcomes : Type 0
@@ -26,17 +27,14 @@ Outcomes = List (Result (List ℕ) Fault)
 
 -- one outcome more
 pub one_more : (P : ℕ → Result (List ℕ) Fault → Type 0) (outcomes : Outcomes) (i : ℕ) (one : Result (List ℕ) Fault) → i < length outcomes
-    → ((j : ℕ) → j < i → P j (outcome_at outcomes j)) → P i one → (j : ℕ) → j < i + 1 → P j (outcome_at (slice_set outcomes i one) j)
+    → ((j : ℕ) → j < i → P j (job_outcome outcomes j)) → P i one → (j : ℕ) → j < i + 1 → P j (job_outcome (slice_set outcomes i one) j)
 one_more P outcomes i one lt before here j below = elim (cases_eq j i) [
-  | inl same ↦ subst (λ (n : ℕ). P n (outcome_at (slice_set outcomes i one) n)) (sym same) (subst (P i) (sym (get_or-set_same outcomes i one (Err Memory) lt)) here)
+  | inl same ↦ subst (λ (n : ℕ). P n (job_outcome (slice_set outcomes i one) n)) (sym same) (subst (P i) (sym (get_or-set_same outcomes i one (Err Memory) lt)) here)
   | inr ne ↦ subst (P j) (sym (get_or-set_other outcomes i j one (Err Memory) ne)) (before j (omega arith))
 ]
 
 rose_on : (l m n : ℕ) → m ≤ n → Rose l m → Rose l n
 rose_on l m n le rose = omega arith
-
-rose_later : (l m n : ℕ) → l ≤ m → Rose m n → Rose l n
-rose_later l m n le rose = omega arith
 
 caused_on : (l m n : ℕ) (r : Result (List ℕ) Fault) → m ≤ n → IfErr r (λ f. IsReadFault f × (IsStoreFault f → Rose l m)) → IfErr r (λ f. IsReadFault f × (IsStoreFault f → Rose l n))
 caused_on l m n (Ok x) le h = tt
@@ -49,7 +47,7 @@ caused_here l m n (Err f) le h k = (h, λ is. rose_later l m n le (k is))
 pub caused_more : (l m n i : ℕ) (outcomes : Outcomes) (one : Result (List ℕ) Fault) → i < length outcomes → l ≤ m → m ≤ n → AreCaused l m i outcomes → IfErr one IsReadFault → IfErr one (λ f. IsStoreFault f → Rose m n)
     → AreCaused l n (i + 1) (slice_set outcomes i one)
 caused_more l m n i outcomes one lt le more before fault cause =
-    one_more (λ j r. IfErr r (λ f. IsReadFault f × (IsStoreFault f → Rose l n))) outcomes i one lt (λ j low. caused_on l m n (outcome_at outcomes j) more (before j low)) (caused_here l m n one le fault cause)
+    one_more (λ j r. IfErr r (λ f. IsReadFault f × (IsStoreFault f → Rose l n))) outcomes i one lt (λ j low. caused_on l m n (job_outcome outcomes j) more (before j low)) (caused_here l m n one le fault cause)
 
 -- ---- events
 
@@ -101,10 +99,10 @@ sound_of : (keys : Keys) (image : Image) (job : Job) (r : Result (List ℕ) Faul
 sound_of keys image job (Ok plain) is read = read
 sound_of keys image job (Err f) is read = absurd (false≢true is)
 
-pub all_sound : (keys : Keys) (image : Image) (old new : List Job) (outcomes : Outcomes) → AreOutcomes keys image old outcomes → ((i : ℕ) → i < length old → IsOk (outcome_at outcomes i)) → AreFilled old new (λ i. plain_at outcomes i) → AreJobsRead keys image old new
+pub all_sound : (keys : Keys) (image : Image) (old new : List Job) (outcomes : Outcomes) → AreOutcomes keys image old outcomes → ((i : ℕ) → i < length old → IsOk (job_outcome outcomes i)) → AreFilled old new (λ i. plain_at outcomes i) → AreJobsRead keys image old new
 all_sound keys image old new outcomes read fine filled = record {
   plain = λ i. plain_at outcomes i;
-  spelled = λ i lt. sound_of keys image (job_at old i) (outcome_at outcomes i) (fine i lt) (read i lt);
+  spelled = λ i lt. sound_of keys image (job_at old i) (job_outcome outcomes i) (fine i lt) (read i lt);
   filled = filled;
 }
 
@@ -112,7 +110,7 @@ pub first_fails : (keys : Keys) (image : Image) (jobs : List Job) (outcomes : Ou
 first_fails keys image jobs outcomes f read first = record {
   job = first.job;
   within = first.within;
-  earlier = λ i low. (let lt : i < length jobs = (let w = first.within in omega arith) in (plain_at outcomes i, sound_of keys image (job_at jobs i) (outcome_at outcomes i) (first.earlier i low) (read i lt)));
+  earlier = λ i low. (let lt : i < length jobs = (let w = first.within in omega arith) in (plain_at outcomes i, sound_of keys image (job_at jobs i) (job_outcome outcomes i) (first.earlier i low) (read i lt)));
   fails = subst (λ (r : Result (List ℕ) Fault). IsJobRead keys image (job_at jobs first.job) r) first.is (read first.job first.within);
 }
 

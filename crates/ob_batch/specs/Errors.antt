@@ -3,6 +3,6 @@ use Rattle.ob_base.specs.declared.fault.Fault.{Fault}
 use Rattle.ob_batch.specs.declared.error.JobsErr.{JobsErr}
 use Rattle.ob_batch.specs.declared.error.JobsErr.TheVariants.{NotBegun, Job}
 
-abbrev pub fault_of : JobsErr → Fault
-fault_of (NotBegun fault) = fault
-fault_of (Job fault) = fault
+abbrev pub jobs_fault : JobsErr → Fault
+jobs_fault (NotBegun fault) = fault
+jobs_fault (Job fault) = fault

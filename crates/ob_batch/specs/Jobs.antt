@@ -47,30 +47,30 @@ abbrev pub IsJobRead : Keys → Image → Job → Result (List ℕ) Fault → Ty
 IsJobRead keys image job (Ok plain) = IsPlainOf keys image job plain
 IsJobRead keys image job (Err fault) = IsJobFault keys image job fault
 
-abbrev pub outcome_at : List (Result (List ℕ) Fault) → ℕ → Result (List ℕ) Fault
-outcome_at outcomes i = slice_index_or outcomes i (Err Memory)
+abbrev pub job_outcome : List (Result (List ℕ) Fault) → ℕ → Result (List ℕ) Fault
+job_outcome outcomes i = slice_index_or outcomes i (Err Memory)
 
 abbrev pub plain_of : Result (List ℕ) Fault → List ℕ
 plain_of (Ok plain) = plain
 plain_of (Err fault) = []
 
 abbrev pub plain_at : List (Result (List ℕ) Fault) → ℕ → List ℕ
-plain_at outcomes i = plain_of (outcome_at outcomes i)
+plain_at outcomes i = plain_of (job_outcome outcomes i)
 
 -- the outcomes of these jobs
 abbrev pub AreOutcomes : Keys → Image → List Job → List (Result (List ℕ) Fault) → Type 0
-AreOutcomes keys image jobs outcomes = (i : ℕ) → i < length jobs → IsJobRead keys image (job_at jobs i) (outcome_at outcomes i)
+AreOutcomes keys image jobs outcomes = (i : ℕ) → i < length jobs → IsJobRead keys image (job_at jobs i) (job_outcome outcomes i)
 
 -- each is a fault of a read, and the store's own only where a count rose
 abbrev pub AreCaused : ℕ → ℕ → ℕ → List (Result (List ℕ) Fault) → Type 0
-AreCaused before now jobs outcomes = (i : ℕ) → i < jobs → IfErr (outcome_at outcomes i) (λ f. IsReadFault f × (IsStoreFault f → Rose before now))
+AreCaused before now jobs outcomes = (i : ℕ) → i < jobs → IfErr (job_outcome outcomes i) (λ f. IsReadFault f × (IsStoreFault f → Rose before now))
 
 -- the first of so many that failed
 pub record IsFirstErr (outcomes : List (Result (List ℕ) Fault)) (jobs : ℕ) (fault : Fault) : Type 0 where
   pub job : ℕ
   pub within : job < jobs
-  pub earlier : (i : ℕ) → i < job → IsOk (outcome_at outcomes i)
-  pub is : outcome_at outcomes job ≡ Err fault
+  pub earlier : (i : ℕ) → i < job → IsOk (job_outcome outcomes i)
+  pub is : job_outcome outcomes job ≡ Err fault
 
 -- each job has its plain bytes, and is else as before
 pub record AreFilled (old new : List Job) (plain : ℕ → List ℕ) : Type 0 where
@@ -93,10 +93,10 @@ pub record IsFirstFailing (keys : Keys) (image : Image) (jobs : List Job) (fault
 -- ---- what a batch of jobs answers
 
 -- what is told where the store tells its cells
-abbrev pub AreAnswered : Keys → Image → List Job → List Job → Result (Unit {0}) JobsErr → Type 0
-AreAnswered keys image old new (Ok done) = AreJobsRead keys image old new
-AreAnswered keys image old new (Err (error.Job fault)) = IsFirstFailing keys image old fault
-AreAnswered keys image old new (Err (error.NotBegun fault)) = Unit {0}
+abbrev pub AreJobsAnswered : Keys → Image → List Job → List Job → Result (Unit {0}) JobsErr → Type 0
+AreJobsAnswered keys image old new (Ok done) = AreJobsRead keys image old new
+AreJobsAnswered keys image old new (Err (error.Job fault)) = IsFirstFailing keys image old fault
+AreJobsAnswered keys image old new (Err (error.NotBegun fault)) = Unit {0}
 
 -- the refusals: of a lane, or of a job
 abbrev pub IsJobsErr : JobsErr → Type 0

@@ -1,3 +1,5 @@
+//! Room for what the jobs of a batch give, and the number of lanes.
+
 ghost use Rattle.std.specs.Prelude.{◌≡◌, ◌≤◌, IfOk};
 
 use ob_base::{Fault, Memory};

@@ -1,5 +1,7 @@
+//! Why a batch was refused.
+
 ghost use Rattle.std.specs.Prelude.{◌≡◌};
-ghost use Rattle.ob_batch.specs.Errors.{fault_of};
+ghost use Rattle.ob_batch.specs.Errors.{jobs_fault};
 
 use ob_base::Fault;
 
@@ -13,7 +15,7 @@ pub enum JobsErr {
 }
 
 impl From<JobsErr> for Fault {
-    ghost from_gives = { λ e f. f ≡ fault_of e };
+    ghost from_gives = { λ e f. f ≡ jobs_fault e };
 
     fn from(error: JobsErr) -> Fault {
         match error {

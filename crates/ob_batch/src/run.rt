@@ -1,7 +1,9 @@
+//! Reading the jobs of a batch.
+
 ghost use Rattle.std.specs.Prelude.{◌≡◌, ◌≤◌, length, IfErr, OnErr};
 ghost use Rattle.ob_store.specs.Images.{Same, Passes};
 ghost use Rattle.ob_store.specs.Calls.{Serves, Keeps};
-ghost use Rattle.ob_batch.specs.Jobs.{AreAnswered, AreKept, AreSeen, IsBlamed, IsJobsErr};
+ghost use Rattle.ob_batch.specs.Jobs.{AreJobsAnswered, AreKept, AreSeen, IsBlamed, IsJobsErr};
 
 use crate::crew::Crew;
 use crate::error::JobsErr;
@@ -27,14 +29,17 @@ pub fn run_jobs<S: Store>(
 ) -> Result<(), JobsErr>
     requires few { length jobs.old.jobs ≤ crew.old.jobs }
     ensures serves { Serves IsBlamed (S.disk store.old) (S.disk store.new) result }
-    ensures value { (S.disk store.old).tells → AreAnswered sealer.now.keys (S.disk store.old).cells jobs.old.jobs jobs.new.jobs result }
+    ensures value { (S.disk store.old).tells
+        → AreJobsAnswered sealer.now.keys (S.disk store.old).cells jobs.old.jobs jobs.new.jobs
+        result }
     ensures faults { IfErr result IsJobsErr }
     ensures kept { AreKept jobs.old.jobs jobs.new.jobs result }
     ensures rest { jobs.new ≡ record jobs.old { jobs = jobs.new.jobs } }
     ensures crew { crew.new ≡ crew.old }
     ensures keeps { Keeps (S.disk store.old) (S.disk store.new) }
     ensures passes { Passes Same (S.disk store.old) (S.disk store.new) }
-    ensures seen { AreSeen crew.old.lanes jobs.old.jobs (S.disk store.old).seen (S.disk store.new).seen result }
+    ensures seen { AreSeen crew.old.lanes jobs.old.jobs (S.disk store.old).seen
+        (S.disk store.new).seen result }
 {
     let mut lane = match store.lane() {
         Ok(lane) => lane,

@@ -1,3 +1,5 @@
+//! Batches over a store whose cells were sealed elsewhere.
+
 ghost use Rattle.std.specs.Prelude.{◌≡◌};
 ghost use Rattle.ob_mem.specs.Memory.{disk_of_store};
 

@@ -16,11 +16,11 @@ lt_head true b m n e f h = absurd (true≢false e)
 lt_head false true m n e f h = omega arith
 lt_head false false m n e f h = absurd (false≢true f)
 
-one_at_most : (a : Bool) → cond a 1 0 ≤ 1
+pub one_at_most : (a : Bool) → cond a 1 0 ≤ 1
 one_at_most true = omega arith
 one_at_most false = omega arith
 
-none_of : (a : Bool) → a ≡ false → ◌≡◌ {A = ℕ} (cond a 1 0) 0
+pub none_of : (a : Bool) → a ≡ false → ◌≡◌ {A = ℕ} (cond a 1 0) 0
 none_of true e = absurd (true≢false e)
 none_of false e = refl
 

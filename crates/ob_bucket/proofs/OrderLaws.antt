@@ -6,15 +6,16 @@ use Rattle.std.specs.Cmp.{IsStrictWeakOrder, nat_cmp_total}
 use Rattle.std.specs.Ordering.{is_lt, nat_cmp, ordering_then}
 use Rattle.std.proofs.Common.{arith, zero, suc, refl, sym, ap, subst, ◌∙◌, get_or, All}
 use Rattle.std.proofs.lemmas.Cmp.{then_total, on_total}
-use Rattle.std.proofs.lemmas.Bool.{true≢false, false≢true}
+use Rattle.std.proofs.lemmas.Bool.{false≢true}
 use Rattle.std.proofs.lemmas.Bool.Decides.{nat_tests}
 use Rattle.std.proofs.lemmas.List.Sorted.{ranks_by, sorted_far, sum_by-IsPermutation, All-permutation, Contains-permutation, length_permutation}
 use Rattle.std.proofs.lemmas.List.Elements.{All-get_or, All-from_get_or, Contains-get_or, at_from_Contains}
 use Rattle.std.proofs.lemmas.List.FromFn.{length-map-range_with_len, get_or-map-range_with_len, fill_by_all}
 use Rattle.ob_bucket.specs.Rank.{comes_before, rank, ranks_of}
 use Rattle.ob_bucket.specs.Order.{numbered, index_at, AreApart}
-use Rattle.ob_bucket.proofs.Counting.{count_by-cons}
+use Rattle.ob_bucket.proofs.Counting.{count_by-cons, one_at_most, none_of}
 use Rattle.ob_bucket.proofs.Ranges.{count_by-range_mark}
+use Rattle.ob_bucket.proofs.RankLaws.{before_itself}
 
 -- ---- the test by which pairs are sorted
 
@@ -32,14 +33,6 @@ less_is v i w j = grind (arith, nat_tests)
 some_of : (a : Bool) → a ≡ true → ◌≡◌ {A = ℕ} (cond a 1 0) 1
 some_of true e = refl
 some_of false e = absurd (false≢true e)
-
-none_of : (a : Bool) → a ≡ false → ◌≡◌ {A = ℕ} (cond a 1 0) 0
-none_of true e = absurd (true≢false e)
-none_of false e = refl
-
-one_at_most : (a : Bool) → cond a 1 0 ≤ 1
-one_at_most true = omega arith
-one_at_most false = omega arith
 
 count_front : {X : Type 0} → (p : X → Bool) (xs : List X) (k : ℕ) (d : X) → k ≤ length xs → ((i : ℕ) → i < k → p (get_or xs i d) ≡ true) → k ≤ count_by p xs
 count_front p xs zero d fits all = omega arith
@@ -83,9 +76,6 @@ before_count words j = count_map (λ y. is_less y (pair_of words j)) (pair_of wo
 
 up_to : (v i w j : ℕ) → (i ≡ j → v ≡ w) → not (comes_before w j v i) ≡ ((i == j) || comes_before v i w j)
 up_to v i w j same = grind (arith, nat_tests)
-
-before_itself : (v i : ℕ) → comes_before v i v i ≡ false
-before_itself v i = grind (arith, nat_tests)
 
 up_to_count : (words : List ℕ) (j : ℕ) → j < length words → count_by (λ y. not (is_less (pair_of words j) y)) (numbered words) ≡ rank words j + 1
 up_to_count words j h = count_map (λ y. not (is_less (pair_of words j) y)) (pair_of words) (range_with_len 0 (length words))

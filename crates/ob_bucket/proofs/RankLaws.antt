@@ -7,7 +7,7 @@ use Rattle.std.proofs.lemmas.List.FromFn.{length-range_with_len, get_or-range_wi
 use Rattle.ob_bucket.specs.Rank.{comes_before, rank, IsRanking}
 use Rattle.ob_bucket.proofs.Counting.{count_by-lt, count_by-lt-length, onto_of_apart}
 
-before_itself : (v i : ℕ) → comes_before v i v i ≡ false
+pub before_itself : (v i : ℕ) → comes_before v i v i ≡ false
 before_itself v i = grind (arith, nat_tests)
 
 before_trans : (u i v j w k : ℕ) → comes_before v j w k ≡ true → comes_before u i v j ≡ true → comes_before u i w k ≡ true

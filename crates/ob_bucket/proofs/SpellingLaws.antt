@@ -1,70 +1,18 @@
 -- Bytes spell at most one version, and what is read from bytes is spelled by them.
-use Rattle.std.specs.Prelude.{◌≡◌, ◌<◌, ◌≤◌, ℕ, ◌+◌, ◌-◌, ◌*◌, ◌^◌, ◌==◌, Bool, true, false, List, [], ◌∷◌, ◌++◌, Option, Some, None, take, drop, length, slice_index, slice_index_or}
-use Rattle.std.specs.Int.{w32, w64, to_le_bytes, from_le_bytes}
+use Rattle.std.specs.Prelude.{◌≡◌, ◌<◌, ◌≤◌, ℕ, ◌+◌, ◌-◌, ◌*◌, ◌==◌, Bool, true, false, List, [], ◌∷◌, ◌++◌, Option, Some, None, take, drop, length, slice_index, slice_index_or}
+use Rattle.std.specs.Int.{w32, w64, to_le_bytes}
 use Rattle.std.specs.List.{flat_map}
-use Rattle.std.proofs.Common.{zero, suc, arith, refl, sym, ap, subst, ◌∙◌, length-append, get_or, length-drop, length-take, append_assoc}
+use Rattle.std.proofs.Common.{zero, suc, arith, refl, sym, ap, subst, ◌∙◌, length-append, get_or, length-drop, append_assoc}
 use Rattle.std.proofs.lemmas.List.{take-append-drop, drop-drop, append-nil, drop_more, take_more, take_all, get_or-drop, get_or-append-add}
-use Rattle.std.proofs.lemmas.List.Concat.{flat_map-cons, flat_map-append}
-use Rattle.std.proofs.lemmas.Nat.{from_le_bytes-to_le_bytes_4, from_le_bytes-to_le_bytes_8, le_bytes_4, le_bytes_8}
+use Rattle.std.proofs.lemmas.List.Concat.{flat_map-append}
 use Rattle.ob_base.specs.declared.params.Params.{Params}
 use Rattle.ob_base.specs.Tree.{width}
 use Rattle.ob_base.specs.Layout.{meta_len}
 use Rattle.ob_base.specs.LittleEndian.{field_at}
-use Rattle.ob_bucket.specs.Version.{Version, HasSlots, FitsFields, AreRanks, MarksObey, Reads, Spells, SpelledOnce, EMPTY, used_at, key_bytes, mark_of, index_bytes, version_bytes}
+use Rattle.ob_base.proofs.Spelled.{le32_same, front64, items_same, field32, field64}
+use Rattle.ob_bucket.specs.Version.{Version, HasSlots, FitsFields, AreRanks, MarksObey, ReadsVersion, Spells, SpelledOnce, EMPTY, used_at, key_bytes, mark_of, index_bytes, version_bytes}
 use Rattle.ob_bucket.proofs.VersionLaws.{version_of}
 use Rattle.ob_bucket.proofs.PartLaws.{key_width, keys_width, index_push}
-
--- ---- lists
-
-pub split_same : (xs ys a b : List ℕ) → length xs ≡ length ys → xs ++ a ≡ ys ++ b → (xs ≡ ys) × (a ≡ b)
-split_same [] [] a b long e = (refl, e)
-split_same [] (y ∷ ys) a b long e = absurd (omega arith)
-split_same (x ∷ xs) [] a b long e = absurd (omega arith)
-split_same (x ∷ xs) (y ∷ ys) a b long e =
-    let head : x ≡ y = cc in
-    let tail : xs ++ a ≡ ys ++ b = cc in
-    let rest = split_same xs ys a b (omega arith) tail in
-    let same : xs ≡ ys = rest.0 in
-    (cc, rest.1)
-
-pub le32_same : (m n : ℕ) → m < 2 ^ 32 → n < 2 ^ 32 → to_le_bytes w32 m ≡ to_le_bytes w32 n → m ≡ n
-le32_same m n hm hn e = sym (from_le_bytes-to_le_bytes_4 m hm) ∙ ap (from_le_bytes w32) e ∙ from_le_bytes-to_le_bytes_4 n hn
-
-pub le64_same : (m n : ℕ) → m < 2 ^ 64 → n < 2 ^ 64 → to_le_bytes w64 m ≡ to_le_bytes w64 n → m ≡ n
-le64_same m n hm hn e = sym (from_le_bytes-to_le_bytes_8 m hm) ∙ ap (from_le_bytes w64) e ∙ from_le_bytes-to_le_bytes_8 n hn
-
--- a number in front
-pub front32 : (m n : ℕ) (a b : List ℕ) → m < 2 ^ 32 → n < 2 ^ 32 → to_le_bytes w32 m ++ a ≡ to_le_bytes w32 n ++ b → (m ≡ n) × (a ≡ b)
-front32 m n a b hm hn e = let parts = split_same (to_le_bytes w32 m) (to_le_bytes w32 n) a b refl e in (le32_same m n hm hn parts.0, parts.1)
-
-pub front64 : (m n : ℕ) (a b : List ℕ) → m < 2 ^ 64 → n < 2 ^ 64 → to_le_bytes w64 m ++ a ≡ to_le_bytes w64 n ++ b → (m ≡ n) × (a ≡ b)
-front64 m n a b hm hn e = let parts = split_same (to_le_bytes w64 m) (to_le_bytes w64 n) a b refl e in (le64_same m n hm hn parts.0, parts.1)
-
-module _ {X : Type 0} (f : X → List ℕ) (w : ℕ) (d : X) where
-  pub length-flat_map_wide : (xs : List X) → ((i : ℕ) → i < length xs → length (f (get_or xs i d)) ≡ w) → length (flat_map f xs) ≡ length xs * w
-  length-flat_map_wide [] wide = omega arith
-  length-flat_map_wide (x ∷ xs) wide =
-      let here : length (f x) ≡ w = wide 0 (omega arith) in
-      let rest : length (flat_map f xs) ≡ length xs * w = length-flat_map_wide xs (λ i lt. wide (suc i) (omega arith)) in
-      let more : suc (length xs) * w ≡ w + length xs * w = omega arith in
-      rw (flat_map-cons f x xs, length-append) (omega arith)
-
-  -- items of one width, spelled alike item by item
-  pub items_same : (xs ys : List X) (a b : List ℕ) → length xs ≡ length ys
-      → ((i : ℕ) → i < length xs → length (f (get_or xs i d)) ≡ w) → ((i : ℕ) → i < length ys → length (f (get_or ys i d)) ≡ w)
-      → ((i : ℕ) → i < length xs → f (get_or xs i d) ≡ f (get_or ys i d) → get_or xs i d ≡ get_or ys i d)
-      → flat_map f xs ++ a ≡ flat_map f ys ++ b → (xs ≡ ys) × (a ≡ b)
-  items_same [] [] a b long wx wy one e = (refl, e)
-  items_same [] (y ∷ ys) a b long wx wy one e = absurd (omega arith)
-  items_same (x ∷ xs) [] a b long wx wy one e = absurd (omega arith)
-  items_same (x ∷ xs) (y ∷ ys) a b long wx wy one e =
-      let e' : f x ++ (flat_map f xs ++ a) ≡ f y ++ (flat_map f ys ++ b) =
-      sym (append_assoc (f x) (flat_map f xs) a) ∙ ap (λ l. l ++ a) (sym (flat_map-cons f x xs)) ∙ e ∙ ap (λ l. l ++ b) (flat_map-cons f y ys) ∙ append_assoc (f y) (flat_map f ys) b in
-      let parts = split_same (f x) (f y) (flat_map f xs ++ a) (flat_map f ys ++ b) (wx 0 (omega arith) ∙ sym (wy 0 (omega arith))) e' in
-      let head : x ≡ y = one 0 (omega arith) parts.0 in
-      let rest = items_same xs ys a b (omega arith) (λ i lt. wx (suc i) (omega arith)) (λ i lt. wy (suc i) (omega arith)) (λ i lt. one (suc i) (omega arith)) parts.1 in
-      let tail : xs ≡ ys = rest.0 in
-      (cc, rest.1)
 
 -- ---- a version
 
@@ -108,7 +56,7 @@ version_same v w fv fw keys uv uw ranks e =
     let four = index_same v.ranks w.ranks v.used w.used (sym uv) (sym uw) ranks three.1 in
     version_of v.home w.home v.generation w.generation v.base w.base v.keys w.keys v.ranks w.ranks v.used w.used home one.0 two.0 three.0 four.0 four.1
 
-pub only : (p : Params) (bytes : List ℕ) (r v : Version) → Reads p bytes r → Spells p bytes v → r ≡ v
+pub only : (p : Params) (bytes : List ℕ) (r v : Version) → ReadsVersion p bytes r → Spells p bytes v → r ≡ v
 only p bytes r v reads spells =
     let sr : HasSlots p r = reads.slots in
     let sv : HasSlots p v = spells.obeys.slots in
@@ -152,22 +100,6 @@ take_joined zero n xs = ap (λ (m : ℕ). take m xs) (let e : n ≡ 0 + n = omeg
 take_joined {X} (suc m) n [] = take_none {X = X} n ∙ sym (take_none (suc m + n))
 take_joined {X} (suc m) n (x ∷ xs) = ap (λ (ys : List X). x ∷ ys) (take_joined m n xs) ∙ sym (ap (λ (k : ℕ). take k (x ∷ xs)) (let e : suc m + n ≡ suc (m + n) = omega arith in e))
 
-low_take : (n : ℕ) (xs : List ℕ) → ((i : ℕ) → get_or xs i 0 < 256) → (i : ℕ) → get_or (take n xs) i 0 < 256
-low_take zero xs low i = omega arith
-low_take (suc n) [] low i = omega arith
-low_take (suc n) (x ∷ xs) low zero = low 0
-low_take (suc n) (x ∷ xs) low (suc i) = low_take n xs (λ j. low (suc j)) i
-
-low_part : (bytes : List ℕ) (at n : ℕ) → ((i : ℕ) → get_or bytes i 0 < 256) → (i : ℕ) → get_or (take n (drop at bytes)) i 0 < 256
-low_part bytes at n low i = low_take n (drop at bytes) (λ j. rw (get_or-drop at bytes j 0) (low (at + j))) i
-
--- a number read is spelled by its bytes
-pub field32 : (bytes : List ℕ) (at number : ℕ) → ((i : ℕ) → get_or bytes i 0 < 256) → at + 4 ≤ length bytes → number ≡ field_at w32 bytes at → to_le_bytes w32 number ≡ take 4 (drop at bytes)
-field32 bytes at number low fits e = le_bytes_4 (take 4 (drop at bytes)) number (omega (arith, length-take 4 (drop at bytes), length-drop at bytes)) (low_part bytes at 4 low) e
-
-pub field64 : (bytes : List ℕ) (at number : ℕ) → ((i : ℕ) → get_or bytes i 0 < 256) → at + 8 ≤ length bytes → number ≡ field_at w64 bytes at → to_le_bytes w64 number ≡ take 8 (drop at bytes)
-field64 bytes at number low fits e = le_bytes_8 (take 8 (drop at bytes)) number (omega (arith, length-take 8 (drop at bytes), length-drop at bytes)) (low_part bytes at 8 low) e
-
 -- bytes are their parts
 pub parts_are : (bytes : List ℕ) (v : Version) (low : (i : ℕ) → get_or bytes i 0 < 256) → length bytes ≡ 17 + 4 * length v.keys + 2 * length v.ranks
     → v.home ≡ get_or bytes 0 0 → v.generation ≡ field_at w64 bytes 1 → v.base ≡ field_at w64 bytes 9
@@ -188,7 +120,7 @@ parts_are bytes v low long home generation base keys indexes =
 
 pub reads_are : (p : Params) (bytes : List ℕ) (v : Version) (low : (i : ℕ) → get_or bytes i 0 < 256) → length bytes ≡ meta_len p → HasSlots p v → FitsFields v
     → v.home < 2 → v.home ≡ get_or bytes 0 0 → v.generation ≡ field_at w64 bytes 1 → v.base ≡ field_at w64 bytes 9
-    → flat_map key_bytes v.keys ≡ take (4 * p.real) (drop 17 bytes) → index_bytes v.ranks v.used ≡ take (2 * width p) (drop (17 + 4 * p.real) bytes) → Reads p bytes v
+    → flat_map key_bytes v.keys ≡ take (4 * p.real) (drop 17 bytes) → index_bytes v.ranks v.used ≡ take (2 * width p) (drop (17 + 4 * p.real) bytes) → ReadsVersion p bytes v
 reads_are p bytes v low long slots fits two home generation base keys indexes =
     let r : length v.keys ≡ p.real = slots.keys in
     let w : length v.ranks ≡ width p = slots.ranks in
@@ -202,10 +134,10 @@ reads_are p bytes v low long slots fits two home generation base keys indexes =
     }
 
 -- where a rule is broken no version that obeys is spelled
-pub no_ranks : (p : Params) (bytes : List ℕ) (r v : Version) → Reads p bytes r → (AreRanks r.ranks → ⊥) → Spells p bytes v → ⊥
+pub no_ranks : (p : Params) (bytes : List ℕ) (r v : Version) → ReadsVersion p bytes r → (AreRanks r.ranks → ⊥) → Spells p bytes v → ⊥
 no_ranks p bytes r v reads broken s = broken (subst (λ (x : Version). AreRanks x.ranks) (sym (only p bytes r v reads s)) s.obeys.ranks)
 
-pub no_marks : (p : Params) (bytes : List ℕ) (r v : Version) → Reads p bytes r → (MarksObey p.dummies r.keys r.used → ⊥) → Spells p bytes v → ⊥
+pub no_marks : (p : Params) (bytes : List ℕ) (r v : Version) → ReadsVersion p bytes r → (MarksObey p.dummies r.keys r.used → ⊥) → Spells p bytes v → ⊥
 no_marks p bytes r v reads broken s = broken (subst (λ (x : Version). MarksObey p.dummies x.keys x.used) (sym (only p bytes r v reads s)) s.obeys.marks)
 
 pub no_home : (p : Params) (bytes : List ℕ) (v : Version) → 1 < slice_index bytes 0 → Spells p bytes v → ⊥
@@ -214,7 +146,7 @@ no_home p bytes v high s = let is : slice_index bytes 0 ≡ v.home = home_is p b
 pub no_mark : (p : Params) (bytes : List ℕ) (v : Version) → (j : ℕ) × (j < width p) × (1 < slice_index bytes (17 + 4 * p.real + 2 * j + 1)) → Spells p bytes v → ⊥
 no_mark p bytes v (j, h, high) s = let low : mark_of (used_at v j) ≤ 1 = mark_small (used_at v j) in let is : slice_index bytes (17 + 4 * p.real + 2 * j + 1) ≡ mark_of (used_at v j) = mark_is p bytes v j s h in omega arith
 
-pub obeyed : (p : Params) (bytes : List ℕ) (v : Version) → Reads p bytes v → AreRanks v.ranks → MarksObey p.dummies v.keys v.used → Spells p bytes v
+pub obeyed : (p : Params) (bytes : List ℕ) (v : Version) → ReadsVersion p bytes v → AreRanks v.ranks → MarksObey p.dummies v.keys v.used → Spells p bytes v
 obeyed p bytes v r ranks marks = record { obeys = record { slots = r.slots; home = r.home; ranks = ranks; marks = marks }; fits = r.fits; is = r.is }
 
 -- ---- the loops

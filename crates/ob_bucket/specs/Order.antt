@@ -1,4 +1,4 @@
--- Pairs of a word and its index.
+-- Private: pairs of a word and its index, by which words give the order of slots.
 use Rattle.std.specs.Prelude.{◌≡◌, ℕ, ◌<◌, List, length, slice_index, slice_index_or, map}
 use Rattle.std.specs.List.{range_with_len}
 

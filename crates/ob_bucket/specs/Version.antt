@@ -99,7 +99,7 @@ pub record MarksObey (dummies : ℕ) (keys : List (Option ℕ)) (used : List Boo
   pub few : count_by (λ u. u) used < dummies
 
 -- what a version obeys at an epoch's end
-pub record Obeys (p : Params) (v : Version) : Type 0 where
+pub record VersionObeys (p : Params) (v : Version) : Type 0 where
   pub slots : HasSlots p v
   pub home : v.home < 2
   pub ranks : AreRanks v.ranks
@@ -134,7 +134,7 @@ abbrev pub version_len : Version → ℕ
 version_len v = 17 + 4 * length v.keys + 2 * length v.ranks
 
 -- the bytes spell the version, whatever the rules
-pub record Reads (p : Params) (bytes : List ℕ) (v : Version) : Type 0 where
+pub record ReadsVersion (p : Params) (bytes : List ℕ) (v : Version) : Type 0 where
   pub home : v.home < 2
   pub slots : HasSlots p v
   pub fits : FitsFields v
@@ -142,7 +142,7 @@ pub record Reads (p : Params) (bytes : List ℕ) (v : Version) : Type 0 where
 
 -- the bytes spell a version that obeys the rules
 pub record Spells (p : Params) (bytes : List ℕ) (v : Version) : Type 0 where
-  pub obeys : Obeys p v
+  pub obeys : VersionObeys p v
   pub fits : FitsFields v
   pub is : version_bytes v ≡ bytes
 

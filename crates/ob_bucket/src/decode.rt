@@ -1,9 +1,11 @@
+//! Reading what a checkpoint keeps of a bucket.
+
 ghost use Rattle.std.specs.Prelude.{◌≡◌, ◌<◌, ◌≤◌, ◌+◌, ◌*◌, ℕ, length, take, drop, count_by, slice_index, slice_index_or, MatchOption, IsTrue, ◌↔◌, Some, None, false};
 ghost use Rattle.std.specs.List.{flat_map};
 ghost use Rattle.std.specs.Int.{w32, to_le_bytes};
 ghost use Rattle.ob_base.specs.Layout.{meta_len};
 ghost use Rattle.ob_base.specs.Tree.{width};
-ghost use Rattle.ob_bucket.specs.Version.{Version, AreRanks, IsUnshown, MarksObey, EMPTY, key_bytes, index_bytes, Reads, Spells};
+ghost use Rattle.ob_bucket.specs.Version.{Version, AreRanks, IsUnshown, MarksObey, EMPTY, key_bytes, index_bytes, ReadsVersion, Spells};
 
 use crate::meta::Meta;
 use arrayvec::ArrayVec;
@@ -33,7 +35,8 @@ impl Meta {
     /// is 0 or 1, and 0 where the index holds a key, and there are fewer than `dummies` ones.
     pub fn decode(p: &Params, bytes: &[u8]) -> Option<Meta>
         requires { length bytes.now ≡ meta_len p.now }
-        ensures { MatchOption result ((v : Version) → Spells p.now bytes.now v → ⊥) (λ v. Spells p.now bytes.now v) }
+        ensures { MatchOption result ((v : Version) → Spells p.now bytes.now v
+            → ⊥) (λ v. Spells p.now bytes.now v) }
     {
         let Parts {
             home,
@@ -63,7 +66,16 @@ impl Meta {
 // The parts that bytes spell: none where the home or a mark is neither 0 nor 1.
 fn read_parts(p: &Params, bytes: &[u8]) -> Option<Parts>
     requires { length bytes.now ≡ meta_len p.now }
-    ensures { MatchOption result ((v : Version) → Spells p.now bytes.now v → ⊥) (λ x. Reads p.now bytes.now (record { home = x.home; generation = x.generation; base = x.base; keys = x.keys.items; ranks = x.ranks.items; used = x.used.items })) }
+    ensures { MatchOption result ((v : Version) → Spells p.now bytes.now v
+        → ⊥) (λ x. ReadsVersion p.now bytes.now
+        (record {
+          home = x.home;
+          generation = x.generation;
+          base = x.base;
+          keys = x.keys.items;
+          ranks = x.ranks.items;
+          used = x.used.items;
+        })) }
 {
     let real = p.real as usize;
     let slots = real + p.dummies as usize;
@@ -112,7 +124,10 @@ fn read_keys(bytes: &[u8], real: usize) -> ArrayVec<Option<Key>, 16>
 fn read_indexes(bytes: &[u8], at: usize, slots: usize) -> Option<Indexes>
     requires few { slots ≤ 48 }
     requires long { at + 2 * slots ≤ length bytes.now }
-    ensures { MatchOption result ((j : ℕ) × (j < slots) × (1 < slice_index bytes.now (at + 2 * j + 1))) (λ x. (index_bytes x.ranks.items x.used.items ≡ take (2 * slots) (drop at bytes.now)) × (length x.ranks.items ≡ slots) × (length x.used.items ≡ slots)) }
+    ensures { MatchOption result ((j : ℕ) × (j < slots)
+        × (1 < slice_index bytes.now (at + 2 * j + 1)))
+        (λ x. (index_bytes x.ranks.items x.used.items ≡ take (2 * slots) (drop at bytes.now))
+        × (length x.ranks.items ≡ slots) × (length x.used.items ≡ slots)) }
 {
     let mut ranks = ArrayVec::new();
     let mut used = ArrayVec::new();

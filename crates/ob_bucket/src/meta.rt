@@ -1,3 +1,5 @@
+//! What the proxy keeps of a bucket.
+
 ghost use Rattle.std.specs.Prelude.{◌≡◌, ◌<◌, ◌≤◌, ◌-◌, ◌++◌, ℕ, map, not, replicate, length, slice_set, slice_index, slice_index_or, MatchOption, Some, None, true, false};
 ghost use Rattle.std.specs.List.{find, range_with_len};
 ghost use Rattle.ob_base.specs.Layout.{meta_len};
@@ -155,7 +157,8 @@ impl Meta {
 // Puts the keys into the first of a bucket's real indexes, and none into the others.
 fn put_keys(places: &mut [Option<Key>], keys: &[Key])
     requires { length keys.now ≤ length places.old }
-    ensures { places.new ≡ map (λ k. Some k) keys.now ++ replicate (length places.old - length keys.now) None }
+    ensures { places.new
+        ≡ map (λ k. Some k) keys.now ++ replicate (length places.old - length keys.now) None }
 {
     for (j, place) in places.iter_mut().enumerate() {
         *place = keys.get(j).copied();
@@ -175,7 +178,9 @@ pub(crate) fn clear_marks(used: &mut [bool])
 fn first_unused(used: &[bool], from: usize) -> Option<u8>
     requires few { length used.now ≤ 256 }
     requires from { from ≤ length used.now }
-    ensures { result ≡ find (λ j. not (slice_index_or used.now j false)) (range_with_len from (length used.now - from)) }
+    ensures { result
+        ≡ find (λ j. not (slice_index_or used.now j false))
+        (range_with_len from (length used.now - from)) }
 {
     for j in from..used.len() {
         if !used[j] {
@@ -198,7 +203,9 @@ fn is_key(place: Option<Key>, key: Key) -> bool
 // The first real index that holds the key.
 fn first_with(keys: &[Option<Key>], key: Key) -> Option<u8>
     requires { length keys.now ≤ 256 }
-    ensures { result ≡ find (λ j. is_key key (slice_index_or keys.now j None)) (range_with_len 0 (length keys.now)) }
+    ensures { result
+        ≡ find (λ j. is_key key (slice_index_or keys.now j None))
+        (range_with_len 0 (length keys.now)) }
 {
     for j in 0..keys.len() {
         if is_key(keys[j], key) {

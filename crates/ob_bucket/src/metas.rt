@@ -1,3 +1,5 @@
+//! What the proxy keeps of all buckets.
+
 ghost use Rattle.std.specs.Prelude.{◌≡◌, ◌<◌, ◌++◌, ◌∷◌, [], true, false, length, replicate, slice_set, IfOk};
 ghost use Rattle.std.specs.Borrow.{sem};
 ghost use Rattle.ob_base.specs.Tree.{buckets};

@@ -1,3 +1,5 @@
+//! The slots of a bucket's indexes: the ranks of their words.
+
 ghost use Rattle.std.specs.Prelude.{◌≡◌, ℕ, ◌<◌, ◌≤◌, length, slice_index};
 ghost use Rattle.ob_bucket.specs.Rank.{rank, ranks_of, IsRanking};
 ghost use Rattle.ob_bucket.specs.Order.{numbered, index_at, AreApart};

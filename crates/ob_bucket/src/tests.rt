@@ -1,3 +1,5 @@
+//! Ranks, and bytes of buckets that were made elsewhere.
+
 ghost use Rattle.std.specs.Prelude.{◌≡◌, IfSome, length};
 ghost use Rattle.ob_base.specs.Layout.{meta_len};
 ghost use Rattle.ob_base.specs.Tree.{buckets};
@@ -13,7 +15,8 @@ fn slots_by_word_then_index(rt: HostRuntime) {
 }
 
 fn small() -> Option<Params>
-    ensures { IfSome result (λ p. (p.real ≡ 2) × (p.dummies ≡ 3) × (meta_len p ≡ 35) × (buckets p ≡ 7)) }
+    ensures { IfSome result (λ p. (p.real ≡ 2) × (p.dummies ≡ 3) × (meta_len p ≡ 35)
+        × (buckets p ≡ 7)) }
 {
     match Params::new(8, 2, 2, 3, 2, 2, 2, 2, 8) {
         Ok(p) => Some(p),

@@ -15,7 +15,7 @@ use Rattle.ob_seal.proofs.Spelling.{sealed_same, sealed_parts}
 use Rattle.ob_cells.specs.declared.run.Identity.{Identity}
 use Rattle.ob_store.specs.Disk.{Image}
 use Rattle.ob_cells.specs.Runs.{IsRun, run_at}
-use Rattle.ob_cells.specs.Reads.{IsOpened, IsNextRead, expected_at, IsFirstDamage, IsRunRead, IsRunOpened, ReadsBack}
+use Rattle.ob_cells.specs.Reads.{IsOpenedCell, IsNextRead, expected_at, IsFirstDamage, IsRunRead, IsRunOpened, ReadsBack}
 use Rattle.ob_cells.proofs.PieceParts.{piece_same, piece_other}
 
 zero_on : (n : ℕ) → n + 0 ≡ n
@@ -31,7 +31,7 @@ expected_behind g n (suc i) some = refl
 
 module _ (keys : Keys) (base : ℕ) (cells : ℕ → List ℕ) where
   -- the first cell
-  pub run_first : (bytes : List ℕ) (opened : Opened) → 0 < length bytes → IsOpened keys base (cells 0) opened
+  pub run_first : (bytes : List ℕ) (opened : Opened) → 0 < length bytes → IsOpenedCell keys base (cells 0) opened
       → IsRun keys base 1 (record { generation = opened.generation; number = opened.number }) (λ i. piece i (with_part bytes 0 opened.plain)) cells
   run_first bytes opened some is = record {
     generation_fits = is.generation_fits;
@@ -49,7 +49,7 @@ module _ (keys : Keys) (base : ℕ) (cells : ℕ → List ℕ) where
 
   -- one cell more
   pub run_more : (i : ℕ) (first : Identity) (bytes : List ℕ) (opened : Opened) → 96 * i ≤ length bytes → IsRun keys base i first (λ j. piece j bytes) cells
-      → IsExpected (Some (first.generation, onward first.number i)) opened.generation opened.number → IsOpened keys (base + i) (cells i) opened
+      → IsExpected (Some (first.generation, onward first.number i)) opened.generation opened.number → IsOpenedCell keys (base + i) (cells i) opened
       → IsRun keys base (i + 1) first (λ j. piece j (with_part bytes (96 * i) opened.plain)) cells
   run_more i first bytes opened le run same is =
       let made = with_part bytes (96 * i) opened.plain in
@@ -111,15 +111,15 @@ module _ (keys : Keys) (base : ℕ) (cells : ℕ → List ℕ) where
 
 -- ---- as the calls say it
 
-pub run_first_at : (keys : Keys) (base : ℕ) (image : Image) (bytes : List ℕ) (opened : Opened) (made : List ℕ) → made ≡ with_part bytes 0 opened.plain → 0 < length bytes → IsOpened keys base (image base) opened
+pub run_first_at : (keys : Keys) (base : ℕ) (image : Image) (bytes : List ℕ) (opened : Opened) (made : List ℕ) → made ≡ with_part bytes 0 opened.plain → 0 < length bytes → IsOpenedCell keys base (image base) opened
     → IsRun keys base 1 (record { generation = opened.generation; number = opened.number }) (λ i. piece i made) (run_at base image)
 run_first_at keys base image bytes opened made is some opens =
     subst (λ (l : List ℕ). IsRun keys base 1 (record { generation = opened.generation; number = opened.number }) (λ i. piece i l) (run_at base image)) (sym is)
-    (run_first keys base (run_at base image) bytes opened some (subst (λ (c : ℕ). IsOpened keys base (image c) opened) (sym (zero_on base)) opens))
+    (run_first keys base (run_at base image) bytes opened some (subst (λ (c : ℕ). IsOpenedCell keys base (image c) opened) (sym (zero_on base)) opens))
 
 pub run_more_at : (keys : Keys) (base : ℕ) (cells : ℕ → List ℕ) (i : ℕ) (first : Identity) (bytes made : List ℕ) (opened : Opened) (seal : ℕ × ℕ) → made ≡ with_part bytes (96 * i) opened.plain → 96 * i ≤ length bytes
     → seal ≡ (first.generation, onward first.number i) → IsRun keys base i first (λ j. piece j bytes) cells
-    → IsExpected (Some seal) opened.generation opened.number × IsOpened keys (base + i) (cells i) opened → IsRun keys base (i + 1) first (λ j. piece j made) cells
+    → IsExpected (Some seal) opened.generation opened.number × IsOpenedCell keys (base + i) (cells i) opened → IsRun keys base (i + 1) first (λ j. piece j made) cells
 run_more_at keys base cells i first bytes made opened seal is le seal_is run read =
     subst (λ (l : List ℕ). IsRun keys base (i + 1) first (λ j. piece j l) cells) (sym is) (run_more keys base cells i first bytes opened le run (sym seal_is ∙ read.0) read.1)
 

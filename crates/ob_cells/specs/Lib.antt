@@ -3,3 +3,4 @@ pub mod Orders
 pub mod Reads
 pub mod Rules
 pub mod Runs
+pub mod Writes

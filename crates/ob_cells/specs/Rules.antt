@@ -20,6 +20,11 @@ abbrev pub first_broken : List Rule → Option Rule
 first_broken [] = None
 first_broken (rule ∷ rules) = if rule.obeys then first_broken rules else Some rule
 
+-- the first of two parts' broken rules
+abbrev pub or_rule : Option Rule → Option Rule → Option Rule
+or_rule None other = other
+or_rule (Some rule) other = Some rule
+
 -- What is told of it, where the bytes are those of a run from a cell on: the cell with the number's first byte, the number, and
 -- the least one.
 abbrev pub rule_damage : ℕ → Rule → Damaged

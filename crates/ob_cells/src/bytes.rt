@@ -1,3 +1,5 @@
+//! Bytes put over others.
+
 ghost use Rattle.std.specs.Prelude.{◌≡◌, ◌≤◌, ◌+◌, length};
 ghost use Rattle.ob_base.specs.LittleEndian.{with_part};
 

@@ -1,3 +1,5 @@
+//! What is told of a number that breaks its rule.
+
 ghost use Rattle.std.specs.Prelude.{◌≡◌};
 ghost use Rattle.ob_base.specs.declared.fault.Check.TheVariants as check;
 ghost use Rattle.ob_cells.specs.Numbers.{told_number};
@@ -17,7 +19,14 @@ fn told_number(n: u64) -> [u8; 16]
 
 /// What is told of a number that breaks its rule: the number, and the least that obeys it.
 pub fn bad_number(cell: u64, kept: u64, least: u64) -> Damaged
-    ensures { result ≡ record { cell = cell; check = check.Form; kept = told_number kept; computed = told_number least } }
+    ensures { result
+        ≡ record {
+          cell = cell;
+          check = check.Form;
+          kept = told_number kept;
+          computed = told_number
+              least;
+        } }
 {
     Damaged {
         cell,

@@ -1,3 +1,5 @@
+//! Opening cells that were read before.
+
 ghost use Rattle.std.specs.Prelude.{◌≡◌, ◌<◌, ◌+◌, ◌*◌, ◌^◌, [], length, slice_index_or};
 ghost use Rattle.ob_cells.specs.Reads.{IsRunOpened};
 
@@ -20,7 +22,8 @@ pub fn open_sealed(
     requires some { 0 < length cells.now }
     requires fits { base + length cells.now < 2 ^ 64 }
     requires room { length plain.old ≡ 96 * length cells.now }
-    ensures value { IsRunOpened sealer.now.keys base (length cells.now) (λ i. slice_index_or cells.now i []) plain.new result }
+    ensures value { IsRunOpened sealer.now.keys base (length cells.now)
+        (λ i. slice_index_or cells.now i []) plain.new result }
 {
     let opened = match sealer.unseal(base, None, &cells[0]) {
         Ok(opened) => opened,

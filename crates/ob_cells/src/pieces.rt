@@ -1,3 +1,5 @@
+//! Where the plain bytes of a run of cells come from.
+
 ghost use Rattle.std.specs.Prelude.{◌≡◌, ◌++◌, ◌*◌, ℕ, List, take, drop, replicate};
 ghost use Rattle.ob_seal.specs.Pieces.{piece};
 

@@ -1,3 +1,5 @@
+//! Reading a run of cells, and testing nothing.
+
 ghost use Rattle.std.specs.Prelude.{◌≡◌, ◌<◌, ◌≤◌, ◌+◌, ◌^◌, [], ◌∷◌, length, OnOk};
 ghost use Rattle.ob_base.specs.Causes.{HasCause};
 ghost use Rattle.ob_store.specs.Images.{Same, Passes};
@@ -17,9 +19,11 @@ fn read_through<S: Store, W: Watch>(
     watch: &mut W,
 ) -> Result<(), Failed>
     requires fits { base + length cells.old < 2 ^ 64 }
-    ensures bytes { (S.disk store.now).tells → OnOk result (Holds base cells.new (S.disk store.now).cells) }
+    ensures bytes { (S.disk store.now).tells
+        → OnOk result (Holds base cells.new (S.disk store.now).cells) }
     ensures cause { HasCause (S.lane_faults lane.old) (S.lane_faults lane.new) result }
-    ensures does { Does (read_notes base (length cells.old)) (S.lane_seen lane.old) (S.lane_seen lane.new) (W.trace watch.old) (W.trace watch.new) result }
+    ensures does { Does (read_notes base (length cells.old)) (S.lane_seen lane.old)
+        (S.lane_seen lane.new) (W.trace watch.old) (W.trace watch.new) result }
 {
     for i in 0..cells.len() {
         read_noted(store, lane, base + i as u64, &mut cells[i], watch)?;
@@ -40,10 +44,12 @@ pub fn read_cells<S: Store, W: Watch>(
 ) -> Result<(), Failed>
     requires fits { base + length cells.old < 2 ^ 64 }
     ensures serves { Serves IsFailed (S.disk store.old) (S.disk store.new) result }
-    ensures bytes { (S.disk store.old).tells → OnOk result (Holds base cells.new (S.disk store.old).cells) }
+    ensures bytes { (S.disk store.old).tells
+        → OnOk result (Holds base cells.new (S.disk store.old).cells) }
     ensures keeps { Keeps (S.disk store.old) (S.disk store.new) }
     ensures passes { Passes Same (S.disk store.old) (S.disk store.new) }
-    ensures does { Does (read_notes base (length cells.old)) (S.disk store.old).seen (S.disk store.new).seen (W.trace watch.old) (W.trace watch.new) result }
+    ensures does { Does (read_notes base (length cells.old)) (S.disk store.old).seen
+        (S.disk store.new).seen (W.trace watch.old) (W.trace watch.new) result }
 {
     let mut lane = store.lane()?;
     let outcome = read_through(store, &mut lane, base, cells, watch);

@@ -1,12 +1,13 @@
+//! Reading a run of sealed cells.
+
 ghost use Rattle.std.specs.Prelude.{◌≡◌, ◌<◌, ◌≤◌, ◌+◌, ◌*◌, ◌^◌, ◌/◌, ◌%◌, [], ◌∷◌, length, OnOk, OnErr, IfErr};
 ghost use Rattle.ob_base.specs.Causes.{Rose};
 ghost use Rattle.ob_store.specs.declared.watch.Note.TheVariants as note;
 ghost use Rattle.ob_store.specs.Images.{Same, Passes};
 ghost use Rattle.ob_store.specs.Calls.{Serves, IsStoreFault, Keeps};
-ghost use Rattle.ob_store.specs.Told.{Tells, Does};
-ghost use Rattle.ob_cells.specs.Orders.{read_notes};
-ghost use Rattle.ob_cells.specs.Runs.{run_at};
-ghost use Rattle.ob_cells.specs.Reads.{IsCellFault, IsNextRead, IsRunRead};
+ghost use Rattle.ob_store.specs.Told.{Tells};
+ghost use Rattle.ob_cells.specs.Orders.{IsRunFault};
+ghost use Rattle.ob_cells.specs.Reads.{IsNextRead, ReadsRun};
 
 use crate::{Identity, put};
 use ob_base::{Failed, Fault};
@@ -27,11 +28,14 @@ pub fn read_next<S: Store, W: Watch>(
     expected: Option<(u64, u64)>,
     watch: &mut W,
 ) -> Result<Opened, Fault>
-    ensures value { (S.disk store.now).tells → IsNextRead sealer.now.keys cell expected ((S.disk store.now).cells cell) result }
-    ensures faults { IfErr result IsCellFault }
+    ensures value { (S.disk store.now).tells
+        → IsNextRead sealer.now.keys cell expected ((S.disk store.now).cells cell) result }
+    ensures faults { IfErr result (IsRunFault cell 1) }
     ensures later { S.lane_faults lane.old ≤ S.lane_faults lane.new }
-    ensures cause { IfErr result (λ fault. IsStoreFault fault → Rose (S.lane_faults lane.old) (S.lane_faults lane.new)) }
-    ensures told { Tells (note.Read cell ∷ []) (note.Read cell ∷ []) (S.lane_seen lane.old) (S.lane_seen lane.new) (W.trace watch.old) (W.trace watch.new) }
+    ensures cause { IfErr result (λ fault. IsStoreFault fault
+        → Rose (S.lane_faults lane.old) (S.lane_faults lane.new)) }
+    ensures told { Tells (note.Read cell ∷ []) (note.Read cell ∷ []) (S.lane_seen lane.old)
+        (S.lane_seen lane.new) (W.trace watch.old) (W.trace watch.new) }
 {
     let mut bytes = [0; 128];
     match read_noted(store, lane, cell, &mut bytes, watch) {
@@ -56,11 +60,12 @@ fn read_run<S: Store, W: Watch>(
     requires some { 0 < length plain.old }
     requires whole { length plain.old % 96 ≡ 0 }
     requires fits { base + length plain.old / 96 < 2 ^ 64 }
-    ensures value { (S.disk store.now).tells → IsRunRead sealer.now.keys base (length plain.old / 96) (run_at base (S.disk store.now).cells) plain.new result }
-    ensures faults { IfErr result IsCellFault }
+    ensures run { ReadsRun sealer.now.keys base (length plain.old / 96) (S.disk store.now) plain.new
+        (S.lane_seen lane.old) (S.lane_seen lane.new) (W.trace watch.old) (W.trace watch.new)
+        result }
     ensures later { S.lane_faults lane.old ≤ S.lane_faults lane.new }
-    ensures cause { IfErr result (λ fault. IsStoreFault fault → Rose (S.lane_faults lane.old) (S.lane_faults lane.new)) }
-    ensures does { Does (read_notes base (length plain.old / 96)) (S.lane_seen lane.old) (S.lane_seen lane.new) (W.trace watch.old) (W.trace watch.new) result }
+    ensures cause { IfErr result (λ fault. IsStoreFault fault
+        → Rose (S.lane_faults lane.old) (S.lane_faults lane.new)) }
 {
     let opened = match read_next(store, lane, sealer, base, None, watch) {
         Ok(opened) => opened,
@@ -102,11 +107,11 @@ pub fn read_sealed<S: Store, W: Watch>(
     requires whole { length plain.old % 96 ≡ 0 }
     requires fits { base + length plain.old / 96 < 2 ^ 64 }
     ensures serves { Serves IsStoreFault (S.disk store.old) (S.disk store.new) result }
-    ensures value { (S.disk store.old).tells → IsRunRead sealer.now.keys base (length plain.old / 96) (run_at base (S.disk store.old).cells) plain.new result }
-    ensures faults { IfErr result IsCellFault }
+    ensures run { ReadsRun sealer.now.keys base (length plain.old / 96) (S.disk store.old) plain.new
+        (S.disk store.old).seen (S.disk store.new).seen (W.trace watch.old) (W.trace watch.new)
+        result }
     ensures keeps { Keeps (S.disk store.old) (S.disk store.new) }
     ensures passes { Passes Same (S.disk store.old) (S.disk store.new) }
-    ensures does { Does (read_notes base (length plain.old / 96)) (S.disk store.old).seen (S.disk store.new).seen (W.trace watch.old) (W.trace watch.new) result }
 {
     let mut lane = match store.lane() {
         Ok(lane) => lane,

@@ -1,3 +1,5 @@
+//! The identity of a run's first seal.
+
 ghost use Rattle.std.specs.Prelude.{◌≡◌};
 ghost use Rattle.ob_seal.specs.Pieces.{onward};
 ghost use Rattle.ob_cells.specs.Reads.{ReadsBack};

@@ -15,9 +15,9 @@ abbrev pub has_ticket : List ℕ → ℕ → Bool
 has_ticket ts u = list_any (λ t. t == u) ts
 
 -- rising numbers above the first bound, and none above the second
-abbrev pub Rises : ℕ → ℕ → List ℕ → Type 0
-Rises low high [] = low ≤ high
-Rises low high (t ∷ ts) = (low < t) × Rises t high ts
+abbrev pub RisesBetween : ℕ → ℕ → List ℕ → Type 0
+RisesBetween low high [] = low ≤ high
+RisesBetween low high (t ∷ ts) = (low < t) × RisesBetween t high ts
 
 -- tickets with this property came to an agenda, and none went
 pub record Adds (old new : AgendaModel) (P : ℕ → Type 0) : Type 0 where

@@ -49,11 +49,11 @@ module _ {S : Type 0} where
   SameReaders m n = (k u : ℕ) → is_reader n k u ≡ is_reader m k u
 
   -- a key that had room for its versions has it still
-  abbrev pub KeepsRoom : hash.HashMap ℕ Chain S → hash.HashMap ℕ Chain S → Type 0
-  KeepsRoom m n = (k : ℕ) → is_some (chain_at m k) ≡ true → is_some (chain_at n k) ≡ true
+  abbrev pub KeepsChainRoom : hash.HashMap ℕ Chain S → hash.HashMap ℕ Chain S → Type 0
+  KeepsChainRoom m n = (k : ℕ) → is_some (chain_at m k) ≡ true → is_some (chain_at n k) ≡ true
 
   -- what ticket s wrote of key k was read by this reader too, or the value that the epoch began with where s is 0
-  pub record IsRaised (m n : hash.HashMap ℕ Chain S) (k s reader : ℕ) : Type 0 where
+  pub record IsMarkRaised (m n : hash.HashMap ℕ Chain S) (k s reader : ℕ) : Type 0 where
     pub from_write : 0 < s → ((j u : ℕ) → link_at n j u ≡ (if (k == j) && (s == u) then option_map (raised reader) (link_at m j u) else link_at m j u)) × SameBases m n
     pub from_base : s ≡ 0 → SameLinks m n × ((j : ℕ) → base_mark n j ≡ (if k == j then max (base_mark m j) reader else base_mark m j))
 

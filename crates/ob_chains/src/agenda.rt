@@ -17,13 +17,13 @@ pub struct Agenda {
 
 impl Model for Agenda {
     ghost use Rattle.std.specs.VecDeque.{deque_capacity};
-    ghost use Rattle.ob_chains.specs.Agendas.{AgendaModel, Rises};
+    ghost use Rattle.ob_chains.specs.Agendas.{AgendaModel, RisesBetween};
 
     ghost Value = { AgendaModel };
 
     ghost view = { λ a. record { room = deque_capacity a.tickets; tickets = a.tickets.items } };
 
-    ghost invariant = { λ a. Rises 0 (deque_capacity a.tickets) a.tickets.items };
+    ghost invariant = { λ a. RisesBetween 0 (deque_capacity a.tickets) a.tickets.items };
 }
 
 impl Agenda {
@@ -52,7 +52,8 @@ impl Agenda {
     /// The ticket is among these from now on.
     pub fn add(&mut self, t: u64)
         requires { (0 < t) × (t ≤ self.old.room) }
-        ensures has { (u : ℕ) → has_ticket self.new.tickets u ≡ ((t == u) || has_ticket self.old.tickets u) }
+        ensures has { (u : ℕ)
+            → has_ticket self.new.tickets u ≡ ((t == u) || has_ticket self.old.tickets u) }
         ensures room { self.old.room ≤ self.new.room }
     {
         if let Err(at) = self.tickets.binary_search(&t) {
@@ -62,8 +63,10 @@ impl Agenda {
 
     /// Takes the least ticket out.
     pub fn take_least(&mut self) -> Option<u64>
-        ensures least { MatchOption result ((self.old.tickets ≡ []) × (self.new.tickets ≡ [])) (λ t. self.old.tickets ≡ t ∷ self.new.tickets) }
-        ensures above { IfSome result (λ t. (u : ℕ) → has_ticket self.new.tickets u ≡ true → t < u) }
+        ensures least { MatchOption result ((self.old.tickets ≡ [])
+            × (self.new.tickets ≡ [])) (λ t. self.old.tickets ≡ t ∷ self.new.tickets) }
+        ensures above { IfSome result (λ t. (u : ℕ) → has_ticket self.new.tickets u ≡ true
+            → t < u) }
         ensures room { self.new.room ≡ self.old.room }
     {
         self.tickets.pop_front()

@@ -64,13 +64,16 @@ impl Chain {
     /// Memory was wanting. All is as before.
     pub fn put(&mut self, t: u64, link: Link) -> Result<bool, Memory>
         ensures had { IfOk result (λ had. had ≡ is_some (link_in self.old t)) }
-        ensures len { IfOk result (λ had. links_in self.new ≡ links_in self.old + (if had then 0 else 1)) }
-        ensures links { OnOk result ((u : ℕ) → link_in self.new u ≡ (if t == u then Some link else link_in self.old u)) }
+        ensures len { IfOk result (λ had. links_in self.new
+            ≡ links_in self.old + (if had then 0 else 1)) }
+        ensures links { OnOk result ((u : ℕ)
+            → link_in self.new u ≡ (if t == u then Some link else link_in self.old u)) }
         ensures mark { self.new.base_mark ≡ self.old.base_mark }
         ensures readers { self.new.readers ≡ self.old.readers }
         ensures err_len { OnErr result (links_in self.new ≡ links_in self.old) }
         ensures err { OnErr result ((u : ℕ) → link_in self.new u ≡ link_in self.old u) }
     {
+        // The prover has to see this type named here.
         let _told: Option<Value> = None;
         let old = self.links.insert(t, link)?;
         Ok(old.is_some())
@@ -80,7 +83,8 @@ impl Chain {
     pub fn take(&mut self, t: u64) -> bool
         ensures had { result ≡ is_some (link_in self.old t) }
         ensures len { links_in self.old ≡ links_in self.new + (if result then 1 else 0) }
-        ensures links { (u : ℕ) → link_in self.new u ≡ (if t == u then None else link_in self.old u) }
+        ensures links { (u : ℕ)
+            → link_in self.new u ≡ (if t == u then None else link_in self.old u) }
         ensures mark { self.new.base_mark ≡ self.old.base_mark }
         ensures readers { self.new.readers ≡ self.old.readers }
     {
@@ -90,7 +94,10 @@ impl Chain {
     /// The ticket's version, where it has one, was read by this one too.
     pub fn raise(&mut self, t: u64, reader: u64)
         ensures len { links_in self.new ≡ links_in self.old }
-        ensures links { (u : ℕ) → link_in self.new u ≡ (if t == u then option_map (raised reader) (link_in self.old u) else link_in self.old u) }
+        ensures links { (u : ℕ)
+            → link_in self.new u
+            ≡ (if t == u then option_map (raised reader) (link_in self.old u) else link_in self.old
+            u) }
         ensures mark { self.new.base_mark ≡ self.old.base_mark }
         ensures readers { self.new.readers ≡ self.old.readers }
     {
@@ -104,7 +111,8 @@ impl Chain {
     /// # Errors
     /// Memory was wanting. All is as before.
     pub fn note(&mut self, reader: u64) -> Result<(), Memory>
-        ensures ok { OnOk result ((u : ℕ) → has_reader self.new u ≡ (if reader == u then true else has_reader self.old u)) }
+        ensures ok { OnOk result ((u : ℕ)
+            → has_reader self.new u ≡ (if reader == u then true else has_reader self.old u)) }
         ensures err { OnErr result ((u : ℕ) → has_reader self.new u ≡ has_reader self.old u) }
         ensures links { self.new.links ≡ self.old.links }
         ensures mark { self.new.base_mark ≡ self.old.base_mark }

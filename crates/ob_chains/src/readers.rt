@@ -14,7 +14,8 @@ use ob_order::Work;
 /// The key's readers above ticket t are on the agenda from now on. It has room for each reader.
 pub fn add_readers(agenda: &mut Agenda, table: &Table, key: Key, t: u64)
     requires drawn { (u : ℕ) → is_reader table.now key u ≡ true → (0 < u) × (u ≤ agenda.old.room) }
-    ensures has { (u : ℕ) → is_reader table.now key u ≡ true → t < u → has_ticket agenda.new.tickets u ≡ true }
+    ensures has { (u : ℕ) → is_reader table.now key u ≡ true → t < u
+        → has_ticket agenda.new.tickets u ≡ true }
     ensures adds { Adds agenda.old agenda.new (IsReaderAbove table.now t) }
 {
     let mut at = t;
@@ -26,7 +27,8 @@ pub fn add_readers(agenda: &mut Agenda, table: &Table, key: Key, t: u64)
 
 fn add_readers_of_op(agenda: &mut Agenda, table: &Table, op: &Op<Key>, t: u64)
     requires drawn { (k u : ℕ) → is_reader table.now k u ≡ true → (0 < u) × (u ≤ agenda.old.room) }
-    ensures has { (k u : ℕ) → is_some (works.write_of op.now k) ≡ true → is_reader table.now k u ≡ true → t < u → has_ticket agenda.new.tickets u ≡ true }
+    ensures has { (k u : ℕ) → is_some (works.write_of op.now k) ≡ true
+        → is_reader table.now k u ≡ true → t < u → has_ticket agenda.new.tickets u ≡ true }
     ensures adds { Adds agenda.old agenda.new (IsReaderAbove table.now t) }
 {
     if let Some(key) = written_key(op) {
@@ -36,7 +38,8 @@ fn add_readers_of_op(agenda: &mut Agenda, table: &Table, op: &Op<Key>, t: u64)
 
 fn add_readers_of_ops(agenda: &mut Agenda, table: &Table, ops: &[Op<Key>], t: u64)
     requires drawn { (k u : ℕ) → is_reader table.now k u ≡ true → (0 < u) × (u ≤ agenda.old.room) }
-    ensures has { (k u : ℕ) → is_some (works.last_write ops.now k) ≡ true → is_reader table.now k u ≡ true → t < u → has_ticket agenda.new.tickets u ≡ true }
+    ensures has { (k u : ℕ) → is_some (works.last_write ops.now k) ≡ true
+        → is_reader table.now k u ≡ true → t < u → has_ticket agenda.new.tickets u ≡ true }
     ensures adds { Adds agenda.old agenda.new (IsReaderAbove table.now t) }
 {
     for op in ops {
@@ -49,7 +52,9 @@ fn add_readers_of_ops(agenda: &mut Agenda, table: &Table, ops: &[Op<Key>], t: u6
 pub fn add_readers_of(agenda: &mut Agenda, table: &Table, list: &[Work], t: u64)
     requires in_range { (0 < t) × (t ≤ length list.now) }
     requires drawn { (k u : ℕ) → is_reader table.now k u ≡ true → (0 < u) × (u ≤ agenda.old.room) }
-    ensures has { (w : works.Work) → works.at_ticket list.now t ≡ Some w → (k u : ℕ) → is_some (works.last_write w.ops k) ≡ true → is_reader table.now k u ≡ true → t < u → has_ticket agenda.new.tickets u ≡ true }
+    ensures has { (w : works.Work) → works.at_ticket list.now t ≡ Some w → (k u : ℕ)
+        → is_some (works.last_write w.ops k) ≡ true → is_reader table.now k u ≡ true → t < u
+        → has_ticket agenda.new.tickets u ≡ true }
     ensures adds { Adds agenda.old agenda.new (IsReaderAbove table.now t) }
 {
     let work = &list[(t - 1) as usize];

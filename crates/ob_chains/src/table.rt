@@ -3,7 +3,7 @@
 ghost use Rattle.std.specs.Prelude.{◌≡◌, ℕ, ◌+◌, ◌<◌, ◌≤◌, max, not, ◌&&◌, if◌then◌else◌, ◌==◌, is_some, true, IfOk, OnOk, OnErr, Some, None};
 ghost use Rattle.std.specs.Option.{option_map};
 ghost use Rattle.ob_chains.specs.Chains.{IsNewest, IsNextReader};
-ghost use Rattle.ob_chains.specs.Tables.{chain_at, link_at, base_mark, has_links, raised, is_reader, SameLinks, SameBases, SameKeys, SameReaders, KeepsRoom};
+ghost use Rattle.ob_chains.specs.Tables.{chain_at, link_at, base_mark, has_links, raised, is_reader, SameLinks, SameBases, SameKeys, SameReaders, KeepsChainRoom};
 
 use crate::chain::{Chain, Link};
 use ob_base::{Key, Memory, Value};
@@ -53,7 +53,7 @@ pub fn make_room(table: &mut Table, alloc: Global, key: Key) -> Result<(), Memor
     ensures bases { SameBases table.old table.new }
     ensures keys { SameKeys table.old table.new }
     ensures readers { SameReaders table.old table.new }
-    ensures room { KeepsRoom table.old table.new }
+    ensures room { KeepsChainRoom table.old table.new }
 {
     if !table.contains_key(&key) {
         table.insert(key, Chain::new(alloc))?;
@@ -68,14 +68,18 @@ pub fn make_room(table: &mut Table, alloc: Global, key: Key) -> Result<(), Memor
 pub fn put(table: &mut Table, key: Key, t: u64, link: Link) -> Result<bool, Memory>
     requires { is_some (chain_at table.old key) ≡ true }
     ensures first { IfOk result (λ first. first ≡ not (has_links table.old key)) }
-    ensures links { OnOk result ((k u : ℕ) → link_at table.new k u ≡ (if (key == k) && (t == u) then Some link else link_at table.old k u)) }
-    ensures keys { OnOk result ((k : ℕ) → has_links table.new k ≡ (if key == k then true else has_links table.old k)) }
+    ensures links { OnOk result ((k u : ℕ)
+        → link_at table.new k u
+        ≡ (if (key == k) && (t == u) then Some link else link_at table.old k u)) }
+    ensures keys { OnOk result ((k : ℕ)
+        → has_links table.new k ≡ (if key == k then true else has_links table.old k)) }
     ensures bases { SameBases table.old table.new }
     ensures readers { SameReaders table.old table.new }
-    ensures room { KeepsRoom table.old table.new }
+    ensures room { KeepsChainRoom table.old table.new }
     ensures err_links { OnErr result (SameLinks table.old table.new) }
     ensures err_keys { OnErr result (SameKeys table.old table.new) }
 {
+    // The prover has to see this type named here.
     let _told: Option<Value> = None;
     match table.get_mut(&key) {
         Some(chain) => {
@@ -90,12 +94,13 @@ pub fn put(table: &mut Table, key: Key, t: u64, link: Link) -> Result<bool, Memo
 /// The ticket has no version of the key from now on. Answers whether it had the last one.
 pub fn take(table: &mut Table, key: Key, t: u64) -> bool
     ensures last { result ≡ (has_links table.old key && not (has_links table.new key)) }
-    ensures links { (k u : ℕ) → link_at table.new k u ≡ (if (key == k) && (t == u) then None else link_at table.old k u) }
+    ensures links { (k u : ℕ)
+        → link_at table.new k u ≡ (if (key == k) && (t == u) then None else link_at table.old k u) }
     ensures keys { (k : ℕ) → (key ≡ k → ⊥) → has_links table.new k ≡ has_links table.old k }
     ensures fewer { has_links table.new key ≡ true → has_links table.old key ≡ true }
     ensures bases { SameBases table.old table.new }
     ensures readers { SameReaders table.old table.new }
-    ensures room { KeepsRoom table.old table.new }
+    ensures room { KeepsChainRoom table.old table.new }
 {
     match table.get_mut(&key) {
         Some(chain) => chain.take(t) && chain.len() == 0,
@@ -105,11 +110,14 @@ pub fn take(table: &mut Table, key: Key, t: u64) -> bool
 
 /// The ticket's version of the key, where it has one, was read by this reader too.
 pub fn raise(table: &mut Table, key: Key, t: u64, reader: u64)
-    ensures links { (k u : ℕ) → link_at table.new k u ≡ (if (key == k) && (t == u) then option_map (raised reader) (link_at table.old k u) else link_at table.old k u) }
+    ensures links { (k u : ℕ)
+        → link_at table.new k u
+        ≡ (if (key == k) && (t == u) then option_map (raised reader) (link_at table.old k u) else
+        link_at table.old k u) }
     ensures bases { SameBases table.old table.new }
     ensures keys { SameKeys table.old table.new }
     ensures readers { SameReaders table.old table.new }
-    ensures room { KeepsRoom table.old table.new }
+    ensures room { KeepsChainRoom table.old table.new }
 {
     if let Some(chain) = table.get_mut(&key) {
         chain.raise(t, reader);
@@ -120,10 +128,12 @@ pub fn raise(table: &mut Table, key: Key, t: u64, reader: u64)
 pub fn raise_base(table: &mut Table, key: Key, reader: u64)
     requires { is_some (chain_at table.old key) ≡ true }
     ensures links { SameLinks table.old table.new }
-    ensures bases { (k : ℕ) → base_mark table.new k ≡ (if key == k then max (base_mark table.old k) reader else base_mark table.old k) }
+    ensures bases { (k : ℕ)
+        → base_mark table.new k
+        ≡ (if key == k then max (base_mark table.old k) reader else base_mark table.old k) }
     ensures keys { SameKeys table.old table.new }
     ensures readers { SameReaders table.old table.new }
-    ensures room { KeepsRoom table.old table.new }
+    ensures room { KeepsChainRoom table.old table.new }
 {
     if let Some(chain) = table.get_mut(&key) {
         chain.base_mark = chain.base_mark.max(reader);
@@ -136,12 +146,14 @@ pub fn raise_base(table: &mut Table, key: Key, reader: u64)
 /// Memory was wanting. All is as before.
 pub fn note(table: &mut Table, key: Key, reader: u64) -> Result<(), Memory>
     requires { is_some (chain_at table.old key) ≡ true }
-    ensures ok { OnOk result ((k u : ℕ) → is_reader table.new k u ≡ (if (key == k) && (reader == u) then true else is_reader table.old k u)) }
+    ensures ok { OnOk result ((k u : ℕ)
+        → is_reader table.new k u
+        ≡ (if (key == k) && (reader == u) then true else is_reader table.old k u)) }
     ensures err { OnErr result (SameReaders table.old table.new) }
     ensures links { SameLinks table.old table.new }
     ensures bases { SameBases table.old table.new }
     ensures keys { SameKeys table.old table.new }
-    ensures room { KeepsRoom table.old table.new }
+    ensures room { KeepsChainRoom table.old table.new }
 {
     if let Some(chain) = table.get_mut(&key) {
         chain.note(reader)?;

@@ -1,3 +1,5 @@
+//! Version chains, agendas and tables on small cases.
+
 use crate::agenda::Agenda;
 use crate::chain::{Chain, Link};
 use crate::readers::add_readers;

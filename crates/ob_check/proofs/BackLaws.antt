@@ -1,11 +1,11 @@
 -- What was written is read again.
-use Rattle.std.specs.Prelude.{◌≡◌, ◌<◌, ◌≤◌, ◌⊎◌, ℕ, ◌+◌, ◌-◌, ◌*◌, ◌^◌, ◌==◌, Bool, List, [], ◌++◌, map, take, drop, replicate, length, Option, Some, None, Result, Ok, Err}
+use Rattle.std.specs.Prelude.{◌≡◌, ◌<◌, ◌≤◌, ◌⊎◌, ℕ, ◌+◌, ◌-◌, ◌*◌, ◌^◌, List, [], ◌++◌, map, take, drop, replicate, length, Option, Some, None, Result, Ok, Err}
 use Rattle.std.specs.FinMap as finite
 use Rattle.std.specs.Ordering.{nat_cmp}
 use Rattle.std.specs.Cmp.{nat_cmp_total}
-use Rattle.std.proofs.Common.{zero, suc, arith, refl, sym, ap, subst, ◌∙◌, inl, inr, get_or, length-drop, length-take}
+use Rattle.std.proofs.Common.{zero, suc, arith, refl, sym, ap, ◌∙◌, inl, inr, get_or, length-drop, length-take}
 use Rattle.std.proofs.lemmas.Bool.{cases_lt}
-use Rattle.std.proofs.lemmas.List.{ext_get_or, take-append-le, take_all, drop-drop}
+use Rattle.std.proofs.lemmas.List.{ext_get_or, take-append-le, take_all}
 use Rattle.std.proofs.lemmas.List.FromFn.{length-map-range_with_len, get_or-map-range_with_len}
 use Rattle.ob_base.specs.declared.fault.Damaged.{Damaged}
 use Rattle.ob_base.specs.declared.fault.Fault.{Fault}
@@ -13,48 +13,38 @@ use Rattle.ob_base.specs.declared.fault.Fault.TheVariants.{Memory, Usage, BadScr
 use Rattle.ob_base.specs.declared.params.Params.{Params}
 use Rattle.ob_base.specs.Layout.{checkpoint_len, checkpoint_cells}
 use Rattle.ob_base.specs.Tree.{buckets, width, below}
+use Rattle.ob_base.proofs.LayoutLaws.{checkpoint_cells_hold}
 use Rattle.ob_bucket.specs.Buckets.{Buckets, version_at, no_version}
-use Rattle.ob_bucket.specs.Version.{Version, EMPTY, key_at, used_at, rank_at}
+use Rattle.ob_bucket.specs.Version.{Version, EMPTY, key_at}
 use Rattle.ob_bucket.proofs.SpellingLaws.{take_joined}
 use Rattle.ob_bucket.proofs.VersionLaws.{version_of}
 use Rattle.ob_seal.specs.declared.keys.Keys.{Keys}
 use Rattle.ob_seal.specs.Pieces.{piece}
-use Rattle.ob_seal.proofs.PieceLaws.{length-piece}
+use Rattle.ob_seal.proofs.PieceLaws.{length-piece, piece_next, piece_first}
 use Rattle.ob_store.specs.Disk.{Image}
-use Rattle.ob_tables.specs.declared.entry.Entry.{Entry}
 use Rattle.ob_tables.specs.declared.tables.Tables.{Tables}
 use Rattle.ob_cells.specs.declared.run.Identity.{Identity}
 use Rattle.ob_cells.specs.Reads.{IsFirstDamage}
-use Rattle.ob_cells.specs.Rules.{Rule, first_broken, told_of, form_damage}
+use Rattle.ob_cells.specs.Rules.{first_broken, told_of}
 use Rattle.ob_cells.specs.Runs.{run_at}
 use Rattle.ob_cells.proofs.RunReads as runs
-use Rattle.ob_content.specs.Content.{Content, Rows, Obeys, content_of}
+use Rattle.ob_content.specs.Content.{Content, Obeys, content_of}
 use Rattle.ob_content.specs.Spelling.{checkpoint_bytes}
 use Rattle.ob_content.proofs.TextLaws.{content_length, fields_fit}
-use Rattle.ob_check.specs.Fields.{number_in, rank_in, mark_in, count_in}
+use Rattle.ob_check.specs.Fields.{number_in, rank_in, count_in}
 use Rattle.ob_check.specs.ReadBack.{IsCheckRead, IsOpenedTo, IsRefused, IsReadFrom, IsRefusedFrom, IsContentRead, ReadsBack, epoch_in}
 use Rattle.ob_check.specs.Reading.{content_in, entry_in, key_of, version_in, row_in}
 use Rattle.ob_check.specs.Rules.{rules}
-use Rattle.ob_check.specs.Written.{HoldsCheckpoint, area_of}
+use Rattle.ob_check.specs.Written.{HoldsCheckpointFrom, area_of}
 use Rattle.ob_check.proofs.BuildLaws.{told_content}
-use Rattle.ob_check.proofs.PlaceLaws.{cells_hold, some_cell}
-use Rattle.ob_check.proofs.TextReads.{number_of, HoldsVersion, holds_version, bucket_spelled, entry_stands, epoch_is, counter_is, count_is, rows_of, HoldsRow, holds_row}
+use Rattle.ob_check.proofs.PlaceLaws.{some_cell}
+use Rattle.ob_check.proofs.TextReads.{number_of, holds_version, bucket_spelled, entry_stands, epoch_is, counter_is, count_is, rows_of, holds_row}
 use Rattle.ob_check.proofs.TextRules.{used_are, rules_kept}
 use Rattle.ob_check.proofs.VersionReads.{take_low, key_there}
 
 -- ---- bytes with the same pieces
 
-piece_next : (i : ℕ) (xs : List ℕ) → piece (suc i) xs ≡ piece i (drop 96 xs)
-unfolding piece
-piece_next i xs =
-    let e : 96 * suc i ≡ 96 + 96 * i = omega arith in
-    ap (λ (l : List ℕ). take 96 (l ++ replicate 96 0)) (ap (λ n. drop n xs) e ∙ sym (drop-drop (96 * i) 96 xs))
-
-piece_first : (xs : List ℕ) → piece 0 xs ≡ take 96 (xs ++ replicate 96 0)
-unfolding piece
-piece_first xs = refl
-
-front_same : (k n : ℕ) (xs ys : List ℕ) → n ≤ length xs → n ≤ length ys → n ≤ 96 * k → ((i : ℕ) → i < k → piece i xs ≡ piece i ys) → take n xs ≡ take n ys
+pub front_same : (k n : ℕ) (xs ys : List ℕ) → n ≤ length xs → n ≤ length ys → n ≤ 96 * k → ((i : ℕ) → i < k → piece i xs ≡ piece i ys) → take n xs ≡ take n ys
 front_same zero n xs ys lx ly le each = let z : n ≡ 0 = omega arith in ap (λ m. take m xs) z ∙ sym (ap (λ m. take m ys) z)
 front_same (suc k) n xs ys lx ly le each =
     let z : List ℕ = replicate 96 0 in
@@ -128,14 +118,14 @@ module _ (p : Params) (e : ℕ) (c : Content) (o : Obeys p c) where
 -- ---- the law
 
 module _ (keys : Keys) (p : Params) (e : ℕ) (c : Content) (generation first : ℕ) (image : Image) (he : e < 2 ^ 64) (hg : generation < 2 ^ 64) (hf : first < 2 ^ 64) (o : Obeys p c)
-    (holds : HoldsCheckpoint keys p e c generation first image) where
+    (holds : HoldsCheckpointFrom keys p e c generation first image) where
   opened_is : (bytes : List ℕ) → IsOpenedTo keys p e image bytes → bytes ≡ checkpoint_bytes p e c
   opened_is bytes op =
       let back = runs.reads_back keys (area_of p e) (checkpoint_cells p) generation first (λ i. piece i (checkpoint_bytes p e c)) (run_at (area_of p e) image) op.plain (Ok op.first) hg hf (some_cell p)
       (λ i lt. length-piece i (checkpoint_bytes p e c)) holds op.run in
       let long : length (checkpoint_bytes p e c) ≡ checkpoint_len p = content_length p e c o in
       let front : length (take (checkpoint_len p) op.plain) ≡ checkpoint_len p = ap (λ (xs : List ℕ). length xs) op.front ∙ op.whole in
-      sym op.front ∙ front_same (checkpoint_cells p) (checkpoint_len p) op.plain (checkpoint_bytes p e c) (omega (arith, length-take (checkpoint_len p) op.plain)) (omega arith) (cells_hold p) back.1
+      sym op.front ∙ front_same (checkpoint_cells p) (checkpoint_len p) op.plain (checkpoint_bytes p e c) (omega (arith, length-take (checkpoint_len p) op.plain)) (omega arith) (checkpoint_cells_hold p) back.1
       ∙ take_all (checkpoint_len p) (checkpoint_bytes p e c) (omega arith)
 
   tables_read : (t : Tables Buckets) → IsReadFrom keys p e image t → content_of t ≡ c

@@ -25,11 +25,14 @@ use Rattle.ob_content.specs.Content.{Obeys, FitsBook, FitsEntry, FitsSeals, IsLo
 use Rattle.ob_check.specs.Fields.{byte_at, entry_place, is_present, leaf_in, bucket_place, number_in, rank_in, mark_in, count_in, row_key_in, row_len_in, row_value_in}
 use Rattle.ob_check.specs.Marks.{HaveLeaves}
 use Rattle.ob_check.specs.Reading.{entry_in, key_of, version_in, row_in, content_in}
-use Rattle.ob_check.specs.Rules.{is_among, counter_rules, entry_rules, numbers_in, placed_in, placed_before, may_lie, may_stand, key_rule, key_rules, ranks_in, shown_in, holds_key, may_rank, may_mark, rank_rule, mark_rule, index_rules, home_rule, home_rules, bucket_rules, is_loose, loose_keys, many_rule, room_rule, count_rules, row_key_rule, row_len_rule, row_rules, stash_rules, rules}
+use Rattle.ob_check.specs.Rules.{is_among, counter_rules, entry_rules, numbers_in, placed_in, placed_before, may_lie, may_stand, key_rule, key_rules, ranks_in, shown_in, holds_key, may_rank, may_mark}
+use Rattle.ob_check.specs.Rules.{rank_rule, mark_rule, index_rules, home_rule, home_rules, bucket_rules, is_loose, loose_keys, many_rule, room_rule, count_rules, row_key_rule, row_len_rule, row_rules}
+use Rattle.ob_check.specs.Rules.{stash_rules, rules}
 use Rattle.ob_check.proofs.KeptLaws.{have_leaves}
 use Rattle.ob_check.proofs.Loose.{within, at_place}
 use Rattle.ob_check.proofs.Members.{among_left, among_right, among_map, map_among, among_flat, flat_among, kept_passes, kept_low}
-use Rattle.ob_check.proofs.RuleLaws.{both_none, one_kept, parts_at}
+use Rattle.ob_cells.proofs.RuleLaws.{both_none}
+use Rattle.ob_check.proofs.RuleLaws.{one_kept, parts_at}
 use Rattle.ob_check.proofs.Passing.{both, either, off, le_from, lt_from, eq_from}
 use Rattle.ob_check.proofs.VersionReads.{part, field64_low, key_is, key_there, key_at_is, key_within, spells}
 
@@ -331,7 +334,7 @@ module _ (p : Params) (bytes : List ℕ) (low : (i : ℕ) → get_or bytes i 0 <
     counter = kept.counter;
     book = fits;
     many = length-map-range_with_len (version_in p bytes) 0 (buckets p);
-    versions = λ u h. subst (λ (v : Version). bucket.Obeys p v) (sym (version_is u h)) (spelled_in u h).obeys;
+    versions = λ u h. subst (λ (v : Version). bucket.VersionObeys p v) (sym (version_is u h)) (spelled_in u h).obeys;
     seals = λ u h. subst (λ (v : Version). FitsSeals v) (sym (version_is u h)) (record { generation = (spelled_in u h).fits.generation; base = (spelled_in u h).fits.base });
     keys = keys_of;
     once = once;

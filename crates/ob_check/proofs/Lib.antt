@@ -1,3 +1,4 @@
+pub mod Accepted
 pub mod PlaceLaws
 pub mod RuleLaws
 pub mod Ranges

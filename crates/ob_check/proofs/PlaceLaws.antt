@@ -50,7 +50,3 @@ count_few p place is = let c : count_place p + 4 + 69 * p.room ≡ checkpoint_le
 pub some_cell : (p : Params) → 0 < checkpoint_cells p
 unfolding checkpoint_cells checkpoint_len
 some_cell p = omega arith
-
-pub cells_hold : (p : Params) → checkpoint_len p ≤ 96 * checkpoint_cells p
-unfolding checkpoint_cells
-cells_hold p = omega arith

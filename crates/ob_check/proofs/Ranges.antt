@@ -31,3 +31,9 @@ module _ {X : Type 0} (f : ℕ → X) (q : X → Bool) where
       or_true : (b : Bool) → (b || true) ≡ true
       or_true true = refl
       or_true false = refl
+
+  pub any_never : (n : ℕ) → ((i : ℕ) → i < n → q (f i) ≡ false) → list_any q (map f (below n)) ≡ false
+  any_never zero off = refl
+  any_never (suc n) off =
+      let e : suc n ≡ n + 1 = omega arith in
+      ap (λ m. list_any q (map f (below m))) e ∙ any_none n (any_never n (λ i lt. off i (omega arith))) (off n (omega arith))

@@ -7,32 +7,8 @@ use Rattle.std.proofs.lemmas.List.{append-nil}
 use Rattle.std.proofs.lemmas.List.Concat.{flat_map-append}
 use Rattle.ob_base.specs.Tree.{below}
 use Rattle.ob_bucket.proofs.VersionLaws.{range_up}
-use Rattle.ob_cells.specs.Rules.{Rule, first_broken}
-use Rattle.ob_check.specs.First.{or_rule}
-
-if_or : (b : Bool) (x y : Option Rule) (r : Rule) → (if b then or_rule x y else Some r) ≡ or_rule (if b then x else Some r) y
-if_or true x y r = refl
-if_or false x y r = refl
-
-pub first_append : (xs ys : List Rule) → first_broken (xs ++ ys) ≡ or_rule (first_broken xs) (first_broken ys)
-first_append [] ys = refl
-first_append (r ∷ xs) ys = ap (λ (o : Option Rule). if r.obeys then o else Some r) (first_append xs ys) ∙ if_or r.obeys (first_broken xs) (first_broken ys) r
-
-pub or_none : (a b : Option Rule) → or_rule a b ≡ None → (a ≡ None) × (b ≡ None)
-or_none None b e = (refl, e)
-or_none (Some r) b e = absurd (some≢none e)
-  where
-    some≢none : {r : Rule} → Some r ≡ None → ⊥
-    some≢none e = cc
-
-pub none_then : (xs ys : List Rule) → first_broken xs ≡ None → first_broken (xs ++ ys) ≡ first_broken ys
-none_then xs ys e = first_append xs ys ∙ ap (λ (o : Option Rule). or_rule o (first_broken ys)) e
-
-pub some_then : (xs ys : List Rule) (r : Rule) → first_broken xs ≡ Some r → first_broken (xs ++ ys) ≡ Some r
-some_then xs ys r e = first_append xs ys ∙ ap (λ (o : Option Rule). or_rule o (first_broken ys)) e
-
-pub both_none : (xs ys : List Rule) → first_broken (xs ++ ys) ≡ None → (first_broken xs ≡ None) × (first_broken ys ≡ None)
-both_none xs ys e = or_none (first_broken xs) (first_broken ys) (sym (first_append xs ys) ∙ e)
+use Rattle.ob_cells.specs.Rules.{Rule, first_broken, or_rule}
+use Rattle.ob_cells.proofs.RuleLaws.{first_append, or_none, kept_then, broken_then}
 
 if_none : (b : Bool) (x : Option Rule) (r : Rule) → (if b then x else Some r) ≡ None → (b ≡ true) × (x ≡ None)
 if_none true x r e = (refl, e)
@@ -49,7 +25,7 @@ module _ (f : ℕ → List Rule) where
   parts_more n = ap (flat_map f) (range_up n) ∙ flat_map-append f (below n) (n ∷ []) ∙ ap (λ (xs : List Rule). flat_map f (below n) ++ xs) (append-nil (f n))
 
   pub parts_go : (n : ℕ) → first_broken (flat_map f (below n)) ≡ None → first_broken (f n) ≡ None → first_broken (flat_map f (below (n + 1))) ≡ None
-  parts_go n so_far here = ap first_broken (parts_more n) ∙ none_then (flat_map f (below n)) (f n) so_far ∙ here
+  parts_go n so_far here = ap first_broken (parts_more n) ∙ kept_then (flat_map f (below n)) (f n) so_far ∙ here
 
   parts_suc : (n : ℕ) → first_broken (flat_map f (below (suc n))) ≡ or_rule (first_broken (flat_map f (below n))) (first_broken (f n))
   parts_suc n = let e : suc n ≡ n + 1 = omega arith in ap (λ m. first_broken (flat_map f (below m))) e ∙ ap first_broken (parts_more n) ∙ first_append (flat_map f (below n)) (f n)
@@ -76,6 +52,13 @@ module _ (f : ℕ → List Rule) where
 pub rule_is : (a b c d : ℕ) (x y : Bool) (e f : ℕ) → a ≡ b → c ≡ d → x ≡ y → e ≡ f → ◌≡◌ {A = Rule} (record { place = a; kept = c; obeys = x; least = e }) (record { place = b; kept = d; obeys = y; least = f })
 rule_is a b c d x y e f p q r s = rw (p, q, r, s) refl
 
+-- one rule
+pub kept_rule : (a k : ℕ) (x : Bool) (l : ℕ) → x ≡ true → None ≡ first_broken (record { place = a; kept = k; obeys = x; least = l } ∷ [])
+kept_rule a k x l is = rw is refl
+
+pub broken_rule : (a k : ℕ) (x : Bool) (l m : ℕ) → x ≡ false → l ≡ m → Some (record { place = a; kept = k; obeys = false; least = l }) ≡ first_broken (record { place = a; kept = k; obeys = x; least = m } ∷ [])
+broken_rule a k x l m is same = rw (is, same) refl
+
 -- two rules that were tested one after the other
 pub two_rules : (r r' s s' : Rule) (a b c : Option Rule) → c ≡ or_rule a b → a ≡ first_broken (r ∷ []) → b ≡ first_broken (s ∷ []) → r ≡ r' → s ≡ s' → c ≡ first_broken (r' ∷ s' ∷ [])
 two_rules r r' s s' a b c joined one other same same' =
@@ -85,13 +68,13 @@ two_rules r r' s s' a b c joined one other same same' =
 -- four parts, one behind the other
 module _ (a b c d : List Rule) where
   pub at_first : (r : Rule) → first_broken a ≡ Some r → first_broken (a ++ (b ++ (c ++ d))) ≡ Some r
-  at_first r one = some_then a (b ++ (c ++ d)) r one
+  at_first r one = broken_then a (b ++ (c ++ d)) r one
 
   pub at_second : (r : Rule) → first_broken a ≡ None → first_broken b ≡ Some r → first_broken (a ++ (b ++ (c ++ d))) ≡ Some r
-  at_second r one two = none_then a (b ++ (c ++ d)) one ∙ some_then b (c ++ d) r two
+  at_second r one two = kept_then a (b ++ (c ++ d)) one ∙ broken_then b (c ++ d) r two
 
   pub at_third : (r : Rule) → first_broken a ≡ None → first_broken b ≡ None → first_broken c ≡ Some r → first_broken (a ++ (b ++ (c ++ d))) ≡ Some r
-  at_third r one two three = none_then a (b ++ (c ++ d)) one ∙ none_then b (c ++ d) two ∙ some_then c d r three
+  at_third r one two three = kept_then a (b ++ (c ++ d)) one ∙ kept_then b (c ++ d) two ∙ broken_then c d r three
 
   pub at_last : first_broken a ≡ None → first_broken b ≡ None → first_broken c ≡ None → first_broken (a ++ (b ++ (c ++ d))) ≡ first_broken d
-  at_last one two three = none_then a (b ++ (c ++ d)) one ∙ none_then b (c ++ d) two ∙ none_then c d three
+  at_last one two three = kept_then a (b ++ (c ++ d)) one ∙ kept_then b (c ++ d) two ∙ kept_then c d three

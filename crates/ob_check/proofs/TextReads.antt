@@ -1,9 +1,9 @@
 -- The numbers that stand in a content's text.
-use Rattle.std.specs.Prelude.{◌≡◌, ◌≢◌, ◌<◌, ◌≤◌, ℕ, ◌+◌, ◌-◌, ◌*◌, ◌^◌, ◌==◌, Bool, true, false, cond, List, [], ◌∷◌, ◌++◌, take, drop, replicate, length, slice_index, Option, Some, None}
+use Rattle.std.specs.Prelude.{◌≡◌, ◌<◌, ◌≤◌, ℕ, ◌+◌, ◌-◌, ◌*◌, ◌^◌, ◌==◌, Bool, cond, List, [], ◌∷◌, ◌++◌, take, drop, replicate, length, Option, Some, None}
 use Rattle.std.specs.List.{flat_map}
 use Rattle.std.specs.Int.{w32, w64, to_le_bytes, from_le_bytes}
 use Rattle.std.specs.FinMap as finite
-use Rattle.std.proofs.Common.{zero, suc, arith, refl, sym, ap, subst, ◌∙◌, get_or, length-append, append_assoc}
+use Rattle.std.proofs.Common.{zero, suc, arith, refl, sym, ap, ◌∙◌, get_or, append_assoc}
 use Rattle.std.proofs.lemmas.List.{take_at, drop_at, drop-drop, get_or-drop, get_or-append-add}
 use Rattle.std.proofs.lemmas.List.Concat.{flat_map-cons}
 use Rattle.std.proofs.lemmas.Nat.{from_le_bytes-to_le_bytes_4, from_le_bytes-to_le_bytes_8}
@@ -12,17 +12,18 @@ use Rattle.ob_base.specs.Layout.{meta_len}
 use Rattle.ob_base.specs.LittleEndian.{field_at}
 use Rattle.ob_base.specs.Tree.{buckets, width}
 use Rattle.ob_base.proofs.Bounds.{leaves_le}
-use Rattle.ob_bucket.specs.Version.{Version, HasSlots, Spells, EMPTY, key_at, rank_at, used_at, key_bytes, mark_of, index_bytes, version_bytes}
+use Rattle.ob_base.proofs.Spelled.{length-flat_map_wide}
+use Rattle.ob_bucket.specs.Version.{Version, Spells, EMPTY, key_at, rank_at, used_at, key_bytes, mark_of, index_bytes, version_bytes}
 use Rattle.ob_bucket.specs.Buckets.{version_at, no_version}
 use Rattle.ob_bucket.proofs.PartLaws.{key_width, keys_width}
-use Rattle.ob_bucket.proofs.SpellingLaws.{length-flat_map_wide, mark_is}
+use Rattle.ob_bucket.proofs.SpellingLaws.{mark_is}
 use Rattle.ob_tables.specs.declared.entry.Entry.{Entry}
 use Rattle.ob_tables.specs.Kept.{entry_at}
 use Rattle.ob_content.specs.Content.{Content, FitsEntry, Obeys}
 use Rattle.ob_content.specs.Spelling.{entry_bytes, row_bytes, stash_bytes, checkpoint_bytes}
-use Rattle.ob_content.proofs.TextLaws.{entry_width, version_width, fields_fit, key_low, row_width, row_short, row_key_low}
-use Rattle.ob_check.specs.Fields.{byte_at, entry_place, is_present, leaf_in, bucket_place, key_place, index_place, number_in, rank_in, mark_in, count_place, count_in, row_place, row_key_in, row_len_in, row_value_in}
-use Rattle.ob_check.specs.Reading.{entry_in, key_of}
+use Rattle.ob_content.proofs.TextLaws.{entry_width, version_width, fields_fit, row_width, row_short, row_key_low}
+use Rattle.ob_check.specs.Fields.{byte_at, entry_place, leaf_in, bucket_place, number_in, rank_in, mark_in, count_place, count_in, row_place, row_key_in, row_len_in, row_value_in}
+use Rattle.ob_check.specs.Reading.{entry_in}
 use Rattle.ob_check.proofs.PlaceLaws.{bucket_is}
 use Rattle.ob_check.proofs.SpellLaws.{place_at}
 use Rattle.ob_check.proofs.VersionReads.{part_in, byte_in}

@@ -1,12 +1,10 @@
 -- The text of a content that obeys keeps all rules of a checkpoint's bytes.
-use Rattle.std.specs.Prelude.{◌≡◌, ◌≢◌, ◌<◌, ◌≤◌, ℕ, ◌+◌, ◌^◌, ◌==◌, nat_lt, nat_le, Bool, true, false, cond, not, ◌&&◌, ◌||◌, List, [], ◌∷◌, ◌++◌, map, filter, length, slice_index, Option, Some, None}
+use Rattle.std.specs.Prelude.{◌≡◌, ◌≢◌, ◌<◌, ◌≤◌, ℕ, ◌+◌, ◌^◌, ◌==◌, nat_lt, nat_le, Bool, true, false, cond, not, ◌&&◌, ◌||◌, List, [], ◌∷◌, ◌++◌, map, length, slice_index, Option, Some, None}
 use Rattle.std.specs.List.{flat_map, count_by}
 use Rattle.std.specs.Int.{w64}
 use Rattle.std.specs.FinMap as finite
-use Rattle.std.specs.FinMap.{find}
-use Rattle.std.specs.Ordering.{nat_cmp}
 use Rattle.std.proofs.Common.{zero, suc, arith, refl, sym, ap, subst, ◌∙◌, inl, inr, get_or}
-use Rattle.std.proofs.lemmas.Bool.{cases_eq, cases_lt, eq-eqb, ne_eqb, true≢false}
+use Rattle.std.proofs.lemmas.Bool.{cases_eq, cases_lt, eq-eqb, true≢false}
 use Rattle.std.proofs.lemmas.Bool.Decides.{nat_tests}
 use Rattle.std.proofs.lemmas.List.{ext_get_or, length-map, get_or-map, get_or_past}
 use Rattle.std.proofs.lemmas.List.FromFn.{length-map-range_with_len, get_or-map-range_with_len}
@@ -22,14 +20,17 @@ use Rattle.ob_content.specs.Content.{Content, Obeys, IsLoose}
 use Rattle.ob_content.specs.Spelling.{checkpoint_bytes}
 use Rattle.ob_content.proofs.TextLaws.{key_low, row_is_of, row_key_low, row_short}
 use Rattle.ob_check.specs.Fields.{byte_at, entry_place, is_present, leaf_in, bucket_place, number_in, rank_in, mark_in, count_in, row_key_in, row_len_in}
-use Rattle.ob_check.specs.Rules.{is_among, counter_rules, present_rule, leaf_rule, entry_rules, numbers_in, placed_in, placed_before, may_lie, may_stand, key_rule, key_rules, ranks_in, shown_in, holds_key, may_rank, may_mark, rank_rule, mark_rule, index_rules, home_rule, home_rules, bucket_rules, is_loose, loose_keys, many_rule, room_rule, count_rules, row_key_rule, row_len_rule, row_rules, stash_rules, rules}
+use Rattle.ob_check.specs.Rules.{is_among, counter_rules, present_rule, leaf_rule, entry_rules, numbers_in, placed_in, placed_before, may_lie, may_stand, key_rule, key_rules, ranks_in, shown_in}
+use Rattle.ob_check.specs.Rules.{holds_key, may_rank, may_mark, rank_rule, mark_rule, index_rules, home_rule, home_rules, bucket_rules, is_loose, loose_keys, many_rule, room_rule, count_rules}
+use Rattle.ob_check.specs.Rules.{row_key_rule, row_len_rule, row_rules, stash_rules, rules}
 use Rattle.ob_check.proofs.ContentReads.{found_at}
 use Rattle.ob_check.proofs.MarkLaws.{shown_more}
 use Rattle.ob_check.proofs.Members.{among_flat, among_map, among_either, flat_among, map_among}
 use Rattle.ob_check.proofs.Passing.{both, off, lt_to}
-use Rattle.ob_check.proofs.RisingKeys.{AreKeys, keys_are}
-use Rattle.ob_check.proofs.RuleLaws.{none_then, parts_go}
-use Rattle.ob_check.proofs.TextReads.{StandsAs, entry_stands, HoldsVersion, holds_version, bucket_spelled, number_of, counter_is, count_is, rows_of, HoldsRow, holds_row}
+use Rattle.ob_check.proofs.RisingKeys.{keys_are}
+use Rattle.ob_cells.proofs.RuleLaws.{kept_then}
+use Rattle.ob_check.proofs.RuleLaws.{parts_go}
+use Rattle.ob_check.proofs.TextReads.{StandsAs, entry_stands, HoldsVersion, holds_version, bucket_spelled, number_of, counter_is, count_is, rows_of, holds_row}
 use Rattle.ob_check.proofs.VersionReads.{count_map}
 
 -- ---- tests that pass
@@ -216,8 +217,8 @@ module _ (p : Params) (e : ℕ) (c : Content) (o : Obeys p c) where
 
   buckets_kept : first_broken (flat_map (bucket_rules p text) (below (buckets p))) ≡ None
   buckets_kept = kept_parts (bucket_rules p text) (buckets p) (λ u h.
-      none_then (home_rules p text u) (flat_map (key_rules p text u) (below p.real) ++ flat_map (index_rules p text u) (below (width p))) (home_kept u h)
-      ∙ none_then (flat_map (key_rules p text u) (below p.real)) (flat_map (index_rules p text u) (below (width p))) (keys_kept u h) ∙ indexes_kept u h)
+      kept_then (home_rules p text u) (flat_map (key_rules p text u) (below p.real) ++ flat_map (index_rules p text u) (below (width p))) (home_kept u h)
+      ∙ kept_then (flat_map (key_rules p text u) (below p.real)) (flat_map (index_rules p text u) (below (width p))) (keys_kept u h) ∙ indexes_kept u h)
 
   -- ---- the stash
 
@@ -282,7 +283,7 @@ module _ (p : Params) (e : ℕ) (c : Content) (o : Obeys p c) where
       let many : finite.len c.rows ≡ length (rows_of c) = finite.len-entries c.rows in
       let loose : length (loose_keys p text) ≡ length (rows_of c) = loose_many in
       let few : finite.len c.rows ≤ p.room = o.few in
-      none_then (count_rules p text) (flat_map (row_rules p text) (below (length (loose_keys p text))))
+      kept_then (count_rules p text) (flat_map (row_rules p text) (below (length (loose_keys p text))))
       (kept_one (many_rule p text) (room_rule p text ∷ []) (eq-eqb (count_in p text) (length (loose_keys p text)) (omega arith)) (kept_one (room_rule p text) [] (le_to (count_in p text) p.room (omega arith)) refl))
       ∙ kept_parts (row_rules p text) (length (loose_keys p text)) (λ i lt.
       let low : i < length (rows_of c) = omega arith in
@@ -304,4 +305,4 @@ module _ (p : Params) (e : ℕ) (c : Content) (o : Obeys p c) where
   rules_kept =
       let entries : List Rule = flat_map (entry_rules p text) (below p.keys) in
       let versions : List Rule = flat_map (bucket_rules p text) (below (buckets p)) in
-      none_then (counter_rules p text) (entries ++ (versions ++ stash_rules p text)) counter_kept ∙ none_then entries (versions ++ stash_rules p text) entries_kept ∙ none_then versions (stash_rules p text) buckets_kept ∙ stash_kept
+      kept_then (counter_rules p text) (entries ++ (versions ++ stash_rules p text)) counter_kept ∙ kept_then entries (versions ++ stash_rules p text) entries_kept ∙ kept_then versions (stash_rules p text) buckets_kept ∙ stash_kept

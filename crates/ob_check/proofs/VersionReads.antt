@@ -10,8 +10,9 @@ use Rattle.std.proofs.lemmas.List.Sums.{sum_by_push}
 use Rattle.ob_base.specs.declared.params.Params.{Params}
 use Rattle.ob_base.specs.Layout.{checkpoint_len, meta_len}
 use Rattle.ob_base.specs.LittleEndian.{field_at}
+use Rattle.ob_base.proofs.Spelled.{low_part}
 use Rattle.ob_base.specs.Tree.{buckets, width, below}
-use Rattle.ob_bucket.specs.Version.{HasSlots, AreRanks, IsUnshown, MarksObey, Reads, Spells, EMPTY, key_bytes}
+use Rattle.ob_bucket.specs.Version.{HasSlots, AreRanks, IsUnshown, MarksObey, ReadsVersion, Spells, EMPTY, key_bytes}
 use Rattle.ob_bucket.proofs.Counting.{count_by-range_more}
 use Rattle.ob_bucket.proofs.SpellingLaws.{KeysRead, keys_read_none, keys_read_more, IndexesRead, indexes_read_none, indexes_read_more, reads_are, obeyed}
 use Rattle.ob_check.specs.Fields.{bucket_place, key_place, number_in, rank_in, mark_in, byte_at}
@@ -37,15 +38,6 @@ part_in bytes at m i n fits =
 
 pub byte_in : (bytes : List ℕ) (at m i : ℕ) → i < m → get_or (take m (drop at bytes)) i 0 ≡ get_or bytes (at + i) 0
 byte_in bytes at m i lt = get_or-take m (drop at bytes) i 0 lt ∙ get_or-drop at bytes i 0
-
-low_take : (n : ℕ) (xs : List ℕ) → ((i : ℕ) → get_or xs i 0 < 256) → (i : ℕ) → get_or (take n xs) i 0 < 256
-low_take zero xs low i = omega arith
-low_take (suc n) [] low i = omega arith
-low_take (suc n) (x ∷ xs) low zero = low 0
-low_take (suc n) (x ∷ xs) low (suc i) = low_take n xs (λ j. low (suc j)) i
-
-pub low_part : (bytes : List ℕ) (at m : ℕ) → ((i : ℕ) → get_or bytes i 0 < 256) → (i : ℕ) → get_or (take m (drop at bytes)) i 0 < 256
-low_part bytes at m low i = low_take m (drop at bytes) (λ j. rw (get_or-drop at bytes j 0) (low (at + j))) i
 
 -- fields are in range
 pub field32_low : (bytes : List ℕ) (at : ℕ) → ((i : ℕ) → get_or bytes i 0 < 256) → field_at w32 bytes at < 2 ^ 32
@@ -124,7 +116,9 @@ module _ (p : Params) (bytes : List ℕ) (low : (i : ℕ) → get_or bytes i 0 <
       let e : suc j ≡ j + 1 = omega arith in
       let one : KeysRead part (j + 1) (map (λ i. key_of (number_in p bytes u i)) (below j) ++ key_of (number_in p bytes u j) ∷ []) =
       keys_read_more part j (number_in p bytes u j) (map (λ i. key_of (number_in p bytes u i)) (below j)) (key_of (number_in p bytes u j)) (low_part bytes (bucket_place p u) (meta_len p) low) (omega (arith, part_long))
-      (number_at j (omega arith)) (number_spelled (number_in p bytes u j)) (λ k is. (let n : (number_in p bytes u j ≡ k) × (number_in p bytes u j ≢ EMPTY) = key_is (number_in p bytes u j) k is in let ne : number_in p bytes u j ≢ EMPTY = n.1 in let same : number_in p bytes u j ≡ k = n.0 in let l : number_in p bytes u j < 2 ^ 32 = field32_low bytes (key_place p u j) low in omega arith)) (keys_in j (omega arith)) in
+      (number_at j (omega arith)) (number_spelled (number_in p bytes u j)) (λ k is.
+      (let n : (number_in p bytes u j ≡ k) × (number_in p bytes u j ≢ EMPTY) = key_is (number_in p bytes u j) k is in let ne : number_in p bytes u j ≢ EMPTY = n.1 in let same : number_in p bytes u j ≡ k = n.0 in let l : number_in p bytes u j < 2 ^ 32
+      = field32_low bytes (key_place p u j) low in omega arith)) (keys_in j (omega arith)) in
       subst (λ n. KeysRead part n (map (λ i. key_of (number_in p bytes u i)) (below n))) (sym e) (subst (KeysRead part (j + 1)) (sym (map_up (λ i. key_of (number_in p bytes u i)) j)) one)
 
   index_at : (i : ℕ) → i < width p → (rank_in p bytes u i ≡ get_or part (17 + 4 * p.real + 2 * i) 0) × (mark_in p bytes u i ≡ get_or part (17 + 4 * p.real + 2 * i + 1) 0)
@@ -165,7 +159,7 @@ module _ (p : Params) (bytes : List ℕ) (low : (i : ℕ) → get_or bytes i 0 <
     field_part : (i : ℕ) → i + 8 ≤ meta_len p → field_at w64 bytes (bucket_place p u + i) ≡ field_at w64 part i
     field_part i fits = sym (ap (from_le_bytes w64) (part_in bytes (bucket_place p u) (meta_len p) i 8 fits))
 
-    pub reads : byte_at bytes (bucket_place p u) ≤ 1 → Reads p part (version_in p bytes u)
+    pub reads : byte_at bytes (bucket_place p u) ≤ 1 → ReadsVersion p part (version_in p bytes u)
     reads home =
         let k : KeysRead part p.real (version_in p bytes u).keys = keys_in p.real (omega arith) in
         let i : IndexesRead part (17 + 4 * p.real) (width p) (version_in p bytes u).ranks (version_in p bytes u).used = indexes_in (width p) (omega arith) in

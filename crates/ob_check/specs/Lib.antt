@@ -1,5 +1,4 @@
 pub mod Fields
-pub mod First
 pub mod Marks
 pub mod Reading
 pub mod Rules

@@ -1,4 +1,4 @@
--- Marks of numbers, and rules as the code tells them.
+-- Private: marks of numbers, and rules as the code tells them.
 use Rattle.std.specs.Prelude.{◌≡◌, ◌<◌, ℕ, ◌^◌, Bool, true, false, List, length, slice_index_or, Option, Some, None}
 use Rattle.ob_base.specs.declared.params.Params.{Params}
 use Rattle.ob_check.specs.Fields.{is_present, leaf_in}

@@ -1,8 +1,9 @@
 -- What a read of a checkpoint answers.
-use Rattle.std.specs.Prelude.{◌≡◌, ◌≢◌, ◌⊎◌, ◌<◌, ℕ, ◌^◌, List, [], length, take, Option, Result, Ok, Err}
+use Rattle.std.specs.Prelude.{◌≡◌, ◌≢◌, ◌⊎◌, ◌<◌, ℕ, ◌^◌, List, length, take, Result, Ok, Err}
 use Rattle.std.specs.declared.option.Option.TheVariants.{None, Some}
 use Rattle.std.specs.Int.{w64}
 use Rattle.ob_base.specs.declared.fault.Damaged.{Damaged}
+use Rattle.ob_base.specs.declared.fault.Check.TheVariants.{Tag, Seal}
 use Rattle.ob_base.specs.declared.fault.Fault.{Fault}
 use Rattle.ob_base.specs.declared.fault.Fault.TheVariants.{Damaged as Broken, StoreFault, Memory}
 use Rattle.ob_base.specs.declared.params.Params.{Params}
@@ -11,20 +12,17 @@ use Rattle.ob_base.specs.LittleEndian.{field_at}
 use Rattle.ob_bucket.specs.Buckets.{Buckets}
 use Rattle.ob_seal.specs.declared.keys.Keys.{Keys}
 use Rattle.ob_seal.specs.Pieces.{piece}
-use Rattle.ob_store.specs.declared.event.Event.{Event}
-use Rattle.ob_store.specs.declared.watch.Note.{Note}
 use Rattle.ob_store.specs.Disk.{Image}
-use Rattle.ob_store.specs.Lines.{Trace}
-use Rattle.ob_store.specs.Told.{Tells, TellsFirst}
 use Rattle.ob_tables.specs.declared.tables.Tables.{Tables}
 use Rattle.ob_cells.specs.declared.run.Identity.{Identity}
+use Rattle.ob_cells.specs.Orders.{IsInRun}
 use Rattle.ob_cells.specs.Reads.{IsFirstDamage}
 use Rattle.ob_cells.specs.Rules.{first_broken, epoch_damage, form_damage}
 use Rattle.ob_cells.specs.Runs.{IsRun, run_at}
 use Rattle.ob_content.specs.Content.{Content, Obeys, content_of}
 use Rattle.ob_check.specs.Reading.{content_in}
 use Rattle.ob_check.specs.Rules.{rules}
-use Rattle.ob_check.specs.Written.{HoldsCheckpoint, area_of}
+use Rattle.ob_check.specs.Written.{HoldsCheckpointFrom, area_of}
 
 -- the epoch that the bytes tell
 abbrev pub epoch_in : List ℕ → ℕ
@@ -42,13 +40,13 @@ pub record IsOtherEpoch (base epoch : ℕ) (bytes : List ℕ) (damaged : Damaged
   pub told_as : damaged ≡ epoch_damage base (epoch_in bytes) epoch
 
 -- the epoch is the wanted one, and the first rule that is broken is told
-pub record IsMisformed (p : Params) (base epoch : ℕ) (bytes : List ℕ) (damaged : Damaged) : Type 0 where
+pub record IsMisformedCheckpoint (p : Params) (base epoch : ℕ) (bytes : List ℕ) (damaged : Damaged) : Type 0 where
   pub epoch_is : epoch_in bytes ≡ epoch
   pub told_as : form_damage base (rules p bytes) ≡ Some damaged
 
 -- what bytes are refused for
 abbrev pub IsRefused : Params → ℕ → ℕ → List ℕ → Damaged → Type 0
-IsRefused p base epoch bytes damaged = IsOtherEpoch base epoch bytes damaged ⊎ IsMisformed p base epoch bytes damaged
+IsRefused p base epoch bytes damaged = IsOtherEpoch base epoch bytes damaged ⊎ IsMisformedCheckpoint p base epoch bytes damaged
 
 -- The cells of the epoch's area open to plain bytes, of which the first ones are the checkpoint's.
 pub record IsOpenedTo (keys : Keys) (p : Params) (epoch : ℕ) (image : Image) (bytes : List ℕ) : Type 0 where
@@ -79,24 +77,18 @@ IsCheckRead keys p epoch image (Err (Broken cell check kept computed)) =
     ⊎ IsRefusedFrom keys p epoch image (record { cell = cell; check = check; kept = kept; computed = computed })
 IsCheckRead keys p epoch image (Err _) = Unit {0}
 
--- the refusals of a read
-abbrev pub IsCheckFault : Fault → Type 0
-IsCheckFault Memory = Unit {0}
-IsCheckFault (StoreFault unsure) = unsure ≡ None
-IsCheckFault (Broken cell check kept computed) = Unit {0}
-IsCheckFault _ = ⊥
+-- The refusals of a read for which there was memory: of the store; of a cell of the area whose tag or seal is wrong; or of what the
+-- bytes tell.
+abbrev pub IsCheckReadFault : Params → ℕ → Fault → Type 0
+IsCheckReadFault p epoch (StoreFault unsure) = unsure ≡ None
+IsCheckReadFault p epoch (Broken cell Tag kept computed) = IsInRun (area_of p epoch) (checkpoint_cells p) cell
+IsCheckReadFault p epoch (Broken cell Seal kept computed) = IsInRun (area_of p epoch) (checkpoint_cells p) cell
+IsCheckReadFault p epoch (Broken cell check kept computed) = Unit {0}
+IsCheckReadFault p epoch _ = ⊥
 
--- those of a read for which there was memory
-abbrev pub IsReadFault : Fault → Type 0
-IsReadFault (StoreFault unsure) = unsure ≡ None
-IsReadFault (Broken cell check kept computed) = Unit {0}
-IsReadFault _ = ⊥
-
--- where memory is wanting nothing is read; else the cells are, up to the first that is refused or damaged
-abbrev pub ReadDoes : List Note → Option (List Event) → Option (List Event) → Trace → Trace → Result (Tables Buckets) Fault → Type 0
-ReadDoes steps old new before after (Err Memory) = Tells [] [] old new before after
-ReadDoes steps old new before after (Ok t) = Tells steps steps old new before after
-ReadDoes steps old new before after (Err _) = TellsFirst steps old new before after
+abbrev pub IsCheckFault : Params → ℕ → Fault → Type 0
+IsCheckFault p epoch Memory = Unit {0}
+IsCheckFault p epoch fault = IsCheckReadFault p epoch fault
 
 -- ---- the law
 
@@ -112,4 +104,4 @@ abbrev pub ReadsBack : Type 0
 ReadsBack =
     (keys : Keys) (p : Params) (epoch : ℕ) (c : Content) (generation first : ℕ) (image : Image) (result : Result (Tables Buckets) Fault)
     → epoch < 2 ^ 64 → generation < 2 ^ 64 → first < 2 ^ 64 → Obeys p c
-    → HoldsCheckpoint keys p epoch c generation first image → IsCheckRead keys p epoch image result → IsContentRead c result
+    → HoldsCheckpointFrom keys p epoch c generation first image → IsCheckRead keys p epoch image result → IsContentRead c result

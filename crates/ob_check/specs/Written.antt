@@ -17,8 +17,8 @@ abbrev pub area_of : Params → ℕ → ℕ
 area_of p epoch = check_cell p (epoch % 2) 0
 
 -- the area of an epoch holds this content, under seals in a row from this one on
-abbrev pub HoldsCheckpoint : Keys → Params → ℕ → Content → ℕ → ℕ → Image → Type 0
-HoldsCheckpoint keys p epoch c generation first image =
+abbrev pub HoldsCheckpointFrom : Keys → Params → ℕ → Content → ℕ → ℕ → Image → Type 0
+HoldsCheckpointFrom keys p epoch c generation first image =
     AreSealed keys (area_of p epoch) (checkpoint_cells p) generation first (λ i. piece i (checkpoint_bytes p epoch c)) (run_at (area_of p epoch) image)
 
 -- fewer seal numbers are left than a checkpoint takes

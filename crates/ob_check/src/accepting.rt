@@ -1,3 +1,5 @@
+//! Whether a checkpoint's bytes obey all rules.
+
 ghost use Rattle.std.specs.Prelude.{◌≡◌, ◌≤◌, ◌<◌, ◌^◌, length, MatchResult, replicate, false};
 ghost use Rattle.ob_base.specs.Layout.{checkpoint_len};
 ghost use Rattle.ob_cells.specs.Rules.{rule_damage};
@@ -16,7 +18,14 @@ use ob_tables::Tables;
 // What is told of a number that breaks its rule, where the bytes are those of the cells from `base` on.
 fn told(base: u64, broken: &Broken) -> Damaged
     requires { base < 2 ^ 62 }
-    ensures { result ≡ rule_damage base (record { place = broken.now.place; kept = broken.now.kept; obeys = false; least = broken.now.least }) }
+    ensures { result
+        ≡ rule_damage base (record {
+          place = broken.now.place;
+          kept = broken.now.kept;
+          obeys =
+              false;
+          least = broken.now.least;
+        }) }
 {
     bad_number(base + broken.place as u64 / 96, broken.kept, broken.least)
 }
@@ -35,7 +44,9 @@ pub fn accept(
     requires long { length bytes.now ≡ checkpoint_len p.now }
     requires fresh { AreFresh p.now tables }
     requires placed { placed.old ≡ replicate p.now.keys false }
-    ensures { MatchResult result (λ t. IsAccepted p.now epoch bytes.now t × Obeys p.now (content_of t) × AreIdle p.now t) (λ d. IsRefused p.now base epoch bytes.now d) }
+    ensures { MatchResult result (λ t. IsAccepted p.now epoch bytes.now t
+        × Obeys p.now (content_of t)
+        × AreIdle p.now t) (λ d. IsRefused p.now base epoch bytes.now d) }
 {
     let kept = u64_at(bytes, 0);
     if kept != epoch {

@@ -1,7 +1,9 @@
+//! The first rule that is broken.
+
 ghost use Rattle.std.specs.Prelude.{◌≡◌, ◌∷◌, []};
 ghost use Rattle.ob_cells.specs.Rules.{first_broken};
 ghost use Rattle.ob_check.specs.Marks.{rule_of};
-ghost use Rattle.ob_check.specs.First.{or_rule};
+ghost use Rattle.ob_cells.specs.Rules.{or_rule};
 
 // A number of a checkpoint's bytes that breaks its rule: the place of its first byte, the number,
 // and the least one that the rule allows there.
@@ -14,7 +16,8 @@ pub struct Broken {
 
 // Tests one rule.
 pub fn check(place: usize, kept: u64, obeys: bool, least: u64) -> Option<Broken>
-    ensures { rule_of result ≡ first_broken (record { place = place; kept = kept; obeys = obeys; least = least } ∷ []) }
+    ensures { rule_of result
+        ≡ first_broken (record { place = place; kept = kept; obeys = obeys; least = least } ∷ []) }
 {
     if obeys {
         return None;

@@ -1,3 +1,5 @@
+//! The rules of all buckets of a checkpoint.
+
 ghost use Rattle.std.specs.Prelude.{◌≡◌, ◌<◌, ◌+◌, length, IfNone};
 ghost use Rattle.std.specs.List.{flat_map};
 ghost use Rattle.ob_base.specs.Layout.{checkpoint_len};
@@ -18,7 +20,8 @@ fn check_bucket(p: &Params, bytes: &[u8], u: u32, placed: &mut [bool]) -> Option
     requires leaves { HaveLeaves p.now bytes.now }
     requires marked { AreMarked p.now.keys placed.old (placed_in p.now bytes.now u) }
     ensures rule { rule_of result ≡ first_broken (bucket_rules p.now bytes.now u) }
-    ensures marks { IfNone result (AreMarked p.now.keys placed.new (placed_in p.now bytes.now (u + 1))) }
+    ensures marks { IfNone result
+        (AreMarked p.now.keys placed.new (placed_in p.now bytes.now (u + 1))) }
 {
     match check_home(p, bytes, u) {
         Some(broken) => return Some(broken),
@@ -37,8 +40,10 @@ pub fn check_buckets(p: &Params, bytes: &[u8], placed: &mut [bool]) -> Option<Br
     requires long { length bytes.now ≡ checkpoint_len p.now }
     requires leaves { HaveLeaves p.now bytes.now }
     requires marked { AreMarked p.now.keys placed.old (placed_in p.now bytes.now 0) }
-    ensures rule { rule_of result ≡ first_broken (flat_map (bucket_rules p.now bytes.now) (below (buckets p.now))) }
-    ensures marks { IfNone result (AreMarked p.now.keys placed.new (placed_in p.now bytes.now (buckets p.now))) }
+    ensures rule { rule_of result
+        ≡ first_broken (flat_map (bucket_rules p.now bytes.now) (below (buckets p.now))) }
+    ensures marks { IfNone result
+        (AreMarked p.now.keys placed.new (placed_in p.now bytes.now (buckets p.now))) }
 {
     for u in 0..buckets(p) {
         match check_bucket(p, bytes, u, placed) {

@@ -1,3 +1,5 @@
+//! The tables that a checkpoint's bytes tell.
+
 ghost use Rattle.std.specs.Prelude.{◌≡◌, ◌<◌, ◌≤◌, ◌^◌, ℕ, map, take, drop, length, replicate, slice_set, None};
 ghost use Rattle.std.specs.FinMap as finite;
 ghost use Rattle.ob_base.specs.Layout.{checkpoint_len, meta_len};
@@ -58,7 +60,8 @@ fn read_book(p: &Params, bytes: &[u8], book: &mut Book)
 fn read_meta(p: &Params, bytes: &[u8], u: u32) -> Meta
     requires u { u < buckets p.now }
     requires long { length bytes.now ≡ checkpoint_len p.now }
-    requires spelled { Spells p.now (take (meta_len p.now) (drop (bucket_place p.now u) bytes.now)) (version_in p.now bytes.now u) }
+    requires spelled { Spells p.now (take (meta_len p.now) (drop (bucket_place p.now u) bytes.now))
+        (version_in p.now bytes.now u) }
     ensures { result ≡ version_in p.now bytes.now u }
 {
     let at = bucket_place(p, u);
@@ -72,8 +75,11 @@ fn read_meta(p: &Params, bytes: &[u8], u: u32) -> Meta
 fn read_metas(p: &Params, bytes: &[u8], metas: &mut Metas)
     requires long { length bytes.now ≡ checkpoint_len p.now }
     requires many { length metas.old.versions ≡ buckets p.now }
-    requires spelled { (u : ℕ) → u < buckets p.now → Spells p.now (take (meta_len p.now) (drop (bucket_place p.now u) bytes.now)) (version_in p.now bytes.now u) }
-    ensures { metas.new ≡ record metas.old { versions = map (version_in p.now bytes.now) (below (buckets p.now)) } }
+    requires spelled { (u : ℕ) → u < buckets p.now
+        → Spells p.now (take (meta_len p.now) (drop (bucket_place p.now u) bytes.now))
+        (version_in p.now bytes.now u) }
+    ensures { metas.new
+        ≡ record metas.old { versions = map (version_in p.now bytes.now) (below (buckets p.now)) } }
 {
     for u in 0..buckets(p) {
         metas.set(u, read_meta(p, bytes, u));
@@ -101,7 +107,11 @@ fn read_stash(p: &Params, bytes: &[u8], stash: &mut Stash)
     requires kept { first_broken (rules p.now bytes.now) ≡ None }
     requires none { stash.old.rows ≡ finite.empty }
     requires room { stash.old.room ≡ p.now.keys }
-    ensures { stash.new ≡ record stash.old { rows = finite.from_entries (map (row_in p.now bytes.now) (below (count_in p.now bytes.now))) } }
+    ensures { stash.new
+        ≡ record stash.old {
+          rows = finite.from_entries
+              (map (row_in p.now bytes.now) (below (count_in p.now bytes.now)));
+        } }
 {
     for i in 0..u32_at(bytes, count_place(p)) {
         stash.put(u32_at(bytes, row_place(p, i)), value_in(p, bytes, i));

@@ -1,3 +1,5 @@
+//! The rules of the eviction counter and of the keys.
+
 ghost use Rattle.std.specs.Prelude.{◌≡◌, ◌<◌, ◌^◌, ◌==◌, ◌||◌, not, nat_lt, length};
 ghost use Rattle.std.specs.List.{flat_map};
 ghost use Rattle.ob_base.specs.Layout.{checkpoint_len};
@@ -46,7 +48,8 @@ fn check_entry(p: &Params, bytes: &[u8], k: u32) -> Option<Broken>
 // Tests what is kept of each key.
 pub fn check_entries(p: &Params, bytes: &[u8]) -> Option<Broken>
     requires { length bytes.now ≡ checkpoint_len p.now }
-    ensures { rule_of result ≡ first_broken (flat_map (entry_rules p.now bytes.now) (below p.now.keys)) }
+    ensures { rule_of result
+        ≡ first_broken (flat_map (entry_rules p.now bytes.now) (below p.now.keys)) }
 {
     for k in 0..p.keys {
         match check_entry(p, bytes, k) {

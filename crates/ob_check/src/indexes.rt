@@ -1,10 +1,12 @@
-ghost use Rattle.std.specs.Prelude.{◌≡◌, ◌<◌, ◌≤◌, ◌+◌, ℕ, List, length, IfNone};
+//! The rules of a bucket's home, slots and marks.
+
+ghost use Rattle.std.specs.Prelude.{◌≡◌, ◌<◌, ◌≤◌, ◌+◌, ◌∷◌, [], ℕ, List, length};
 ghost use Rattle.std.specs.List.{flat_map};
 ghost use Rattle.ob_base.specs.Layout.{checkpoint_len};
 ghost use Rattle.ob_base.specs.Tree.{below, buckets, width};
 ghost use Rattle.ob_check.specs.Fields.{rank_in, mark_in};
 ghost use Rattle.ob_cells.specs.Rules.{first_broken};
-ghost use Rattle.ob_check.specs.Rules.{home_rules, holds_key, index_rules, may_mark, ranks_in, shown_in};
+ghost use Rattle.ob_check.specs.Rules.{home_rules, holds_key, index_rules, least_rank, may_mark, may_rank, ranks_in, shown_in};
 ghost use Rattle.ob_check.specs.Marks.{AreMarked, rule_of};
 
 use crate::broken::{Broken, check, first};
@@ -53,6 +55,28 @@ fn may_mark(p: &Params, holds: bool, shown: u32, mark: u8) -> bool
     shown + 1 < p.dummies
 }
 
+// Tests a rank, where the marked ones are taken.
+fn check_rank(p: &Params, place: usize, taken: &[bool], rank: u8) -> Option<Broken>
+    requires { width p.now ≤ length taken.now }
+    ensures { (n : ℕ) (xs : List ℕ) → width p.now ≤ n → AreMarked n taken.now xs
+        → rule_of result
+        ≡ first_broken (record {
+          place = place;
+          kept = rank;
+          obeys = may_rank p.now xs rank;
+          least = least_rank p.now xs;
+        } ∷ []) }
+{
+    if may_rank(p, taken, rank) {
+        return None;
+    }
+    Some(Broken {
+        place,
+        kept: rank as u64,
+        least: least_rank(p, taken),
+    })
+}
+
 // Tests an index of a bucket, where these ranks are taken, and so many indexes before it were shown.
 fn check_index(
     p: &Params,
@@ -73,12 +97,7 @@ fn check_index(
     let place = index_place(p, u, i);
     let rank = bytes[place];
     let mark = bytes[place + 1];
-    let one = check(
-        place,
-        rank as u64,
-        may_rank(p, taken, rank),
-        least_rank(p, taken),
-    );
+    let one = check_rank(p, place, taken, rank);
     let marks = may_mark(p, holds_key(p, bytes, u, i), shown, mark);
     let other = check(place + 1, mark as u64, marks, 0);
     first(one, other)
@@ -116,7 +135,8 @@ pub fn check_indexes(p: &Params, bytes: &[u8], u: u32, taken: &mut [bool]) -> Op
     requires u { u < buckets p.now }
     requires long { length bytes.now ≡ checkpoint_len p.now }
     requires taken { AreMarked 48 taken.old (ranks_in p.now bytes.now u 0) }
-    ensures { rule_of result ≡ first_broken (flat_map (index_rules p.now bytes.now u) (below (width p.now))) }
+    ensures { rule_of result
+        ≡ first_broken (flat_map (index_rules p.now bytes.now u) (below (width p.now))) }
 {
     let mut shown = 0;
     for i in 0..p.real + p.dummies {

@@ -1,3 +1,5 @@
+//! The rules of the keys that lie in a bucket.
+
 ghost use Rattle.std.specs.Prelude.{◌≡◌, ◌<◌, ◌≤◌, ◌+◌, ◌^◌, ℕ, List, length, IfNone};
 ghost use Rattle.std.specs.List.{flat_map};
 ghost use Rattle.ob_base.specs.Layout.{checkpoint_len};
@@ -15,13 +17,13 @@ use ob_base::{Params, bucket_of, u32_at};
 // The number that stands for a real index without a key.
 pub const EMPTY: u32 = 0xFFFF_FFFF;
 
-// Whether the path of a leaf passes a bucket.
+// Whether the path of a leaf passes a bucket. Most keys lie near the leaves.
 fn passes(p: &Params, u: u32, leaf: u32) -> bool
     requires { leaf < 2 ^ p.now.levels }
     ensures { result ≡ passes p.now u leaf }
 {
-    for level in 0..p.levels + 1 {
-        if bucket_of(p, level, leaf) == u {
+    for above in 0..p.levels + 1 {
+        if bucket_of(p, p.levels - above, leaf) == u {
             return true;
         }
     }
@@ -34,7 +36,8 @@ fn may_lie(p: &Params, bytes: &[u8], u: u32, placed: &[bool], k: u32) -> bool
     requires long { length bytes.now ≡ checkpoint_len p.now }
     requires leaves { HaveLeaves p.now bytes.now }
     requires room { length placed.now ≡ p.now.keys }
-    ensures { (xs : List ℕ) → AreMarked p.now.keys placed.now xs → result ≡ may_lie p.now bytes.now u xs k }
+    ensures { (xs : List ℕ) → AreMarked p.now.keys placed.now xs
+        → result ≡ may_lie p.now bytes.now u xs k }
 {
     let at = entry_place(p, k);
     if bytes[at] != 1 {
@@ -51,7 +54,8 @@ fn least_key(p: &Params, bytes: &[u8], u: u32, placed: &[bool]) -> u32
     requires long { length bytes.now ≡ checkpoint_len p.now }
     requires leaves { HaveLeaves p.now bytes.now }
     requires room { length placed.now ≡ p.now.keys }
-    ensures { (xs : List ℕ) → AreMarked p.now.keys placed.now xs → result ≡ least_key p.now bytes.now u xs }
+    ensures { (xs : List ℕ) → AreMarked p.now.keys placed.now xs
+        → result ≡ least_key p.now bytes.now u xs }
 {
     for k in 0..p.keys {
         if may_lie(p, bytes, u, placed, k) {
@@ -66,7 +70,8 @@ fn may_stand(p: &Params, bytes: &[u8], u: u32, placed: &[bool], number: u32) -> 
     requires long { length bytes.now ≡ checkpoint_len p.now }
     requires leaves { HaveLeaves p.now bytes.now }
     requires room { length placed.now ≡ p.now.keys }
-    ensures { (xs : List ℕ) → AreMarked p.now.keys placed.now xs → result ≡ may_stand p.now bytes.now u xs number }
+    ensures { (xs : List ℕ) → AreMarked p.now.keys placed.now xs
+        → result ≡ may_stand p.now bytes.now u xs number }
 {
     if number == EMPTY {
         return true;
@@ -85,7 +90,8 @@ fn check_key(p: &Params, bytes: &[u8], u: u32, placed: &mut [bool], j: u32) -> O
     requires leaves { HaveLeaves p.now bytes.now }
     requires marked { AreMarked p.now.keys placed.old (placed_before p.now bytes.now u j) }
     ensures rule { rule_of result ≡ first_broken (key_rules p.now bytes.now u j) }
-    ensures marks { IfNone result (AreMarked p.now.keys placed.new (placed_before p.now bytes.now u (j + 1))) }
+    ensures marks { IfNone result
+        (AreMarked p.now.keys placed.new (placed_before p.now bytes.now u (j + 1))) }
 {
     let place = key_place(p, u, j);
     let number = u32_at(bytes, place);
@@ -106,8 +112,10 @@ pub fn check_keys(p: &Params, bytes: &[u8], u: u32, placed: &mut [bool]) -> Opti
     requires long { length bytes.now ≡ checkpoint_len p.now }
     requires leaves { HaveLeaves p.now bytes.now }
     requires marked { AreMarked p.now.keys placed.old (placed_in p.now bytes.now u) }
-    ensures rule { rule_of result ≡ first_broken (flat_map (key_rules p.now bytes.now u) (below p.now.real)) }
-    ensures marks { IfNone result (AreMarked p.now.keys placed.new (placed_in p.now bytes.now (u + 1))) }
+    ensures rule { rule_of result
+        ≡ first_broken (flat_map (key_rules p.now bytes.now u) (below p.now.real)) }
+    ensures marks { IfNone result
+        (AreMarked p.now.keys placed.new (placed_in p.now bytes.now (u + 1))) }
 {
     for j in 0..p.real {
         match check_key(p, bytes, u, placed, j) {

@@ -1,3 +1,5 @@
+//! What was written is read again.
+
 ghost use Rattle.ob_check.specs.ReadBack.{ReadsBack};
 
 /// What was written is read again: where an epoch's area holds a content that obeys the rules, a

@@ -1,3 +1,5 @@
+//! Marks of the keys and slots that were met before.
+
 ghost use Rattle.std.specs.Prelude.{◌≡◌, ◌<◌, ◌≤◌, ◌∷◌, ◌++◌, [], ℕ, List, true, not, length, replicate, false, unwrap_or};
 ghost use Rattle.std.specs.List.{find};
 ghost use Rattle.ob_base.specs.Tree.{below, width};
@@ -8,7 +10,8 @@ use ob_base::Params;
 
 // Marks a number, if there is room for it.
 pub fn mark(marks: &mut [bool], number: u32)
-    ensures { (n : ℕ) (xs : List ℕ) → AreMarked n marks.old xs → AreMarked n marks.new (xs ++ number ∷ []) }
+    ensures { (n : ℕ) (xs : List ℕ) → AreMarked n marks.old xs
+        → AreMarked n marks.new (xs ++ number ∷ []) }
 {
     if (number as usize) < marks.len() {
         marks[number as usize] = true;
@@ -18,7 +21,8 @@ pub fn mark(marks: &mut [bool], number: u32)
 // Whether an index may have a rank, where the marked ones are taken.
 pub fn may_rank(p: &Params, taken: &[bool], rank: u8) -> bool
     requires { width p.now ≤ length taken.now }
-    ensures { (n : ℕ) (xs : List ℕ) → width p.now ≤ n → AreMarked n taken.now xs → result ≡ may_rank p.now xs rank }
+    ensures { (n : ℕ) (xs : List ℕ) → width p.now ≤ n → AreMarked n taken.now xs
+        → result ≡ may_rank p.now xs rank }
 {
     if rank as u32 >= p.real + p.dummies {
         return false;
@@ -29,7 +33,8 @@ pub fn may_rank(p: &Params, taken: &[bool], rank: u8) -> bool
 // The least rank that isn't marked.
 pub fn least_rank(p: &Params, taken: &[bool]) -> u64
     requires { width p.now ≤ length taken.now }
-    ensures { (n : ℕ) (xs : List ℕ) → width p.now ≤ n → AreMarked n taken.now xs → result ≡ least_rank p.now xs }
+    ensures { (n : ℕ) (xs : List ℕ) → width p.now ≤ n → AreMarked n taken.now xs
+        → result ≡ least_rank p.now xs }
 {
     for rank in 0..(p.real + p.dummies) as usize {
         if !taken[rank] {

@@ -1,3 +1,5 @@
+//! Where the fields of a checkpoint lie in its bytes.
+
 ghost use Rattle.std.specs.Prelude.{◌≡◌, ◌<◌, ◌≤◌, ◌+◌, ◌*◌, ◌^◌};
 ghost use Rattle.ob_base.specs.Layout.{checkpoint_len, meta_len};
 ghost use Rattle.ob_base.specs.Tree.{buckets, width};

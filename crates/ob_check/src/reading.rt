@@ -1,11 +1,17 @@
-ghost use Rattle.std.specs.Prelude.{◌≡◌, ◌*◌, length, IfErr, IfOk, replicate, false};
+//! Reading a checkpoint.
+
+ghost use Rattle.std.specs.Prelude.{◌≡◌, ◌*◌, length, Err, IfErr, IfOk, replicate, false};
+ghost use Rattle.ob_base.specs.declared.fault.Fault.TheVariants as fault;
 ghost use Rattle.ob_base.specs.Layout.{checkpoint_cells};
-ghost use Rattle.ob_cells.specs.Orders.{read_notes};
+ghost use Rattle.ob_bucket.specs.Buckets.{Buckets};
+ghost use Rattle.ob_cells.specs.Orders.{run_reads, reads_of};
 ghost use Rattle.ob_content.specs.Content.{Obeys, content_of};
 ghost use Rattle.ob_store.specs.Calls.{IsStoreFault, Keeps, Serves};
 ghost use Rattle.ob_store.specs.Images.{Passes, Same};
+ghost use Rattle.ob_store.specs.Told.{Does};
+ghost use Rattle.ob_tables.specs.declared.tables.Tables.{Tables};
 ghost use Rattle.ob_check.specs.Fresh.{AreFresh, AreIdle};
-ghost use Rattle.ob_check.specs.ReadBack.{IsCheckFault, IsCheckRead, IsReadFault, ReadDoes};
+ghost use Rattle.ob_check.specs.ReadBack.{IsCheckFault, IsCheckRead, IsContentRead, IsCheckReadFault, IsReadFrom};
 ghost use Rattle.ob_check.specs.Written.{area_of};
 
 use crate::accepting::accept;
@@ -53,12 +59,15 @@ fn read_into<S: Store, W: Watch>(
     requires fresh { AreFresh p.now tables }
     requires placed { placed.old ≡ replicate p.now.keys false }
     ensures serves { Serves IsStoreFault (S.disk store.old) (S.disk store.new) result }
-    ensures value { (S.disk store.old).tells → IsCheckRead sealer.now.keys p.now epoch (S.disk store.old).cells result }
-    ensures faults { IfErr result IsReadFault }
+    ensures value { (S.disk store.old).tells
+        → IsCheckRead sealer.now.keys p.now epoch (S.disk store.old).cells result }
+    ensures faults { IfErr result (IsCheckReadFault p.now epoch) }
     ensures obeys { IfOk result (λ t. Obeys p.now (content_of t) × AreIdle p.now t) }
     ensures keeps { Keeps (S.disk store.old) (S.disk store.new) }
     ensures passes { Passes Same (S.disk store.old) (S.disk store.new) }
-    ensures does { ReadDoes (read_notes (area_of p.now epoch) (checkpoint_cells p.now)) (S.disk store.old).seen (S.disk store.new).seen (W.trace watch.old) (W.trace watch.new) result }
+    ensures does { Does (run_reads (area_of p.now epoch) (checkpoint_cells p.now) result)
+        (S.disk store.old).seen (S.disk store.new).seen (W.trace watch.old) (W.trace watch.new)
+        (reads_of result) }
     ensures sheet { length sheet.new ≡ length sheet.old }
 {
     let base = area_of(p, epoch);
@@ -95,12 +104,19 @@ pub fn read<S: Store, W: Watch>(
 ) -> Result<Tables<Metas>, Fault>
     requires sheet { length sheet.old ≡ 96 * checkpoint_cells p.now }
     ensures serves { Serves IsStoreFault (S.disk store.old) (S.disk store.new) result }
-    ensures value { (S.disk store.old).tells → IsCheckRead sealer.now.keys p.now epoch (S.disk store.old).cells result }
-    ensures faults { IfErr result IsCheckFault }
+    ensures value { (S.disk store.old).tells
+        → IsCheckRead sealer.now.keys p.now epoch (S.disk store.old).cells result }
+    ensures faults { IfErr result (IsCheckFault p.now epoch) }
+    ensures accepted { (t : Tables Buckets) → (S.disk store.old).tells
+        → IsReadFrom sealer.now.keys p.now epoch (S.disk store.old).cells t
+        → IsContentRead (content_of t) result }
+    ensures memory { result ≡ Err fault.Memory → (store.new ≡ store.old) × (watch.new ≡ watch.old) }
     ensures obeys { IfOk result (λ t. Obeys p.now (content_of t) × AreIdle p.now t) }
     ensures keeps { Keeps (S.disk store.old) (S.disk store.new) }
     ensures passes { Passes Same (S.disk store.old) (S.disk store.new) }
-    ensures does { ReadDoes (read_notes (area_of p.now epoch) (checkpoint_cells p.now)) (S.disk store.old).seen (S.disk store.new).seen (W.trace watch.old) (W.trace watch.new) result }
+    ensures does { Does (run_reads (area_of p.now epoch) (checkpoint_cells p.now) result)
+        (S.disk store.old).seen (S.disk store.new).seen (W.trace watch.old) (W.trace watch.new)
+        (reads_of result) }
     ensures sheet { length sheet.new ≡ length sheet.old }
 {
     let tables = match fresh_tables(alloc, p) {

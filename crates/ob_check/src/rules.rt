@@ -1,3 +1,5 @@
+//! All rules of a checkpoint, in the order of its bytes.
+
 ghost use Rattle.std.specs.Prelude.{◌≡◌, ◌≤◌, length, IfNone};
 ghost use Rattle.ob_base.specs.Layout.{checkpoint_len};
 ghost use Rattle.ob_base.specs.Tree.{buckets};

@@ -1,10 +1,9 @@
+//! Room for the plain bytes of a checkpoint.
+
 ghost use Rattle.std.specs.Prelude.{◌≡◌, ◌+◌, ◌*◌, ◌/◌, ◌%◌, ◌^◌, ◌<◌, ◌≤◌, IfErr, IfOk, length, take};
-ghost use Rattle.ob_cells.specs.Orders.{read_notes};
-ghost use Rattle.ob_cells.specs.Reads.{IsCellFault, IsRunRead};
-ghost use Rattle.ob_cells.specs.Runs.{run_at};
+ghost use Rattle.ob_cells.specs.Reads.{ReadsRun};
 ghost use Rattle.ob_store.specs.Calls.{IsStoreFault, Keeps, Serves};
 ghost use Rattle.ob_store.specs.Images.{Passes, Same};
-ghost use Rattle.ob_store.specs.Told.{Does};
 ghost use Rattle.ob_base.specs.Layout.{checkpoint_cells, checkpoint_len};
 ghost use Rattle.ob_content.specs.Content.{Obeys, content_of};
 ghost use Rattle.ob_content.specs.Spelling.{checkpoint_bytes};
@@ -52,7 +51,8 @@ impl Sheet {
     pub(crate) fn spell(&mut self, p: &Params, epoch: u64, tables: &Tables<Metas>)
         requires long { length self.old ≡ 96 * checkpoint_cells p.now }
         requires obeys { Obeys p.now (content_of tables.now) }
-        ensures spelled { take (checkpoint_len p.now) self.new ≡ checkpoint_bytes p.now epoch (content_of tables.now) }
+        ensures spelled { take (checkpoint_len p.now) self.new
+            ≡ checkpoint_bytes p.now epoch (content_of tables.now) }
         ensures long { length self.new ≡ length self.old }
     {
         let len = checkpoint_len(p) as usize;
@@ -71,11 +71,11 @@ impl Sheet {
         requires whole { length self.old % 96 ≡ 0 }
         requires fits { base + length self.old / 96 < 2 ^ 64 }
         ensures serves { Serves IsStoreFault (S.disk store.old) (S.disk store.new) result }
-        ensures value { (S.disk store.old).tells → IsRunRead sealer.now.keys base (length self.old / 96) (run_at base (S.disk store.old).cells) self.new result }
-        ensures faults { IfErr result IsCellFault }
+        ensures run { ReadsRun sealer.now.keys base (length self.old / 96) (S.disk store.old)
+            self.new (S.disk store.old).seen (S.disk store.new).seen (W.trace watch.old)
+            (W.trace watch.new) result }
         ensures keeps { Keeps (S.disk store.old) (S.disk store.new) }
         ensures passes { Passes Same (S.disk store.old) (S.disk store.new) }
-        ensures does { Does (read_notes base (length self.old / 96)) (S.disk store.old).seen (S.disk store.new).seen (W.trace watch.old) (W.trace watch.new) result }
         ensures long { length self.new ≡ length self.old }
     {
         read_sealed(store, sealer, base, self.bytes.as_mut_slice(), watch)

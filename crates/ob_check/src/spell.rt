@@ -1,3 +1,5 @@
+//! The bytes of a checkpoint, spelled.
+
 ghost use Rattle.std.specs.Prelude.{◌≡◌, ◌≤◌, ◌<◌, ◌+◌, ◌*◌, ◌^◌, length, replicate, ℕ, List, Some};
 ghost use Rattle.std.specs.List.{flat_map};
 ghost use Rattle.std.specs.FinMap as finite;
@@ -76,8 +78,10 @@ fn put_meta(out: &mut [u8], at: usize, len: usize, meta: &Meta)
 fn put_metas(p: &Params, out: &mut [u8], metas: &Metas)
     requires long { length out.old ≡ checkpoint_len p.now }
     requires many { length metas.now.versions ≡ buckets p.now }
-    requires slots { (u : ℕ) → u < buckets p.now → HasSlots p.now (version_at metas.now.versions u) }
-    ensures { out.new ≡ with_part out.old (bucket_place p.now 0) (flat_map version_bytes metas.now.versions) }
+    requires slots { (u : ℕ) → u < buckets p.now
+        → HasSlots p.now (version_at metas.now.versions u) }
+    ensures { out.new
+        ≡ with_part out.old (bucket_place p.now 0) (flat_map version_bytes metas.now.versions) }
 {
     let len = meta_len(p) as usize;
     for u in 0..buckets(p) {
@@ -90,7 +94,9 @@ fn put_rows(p: &Params, out: &mut [u8], stash: &Stash)
     requires long { length out.old ≡ checkpoint_len p.now }
     requires few { finite.len stash.now.rows ≤ p.now.room }
     requires short { (k : ℕ) (v : List ℕ) → finite.get stash.now.rows k ≡ Some v → length v ≤ 64 }
-    ensures { out.new ≡ with_part out.old (row_place p.now 0) (flat_map row_bytes (finite.entries stash.now.rows)) }
+    ensures { out.new
+        ≡ with_part out.old (row_place p.now 0)
+        (flat_map row_bytes (finite.entries stash.now.rows)) }
 {
     for i in 0..stash.len() {
         let (key, value) = stash.row(i);

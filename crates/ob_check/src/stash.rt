@@ -1,3 +1,5 @@
+//! The rules of the stash's count and rows.
+
 ghost use Rattle.std.specs.Prelude.{◌≡◌, ◌<◌, ◌≤◌, ◌+◌, length, filter, slice_index, MatchResult, None, Some};
 ghost use Rattle.std.specs.List.{flat_map};
 ghost use Rattle.ob_base.specs.Layout.{checkpoint_len};
@@ -90,8 +92,11 @@ fn check_key_row(p: &Params, bytes: &[u8], placed: &[bool], k: u32, i: u32) -> R
     requires rows { i ≡ length (filter (is_loose p.now bytes.now) (below k)) }
     requires kept { first_broken (flat_map (row_rules p.now bytes.now) (below i)) ≡ None }
     ensures { MatchResult result
-        (λ n. (n ≡ length (filter (is_loose p.now bytes.now) (below (k + 1)))) × (first_broken (flat_map (row_rules p.now bytes.now) (below n)) ≡ None))
-        (λ b. rule_of (Some b) ≡ first_broken (flat_map (row_rules p.now bytes.now) (below (length (loose_keys p.now bytes.now))))) }
+        (λ n. (n ≡ length (filter (is_loose p.now bytes.now) (below (k + 1))))
+        × (first_broken (flat_map (row_rules p.now bytes.now) (below n)) ≡ None))
+        (λ b. rule_of (Some b)
+        ≡ first_broken (flat_map (row_rules p.now bytes.now)
+        (below (length (loose_keys p.now bytes.now))))) }
 {
     if !is_loose(p, bytes, placed, k) {
         return Ok(i);
@@ -107,7 +112,9 @@ pub fn check_rows(p: &Params, bytes: &[u8], placed: &[bool]) -> Option<Broken>
     requires long { length bytes.now ≡ checkpoint_len p.now }
     requires marked { AreMarked p.now.keys placed.now (placed_in p.now bytes.now (buckets p.now)) }
     requires few { length (loose_keys p.now bytes.now) ≤ p.now.room }
-    ensures { rule_of result ≡ first_broken (flat_map (row_rules p.now bytes.now) (below (length (loose_keys p.now bytes.now)))) }
+    ensures { rule_of result
+        ≡ first_broken (flat_map (row_rules p.now bytes.now)
+        (below (length (loose_keys p.now bytes.now)))) }
 {
     let mut i = 0;
     for k in 0..p.keys {

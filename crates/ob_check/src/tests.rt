@@ -1,3 +1,5 @@
+//! Checkpoints against cells that were made elsewhere, and each rule broken once.
+
 ghost use Rattle.std.specs.Prelude.{◌≡◌, ◌<◌, IfOk};
 ghost use Rattle.ob_base.specs.Tree.{buckets};
 ghost use Rattle.ob_content.specs.Content.{Obeys, content_of};
@@ -5,7 +7,9 @@ ghost use Rattle.ob_content.specs.Content.{Obeys, content_of};
 use crate::writing::area_of;
 use crate::{Sheet, read, write};
 use hex::FromHex;
-use ob_base::{Check, Fault, Params, bucket_of, buckets, cells, checkpoint_cells, checkpoint_len};
+use ob_base::{
+    Check, Fault, Params, bucket_of, buckets, checkpoint_cells, checkpoint_len, ring_cells,
+};
 use ob_bucket::{Meta, Metas};
 use ob_cells::{Cut, read_sealed, write_sealed};
 use ob_mem::{Fail, MemSink, MemStore};
@@ -100,7 +104,9 @@ fn store_with(
 fn sealed(rt: &impl Abort, alloc: Global, p: &Params, epoch: u64, plain: &[u8]) -> MemStore
     ensures { result.log.out ≡ 0 }
 {
-    let mut store = MemStore::new(alloc, cells(p) as usize, Vec::new(alloc)).expect(rt, "memory");
+    let mut store = MemStore::new(alloc, ring_cells(p) as usize, Vec::new(alloc)).expect(
+        rt, "memory",
+    );
     let mut sealer = Sealer::new(&test_keys(), 2);
     let base = area_of(p, epoch);
     let cut = Cut { bytes: plain };
@@ -136,7 +142,9 @@ fn written(
     requires { Obeys p.now (content_of tables.now) }
     ensures { result.log.out ≡ 0 }
 {
-    let mut store = MemStore::new(alloc, cells(p) as usize, Vec::new(alloc)).expect(rt, "memory");
+    let mut store = MemStore::new(alloc, ring_cells(p) as usize, Vec::new(alloc)).expect(
+        rt, "memory",
+    );
     let mut sheet = Sheet::new(alloc, p).expect(rt, "memory");
     assert!(rt; epoch < 1 << 60);
     assert!(rt; write(&mut store, sealer, p, epoch, tables, &mut sheet, &mut Blind).is_ok());

@@ -1,3 +1,5 @@
+//! Writing a checkpoint.
+
 ghost use Rattle.std.specs.Prelude.{◌≡◌, ◌<◌, ◌≤◌, ◌+◌, ◌*◌, ◌^◌, length, OnOk};
 ghost use Rattle.ob_base.specs.Layout.{checkpoint_cells};
 ghost use Rattle.ob_store.specs.Images.{SameOff, Passes};
@@ -6,7 +8,7 @@ ghost use Rattle.ob_store.specs.Runs.{write_notes};
 ghost use Rattle.ob_store.specs.Told.{Does};
 ghost use Rattle.ob_cells.specs.Runs.{IsFurther};
 ghost use Rattle.ob_content.specs.Content.{Obeys, content_of};
-ghost use Rattle.ob_check.specs.Written.{AreWriteFaults, HoldsCheckpoint, IsWornFor, area_of};
+ghost use Rattle.ob_check.specs.Written.{AreWriteFaults, HoldsCheckpointFrom, IsWornFor, area_of};
 
 use crate::sheet::Sheet;
 use ob_base::{Failed, Fault, NUMBER_LIMIT, Params, check_cell, checkpoint_cells, checkpoint_len};
@@ -46,14 +48,23 @@ pub fn write<S: Store, W: Watch>(
     requires epoch { epoch < 2 ^ 62 }
     requires sheet { length sheet.old ≡ 96 * checkpoint_cells p.now }
     ensures serves { Serves IsStoreFault (S.disk store.old) (S.disk store.new) result }
-    ensures written { (S.disk store.old).tells → OnOk result (HoldsCheckpoint sealer.old.keys p.now epoch (content_of tables.now) sealer.old.generation sealer.old.next (S.disk store.new).cells) }
-    ensures sealed { OnOk result (sealer.new ≡ record sealer.old { next = sealer.old.next + checkpoint_cells p.now }) }
+    ensures written { (S.disk store.old).tells
+        → OnOk result (HoldsCheckpointFrom sealer.old.keys p.now epoch (content_of tables.now)
+        sealer.old.generation sealer.old.next (S.disk store.new).cells) }
+    ensures sealed { OnOk result (sealer.new
+        ≡ record sealer.old { next = sealer.old.next + checkpoint_cells p.now }) }
     ensures some_sealed { IsFurther (checkpoint_cells p.now) sealer.old sealer.new }
     ensures faults { AreWriteFaults p.now sealer.old.next result }
-    ensures after_worn { IsWornFor p.now sealer.old.next → (store.new ≡ store.old) × (sealer.new ≡ sealer.old) × (watch.new ≡ watch.old) }
-    ensures rest { (S.disk store.old).tells → SameOff (area_of p.now epoch) (checkpoint_cells p.now) (S.disk store.new).cells (S.disk store.old).cells }
-    ensures passes { Passes (SameOff (area_of p.now epoch) (checkpoint_cells p.now)) (S.disk store.old) (S.disk store.new) }
-    ensures does { Does (write_notes (area_of p.now epoch) (checkpoint_cells p.now)) (S.disk store.old).seen (S.disk store.new).seen (W.trace watch.old) (W.trace watch.new) result }
+    ensures after_worn { IsWornFor p.now sealer.old.next → (store.new ≡ store.old)
+        × (sealer.new ≡ sealer.old) × (watch.new ≡ watch.old) }
+    ensures rest { (S.disk store.old).tells
+        → SameOff (area_of p.now epoch) (checkpoint_cells p.now) (S.disk store.new).cells
+        (S.disk store.old).cells }
+    ensures passes { Passes (SameOff (area_of p.now epoch) (checkpoint_cells p.now))
+        (S.disk store.old) (S.disk store.new) }
+    ensures does { Does (write_notes (area_of p.now epoch) (checkpoint_cells p.now))
+        (S.disk store.old).seen (S.disk store.new).seen (W.trace watch.old) (W.trace watch.new)
+        result }
     ensures sheet { length sheet.new ≡ length sheet.old }
 {
     let many = checkpoint_cells(p);

@@ -1,5 +1,5 @@
 -- What a look and what is done at it make: one thing that the driver does.
-use Rattle.std.proofs.Common.{◌≡◌, ◌∙◌, ◌⊎◌, ◌+◌, ℕ, suc, Bool, All, List, [], ◌∷◌, ◌++◌, length, map, Option, None, Some, Err, Result, OnOk, IfErr, Ok, refl, sym, ap, subst, inl, inr, arith, nat_cmp, decimal}
+use Rattle.std.proofs.Common.{◌≡◌, ◌∙◌, ◌⊎◌, ◌+◌, ◌<◌, ℕ, zero, suc, true, All, List, [], ◌∷◌, ◌++◌, length, Option, None, Some, Err, Result, OnOk, IfErr, Ok, refl, sym, ap, subst, inl, inr, arith, decimal}
 use Rattle.std.proofs.lemmas.List.{append-nil, take_all}
 use Rattle.std.proofs.lemmas.List.Elements.{All-nil, All-cons}
 use Rattle.std.proofs.lemmas.Option.{none-some, same_Some}
@@ -8,8 +8,10 @@ use Rattle.ob_base.specs.declared.fault.Fault.{Fault}
 use Rattle.ob_base.specs.declared.fault.Fault.TheVariants.{Memory, SinkFault}
 use Rattle.ob_base.specs.declared.params.Params.{Params}
 use Rattle.ob_store.specs.Calls.{IsStoreFault}
+use Rattle.ob_store.proofs.Serving.{rose_later}
 use Rattle.ob_io.specs.Flows.{appended}
-use Rattle.ob_report.specs.Printed.{Flow, IsPrinted}
+use Rattle.ob_io.specs.Streams.{Flow}
+use Rattle.ob_report.specs.Printed.{IsPrinted}
 use Rattle.ob_report.specs.Report.{report, record_text}
 use Rattle.ob_serial.specs.Serial.{EpochRecord}
 use Rattle.ob_serial.specs.Vaults.{VaultCall, Fetch, End, VaultAnswer, Ended, RefusedBy, VaultCounts}
@@ -20,23 +22,25 @@ use Rattle.ob_serial.specs.declared.vault.EndErr.TheVariants.{Before, Unsure}
 use Rattle.ob_desk.specs.Desk as desk
 use Rattle.ob_desk.specs.Desk.{DeskState, Call, Reply, published, look_at, record_of}
 use Rattle.ob_desk.specs.declared.calls.Look.{Look}
+use Rattle.ob_desk.specs.Beats.{BeatKind}
 use Rattle.ob_session.specs.Clients.{said_by}
-use Rattle.ob_conduct.specs.Acts.{Act, Halts, Rests, Takes, Delivers, DeliverFails, FetchFails, Closes, Publishes, Refuses, Unprinted, Batch, history, calls, records, desk_calls, vault_calls, look_calls, rest_calls, rest_fetches, close_calls, publish_calls, stop_calls, stop_for, MayAct, IsToFetch, IsToEnd, IsAllowed}
-use Rattle.ob_conduct.specs.Scenes.{Scene, scene}
+use Rattle.ob_conduct.specs.Acts.{Act, Halts, Rests, Takes, Delivers, DeliverFails, FetchFails, Closes, Publishes, Refuses, Unprinted, Batch, history, calls, records, desk_calls, vault_calls}
+use Rattle.ob_conduct.specs.Acts.{look_calls, rest_calls, rest_fetches, close_calls, publish_calls, stop_calls, stop_for, MayAct, PassesTest, MayRest, IsToFetch, IsToEnd, IsAllowed}
+use Rattle.ob_conduct.specs.Scenes.{Scene}
 use Rattle.ob_conduct.specs.Records.{AreAnswered, IsWritten}
-use Rattle.ob_conduct.specs.Ready.{IsReady, IsOrdered, Tells, IsDue}
-use Rattle.ob_conduct.specs.Moves.{Moves, Reads, ReadFails, IsClosed, IsEnded, EndFails, Acted, ActFails}
-use Rattle.ob_conduct.proofs.Moving.{moves_join, moves_one, looked, later, rose_since}
+use Rattle.ob_conduct.specs.Ready.{IsBetweenActs, IsOrdered, TellsEpochs, IsDueRecord}
+use Rattle.ob_conduct.specs.Moves.{Moves, ReadsBatches, ReadFails, IsClosed, IsEnded, EndFails, Acted, ActFails}
+use Rattle.ob_conduct.proofs.Moving.{moves_join, moves_one, looked, later}
 
 -- ---- nothing told, and one record
 
-pub tells_none : (epoch next : ℕ) → next ≡ epoch → Tells epoch next [] []
+pub tells_none : (epoch next : ℕ) → next ≡ epoch → TellsEpochs epoch next [] []
 tells_none epoch next is = record { counted = is ∙ none epoch; numbered = refl; ordered = All-nil _; written = tt }
   where
     none : (n : ℕ) → n ≡ n + 0
     none n = omega arith
 
-pub tells_one : (epoch next : ℕ) (writes : List (ℕ × Option (List ℕ))) (told : EpochRecord ℕ) → IsDue epoch writes told → next ≡ suc epoch → Tells epoch next (writes ∷ []) (told ∷ [])
+pub tells_one : (epoch next : ℕ) (writes : List (ℕ × Option (List ℕ))) (told : EpochRecord ℕ) → IsDueRecord epoch writes told → next ≡ suc epoch → TellsEpochs epoch next (writes ∷ []) (told ∷ [])
 tells_one epoch next writes told due is = record {
   counted = is ∙ one epoch;
   numbered = ap (λ n. n ∷ []) due.epoch_is;
@@ -48,8 +52,8 @@ tells_one epoch next writes told due is = record {
     one n = omega arith
 
 -- the same calls and records by other lists
-told_by : (epoch next : ℕ) (ws vs : List (List (ℕ × Option (List ℕ)))) (rs qs : List (EpochRecord ℕ)) → ws ≡ vs → rs ≡ qs → Tells epoch next vs qs → Tells epoch next ws rs
-told_by epoch next ws vs rs qs writes same t = subst (λ (xs : List (List (ℕ × Option (List ℕ)))). Tells epoch next xs rs) (sym writes) (subst (λ (ys : List (EpochRecord ℕ)). Tells epoch next vs ys) (sym same) t)
+told_by : (epoch next : ℕ) (ws vs : List (List (ℕ × Option (List ℕ)))) (rs qs : List (EpochRecord ℕ)) → ws ≡ vs → rs ≡ qs → TellsEpochs epoch next vs qs → TellsEpochs epoch next ws rs
+told_by epoch next ws vs rs qs writes same t = subst (λ (xs : List (List (ℕ × Option (List ℕ)))). TellsEpochs epoch next xs rs) (sym writes) (subst (λ (ys : List (EpochRecord ℕ)). TellsEpochs epoch next vs ys) (sym same) t)
 
 append_none : (b : Option (List ℕ)) → b ≡ appended b []
 append_none None = refl
@@ -113,15 +117,15 @@ if_err (Err e) P Q so holds = so e holds
 
 -- ---- one act, and two
 
-module _ (passes : ℕ → ℕ → ℕ → ℕ → Bool) where
-  all_one : (x : Act) → IsAllowed passes x → All (IsAllowed passes) (x ∷ [])
-  all_one x one = All-cons (IsAllowed passes) x [] one (All-nil _)
+module _ (beat : BeatKind) where
+  all_one : (x : Act) → IsAllowed beat x → All (IsAllowed beat) (x ∷ [])
+  all_one x one = All-cons (IsAllowed beat) x [] one (All-nil _)
 
-  all_two : (x y : Act) → IsAllowed passes x → IsAllowed passes y → All (IsAllowed passes) (x ∷ y ∷ [])
-  all_two x y one two = All-cons (IsAllowed passes) x (y ∷ []) one (all_one y two)
+  all_two : (x y : Act) → IsAllowed beat x → IsAllowed beat y → All (IsAllowed beat) (x ∷ y ∷ [])
+  all_two x y one two = All-cons (IsAllowed beat) x (y ∷ []) one (all_one y two)
 
-  all_three : (x y z : Act) → IsAllowed passes x → IsAllowed passes y → IsAllowed passes z → All (IsAllowed passes) (x ∷ y ∷ z ∷ [])
-  all_three x y z one two three = All-cons (IsAllowed passes) x (y ∷ z ∷ []) one (all_two y z two three)
+  all_three : (x y z : Act) → IsAllowed beat x → IsAllowed beat y → IsAllowed beat z → All (IsAllowed beat) (x ∷ y ∷ z ∷ [])
+  all_three x y z one two three = All-cons (IsAllowed beat) x (y ∷ z ∷ []) one (all_two y z two three)
 
 module _ {V : Type 0} (k : Kind V) where
   one_act : (a b : Scene V) (x : Act) → Moves k a (desk_calls x) (vault_calls x) b → Moves k a (history (x ∷ [])) (calls (x ∷ [])) b
@@ -136,7 +140,19 @@ module _ {V : Type 0} (k : Kind V) where
 
 -- ---- what is done at a look
 
-module _ {V : Type 0} (k : Kind V) (p : Params) (passes : ℕ → ℕ → ℕ → ℕ → Bool) (a : Scene V) (c : VaultCounts) (before : Flow) (look : Look) (r : IsReady p a.desk c) (none : a.desk.stop ≡ None) (seen : look ≡ look_at a.desk) where
+-- nothing is to be done at a look that isn't the last one
+pub still : (beat : BeatKind) (look : Look) → (look.clients ≡ 0 → 0 < look.txns) → (look.queued ≡ 0) ⊎ (look.left ≡ 0) → look.txns ≡ 0 → MayRest beat look
+still beat look not_over idle none = by look.clients refl
+  where
+    by : (n : ℕ) → look.clients ≡ n → MayRest beat look
+    by zero is = let some = not_over is in absurd (omega (arith, some, none))
+    by (suc n) is = inr (omega (arith, is), λ exact passed. (idle, none))
+
+-- and where an exact beat doesn't act
+pub undue : (beat : BeatKind) (look : Look) → 0 < look.clients → (beat.exact ≡ true → PassesTest beat look → ⊥) → MayRest beat look
+undue beat look some not = inr (some, λ exact passed. absurd (not exact passed))
+
+module _ {V : Type 0} (k : Kind V) (p : Params) (beat : BeatKind) (a : Scene V) (c : VaultCounts) (before : Flow) (look : Look) (r : IsBetweenActs p a.desk c) (none : a.desk.stop ≡ None) (seen : look ≡ look_at a.desk) where
   look_moves : Moves k a (look_calls look) [] a
   look_moves = looked k a look r.none_closed none seen
 
@@ -144,12 +160,13 @@ module _ {V : Type 0} (k : Kind V) (p : Params) (passes : ℕ → ℕ → ℕ �
   epoch = a.desk.running.epoch
 
   -- nothing was done
-  pub rested : (look.clients ≡ 0 → look.txns ≡ 0) → Acted k p passes a before a c before
+  pub rested : MayRest beat look → Acted k p beat a before a c before
   rested may = record {
     thing = Rests look ∷ [];
     one = tt;
-    allowed = all_one passes (Rests look) may;
+    allowed = all_one beat (Rests look) may;
     moves = one_act k a a (Rests look) look_moves;
+    driven = tt;
     quiet = λ client. refl;
     ready = r;
     answered = tt;
@@ -158,12 +175,13 @@ module _ {V : Type 0} (k : Kind V) (p : Params) (passes : ℕ → ℕ → ℕ �
   }
 
   -- a batch was fetched
-  pub fetched : (new : Scene V) (next : VaultCounts) (batch : Batch) → MayAct passes look → IsToFetch look → Reads k p a (batch ∷ []) new next → Acted k p passes a before new next before
+  pub fetched : (new : Scene V) (next : VaultCounts) (batch : Batch) → MayAct beat look → IsToFetch look → ReadsBatches k p a (batch ∷ []) new next → Acted k p beat a before new next before
   fetched new next batch may fetch read = record {
     thing = Takes look batch.keys ∷ Delivers batch ∷ [];
     one = refl;
-    allowed = all_two passes (Takes look batch.keys) (Delivers batch) (may, fetch) tt;
+    allowed = all_two beat (Takes look batch.keys) (Delivers batch) (may, fetch) tt;
     moves = moves_join k a a new (look_calls look) (rest_calls (batch ∷ [])) [] (rest_fetches (batch ∷ [])) look_moves read.moves;
+    driven = tt;
     quiet = λ client. refl;
     ready = read.ready;
     answered = tt;
@@ -172,12 +190,13 @@ module _ {V : Type 0} (k : Kind V) (p : Params) (passes : ℕ → ℕ → ℕ �
   }
 
   -- the vault refused it
-  pub unfetched : (new : Scene V) (fault : Fault) → MayAct passes look → IsToFetch look → ReadFails k a [] fault new → ActFails k passes a before fault new before
+  pub unfetched : (new : Scene V) (fault : Fault) → MayAct beat look → IsToFetch look → ReadFails k a [] fault new → ActFails k beat a before fault new before
   unfetched new fault may fetch f = record {
     thing = Takes look f.keys ∷ DeliverFails f.keys fault ∷ [];
     one = refl;
-    allowed = all_two passes (Takes look f.keys) (DeliverFails f.keys fault) (may, fetch) tt;
+    allowed = all_two beat (Takes look f.keys) (DeliverFails f.keys fault) (may, fetch) tt;
     moves = moves_join k a a new (look_calls look) ((desk.TakeBatch, desk.Batch f.keys) ∷ stop_calls fault) [] ((Fetch f.keys, RefusedBy fault) ∷ []) look_moves f.moves;
+    driven = tt;
     quiet = λ client. refl;
     next = epoch;
     told = tells_none epoch epoch refl;
@@ -196,12 +215,13 @@ module _ {V : Type 0} (k : Kind V) (p : Params) (passes : ℕ → ℕ → ℕ �
   }
 
   -- one of those before a close
-  pub unread : (new : Scene V) (batches : List Batch) (fault : Fault) → MayAct passes look → IsToEnd look → ReadFails k a batches fault new → ActFails k passes a before fault new before
+  pub unread : (new : Scene V) (batches : List Batch) (fault : Fault) → MayAct beat look → IsToEnd look → ReadFails k a batches fault new → ActFails k beat a before fault new before
   unread new batches fault may end f = record {
     thing = act ∷ [];
     one = tt;
-    allowed = all_one passes act (may, end);
+    allowed = all_one beat act (may, end);
     moves = one_act k a new act (moves_join k a a new (look_calls look) (rest_calls batches ++ (desk.TakeBatch, desk.Batch f.keys) ∷ stop_calls fault) [] (rest_fetches batches ++ (Fetch f.keys, RefusedBy fault) ∷ []) look_moves f.moves);
+    driven = tt;
     quiet = λ client. quiet_rest client batches ((desk.TakeBatch, desk.Batch f.keys) ∷ stop_calls fault) [];
     next = epoch;
     told = told_by epoch epoch (ended_of (calls (act ∷ []))) [] (records (act ∷ [])) [] (ended_rest_then batches ((Fetch f.keys, RefusedBy fault) ∷ []) []) tells (tells_none epoch epoch refl);
@@ -225,23 +245,24 @@ module _ {V : Type 0} (k : Kind V) (p : Params) (passes : ℕ → ℕ → ℕ �
       tells : records (FetchFails look batches f.keys fault ∷ []) ≡ []
       tells = published_rest batches ((desk.TakeBatch, desk.Batch f.keys) ∷ stop_calls fault) []
 
-  module _ (batches : List Batch) (mid : Scene V) (counts : VaultCounts) (read : Reads k p a batches mid counts) (may : MayAct passes look) (end : IsToEnd look) where
+  module _ (batches : List Batch) (mid : Scene V) (counts : VaultCounts) (read : ReadsBatches k p a batches mid counts) (may : MayAct beat look) (end : IsToEnd look) where
     -- the epoch was closed
     closing : (writes : List (ℕ × Option (List ℕ))) (shut : Scene V) → IsClosed k mid writes shut → Moves k a (desk_calls (Closes look batches writes)) (rest_fetches batches) shut
     closing writes shut closed = subst (λ (asked : List (VaultCall × VaultAnswer)). Moves k a (desk_calls (Closes look batches writes)) asked shut) (append-nil (rest_fetches batches))
         (moves_join k a a shut (look_calls look) (rest_calls batches ++ close_calls writes) [] (rest_fetches batches ++ []) look_moves
         (moves_join k a mid shut (rest_calls batches) (close_calls writes) (rest_fetches batches) [] read.moves closed.moves))
 
-    due_here : (writes : List (ℕ × Option (List ℕ))) (told : EpochRecord ℕ) → IsDue mid.desk.running.epoch writes told → IsDue epoch writes told
-    due_here writes told due = subst (λ n. IsDue n writes told) read.same_epoch due
+    due_here : (writes : List (ℕ × Option (List ℕ))) (told : EpochRecord ℕ) → IsDueRecord mid.desk.running.epoch writes told → IsDueRecord epoch writes told
+    due_here writes told due = subst (λ n. IsDueRecord n writes told) read.same_epoch due
 
     -- it was ended, and its lines were written
-    pub ended : (new : Scene V) (next : VaultCounts) (after : Flow) (told : EpochRecord ℕ) → IsEnded k p mid told new next → IsWritten (record_text decimal told) before after → Acted k p passes a before new next after
+    pub ended : (new : Scene V) (next : VaultCounts) (after : Flow) (told : EpochRecord ℕ) → IsEnded k p mid told new next → IsWritten (record_text decimal told) before after → Acted k p beat a before new next after
     ended new next after told e written = record {
       thing = thing;
       one = refl;
-      allowed = all_two passes (Closes look batches e.writes) (Publishes e.writes e.left told) (may, end) tt;
+      allowed = all_two beat (Closes look batches e.writes) (Publishes e.writes e.left told) (may, end) tt;
       moves = two_acts k a e.mid new (Closes look batches e.writes) (Publishes e.writes e.left told) (closing e.writes e.mid e.closed) e.moves;
+      driven = tt;
       quiet = λ client. quiet_rest client batches (close_calls e.writes) (publish_calls e.left told);
       ready = e.ready;
       answered = answered_rest batches ((End e.writes, Ended) ∷ []) tt;
@@ -257,12 +278,13 @@ module _ {V : Type 0} (k : Kind V) (p : Params) (passes : ℕ → ℕ → ℕ �
         tells = published_rest batches (close_calls e.writes) (publish_calls e.left told)
 
     -- its end was refused, or left in doubt
-    pub unended : (new : Scene V) (fault : Fault) → EndFails k mid fault new → ActFails k passes a before fault new before
+    pub unended : (new : Scene V) (fault : Fault) → EndFails k mid fault new → ActFails k beat a before fault new before
     unended new fault e = record {
       thing = thing;
       one = refl;
-      allowed = all_two passes (Closes look batches e.writes) (Refuses e.writes e.refused) (may, end) tt;
+      allowed = all_two beat (Closes look batches e.writes) (Refuses e.writes e.refused) (may, end) tt;
       moves = two_acts k a e.mid new (Closes look batches e.writes) (Refuses e.writes e.refused) (closing e.writes e.mid e.closed) e.moves;
+      driven = tt;
       quiet = λ client. quiet_rest client batches (close_calls e.writes) stop ∙ quiet_stop client e.writes e.refused;
       next = epoch;
       told = told_by epoch epoch (ended_of (calls thing)) [] (records thing) [] (ended_rest batches ((End e.writes, end_answer (Err e.refused)) ∷ []) ∙ refused_ends e.writes e.refused) tells (tells_none epoch epoch refl);
@@ -278,10 +300,10 @@ module _ {V : Type 0} (k : Kind V) (p : Params) (passes : ℕ → ℕ → ℕ �
           moves = one_act k a e.mid (Closes look batches e.writes) (closing e.writes e.mid e.closed);
           closed = e.closed.part;
           is_closed = e.closed.is_closed;
-          due = subst (λ n. IsDue n e.writes (record_of e.closed.part)) here e.closed.due;
+          due = subst (λ n. IsDueRecord n e.writes (record_of e.closed.part)) here e.closed.due;
           is_fault = subst (λ n. IsEndFault n e.refused) here e.is_fault;
         };
-        cause = λ store. rose_since (k.disk a.vault).faults (k.disk mid.vault).faults (k.disk new.vault).faults (later k a mid (rest_calls batches) (rest_fetches batches) read.moves) (e.cause store);
+        cause = λ store. rose_later (k.disk a.vault).faults (k.disk mid.vault).faults (k.disk new.vault).faults (later k a mid (rest_calls batches) (rest_fetches batches) read.moves) (e.cause store);
         stopped = e.stopped;
         lines = silent_written (records thing) before tells;
       };
@@ -304,12 +326,13 @@ module _ {V : Type 0} (k : Kind V) (p : Params) (passes : ℕ → ℕ → ℕ �
 
     -- the output failed behind the publish
     pub unwritten : (shut new : Scene V) (next : VaultCounts) (after : Flow) (told : EpochRecord ℕ) → IsEnded k p mid told shut next → Moves k shut (stop_calls SinkFault) [] new → new.desk.stop ≡ Some SinkFault
-        → IsPrinted before after (record_text decimal told) → Rose before.faults after.faults → ActFails k passes a before SinkFault new after
+        → IsPrinted before after (record_text decimal told) → Rose before.faults after.faults → ActFails k beat a before SinkFault new after
     unwritten shut new next after told e halt stopped printed rose = record {
       thing = thing;
       one = refl;
-      allowed = all_three passes (Closes look batches e.writes) (Publishes e.writes e.left told) Unprinted (may, end) tt tt;
+      allowed = all_three beat (Closes look batches e.writes) (Publishes e.writes e.left told) Unprinted (may, end) tt tt;
       moves = three_acts k a e.mid shut new (Closes look batches e.writes) (Publishes e.writes e.left told) Unprinted (closing e.writes e.mid e.closed) e.moves halt;
+      driven = tt;
       quiet = λ client. quiet_rest client batches (close_calls e.writes) (publish_calls e.left told ++ stop_calls SinkFault);
       next = suc epoch;
       told = told_by epoch (suc epoch) (ended_of (calls thing)) (e.writes ∷ []) (records thing) (told ∷ []) (ended_rest batches ((End e.writes, Ended) ∷ [])) tells
@@ -339,12 +362,13 @@ stop_memory : (a : Option Fault) (fault : Fault) → a ≡ Some fault → (a ≡
 stop_memory a fault is (inl none) = absurd (none-some fault (sym none ∙ is))
 stop_memory a fault is (inr memory) = same_Some fault Memory (sym is ∙ memory)
 
-pub halted : {V : Type 0} (k : Kind V) (p : Params) (passes : ℕ → ℕ → ℕ → ℕ → Bool) (a : Scene V) (c : VaultCounts) (before : Flow) (fault : Fault) → IsReady p a.desk c → a.desk.stop ≡ Some fault → ActFails k passes a before fault a before
-halted k p passes a c before fault r is = let memory : fault ≡ Memory = stop_memory a.desk.stop fault is r.stop in record {
+pub halted : {V : Type 0} (k : Kind V) (p : Params) (beat : BeatKind) (a : Scene V) (c : VaultCounts) (before : Flow) (fault : Fault) → IsBetweenActs p a.desk c → a.desk.stop ≡ Some fault → ActFails k beat a before fault a before
+halted k p beat a c before fault r is = let memory : fault ≡ Memory = stop_memory a.desk.stop fault is r.stop in record {
   thing = Halts fault ∷ [];
   one = tt;
-  allowed = all_one passes (Halts fault) tt;
+  allowed = all_one beat (Halts fault) tt;
   moves = moves_one k a.desk a.desk a.vault a.trace desk.IsStopped (desk.StoppedBy (Some fault)) tt (sym is, refl) (λ m. (tt, refl));
+  driven = tt;
   quiet = λ client. refl;
   next = a.desk.running.epoch;
   told = tells_none a.desk.running.epoch a.desk.running.epoch refl;

@@ -8,9 +8,9 @@ use Rattle.ob_base.specs.Causes.{Rose}
 use Rattle.ob_base.specs.declared.fault.Fault.{Fault}
 use Rattle.ob_base.specs.declared.fault.Fault.TheVariants.{Memory}
 use Rattle.ob_base.specs.declared.params.Params.{Params}
-use Rattle.ob_store.specs.declared.watch.Note.{Note}
 use Rattle.ob_store.specs.Calls.{IsStoreFault}
 use Rattle.ob_store.specs.Lines.{Trace, Shows}
+use Rattle.ob_store.proofs.Serving.{rose_later}
 use Rattle.ob_serial.specs.Serial.{Map}
 use Rattle.ob_serial.specs.Vaults.{VaultCall, Fetch, VaultAnswer, Values, RefusedBy, VaultCounts, vault_next, counts_next}
 use Rattle.ob_serial.specs.VaultViews.{IsFetchFault}
@@ -21,16 +21,16 @@ use Rattle.ob_desk.specs.Desk.{DeskState, Call, Reply, MayCall, TakeStep, Delive
 use Rattle.ob_conduct.specs.Acts.{Batch, rest_calls, rest_fetches, batch_calls, batch_fetch}
 use Rattle.ob_conduct.specs.Scenes.{Scene, scene}
 use Rattle.ob_conduct.specs.Records.{HoldsMap}
-use Rattle.ob_conduct.specs.Ready.{IsFit, IsReady}
-use Rattle.ob_conduct.specs.Moves.{Moves, Reads, ReadFails}
+use Rattle.ob_conduct.specs.Ready.{IsFit, IsBetweenActs}
+use Rattle.ob_conduct.specs.Moves.{Moves, ReadsBatches, ReadFails}
 use Rattle.ob_conduct.proofs.Fit.{fit_taken, fit_delivered, batch_placed}
-use Rattle.ob_conduct.proofs.Moving.{moves_none, moves_join, later, rose_since}
+use Rattle.ob_conduct.proofs.Moving.{moves_none, moves_join, later}
 
 -- what a vault asks of a batch
-pub batch_below : (p : Params) (d mid : DeskState) (c : VaultCounts) (keys : List (Option ℕ)) → IsReady p d c → TakeStep d keys mid → (i key : ℕ) → slice_get keys i ≡ Some (Some key) → key < p.keys
+pub batch_below : (p : Params) (d mid : DeskState) (c : VaultCounts) (keys : List (Option ℕ)) → IsBetweenActs p d c → TakeStep d keys mid → (i key : ℕ) → slice_get keys i ≡ Some (Some key) → key < p.keys
 batch_below p d mid c keys r t i key at = r.fit.below i key (batch_placed d.setup.params.places d.running.order.queue i key (subst (λ (ks : List (Option ℕ)). slice_get ks i ≡ Some (Some key)) t.taken at))
 
-pub batch_distinct : (p : Params) (d mid : DeskState) (c : VaultCounts) (keys : List (Option ℕ)) → IsReady p d c → TakeStep d keys mid → (i j key : ℕ) → slice_get keys i ≡ Some (Some key) → slice_get keys j ≡ Some (Some key) → i ≡ j
+pub batch_distinct : (p : Params) (d mid : DeskState) (c : VaultCounts) (keys : List (Option ℕ)) → IsBetweenActs p d c → TakeStep d keys mid → (i j key : ℕ) → slice_get keys i ≡ Some (Some key) → slice_get keys j ≡ Some (Some key) → i ≡ j
 batch_distinct p d mid c keys r t i j key at too = r.fit.distinct i j key
     (batch_placed d.setup.params.places d.running.order.queue i key (subst (λ (ks : List (Option ℕ)). slice_get ks i ≡ Some (Some key)) t.taken at))
     (batch_placed d.setup.params.places d.running.order.queue j key (subst (λ (ks : List (Option ℕ)). slice_get ks j ≡ Some (Some key)) t.taken too))
@@ -43,10 +43,10 @@ stop_is d new f none e = ap (λ (x : DeskState). x.stop) e ∙ step (is_memory f
     step true = refl
     step false = refl
 
-may_take : (p : Params) (d : DeskState) (c : VaultCounts) → IsReady p d c → 0 < c.left → MayCall d desk.TakeBatch
+may_take : (p : Params) (d : DeskState) (c : VaultCounts) → IsBetweenActs p d c → 0 < c.left → MayCall d desk.TakeBatch
 may_take p d c r some = (r.none_closed, subst (λ n. 0 < n) (sym r.left) some, r.landed)
 
-may_deliver : (p : Params) (d mid : DeskState) (c : VaultCounts) (keys : List (Option ℕ)) (values : List (Option (List ℕ))) → IsReady p d c → TakeStep d keys mid → length values ≡ length keys → MayCall mid (desk.Deliver keys values)
+may_deliver : (p : Params) (d mid : DeskState) (c : VaultCounts) (keys : List (Option ℕ)) (values : List (Option (List ℕ))) → IsBetweenActs p d c → TakeStep d keys mid → length values ≡ length keys → MayCall mid (desk.Deliver keys values)
 may_deliver p d mid c keys values r t whole = subst (λ (x : DeskState). MayCall x (desk.Deliver keys values)) (sym t.state) (r.none_closed, t.taken ∙ taken_in_flight d.setup.params d.running.order, whole)
 
 holds_on : {V : Type 0} (k : Kind V) (v w : V) (keys : List (Option ℕ)) (values : List (Option (List ℕ))) (m : Map nat_cmp) → Called k v (Fetch keys) (Values values) w → HoldsMap k v m → HoldsMap k w m
@@ -55,8 +55,8 @@ holds_on k v w keys values m one (u, held, is) = (vault_next u (Fetch keys) (Val
 fed : {V : Type 0} (k : Kind V) (v w : V) (keys : List (Option ℕ)) (values : List (Option (List ℕ))) (m : Map nat_cmp) → Called k v (Fetch keys) (Values values) w → HoldsMap k v m → (i key : ℕ) → slice_get keys i ≡ Some (Some key) → slice_get values i ≡ Some (finite.get m key)
 fed k v w keys values m one (u, held, is) i key at = (one.answered u held).asked i key at ∙ ap (λ (n : Map nat_cmp). Some (finite.get n key)) is
 
-delivered_ready : (p : Params) (d mid new : DeskState) (c : VaultCounts) (keys : List (Option ℕ)) (values : List (Option (List ℕ))) → IsReady p d c → TakeStep d keys mid → DeliverStep mid keys values new → IsReady p new (counts_next p.batches c (Fetch keys) (Values values))
-delivered_ready p d mid new c keys values r t e = subst (λ (x : DeskState). IsReady p x (counts_next p.batches c (Fetch keys) (Values values))) (sym e.state) (record {
+delivered_ready : (p : Params) (d mid new : DeskState) (c : VaultCounts) (keys : List (Option ℕ)) (values : List (Option (List ℕ))) → IsBetweenActs p d c → TakeStep d keys mid → DeliverStep mid keys values new → IsBetweenActs p new (counts_next p.batches c (Fetch keys) (Values values))
+delivered_ready p d mid new c keys values r t e = subst (λ (x : DeskState). IsBetweenActs p x (counts_next p.batches c (Fetch keys) (Values values))) (sym e.state) (record {
   params = ap (λ (x : DeskState). x.setup.params) t.state ∙ r.params;
   none_closed = ap (λ (x : DeskState). x.closed) t.state ∙ r.none_closed;
   landed = refl;
@@ -68,8 +68,8 @@ delivered_ready p d mid new c keys values r t e = subst (λ (x : DeskState). IsR
 })
 
 module _ {V : Type 0} (k : Kind V) (p : Params) where
-  pub read_one : (d mid new : DeskState) (v w : V) (t u : Trace) (c next : VaultCounts) (keys : List (Option ℕ)) (values : List (Option (List ℕ))) → IsReady p d c → 0 < c.left → length values ≡ length keys
-      → TakeStep d keys mid → DeliverStep mid keys values new → (one : Called k v (Fetch keys) (Values values) w) → Shows one.notes t u → next ≡ counts_next p.batches c (Fetch keys) (Values values) → (batch : Batch) × Reads k p (scene d v t) (batch ∷ []) (scene new w u) next
+  pub read_one : (d mid new : DeskState) (v w : V) (t u : Trace) (c next : VaultCounts) (keys : List (Option ℕ)) (values : List (Option (List ℕ))) → IsBetweenActs p d c → 0 < c.left → length values ≡ length keys
+      → TakeStep d keys mid → DeliverStep mid keys values new → (one : Called k v (Fetch keys) (Values values) w) → Shows one.notes t u → next ≡ counts_next p.batches c (Fetch keys) (Values values) → (batch : Batch) × ReadsBatches k p (scene d v t) (batch ∷ []) (scene new w u) next
   read_one d mid new v w t u c next keys values r some whole took e one shown counts = (
     record { keys = keys; values = values },
     record {
@@ -80,13 +80,13 @@ module _ {V : Type 0} (k : Kind V) (p : Params) where
         shown = shown;
         run = λ m held. (m, (mid, may_take p d c r some, took, tt, (new, may_deliver p d mid c keys values r took whole, e, fed k v w keys values m one held, (refl, refl))), holds_on k v w keys values m one held);
       };
-      ready = subst (λ (x : VaultCounts). IsReady p new x) (sym counts) (delivered_ready p d mid new c keys values r took e);
+      ready = subst (λ (x : VaultCounts). IsBetweenActs p new x) (sym counts) (delivered_ready p d mid new c keys values r took e);
       same_epoch = ap (λ (x : DeskState). x.running.epoch) e.state ∙ ap (λ (x : DeskState). x.running.epoch) took.state;
       same_stop = ap (λ (x : DeskState). x.stop) e.state ∙ ap (λ (x : DeskState). x.stop) took.state;
     },
   )
 
-  pub refuse_one : (d mid new : DeskState) (v w : V) (t u : Trace) (c : VaultCounts) (keys : List (Option ℕ)) (fault : Fault) → IsReady p d c → d.stop ≡ None → 0 < c.left
+  pub refuse_one : (d mid new : DeskState) (v w : V) (t u : Trace) (c : VaultCounts) (keys : List (Option ℕ)) (fault : Fault) → IsBetweenActs p d c → d.stop ≡ None → 0 < c.left
       → TakeStep d keys mid → StopStep mid fault new → (one : Called k v (Fetch keys) (RefusedBy fault) w) → Shows one.notes t u → IsFetchFault fault → (IsStoreFault fault → Rose (k.disk v).faults (k.disk w).faults) → ReadFails k (scene d v t) [] fault (scene new w u)
   refuse_one d mid new v w t u c keys fault r none some took e one shown is_fault cause = record {
     keys = keys;
@@ -102,10 +102,10 @@ module _ {V : Type 0} (k : Kind V) (p : Params) where
     stopped = stop_is mid new fault (ap (λ (x : DeskState). x.stop) took.state ∙ none) e.state;
   }
 
-  pub reads_none : (a : Scene V) (c : VaultCounts) → IsReady p a.desk c → Reads k p a [] a c
+  pub reads_none : (a : Scene V) (c : VaultCounts) → IsBetweenActs p a.desk c → ReadsBatches k p a [] a c
   reads_none a c r = record { moves = moves_none k a; ready = r; same_epoch = refl; same_stop = refl }
 
-  pub reads_more : (a b d : Scene V) (batches : List Batch) (batch : Batch) (e c : VaultCounts) → Reads k p a batches b e → Reads k p b (batch ∷ []) d c → Reads k p a (batches ++ batch ∷ []) d c
+  pub reads_more : (a b d : Scene V) (batches : List Batch) (batch : Batch) (e c : VaultCounts) → ReadsBatches k p a batches b e → ReadsBatches k p b (batch ∷ []) d c → ReadsBatches k p a (batches ++ batch ∷ []) d c
   reads_more a b d batches batch e c first one = record {
     moves = subst (λ (steps : List (Call × Reply)). Moves k a steps (rest_fetches (batches ++ batch ∷ [])) d) (sym (flat_map-append batch_calls batches (batch ∷ [])))
         (subst (λ (asked : List (VaultCall × VaultAnswer)). Moves k a (rest_calls batches ++ rest_calls (batch ∷ [])) asked d) (sym (map-append batch_fetch batches (batch ∷ [])))
@@ -115,11 +115,11 @@ module _ {V : Type 0} (k : Kind V) (p : Params) where
     same_stop = one.same_stop ∙ first.same_stop;
   }
 
-  pub fails_behind : (a b d : Scene V) (batches : List Batch) (e : VaultCounts) (fault : Fault) → Reads k p a batches b e → ReadFails k b [] fault d → ReadFails k a batches fault d
+  pub fails_behind : (a b d : Scene V) (batches : List Batch) (e : VaultCounts) (fault : Fault) → ReadsBatches k p a batches b e → ReadFails k b [] fault d → ReadFails k a batches fault d
   fails_behind a b d batches e fault first last = record {
     keys = last.keys;
     moves = moves_join k a b d (rest_calls batches) _ (rest_fetches batches) _ first.moves last.moves;
     is_fault = last.is_fault;
-    cause = λ store. rose_since (k.disk a.vault).faults (k.disk b.vault).faults (k.disk d.vault).faults (later k a b (rest_calls batches) (rest_fetches batches) first.moves) (last.cause store);
+    cause = λ store. rose_later (k.disk a.vault).faults (k.disk b.vault).faults (k.disk d.vault).faults (later k a b (rest_calls batches) (rest_fetches batches) first.moves) (last.cause store);
     stopped = last.stopped;
   }

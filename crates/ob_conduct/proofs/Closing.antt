@@ -5,7 +5,6 @@ use Rattle.std.proofs.lemmas.Option.{same_Some}
 use Rattle.ob_base.specs.Causes.{Rose}
 use Rattle.ob_base.specs.declared.fault.Fault.{Fault}
 use Rattle.ob_base.specs.declared.params.Params.{Params}
-use Rattle.ob_store.specs.declared.watch.Note.{Note}
 use Rattle.ob_store.specs.Calls.{IsStoreFault}
 use Rattle.ob_store.specs.Lines.{Trace, Shows}
 use Rattle.ob_store.proofs.Showing.{shows_none}
@@ -21,18 +20,19 @@ use Rattle.std.specs.List.Sorted.{IsStrictlyIncreasing}
 use Rattle.std.proofs.lemmas.List.{length-map, append-nil}
 use Rattle.ob_base.specs.declared.value.Write.{Write}
 use Rattle.ob_order.specs.Works.{last_writes}
-use Rattle.ob_order.specs.Writes.{pair_of}
+use Rattle.ob_base.specs.Writes.{pair_of}
 use Rattle.ob_desk.specs.Desk as desk
 use Rattle.ob_desk.specs.Desk.{DeskState, Part, MayCall, CloseStep, PublishStep, StopStep, UnsureStep, closing, record_of, new_part, base_map}
-use Rattle.ob_conduct.specs.Scenes.{Scene, scene}
-use Rattle.ob_conduct.specs.Records.{HoldsMap, Makes}
-use Rattle.ob_conduct.specs.Ready.{IsFit, IsReady, IsDue}
+use Rattle.ob_desk.proofs.Ends.{closing-epoch}
+use Rattle.ob_conduct.specs.Scenes.{scene}
+use Rattle.ob_conduct.specs.Records.{Makes}
+use Rattle.ob_conduct.specs.Ready.{IsFit, IsBetweenActs, IsDueRecord}
 use Rattle.ob_conduct.specs.Moves.{IsClosed, IsEnded, EndFails}
-use Rattle.ob_conduct.proofs.Fit.{fit_new, fit_closing, closing-epoch}
-use Rattle.ob_conduct.proofs.Writes.{same_writes, batch_makes, record_ordered, few_writes, rising_writes, writes_below}
+use Rattle.ob_conduct.proofs.Fit.{fit_new, fit_closing}
+use Rattle.ob_conduct.proofs.Writes.{batch_makes, record_ordered, few_writes, rising_writes, writes_below}
 use Rattle.ob_conduct.proofs.Batches.{stop_is}
 
-may_close : (p : Params) (d : DeskState) (c : VaultCounts) → IsReady p d c → d.stop ≡ None → c.left ≡ 0 → MayCall d desk.Close
+may_close : (p : Params) (d : DeskState) (c : VaultCounts) → IsBetweenActs p d c → d.stop ≡ None → c.left ≡ 0 → MayCall d desk.Close
 may_close p d c r none zero = (r.none_closed, r.left ∙ zero, r.landed, none)
 
 -- what a desk has just closed
@@ -42,7 +42,7 @@ closed_part d mid writes e = ap (λ (x : DeskState). x.closed) e.state
 some_closed : (d mid : DeskState) (writes : List (ℕ × Option (List ℕ))) → CloseStep d writes mid → is_some mid.closed ≡ true
 some_closed d mid writes e = ap (λ (o : Option Part). is_some o) (closed_part d mid writes e)
 
-pub due_of : (p : Params) (d mid : DeskState) (c : VaultCounts) (writes : List (ℕ × Option (List ℕ))) → IsReady p d c → CloseStep d writes mid → IsDue d.running.epoch writes (record_of (closing d.running))
+pub due_of : (p : Params) (d mid : DeskState) (c : VaultCounts) (writes : List (ℕ × Option (List ℕ))) → IsBetweenActs p d c → CloseStep d writes mid → IsDueRecord d.running.epoch writes (record_of (closing d.running))
 due_of p d mid c writes r e = record {
   epoch_is = closing-epoch d.running;
   ordered = record_ordered (closing d.running);
@@ -50,7 +50,7 @@ due_of p d mid c writes r e = record {
 }
 
 -- what a vault asks of the writes
-pub close_few : (p : Params) (d mid : DeskState) (c : VaultCounts) (ws : List Write) → IsReady p d c → CloseStep d (map pair_of ws) mid → length ws ≤ p.writes
+pub close_few : (p : Params) (d mid : DeskState) (c : VaultCounts) (ws : List Write) → IsBetweenActs p d c → CloseStep d (map pair_of ws) mid → length ws ≤ p.writes
 close_few p d mid c ws r e =
     let few : length (last_writes p.keys (closing d.running).order.works) ≤ p.writes = few_writes p (closing d.running) (fit_closing p d.running r.fit) in
     let same : length (map pair_of ws) ≡ length (last_writes p.keys (closing d.running).order.works) = ap length (e.batch ∙ ap (λ (q : Params). last_writes q.keys (closing d.running).order.works) r.params) in
@@ -60,12 +60,12 @@ close_few p d mid c ws r e =
 pub close_rising : (d mid : DeskState) (ws : List Write) → CloseStep d (map pair_of ws) mid → IsStrictlyIncreasing (map (λ w. w.key) ws)
 close_rising d mid ws e = rising_writes ws (closing d.running).order.works d.setup.params.keys e.batch
 
-pub close_below : (p : Params) (d mid : DeskState) (c : VaultCounts) (ws : List Write) → IsReady p d c → CloseStep d (map pair_of ws) mid → All (λ w. w.key < p.keys) ws
+pub close_below : (p : Params) (d mid : DeskState) (c : VaultCounts) (ws : List Write) → IsBetweenActs p d c → CloseStep d (map pair_of ws) mid → All (λ w. w.key < p.keys) ws
 close_below p d mid c ws r e = subst (λ (q : Params). All (λ (w : Write). w.key < q.keys) ws) r.params (writes_below ws (closing d.running).order.works d.setup.params.keys e.batch)
 
 -- the vault's map behind the end is that below the desk's running part
 ended_map : (p : Params) (d mid : DeskState) (writes : List (ℕ × Option (List ℕ))) (m : Map nat_cmp) → CloseStep d writes mid → vaults.with_writes m writes ≡ base_map m mid
-ended_map p d mid writes m e = same_writes m writes ∙ ap (desk.with_writes m) e.batch
+ended_map p d mid writes m e = ap (vaults.with_writes m) e.batch
     ∙ sym (ap (λ (x : DeskState). base_map m x) e.state)
 
 -- a call with its notes, which were shown
@@ -95,7 +95,7 @@ store_end SinkFault store = absurd store
 
 module _ {V : Type 0} (k : Kind V) (p : Params) where
   -- the desk closed its epoch
-  closed_by : (d mid : DeskState) (v : V) (t : Trace) (c : VaultCounts) (writes : List (ℕ × Option (List ℕ))) → IsReady p d c → d.stop ≡ None → c.left ≡ 0 → CloseStep d writes mid → IsClosed k (scene d v t) writes (scene mid v t)
+  closed_by : (d mid : DeskState) (v : V) (t : Trace) (c : VaultCounts) (writes : List (ℕ × Option (List ℕ))) → IsBetweenActs p d c → d.stop ≡ None → c.left ≡ 0 → CloseStep d writes mid → IsClosed k (scene d v t) writes (scene mid v t)
   closed_by d mid v t c writes r none zero e = record {
     moves = record {
       leads = (mid, may_close p d c r none zero, e, refl);
@@ -109,13 +109,13 @@ module _ {V : Type 0} (k : Kind V) (p : Params) where
     due = due_of p d mid c writes r e;
   }
 
-  pub ends : (d mid new : DeskState) (v w : V) (t u : Trace) (c next : VaultCounts) (writes : List (ℕ × Option (List ℕ))) (told : EpochRecord ℕ) (left : ℕ) → IsReady p d c → d.stop ≡ None → c.left ≡ 0
+  pub ends : (d mid new : DeskState) (v w : V) (t u : Trace) (c next : VaultCounts) (writes : List (ℕ × Option (List ℕ))) (told : EpochRecord ℕ) (left : ℕ) → IsBetweenActs p d c → d.stop ≡ None → c.left ≡ 0
       → CloseStep d writes mid → CalledShown k v (End writes) Ended w t u → next ≡ counts_next p.batches c (End writes) Ended → next.epoch < 2 ^ 62 → left ≡ p.batches → PublishStep mid told new → IsEnded k p (scene d v t) told (scene new w u) next
   ends d mid new v w t u c next writes told left r none zero e called counts low left_is pub_step =
       let one : Called k v (End writes) Ended w = called.one in
       let part_is : closing d.running ≡ pub_step.part = same_Some (closing d.running) pub_step.part (sym (closed_part d mid writes e) ∙ pub_step.is_closed) in
       let told_is : told ≡ record_of (closing d.running) = pub_step.record_is ∙ ap record_of (sym part_is) in
-      let due : IsDue d.running.epoch writes told = subst (λ (x : EpochRecord ℕ). IsDue d.running.epoch writes x) (sym told_is) (due_of p d mid c writes r e) in
+      let due : IsDueRecord d.running.epoch writes told = subst (λ (x : EpochRecord ℕ). IsDueRecord d.running.epoch writes x) (sym told_is) (due_of p d mid c writes r e) in
       let named : suc told.epoch ≡ mid.running.epoch = ap suc due.epoch_is ∙ sym (ap (λ (x : DeskState). x.running.epoch) e.state) in
       let at : next.epoch ≡ suc c.epoch = ap (λ (x : VaultCounts). x.epoch) counts in
       let now : told.epoch ≡ suc c.epoch = due.epoch_is ∙ r.epoch in
@@ -142,8 +142,8 @@ module _ {V : Type 0} (k : Kind V) (p : Params) where
         same_stop = ap (λ (x : DeskState). x.stop) pub_step.state ∙ ap (λ (x : DeskState). x.stop) e.state;
       }
     where
-      ready : IsReady p new next
-      ready = subst (λ (x : VaultCounts). IsReady p new x) (sym counts) (subst (λ (x : DeskState). IsReady p x (counts_next p.batches c (End writes) Ended)) (sym pub_step.state) (record {
+      ready : IsBetweenActs p new next
+      ready = subst (λ (x : VaultCounts). IsBetweenActs p new x) (sym counts) (subst (λ (x : DeskState). IsBetweenActs p x (counts_next p.batches c (End writes) Ended)) (sym pub_step.state) (record {
         params = ap (λ (x : DeskState). x.setup.params) e.state ∙ r.params;
         none_closed = refl;
         landed = ap (λ (x : DeskState). x.running.order.flying) e.state;
@@ -155,7 +155,7 @@ module _ {V : Type 0} (k : Kind V) (p : Params) where
       }))
 
   -- the end was refused before its last write,
-  pub end_fails : (d mid new : DeskState) (v w : V) (t u : Trace) (c : VaultCounts) (writes : List (ℕ × Option (List ℕ))) (fault : Fault) → IsReady p d c → d.stop ≡ None → c.left ≡ 0
+  pub end_fails : (d mid new : DeskState) (v w : V) (t u : Trace) (c : VaultCounts) (writes : List (ℕ × Option (List ℕ))) (fault : Fault) → IsBetweenActs p d c → d.stop ≡ None → c.left ≡ 0
       → CloseStep d writes mid → CalledShown k v (End writes) (RefusedBy fault) w t u → StopStep mid fault new → IsEndFault (suc c.epoch) (Before fault) → (IsStoreFault fault → Rose (k.disk v).faults (k.disk w).faults) → EndFails k (scene d v t) fault (scene new w u)
   end_fails d mid new v w t u c writes fault r none zero e called halt is_fault cause =
       let one : Called k v (End writes) (RefusedBy fault) w = called.one in
@@ -178,7 +178,7 @@ module _ {V : Type 0} (k : Kind V) (p : Params) where
       }
 
   -- or left in doubt
-  pub end_doubts : (d mid new : DeskState) (v w : V) (t u : Trace) (c : VaultCounts) (writes : List (ℕ × Option (List ℕ))) (fault : Fault) → IsReady p d c → d.stop ≡ None → c.left ≡ 0
+  pub end_doubts : (d mid new : DeskState) (v w : V) (t u : Trace) (c : VaultCounts) (writes : List (ℕ × Option (List ℕ))) (fault : Fault) → IsBetweenActs p d c → d.stop ≡ None → c.left ≡ 0
       → CloseStep d writes mid → CalledShown k v (End writes) (DoubtBy fault) w t u → UnsureStep mid fault new → IsEndFault (suc c.epoch) (Unsure fault) → (IsStoreFault fault → Rose (k.disk v).faults (k.disk w).faults) → EndFails k (scene d v t) fault (scene new w u)
   end_doubts d mid new v w t u c writes fault r none zero e called halt is_fault cause =
       let one : Called k v (End writes) (DoubtBy fault) w = called.one in

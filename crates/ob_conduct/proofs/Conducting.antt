@@ -1,19 +1,18 @@
 -- A run goes on by a round, and ends.
-use Rattle.std.proofs.Common.{◌≡◌, ◌∙◌, ◌⊎◌, ◌≤◌, ◌+◌, ℕ, suc, Bool, false, All, List, [], ◌∷◌, ◌++◌, length, map, filter, Option, Ok, Err, Result, refl, sym, ap, ap₂, subst, inl, inr, arith, nat_cmp, decimal}
-use Rattle.std.specs.List.{range_with_len}
+use Rattle.std.proofs.Common.{◌≡◌, ◌∙◌, ◌≤◌, ◌+◌, ℕ, suc, false, All, List, [], ◌∷◌, ◌++◌, length, map, filter, Option, Ok, Err, Result, refl, sym, ap, ap₂, subst, inl, inr, arith, nat_cmp, decimal}
 use Rattle.std.proofs.lemmas.List.{append-nil, append_assoc, length-append}
 use Rattle.std.proofs.lemmas.List.Elements.{All-nil, All-cons, All-map, All-append, All-weaker, All-head, All-tail}
 use Rattle.std.specs.FinMap.{empty}
-use Rattle.ob_base.specs.Causes.{Rose}
 use Rattle.ob_base.specs.declared.fault.Fault.{Fault}
 use Rattle.ob_base.specs.declared.fault.Fault.TheVariants.{Memory}
 use Rattle.ob_base.specs.declared.params.Params.{Params}
-use Rattle.ob_report.specs.Printed.{Flow, IsPrinted}
+use Rattle.ob_io.specs.Streams.{Flow}
+use Rattle.ob_report.specs.Printed.{IsPrinted}
 use Rattle.ob_report.specs.Report.{report}
-use Rattle.ob_store.specs.Calls.{IsStoreFault}
 use Rattle.ob_store.specs.Lines.{Trace}
 use Rattle.ob_store.proofs.Showing.{shows_none}
-use Rattle.ob_serial.specs.Serial.{Map, EpochRecord, Txn, AreInOrder, OneByOne, is_committed, committed_of}
+use Rattle.ob_store.proofs.Serving.{rose_later}
+use Rattle.ob_serial.specs.Serial.{Map, EpochRecord, TxnRecord, AreInOrder, OneByOne, is_committed, committed_of}
 use Rattle.ob_serial.specs.Vaults.{VaultCall, VaultAnswer, VaultCounts}
 use Rattle.ob_serial.specs.VaultViews.{IsEndFault}
 use Rattle.ob_serial.specs.VaultKinds.{Kind, ended_of}
@@ -21,25 +20,27 @@ use Rattle.ob_serial.proofs.Runs.{goes_on}
 use Rattle.ob_serial.specs.declared.vault.EndErr.{EndErr}
 use Rattle.ob_desk.specs.Desk.{DeskState, Setup, Call, Reply, Run, MayOpen, new_desk, published, record_of}
 use Rattle.ob_desk.specs.Replay.{map_after}
+use Rattle.ob_desk.specs.Beats.{BeatKind}
 use Rattle.ob_desk.proofs.Runs.{desk_is_serial, committed_append, good_run, good_new}
 use Rattle.ob_desk.proofs.Sees.{replays_from_reads}
 use Rattle.ob_desk.proofs.Published.{one_by_one_from}
 use Rattle.ob_session.specs.Steps.{Leads}
 use Rattle.ob_session.specs.Clients.{said_by}
 use Rattle.ob_conduct.specs.Acts.{Act, Says, Halts, Rests, Takes, Delivers, DeliverFails, FetchFails, Closes, Publishes, Refuses, Unprinted, history, calls, records, desk_calls, vault_calls, IsAllowed}
-use Rattle.ob_conduct.specs.Rounds.{AreTurns, InRounds, InTurns}
-use Rattle.ob_conduct.specs.Scenes.{Scene, scene, RunState, run_state, RunnerKind, AllNoted}
+use Rattle.ob_conduct.specs.Rounds.{TurnRule, plan_rule, KeepRule, AreTurns, InRounds, InTurns}
+use Rattle.ob_conduct.specs.Scenes.{Scene, scene, RunState, run_state, RunnerKind, seat_of, AllNoted}
 use Rattle.ob_conduct.specs.Records.{contents, HoldsMap, AreAnswered, IsOver, IsWritten}
-use Rattle.ob_conduct.specs.Ready.{IsReady, IsOrdered, Tells, IsDue}
+use Rattle.ob_conduct.specs.Ready.{IsBetweenActs, TellsEpochs, IsDueRecord}
 use Rattle.ob_conduct.specs.Moves.{Moves, Acted, ActFails, IsUnended, IsReason, AreLines, Failure, IsSaid, Stepped, Heard}
 use Rattle.ob_conduct.specs.Conducted.{RunEnds, Conducted, ByHand}
 use Rattle.ob_conduct.proofs.Fit.{fit_new}
 use Rattle.ob_conduct.proofs.Writes.{left_by}
 use Rattle.ob_conduct.proofs.Ready.{own_run}
-use Rattle.ob_conduct.proofs.Moving.{run_join, later, rose_since, moves_none, moves_join}
+use Rattle.ob_conduct.proofs.Moving.{run_join, later, moves_none, moves_join}
 use Rattle.ob_conduct.proofs.Acting.{tells_none, tells_one, written_none, printed_whole}
-use Rattle.ob_conduct.proofs.Turning.{in_rounds_none, in_turns, round_ends}
-use Rattle.ob_conduct.proofs.Stepping.{said_append}
+use Rattle.ob_conduct.proofs.Turning.{in_rounds_none, in_turns, round_ends, keeps_append, keeps_driven}
+use Rattle.ob_conduct.proofs.Stepping.{same_seats}
+use Rattle.ob_session.proofs.Saying.{said_append}
 use Rattle.ob_conduct.proofs.Going.{history_append, calls_append, records_append, published_append, ended_append, answered_join, own_tells, tells_join, in_order, written_then, printed_then, cut_then}
 
 -- ---- steps of clients
@@ -48,18 +49,18 @@ leads_split : (a : DeskState) (xs ys : List (Call × Reply)) (c : DeskState) →
 leads_split a [] ys c leads = (a, refl, leads)
 leads_split a (x ∷ xs) ys c (mid, may, one, rest) = let (b, first, last) = leads_split mid xs ys c rest in (b, (mid, may, one, first), last)
 
-said_allowed : (passes : ℕ → ℕ → ℕ → ℕ → Bool) (act : Act) → IsSaid act → IsAllowed passes act
-said_allowed passes (Says client steps) said = said
-said_allowed passes (Halts fault) said = absurd said
-said_allowed passes (Rests look) said = absurd said
-said_allowed passes (Takes look keys) said = absurd said
-said_allowed passes (Delivers batch) said = absurd said
-said_allowed passes (DeliverFails keys fault) said = absurd said
-said_allowed passes (FetchFails look batches keys fault) said = absurd said
-said_allowed passes (Closes look batches writes) said = absurd said
-said_allowed passes (Publishes writes left told) said = absurd said
-said_allowed passes (Refuses writes refused) said = absurd said
-said_allowed passes Unprinted said = absurd said
+said_allowed : (beat : BeatKind) (act : Act) → IsSaid act → IsAllowed beat act
+said_allowed beat (Says client steps) said = said
+said_allowed beat (Halts fault) said = absurd said
+said_allowed beat (Rests look) said = absurd said
+said_allowed beat (Takes look keys) said = absurd said
+said_allowed beat (Delivers batch) said = absurd said
+said_allowed beat (DeliverFails keys fault) said = absurd said
+said_allowed beat (FetchFails look batches keys fault) said = absurd said
+said_allowed beat (Closes look batches writes) said = absurd said
+said_allowed beat (Publishes writes left told) said = absurd said
+said_allowed beat (Refuses writes refused) said = absurd said
+said_allowed beat Unprinted said = absurd said
 
 -- one client's calls ask the vault nothing, publish nothing, and leave its map
 one_run : (m : Map nat_cmp) (act : Act) (d new : DeskState) → IsSaid act → Leads d (desk_calls act) new → Run m d (desk_calls act) m new × (vault_calls act ≡ []) × (published (desk_calls act) ≡ [])
@@ -108,15 +109,15 @@ module _ {V : Type 0} (k : Kind V) where
 answered_on : (acts more : List Act) → AreAnswered (calls acts) → AreAnswered (calls more) → AreAnswered (calls (acts ++ more))
 answered_on acts more so then = subst AreAnswered (sym (calls_append acts more)) (answered_join (calls acts) (calls more) so then)
 
-tells_on : (from mid next : ℕ) (acts more : List Act) → Tells from mid (ended_of (calls acts)) (records acts) → Tells mid next (ended_of (calls more)) (records more) → Tells from next (ended_of (calls (acts ++ more))) (records (acts ++ more))
-tells_on from mid next acts more so then = subst (λ (ws : List (List (ℕ × Option (List ℕ)))). Tells from next ws (records (acts ++ more))) (sym (ap ended_of (calls_append acts more) ∙ ended_append (calls acts) (calls more)))
-    (subst (λ (rs : List (EpochRecord ℕ)). Tells from next (ended_of (calls acts) ++ ended_of (calls more)) rs) (sym (records_append acts more))
+tells_on : (from mid next : ℕ) (acts more : List Act) → TellsEpochs from mid (ended_of (calls acts)) (records acts) → TellsEpochs mid next (ended_of (calls more)) (records more) → TellsEpochs from next (ended_of (calls (acts ++ more))) (records (acts ++ more))
+tells_on from mid next acts more so then = subst (λ (ws : List (List (ℕ × Option (List ℕ)))). TellsEpochs from next ws (records (acts ++ more))) (sym (ap ended_of (calls_append acts more) ∙ ended_append (calls acts) (calls more)))
+    (subst (λ (rs : List (EpochRecord ℕ)). TellsEpochs from next (ended_of (calls acts) ++ ended_of (calls more)) rs) (sym (records_append acts more))
     (tells_join from mid next (ended_of (calls acts)) (ended_of (calls more)) (records acts) (records more) so then))
 
 -- ---- a new desk
 
-pub ready_new : (p : Params) (d : DeskState) (c : VaultCounts) (clients : List ℕ) → d ≡ new_desk (record { params = p }) (suc c.epoch) c.left clients → c.spent ≡ false → IsReady p d c
-ready_new p d c clients is serves = subst (λ (x : DeskState). IsReady p x c) (sym is) (record {
+pub ready_new : (p : Params) (d : DeskState) (c : VaultCounts) (clients : List ℕ) → d ≡ new_desk (record { params = p }) (suc c.epoch) c.left clients → c.spent ≡ false → IsBetweenActs p d c
+ready_new p d c clients is serves = subst (λ (x : DeskState). IsBetweenActs p x c) (sym is) (record {
   params = refl;
   none_closed = refl;
   landed = refl;
@@ -129,9 +130,13 @@ ready_new p d c clients is serves = subst (λ (x : DeskState). IsReady p x c) (s
 
 -- ---- a run
 
-module _ {V U Plan : Type 0} (k : Kind V) (kind : RunnerKind U Plan) (p : Params) (passes : ℕ → ℕ → ℕ → ℕ → Bool) (old : RunState V U) where
+module _ {V U Plan : Type 0} (k : Kind V) (kind : RunnerKind U Plan) (p : Params) (beat : BeatKind) (old : RunState V U) where
   abbrev numbers : List ℕ
   numbers = map kind.client old.runners
+
+  -- what a turn of each of its clients may be
+  abbrev rule : TurnRule
+  rule = plan_rule kind.turn (map (seat_of kind) old.runners)
 
   abbrev begun : ℕ
   begun = old.scene.desk.running.epoch
@@ -139,14 +144,15 @@ module _ {V U Plan : Type 0} (k : Kind V) (kind : RunnerKind U Plan) (p : Params
   -- what was done so far, none of it refused
   pub record Going (Shape : List Act → Type 0) (now : RunState V U) (c : VaultCounts) : Type 0 where
     pub acts : List Act
-    pub allowed : All (IsAllowed passes) acts
+    pub allowed : All (IsAllowed beat) acts
     pub shape : Shape acts
     pub moves : Moves k old.scene (history acts) (calls acts) now.scene
-    pub ready : IsReady p now.scene.desk c
+    pub ready : IsBetweenActs p now.scene.desk c
     pub answered : AreAnswered (calls acts)
-    pub told : Tells old.scene.desk.running.epoch now.scene.desk.running.epoch (ended_of (calls acts)) (records acts)
+    pub told : TellsEpochs old.scene.desk.running.epoch now.scene.desk.running.epoch (ended_of (calls acts)) (records acts)
     pub written : IsWritten (report decimal (records acts)) old.output now.output
     pub fitting : All (λ u. kind.fits u (said_by (kind.client u) (history acts))) now.runners
+    pub keeps : KeepRule rule [] acts
     pub clients : map kind.client now.runners ≡ map kind.client old.runners
     pub bounds : map kind.bound now.runners ≡ map kind.bound old.runners
     pub plans : map kind.plan now.runners ≡ map kind.plan old.runners
@@ -159,7 +165,7 @@ module _ {V U Plan : Type 0} (k : Kind V) (kind : RunnerKind U Plan) (p : Params
   abbrev pub Turned : RunState V U → VaultCounts → Type 0
   Turned = Going (InTurns (map kind.client old.runners))
 
-  pub going_none : (c : VaultCounts) → IsReady p old.scene.desk c → All (λ u. kind.fits u []) old.runners → Whole old c
+  pub going_none : (c : VaultCounts) → IsBetweenActs p old.scene.desk c → All (λ u. kind.fits u []) old.runners → Whole old c
   going_none c r fit = record {
     acts = [];
     allowed = All-nil _;
@@ -170,26 +176,29 @@ module _ {V U Plan : Type 0} (k : Kind V) (kind : RunnerKind U Plan) (p : Params
     told = tells_none begun begun refl;
     written = written_none old.output;
     fitting = fit;
+    keeps = tt;
     clients = refl;
     bounds = refl;
     plans = refl;
   }
 
   -- the runners made their steps
-  pub going_stepped : (now : RunState V U) (new : DeskState) (c : VaultCounts) (next : List U) → Whole now c → Stepped kind.client kind.bound kind.plan kind.fits (map kind.client now.runners) now.scene.desk now.runners new next → IsReady p new c
+  pub going_stepped : (now : RunState V U) (new : DeskState) (c : VaultCounts) (next : List U) → Whole now c → Stepped kind (map kind.client now.runners) now.scene.desk now.runners new next → IsBetweenActs p new c
       → Turned (run_state (scene new now.scene.vault now.scene.trace) next now.output) c
   going_stepped now new c next g s r = record {
     acts = g.acts ++ s.acts;
-    allowed = All-append (IsAllowed passes) g.acts s.acts g.allowed (All-weaker IsSaid (IsAllowed passes) (said_allowed passes) s.acts s.says);
-    shape = in_turns numbers g.acts s.acts g.shape (subst (λ ns. AreTurns ns (history g.acts) s.acts) g.clients (s.turns (history g.acts) g.fitting));
+    allowed = All-append (IsAllowed beat) g.acts s.acts g.allowed (All-weaker IsSaid (IsAllowed beat) (said_allowed beat) s.acts s.says);
+    shape = in_turns numbers g.acts s.acts g.shape (subst (λ ns. AreTurns ns s.acts) g.clients s.turns);
     moves = acts_join k old.scene now.scene (scene new now.scene.vault now.scene.trace) g.acts s.acts g.moves (said_moves k s.acts now.scene.desk new now.scene.vault now.scene.trace s.says s.leads);
     ready = r;
     answered = subst AreAnswered (sym same_calls) g.answered;
-    told = subst (λ (ws : List (List (ℕ × Option (List ℕ)))). Tells begun new.running.epoch ws (records (g.acts ++ s.acts))) (sym (ap ended_of same_calls))
-        (subst (λ (rs : List (EpochRecord ℕ)). Tells begun new.running.epoch (ended_of (calls g.acts)) rs) (sym same_records)
-        (subst (λ n. Tells begun n (ended_of (calls g.acts)) (records g.acts)) (g.ready.epoch ∙ sym r.epoch) g.told));
+    told = subst (λ (ws : List (List (ℕ × Option (List ℕ)))). TellsEpochs begun new.running.epoch ws (records (g.acts ++ s.acts))) (sym (ap ended_of same_calls))
+        (subst (λ (rs : List (EpochRecord ℕ)). TellsEpochs begun new.running.epoch (ended_of (calls g.acts)) rs) (sym same_records)
+        (subst (λ n. TellsEpochs begun n (ended_of (calls g.acts)) (records g.acts)) (g.ready.epoch ∙ sym r.epoch) g.told));
     written = subst (λ (rs : List (EpochRecord ℕ)). IsWritten (report decimal rs) old.output now.output) (sym same_records) g.written;
     fitting = subst (λ (h : List (Call × Reply)). All (λ u. kind.fits u (said_by (kind.client u) h)) next) (sym (history_append g.acts s.acts)) (s.fitting (history g.acts) g.fitting);
+    keeps = keeps_append rule [] g.acts s.acts g.keeps
+        (subst (λ seats. KeepRule (plan_rule kind.turn seats) (history g.acts) s.acts) (same_seats kind now.runners old.runners g.clients g.plans) (s.keeps (history g.acts) g.fitting));
     clients = s.clients ∙ g.clients;
     bounds = s.bounds ∙ g.bounds;
     plans = s.plans ∙ g.plans;
@@ -230,10 +239,10 @@ module _ {V U Plan : Type 0} (k : Kind V) (kind : RunnerKind U Plan) (p : Params
       are all
 
   -- the driver did something
-  pub going_acted : (now : RunState V U) (new : Scene V) (c next : VaultCounts) (after : Flow) → Turned now c → Acted k p passes now.scene now.output new next after → Whole (run_state new now.runners after) next
+  pub going_acted : (now : RunState V U) (new : Scene V) (c next : VaultCounts) (after : Flow) → Turned now c → Acted k p beat now.scene now.output new next after → Whole (run_state new now.runners after) next
   going_acted now new c next after g a = record {
     acts = g.acts ++ a.thing;
-    allowed = All-append (IsAllowed passes) g.acts a.thing g.allowed a.allowed;
+    allowed = All-append (IsAllowed beat) g.acts a.thing g.allowed a.allowed;
     shape = round_ends numbers g.acts a.thing g.shape a.one;
     moves = acts_join k old.scene now.scene new g.acts a.thing g.moves a.moves;
     ready = a.ready;
@@ -241,6 +250,7 @@ module _ {V U Plan : Type 0} (k : Kind V) (kind : RunnerKind U Plan) (p : Params
     told = tells_on begun now.scene.desk.running.epoch new.desk.running.epoch g.acts a.thing g.told a.told;
     written = subst (λ (rs : List (EpochRecord ℕ)). IsWritten (report decimal rs) old.output after) (sym (records_append g.acts a.thing)) (written_then (records g.acts) (records a.thing) old.output now.output after g.written a.written);
     fitting = fit_on g.acts a.thing now.runners a.quiet g.fitting;
+    keeps = keeps_append rule [] g.acts a.thing g.keeps (keeps_driven rule (history g.acts) a.thing a.driven);
     clients = g.clients;
     bounds = g.bounds;
     plans = g.plans;
@@ -261,7 +271,7 @@ module _ {V U Plan : Type 0} (k : Kind V) (kind : RunnerKind U Plan) (p : Params
       moves = acts_join k old.scene now.scene u.mid g.acts front g.moves u.moves;
       closed = u.closed;
       is_closed = u.is_closed;
-      due = subst (λ n. IsDue n writes (record_of u.closed)) (far front) u.due;
+      due = subst (λ n. IsDueRecord n writes (record_of u.closed)) (far front) u.due;
       is_fault = subst (λ n. IsEndFault n refused) (far front) u.is_fault;
     }
 
@@ -299,7 +309,7 @@ module _ {V U Plan : Type 0} (k : Kind V) (kind : RunnerKind U Plan) (p : Params
       answered = answered_on g.acts f.front g.answered f.answered;
       told = f.told;
       reason = reason_on f.front f.act f.reason;
-      cause = λ store. rose_since (k.disk old.scene.vault).faults (k.disk now.scene.vault).faults (k.disk new.vault).faults (later k old.scene now.scene (history g.acts) (calls g.acts) g.moves) (f.cause store);
+      cause = λ store. rose_later (k.disk old.scene.vault).faults (k.disk now.scene.vault).faults (k.disk new.vault).faults (later k old.scene now.scene (history g.acts) (calls g.acts) g.moves) (f.cause store);
       stopped = f.stopped;
       lines = subst (λ (rs : List (EpochRecord ℕ)). AreLines f.act rs old.output after) (sym (records_append g.acts thing)) (lines_on after f.act (records thing) f.lines);
     }
@@ -314,11 +324,11 @@ module _ {V U Plan : Type 0} (k : Kind V) (kind : RunnerKind U Plan) (p : Params
     ran_to : (m : Map nat_cmp) (steps : List (Call × Reply)) (last : Map nat_cmp) (d : DeskState) → Run m old.scene.desk steps last d → last ≡ contents m (published steps)
     ran_to m steps last d run = left_by m (committed_of (published steps)) last (ran m steps last d run)
 
-    finish : (acts : List Act) (new : RunState V U) (next : ℕ) (result : Result (Unit {0}) Fault) → All (IsAllowed passes) acts → Moves k old.scene (history acts) (calls acts) new.scene
-        → Tells begun next (ended_of (calls acts)) (records acts) → IsPrinted old.output new.output (report decimal (records acts)) → All (λ u. kind.fits u (said_by (kind.client u) (history acts))) new.runners
+    finish : (acts : List Act) (new : RunState V U) (next : ℕ) (result : Result (Unit {0}) Fault) → All (IsAllowed beat) acts → Moves k old.scene (history acts) (calls acts) new.scene
+        → TellsEpochs begun next (ended_of (calls acts)) (records acts) → IsPrinted old.output new.output (report decimal (records acts)) → All (λ u. kind.fits u (said_by (kind.client u) (history acts))) new.runners → KeepRule rule [] acts
         → map kind.client new.runners ≡ map kind.client old.runners → map kind.bound new.runners ≡ map kind.bound old.runners → map kind.plan new.runners ≡ map kind.plan old.runners → RunEnds k old new acts result
-        → Conducted k kind passes old new acts result
-    finish acts new next result allowed moves told printed fitting numbered bounds plans ends = record {
+        → Conducted k kind beat old new acts result
+    finish acts new next result allowed moves told printed fitting keeps numbered bounds plans ends = record {
       allowed = allowed;
       leads = moves.leads;
       notes = moves.notes;
@@ -336,6 +346,7 @@ module _ {V U Plan : Type 0} (k : Kind V) (kind : RunnerKind U Plan) (p : Params
       wrote = told.written;
       printed = printed;
       fitting = fitting;
+      keeps = keeps;
       clients = numbered;
       bounds = bounds;
       plans = plans;
@@ -343,36 +354,36 @@ module _ {V U Plan : Type 0} (k : Kind V) (kind : RunnerKind U Plan) (p : Params
     }
 
     -- nothing was done, for want of memory
-    pub done_short : All (λ u. kind.fits u []) old.runners → ByHand k kind passes old old (Err Memory)
+    pub done_short : All (λ u. kind.fits u []) old.runners → ByHand k kind beat old old (Err Memory)
     done_short fit = (
       [],
-      finish [] old begun (Err Memory) (All-nil _) (moves_none k old.scene) (tells_none begun begun refl) (printed_whole [] old.output old.output (written_none old.output)) fit refl refl refl
+      finish [] old begun (Err Memory) (All-nil _) (moves_none k old.scene) (tells_none begun begun refl) (printed_whole [] old.output old.output (written_none old.output)) fit tt refl refl refl
           (inl (record { fault_is = refl; none = refl; silent = refl })),
       in_rounds_none numbers,
     )
 
     -- each client has signed off
-    pub done_over : (now : RunState V U) (c : VaultCounts) (done : Unit {0}) → Whole now c → IsOver now.scene.desk → ByHand k kind passes old now (Ok done)
+    pub done_over : (now : RunState V U) (c : VaultCounts) (done : Unit {0}) → Whole now c → IsOver now.scene.desk → ByHand k kind beat old now (Ok done)
     done_over now c done g over = (
       g.acts,
-      finish g.acts now now.scene.desk.running.epoch (Ok done) g.allowed g.moves g.told (printed_whole (report decimal (records g.acts)) old.output now.output g.written) g.fitting g.clients g.bounds g.plans (g.answered, over, g.written),
+      finish g.acts now now.scene.desk.running.epoch (Ok done) g.allowed g.moves g.told (printed_whole (report decimal (records g.acts)) old.output now.output g.written) g.fitting g.keeps g.clients g.bounds g.plans (g.answered, over, g.written),
       g.shape,
     )
 
     -- something failed
-    pub done_failed : (now : RunState V U) (new : Scene V) (c : VaultCounts) (after : Flow) (fault : Fault) → Turned now c → ActFails k passes now.scene now.output fault new after → ByHand k kind passes old (run_state new now.runners after) (Err fault)
+    pub done_failed : (now : RunState V U) (new : Scene V) (c : VaultCounts) (after : Flow) (fault : Fault) → Turned now c → ActFails k beat now.scene now.output fault new after → ByHand k kind beat old (run_state new now.runners after) (Err fault)
     done_failed now new c after fault g l = (
       g.acts ++ l.thing,
-      finish (g.acts ++ l.thing) (run_state new now.runners after) l.next (Err fault) (All-append (IsAllowed passes) g.acts l.thing g.allowed l.allowed) (acts_join k old.scene now.scene new g.acts l.thing g.moves l.moves)
+      finish (g.acts ++ l.thing) (run_state new now.runners after) l.next (Err fault) (All-append (IsAllowed beat) g.acts l.thing g.allowed l.allowed) (acts_join k old.scene now.scene new g.acts l.thing g.moves l.moves)
           (tells_on begun now.scene.desk.running.epoch l.next g.acts l.thing g.told l.told)
           (subst (λ (rs : List (EpochRecord ℕ)). IsPrinted old.output after (report decimal rs)) (sym (records_append g.acts l.thing)) (printed_then (records g.acts) (records l.thing) old.output now.output after g.written l.printed))
-          (fit_on g.acts l.thing now.runners l.quiet g.fitting) g.clients g.bounds g.plans (inr (failure_on now c g new l.thing after fault l.failure)),
+          (fit_on g.acts l.thing now.runners l.quiet g.fitting) (keeps_append rule [] g.acts l.thing g.keeps (keeps_driven rule (history g.acts) l.thing l.driven)) g.clients g.bounds g.plans (inr (failure_on now c g new l.thing after fault l.failure)),
       round_ends numbers g.acts l.thing g.shape l.one,
     )
 
     -- ---- the epoch whose end was refused, or left in doubt, behind the others
 
-    module _ (acts : List Act) (new : RunState V U) (result : Result (Unit {0}) Fault) (d : Conducted k kind passes old new acts result) (front : List Act) (writes : List (ℕ × Option (List ℕ))) (refused : EndErr) (is : acts ≡ front ++ Refuses writes refused ∷ [])
+    module _ (acts : List Act) (new : RunState V U) (result : Result (Unit {0}) Fault) (d : Conducted k kind beat old new acts result) (front : List Act) (writes : List (ℕ × Option (List ℕ))) (refused : EndErr) (is : acts ≡ front ++ Refuses writes refused ∷ [])
         (u : IsUnended k old.scene front writes refused) where
       abbrev due : EpochRecord ℕ
       due = record_of u.closed
@@ -384,13 +395,13 @@ module _ {V U Plan : Type 0} (k : Kind V) (kind : RunnerKind U Plan) (p : Params
       due_epoch = u.due.epoch_is ∙ ap (λ (rs : List (EpochRecord ℕ)). begun + length rs) (sym same_records)
 
       -- what is told of the others
-      others : Tells begun (begun + length (records acts)) (ended_of (calls acts)) (records acts)
+      others : TellsEpochs begun (begun + length (records acts)) (ended_of (calls acts)) (records acts)
       others = record { counted = refl; numbered = d.epochs; ordered = λ i r lt. record { tickets = d.in_order.tickets i r lt; named = d.in_order.named i r lt }; written = d.wrote }
 
       pub due_in_order : AreInOrder (records acts ++ due ∷ [])
       due_in_order = in_order begun (suc (begun + length (records acts))) (ended_of (calls acts) ++ writes ∷ []) (records acts ++ due ∷ [])
           (tells_join begun (begun + length (records acts)) (suc (begun + length (records acts))) (ended_of (calls acts)) (writes ∷ []) (records acts) (due ∷ []) others
-          (tells_one (begun + length (records acts)) (suc (begun + length (records acts))) writes due (subst (λ (rs : List (EpochRecord ℕ)). IsDue (begun + length rs) writes due) (sym same_records) u.due) refl))
+          (tells_one (begun + length (records acts)) (suc (begun + length (records acts))) writes due (subst (λ (rs : List (EpochRecord ℕ)). IsDueRecord (begun + length rs) writes due) (sym same_records) u.due) refl))
 
       last_one : (m : Map nat_cmp) → HoldsMap k old.scene.vault m → OneByOne nat_cmp m (committed_of (records front ++ due ∷ [])) (contents m (records front ++ due ∷ []))
       last_one m held =
@@ -398,9 +409,9 @@ module _ {V U Plan : Type 0} (k : Kind V) (kind : RunnerKind U Plan) (p : Params
           let from_new : Run m (new_desk setup epoch left clients) (history front) n u.mid.desk = subst (λ (x : DeskState). Run m x (history front) n u.mid.desk) fresh run in
           let fine = (good_run m (new_desk setup epoch left clients) (history front) n u.mid.desk from_new (good_new m setup epoch left clients)).closed u.closed u.is_closed in
           let last : Map nat_cmp = map_after n u.closed.order.works (length u.closed.order.works) in
-          let it : OneByOne nat_cmp n (committed_of (due ∷ [])) last = subst (λ (ts : List (Txn ℕ)). OneByOne nat_cmp n (filter (λ (t : Txn ℕ). is_committed t) ts) last) (sym (append-nil due.txns))
+          let it : OneByOne nat_cmp n (committed_of (due ∷ [])) last = subst (λ (ts : List (TxnRecord ℕ)). OneByOne nat_cmp n (filter (λ (t : TxnRecord ℕ). is_committed t) ts) last) (sym (append-nil due.txns))
           (one_by_one_from n u.closed.epoch 1 u.closed.order.works u.closed.holders fine.even (replays_from_reads n u.closed.order.works fine.reads)) in
-          let both : OneByOne nat_cmp m (committed_of (records front ++ due ∷ [])) last = subst (λ (ts : List (Txn ℕ)). OneByOne nat_cmp m ts last) (sym (committed_append (records front) (due ∷ [])))
+          let both : OneByOne nat_cmp m (committed_of (records front ++ due ∷ [])) last = subst (λ (ts : List (TxnRecord ℕ)). OneByOne nat_cmp m ts last) (sym (committed_append (records front) (due ∷ [])))
           (goes_on nat_cmp m (committed_of (records front)) (committed_of (due ∷ [])) n last (ran m (history front) n u.mid.desk run) it) in
           subst (OneByOne nat_cmp m (committed_of (records front ++ due ∷ []))) (left_by m (committed_of (records front ++ due ∷ [])) last both) both
 

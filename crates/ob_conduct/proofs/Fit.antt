@@ -1,7 +1,7 @@
 -- What every call of a client keeps of a part: its batches and its writes are ones that a vault takes.
 use Rattle.std.proofs.Common.{◌≡◌, ◌∙◌, ℕ, zero, suc, ◌+◌, ◌-◌, ◌<◌, ◌≤◌, Bool, true, false, not, ◌&&◌, ◌||◌, ◌==◌, if◌then◌else◌, List, [], ◌∷◌, ◌++◌, length, map, drop, take, replicate, Option, None, Some, option_and_then, slice_get, refl, sym, ap, subst, ⊎_elim, arith, length-append}
 use Rattle.std.specs.List.{list_any}
-use Rattle.std.proofs.lemmas.Bool.{false≢true, ne_eqb}
+use Rattle.std.proofs.lemmas.Bool.{false≢true}
 use Rattle.std.proofs.lemmas.List.{length-map}
 use Rattle.std.proofs.lemmas.Option.{none-some, same_Some}
 use Rattle.ob_base.specs.declared.fault.Fault.{Fault}
@@ -17,11 +17,11 @@ use Rattle.ob_order.specs.Order.{OrderState, fresh, after_begin, answer, asked, 
 use Rattle.ob_order.proofs.Edits.{length-edit, slice_get-push}
 use Rattle.ob_order.proofs.Newest.{Thinned, version-with_op}
 use Rattle.ob_order.proofs.Falls.{fallen_waits, fallen_aborted, thinned_from_fallen, length-aborted}
-use Rattle.ob_order.proofs.Counts.{none_stopped}
+use Rattle.ob_order.proofs.Counts.{none_stopped, other_written}
 use Rattle.ob_order.proofs.Keeps.{kept_none, kept_begun, kept_got, kept_waits, kept_wrote, kept_aborted, kept_stopped}
 use Rattle.ob_desk.specs.Desk.{Part, new_part, with_order, with_holder, end_of, asked_at, close_to, closing, stop_holder, stop_part}
 use Rattle.ob_desk.specs.declared.clients.Holder.{Holder}
-use Rattle.ob_conduct.specs.Ready.{IsDistinct, IsBelow, AreWithin, IsFit}
+use Rattle.ob_conduct.specs.Ready.{IsDistinct, AreAllBelow, AreWithin, IsFit}
 
 -- ---- keys in range
 
@@ -42,10 +42,6 @@ within_none : (n : ℕ) → AreWithin n []
 within_none n zero k l = refl
 within_none n (suc u) k l = refl
 
-write_of-write_op : (k : ℕ) (v : Option (List ℕ)) (j : ℕ) → (j ≡ k → ⊥) → write_of (write_op k v) j ≡ None
-write_of-write_op k None j h = ap (λ b. if b then Some None else None) (ne_eqb j k h)
-write_of-write_op k (Some v) j h = ap (λ b. if b then Some (Some v) else None) (ne_eqb j k h)
-
 -- ---- the queue
 
 less_one : (i j : ℕ) → suc i ≡ suc j → i ≡ j
@@ -56,7 +52,7 @@ distinct_drop zero queue h = h
 distinct_drop (suc n) [] h = h
 distinct_drop (suc n) (q ∷ queue) h = distinct_drop n queue (λ i j key at too. less_one i j (h (suc i) (suc j) key at too))
 
-pub below_drop : (m n : ℕ) (queue : List ℕ) → IsBelow m queue → IsBelow m (drop n queue)
+pub below_drop : (m n : ℕ) (queue : List ℕ) → AreAllBelow m queue → AreAllBelow m (drop n queue)
 below_drop m zero queue h = h
 below_drop m (suc n) [] h = h
 below_drop m (suc n) (q ∷ queue) h = below_drop m n queue (λ i key at. h (suc i) key at)
@@ -85,7 +81,7 @@ distinct_push queue k none h i j key at too = ⊎_elim
     (slice_get-push queue k j))
     (slice_get-push queue k i)
 
-below_push : (n : ℕ) (queue : List ℕ) (k : ℕ) → k < n → IsBelow n queue → IsBelow n (queue ++ k ∷ [])
+below_push : (n : ℕ) (queue : List ℕ) (k : ℕ) → k < n → AreAllBelow n queue → AreAllBelow n (queue ++ k ∷ [])
 below_push n queue k lt h i key at = ⊎_elim
     (λ old. h i key (sym old ∙ at))
     (λ last. subst (λ x. x < n) (same_Some k key (sym last.2 ∙ at)) lt)
@@ -114,10 +110,10 @@ fit_got p part t k v f is = record {
   even = f.even ∙ sym (length-edit _ part.order.works t);
 }
 
-asked_queue : (p : Params) (o : OrderState) (k : ℕ) → k < p.keys → IsDistinct o.queue → IsBelow p.keys o.queue → IsDistinct (asked o k).queue × IsBelow p.keys (asked o k).queue
+asked_queue : (p : Params) (o : OrderState) (k : ℕ) → k < p.keys → IsDistinct o.queue → AreAllBelow p.keys o.queue → IsDistinct (asked o k).queue × AreAllBelow p.keys (asked o k).queue
 asked_queue p o k lt distinct below = step (is_asked_for o k) refl
   where
-    step : (b : Bool) → is_asked_for o k ≡ b → IsDistinct (if b then o else record o { queue = o.queue ++ k ∷ [] }).queue × IsBelow p.keys (if b then o else record o { queue = o.queue ++ k ∷ [] }).queue
+    step : (b : Bool) → is_asked_for o k ≡ b → IsDistinct (if b then o else record o { queue = o.queue ++ k ∷ [] }).queue × AreAllBelow p.keys (if b then o else record o { queue = o.queue ++ k ∷ [] }).queue
     step true is = (distinct, below)
     step false is = (distinct_push o.queue k (or_none (list_any (λ j. j == k) o.queue) (list_any (λ j. j == k) o.flying) is).0 distinct, below_push p.keys o.queue k lt below)
 
@@ -143,7 +139,7 @@ fit_wrote p part t k v f was lt = record {
   distinct = f.distinct;
   below = f.below;
   kept = kept_wrote p part.order t k v f.kept (wrote_room p part.order t k was);
-  within = within_op p.keys part.order.works t (write_op k v) f.within (λ j g. write_of-write_op k v j (λ e. absurd (omega arith)));
+  within = within_op p.keys part.order.works t (write_op k v) f.within (λ j g. other_written k v j (λ e. absurd (omega arith)));
   even = f.even ∙ sym (length-edit _ part.order.works t);
 }
 
@@ -184,17 +180,6 @@ fit_close_to p part (suc u) f = step (goes_on (close_to part u).order.works (suc
 
 pub fit_closing : (p : Params) (part : Part) → IsFit p part → IsFit p (closing part)
 fit_closing p part f = fit_close_to p part (length part.order.works) f
-
-close_to-epoch : (part : Part) (u : ℕ) → (close_to part u).epoch ≡ part.epoch
-close_to-epoch part zero = refl
-close_to-epoch part (suc u) = step (goes_on (close_to part u).order.works (suc u) && not (asked_at (close_to part u) (suc u))) ∙ close_to-epoch part u
-  where
-    step : (b : Bool) → (if b then end_of (close_to part u) (suc u) EpochEnd else close_to part u).epoch ≡ (close_to part u).epoch
-    step true = refl
-    step false = refl
-
-pub closing-epoch : (part : Part) → (closing part).epoch ≡ part.epoch
-closing-epoch part = close_to-epoch part (length part.order.works)
 
 -- ---- a batch
 

@@ -6,7 +6,8 @@ use Rattle.std.proofs.lemmas.List.{append-nil, append_assoc, length-append, map-
 use Rattle.std.proofs.lemmas.List.Elements.{All-append, All-weaker}
 use Rattle.std.proofs.lemmas.List.Concat.{flat_map-append}
 use Rattle.ob_io.specs.Flows.{appended}
-use Rattle.ob_report.specs.Printed.{Flow, IsPrinted}
+use Rattle.ob_io.specs.Streams.{Flow}
+use Rattle.ob_report.specs.Printed.{IsPrinted}
 use Rattle.ob_report.specs.Report.{report, record_text}
 use Rattle.ob_serial.specs.Serial.{EpochRecord, AreInOrder}
 use Rattle.ob_serial.specs.Vaults.{VaultCall, Fetch, End, VaultAnswer, Values, Ended, RefusedBy, DoubtBy}
@@ -16,9 +17,9 @@ use Rattle.ob_desk.specs.Desk.{DeskState, Setup, Call, Reply, Part, Run, MayOpen
 use Rattle.ob_session.specs.Steps.{Leads, IsOwn}
 use Rattle.ob_conduct.specs.Acts.{Act, history, calls, records, desk_calls, vault_calls}
 use Rattle.ob_conduct.specs.Records.{AreWritten, AreAnswered, IsWritten, IsCutShort}
-use Rattle.ob_conduct.specs.Ready.{IsOrdered, Tells}
+use Rattle.ob_conduct.specs.Ready.{IsOrdered, TellsEpochs}
 use Rattle.ob_conduct.proofs.Writes.{rising}
-use Rattle.ob_conduct.proofs.Moving.{rose_since}
+use Rattle.ob_store.proofs.Serving.{rose_later}
 
 -- ---- lists of acts
 
@@ -77,7 +78,7 @@ written_join [] xs (r ∷ rs) qs a b = absurd a
 written_join (w ∷ ws) xs [] qs a b = absurd a
 written_join (w ∷ ws) xs (r ∷ rs) qs (one, a) b = (one, written_join ws xs rs qs a b)
 
-pub tells_join : (a b c : ℕ) (ws xs : List (List (ℕ × Option (List ℕ)))) (rs qs : List (EpochRecord ℕ)) → Tells a b ws rs → Tells b c xs qs → Tells a c (ws ++ xs) (rs ++ qs)
+pub tells_join : (a b c : ℕ) (ws xs : List (List (ℕ × Option (List ℕ)))) (rs qs : List (EpochRecord ℕ)) → TellsEpochs a b ws rs → TellsEpochs b c xs qs → TellsEpochs a c (ws ++ xs) (rs ++ qs)
 tells_join a b c ws xs rs qs s t = record {
   counted = let i = s.counted in let j = t.counted in let n : length (rs ++ qs) ≡ length rs + length qs = length-append rs qs in omega (arith, i, j, n);
   numbered = map-append (λ (r : EpochRecord ℕ). r.epoch) rs qs
@@ -87,7 +88,7 @@ tells_join a b c ws xs rs qs s t = record {
   written = written_join ws xs rs qs s.written t.written;
 }
 
-pub in_order : (a b : ℕ) (ws : List (List (ℕ × Option (List ℕ)))) (rs : List (EpochRecord ℕ)) → Tells a b ws rs → AreInOrder rs
+pub in_order : (a b : ℕ) (ws : List (List (ℕ × Option (List ℕ)))) (rs : List (EpochRecord ℕ)) → TellsEpochs a b ws rs → AreInOrder rs
 in_order a b ws rs t = record {
   epochs = subst IsStrictlyIncreasing (sym t.numbered) (rising a (length rs));
   tickets = All-weaker IsOrdered (λ r. IsStrictlyIncreasing (map (λ x. x.ticket) r.txns)) (λ r o. o.tickets) rs t.ordered;
@@ -125,7 +126,7 @@ printed_then rs qs before mid after w p = subst (IsPrinted before after) (sym (r
   count = length (report decimal rs) + p.count;
   within = rw length-append (let i = p.within in omega (arith, i));
   written = p.written ∙ ap (λ (b : Option (List ℕ)). appended b (take p.count (report decimal qs))) w.bytes ∙ appended_twice before.bytes (report decimal rs) (take p.count (report decimal qs)) ∙ ap (appended before.bytes) (sym (take-append (report decimal rs) (report decimal qs) p.count));
-  whole = ⊎_elim (λ e. inl (ap (λ n. length (report decimal rs) + n) e ∙ sym (length-append (report decimal rs) (report decimal qs)))) (λ r. inr (rose_since before.faults mid.faults after.faults w.later r)) p.whole;
+  whole = ⊎_elim (λ e. inl (ap (λ n. length (report decimal rs) + n) e ∙ sym (length-append (report decimal rs) (report decimal qs)))) (λ r. inr (rose_later before.faults mid.faults after.faults w.later r)) p.whole;
 })
 
 -- behind a whole text, a text that was cut short

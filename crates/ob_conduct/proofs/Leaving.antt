@@ -1,9 +1,9 @@
 -- What a crash leaves at any moment of a run.
-use Rattle.std.proofs.Common.{◌≡◌, ◌∙◌, ◌+◌, ◌++◌, ◌∷◌, [], ℕ, suc, Bool, List, Option, Some, None, sym, refl, ap, subst, arith, inl, inr, length, Ok, Err, Result, nat_cmp, decimal}
+use Rattle.std.proofs.Common.{◌≡◌, ◌∙◌, ◌+◌, ◌++◌, ◌∷◌, [], ℕ, suc, List, Option, Some, None, sym, refl, ap, subst, arith, inl, inr, length, Ok, Err, Result, nat_cmp}
 use Rattle.std.proofs.lemmas.List.{append-nil, append_assoc, length-append}
 use Rattle.std.proofs.lemmas.Option.{same_Some}
 use Rattle.ob_base.specs.declared.fault.Fault.{Fault}
-use Rattle.ob_serial.specs.Serial.{EpochRecord, Map, Txn, after, committed_of}
+use Rattle.ob_serial.specs.Serial.{EpochRecord, Map, TxnRecord, after_ops, committed_of}
 use Rattle.ob_serial.specs.Vaults.{VaultCall, Fetch, End, VaultAnswer, Values, Ended, RefusedBy, DoubtBy, VaultState, Standing, MayStand, MayStandIn, StandsIn, StandAlike, standing_now, standing_next, with_writes, vault_next}
 use Rattle.ob_serial.specs.VaultViews.{end_answer, IsEndFault}
 use Rattle.ob_serial.specs.VaultKinds.{Kind, Called, AllCalled, after_calls, ended_of, ended_by}
@@ -13,22 +13,23 @@ use Rattle.ob_store.specs.Disk.{Image}
 use Rattle.ob_store.specs.Images.{LeavesOnly}
 use Rattle.ob_store.proofs.Moments.{started, then_on, weakened}
 use Rattle.ob_desk.specs.Desk.{record_of}
+use Rattle.ob_desk.specs.Beats.{BeatKind}
 use Rattle.ob_desk.proofs.Runs.{committed_append}
 use Rattle.ob_conduct.specs.Acts.{Act, Says, Halts, Rests as Looked, Takes, Delivers, DeliverFails, FetchFails, Closes, Publishes, Refuses, Unprinted, calls, records, rest_fetches, vault_calls, fault_in, fault_told}
 use Rattle.ob_conduct.specs.Scenes.{RunState, RunnerKind}
 use Rattle.ob_conduct.specs.Records.{after_txns, contents, Makes, AreWritten, AreAnswered}
 use Rattle.ob_conduct.specs.Moves.{IsUnended, IsReason, Failure}
 use Rattle.ob_conduct.specs.Conducted.{RunEnds, Conducted}
-use Rattle.ob_conduct.specs.Left.{Rests, OnlyNow, standing_behind, IsFront, IsLeftStanding, TellsDoubt, IsLeftNow, next_at, IsBetween, Stages, LeftByRun}
+use Rattle.ob_conduct.specs.Left.{Rests, OnlyNow, standing_behind, IsFront, IsLeftStanding, TellsDoubt, IsLeftNow, next_at, IsThisOrNext, Stages, LeftByRun}
 use Rattle.ob_conduct.proofs.Acting.{answered_rest}
 use Rattle.ob_conduct.proofs.Moving.{called}
 use Rattle.ob_conduct.proofs.Going.{calls_more, records_append, ended_append, answered_join}
 
 -- ---- maps behind records
 
-txns_append : (m : Map nat_cmp) (ts us : List (Txn ℕ)) → after_txns m (ts ++ us) ≡ after_txns (after_txns m ts) us
+txns_append : (m : Map nat_cmp) (ts us : List (TxnRecord ℕ)) → after_txns m (ts ++ us) ≡ after_txns (after_txns m ts) us
 txns_append m [] us = refl
-txns_append m (t ∷ ts) us = txns_append (after nat_cmp m t.ops) ts us
+txns_append m (t ∷ ts) us = txns_append (after_ops nat_cmp m t.ops) ts us
 
 pub contents_append : (m : Map nat_cmp) (rs qs : List (EpochRecord ℕ)) → contents m (rs ++ qs) ≡ contents (contents m rs) qs
 contents_append m rs qs = ap (after_txns m) (committed_append rs qs) ∙ txns_append m (committed_of rs) (committed_of qs)
@@ -190,15 +191,15 @@ module _ {V : Type 0} (k : Kind V) (only : OnlyNow k) (rests : Rests k) where
 
   module _ (stands : Image → Standing → Type 0) where
     -- what a vault without doubt stands for, and what it may stand for within a call
-    now_between : (u : VaultState) (next : Option (EpochRecord ℕ)) → u.doubt ≡ None → (at : Standing) → MayStand u at → IsBetween (standing_now u) next at
+    now_between : (u : VaultState) (next : Option (EpochRecord ℕ)) → u.doubt ≡ None → (at : Standing) → MayStand u at → IsThisOrNext (standing_now u) next at
     now_between u next none at (inl is) = inl is
     now_between u next none at (inr is) = absurd (no_doubt at (sym none ∙ is))
 
-    end_between : (u : VaultState) (writes : List (ℕ × Option (List ℕ))) (r : EpochRecord ℕ) → Makes writes r → u.doubt ≡ None → (at : Standing) → MayStandIn u (End writes) at → IsBetween (standing_now u) (Some r) at
+    end_between : (u : VaultState) (writes : List (ℕ × Option (List ℕ))) (r : EpochRecord ℕ) → Makes writes r → u.doubt ≡ None → (at : Standing) → MayStandIn u (End writes) at → IsThisOrNext (standing_now u) (Some r) at
     end_between u writes r makes none at (inl may) = now_between u (Some r) none at may
     end_between u writes r makes none at (inr is) = inr (r, refl, is ∙ same_standing (suc u.epoch) (suc u.epoch) (with_writes u.content writes) (contents u.content (r ∷ [])) refl (makes u.content))
 
-    none_between : (at : Standing) (next : Option (EpochRecord ℕ)) (x : Standing) → IsBetween at None x → IsBetween at next x
+    none_between : (at : Standing) (next : Option (EpochRecord ℕ)) (x : Standing) → IsThisOrNext at None x → IsThisOrNext at next x
     none_between at next x (inl is) = inl is
     none_between at next x (inr (r, is, same)) = absurd (no_record r is)
       where
@@ -206,25 +207,25 @@ module _ {V : Type 0} (k : Kind V) (only : OnlyNow k) (rests : Rests k) where
         no_record r is = cc is
 
     -- one call more in a stage
-    longer : (from cur mid : V) (at : Standing) (before next : Option (EpochRecord ℕ)) (B : Standing → Type 0) → StandAlike stands (k.stands cur) → LeavesOnly (k.disk from) (k.disk cur) (StandsIn stands (IsBetween at before))
-        → ((x : Standing) → IsBetween at before x → IsBetween at next x) → LeavesOnly (k.disk cur) (k.disk mid) (StandsIn (k.stands cur) B) → ((x : Standing) → B x → IsBetween at next x)
-        → LeavesOnly (k.disk from) (k.disk mid) (StandsIn stands (IsBetween at next))
+    longer : (from cur mid : V) (at : Standing) (before next : Option (EpochRecord ℕ)) (B : Standing → Type 0) → StandAlike stands (k.stands cur) → LeavesOnly (k.disk from) (k.disk cur) (StandsIn stands (IsThisOrNext at before))
+        → ((x : Standing) → IsThisOrNext at before x → IsThisOrNext at next x) → LeavesOnly (k.disk cur) (k.disk mid) (StandsIn (k.stands cur) B) → ((x : Standing) → B x → IsThisOrNext at next x)
+        → LeavesOnly (k.disk from) (k.disk mid) (StandsIn stands (IsThisOrNext at next))
     longer from cur mid at before next B alike so_far widen one within =
-        then_on (k.disk from) (k.disk cur) (k.disk mid) (StandsIn stands (IsBetween at next))
-        (weakened (k.disk from) (k.disk cur) (StandsIn stands (IsBetween at before)) (StandsIn stands (IsBetween at next)) (stands_still stands (IsBetween at before) (IsBetween at next) widen) so_far)
-        (weakened (k.disk cur) (k.disk mid) (StandsIn (k.stands cur) B) (StandsIn stands (IsBetween at next)) (stands_alike stands (k.stands cur) alike B (IsBetween at next) within) one)
+        then_on (k.disk from) (k.disk cur) (k.disk mid) (StandsIn stands (IsThisOrNext at next))
+        (weakened (k.disk from) (k.disk cur) (StandsIn stands (IsThisOrNext at before)) (StandsIn stands (IsThisOrNext at next)) (stands_still stands (IsThisOrNext at before) (IsThisOrNext at next) widen) so_far)
+        (weakened (k.disk cur) (k.disk mid) (StandsIn (k.stands cur) B) (StandsIn stands (IsThisOrNext at next)) (stands_alike stands (k.stands cur) alike B (IsThisOrNext at next) within) one)
 
     -- a stage begins
-    begins : (mid : V) (u : VaultState) → k.sound mid u → u.doubt ≡ None → StandAlike stands (k.stands mid) → LeavesOnly (k.disk mid) (k.disk mid) (StandsIn stands (IsBetween (standing_now u) None))
-    begins mid u sound none alike = started (k.disk mid) (StandsIn stands (IsBetween (standing_now u) None))
-        (λ c left. stands_alike stands (k.stands mid) alike (MayStand u) (IsBetween (standing_now u) None) (now_between u None none) c (rests mid u c sound (only mid c left)))
+    begins : (mid : V) (u : VaultState) → k.sound mid u → u.doubt ≡ None → StandAlike stands (k.stands mid) → LeavesOnly (k.disk mid) (k.disk mid) (StandsIn stands (IsThisOrNext (standing_now u) None))
+    begins mid u sound none alike = started (k.disk mid) (StandsIn stands (IsThisOrNext (standing_now u) None))
+        (λ c left. stands_alike stands (k.stands mid) alike (MayStand u) (IsThisOrNext (standing_now u) None) (now_between u None none) c (rests mid u c sound (only mid c left)))
 
     alike_then : (a b : V) → StandAlike stands (k.stands a) → StandAlike (k.stands a) (k.stands b) → StandAlike stands (k.stands b)
     alike_then a b one two = λ c at. (λ s. (two c at).0 ((one c at).0 s), λ s. (one c at).1 ((two c at).1 s))
 
-    staged : (from cur : V) (steps : List (VaultCall × VaultAnswer)) (last : V) (u : VaultState) (told : List (EpochRecord ℕ)) → LeavesOnly (k.disk from) (k.disk cur) (StandsIn stands (IsBetween (standing_now u) None)) → StandAlike stands (k.stands cur)
+    staged : (from cur : V) (steps : List (VaultCall × VaultAnswer)) (last : V) (u : VaultState) (told : List (EpochRecord ℕ)) → LeavesOnly (k.disk from) (k.disk cur) (StandsIn stands (IsThisOrNext (standing_now u) None)) → StandAlike stands (k.stands cur)
         → AllCalled k cur steps last → AreAnswered steps → AreWritten (ended_of steps) told → k.sound cur u → u.doubt ≡ None → Stages k stands (standing_now u) told None from last
-    staged from cur [] last u [] so_far alike is are wrote sound none = subst (λ x. LeavesOnly (k.disk from) (k.disk x) (StandsIn stands (IsBetween (standing_now u) None))) (sym is) so_far
+    staged from cur [] last u [] so_far alike is are wrote sound none = subst (λ x. LeavesOnly (k.disk from) (k.disk x) (StandsIn stands (IsThisOrNext (standing_now u) None))) (sym is) so_far
     staged from cur [] last u (r ∷ told) so_far alike is are wrote sound none = absurd wrote
     staged from cur ((Fetch keys, Values values) ∷ steps) last u told so_far alike (mid, one, rest) are wrote sound none =
         staged from mid steps last (vault_next u (Fetch keys) (Values values)) told
@@ -256,25 +257,25 @@ module _ {V : Type 0} (k : Kind V) (only : OnlyNow k) (rests : Rests k) where
     all_behind at (r ∷ told) = all_behind (next_at at r) told ∙ same_standing (suc at.epoch + length told) (at.epoch + length (r ∷ told)) (contents (contents at.content (r ∷ [])) told) (contents at.content (r ∷ told)) (omega arith) (sym (contents_append at.content (r ∷ []) told))
 
     -- the last stage goes on
-    on_to : (from mid last : V) (at : Standing) (told : List (EpochRecord ℕ)) (next : Option (EpochRecord ℕ)) → Stages k stands at told None from mid → LeavesOnly (k.disk mid) (k.disk last) (StandsIn stands (IsBetween (behind_all at told) next)) → Stages k stands at told next from last
+    on_to : (from mid last : V) (at : Standing) (told : List (EpochRecord ℕ)) (next : Option (EpochRecord ℕ)) → Stages k stands at told None from mid → LeavesOnly (k.disk mid) (k.disk last) (StandsIn stands (IsThisOrNext (behind_all at told) next)) → Stages k stands at told next from last
     on_to from mid last at [] next so_far more =
-        then_on (k.disk from) (k.disk mid) (k.disk last) (StandsIn stands (IsBetween at next))
-        (weakened (k.disk from) (k.disk mid) (StandsIn stands (IsBetween at None)) (StandsIn stands (IsBetween at next)) (stands_still stands (IsBetween at None) (IsBetween at next) (none_between at next)) so_far) more
+        then_on (k.disk from) (k.disk mid) (k.disk last) (StandsIn stands (IsThisOrNext at next))
+        (weakened (k.disk from) (k.disk mid) (StandsIn stands (IsThisOrNext at None)) (StandsIn stands (IsThisOrNext at next)) (stands_still stands (IsThisOrNext at None) (IsThisOrNext at next) (none_between at next)) so_far) more
     on_to from mid last at (r ∷ told) next (one, first, rest) more = (one, first, on_to one mid last (next_at at r) told next rest more)
 
   -- the stages of a run whose last call was made behind others that were answered
   last_staged : (first : V) (front : List (VaultCall × VaultAnswer)) (mid : V) (call : VaultCall) (answer : VaultAnswer) (last : V) (v : VaultState) (told : List (EpochRecord ℕ)) (next : Option (EpochRecord ℕ))
       → AllCalled k first front mid → Called k mid call answer last → AreAnswered front → AreWritten (ended_of front) told → k.sound first v → v.doubt ≡ None
-      → ((at : Standing) → MayStandIn (after_calls v front) call at → IsBetween (standing_now (after_calls v front)) next at) → Stages k (k.stands first) (standing_now v) told next first last
+      → ((at : Standing) → MayStandIn (after_calls v front) call at → IsThisOrNext (standing_now (after_calls v front)) next at) → Stages k (k.stands first) (standing_now v) told next first last
   last_staged first front mid call answer last v told next before one are wrote sound none within =
       let u : VaultState = after_calls v front in
       let same : standing_now u ≡ behind_all (k.stands first) (standing_now v) told = behind_now v u told (is_behind v front told are wrote none) ∙ sym (all_behind (k.stands first) (standing_now v) told) in
       let alike = alike_all k first front mid before in
       on_to (k.stands first) first mid last (standing_now v) told next
       (staged (k.stands first) first first front mid v told (begins (k.stands first) first v sound none (λ c at. (λ s. s, λ s. s))) (λ c at. (λ s. s, λ s. s)) before are wrote sound none)
-      (subst (λ (at : Standing). LeavesOnly (k.disk mid) (k.disk last) (StandsIn (k.stands first) (IsBetween at next))) same
-      (weakened (k.disk mid) (k.disk last) (StandsIn (k.stands mid) (MayStandIn u call)) (StandsIn (k.stands first) (IsBetween (standing_now u) next))
-      (stands_alike (k.stands first) (k.stands mid) alike (MayStandIn u call) (IsBetween (standing_now u) next) within) (one.images u (sound_after k first front mid v before sound))))
+      (subst (λ (at : Standing). LeavesOnly (k.disk mid) (k.disk last) (StandsIn (k.stands first) (IsThisOrNext at next))) same
+      (weakened (k.disk mid) (k.disk last) (StandsIn (k.stands mid) (MayStandIn u call)) (StandsIn (k.stands first) (IsThisOrNext (standing_now u) next))
+      (stands_alike (k.stands first) (k.stands mid) alike (MayStandIn u call) (IsThisOrNext (standing_now u) next) within) (one.images u (sound_after k first front mid v before sound))))
 
 -- ---- a run
 
@@ -290,7 +291,7 @@ refused_ends : (writes : List (ℕ × Option (List ℕ))) (refused : EndErr) →
 refused_ends writes (Before fault) = refl
 refused_ends writes (Unsure fault) = refl
 
-module _ {V U Plan : Type 0} (k : Kind V) (only : OnlyNow k) (rests : Rests k) (kind : RunnerKind U Plan) (passes : ℕ → ℕ → ℕ → ℕ → Bool) (old new : RunState V U) (acts : List Act) (v : VaultState) (sound : k.sound old.scene.vault v) (none : v.doubt ≡ None) where
+module _ {V U Plan : Type 0} (k : Kind V) (only : OnlyNow k) (rests : Rests k) (kind : RunnerKind U Plan) (beat : BeatKind) (old new : RunState V U) (acts : List Act) (v : VaultState) (sound : k.sound old.scene.vault v) (none : v.doubt ≡ None) where
   abbrev first : V
   first = old.scene.vault
 
@@ -303,7 +304,7 @@ module _ {V U Plan : Type 0} (k : Kind V) (only : OnlyNow k) (rests : Rests k) (
   abbrev epoch : ℕ
   epoch = old.scene.desk.running.epoch + length (records acts)
 
-  module _ (result : Result (Unit {0}) Fault) (d : Conducted k kind passes old new acts result) where
+  module _ (result : Result (Unit {0}) Fault) (d : Conducted k kind beat old new acts result) where
     chain : AllCalled k first (calls acts) last
     chain = called k first (calls acts) d.notes last d.chain
 
@@ -340,7 +341,7 @@ module _ {V U Plan : Type 0} (k : Kind V) (only : OnlyNow k) (rests : Rests k) (
               (rests last (vault_next u (Fetch keys) (RefusedBy fault)) c (one.sound u (sound_after k first front mid v before sound)) left);
         }
 
-  module _ (fault : Fault) (d : Conducted k kind passes old new acts (Err fault)) (f : Failure k old.scene new.scene acts old.output new.output fault) where
+  module _ (fault : Fault) (d : Conducted k kind beat old new acts (Err fault)) (f : Failure k old.scene new.scene acts old.output new.output fault) where
     -- the end of an epoch was refused, or left in doubt
     by_end : (writes : List (ℕ × Option (List ℕ))) (refused : EndErr) → f.act ≡ Refuses writes refused → IsUnended k old.scene f.front writes refused → LeftByRun k old new acts (Err fault) v
     by_end writes refused act_is r =
@@ -389,18 +390,18 @@ module _ {V U Plan : Type 0} (k : Kind V) (only : OnlyNow k) (rests : Rests k) (
     by_act (Closes look batches writes) is reason = absurd reason
     by_act (Publishes writes left record_told) is reason = absurd reason
 
-  refused_leaves : (fault : Fault) (d : Conducted k kind passes old new acts (Err fault)) → RunEnds k old new acts (Err fault) → LeftByRun k old new acts (Err fault) v
+  refused_leaves : (fault : Fault) (d : Conducted k kind beat old new acts (Err fault)) → RunEnds k old new acts (Err fault) → LeftByRun k old new acts (Err fault) v
   refused_leaves fault d (inl short) = all_answered (Err fault) d (subst (λ (xs : List Act). AreAnswered (calls xs)) (sym short.none) tt)
   refused_leaves fault d (inr f) = by_act fault d f f.act refl f.reason
 
   -- A crash at any moment of a run leaves what stands behind a front of the records, or behind all of them and the epoch whose end was
   -- begun; at the return behind all of them, or also that epoch, but this only where the answer tells of doubt.
-  pub run_leaves : (result : Result (Unit {0}) Fault) (d : Conducted k kind passes old new acts result) → LeftByRun k old new acts result v
+  pub run_leaves : (result : Result (Unit {0}) Fault) (d : Conducted k kind beat old new acts result) → LeftByRun k old new acts result v
   run_leaves (Ok done) d = all_answered (Ok done) d d.ends.0
   run_leaves (Err fault) d = refused_leaves fault d d.ends
 
   -- where the answer tells of no doubt, a crash at the return leaves what stands behind all the records,
-  pub sure_now : (result : Result (Unit {0}) Fault) (d : Conducted k kind passes old new acts result) → (TellsDoubt epoch result → ⊥)
+  pub sure_now : (result : Result (Unit {0}) Fault) (d : Conducted k kind beat old new acts result) → (TellsDoubt epoch result → ⊥)
       → (c : Image) → (k.disk last).may_leave c → StandsIn (k.stands first) (λ at. at ≡ standing_behind v told) c
   sure_now result d sure c left = let l = run_leaves result d in
       stands_still (k.stands first) (IsLeftNow v told l.next (TellsDoubt epoch result)) (λ at. at ≡ standing_behind v told)
@@ -414,5 +415,5 @@ module _ {V U Plan : Type 0} (k : Kind V) (only : OnlyNow k) (rests : Rests k) (
   told_ok n done is = cc is
 
   -- as it does where the run went to its end
-  pub done_now : (done : Unit {0}) (d : Conducted k kind passes old new acts (Ok done)) → (c : Image) → (k.disk last).may_leave c → StandsIn (k.stands first) (λ at. at ≡ standing_behind v told) c
+  pub done_now : (done : Unit {0}) (d : Conducted k kind beat old new acts (Ok done)) → (c : Image) → (k.disk last).may_leave c → StandsIn (k.stands first) (λ at. at ≡ standing_behind v told) c
   done_now done d = sure_now (Ok done) d (told_ok epoch done)

@@ -1,7 +1,6 @@
 -- Calls of the desk and of the vault, one behind the other.
-use Rattle.std.proofs.Common.{◌≡◌, ◌∙◌, ◌≤◌, ℕ, All, List, [], ◌∷◌, ◌++◌, None, refl, sym, ap, subst, arith, nat_cmp}
+use Rattle.std.proofs.Common.{◌≡◌, ◌∙◌, ◌≤◌, ℕ, All, List, [], ◌∷◌, ◌++◌, None, refl, sym, ap, subst, nat_cmp}
 use Rattle.std.proofs.lemmas.List.{append_assoc}
-use Rattle.ob_base.specs.Causes.{Rose}
 use Rattle.ob_store.specs.declared.watch.Note.{Note}
 use Rattle.ob_store.specs.Calls.{GoesOn}
 use Rattle.ob_store.specs.Lines.{Trace}
@@ -14,14 +13,11 @@ use Rattle.ob_desk.specs.Desk as desk
 use Rattle.ob_desk.specs.Desk.{DeskState, Call, Reply, DeskStep, MayCall, Run}
 use Rattle.ob_desk.specs.declared.calls.Look.{Look}
 use Rattle.ob_session.specs.Steps.{Leads, IsOwn}
+use Rattle.ob_session.proofs.Saying.{leads_join}
 use Rattle.ob_conduct.specs.Acts.{look_calls}
 use Rattle.ob_conduct.specs.Scenes.{Scene, scene, AllNoted}
 use Rattle.ob_conduct.specs.Moves.{Moves}
 use Rattle.ob_conduct.proofs.Ready.{own_run}
-
-pub leads_join : (a : DeskState) (steps : List (Call × Reply)) (b : DeskState) (more : List (Call × Reply)) (c : DeskState) → Leads a steps b → Leads b more c → Leads a (steps ++ more) c
-leads_join a [] b more c is rest = subst (λ (x : DeskState). Leads x more c) is rest
-leads_join a (step ∷ steps) b more c (mid, may, one, first) rest = (mid, may, one, leads_join mid steps b more c first rest)
 
 pub run_join : (m : Map nat_cmp) (a : DeskState) (steps : List (Call × Reply)) (n : Map nat_cmp) (b : DeskState) (more : List (Call × Reply)) (o : Map nat_cmp) (c : DeskState) → Run m a steps n b → Run n b more o c → Run m a (steps ++ more) o c
 run_join m a [] n b more o c (same_map, is) rest = subst (λ (x : DeskState). Run m x more o c) is (subst (λ (y : Map nat_cmp). Run y b more o c) same_map rest)
@@ -41,9 +37,6 @@ called k first (step ∷ steps) notes last (mid, one, more, are, rest) = (mid, o
 pub goes_all : {V : Type 0} (k : Kind V) (first : V) (steps : List (VaultCall × VaultAnswer)) (notes : List Note) (last : V) → AllNoted k first steps notes last → GoesOn (k.disk first) (k.disk last)
 goes_all k first [] notes last (same, none) = subst (λ x. GoesOn (k.disk first) (k.disk x)) (sym same) (goes_same (k.disk first))
 goes_all k first (step ∷ steps) notes last (mid, one, more, are, rest) = goes_then (k.disk first) (k.disk mid) (k.disk last) one.goes (goes_all k mid steps more last rest)
-
-pub rose_since : (a b c : ℕ) → a ≤ b → Rose b c → Rose a c
-rose_since a b c le rose = omega (arith, le, rose)
 
 module _ {V : Type 0} (k : Kind V) where
   pub moves_none : (a : Scene V) → Moves k a [] [] a

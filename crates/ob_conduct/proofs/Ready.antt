@@ -1,7 +1,6 @@
 -- What a client's calls leave as it is.
-use Rattle.std.proofs.Common.{◌≡◌, ◌∙◌, ◌⊎◌, ◌<◌, ℕ, Bool, true, false, if◌then◌else◌, All, List, [], ◌∷◌, ◌++◌, Option, None, Some, refl, sym, ap, subst, inl, inr, cond, nat_cmp}
+use Rattle.std.proofs.Common.{◌≡◌, ◌∙◌, ◌⊎◌, ◌<◌, ℕ, Bool, true, false, if◌then◌else◌, All, List, [], ◌∷◌, ◌++◌, Option, None, Some, refl, sym, ap, subst, inl, inr, nat_cmp}
 use Rattle.std.specs.Option.{option_or}
-use Rattle.std.proofs.lemmas.Bool.{ne_eqb}
 use Rattle.std.proofs.lemmas.List.Elements.{All-head, All-tail}
 use Rattle.ob_base.specs.declared.fault.Fault.{Fault}
 use Rattle.ob_base.specs.declared.fault.Fault.TheVariants.{Memory}
@@ -11,20 +10,20 @@ use Rattle.ob_serial.specs.Vaults.{VaultCounts}
 use Rattle.ob_serial.specs.declared.records.Why.TheVariants.{Asked}
 use Rattle.ob_order.specs.Order.{OrderState, asked, is_asked_for, write_reply, after_write}
 use Rattle.ob_order.specs.declared.answers.Wrote.TheVariants.{Yes}
-use Rattle.ob_desk.specs.Desk.{DeskState, Part, with_order, stopped_by, Call, Begin, GetKey, Poll, Write, Commit, Abort, Settled, Looks, SignOff, Stop, Unsure, IsStopped, TakeBatch, Deliver, Close, Publish, Reply, Begun, Refused, Value, Waits, Aborted, Done, IsSettled, StoppedBy, DeskStep, MayCall, IsFed, map_next, Run}
+use Rattle.ob_desk.specs.Desk.{DeskState, Part, with_order, stopped_by, Call, Begin, GetKey, Poll, Write, Commit, Abort, Settled, Looks, SignOff, Stop, Unsure, IsStopped, TakeBatch, Deliver, Close}
+use Rattle.ob_desk.specs.Desk.{Publish, Reply, Begun, Refused, Value, Waits, Aborted, Done, IsSettled, StoppedBy, DeskStep, MayCall, IsFed, map_next, Run}
 use Rattle.ob_desk.proofs.Fine.{read_found, again_found}
 use Rattle.ob_session.specs.Steps.{Leads, IsOwn}
-use Rattle.ob_session.specs.Clients.{said_by, is_of}
-use Rattle.ob_conduct.specs.Ready.{IsFit, IsReady}
+use Rattle.ob_conduct.specs.Ready.{IsFit, IsBetweenActs}
 use Rattle.ob_conduct.proofs.Fit.{fit_begun, fit_got, fit_waits, fit_wrote, fit_end, fit_holder, fit_stopped}
 
-same : (p : Params) (c : VaultCounts) (d new : DeskState) → new ≡ d → IsReady p d c → IsReady p new c
-same p c d new e r = subst (λ (x : DeskState). IsReady p x c) (sym e) r
+same : (p : Params) (c : VaultCounts) (d new : DeskState) → new ≡ d → IsBetweenActs p d c → IsBetweenActs p new c
+same p c d new e r = subst (λ (x : DeskState). IsBetweenActs p x c) (sym e) r
 
 -- only the running part changed
 in_running : (p : Params) (c : VaultCounts) (d new : DeskState) (part : Part) → new ≡ record d { running = part } → part.epoch ≡ d.running.epoch → part.order.left ≡ d.running.order.left → part.order.flying ≡ d.running.order.flying
-    → IsFit p part → IsReady p d c → IsReady p new c
-in_running p c d new part e epoch left flying fit r = subst (λ (x : DeskState). IsReady p x c) (sym e) (record {
+    → IsFit p part → IsBetweenActs p d c → IsBetweenActs p new c
+in_running p c d new part e epoch left flying fit r = subst (λ (x : DeskState). IsBetweenActs p x c) (sym e) (record {
   params = r.params;
   none_closed = r.none_closed;
   landed = flying ∙ r.landed;
@@ -50,15 +49,15 @@ asked_flying o k = step (is_asked_for o k)
     step false = refl
 
 -- a key in the desk's range is in the parameters'
-in_range : (p : Params) (c : VaultCounts) (d : DeskState) (k : ℕ) → IsReady p d c → k < d.setup.params.keys → k < p.keys
+in_range : (p : Params) (c : VaultCounts) (d : DeskState) (k : ℕ) → IsBetweenActs p d c → k < d.setup.params.keys → k < p.keys
 in_range p c d k r lt = subst (λ (q : Params). k < q.keys) r.params lt
 
 still : (a : Option Fault) (f : Fault) → f ≡ Memory → (a ≡ None) ⊎ (a ≡ Some Memory) → option_or a (Some f) ≡ Some Memory
 still a f is (inl none) = ap (λ (o : Option Fault). option_or o (Some f)) none ∙ ap Some is
 still a f is (inr some) = ap (λ (o : Option Fault). option_or o (Some f)) some
 
-stopped : (p : Params) (c : VaultCounts) (d new : DeskState) (f : Fault) → f ≡ Memory → new ≡ stopped_by f d → IsReady p d c → IsReady p new c
-stopped p c d new f is e r = subst (λ (x : DeskState). IsReady p x c) (sym (e ∙ ap (λ (g : Fault). stopped_by g d) is)) (record {
+stopped : (p : Params) (c : VaultCounts) (d new : DeskState) (f : Fault) → f ≡ Memory → new ≡ stopped_by f d → IsBetweenActs p d c → IsBetweenActs p new c
+stopped p c d new f is e r = subst (λ (x : DeskState). IsBetweenActs p x c) (sym (e ∙ ap (λ (g : Fault). stopped_by g d) is)) (record {
   params = r.params;
   none_closed = r.none_closed;
   landed = r.landed;
@@ -72,8 +71,8 @@ stopped p c d new f is e r = subst (λ (x : DeskState). IsReady p x c) (sym (e �
 wrote : (p q : Params) (part : Part) (t k : ℕ) (value : Option (List ℕ)) → q ≡ p → IsFit p part → write_reply q part.order t k ≡ Yes → k < q.keys → IsFit p (with_order part (after_write part.order t k value Yes))
 wrote p q part t k value is fit was lt = fit_wrote p part t k value fit (subst (λ (s : Params). write_reply s part.order t k ≡ Yes) is was) (subst (λ (s : Params). k < s.keys) is lt)
 
-own_ready : (p : Params) (c : VaultCounts) (client : ℕ) (d : DeskState) (call : Call) (reply : Reply) (new : DeskState) → IsReady p d c → IsOwn client (call, reply) → MayCall d call → DeskStep d call reply new → IsReady p new c
-own_ready p c client d (Begin number) (Begun x) new r own may step = subst (λ (y : DeskState). IsReady p y c) (sym step.state) (record {
+own_ready : (p : Params) (c : VaultCounts) (client : ℕ) (d : DeskState) (call : Call) (reply : Reply) (new : DeskState) → IsBetweenActs p d c → IsOwn client (call, reply) → MayCall d call → DeskStep d call reply new → IsBetweenActs p new c
+own_ready p c client d (Begin number) (Begun x) new r own may step = subst (λ (y : DeskState). IsBetweenActs p y c) (sym step.state) (record {
   params = r.params;
   none_closed = r.none_closed;
   landed = r.landed;
@@ -99,7 +98,7 @@ own_ready p c client d (Commit x) (Aborted why) new r own may step = same p c d 
 own_ready p c client d (Abort x) (Aborted why) new r own may (inl step) = same p c d new step.same r
 own_ready p c client d (Abort x) (Aborted why) new r own may (inr step) = in_running p c d new _ step.state refl refl refl (fit_end p d.running x.ticket Asked r.fit) r
 own_ready p c client d (Settled x) (IsSettled outcome) new r own may step = same p c d new step.1 r
-own_ready p c client d (SignOff number) Done new r own may step = subst (λ (y : DeskState). IsReady p y c) (sym step.state) (record {
+own_ready p c client d (SignOff number) Done new r own may step = subst (λ (y : DeskState). IsBetweenActs p y c) (sym step.state) (record {
   params = r.params;
   none_closed = r.none_closed;
   landed = r.landed;
@@ -120,7 +119,7 @@ own_ready p c client d (Publish epoch left) reply new r own may step = absurd ow
 own_ready p c client d _ _ new r own may step = absurd step
 
 -- its calls leave the run ready
-pub all_ready : (p : Params) (c : VaultCounts) (client : ℕ) (d : DeskState) (steps : List (Call × Reply)) (new : DeskState) → IsReady p d c → All (IsOwn client) steps → Leads d steps new → IsReady p new c
+pub all_ready : (p : Params) (c : VaultCounts) (client : ℕ) (d : DeskState) (steps : List (Call × Reply)) (new : DeskState) → IsBetweenActs p d c → All (IsOwn client) steps → Leads d steps new → IsBetweenActs p new c
 all_ready p c client d [] new r own is = same p c d new is r
 all_ready p c client d (step ∷ steps) new r own (mid, may, one, rest) =
     all_ready p c client mid steps new (own_ready p c client d step.0 step.1 mid r (All-head (IsOwn client) step steps own) may one) (All-tail (IsOwn client) step steps own) rest
@@ -149,27 +148,3 @@ own_run m client d [] new own is = (refl, is)
 own_run m client d (step ∷ steps) new own (mid, may, one, rest) =
     let fed = own_fed m d client step.0 step.1 (All-head (IsOwn client) step steps own) in
     (mid, may, one, fed.0, subst (λ (n : Map nat_cmp). Run n mid steps m new) (sym fed.1) (own_run m client mid steps new (All-tail (IsOwn client) step steps own) rest))
-
--- another client's calls are none of this one's
-not_of : (c e : ℕ) (call : Call) (reply : Reply) → (e ≡ c → ⊥) → IsOwn e (call, reply) → is_of c call ≡ false
-not_of c e (Begin number) reply other own = ne_eqb number c (λ is. other (sym own ∙ is))
-not_of c e (GetKey x k) reply other own = ne_eqb x.client c (λ is. other (sym own ∙ is))
-not_of c e (Poll x) reply other own = ne_eqb x.client c (λ is. other (sym own ∙ is))
-not_of c e (Write x k value) reply other own = ne_eqb x.client c (λ is. other (sym own ∙ is))
-not_of c e (Commit x) reply other own = ne_eqb x.client c (λ is. other (sym own ∙ is))
-not_of c e (Abort x) reply other own = ne_eqb x.client c (λ is. other (sym own ∙ is))
-not_of c e (Settled x) reply other own = ne_eqb x.client c (λ is. other (sym own ∙ is))
-not_of c e (SignOff number) reply other own = ne_eqb number c (λ is. other (sym own ∙ is))
-not_of c e (Stop f) reply other own = refl
-not_of c e IsStopped reply other own = refl
-not_of c e Looks reply other own = absurd own
-not_of c e (Unsure f) reply other own = absurd own
-not_of c e TakeBatch reply other own = absurd own
-not_of c e (Deliver keys values) reply other own = absurd own
-not_of c e Close reply other own = absurd own
-not_of c e (Publish epoch left) reply other own = absurd own
-
-pub other_said : (c e : ℕ) (steps : List (Call × Reply)) → (e ≡ c → ⊥) → All (IsOwn e) steps → said_by c steps ≡ []
-other_said c e [] other own = refl
-other_said c e (step ∷ steps) other own =
-    ap (λ b. cond b (step ∷ said_by c steps) (said_by c steps)) (not_of c e step.0 step.1 other (All-head (IsOwn e) step steps own)) ∙ other_said c e steps other (All-tail (IsOwn e) step steps own)

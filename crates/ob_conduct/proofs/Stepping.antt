@@ -4,25 +4,23 @@ use Rattle.std.specs.List.{Contains}
 use Rattle.std.specs.List.Sorted.{IsStrictlyIncreasing}
 use Rattle.std.proofs.lemmas.Bool.{cases_eq, cases_lt}
 use Rattle.std.proofs.lemmas.List.{take_more, append-nil, append_assoc, get_or-map, get_or-set_same, get_or-set_other, length-map, length-set}
-use Rattle.std.proofs.lemmas.List.Elements.{All-nil, All-push, All-map, filter-append}
+use Rattle.std.proofs.lemmas.List.Elements.{All-nil, All-push, All-map}
 use Rattle.std.proofs.lemmas.List.Concat.{flat_map-append}
 use Rattle.std.proofs.Math.Seq.{map-set_same}
 use Rattle.ob_desk.specs.Desk.{DeskState, Call, Reply, new_desk, MayOpen}
 use Rattle.ob_session.specs.Steps.{Leads, IsOwn}
-use Rattle.ob_session.specs.Clients.{said_by, is_of, IsOneCall}
+use Rattle.ob_session.specs.Clients.{said_by}
 use Rattle.ob_session.specs.Agreeing.{Agrees}
 use Rattle.ob_session.proofs.Runs.{calls_agree}
+use Rattle.ob_session.proofs.Saying.{leads_join, said_append, other_said}
 use Rattle.ob_conduct.specs.Acts.{Act, Says, history, desk_calls}
+use Rattle.ob_conduct.specs.Rounds.{plan_rule}
+use Rattle.ob_conduct.specs.Scenes.{RunnerKind, seat_of}
 use Rattle.ob_conduct.specs.Moves.{IsSaid, Stepped, Heard}
-use Rattle.ob_conduct.proofs.Moving.{leads_join}
-use Rattle.ob_conduct.proofs.Ready.{other_said}
-use Rattle.ob_conduct.proofs.Turning.{turns_push}
+use Rattle.ob_conduct.proofs.Turning.{turns_push, keeps_push}
 
 pub history_more : (acts : List Act) (act : Act) → history (acts ++ act ∷ []) ≡ history acts ++ desk_calls act
 history_more acts act = flat_map-append desk_calls acts (act ∷ []) ∙ ap (λ (x : List (Call × Reply)). history acts ++ x) (append-nil (desk_calls act))
-
-pub said_append : (c : ℕ) (xs ys : List (Call × Reply)) → said_by c (xs ++ ys) ≡ said_by c xs ++ said_by c ys
-said_append c xs ys = filter-append (λ (s : Call × Reply). is_of c s.0) xs ys
 
 -- rising numbers are apart
 rises_far : (xs : List ℕ) (i n : ℕ) → IsStrictlyIncreasing xs → i + suc n < length xs → get_or xs i 0 < get_or xs (i + suc n) 0
@@ -45,7 +43,19 @@ apart xs i j rising other within also is = ⊎_elim
     (λ ge. let far = rises_to xs j i rising (let o = other in omega (arith, ge, o)) within in absurd (omega (arith, far, is)))
     (cases_lt i j)
 
-module _ {U Plan : Type 0} (client bound : U → ℕ) (plan : U → Plan) (fits : U → List (Call × Reply) → Type 0) where
+module _ {U Plan : Type 0} (kind : RunnerKind U Plan) where
+  abbrev client : U → ℕ
+  client = kind.client
+
+  abbrev bound : U → ℕ
+  bound = kind.bound
+
+  abbrev plan : U → Plan
+  plan = kind.plan
+
+  abbrev fits : U → List (Call × Reply) → Type 0
+  fits = kind.fits
+
   at_map : (f : U → ℕ) (us : List U) (i : ℕ) (d : U) → i < length us → get_or (map f us) i 0 ≡ f (get_or us i d)
   at_map f us i d lt = get_or-map f us i d 0 lt
 
@@ -55,13 +65,30 @@ module _ {U Plan : Type 0} (client bound : U → ℕ) (plan : U → Plan) (fits 
       let here : get_or (map bound are) i 0 ≡ bound u = at_map bound are i u lt ∙ ap bound (sym is) in
       subst (λ b. b ≤ n) here (all i 0 (subst (λ l. i < l) (sym (length-map are bound)) lt))
 
-  pub stepped_none : (d : DeskState) (us : List U) → Stepped client bound plan fits [] d us d us
-  stepped_none d us = record { acts = []; says = All-nil _; leads = refl; clients = refl; bounds = refl; plans = refl; fitting = λ calls all. subst (λ (h : List (Call × Reply)). All (λ u. fits u (said_by (client u) h)) us) (sym (append-nil calls)) all; turns = λ calls all. tt }
+  pub stepped_none : (d : DeskState) (us : List U) → Stepped kind [] d us d us
+  stepped_none d us = record { acts = []; says = All-nil _; leads = refl; clients = refl; bounds = refl; plans = refl; fitting = λ calls all. subst (λ (h : List (Call × Reply)). All (λ u. fits u (said_by (client u) h)) us) (sym (append-nil calls)) all; turns = tt; keeps = λ calls all. tt }
 
-  pub stepped_more : (numbers : List ℕ) (old mid new : DeskState) (was are : List U) (i : ℕ) (u v : U) (steps : List (Call × Reply)) → IsStrictlyIncreasing (map client was) → i < length are → u ≡ get_or are i u → Stepped client bound plan fits numbers old was mid are
-      → client v ≡ client u → bound v ≡ bound u → plan v ≡ plan u → All (IsOwn (client u)) steps → Leads mid steps new → ((said : List (Call × Reply)) → fits u said → fits v (said ++ said_by (client u) steps)) → ((said : List (Call × Reply)) → fits u said → IsOneCall said steps)
-      → Stepped client bound plan fits (numbers ++ client u ∷ []) old was new (set are i v)
-  stepped_more numbers old mid new was are i u v steps rising lt is s same_client same_bound same_plan own leads goes_on one = record {
+  -- runners of the same clients with the same plans
+  pub same_seats : (us vs : List U) → map client us ≡ map client vs → map plan us ≡ map plan vs → map (seat_of kind) us ≡ map (seat_of kind) vs
+  same_seats [] [] clients plans = refl
+  same_seats [] (v ∷ vs) clients plans = absurd (cc clients)
+  same_seats (u ∷ us) [] clients plans = absurd (cc clients)
+  same_seats (u ∷ us) (v ∷ vs) clients plans =
+      let c : client u ≡ client v = cc clients in
+      let cs : map client us ≡ map client vs = cc clients in
+      let q : plan u ≡ plan v = cc plans in
+      let qs : map plan us ≡ map plan vs = cc plans in
+      let one : ◌≡◌ {A = ℕ × Plan} (client u, plan u) (client v, plan v) = ap (λ n. let x : ℕ × Plan = (n, plan u) in x) c ∙ ap (λ p. let x : ℕ × Plan = (client v, p) in x) q in
+      ap (λ x. x ∷ map (seat_of kind) us) one ∙ ap (λ xs. (client v, plan v) ∷ xs) (same_seats us vs cs qs)
+
+  seated : (was are : List U) (i : ℕ) (u : U) → map client are ≡ map client was → map plan are ≡ map plan was → i < length are → u ≡ get_or are i u → Contains (map (seat_of kind) was) (client u, plan u)
+  seated was are i u clients plans lt is = subst (λ seats. Contains seats (client u, plan u)) (same_seats are was clients plans)
+      (i, subst (λ l. i < l) (sym (length-map are (seat_of kind))) lt, get_or-map (seat_of kind) are i u (client u, plan u) lt ∙ ap (seat_of kind) (sym is))
+
+  pub stepped_more : (numbers : List ℕ) (old mid new : DeskState) (was are : List U) (i : ℕ) (u v : U) (steps : List (Call × Reply)) → IsStrictlyIncreasing (map client was) → i < length are → u ≡ get_or are i u → Stepped kind numbers old was mid are
+      → client v ≡ client u → bound v ≡ bound u → plan v ≡ plan u → All (IsOwn (client u)) steps → Leads mid steps new → ((said : List (Call × Reply)) → fits u said → fits v (said ++ said_by (client u) steps)) → ((said : List (Call × Reply)) → fits u said → kind.turn (plan u) (client u) said steps)
+      → Stepped kind (numbers ++ client u ∷ []) old was new (set are i v)
+  stepped_more numbers old mid new was are i u v steps rising lt is s same_client same_bound same_plan own leads goes_on turn = record {
     acts = s.acts ++ Says (client u) steps ∷ [];
     says = All-push IsSaid s.acts (Says (client u) steps) s.says own;
     leads = subst (λ (h : List (Call × Reply)). Leads old h new) (sym (history_more s.acts (Says (client u) steps))) (leads_join old (history s.acts) mid steps new s.leads leads);
@@ -69,7 +96,9 @@ module _ {U Plan : Type 0} (client bound : U → ℕ) (plan : U → Plan) (fits 
     bounds = map-set_same bound are i v u (same_bound ∙ ap bound is) ∙ s.bounds;
     plans = map-set_same plan are i v u (same_plan ∙ ap plan is) ∙ s.plans;
     fitting = λ calls all j d within. fit calls (s.fitting calls all) j d within;
-    turns = λ calls all. turns_push numbers calls s.acts (client u) (Says (client u) steps) (s.turns calls all) (refl, one (said_by (client u) (calls ++ history s.acts)) (its calls (s.fitting calls all)));
+    turns = turns_push numbers s.acts (client u) (Says (client u) steps) s.turns refl;
+    keeps = λ calls all. keeps_push (plan_rule kind.turn (map (seat_of kind) was)) calls s.acts (Says (client u) steps) (s.keeps calls all)
+        (plan u, seated was are i u s.clients s.plans lt is, turn (said_by (client u) (calls ++ history s.acts)) (its calls (s.fitting calls all)));
   }
     where
       its : (calls : List (Call × Reply)) → All (λ w. fits w (said_by (client w) (calls ++ history s.acts))) are → fits u (said_by (client u) (calls ++ history s.acts))
@@ -105,7 +134,7 @@ module _ {U Plan : Type 0} (client bound : U → ℕ) (plan : U → Plan) (fits 
       ∙ sym (take_more (map client was) i 0 (subst (λ l. i < l) (sym (length-map are client) ∙ ap (λ (ns : List ℕ). length ns) same) lt))
 
   -- what was heard before steps is heard behind them
-  pub heard_on : (numbers : List ℕ) (old new : DeskState) (was are : List U) → Heard client fits old was → Stepped client bound plan fits numbers old was new are → Heard client fits new are
+  pub heard_on : (numbers : List ℕ) (old new : DeskState) (was are : List U) → Heard client fits old was → Stepped kind numbers old was new are → Heard client fits new are
   heard_on numbers old new was are h s = record {
     setup = h.setup;
     epoch = h.epoch;

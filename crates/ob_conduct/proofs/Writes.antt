@@ -1,5 +1,5 @@
 -- The writes of an epoch that is closed, and its record.
-use Rattle.std.proofs.Common.{◌≡◌, ◌∙◌, ℕ, zero, suc, ◌+◌, ◌<◌, ◌≤◌, if◌then◌else◌, All, List, [], ◌∷◌, length, map, filter, filter_map, get_or, Option, None, Some, option_map, unwrap_or, slice_get, refl, sym, ap, ap₂, subst, arith, length-append, nat_cmp, add-one}
+use Rattle.std.proofs.Common.{◌≡◌, ◌∙◌, ℕ, zero, suc, ◌+◌, ◌<◌, ◌≤◌, if◌then◌else◌, All, List, [], ◌∷◌, length, map, filter, filter_map, get_or, Option, None, Some, option_map, unwrap_or, refl, sym, ap, ap₂, subst, arith, length-append, nat_cmp, add-one}
 use Rattle.std.specs.List.{cons_option, range_with_len}
 use Rattle.std.specs.Option.{is_some}
 use Rattle.std.specs.List.Sorted.{IsStrictlyIncreasing}
@@ -8,22 +8,19 @@ use Rattle.std.proofs.lemmas.List.Elements.{All-nil, All-cons, All-weaker}
 use Rattle.std.proofs.lemmas.List.FromFn.{length-range_with_len, get_or-range_with_len}
 use Rattle.ob_base.specs.declared.params.Params.{Params}
 use Rattle.ob_base.specs.declared.value.Write.{Write}
-use Rattle.ob_base.specs.declared.op.Op.{Op}
-use Rattle.ob_serial.specs.Serial.{Txn, Map, after, OneByOne, is_committed}
+use Rattle.ob_serial.specs.Serial.{TxnRecord, Map, after_ops, OneByOne, is_committed}
 use Rattle.ob_serial.specs.declared.records.Outcome.TheVariants.{Committed, Aborted as AbortedBy}
-use Rattle.ob_serial.specs.Vaults as vaults
 use Rattle.ob_order.specs.declared.answers.Version.{Version}
 use Rattle.ob_order.specs.declared.fate.Fate.{Fate}
 use Rattle.ob_order.specs.declared.fate.Fate.TheVariants.{Going, Ended, Fell}
 use Rattle.ob_order.specs.Works.{Work, is_going, newest, last_writes}
-use Rattle.ob_order.specs.Order.{count_below, is_written, write_op}
-use Rattle.ob_order.specs.Writes.{pair_of}
+use Rattle.ob_order.specs.Order.{count_below, is_written}
+use Rattle.ob_base.specs.Writes.{pair_of}
 use Rattle.ob_order.proofs.Counts.{last_writes_more}
-use Rattle.ob_desk.specs.Desk as desk
-use Rattle.ob_desk.specs.Desk.{Part, txns_from, record_of, why_of, closing}
+use Rattle.ob_desk.specs.Desk.{Part, txns_from, record_of, why_of}
 use Rattle.ob_desk.specs.declared.clients.Holder.{Holder}
 use Rattle.ob_desk.specs.Replay.{map_after}
-use Rattle.ob_desk.proofs.Published.{batch_gives}
+use Rattle.ob_desk.proofs.Published.{batch_gives, after_work, map_after-cons}
 use Rattle.ob_conduct.specs.Records.{after_txns, Makes}
 use Rattle.ob_conduct.specs.Ready.{IsFit, IsOrdered}
 
@@ -101,32 +98,12 @@ writes_below ws works n are = unmapped ws n
 
 -- ---- what they make of a map
 
-same_op : (w : ℕ × Option (List ℕ)) → vaults.write_op w ≡ write_op w.0 w.1
-same_op (k, None) = refl
-same_op (k, Some v) = refl
-
-same_ops : (ws : List (ℕ × Option (List ℕ))) → map vaults.write_op ws ≡ map (λ w. write_op w.0 w.1) ws
-same_ops [] = refl
-same_ops (w ∷ ws) = ap₂ (λ (o : Op ℕ) (os : List (Op ℕ)). o ∷ os) (same_op w) (same_ops ws)
-
--- the vault's words and the desk's for the same map
-pub same_writes : (m : Map nat_cmp) (ws : List (ℕ × Option (List ℕ))) → vaults.with_writes m ws ≡ desk.with_writes m ws
-same_writes m ws = ap (after nat_cmp m) (same_ops ws)
-
--- the map after one transaction
-abbrev after_work : Map nat_cmp → Work → Map nat_cmp
-after_work m w = if is_going w.fate then after nat_cmp m w.ops else m
-
-map_after-cons : (m : Map nat_cmp) (w : Work) (ws : List Work) (n : ℕ) → map_after m (w ∷ ws) (suc n) ≡ map_after (after_work m w) ws n
-map_after-cons m w ws zero = refl
-map_after-cons m w ws (suc n) = ap (λ x. unwrap_or (option_map (λ v. after_work x v) (slice_get ws n)) x) (map_after-cons m w ws n)
-
 txns_make : (m : Map nat_cmp) (epoch t : ℕ) (ws : List Work) (hs : List Holder) → length hs ≡ length ws → map_after m ws (length ws) ≡ after_txns m (filter (λ x. is_committed x) (txns_from epoch t ws hs))
 txns_make m epoch t [] hs e = refl
 txns_make m epoch t (w ∷ ws) [] e = absurd (omega arith)
 txns_make m epoch t (w ∷ ws) (x ∷ hs) e = map_after-cons m w ws (length ws) ∙ txns_make (after_work m w) epoch (suc t) ws hs (omega arith) ∙ step w.fate
   where
-    step : (f : Fate) → after_txns (if is_going f then after nat_cmp m w.ops else m) (filter (λ x. is_committed x) (txns_from epoch (suc t) ws hs))
+    step : (f : Fate) → after_txns (if is_going f then after_ops nat_cmp m w.ops else m) (filter (λ x. is_committed x) (txns_from epoch (suc t) ws hs))
         ≡ after_txns m (filter (λ x. is_committed x) (record { epoch = epoch; ticket = t; client = x.client; ops = w.ops; outcome = unwrap_or (option_map AbortedBy (why_of f x.cause)) Committed } ∷ txns_from epoch (suc t) ws hs))
     step Going = refl
     step Ended = refl
@@ -134,15 +111,14 @@ txns_make m epoch t (w ∷ ws) (x ∷ hs) e = map_after-cons m w ws (length ws) 
 
 -- the writes of an epoch make of any map what its record does
 pub batch_makes : (p : Params) (part : Part) → IsFit p part → Makes (last_writes p.keys part.order.works) (record_of part)
-batch_makes p part f m = same_writes m (last_writes p.keys part.order.works)
-    ∙ batch_gives m p.keys part.order.works (record { at_each = f.within })
+batch_makes p part f m = batch_gives m p.keys part.order.works (record { at_each = f.within })
     ∙ txns_make m part.epoch 1 part.order.works part.holders f.even
-    ∙ ap (λ ts. after_txns m (filter (λ (x : Txn ℕ). is_committed x) ts)) (sym (append-nil (record_of part).txns))
+    ∙ ap (λ ts. after_txns m (filter (λ (x : TxnRecord ℕ). is_committed x) ts)) (sym (append-nil (record_of part).txns))
 
 -- what ran one by one left
-pub left_by : (m : Map nat_cmp) (ts : List (Txn ℕ)) (last : Map nat_cmp) → OneByOne nat_cmp m ts last → last ≡ after_txns m ts
+pub left_by : (m : Map nat_cmp) (ts : List (TxnRecord ℕ)) (last : Map nat_cmp) → OneByOne nat_cmp m ts last → last ≡ after_txns m ts
 left_by m [] last is = sym is
-left_by m (t ∷ ts) last (replays, rest) = left_by (after nat_cmp m t.ops) ts last rest
+left_by m (t ∷ ts) last (replays, rest) = left_by (after_ops nat_cmp m t.ops) ts last rest
 
 -- ---- its order
 
@@ -154,7 +130,7 @@ ticketed epoch t (w ∷ ws) (x ∷ hs) = ap (λ ts. t ∷ ts) (ticketed epoch (s
 named : (epoch t : ℕ) (ws : List Work) (hs : List Holder) → All (λ x. x.epoch ≡ epoch) (txns_from epoch t ws hs)
 named epoch t [] hs = All-nil _
 named epoch t (w ∷ ws) [] = All-nil _
-named epoch t (w ∷ ws) (x ∷ hs) = All-cons (λ (y : Txn ℕ). y.epoch ≡ epoch) _ (txns_from epoch (suc t) ws hs) refl (named epoch (suc t) ws hs)
+named epoch t (w ∷ ws) (x ∷ hs) = All-cons (λ (y : TxnRecord ℕ). y.epoch ≡ epoch) _ (txns_from epoch (suc t) ws hs) refl (named epoch (suc t) ws hs)
 
 pub rising : (a n : ℕ) → IsStrictlyIncreasing (range_with_len a n)
 rising a n k within =

@@ -1,5 +1,5 @@
 -- What is done in the rounds of a run: the clients' calls, and what the driver of epochs does at its looks.
-use Rattle.std.specs.Prelude.{ℕ, suc, ◌≡◌, ◌<◌, ◌⊎◌, Bool, true, All, List, [], ◌∷◌, ◌++◌, map, flat_map, Option, Some, None, Err}
+use Rattle.std.specs.Prelude.{ℕ, suc, ◌≡◌, ◌<◌, ◌⊎◌, true, All, List, [], ◌∷◌, ◌++◌, map, flat_map, Option, Some, None, Err}
 use Rattle.ob_base.specs.declared.fault.Fault.{Fault}
 use Rattle.ob_base.specs.declared.fault.Fault.TheVariants.{SinkFault}
 use Rattle.ob_serial.specs.Serial.{EpochRecord}
@@ -10,6 +10,7 @@ use Rattle.ob_serial.specs.declared.vault.EndErr.TheVariants.{Before, Unsure}
 use Rattle.ob_desk.specs.Desk as desk
 use Rattle.ob_desk.specs.Desk.{Call, Reply}
 use Rattle.ob_desk.specs.declared.calls.Look.{Look}
+use Rattle.ob_desk.specs.Beats.{BeatKind}
 use Rattle.ob_session.specs.Steps.{IsOwn}
 
 -- A batch that was fetched and delivered: keys in their places, none for a pad, and their values.
@@ -120,9 +121,13 @@ calls acts = flat_map vault_calls acts
 abbrev pub records : List Act → List (EpochRecord ℕ)
 records acts = desk.published (history acts)
 
+-- the look passes the beat's test
+abbrev pub PassesTest : BeatKind → Look → Type 0
+PassesTest beat look = beat.passes look.waiting look.live look.queued look.left ≡ true
+
 -- The driver may act at this look: no client is left, or the look passes the beat's test.
-abbrev pub MayAct : (ℕ → ℕ → ℕ → ℕ → Bool) → Look → Type 0
-MayAct passes look = (look.clients ≡ 0) ⊎ (passes look.waiting look.live look.queued look.left ≡ true)
+abbrev pub MayAct : BeatKind → Look → Type 0
+MayAct beat look = (look.clients ≡ 0) ⊎ PassesTest beat look
 
 -- to act is to fetch a batch,
 abbrev pub IsToFetch : Look → Type 0
@@ -132,19 +137,28 @@ IsToFetch look = (0 < look.queued) × (0 < look.left)
 abbrev pub IsToEnd : Look → Type 0
 IsToEnd look = ((look.queued ≡ 0) ⊎ (look.left ≡ 0)) × (0 < look.txns)
 
+-- nothing is to be done: no key is queued that a batch is left for, and the epoch has no transactions
+abbrev pub HasNoWork : Look → Type 0
+HasNoWork look = ((look.queued ≡ 0) ⊎ (look.left ≡ 0)) × (look.txns ≡ 0)
+
+-- The driver may rest at this look: no client and no transaction is left; or a client is, and where the beat acts at each look that
+-- passes its test, and this one does, nothing is to be done.
+abbrev pub MayRest : BeatKind → Look → Type 0
+MayRest beat look = ((look.clients ≡ 0) × (look.txns ≡ 0)) ⊎ ((0 < look.clients) × (beat.exact ≡ true → PassesTest beat look → HasNoWork look))
+
 -- What may be done: by a client, its own calls; by the driver, what its look allows.
-abbrev pub IsAllowed : (ℕ → ℕ → ℕ → ℕ → Bool) → Act → Type 0
-IsAllowed passes (Says client steps) = All (IsOwn client) steps
-IsAllowed passes (Rests look) = look.clients ≡ 0 → look.txns ≡ 0
-IsAllowed passes (Takes look keys) = MayAct passes look × IsToFetch look
-IsAllowed passes (FetchFails look batches keys fault) = MayAct passes look × IsToEnd look
-IsAllowed passes (Closes look batches writes) = MayAct passes look × IsToEnd look
-IsAllowed passes (Halts fault) = Unit {0}
-IsAllowed passes (Delivers batch) = Unit {0}
-IsAllowed passes (DeliverFails keys fault) = Unit {0}
-IsAllowed passes (Publishes writes left told) = Unit {0}
-IsAllowed passes (Refuses writes refused) = Unit {0}
-IsAllowed passes Unprinted = Unit {0}
+abbrev pub IsAllowed : BeatKind → Act → Type 0
+IsAllowed beat (Says client steps) = All (IsOwn client) steps
+IsAllowed beat (Rests look) = MayRest beat look
+IsAllowed beat (Takes look keys) = MayAct beat look × IsToFetch look
+IsAllowed beat (FetchFails look batches keys fault) = MayAct beat look × IsToEnd look
+IsAllowed beat (Closes look batches writes) = MayAct beat look × IsToEnd look
+IsAllowed beat (Halts fault) = Unit {0}
+IsAllowed beat (Delivers batch) = Unit {0}
+IsAllowed beat (DeliverFails keys fault) = Unit {0}
+IsAllowed beat (Publishes writes left told) = Unit {0}
+IsAllowed beat (Refuses writes refused) = Unit {0}
+IsAllowed beat Unprinted = Unit {0}
 
 -- the fault that an act tells of
 abbrev pub fault_told : Act → Option Fault

@@ -1,5 +1,5 @@
 -- What a run of the clients over a vault does, from a new desk to its end.
-use Rattle.std.specs.Prelude.{ℕ, ◌≡◌, ◌⊎◌, Bool, All, List, [], length, map, Result, Ok, Err, decimal}
+use Rattle.std.specs.Prelude.{◌≡◌, ◌⊎◌, All, List, [], length, map, Result, Ok, Err, decimal}
 use Rattle.std.specs.List.{range_with_len}
 use Rattle.std.specs.Ordering.{nat_cmp}
 use Rattle.ob_base.specs.declared.fault.Fault.{Fault}
@@ -11,16 +11,17 @@ use Rattle.ob_store.specs.Lines.{Shows}
 use Rattle.ob_serial.specs.Serial.{Map, AreInOrder, OneByOne, committed_of}
 use Rattle.ob_serial.specs.VaultKinds.{Kind, ended_of}
 use Rattle.ob_desk.specs.Desk.{Run}
+use Rattle.ob_desk.specs.Beats.{BeatKind}
 use Rattle.ob_session.specs.Steps.{Leads}
 use Rattle.ob_session.specs.Clients.{said_by}
 use Rattle.ob_conduct.specs.Acts.{Act, history, calls, records, IsAllowed}
-use Rattle.ob_conduct.specs.Rounds.{InRounds}
-use Rattle.ob_conduct.specs.Scenes.{RunState, RunnerKind, AllNoted}
+use Rattle.ob_conduct.specs.Rounds.{KeepRule, plan_rule, InRounds}
+use Rattle.ob_conduct.specs.Scenes.{RunState, RunnerKind, seat_of, AllNoted}
 use Rattle.ob_conduct.specs.Records.{contents, HoldsMap, AreWritten, AreAnswered, IsOver, IsWritten}
 use Rattle.ob_conduct.specs.Moves.{Failure}
 
 -- Memory was wanting before the first round, and nothing was done.
-pub record IsShort {V U : Type 0} (old new : RunState V U) (acts : List Act) (fault : Fault) : Type 0 where
+pub record IsOutOfMemory {V U : Type 0} (old new : RunState V U) (acts : List Act) (fault : Fault) : Type 0 where
   pub fault_is : fault ≡ Memory
   pub none : acts ≡ []
   pub silent : new.output ≡ old.output
@@ -29,12 +30,12 @@ pub record IsShort {V U : Type 0} (old new : RunState V U) (acts : List Act) (fa
 -- fault.
 abbrev pub RunEnds : {V U : Type 0} → Kind V → (old new : RunState V U) → List Act → Result (Unit {0}) Fault → Type 0
 RunEnds k old new acts (Ok done) = AreAnswered (calls acts) × IsOver new.scene.desk × IsWritten (report decimal (records acts)) old.output new.output
-RunEnds k old new acts (Err fault) = IsShort old new acts fault ⊎ Failure k old.scene new.scene acts old.output new.output fault
+RunEnds k old new acts (Err fault) = IsOutOfMemory old new acts fault ⊎ Failure k old.scene new.scene acts old.output new.output fault
 
 -- A run: what was done, in order, from a new desk and the vault as it was found, and how it ended. `old.scene.desk.running.epoch` is the
 -- number of the first epoch that could end.
-pub record Conducted {V U Plan : Type 0} (k : Kind V) (kind : RunnerKind U Plan) (passes : ℕ → ℕ → ℕ → ℕ → Bool) (old new : RunState V U) (acts : List Act) (result : Result (Unit {0}) Fault) : Type 0 where
-  pub allowed : All (IsAllowed passes) acts
+pub record Conducted {V U Plan : Type 0} (k : Kind V) (kind : RunnerKind U Plan) (beat : BeatKind) (old new : RunState V U) (acts : List Act) (result : Result (Unit {0}) Fault) : Type 0 where
+  pub allowed : All (IsAllowed beat) acts
   -- the desk's calls are one history, each of them allowed where it is made, and the vault's calls are one chain, whose notes were shown
   pub leads : Leads old.scene.desk (history acts) new.scene.desk
   pub notes : List Note
@@ -50,12 +51,13 @@ pub record Conducted {V U Plan : Type 0} (k : Kind V) (kind : RunnerKind U Plan)
   pub printed : IsPrinted old.output new.output (report decimal (records acts))
   -- each runner has made just its client's calls
   pub fitting : All (λ u. kind.fits u (said_by (kind.client u) (history acts))) new.runners
+  -- and each of its steps was a turn by its plan
+  pub keeps : KeepRule (plan_rule kind.turn (map (seat_of kind) old.runners)) [] acts
   pub clients : map kind.client new.runners ≡ map kind.client old.runners
   pub bounds : map kind.bound new.runners ≡ map kind.bound old.runners
   pub plans : map kind.plan new.runners ≡ map kind.plan old.runners
   pub ends : RunEnds k old new acts result
 
--- A run by hand: these clients make their calls in rounds, each in order one call, or none behind its sign-off, and then the driver does
--- one thing.
-abbrev pub ByHand : {V U Plan : Type 0} → Kind V → RunnerKind U Plan → (ℕ → ℕ → ℕ → ℕ → Bool) → RunState V U → RunState V U → Result (Unit {0}) Fault → Type 0
-ByHand k kind passes old new result = (acts : List Act) × Conducted k kind passes old new acts result × InRounds (map kind.client old.runners) acts
+-- A run by hand: the clients take their turns in rounds, each of them in order, and then the driver does one thing.
+abbrev pub ByHand : {V U Plan : Type 0} → Kind V → RunnerKind U Plan → BeatKind → RunState V U → RunState V U → Result (Unit {0}) Fault → Type 0
+ByHand k kind beat old new result = (acts : List Act) × Conducted k kind beat old new acts result × InRounds (map kind.client old.runners) acts

@@ -2,7 +2,7 @@
 use Rattle.std.specs.Prelude.{ℕ, suc, ◌≡◌, ◌⊎◌, ◌+◌, List, [], ◌∷◌, ◌++◌, length, Option, None, Some, Result, Err}
 use Rattle.ob_base.specs.declared.fault.Fault.{Fault}
 use Rattle.ob_base.specs.declared.fault.Fault.TheVariants.{StoreFault}
-use Rattle.ob_report.specs.Printed.{Flow}
+use Rattle.ob_io.specs.Streams.{Flow}
 use Rattle.ob_serial.specs.Serial.{EpochRecord}
 use Rattle.ob_serial.specs.Vaults.{VaultState, Standing, MayStand, StandsIn, standing_now}
 use Rattle.ob_serial.specs.VaultKinds.{Kind}
@@ -48,15 +48,15 @@ abbrev pub next_at : Standing → EpochRecord ℕ → Standing
 next_at at r = record { epoch = suc at.epoch; content = contents at.content (r ∷ []) }
 
 -- It is this, or what stands behind the next epoch, where there is one.
-abbrev pub IsBetween : Standing → Option (EpochRecord ℕ) → Standing → Type 0
-IsBetween at next found = (found ≡ at) ⊎ ((r : EpochRecord ℕ) × (next ≡ Some r) × (found ≡ next_at at r))
+abbrev pub IsThisOrNext : Standing → Option (EpochRecord ℕ) → Standing → Type 0
+IsThisOrNext at next found = (found ≡ at) ⊎ ((r : EpochRecord ℕ) × (next ≡ Some r) × (found ≡ next_at at r))
 
 -- Stages of a run, one behind each epoch's end. From one to the next a crash leaves what stands behind the epochs so far, or behind one
 -- more; from the last one on, that or what stands behind the epoch whose end was begun.
 abbrev pub Stages : {V : Type 0} → Kind V → (Image → Standing → Type 0) → Standing → List (EpochRecord ℕ) → Option (EpochRecord ℕ) → V → V → Type 0
-Stages k stands at [] next from last = LeavesOnly (k.disk from) (k.disk last) (StandsIn stands (IsBetween at next))
+Stages k stands at [] next from last = LeavesOnly (k.disk from) (k.disk last) (StandsIn stands (IsThisOrNext at next))
 Stages {V} k stands at (r ∷ told) next from last =
-    (mid : V) × LeavesOnly (k.disk from) (k.disk mid) (StandsIn stands (IsBetween at (Some r))) × Stages k stands (next_at at r) told next mid last
+    (mid : V) × LeavesOnly (k.disk from) (k.disk mid) (StandsIn stands (IsThisOrNext at (Some r))) × Stages k stands (next_at at r) told next mid last
 
 -- The record of an epoch whose end these acts tell to be refused, or left in doubt.
 abbrev pub IsUnendedRecord : {V : Type 0} → {k : Kind V} → {old new : Scene V} → {acts : List Act} → {before after : Flow} → {fault : Fault} → Failure k old new acts before after fault → EpochRecord ℕ → Type 0

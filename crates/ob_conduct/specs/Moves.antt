@@ -1,11 +1,12 @@
 -- What each part of an act does, and each act.
-use Rattle.std.specs.Prelude.{ℕ, suc, ◌≡◌, ◌+◌, Bool, All, List, [], ◌∷◌, ◌++◌, length, map, Option, Some, Err, decimal}
+use Rattle.std.specs.Prelude.{ℕ, suc, ◌≡◌, ◌+◌, All, List, [], ◌∷◌, ◌++◌, length, map, Option, Some, Err, decimal}
 use Rattle.std.specs.Ordering.{nat_cmp}
 use Rattle.ob_base.specs.declared.params.Params.{Params}
 use Rattle.ob_base.specs.Causes.{Rose}
 use Rattle.ob_base.specs.declared.fault.Fault.{Fault}
 use Rattle.ob_base.specs.declared.fault.Fault.TheVariants.{Memory}
-use Rattle.ob_report.specs.Printed.{Flow, IsPrinted}
+use Rattle.ob_io.specs.Streams.{Flow}
+use Rattle.ob_report.specs.Printed.{IsPrinted}
 use Rattle.ob_report.specs.Report.{report}
 use Rattle.ob_store.specs.declared.watch.Note.{Note}
 use Rattle.ob_store.specs.Calls.{IsStoreFault}
@@ -17,13 +18,14 @@ use Rattle.ob_serial.specs.VaultKinds.{Kind, ended_of}
 use Rattle.ob_serial.specs.declared.vault.EndErr.{EndErr}
 use Rattle.ob_desk.specs.Desk as desk
 use Rattle.ob_desk.specs.Desk.{DeskState, Setup, Call, Reply, Part, Run, MayOpen, new_desk, record_of}
+use Rattle.ob_desk.specs.Beats.{BeatKind}
 use Rattle.ob_session.specs.Steps.{Leads, IsOwn}
 use Rattle.ob_session.specs.Clients.{said_by}
-use Rattle.ob_conduct.specs.Acts.{Act, Says, Halts, Rests, Takes, Delivers, DeliverFails, FetchFails, Closes, Publishes, Refuses, Unprinted, Batch, history, calls, records, rest_calls, rest_fetches, close_calls, publish_calls, stop_for, fault_in, fault_told, IsAllowed}
-use Rattle.ob_conduct.specs.Rounds.{AreTurns, IsOneThing}
-use Rattle.ob_conduct.specs.Scenes.{Scene, AllNoted}
+use Rattle.ob_conduct.specs.Acts.{Act, Says, Halts, DeliverFails, FetchFails, Refuses, Unprinted, Batch, history, calls, records, rest_calls, rest_fetches, close_calls, publish_calls, stop_for, fault_in, fault_told, IsAllowed}
+use Rattle.ob_conduct.specs.Rounds.{KeepRule, plan_rule, AreDriven, AreTurns, IsOneThing}
+use Rattle.ob_conduct.specs.Scenes.{Scene, AllNoted, RunnerKind, seat_of}
 use Rattle.ob_conduct.specs.Records.{HoldsMap, AreAnswered, IsWritten, IsCutShort}
-use Rattle.ob_conduct.specs.Ready.{IsReady, Tells, IsDue}
+use Rattle.ob_conduct.specs.Ready.{IsBetweenActs, TellsEpochs, IsDueRecord}
 
 -- These calls of the desk and of the vault lead from one scene to another, and the notes of the vault's calls were shown.
 pub record Moves {V : Type 0} (k : Kind V) (old : Scene V) (steps : List (Call × Reply)) (asked : List (VaultCall × VaultAnswer)) (new : Scene V) : Type 0 where
@@ -34,9 +36,9 @@ pub record Moves {V : Type 0} (k : Kind V) (old : Scene V) (steps : List (Call �
   pub run : (m : Map nat_cmp) → HoldsMap k old.vault m → (next : Map nat_cmp) × Run m old.desk steps next new.desk × HoldsMap k new.vault next
 
 -- Batches were taken, fetched and delivered, and nothing else changed.
-pub record Reads {V : Type 0} (k : Kind V) (p : Params) (old : Scene V) (batches : List Batch) (new : Scene V) (c : VaultCounts) : Type 0 where
+pub record ReadsBatches {V : Type 0} (k : Kind V) (p : Params) (old : Scene V) (batches : List Batch) (new : Scene V) (c : VaultCounts) : Type 0 where
   pub moves : Moves k old (rest_calls batches) (rest_fetches batches) new
-  pub ready : IsReady p new.desk c
+  pub ready : IsBetweenActs p new.desk c
   pub same_epoch : new.desk.running.epoch ≡ old.desk.running.epoch
   pub same_stop : new.desk.stop ≡ old.desk.stop
 
@@ -53,7 +55,7 @@ pub record IsClosed {V : Type 0} (k : Kind V) (old : Scene V) (writes : List (�
   pub moves : Moves k old (close_calls writes) [] new
   pub part : Part
   pub is_closed : new.desk.closed ≡ Some part
-  pub due : IsDue old.desk.running.epoch writes (record_of part)
+  pub due : IsDueRecord old.desk.running.epoch writes (record_of part)
 
 -- The epoch was closed, ended and published.
 pub record IsEnded {V : Type 0} (k : Kind V) (p : Params) (old : Scene V) (told : EpochRecord ℕ) (new : Scene V) (c : VaultCounts) : Type 0 where
@@ -62,8 +64,8 @@ pub record IsEnded {V : Type 0} (k : Kind V) (p : Params) (old : Scene V) (told 
   pub mid : Scene V
   pub closed : IsClosed k old writes mid
   pub moves : Moves k mid (publish_calls left told) ((End writes, Ended) ∷ []) new
-  pub due : IsDue old.desk.running.epoch writes told
-  pub ready : IsReady p new.desk c
+  pub due : IsDueRecord old.desk.running.epoch writes told
+  pub ready : IsBetweenActs p new.desk c
   pub next_epoch : new.desk.running.epoch ≡ suc old.desk.running.epoch
   pub same_stop : new.desk.stop ≡ old.desk.stop
 
@@ -80,16 +82,17 @@ pub record EndFails {V : Type 0} (k : Kind V) (old : Scene V) (fault : Fault) (n
   pub stopped : new.desk.stop ≡ Some fault
 
 -- A thing that the driver did, which nobody refused.
-pub record Acted {V : Type 0} (k : Kind V) (p : Params) (passes : ℕ → ℕ → ℕ → ℕ → Bool) (old : Scene V) (before : Flow) (new : Scene V) (c : VaultCounts) (after : Flow) : Type 0 where
+pub record Acted {V : Type 0} (k : Kind V) (p : Params) (beat : BeatKind) (old : Scene V) (before : Flow) (new : Scene V) (c : VaultCounts) (after : Flow) : Type 0 where
   pub thing : List Act
   pub one : IsOneThing thing
-  pub allowed : All (IsAllowed passes) thing
+  pub allowed : All (IsAllowed beat) thing
   pub moves : Moves k old (history thing) (calls thing) new
   -- it is no client's
+  pub driven : AreDriven thing
   pub quiet : (client : ℕ) → said_by client (history thing) ≡ []
-  pub ready : IsReady p new.desk c
+  pub ready : IsBetweenActs p new.desk c
   pub answered : AreAnswered (calls thing)
-  pub told : Tells old.desk.running.epoch new.desk.running.epoch (ended_of (calls thing)) (records thing)
+  pub told : TellsEpochs old.desk.running.epoch new.desk.running.epoch (ended_of (calls thing)) (records thing)
   pub written : IsWritten (report decimal (records thing)) before after
 
 -- The epoch that is closed behind these acts, and whose end was refused or left in doubt. Its record is `record_of closed`.
@@ -98,7 +101,7 @@ pub record IsUnended {V : Type 0} (k : Kind V) (old : Scene V) (front : List Act
   pub moves : Moves k old (history front) (calls front) mid
   pub closed : Part
   pub is_closed : mid.desk.closed ≡ Some closed
-  pub due : IsDue (old.desk.running.epoch + length (records front)) writes (record_of closed)
+  pub due : IsDueRecord (old.desk.running.epoch + length (records front)) writes (record_of closed)
   pub is_fault : IsEndFault (old.desk.running.epoch + length (records front)) refused
 
 -- What stands behind the fault that an act tells of: a client found no memory; the vault refused a batch, or an end; or the output failed.
@@ -129,14 +132,15 @@ pub record Failure {V : Type 0} (k : Kind V) (old new : Scene V) (acts : List Ac
   pub lines : AreLines act (records acts) before after
 
 -- The last thing that the driver did in a run that fails.
-pub record ActFails {V : Type 0} (k : Kind V) (passes : ℕ → ℕ → ℕ → ℕ → Bool) (old : Scene V) (before : Flow) (fault : Fault) (new : Scene V) (after : Flow) : Type 0 where
+pub record ActFails {V : Type 0} (k : Kind V) (beat : BeatKind) (old : Scene V) (before : Flow) (fault : Fault) (new : Scene V) (after : Flow) : Type 0 where
   pub thing : List Act
   pub one : IsOneThing thing
-  pub allowed : All (IsAllowed passes) thing
+  pub allowed : All (IsAllowed beat) thing
   pub moves : Moves k old (history thing) (calls thing) new
+  pub driven : AreDriven thing
   pub quiet : (client : ℕ) → said_by client (history thing) ≡ []
   pub next : ℕ
-  pub told : Tells old.desk.running.epoch next (ended_of (calls thing)) (records thing)
+  pub told : TellsEpochs old.desk.running.epoch next (ended_of (calls thing)) (records thing)
   pub printed : IsPrinted before after (report decimal (records thing))
   pub failure : Failure k old new thing before after fault
 
@@ -146,15 +150,16 @@ IsSaid (Says client steps) = All (IsOwn client) steps
 IsSaid _ = ⊥
 
 -- A step of each runner: their clients' calls, one behind the other. So these clients had their turns.
-pub record Stepped {U Plan : Type 0} (client bound : U → ℕ) (plan : U → Plan) (fits : U → List (Call × Reply) → Type 0) (numbers : List ℕ) (old : DeskState) (was : List U) (new : DeskState) (are : List U) : Type 0 where
+pub record Stepped {U Plan : Type 0} (kind : RunnerKind U Plan) (numbers : List ℕ) (old : DeskState) (was : List U) (new : DeskState) (are : List U) : Type 0 where
   pub acts : List Act
   pub says : All IsSaid acts
   pub leads : Leads old (history acts) new
-  pub clients : map client are ≡ map client was
-  pub bounds : map bound are ≡ map bound was
-  pub plans : map plan are ≡ map plan was
-  pub fitting : (calls : List (Call × Reply)) → All (λ u. fits u (said_by (client u) calls)) was → All (λ u. fits u (said_by (client u) (calls ++ history acts))) are
-  pub turns : (calls : List (Call × Reply)) → All (λ u. fits u (said_by (client u) calls)) was → AreTurns numbers calls acts
+  pub clients : map kind.client are ≡ map kind.client was
+  pub bounds : map kind.bound are ≡ map kind.bound was
+  pub plans : map kind.plan are ≡ map kind.plan was
+  pub fitting : (calls : List (Call × Reply)) → All (λ u. kind.fits u (said_by (kind.client u) calls)) was → All (λ u. kind.fits u (said_by (kind.client u) (calls ++ history acts))) are
+  pub turns : AreTurns numbers acts
+  pub keeps : (calls : List (Call × Reply)) → All (λ u. kind.fits u (said_by (kind.client u) calls)) was → KeepRule (plan_rule kind.turn (map (seat_of kind) was)) calls acts
 
 -- The desk came by these calls from a new one, and each runner has made just its client's calls.
 pub record Heard {U : Type 0} (client : U → ℕ) (fits : U → List (Call × Reply) → Type 0) (d : DeskState) (runners : List U) : Type 0 where

@@ -4,18 +4,19 @@ use Rattle.std.specs.List.{count_by}
 use Rattle.std.specs.Ordering.{nat_cmp}
 use Rattle.ob_base.specs.Causes.{Rose}
 use Rattle.ob_io.specs.Flows.{appended}
-use Rattle.ob_report.specs.Printed.{Flow, IsPrinted}
+use Rattle.ob_io.specs.Streams.{Flow}
+use Rattle.ob_report.specs.Printed.{IsPrinted}
 use Rattle.ob_report.specs.Report.{report, record_text}
-use Rattle.ob_serial.specs.Serial.{EpochRecord, Txn, Map, after, committed_of}
+use Rattle.ob_serial.specs.Serial.{EpochRecord, TxnRecord, Map, after_ops, committed_of}
 use Rattle.ob_serial.specs.Vaults.{VaultCall, Fetch, End, VaultAnswer, Values, Ended, VaultState, with_writes}
 use Rattle.ob_serial.specs.VaultKinds.{Kind}
 use Rattle.ob_desk.specs.Desk.{DeskState}
 use Rattle.ob_session.specs.Records.{IsAtRest}
 
 -- the map with the writes of these transactions, in order
-abbrev pub after_txns : Map nat_cmp → List (Txn ℕ) → Map nat_cmp
+abbrev pub after_txns : Map nat_cmp → List (TxnRecord ℕ) → Map nat_cmp
 after_txns m [] = m
-after_txns m (t ∷ txns) = after_txns (after nat_cmp m t.ops) txns
+after_txns m (t ∷ txns) = after_txns (after_ops nat_cmp m t.ops) txns
 
 -- the map behind the committed transactions of records
 abbrev pub contents : Map nat_cmp → List (EpochRecord ℕ) → Map nat_cmp

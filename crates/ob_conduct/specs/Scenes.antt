@@ -1,6 +1,6 @@
 -- The desk, the vault and the trace at one moment of a run, and the words of its runners.
 use Rattle.std.specs.Prelude.{ℕ, ◌≡◌, List, [], ◌∷◌, ◌++◌}
-use Rattle.ob_report.specs.Printed.{Flow}
+use Rattle.ob_io.specs.Streams.{Flow}
 use Rattle.ob_store.specs.declared.watch.Note.{Note}
 use Rattle.ob_store.specs.Lines.{Trace}
 use Rattle.ob_serial.specs.Vaults.{VaultCall, VaultAnswer}
@@ -31,9 +31,14 @@ pub record RunnerKind (U Plan : Type 0) : Type 1 where
   pub bound : U → ℕ
   pub plan : U → Plan
   pub fits : U → List (Call × Reply) → Type 0
+  pub turn : Plan → ℕ → List (Call × Reply) → List (Call × Reply) → Type 0
 
-abbrev pub runner_kind : {U Plan : Type 0} → (U → ℕ) → (U → ℕ) → (U → Plan) → (U → List (Call × Reply) → Type 0) → RunnerKind U Plan
-runner_kind client bound plan fits = record { client = client; bound = bound; plan = plan; fits = fits }
+abbrev pub runner_kind : {U Plan : Type 0} → (U → ℕ) → (U → ℕ) → (U → Plan) → (U → List (Call × Reply) → Type 0) → (Plan → ℕ → List (Call × Reply) → List (Call × Reply) → Type 0) → RunnerKind U Plan
+runner_kind client bound plan fits turn = record { client = client; bound = bound; plan = plan; fits = fits; turn = turn }
+
+-- a runner's client, and what it is to do
+abbrev pub seat_of : {U Plan : Type 0} → RunnerKind U Plan → U → ℕ × Plan
+seat_of kind u = (kind.client u, kind.plan u)
 
 -- Calls with their answers lead from a vault to a vault, and these are the notes of them, one behind the other.
 abbrev pub AllNoted : {V : Type 0} → Kind V → V → List (VaultCall × VaultAnswer) → List Note → V → Type 0

@@ -1,9 +1,11 @@
+//! Batches: taken of the desk, fetched of the vault, delivered.
+
 ghost use Rattle.std.specs.Prelude.{◌≡◌, ◌<◌, ℕ, length, [], ◌∷◌, List, None, IfErr, OnOk};
 ghost use Rattle.ob_serial.specs.VaultKinds.{kind_of};
 ghost use Rattle.ob_conduct.specs.Acts.{Batch};
 ghost use Rattle.ob_conduct.specs.Scenes.{scene};
-ghost use Rattle.ob_conduct.specs.Ready.{IsReady};
-ghost use Rattle.ob_conduct.specs.Moves.{Reads, ReadFails};
+ghost use Rattle.ob_conduct.specs.Ready.{IsBetweenActs};
+ghost use Rattle.ob_conduct.specs.Moves.{ReadsBatches, ReadFails};
 
 use ob_base::{Fault, Key, Params, Value};
 use ob_desk::Desk;
@@ -21,7 +23,7 @@ fn read_batch<V: Vault, W: Watch>(
     asks: &mut [Option<Key>],
     found: &mut [Option<Value>],
 ) -> Result<(), Fault>
-    requires ready { IsReady (V.params vault.old) desk.old (V.counts vault.old) }
+    requires ready { IsBetweenActs (V.params vault.old) desk.old (V.counts vault.old) }
     requires goes_on { desk.old.stop ≡ None }
     requires some_left { 0 < (V.counts vault.old).left }
     requires places { length asks.old ≡ (V.params vault.old).places }
@@ -29,9 +31,14 @@ fn read_batch<V: Vault, W: Watch>(
     ensures params { V.params vault.new ≡ V.params vault.old }
     ensures places { length asks.new ≡ (V.params vault.old).places }
     ensures room { length found.new ≡ (V.params vault.old).places }
-    ensures read { OnOk result ((batch : Batch) × Reads (kind_of V.holds V.sound V.stands V.disk V.called) (V.params vault.old) (scene desk.old vault.old (W.trace watch.old)) (batch ∷ []) (scene desk.new vault.new (W.trace watch.new)) (V.counts vault.new)) }
+    ensures read { OnOk result ((batch : Batch)
+        × ReadsBatches (kind_of V.Vault) (V.params vault.old)
+        (scene desk.old vault.old (W.trace watch.old)) (batch ∷ [])
+        (scene desk.new vault.new (W.trace watch.new)) (V.counts vault.new)) }
     ensures less { OnOk result ((V.counts vault.new).left < (V.counts vault.old).left) }
-    ensures refused { IfErr result (λ fault. ReadFails (kind_of V.holds V.sound V.stands V.disk V.called) (scene desk.old vault.old (W.trace watch.old)) [] fault (scene desk.new vault.new (W.trace watch.new))) }
+    ensures refused { IfErr result
+        (λ fault. ReadFails (kind_of V.Vault) (scene desk.old vault.old (W.trace watch.old)) []
+        fault (scene desk.new vault.new (W.trace watch.new))) }
 {
     desk.take_batch(asks);
     match vault.fetch(asks, found, watch) {
@@ -57,12 +64,16 @@ pub fn fetch_batch<V: Vault, W: Watch>(
     watch: &mut W,
 ) -> Result<(), Fault>
     requires params { V.params vault.old ≡ params.now }
-    requires ready { IsReady params.now desk.old (V.counts vault.old) }
+    requires ready { IsBetweenActs params.now desk.old (V.counts vault.old) }
     requires goes_on { desk.old.stop ≡ None }
     requires some_left { 0 < (V.counts vault.old).left }
     ensures params { V.params vault.new ≡ params.now }
-    ensures read { OnOk result ((batch : Batch) × Reads (kind_of V.holds V.sound V.stands V.disk V.called) params.now (scene desk.old vault.old (W.trace watch.old)) (batch ∷ []) (scene desk.new vault.new (W.trace watch.new)) (V.counts vault.new)) }
-    ensures refused { IfErr result (λ fault. ReadFails (kind_of V.holds V.sound V.stands V.disk V.called) (scene desk.old vault.old (W.trace watch.old)) [] fault (scene desk.new vault.new (W.trace watch.new))) }
+    ensures read { OnOk result ((batch : Batch)
+        × ReadsBatches (kind_of V.Vault) params.now (scene desk.old vault.old (W.trace watch.old))
+        (batch ∷ []) (scene desk.new vault.new (W.trace watch.new)) (V.counts vault.new)) }
+    ensures refused { IfErr result
+        (λ fault. ReadFails (kind_of V.Vault) (scene desk.old vault.old (W.trace watch.old)) []
+        fault (scene desk.new vault.new (W.trace watch.new))) }
 {
     let places = params.places as usize;
     let mut asks: [Option<Key>; 64] = [None; 64];
@@ -84,14 +95,19 @@ fn read_rest<V: Vault, W: Watch>(
     asks: &mut [Option<Key>],
     found: &mut [Option<Value>],
 ) -> Result<(), Fault>
-    requires ready { IsReady (V.params vault.old) desk.old (V.counts vault.old) }
+    requires ready { IsBetweenActs (V.params vault.old) desk.old (V.counts vault.old) }
     requires goes_on { desk.old.stop ≡ None }
     requires places { length asks.old ≡ (V.params vault.old).places }
     requires room { length found.old ≡ (V.params vault.old).places }
     ensures params { V.params vault.new ≡ V.params vault.old }
-    ensures read { OnOk result ((batches : List Batch) × Reads (kind_of V.holds V.sound V.stands V.disk V.called) (V.params vault.old) (scene desk.old vault.old (W.trace watch.old)) batches (scene desk.new vault.new (W.trace watch.new)) (V.counts vault.new)) }
+    ensures read { OnOk result ((batches : List Batch)
+        × ReadsBatches (kind_of V.Vault) (V.params vault.old)
+        (scene desk.old vault.old (W.trace watch.old)) batches
+        (scene desk.new vault.new (W.trace watch.new)) (V.counts vault.new)) }
     ensures none_left { OnOk result ((V.counts vault.new).left ≡ 0) }
-    ensures refused { IfErr result (λ fault. (batches : List Batch) × ReadFails (kind_of V.holds V.sound V.stands V.disk V.called) (scene desk.old vault.old (W.trace watch.old)) batches fault (scene desk.new vault.new (W.trace watch.new))) }
+    ensures refused { IfErr result (λ fault. (batches : List Batch)
+        × ReadFails (kind_of V.Vault) (scene desk.old vault.old (W.trace watch.old)) batches fault
+        (scene desk.new vault.new (W.trace watch.new))) }
 {
     while vault.left() > 0 {
         match read_batch(desk, vault, watch, asks, found) {
@@ -113,12 +129,16 @@ pub fn fetch_rest<V: Vault, W: Watch>(
     watch: &mut W,
 ) -> Result<(), Fault>
     requires params { V.params vault.old ≡ params.now }
-    requires ready { IsReady params.now desk.old (V.counts vault.old) }
+    requires ready { IsBetweenActs params.now desk.old (V.counts vault.old) }
     requires goes_on { desk.old.stop ≡ None }
     ensures params { V.params vault.new ≡ params.now }
-    ensures read { OnOk result ((batches : List Batch) × Reads (kind_of V.holds V.sound V.stands V.disk V.called) params.now (scene desk.old vault.old (W.trace watch.old)) batches (scene desk.new vault.new (W.trace watch.new)) (V.counts vault.new)) }
+    ensures read { OnOk result ((batches : List Batch)
+        × ReadsBatches (kind_of V.Vault) params.now (scene desk.old vault.old (W.trace watch.old))
+        batches (scene desk.new vault.new (W.trace watch.new)) (V.counts vault.new)) }
     ensures none_left { OnOk result ((V.counts vault.new).left ≡ 0) }
-    ensures refused { IfErr result (λ fault. (batches : List Batch) × ReadFails (kind_of V.holds V.sound V.stands V.disk V.called) (scene desk.old vault.old (W.trace watch.old)) batches fault (scene desk.new vault.new (W.trace watch.new))) }
+    ensures refused { IfErr result (λ fault. (batches : List Batch)
+        × ReadFails (kind_of V.Vault) (scene desk.old vault.old (W.trace watch.old)) batches fault
+        (scene desk.new vault.new (W.trace watch.new))) }
 {
     let places = params.places as usize;
     let mut asks: [Option<Key>; 64] = [None; 64];

@@ -1,12 +1,15 @@
-ghost use Rattle.std.specs.Prelude.{◌≡◌, ◌≤◌, ℕ, Bool, None, IfOk, IfErr, OnOk, vec_capacity};
-ghost use Rattle.ob_report.specs.Printed.{flow};
+//! The end of an epoch, and its lines.
+
+ghost use Rattle.std.specs.Prelude.{◌≡◌, ◌≤◌, None, IfOk, IfErr, OnOk, vec_capacity};
+ghost use Rattle.ob_io.specs.Streams.{outflow};
 ghost use Rattle.ob_serial.specs.Views.{record_of};
 ghost use Rattle.ob_serial.specs.VaultKinds.{kind_of};
 ghost use Rattle.ob_desk.specs.Desk.{look_at};
+ghost use Rattle.ob_desk.specs.Beats.{BeatKind};
 ghost use Rattle.ob_desk.specs.declared.calls.Look.{Look as Seen};
 ghost use Rattle.ob_conduct.specs.Acts.{MayAct, IsToEnd};
 ghost use Rattle.ob_conduct.specs.Scenes.{scene};
-ghost use Rattle.ob_conduct.specs.Ready.{IsReady};
+ghost use Rattle.ob_conduct.specs.Ready.{IsBetweenActs};
 ghost use Rattle.ob_conduct.specs.Moves.{IsEnded, EndFails, Acted, ActFails};
 
 use crate::batch::fetch_rest;
@@ -26,14 +29,18 @@ fn close<V: Vault, W: Watch>(
     writes: &mut Vec<Write>,
 ) -> Result<EpochRecord<Key>, Fault>
     requires params { V.params vault.old ≡ params.now }
-    requires ready { IsReady params.now desk.old (V.counts vault.old) }
+    requires ready { IsBetweenActs params.now desk.old (V.counts vault.old) }
     requires goes_on { desk.old.stop ≡ None }
     requires none_left { (V.counts vault.old).left ≡ 0 }
     requires room { params.now.writes ≤ vec_capacity writes.old }
     ensures params { V.params vault.new ≡ params.now }
     ensures room { vec_capacity writes.old ≤ vec_capacity writes.new }
-    ensures ended { IfOk result (λ told. IsEnded (kind_of V.holds V.sound V.stands V.disk V.called) params.now (scene desk.old vault.old (W.trace watch.old)) (record_of told) (scene desk.new vault.new (W.trace watch.new)) (V.counts vault.new)) }
-    ensures refused { IfErr result (λ fault. EndFails (kind_of V.holds V.sound V.stands V.disk V.called) (scene desk.old vault.old (W.trace watch.old)) fault (scene desk.new vault.new (W.trace watch.new))) }
+    ensures ended { IfOk result
+        (λ told. IsEnded (kind_of V.Vault) params.now (scene desk.old vault.old (W.trace watch.old))
+        (record_of told) (scene desk.new vault.new (W.trace watch.new)) (V.counts vault.new)) }
+    ensures refused { IfErr result
+        (λ fault. EndFails (kind_of V.Vault) (scene desk.old vault.old (W.trace watch.old)) fault
+        (scene desk.new vault.new (W.trace watch.new))) }
 {
     desk.close(writes);
     match vault.end(writes, watch) {
@@ -62,16 +69,23 @@ pub fn end_epoch<V: Vault, W: Watch, O: Sink>(
     writes: &mut Vec<Write>,
 ) -> Result<(), Fault>
     requires params { V.params vault.old ≡ params.now }
-    requires ready { IsReady params.now desk.old (V.counts vault.old) }
+    requires ready { IsBetweenActs params.now desk.old (V.counts vault.old) }
     requires goes_on { desk.old.stop ≡ None }
     requires room { params.now.writes ≤ vec_capacity writes.old }
     ensures params { V.params vault.new ≡ params.now }
     ensures room { vec_capacity writes.old ≤ vec_capacity writes.new }
     // At a look that shows the desk as it was, and allows it, this is a thing that the driver does.
-    ensures ended { (passes : ℕ → ℕ → ℕ → ℕ → Bool) (look : Seen) → look ≡ look_at desk.old → MayAct passes look → IsToEnd look
-        → OnOk result (Acted (kind_of V.holds V.sound V.stands V.disk V.called) params.now passes (scene desk.old vault.old (W.trace watch.old)) (flow (O.written output.old) (O.faults output.old)) (scene desk.new vault.new (W.trace watch.new)) (V.counts vault.new) (flow (O.written output.new) (O.faults output.new))) }
-    ensures refused { (passes : ℕ → ℕ → ℕ → ℕ → Bool) (look : Seen) → look ≡ look_at desk.old → MayAct passes look → IsToEnd look
-        → IfErr result (λ fault. ActFails (kind_of V.holds V.sound V.stands V.disk V.called) passes (scene desk.old vault.old (W.trace watch.old)) (flow (O.written output.old) (O.faults output.old)) fault (scene desk.new vault.new (W.trace watch.new)) (flow (O.written output.new) (O.faults output.new))) }
+    ensures ended { (beat : BeatKind) (look : Seen) → look ≡ look_at desk.old
+        → MayAct beat look → IsToEnd look
+        → OnOk result (Acted (kind_of V.Vault) params.now beat
+        (scene desk.old vault.old (W.trace watch.old)) (outflow O.Sink output.old)
+        (scene desk.new vault.new (W.trace watch.new)) (V.counts vault.new)
+        (outflow O.Sink output.new)) }
+    ensures refused { (beat : BeatKind) (look : Seen) → look ≡ look_at desk.old
+        → MayAct beat look → IsToEnd look
+        → IfErr result (λ fault. ActFails (kind_of V.Vault) beat
+        (scene desk.old vault.old (W.trace watch.old)) (outflow O.Sink output.old) fault
+        (scene desk.new vault.new (W.trace watch.new)) (outflow O.Sink output.new)) }
 {
     match fetch_rest(params, desk, vault, watch) {
         Ok(()) => {}

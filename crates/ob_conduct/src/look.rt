@@ -1,11 +1,14 @@
+//! The driver's look, and what it does behind it.
+
 ghost use Rattle.std.specs.Prelude.{◌≡◌, ◌≤◌, ◌<◌, ◌⊎◌, ℕ, true, MatchBool, None, IfOk, IfErr, OnOk, vec_capacity};
-ghost use Rattle.ob_report.specs.Printed.{flow};
+ghost use Rattle.ob_io.specs.Streams.{outflow};
 ghost use Rattle.ob_serial.specs.VaultKinds.{kind_of};
 ghost use Rattle.ob_desk.specs.Desk.{look_at};
-ghost use Rattle.ob_conduct.specs.Acts.{MayAct, IsToFetch};
+ghost use Rattle.ob_desk.specs.Beats.{beat_kind};
+ghost use Rattle.ob_conduct.specs.Acts.{MayAct, MayRest, IsToFetch};
 ghost use Rattle.ob_conduct.specs.Scenes.{scene};
 ghost use Rattle.ob_conduct.specs.Records.{IsOver};
-ghost use Rattle.ob_conduct.specs.Ready.{IsReady};
+ghost use Rattle.ob_conduct.specs.Ready.{IsBetweenActs};
 ghost use Rattle.ob_conduct.specs.Moves.{Acted, ActFails};
 
 use crate::batch::fetch_batch;
@@ -26,14 +29,16 @@ pub enum Round {
 
 // Whether the run is over: no client is left, and no transaction waits for its epoch's end.
 fn is_over(look: &Look) -> bool
-    ensures { MatchBool result ((look.now.clients ≡ 0) × (look.now.txns ≡ 0)) (look.now.clients ≡ 0 → 0 < look.now.txns) }
+    ensures { MatchBool result ((look.now.clients ≡ 0) × (look.now.txns ≡ 0)) (look.now.clients ≡ 0
+        → 0 < look.now.txns) }
 {
     look.clients == 0 && look.txns == 0
 }
 
 // Whether to act at this look.
 fn is_due<B: Beat>(beat: &mut B, look: &Look) -> bool
-    ensures may { MatchBool result (MayAct B.passes look.now) (look.now.clients ≡ 0 → ⊥) }
+    ensures may { MatchBool result (MayAct (beat_kind B.passes B.exact) look.now)
+        (MayRest (beat_kind B.passes B.exact) look.now) }
     ensures anchors { B.anchors beat.new ≡ B.anchors beat.old }
 {
     if look.clients == 0 {
@@ -61,16 +66,24 @@ fn act<V: Vault, W: Watch, B: Beat, O: Sink>(
     look: &Look,
 ) -> Result<(), Fault>
     requires params { V.params vault.old ≡ params.now }
-    requires ready { IsReady params.now desk.old (V.counts vault.old) }
+    requires ready { IsBetweenActs params.now desk.old (V.counts vault.old) }
     requires goes_on { desk.old.stop ≡ None }
     requires room { params.now.writes ≤ vec_capacity writes.old }
     requires look { look.now ≡ look_at desk.old }
-    requires may { MayAct B.passes look.now }
+    requires may { MayAct (beat_kind B.passes B.exact) look.now }
     requires not_over { look.now.clients ≡ 0 → 0 < look.now.txns }
     ensures params { V.params vault.new ≡ params.now }
     ensures room { vec_capacity writes.old ≤ vec_capacity writes.new }
-    ensures acted { OnOk result (Acted (kind_of V.holds V.sound V.stands V.disk V.called) params.now B.passes (scene desk.old vault.old (W.trace watch.old)) (flow (O.written output.old) (O.faults output.old)) (scene desk.new vault.new (W.trace watch.new)) (V.counts vault.new) (flow (O.written output.new) (O.faults output.new))) }
-    ensures failed { IfErr result (λ fault. ActFails (kind_of V.holds V.sound V.stands V.disk V.called) B.passes (scene desk.old vault.old (W.trace watch.old)) (flow (O.written output.old) (O.faults output.old)) fault (scene desk.new vault.new (W.trace watch.new)) (flow (O.written output.new) (O.faults output.new))) }
+    ensures acted { OnOk result
+        (Acted (kind_of V.Vault) params.now (beat_kind B.passes B.exact)
+        (scene desk.old vault.old (W.trace watch.old))
+        (outflow O.Sink output.old) (scene desk.new vault.new (W.trace watch.new))
+        (V.counts vault.new) (outflow O.Sink output.new)) }
+    ensures failed { IfErr result
+        (λ fault. ActFails (kind_of V.Vault) (beat_kind B.passes B.exact)
+        (scene desk.old vault.old (W.trace watch.old))
+        (outflow O.Sink output.old) fault (scene desk.new vault.new (W.trace watch.new))
+        (outflow O.Sink output.new)) }
 {
     if is_to_fetch(look) {
         return fetch_batch(params, desk, vault, watch);
@@ -95,14 +108,22 @@ pub fn look_and_act<V: Vault, W: Watch, B: Beat, O: Sink>(
     writes: &mut Vec<Write>,
 ) -> Result<Round, Fault>
     requires params { V.params vault.old ≡ params.now }
-    requires ready { IsReady params.now desk.old (V.counts vault.old) }
+    requires ready { IsBetweenActs params.now desk.old (V.counts vault.old) }
     requires room { params.now.writes ≤ vec_capacity writes.old }
     ensures params { V.params vault.new ≡ params.now }
     ensures room { vec_capacity writes.old ≤ vec_capacity writes.new }
     ensures anchors { B.anchors beat.new ≡ B.anchors beat.old }
-    ensures acted { OnOk result (Acted (kind_of V.holds V.sound V.stands V.disk V.called) params.now B.passes (scene desk.old vault.old (W.trace watch.old)) (flow (O.written output.old) (O.faults output.old)) (scene desk.new vault.new (W.trace watch.new)) (V.counts vault.new) (flow (O.written output.new) (O.faults output.new))) }
+    ensures acted { OnOk result
+        (Acted (kind_of V.Vault) params.now (beat_kind B.passes B.exact)
+        (scene desk.old vault.old (W.trace watch.old))
+        (outflow O.Sink output.old) (scene desk.new vault.new (W.trace watch.new))
+        (V.counts vault.new) (outflow O.Sink output.new)) }
     ensures over { IfOk result (λ round. round ≡ Round.Over → IsOver desk.new) }
-    ensures failed { IfErr result (λ fault. ActFails (kind_of V.holds V.sound V.stands V.disk V.called) B.passes (scene desk.old vault.old (W.trace watch.old)) (flow (O.written output.old) (O.faults output.old)) fault (scene desk.new vault.new (W.trace watch.new)) (flow (O.written output.new) (O.faults output.new))) }
+    ensures failed { IfErr result
+        (λ fault. ActFails (kind_of V.Vault) (beat_kind B.passes B.exact)
+        (scene desk.old vault.old (W.trace watch.old))
+        (outflow O.Sink output.old) fault (scene desk.new vault.new (W.trace watch.new))
+        (outflow O.Sink output.new)) }
 {
     if let Some(fault) = desk.stopped() {
         return Err(fault);

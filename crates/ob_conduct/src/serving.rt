@@ -1,7 +1,10 @@
+//! Clients served in rounds over a vault.
+
 ghost use Rattle.std.specs.Prelude.{◌≡◌, ◌≤◌, ℕ, suc, All, map, [], false, vec_capacity};
-ghost use Rattle.ob_report.specs.Printed.{flow};
+ghost use Rattle.ob_io.specs.Streams.{outflow};
 ghost use Rattle.ob_serial.specs.VaultKinds.{kind_of};
 ghost use Rattle.ob_desk.specs.Desk.{MayOpen, new_desk};
+ghost use Rattle.ob_desk.specs.Beats.{beat_kind};
 ghost use Rattle.ob_conduct.specs.Scenes.{scene, run_state, runner_kind};
 ghost use Rattle.ob_conduct.specs.Conducted.{ByHand};
 
@@ -30,16 +33,22 @@ fn run_rounds<R: Wait, V: Vault, W: Watch, U: Runner, B: Beat, O: Sink>(
 ) -> Result<(), Fault>
     requires params { V.params vault.old ≡ params.now }
     requires serves { (V.counts vault.old).spent ≡ false }
-    requires fresh { desk.old ≡ new_desk (record { params = params.now }) (suc (V.counts vault.old).epoch) (V.counts vault.old).left (map U.client runners.old) }
-    requires opens { MayOpen (record { params = params.now }) (suc (V.counts vault.old).epoch) (V.counts vault.old).left (map U.client runners.old) }
+    requires fresh { desk.old
+        ≡ new_desk (record { params = params.now }) (suc (V.counts vault.old).epoch)
+        (V.counts vault.old).left (map U.client runners.old) }
+    requires opens { MayOpen (record { params = params.now }) (suc (V.counts vault.old).epoch)
+        (V.counts vault.old).left (map U.client runners.old) }
     requires below { All (λ u. U.bound u ≤ params.now.keys) runners.old }
     requires none_made { All (λ u. U.fits u []) runners.old }
     requires room { params.now.writes ≤ vec_capacity writes.old }
     ensures params { V.params vault.new ≡ params.now }
     ensures beat { B.anchors beat.new ≡ B.anchors beat.old }
-    ensures done { ByHand (kind_of V.holds V.sound V.stands V.disk V.called) (runner_kind U.client U.bound U.plan U.fits) B.passes
-        (run_state (scene desk.old vault.old (W.trace watch.old)) runners.old (flow (O.written output.old) (O.faults output.old)))
-        (run_state (scene desk.new vault.new (W.trace watch.new)) runners.new (flow (O.written output.new) (O.faults output.new))) result }
+    ensures done { ByHand (kind_of V.Vault) (runner_kind U.client U.bound U.plan U.fits U.turn)
+        (beat_kind B.passes B.exact)
+        (run_state (scene desk.old vault.old (W.trace watch.old)) runners.old
+        (outflow O.Sink output.old))
+        (run_state (scene desk.new vault.new (W.trace watch.new)) runners.new
+        (outflow O.Sink output.new)) result }
 {
     for _ in rt.forever() {
         step_all(desk, runners);
@@ -74,17 +83,23 @@ pub fn serve<R: Wait, V: Vault, W: Watch, U: Runner, B: Beat, O: Sink>(
 ) -> Result<(), Fault>
     requires params { V.params vault.old ≡ params.now }
     requires serves { (V.counts vault.old).spent ≡ false }
-    requires fresh { desk.old ≡ new_desk (record { params = params.now }) (suc (V.counts vault.old).epoch) (V.counts vault.old).left (map U.client runners.old) }
-    requires opens { MayOpen (record { params = params.now }) (suc (V.counts vault.old).epoch) (V.counts vault.old).left (map U.client runners.old) }
+    requires fresh { desk.old
+        ≡ new_desk (record { params = params.now }) (suc (V.counts vault.old).epoch)
+        (V.counts vault.old).left (map U.client runners.old) }
+    requires opens { MayOpen (record { params = params.now }) (suc (V.counts vault.old).epoch)
+        (V.counts vault.old).left (map U.client runners.old) }
     requires below { All (λ u. U.bound u ≤ params.now.keys) runners.old }
     requires none_made { All (λ u. U.fits u []) runners.old }
     ensures params { V.params vault.new ≡ params.now }
     // It keeps the references that the vault and the beat were lent.
     ensures anchors { (V.disk vault.new).anchors ≡ (V.disk vault.old).anchors }
     ensures beat { B.anchors beat.new ≡ B.anchors beat.old }
-    ensures done { ByHand (kind_of V.holds V.sound V.stands V.disk V.called) (runner_kind U.client U.bound U.plan U.fits) B.passes
-        (run_state (scene desk.old vault.old (W.trace watch.old)) runners.old (flow (O.written output.old) (O.faults output.old)))
-        (run_state (scene desk.new vault.new (W.trace watch.new)) runners.new (flow (O.written output.new) (O.faults output.new))) result }
+    ensures done { ByHand (kind_of V.Vault) (runner_kind U.client U.bound U.plan U.fits U.turn)
+        (beat_kind B.passes B.exact)
+        (run_state (scene desk.old vault.old (W.trace watch.old)) runners.old
+        (outflow O.Sink output.old))
+        (run_state (scene desk.new vault.new (W.trace watch.new)) runners.new
+        (outflow O.Sink output.new)) result }
 {
     let mut writes = match Vec::with_capacity(alloc, params.writes as usize) {
         Ok(writes) => writes,

@@ -1,3 +1,5 @@
+//! Runs with clients and beats of the tests' own.
+
 ghost use Rattle.std.specs.Prelude.{◌≡◌, ◌≤◌, length, All, map};
 ghost use Rattle.ob_mem.specs.Memory.{disk_of_store};
 ghost use Rattle.ob_desk.specs.Desk.{MayOpen};

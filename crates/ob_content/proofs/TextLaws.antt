@@ -13,7 +13,8 @@ use Rattle.ob_base.proofs.Bounds.{leaves_le}
 use Rattle.ob_bucket.specs.Version.{Version, FitsFields, key_at, key_bytes, index_bytes, version_bytes}
 use Rattle.ob_bucket.specs.Buckets.{version_at, no_version}
 use Rattle.ob_bucket.proofs.PartLaws.{keys_width, index_width}
-use Rattle.ob_bucket.proofs.SpellingLaws.{split_same, le32_same, front32, front64, length-flat_map_wide, items_same, version_same}
+use Rattle.ob_base.proofs.Spelled.{split_same, le32_same, front32, front64, length-flat_map_wide, items_same}
+use Rattle.ob_bucket.proofs.SpellingLaws.{version_same}
 use Rattle.ob_tables.specs.declared.entry.Entry.{Entry}
 use Rattle.ob_tables.specs.Kept.{entry_at}
 use Rattle.ob_tables.specs.Rows.{Rises, Splits}
@@ -93,13 +94,13 @@ bucket_same p b c ob oc u lt e =
 abbrev row_at : List (ℕ × List ℕ) → ℕ → ℕ × List ℕ
 row_at es i = slice_index_or es i (0, [])
 
-splits : (es : List (ℕ × List ℕ)) → Rises es → (i : ℕ) → i < length es → Splits (row.key_at es i) es i
+splits : (es : List (ℕ × List ℕ)) → Rises es → (i : ℕ) → i < length es → Splits (row.row_key_at es i) es i
 splits es r i lt = record {
   within = omega arith;
   before = λ j h. rises es r j i h lt;
   after = λ j h l. elim (cases_eq i j) [
-    | inl same ↦ (let e : row.key_at es i ≡ row.key_at es j = ap (row.key_at es) same in omega arith)
-    | inr ne ↦ (let more : row.key_at es i < row.key_at es j = rises es r i j (omega arith) l in omega arith)
+    | inl same ↦ (let e : row.row_key_at es i ≡ row.row_key_at es j = ap (row.row_key_at es) same in omega arith)
+    | inr ne ↦ (let more : row.row_key_at es i < row.row_key_at es j = rises es r i j (omega arith) l in omega arith)
   ];
 }
 

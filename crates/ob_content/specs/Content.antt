@@ -60,7 +60,7 @@ pub record Obeys (p : Params) (c : Content) : Type 0 where
   pub counter : c.counter < 2 ^ p.levels
   pub book : FitsBook p c.book
   pub many : length c.versions ≡ buckets p
-  pub versions : (u : ℕ) → u < buckets p → bucket.Obeys p (version_at c.versions u)
+  pub versions : (u : ℕ) → u < buckets p → bucket.VersionObeys p (version_at c.versions u)
   pub seals : (u : ℕ) → u < buckets p → FitsSeals (version_at c.versions u)
   pub keys : (u j k : ℕ) → key_at (version_at c.versions u) j ≡ Some k → IsKeyOf p c.book u k
   -- no key lies in two places

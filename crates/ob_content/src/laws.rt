@@ -1,3 +1,5 @@
+//! A checkpoint's text tells one content, and has the length of its area.
+
 ghost use Rattle.ob_content.specs.Laws.{ContentOnce, ContentLength};
 
 /// Two contents that obey the rules and are spelled alike are one, and so are their epochs.

@@ -3,12 +3,12 @@ use Rattle.std.proofs.Common.{◌≡◌, ℕ, suc, ◌<◌, Bool, true, false, n
 use Rattle.std.proofs.lemmas.Bool.{false≢true}
 use Rattle.std.proofs.lemmas.Option.{slice_get_within}
 use Rattle.ob_serial.specs.Serial.{Map}
-use Rattle.ob_order.specs.Works.{wait_for, Work, edit, goes_on, newest, source_of, last_write, end_work, Rises, aborted}
+use Rattle.ob_order.specs.Works.{wait_for, Work, edit, goes_on, newest, source_of, last_write, end_work, SourcesRise, aborted}
 use Rattle.ob_order.proofs.Newest.{by_option, newest_found}
 use Rattle.ob_desk.proofs.Sees.{Reads, sees_itself, sees_other, from_answer, reads_thinned}
 use Rattle.ob_order.proofs.Falls.{fallen_waits, goes_on-edit, fallen_aborted, fallen_ended, unbroken_cascade, thinned_from_fallen, went_on_before, length-aborted}
 
-pub rises_from_reads : (m : Map nat_cmp) (ws : List Work) → Reads m ws → Rises ws
+pub rises_from_reads : (m : Map nat_cmp) (ws : List Work) → Reads m ws → SourcesRise ws
 rises_from_reads m ws h = record {
   at_each = λ n w there going i k r s got.
       let is = h.at_each n w there going i k r s got in

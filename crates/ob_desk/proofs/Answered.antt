@@ -10,12 +10,14 @@ use Rattle.ob_order.specs.declared.answers.Wrote.{Wrote}
 use Rattle.ob_order.specs.declared.answers.Wrote.TheVariants.{Yes, Conflict as Conflicts, Full as WritesAreFull}
 use Rattle.ob_order.proofs.Steps.{goes_on_range}
 use Rattle.ob_order.proofs.Edits.{at_edit_same, at_edit_other}
-use Rattle.ob_desk.specs.Desk.{Holder, Part, DeskState, TxnId, Begin, GetKey, Poll, Write, Commit, Abort, Settled, Looks, SignOff, Stop, Unsure, IsStopped, TakeBatch, Deliver, Close, Publish, Value, Waits, Aborted, Done, Why, Depends, EpochEnd, AbortedBy, why_refused, outcome_at, aborted_why, waiting_at, asked_at, why_of, cause_at, why_at, note_cause, end_of, close_to}
+use Rattle.ob_desk.specs.Desk.{Holder, Part, DeskState, Txn, Begin, GetKey, Poll, Write, Commit, Abort, Settled, Looks, SignOff, Stop, Unsure, IsStopped, TakeBatch, Deliver, Close, Publish, Value}
+use Rattle.ob_desk.specs.Desk.{Waits, Aborted, Done, Why, Depends, EpochEnd, AbortedBy, why_refused, outcome_at, aborted_why, waiting_at, asked_at, why_of, cause_at, why_at, note_cause, end_of}
+use Rattle.ob_desk.specs.Desk.{close_to}
 use Rattle.ob_desk.specs.Causes.{read_as, written_as, reply_to, RepliesAreExact, AbortedAreTold, EndsUnasked, AskedStay, UnaskedEnd}
 
 -- ---- replies
 
-not_aborted : {A : Type 0} (d : DeskState) (x y : TxnId) (why : Why ℕ) → Some y ≡ Some x → aborted_why (outcome_at d x) ≡ None → outcome_at d y ≡ Some (AbortedBy why) → A
+not_aborted : {A : Type 0} (d : DeskState) (x y : Txn) (why : Why ℕ) → Some y ≡ Some x → aborted_why (outcome_at d x) ≡ None → outcome_at d y ≡ Some (AbortedBy why) → A
 not_aborted d x y why e none is = absurd (none-some why (sym none ∙ (ap (λ q. aborted_why (outcome_at d q)) (sym (same_Some y x e)) ∙ ap aborted_why is)))
 
 refused_as : (w : Wrote) (why : Why ℕ) → why_refused w ≡ Some why → Aborted why ≡ written_as w
@@ -23,7 +25,7 @@ refused_as Yes why e = absurd (none-some why e)
 refused_as (Conflicts key reader) why e = ap Aborted (sym (same_Some _ why e))
 refused_as (WritesAreFull keys) why e = ap Aborted (sym (same_Some _ why e))
 
-polled : (d : DeskState) (x : TxnId) (key : ℕ) → waiting_at d.running x.ticket ≡ Some key → reply_to d (Poll x) ≡ read_as (again_reply d.running.order x.ticket key)
+polled : (d : DeskState) (x : Txn) (key : ℕ) → waiting_at d.running x.ticket ≡ Some key → reply_to d (Poll x) ≡ read_as (again_reply d.running.order x.ticket key)
 polled d x key e = ap (λ o. unwrap_or (option_map (λ k. read_as (again_reply d.running.order x.ticket k)) o) Waits) e
 
 pub replies_are_exact : RepliesAreExact
@@ -54,10 +56,10 @@ replies_are_exact d Close y reply new e none step = absurd (none-some y e)
 replies_are_exact d (Publish n l) y reply new e none step = absurd (none-some y e)
 replies_are_exact d _ y reply new e none step = absurd step
 
-idle : {A : Type 0} (d : DeskState) (x y : TxnId) → Some y ≡ Some x → goes_on d.running.order.works x.ticket ≡ false → goes_on d.running.order.works y.ticket ≡ true → A
+idle : {A : Type 0} (d : DeskState) (x y : Txn) → Some y ≡ Some x → goes_on d.running.order.works x.ticket ≡ false → goes_on d.running.order.works y.ticket ≡ true → A
 idle d x y e off on = absurd (false≢true (sym off ∙ (ap (λ q. goes_on d.running.order.works q.ticket) (sym (same_Some y x e)) ∙ on)))
 
-told : (d : DeskState) (x y : TxnId) (why : Why ℕ) (new : DeskState) → Some y ≡ Some x → outcome_at d y ≡ Some (AbortedBy why) → new ≡ d
+told : (d : DeskState) (x y : Txn) (why : Why ℕ) (new : DeskState) → Some y ≡ Some x → outcome_at d y ≡ Some (AbortedBy why) → new ≡ d
     → (w : Why ℕ) × (Aborted why ≡ Aborted w) × (outcome_at d x ≡ Some (AbortedBy w)) × (new ≡ d)
 told d x y why new e is same = (why, refl, ap (outcome_at d) (sym (same_Some y x e)) ∙ is, same)
 
@@ -143,7 +145,7 @@ aborted_stands ws s t other = record { either = ⊎_elim (λ kept. inl (kept ∙
     away : fate_at (edit end_work ws s) t ≡ fate_at ws t
     away = ap (option_map (λ w. w.fate)) (at_edit_other end_work ws s t other)
 
-asked_kept : (part : Part) (s : ℕ) (why : Why ℕ) (t : ℕ) → asked_at (end_of part s why) t ≡ asked_at part t
+pub asked_kept : (part : Part) (s : ℕ) (why : Why ℕ) (t : ℕ) → asked_at (end_of part s why) t ≡ asked_at part t
 asked_kept part s why t = ⊎_elim
     (λ same. subst (λ q. asked_at (end_of part q why) t ≡ asked_at part t) same
     (ap (λ o. unwrap_or (option_map (λ h. h.asked) o) false) (at_edit_same (note_cause why) part.holders t) ∙ noted (at_ticket part.holders t)))
@@ -167,7 +169,7 @@ ended_before part s t other e = ⊎_elim
     (λ fell. not_depends fell.0 (cause_at (edit (note_cause EpochEnd) part.holders s) t) (sym (ap (option_and_then (λ x. why_of x (cause_at (edit (note_cause EpochEnd) part.holders s) t))) fell.1) ∙ e))
     (aborted_stands part.order.works s t other).either
 
-close_asked : (part : Part) (n t : ℕ) → asked_at (close_to part n) t ≡ asked_at part t
+pub close_asked : (part : Part) (n t : ℕ) → asked_at (close_to part n) t ≡ asked_at part t
 close_asked part zero t = refl
 close_asked part (suc n) t = step (goes_on (close_to part n).order.works (suc n) && not (asked_at (close_to part n) (suc n))) ∙ close_asked part n t
   where
@@ -193,7 +195,8 @@ ended_unasked part (suc n) t e = step (goes_on (close_to part n).order.works (su
         (λ other. so_far (ended_before (close_to part n) (suc n) t other q))
         (cases_eq t (suc n))
 
-going_why : (part : Part) (t : ℕ) → goes_on part.order.works t ≡ true → why_at part t ≡ None
+-- who goes on wasn't aborted
+pub going_why : (part : Part) (t : ℕ) → goes_on part.order.works t ≡ true → why_at part t ≡ None
 going_why part t e = step (at_ticket part.order.works t) e
   where
     by_fate : (f : Fate) → is_going f ≡ true → why_of f (cause_at part.holders t) ≡ None

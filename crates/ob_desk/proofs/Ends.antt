@@ -8,7 +8,7 @@ use Rattle.ob_base.specs.declared.params.Params.{Params}
 use Rattle.ob_order.specs.Works.{goes_on, last_writes}
 use Rattle.ob_desk.specs.declared.part.Part.{Part as CodePart}
 use Rattle.ob_desk.specs.Desk.{Part, DeskState, Client, Fault, EpochEnd, Committed, UnsureOf, new_part, end_of, close_to, closing, asked_at, settle, stop_part, record_of, MayCall, Close, CloseStep, PublishStep, UnsureStep}
-use Rattle.ob_desk.specs.Parts.{part_of, desk_of, IsKept, KeepsRoom}
+use Rattle.ob_desk.specs.Parts.{part_of, desk_of, ArePartsKept, KeepsRoom}
 
 -- what a flag says of the closed part
 pub none_closed : (b : Bool) (p : Part) → (if b then Some p else None) ≡ None → b ≡ false
@@ -20,7 +20,7 @@ some_closed true p o e is = sym e
 some_closed false p o e is = absurd (false≢true (ap is_some e ∙ is))
 
 -- a close keeps the number
-closed_epoch : (part : Part) (n : ℕ) → (close_to part n).epoch ≡ part.epoch
+pub closed_epoch : (part : Part) (n : ℕ) → (close_to part n).epoch ≡ part.epoch
 closed_epoch part zero = refl
 closed_epoch part (suc n) = step (goes_on (close_to part n).order.works (suc n) && not (asked_at (close_to part n) (suc n))) ∙ closed_epoch part n
   where
@@ -28,14 +28,17 @@ closed_epoch part (suc n) = step (goes_on (close_to part n).order.works (suc n) 
     step true = refl
     step false = refl
 
+pub closing-epoch : (part : Part) → (closing part).epoch ≡ part.epoch
+closing-epoch part = closed_epoch part (length part.order.works)
+
 pub closing_epoch : (old new : CodePart) → part_of new ≡ closing (part_of old) → new.epoch ≡ old.epoch
 closing_epoch old new e = ap (λ (p : Part). p.epoch) e ∙ closed_epoch (part_of old) (length old.order.state.works)
 
 module _ (clients : List Client) (stop : Option Fault) (running other : CodePart) (is_closed : Bool) where
-  pub low_epoch : IsKept running other is_closed stop → MayCall (desk_of clients stop running is_closed other) Close → running.epoch ≤ 2 ^ 62
+  pub low_epoch : ArePartsKept running other is_closed stop → MayCall (desk_of clients stop running is_closed other) Close → running.epoch ≤ 2 ^ 62
   low_epoch kept may = kept.low (none_closed is_closed (part_of other) may.0) may.3
 
-  pub close_step : (writes : List (ℕ × Option (List ℕ))) (ended next : CodePart) → IsKept running other is_closed stop
+  pub close_step : (writes : List (ℕ × Option (List ℕ))) (ended next : CodePart) → ArePartsKept running other is_closed stop
       → part_of ended ≡ closing (part_of running) → KeepsRoom running ended
       → part_of next ≡ new_part (ended.epoch + 1) other.order.params.batches → next.order.params ≡ other.order.params
       → writes ≡ last_writes ended.order.params.keys ended.order.state.works

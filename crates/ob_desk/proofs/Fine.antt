@@ -1,10 +1,11 @@
 -- What every step keeps of a part: Gets that still find their versions, true bases, keys in range, one holder a work.
-use Rattle.std.proofs.Common.{◌≡◌, ℕ, zero, suc, ◌+◌, ◌<◌, ◌≤◌, Bool, true, false, cond, not, ◌&&◌, ◌==◌, if◌then◌else◌, nat_lt, List, [], ◌∷◌, ◌++◌, length, Option, None, Some, option_map, option_and_then, unwrap_or, slice_get, refl, sym, ap, ap₂, ◌∙◌, subst, inl, inr, ⊎_elim, arith, nat_cmp, length-append, ltb-false, eqb-true}
+use Rattle.std.proofs.Common.{◌≡◌, ℕ, zero, suc, ◌+◌, ◌<◌, ◌≤◌, Bool, true, false, cond, not, ◌&&◌, ◌==◌, if◌then◌else◌, nat_lt, List, [], ◌∷◌, ◌++◌, length, Option, None, Some, option_map}
+use Rattle.std.proofs.Common.{option_and_then, unwrap_or, slice_get, refl, sym, ap, ap₂, ◌∙◌, subst, inl, inr, ⊎_elim, arith, nat_cmp, length-append, ltb-false, eqb-true}
 use Rattle.std.specs.Option.{option_or}
 use Rattle.std.specs.FinMap as finite
 use Rattle.std.specs.FinMap.{get-empty, get-insert}
 use Rattle.std.specs.Cmp.{nat_cmp_total, unsigned_tied}
-use Rattle.std.proofs.lemmas.Bool.{cases_eq, false≢true, ne_eqb}
+use Rattle.std.proofs.lemmas.Bool.{cases_eq, false≢true}
 use Rattle.std.proofs.lemmas.List.{length-map}
 use Rattle.std.proofs.lemmas.Option.{none-some, same_Some}
 use Rattle.ob_serial.specs.Serial.{Map}
@@ -24,7 +25,7 @@ use Rattle.ob_order.proofs.Newest.{Thinned}
 use Rattle.ob_desk.proofs.Sees.{Reads, answered, reads_got, reads_wrote, reads_begun, reads_none, is_write}
 use Rattle.ob_order.proofs.Newest.{version-with_op}
 use Rattle.ob_order.proofs.Falls.{fallen_waits, fallen_aborted, thinned_from_fallen, length-aborted}
-use Rattle.ob_order.proofs.Counts.{stopped_at, none_stopped}
+use Rattle.ob_order.proofs.Counts.{stopped_at, none_stopped, other_written}
 use Rattle.ob_desk.proofs.Aborts.{reads_waits, reads_aborted}
 
 -- the bases that were delivered are the map's
@@ -58,10 +59,6 @@ within_begun n ws h = record { at_each = at_each }
         (λ old. ap (option_and_then (λ w. version_in w k)) old ∙ h.at_each (suc u) k l)
         (λ last. ap (option_and_then (λ w. version_in w k)) last.2)
         (slice_get-push ws fresh u)
-
-write_of-write_op : (k : ℕ) (v : Option (List ℕ)) (j : ℕ) → (j ≡ k → ⊥) → write_of (write_op k v) j ≡ None
-write_of-write_op k None j h = ap (λ b. if b then Some None else None) (ne_eqb j k h)
-write_of-write_op k (Some v) j h = ap (λ b. if b then Some (Some v) else None) (ne_eqb j k h)
 
 is_write-write_op : (k : ℕ) (v : Option (List ℕ)) → is_write (write_op k v) ≡ true
 is_write-write_op k None = refl
@@ -143,10 +140,10 @@ pub fine_wrote : (m : Map nat_cmp) (n : ℕ) (p : Params) (part : Part) (t k : �
 fine_wrote m n p part t k v h was_yes l = record {
   reads = reads_wrote m part.order.works t (write_op k v) h.reads (is_write-write_op k v) (λ j. ⊎_elim
       (λ same. inr (subst (λ q. mark part.order.works q (source_of (newest part.order.works t q)) ≤ t) (sym same) (write_unread p part.order t k was_yes)))
-      (λ other. inl (write_of-write_op k v j other))
+      (λ other. inl (other_written k v j other))
       (cases_eq j k));
   based = h.based;
-  within = within_op n part.order.works t (write_op k v) h.within (λ j g. write_of-write_op k v j (λ e. absurd (omega arith)));
+  within = within_op n part.order.works t (write_op k v) h.within (λ j g. other_written k v j (λ e. absurd (omega arith)));
   even = h.even ∙ sym (length-edit _ part.order.works t);
 }
 

@@ -2,13 +2,13 @@
 use Rattle.std.proofs.Common.{◌≡◌, ℕ, zero, suc, Bool, true, false, cond, ◌==◌, if◌then◌else◌, List, [], ◌∷◌, Option, None, Some, option_map, option_and_then, unwrap_or, slice_get, refl, ap, ◌∙◌, nat_cmp}
 use Rattle.std.specs.Option.{option_or}
 use Rattle.std.specs.FinMap as map
-use Rattle.ob_serial.specs.Serial.{Map, after, after_op}
+use Rattle.ob_serial.specs.Serial.{Map, after_ops, after_op}
 use Rattle.ob_order.specs.Works.{Work, is_going, version_in, newest, last_write}
 use Rattle.ob_desk.specs.Replay.{map_after}
 use Rattle.std.proofs.Common.{◌≡◌, ℕ, zero, suc, Bool, true, false, cond, ◌==◌, if◌then◌else◌, List, [], ◌∷◌, Option, None, Some, option_map, option_and_then, unwrap_or, slice_get, refl, ap, ◌∙◌, nat_cmp}
 use Rattle.std.specs.Cmp.{nat_cmp_total, unsigned_tied}
 use Rattle.std.specs.FinMap.{get-insert, get-remove}
-use Rattle.ob_serial.specs.Serial.{Map, after, after_op}
+use Rattle.ob_serial.specs.Serial.{Map, after_ops, after_op}
 use Rattle.ob_order.specs.Works.{write_of, last_write}
 use Rattle.ob_order.specs.Works.{write_of}
 use Rattle.ob_base.specs.declared.op.Op.{Op}
@@ -30,7 +30,7 @@ unwrap_or-or None b d = refl
 unwrap_or-or (Some x) b d = refl
 
 -- what operations leave at a key: what the last write of it set, else what was there
-pub get-after : (m : Map nat_cmp) (os : List (Op ℕ)) (k : ℕ) → map.get (after nat_cmp m os) k ≡ unwrap_or (last_write os k) (map.get m k)
+pub get-after : (m : Map nat_cmp) (os : List (Op ℕ)) (k : ℕ) → map.get (after_ops nat_cmp m os) k ≡ unwrap_or (last_write os k) (map.get m k)
 get-after m [] k = refl
 get-after m (o ∷ os) k = get-after (after_op nat_cmp m o) os k ∙ (ap (unwrap_or (last_write os k)) (get-after_op m o k) ∙ unwrap_or-or (last_write os k) (write_of o k) (map.get m k))
 
@@ -47,11 +47,11 @@ get-map_after m ws (suc n) k = step (slice_get ws n) (map_after m ws n) (newest 
     written (Some x) o d = refl
 
     by_fate : (b : Bool) (w : Work) (before : Map nat_cmp) (o : Option Version) → map.get before k ≡ value_or o (map.get m k)
-        → map.get (if b then after nat_cmp before w.ops else before) k ≡ value_or (option_or (option_map (λ v. record { source = suc n; value = v }) (if b then last_write w.ops k else None)) o) (map.get m k)
+        → map.get (if b then after_ops nat_cmp before w.ops else before) k ≡ value_or (option_or (option_map (λ v. record { source = suc n; value = v }) (if b then last_write w.ops k else None)) o) (map.get m k)
     by_fate true w before o e = get-after before w.ops k ∙ (ap (unwrap_or (last_write w.ops k)) e ∙ written (last_write w.ops k) o (map.get m k))
     by_fate false w before o e = e
 
     step : (w : Option Work) (before : Map nat_cmp) (o : Option Version) → map.get before k ≡ value_or o (map.get m k)
-        → map.get (unwrap_or (option_map (λ w. if is_going w.fate then after nat_cmp before w.ops else before) w) before) k ≡ value_or (option_or (option_map (λ v. record { source = suc n; value = v }) (option_and_then (λ w. version_in w k) w)) o) (map.get m k)
+        → map.get (unwrap_or (option_map (λ w. if is_going w.fate then after_ops nat_cmp before w.ops else before) w) before) k ≡ value_or (option_or (option_map (λ v. record { source = suc n; value = v }) (option_and_then (λ w. version_in w k) w)) o) (map.get m k)
     step None before o e = e
     step (Some w) before o e = by_fate (is_going w.fate) w before o e

@@ -5,8 +5,9 @@ use Rattle.std.specs.List.{range_with_len, cons_option}
 use Rattle.std.specs.FinMap as finite
 use Rattle.std.specs.FinMap.{same_map, nat_cmp-IsAntisymmetric}
 use Rattle.std.specs.Cmp.{nat_cmp_total}
-use Rattle.std.proofs.lemmas.Bool.{cases_eq, cases_lt, ne_eqb, eq-eqb}
-use Rattle.ob_serial.specs.Serial.{Map, after, Replays, OneByOne, is_committed}
+use Rattle.std.proofs.lemmas.Bool.{cases_eq, cases_lt}
+use Rattle.ob_serial.specs.Serial.{Map, after_ops, Replays, OneByOne, is_committed}
+use Rattle.ob_serial.specs.Vaults.{with_writes}
 use Rattle.ob_desk.specs.Desk.{Committed, AbortedBy}
 use Rattle.ob_order.specs.Works.{Work, is_going, newest, write_of, last_write, last_writes}
 use Rattle.ob_desk.specs.Replay.{map_after, EachReplays}
@@ -15,19 +16,20 @@ use Rattle.ob_base.specs.declared.op.Op.{Op}
 use Rattle.ob_order.specs.declared.answers.Version.{Version}
 use Rattle.ob_order.specs.declared.fate.Fate.{Fate}
 use Rattle.ob_order.specs.declared.fate.Fate.TheVariants.{Going, Ended, Fell}
-use Rattle.ob_desk.specs.Desk.{Holder, why_of, txns_from, with_writes}
+use Rattle.ob_desk.specs.Desk.{Holder, why_of, txns_from}
 use Rattle.ob_desk.proofs.Maps.{get-after}
 use Rattle.ob_order.proofs.Newest.{newest_lower}
+use Rattle.ob_order.proofs.Counts.{other_written, own_written}
 use Rattle.ob_desk.proofs.Maps.{get-map_after}
 use Rattle.ob_desk.proofs.Fine.{Within}
 
 -- ---- one by one
 
 -- the map after one transaction
-abbrev after_work : Map nat_cmp → Work → Map nat_cmp
-after_work m w = if is_going w.fate then after nat_cmp m w.ops else m
+abbrev pub after_work : Map nat_cmp → Work → Map nat_cmp
+after_work m w = if is_going w.fate then after_ops nat_cmp m w.ops else m
 
-map_after-cons : (m : Map nat_cmp) (w : Work) (ws : List Work) (n : ℕ) → map_after m (w ∷ ws) (suc n) ≡ map_after (after_work m w) ws n
+pub map_after-cons : (m : Map nat_cmp) (w : Work) (ws : List Work) (n : ℕ) → map_after m (w ∷ ws) (suc n) ≡ map_after (after_work m w) ws n
 map_after-cons m w ws zero = refl
 map_after-cons m w ws (suc n) = ap (λ x. unwrap_or (option_map (λ v. after_work x v) (slice_get ws n)) x) (map_after-cons m w ws n)
 
@@ -42,7 +44,7 @@ one_by_one_from m epoch t (w ∷ ws) (x ∷ hs) e h =
     (step w.fate (h.at_each 0 w refl) (one_by_one_from (after_work m w) epoch (suc t) ws hs (omega arith) (rest_replays m w ws h)))
   where
     step : (f : Fate) → (is_going f ≡ true → Replays nat_cmp m w.ops)
-        → OneByOne nat_cmp (if is_going f then after nat_cmp m w.ops else m) (filter (λ x. is_committed x) (txns_from epoch (suc t) ws hs)) (map_after (after_work m w) ws (length ws))
+        → OneByOne nat_cmp (if is_going f then after_ops nat_cmp m w.ops else m) (filter (λ x. is_committed x) (txns_from epoch (suc t) ws hs)) (map_after (after_work m w) ws (length ws))
         → OneByOne nat_cmp m (filter (λ x. is_committed x) (record { epoch = epoch; ticket = t; client = x.client; ops = w.ops; outcome = unwrap_or (option_map AbortedBy (why_of f x.cause)) Committed } ∷ txns_from epoch (suc t) ws hs)) (map_after (after_work m w) ws (length ws))
     step Going here rest = (here refl, rest)
     step Ended here rest = rest
@@ -69,25 +71,17 @@ writes_from-suc f a n = step (f a)
     step None = refl
     step (Some v) = refl
 
-write_of-other : (k : ℕ) (v : Option (List ℕ)) (j : ℕ) → (j ≡ k → ⊥) → write_of (write_op k v) j ≡ None
-write_of-other k None j h = ap (λ b. if b then Some None else None) (ne_eqb j k h)
-write_of-other k (Some v) j h = ap (λ b. if b then Some (Some v) else None) (ne_eqb j k h)
-
-write_of-same : (k : ℕ) (v : Option (List ℕ)) → write_of (write_op k v) k ≡ Some v
-write_of-same k None = ap (λ b. if b then Some None else None) (eq-eqb k k refl)
-write_of-same k (Some v) = ap (λ b. if b then Some (Some v) else None) (eq-eqb k k refl)
-
 or_none : {A : Type 0} (o : Option A) → option_or o None ≡ o
 or_none None = refl
 or_none (Some x) = refl
 
 last_write-other : (o : Option Version) (a q : ℕ) (os : List (Op ℕ)) → (q ≡ a → ⊥) → last_write (first_write o a os) q ≡ last_write os q
 last_write-other None a q os h = refl
-last_write-other (Some v) a q os h = ap (option_or (last_write os q)) (write_of-other a v.value q h) ∙ or_none (last_write os q)
+last_write-other (Some v) a q os h = ap (option_or (last_write os q)) (other_written a v.value q h) ∙ or_none (last_write os q)
 
 last_write-here : (o : Option Version) (a : ℕ) (os : List (Op ℕ)) → last_write os a ≡ None → last_write (first_write o a os) a ≡ option_map (λ v. v.value) o
 last_write-here None a os h = h
-last_write-here (Some v) a os h = ap (λ x. option_or x (write_of (write_op a v.value) a)) h ∙ write_of-same a v.value
+last_write-here (Some v) a os h = ap (λ x. option_or x (write_of (write_op a v.value) a)) h ∙ own_written a v.value
 
 writes_apart : (f : ℕ → Option Version) (a n q : ℕ) → (q < a) ⊎ (a + n ≤ q) → last_write (writes_from f a n) q ≡ None
 writes_apart f a zero q out = refl

@@ -9,12 +9,15 @@ use Rattle.std.proofs.lemmas.List.Elements.{filter-append}
 use Rattle.ob_serial.proofs.Runs.{goes_on}
 use Rattle.std.specs.FinMap.{get-empty}
 use Rattle.std.proofs.lemmas.Option.{none-some, same_Some}
-use Rattle.ob_serial.specs.Serial.{Map, is_committed, OneByOne, committed_of, Txn, EpochRecord}
+use Rattle.ob_serial.specs.Serial.{Map, is_committed, OneByOne, committed_of, TxnRecord, EpochRecord}
+use Rattle.ob_serial.specs.Vaults.{with_writes}
 use Rattle.ob_desk.specs.Desk.{Fault, Why, Asked}
 use Rattle.ob_order.specs.Works.{last_writes}
 use Rattle.ob_desk.specs.Replay.{map_after}
 use Rattle.ob_order.specs.Order.{after_take}
-use Rattle.ob_desk.specs.Desk.{Part, DeskState, new_desk, Setup, is_memory, stop_closed, end_of, closing, stop_part, Call, Begin, GetKey, Poll, Write, Commit, Abort, Settled, Looks, SignOff, Stop, Unsure, IsStopped, TakeBatch, Deliver, Close, Publish, Reply, Begun, Refused, Value, Waits, Aborted, Done, IsSettled, Seen, StoppedBy, Batch, Writes, Published, DeskStep, MayCall, IsFed, base_map, map_next, Run, published, records_told, with_writes, record_of, DeskReplays, DeskIsSerial, stopped_by}
+use Rattle.ob_desk.specs.Desk.{Part, DeskState, new_desk, Setup, is_memory, stop_closed, end_of, closing, stop_part, Call, Begin, GetKey, Poll, Write, Commit, Abort, Settled, Looks, SignOff, Stop}
+use Rattle.ob_desk.specs.Desk.{Unsure, IsStopped, TakeBatch, Deliver, Close, Publish, Reply, Begun, Refused, Value, Waits, Aborted, Done, IsSettled, Seen, StoppedBy, Batch, Writes, Published, DeskStep}
+use Rattle.ob_desk.specs.Desk.{MayCall, IsFed, base_map, map_next, Run, published, records_told, record_of, DeskReplays, DeskIsSerial, stopped_by}
 use Rattle.ob_order.proofs.Newest.{by_option}
 use Rattle.ob_desk.proofs.Sees.{replays_from_reads}
 use Rattle.ob_desk.proofs.Fine.{fine_waits, asked_bases, Fine, Based, fine_got, fine_queued, fine_holder, fine_wrote, fine_new, fine_begun, fine_end, fine_close_to, fine_stopped, based_delivered, read_found, again_found}
@@ -79,11 +82,13 @@ good_step m d (Begin client) (Begun x) new may step fed h = subst (Good m) (sym 
   unfed = h.unfed;
 })
 good_step m d (Begin client) (Refused f) new may step fed h = same m d new step.same h
-good_step m d (GetKey x k) (Value value) new may step fed h = in_running m d new _ step.state (fine_got (base_map m d) d.setup.params.keys d.running x.ticket k (record { source = step.source; value = value }) h.running (read_found d.setup.params d.running.order x.ticket k value step.source step.reply)) refl h
+good_step m d (GetKey x k) (Value value) new may step fed h = in_running m d new _ step.state
+    (fine_got (base_map m d) d.setup.params.keys d.running x.ticket k (record { source = step.source; value = value }) h.running (read_found d.setup.params d.running.order x.ticket k value step.source step.reply)) refl h
 good_step m d (GetKey x k) Waits new may step fed h = in_running m d new _ step.state (fine_waits (base_map m d) d.setup.params.keys d.running x.ticket k h.running) (asked_bases d.running.order k) h
 good_step m d (GetKey x k) (Aborted why) new may (inl step) fed h = same m d new step.same h
 good_step m d (GetKey x k) (Aborted why) new may (inr step) fed h = ended m d new x.ticket why step.state h
-good_step m d (Poll x) (Value value) new may step fed h = in_running m d new _ step.state (fine_got (base_map m d) d.setup.params.keys d.running x.ticket step.key (record { source = step.source; value = value }) h.running (again_found d.running.order x.ticket step.key value step.source step.reply)) refl h
+good_step m d (Poll x) (Value value) new may step fed h = in_running m d new _ step.state
+    (fine_got (base_map m d) d.setup.params.keys d.running x.ticket step.key (record { source = step.source; value = value }) h.running (again_found d.running.order x.ticket step.key value step.source step.reply)) refl h
 good_step m d (Poll x) Waits new may step fed h = same m d new step.same h
 good_step m d (Poll x) (Aborted why) new may step fed h = same m d new step.same h
 good_step m d (Write x k value) Done new may step fed h = in_running m d new _ step.state (fine_wrote (base_map m d) d.setup.params.keys d.setup.params d.running x.ticket k value h.running step.reply may.2) refl h
@@ -140,8 +145,8 @@ desk_replays setup epoch left clients m last steps d run =
 
 pub committed_append : (xs ys : List (EpochRecord ℕ)) → committed_of (xs ++ ys) ≡ committed_of xs ++ committed_of ys
 committed_append xs ys =
-    ap (filter (λ (t : Txn ℕ). is_committed t)) (flat_map-append (λ (r : EpochRecord ℕ). r.txns) xs ys)
-    ∙ filter-append (λ (t : Txn ℕ). is_committed t) (flat_map (λ (r : EpochRecord ℕ). r.txns) xs) (flat_map (λ (r : EpochRecord ℕ). r.txns) ys)
+    ap (filter (λ (t : TxnRecord ℕ). is_committed t)) (flat_map-append (λ (r : EpochRecord ℕ). r.txns) xs ys)
+    ∙ filter-append (λ (t : TxnRecord ℕ). is_committed t) (flat_map (λ (r : EpochRecord ℕ). r.txns) xs) (flat_map (λ (r : EpochRecord ℕ). r.txns) ys)
 
 -- a publish tells what leads to the next map, and no other call tells any
 pub serial_step : (m : Map nat_cmp) (d : DeskState) (call : Call) (reply : Reply) (new : DeskState) → DeskStep d call reply new → Good m d → OneByOne nat_cmp m (committed_of (records_told reply)) (map_next m d call)
@@ -150,8 +155,8 @@ serial_step m d (Publish epoch left) (Published told) new step h =
     let fine = h.closed part step.is_closed in
     let last : map_after m part.order.works (length part.order.works) ≡ base_map m d =
     sym (batch_gives m d.setup.params.keys part.order.works fine.within) ∙ ap (λ c. unwrap_or (option_map (λ c. with_writes m (last_writes d.setup.params.keys c.order.works)) c) m) (sym step.is_closed) in
-    subst (λ (ts : List (Txn ℕ)). OneByOne nat_cmp m (filter (λ (t : Txn ℕ). is_committed t) ts) (base_map m d)) (ap (λ (r : EpochRecord ℕ). r.txns) (sym step.record_is) ∙ sym (append-nil told.txns))
-    (subst (OneByOne nat_cmp m (filter (λ (t : Txn ℕ). is_committed t) (record_of part).txns)) last
+    subst (λ (ts : List (TxnRecord ℕ)). OneByOne nat_cmp m (filter (λ (t : TxnRecord ℕ). is_committed t) ts) (base_map m d)) (ap (λ (r : EpochRecord ℕ). r.txns) (sym step.record_is) ∙ sym (append-nil told.txns))
+    (subst (OneByOne nat_cmp m (filter (λ (t : TxnRecord ℕ). is_committed t) (record_of part).txns)) last
     (one_by_one_from m part.epoch 1 part.order.works part.holders fine.even (replays_from_reads m part.order.works fine.reads)))
 serial_step m d (Publish epoch left) _ new step h = absurd step
 serial_step m d _ (Published told) new step h = absurd step
@@ -160,7 +165,7 @@ serial_step m d _ _ new step h = refl
 serial_run : (m : Map nat_cmp) (d : DeskState) (steps : List (Call × Reply)) (last : Map nat_cmp) (new : DeskState) → Run m d steps last new → Good m d → OneByOne nat_cmp m (committed_of (published steps)) last
 serial_run m d [] last new run h = sym run.0
 serial_run m d (step ∷ steps) last new run h =
-    subst (λ (ts : List (Txn ℕ)). OneByOne nat_cmp m ts last) (sym (committed_append (records_told step.1) (published steps)))
+    subst (λ (ts : List (TxnRecord ℕ)). OneByOne nat_cmp m ts last) (sym (committed_append (records_told step.1) (published steps)))
     (goes_on nat_cmp m (committed_of (records_told step.1)) (committed_of (published steps)) (map_next m d step.0) last
     (serial_step m d step.0 step.1 run.0 run.2 h)
     (serial_run (map_next m d step.0) run.0 steps last new run.4 (good_step m d step.0 step.1 run.0 run.1 run.2 run.3 h)))

@@ -9,7 +9,7 @@ use Rattle.ob_order.specs.declared.answers.Read.{Read}
 use Rattle.ob_order.specs.declared.answers.Read.TheVariants.{Value as Found, Queued, Full as ReadsAreFull}
 use Rattle.ob_order.specs.declared.answers.Wrote.{Wrote}
 use Rattle.ob_order.specs.declared.answers.Wrote.TheVariants.{Yes, Conflict as Conflicts, Full as WritesAreFull}
-use Rattle.ob_desk.specs.Desk.{DeskState, Part, TxnId, Call, GetKey, Poll, Write, Commit, Abort, Reply, Value, Waits, Aborted, Done, Conflict, ReadsFull, WritesFull, Depends, EpochEnd, Asked, Why, AbortedBy, DeskStep, outcome_at, aborted_why, waiting_at, asked_at, why_at, closing}
+use Rattle.ob_desk.specs.Desk.{DeskState, Part, Txn, Call, GetKey, Poll, Write, Commit, Abort, Reply, Value, Waits, Aborted, Done, Conflict, ReadsFull, WritesFull, Depends, EpochEnd, Asked, Why, AbortedBy, DeskStep, outcome_at, aborted_why, waiting_at, asked_at, why_at, closing}
 
 -- a get's reply: a value, or the key waits, or no batch has a place for it
 abbrev pub read_as : Read → Reply
@@ -24,13 +24,13 @@ written_as (Conflicts key reader) = Aborted (Conflict key reader)
 written_as (WritesAreFull keys) = Aborted (WritesFull keys)
 
 -- the transaction that a call is on
-abbrev pub txn_of : Call → Option TxnId
-txn_of (GetKey x k) = Some x
-txn_of (Poll x) = Some x
-txn_of (Write x k value) = Some x
-txn_of (Commit x) = Some x
-txn_of (Abort x) = Some x
-txn_of _ = None
+abbrev pub called_txn : Call → Option Txn
+called_txn (GetKey x k) = Some x
+called_txn (Poll x) = Some x
+called_txn (Write x k value) = Some x
+called_txn (Commit x) = Some x
+called_txn (Abort x) = Some x
+called_txn _ = None
 
 -- the reply to a call on a transaction that isn't aborted
 abbrev pub reply_to : DeskState → Call → Reply
@@ -43,11 +43,11 @@ reply_to d _ = Done
 
 -- Conflict, ReadsFull, WritesFull, Asked and Queued come exactly where the function says
 abbrev pub RepliesAreExact : Type 0
-RepliesAreExact = (d : DeskState) (call : Call) (x : TxnId) (reply : Reply) (new : DeskState) → txn_of call ≡ Some x → aborted_why (outcome_at d x) ≡ None → DeskStep d call reply new → reply ≡ reply_to d call
+RepliesAreExact = (d : DeskState) (call : Call) (x : Txn) (reply : Reply) (new : DeskState) → called_txn call ≡ Some x → aborted_why (outcome_at d x) ≡ None → DeskStep d call reply new → reply ≡ reply_to d call
 
 -- one that doesn't go on is answered why it was aborted, and nothing happens
 abbrev pub AbortedAreTold : Type 0
-AbortedAreTold = (d : DeskState) (call : Call) (x : TxnId) (reply : Reply) (new : DeskState) → txn_of call ≡ Some x → goes_on d.running.order.works x.ticket ≡ false → DeskStep d call reply new
+AbortedAreTold = (d : DeskState) (call : Call) (x : Txn) (reply : Reply) (new : DeskState) → called_txn call ≡ Some x → goes_on d.running.order.works x.ticket ≡ false → DeskStep d call reply new
     → (why : Why ℕ) × (reply ≡ Aborted why) × (outcome_at d x ≡ Some (AbortedBy why)) × (new ≡ d)
 
 -- at a close only those end for the epoch's end that haven't asked to commit

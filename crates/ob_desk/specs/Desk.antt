@@ -7,10 +7,11 @@ use Rattle.std.specs.declared.option.Option.TheVariants.{None, Some}
 use Rattle.std.specs.Ordering.{nat_cmp}
 use Rattle.std.specs.List.Sorted.{IsStrictlyIncreasing}
 use Rattle.std.specs.FinMap as finite
-use Rattle.ob_serial.specs.Serial.{Txn, EpochRecord, Map, after, OneByOne, committed_of}
+use Rattle.ob_serial.specs.Serial.{TxnRecord, EpochRecord, Map, after_ops, OneByOne, committed_of}
+use Rattle.ob_serial.specs.Vaults.{with_writes}
 use Rattle.ob_order.specs.Works.{Work, at_ticket, edit, fate_at, waiting_at as waits_in, goes_on, last_writes}
 use Rattle.ob_desk.specs.Replay.{EachReplays}
-use Rattle.ob_order.specs.Order.{OrderState, new_order, after_begin, answer, read_reply, after_read, again_reply, after_again, write_reply, after_write, after_abort, after_stop, batch_of, after_take, after_deliver, write_op}
+use Rattle.ob_order.specs.Order.{OrderState, new_order, after_begin, answer, read_reply, after_read, again_reply, after_again, write_reply, after_write, after_abort, after_stop, batch_of, after_take, after_deliver}
 use Rattle.ob_order.specs.declared.fate.Fate.{Fate}
 use Rattle.ob_order.specs.declared.fate.Fate.TheVariants.{Going, Ended, Fell}
 use Rattle.ob_base.specs.declared.params.Params.{Params}
@@ -23,7 +24,7 @@ pub use Rattle.ob_serial.specs.declared.records.Why.{Why}
 pub use Rattle.ob_serial.specs.declared.records.Why.TheVariants.{Conflict, Depends, ReadsFull, WritesFull, EpochEnd, Asked, Stopped}
 pub use Rattle.ob_serial.specs.declared.records.Outcome.{Outcome}
 pub use Rattle.ob_serial.specs.declared.records.Outcome.TheVariants.{Committed, Aborted as AbortedBy, Unsure as UnsureOf}
-pub use Rattle.ob_desk.specs.declared.calls.Txn.{Txn as TxnId}
+pub use Rattle.ob_desk.specs.declared.calls.Txn.{Txn}
 pub use Rattle.ob_desk.specs.declared.calls.Look.{Look}
 pub use Rattle.ob_desk.specs.declared.clients.Holder.{Holder}
 pub use Rattle.ob_desk.specs.declared.clients.Client.{Client}
@@ -89,7 +90,7 @@ abbrev pub client_at : DeskState → ℕ → Option Client
 client_at d number = client_in d.clients number
 
 -- how a client's last transaction ended, if it has
-abbrev pub outcome_at : DeskState → TxnId → Option (Outcome ℕ)
+abbrev pub outcome_at : DeskState → Txn → Option (Outcome ℕ)
 outcome_at d x = option_or
     (option_and_then (λ part. option_map AbortedBy (why_at part x.ticket)) (part_at d x.epoch))
     (option_and_then (λ c. c.outcome) (client_at d x.client))
@@ -176,7 +177,7 @@ abbrev pub on_client : (Client → Client) → List Client → ℕ → List Clie
 on_client f clients number = map (λ c. if c.number == number then f c else c) clients
 
 -- its last transaction is this one, which hasn't ended
-abbrev pub begin_client : TxnId → Client → Client
+abbrev pub begin_client : Txn → Client → Client
 begin_client x c = record c { last = Some x; outcome = None }
 
 -- it has signed off
@@ -196,7 +197,7 @@ abbrev pub settle : Part → Outcome ℕ → List Client → List Client
 settle part otherwise clients = map (settle_client part otherwise) clients
 
 -- the records of these works and their holders, from ticket t on
-abbrev pub txns_from : ℕ → ℕ → List Work → List Holder → List (Txn ℕ)
+abbrev pub txns_from : ℕ → ℕ → List Work → List Holder → List (TxnRecord ℕ)
 txns_from epoch t [] hs = []
 txns_from epoch t (w ∷ ws) [] = []
 txns_from epoch t (w ∷ ws) (h ∷ hs) = record { epoch = epoch; ticket = t; client = h.client; ops = w.ops; outcome = unwrap_or (option_map AbortedBy (why_of w.fate h.cause)) Committed } ∷ txns_from epoch (suc t) ws hs
@@ -208,12 +209,12 @@ record_of part = record { epoch = part.epoch; txns = txns_from part.epoch 1 part
 -- a call of the desk
 pub data Call : Type 0 where
   Begin : (client : ℕ) → Call
-  GetKey : (txn : TxnId) (key : ℕ) → Call
-  Poll : (txn : TxnId) → Call
-  Write : (txn : TxnId) (key : ℕ) (value : Option (List ℕ)) → Call
-  Commit : (txn : TxnId) → Call
-  Abort : (txn : TxnId) → Call
-  Settled : (txn : TxnId) → Call
+  GetKey : (txn : Txn) (key : ℕ) → Call
+  Poll : (txn : Txn) → Call
+  Write : (txn : Txn) (key : ℕ) (value : Option (List ℕ)) → Call
+  Commit : (txn : Txn) → Call
+  Abort : (txn : Txn) → Call
+  Settled : (txn : Txn) → Call
   Looks : Call
   SignOff : (client : ℕ) → Call
   Stop : (fault : Fault) → Call
@@ -226,7 +227,7 @@ pub data Call : Type 0 where
 
 -- what it is answered
 pub data Reply : Type 0 where
-  Begun : (txn : TxnId) → Reply
+  Begun : (txn : Txn) → Reply
   Refused : (fault : Fault) → Reply
   Value : (value : Option (List ℕ)) → Reply
   Waits : Reply
@@ -240,7 +241,7 @@ pub data Reply : Type 0 where
   Published : (epoch_record : EpochRecord ℕ) → Reply
 
 -- a transaction of the running part that goes on
-pub record IsLive (d : DeskState) (x : TxnId) : Type 0 where
+pub record IsLive (d : DeskState) (x : Txn) : Type 0 where
   pub runs : x.epoch ≡ d.running.epoch
   pub goes : goes_on d.running.order.works x.ticket ≡ true
 
@@ -249,12 +250,12 @@ pub record Stays (d new : DeskState) : Type 0 where
   pub same : new ≡ d
 
 -- it was aborted already, and nothing happens
-pub record WasAborted (d : DeskState) (x : TxnId) (why : Why ℕ) (new : DeskState) : Type 0 where
+pub record WasAborted (d : DeskState) (x : Txn) (why : Why ℕ) (new : DeskState) : Type 0 where
   pub earlier : outcome_at d x ≡ Some (AbortedBy why)
   pub same : new ≡ d
 
 -- the next ticket is drawn
-pub record BeginStep (d : DeskState) (client : ℕ) (x : TxnId) (new : DeskState) : Type 0 where
+pub record BeginStep (d : DeskState) (client : ℕ) (x : Txn) (new : DeskState) : Type 0 where
   pub not_stopped : d.stop ≡ None
   pub next : x ≡ record { client = client; epoch = d.running.epoch; ticket = suc (length d.running.order.works) }
   pub state : new ≡ record d {
@@ -268,20 +269,20 @@ pub record RefusedStep (d : DeskState) (f : Fault) (new : DeskState) : Type 0 wh
   pub same : new ≡ d
 
 -- a get is answered with a value
-pub record GetStep (d : DeskState) (x : TxnId) (k : ℕ) (value : Option (List ℕ)) (new : DeskState) : Type 0 where
+pub record GetStep (d : DeskState) (x : Txn) (k : ℕ) (value : Option (List ℕ)) (new : DeskState) : Type 0 where
   pub live : IsLive d x
   pub source : ℕ
   pub reply : read_reply d.setup.params d.running.order x.ticket k ≡ Found value source
   pub state : new ≡ record d { running = with_order d.running (after_read d.running.order x.ticket k (Found value source)) }
 
 -- a get has to wait for its key
-pub record QueuedStep (d : DeskState) (x : TxnId) (k : ℕ) (new : DeskState) : Type 0 where
+pub record QueuedStep (d : DeskState) (x : Txn) (k : ℕ) (new : DeskState) : Type 0 where
   pub live : IsLive d x
   pub reply : read_reply d.setup.params d.running.order x.ticket k ≡ Queued
   pub state : new ≡ record d { running = with_order d.running (after_read d.running.order x.ticket k Queued) }
 
 -- the batches that are left have no place for the key, and the transaction is aborted
-pub record ReadsFullStep (d : DeskState) (x : TxnId) (k : ℕ) (why : Why ℕ) (new : DeskState) : Type 0 where
+pub record ReadsFullStep (d : DeskState) (x : Txn) (k : ℕ) (why : Why ℕ) (new : DeskState) : Type 0 where
   pub live : IsLive d x
   pub queued : ℕ
   pub left : ℕ
@@ -290,7 +291,7 @@ pub record ReadsFullStep (d : DeskState) (x : TxnId) (k : ℕ) (why : Why ℕ) (
   pub state : new ≡ record d { running = end_of d.running x.ticket why }
 
 -- the get is answered now
-pub record PollStep (d : DeskState) (x : TxnId) (value : Option (List ℕ)) (new : DeskState) : Type 0 where
+pub record PollStep (d : DeskState) (x : Txn) (value : Option (List ℕ)) (new : DeskState) : Type 0 where
   pub live : IsLive d x
   pub key : ℕ
   pub waited : waiting_at d.running x.ticket ≡ Some key
@@ -299,7 +300,7 @@ pub record PollStep (d : DeskState) (x : TxnId) (value : Option (List ℕ)) (new
   pub state : new ≡ record d { running = with_order d.running (after_again d.running.order x.ticket key (Found value source)) }
 
 -- the get can't be answered yet
-pub record StillQueuedStep (d : DeskState) (x : TxnId) (new : DeskState) : Type 0 where
+pub record StillQueuedStep (d : DeskState) (x : Txn) (new : DeskState) : Type 0 where
   pub live : IsLive d x
   pub key : ℕ
   pub waited : waiting_at d.running x.ticket ≡ Some key
@@ -307,7 +308,7 @@ pub record StillQueuedStep (d : DeskState) (x : TxnId) (new : DeskState) : Type 
   pub same : new ≡ d
 
 -- the key has the version
-pub record WriteStep (d : DeskState) (x : TxnId) (k : ℕ) (value : Option (List ℕ)) (new : DeskState) : Type 0 where
+pub record WriteStep (d : DeskState) (x : Txn) (k : ℕ) (value : Option (List ℕ)) (new : DeskState) : Type 0 where
   pub live : IsLive d x
   pub reply : write_reply d.setup.params d.running.order x.ticket k ≡ Yes
   pub state : new ≡ record d { running = with_order d.running (after_write d.running.order x.ticket k value Yes) }
@@ -319,18 +320,18 @@ why_refused (Conflicts key reader) = Some (Conflict key reader)
 why_refused (WritesAreFull keys) = Some (WritesFull keys)
 
 -- the write covers what a later ticket has read, or has no place, and the transaction is aborted
-pub record WriteRefusedStep (d : DeskState) (x : TxnId) (k : ℕ) (why : Why ℕ) (new : DeskState) : Type 0 where
+pub record WriteRefusedStep (d : DeskState) (x : Txn) (k : ℕ) (why : Why ℕ) (new : DeskState) : Type 0 where
   pub live : IsLive d x
   pub cause : why_refused (write_reply d.setup.params d.running.order x.ticket k) ≡ Some why
   pub state : new ≡ record d { running = end_of d.running x.ticket why }
 
 -- it has asked to commit
-pub record CommitStep (d : DeskState) (x : TxnId) (new : DeskState) : Type 0 where
+pub record CommitStep (d : DeskState) (x : Txn) (new : DeskState) : Type 0 where
   pub live : IsLive d x
   pub state : new ≡ record d { running = with_holder note_asked d.running x.ticket }
 
 -- its client aborts it
-pub record AbortStep (d : DeskState) (x : TxnId) (why : Why ℕ) (new : DeskState) : Type 0 where
+pub record AbortStep (d : DeskState) (x : Txn) (why : Why ℕ) (new : DeskState) : Type 0 where
   pub live : IsLive d x
   pub cause : why ≡ Asked
   pub state : new ≡ record d { running = end_of d.running x.ticket Asked }
@@ -429,22 +430,22 @@ pub record IsHere (d : DeskState) (number : ℕ) : Type 0 where
   pub not_signed_off : client.signed_off ≡ false
 
 -- it's its client's last one
-pub record IsLast (d : DeskState) (x : TxnId) : Type 0 where
+pub record IsLast (d : DeskState) (x : Txn) : Type 0 where
   pub client : Client
   pub found : client_at d x.client ≡ Some client
   pub last : client.last ≡ Some x
 
 -- it is aborted, or hasn't asked to commit
-abbrev pub HasNotAsked : DeskState → TxnId → Type 0
+abbrev pub HasNotAsked : DeskState → Txn → Type 0
 HasNotAsked d x = ((why : Why ℕ) × (outcome_at d x ≡ Some (AbortedBy why))) ⊎ (IsLive d x × (asked_at d.running x.ticket ≡ false))
 
 -- it is aborted, or has no unanswered get
-abbrev pub IsFree : DeskState → TxnId → Type 0
+abbrev pub IsFree : DeskState → Txn → Type 0
 IsFree d x = ((why : Why ℕ) × (outcome_at d x ≡ Some (AbortedBy why))) ⊎ (IsLive d x × (asked_at d.running x.ticket ≡ false) × (waiting_at d.running x.ticket ≡ None))
 
 -- the condition of each call
 abbrev pub MayCall : DeskState → Call → Type 0
-MayCall d (Begin client) = IsHere d client × ((c : Client) (x : TxnId) → client_at d client ≡ Some c → c.last ≡ Some x → is_some (outcome_at d x) ≡ true)
+MayCall d (Begin client) = IsHere d client × ((c : Client) (x : Txn) → client_at d client ≡ Some c → c.last ≡ Some x → is_some (outcome_at d x) ≡ true)
 MayCall d (GetKey x k) = IsLast d x × IsFree d x × (k < d.setup.params.keys)
 MayCall d (Poll x) = IsLast d x × (((why : Why ℕ) × (outcome_at d x ≡ Some (AbortedBy why))) ⊎ (IsLive d x × (is_some (waiting_at d.running x.ticket) ≡ true)))
 MayCall d (Write x k value) = IsLast d x × IsFree d x × (k < d.setup.params.keys)
@@ -452,7 +453,7 @@ MayCall d (Commit x) = IsLast d x × IsFree d x
 MayCall d (Abort x) = IsLast d x × HasNotAsked d x
 MayCall d (Settled x) = IsLast d x
 MayCall d Looks = d.closed ≡ None
-MayCall d (SignOff client) = IsHere d client × ((c : Client) (x : TxnId) → client_at d client ≡ Some c → c.last ≡ Some x → IsLive d x → asked_at d.running x.ticket ≡ true)
+MayCall d (SignOff client) = IsHere d client × ((c : Client) (x : Txn) → client_at d client ≡ Some c → c.last ≡ Some x → IsLive d x → asked_at d.running x.ticket ≡ true)
 MayCall d (Stop f) = Unit {0}
 MayCall d (Unsure f) = is_some d.closed ≡ true
 MayCall d IsStopped = Unit {0}
@@ -460,10 +461,6 @@ MayCall d TakeBatch = (d.closed ≡ None) × (0 < d.running.order.left) × (d.ru
 MayCall d (Deliver keys values) = (d.closed ≡ None) × (keys ≡ map Some d.running.order.flying ++ replicate (d.setup.params.places - length d.running.order.flying) None) × (length values ≡ length keys)
 MayCall d Close = (d.closed ≡ None) × (d.running.order.left ≡ 0) × (d.running.order.flying ≡ []) × (d.stop ≡ None)
 MayCall d (Publish epoch left) = (epoch ≡ d.running.epoch) × (epoch ≤ 2 ^ 62) × (left ≡ d.setup.params.batches) × (is_some d.closed ≡ true)
-
--- the map with these writes
-abbrev pub with_writes : Map nat_cmp → List (ℕ × Option (List ℕ)) → Map nat_cmp
-with_writes m writes = after nat_cmp m (map (λ w. write_op w.0 w.1) writes)
 
 -- the values delivered are the map's
 abbrev pub IsFed : Map nat_cmp → Call → Type 0

@@ -3,3 +3,4 @@ pub mod Causes
 pub mod Desk
 pub mod Parts
 pub mod Replay
+pub mod Beats

@@ -4,7 +4,7 @@ use Rattle.std.specs.Option.{option_map, unwrap_or}
 use Rattle.std.specs.List.{cons_option}
 use Rattle.std.specs.declared.option.Option.{Option}
 use Rattle.std.specs.declared.option.Option.TheVariants.{None, Some}
-use Rattle.ob_serial.specs.Serial.{Txn}
+use Rattle.ob_serial.specs.Serial.{TxnRecord}
 use Rattle.ob_order.specs.Works.{Work}
 use Rattle.ob_desk.specs.declared.part.Part.{Part as CodePart}
 use Rattle.ob_desk.specs.Desk.{Part, DeskState, Holder, Client, Fault, Committed, AbortedBy, why_of}
@@ -13,7 +13,7 @@ abbrev pub part_of : CodePart → Part
 part_of p = record { epoch = p.epoch; order = p.order.state; holders = p.holders.items }
 
 -- there is room for the record of each transaction
-pub record HasRoom (p : CodePart) : Type 0 where
+pub record HasRecordRoom (p : CodePart) : Type 0 where
   pub none_yet : p.told.items ≡ []
   pub fits : length p.holders.items ≤ vec_capacity p.told
 
@@ -24,10 +24,10 @@ pub record KeepsRoom (old new : CodePart) : Type 0 where
   pub holders : length new.holders.items ≡ length old.holders.items
 
 -- two epochs with the same parameters and room for both, and an epoch that may still be closed has a number to count on from
-pub record IsKept (running other : CodePart) (is_closed : Bool) (stop : Option Fault) : Type 0 where
+pub record ArePartsKept (running other : CodePart) (is_closed : Bool) (stop : Option Fault) : Type 0 where
   pub alike : other.order.params ≡ running.order.params
-  pub running_room : HasRoom running
-  pub other_room : HasRoom other
+  pub running_room : HasRecordRoom running
+  pub other_room : HasRecordRoom other
   pub low : is_closed ≡ false → stop ≡ None → running.epoch ≤ 2 ^ 62
 
 -- what is seen of a desk
@@ -41,5 +41,5 @@ desk_of clients stop running is_closed other = record {
 }
 
 -- the record of a transaction whose ticket is n + 1, where it has a holder
-abbrev pub told_at : ℕ → ℕ → Work → List Holder → List (Txn ℕ)
-told_at epoch n w hs = cons_option (option_map (λ h. let t : Txn ℕ = record { epoch = epoch; ticket = n + 1; client = h.client; ops = w.ops; outcome = unwrap_or (option_map AbortedBy (why_of w.fate h.cause)) Committed } in t) (slice_get hs n)) []
+abbrev pub told_at : ℕ → ℕ → Work → List Holder → List (TxnRecord ℕ)
+told_at epoch n w hs = cons_option (option_map (λ h. let t : TxnRecord ℕ = record { epoch = epoch; ticket = n + 1; client = h.client; ops = w.ops; outcome = unwrap_or (option_map AbortedBy (why_of w.fate h.cause)) Committed } in t) (slice_get hs n)) []

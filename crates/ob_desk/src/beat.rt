@@ -8,6 +8,9 @@ pub trait Beat {
     // The looks at which it may act: waiting, live, queued, left.
     ghost passes: { ℕ → ℕ → ℕ → ℕ → Bool };
 
+    // Whether it acts at each look that passes.
+    ghost exact: { Bool };
+
     // What it keeps by reference.
     ghost anchors: { Self → List GName };
 
@@ -15,6 +18,7 @@ pub trait Beat {
     /// aborted, keys in the queue and batches not yet taken.
     fn due(&mut self, waiting: u64, live: u64, queued: u64, left: u64) -> bool
         ensures passes { result ≡ true → passes waiting live queued left ≡ true }
+        ensures exact { exact ≡ true → passes waiting live queued left ≡ true → result ≡ true }
         ensures anchors { anchors self.new ≡ anchors self.old };
 }
 
@@ -25,6 +29,8 @@ pub struct Eager;
 
 impl Beat for Eager {
     ghost passes = { λ waiting live queued left. nat_lt 0 live && (waiting == live) };
+
+    ghost exact = { true };
 
     ghost anchors = { λ _. [] };
 
@@ -42,6 +48,8 @@ pub struct Hasty;
 
 impl Beat for Hasty {
     ghost passes = { λ waiting live queued left. true };
+
+    ghost exact = { true };
 
     ghost anchors = { λ _. [] };
 

@@ -1,3 +1,5 @@
+//! What the transaction manager is asked, and what it answers.
+
 use ob_base::{Fault, Key, Value};
 use ob_serial::Why;
 

@@ -1,3 +1,5 @@
+//! What is kept of a transaction and of a client.
+
 use crate::calls::Txn;
 use ob_base::Key;
 use ob_serial::{Outcome, Why};

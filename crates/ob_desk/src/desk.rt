@@ -6,7 +6,7 @@ mod may;
 ghost use Rattle.std.specs.Prelude.{◌≡◌, ℕ, ◌+◌, ◌-◌, ◌<◌, ◌≤◌, length, true, IfOk, OnOk, OnErr, Some, None, [], map, vec_capacity, is_some};
 ghost use Rattle.std.specs.Option.{option_and_then, option_map, option_or, unwrap_or};
 ghost use Rattle.ob_order.specs.Works as works;
-ghost use Rattle.ob_order.specs.Writes.{pair_of};
+ghost use Rattle.ob_base.specs.Writes.{pair_of};
 ghost use Rattle.ob_serial.specs.Views.{record_of};
 ghost use Rattle.ob_desk.specs.Desk as desks;
 ghost use Rattle.ob_desk.specs.Calls as calls;
@@ -19,7 +19,7 @@ use crate::part::{
 };
 use crate::roll::{begin_client, client_in, count_here, enrol, settle, sign_off};
 use ob_base::{Fault, Key, Memory, Params, Value, Write};
-use ob_order::{Read, Wrote};
+use ob_order::{EpochOrder, Read, Wrote};
 use ob_serial::{EpochRecord, Outcome, Why};
 use ob_versions::Order;
 use std::alloc::Global;
@@ -47,11 +47,11 @@ impl Model for Desk {
 
     ghost coded = { Prim.hlevel (codes, bases_code) };
 
-    ghost use Rattle.ob_desk.specs.Parts.{desk_of, IsKept};
+    ghost use Rattle.ob_desk.specs.Parts.{desk_of, ArePartsKept};
 
     ghost view = { λ d. desk_of d.clients.items d.stopped d.running d.is_closed d.other };
 
-    ghost invariant = { λ d. IsKept d.running d.other d.is_closed d.stopped };
+    ghost invariant = { λ d. ArePartsKept d.running d.other d.is_closed d.stopped };
 }
 
 impl Desk {
@@ -68,7 +68,8 @@ impl Desk {
         clients: &[u32],
     ) -> Result<Desk, Memory>
         requires { desks.MayOpen (record { params = params.now }) epoch left clients.now }
-        ensures { IfOk result (λ d. d ≡ desks.new_desk (record { params = params.now }) epoch left clients.now) }
+        ensures { IfOk result (λ d. d
+            ≡ desks.new_desk (record { params = params.now }) epoch left clients.now) }
     {
         let order = Order::new(alloc, params, left)?;
         let other = Order::new(alloc, params, left)?;
@@ -88,7 +89,8 @@ impl Desk {
     /// Memory was wanting. All is as before.
     pub fn begin(&mut self, client: u32) -> Result<Begun, Memory>
         requires { desks.MayCall self.old (desks.Begin client) }
-        ensures step { IfOk result (λ r. desks.DeskStep self.old (desks.Begin client) (calls.begun_reply r) self.new) }
+        ensures step { IfOk result
+            (λ r. desks.DeskStep self.old (desks.Begin client) (calls.begun_reply r) self.new) }
         ensures err { OnErr result (self.new ≡ self.old) }
     {
         if let Some(fault) = self.stopped {
@@ -131,7 +133,9 @@ impl Desk {
 
     // Why the transaction was aborted, where its epoch is running or closed.
     fn why(&self, txn: &Txn) -> Option<Why<Key>>
-        ensures { result ≡ option_and_then (λ part. desks.why_at part txn.now.ticket) (desks.part_at self.now txn.now.epoch) }
+        ensures { result
+            ≡ option_and_then (λ part. desks.why_at part txn.now.ticket)
+            (desks.part_at self.now txn.now.epoch) }
     {
         if txn.epoch == self.running.epoch {
             return why_in(&self.running.order, &self.running.holders, txn.ticket);
@@ -180,7 +184,8 @@ impl Desk {
     /// Memory was wanting. All is as before.
     pub fn get(&mut self, txn: &Txn, key: Key) -> Result<Got, Memory>
         requires { desks.MayCall self.old (desks.GetKey txn.now key) }
-        ensures step { IfOk result (λ r. desks.DeskStep self.old (desks.GetKey txn.now key) (calls.got_reply r) self.new) }
+        ensures step { IfOk result
+            (λ r. desks.DeskStep self.old (desks.GetKey txn.now key) (calls.got_reply r) self.new) }
         ensures err { OnErr result (self.new ≡ self.old) }
     {
         if let Some(why) = self.why_aborted(txn) {
@@ -201,7 +206,8 @@ impl Desk {
     #[tactic(auto, using(ob_order::proofs::Steps::live_above))]
     pub fn poll(&mut self, txn: &Txn) -> Got
         requires { desks.MayCall self.old (desks.Poll txn.now) }
-        ensures step { desks.DeskStep self.old (desks.Poll txn.now) (calls.got_reply result) self.new }
+        ensures step { desks.DeskStep self.old (desks.Poll txn.now) (calls.got_reply result)
+            self.new }
     {
         if let Some(why) = self.why_aborted(txn) {
             return Got::Aborted { why };
@@ -222,7 +228,9 @@ impl Desk {
     /// Memory was wanting. All is as before.
     pub fn put(&mut self, txn: &Txn, key: Key, value: Value) -> Result<Done, Memory>
         requires { desks.MayCall self.old (desks.Write txn.now key (Some value)) }
-        ensures step { IfOk result (λ r. desks.DeskStep self.old (desks.Write txn.now key (Some value)) (calls.done_reply r) self.new) }
+        ensures step { IfOk result
+            (λ r. desks.DeskStep self.old (desks.Write txn.now key (Some value))
+            (calls.done_reply r) self.new) }
         ensures err { OnErr result (self.new ≡ self.old) }
     {
         self.write(txn, key, Some(value))
@@ -234,7 +242,9 @@ impl Desk {
     /// Memory was wanting. All is as before.
     pub fn del(&mut self, txn: &Txn, key: Key) -> Result<Done, Memory>
         requires { desks.MayCall self.old (desks.Write txn.now key None) }
-        ensures step { IfOk result (λ r. desks.DeskStep self.old (desks.Write txn.now key None) (calls.done_reply r) self.new) }
+        ensures step { IfOk result
+            (λ r. desks.DeskStep self.old (desks.Write txn.now key None) (calls.done_reply r)
+            self.new) }
         ensures err { OnErr result (self.new ≡ self.old) }
     {
         self.write(txn, key, None)
@@ -243,7 +253,9 @@ impl Desk {
     // A put, or a delete where there is no value.
     fn write(&mut self, txn: &Txn, key: Key, value: Option<Value>) -> Result<Done, Memory>
         requires { desks.MayCall self.old (desks.Write txn.now key value) }
-        ensures step { IfOk result (λ r. desks.DeskStep self.old (desks.Write txn.now key value) (calls.done_reply r) self.new) }
+        ensures step { IfOk result
+            (λ r. desks.DeskStep self.old (desks.Write txn.now key value) (calls.done_reply r)
+            self.new) }
         ensures err { OnErr result (self.new ≡ self.old) }
     {
         if let Some(why) = self.why_aborted(txn) {
@@ -262,7 +274,8 @@ impl Desk {
     /// aborted before.
     pub fn commit(&mut self, txn: &Txn) -> Done
         requires { desks.MayCall self.old (desks.Commit txn.now) }
-        ensures step { desks.DeskStep self.old (desks.Commit txn.now) (calls.done_reply result) self.new }
+        ensures step { desks.DeskStep self.old (desks.Commit txn.now) (calls.done_reply result)
+            self.new }
     {
         if let Some(why) = self.why_aborted(txn) {
             return Done::Aborted { why };
@@ -274,7 +287,8 @@ impl Desk {
     /// How the transaction ended, if it has.
     pub fn settled(&self, txn: &Txn) -> Option<Outcome<Key>>
         requires { desks.MayCall self.now (desks.Settled txn.now) }
-        ensures { desks.DeskStep self.now (desks.Settled txn.now) (desks.IsSettled result) self.now }
+        ensures { desks.DeskStep self.now (desks.Settled txn.now) (desks.IsSettled result)
+            self.now }
     {
         self.outcome(txn)
     }
@@ -282,7 +296,8 @@ impl Desk {
     /// Aborts the transaction. The cause is the earlier one where it was aborted already.
     pub fn abort(&mut self, txn: &Txn) -> Why<Key>
         requires { desks.MayCall self.old (desks.Abort txn.now) }
-        ensures step { desks.DeskStep self.old (desks.Abort txn.now) (desks.Aborted result) self.new }
+        ensures step { desks.DeskStep self.old (desks.Abort txn.now) (desks.Aborted result)
+            self.new }
     {
         if let Some(why) = self.why_aborted(txn) {
             return why;
@@ -322,7 +337,12 @@ impl Desk {
 
     // All that go on are stopped, and the first fault stays.
     fn halt(&mut self, fault: Fault)
-        ensures { self.new ≡ record self.old { stop = option_or self.old.stop (Some fault); running = desks.stop_part fault self.old.running } }
+        ensures { self.new
+            ≡ record self.old {
+              stop = option_or self.old.stop (Some fault);
+              running =
+                  desks.stop_part fault self.old.running;
+            } }
     {
         stop(&mut self.running, fault);
         self.stopped = self.stopped.or(Some(fault));
@@ -331,7 +351,13 @@ impl Desk {
     // The closed epoch is over: those of it that aren't aborted end so.
     fn give_up(&mut self, otherwise: Outcome<Key>)
         requires { is_some self.old.stop ≡ true }
-        ensures { self.new ≡ record self.old { closed = None; clients = unwrap_or (option_map (λ c. desks.settle c otherwise self.old.clients) self.old.closed) self.old.clients } }
+        ensures { self.new
+            ≡ record self.old {
+              closed = None;
+              clients = unwrap_or
+                  (option_map (λ c. desks.settle c otherwise self.old.clients) self.old.closed)
+                  self.old.clients;
+            } }
     {
         if self.is_closed {
             settle(&mut self.clients, &self.other, otherwise);
@@ -367,7 +393,8 @@ impl Desk {
     pub fn close(&mut self, out: &mut Vec<Write>)
         requires may { desks.MayCall self.old desks.Close }
         requires room { self.old.setup.params.writes ≤ vec_capacity out.old }
-        ensures step { desks.DeskStep self.old desks.Close (desks.Writes (map pair_of out.new.items)) self.new }
+        ensures step { desks.DeskStep self.old desks.Close
+            (desks.Writes (map pair_of out.new.items)) self.new }
         ensures room { vec_capacity out.old ≤ vec_capacity out.new }
     {
         end_unasked(&mut self.running);
@@ -381,7 +408,8 @@ impl Desk {
     /// record. The epoch that runs has this number, and had so many batches at its begin.
     pub fn publish(&mut self, epoch: u64, left: u32) -> EpochRecord<Key>
         requires { desks.MayCall self.old (desks.Publish epoch left) }
-        ensures { desks.DeskStep self.old (desks.Publish epoch left) (desks.Published (record_of result)) self.new }
+        ensures { desks.DeskStep self.old (desks.Publish epoch left)
+            (desks.Published (record_of result)) self.new }
     {
         let batches = self.running.order.params().batches;
         prove!(epoch == self.running.epoch && left == batches);

@@ -1,3 +1,5 @@
+//! What every run of a transaction manager obeys.
+
 ghost use Rattle.ob_desk.specs.Desk.{DeskReplays, DeskIsSerial};
 ghost use Rattle.ob_desk.specs.Causes.{RepliesAreExact, AbortedAreTold, EndsUnasked, UnaskedEnd, AskedStay};
 

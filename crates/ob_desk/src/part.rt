@@ -7,11 +7,11 @@ ghost use Rattle.ob_order.specs.Works as works;
 ghost use Rattle.ob_order.specs.Order as rules;
 ghost use Rattle.ob_serial.specs.Views.{txn_of, record_of};
 ghost use Rattle.ob_desk.specs.Desk as desks;
-ghost use Rattle.ob_desk.specs.Parts.{part_of, HasRoom, KeepsRoom, told_at};
+ghost use Rattle.ob_desk.specs.Parts.{part_of, HasRecordRoom, KeepsRoom, told_at};
 
 use crate::clients::Holder;
 use ob_base::{Fault, Key, Memory, Op, Params, Value};
-use ob_order::{Fate, Work};
+use ob_order::{EpochOrder, Fate, Work};
 use ob_serial::{EpochRecord, Outcome, TxnRecord, Why};
 use ob_versions::Order;
 use std::alloc::Global;
@@ -106,7 +106,9 @@ pub fn has_asked(holders: &[Holder], t: u64) -> bool
 // Whether the ticket has an unanswered get that can't be answered now.
 fn is_stuck(order: &Order, t: u64) -> bool
     requires { (0 < t) × (t ≤ length order.now.state.works) }
-    ensures { result ≡ unwrap_or (option_map (λ k. is_none (rules.answer order.now.state t k)) (works.waiting_at order.now.state.works t)) false }
+    ensures { result
+        ≡ unwrap_or (option_map (λ k. is_none (rules.answer order.now.state t k))
+        (works.waiting_at order.now.state.works t)) false }
 {
     match order.waiting(t) {
         Some(key) => !order.answerable(t, key),
@@ -126,7 +128,9 @@ fn waits(part: &Part, t: u64) -> bool
 /// answered yet.
 #[tactic(auto, using(crate::proofs::Counted::count_ticket))]
 pub fn count_waiting(part: &Part) -> u64
-    ensures { result ≡ count_by (desks.waits (part_of part.now)) (range_with_len 1 (length part.now.order.state.works)) }
+    ensures { result
+        ≡ count_by (desks.waits (part_of part.now))
+        (range_with_len 1 (length part.now.order.state.works)) }
 {
     let mut count = 0;
     for n in 0..part.order.txns() {
@@ -140,7 +144,9 @@ pub fn count_waiting(part: &Part) -> u64
 /// How many transactions aren't aborted.
 #[tactic(auto, using(crate::proofs::Counted::count_ticket))]
 pub fn count_live(order: &Order) -> u64
-    ensures { result ≡ count_by (works.goes_on order.now.state.works) (range_with_len 1 (length order.now.state.works)) }
+    ensures { result
+        ≡ count_by (works.goes_on order.now.state.works)
+        (range_with_len 1 (length order.now.state.works)) }
 {
     let mut count = 0;
     for n in 0..order.txns() {
@@ -222,8 +228,9 @@ pub fn new_part(alloc: Global, epoch: u64, order: Order) -> Part
     ensures order { result.order ≡ order }
     ensures epoch { result.epoch ≡ epoch }
     ensures none { result.holders.items ≡ [] }
-    ensures room { HasRoom result }
+    ensures room { HasRecordRoom result }
 {
+    // The prover has to see this type named here.
     let _told: Option<Value> = None;
     Part {
         epoch,
@@ -238,13 +245,19 @@ pub fn new_part(alloc: Global, epoch: u64, order: Order) -> Part
 /// # Errors
 /// Memory was wanting. All is as before.
 pub fn draw(part: &mut Part, client: u32) -> Result<u64, Memory>
-    requires { HasRoom part.old }
+    requires { HasRecordRoom part.old }
     ensures ticket { IfOk result (λ t. t ≡ length part.old.order.state.works + 1) }
-    ensures ok { OnOk result (part_of part.new ≡ record (part_of part.old) { order = rules.after_begin part.old.order.state; holders = part.old.holders.items ++ desks.new_holder client ∷ [] }) }
+    ensures ok { OnOk result (part_of part.new
+        ≡ record (part_of part.old) {
+          order = rules.after_begin part.old.order.state;
+          holders =
+              part.old.holders.items ++ desks.new_holder client ∷ [];
+        }) }
     ensures err { OnErr result (part_of part.new ≡ part_of part.old) }
     ensures params { part.new.order.params ≡ part.old.order.params }
-    ensures room { HasRoom part.new }
+    ensures room { HasRecordRoom part.new }
 {
+    // The prover has to see this type named here.
     let _told: Option<Value> = None;
     part.holders.reserve(1)?;
     part.told.reserve(part.holders.len() + 1)?;
@@ -271,7 +284,8 @@ pub fn restart(part: &mut Part, epoch: u64)
 
 // How a transaction of a part that is published ended.
 fn outcome_of(fate: Fate, cause: Option<Why<Key>>) -> Outcome<Key>
-    ensures { result ≡ unwrap_or (option_map desks.AbortedBy (desks.why_of fate cause)) desks.Committed }
+    ensures { result
+        ≡ unwrap_or (option_map desks.AbortedBy (desks.why_of fate cause)) desks.Committed }
 {
     match why_of(Some(fate), cause) {
         Some(why) => Outcome::Aborted { why },
@@ -285,16 +299,21 @@ fn append(told: &mut Vec<TxnRecord<Key>>, txn: TxnRecord<Key>)
     ensures txns { told.new.items ≡ told.old.items ++ txn ∷ [] }
     ensures room { vec_capacity told.old ≤ vec_capacity told.new }
 {
+    // The prover has to see this type named here.
     let _told: Option<Value> = None;
     let _ = told.push(txn);
 }
 
 // Tells a transaction whose ticket is the next one, where it has a holder.
 fn tell(told: &mut Vec<TxnRecord<Key>>, epoch: u64, work: Work, holders: &[Holder])
-    requires { length told.old.items < length holders.now → vec_len told.old < vec_capacity told.old }
-    ensures told { map (λ t. txn_of t) told.new.items ≡ map (λ t. txn_of t) told.old.items ++ told_at epoch (length told.old.items) work holders.now }
+    requires { length told.old.items < length holders.now
+        → vec_len told.old < vec_capacity told.old }
+    ensures told { map (λ t. txn_of t) told.new.items
+        ≡ map (λ t. txn_of t) told.old.items ++ told_at epoch (length told.old.items) work
+        holders.now }
     ensures room { vec_capacity told.old ≤ vec_capacity told.new }
 {
+    // The prover has to see this type named here.
     let _told: Option<Value> = None;
     let at = told.len();
     if let Some(holder) = holders.get(at) {
@@ -324,10 +343,10 @@ fn tell_all(told: &mut Vec<TxnRecord<Key>>, epoch: u64, list: Vec<Work>, holders
 /// The record of the part, whose transactions that aren't aborted are committed. No transaction is
 /// left in it.
 pub fn publish(part: &mut Part, alloc: Global) -> EpochRecord<Key>
-    requires { HasRoom part.old }
+    requires { HasRecordRoom part.old }
     ensures told { record_of result ≡ desks.record_of (part_of part.old) }
     ensures params { part.new.order.params ≡ part.old.order.params }
-    ensures room { HasRoom part.new }
+    ensures room { HasRecordRoom part.new }
 {
     let mut txns = mem::replace(&mut part.told, Vec::new(alloc));
     tell_all(&mut txns, part.epoch, part.order.finish(), &part.holders);

@@ -29,7 +29,9 @@ pub fn enrol(alloc: Global, numbers: &[u32]) -> Result<Vec<Client>, Memory>
 }
 
 fn begin_one(client: &mut Client, txn: &Txn)
-    ensures { client.new ≡ (if client.old.number == txn.now.client then desks.begin_client txn.now client.old else client.old) }
+    ensures { client.new
+        ≡ (if client.old.number == txn.now.client then desks.begin_client txn.now client.old else
+        client.old) }
 {
     if client.number == txn.client {
         client.last = Some(*txn);
@@ -39,7 +41,8 @@ fn begin_one(client: &mut Client, txn: &Txn)
 
 /// The transaction is its client's last one.
 pub fn begin_client(clients: &mut Vec<Client>, txn: &Txn)
-    ensures { clients.new.items ≡ desks.on_client (desks.begin_client txn.now) clients.old.items txn.now.client }
+    ensures { clients.new.items
+        ≡ desks.on_client (desks.begin_client txn.now) clients.old.items txn.now.client }
 {
     for i in 0..clients.len() {
         begin_one(&mut clients[i], txn);
@@ -47,7 +50,8 @@ pub fn begin_client(clients: &mut Vec<Client>, txn: &Txn)
 }
 
 fn sign_off_one(client: &mut Client, number: u32)
-    ensures { client.new ≡ (if client.old.number == number then desks.sign_off_client client.old else client.old) }
+    ensures { client.new
+        ≡ (if client.old.number == number then desks.sign_off_client client.old else client.old) }
 {
     if client.number == number {
         client.signed_off = true;

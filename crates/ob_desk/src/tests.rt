@@ -1,139 +1,16 @@
+//! Worked cases of a desk: calls as data, each with the answer that is wanted.
+
 use crate::{Beat, Begun, Desk, Done, Eager, Got, Hasty, Look, Txn};
 use ob_base::{Fault, Key, Memory, Params, Value, Write};
 use ob_serial::{EpochRecord, Outcome, Why};
 use std::alloc::Global;
 use std::test::Fail;
 
-// The calls, as far as they may be made.
-fn begin(desk: &mut Desk, client: u32) -> Result<Option<Begun>, Memory> {
-    if !desk.may_begin(client) {
-        return Ok(None);
-    }
-    let begun = desk.begin(client)?;
-    Ok(Some(begun))
-}
-
-fn get(desk: &mut Desk, txn: &Txn, key: Key) -> Result<Option<Got>, Memory> {
-    if !desk.may_access(txn, key) {
-        return Ok(None);
-    }
-    let got = desk.get(txn, key)?;
-    Ok(Some(got))
-}
-
-fn poll(desk: &mut Desk, txn: &Txn) -> Option<Got> {
-    if !desk.may_poll(txn) {
-        return None;
-    }
-    Some(desk.poll(txn))
-}
-
-fn put(desk: &mut Desk, txn: &Txn, key: Key) -> Result<Option<Done>, Memory> {
-    let Some(value) = seven() else {
-        return Ok(None);
-    };
-    if !desk.may_access(txn, key) {
-        return Ok(None);
-    }
-    let done = desk.put(txn, key, value)?;
-    Ok(Some(done))
-}
-
-fn del(desk: &mut Desk, txn: &Txn, key: Key) -> Result<Option<Done>, Memory> {
-    if !desk.may_access(txn, key) {
-        return Ok(None);
-    }
-    let done = desk.del(txn, key)?;
-    Ok(Some(done))
-}
-
-fn commit(desk: &mut Desk, txn: &Txn) -> Option<Done> {
-    if !desk.may_commit(txn) {
-        return None;
-    }
-    Some(desk.commit(txn))
-}
-
-fn abort(desk: &mut Desk, txn: &Txn) -> Option<Why<Key>> {
-    if !desk.may_abort(txn) {
-        return None;
-    }
-    Some(desk.abort(txn))
-}
-
-fn settled(desk: &Desk, txn: &Txn) -> Option<Outcome<Key>> {
-    if !desk.may_settle(txn) {
-        return None;
-    }
-    desk.settled(txn)
-}
-
-fn look(desk: &Desk) -> Option<Look> {
-    if !desk.may_look() {
-        return None;
-    }
-    Some(desk.look())
-}
-
-fn sign_off(desk: &mut Desk, client: u32) -> bool {
-    if !desk.may_sign_off(client) {
-        return false;
-    }
-    desk.sign_off(client);
-    true
-}
-
-// A batch is taken, and each of its keys is absent.
-#[tactic(auto, using(ob_order::proofs::Batches::taken_in_flight))]
-fn round(desk: &mut Desk) -> bool {
-    let mut keys = [None; 2];
-    let values = [None; 2];
-    if !desk.may_take() || desk.params().places != 2 {
-        return false;
-    }
-    desk.take_batch(&mut keys);
-    desk.deliver(&keys, &values);
-    true
-}
-
-fn close(desk: &mut Desk, alloc: Global) -> Result<Option<Vec<Write>>, Memory> {
-    let mut out = Vec::with_capacity(alloc, desk.params().writes as usize)?;
-    if !desk.may_close() {
-        return Ok(None);
-    }
-    desk.close(&mut out);
-    Ok(Some(out))
-}
-
-// Both batches, and the close.
-fn finish(desk: &mut Desk, alloc: Global) -> Result<Option<Vec<Write>>, Memory> {
-    let _first = round(desk);
-    let _second = round(desk);
-    close(desk, alloc)
-}
-
-fn publish(desk: &mut Desk, epoch: u64) -> Option<EpochRecord<Key>> {
-    if !desk.may_publish(epoch, 2) {
-        return None;
-    }
-    Some(desk.publish(epoch, 2))
-}
-
-fn unsure(desk: &mut Desk, fault: Fault) -> bool {
-    if !desk.is_closed() {
-        return false;
-    }
-    desk.unsure(fault);
-    true
-}
-
-fn seven() -> Option<Value> {
-    Value::new(b"7")
-}
-
 // A call. The transaction of number n is the first epoch's of ticket n, which client n began.
-#[derive(Clone, Copy, Debug, PartialEq, Eq)]
+#[derive(Clone, Copy)]
 enum Call {
+    // Another desk from here on, on which clients 1 to n have begun.
+    Anew(u32),
     Begin(u32),
     Get(u32, Key),
     Poll(u32),
@@ -143,20 +20,26 @@ enum Call {
     Abort(u32),
     Settled(u32),
     SignOff(u32),
+    // A batch is taken, and each of its keys is absent.
     Round,
+    Close,
     Publish,
+    Look,
     Stop(Fault),
     Unsure(Fault),
     Stopped,
 }
 
 // What it is answered.
-#[derive(Clone, Copy, Debug, PartialEq, Eq)]
+#[derive(Clone, Copy, PartialEq)]
 enum Answer {
     // It may not be made.
     Not,
     Yes,
-    Began { epoch: u64, ticket: u64 },
+    Began {
+        epoch: u64,
+        ticket: u64,
+    },
     Seven,
     Absent,
     Queued,
@@ -166,7 +49,277 @@ enum Answer {
     Unsure(u64),
     StoppedBy(Fault),
     Runs,
+    // A close with these writes, of two at most.
+    Wrote(Option<Wrote>, Option<Wrote>),
+    // A publish that tells of so many transactions, and how the first three ended.
+    Told {
+        epoch: u64,
+        txns: usize,
+        ended: [Option<Outcome<Key>>; 3],
+    },
+    Seen(Look),
 }
+
+// A write of a batch, where the value of a put is seven.
+#[derive(Clone, Copy, PartialEq)]
+enum Wrote {
+    Put(Key),
+    Del(Key),
+}
+
+const FALLS: Answer = Answer::Aborted(Why::Depends { on: 1 });
+
+const CONFLICT: Answer = Answer::Aborted(Why::Conflict { key: 5, reader: 3 });
+
+const EPOCH_END: Answer = Answer::Aborted(Why::EpochEnd);
+
+const NO_WRITE_PLACE: Answer = Answer::Aborted(Why::WritesFull { keys: 2 });
+
+const DOUBT: Fault = Fault::StoreFault { unsure: Some(1) };
+
+const STOPPED: Answer = Answer::Aborted(Why::Stopped {
+    fault: Fault::SinkFault,
+});
+
+const ONE_COMMITTED: Answer = Answer::Told {
+    epoch: 1,
+    txns: 2,
+    ended: [
+        Some(Outcome::Committed),
+        Some(Outcome::Aborted { why: Why::EpochEnd }),
+        None,
+    ],
+};
+
+const ONE_EPOCH: [(Call, Answer); 46] = [
+    // Tickets are drawn in order.
+    (Call::Anew(1), Answer::Yes),
+    (
+        Call::Begin(2),
+        Answer::Began {
+            epoch: 1,
+            ticket: 2,
+        },
+    ),
+    (Call::Begin(2), Answer::Not),
+    (Call::Begin(7), Answer::Not),
+    // An abort takes its reader.
+    (Call::Anew(2), Answer::Yes),
+    (Call::Put(1, 5), Answer::Yes),
+    (Call::Get(2, 5), Answer::Seven),
+    (Call::Settled(2), Answer::Open),
+    (Call::Abort(1), Answer::Aborted(Why::Asked)),
+    (Call::Settled(1), Answer::Aborted(Why::Asked)),
+    (Call::Settled(2), FALLS),
+    (Call::Commit(2), FALLS),
+    // A write below a later reader is a conflict.
+    (Call::Anew(3), Answer::Yes),
+    (Call::Put(1, 5), Answer::Yes),
+    (Call::Get(3, 5), Answer::Seven),
+    (Call::Put(1, 5), CONFLICT),
+    (Call::Settled(1), CONFLICT),
+    (Call::Get(3, 5), FALLS),
+    (Call::Settled(2), Answer::Open),
+    // An earlier get waits for its batch.
+    (Call::Anew(2), Answer::Yes),
+    (Call::Put(2, 5), Answer::Yes),
+    (Call::Get(1, 5), Answer::Queued),
+    (Call::Poll(1), Answer::Queued),
+    (Call::Commit(1), Answer::Not),
+    (Call::Round, Answer::Yes),
+    (Call::Poll(1), Answer::Absent),
+    (Call::Commit(1), Answer::Yes),
+    (Call::Commit(2), Answer::Yes),
+    // A third key has no place in the write batch.
+    (Call::Anew(2), Answer::Yes),
+    (Call::Put(1, 0), Answer::Yes),
+    (Call::Put(1, 1), Answer::Yes),
+    (Call::Del(1, 0), Answer::Yes),
+    (Call::Put(2, 2), NO_WRITE_PLACE),
+    (Call::Put(1, 2), NO_WRITE_PLACE),
+    // A fifth key has no place in the read batches, and nor has any where none is left.
+    (Call::Anew(6), Answer::Yes),
+    (Call::Get(1, 0), Answer::Queued),
+    (Call::Get(2, 1), Answer::Queued),
+    (Call::Get(3, 2), Answer::Queued),
+    (Call::Get(4, 3), Answer::Queued),
+    (
+        Call::Get(5, 4),
+        Answer::Aborted(Why::ReadsFull { queued: 4, left: 2 }),
+    ),
+    (Call::Get(6, 3), Answer::Queued),
+    (Call::Round, Answer::Yes),
+    (Call::Round, Answer::Yes),
+    (Call::Round, Answer::Not),
+    (Call::Poll(6), Answer::Absent),
+    (
+        Call::Get(6, 7),
+        Answer::Aborted(Why::ReadsFull { queued: 0, left: 0 }),
+    ),
+];
+
+const TWO_EPOCHS: [(Call, Answer); 41] = [
+    // A close ends those that haven't asked to commit, and who read from them fall.
+    (Call::Anew(3), Answer::Yes),
+    (Call::Put(1, 4), Answer::Yes),
+    (Call::Put(2, 3), Answer::Yes),
+    (Call::Get(3, 3), Answer::Seven),
+    (Call::Commit(1), Answer::Yes),
+    (Call::Commit(3), Answer::Yes),
+    (Call::Put(1, 4), Answer::Not),
+    (Call::Close, Answer::Not),
+    (Call::Round, Answer::Yes),
+    (Call::Round, Answer::Yes),
+    (Call::Close, Answer::Wrote(Some(Wrote::Put(4)), None)),
+    (Call::Settled(1), Answer::Open),
+    (Call::Settled(2), EPOCH_END),
+    (Call::Settled(3), Answer::Aborted(Why::Depends { on: 2 })),
+    (
+        Call::Publish,
+        Answer::Told {
+            epoch: 1,
+            txns: 3,
+            ended: [
+                Some(Outcome::Committed),
+                Some(Outcome::Aborted { why: Why::EpochEnd }),
+                Some(Outcome::Aborted {
+                    why: Why::Depends { on: 2 },
+                }),
+            ],
+        },
+    ),
+    (Call::Publish, Answer::Not),
+    (Call::Settled(1), Answer::Committed),
+    (Call::Settled(2), EPOCH_END),
+    (Call::Settled(3), Answer::Aborted(Why::Depends { on: 2 })),
+    (
+        Call::Begin(1),
+        Answer::Began {
+            epoch: 2,
+            ticket: 1,
+        },
+    ),
+    // The write batch has every key in rising order, a deleted one too.
+    (Call::Anew(2), Answer::Yes),
+    (Call::Put(1, 6), Answer::Yes),
+    (Call::Put(1, 2), Answer::Yes),
+    (Call::Del(2, 6), Answer::Yes),
+    (Call::Commit(1), Answer::Yes),
+    (Call::Commit(2), Answer::Yes),
+    (Call::Round, Answer::Yes),
+    (Call::Round, Answer::Yes),
+    (
+        Call::Close,
+        Answer::Wrote(Some(Wrote::Put(2)), Some(Wrote::Del(6))),
+    ),
+    // An epoch runs beside a closed one.
+    (Call::Anew(2), Answer::Yes),
+    (Call::Put(1, 5), Answer::Yes),
+    (Call::Commit(1), Answer::Yes),
+    (Call::Round, Answer::Yes),
+    (Call::Round, Answer::Yes),
+    (Call::Close, Answer::Wrote(Some(Wrote::Put(5)), None)),
+    (Call::Begin(1), Answer::Not),
+    (
+        Call::Begin(3),
+        Answer::Began {
+            epoch: 2,
+            ticket: 1,
+        },
+    ),
+    (Call::Round, Answer::Not),
+    (Call::Publish, ONE_COMMITTED),
+    (Call::Round, Answer::Yes),
+    (
+        Call::Begin(1),
+        Answer::Began {
+            epoch: 2,
+            ticket: 2,
+        },
+    ),
+];
+
+const STOPS: [(Call, Answer); 42] = [
+    // A stop aborts all at once, and its first fault stays.
+    (Call::Anew(2), Answer::Yes),
+    (Call::Put(1, 5), Answer::Yes),
+    (Call::Get(2, 5), Answer::Seven),
+    (Call::Stopped, Answer::Runs),
+    (Call::Stop(Fault::SinkFault), Answer::Yes),
+    (Call::Stop(Fault::Memory), Answer::Yes),
+    (Call::Stopped, Answer::StoppedBy(Fault::SinkFault)),
+    (Call::Settled(1), STOPPED),
+    (Call::Settled(2), STOPPED),
+    (Call::Begin(3), Answer::StoppedBy(Fault::SinkFault)),
+    // A fault stops a closed epoch.
+    (Call::Anew(2), Answer::Yes),
+    (Call::Put(1, 5), Answer::Yes),
+    (Call::Commit(1), Answer::Yes),
+    (Call::Round, Answer::Yes),
+    (Call::Round, Answer::Yes),
+    (Call::Close, Answer::Wrote(Some(Wrote::Put(5)), None)),
+    (Call::Stop(Fault::SinkFault), Answer::Yes),
+    (Call::Settled(1), STOPPED),
+    (Call::Settled(2), EPOCH_END),
+    (Call::Publish, Answer::Not),
+    // Want of memory leaves a closed epoch be.
+    (Call::Anew(2), Answer::Yes),
+    (Call::Put(1, 5), Answer::Yes),
+    (Call::Commit(1), Answer::Yes),
+    (Call::Round, Answer::Yes),
+    (Call::Round, Answer::Yes),
+    (Call::Close, Answer::Wrote(Some(Wrote::Put(5)), None)),
+    (Call::Stop(Fault::Memory), Answer::Yes),
+    (Call::Settled(1), Answer::Open),
+    (Call::Publish, ONE_COMMITTED),
+    (Call::Settled(1), Answer::Committed),
+    (Call::Stopped, Answer::StoppedBy(Fault::Memory)),
+    // A closed epoch in doubt is unsure.
+    (Call::Anew(2), Answer::Yes),
+    (Call::Put(1, 5), Answer::Yes),
+    (Call::Commit(1), Answer::Yes),
+    (Call::Round, Answer::Yes),
+    (Call::Round, Answer::Yes),
+    (Call::Close, Answer::Wrote(Some(Wrote::Put(5)), None)),
+    (Call::Unsure(DOUBT), Answer::Yes),
+    (Call::Settled(1), Answer::Unsure(1)),
+    (Call::Settled(2), EPOCH_END),
+    (Call::Stopped, Answer::StoppedBy(DOUBT)),
+    (Call::Unsure(DOUBT), Answer::Not),
+];
+
+const LOOKS: [(Call, Answer); 9] = [
+    // A look counts who waits, who is live, and what is queued and left.
+    (Call::Anew(4), Answer::Yes),
+    (Call::Get(1, 5), Answer::Queued),
+    (Call::Commit(2), Answer::Yes),
+    (Call::Abort(3), Answer::Aborted(Why::Asked)),
+    (Call::SignOff(3), Answer::Yes),
+    (Call::SignOff(4), Answer::Not),
+    (
+        Call::Look,
+        Answer::Seen(Look {
+            waiting: 2,
+            live: 3,
+            queued: 1,
+            left: 2,
+            txns: 4,
+            clients: 5,
+        }),
+    ),
+    (Call::Round, Answer::Yes),
+    (
+        Call::Look,
+        Answer::Seen(Look {
+            waiting: 1,
+            live: 3,
+            queued: 0,
+            left: 1,
+            txns: 4,
+            clients: 5,
+        }),
+    ),
+];
 
 fn txn(number: u32) -> Txn {
     Txn {
@@ -176,54 +329,128 @@ fn txn(number: u32) -> Txn {
     }
 }
 
-fn of_begun(begun: Option<Begun>) -> Answer {
-    match begun {
-        None => Answer::Not,
-        Some(Begun::Txn { txn }) => Answer::Began {
-            epoch: txn.epoch,
-            ticket: txn.ticket,
-        },
-        Some(Begun::Stopped { fault }) => Answer::StoppedBy(fault),
-    }
+fn seven() -> Option<Value> {
+    Value::new(b"7")
 }
 
 fn is_seven(value: &Value) -> bool {
     value.as_slice() == b"7".as_slice()
 }
 
-fn of_got(got: Option<Got>) -> Answer {
+fn of_got(got: Got) -> Answer {
     match got {
-        None => Answer::Not,
-        Some(Got::Value { value: None }) => Answer::Absent,
-        Some(Got::Value { value: Some(value) }) => {
+        Got::Value { value: None } => Answer::Absent,
+        Got::Value { value: Some(value) } => {
             if is_seven(&value) {
                 Answer::Seven
             } else {
                 Answer::Not
             }
         }
-        Some(Got::Queued) => Answer::Queued,
-        Some(Got::Aborted { why }) => Answer::Aborted(why),
+        Got::Queued => Answer::Queued,
+        Got::Aborted { why } => Answer::Aborted(why),
     }
 }
 
-fn of_done(done: Option<Done>) -> Answer {
+fn of_done(done: Done) -> Answer {
     match done {
-        None => Answer::Not,
-        Some(Done::Yes) => Answer::Yes,
-        Some(Done::Aborted { why }) => Answer::Aborted(why),
+        Done::Yes => Answer::Yes,
+        Done::Aborted { why } => Answer::Aborted(why),
     }
 }
 
-fn of_why(why: Option<Why<Key>>) -> Answer {
-    match why {
-        None => Answer::Not,
-        Some(why) => Answer::Aborted(why),
+// 8 keys, 2 read batches of 2 places, 2 write places, 6 clients, the first of which have begun.
+fn desk(alloc: Global, begun: u32) -> Result<Option<Desk>, Memory> {
+    let Ok(p) = Params::new(8, 2, 2, 3, 2, 2, 2, 2, 6) else {
+        return Ok(None);
+    };
+    let mut desk = Desk::new(alloc, &p, 1, 2, &[1, 2, 3, 4, 5, 6])?;
+    for n in 0..begun {
+        let _begun = begin(&mut desk, n + 1)?;
     }
+    Ok(Some(desk))
 }
 
-fn of_outcome(outcome: Option<Outcome<Key>>) -> Answer {
-    match outcome {
+fn anew(old: &mut Desk, alloc: Global, begun: u32) -> Result<Answer, Memory> {
+    let Some(new) = desk(alloc, begun)? else {
+        return Ok(Answer::Not);
+    };
+    *old = new;
+    Ok(Answer::Yes)
+}
+
+// The calls, as far as they may be made.
+fn begin(desk: &mut Desk, client: u32) -> Result<Answer, Memory> {
+    if !desk.may_begin(client) {
+        return Ok(Answer::Not);
+    }
+    Ok(match desk.begin(client)? {
+        Begun::Txn { txn } => Answer::Began {
+            epoch: txn.epoch,
+            ticket: txn.ticket,
+        },
+        Begun::Stopped { fault } => Answer::StoppedBy(fault),
+    })
+}
+
+fn get(desk: &mut Desk, txn: &Txn, key: Key) -> Result<Answer, Memory> {
+    // The prover has to see this type named here.
+    let _told: Option<Value> = None;
+    if !desk.may_access(txn, key) {
+        return Ok(Answer::Not);
+    }
+    let got = desk.get(txn, key)?;
+    Ok(of_got(got))
+}
+
+fn poll(desk: &mut Desk, txn: &Txn) -> Answer {
+    if !desk.may_poll(txn) {
+        return Answer::Not;
+    }
+    of_got(desk.poll(txn))
+}
+
+fn put(desk: &mut Desk, txn: &Txn, key: Key) -> Result<Answer, Memory> {
+    let Some(value) = seven() else {
+        return Ok(Answer::Not);
+    };
+    if !desk.may_access(txn, key) {
+        return Ok(Answer::Not);
+    }
+    let done = desk.put(txn, key, value)?;
+    Ok(of_done(done))
+}
+
+fn del(desk: &mut Desk, txn: &Txn, key: Key) -> Result<Answer, Memory> {
+    // The prover has to see this type named here.
+    if !desk.may_access(txn, key) {
+        return Ok(Answer::Not);
+    }
+    let done = desk.del(txn, key)?;
+    Ok(of_done(done))
+}
+
+fn commit(desk: &mut Desk, txn: &Txn) -> Answer {
+    // The prover has to see this type named here.
+    if !desk.may_commit(txn) {
+        return Answer::Not;
+    }
+    of_done(desk.commit(txn))
+}
+
+fn abort(desk: &mut Desk, txn: &Txn) -> Answer {
+    // The prover has to see this type named here.
+    if !desk.may_abort(txn) {
+        return Answer::Not;
+    }
+    Answer::Aborted(desk.abort(txn))
+}
+
+fn settled(desk: &Desk, txn: &Txn) -> Answer {
+    if !desk.may_settle(txn) {
+        return Answer::Not;
+    }
+    match desk.settled(txn) {
         None => Answer::Open,
         Some(Outcome::Committed) => Answer::Committed,
         Some(Outcome::Aborted { why }) => Answer::Aborted(why),
@@ -231,416 +458,176 @@ fn of_outcome(outcome: Option<Outcome<Key>>) -> Answer {
     }
 }
 
-fn of_stopped(fault: Option<Fault>) -> Answer {
-    match fault {
+fn sign_off(desk: &mut Desk, client: u32) -> Answer {
+    // The prover has to see this type named here.
+    if !desk.may_sign_off(client) {
+        return Answer::Not;
+    }
+    desk.sign_off(client);
+    Answer::Yes
+}
+
+#[tactic(auto, using(ob_order::proofs::Batches::taken_in_flight))]
+fn round(desk: &mut Desk) -> Answer {
+    let mut keys = [None; 2];
+    let values = [None; 2];
+    if !desk.may_take() || desk.params().places != 2 {
+        return Answer::Not;
+    }
+    desk.take_batch(&mut keys);
+    desk.deliver(&keys, &values);
+    Answer::Yes
+}
+
+fn of_write(write: &Write) -> Option<Wrote> {
+    match write.value {
+        None => Some(Wrote::Del(write.key)),
+        Some(value) => {
+            if is_seven(&value) {
+                Some(Wrote::Put(write.key))
+            } else {
+                None
+            }
+        }
+    }
+}
+
+fn wrote_at(writes: &[Write], n: usize) -> Option<Wrote> {
+    match writes.get(n) {
+        Some(write) => of_write(write),
+        None => None,
+    }
+}
+
+fn close(desk: &mut Desk, alloc: Global) -> Result<Answer, Memory> {
+    let mut out = Vec::with_capacity(alloc, desk.params().writes as usize)?;
+    if !desk.may_close() {
+        return Ok(Answer::Not);
+    }
+    desk.close(&mut out);
+    if out.len() > 2 {
+        return Ok(Answer::Not);
+    }
+    Ok(Answer::Wrote(wrote_at(&out, 0), wrote_at(&out, 1)))
+}
+
+// How the transaction ended whose ticket is the nth.
+fn ended(told: &EpochRecord<Key>, n: usize, ticket: u64) -> Option<Outcome<Key>> {
+    match told.txns.get(n) {
+        Some(txn) => {
+            if txn.ticket == ticket {
+                Some(txn.outcome)
+            } else {
+                None
+            }
+        }
+        None => None,
+    }
+}
+
+fn publish(desk: &mut Desk) -> Answer {
+    // The prover has to see this type named here.
+    if !desk.may_publish(2, 2) {
+        return Answer::Not;
+    }
+    let told = desk.publish(2, 2);
+    Answer::Told {
+        epoch: told.epoch,
+        txns: told.txns.len(),
+        ended: [ended(&told, 0, 1), ended(&told, 1, 2), ended(&told, 2, 3)],
+    }
+}
+
+fn look(desk: &Desk) -> Answer {
+    if !desk.may_look() {
+        return Answer::Not;
+    }
+    Answer::Seen(desk.look())
+}
+
+fn stop(desk: &mut Desk, fault: Fault) -> Answer {
+    // The prover has to see this type named here.
+    desk.stop(fault);
+    Answer::Yes
+}
+
+fn unsure(desk: &mut Desk, fault: Fault) -> Answer {
+    // The prover has to see this type named here.
+    if !desk.is_closed() {
+        return Answer::Not;
+    }
+    desk.unsure(fault);
+    Answer::Yes
+}
+
+fn stopped(desk: &Desk) -> Answer {
+    match desk.stopped() {
         None => Answer::Runs,
         Some(fault) => Answer::StoppedBy(fault),
     }
 }
 
-fn of_made(made: bool) -> Answer {
-    if made { Answer::Yes } else { Answer::Not }
-}
-
-fn stop(desk: &mut Desk, fault: Fault) -> bool {
-    desk.stop(fault);
-    true
-}
-
-fn is_published(desk: &mut Desk) -> bool {
-    let _told: Option<Value> = None;
-    publish(desk, 2).is_some()
-}
-
 // A call's answer.
-fn make(desk: &mut Desk, call: Call) -> Result<Answer, Memory> {
+fn make(desk: &mut Desk, alloc: Global, call: Call) -> Result<Answer, Memory> {
+    // The prover has to see this type named here.
+    // The prover has to see this type named here.
     let _told: Option<Value> = None;
     Ok(match call {
-        Call::Begin(client) => of_begun(begin(desk, client)?),
-        Call::Get(n, key) => of_got(get(desk, &txn(n), key)?),
-        Call::Poll(n) => of_got(poll(desk, &txn(n))),
-        Call::Put(n, key) => of_done(put(desk, &txn(n), key)?),
-        Call::Del(n, key) => of_done(del(desk, &txn(n), key)?),
-        Call::Commit(n) => of_done(commit(desk, &txn(n))),
-        Call::Abort(n) => of_why(abort(desk, &txn(n))),
-        Call::Settled(n) => of_outcome(settled(desk, &txn(n))),
-        Call::SignOff(n) => of_made(sign_off(desk, n)),
-        Call::Round => of_made(round(desk)),
-        Call::Publish => of_made(is_published(desk)),
-        Call::Stop(fault) => of_made(stop(desk, fault)),
-        Call::Unsure(fault) => of_made(unsure(desk, fault)),
-        Call::Stopped => of_stopped(desk.stopped()),
+        Call::Anew(begun) => anew(desk, alloc, begun)?,
+        Call::Begin(client) => begin(desk, client)?,
+        Call::Get(n, key) => get(desk, &txn(n), key)?,
+        Call::Poll(n) => poll(desk, &txn(n)),
+        Call::Put(n, key) => put(desk, &txn(n), key)?,
+        Call::Del(n, key) => del(desk, &txn(n), key)?,
+        Call::Commit(n) => commit(desk, &txn(n)),
+        Call::Abort(n) => abort(desk, &txn(n)),
+        Call::Settled(n) => settled(desk, &txn(n)),
+        Call::SignOff(n) => sign_off(desk, n),
+        Call::Round => round(desk),
+        Call::Close => close(desk, alloc)?,
+        Call::Publish => publish(desk),
+        Call::Look => look(desk),
+        Call::Stop(fault) => stop(desk, fault),
+        Call::Unsure(fault) => unsure(desk, fault),
+        Call::Stopped => stopped(desk),
     })
 }
 
 // The place of the first call that is answered otherwise, if there is one.
-fn first_wrong(desk: &mut Desk, calls: &[(Call, Answer)]) -> Result<Option<usize>, Memory> {
+fn first_wrong(alloc: Global, calls: &[(Call, Answer)]) -> Result<Option<usize>, Memory> {
+    let Some(mut desk) = desk(alloc, 0)? else {
+        return Ok(Some(calls.len()));
+    };
     for i in 0..calls.len() {
         let (call, wanted) = calls[i];
-        if make(desk, call)? != wanted {
+        if make(&mut desk, alloc, call)? != wanted {
             return Ok(Some(i));
         }
     }
     Ok(None)
 }
 
-// 8 keys, 2 read batches of 2 places, 2 write places, 6 clients, the first of which have begun.
-fn desk(alloc: Global, tickets: u32) -> Result<Option<Desk>, Memory> {
-    let Ok(p) = Params::new(8, 2, 2, 3, 2, 2, 2, 2, 6) else {
-        return Ok(None);
-    };
-    let mut desk = Desk::new(alloc, &p, 1, 2, &[1, 2, 3, 4, 5, 6])?;
-    for n in 0..tickets {
-        let _begun = begin(&mut desk, n + 1)?;
-    }
-    Ok(Some(desk))
-}
-
-// The place of the first wrong answer of a desk on which so many have begun.
-fn wrong(alloc: Global, tickets: u32, calls: &[(Call, Answer)]) -> Result<Option<usize>, Memory> {
-    match desk(alloc, tickets)? {
-        Some(mut desk) => first_wrong(&mut desk, calls),
-        None => Ok(Some(calls.len())),
-    }
-}
-
-// How the record's transaction of this ticket ended.
-fn outcome(told: &EpochRecord<Key>, ticket: u64) -> Answer {
-    for txn in &told.txns {
-        if txn.ticket == ticket {
-            return of_outcome(Some(txn.outcome));
-        }
-    }
-    Answer::Not
-}
-
 #[test]
-fn tickets_are_drawn_in_order(rt: HostRuntime) -> Result<(), Fail> {
-    let calls = [
-        (
-            Call::Begin(2),
-            Answer::Began {
-                epoch: 1,
-                ticket: 2,
-            },
-        ),
-        (Call::Begin(2), Answer::Not),
-        (Call::Begin(7), Answer::Not),
-    ];
-    assert_eq!(rt; wrong(rt.alloc(), 1, &calls)?, None);
+fn calls_in_one_epoch_are_answered_so(rt: HostRuntime) -> Result<(), Fail> {
+    assert_eq!(rt; first_wrong(rt.alloc(), &ONE_EPOCH)?, None);
     Ok(())
 }
 
 #[test]
-fn an_abort_takes_its_reader(rt: HostRuntime) -> Result<(), Fail> {
-    let falls = Answer::Aborted(Why::Depends { on: 1 });
-    let calls = [
-        (Call::Put(1, 5), Answer::Yes),
-        (Call::Get(2, 5), Answer::Seven),
-        (Call::Settled(2), Answer::Open),
-        (Call::Abort(1), Answer::Aborted(Why::Asked)),
-        (Call::Settled(1), Answer::Aborted(Why::Asked)),
-        (Call::Settled(2), falls),
-        (Call::Commit(2), falls),
-    ];
-    assert_eq!(rt; wrong(rt.alloc(), 2, &calls)?, None);
+fn calls_in_two_epochs_are_answered_so(rt: HostRuntime) -> Result<(), Fail> {
+    assert_eq!(rt; first_wrong(rt.alloc(), &TWO_EPOCHS)?, None);
     Ok(())
 }
 
 #[test]
-fn a_write_below_a_later_reader_is_a_conflict(rt: HostRuntime) -> Result<(), Fail> {
-    let conflict = Answer::Aborted(Why::Conflict { key: 5, reader: 3 });
-    let calls = [
-        (Call::Put(1, 5), Answer::Yes),
-        (Call::Get(3, 5), Answer::Seven),
-        (Call::Put(1, 5), conflict),
-        (Call::Settled(1), conflict),
-        (Call::Get(3, 5), Answer::Aborted(Why::Depends { on: 1 })),
-        (Call::Settled(2), Answer::Open),
-    ];
-    assert_eq!(rt; wrong(rt.alloc(), 3, &calls)?, None);
+fn calls_at_a_stop_are_answered_so(rt: HostRuntime) -> Result<(), Fail> {
+    assert_eq!(rt; first_wrong(rt.alloc(), &STOPS)?, None);
     Ok(())
-}
-
-#[test]
-fn an_earlier_get_waits_for_its_batch(rt: HostRuntime) -> Result<(), Fail> {
-    let calls = [
-        (Call::Put(2, 5), Answer::Yes),
-        (Call::Get(1, 5), Answer::Queued),
-        (Call::Poll(1), Answer::Queued),
-        (Call::Commit(1), Answer::Not),
-        (Call::Round, Answer::Yes),
-        (Call::Poll(1), Answer::Absent),
-        (Call::Commit(1), Answer::Yes),
-        (Call::Commit(2), Answer::Yes),
-    ];
-    assert_eq!(rt; wrong(rt.alloc(), 2, &calls)?, None);
-    Ok(())
-}
-
-#[test]
-fn a_third_key_has_no_write_place(rt: HostRuntime) -> Result<(), Fail> {
-    let full = Answer::Aborted(Why::WritesFull { keys: 2 });
-    let calls = [
-        (Call::Put(1, 0), Answer::Yes),
-        (Call::Put(1, 1), Answer::Yes),
-        (Call::Del(1, 0), Answer::Yes),
-        (Call::Put(2, 2), full),
-        (Call::Put(1, 2), full),
-    ];
-    assert_eq!(rt; wrong(rt.alloc(), 2, &calls)?, None);
-    Ok(())
-}
-
-#[test]
-fn a_fifth_key_has_no_read_place(rt: HostRuntime) -> Result<(), Fail> {
-    let full = Why::ReadsFull { queued: 4, left: 2 };
-    let none_left = Why::ReadsFull { queued: 0, left: 0 };
-    let calls = [
-        (Call::Get(1, 0), Answer::Queued),
-        (Call::Get(2, 1), Answer::Queued),
-        (Call::Get(3, 2), Answer::Queued),
-        (Call::Get(4, 3), Answer::Queued),
-        (Call::Get(5, 4), Answer::Aborted(full)),
-        (Call::Get(6, 3), Answer::Queued),
-        (Call::Round, Answer::Yes),
-        (Call::Round, Answer::Yes),
-        (Call::Round, Answer::Not),
-        (Call::Poll(6), Answer::Absent),
-        (Call::Get(6, 7), Answer::Aborted(none_left)),
-    ];
-    assert_eq!(rt; wrong(rt.alloc(), 6, &calls)?, None);
-    Ok(())
-}
-
-#[test]
-fn a_stop_aborts_all_at_once(rt: HostRuntime) -> Result<(), Fail> {
-    let fault = Fault::SinkFault;
-    let stopped = Answer::Aborted(Why::Stopped { fault });
-    let calls = [
-        (Call::Put(1, 5), Answer::Yes),
-        (Call::Get(2, 5), Answer::Seven),
-        (Call::Stopped, Answer::Runs),
-        (Call::Stop(fault), Answer::Yes),
-        (Call::Stop(Fault::Memory), Answer::Yes),
-        (Call::Stopped, Answer::StoppedBy(fault)),
-        (Call::Settled(1), stopped),
-        (Call::Settled(2), stopped),
-        (Call::Begin(3), Answer::StoppedBy(fault)),
-    ];
-    assert_eq!(rt; wrong(rt.alloc(), 2, &calls)?, None);
-    Ok(())
-}
-
-// Ticket 1 puts key 4 and asks to commit. Ticket 2 puts key 3, which 3 reads, and doesn't ask.
-fn put_and_read(desk: &mut Desk) -> Result<Option<usize>, Memory> {
-    let calls = [
-        (Call::Put(1, 4), Answer::Yes),
-        (Call::Put(2, 3), Answer::Yes),
-        (Call::Get(3, 3), Answer::Seven),
-        (Call::Commit(1), Answer::Yes),
-        (Call::Commit(3), Answer::Yes),
-        (Call::Put(1, 4), Answer::Not),
-    ];
-    first_wrong(desk, &calls)
-}
-
-#[test]
-fn a_close_ends_those_that_have_not_asked(rt: HostRuntime) -> Result<(), Fail> {
-    let alloc = rt.alloc();
-    let mut desk = desk(alloc, 3)?.expect(&rt, "parameters in range");
-    assert_eq!(rt; put_and_read(&mut desk)?, None);
-    assert_eq!(rt; close(&mut desk, alloc)?.is_none(), true);
-    let writes = finish(&mut desk, alloc)?.expect(&rt, "no batch is left");
-    assert_eq!(rt; writes.len(), 1);
-    let value = seven();
-    assert_eq!(rt; writes.get(0).copied(), Some(Write { key: 4, value }));
-    let end = Answer::Aborted(Why::EpochEnd);
-    let falls = Answer::Aborted(Why::Depends { on: 2 });
-    let calls = [
-        (Call::Settled(1), Answer::Open),
-        (Call::Settled(2), end),
-        (Call::Settled(3), falls),
-        (Call::Publish, Answer::Yes),
-        (Call::Publish, Answer::Not),
-        (Call::Settled(1), Answer::Committed),
-        (Call::Settled(2), end),
-        (Call::Settled(3), falls),
-        (
-            Call::Begin(1),
-            Answer::Began {
-                epoch: 2,
-                ticket: 1,
-            },
-        ),
-    ];
-    assert_eq!(rt; first_wrong(&mut desk, &calls)?, None);
-    Ok(())
-}
-
-#[test]
-fn a_record_tells_how_each_ended(rt: HostRuntime) -> Result<(), Fail> {
-    let alloc = rt.alloc();
-    let mut desk = desk(alloc, 3)?.expect(&rt, "parameters in range");
-    assert_eq!(rt; put_and_read(&mut desk)?, None);
-    let _writes = finish(&mut desk, alloc)?;
-    let told = publish(&mut desk, 2).expect(&rt, "an epoch is closed");
-    assert_eq!(rt; told.epoch, 1);
-    assert_eq!(rt; outcome(&told, 1), Answer::Committed);
-    assert_eq!(rt; outcome(&told, 2), Answer::Aborted(Why::EpochEnd));
-    assert_eq!(rt; outcome(&told, 3), Answer::Aborted(Why::Depends { on: 2 }));
-    assert_eq!(rt; outcome(&told, 4), Answer::Not);
-    Ok(())
-}
-
-// Two keys are put, the later one first, and the later one is deleted by a later ticket.
-fn put_two(desk: &mut Desk) -> Result<Option<usize>, Memory> {
-    let calls = [
-        (Call::Put(1, 6), Answer::Yes),
-        (Call::Put(1, 2), Answer::Yes),
-        (Call::Del(2, 6), Answer::Yes),
-        (Call::Commit(1), Answer::Yes),
-        (Call::Commit(2), Answer::Yes),
-    ];
-    first_wrong(desk, &calls)
-}
-
-#[test]
-fn the_write_batch_has_every_key_in_rising_order(rt: HostRuntime) -> Result<(), Fail> {
-    let alloc = rt.alloc();
-    let mut desk = desk(alloc, 2)?.expect(&rt, "parameters in range");
-    assert_eq!(rt; put_two(&mut desk)?, None);
-    let writes = finish(&mut desk, alloc)?.expect(&rt, "no batch is left");
-    let value = seven();
-    assert_eq!(rt; writes.len(), 2);
-    assert_eq!(rt; writes.get(0).copied(), Some(Write { key: 2, value }));
-    assert_eq!(rt;
-        writes.get(1).copied(),
-        Some(Write {
-            key: 6,
-            value: None
-        })
-    );
-    Ok(())
-}
-
-// A desk at its close, whose ticket 1 has put key 5 and asked to commit, and whose ticket 2 hasn't.
-fn closed(alloc: Global) -> Result<Option<Desk>, Memory> {
-    let Some(mut desk) = desk(alloc, 2)? else {
-        return Ok(None);
-    };
-    let _done = put(&mut desk, &txn(1), 5)?;
-    let _asked = commit(&mut desk, &txn(1));
-    let _writes = finish(&mut desk, alloc)?;
-    Ok(Some(desk))
-}
-
-// The place of the first wrong answer of such a desk.
-fn wrong_closed(alloc: Global, calls: &[(Call, Answer)]) -> Result<Option<usize>, Memory> {
-    match closed(alloc)? {
-        Some(mut desk) => first_wrong(&mut desk, calls),
-        None => Ok(Some(calls.len())),
-    }
-}
-
-#[test]
-fn an_epoch_runs_beside_a_closed_one(rt: HostRuntime) -> Result<(), Fail> {
-    let calls = [
-        (Call::Begin(1), Answer::Not),
-        (
-            Call::Begin(3),
-            Answer::Began {
-                epoch: 2,
-                ticket: 1,
-            },
-        ),
-        (Call::Round, Answer::Not),
-        (Call::Publish, Answer::Yes),
-        (Call::Round, Answer::Yes),
-        (
-            Call::Begin(1),
-            Answer::Began {
-                epoch: 2,
-                ticket: 2,
-            },
-        ),
-    ];
-    assert_eq!(rt; wrong_closed(rt.alloc(), &calls)?, None);
-    Ok(())
-}
-
-#[test]
-fn a_fault_stops_a_closed_epoch(rt: HostRuntime) -> Result<(), Fail> {
-    let fault = Fault::SinkFault;
-    let calls = [
-        (Call::Stop(fault), Answer::Yes),
-        (Call::Settled(1), Answer::Aborted(Why::Stopped { fault })),
-        (Call::Settled(2), Answer::Aborted(Why::EpochEnd)),
-        (Call::Publish, Answer::Not),
-    ];
-    assert_eq!(rt; wrong_closed(rt.alloc(), &calls)?, None);
-    Ok(())
-}
-
-#[test]
-fn want_of_memory_leaves_a_closed_epoch_be(rt: HostRuntime) -> Result<(), Fail> {
-    let calls = [
-        (Call::Stop(Fault::Memory), Answer::Yes),
-        (Call::Settled(1), Answer::Open),
-        (Call::Publish, Answer::Yes),
-        (Call::Settled(1), Answer::Committed),
-        (Call::Stopped, Answer::StoppedBy(Fault::Memory)),
-    ];
-    assert_eq!(rt; wrong_closed(rt.alloc(), &calls)?, None);
-    Ok(())
-}
-
-#[test]
-fn a_closed_epoch_in_doubt_is_unsure(rt: HostRuntime) -> Result<(), Fail> {
-    let fault = Fault::StoreFault { unsure: Some(1) };
-    let calls = [
-        (Call::Unsure(fault), Answer::Yes),
-        (Call::Settled(1), Answer::Unsure(1)),
-        (Call::Settled(2), Answer::Aborted(Why::EpochEnd)),
-        (Call::Stopped, Answer::StoppedBy(fault)),
-        (Call::Unsure(fault), Answer::Not),
-    ];
-    assert_eq!(rt; wrong_closed(rt.alloc(), &calls)?, None);
-    Ok(())
-}
-
-fn some_wait(desk: &mut Desk) -> Result<Option<usize>, Memory> {
-    let calls = [
-        (Call::Get(1, 5), Answer::Queued),
-        (Call::Commit(2), Answer::Yes),
-        (Call::Abort(3), Answer::Aborted(Why::Asked)),
-        (Call::SignOff(3), Answer::Yes),
-        (Call::SignOff(4), Answer::Not),
-    ];
-    first_wrong(desk, &calls)
 }
 
 #[test]
 fn a_look_counts(rt: HostRuntime) -> Result<(), Fail> {
-    let mut desk = desk(rt.alloc(), 4)?.expect(&rt, "parameters in range");
-    assert_eq!(rt; some_wait(&mut desk)?, None);
-    let seen = Look {
-        waiting: 2,
-        live: 3,
-        queued: 1,
-        left: 2,
-        txns: 4,
-        clients: 5,
-    };
-    assert_eq!(rt; look(&desk), Some(seen));
-    assert!(rt; round(&mut desk));
-    let seen = Look {
-        waiting: 1,
-        queued: 0,
-        left: 1,
-        ..seen
-    };
-    assert_eq!(rt; look(&desk), Some(seen));
+    assert_eq!(rt; first_wrong(rt.alloc(), &LOOKS)?, None);
     Ok(())
 }
 

@@ -27,7 +27,7 @@ use Rattle.ob_values.specs.Refilled.{IsRefilled}
 use Rattle.ob_values.specs.Runs.{AreRun, Plains, slots_of}
 use Rattle.ob_values.proofs.Planned.{past_none, refill_is_written}
 use Rattle.ob_values.proofs.Running.{jobs_are_read}
-use Rattle.ob_epoch.specs.Calls.{AreWritten, CallsJoin, PlansAreRead, RefillsRing, RingsRefill, WritesAreFit}
+use Rattle.ob_epoch.specs.Calls.{AreSlotsWritten, CallsJoin, PlansAreRead, RefillsRing, RingsRefill, WritesAreFit}
 use Rattle.ob_epoch.specs.Plans.{AreAllWhole}
 use Rattle.ob_epoch.proofs.Plans.{bucket_listed, refill_plans}
 
@@ -88,7 +88,7 @@ within versions u j low = elim (cases_lt u (length versions)) [
       omega arith)
 ]
 
-module _ (old : Kept) (metas : Buckets) (words : List ℕ) (first : ℕ × ℕ) (t : FlatTable) (plain plain' : Plains) (r : RefillsRing old (record old { metas = metas }) words first t) (w : AreWritten (record old { metas = metas }) plain plain') where
+module _ (old : Kept) (metas : Buckets) (words : List ℕ) (first : ℕ × ℕ) (t : FlatTable) (plain plain' : Plains) (r : RefillsRing old (record old { metas = metas }) words first t) (w : AreSlotsWritten (record old { metas = metas }) plain plain') where
   whole_then : AreAllWhole old.p metas
   whole_then = refill_plans.whole_anew old.p old.metas metas words first (r.rules_then).metas r.anew r.whole
 
@@ -125,7 +125,7 @@ module _ (old : Kept) (metas : Buckets) (words : List ℕ) (first : ℕ × ℕ) 
 
 pub rings_refill : RingsRefill
 rings_refill old new words first t plain plain' r w =
-    subst (λ (x : Kept). RefillsRing old x words first t → AreWritten x plain plain' → IsRefilled t (after old.p t Refill) (old.stash).rows (without_buckets (x.stash).rows (x.metas).versions (x.metas).order) (slots_of old.p (old.metas).versions plain) (slots_of old.p (x.metas).versions plain'))
+    subst (λ (x : Kept). RefillsRing old x words first t → AreSlotsWritten x plain plain' → IsRefilled t (after old.p t Refill) (old.stash).rows (without_buckets (x.stash).rows (x.metas).versions (x.metas).order) (slots_of old.p (old.metas).versions plain) (slots_of old.p (x.metas).versions plain'))
     (sym r.kept)
     (λ s v. refilled old new.metas words first t plain plain' s v)
     r w

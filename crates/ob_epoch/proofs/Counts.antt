@@ -10,7 +10,7 @@ use Rattle.ob_bucket.specs.Buckets.{Buckets, version_at}
 use Rattle.ob_bucket.proofs.Counting.{onto_of_apart}
 use Rattle.ob_content.specs.Content.{Content}
 use Rattle.ob_schedule.specs.Paths.{is_one_of, eviction_path, by_falling_level}
-use Rattle.ob_schedule.specs.Schedule.{Public, after_end, counts_now, is_lifted}
+use Rattle.ob_schedule.specs.Schedule.{Public, after_end, counts_now, is_lifted_by_end}
 use Rattle.ob_ring.specs.FlatTable.{FlatTable, FinalLifts, Writes, after, after_writes, fill, fills, indexes, refill_order, write}
 use Rattle.ob_ring.specs.Laws.{IsOrderly}
 use Rattle.ob_ring.specs.Sound.{IsCounted}
@@ -19,7 +19,7 @@ use Rattle.ob_ring.proofs.Members.{off_unless, one_of-filter, one_of-filter_from
 use Rattle.ob_ring.proofs.Refills.{FillsLaw, of_levels, refill_law, writes_keep}
 use Rattle.ob_ring.proofs.TableLaws.{counted_in, none_counted, steps_keep_order, used_final}
 use Rattle.ob_values.proofs.Planned.{past_none}
-use Rattle.ob_epoch.specs.Counts.{EndCounts, IsEnded, OpeningCounts, SlotsRank, lifted_and_written, marks_of, public_of}
+use Rattle.ob_epoch.specs.Counts.{EndCounts, IsEndPublic, OpeningCounts, SlotsRank, lifted_and_written, marks_of, public_of}
 use Rattle.ob_epoch.specs.Table.{flat_of}
 use Rattle.ob_epoch.proofs.Plans.{bucket_listed, refill_plans}
 use Rattle.ob_epoch.proofs.Reading.{reads_are_marks, tables_are_read}
@@ -52,14 +52,14 @@ cleared_by : (a b : Bool) → (not a && b) ≡ false → a ≡ false → b ≡ f
 cleared_by true b e off = absurd (true≢false off)
 cleared_by false b e off = e
 
-module _ (p : Params) (q : Public) (t : FlatTable) (ws : List (ℕ × Option ℕ)) (old new : Buckets) (words : List ℕ) (first : ℕ × ℕ) (c : Content) (e : IsEnded p q t ws old new words first c) where
+module _ (p : Params) (q : Public) (t : FlatTable) (ws : List (ℕ × Option ℕ)) (old new : Buckets) (words : List ℕ) (first : ℕ × ℕ) (c : Content) (e : IsEndPublic p q t ws old new words first c) where
   abbrev t3 : FlatTable
   t3 = lifted_and_written p t ws
 
   orderly_then : IsOrderly p t3
   orderly_then = steps_keep_order p (after p t FinalLifts) (Writes ws) (steps_keep_order p t FinalLifts e.orderly)
 
-  lifted_then : (u : ℕ) → t3.lifted u ≡ is_lifted p q u
+  lifted_then : (u : ℕ) → t3.lifted u ≡ is_lifted_by_end p q u
   lifted_then u =
       let fin : FinalLaw p t (counts_now p q) (λ u. false) (eviction_path p t.counter) = final_law p t (counts_now p q) (λ u. false) (eviction_path p t.counter) (e.orderly).sound (record { lifted_is = (e.counted).lifted_is; reads_is = (e.counted).reads_is }) in
       ap (λ (f : ℕ → Bool). f u) (writes_keep (after p t FinalLifts) ws).1
@@ -79,24 +79,24 @@ module _ (p : Params) (q : Public) (t : FlatTable) (ws : List (ℕ × Option ℕ
       by_case low true is = one_of-filter_from t3.lifted (by_falling_level (p.levels + 1)) u is (bucket_listed p u low) ∙ sym is
       by_case low false is = off_unless (is_one_of (refill_order p t3) u) (λ on. true≢false (sym (one_of-filter t3.lifted (by_falling_level (p.levels + 1)) u on).0 ∙ is)) ∙ sym is
 
-  order_is : (u : ℕ) → is_one_of old.order u ≡ is_lifted p q u
+  order_is : (u : ℕ) → is_one_of old.order u ≡ is_lifted_by_end p q u
   order_is u = ap (λ (us : List ℕ). is_one_of us u) e.listed ∙ listed_is u ∙ lifted_then u
 
-  home_then : (u : ℕ) (b : Bool) → is_lifted p q u ≡ b → cond b (1 - q.homes u) (q.homes u) ≡ (version_at c.versions u).home
+  home_then : (u : ℕ) (b : Bool) → is_lifted_by_end p q u ≡ b → cond b (1 - q.homes u) (q.homes u) ≡ (version_at c.versions u).home
   home_then u true is = ap (λ (n : ℕ). 1 - n) (e.homes u) ∙ sym (refill_plans.homes p old new words first u e.anew (order_is u ∙ is)) ∙ ap (λ (vs : List Version). (version_at vs u).home) (sym e.versions)
   home_then u false is =
       let off : is_one_of (take (length old.order) old.order) u ≡ false = off_unless (is_one_of (take (length old.order) old.order) u) (λ on. true≢false (sym (one_of-take (length old.order) old.order u on) ∙ order_is u ∙ is)) in
       e.homes u ∙ sym (ap (λ (v : Version). v.home) ((e.anew).others u off)) ∙ ap (λ (vs : List Version). (version_at vs u).home) (sym e.versions)
 
-  used_then : (u j : ℕ) → (flat_of p c).used u j ≡ (not (is_lifted p q u) && t.used u j)
+  used_then : (u j : ℕ) → (flat_of p c).used u j ≡ (not (is_lifted_by_end p q u) && t.used u j)
   used_then u j =
       ap (λ (vs : List Version). used_at (version_at vs u) j) e.versions
       ∙ sym ((e.table).used_is u j)
       ∙ (refill_law p t3 orderly_then.sound).used_is u j
       ∙ (λ i. not ((listed_is u ∙ lifted_then u) i) && t3.used u j)
-      ∙ ap (λ (f : ℕ → ℕ → Bool). not (is_lifted p q u) && f u j) ((writes_keep (after p t FinalLifts) ws).0 ∙ used_final p t (eviction_path p t.counter))
+      ∙ ap (λ (f : ℕ → ℕ → Bool). not (is_lifted_by_end p q u) && f u j) ((writes_keep (after p t FinalLifts) ws).0 ∙ used_final p t (eviction_path p t.counter))
 
-  count_then : (u : ℕ) (b : Bool) → is_lifted p q u ≡ b → cond b 0 (counts_now p q u) ≡ marks_of c u
+  count_then : (u : ℕ) (b : Bool) → is_lifted_by_end p q u ≡ b → cond b 0 (counts_now p q u) ≡ marks_of c u
   count_then u true is =
       sym (none_counted (p.real + p.dummies))
       ∙ sym (λ i. count_by (λ j. (used_then u j ∙ ap (λ (b : Bool). not b && t.used u j) is) i) (indexes p))
@@ -117,8 +117,8 @@ module _ (p : Params) (q : Public) (t : FlatTable) (ws : List (ℕ × Option ℕ
 pub end_counts : EndCounts
 end_counts p q t ws old new words first c e i = record {
   epoch = q.epoch + 1;
-  homes = λ u. home_then p q t ws old new words first c e u (is_lifted p q u) refl i;
-  counts = λ u. count_then p q t ws old new words first c e u (is_lifted p q u) refl i;
+  homes = λ u. home_then p q t ws old new words first c e u (is_lifted_by_end p q u) refl i;
+  counts = λ u. count_then p q t ws old new words first c e u (is_lifted_by_end p q u) refl i;
   counter = counter_then p q t ws old new words first c e i;
   gates = (after_end p q).gates;
   leaves = [];

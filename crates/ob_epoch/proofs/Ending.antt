@@ -24,11 +24,11 @@ use Rattle.ob_values.specs.Carries.{Slots, Carries}
 use Rattle.ob_values.specs.Epochs.{EpochFollows, EpochGoes, Read, IsEpoch, after_batches, after_epoch, before_refill}
 use Rattle.ob_values.proofs.Counted.{stash_counts}
 use Rattle.ob_values.proofs.Epochs.{buckets_go, epochs_follow}
-use Rattle.ob_epoch.specs.Ends.{EndsFollow, IsRunFrom, Run}
+use Rattle.ob_epoch.specs.Ends.{EndsFollow, IsRunFrom, RefillRun}
 use Rattle.ob_epoch.specs.Numbers.{IsKnown, RenewsSeals}
 use Rattle.ob_epoch.specs.Plans.{AreAllWhole}
-use Rattle.ob_epoch.specs.Table.{IsRead, flat_of}
-use Rattle.ob_epoch.specs.Valued.{AreFilled, IsEnd, IsValued, content_with}
+use Rattle.ob_epoch.specs.Table.{IsTableOfContent, flat_of}
+use Rattle.ob_epoch.specs.Valued.{AreTablesFilled, IsEnd, IsValued, content_with}
 use Rattle.ob_epoch.proofs.Numbers.{renewed_fit, steps_renew}
 use Rattle.ob_epoch.proofs.Plans.{bucket_listed, refill_plans}
 use Rattle.ob_epoch.proofs.Reading.{tables_are_read}
@@ -57,13 +57,13 @@ orderly_before p t bs ws o =
     let t1 : FlatTable = after_batches p t bs in
     steps_keep_order p (after p t1 FinalLifts) (Writes (leaf_writes ws)) (steps_keep_order p t1 FinalLifts (batches_order p t bs o))
 
-module _ (p : Params) (r : Run) (c : Content) (slots slots' : Slots) (m : Values) (bs : List Read) (js : List Job) (ws : List (Write × Entry)) (book : List (Option Entry)) (rows' : Rows) (counter : ℕ)
+module _ (p : Params) (r : RefillRun) (c : Content) (slots slots' : Slots) (m : Values) (bs : List Read) (js : List Job) (ws : List (Write × Entry)) (book : List (Option Entry)) (rows' : Rows) (counter : ℕ)
     (o : Obeys p c) (known : IsKnown c (r.first).0) (seal : (r.first).0 < 2 ^ 64) (v : IsValued c slots m)
     (ep : IsEpoch p (flat_of p c) c.rows rows' slots slots' bs js ws) (run : IsRunFrom p r c book counter bs ws) where
   abbrev t3 : FlatTable
   t3 = before_refill p (flat_of p c) bs ws
 
-  read_first : IsRead p c
+  read_first : IsTableOfContent p c
   read_first = tables_are_read p c o
 
   carried_first : Carries p (flat_of p c) c.rows slots m
@@ -86,7 +86,7 @@ module _ (p : Params) (r : Run) (c : Content) (slots slots' : Slots) (m : Values
       (subst (λ (vs : List Version). RenewsSeals (r.first).0 vs (r.before).versions) run.began (steps_renew.seals r.start r.before (r.first).0 run.seals))
       (steps_renew.refill p r.before r.filled r.words r.first run.anew)
 
-  filled_then : (orderly : IsOrderly p t3) → AreFilled p r.filled book rows' counter (after_epoch p (flat_of p c) bs ws)
+  filled_then : (orderly : IsOrderly p t3) → AreTablesFilled p r.filled book rows' counter (after_epoch p (flat_of p c) bs ws)
   filled_then orderly = record {
     book_fits = renewed_fit.book p (r.first).0 c.book book seal run.many o.book run.entries;
     whole = run.whole;

@@ -23,13 +23,13 @@ use Rattle.ob_taken.specs.Values.{Values}
 use Rattle.ob_values.specs.Epochs.{IsEpoch, IsMet, Read, after_epoch, before_refill}
 use Rattle.ob_values.proofs.Meeting.{epochs_are_met}
 use Rattle.ob_values.proofs.Refilling.{plains_are_spelled}
-use Rattle.ob_epoch.specs.Calls.{AreWritten, RefillsRing}
-use Rattle.ob_epoch.specs.Counts.{IsEnded, public_of}
+use Rattle.ob_epoch.specs.Calls.{AreSlotsWritten, RefillsRing}
+use Rattle.ob_epoch.specs.Counts.{IsEndPublic, public_of}
 use Rattle.ob_epoch.specs.Ends.{IsNext, IsRunFrom}
 use Rattle.ob_epoch.specs.Idle.{Idled, idle_lifted, idle_order, idle_ring, idle_run, idle_versions, no_rows}
 use Rattle.ob_epoch.specs.Plans.{AreAllWhole}
 use Rattle.ob_epoch.specs.Samples.{formatted, slots}
-use Rattle.ob_epoch.specs.Table.{flat_of, place_of, row_for}
+use Rattle.ob_epoch.specs.Table.{flat_of, lying_place, row_for}
 use Rattle.ob_epoch.specs.Valued.{content_with}
 use Rattle.ob_epoch.proofs.Counts.{opening_counts}
 use Rattle.ob_epoch.proofs.Ending.{ends_follow, orderly_before}
@@ -52,7 +52,7 @@ formatted_mark (suc (suc (suc (suc (suc (suc (suc u))))))) j = refl
 
 flat_empty : flat_of p0 formatted ≡ empty_table
 flat_empty i = record {
-  rows = λ k. row_for (no_entry 8 k i) (place_of p0 formatted.versions k);
+  rows = λ k. row_for (no_entry 8 k i) (lying_place p0 formatted.versions k);
   used = λ u j. formatted_mark u j i;
   lifted = λ u. false;
   counter = 0;
@@ -83,7 +83,7 @@ idle_mark (suc (suc (suc (suc (suc zero))))) j = all_unused j
 idle_mark (suc (suc (suc (suc (suc (suc zero)))))) j = all_unused j
 idle_mark (suc (suc (suc (suc (suc (suc (suc u))))))) j = refl
 
-idle_version : (u : ℕ) → u < 7 → bucket.Obeys p0 (version_at idle_versions u)
+idle_version : (u : ℕ) → u < 7 → bucket.VersionObeys p0 (version_at idle_versions u)
 idle_version zero low = end_obeys 20 (None ∷ None ∷ []) refl
 idle_version (suc zero) low = end_obeys 10 (None ∷ None ∷ []) refl
 idle_version (suc (suc zero)) low = end_obeys 15 (None ∷ None ∷ []) refl
@@ -222,7 +222,7 @@ idle_rules s whole = record {
   room = omega arith;
 }
 
-whole_of : (v : Version) → bucket.Obeys p0 v → IsWhole v
+whole_of : (v : Version) → bucket.VersionObeys p0 v → IsWhole v
 whole_of v o =
     let keys : length v.keys ≡ 2 = (o.slots).keys in
     let ranks : length v.ranks ≡ 5 = (o.slots).ranks in
@@ -252,7 +252,7 @@ keyless : (u : ℕ) (o : Option ℕ) → key_of_index (version_at idle_versions 
 keyless u None = refl
 keyless u (Some j) = idle_key u j
 
-idle_cells : AreWritten (idle_ring p0 idle_run.filled) no_rows no_rows
+idle_cells : AreSlotsWritten (idle_ring p0 idle_run.filled) no_rows no_rows
 idle_cells = record {
   anew = λ u s on low. sym (ap (plain_for finite.empty) (keyless u (index_with (version_at idle_versions u) s)) ∙ plains_are_spelled.none finite.empty);
   same = λ u s off low within. refl;
@@ -262,7 +262,7 @@ idle_next : IsNext p0 formatted (content_with idle_run.filled formatted.book idl
 idle_next = ends_follow p0 idle_run formatted slots idle_met.slots_then nothing [] idle_met.jobs [] formatted.book idle_met.rows_then 2
     formatted_obeys (renewed_fit.later formatted 1 2 (omega arith) formatted_known) (omega arith) formatted_valued idle_epoch idle_run_from
 
-idle_public : (gates : ℕ → Bool) → IsEnded p0 (public_of formatted 0 gates) (flat_of p0 formatted) [] idle_run.before idle_run.filled idle_run.words idle_run.first (content_with idle_run.filled formatted.book idle_met.rows_then 2)
+idle_public : (gates : ℕ → Bool) → IsEndPublic p0 (public_of formatted 0 gates) (flat_of p0 formatted) [] idle_run.before idle_run.filled idle_run.words idle_run.first (content_with idle_run.filled formatted.book idle_met.rows_then 2)
 idle_public gates = record {
   orderly = (tables_are_read p0 formatted formatted_obeys).orderly;
   counted = opening_counts p0 formatted 0 gates formatted_obeys;

@@ -17,17 +17,17 @@ use Rattle.ob_ring.specs.Fetching.{after_labels, own_entry, places_of}
 use Rattle.ob_ring.specs.Filling.{AreSealedAnew, base_of}
 use Rattle.ob_ring.specs.Writing.{entries_after, entry_of, with_entry, write_at, writes_of}
 use Rattle.ob_ring.proofs.Members.{one_of-take}
-use Rattle.ob_epoch.specs.Numbers.{IsOwn, IsSealedAs, IsSealedIn, StepsRenew, RenewedFit}
+use Rattle.ob_epoch.specs.Numbers.{IsOwnEntry, IsSealedAs, IsSealedIn, StepsRenew, RenewedFit}
 use Rattle.ob_epoch.proofs.Plans.{listed_at}
 
 -- ---- entries
 
-pub own_is : (p : Params) (words : List ℕ) (first : ℕ × ℕ) (i : ℕ) → IsOwn p first.0 (own_entry p words first i)
+pub own_is : (p : Params) (words : List ℕ) (first : ℕ × ℕ) (i : ℕ) → IsOwnEntry p first.0 (own_entry p words first i)
 own_is p words first i = record { under = refl; index = omega arith; leaf = mod-lt (slice_index words i) (pow_pos p.levels) }
 
 abbrev AreOwn : Params → ℕ → List (Option ℕ × Entry) → Type 0
 AreOwn p g [] = ⊤
-AreOwn p g (a ∷ rest) = IsOwn p g a.1 × AreOwn p g rest
+AreOwn p g (a ∷ rest) = IsOwnEntry p g a.1 × AreOwn p g rest
 
 places_own : (p : Params) (asks : List (Option ℕ)) (words : List ℕ) (first : ℕ × ℕ) (xs : List ℕ) → AreOwn p first.0 (map (λ i. (slice_index_or asks i None, own_entry p words first i)) xs)
 places_own p asks words first [] = tt
@@ -36,12 +36,12 @@ places_own p asks words first (x ∷ xs) = (own_is p words first x, places_own p
 some_same : (a b : Entry) → Some a ≡ Some b → a ≡ b
 some_same a b e = cc
 
-rebound_from : (p : Params) (g : ℕ) (b : Bool) (own : Entry) (kept : Option Entry) (e : Entry) → IsOwn p g own → rebound b own kept ≡ Some e → (kept ≡ Some e) ⊎ IsOwn p g e
+rebound_from : (p : Params) (g : ℕ) (b : Bool) (own : Entry) (kept : Option Entry) (e : Entry) → IsOwnEntry p g own → rebound b own kept ≡ Some e → (kept ≡ Some e) ⊎ IsOwnEntry p g e
 rebound_from p g b own None e is h = absurd (cc)
-rebound_from p g true own (Some x) e is h = inr (subst (IsOwn p g) (some_same own e h) is)
+rebound_from p g true own (Some x) e is h = inr (subst (IsOwnEntry p g) (some_same own e h) is)
 rebound_from p g false own (Some x) e is h = inl h
 
-labels_from : (p : Params) (g : ℕ) (book : ℕ → Option Entry) (places : List (Option ℕ × Entry)) (k : ℕ) (e : Entry) → AreOwn p g places → after_labels book places k ≡ Some e → (book k ≡ Some e) ⊎ IsOwn p g e
+labels_from : (p : Params) (g : ℕ) (book : ℕ → Option Entry) (places : List (Option ℕ × Entry)) (k : ℕ) (e : Entry) → AreOwn p g places → after_labels book places k ≡ Some e → (book k ≡ Some e) ⊎ IsOwnEntry p g e
 labels_from p g book [] k e own h = inl h
 labels_from p g book (a ∷ rest) k e own h = elim (labels_from p g (after_label book a.0 a.1) rest k e own.1 h) [
   | inl before ↦ rebound_from p g (asks_for a.0 k) a.1 (book k) e own.0 before
@@ -50,18 +50,18 @@ labels_from p g book (a ∷ rest) k e own h = elim (labels_from p g (after_label
 
 abbrev AreOwnWrites : Params → ℕ → List (Write × Entry) → Type 0
 AreOwnWrites p g [] = ⊤
-AreOwnWrites p g (w ∷ rest) = IsOwn p g w.1 × AreOwnWrites p g rest
+AreOwnWrites p g (w ∷ rest) = IsOwnEntry p g w.1 × AreOwnWrites p g rest
 
 writes_own : (p : Params) (writes : List Write) (words : List ℕ) (first : ℕ × ℕ) (xs : List ℕ) → AreOwnWrites p first.0 (map (λ i. (write_at writes i, own_entry p words first i)) xs)
 writes_own p writes words first [] = tt
 writes_own p writes words first (x ∷ xs) = (own_is p words first x, writes_own p writes words first xs)
 
-written_from : (p : Params) (g : ℕ) (b : Bool) (value : Option (List ℕ)) (own : Entry) (kept : Option Entry) (e : Entry) → IsOwn p g own → cond b (entry_of value own) kept ≡ Some e → (kept ≡ Some e) ⊎ IsOwn p g e
+written_from : (p : Params) (g : ℕ) (b : Bool) (value : Option (List ℕ)) (own : Entry) (kept : Option Entry) (e : Entry) → IsOwnEntry p g own → cond b (entry_of value own) kept ≡ Some e → (kept ≡ Some e) ⊎ IsOwnEntry p g e
 written_from p g true None own kept e is h = absurd (cc)
-written_from p g true (Some v) own kept e is h = inr (subst (IsOwn p g) (some_same own e h) is)
+written_from p g true (Some v) own kept e is h = inr (subst (IsOwnEntry p g) (some_same own e h) is)
 written_from p g false value own kept e is h = inl h
 
-entries_from : (p : Params) (g : ℕ) (book : ℕ → Option Entry) (ws : List (Write × Entry)) (k : ℕ) (e : Entry) → AreOwnWrites p g ws → entries_after book ws k ≡ Some e → (book k ≡ Some e) ⊎ IsOwn p g e
+entries_from : (p : Params) (g : ℕ) (book : ℕ → Option Entry) (ws : List (Write × Entry)) (k : ℕ) (e : Entry) → AreOwnWrites p g ws → entries_after book ws k ≡ Some e → (book k ≡ Some e) ⊎ IsOwnEntry p g e
 entries_from p g book [] k e own h = inl h
 entries_from p g book (w ∷ ws) k e own h = elim (entries_from p g (with_entry book (w.0).key (entry_of (w.0).value w.1)) ws k e own.1 h) [
   | inl before ↦ written_from p g (k == (w.0).key) (w.0).value w.1 (book k) e own.0 before

@@ -40,7 +40,8 @@ whole_by p s u w low home ranks =
     let used : length (version_at s.versions u).used ≡ p.real + p.dummies = (w.slots u low).used in
     record { home = home; keys = omega arith; used = used ∙ sym many; ranks = ranks }
 
-sealed_case : (p : Params) (old new : Buckets) (words : List ℕ) (first : ℕ × ℕ) (u : ℕ) (b : Bool) → is_one_of (take (length old.order) old.order) u ≡ b → AreWhole p new → AreSealedAnew p old new words first (length old.order) → u < buckets p → IsWhole (version_at old.versions u) → IsWhole (version_at new.versions u)
+sealed_case : (p : Params) (old new : Buckets) (words : List ℕ) (first : ℕ × ℕ) (u : ℕ) (b : Bool) → is_one_of (take (length old.order) old.order) u ≡ b → AreWhole p new → AreSealedAnew p old new words first (length old.order) → u < buckets p → IsWhole
+    (version_at old.versions u) → IsWhole (version_at new.versions u)
 sealed_case p old new words first u false is w sealed low was = subst IsWhole (sym (sealed.others u is)) was
 sealed_case p old new words first u true is w sealed low was =
     let at : (i : ℕ) × (i < length old.order) × (slice_index old.order i ≡ u) = listed_at old.order u (one_of-take (length old.order) old.order u is) in

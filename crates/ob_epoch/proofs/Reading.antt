@@ -17,7 +17,7 @@ use Rattle.ob_ring.proofs.TableLaws.{none_counted}
 use Rattle.ob_content.specs.Content.{Content, Obeys, IsKeyOf, content_of}
 use Rattle.ob_taken.specs.Takes.{is_present}
 use Rattle.ob_values.proofs.Planned.{past_none}
-use Rattle.ob_epoch.specs.Table.{IsRead, RingsStand, TablesAreRead, spot_in, spot_among, place_of, row_for, flat_of}
+use Rattle.ob_epoch.specs.Table.{IsTableOfContent, RingsStand, TablesAreRead, spot_in, spot_among, lying_place, row_for, flat_of}
 
 -- a key's bucket is one of the tree, and its index a real one
 key_within : (p : Params) (c : Content) (u j k : ℕ) → Obeys p c → key_at (version_at c.versions u) j ≡ Some k → (u < buckets p) × (j < p.real)
@@ -48,7 +48,7 @@ among_found versions k v j None e = absurd (cc)
 among_found versions k v j (Some u) e = (found_live (version_at versions v) k j (spot_found versions k u j v (live_index (version_at versions u) k) refl e).1).1
 
 -- a key that is said to lie in a bucket does
-pub place_holds : (p : Params) (versions : List Version) (k v j : ℕ) → place_of p versions k ≡ In v j → key_at (version_at versions v) j ≡ Some k
+pub place_holds : (p : Params) (versions : List Version) (k v j : ℕ) → lying_place p versions k ≡ In v j → key_at (version_at versions v) j ≡ Some k
 place_holds p versions k v j e = among_found versions k v j (find (λ u. is_present (live_index (version_at versions u) k)) (below (buckets p))) e
 
 pub row_spot : (o : Option Entry) (s : Spot) (u j : ℕ) → spot_of (row_for o s) ≡ In u j → s ≡ In u j
@@ -56,7 +56,7 @@ row_spot None s u j e = absurd (cc)
 row_spot (Some e) s u j f = f
 
 pub holds : (p : Params) (c : Content) (k u j : ℕ) → spot_of ((flat_of p c).rows k) ≡ In u j → key_at (version_at c.versions u) j ≡ Some k
-holds p c k u j e = place_holds p c.versions k u j (row_spot (entry_at c.book k) (place_of p c.versions k) u j e)
+holds p c k u j e = place_holds p c.versions k u j (row_spot (entry_at c.book k) (lying_place p c.versions k) u j e)
 
 live_some : (v : Version) (k j : ℕ) (o : Option ℕ) → live_index v k ≡ o → key_at v j ≡ Some k → is_present o ≡ true
 live_some v k j None e at = absurd (none_live v k j e at)
@@ -76,7 +76,7 @@ found_case p c k u j (Some v) o at e =
     let first : IsFirst (λ v. is_present (live_index (version_at c.versions v) k)) 0 (buckets p) v = find_some (λ v. is_present (live_index (version_at c.versions v) k)) 0 (buckets p) v e in
     live_at p c k u v j (live_index (version_at c.versions v) k) o at refl first.on
 
-pub held : (p : Params) (c : Content) (k u j : ℕ) → Obeys p c → key_at (version_at c.versions u) j ≡ Some k → place_of p c.versions k ≡ In u j
+pub held : (p : Params) (c : Content) (k u j : ℕ) → Obeys p c → key_at (version_at c.versions u) j ≡ Some k → lying_place p c.versions k ≡ In u j
 held p c k u j o at = found_case p c k u j (find (λ v. is_present (live_index (version_at c.versions v) k)) (below (buckets p))) o at refl
 
 row_of_some : (o : Option Entry) (e : Entry) (s : Spot) (u j : ℕ) → o ≡ Some e → s ≡ In u j → (spot_of (row_for o s) ≡ In u j) × (leaf_of (row_for o s) 0 ≡ e.leaf)
@@ -136,7 +136,7 @@ tables_are_read p c o = record {
           let key : IsKeyOf p c.book u k = o.keys u j k at in
           record {
             real = low.1;
-            on_path = ap (passes p u) (row_of_some (entry_at c.book k) key.entry (place_of p c.versions k) u j key.kept (held p c k u j o at)).1 ∙ key.on_path;
+            on_path = ap (passes p u) (row_of_some (entry_at c.book k) key.entry (lying_place p c.versions k) u j key.kept (held p c k u j o at)).1 ∙ key.on_path;
             unread = ((o.versions u low.0).marks).unshown j k at;
             standing = refl;
           });
@@ -149,8 +149,8 @@ tables_are_read p c o = record {
       | inl low ↦ low
       | inr high ↦ absurd (no_leaf x (sym (ap leaf_of_entry (past_none c.book None k (omega (arith, (o.book).many)))) ∙ e))
     ];
-    leaves_are = λ k. row_leaf (entry_at c.book k) (place_of p c.versions k);
-    spots_are = λ k u j. ((λ e. holds p c k u j e), (λ at. (let key : IsKeyOf p c.book u k = o.keys u j k at in (row_of_some (entry_at c.book k) key.entry (place_of p c.versions k) u j key.kept (held p c k u j o at)).0)));
+    leaves_are = λ k. row_leaf (entry_at c.book k) (lying_place p c.versions k);
+    spots_are = λ k u j. ((λ e. holds p c k u j e), (λ at. (let key : IsKeyOf p c.book u k = o.keys u j k at in (row_of_some (entry_at c.book k) key.entry (lying_place p c.versions k) u j key.kept (held p c k u j o at)).0)));
     used_is = λ u j. refl;
     lifted_is = λ u. none_lifted (buckets p) u;
     counter_is = refl;
@@ -171,7 +171,7 @@ tables_are_read p c o = record {
 -- a ring that is made of the tables
 pub rings_stand : RingsStand
 rings_stand p tables o down =
-    let r : IsRead p (content_of tables) = tables_are_read p (content_of tables) o in
+    let r : IsTableOfContent p (content_of tables) = tables_are_read p (content_of tables) o in
     record {
       orderly = r.orderly;
       arrays = record {

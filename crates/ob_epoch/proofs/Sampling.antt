@@ -45,7 +45,7 @@ all_unused (suc (suc (suc (suc (suc j))))) = refl
 in_order : AreRanks (0 ∷ 1 ∷ 2 ∷ 3 ∷ 4 ∷ [])
 in_order = ranks_are (0 ∷ 0 ∷ 0 ∷ 0 ∷ 0 ∷ [])
 
-pub format_obeys : (u : ℕ) → bucket.Obeys p0 (format_version u)
+pub format_obeys : (u : ℕ) → bucket.VersionObeys p0 (format_version u)
 format_obeys u = record {
   slots = record { keys = refl; ranks = refl; used = refl };
   home = omega arith;
@@ -53,7 +53,7 @@ format_obeys u = record {
   marks = record { unshown = λ j k e. all_unused j; few = omega arith };
 }
 
-pub end_obeys : (base : ℕ) (keys : List (Option ℕ)) → length keys ≡ 2 → bucket.Obeys p0 (end_version base keys)
+pub end_obeys : (base : ℕ) (keys : List (Option ℕ)) → length keys ≡ 2 → bucket.VersionObeys p0 (end_version base keys)
 end_obeys base keys many = record {
   slots = record { keys = many; ranks = refl; used = refl };
   home = omega arith;
@@ -78,7 +78,7 @@ formatted_key (suc (suc (suc (suc (suc zero))))) j = two_none j
 formatted_key (suc (suc (suc (suc (suc (suc zero)))))) j = two_none j
 formatted_key (suc (suc (suc (suc (suc (suc (suc u))))))) j = refl
 
-pub formatted_version : (u : ℕ) → u < 7 → (bucket.Obeys p0 (version_at formatted.versions u)) × (FitsSeals (version_at formatted.versions u))
+pub formatted_version : (u : ℕ) → u < 7 → (bucket.VersionObeys p0 (version_at formatted.versions u)) × (FitsSeals (version_at formatted.versions u))
 formatted_version zero low = (format_obeys 0, record { generation = omega arith; base = omega arith })
 formatted_version (suc zero) low = (format_obeys 1, record { generation = omega arith; base = omega arith })
 formatted_version (suc (suc zero)) low = (format_obeys 2, record { generation = omega arith; base = omega arith })
@@ -128,7 +128,7 @@ ended_key (suc (suc (suc (suc (suc zero))))) j k e = absurd (none_some (slice_in
 ended_key (suc (suc (suc (suc (suc (suc zero)))))) j k e = absurd (none_some (slice_index_or (None ∷ None ∷ []) j None) k (two_none j) e)
 ended_key (suc (suc (suc (suc (suc (suc (suc u))))))) j k e = absurd (cc)
 
-ended_version : (u : ℕ) → u < 7 → (bucket.Obeys p0 (version_at ended.versions u)) × (FitsSeals (version_at ended.versions u))
+ended_version : (u : ℕ) → u < 7 → (bucket.VersionObeys p0 (version_at ended.versions u)) × (FitsSeals (version_at ended.versions u))
 ended_version zero low = (end_obeys 22 (None ∷ None ∷ []) refl, record { generation = omega arith; base = omega arith })
 ended_version (suc zero) low = (end_obeys 12 (None ∷ None ∷ []) refl, record { generation = omega arith; base = omega arith })
 ended_version (suc (suc zero)) low = (end_obeys 17 (None ∷ None ∷ []) refl, record { generation = omega arith; base = omega arith })

@@ -22,9 +22,11 @@ use Rattle.ob_taken.specs.Takes.{is_present}
 use Rattle.ob_taken.specs.Values.{Values}
 use Rattle.ob_values.specs.Carries.{Carries}
 use Rattle.ob_values.proofs.Planned.{past_none}
-use Rattle.ob_epoch.specs.Table.{place_of, row_for, flat_of}
-use Rattle.ob_epoch.specs.Valued.{IsSlotOf, IsValued, ContentsCarry, content_with, AreFilled, TablesObey}
+use Rattle.ob_epoch.specs.Table.{lying_place, row_for, flat_of}
+use Rattle.ob_epoch.specs.Valued.{IsSlotOf, IsValued, ContentsCarry, content_with, AreTablesFilled, TablesObey}
 use Rattle.ob_epoch.proofs.Reading.{holds, held, counted}
+use Rattle.ob_values.proofs.Refilling.{stash_not}
+use Rattle.ob_taken.proofs.Taking.{present_at}
 
 none_some : {X : Type 0} (o : Option X) (x : X) → o ≡ None → o ≡ Some x → ⊥
 none_some o x e f = absurd (cc)
@@ -59,9 +61,6 @@ spot_cases : (s : Spot) → (s ≡ InStash) ⊎ ((u : ℕ) × (j : ℕ) × (s �
 spot_cases InStash = inl refl
 spot_cases (In u j) = inr (u, j, refl)
 
-in_not : (s : Spot) (u j : ℕ) → s ≡ InStash → s ≡ In u j → ⊥
-in_not s u j e f = let x : InStash ≡ In u j = sym e ∙ f in absurd (cc)
-
 entry_cases : (o : Option Entry) → (o ≡ None) ⊎ ((e : Entry) × (o ≡ Some e))
 entry_cases None = inl refl
 entry_cases (Some e) = inr (e, refl)
@@ -76,10 +75,10 @@ row_some o e s is = ap (λ x. row_for x s) is
 absent_of : (p : Params) (c : Content) (k : ℕ) → Obeys p c → entry_at c.book k ≡ None → IsAbsent c k
 absent_of p c k o e = record { entry = e; row = none_of (finite.get c.rows k) (λ v f. ((o.stash k).0 (some_not (finite.get c.rows k) v f)).0 e) }
 
-loose_of : (p : Params) (c : Content) (k : ℕ) → Obeys p c → place_of p c.versions k ≡ InStash → IsLoose c.versions k
-loose_of p c k o e u j at = in_not (place_of p c.versions k) u j e (held p c k u j o at)
+loose_of : (p : Params) (c : Content) (k : ℕ) → Obeys p c → lying_place p c.versions k ≡ InStash → IsLoose c.versions k
+loose_of p c k o e u j at = stash_not (lying_place p c.versions k) u j e (held p c k u j o at)
 
-stashed_of : (p : Params) (c : Content) (k : ℕ) (e : Entry) → Obeys p c → entry_at c.book k ≡ Some e → place_of p c.versions k ≡ InStash → IsStashed p c k
+stashed_of : (p : Params) (c : Content) (k : ℕ) (e : Entry) → Obeys p c → entry_at c.book k ≡ Some e → lying_place p c.versions k ≡ InStash → IsStashed p c k
 stashed_of p c k e o is at = let s : (v : List ℕ) × (finite.get c.rows k ≡ Some v) = some_of (finite.get c.rows k) ((o.stash k).1 (some_not (entry_at c.book k) e is, loose_of p c k o at)) in record { value = s.0; row = s.1 }
 
 placed_rowless : (p : Params) (c : Content) (k u j : ℕ) → Obeys p c → key_at (version_at c.versions u) j ≡ Some k → finite.get c.rows k ≡ None
@@ -99,25 +98,25 @@ key_carried : (p : Params) (c : Content) (slots : ℕ → ℕ → List ℕ) (m :
 key_carried p c slots m k o v = elim (entry_cases (entry_at c.book k)) [
   | inl none ↦ (let a : IsAbsent c k = absent_of p c k o none in
       record {
-        keys = ap is_present (row_none (entry_at c.book k) (place_of p c.versions k) none) ∙ sym (ap is_present (v.absent k none));
+        keys = ap is_present (row_none (entry_at c.book k) (lying_place p c.versions k) none) ∙ sym (ap is_present (v.absent k none));
         short = λ value e. absurd (none_some (m k) value (v.absent k none) e);
         stash = λ e. a.row ∙ sym (v.absent k none);
       })
-  | inr some ↦ elim (spot_cases (place_of p c.versions k)) [
+  | inr some ↦ elim (spot_cases (lying_place p c.versions k)) [
     | inl out ↦ (let s : IsStashed p c k = stashed_of p c k some.0 o some.1 out in
         let is : m k ≡ Some s.value = v.rows k s.value s.row in
         record {
-          keys = ap is_present (row_some (entry_at c.book k) some.0 (place_of p c.versions k) some.1) ∙ sym (ap is_present is);
+          keys = ap is_present (row_some (entry_at c.book k) some.0 (lying_place p c.versions k) some.1) ∙ sym (ap is_present is);
           short = λ value e. o.short k value (s.row ∙ sym is ∙ e);
           stash = λ e. s.row ∙ sym is;
         })
-    | inr there ↦ (let row : (flat_of p c).rows k ≡ Some (record { leaf = (some.0).leaf; spot = place_of p c.versions k }) = row_some (entry_at c.book k) some.0 (place_of p c.versions k) some.1 in
+    | inr there ↦ (let row : (flat_of p c).rows k ≡ Some (record { leaf = (some.0).leaf; spot = lying_place p c.versions k }) = row_some (entry_at c.book k) some.0 (lying_place p c.versions k) some.1 in
         let spot : spot_of ((flat_of p c).rows k) ≡ In there.0 there.1 = ap spot_of row ∙ there.2 in
         let slot : IsSlotOf slots m there.0 there.1 k = v.slots_are there.0 there.1 k (holds p c k there.0 there.1 spot) in
         record {
           keys = ap is_present row ∙ sym (ap is_present slot.is);
           short = λ value e. (let same : slot.value ≡ value = same_value (m k) slot.value value slot.is e in subst (λ (x : List ℕ). length x ≤ 64) same slot.short);
-          stash = λ e. absurd (in_not (spot_of ((flat_of p c).rows k)) there.0 there.1 e spot);
+          stash = λ e. absurd (stash_not (spot_of ((flat_of p c).rows k)) there.0 there.1 e spot);
         })
   ]
 ]
@@ -127,7 +126,7 @@ contents_carry p c slots m o v = record {
   low = λ k e. elim (cases_lt k p.keys) [
     | inl low ↦ low
     | inr high ↦ absurd (let out : entry_at c.book k ≡ None = past_none c.book None k (omega (arith, (o.book).many)) in
-        true≢false (sym e ∙ ap is_present (row_none (entry_at c.book k) (place_of p c.versions k) out)))
+        true≢false (sym e ∙ ap is_present (row_none (entry_at c.book k) (lying_place p c.versions k) out)))
   ];
   keys = λ k. (key_carried p c slots m k o v).keys;
   short = λ k. (key_carried p c slots m k o v).short;
@@ -164,14 +163,11 @@ leaf_same None (Some x) e same is = absurd (cc)
 leaf_same (Some r) None e same is = absurd (cc)
 leaf_same (Some r) (Some x) e same is = let a : x ≡ e = cc in let b : r.leaf ≡ x.leaf = cc in b ∙ ap (λ (y : Entry). y.leaf) a
 
-spot_present : (r : Option Row) (u j : ℕ) → spot_of r ≡ In u j → is_present r ≡ true
-spot_present None u j e = absurd (cc)
-spot_present (Some r) u j e = refl
-
 two_spots : (s : Spot) (u j v i : ℕ) → s ≡ In u j → s ≡ In v i → (u ≡ v) × (j ≡ i)
 two_spots s u j v i e f = let x : In u j ≡ In v i = sym e ∙ f in ((cc), (cc))
 
-module _ (p : Params) (s : Buckets) (book : List (Option Entry)) (rows : Rows) (counter : ℕ) (t : FlatTable) (slots : ℕ → ℕ → List ℕ) (m : Values) (o : IsOrderly p t) (is : IsTableOf p (arrays_of s (rest_of book counter)) t) (c : Carries p t rows slots m) (f : AreFilled p s book rows counter t) where
+module _ (p : Params) (s : Buckets) (book : List (Option Entry)) (rows : Rows) (counter : ℕ) (t : FlatTable) (slots : ℕ → ℕ → List ℕ) (m : Values) (o : IsOrderly p t) (is : IsTableOf p (arrays_of s (rest_of book counter)) t) (c : Carries p t rows slots m)
+    (f : AreTablesFilled p s book rows counter t) where
   present_is : (k : ℕ) → is_present (t.rows k) ≡ is_present (entry_at book k)
   present_is k = same_present (t.rows k) (entry_at book k) (is.leaves_are k)
 
@@ -186,7 +182,7 @@ module _ (p : Params) (s : Buckets) (book : List (Option Entry)) (rows : Rows) (
   row_value_is k v e = sym (c.held k (row_stash k v e)) ∙ e
 
   entry_there : (u j k : ℕ) → key_at (version_at s.versions u) j ≡ Some k → (e : Entry) × (entry_at book k ≡ Some e)
-  entry_there u j k at = present_some (entry_at book k) (sym (present_is k) ∙ spot_present (t.rows k) u j ((is.spots_are k u j).1 at))
+  entry_there u j k at = present_some (entry_at book k) (sym (present_is k) ∙ present_at (t.rows k) u j ((is.spots_are k u j).1 at))
 
   few_marks : (u : ℕ) → u < buckets p → count_by (λ b. b) (version_at s.versions u).used < p.dummies
   few_marks u low =
@@ -202,7 +198,7 @@ module _ (p : Params) (s : Buckets) (book : List (Option Entry)) (rows : Rows) (
       let value : m k ≡ Some v.0 = row_value_is k v.0 v.1 in
       let here : is_present (entry_at book k) ≡ true = sym (present_is k) ∙ c.keys k ∙ some_present (m k) v.0 value in (
         (λ e. true≢false (sym here ∙ ap is_present e)),
-        (λ u j at. in_not (spot_of (t.rows k)) u j (row_stash k v.0 v.1) ((is.spots_are k u j).1 at)),
+        (λ u j at. stash_not (spot_of (t.rows k)) u j (row_stash k v.0 v.1) ((is.spots_are k u j).1 at)),
       )
 
   stash_from : (k : ℕ) → (entry_at book k ≢ None) × IsLoose s.versions k → finite.get rows k ≢ None
@@ -245,7 +241,7 @@ module _ (p : Params) (s : Buckets) (book : List (Option Entry)) (rows : Rows) (
     absent = λ k e. absent_none (m k) (sym (c.keys k) ∙ present_is k ∙ ap is_present e);
     rows = λ k value e. row_value_is k value e;
     slots_are = λ u j k at. (let spot : spot_of (t.rows k) ≡ In u j = (is.spots_are k u j).1 at in
-        let v : (x : List ℕ) × (m k ≡ Some x) = present_some (m k) (sym (c.keys k) ∙ spot_present (t.rows k) u j spot) in
+        let v : (x : List ℕ) × (m k ≡ Some x) = present_some (m k) (sym (c.keys k) ∙ present_at (t.rows k) u j spot) in
         record { value = v.0; is = v.1; spelled = c.placed k u j v.0 spot v.1; short = c.short k v.0 v.1 });
   }
 

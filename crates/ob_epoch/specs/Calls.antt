@@ -56,7 +56,7 @@ WritesAreFit = (p : Params) (writes : List Write) (words : List ℕ) (first : �
 
 -- The cells after the buckets were written: each slot of a listed bucket has what the planner gives for it, and the slots of the
 -- others have what they had.
-pub record AreWritten (new : Kept) (plain plain' : Plains) : Type 0 where
+pub record AreSlotsWritten (new : Kept) (plain plain' : Plains) : Type 0 where
   pub anew : (u s : ℕ) → is_one_of (new.metas).order u ≡ true → s < width new.p
       → plain' (slot_cell new.p (version_at (new.metas).versions u).home u s) (version_at (new.metas).versions u).generation (((version_at (new.metas).versions u).base + s) % 2 ^ 64)
       ≡ plain_for (new.stash).rows (key_of_index (version_at (new.metas).versions u) (index_with (version_at (new.metas).versions u) s))
@@ -79,5 +79,5 @@ pub record RefillsRing (old new : Kept) (words : List ℕ) (first : ℕ × ℕ) 
 -- so the rows lie where the table says, and the written ones have left the stash
 abbrev pub RingsRefill : Type 0
 RingsRefill = (old new : Kept) (words : List ℕ) (first : ℕ × ℕ) (t : FlatTable) (plain plain' : Plains)
-    → RefillsRing old new words first t → AreWritten new plain plain'
+    → RefillsRing old new words first t → AreSlotsWritten new plain plain'
     → IsRefilled t (after old.p t Refill) (old.stash).rows (without_buckets (new.stash).rows (new.metas).versions (new.metas).order) (slots_of old.p (old.metas).versions plain) (slots_of old.p (new.metas).versions plain')

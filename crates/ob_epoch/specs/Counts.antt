@@ -39,7 +39,7 @@ lifted_and_written p t ws = after p (after p t FinalLifts) (Writes ws)
 
 -- After an end the public state that the schedule tells is that of the content then: `t` is the table before the final lifts, `old` the
 -- buckets before the refill.
-pub record IsEnded (p : Params) (q : Public) (t : FlatTable) (ws : List (ℕ × Option ℕ)) (old new : Buckets) (words : List ℕ) (first : ℕ × ℕ) (c : Content) : Type 0 where
+pub record IsEndPublic (p : Params) (q : Public) (t : FlatTable) (ws : List (ℕ × Option ℕ)) (old new : Buckets) (words : List ℕ) (first : ℕ × ℕ) (c : Content) : Type 0 where
   pub orderly : IsOrderly p t
   pub counted : IsCounted p t (counts_now p q)
   pub counter : t.counter ≡ q.counter
@@ -53,7 +53,7 @@ pub record IsEnded (p : Params) (q : Public) (t : FlatTable) (ws : List (ℕ × 
 
 abbrev pub EndCounts : Type 0
 EndCounts = (p : Params) (q : Public) (t : FlatTable) (ws : List (ℕ × Option ℕ)) (old new : Buckets) (words : List ℕ) (first : ℕ × ℕ) (c : Content)
-    → IsEnded p q t ws old new words first c → after_end p q ≡ public_of c (after_end p q).epoch (after_end p q).gates
+    → IsEndPublic p q t ws old new words first c → after_end p q ≡ public_of c (after_end p q).epoch (after_end p q).gates
 
 -- the slots of a version's indexes are a ranking
 abbrev pub SlotsRank : Type 0

@@ -22,7 +22,7 @@ use Rattle.ob_epoch.specs.Valued.{IsValued, content_with}
 
 -- How a run of the planner's calls left its tables: the buckets at the epoch's beginning, before the refill and after it; the words and
 -- the first number of the refill, in this generation.
-pub record Run : Type 0 where
+pub record RefillRun : Type 0 where
   pub start : Buckets
   pub before : Buckets
   pub filled : Buckets
@@ -30,7 +30,7 @@ pub record Run : Type 0 where
   pub first : ℕ × ℕ
 
 -- The run began at this content, and its refill left these tables.
-pub record IsRunFrom (p : Params) (r : Run) (c : Content) (book : List (Option Entry)) (counter : ℕ) (bs : List Read) (ws : List (Write × Entry)) : Type 0 where
+pub record IsRunFrom (p : Params) (r : RefillRun) (c : Content) (book : List (Option Entry)) (counter : ℕ) (bs : List Read) (ws : List (Write × Entry)) : Type 0 where
   pub began : (r.start).versions ≡ c.versions
   -- until the refill each version stayed as it was sealed
   pub seals : SameSeals r.start r.before
@@ -57,7 +57,7 @@ pub record IsNext (p : Params) (c c' : Content) (slots' : Slots) (m m' : Values)
   pub homes : (u : ℕ) → is_one_of order u ≡ true → (version_at c'.versions u).home ≡ 1 - (version_at c.versions u).home
 
 abbrev pub EndsFollow : Type 0
-EndsFollow = (p : Params) (r : Run) (c : Content) (slots slots' : Slots) (m : Values) (bs : List Read) (js : List Job) (ws : List (Write × Entry)) (book : List (Option Entry)) (rows' : Rows) (counter : ℕ)
+EndsFollow = (p : Params) (r : RefillRun) (c : Content) (slots slots' : Slots) (m : Values) (bs : List Read) (js : List Job) (ws : List (Write × Entry)) (book : List (Option Entry)) (rows' : Rows) (counter : ℕ)
     → Obeys p c → IsKnown c (r.first).0 → (r.first).0 < 2 ^ 64 → IsValued c slots m
     → IsEpoch p (flat_of p c) c.rows rows' slots slots' bs js ws → IsRunFrom p r c book counter bs ws
     → IsNext p c (content_with r.filled book rows' counter) slots' m (with_writes m ws) (r.first).0 (r.before).order

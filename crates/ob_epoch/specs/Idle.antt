@@ -13,9 +13,9 @@ use Rattle.ob_values.specs.Carries.{Slots}
 use Rattle.ob_values.specs.Epochs.{before_refill}
 use Rattle.ob_values.specs.Runs.{Plains}
 use Rattle.ob_values.specs.Samples.{numbers_of}
-use Rattle.ob_epoch.specs.Calls.{AreWritten, RefillsRing}
-use Rattle.ob_epoch.specs.Counts.{IsEnded, public_of}
-use Rattle.ob_epoch.specs.Ends.{IsNext, IsRunFrom, Run}
+use Rattle.ob_epoch.specs.Calls.{AreSlotsWritten, RefillsRing}
+use Rattle.ob_epoch.specs.Counts.{IsEndPublic, public_of}
+use Rattle.ob_epoch.specs.Ends.{IsNext, IsRunFrom, RefillRun}
 use Rattle.ob_epoch.specs.Samples.{end_version, format_version, formatted}
 use Rattle.ob_epoch.specs.Table.{flat_of}
 use Rattle.ob_epoch.specs.Valued.{content_with}
@@ -31,7 +31,7 @@ idle_versions = end_version 20 (None ∷ None ∷ []) ∷ end_version 10 (None �
 abbrev pub idle_lifted : List Bool
 idle_lifted = true ∷ true ∷ true ∷ true ∷ false ∷ true ∷ false ∷ []
 
-abbrev pub idle_run : Run
+abbrev pub idle_run : RefillRun
 idle_run = record {
   start = record { versions = formatted.versions; lifted = replicate 7 false; order = idle_order };
   before = record { versions = formatted.versions; lifted = idle_lifted; order = idle_order };
@@ -57,7 +57,7 @@ pub record Idled : Type 0 where
   pub slots_then : Slots
   pub next : IsNext p formatted (content_with idle_run.filled formatted.book rows_then 2) slots_then (λ k. None) (λ k. None) 2 idle_order
   -- so it does of the public state, of the planner's refill, and of the cells that were written
-  pub public : (gates : ℕ → Bool) → IsEnded p (public_of formatted 0 gates) (flat_of p formatted) [] idle_run.before idle_run.filled idle_run.words idle_run.first
+  pub public : (gates : ℕ → Bool) → IsEndPublic p (public_of formatted 0 gates) (flat_of p formatted) [] idle_run.before idle_run.filled idle_run.words idle_run.first
       (content_with idle_run.filled formatted.book rows_then 2)
   pub ring : RefillsRing (idle_ring p idle_run.before) (idle_ring p idle_run.filled) idle_run.words idle_run.first (before_refill p (flat_of p formatted) [] [])
-  pub cells : AreWritten (idle_ring p idle_run.filled) no_rows no_rows
+  pub cells : AreSlotsWritten (idle_ring p idle_run.filled) no_rows no_rows

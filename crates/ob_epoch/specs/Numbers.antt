@@ -20,14 +20,14 @@ pub record IsKnown (c : Content) (g : ℕ) : Type 0 where
   pub seals : (u : ℕ) → (version_at c.versions u).generation ≤ g
 
 -- an entry that this generation gives
-pub record IsOwn (p : Params) (g : ℕ) (e : Entry) : Type 0 where
+pub record IsOwnEntry (p : Params) (g : ℕ) (e : Entry) : Type 0 where
   pub under : e.generation ≡ g
   pub index : e.index < 2 ^ 64
   pub leaf : e.leaf < 2 ^ p.levels
 
 -- each entry is the key's of before, or this generation's
 abbrev pub RenewsBook : Params → ℕ → List (Option Entry) → List (Option Entry) → Type 0
-RenewsBook p g old new = (k : ℕ) (e : Entry) → entry_at new k ≡ Some e → (entry_at old k ≡ Some e) ⊎ IsOwn p g e
+RenewsBook p g old new = (k : ℕ) (e : Entry) → entry_at new k ≡ Some e → (entry_at old k ≡ Some e) ⊎ IsOwnEntry p g e
 
 pub record IsSealedAs (old new : Version) : Type 0 where
   pub generation : new.generation ≡ old.generation

@@ -31,8 +31,8 @@ spot_among versions k None = InStash
 spot_among versions k (Some u) = spot_in u (live_index (version_at versions u) k)
 
 -- where a key lies: in the first bucket that holds it, else in the stash
-abbrev pub place_of : Params → List Version → ℕ → Spot
-place_of p versions k = spot_among versions k (find (λ u. is_present (live_index (version_at versions u) k)) (below (buckets p)))
+abbrev pub lying_place : Params → List Version → ℕ → Spot
+lying_place p versions k = spot_among versions k (find (λ u. is_present (live_index (version_at versions u) k)) (below (buckets p)))
 
 abbrev pub row_for : Option Entry → Spot → Option Row
 row_for None spot = None
@@ -40,19 +40,19 @@ row_for (Some e) spot = Some (record { leaf = e.leaf; spot = spot })
 
 abbrev pub flat_of : Params → Content → FlatTable
 flat_of p c = record {
-  rows = λ k. row_for (entry_at c.book k) (place_of p c.versions k);
+  rows = λ k. row_for (entry_at c.book k) (lying_place p c.versions k);
   used = λ u j. used_at (version_at c.versions u) j;
   lifted = λ u. false;
   counter = c.counter;
 }
 
 -- content that obeys stands for an orderly table, that of the arrays that an opening makes of it
-pub record IsRead (p : Params) (c : Content) : Type 0 where
+pub record IsTableOfContent (p : Params) (c : Content) : Type 0 where
   pub orderly : IsOrderly p (flat_of p c)
   pub arrays : IsTableOf p (arrays_of (buckets_of p c) (rest_of c.book c.counter)) (flat_of p c)
 
 abbrev pub TablesAreRead : Type 0
-TablesAreRead = (p : Params) (c : Content) → Obeys p c → IsRead p c
+TablesAreRead = (p : Params) (c : Content) → Obeys p c → IsTableOfContent p c
 
 -- ---- the ring of these tables
 

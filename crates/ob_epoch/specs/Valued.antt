@@ -43,7 +43,7 @@ abbrev pub content_with : Buckets → List (Option Entry) → Rows → ℕ → C
 content_with s book rows counter = record { counter = counter; book = book; versions = s.versions; rows = rows }
 
 -- the tables are those of the parameters with numbers in range, no bucket is lifted, and the stash isn't too full
-pub record AreFilled (p : Params) (s : Buckets) (book : List (Option Entry)) (rows : Rows) (counter : ℕ) (t : FlatTable) : Type 0 where
+pub record AreTablesFilled (p : Params) (s : Buckets) (book : List (Option Entry)) (rows : Rows) (counter : ℕ) (t : FlatTable) : Type 0 where
   pub book_fits : FitsBook p book
   pub whole : AreWhole p s
   pub versions : (u : ℕ) → u < buckets p → IsWhole (version_at s.versions u)
@@ -59,7 +59,7 @@ pub record IsEnd (p : Params) (c : Content) (slots : Slots) (m : Values) : Type 
 
 abbrev pub TablesObey : Type 0
 TablesObey = (p : Params) (s : Buckets) (book : List (Option Entry)) (rows : Rows) (counter : ℕ) (t : FlatTable) (slots : Slots) (m : Values)
-    → IsOrderly p t → IsTableOf p (arrays_of s (rest_of book counter)) t → Carries p t rows slots m → AreFilled p s book rows counter t
+    → IsOrderly p t → IsTableOf p (arrays_of s (rest_of book counter)) t → Carries p t rows slots m → AreTablesFilled p s book rows counter t
     → IsEnd p (content_with s book rows counter) slots m
 
 -- From content that obeys, and a map: the tables after an epoch are again content that obeys, with the map's values after the epoch's
@@ -68,5 +68,5 @@ abbrev pub ContentsFollow : Type 0
 ContentsFollow = (p : Params) (c : Content) (slots slots' : Slots) (m : Values) (bs : List Read) (js : List Job) (ws : List (Write × Entry)) (s : Buckets) (book : List (Option Entry)) (rows' : Rows) (counter : ℕ)
     → Obeys p c → IsValued c slots m → IsEpoch p (flat_of p c) c.rows rows' slots slots' bs js ws
     → IsTableOf p (arrays_of s (rest_of book counter)) (after_epoch p (flat_of p c) bs ws)
-    → AreFilled p s book rows' counter (after_epoch p (flat_of p c) bs ws)
+    → AreTablesFilled p s book rows' counter (after_epoch p (flat_of p c) bs ws)
     → IsEnd p (content_with s book rows' counter) slots' (with_writes m ws)

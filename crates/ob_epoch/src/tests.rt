@@ -1,3 +1,5 @@
+//! Each law is called once.
+
 use crate::{
     calls_join, contents_carry, contents_follow, end_counts, ends_follow, idled, opening_counts,
     plans_are_read, refill_plans, renewed_fit, rings_refill, rings_stand, sampled, slots_rank,

@@ -1,3 +1,5 @@
+//! A store's file: opened, its kind tested, locked.
+
 use ob_base::Failed;
 use std::fs::{self, File, Metadata, OpenOptions};
 use std::io;

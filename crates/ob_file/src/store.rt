@@ -1,6 +1,8 @@
+//! A file as a store.
+
 ghost use Rattle.std.specs.Prelude.{◌≡◌, ◌≤◌, IfOk, None};
 ghost use Rattle.ob_store.specs.Disk.{silent};
-ghost use Rattle.ob_file.specs.Counts.{Counts, with_more};
+ghost use Rattle.ob_file.specs.Counts.{CountsFault, with_more};
 
 use crate::cell::{read_cell, sync_file, write_cell};
 use crate::opening::{Node, open_cells};
@@ -81,7 +83,7 @@ impl<R: Files<File = File>> FileStore<R> {
 // Counts a failure.
 fn count(faults: &mut u64, outcome: Result<(), Failed>) -> Result<(), Failed>
     ensures same { result ≡ outcome }
-    ensures counts { Counts faults.old faults.new result }
+    ensures counts { CountsFault faults.old faults.new result }
 {
     if outcome.is_err() {
         *faults = faults.saturating_add(1);
@@ -105,7 +107,7 @@ impl<R: Files<File = File> + Sync> Store for FileStore<R> {
     ghost includes_reads = { λ _ tells leaves. absurd leaves };
 
     fn lane(&mut self) -> Result<FileLane, Failed>
-        ensures counts { Counts self.old.faults self.new.faults result }
+        ensures counts { CountsFault self.old.faults self.new.faults result }
         ensures fresh { IfOk result (λ lane. lane.faults ≡ 0) }
     {
         let Ok(file) = self.opened_again() else {
@@ -116,7 +118,7 @@ impl<R: Files<File = File> + Sync> Store for FileStore<R> {
     }
 
     fn read(&self, lane: &mut FileLane, cell: u64, out: &mut [u8; 128]) -> Result<(), Failed>
-        ensures counts { Counts lane.old.faults lane.new.faults result }
+        ensures counts { CountsFault lane.old.faults lane.new.faults result }
     {
         count(&mut lane.faults, read_cell(&lane.file, cell, out))
     }
@@ -129,13 +131,13 @@ impl<R: Files<File = File> + Sync> Store for FileStore<R> {
     }
 
     fn write(&mut self, cell: u64, bytes: &[u8; 128]) -> Result<(), Failed>
-        ensures counts { Counts self.old.faults self.new.faults result }
+        ensures counts { CountsFault self.old.faults self.new.faults result }
     {
         count(&mut self.faults, write_cell(&self.file, cell, bytes))
     }
 
     fn sync(&mut self) -> Result<(), Failed>
-        ensures counts { Counts self.old.faults self.new.faults result }
+        ensures counts { CountsFault self.old.faults self.new.faults result }
     {
         count(&mut self.faults, sync_file(&self.file))
     }

@@ -1,3 +1,5 @@
+//! Stores in files of a folder of the tests' own.
+
 use crate::{FileStore, OpenErr, open_locked};
 use ob_store::Store;
 use std::process::Abort;

@@ -13,7 +13,7 @@ use Rattle.ob_twin.specs.Register.{KeepsAt, OldOrNew}
 use Rattle.ob_serial.specs.Vaults.{Standing}
 use Rattle.ob_flat_rows.specs.Rows.{IsRow, AreRows}
 use Rattle.ob_flat.specs.Places.{area_of}
-use Rattle.ob_flat.specs.Standing.{HasRows, StandsFlat}
+use Rattle.ob_flat.specs.Standing.{HasSealedRows, StandsFlat}
 use Rattle.ob_flat.specs.Ends.{EndsFrom, StandsAtOne}
 use Rattle.ob_flat.proofs.Moved.{stands_moved, stands_same, epoch_set}
 
@@ -49,7 +49,7 @@ module _ (keys : Keys) (p : Params) (g : ℕ) (old : Disk) (epoch : ℕ) (values
       (λ c was. was)
 
   -- the rows that were written are those of the next map
-  rows_next : (d : Image) → AreRows keys (area_of (length values) epoch) d values → HasRows keys (area_of p.keys next.epoch) p.keys d next.content
+  rows_next : (d : Image) → AreRows keys (area_of (length values) epoch) d values → HasSealedRows keys (area_of p.keys next.epoch) p.keys d next.content
   rows_next d rows = record { generation = rows.0; first = rows.1; each = row }
     where
       row : (key : ℕ) → key < p.keys → IsRow keys (area_of p.keys next.epoch + key) rows.0 (onward rows.1 key) (d (area_of p.keys next.epoch + key)) (finite.get next.content key)

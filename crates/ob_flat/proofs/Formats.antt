@@ -7,7 +7,7 @@ use Rattle.ob_base.specs.declared.params.Params.{Params}
 use Rattle.ob_store.specs.Calls.{Holds}
 use Rattle.ob_store.specs.Disk.{Disk, Image}
 use Rattle.ob_store.specs.Images.{SameBut, SameOff, Passes, LeavesOnly}
-use Rattle.ob_store.proofs.Moments.{then_on, weakened}
+use Rattle.ob_store.proofs.Moments.{then_on, weakened, passes_so}
 use Rattle.ob_seal.specs.declared.keys.Keys.{Keys}
 use Rattle.ob_seal.specs.Pieces.{onward}
 use Rattle.ob_twin.specs.Keyed.{tagging}
@@ -16,9 +16,8 @@ use Rattle.ob_twin.proofs.Frames.{register_moved}
 use Rattle.ob_flat_rows.specs.Rows.{IsRow, AreRows, row_cells}
 use Rattle.ob_start.specs.Laying.{SameHead, HasNoHead, IsTornHead}
 use Rattle.ob_start.proofs.Spelling.{head_is}
-use Rattle.ob_start.proofs.Clearing.{passes_so}
 use Rattle.ob_flat.specs.Places.{area_of}
-use Rattle.ob_flat.specs.Heads.{version, head_cell, IsHead}
+use Rattle.ob_flat.specs.Heads.{flat_version, head_cell, IsHead}
 use Rattle.ob_flat.specs.Formats.{IsLaid, FormatLeaves}
 use Rattle.ob_flat.specs.Standing.{StandsFlat}
 
@@ -26,7 +25,7 @@ use Rattle.ob_flat.specs.Standing.{StandsFlat}
 pub formatted : (keys : Keys) (p : Params) (a b c : Image) → StandsAt (tagging keys) 1 a 1 → ((k : ℕ) → k < 5 → b k ≡ a k) → StandsAt (tagging keys) 5 b 0 → AreRows keys 9 b (replicate p.keys None) → SameBut 0 c b → c 0 ≡ head_cell keys p
     → StandsFlat keys p 1 c (record { epoch = 0; content = finite.empty })
 formatted keys p a b c generation low epoch rows same head = record {
-  head = subst (λ (l : List ℕ). IsHead keys p l) (sym head) (head_is keys version p);
+  head = subst (λ (l : List ℕ). IsHead keys p l) (sym head) (head_is keys flat_version p);
   begun = register_moved (tagging keys) 1 1 c a (λ k from to. same k (omega arith) ∙ low k (omega arith)) generation;
   epoch = register_moved (tagging keys) 5 0 c b (λ k from to. same k (omega arith)) epoch;
   rows = record { generation = rows.0; first = rows.1; each = row };

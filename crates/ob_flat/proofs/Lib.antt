@@ -1,5 +1,6 @@
 pub mod Moved
 pub mod Areas
+pub mod Frames
 pub mod Maps
 pub mod Refusals
 pub mod Soundness

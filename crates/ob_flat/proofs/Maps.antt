@@ -9,8 +9,9 @@ use Rattle.std.specs.Cmp.{nat_cmp_total}
 use Rattle.std.specs.FinMap.{find, from_entries, get-from_entries, get, get-insert, get-remove, get-empty, empty}
 use Rattle.ob_base.specs.declared.value.Write.{Write}
 use Rattle.ob_base.specs.declared.op.Op.{Op}
-use Rattle.ob_serial.specs.Serial.{Map, after, after_op}
-use Rattle.ob_serial.specs.Vaults.{write_op, with_writes}
+use Rattle.ob_serial.specs.Serial.{Map, after_ops, after_op}
+use Rattle.ob_base.specs.Writes.{pair_of, write_op}
+use Rattle.ob_serial.specs.Vaults.{with_writes}
 use Rattle.ob_serial.specs.VaultViews.{writes_of}
 use Rattle.ob_serial.proofs.Runs.{after-append}
 use Rattle.ob_flat.specs.Standing.{IsMapOf}
@@ -22,12 +23,12 @@ differs : (k x : ℕ) → k ≢ x → eq_by_cmp nat_cmp k x ≡ false
 differs k x h = grind (arith, nat_tests)
 
 -- what a key has after one write
-get_op : (m : Map nat_cmp) (key q : ℕ) (value : Option (List ℕ)) → get (after_op nat_cmp m (write_op (key, value))) q ≡ cond (eq_by_cmp nat_cmp q key) value (get m q)
+get_op : (m : Map nat_cmp) (key q : ℕ) (value : Option (List ℕ)) → get (after_op nat_cmp m (write_op key value)) q ≡ cond (eq_by_cmp nat_cmp q key) value (get m q)
 get_op m key q None = get-remove nat_cmp_total m key q
 get_op m key q (Some v) = get-insert nat_cmp_total m key v q
 
 -- one write
-pub write_one : (values : List (Option (List ℕ))) (m : Map nat_cmp) (key : ℕ) (value : Option (List ℕ)) → key < length values → IsMapOf values m → IsMapOf (slice_set values key value) (after_op nat_cmp m (write_op (key, value)))
+pub write_one : (values : List (Option (List ℕ))) (m : Map nat_cmp) (key : ℕ) (value : Option (List ℕ)) → key < length values → IsMapOf values m → IsMapOf (slice_set values key value) (after_op nat_cmp m (write_op key value))
 write_one values m key value lt of = record {
   below = λ q low. ⊎_elim
       (λ (same : q ≡ key). get_op m key q value ∙ rw (same, ties key) (sym (get_or-set_same values key value None lt)))
@@ -40,13 +41,13 @@ write_one values m key value lt of = record {
 }
 
 -- the writes so far, and the next one
-pub writes_next : (m : Map nat_cmp) (writes : List Write) (i : ℕ) (w : Write) → i < length writes → get_or writes i w ≡ w → with_writes m (writes_of (take (i + 1) writes)) ≡ after_op nat_cmp (with_writes m (writes_of (take i writes))) (write_op (w.key, w.value))
+pub writes_next : (m : Map nat_cmp) (writes : List Write) (i : ℕ) (w : Write) → i < length writes → get_or writes i w ≡ w → with_writes m (writes_of (take (i + 1) writes)) ≡ after_op nat_cmp (with_writes m (writes_of (take i writes))) (write_op w.key w.value)
 writes_next m writes i w lt is =
-    let view : Write → ℕ × Option (List ℕ) = λ x. (x.key, x.value) in
-    let front = map view (take i writes) in
-    ap (λ (l : List (ℕ × Option (List ℕ))). with_writes m l) (map_more view writes i w lt ∙ ap (λ (x : Write). front ++ view x ∷ []) is)
-    ∙ ap (λ (l : List (Op ℕ)). after nat_cmp m l) (map-append (λ x. write_op x) front (view w ∷ []))
-    ∙ after-append nat_cmp m (map (λ x. write_op x) front) (write_op (view w) ∷ [])
+    let front = map pair_of (take i writes) in
+    let op : ℕ × Option (List ℕ) → Op ℕ = λ x. write_op x.0 x.1 in
+    ap (λ (l : List (ℕ × Option (List ℕ))). with_writes m l) (map_more pair_of writes i w lt ∙ ap (λ (x : Write). front ++ pair_of x ∷ []) is)
+    ∙ ap (λ (l : List (Op ℕ)). after_ops nat_cmp m l) (map-append op front (pair_of w ∷ []))
+    ∙ after-append nat_cmp m (map op front) (op (pair_of w) ∷ [])
 
 -- one write more
 pub write_more : (old now : List (Option (List ℕ))) (writes : List Write) (i : ℕ) (w : Write) → i < length writes → get_or writes i w ≡ w → w.key < length now

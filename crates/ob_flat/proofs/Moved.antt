@@ -17,14 +17,14 @@ use Rattle.ob_flat_rows.specs.Rows.{IsRow, AreRows, AreShort, row_cells}
 use Rattle.ob_flat_rows.proofs.Cells.{rows_are}
 use Rattle.ob_flat.specs.Places.{area_of}
 use Rattle.ob_flat.specs.Heads.{IsHead}
-use Rattle.ob_flat.specs.Standing.{HasRows, StandsFlat}
+use Rattle.ob_flat.specs.Standing.{HasSealedRows, StandsFlat}
 
 -- rows lie behind the registers
 pub row_high : (n epoch key : ℕ) → 9 ≤ area_of n epoch + key
 row_high n epoch key = omega arith
 
 -- the rows are the same cells
-pub rows_moved : (keys : Keys) (base n : ℕ) (c d : Image) (content : Map nat_cmp) → ((key : ℕ) → key < n → c (base + key) ≡ d (base + key)) → HasRows keys base n d content → HasRows keys base n c content
+pub rows_moved : (keys : Keys) (base n : ℕ) (c d : Image) (content : Map nat_cmp) → ((key : ℕ) → key < n → c (base + key) ≡ d (base + key)) → HasSealedRows keys base n d content → HasSealedRows keys base n c content
 rows_moved keys base n c d content same rows = record {
   generation = rows.generation;
   first = rows.first;
@@ -61,7 +61,7 @@ generation_set keys p at g n c d kept stands = record {
 
 -- a set of the epoch makes the image stand for that epoch, with the map of its rows
 pub epoch_set : (keys : Keys) (p : Params) (g : ℕ) (now next : Standing) (c d : Image) → KeepsAt (tagging keys) 5 d next.epoch c → StandsFlat keys p g d now
-    → HasRows keys (area_of p.keys next.epoch) p.keys d next.content
+    → HasSealedRows keys (area_of p.keys next.epoch) p.keys d next.content
     → ((key : ℕ) → p.keys ≤ key → finite.get next.content key ≡ None) → StandsFlat keys p g c next
 epoch_set keys p g now next c d kept stands rows no_more = record {
   head = subst (λ (l : List ℕ). IsHead keys p l) (sym (kept.rest 0 (inl (omega arith)))) stands.head;

@@ -12,12 +12,13 @@ use Rattle.ob_store.proofs.Moments.{started, then_on, weakened, leaves_of, passe
 use Rattle.ob_store.proofs.Events.{none_noted}
 use Rattle.ob_seal.specs.declared.keys.Keys.{Keys}
 use Rattle.ob_twin.specs.Keyed.{tagging}
-use Rattle.ob_twin.specs.Register.{OldOrNew}
+use Rattle.ob_twin.specs.Register.{StandsAt, OldOrNew}
 use Rattle.ob_store.proofs.Lanes.{first_none}
 use Rattle.ob_serial.specs.Vaults.{Standing}
 use Rattle.ob_start.specs.Beginning.{BeginsFrom, BeginLeaves, IsBeginFault, IsWornFault}
 use Rattle.ob_flat.specs.Orders.{found_notes}
-use Rattle.ob_flat.specs.Openings.{OpensFrom, ReadsAlone}
+use Rattle.ob_flat.specs.declared.opening.Opening.{Opening}
+use Rattle.ob_flat.specs.Openings.{OpensFrom, BeginsNext, ReadsAlone}
 use Rattle.ob_flat.specs.Standing.{StandsFlat, Stands, AllStand, StandsAsBefore}
 use Rattle.ob_flat.proofs.Moved.{stands_same, generation_set}
 
@@ -91,6 +92,35 @@ module _ {S : Type 0} (disk : S → Disk) (keys : Keys) (p : Params) (at : Stand
 
 pub keeps_both : (a b c : Disk) → Keeps a b → Keeps b c → Keeps a c
 keeps_both a b c first second = record { tells = λ t. second.tells (first.tells t); cells = λ t k. second.cells (first.tells t) k ∙ first.cells t k }
+
+-- a generation that is begun behind reads, by its register alone
+module _ {S : Type 0} (disk : S → Disk) (keys : Keys) (g : ℕ) (old mid new : S) (passes : Passes Same (disk old) (disk mid)) (keeps : Keeps (disk old) (disk mid))
+    (number : (h : ℕ) → (disk old).tells → StandsAt (tagging keys) 1 (disk old).cells h → g ≡ h) where
+  register_kept : (h : ℕ) → (disk old).tells → StandsAt (tagging keys) 1 (disk old).cells h → StandsAt (tagging keys) 1 (disk mid).cells h
+  register_kept h tells stands = subst (λ (i : Image). StandsAt (tagging keys) 1 i h) (sym (fun_ext (λ k. keeps.cells tells k))) stands
+
+  pub begins_behind : BeginsFrom disk keys g mid new → BeginsFrom disk keys g old new
+  begins_behind b = record {
+    synced = b.synced;
+    until = reads_both (disk old) (disk mid) (disk b.synced) passes b.until;
+    keeps = keeps_both (disk old) (disk mid) (disk b.synced) keeps b.keeps;
+    settled = λ tells. b.settled (keeps.tells tells);
+    since = λ tells stands. b.since (keeps.tells tells) (register_kept g tells stands);
+  }
+
+  pub begins_or_not : Passes Same (disk mid) (disk new) ⊎ BeginsFrom disk keys g mid new
+      → Passes Same (disk old) (disk new) ⊎ ((h : ℕ) → (disk old).tells → StandsAt (tagging keys) 1 (disk old).cells h → BeginsFrom disk keys h old new)
+  begins_or_not leaves = ⊎_elim
+      (λ still. inl (reads_both (disk old) (disk mid) (disk new) passes still))
+      (λ begun. inr (λ h tells stands. subst (λ n. BeginsFrom disk keys n old new) (number h tells stands) (begins_behind begun)))
+      leaves
+
+  pub begins_next : (opening : Opening) → opening.sealer.generation ≡ suc g → ((disk mid).tells → StandsAt (tagging keys) 1 (disk mid).cells g → StandsAt (tagging keys) 1 (disk new).cells (suc g))
+      → BeginsFrom disk keys g mid new → (h : ℕ) → (disk old).tells → StandsAt (tagging keys) 1 (disk old).cells h → BeginsNext disk keys h old new opening
+  begins_next opening next stands begun h tells at =
+      let same = number h tells at in
+      let here = subst (λ n. StandsAt (tagging keys) 1 (disk old).cells n) (sym same) at in
+      subst (λ n. BeginsNext disk keys n old new opening) same (record { next = next; stands = stands (keeps.tells tells) (register_kept g tells here); leaves = begins_behind begun })
 
 -- from the first sync of an opening on, where a generation is begun behind reads
 module _ {S : Type 0} (disk : S → Disk) (keys : Keys) (p : Params) (g : ℕ) (old mid new : S) (passes : Passes Same (disk old) (disk mid)) (keeps : Keeps (disk old) (disk mid))

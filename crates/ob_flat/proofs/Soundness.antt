@@ -3,7 +3,7 @@ use Rattle.std.proofs.Common.{◌≡◌, inl, inr, ℕ, suc, Bool, true, false, 
 use Rattle.std.specs.Borrow.{GName}
 use Rattle.ob_base.specs.declared.params.Params.{Params}
 use Rattle.ob_store.specs.Disk.{Disk, Image, Clock, NotAfter}
-use Rattle.ob_store.specs.Images.{Settled, LeavesOnly}
+use Rattle.ob_store.specs.Images.{IsSynced, LeavesOnly}
 use Rattle.ob_store.proofs.Moments.{started, weakened}
 use Rattle.std.specs.Ordering.{nat_cmp}
 use Rattle.ob_seal.specs.declared.keys.Keys.{Keys}
@@ -19,14 +19,11 @@ use Rattle.ob_flat.specs.Openings.{IsOpenedAt}
 use Rattle.ob_flat.specs.Ends.{EndsFrom, EndsIn, StandsAtOne}
 use Rattle.ob_flat.specs.Calls.{FlatServes, FlatSound, lent, opened_at}
 use Rattle.ob_flat.proofs.Moved.{stands_same}
+use Rattle.ob_twin.proofs.Moves.{at_the_end}
 
 -- a reference more changes nothing of what crashes leave
 pub lent_leaves : (name other : GName) (old new : Disk) (P : Image → Type 0) → LeavesOnly old new P → LeavesOnly (lent name old) (lent other new) P
 lent_leaves name other old new P run = record { later = run.later; each = run.each; before = run.before }
-
--- what crashes leave at the end of a run
-at_the_end : (old new : Disk) (P : Image → Type 0) → ((t : Clock) (c : Image) → NotAfter t new.moment → new.may_leave c → new.left_since t c) → LeavesOnly old new P → (c : Image) → new.may_leave c → P c
-at_the_end old new P counts run c left = run.each c (counts old.moment c run.later left)
 
 counts_of_parts : (v : VaultState) (counts : VaultCounts) → counts_of v ≡ counts → (v.epoch ≡ counts.epoch) × (v.left ≡ counts.left) × (v.spent ≡ counts.spent)
 counts_of_parts v counts is = (ap (λ (k : VaultCounts). k.epoch) is, ap (λ (k : VaultCounts). k.left) is, ap (λ (k : VaultCounts). k.spent) is)
@@ -114,7 +111,7 @@ pub fetch_in : (keys : Keys) (p : Params) (g : ℕ) (counts : VaultCounts) (valu
 fetch_in keys p g counts values old v asks sound only = started old (StandsIn (StandsFlat keys p g) (MayStandIn v (Fetch asks))) (λ c left. sound.images c (only c left))
 
 -- a vault over a store that was opened
-pub opened_sound : (keys : Keys) (p : Params) (at : Standing) (opening : Opening) (d : Disk) → d.tells → Settled d → IsOpenedAt keys p at opening d
+pub opened_sound : (keys : Keys) (p : Params) (at : Standing) (opening : Opening) (d : Disk) → d.tells → IsSynced d → IsOpenedAt keys p at opening d
     → FlatSound keys p opening.sealer.generation (record { epoch = opening.epoch; left = p.batches; spent = false }) opening.values.items d (opened_at p at)
 opened_sound keys p at opening d tells settled opened = record {
   holds = record { counts_are = counts_made (sym opened.epoch) refl refl; batches = refl; content = opened.content };

@@ -1,13 +1,13 @@
 -- What a plain vault holds, and what its calls do to its store.
-use Rattle.std.specs.Prelude.{◌≡◌, ◌⊎◌, ◌+◌, ◌≤◌, ◌<◌, ◌^◌, ℕ, suc, false, List, [], ◌∷◌, Option, Some, None}
+use Rattle.std.specs.Prelude.{◌≡◌, ◌⊎◌, ◌+◌, ◌≤◌, ◌<◌, ◌^◌, ℕ, suc, false, List, [], ◌∷◌, length, Option, Some, None}
 use Rattle.std.specs.Borrow.{GName}
 use Rattle.ob_base.specs.declared.params.Params.{Params}
 use Rattle.ob_base.specs.declared.fault.Fault.{Fault}
 use Rattle.ob_base.specs.declared.fault.Fault.TheVariants.{StoreFault, Worn}
 use Rattle.ob_store.specs.declared.watch.Note.{Note}
 use Rattle.ob_store.specs.Disk.{Disk, Image}
-use Rattle.ob_store.specs.Images.{Settled}
-use Rattle.ob_store.specs.Calls.{Holds, Notes}
+use Rattle.ob_store.specs.Images.{IsSynced, Passes}
+use Rattle.ob_store.specs.Calls.{GoesOn, Holds, Notes}
 use Rattle.ob_store.specs.Told.{events_of, IsCut}
 use Rattle.ob_seal.specs.declared.keys.Keys.{Keys}
 use Rattle.ob_seal.specs.Sealing.{Sealing}
@@ -34,7 +34,7 @@ pub record FlatHolds (p : Params) (counts : VaultCounts) (values : List (Option 
 -- While it serves, no write waits for a sync, no end is in doubt, and the store stands for what it holds, at its generation.
 pub record FlatServes (keys : Keys) (p : Params) (g : ℕ) (disk : Disk) (v : VaultState) : Type 0 where
   pub tells : disk.tells
-  pub settled : Settled disk
+  pub settled : IsSynced disk
   pub no_doubt : v.doubt ≡ None
   pub stands : StandsFlat keys p g disk.cells (standing_now v)
 
@@ -49,16 +49,17 @@ abbrev pub opened_at : Params → Standing → VaultState
 opened_at p at = record { batches = p.batches; epoch = at.epoch; content = at.content; left = p.batches; spent = false; doubt = None }
 
 -- The end of an epoch did all of it: it sealed a row for each key, under the next seals.
-pub record IsEnded (n : ℕ) (known : Open) (epoch : ℕ) (values : List (Option (List ℕ))) (sealing sealed : Sealing) (old new : Disk) (notes : List Note) : Type 0 where
+pub record IsEndDone (n : ℕ) (known : Open) (epoch : ℕ) (values : List (Option (List ℕ))) (sealing sealed : Sealing) (old new : Disk) (notes : List Note) : Type 0 where
   pub small : suc epoch < 2 ^ 62
   pub room : sealing.next + n ≤ 2 ^ 62
+  pub whole : length values ≡ n
   pub written : old.tells → Holds (area_of n (suc epoch)) (row_cells sealing.keys (area_of n (suc epoch)) sealing.generation sealing.next values) new.cells
   pub seals : sealed ≡ record sealing { next = sealing.next + n }
   pub seen : Notes (end_events n known (suc epoch)) old.seen new.seen
   pub shown : notes ≡ end_notes n known (suc epoch)
 
 -- It was refused before the write that opens its gate: it did the first of what comes before that write.
-pub record IsCutShort (n : ℕ) (known : Open) (epoch : ℕ) (sealing sealed : Sealing) (old new : Disk) (notes : List Note) : Type 0 where
+pub record IsEndCutShort (n : ℕ) (known : Open) (epoch : ℕ) (sealing sealed : Sealing) (old new : Disk) (notes : List Note) : Type 0 where
   pub small : suc epoch < 2 ^ 62
   pub room : sealing.next + n ≤ 2 ^ 62
   pub seals : IsFurther n sealing sealed
@@ -73,6 +74,11 @@ pub record IsInDoubt (n : ℕ) (known : Open) (epoch : ℕ) (sealing sealed : Se
   pub seals : IsFurther n sealing sealed
   pub shown : notes ≡ end_gate_notes n known (suc epoch)
   pub seen : Notes (events_of (end_gate_notes n known (suc epoch))) old.seen new.seen ⊎ Notes (end_events n known (suc epoch)) old.seen new.seen
+  -- the rows are written all the same, under as many seals
+  pub rows : List (Option (List ℕ))
+  pub whole : length rows ≡ n
+  pub written : old.tells → Holds (area_of n (suc epoch)) (row_cells sealing.keys (area_of n (suc epoch)) sealing.generation sealing.next rows) new.cells
+  pub all_sealed : sealed ≡ record sealing { next = sealing.next + n }
 
 -- nothing, since there is no next epoch, or not a seal left for each key
 pub record IsWorn {S : Type 0} (n epoch : ℕ) (sealing sealed : Sealing) (before after : S) (notes : List Note) : Type 0 where
@@ -88,7 +94,7 @@ pub record Holding (S : Type 0) : Type 0 where
 
 -- A refused end did the first of what comes before its gate, or nothing.
 abbrev pub RefusedDoes : {S : Type 0} → ℕ → Open → ℕ → Holding S → Holding S → Disk → Disk → List Note → Fault → Type 0
-RefusedDoes n known epoch before after old new notes (StoreFault unsure) = (unsure ≡ None) × IsCutShort n known epoch before.sealing after.sealing old new notes
+RefusedDoes n known epoch before after old new notes (StoreFault unsure) = (unsure ≡ None) × IsEndCutShort n known epoch before.sealing after.sealing old new notes
 RefusedDoes n known epoch before after old new notes (Worn number) = (number ≡ 2 ^ 62) × IsWorn n epoch before.sealing after.sealing before.store after.store notes
 RefusedDoes n known epoch before after old new notes _ = ⊥
 
@@ -96,7 +102,7 @@ RefusedDoes n known epoch before after old new notes _ = ⊥
 -- has these values.
 module _ {S : Type 0} (p : Params) (known : Open) (epoch : ℕ) (values : List (Option (List ℕ))) (before after : Holding S) (old new : Disk) (notes : List Note) where
   abbrev pub EndDoes : VaultAnswer → Type 0
-  EndDoes Ended = IsEnded p.keys known epoch values before.sealing after.sealing old new notes
+  EndDoes Ended = IsEndDone p.keys known epoch values before.sealing after.sealing old new notes
   EndDoes (RefusedBy fault) = RefusedDoes p.keys known epoch before after old new notes fault
   EndDoes (DoubtBy fault) = (fault ≡ StoreFault (Some (suc epoch))) × IsInDoubt p.keys known epoch before.sealing after.sealing old new notes
   EndDoes _ = ⊥
@@ -116,8 +122,17 @@ abbrev pub KnowsNext : Open → ℕ → VaultAnswer → Open → ℕ → Type 0
 KnowsNext known epoch Ended known_new epoch_new = (known_new ≡ with_mark known (place_of (suc epoch))) × (epoch_new ≡ suc epoch)
 KnowsNext known epoch _ known_new epoch_new = (known_new ≡ known) × (epoch_new ≡ epoch)
 
+-- The two images differ at most in the register of epochs and in the rows of an epoch's area: not in the head, nor in the register of
+-- generations, nor in another row.
+abbrev pub SameOffEpoch : ℕ → ℕ → Image → Image → Type 0
+SameOffEpoch n epoch a b = (k : ℕ) → (k < 5) ⊎ ((9 ≤ k) × ((k < area_of n epoch) ⊎ (area_of n epoch + n ≤ k))) → a k ≡ b k
+
 -- What a call does to the store, and what the vault knows then, whose parameters stay.
 pub record FlatCalled {S : Type 0} (p : Params) (known : Open) (epoch : ℕ) (values : List (Option (List ℕ))) (before after : Holding S) (old new : Disk) (notes : List Note) (call : VaultCall) (answer : VaultAnswer) (p_new : Params) (known_new : Open) (epoch_new : ℕ) : Type 0 where
   pub params : p_new ≡ p
   pub does : CallDoes p known epoch values before after old new notes call answer
   pub knows : KnowsNext known epoch answer known_new epoch_new
+  pub goes : GoesOn old new
+  -- whatever it answers, no other cell changes, and a crash at any moment leaves no other one changed
+  pub rest : old.tells → SameOffEpoch p.keys (suc epoch) new.cells old.cells
+  pub passes : Passes (SameOffEpoch p.keys (suc epoch)) old new

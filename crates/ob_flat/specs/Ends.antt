@@ -1,8 +1,8 @@
--- What the end of an epoch begins with, and what it may leave.
+-- Private: what the end of an epoch begins with, and what it may leave.
 use Rattle.std.specs.Prelude.{◌≡◌, ◌⊎◌, ℕ, suc, List, length, Option, Result, Ok, Err}
 use Rattle.ob_base.specs.declared.params.Params.{Params}
 use Rattle.ob_store.specs.Disk.{Disk, Image}
-use Rattle.ob_store.specs.Images.{Settled, LeavesOnly}
+use Rattle.ob_store.specs.Images.{IsSynced, LeavesOnly}
 use Rattle.ob_store.specs.declared.event.Event.{Event}
 use Rattle.ob_store.specs.Lines.{Trace}
 use Rattle.ob_store.specs.Told.{Tells, TellsFirst}
@@ -23,7 +23,7 @@ pub record EndsFrom (keys : Keys) (p : Params) (g : ℕ) (old : Disk) (epoch : �
   pub is : next.epoch ≡ epoch
   pub content : IsMapOf values next.content
   pub tells : old.tells
-  pub settled : Settled old
+  pub settled : IsSynced old
   pub stands : StandsFlat keys p g old.cells now
 
 -- the image stands for one of the two
@@ -33,7 +33,7 @@ StandsAtOne keys p g now next image = StandsFlat keys p g image now ⊎ StandsFl
 -- no write waits for a sync, and the store stands for the next epoch
 pub record EndsAt (keys : Keys) (p : Params) (g : ℕ) (new : Disk) (next : Standing) : Type 0 where
   pub tells : new.tells
-  pub settled : Settled new
+  pub settled : IsSynced new
   pub stands : StandsFlat keys p g new.cells next
 
 -- A crash at any moment leaves one of the two; the old one after a refusal before the last write.
@@ -53,3 +53,8 @@ EndTells n known epoch old new before after (Ok done) = Tells (end_notes n known
 EndTells n known epoch old new before after (Err (set.Before fault)) = TellsFirst (end_prepare_notes n known epoch) old new before after
 EndTells n known epoch old new before after (Err (set.Unsure fault)) =
     Tells (end_gate_notes n known epoch) (end_gate_notes n known epoch) old new before after ⊎ Tells (end_notes n known epoch) (end_gate_notes n known epoch) old new before after
+
+-- where the end is in doubt
+abbrev pub IfUnsure : Type 0 → SetErr → Type 0
+IfUnsure A (set.Before fault) = Unit {0}
+IfUnsure A (set.Unsure fault) = A

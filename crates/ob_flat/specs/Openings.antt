@@ -5,7 +5,7 @@ use Rattle.ob_base.specs.declared.fault.Damaged.{Damaged}
 use Rattle.ob_base.specs.declared.fault.Fault.{Fault}
 use Rattle.ob_base.specs.declared.fault.Fault.TheVariants as fault
 use Rattle.ob_store.specs.Disk.{Disk, Image}
-use Rattle.ob_store.specs.Images.{Same, Settled, Passes, LeavesOnly}
+use Rattle.ob_store.specs.Images.{Same, IsSynced, Passes, LeavesOnly}
 use Rattle.ob_store.specs.Calls.{Keeps}
 use Rattle.ob_store.specs.Lines.{Trace}
 use Rattle.ob_store.specs.Told.{Tells, TellsFirst}
@@ -14,12 +14,15 @@ use Rattle.ob_seal.specs.Sealing.{Sealing}
 use Rattle.ob_flat_rows.specs.Rows.{AreRows}
 use Rattle.ob_flat_rows.specs.Reads.{IsFirstRowDamage}
 use Rattle.ob_twin.specs.declared.gates.Open.{Open}
+use Rattle.ob_twin.specs.Keyed.{tagging}
+use Rattle.ob_twin.specs.Register.{StandsAt}
 use Rattle.ob_twin.specs.Opening.{GatesAre}
 use Rattle.ob_twin.specs.Reading.{NoneOpen}
 use Rattle.ob_serial.specs.Vaults.{Standing}
 use Rattle.ob_flat.specs.declared.opening.Opening.{Opening}
 use Rattle.ob_flat.specs.Places.{area_of}
 use Rattle.ob_start.specs.Registers.{Found, IsRegisterDamage}
+use Rattle.ob_start.specs.Beginning.{BeginsFrom}
 use Rattle.ob_start.specs.Orders.{registers_notes}
 use Rattle.ob_flat.specs.Standing.{IsMapOf, StandsFlat}
 use Rattle.ob_flat.specs.Orders.{found_notes, open_notes}
@@ -32,7 +35,7 @@ pub record IsRowsDamage (keys : Keys) (n : ℕ) (image : Image) (damaged : Damag
   pub first : IsFirstRowDamage keys (area_of n epoch) n image damaged
 
 -- all is found, and the generation was the last one
-pub record IsWornOut (keys : Keys) (n : ℕ) (image : Image) : Type 0 where
+pub record IsGenerationWorn (keys : Keys) (n : ℕ) (image : Image) : Type 0 where
   pub epoch : ℕ
   pub values : List (Option (List ℕ))
   pub found : Found keys image (2 ^ 62 - 1) epoch
@@ -55,7 +58,7 @@ IsOpeningOf keys n image (Err fault.NotStore) = NoneOpen 1 image ⊎ NoneOpen 5 
 IsOpeningOf keys n image (Err (fault.Damaged cell check kept computed)) =
     IsRegisterDamage keys image (record { cell = cell; check = check; kept = kept; computed = computed })
     ⊎ IsRowsDamage keys n image (record { cell = cell; check = check; kept = kept; computed = computed })
-IsOpeningOf keys n image (Err (fault.Worn number)) = (number ≡ 2 ^ 62) × IsWornOut keys n image
+IsOpeningOf keys n image (Err (fault.Worn number)) = (number ≡ 2 ^ 62) × IsGenerationWorn keys n image
 IsOpeningOf keys n image (Err (fault.StoreFault unsure)) = Unit {0}
 IsOpeningOf keys n image (Err fault.Memory) = Unit {0}
 IsOpeningOf keys n image (Err _) = ⊥
@@ -77,7 +80,7 @@ pub record IsOpenedAt (keys : Keys) (p : Params) (at : Standing) (opening : Open
   pub images : (c : Image) → new.may_leave c → StandsFlat keys p opening.sealer.generation c at
 
 -- A new generation's sealer has sealed nothing.
-pub record IsFresh (keys : Keys) (sealing : Sealing) : Type 0 where
+pub record HasSealedNothing (keys : Keys) (sealing : Sealing) : Type 0 where
   pub keys_are : sealing.keys ≡ keys
   pub none_sealed : sealing.next ≡ 0
 
@@ -85,8 +88,8 @@ pub record IsFresh (keys : Keys) (sealing : Sealing) : Type 0 where
 -- of the epoch's register as they were and are.
 pub record Begins (keys : Keys) (p : Params) (old new : Disk) (opening : Opening) : Type 0 where
   pub params : opening.params ≡ p
-  pub sealer : IsFresh keys opening.sealer
-  pub durable : old.tells → Settled new
+  pub sealer : HasSealedNothing keys opening.sealer
+  pub durable : old.tells → IsSynced new
   pub gates : old.tells → GatesAre opening.gates.epoch 5 old.cells
   pub tell : old.tells → GatesAre opening.gates.epoch 5 new.cells
 
@@ -96,9 +99,21 @@ pub record OpensFrom {S : Type 0} (disk : S → Disk) (keys : Keys) (p : Params)
   pub synced : S
   pub until : Passes Same (disk old) (disk synced)
   pub keeps : Keeps (disk old) (disk synced)
-  pub settled : (disk old).tells → Settled (disk synced)
+  pub settled : (disk old).tells → IsSynced (disk synced)
   pub since : (g : ℕ) (at : Standing) → (disk old).tells → StandsFlat keys p g (disk old).cells at
       → LeavesOnly (disk synced) (disk new) (λ c. StandsFlat keys p g c at ⊎ StandsFlat keys p (suc g) c at)
+
+-- Of the register of generations alone: it stood at g, and stands at the next one, which is the opening's, once its first sync
+-- succeeded, and from then on a crash leaves it at one of the two.
+pub record BeginsNext {S : Type 0} (disk : S → Disk) (keys : Keys) (g : ℕ) (old new : S) (opening : Opening) : Type 0 where
+  pub next : opening.sealer.generation ≡ suc g
+  pub stands : StandsAt (tagging keys) 1 (disk new).cells (suc g)
+  pub leaves : BeginsFrom disk keys g old new
+
+-- a refused one may have left all images as they were
+abbrev pub OpeningBegins : {S : Type 0} → (S → Disk) → Keys → S → S → Result Opening Fault → Type 0
+OpeningBegins disk keys old new (Ok opening) = (g : ℕ) → (disk old).tells → StandsAt (tagging keys) 1 (disk old).cells g → BeginsNext disk keys g old new opening
+OpeningBegins disk keys old new (Err refused) = Passes Same (disk old) (disk new) ⊎ ((g : ℕ) → (disk old).tells → StandsAt (tagging keys) 1 (disk old).cells g → BeginsFrom disk keys g old new)
 
 -- a refused one may have left all images as they were
 abbrev pub OpeningLeaves : {S : Type 0} → (S → Disk) → Keys → Params → S → S → Result Opening Fault → Type 0

@@ -20,7 +20,7 @@ pub record IsMapOf (values : List (Option (List ℕ))) (m : Map nat_cmp) : Type 
   pub above : (key : ℕ) → length values ≤ key → finite.get m key ≡ None
 
 -- so many rows from a cell on have the map's values, all under seals of one generation, in a row
-pub record HasRows (keys : Keys) (base n : ℕ) (image : Image) (content : Map nat_cmp) : Type 0 where
+pub record HasSealedRows (keys : Keys) (base n : ℕ) (image : Image) (content : Map nat_cmp) : Type 0 where
   pub generation : ℕ
   pub first : ℕ
   pub each : (key : ℕ) → key < n → IsRow keys (base + key) generation (onward first key) (image (base + key)) (finite.get content key)
@@ -31,7 +31,7 @@ pub record StandsFlat (keys : Keys) (p : Params) (generation : ℕ) (image : Ima
   pub head : IsHead keys p (image 0)
   pub begun : StandsAt (tagging keys) 1 image generation
   pub epoch : StandsAt (tagging keys) 5 image at.epoch
-  pub rows : HasRows keys (area_of p.keys at.epoch) p.keys image at.content
+  pub rows : HasSealedRows keys (area_of p.keys at.epoch) p.keys image at.content
   pub no_more : (key : ℕ) → p.keys ≤ key → finite.get at.content key ≡ None
 
 -- the image stands for this, at some generation

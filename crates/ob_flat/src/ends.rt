@@ -1,8 +1,10 @@
+//! The rows of an epoch, written.
+
 ghost use Rattle.std.specs.Prelude.{◌≡◌, ◌<◌, ◌≤◌, ◌+◌, ◌^◌, ◌⊎◌, ℕ, suc, length, not, is_ok, OnOk, OnErr, IfErr, IsTrue, false, if◌then◌else◌, List, Option};
 ghost use Rattle.ob_base.specs.Causes.{Rose};
 ghost use Rattle.ob_base.specs.declared.params.Params.{Params};
 ghost use Rattle.ob_store.specs.Disk.{Image};
-ghost use Rattle.ob_store.specs.Images.{Settled, SameOff, LeavesOnly, Passes};
+ghost use Rattle.ob_store.specs.Images.{IsSynced, SameOff, LeavesOnly, Passes};
 ghost use Rattle.ob_store.specs.Calls.{Serves, IsFailed, Holds};
 ghost use Rattle.ob_store.specs.Told.{Does};
 ghost use Rattle.ob_cells.specs.Runs.{IsFurther};
@@ -14,8 +16,9 @@ ghost use Rattle.ob_twin.specs.Refused.{IsSetFault, IsBefore};
 ghost use Rattle.ob_serial.specs.Vaults.{Standing};
 ghost use Rattle.ob_flat.specs.Places.{area_of};
 ghost use Rattle.ob_flat.specs.Orders.{rows_notes};
-ghost use Rattle.ob_flat.specs.Ends.{EndsFrom, StandsAtOne, EndTells};
+ghost use Rattle.ob_flat.specs.Ends.{EndsFrom, StandsAtOne, EndTells, IfUnsure};
 ghost use Rattle.ob_flat.specs.Standing.{StandsFlat};
+ghost use Rattle.ob_flat.specs.Calls.{SameOffEpoch};
 
 use crate::places::area_of;
 use ob_base::{Failed, Fault, Value};
@@ -36,14 +39,21 @@ pub fn fill<S: Store, W: Watch>(
     requires fits { base + length values.now < 2 ^ 64 }
     requires room { sealer.old.next + length values.now ≤ 2 ^ 62 }
     ensures serves { Serves IsFailed (S.disk store.old) (S.disk store.new) result }
-    ensures written { (S.disk store.old).tells → OnOk result (Holds base (row_cells sealer.old.keys base sealer.old.generation sealer.old.next values.now) (S.disk store.new).cells) }
-    ensures sealed { OnOk result (sealer.new ≡ record sealer.old { next = sealer.old.next + length values.now }) }
+    ensures written { (S.disk store.old).tells
+        → OnOk result (Holds base
+        (row_cells sealer.old.keys base sealer.old.generation sealer.old.next values.now)
+        (S.disk store.new).cells) }
+    ensures sealed { OnOk result (sealer.new
+        ≡ record sealer.old { next = sealer.old.next + length values.now }) }
     ensures some_sealed { IsFurther (length values.now) sealer.old sealer.new }
     ensures short { OnOk result (AreShort values.now) }
-    ensures rest { (S.disk store.old).tells → SameOff base (length values.now) (S.disk store.new).cells (S.disk store.old).cells }
-    ensures durable { (S.disk store.old).tells → OnOk result (Settled (S.disk store.new)) }
-    ensures passes { Passes (SameOff base (length values.now)) (S.disk store.old) (S.disk store.new) }
-    ensures does { Does (rows_notes base (length values.now)) (S.disk store.old).seen (S.disk store.new).seen (W.trace watch.old) (W.trace watch.new) result }
+    ensures rest { (S.disk store.old).tells
+        → SameOff base (length values.now) (S.disk store.new).cells (S.disk store.old).cells }
+    ensures durable { (S.disk store.old).tells → OnOk result (IsSynced (S.disk store.new)) }
+    ensures passes { Passes (SameOff base (length values.now)) (S.disk store.old)
+        (S.disk store.new) }
+    ensures does { Does (rows_notes base (length values.now)) (S.disk store.old).seen
+        (S.disk store.new).seen (W.trace watch.old) (W.trace watch.new) result }
 {
     write_rows(store, sealer, base, values, watch)?;
     sync_noted(store, watch)
@@ -66,21 +76,49 @@ pub fn write_epoch<S: Store, W: Watch>(
     requires told { (S.disk store.old).tells → GatesAre gates.old.epoch 5 (S.disk store.old).cells }
     ensures serves { Serves (IsSetFault EPOCH epoch) (S.disk store.old) (S.disk store.new) result }
     ensures faults { IfErr result (IsSetFault EPOCH epoch) }
-    ensures tell { (S.disk store.old).tells → OnOk result (GatesAre gates.new.epoch 5 (S.disk store.new).cells) }
+    ensures tell { (S.disk store.old).tells
+        → OnOk result (GatesAre gates.new.epoch 5 (S.disk store.new).cells) }
     ensures gates { OnOk result (gates.new.epoch ≡ with_mark gates.old.epoch (place_of epoch)) }
     ensures gates_err { OnErr result (gates.new ≡ gates.old) }
-    ensures durable { (S.disk store.old).tells → OnOk result (Settled (S.disk store.new)) }
-    ensures written { (S.disk store.old).tells → OnOk result (Holds (area_of (length values.now) epoch) (row_cells sealer.old.keys (area_of (length values.now) epoch) sealer.old.generation sealer.old.next values.now) (S.disk store.new).cells) }
-    ensures sealed { OnOk result (sealer.new ≡ record sealer.old { next = sealer.old.next + length values.now }) }
+    ensures durable { (S.disk store.old).tells → OnOk result (IsSynced (S.disk store.new)) }
+    ensures written { (S.disk store.old).tells
+        → OnOk result (Holds (area_of (length values.now) epoch)
+        (row_cells sealer.old.keys (area_of (length values.now) epoch) sealer.old.generation
+        sealer.old.next values.now) (S.disk store.new).cells) }
+    ensures sealed { OnOk result (sealer.new
+        ≡ record sealer.old { next = sealer.old.next + length values.now }) }
     ensures some_sealed { IsFurther (length values.now) sealer.old sealer.new }
+    // So it is where it is unsure.
+    ensures written_unsure { IfErr result (IfUnsure ((S.disk store.old).tells
+        → Holds (area_of (length values.now) epoch)
+        (row_cells sealer.old.keys (area_of (length values.now) epoch) sealer.old.generation
+        sealer.old.next values.now) (S.disk store.new).cells)) }
+    ensures sealed_unsure { IfErr result (IfUnsure (sealer.new
+        ≡ record sealer.old { next = sealer.old.next + length values.now })) }
+    // No cell changes but those of the epoch's register and of its rows, nor in what a crash leaves.
+    ensures rest { (S.disk store.old).tells
+        → SameOffEpoch (length values.now) epoch (S.disk store.new).cells
+        (S.disk store.old).cells }
+    ensures passes { Passes (SameOffEpoch (length values.now) epoch) (S.disk store.old)
+        (S.disk store.new) }
     // Where the store stood for an epoch, it stands for the next one,
-    ensures done { (p : Params) (g : ℕ) (now next : Standing) → EndsFrom sealer.old.keys p g (S.disk store.old) epoch values.now now next → OnOk result (StandsFlat sealer.old.keys p g (S.disk store.new).cells next) }
+    ensures done { (p : Params) (g : ℕ) (now next : Standing)
+        → EndsFrom sealer.old.keys p g (S.disk store.old) epoch values.now now next
+        → OnOk result (StandsFlat sealer.old.keys p g (S.disk store.new).cells next) }
     // and a crash at any moment leaves one of the two,
-    ensures old_or_new { (p : Params) (g : ℕ) (now next : Standing) → EndsFrom sealer.old.keys p g (S.disk store.old) epoch values.now now next → LeavesOnly (S.disk store.old) (S.disk store.new) (StandsAtOne sealer.old.keys p g now next) }
+    ensures old_or_new { (p : Params) (g : ℕ) (now next : Standing)
+        → EndsFrom sealer.old.keys p g (S.disk store.old) epoch values.now now next
+        → LeavesOnly (S.disk store.old) (S.disk store.new)
+        (StandsAtOne sealer.old.keys p g now next) }
     // or the old one where it was refused before the last write.
-    ensures before { (p : Params) (g : ℕ) (now next : Standing) → EndsFrom sealer.old.keys p g (S.disk store.old) epoch values.now now next → IsBefore result → LeavesOnly (S.disk store.old) (S.disk store.new) (λ c. StandsFlat sealer.old.keys p g c now) }
+    ensures before { (p : Params) (g : ℕ) (now next : Standing)
+        → EndsFrom sealer.old.keys p g (S.disk store.old) epoch values.now now next
+        → IsBefore result
+        → LeavesOnly (S.disk store.old) (S.disk store.new)
+        (λ c. StandsFlat sealer.old.keys p g c now) }
     // Unsure only where the write was made that opens the gate.
-    ensures does { EndTells (length values.now) gates.old.epoch epoch (S.disk store.old).seen (S.disk store.new).seen (W.trace watch.old) (W.trace watch.new) result }
+    ensures does { EndTells (length values.now) gates.old.epoch epoch (S.disk store.old).seen
+        (S.disk store.new).seen (W.trace watch.old) (W.trace watch.new) result }
 {
     let base = area_of(values.len() as u64, epoch);
     match fill(store, sealer, base, values, watch) {

@@ -1,8 +1,10 @@
+//! Making an empty plain store.
+
 ghost use Rattle.std.specs.Prelude.{◌≡◌, ◌<◌, ◌≤◌, ◌+◌, ◌^◌, ℕ, ◌++◌, true, OnOk, IfErr, replicate, None};
 ghost use Rattle.std.specs.FinMap as finite;
 ghost use Rattle.ob_base.specs.declared.fault.Fault.TheVariants as fault;
 ghost use Rattle.ob_store.specs.Disk.{Image};
-ghost use Rattle.ob_store.specs.Images.{Settled, Passes, LeavesOnly};
+ghost use Rattle.ob_store.specs.Images.{IsSynced, Passes, LeavesOnly};
 ghost use Rattle.ob_store.specs.Calls.{Serves, IsFailed, IsStoreFault, Holds};
 ghost use Rattle.ob_store.specs.Told.{Does};
 ghost use Rattle.ob_flat_rows.specs.Rows.{row_cells};
@@ -36,13 +38,19 @@ fn lay_rows<S: Store, W: Watch>(
     requires room { sealer.old.next + keys ≤ 2 ^ 62 }
     requires closed { (S.disk store.old).tells → NoneOpen 5 (S.disk store.old).cells }
     ensures serves { Serves IsFailed (S.disk store.old) (S.disk store.new) result }
-    ensures epoch { (S.disk store.old).tells → OnOk result (StandsAt (tagging sealer.old.keys) 5 (S.disk store.new).cells 0) }
-    ensures rows { (S.disk store.old).tells → OnOk result (Holds 9 (row_cells sealer.old.keys 9 sealer.old.generation sealer.old.next (replicate keys None)) (S.disk store.new).cells) }
+    ensures epoch { (S.disk store.old).tells
+        → OnOk result (StandsAt (tagging sealer.old.keys) 5 (S.disk store.new).cells 0) }
+    ensures rows { (S.disk store.old).tells
+        → OnOk result (Holds 9
+        (row_cells sealer.old.keys 9 sealer.old.generation sealer.old.next (replicate keys None))
+        (S.disk store.new).cells) }
     ensures same_keys { sealer.new.keys ≡ sealer.old.keys }
-    ensures low { (S.disk store.old).tells → (k : ℕ) → k < 5 → (S.disk store.new).cells k ≡ (S.disk store.old).cells k }
+    ensures low { (S.disk store.old).tells → (k : ℕ) → k < 5
+        → (S.disk store.new).cells k ≡ (S.disk store.old).cells k }
     ensures passes { Passes SameHead (S.disk store.old) (S.disk store.new) }
-    ensures durable { (S.disk store.old).tells → OnOk result (Settled (S.disk store.new)) }
-    ensures does { Does (rows_notes 9 keys ++ set_notes true 5 0) (S.disk store.old).seen (S.disk store.new).seen (W.trace watch.old) (W.trace watch.new) result }
+    ensures durable { (S.disk store.old).tells → OnOk result (IsSynced (S.disk store.new)) }
+    ensures does { Does (rows_notes 9 keys ++ set_notes true 5 0) (S.disk store.old).seen
+        (S.disk store.new).seen (W.trace watch.old) (W.trace watch.new) result }
 {
     write_blanks(store, sealer, BODY_CELL, keys, watch)?;
     sync_noted(store, watch)?;
@@ -60,12 +68,20 @@ fn lay<S: Store, W: Watch>(
     requires generation { sealer.old.generation ≡ 1 }
     requires none_sealed { sealer.old.next ≡ 0 }
     ensures serves { Serves IsFailed (S.disk store.old) (S.disk store.new) result }
-    ensures stands { (S.disk store.old).tells → OnOk result (StandsFlat sealer.old.keys params.now 1 (S.disk store.new).cells (record { epoch = 0; content = finite.empty })) }
-    ensures head { (S.disk store.old).tells → OnOk result ((S.disk store.new).cells 0 ≡ head_cell sealer.old.keys params.now) }
-    ensures rows { (S.disk store.old).tells → OnOk result (Holds 9 (row_cells sealer.old.keys 9 1 0 (replicate params.now.keys None)) (S.disk store.new).cells) }
-    ensures crash { (S.disk store.old).tells → LeavesOnly (S.disk store.old) (S.disk store.new) (FormatLeaves sealer.old.keys params.now.keys (S.disk store.old)) }
-    ensures durable { (S.disk store.old).tells → OnOk result (Settled (S.disk store.new)) }
-    ensures does { Does (format_notes params.now.keys) (S.disk store.old).seen (S.disk store.new).seen (W.trace watch.old) (W.trace watch.new) result }
+    ensures stands { (S.disk store.old).tells
+        → OnOk result (StandsFlat sealer.old.keys params.now 1 (S.disk store.new).cells
+        (record { epoch = 0; content = finite.empty })) }
+    ensures head { (S.disk store.old).tells
+        → OnOk result ((S.disk store.new).cells 0 ≡ head_cell sealer.old.keys params.now) }
+    ensures rows { (S.disk store.old).tells
+        → OnOk result (Holds 9 (row_cells sealer.old.keys 9 1 0 (replicate params.now.keys None))
+        (S.disk store.new).cells) }
+    ensures crash { (S.disk store.old).tells
+        → LeavesOnly (S.disk store.old) (S.disk store.new)
+        (FormatLeaves sealer.old.keys params.now.keys (S.disk store.old)) }
+    ensures durable { (S.disk store.old).tells → OnOk result (IsSynced (S.disk store.new)) }
+    ensures does { Does (format_notes params.now.keys) (S.disk store.old).seen
+        (S.disk store.new).seen (W.trace watch.old) (W.trace watch.new) result }
 {
     lay_registers(store, sealer, &[], watch)?;
     lay_rows(store, sealer, params.keys as u64, watch)?;
@@ -87,15 +103,25 @@ pub fn format<S: Store, W: Watch>(
     requires none_out { (S.disk store.old).out ≡ 0 }
     ensures serves { Serves IsStoreFault (S.disk store.old) (S.disk store.new) result }
     ensures faults { IfErr result (λ refused. refused ≡ fault.StoreFault None) }
-    ensures stands { (S.disk store.old).tells → OnOk result (StandsFlat keys.now params.now 1 (S.disk store.new).cells (record { epoch = 0; content = finite.empty })) }
+    ensures stands { (S.disk store.old).tells
+        → OnOk result (StandsFlat keys.now params.now 1 (S.disk store.new).cells
+        (record { epoch = 0; content = finite.empty })) }
     // The bytes that it writes into the head and into each row.
-    ensures head { (S.disk store.old).tells → OnOk result ((S.disk store.new).cells 0 ≡ head_cell keys.now params.now) }
-    ensures rows { (S.disk store.old).tells → OnOk result (Holds 9 (row_cells keys.now 9 1 0 (replicate params.now.keys None)) (S.disk store.new).cells) }
-    ensures durable { (S.disk store.old).tells → OnOk result (Settled (S.disk store.new)) }
-    ensures images { (S.disk store.old).tells → OnOk result ((c : Image) → (S.disk store.new).may_leave c → StandsFlat keys.now params.now 1 c (record { epoch = 0; content = finite.empty })) }
+    ensures head { (S.disk store.old).tells
+        → OnOk result ((S.disk store.new).cells 0 ≡ head_cell keys.now params.now) }
+    ensures rows { (S.disk store.old).tells
+        → OnOk result (Holds 9 (row_cells keys.now 9 1 0 (replicate params.now.keys None))
+        (S.disk store.new).cells) }
+    ensures durable { (S.disk store.old).tells → OnOk result (IsSynced (S.disk store.new)) }
+    ensures images { (S.disk store.old).tells
+        → OnOk result ((c : Image) → (S.disk store.new).may_leave c
+        → StandsFlat keys.now params.now 1 c (record { epoch = 0; content = finite.empty })) }
     // A crash at any moment leaves a torn head, no store, or all but the head.
-    ensures crash { (S.disk store.old).tells → LeavesOnly (S.disk store.old) (S.disk store.new) (FormatLeaves keys.now params.now.keys (S.disk store.old)) }
-    ensures does { Does (format_notes params.now.keys) (S.disk store.old).seen (S.disk store.new).seen (W.trace watch.old) (W.trace watch.new) result }
+    ensures crash { (S.disk store.old).tells
+        → LeavesOnly (S.disk store.old) (S.disk store.new)
+        (FormatLeaves keys.now params.now.keys (S.disk store.old)) }
+    ensures does { Does (format_notes params.now.keys) (S.disk store.old).seen
+        (S.disk store.new).seen (W.trace watch.old) (W.trace watch.new) result }
 {
     match lay(store, &mut Sealer::new(keys, 1), params, watch) {
         Ok(()) => Ok(()),

@@ -1,10 +1,12 @@
+//! The head of a plain store.
+
 ghost use Rattle.std.specs.Prelude.{◌≡◌, [], ◌∷◌, IfErr};
 ghost use Rattle.ob_store.specs.declared.watch.Note.TheVariants as note;
 ghost use Rattle.ob_store.specs.Images.{Same, Passes};
 ghost use Rattle.ob_store.specs.Calls.{Serves, IsStoreFault, Keeps};
 ghost use Rattle.ob_twin.specs.Got.{DoesReads};
 ghost use Rattle.ob_start.specs.Heads.{IsHeadFault};
-ghost use Rattle.ob_flat.specs.Heads.{version, IsHeadRead};
+ghost use Rattle.ob_flat.specs.Heads.{flat_version, IsHeadRead};
 
 use ob_base::{Fault, Params};
 use ob_seal::Keys;
@@ -23,11 +25,13 @@ pub const VERSION: u32 = 102;
 pub fn head<S: Store, W: Watch>(store: &mut S, keys: &Keys, watch: &mut W) -> Result<Params, Fault>
     ensures serves { Serves IsStoreFault (S.disk store.old) (S.disk store.new) result }
     ensures faults { IfErr result IsHeadFault }
-    ensures value { (S.disk store.old).tells → IsHeadRead keys.now ((S.disk store.old).cells 0) result }
+    ensures value { (S.disk store.old).tells
+        → IsHeadRead keys.now ((S.disk store.old).cells 0) result }
     ensures keeps { Keeps (S.disk store.old) (S.disk store.new) }
     // A crash at any moment leaves what it might have left before.
     ensures passes { Passes Same (S.disk store.old) (S.disk store.new) }
-    ensures does { DoesReads (note.Read 0 ∷ []) (S.disk store.old).seen (S.disk store.new).seen (W.trace watch.old) (W.trace watch.new) result }
+    ensures does { DoesReads (note.Read 0 ∷ []) (S.disk store.old).seen (S.disk store.new).seen
+        (W.trace watch.old) (W.trace watch.new) result }
 {
     read_head(store, keys, VERSION, watch)
 }

@@ -1,3 +1,5 @@
+//! What a plain vault holds.
+
 ghost use Rattle.std.specs.Prelude.{◌≡◌, ◌<◌, ◌^◌, false};
 ghost use Rattle.ob_twin.specs.Opening.{GatesAre};
 

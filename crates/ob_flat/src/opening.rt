@@ -1,3 +1,5 @@
+//! What an opening of a plain store found.
+
 ghost use Rattle.std.specs.Prelude.{◌≡◌, ◌<◌, ◌^◌, length};
 
 use ob_base::{Params, Value};

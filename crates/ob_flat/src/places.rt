@@ -1,3 +1,5 @@
+//! The cells of a plain store.
+
 ghost use Rattle.std.specs.Prelude.{◌≡◌, ◌≤◌, ◌+◌};
 ghost use Rattle.ob_flat.specs.Places.{cells, area_of};
 

@@ -1,3 +1,5 @@
+//! Plain stores: formats, openings, ends, each call failing, each cell damaged.
+
 ghost use Rattle.std.specs.Prelude.{◌≡◌, ◌<◌, ◌≤◌, ℕ, false, length, map, All};
 ghost use Rattle.std.specs.List.Sorted.{IsStrictlyIncreasing};
 ghost use Rattle.ob_mem.specs.Memory.{disk_of_store};

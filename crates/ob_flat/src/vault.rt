@@ -1,3 +1,5 @@
+//! The plain vault: a map by epochs, kept in memory, a row a key written at each end.
+
 ghost use Rattle.std.specs.Prelude.{◌≡◌, length};
 
 use crate::held::Held;
@@ -24,7 +26,7 @@ pub struct FlatVault<'a, S: Store> {
 
 impl<'a, S: Store> FlatVault<'a, S> {
     ghost use Rattle.std.specs.Prelude.{◌≡◌, false};
-    ghost use Rattle.ob_store.specs.Images.{Settled};
+    ghost use Rattle.ob_store.specs.Images.{IsSynced};
     ghost use Rattle.ob_twin.specs.Opening.{GatesAre};
     ghost use Rattle.std.specs.Ordering.{nat_cmp};
     ghost use Rattle.ob_serial.specs.Serial.{Map};
@@ -37,7 +39,8 @@ impl<'a, S: Store> FlatVault<'a, S> {
     /// that ended.
     pub fn over(store: &'a mut S, opening: Opening) -> FlatVault<'a, S>
         requires none_out { (S.disk store.old).out ≡ 0 }
-        requires told { (S.disk store.old).tells → GatesAre opening.gates.epoch 5 (S.disk store.old).cells }
+        requires told { (S.disk store.old).tells
+            → GatesAre opening.gates.epoch 5 (S.disk store.old).cells }
         ensures name { result.held.store.ghost_name ≡ store.entry.ghost_name }
         ensures store { result.held.store.now ≡ store.entry.now }
         ensures params { result.params ≡ opening.params }
@@ -49,11 +52,18 @@ impl<'a, S: Store> FlatVault<'a, S> {
         ensures spent { result.held.spent ≡ false }
         // There is a map of what the opening found. The vault holds it,
         ensures some { (m : Map nat_cmp) × IsMapOf opening.values.items m }
-        ensures holds { (at : Standing) → opening.epoch ≡ at.epoch → IsMapOf opening.values.items at.content
-            → FlatHolds result.params (record { epoch = result.held.epoch; left = result.left; spent = result.held.spent }) result.values.items (opened_at opening.params at) }
+        ensures holds { (at : Standing) → opening.epoch ≡ at.epoch
+            → IsMapOf opening.values.items at.content
+            → FlatHolds result.params
+            (record { epoch = result.held.epoch; left = result.left; spent = result.held.spent })
+            result.values.items (opened_at opening.params at) }
         // and where the store stands for that, it is sound.
-        ensures sound { (at : Standing) → (S.disk store.entry.now).tells → Settled (S.disk store.entry.now) → IsOpenedAt opening.sealer.keys opening.params at opening (S.disk store.entry.now)
-            → FlatSound result.held.sealer.keys result.params result.held.sealer.generation (record { epoch = result.held.epoch; left = result.left; spent = result.held.spent }) result.values.items (S.disk result.held.store.now) (opened_at opening.params at) }
+        ensures sound { (at : Standing) → (S.disk store.entry.now).tells
+            → IsSynced (S.disk store.entry.now)
+            → IsOpenedAt opening.sealer.keys opening.params at opening (S.disk store.entry.now)
+            → FlatSound result.held.sealer.keys result.params result.held.sealer.generation
+            (record { epoch = result.held.epoch; left = result.left; spent = result.held.spent })
+            result.values.items (S.disk result.held.store.now) (opened_at opening.params at) }
     {
         let Opening {
             params,

@@ -1,2 +1,2 @@
-pub mod Fresh
-pub mod Steps
+pub mod Openings
+pub mod Calls

@@ -1,32 +1,18 @@
-ghost use Rattle.std.specs.Prelude.{◌≡◌, false, IfOk, OnErr};
-ghost use Rattle.ob_mem.specs.Memory.{disk_of_store};
-ghost use Rattle.ob_flat_life.specs.Lives.{Opens, IsRefused};
+//! The calls on a plain store in memory as acts of its life.
 
-use crate::pads_are_fresh;
-use ob_base::{Fault, Params};
-use ob_flat::{Opening, format, head, prepare};
+ghost use Rattle.std.specs.Prelude.{◌≡◌};
+ghost use Rattle.ob_mem.specs.Memory.{disk_of_store};
+
+use crate::{begin_life, calls_are_acts, flat_chains_are_runs, head_in_life, open_in_life};
+use ob_base::Params;
+use ob_flat::{FlatVault, Opening};
 use ob_mem::MemStore;
+use ob_pads::{pads_are_fresh, runs_join};
 use ob_seal::Keys;
-use ob_store::{Blind, Store, Watch};
+use ob_store::Blind;
 use std::alloc::Global;
 use std::process::Abort;
 use std::test::Fail as Broken;
-
-// What an opening says of itself is a step of a life.
-fn open_step<S: Store, W: Watch>(
-    alloc: Global,
-    store: &mut S,
-    keys: &Keys,
-    params: &Params,
-    watch: &mut W,
-) -> Result<Opening, Fault>
-    requires none_out { (S.disk store.old).out ≡ 0 }
-    ensures opens { (S.disk store.new).tells → IfOk result (λ opening. Opens keys.now params.now (S.disk store.old) (S.disk store.new)
-        (record { sealing = opening.sealer; counts = record { epoch = opening.epoch; left = params.now.batches; spent = false }; values = opening.values.items })) }
-    ensures refused { (S.disk store.new).tells → OnErr result (IsRefused keys.now params.now (S.disk store.old) (S.disk store.new)) }
-{
-    prepare(alloc, store, keys, params, watch)
-}
 
 fn generation_of(opening: &Opening) -> u64 {
     let (generation, _) = opening.sealer.next();
@@ -37,8 +23,11 @@ fn generation_of(opening: &Opening) -> u64 {
 fn next_generation(rt: &impl Abort, alloc: Global, mut store: MemStore, keys: &Keys) -> u64
     requires { (disk_of_store store).out ≡ 0 }
 {
-    let params = head(&mut store, keys, &mut Blind).expect(rt, "a head");
-    let opening = open_step(alloc, &mut store, keys, &params, &mut Blind).expect(rt, "an opening");
+    let params = head_in_life(&mut store, keys, &mut Blind).expect(rt, "a head");
+    let opening = open_in_life(alloc, &mut store, keys, &params, &mut Blind).expect(
+        rt,
+        "an opening",
+    );
     generation_of(&opening)
 }
 
@@ -51,12 +40,12 @@ fn each_opening_begins_a_generation(rt: HostRuntime) -> Result<(), Broken> {
         unreachable!()
     };
     let mut store = MemStore::new(alloc, 25, Vec::new(alloc))?;
-    assert!(rt; format(&mut store, &keys, &params, &mut Blind).is_ok());
+    assert!(rt; begin_life(&mut store, &keys, &params, &mut Blind).is_ok());
     assert_eq!(rt;
         next_generation(&rt, alloc, store.crash(30, &[])?, &keys),
         2
     );
-    assert!(rt; open_step(alloc, &mut store, &keys, &params, &mut Blind).is_ok());
+    assert!(rt; open_in_life(alloc, &mut store, &keys, &params, &mut Blind).is_ok());
     // The opening's first sync, its body and its gate, each made sure of: the gate decides.
     for (moment, want) in [(30, 2), (33, 2), (34, 3), (35, 3)] {
         assert_eq!(rt;
@@ -65,6 +54,14 @@ fn each_opening_begins_a_generation(rt: HostRuntime) -> Result<(), Broken> {
             "at {moment}"
         );
     }
+    Ok(())
+}
+
+#[test]
+fn laws_hold_of_a_store_in_memory(_rt: HostRuntime) -> Result<(), Broken> {
+    calls_are_acts::<MemStore>();
+    flat_chains_are_runs::<FlatVault<'_, MemStore>, MemStore>();
+    runs_join::<MemStore>();
     pads_are_fresh::<MemStore>();
     Ok(())
 }

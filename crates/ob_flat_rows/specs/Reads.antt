@@ -15,13 +15,13 @@ use Rattle.ob_cells.specs.Reads.{expected_at}
 use Rattle.ob_flat_rows.specs.Rows.{present_in, length_in, HasValue, IsRow, AreRows}
 
 -- a byte is above what its rule allows: told are the byte, and 0 as the least that is allowed
-pub record IsOver (cell place most : ℕ) (plain : List ℕ) (damaged : Damaged) : Type 0 where
+pub record IsByteOver (cell place most : ℕ) (plain : List ℕ) (damaged : Damaged) : Type 0 where
   pub over : most < slice_index plain place
   pub is : damaged ≡ record { cell = cell; check = Form; kept = told_number (slice_index plain place); computed = told_number 0 }
 
 -- what is told of plain bytes that break a rule: first of whether there is a value, then of its length
 abbrev pub IsFormDamage : ℕ → List ℕ → Damaged → Type 0
-IsFormDamage cell plain damaged = IsOver cell 0 1 plain damaged ⊎ ((present_in plain ≤ 1) × IsOver cell 1 64 plain damaged)
+IsFormDamage cell plain damaged = IsByteOver cell 0 1 plain damaged ⊎ ((present_in plain ≤ 1) × IsByteOver cell 1 64 plain damaged)
 
 -- the value that plain bytes have, where they break no rule
 abbrev pub IsPlainRead : ℕ → List ℕ → Result (Option (List ℕ)) Damaged → Type 0
@@ -29,7 +29,7 @@ IsPlainRead cell plain (Ok value) = (length_in plain ≤ 64) × HasValue plain v
 IsPlainRead cell plain (Err damaged) = IsFormDamage cell plain damaged
 
 -- a cell under an expected seal whose plain bytes break a rule
-pub record IsMisformed (keys : Keys) (cell : ℕ) (expected : Option (ℕ × ℕ)) (bytes : List ℕ) (damaged : Damaged) : Type 0 where
+pub record IsMisformedRow (keys : Keys) (cell : ℕ) (expected : Option (ℕ × ℕ)) (bytes : List ℕ) (damaged : Damaged) : Type 0 where
   pub generation : ℕ
   pub number : ℕ
   pub generation_fits : generation < 2 ^ 64
@@ -42,7 +42,7 @@ pub record IsMisformed (keys : Keys) (cell : ℕ) (expected : Option (ℕ × ℕ
 
 -- what is told of a row that breaks a rule: first of its tag, then of its seal, where one is expected, then of its plain bytes
 abbrev pub IsRowDamage : Keys → ℕ → Option (ℕ × ℕ) → List ℕ → Damaged → Type 0
-IsRowDamage keys cell expected bytes damaged = IsDamage keys cell expected bytes damaged ⊎ IsMisformed keys cell expected bytes damaged
+IsRowDamage keys cell expected bytes damaged = IsDamage keys cell expected bytes damaged ⊎ IsMisformedRow keys cell expected bytes damaged
 
 -- what is read of a row's cell
 abbrev pub IsRowRead : Keys → ℕ → Option (ℕ × ℕ) → List ℕ → Result Row Damaged → Type 0

@@ -1,3 +1,5 @@
+//! Reading the rows of a plain store.
+
 ghost use Rattle.std.specs.Prelude.{◌≡◌, ◌<◌, ◌≤◌, ◌+◌, ◌^◌, [], ◌∷◌, length, IfErr};
 ghost use Rattle.ob_base.specs.Causes.{Rose};
 ghost use Rattle.ob_store.specs.declared.watch.Note.TheVariants as note;
@@ -23,11 +25,14 @@ fn read_row<S: Store, W: Watch>(
     expected: Option<(u64, u64)>,
     watch: &mut W,
 ) -> Result<Row, Fault>
-    ensures value { (S.disk store.now).tells → IsOneRowRead sealer.now.keys cell expected ((S.disk store.now).cells cell) result }
+    ensures value { (S.disk store.now).tells
+        → IsOneRowRead sealer.now.keys cell expected ((S.disk store.now).cells cell) result }
     ensures faults { IfErr result IsCellFault }
     ensures later { S.lane_faults lane.old ≤ S.lane_faults lane.new }
-    ensures cause { IfErr result (λ fault. IsStoreFault fault → Rose (S.lane_faults lane.old) (S.lane_faults lane.new)) }
-    ensures told { Tells (note.Read cell ∷ []) (note.Read cell ∷ []) (S.lane_seen lane.old) (S.lane_seen lane.new) (W.trace watch.old) (W.trace watch.new) }
+    ensures cause { IfErr result (λ fault. IsStoreFault fault
+        → Rose (S.lane_faults lane.old) (S.lane_faults lane.new)) }
+    ensures told { Tells (note.Read cell ∷ []) (note.Read cell ∷ []) (S.lane_seen lane.old)
+        (S.lane_seen lane.new) (W.trace watch.old) (W.trace watch.new) }
 {
     let opened = match read_next(store, lane, sealer, cell, expected, watch) {
         Ok(opened) => opened,
@@ -53,11 +58,14 @@ fn read_each<S: Store, W: Watch>(
     watch: &mut W,
 ) -> Result<(), Fault>
     requires fits { base + length values.old < 2 ^ 64 }
-    ensures value { (S.disk store.now).tells → AreRowsRead sealer.now.keys base (S.disk store.now).cells values.new result }
+    ensures value { (S.disk store.now).tells
+        → AreRowsRead sealer.now.keys base (S.disk store.now).cells values.new result }
     ensures faults { IfErr result IsCellFault }
     ensures later { S.lane_faults lane.old ≤ S.lane_faults lane.new }
-    ensures cause { IfErr result (λ fault. IsStoreFault fault → Rose (S.lane_faults lane.old) (S.lane_faults lane.new)) }
-    ensures does { Does (read_notes base (length values.old)) (S.lane_seen lane.old) (S.lane_seen lane.new) (W.trace watch.old) (W.trace watch.new) result }
+    ensures cause { IfErr result (λ fault. IsStoreFault fault
+        → Rose (S.lane_faults lane.old) (S.lane_faults lane.new)) }
+    ensures does { Does (read_notes base (length values.old)) (S.lane_seen lane.old)
+        (S.lane_seen lane.new) (W.trace watch.old) (W.trace watch.new) result }
 {
     let mut expected = None;
     for i in 0..values.len() {
@@ -81,11 +89,13 @@ fn read_rows<S: Store, W: Watch>(
 ) -> Result<(), Fault>
     requires fits { base + length values.old < 2 ^ 64 }
     ensures serves { Serves IsStoreFault (S.disk store.old) (S.disk store.new) result }
-    ensures value { (S.disk store.old).tells → AreRowsRead sealer.now.keys base (S.disk store.old).cells values.new result }
+    ensures value { (S.disk store.old).tells
+        → AreRowsRead sealer.now.keys base (S.disk store.old).cells values.new result }
     ensures faults { IfErr result IsCellFault }
     ensures keeps { Keeps (S.disk store.old) (S.disk store.new) }
     ensures passes { Passes Same (S.disk store.old) (S.disk store.new) }
-    ensures does { Does (read_notes base (length values.old)) (S.disk store.old).seen (S.disk store.new).seen (W.trace watch.old) (W.trace watch.new) result }
+    ensures does { Does (read_notes base (length values.old)) (S.disk store.old).seen
+        (S.disk store.new).seen (W.trace watch.old) (W.trace watch.new) result }
 {
     let mut lane = match store.lane() {
         Ok(lane) => lane,
@@ -111,12 +121,14 @@ pub fn read_values<S: Store, W: Watch>(
 ) -> Result<(), Fault>
     requires fits { base + length values.old.items < 2 ^ 64 }
     ensures serves { Serves IsStoreFault (S.disk store.old) (S.disk store.new) result }
-    ensures value { (S.disk store.old).tells → AreRowsRead sealer.now.keys base (S.disk store.old).cells values.new.items result }
+    ensures value { (S.disk store.old).tells
+        → AreRowsRead sealer.now.keys base (S.disk store.old).cells values.new.items result }
     ensures whole { length values.new.items ≡ length values.old.items }
     ensures faults { IfErr result IsCellFault }
     ensures keeps { Keeps (S.disk store.old) (S.disk store.new) }
     ensures passes { Passes Same (S.disk store.old) (S.disk store.new) }
-    ensures does { Does (read_notes base (length values.old.items)) (S.disk store.old).seen (S.disk store.new).seen (W.trace watch.old) (W.trace watch.new) result }
+    ensures does { Does (read_notes base (length values.old.items)) (S.disk store.old).seen
+        (S.disk store.new).seen (W.trace watch.old) (W.trace watch.new) result }
 {
     read_rows(store, sealer, base, values, watch)
 }

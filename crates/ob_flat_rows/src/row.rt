@@ -1,3 +1,5 @@
+//! The bytes of a row.
+
 ghost use Rattle.std.specs.Prelude.{◌≡◌, ◌+◌, ◌<◌, ◌^◌};
 ghost use Rattle.ob_flat_rows.specs.Rows.{row_bytes, IsShort};
 ghost use Rattle.ob_flat_rows.specs.Reads.{IsPlainRead};

@@ -1,3 +1,5 @@
+//! Rows with tags made elsewhere.
+
 ghost use Rattle.std.specs.Prelude.{◌≡◌};
 ghost use Rattle.ob_mem.specs.Memory.{disk_of_store};
 

@@ -1,3 +1,5 @@
+//! Writing the rows of a plain store.
+
 ghost use Rattle.std.specs.Prelude.{◌≡◌, ◌<◌, ◌≤◌, ◌+◌, ◌^◌, length, replicate, slice_index_or, OnOk, Option, None};
 ghost use Rattle.ob_store.specs.Images.{SameOff, Passes};
 ghost use Rattle.ob_store.specs.Calls.{Serves, IsFailed, Holds};
@@ -57,13 +59,20 @@ pub fn write_rows<S: Store, W: Watch>(
     requires fits { base + length values.now < 2 ^ 64 }
     requires room { sealer.old.next + length values.now ≤ 2 ^ 62 }
     ensures serves { Serves IsFailed (S.disk store.old) (S.disk store.new) result }
-    ensures written { (S.disk store.old).tells → OnOk result (Holds base (row_cells sealer.old.keys base sealer.old.generation sealer.old.next values.now) (S.disk store.new).cells) }
-    ensures sealed { OnOk result (sealer.new ≡ record sealer.old { next = sealer.old.next + length values.now }) }
+    ensures written { (S.disk store.old).tells
+        → OnOk result (Holds base
+        (row_cells sealer.old.keys base sealer.old.generation sealer.old.next values.now)
+        (S.disk store.new).cells) }
+    ensures sealed { OnOk result (sealer.new
+        ≡ record sealer.old { next = sealer.old.next + length values.now }) }
     ensures some_sealed { IsFurther (length values.now) sealer.old sealer.new }
     ensures short { OnOk result (AreShort values.now) }
-    ensures rest { (S.disk store.old).tells → SameOff base (length values.now) (S.disk store.new).cells (S.disk store.old).cells }
-    ensures passes { Passes (SameOff base (length values.now)) (S.disk store.old) (S.disk store.new) }
-    ensures does { Does (write_notes base (length values.now)) (S.disk store.old).seen (S.disk store.new).seen (W.trace watch.old) (W.trace watch.new) result }
+    ensures rest { (S.disk store.old).tells
+        → SameOff base (length values.now) (S.disk store.new).cells (S.disk store.old).cells }
+    ensures passes { Passes (SameOff base (length values.now)) (S.disk store.old)
+        (S.disk store.new) }
+    ensures does { Does (write_notes base (length values.now)) (S.disk store.old).seen
+        (S.disk store.new).seen (W.trace watch.old) (W.trace watch.new) result }
 {
     write_sealed(
         store,
@@ -90,12 +99,18 @@ pub fn write_blanks<S: Store, W: Watch>(
     requires fits { base + keys < 2 ^ 64 }
     requires room { sealer.old.next + keys ≤ 2 ^ 62 }
     ensures serves { Serves IsFailed (S.disk store.old) (S.disk store.new) result }
-    ensures written { (S.disk store.old).tells → OnOk result (Holds base (row_cells sealer.old.keys base sealer.old.generation sealer.old.next (replicate keys None)) (S.disk store.new).cells) }
-    ensures sealed { OnOk result (sealer.new ≡ record sealer.old { next = sealer.old.next + keys }) }
+    ensures written { (S.disk store.old).tells
+        → OnOk result (Holds base
+        (row_cells sealer.old.keys base sealer.old.generation sealer.old.next (replicate keys None))
+        (S.disk store.new).cells) }
+    ensures sealed { OnOk result (sealer.new
+        ≡ record sealer.old { next = sealer.old.next + keys }) }
     ensures some_sealed { IsFurther keys sealer.old sealer.new }
-    ensures rest { (S.disk store.old).tells → SameOff base keys (S.disk store.new).cells (S.disk store.old).cells }
+    ensures rest { (S.disk store.old).tells
+        → SameOff base keys (S.disk store.new).cells (S.disk store.old).cells }
     ensures passes { Passes (SameOff base keys) (S.disk store.old) (S.disk store.new) }
-    ensures does { Does (write_notes base keys) (S.disk store.old).seen (S.disk store.new).seen (W.trace watch.old) (W.trace watch.new) result }
+    ensures does { Does (write_notes base keys) (S.disk store.old).seen (S.disk store.new).seen
+        (W.trace watch.old) (W.trace watch.new) result }
 {
     write_sealed(store, sealer, base, keys, &Blanks, watch)
 }

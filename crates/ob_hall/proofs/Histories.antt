@@ -1,20 +1,21 @@
 -- Histories of turns at a desk: as a chain of allowed calls, and by their callers.
-use Rattle.std.proofs.Common.{◌≡◌, ℕ, zero, suc, ◌==◌, Bool, true, false, cond, if◌then◌else◌, List, [], ◌∷◌, ◌++◌, flat_map, None, Some, option_map, unwrap_or, refl, sym, ap, ap₂, ◌∙◌, subst, eq-eqb, ne_eqb, eqb-true}
+use Rattle.std.proofs.Common.{◌≡◌, ℕ, zero, suc, ◌==◌, Bool, true, false, cond, if◌then◌else◌, List, [], ◌∷◌, ◌++◌, flat_map, None, Some, option_map, unwrap_or, refl, sym, ap, ap₂, ◌∙◌, subst, eq-eqb, eqb-true}
 use Rattle.std.proofs.lemmas.Bool.{false≢true}
 use Rattle.std.proofs.lemmas.Option.{same_Some}
 use Rattle.std.specs.List.{All, slice_get}
 use Rattle.std.specs.List.Sorted.{IsStrictlyIncreasing}
 use Rattle.std.proofs.lemmas.List.Elements.{All-nil, All-head, All-tail, All-append, filter-append}
-use Rattle.ob_desk.specs.Desk as desk
 use Rattle.ob_desk.specs.Desk.{DeskState, Call, Reply}
 use Rattle.ob_session.specs.Steps.{Leads, IsOwn}
 use Rattle.ob_session.specs.Clients.{client_of, is_of, said_by}
 use Rattle.ob_turn.specs.declared.turn.Entry.{Entry}
 use Rattle.ob_turn.specs.History as turns
 use Rattle.ob_turn.specs.History.{Calls, entries_of}
-use Rattle.ob_hall.specs.Turns.{numbers_of, IsBy, IsTurn}
+use Rattle.ob_hall.specs.Turns.{client_numbers, IsBy, IsTurn}
 use Rattle.ob_hall.specs.Passes.{Steps, calls_in}
-use Rattle.ob_hall.proofs.Numbers.{numbers_run, one_place}
+use Rattle.ob_session.proofs.Numbers.{numbers_run}
+use Rattle.ob_session.proofs.Saying.{leads_join, other_said}
+use Rattle.ob_hall.proofs.Numbers.{one_place}
 
 -- the calls that a turn noted, one behind the other
 abbrev pub noted_calls : List Steps → Steps
@@ -22,44 +23,16 @@ noted_calls cs = flat_map (λ (calls : Steps). calls) cs
 
 -- ---- a chain of allowed calls
 
-pub leads_append : (d : DeskState) (xs : Steps) (mid : DeskState) (ys : Steps) (new : DeskState) → Leads d xs mid → Leads mid ys new → Leads d (xs ++ ys) new
-leads_append d [] mid ys new is leads = subst (λ (q : DeskState). Leads q ys new) is leads
-leads_append d (x ∷ xs) mid ys new (next, may, step, rest) leads = (next, may, step, leads_append next xs mid ys new rest leads)
-
-calls_lead : (by : ℕ) (x : DeskState) (cs : List Steps) (y : DeskState) → Calls IsTurn by x cs y → Leads x (noted_calls cs) y
+pub calls_lead : (by : ℕ) (x : DeskState) (cs : List Steps) (y : DeskState) → Calls IsTurn by x cs y → Leads x (noted_calls cs) y
 calls_lead by x [] y is = sym is
-calls_lead by x (c ∷ cs) y (z, turn, rest) = leads_append x c z (noted_calls cs) y turn.0 (calls_lead by z cs y rest)
+calls_lead by x (c ∷ cs) y (z, turn, rest) = leads_join x c z (noted_calls cs) y turn.0 (calls_lead by z cs y rest)
 
 -- The calls of a legal history are a chain of allowed calls.
-pub history_leads : (x : DeskState) (es : List (Entry Steps)) (y : DeskState) → turns.Leads IsTurn x es y → Leads x (calls_in es) y
+pub history_leads : (x : DeskState) (es : List (Entry Steps)) (y : DeskState) → turns.LeadsByTurns IsTurn x es y → Leads x (calls_in es) y
 history_leads x [] y is = sym is
-history_leads x (e ∷ es) y (z, calls, rest) = leads_append x (noted_calls e.calls) z (calls_in es) y (calls_lead e.by x e.calls z calls) (history_leads z es y rest)
+history_leads x (e ∷ es) y (z, calls, rest) = leads_join x (noted_calls e.calls) z (calls_in es) y (calls_lead e.by x e.calls z calls) (history_leads z es y rest)
 
 -- ---- who called what
-
--- another client's calls are none of this one's
-not_of : (c e : ℕ) (call : Call) (reply : Reply) → (e ≡ c → ⊥) → IsOwn e (call, reply) → is_of c call ≡ false
-not_of c e (desk.Begin number) reply other own = ne_eqb number c (λ is. other (sym own ∙ is))
-not_of c e (desk.GetKey x k) reply other own = ne_eqb x.client c (λ is. other (sym own ∙ is))
-not_of c e (desk.Poll x) reply other own = ne_eqb x.client c (λ is. other (sym own ∙ is))
-not_of c e (desk.Write x k value) reply other own = ne_eqb x.client c (λ is. other (sym own ∙ is))
-not_of c e (desk.Commit x) reply other own = ne_eqb x.client c (λ is. other (sym own ∙ is))
-not_of c e (desk.Abort x) reply other own = ne_eqb x.client c (λ is. other (sym own ∙ is))
-not_of c e (desk.Settled x) reply other own = ne_eqb x.client c (λ is. other (sym own ∙ is))
-not_of c e (desk.SignOff number) reply other own = ne_eqb number c (λ is. other (sym own ∙ is))
-not_of c e (desk.Stop f) reply other own = refl
-not_of c e desk.IsStopped reply other own = refl
-not_of c e desk.Looks reply other own = absurd own
-not_of c e (desk.Unsure f) reply other own = absurd own
-not_of c e desk.TakeBatch reply other own = absurd own
-not_of c e (desk.Deliver keys values) reply other own = absurd own
-not_of c e desk.Close reply other own = absurd own
-not_of c e (desk.Publish epoch left) reply other own = absurd own
-
-pub other_said : (c e : ℕ) (steps : Steps) → (e ≡ c → ⊥) → All (IsOwn e) steps → said_by c steps ≡ []
-other_said c e [] other own = refl
-other_said c e (step ∷ steps) other own =
-    ap (λ b. cond b (step ∷ said_by c steps) (said_by c steps)) (not_of c e step.0 step.1 other (All-head (IsOwn e) step steps own)) ∙ other_said c e steps other (All-tail (IsOwn e) step steps own)
 
 abbrev pub IsNoClients : Call × Reply → Type 0
 IsNoClients step = client_of step.0 ≡ None
@@ -70,12 +43,12 @@ none_said c [] none = refl
 none_said c (step ∷ steps) none =
     ap (λ o. cond (unwrap_or (option_map (λ n. n == c) o) false) (step ∷ said_by c steps) (said_by c steps)) (All-head IsNoClients step steps none) ∙ none_said c steps (All-tail IsNoClients step steps none)
 
-silent : (ns : List ℕ) (number i by : ℕ) (d : DeskState) (calls : Steps) → IsStrictlyIncreasing ns → slice_get ns i ≡ Some number → (suc i ≡ by → ⊥) → numbers_of d ≡ ns → IsBy by d calls → said_by number calls ≡ []
+silent : (ns : List ℕ) (number i by : ℕ) (d : DeskState) (calls : Steps) → IsStrictlyIncreasing ns → slice_get ns i ≡ Some number → (suc i ≡ by → ⊥) → client_numbers d ≡ ns → IsBy by d calls → said_by number calls ≡ []
 silent ns number i zero d calls up named other same by = none_said number calls by
 silent ns number i (suc j) d calls up named other same (m, got, own) =
     other_said number m calls (λ is. other (ap suc (one_place ns i j number up named (ap (λ (l : List ℕ). slice_get l j) (sym same) ∙ (got ∙ ap Some is))))) own
 
-calls_silent : (ns : List ℕ) (number i by : ℕ) (x : DeskState) (cs : List Steps) (y : DeskState) → IsStrictlyIncreasing ns → slice_get ns i ≡ Some number → (suc i ≡ by → ⊥) → numbers_of x ≡ ns → Calls IsTurn by x cs y
+calls_silent : (ns : List ℕ) (number i by : ℕ) (x : DeskState) (cs : List Steps) (y : DeskState) → IsStrictlyIncreasing ns → slice_get ns i ≡ Some number → (suc i ≡ by → ⊥) → client_numbers x ≡ ns → Calls IsTurn by x cs y
     → said_by number (noted_calls cs) ≡ []
 calls_silent ns number i by x [] y up named other same calls = refl
 calls_silent ns number i by x (c ∷ cs) y up named other same (z, turn, rest) =
@@ -83,7 +56,7 @@ calls_silent ns number i by x (c ∷ cs) y up named other same (z, turn, rest) =
     ∙ ap₂ (λ (a b : Steps). a ++ b) (silent ns number i by x c up named other same turn.1) (calls_silent ns number i by z cs y up named other (numbers_run x c z turn.0 ∙ same) rest)
 
 -- A client's calls in a legal history are those of its own pass's entries.
-pub said_own : (ns : List ℕ) (number i : ℕ) (x : DeskState) (es : List (Entry Steps)) (y : DeskState) → IsStrictlyIncreasing ns → slice_get ns i ≡ Some number → numbers_of x ≡ ns → turns.Leads IsTurn x es y
+pub said_own : (ns : List ℕ) (number i : ℕ) (x : DeskState) (es : List (Entry Steps)) (y : DeskState) → IsStrictlyIncreasing ns → slice_get ns i ≡ Some number → client_numbers x ≡ ns → turns.LeadsByTurns IsTurn x es y
     → said_by number (calls_in es) ≡ said_by number (calls_in (entries_of (suc i) es))
 said_own ns number i x [] y up named same leads = refl
 said_own ns number i x (e ∷ es) y up named same (z, calls, rest) =
@@ -103,7 +76,7 @@ driver_calls by x [] y is calls = All-nil IsNoClients
 driver_calls by x (c ∷ cs) y is (z, turn, rest) = All-append IsNoClients c (noted_calls cs) (subst (λ (n : ℕ). IsBy n x c) is turn.1) (driver_calls by z cs y is rest)
 
 -- The entries of place 0 have no client's call.
-pub driver_alone : (x : DeskState) (es : List (Entry Steps)) (y : DeskState) → turns.Leads IsTurn x es y → All IsNoClients (calls_in (entries_of 0 es))
+pub driver_alone : (x : DeskState) (es : List (Entry Steps)) (y : DeskState) → turns.LeadsByTurns IsTurn x es y → All IsNoClients (calls_in (entries_of 0 es))
 driver_alone x [] y leads = All-nil IsNoClients
 driver_alone x (e ∷ es) y (z, calls, rest) = by_caller (0 == e.by) refl (driver_alone z es y rest)
   where
@@ -113,14 +86,14 @@ driver_alone x (e ∷ es) y (z, calls, rest) = by_caller (0 == e.by) refl (drive
 
 -- ---- a client's entries
 
-client_calls : (ns : List ℕ) (number i by : ℕ) (x : DeskState) (cs : List Steps) (y : DeskState) → slice_get ns i ≡ Some number → by ≡ suc i → numbers_of x ≡ ns → Calls IsTurn by x cs y → All (IsOwn number) (noted_calls cs)
+client_calls : (ns : List ℕ) (number i by : ℕ) (x : DeskState) (cs : List Steps) (y : DeskState) → slice_get ns i ≡ Some number → by ≡ suc i → client_numbers x ≡ ns → Calls IsTurn by x cs y → All (IsOwn number) (noted_calls cs)
 client_calls ns number i by x [] y named is same calls = All-nil (IsOwn number)
 client_calls ns number i by x (c ∷ cs) y named is same (z, turn, rest) =
     let mine : IsBy (suc i) x c = subst (λ (n : ℕ). IsBy n x c) is turn.1 in
     let one : mine.0 ≡ number = same_Some mine.0 number (sym mine.1 ∙ (ap (λ (l : List ℕ). slice_get l i) same ∙ named)) in
     All-append (IsOwn number) c (noted_calls cs) (subst (λ (n : ℕ). All (IsOwn n) c) one mine.2) (client_calls ns number i by z cs y named is (numbers_run x c z turn.0 ∙ same) rest)
 
-pub client_alone : (ns : List ℕ) (number i : ℕ) (x : DeskState) (es : List (Entry Steps)) (y : DeskState) → slice_get ns i ≡ Some number → numbers_of x ≡ ns → turns.Leads IsTurn x es y → All (IsOwn number) (calls_in (entries_of (suc i) es))
+pub client_alone : (ns : List ℕ) (number i : ℕ) (x : DeskState) (es : List (Entry Steps)) (y : DeskState) → slice_get ns i ≡ Some number → client_numbers x ≡ ns → turns.LeadsByTurns IsTurn x es y → All (IsOwn number) (calls_in (entries_of (suc i) es))
 client_alone ns number i x [] y named same leads = All-nil (IsOwn number)
 client_alone ns number i x (e ∷ es) y named same (z, calls, rest) =
     by_caller (suc i == e.by) refl (client_alone ns number i z es y named (numbers_run x (noted_calls e.calls) z (calls_lead e.by x e.calls z calls) ∙ same) rest)

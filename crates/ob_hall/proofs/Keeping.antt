@@ -5,18 +5,17 @@ use Rattle.atomic_table.specs.declared.shared.Seat.{Seat}
 use Rattle.ob_session.specs.Clients.{told_of, last_of, has_signed_off}
 use Rattle.ob_turn.specs.declared.bell.Heard.{Heard}
 use Rattle.ob_turn.specs.declared.turn.View.{View}
-use Rattle.ob_turn.specs.BellCalls as bells
 use Rattle.ob_turn.specs.History.{entries_of}
 use Rattle.ob_turn.specs.TurnCalls as turns
 use Rattle.ob_turn.specs.TurnCalls.{TurnSeat}
-use Rattle.ob_hall.specs.Passes.{Steps, Hall, Pass, said_of, IsPassOf, IsOutOfTurn, EntersTurn, NotesTurn, LeavesTurn, IsTold, IsRaised}
+use Rattle.ob_hall.specs.Passes.{Steps, Hall, Pass, said_of, IsPassOf, IsOutOfTurn, IsEarOf, EntersTurn, NotesTurn, LeavesTurn, IsNumberTold, IsRaised}
 use Rattle.ob_hall.specs.Calling.{IsReady, StandsAs}
 
 abbrev TSeat : Type 0
 TSeat = TurnSeat DeskState Steps
 
 abbrev IsEar : Hall → Seat (Unit {0}) Heard → Type 0
-IsEar hall ear = bells.IsOf hall.bell ear
+IsEar hall ear = IsEarOf hall ear
 
 pub entered_own : (hall : Hall) (before after : Pass) (d : DeskState) → IsPassOf hall before → EntersTurn hall before after d → IsPassOf hall after
 entered_own hall before after d own e = record {
@@ -55,7 +54,7 @@ left_out hall before after calls own l = record {
   empty = λ i. (l.ends.knows i).1;
 }
 
-with_ear : (hall : Hall) (before after : Pass) → IsPassOf hall before → after.seat ≡ before.seat → bells.IsOf hall.bell after.ear → IsPassOf hall after
+with_ear : (hall : Hall) (before after : Pass) → IsPassOf hall before → after.seat ≡ before.seat → IsEarOf hall after.ear → IsPassOf hall after
 with_ear hall before after own seat ear = record {
   seat = ap (λ (s : TSeat). s.table_id) seat ∙ own.seat;
   ear = ear;
@@ -65,14 +64,22 @@ with_ear hall before after own seat ear = record {
   one_part = ap (λ (s : TSeat). s.me.0.parts) seat ∙ own.one_part;
 }
 
-pub told_own : (hall : Hall) (before after : Pass) (number : ℕ) → IsPassOf hall before → IsTold before after number → IsPassOf hall after
-told_own hall before after number own t = with_ear hall before after own t.seat (record { table = t.reads.same.table ∙ own.ear.table; empty = t.reads.same.empty ∙ own.ear.empty })
+pub told_own : (hall : Hall) (before after : Pass) (number : ℕ) → IsPassOf hall before → IsNumberTold before after number → IsPassOf hall after
+told_own hall before after number own t = with_ear hall before after own t.seat (record {
+  bell = record { table = t.reads.same.table ∙ own.ear.bell.table; empty = t.reads.same.empty ∙ own.ear.bell.empty };
+  one_part = (λ i. (t.reads.knows i).parts) ∙ own.ear.one_part;
+  as_many = own.ear.as_many;
+})
 
 pub raised_own : (hall : Hall) (before after : Pass) (epoch : ℕ) → IsPassOf hall before → IsRaised before after epoch → IsPassOf hall after
-raised_own hall before after epoch own r = with_ear hall before after own r.seat (record { table = r.raises.same.table ∙ own.ear.table; empty = r.raises.same.empty ∙ own.ear.empty })
+raised_own hall before after epoch own r = with_ear hall before after own r.seat (record {
+  bell = record { table = r.raises.same.table ∙ own.ear.bell.table; empty = r.raises.same.empty ∙ own.ear.bell.empty };
+  one_part = (λ i. (r.raises.knows i).parts) ∙ own.ear.one_part;
+  as_many = own.ear.as_many;
+})
 
 -- Where its client stands it stands still.
-pub told_stands : (before after : Pass) (number : ℕ) → IsTold before after number → StandsAs before after
+pub told_stands : (before after : Pass) (number : ℕ) → IsNumberTold before after number → StandsAs before after
 told_stands before after number t =
     let said : said_of after ≡ said_of before = λ i. said_of (record { seat = t.seat i; ear = before.ear; client = t.client i; last = before.last }) in (
       λ b. record { here = ap has_signed_off said ∙ b.here; over = λ u is. b.over u (sym (ap (λ (s : Steps). last_of (told_of s)) said) ∙ is) },
@@ -86,7 +93,7 @@ told_stands before after number t =
       },
     )
 
-pub told_ready : (hall : Hall) (before after : Pass) (number : ℕ) → IsTold before after number → IsReady hall before → IsReady hall after
+pub told_ready : (hall : Hall) (before after : Pass) (number : ℕ) → IsNumberTold before after number → IsReady hall before → IsReady hall after
 told_ready hall before after number t r = record {
   own = told_own hall before after number r.own t;
   idle = subst (λ (s : TSeat). turns.IsIdle s) (sym t.seat) r.idle;

@@ -11,5 +11,8 @@ pub mod Gathering
 pub mod Stepping
 pub mod Afterwards
 pub mod Keeping
+pub mod Rounds
 pub mod Sent
 pub mod Trying
+pub mod Counting
+pub mod Visiting

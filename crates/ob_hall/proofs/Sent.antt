@@ -1,6 +1,7 @@
 -- A desk may go to another thread, and so may a seat at a turn of desks.
 use denote.Param.Send.{IsSend, IsSync, sendable}
 use denote.RattleType.{RattleType}
+use Rattle.std.proofs.Crossing.{crosses}
 use Rattle.ob_desk.specs.contracts.desk.Desk as Desk
 use Rattle.ob_desk.proofs.desk.Desk.TheSendSync as desk_law
 use Rattle.atomic_table.specs.contracts.shared.Seat as Seat
@@ -12,6 +13,9 @@ use Rattle.ob_turn.proofs.turn.Board.TheSendSync as board_law
 use Rattle.ob_turn.specs.contracts.turn.Opened as Opened
 use Rattle.atomic_table.specs.declared.shared.TableRule as rule
 use Rattle.ob_hall.specs.contracts.turned.Turned as Turned
+use Rattle.std.specs.contracts.snapshot.Snapshot as Snapshot
+use Rattle.ob_hall.specs.contracts.hall.Beside as Beside
+use Rattle.ob_hall.proofs.hall.Beside.TheSendSync as beside_law
 
 pub desk_sent : IsSend Desk.the_row
 desk_sent = desk_law.the_send
@@ -34,3 +38,10 @@ module _ (S V K P : RattleType) (g : rule.Ghosts P.Denot S.Denot V.Denot K.Denot
 pub hall_shared : (P : RattleType) (g : rule.Ghosts P.Denot (Slot.the_row Desk.the_row Turned.the_row).Denot (View.the_row Desk.the_row Turned.the_row).Denot (Opened.the_row Desk.the_row).Denot)
     → IsSync (Board.the_row (Slot.the_row Desk.the_row Turned.the_row) (View.the_row Desk.the_row Turned.the_row) (Opened.the_row Desk.the_row) P g)
 hall_shared P g = board_shared (Slot.the_row Desk.the_row Turned.the_row) (View.the_row Desk.the_row Turned.the_row) (Opened.the_row Desk.the_row) P g (slot_sent Desk.the_row Turned.the_row desk_sent)
+
+-- a hall's parts
+pub both_shared : (A B C : RattleType) → IsSync A → IsSync B → IsSync C → IsSync (Beside.the_row A B C)
+both_shared A B C a b c = beside_law.the_sync A B C a b c
+
+pub kept_shared : (T : RattleType) → IsSync (Snapshot.the_row T)
+kept_shared T = search (sendable, crosses) depth 40

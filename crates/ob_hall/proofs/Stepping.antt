@@ -7,7 +7,7 @@ use Rattle.ob_session.specs.Steps as steps
 use Rattle.ob_session.specs.Steps.{IsOwn}
 use Rattle.ob_session.specs.Clients.{said_by}
 use Rattle.ob_hall.specs.Passes.{Steps, Hall, Pass, said_of, EntersTurn, LeavesTurn}
-use Rattle.ob_hall.specs.Calling.{IsReady, Tells}
+use Rattle.ob_hall.specs.Calling.{IsReady, TellsCalls}
 use Rattle.ob_hall.specs.Driving.{TurnSays, DriveSays}
 use Rattle.ob_hall.proofs.Making.{one_turn}
 use Rattle.ob_hall.proofs.Turning.{are_by}
@@ -19,10 +19,10 @@ pub said_after : (hall : Hall) (before mid after : Pass) (d new : DeskState) (ca
 said_after hall before mid after d new calls ready entered led own l =
     said_more hall before after calls (one_turn hall before mid after d new calls ready.own entered led (are_by hall before mid d ready entered calls own) l)
 
-pub drive_begins : (hall : Hall) (before now : Pass) → Tells hall before now (TurnSays before.client (said_of before)) → Tells hall before now (DriveSays before.client)
+pub drive_begins : (hall : Hall) (before now : Pass) → TellsCalls hall before now (TurnSays before.client (said_of before)) → TellsCalls hall before now (DriveSays before.client)
 drive_begins hall before now t = record { calls = t.calls; says = t.says.0; made = t.made }
 
-pub drive_goes_on : (hall : Hall) (before now after : Pass) → Tells hall before now (DriveSays before.client) → Tells hall now after (TurnSays now.client (said_of now)) → Tells hall before after (DriveSays before.client)
+pub drive_goes_on : (hall : Hall) (before now after : Pass) → TellsCalls hall before now (DriveSays before.client) → TellsCalls hall now after (TurnSays now.client (said_of now)) → TellsCalls hall before after (DriveSays before.client)
 drive_goes_on hall before now after t u = record {
   calls = t.calls ++ u.calls;
   says = All-append (IsOwn before.client) t.calls u.calls t.says (subst (λ (n : ℕ). All (IsOwn n) u.calls) t.made.client u.says.0);

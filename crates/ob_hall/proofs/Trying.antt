@@ -1,38 +1,47 @@
 -- Where a client of the tests stands.
-use Rattle.std.proofs.Common.{◌≡◌, ℕ, suc, List, [], ◌∷◌, ◌++◌, length, remove, slice_index_or, None, Result, Ok, Err, refl, sym, ap, subst, ◌∙◌}
+use Rattle.std.proofs.Common.{◌≡◌, ℕ, suc, Bool, true, false, List, [], ◌∷◌, ◌++◌, length, remove, slice_index_or, None, Result, Ok, Err, refl, sym, ap, subst, ◌∙◌}
 use Rattle.std.specs.List.{All}
-use Rattle.std.proofs.lemmas.List.Elements.{All-nil, All-weaker, All-push}
+use Rattle.std.proofs.lemmas.List.Elements.{All-nil, All-cons, All-weaker, All-push}
+use Rattle.ob_base.specs.declared.fault.Fault.{Fault}
 use Rattle.ob_serial.specs.declared.records.Why.{Why}
 use Rattle.ob_desk.specs.declared.calls.Begun.{Begun as CodeBegun}
 use Rattle.ob_desk.specs.declared.calls.Begun.TheVariants as begun
-use Rattle.ob_desk.specs.declared.calls.Txn.{Txn as TxnId}
+use Rattle.ob_desk.specs.declared.calls.Txn.{Txn}
 use Rattle.ob_hall.specs.declared.calls.Refused.{Refused}
 use Rattle.ob_hall.specs.declared.calls.Refused.TheVariants as refused
-use Rattle.ob_desk.specs.Desk.{DeskState}
-use Rattle.ob_session.specs.Clients.{client_of}
+use Rattle.ob_desk.specs.Desk as desk
+use Rattle.ob_desk.specs.Desk.{DeskState, DeskStep}
+use Rattle.ob_session.specs.Clients.{client_of, said_by}
+use Rattle.ob_turn.specs.declared.turn.Entry.{Entry}
 use Rattle.ob_turn.specs.History.{IsAt}
 use Rattle.ob_hall.specs.Turns.{IsBy, IsTurn}
 use Rattle.ob_hall.specs.Opening.{AreClients, ArePasses}
-use Rattle.ob_hall.specs.Passes.{Hall, Pass, opening_of, place_of, EntersTurn}
-use Rattle.ob_hall.specs.Testing.{IsOpened}
+use Rattle.ob_hall.specs.Passes.{Steps, Hall, Pass, opening_of, pass_place, calls_in, said_of, EntersTurn}
+use Rattle.ob_hall.specs.Rounds.{rounds_of}
+use Rattle.ob_hall.specs.Testing.{IsOpenedHall, IsInTxn, IsInTxnOrNot}
 use Rattle.ob_hall.proofs.Making.{one_note}
 use Rattle.ob_hall.proofs.Gathering.{first_items}
 use Rattle.ob_hall.specs.Calling.{IsReady, IsBetween, IsIn, BeginStands, HasNotSignedOff, StaysIn}
 
--- it is in a transaction, and hasn't signed off
-abbrev pub IsInside : Pass → Type 0
-IsInside pass = (x : TxnId) × IsIn pass x × HasNotSignedOff pass
-
-pub stays_inside : {A : Type 0} (result : Result A Refused) (before after : Pass) → ((x : TxnId) → IsIn before x → StaysIn result before after x) → IsInside before → IsInside after
+pub stays_inside : {A : Type 0} (result : Result A Refused) (before after : Pass) → ((x : Txn) → IsIn before x → StaysIn result before after x) → IsInTxn before → IsInTxn after
 stays_inside result before after stands (x, i, here) = (x, (stands x i).0, (stands x i).1 here)
 
-pub its_txn : (pass : Pass) → IsInside pass → (x : TxnId) × IsIn pass x
+pub its_txn : (pass : Pass) → IsInTxn pass → (x : Txn) × IsIn pass x
 its_txn pass (x, i, here) = (x, i)
 
-pub begun_inside : (pass : Pass) (reply : CodeBegun) (x : TxnId) → reply ≡ begun.Txn x → BeginStands (Ok reply) pass → IsInside pass
+pub begun_inside : (pass : Pass) (reply : CodeBegun) (x : Txn) → reply ≡ begun.Txn x → BeginStands (Ok reply) pass → IsInTxn pass
 begun_inside pass reply x is stands = let s : BeginStands (Ok (begun.Txn x)) pass = subst (λ (r : CodeBegun). BeginStands (Ok r) pass) is stands in (x, s.0, s.1)
 
-pub is_over : (A : Type 0) (f : Refused) (why : Why ℕ) (before after : Pass) → f ≡ refused.Aborted why → ((x : TxnId) → IsIn before x → StaysIn {A = A} (Err f) before after x) → IsInside before → IsBetween after
+pub refused_between : (pass : Pass) (reply : CodeBegun) (f : Fault) → reply ≡ begun.Stopped f → BeginStands (Ok reply) pass → IsBetween pass
+refused_between pass reply f is stands = subst (λ (r : CodeBegun). BeginStands (Ok r) pass) is stands
+
+pub is_inside : (b : Bool) (pass : Pass) → b ≡ true → IsInTxnOrNot b pass → IsInTxn pass
+is_inside b pass is stands = subst (λ (c : Bool). IsInTxnOrNot c pass) is stands
+
+pub is_between : (b : Bool) (pass : Pass) → b ≡ false → IsInTxnOrNot b pass → IsBetween pass
+is_between b pass is stands = subst (λ (c : Bool). IsInTxnOrNot c pass) is stands
+
+pub is_over : (A : Type 0) (f : Refused) (why : Why ℕ) (before after : Pass) → f ≡ refused.Aborted why → ((x : Txn) → IsIn before x → StaysIn {A = A} (Err f) before after x) → IsInTxn before → IsBetween after
 is_over A f why before after is stands (x, i, here) =
     let s : StaysIn {A = A} (Err (refused.Aborted why)) before after x = subst (λ (r : Refused). StaysIn {A = A} (Err r) before after x) is (stands x i) in s.2 here
 
@@ -48,11 +57,20 @@ as_many hall at [] (p ∷ passes) are = absurd are
 as_many hall at (n ∷ clients) [] are = absurd are
 as_many hall at (n ∷ clients) (p ∷ passes) (fresh, client, mute, more) = ap suc (as_many hall (suc at) clients passes more)
 
-pub opened_is : (keys : ℕ) (hall : Hall) (clients : List ℕ) (all rest : List Pass) (driver : Pass) → ArePasses hall clients all → driver ≡ slice_index_or all 0 driver → rest ≡ remove all 0 → (opening_of hall).setup.params.keys ≡ keys → IsOpened keys hall driver rest
-opened_is keys hall clients all rest driver a driver_is rest_is keys_are =
+-- none of them has said anything
+unsaid : (hall : Hall) (at : ℕ) (clients : List ℕ) (passes : List Pass) → AreClients hall at clients passes → All (λ p. said_of p ≡ []) passes
+unsaid hall at [] [] are = All-nil (λ p. said_of p ≡ [])
+unsaid hall at [] (p ∷ passes) are = absurd are
+unsaid hall at (n ∷ clients) [] are = absurd are
+unsaid hall at (n ∷ clients) (p ∷ passes) (fresh, client, mute, more) =
+    All-cons (λ q. said_of q ≡ []) p passes (ap (λ (es : List (Entry Steps)). said_by p.client (calls_in es)) fresh.none_made) (unsaid hall (suc at) clients passes more)
+
+pub opened_is : (keys : ℕ) (hall : Hall) (clients : List ℕ) (all rest : List Pass) (driver : Pass) → ArePasses hall clients all → driver ≡ slice_index_or all 0 driver → rest ≡ remove all 0 → (opening_of hall).setup.params.keys ≡ keys
+    → (rounds_of (opening_of hall)).has_closed ≡ false → IsOpenedHall keys hall driver rest
+opened_is keys hall clients all rest driver a driver_is rest_is keys_are none_closed =
     let first : driver ≡ a.driver = driver_is ∙ ap (λ (ps : List Pass). slice_index_or ps 0 driver) a.are in
     let others : rest ≡ a.others = rest_is ∙ ap (λ (ps : List Pass). remove ps 0) a.are in
-    let base : IsOpened keys hall a.driver a.others = record {
+    let base : IsOpenedHall keys hall a.driver a.others = record {
       own = a.first.own;
       idle = a.first.idle;
       place = a.first.place;
@@ -62,12 +80,26 @@ opened_is keys hall clients all rest driver a driver_is rest_is keys_are =
       between = All-weaker (λ p. IsReady hall p × IsBetween p) (λ p. IsBetween p) (λ p both. both.1) a.others a.ready;
       count = ap suc (as_many hall 0 clients a.others a.clients_are) ∙ sym a.callers;
       keys_are = keys_are;
+      unmade = a.first.none_made;
+      unsaid = unsaid hall 0 clients a.others a.clients_are;
+      none_closed = none_closed;
     } in
-    subst (λ (p : Pass). IsOpened keys hall p rest) (sym first) (subst (λ (ps : List Pass). IsOpened keys hall a.driver ps) (sym others) base)
+    subst (λ (p : Pass). IsOpenedHall keys hall p rest) (sym first) (subst (λ (ps : List Pass). IsOpenedHall keys hall a.driver ps) (sym others) base)
 
 -- ---- the driver's turn in which nothing is called
 
-pub idle_turn : (hall : Hall) (before mid : Pass) (d : DeskState) → EntersTurn hall before mid d → place_of before ≡ 0 → IsAt IsTurn mid.seat.me.0 (mid.seat.me.0.noted ++ [] ∷ []) d
+pub idle_turn : (hall : Hall) (before mid : Pass) (d : DeskState) → EntersTurn hall before mid d → pass_place before ≡ 0 → IsAt IsTurn mid.seat.me.0 (mid.seat.me.0.noted ++ [] ∷ []) d
 idle_turn hall before mid d e place =
-    let place_mid : place_of mid ≡ 0 = (λ i. (e.enters.knows i).by) ∙ place in
+    let place_mid : pass_place mid ≡ 0 = (λ i. (e.enters.knows i).by) ∙ place in
     one_note hall before mid d d [] e refl (subst (λ (n : ℕ). IsBy n d []) (sym place_mid) (All-nil (λ s. client_of s.0 ≡ None)))
+
+-- ---- the driver's turn in which the desk is stopped
+
+pub stopped_turn : (hall : Hall) (before mid : Pass) (d new : DeskState) (f : Fault) (last : Steps) → EntersTurn hall before mid d → pass_place before ≡ 0 → DeskStep d (desk.Stop f) desk.Done new → last ≡ (desk.Stop f, desk.Done) ∷ []
+    → IsAt IsTurn mid.seat.me.0 (mid.seat.me.0.noted ++ last ∷ []) new
+stopped_turn hall before mid d new f last e place step is =
+    let place_mid : pass_place mid ≡ 0 = (λ i. (e.enters.knows i).by) ∙ place in
+    let calls : Steps = (desk.Stop f, desk.Done) ∷ [] in
+    let none : All (λ s. client_of s.0 ≡ None) calls = All-cons (λ s. client_of s.0 ≡ None) (desk.Stop f, desk.Done) [] refl (All-nil (λ s. client_of s.0 ≡ None)) in
+    subst (λ (l : Steps). IsAt IsTurn mid.seat.me.0 (mid.seat.me.0.noted ++ l ∷ []) new) (sym is)
+    (one_note hall before mid d new calls e (new, tt, step, refl) (subst (λ (n : ℕ). IsBy n d calls) (sym place_mid) none))

@@ -6,7 +6,7 @@ use Rattle.ob_desk.specs.Desk.{DeskState, Call, Reply}
 use Rattle.ob_desk.specs.Calls.{begun_reply}
 use Rattle.ob_desk.specs.declared.calls.Begun.{Begun as CodeBegun}
 use Rattle.ob_desk.specs.declared.calls.Begun.TheVariants as begun
-use Rattle.ob_desk.specs.declared.calls.Txn.{Txn as TxnId}
+use Rattle.ob_desk.specs.declared.calls.Txn.{Txn}
 use Rattle.ob_base.specs.declared.fault.Memory.{Memory}
 use Rattle.ob_serial.specs.declared.records.Why.{Why}
 use Rattle.ob_serial.specs.declared.records.Outcome.{Outcome}
@@ -16,7 +16,7 @@ use Rattle.ob_turn.specs.declared.turn.Entry.{Entry}
 use Rattle.ob_turn.specs.History.{entries_of}
 use Rattle.ob_hall.specs.declared.calls.Refused.{Refused}
 use Rattle.ob_hall.specs.declared.calls.Refused.TheVariants as refused
-use Rattle.ob_hall.specs.Passes.{Steps, Hall, Pass, place_of, history_of, entries_by, calls_in, said_of, last_of_pass, IsPassOf, IsOutOfTurn, IsClients, IsLegal}
+use Rattle.ob_hall.specs.Passes.{Steps, Hall, Pass, pass_place, history_of, entries_by, calls_in, said_of, last_of_pass, IsPassOf, IsOutOfTurn, IsClients, IsLegal}
 
 -- A client's pass at this hall, in no turn.
 pub record IsReady (hall : Hall) (pass : Pass) : Type 0 where
@@ -25,20 +25,20 @@ pub record IsReady (hall : Hall) (pass : Pass) : Type 0 where
   pub clients : IsClients hall pass
 
 -- the transaction was told to be over
-abbrev pub IsOver : Told → Type 0
-IsOver t = (outcome : Outcome ℕ) × (t.ended ≡ Some outcome)
+abbrev pub IsTxnOver : Told → Type 0
+IsTxnOver t = (outcome : Outcome ℕ) × (t.ended ≡ Some outcome)
 
 -- The client hasn't signed off, and its last transaction, if it has one, is over.
 pub record IsBetween (pass : Pass) : Type 0 where
   pub here : has_signed_off (said_of pass) ≡ false
-  pub over : (t : Told) → last_of (told_of (said_of pass)) ≡ Some t → IsOver t
+  pub over : (t : Told) → last_of (told_of (said_of pass)) ≡ Some t → IsTxnOver t
 
 -- The transaction was told to be aborted; or it wasn't told how it ended, hasn't asked to commit, and waits for no key.
 abbrev pub MayGoOn : Told → Type 0
 MayGoOn t = ((why : Why ℕ) × (t.ended ≡ Some (AbortedBy why))) ⊎ ((t.ended ≡ None) × (t.asked ≡ false) × (t.waiting ≡ None))
 
 -- The client's last transaction is this one, in which it may go on.
-pub record IsIn (pass : Pass) (x : TxnId) : Type 0 where
+pub record IsIn (pass : Pass) (x : Txn) : Type 0 where
   pub told : Told
   pub last : last_of (told_of (said_of pass)) ≡ Some told
   pub named : told.txn ≡ x
@@ -47,15 +47,15 @@ pub record IsIn (pass : Pass) (x : TxnId) : Type 0 where
   pub open_is : MayGoOn told
 
 -- These calls of the pass, one behind the other, are its new entries in the one history: that begins with what the pass had seen, is legal from the desk that the hall was made with, and ends with the last of these entries; and of the pass's own entries it has those that it had made and these, each once. Entries of others stand between.
-pub record Makes (hall : Hall) (before after : Pass) (calls : Steps) : Type 0 where
+pub record MakesCalls (hall : Hall) (before after : Pass) (calls : Steps) : Type 0 where
   pub goes_on : IsPrefix (history_of before) (history_of after)
   pub legal : (d : DeskState) × IsLegal hall (history_of after) d
   pub new : List (Entry Steps)
   pub made : entries_by after ≡ entries_by before ++ new
   pub calls_are : calls_in new ≡ calls
-  pub own : entries_of (place_of after) (history_of after) ≡ entries_by after
+  pub own : entries_of (pass_place after) (history_of after) ≡ entries_by after
   pub last : (front : List (Entry Steps)) × (others : List (Entry Steps)) × (e : Entry Steps) × (new ≡ front ++ e ∷ []) × (history_of after ≡ others ++ e ∷ [])
-  pub place : place_of after ≡ place_of before
+  pub place : pass_place after ≡ pass_place before
   pub client : after.client ≡ before.client
 
 -- what a begin calls, where it is answered so
@@ -64,7 +64,7 @@ BeginSays client (Ok reply) calls = calls ≡ (desk.Begin client, begun_reply re
 BeginSays client (Err memory) calls = calls ≡ []
 
 -- the last transaction behind a begin that was answered so
-abbrev pub last_begun : Option TxnId → Result CodeBegun Memory → Option TxnId
+abbrev pub last_begun : Option Txn → Result CodeBegun Memory → Option Txn
 last_begun last (Ok (begun.Txn x)) = Some x
 last_begun last _ = last
 
@@ -74,21 +74,21 @@ IsNamed client (Ok (begun.Txn x)) = x.client ≡ client
 IsNamed client _ = Unit {0}
 
 -- what a put or a delete calls, where it is answered so
-abbrev pub WriteSays : TxnId → ℕ → Option (List ℕ) → Result (Unit {0}) Refused → Steps → Type 0
+abbrev pub WriteSays : Txn → ℕ → Option (List ℕ) → Result (Unit {0}) Refused → Steps → Type 0
 WriteSays x key value (Ok done) calls = calls ≡ (desk.Write x key value, desk.Done) ∷ []
 WriteSays x key value (Err (refused.Aborted why)) calls = calls ≡ (desk.Write x key value, desk.Aborted why) ∷ []
 WriteSays x key value (Err refused.Memory) calls = calls ≡ []
 
 -- these calls were made, and have these answers
-pub record Tells (hall : Hall) (before after : Pass) (Says : Steps → Type 0) : Type 0 where
+pub record TellsCalls (hall : Hall) (before after : Pass) (Says : Steps → Type 0) : Type 0 where
   pub calls : Steps
   pub says : Says calls
-  pub made : Makes hall before after calls
+  pub made : MakesCalls hall before after calls
 
 -- ---- where a client stands
 
 -- The client's last transaction is this one, of which it was told so.
-pub record IsLastTold (pass : Pass) (x : TxnId) (told : Told) : Type 0 where
+pub record IsLastTold (pass : Pass) (x : Txn) (told : Told) : Type 0 where
   pub last : last_of (told_of (said_of pass)) ≡ Some told
   pub named : told.txn ≡ x
   pub client : x.client ≡ pass.client
@@ -98,7 +98,7 @@ HasNotSignedOff pass = has_signed_off (said_of pass) ≡ false
 
 -- where it stood it stands still
 abbrev pub StandsAs : Pass → Pass → Type 0
-StandsAs before after = (IsBetween before → IsBetween after) × ((x : TxnId) → IsIn before x → IsIn after x)
+StandsAs before after = (IsBetween before → IsBetween after) × ((x : Txn) → IsIn before x → IsIn after x)
 
 -- behind a begin that is answered so
 abbrev pub BeginStands : Result CodeBegun Memory → Pass → Type 0
@@ -112,5 +112,5 @@ IfAborted (Err (refused.Aborted why)) P = P
 IfAborted _ P = Unit {0}
 
 -- Behind a get, a put or a delete that is answered so it still is in its transaction; where that was aborted, it is over.
-abbrev pub StaysIn : {A : Type 0} → Result A Refused → Pass → Pass → TxnId → Type 0
+abbrev pub StaysIn : {A : Type 0} → Result A Refused → Pass → Pass → Txn → Type 0
 StaysIn result before after x = IsIn after x × (HasNotSignedOff before → HasNotSignedOff after) × IfAborted result (HasNotSignedOff before → IsBetween after)

@@ -7,4 +7,5 @@ pub mod Driving
 pub mod Laws
 pub mod Opening
 pub mod Closing
+pub mod Rounds
 pub mod Testing

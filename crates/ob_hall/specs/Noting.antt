@@ -1,7 +1,7 @@
 -- What is noted of a turn, as calls with their replies.
 use Rattle.std.specs.Prelude.{List, [], ◌∷◌, map}
 use Rattle.ob_serial.specs.Views.{record_of}
-use Rattle.ob_order.specs.Writes.{pair_of}
+use Rattle.ob_base.specs.Writes.{pair_of}
 use Rattle.ob_desk.specs.Desk as desk
 use Rattle.ob_session.specs.Steps.{steps_of}
 use Rattle.ob_hall.specs.declared.turned.Driven.{Driven}

@@ -1,27 +1,28 @@
 -- What a pass has seen and made, and what a turn of it does.
 use Rattle.std.specs.Prelude.{◌≡◌, ℕ, suc, Bool, List, flat_map, Option, Some, slice_get}
 use Rattle.ob_desk.specs.Desk.{DeskState, Setup, Call, Reply, MayOpen, new_desk}
-use Rattle.ob_desk.specs.declared.calls.Txn.{Txn as TxnId}
+use Rattle.ob_desk.specs.declared.calls.Txn.{Txn}
 use Rattle.ob_session.specs.Clients.{said_by}
 use Rattle.ob_turn.specs.declared.turn.Entry.{Entry}
 use Rattle.ob_turn.specs.declared.bell.Bell.{Bell}
 use Rattle.ob_turn.specs.declared.bell.Heard.{Heard}
 use Rattle.atomic_table.specs.declared.shared.Seat.{Seat}
+use Rattle.std.specs.declared.snapshot.Snapshot.{Snapshot}
 use Rattle.ob_turn.specs.BellHistory.{latest}
 use Rattle.ob_turn.specs.BellCalls as bells
-use Rattle.ob_turn.specs.History.{entries_of, Leads}
+use Rattle.ob_turn.specs.History.{entries_of, LeadsByTurns}
 use Rattle.ob_turn.specs.TurnCalls as turns
 use Rattle.ob_turn.specs.TurnCalls.{Turn, TurnSeat}
 use Rattle.ob_hall.specs.declared.hall.Beside.{Beside}
 use Rattle.ob_hall.specs.declared.hall.Held.{Held}
-use Rattle.ob_hall.specs.Turns.{numbers_of, IsTurn}
+use Rattle.ob_hall.specs.Turns.{client_numbers, IsTurn}
 
 -- calls with their replies
 abbrev pub Steps : Type 0
 Steps = List (Call × Reply)
 
 abbrev pub Hall : Type 0
-Hall = Beside (Turn DeskState Steps) Bell DeskState
+Hall = Beside (Turn DeskState Steps) Bell (Snapshot DeskState)
 
 abbrev pub Pass : Type 0
 Pass = Held (TurnSeat DeskState Steps) (Seat (Unit {0}) Heard)
@@ -35,8 +36,8 @@ abbrev pub callers_of : Hall → ℕ
 callers_of hall = turns.seats_of hall.turn
 
 -- the pass's place: 0 is the driver's, i + 1 that of the i-th client
-abbrev pub place_of : Pass → ℕ
-place_of pass = pass.seat.me.0.by
+abbrev pub pass_place : Pass → ℕ
+pass_place pass = pass.seat.me.0.by
 
 -- the history as far as the pass has seen it
 abbrev pub history_of : Pass → List (Entry Steps)
@@ -70,7 +71,7 @@ abbrev pub may_raise : Pass → Bool
 may_raise pass = pass.ear.me.0.raises
 
 -- the client's last transaction
-abbrev pub last_of_pass : Pass → Option TxnId
+abbrev pub last_of_pass : Pass → Option Txn
 last_of_pass pass = pass.last
 
 -- a desk as it is made
@@ -82,21 +83,27 @@ pub record IsNew (d : DeskState) : Type 0 where
   pub opens : MayOpen setup epoch left clients
   pub is : d ≡ new_desk setup epoch left clients
 
+-- The ear is one at the hall's bell: one part of as many as there are callers.
+pub record IsEarOf (hall : Hall) (ear : Seat (Unit {0}) Heard) : Type 0 where
+  pub bell : bells.IsBellSeat hall.bell ear
+  pub one_part : ear.me.0.parts ≡ 1
+  pub as_many : bells.seats_of hall.bell ≡ callers_of hall
+
 -- The pass is one at this hall. Its own entries in the history that it has seen are those that it made, each once.
 pub record IsPassOf (hall : Hall) (pass : Pass) : Type 0 where
-  pub seat : turns.IsOf hall.turn pass.seat
-  pub ear : bells.IsOf hall.bell pass.ear
+  pub seat : turns.IsTurnSeat hall.turn pass.seat
+  pub ear : IsEarOf hall pass.ear
   pub opening : pass.seat.me.0.opening ≡ Some (opening_of hall)
   pub opens : IsNew (opening_of hall)
-  pub own : entries_of (place_of pass) (history_of pass) ≡ entries_by pass
+  pub own : entries_of (pass_place pass) (history_of pass) ≡ entries_by pass
   -- it is one of as many parts as there are callers
   pub one_part : pass.seat.me.0.parts ≡ 1
 
 -- its place is that of a client, whose number it has
 pub record IsClients (hall : Hall) (pass : Pass) : Type 0 where
   pub at : ℕ
-  pub place : place_of pass ≡ suc at
-  pub named : slice_get (numbers_of (opening_of hall)) at ≡ Some pass.client
+  pub place : pass_place pass ≡ suc at
+  pub named : slice_get (client_numbers (opening_of hall)) at ≡ Some pass.client
 
 -- it is in no turn
 abbrev pub IsOutOfTurn : Pass → Type 0
@@ -104,7 +111,7 @@ IsOutOfTurn pass = turns.IsIdle pass.seat
 
 -- the turns lead from the desk that the hall was made with to this one
 abbrev pub IsLegal : Hall → List (Entry Steps) → DeskState → Type 0
-IsLegal hall entries d = Leads IsTurn (opening_of hall) entries d
+IsLegal hall entries d = LeadsByTurns IsTurn (opening_of hall) entries d
 
 -- the client, its last transaction and what was told of epochs stay
 pub record StaysBeside (before after : Pass) : Type 0 where
@@ -128,8 +135,8 @@ pub record LeavesTurn (before after : Pass) (calls : Steps) : Type 0 where
   pub beside : StaysBeside before after
 
 -- The number is the one last raised, in a history of numbers that goes on from what the pass was told: so it is never below that.
-pub record IsTold (before after : Pass) (number : ℕ) : Type 0 where
-  pub reads : bells.Reads before.ear after.ear number
+pub record IsNumberTold (before after : Pass) (number : ℕ) : Type 0 where
+  pub reads : bells.ReadsBell before.ear after.ear number
   pub seat : after.seat ≡ before.seat
   pub client : after.client ≡ before.client
   pub last : after.last ≡ before.last

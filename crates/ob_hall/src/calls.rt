@@ -1,10 +1,12 @@
+//! A client's calls that wait for nothing but a turn.
+
 ghost use Rattle.std.specs.Prelude.{◌≡◌, ◌<◌, ℕ, List, [], ◌∷◌, Option, Some, None, Ok};
 ghost use Rattle.ob_desk.specs.Desk as desks;
 ghost use Rattle.ob_desk.specs.Calls.{done_reply};
-ghost use Rattle.ob_desk.specs.declared.calls.Txn.{Txn as TxnId};
+ghost use Rattle.ob_desk.specs.declared.calls.Txn.{Txn};
 ghost use Rattle.ob_session.specs.Steps.{steps_of};
 ghost use Rattle.ob_hall.specs.Passes.{opening_of, last_of_pass};
-ghost use Rattle.ob_hall.specs.Calling.{IsReady, IsBetween, IsIn, Tells, BeginSays, BeginStands, IsNamed, last_begun, WriteSays, HasNotSignedOff, StaysIn};
+ghost use Rattle.ob_hall.specs.Calling.{IsReady, IsBetween, IsIn, TellsCalls, BeginSays, BeginStands, IsNamed, last_begun, WriteSays, HasNotSignedOff, StaysIn};
 
 use crate::hall::{Beside, Hall, Pass};
 use ob_base::{Key, Memory, Value};
@@ -30,7 +32,8 @@ impl Hall {
     pub fn begin<R: Wait>(&self, rt: &R, pass: &mut Pass) -> Result<Begun, Memory>
         requires ready { IsReady self.now pass.old }
         requires between { IsBetween pass.old }
-        ensures one_history { Tells self.now pass.old pass.new (BeginSays pass.old.client result) }
+        ensures one_history { TellsCalls self.now pass.old pass.new
+            (BeginSays pass.old.client result) }
         ensures last { last_of_pass pass.new ≡ last_begun (last_of_pass pass.old) result }
         ensures named { IsNamed pass.old.client result }
         ensures stands { BeginStands result pass.new }
@@ -63,11 +66,12 @@ impl Hall {
         value: Value,
     ) -> Result<(), Refused>
         requires ready { IsReady self.now pass.old }
-        requires inside { (x : TxnId) × IsIn pass.old x }
+        requires inside { (x : Txn) × IsIn pass.old x }
         requires key { key < (opening_of self.now).setup.params.keys }
-        ensures one_history { (x : TxnId) → IsIn pass.old x → Tells self.now pass.old pass.new (WriteSays x key (Some value) result) }
+        ensures one_history { (x : Txn) → IsIn pass.old x
+            → TellsCalls self.now pass.old pass.new (WriteSays x key (Some value) result) }
         ensures last { last_of_pass pass.new ≡ last_of_pass pass.old }
-        ensures stands { (x : TxnId) → IsIn pass.old x → StaysIn result pass.old pass.new x }
+        ensures stands { (x : Txn) → IsIn pass.old x → StaysIn result pass.old pass.new x }
         ensures ready { IsReady self.now pass.new }
     {
         let Some(txn) = pass.last else { unreachable!() };
@@ -96,11 +100,12 @@ impl Hall {
     /// The transaction is aborted; or memory was wanting, and the desk is as before.
     pub fn del<R: Wait>(&self, rt: &R, pass: &mut Pass, key: Key) -> Result<(), Refused>
         requires ready { IsReady self.now pass.old }
-        requires inside { (x : TxnId) × IsIn pass.old x }
+        requires inside { (x : Txn) × IsIn pass.old x }
         requires key { key < (opening_of self.now).setup.params.keys }
-        ensures one_history { (x : TxnId) → IsIn pass.old x → Tells self.now pass.old pass.new (WriteSays x key None result) }
+        ensures one_history { (x : Txn) → IsIn pass.old x
+            → TellsCalls self.now pass.old pass.new (WriteSays x key None result) }
         ensures last { last_of_pass pass.new ≡ last_of_pass pass.old }
-        ensures stands { (x : TxnId) → IsIn pass.old x → StaysIn result pass.old pass.new x }
+        ensures stands { (x : Txn) → IsIn pass.old x → StaysIn result pass.old pass.new x }
         ensures ready { IsReady self.now pass.new }
     {
         let Some(txn) = pass.last else { unreachable!() };
@@ -127,8 +132,10 @@ impl Hall {
     /// aborted already.
     pub fn abort<R: Wait>(&self, rt: &R, pass: &mut Pass) -> Why<Key>
         requires ready { IsReady self.now pass.old }
-        requires inside { (x : TxnId) × IsIn pass.old x }
-        ensures one_history { (x : TxnId) → IsIn pass.old x → Tells self.now pass.old pass.new (λ calls. calls ≡ (desks.Abort x, desks.Aborted result) ∷ []) }
+        requires inside { (x : Txn) × IsIn pass.old x }
+        ensures one_history { (x : Txn) → IsIn pass.old x
+            → TellsCalls self.now pass.old pass.new (λ calls. calls
+            ≡ (desks.Abort x, desks.Aborted result) ∷ []) }
         ensures last { last_of_pass pass.new ≡ last_of_pass pass.old }
         ensures stands { HasNotSignedOff pass.old → IsBetween pass.new }
         ensures ready { IsReady self.now pass.new }
@@ -144,7 +151,8 @@ impl Hall {
     pub fn sign_off<R: Wait>(&self, rt: &R, pass: &mut Pass)
         requires ready { IsReady self.now pass.old }
         requires between { IsBetween pass.old }
-        ensures one_history { Tells self.now pass.old pass.new (λ calls. calls ≡ (desks.SignOff pass.old.client, desks.Done) ∷ []) }
+        ensures one_history { TellsCalls self.now pass.old pass.new (λ calls. calls
+            ≡ (desks.SignOff pass.old.client, desks.Done) ∷ []) }
         ensures last { last_of_pass pass.new ≡ last_of_pass pass.old }
         ensures ready { IsReady self.now pass.new }
     {
@@ -174,7 +182,8 @@ fn last_behind(last: Option<Txn>, begun: &Begun) -> Option<Txn>
 
 // What a put or a delete that was answered so tells its caller.
 fn answer_of(reply: &Done) -> Result<(), Refused>
-    ensures { (x : TxnId) (key : ℕ) (value : Option (List ℕ)) → WriteSays x key value result ((desks.Write x key value, done_reply reply.now) ∷ []) }
+    ensures { (x : Txn) (key : ℕ) (value : Option (List ℕ))
+        → WriteSays x key value result ((desks.Write x key value, done_reply reply.now) ∷ []) }
 {
     match reply {
         Done::Yes => Ok(()),

@@ -1,18 +1,20 @@
+//! Closing a hall: the desk is given back.
+
 ghost use Rattle.std.specs.Prelude.{All};
 ghost use Rattle.ob_hall.specs.Passes.{IsPassOf, IsOutOfTurn};
-ghost use Rattle.ob_hall.specs.Closing.{AreAll, IsWhole};
+ghost use Rattle.ob_hall.specs.Closing.{AreAll, IsWholeHistory};
 
 use crate::hall::{Beside, Hall, Held, Pass};
 use ob_desk::Desk;
 
 impl Hall {
-    /// The desk, to which one whole history leads. It takes the passes of all callers, and no
-    /// memory.
+    /// The desk, to which one whole history leads; and each number that a pass was told is one
+    /// that the driver's raised. It takes the passes of all callers, and no memory.
     pub fn close(self, mut passes: Vec<Pass>) -> Desk
         requires own { All (λ p. IsPassOf self p) passes.items }
         requires idle { All (λ p. IsOutOfTurn p) passes.items }
         requires all { AreAll self passes.items }
-        ensures whole { IsWhole self passes.items result }
+        ensures whole { IsWholeHistory self passes.items result }
     {
         let Beside { turn, bell, .. } = self;
         let Some(
@@ -34,7 +36,7 @@ impl Hall {
             turn.join(&mut seat, its_seat);
             bell.join(&mut ear, its_ear);
         }
-        bell.durable(&mut ear);
+        bell.close_with(ear);
         turn.close_with(seat)
     }
 }

@@ -1,9 +1,11 @@
+//! The calls of the driver of epochs, and the bell.
+
 ghost use Rattle.std.specs.Prelude.{◌≡◌, ◌≤◌, [], ◌∷◌, ◌++◌, true};
 ghost use Rattle.ob_turn.specs.History.{IsAt};
 ghost use Rattle.ob_turn.specs.TurnCalls.{IsInside};
 ghost use Rattle.ob_session.specs.Steps.{steps_of};
 ghost use Rattle.ob_hall.specs.Turns.{IsTurn};
-ghost use Rattle.ob_hall.specs.Passes.{IsPassOf, IsOutOfTurn, EntersTurn, NotesTurn, LeavesTurn, IsTold, IsRaised, told_by, may_raise};
+ghost use Rattle.ob_hall.specs.Passes.{IsPassOf, IsOutOfTurn, EntersTurn, NotesTurn, LeavesTurn, IsNumberTold, IsRaised, told_by, may_raise};
 ghost use Rattle.ob_hall.specs.Calling.{IsReady, StandsAs};
 
 use crate::hall::{Beside, Hall, Pass};
@@ -42,7 +44,8 @@ impl Hall {
     pub fn leave(&self, pass: &mut Pass, desk: Desk, last: Snapshot<Turned>)
         requires own { IsPassOf self.now pass.old }
         requires inside { IsInside pass.old.seat }
-        requires desk { IsAt IsTurn pass.old.seat.me.0 (pass.old.seat.me.0.noted ++ last.value ∷ []) desk }
+        requires desk { IsAt IsTurn pass.old.seat.me.0 (pass.old.seat.me.0.noted ++ last.value ∷ [])
+            desk }
         ensures left { LeavesTurn pass.old pass.new last.value }
         ensures own { IsPassOf self.now pass.new }
         ensures idle { IsOutOfTurn pass.new }
@@ -54,7 +57,8 @@ impl Hall {
     pub(crate) fn leave_client(&self, pass: &mut Pass, desk: Desk, made: Made)
         requires own { IsPassOf self.now pass.old }
         requires inside { IsInside pass.old.seat }
-        requires desk { IsAt IsTurn pass.old.seat.me.0 (pass.old.seat.me.0.noted ++ steps_of made ∷ []) desk }
+        requires desk { IsAt IsTurn pass.old.seat.me.0
+            (pass.old.seat.me.0.noted ++ steps_of made ∷ []) desk }
         ensures left { LeavesTurn pass.old pass.new (steps_of made) }
     {
         let turned = Turned::client(made);
@@ -65,7 +69,7 @@ impl Hall {
     /// never below what this pass was told before.
     pub fn durable(&self, pass: &mut Pass) -> u64
         requires own { IsPassOf self.now pass.old }
-        ensures durable_last_raised { IsTold pass.old pass.new result }
+        ensures durable_last_raised { IsNumberTold pass.old pass.new result }
         ensures own { IsPassOf self.now pass.new }
         ensures ready { IsReady self.now pass.old → IsReady self.now pass.new }
         ensures stands { StandsAs pass.old pass.new }

@@ -1,8 +1,10 @@
+//! Runners of scripts, driven in turns.
+
 ghost use Rattle.std.specs.Prelude.{◌≡◌, ◌≤◌};
 ghost use Rattle.ob_session.specs.Clients.{stands_after};
 ghost use Rattle.ob_session.specs.declared.runner.Step.TheVariants as steps;
 ghost use Rattle.ob_hall.specs.Passes.{opening_of, said_of};
-ghost use Rattle.ob_hall.specs.Calling.{IsReady, Tells};
+ghost use Rattle.ob_hall.specs.Calling.{IsReady, TellsCalls};
 ghost use Rattle.ob_hall.specs.Driving.{TurnSays, DriveSays};
 
 use crate::hall::{Hall, Pass};
@@ -16,7 +18,8 @@ pub fn take_turn<R: Wait, U: Runner>(rt: &R, hall: &Hall, pass: &mut Pass, runne
     requires client { U.client runner.old ≡ pass.old.client }
     requires bound { U.bound runner.old ≤ (opening_of hall.now).setup.params.keys }
     requires fits { U.fits runner.old (said_of pass.old) }
-    ensures one_history { Tells hall.now pass.old pass.new (TurnSays pass.old.client (said_of pass.old)) }
+    ensures one_history { TellsCalls hall.now pass.old pass.new
+        (TurnSays pass.old.client (said_of pass.old)) }
     ensures fits { U.fits runner.new (said_of pass.new) }
     ensures step { result ≡ stands_after (said_of pass.new) }
     ensures client { U.client runner.new ≡ U.client runner.old }
@@ -37,7 +40,7 @@ pub fn drive<R: Wait, U: Runner>(rt: &R, hall: &Hall, pass: &mut Pass, runner: &
     requires client { U.client runner.old ≡ pass.old.client }
     requires bound { U.bound runner.old ≤ (opening_of hall.now).setup.params.keys }
     requires fits { U.fits runner.old (said_of pass.old) }
-    ensures one_history { Tells hall.now pass.old pass.new (DriveSays pass.old.client) }
+    ensures one_history { TellsCalls hall.now pass.old pass.new (DriveSays pass.old.client) }
     ensures fits { U.fits runner.new (said_of pass.new) }
     ensures signed_off { stands_after (said_of pass.new) ≡ steps.Done }
     ensures client { U.client runner.new ≡ U.client runner.old }

@@ -1,3 +1,5 @@
+//! A hall and its passes.
+
 use crate::turned::Turned;
 use ob_desk::{Desk, Txn};
 use ob_turn::{Bell, BellSeat, Turn, TurnSeat};
@@ -10,7 +12,7 @@ use std::sync::atomic::AtomicU64;
 pub struct Beside<A, B, C> {
     pub(crate) turn: A,
     pub(crate) bell: B,
-    pub(crate) opened: Snapshot<C>,
+    pub(crate) opened: C,
     // Raised by the driver where a call that waits may now be answered.
     pub(crate) news: AtomicU64,
     // Raised by a client whose call waits, or that is done.
@@ -18,7 +20,7 @@ pub struct Beside<A, B, C> {
 }
 
 /// A desk that clients and the driver of epochs have in turns.
-pub type Hall = Beside<Turn<Desk, Turned>, Bell, Desk>;
+pub type Hall = Beside<Turn<Desk, Turned>, Bell, Snapshot<Desk>>;
 
 /// A seat at a turn and one at a bell, with a client's number and its last transaction. It is
 /// generic in its parts, so that threads can be proved to own it.

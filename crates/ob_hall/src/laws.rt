@@ -1,4 +1,7 @@
+//! What every history of a hall obeys.
+
 ghost use Rattle.ob_hall.specs.Laws.{IsOneChain, AreOwnCalls, IsDriverAlone, DeskAgrees};
+ghost use Rattle.ob_hall.specs.Rounds.{AreDriversRounds};
 
 /// The calls of a hall's history, one behind the other, are a chain of calls that the desk allows:
 /// so whatever holds of every chain of calls holds of them.
@@ -21,4 +24,10 @@ pub fn driver_is_alone()
 /// pass's entries: so a client that knows its own calls knows which call it may make next.
 pub fn desk_agrees()
     ensures { DeskAgrees }
+{}
+
+/// The driver of epochs knows from its own calls which epoch runs, whether another one is closed,
+/// how many batches are left and which keys are in flight, whatever the clients call between.
+pub fn driver_knows_rounds()
+    ensures { AreDriversRounds }
 {}

@@ -21,5 +21,7 @@ mod waits;
 pub use calls::Refused;
 pub use driving::{drive, take_turn};
 pub use hall::{Beside, Hall, Held, Pass};
-pub use laws::{calls_are_own, desk_agrees, driver_is_alone, history_is_one_chain};
+pub use laws::{
+    calls_are_own, desk_agrees, driver_is_alone, driver_knows_rounds, history_is_one_chain,
+};
 pub use turned::{Driven, Noted, Turned};

@@ -1,9 +1,11 @@
+//! Opening a hall, and making its passes.
+
 ghost use Rattle.std.specs.Prelude.{◌≡◌, ◌+◌, ℕ, length, IfOk};
 ghost use Rattle.ob_desk.specs.Desk.{Setup, MayOpen, new_desk};
 ghost use Rattle.ob_turn.specs.BellCalls as bells;
 ghost use Rattle.ob_turn.specs.TurnCalls.{AreSeats};
 ghost use Rattle.ob_hall.specs.Passes.{IsNew, opening_of};
-ghost use Rattle.ob_hall.specs.Turns.{numbers_of};
+ghost use Rattle.ob_hall.specs.Turns.{client_numbers};
 ghost use Rattle.ob_hall.specs.Opening.{ArePasses};
 
 use crate::hall::{Beside, Hall, Held, Pass};
@@ -24,9 +26,13 @@ impl Hall {
         mut seats: Vec<TurnSeat<Desk, Turned>>,
         mut ear: BellSeat,
     ) -> Result<Vec<Pass>, Memory>
-        requires seats { AreSeats self.now.turn (opening_of self.now) (length clients.now + 1) seats.items }
-        requires ear { bells.IsOf self.now.bell ear × bells.IsFirst (length clients.now + 1) ear }
-        requires new { IsNew (opening_of self.now) × (numbers_of (opening_of self.now) ≡ clients.now) }
+        requires seats { AreSeats self.now.turn (opening_of self.now) (length clients.now + 1)
+            seats.items }
+        requires ear { bells.IsBellSeat self.now.bell ear
+            × bells.IsFirst (length clients.now + 1) ear
+            × (bells.seats_of self.now.bell ≡ length clients.now + 1) }
+        requires new { IsNew (opening_of self.now)
+            × (client_numbers (opening_of self.now) ≡ clients.now) }
         ensures opened { IfOk result (λ passes. ArePasses self.now clients.now passes.items) }
     {
         let mut passes = Vec::new(alloc);
@@ -61,7 +67,9 @@ impl Hall {
     /// # Errors
     /// Memory was wanting, and the desk is gone.
     pub fn new(alloc: Global, desk: Desk, clients: &[u32]) -> Result<(Hall, Vec<Pass>), Memory>
-        requires opens { (setup : Setup) × (epoch : ℕ) × (left : ℕ) × MayOpen setup epoch left clients.now × (desk ≡ new_desk setup epoch left clients.now) }
+        requires opens { (setup : Setup) × (epoch : ℕ) × (left : ℕ)
+            × MayOpen setup epoch left clients.now
+            × (desk ≡ new_desk setup epoch left clients.now) }
         ensures desk { IfOk result (λ r. opening_of r.0 ≡ desk) }
         ensures passes { IfOk result (λ r. ArePasses r.0 clients.now r.1.items) }
     {

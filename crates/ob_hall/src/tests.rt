@@ -1,13 +1,19 @@
 //! Clients at a hall.
 
-ghost use Rattle.std.specs.Prelude.{◌≡◌, ◌≤◌, ◌<◌, ◌∷◌, [], ◌++◌, All, IfOk, IfSome, length, suc};
+ghost use Rattle.std.specs.Prelude.{◌≡◌, ◌≤◌, ◌<◌, ◌∷◌, [], ◌++◌, All, IfOk, IfSome, false, length, suc};
 ghost use Rattle.std.specs.List.Sorted.{IsStrictlyIncreasing};
 ghost use Rattle.ob_turn.specs.History.{IsAt};
 ghost use Rattle.ob_turn.specs.TurnCalls.{IsInside};
 ghost use Rattle.ob_hall.specs.Turns.{IsTurn};
-ghost use Rattle.ob_hall.specs.Passes.{opening_of, callers_of, IsPassOf, IsOutOfTurn};
+ghost use Rattle.ob_hall.specs.Passes.{opening_of, callers_of, pass_place, entries_by, IsPassOf, IsOutOfTurn};
+ghost use Rattle.ob_hall.specs.Rounds.{rounds_of};
 ghost use Rattle.ob_hall.specs.Calling.{IsReady, IsBetween};
-ghost use Rattle.ob_hall.specs.Testing.{IsOpened};
+ghost use Rattle.ob_hall.specs.Testing.{IsOpenedHall};
+
+mod runners;
+mod threads;
+mod visitor;
+mod waiting;
 
 use crate::{Hall, Pass, Turned};
 use ob_base::{Key, Memory, Params, Value};
@@ -34,7 +40,7 @@ fn opened(
 ) -> Result<(Hall, Pass, Vec<Pass>), Memory>
     requires named { All (λ c. (1 ≤ c) × (c ≤ 64)) clients.now }
     requires rising { IsStrictlyIncreasing clients.now }
-    ensures opened { IfOk result (λ r. IsOpened params.now.keys r.0 r.1 r.2.items) }
+    ensures opened { IfOk result (λ r. IsOpenedHall params.now.keys r.0 r.1 r.2.items) }
 {
     let desk = Desk::new(alloc, params, 1, 1, clients)?;
     let (hall, mut passes) = Hall::new(alloc, desk, clients)?;
@@ -49,6 +55,20 @@ fn finish(hall: Hall, driver: Pass, mut clients: Vec<Pass>) -> Result<Desk, Memo
 {
     clients.push(driver)?;
     Ok(hall.close(clients))
+}
+
+// How many transactions there were, where the driver called nothing.
+fn count_txns(hall: Hall, driver: Pass, mut clients: Vec<Pass>) -> Result<u64, Memory>
+    requires driver { IsPassOf hall driver × IsOutOfTurn driver }
+    requires place { pass_place driver ≡ 0 }
+    requires idle { entries_by driver ≡ [] }
+    requires none_closed { (rounds_of (opening_of hall)).has_closed ≡ false }
+    requires clients { All (λ p. IsReady hall p) clients.items }
+    requires count { suc (length clients.items) ≡ callers_of hall }
+{
+    clients.push(driver)?;
+    let desk = hall.close(clients);
+    Ok(desk.look().txns)
 }
 
 // ---- the durable epoch
@@ -156,4 +176,10 @@ fn needs_send<T: Send>(_sent: &T) {}
 
 fn a_pass_is_sent(pass: &Pass) {
     needs_send(pass);
+}
+
+fn needs_sync<T: Sync>(_shared: &T) {}
+
+fn a_hall_is_shared(hall: &Hall) {
+    needs_sync(hall);
 }

@@ -1,3 +1,5 @@
+//! What is noted of a turn.
+
 ghost use Rattle.std.specs.Prelude.{◌≡◌, [], ◌∷◌};
 ghost use Rattle.ob_session.specs.Steps.{steps_of};
 ghost use Rattle.ob_hall.specs.Noting.{driver_step};

@@ -1,11 +1,13 @@
+//! A client's calls that may ask again: get and commit.
+
 ghost use Rattle.std.specs.Prelude.{◌≡◌, ◌<◌, ℕ, [], ◌∷◌, IfOk, OnErr};
 ghost use Rattle.ob_desk.specs.Desk as desks;
 ghost use Rattle.ob_desk.specs.Calls.{got_reply, done_reply};
-ghost use Rattle.ob_desk.specs.declared.calls.Txn.{Txn as TxnId};
+ghost use Rattle.ob_desk.specs.declared.calls.Txn.{Txn};
 ghost use Rattle.ob_session.specs.Steps.{steps_of};
 ghost use Rattle.ob_hall.specs.Passes.{opening_of, last_of_pass};
-ghost use Rattle.ob_hall.specs.Calling.{IsReady, IsBetween, IsIn, HasNotSignedOff, StaysIn, Tells};
-ghost use Rattle.ob_hall.specs.Waiting.{IsWaiting, HasBegun, AskSays, AskStands, IsAnswer, GetSays, CommitSays};
+ghost use Rattle.ob_hall.specs.Calling.{IsReady, IsBetween, IsIn, HasNotSignedOff, StaysIn, TellsCalls};
+ghost use Rattle.ob_hall.specs.Waiting.{IsWaiting, HasBegun, AskSays, AskStands, IsGetAnswer, GetSays, CommitSays};
 
 use crate::calls::{Refused, no_call};
 use crate::hall::{Hall, Pass};
@@ -26,7 +28,7 @@ impl Hall {
         requires ready { IsReady self.now pass.old }
         requires inside { IsIn pass.old txn.now }
         requires key { key < (opening_of self.now).setup.params.keys }
-        ensures one_history { Tells self.now pass.old pass.new (AskSays txn.now key result) }
+        ensures one_history { TellsCalls self.now pass.old pass.new (AskSays txn.now key result) }
         ensures stands { AskStands result pass.new txn.now }
         ensures last { last_of_pass pass.new ≡ last_of_pass pass.old }
         ensures ready { IsReady self.now pass.new }
@@ -48,7 +50,8 @@ impl Hall {
     fn ask_again<R: Wait>(&self, rt: &R, pass: &mut Pass, txn: &Txn) -> Got
         requires ready { IsReady self.now pass.old }
         requires waiting { IsWaiting pass.old txn.now }
-        ensures one_history { Tells self.now pass.old pass.new (λ calls. calls ≡ (desks.Poll txn.now, got_reply result) ∷ []) }
+        ensures one_history { TellsCalls self.now pass.old pass.new (λ calls. calls
+            ≡ (desks.Poll txn.now, got_reply result) ∷ []) }
         ensures last { last_of_pass pass.new ≡ last_of_pass pass.old }
         ensures ready { IsReady self.now pass.new }
     {
@@ -62,7 +65,8 @@ impl Hall {
     fn ask_to_commit<R: Wait>(&self, rt: &R, pass: &mut Pass, txn: &Txn) -> Done
         requires ready { IsReady self.now pass.old }
         requires inside { IsIn pass.old txn.now }
-        ensures one_history { Tells self.now pass.old pass.new (λ calls. calls ≡ (desks.Commit txn.now, done_reply result) ∷ []) }
+        ensures one_history { TellsCalls self.now pass.old pass.new (λ calls. calls
+            ≡ (desks.Commit txn.now, done_reply result) ∷ []) }
         ensures last { last_of_pass pass.new ≡ last_of_pass pass.old }
         ensures ready { IsReady self.now pass.new }
     {
@@ -76,7 +80,8 @@ impl Hall {
     fn ask_for_end<R: Wait>(&self, rt: &R, pass: &mut Pass, txn: &Txn) -> Option<Outcome<Key>>
         requires ready { IsReady self.now pass.old }
         requires begun { HasBegun pass.old txn.now }
-        ensures one_history { Tells self.now pass.old pass.new (λ calls. calls ≡ (desks.Settled txn.now, desks.IsSettled result) ∷ []) }
+        ensures one_history { TellsCalls self.now pass.old pass.new (λ calls. calls
+            ≡ (desks.Settled txn.now, desks.IsSettled result) ∷ []) }
         ensures last { last_of_pass pass.new ≡ last_of_pass pass.old }
         ensures ready { IsReady self.now pass.new }
     {
@@ -102,11 +107,12 @@ impl Hall {
     /// before.
     pub fn get<R: Wait>(&self, rt: &R, pass: &mut Pass, key: Key) -> Result<Option<Value>, Refused>
         requires ready { IsReady self.now pass.old }
-        requires inside { (x : TxnId) × IsIn pass.old x }
+        requires inside { (x : Txn) × IsIn pass.old x }
         requires key { key < (opening_of self.now).setup.params.keys }
-        ensures one_history { (x : TxnId) → IsIn pass.old x → Tells self.now pass.old pass.new (GetSays x key result) }
+        ensures one_history { (x : Txn) → IsIn pass.old x
+            → TellsCalls self.now pass.old pass.new (GetSays x key result) }
         ensures last { last_of_pass pass.new ≡ last_of_pass pass.old }
-        ensures stands { (x : TxnId) → IsIn pass.old x → StaysIn result pass.old pass.new x }
+        ensures stands { (x : Txn) → IsIn pass.old x → StaysIn result pass.old pass.new x }
         ensures ready { IsReady self.now pass.new }
     {
         let Some(txn) = pass.last else { unreachable!() };
@@ -129,8 +135,9 @@ impl Hall {
     /// sleeps in between.
     pub fn commit<R: Wait>(&self, rt: &R, pass: &mut Pass) -> Outcome<Key>
         requires ready { IsReady self.now pass.old }
-        requires inside { (x : TxnId) × IsIn pass.old x }
-        ensures one_history { (x : TxnId) → IsIn pass.old x → Tells self.now pass.old pass.new (CommitSays x result) }
+        requires inside { (x : Txn) × IsIn pass.old x }
+        ensures one_history { (x : Txn) → IsIn pass.old x
+            → TellsCalls self.now pass.old pass.new (CommitSays x result) }
         ensures last { last_of_pass pass.new ≡ last_of_pass pass.old }
         ensures stands { HasNotSignedOff pass.old → IsBetween pass.new }
         ensures ready { IsReady self.now pass.new }
@@ -153,7 +160,7 @@ impl Hall {
 
 // How a get ended that was answered so, if it did.
 fn end_of(got: &Got) -> Option<Result<Option<Value>, Refused>>
-    ensures { IsAnswer got.now result }
+    ensures { IsGetAnswer got.now result }
 {
     match got {
         Got::Value { value } => Some(Ok(*value)),

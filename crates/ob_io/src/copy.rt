@@ -1,3 +1,5 @@
+//! All bytes of a row written; all bytes of a source read.
+
 ghost use Rattle.std.specs.Prelude.{◌≡◌, ◌≤◌, ◌<◌, ◌+◌, ◌^◌, ℕ, ◌++◌, length, take, vec_len, IfOk, OnOk, IsTrue, false};
 ghost use Rattle.ob_base.specs.Causes.{HasCause};
 ghost use Rattle.ob_io.specs.Flows.{appended, prepended, IsAtEnd, IsInput, IsFrontTaken, HasReadCause};
@@ -12,7 +14,8 @@ use std::alloc::Global;
 /// The sink failed at a piece. A front of the bytes is written.
 pub fn put_all<S: Sink>(sink: &mut S, bytes: &[u8]) -> Result<(), Failed>
     ensures all { OnOk result (S.written sink.new ≡ appended (S.written sink.old) bytes.now) }
-    ensures front { (n : ℕ) × (n ≤ length bytes.now) × (S.written sink.new ≡ appended (S.written sink.old) (take n bytes.now)) }
+    ensures front { (n : ℕ) × (n ≤ length bytes.now)
+        × (S.written sink.new ≡ appended (S.written sink.old) (take n bytes.now)) }
     ensures cause { HasCause (S.faults sink.old) (S.faults sink.new) result }
 {
     let mut at = 0;
@@ -26,7 +29,8 @@ pub fn put_all<S: Sink>(sink: &mut S, bytes: &[u8]) -> Result<(), Failed>
 fn read_part<S: Source>(source: &mut S, bytes: &mut Vec<u8>, room: usize) -> Result<bool, ReadErr>
     requires { 0 < room }
     ensures few { vec_len bytes.new ≤ vec_len bytes.old + room }
-    ensures taken { IfOk result (λ more. prepended bytes.old.items (S.left source.old) ≡ prepended bytes.new.items (S.left source.new)) }
+    ensures taken { IfOk result (λ more. prepended bytes.old.items (S.left source.old)
+        ≡ prepended bytes.new.items (S.left source.new)) }
     ensures front { IsFrontTaken (S.left source.old) (S.left source.new) }
     ensures more { IfOk result (λ more. IsTrue more → vec_len bytes.old < vec_len bytes.new) }
     ensures end { IfOk result (λ more. more ≡ false → IsAtEnd (S.left source.new)) }
@@ -53,7 +57,8 @@ pub fn read_all<S: Source>(alloc: Global, source: &mut S, limit: usize) -> Resul
     requires { limit < 2 ^ 62 }
     ensures input { IfOk result (λ bytes. IsInput (S.left source.old) limit bytes.items) }
     ensures few { IfOk result (λ bytes. vec_len bytes ≤ limit + 1) }
-    ensures taken { IfOk result (λ bytes. S.left source.old ≡ prepended bytes.items (S.left source.new)) }
+    ensures taken { IfOk result (λ bytes. S.left source.old
+        ≡ prepended bytes.items (S.left source.new)) }
     ensures front { IsFrontTaken (S.left source.old) (S.left source.new) }
     ensures later { S.faults source.old ≤ S.faults source.new }
     ensures cause { HasReadCause (S.faults source.old) (S.faults source.new) result }

@@ -32,7 +32,8 @@ pub trait Source {
     /// The source failed, and its count of faults rose. Nothing was taken.
     fn read(&mut self, out: &mut [u8]) -> Result<usize, Failed>
         ensures within { IfOk result (λ n. n ≤ length out.old) }
-        ensures bytes { IfOk result (λ n. left self.old ≡ prepended (take n out.new) (left self.new)) }
+        ensures bytes { IfOk result (λ n. left self.old
+            ≡ prepended (take n out.new) (left self.new)) }
         ensures end { IfOk result (λ n. n ≡ 0 → 0 < length out.old → IsAtEnd (left self.old)) }
         ensures kept { OnErr result (left self.new ≡ left self.old) }
         ensures cause { HasCause (faults self.old) (faults self.new) result };
@@ -53,7 +54,8 @@ pub trait Sink {
     fn write(&mut self, bytes: &[u8]) -> Result<usize, Failed>
         requires { 0 < length bytes.now }
         ensures some { IfOk result (λ n. (0 < n) × (n ≤ length bytes.now)) }
-        ensures written { written self.new ≡ appended (written self.old) (take (count_of result) bytes.now) }
+        ensures written { written self.new
+            ≡ appended (written self.old) (take (count_of result) bytes.now) }
         ensures cause { HasCause (faults self.old) (faults self.new) result };
 }
 

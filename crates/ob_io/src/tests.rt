@@ -1,3 +1,5 @@
+//! Readers and writers that halt, fail, or take few bytes.
+
 use crate::{ReadErr, StdSink, StdSource, put_all, read_all};
 use std::io::{self, ErrorKind, Read, Write};
 use std::test::Fail;

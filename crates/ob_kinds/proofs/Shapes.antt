@@ -2,10 +2,10 @@
 use Rattle.std.proofs.Common.{◌≡◌, ◌∙◌, ℕ, suc, List, [], ◌∷◌, ◌++◌, length, None, refl, ap}
 use Rattle.std.proofs.lemmas.List.Concat.{flat_map-append}
 use Rattle.ob_serial.specs.Vaults.{VaultCall, Fetch, End, VaultAnswer, Values, Ended, RefusedBy, DoubtBy}
-use Rattle.ob_kinds.specs.Phases.{Phase, Shape, Fetches, Ends, phase_events, events_of, shapes, refused}
+use Rattle.ob_kinds.specs.Phases.{Phase, Shape, Fetches, Ends, phase_events, events_of_phases, shapes, refused}
 use Rattle.ob_kinds.specs.Laws.{AllAnswered}
 
-pub events_join : (xs ys : List Phase) → events_of (xs ++ ys) ≡ events_of xs ++ events_of ys
+pub events_join : (xs ys : List Phase) → events_of_phases (xs ++ ys) ≡ events_of_phases xs ++ events_of_phases ys
 events_join xs ys = flat_map-append phase_events xs ys
 
 pub shapes_join : (xs ys : List (VaultCall × VaultAnswer)) → shapes (xs ++ ys) ≡ shapes xs ++ shapes ys

@@ -1,10 +1,10 @@
 -- Laws of shapes and phases.
 use Rattle.std.specs.Prelude.{ℕ, ◌≡◌, List, [], ◌∷◌, ◌++◌, length, None}
 use Rattle.ob_serial.specs.Vaults.{VaultCall, Fetch, End, VaultAnswer, Values, Ended}
-use Rattle.ob_kinds.specs.Phases.{Phase, Shape, events_of, shapes, refused}
+use Rattle.ob_kinds.specs.Phases.{Phase, Shape, events_of_phases, shapes, refused}
 
 abbrev pub EventsJoin : Type 0
-EventsJoin = (xs ys : List Phase) → events_of (xs ++ ys) ≡ events_of xs ++ events_of ys
+EventsJoin = (xs ys : List Phase) → events_of_phases (xs ++ ys) ≡ events_of_phases xs ++ events_of_phases ys
 
 -- each call was answered
 abbrev pub AllAnswered : List (VaultCall × VaultAnswer) → Type 0

@@ -16,8 +16,8 @@ phase_events (Writes cells) = map (λ cell. event.Write cell) cells
 phase_events Syncs = event.Sync ∷ []
 
 -- the events of phases, one behind the other
-abbrev pub events_of : List Phase → List Event
-events_of phases = flat_map phase_events phases
+abbrev pub events_of_phases : List Phase → List Event
+events_of_phases phases = flat_map phase_events phases
 
 -- What a call is, with its keys, values and writes erased: a batch that is fetched, or the end of an epoch.
 pub data Shape : Type 0 where

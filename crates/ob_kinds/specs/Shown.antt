@@ -8,8 +8,8 @@ use Rattle.ob_kinds.specs.Kinds.{StoreKind}
 
 module _ (kind : StoreKind) (p : Params) where
   -- a call with its keys, values and writes erased, and what it drew
-  abbrev pub Step : Type 0
-  Step = Shape × kind.Drawn
+  abbrev pub ShownStep : Type 0
+  ShownStep = Shape × kind.Drawn
 
   -- the phases of calls, one behind the other
   abbrev pub steps_phases : kind.Public → List (Shape × kind.Drawn) → List Phase
@@ -22,6 +22,6 @@ module _ (kind : StoreKind) (p : Params) where
   public_behind q (step ∷ steps) = public_behind (kind.next p q step.0 step.1) steps
 
   -- What is seen of a call that was refused with a fault, as its kind of store tells. None: no call was refused.
-  abbrev pub IsCut : kind.Public → Option Shape → Option Fault → List Event → Type 0
-  IsCut q (Some shape) (Some fault) more = (drawn : kind.Drawn) × kind.cut p q shape drawn fault more
-  IsCut q _ _ more = more ≡ []
+  abbrev pub IsSeenCut : kind.Public → Option Shape → Option Fault → List Event → Type 0
+  IsSeenCut q (Some shape) (Some fault) more = (drawn : kind.Drawn) × kind.cut p q shape drawn fault more
+  IsSeenCut q _ _ more = more ≡ []

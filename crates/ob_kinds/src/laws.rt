@@ -1,3 +1,5 @@
+//! Events of phases, and shapes of calls.
+
 ghost use Rattle.ob_kinds.specs.Laws.{EventsJoin, ShapesJoin, AnsweredHaveShapes, AnsweredAreNotRefused};
 
 /// The events of phases are those of the first ones, and then those of the others.

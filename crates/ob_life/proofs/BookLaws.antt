@@ -7,7 +7,9 @@ use Rattle.std.proofs.lemmas.Bool.{cond_both}
 use Rattle.ob_base.specs.declared.params.Params.{Params}
 use Rattle.ob_base.specs.Tree.{path}
 use Rattle.ob_schedule.specs.Paths.{is_one_of, eviction_path}
-use Rattle.ob_ring.specs.FlatTable.{FlatTable, Row, Spot, FinalLifts, Writes, Refill, after, spot_of, leaf_of, asked_row, asks_for, fetched, fetch, leaf_shown, mark, lift, leave, visit, visits, after_place, after_batch, leaves_shown, after_final, written, write, after_writes, fill, fills, placed, chosen, refill_order, index_shown, reads, shown_label, rebound, after_label}
+use Rattle.ob_ring.specs.FlatTable.{FlatTable, Row, Spot, FinalLifts, Writes, Refill, after, spot_of, leaf_of, asked_row, asks_for, fetched, fetch, leaf_shown, mark_index, lift, leave, visit, visits}
+use Rattle.ob_ring.specs.FlatTable.{after_place, after_batch, leaves_shown, after_final, written_row, write, after_writes, fill, fills, placed, chosen, refill_order, index_shown, reads, shown_label}
+use Rattle.ob_ring.specs.FlatTable.{rebound, after_label}
 use Rattle.ob_life.specs.Life.{WordId, labels_of, book_after, leaf_of_word, leaves, leaf_of_put, leaf_write, book_written}
 
 abbrev pub kept_leaf : Option Row → Option ℕ
@@ -36,8 +38,8 @@ module _ (p : Params) (word_of : WordId → ℕ) where
 
   rows_visit : (t : FlatTable) (own : Spot) (u : ℕ) → SameRows t (visit p t own u)
   rows_visit t own u =
-      cond_both (t.lifted u) t (cond (reads p t u + 1 == p.dummies) (lift (mark t u (index_shown p t own u)) u) (mark t u (index_shown p t own u))) (SameRows t) (λ e k. refl)
-      (λ e. cond_both (reads p t u + 1 == p.dummies) (lift (mark t u (index_shown p t own u)) u) (mark t u (index_shown p t own u)) (SameRows t) (λ f k. kept-leave u (t.rows k)) (λ f k. refl))
+      cond_both (t.lifted u) t (cond (reads p t u + 1 == p.dummies) (lift (mark_index t u (index_shown p t own u)) u) (mark_index t u (index_shown p t own u))) (SameRows t) (λ e k. refl)
+      (λ e. cond_both (reads p t u + 1 == p.dummies) (lift (mark_index t u (index_shown p t own u)) u) (mark_index t u (index_shown p t own u)) (SameRows t) (λ f k. kept-leave u (t.rows k)) (λ f k. refl))
 
   rows_visits : (t : FlatTable) (own : Spot) (us : List ℕ) → SameRows t (visits p t own us)
   rows_visits t own [] k = refl
@@ -82,7 +84,7 @@ module _ (p : Params) (word_of : WordId → ℕ) where
   rows_fills t [] k = refl
   rows_fills t (u ∷ us) k = rows_fills (fill p t u) us k ∙ kept-placed u (position_or_len (λ c. c == k) (chosen p t u)) (is_one_of (chosen p t u) k) (t.rows k)
 
-  book_put : (b : Bool) (v : Option WordId) (r : Option Row) (o : Option WordId) → kept_leaf r ≡ low_bits o → kept_leaf (cond b (written (leaf_of_put p word_of v)) r) ≡ low_bits (cond b v o)
+  book_put : (b : Bool) (v : Option WordId) (r : Option Row) (o : Option WordId) → kept_leaf r ≡ low_bits o → kept_leaf (cond b (written_row (leaf_of_put p word_of v)) r) ≡ low_bits (cond b v o)
   book_put true None r o e = refl
   book_put true (Some w) r o e = refl
   book_put false v r o e = e

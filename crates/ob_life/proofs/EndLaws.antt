@@ -41,7 +41,8 @@ down_count : (b : Bool) (n m : ℕ) → 0 < m → (b ≡ false → n < m) → co
 down_count true n m h f = h
 down_count false n m h f = f refl
 
-module _ (p : Params) (some : 0 < p.dummies) (t : FlatTable) (count : ℕ → ℕ) (seen : Seen) (ws : List (ℕ × Option ℕ)) (s : IsSound p t) (c : IsCounted p t count) (l : IsLow p t) (puts : ArePutsLow p ws) (bound : (u : ℕ) → 2 ^ (p.levels + 1) - 1 ≤ u → count u < p.dummies) (m : Marks p (after_final p t (eviction_path p t.counter)) seen) where
+module _ (p : Params) (some : 0 < p.dummies) (t : FlatTable) (count : ℕ → ℕ) (seen : Seen) (ws : List (ℕ × Option ℕ)) (s : IsSound p t) (c : IsCounted p t count) (l : IsLow p t) (puts : ArePutsLow p ws)
+    (bound : (u : ℕ) → 2 ^ (p.levels + 1) - 1 ≤ u → count u < p.dummies) (m : Marks p (after_final p t (eviction_path p t.counter)) seen) where
   abbrev us : List ℕ
   us = eviction_path p t.counter
 

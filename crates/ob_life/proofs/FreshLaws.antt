@@ -3,17 +3,17 @@ use Rattle.std.specs.Prelude.{◌≡◌, ℕ, ◌+◌, ◌<◌, ◌≤◌, false
 use Rattle.std.proofs.Common.{zero, suc, arith, refl, sym, ap, ◌∙◌, length-append}
 use Rattle.std.proofs.lemmas.Bool.{lt-leb}
 use Rattle.std.proofs.lemmas.Nat.{pow_pos}
+use Rattle.std.proofs.lemmas.List.{append_assoc, append-nil}
 use Rattle.ob_bucket.specs.Rank.{IsRanking}
 use Rattle.ob_base.specs.declared.params.Params.{Params}
 use Rattle.ob_ring.specs.FlatTable.{FlatTable, after_batch}
-use Rattle.ob_life.specs.Life.{lift_slots, table_after, WordId, BatchRecord, Content, State, Act, Open, Append, ShowBatch, ShowLifts, End, formatted, reached, step, places_of, book_after, leaves, phase_labels, phase_slots}
+use Rattle.ob_life.specs.Life.{lift_slots, table_after, WordId, LifeBatch, LifeContent, LifeState, LifeAct, Open, Append, ShowBatch, ShowLifts, End, formatted_life, reached, life_step, batch_places, book_after, leaves, phase_labels, phase_slots}
 use Rattle.ob_life.specs.Laws.{LivesAreFresh, AttemptsAgree, LiftsAgree, PartsAreFresh}
-use Rattle.ob_life.proofs.Has.{append_more, append_none}
 use Rattle.ob_life.proofs.EndLaws.{none_counted}
 use Rattle.ob_life.proofs.LifeLabels.{AreLabelsApart, labels_life, life_planned as labels_planned}
 use Rattle.ob_life.proofs.LifeSlots.{AreSlotsSound, slots_life, life_planned as slots_planned}
 
-labels_formatted : (p : Params) (word_of : WordId → ℕ) (slot : ℕ → ℕ → ℕ) → AreLabelsApart p word_of (formatted slot)
+labels_formatted : (p : Params) (word_of : WordId → ℕ) (slot : ℕ → ℕ → ℕ) → AreLabelsApart p word_of (formatted_life slot)
 labels_formatted p word_of slot = record {
   held_once = λ k k' w h h'. absurd (cc);
   held_old = λ k w h. absurd (cc);
@@ -24,7 +24,7 @@ labels_formatted p word_of slot = record {
   named = λ l h. absurd h;
 }
 
-slots_formatted : (p : Params) (word_of : WordId → ℕ) (slot : ℕ → ℕ → ℕ) → 0 < p.dummies → ((u : ℕ) → IsRanking (p.real + p.dummies) (slot u)) → AreSlotsSound p word_of (formatted slot)
+slots_formatted : (p : Params) (word_of : WordId → ℕ) (slot : ℕ → ℕ → ℕ) → 0 < p.dummies → ((u : ℕ) → IsRanking (p.real + p.dummies) (slot u)) → AreSlotsSound p word_of (formatted_life slot)
 slots_formatted p word_of slot some ranked = record {
   count = λ u. 0;
   seen = record { shown = λ u j. false; next = λ u. 0 };
@@ -49,7 +49,7 @@ slots_formatted p word_of slot some ranked = record {
 
 pub lives_are_fresh : LivesAreFresh
 lives_are_fresh p word_of slot acts some ranked life =
-    let s : State = formatted slot in
+    let s : LifeState = formatted_life slot in
     let a : AreLabelsApart p word_of (reached p word_of s acts) = labels_life p word_of s acts life (labels_formatted p word_of slot) in
     let start : AreSlotsSound p word_of s = slots_formatted p word_of slot some ranked in
     let b : AreSlotsSound p word_of (reached p word_of s acts) = slots_life p word_of some s acts life start in
@@ -66,44 +66,44 @@ lives_are_fresh p word_of slot acts some ranked life =
 -- ---- attempts
 
 module _ (p : Params) (word_of : WordId → ℕ) where
-  phase_labels_more : (e b : ℕ) (book : ℕ → Option WordId) (log more : List BatchRecord) (n : ℕ) → n < length log → phase_labels p word_of e b book (log ++ more) n ≡ phase_labels p word_of e b book log n
+  phase_labels_more : (e b : ℕ) (book : ℕ → Option WordId) (log more : List LifeBatch) (n : ℕ) → n < length log → phase_labels p word_of e b book (log ++ more) n ≡ phase_labels p word_of e b book log n
   phase_labels_more e b book [] more n h = absurd (omega arith)
   phase_labels_more e b book (r ∷ log) more zero h = refl
-  phase_labels_more e b book (r ∷ log) more (suc n) h = phase_labels_more e (b + 1) (book_after book (places_of r)) log more n (omega arith)
+  phase_labels_more e b book (r ∷ log) more (suc n) h = phase_labels_more e (b + 1) (book_after book (batch_places r)) log more n (omega arith)
 
-  phase_slots_more : (e : ℕ) (c : Content) (t : FlatTable) (log more : List BatchRecord) (n : ℕ) → n < length log → phase_slots p word_of e c t (log ++ more) n ≡ phase_slots p word_of e c t log n
+  phase_slots_more : (e : ℕ) (c : LifeContent) (t : FlatTable) (log more : List LifeBatch) (n : ℕ) → n < length log → phase_slots p word_of e c t (log ++ more) n ≡ phase_slots p word_of e c t log n
   phase_slots_more e c t [] more n h = absurd (omega arith)
   phase_slots_more e c t (r ∷ log) more zero h = refl
-  phase_slots_more e c t (r ∷ log) more (suc n) h = phase_slots_more e c (after_batch p t (leaves p word_of (places_of r))) log more n (omega arith)
+  phase_slots_more e c t (r ∷ log) more (suc n) h = phase_slots_more e c (after_batch p t (leaves p word_of (batch_places r))) log more n (omega arith)
 
-  record Extends (s s' : State) : Type 0 where
+  record Extends (s s' : LifeState) : Type 0 where
     later : s.epoch ≤ s'.epoch
     content : s'.epoch ≡ s.epoch → s'.content ≡ s.content
-    log : s'.epoch ≡ s.epoch → (more : List BatchRecord) × (s'.log ≡ s.log ++ more)
+    log : s'.epoch ≡ s.epoch → (more : List LifeBatch) × (s'.log ≡ s.log ++ more)
 
-  extends_step : (s : State) (a : Act) → Extends s (step p word_of s a)
-  extends_step s (Open g) = record { later = omega arith; content = λ e. refl; log = λ e. ([], sym (append_none s.log)) }
+  extends_step : (s : LifeState) (a : LifeAct) → Extends s (life_step p word_of s a)
+  extends_step s (Open g) = record { later = omega arith; content = λ e. refl; log = λ e. ([], sym (append-nil s.log)) }
   extends_step s (Append r) = record { later = omega arith; content = λ e. refl; log = λ e. (r ∷ [], refl) }
-  extends_step s ShowBatch = record { later = omega arith; content = λ e. refl; log = λ e. ([], sym (append_none s.log)) }
-  extends_step s ShowLifts = record { later = omega arith; content = λ e. refl; log = λ e. ([], sym (append_none s.log)) }
+  extends_step s ShowBatch = record { later = omega arith; content = λ e. refl; log = λ e. ([], sym (append-nil s.log)) }
+  extends_step s ShowLifts = record { later = omega arith; content = λ e. refl; log = λ e. ([], sym (append-nil s.log)) }
   extends_step s (End ws drawn slot) = record { later = omega arith; content = λ e. absurd (omega arith); log = λ e. absurd (omega arith) }
 
-  extends : (s : State) (acts : List Act) → Extends s (reached p word_of s acts)
-  extends s [] = record { later = omega arith; content = λ e. refl; log = λ e. ([], sym (append_none s.log)) }
+  extends : (s : LifeState) (acts : List LifeAct) → Extends s (reached p word_of s acts)
+  extends s [] = record { later = omega arith; content = λ e. refl; log = λ e. ([], sym (append-nil s.log)) }
   extends s (a ∷ rest) =
-      let one : Extends s (step p word_of s a) = extends_step s a in
-      let more : Extends (step p word_of s a) (reached p word_of (step p word_of s a) rest) = extends (step p word_of s a) rest in
+      let one : Extends s (life_step p word_of s a) = extends_step s a in
+      let more : Extends (life_step p word_of s a) (reached p word_of (life_step p word_of s a) rest) = extends (life_step p word_of s a) rest in
       record {
         later = omega (arith, one.later, more.later);
-        content = λ e. (let x : (step p word_of s a).epoch ≡ s.epoch = omega (arith, one.later, more.later) in more.content (e ∙ sym x) ∙ one.content x);
-        log = λ e. (let x : (step p word_of s a).epoch ≡ s.epoch = omega (arith, one.later, more.later) in
+        content = λ e. (let x : (life_step p word_of s a).epoch ≡ s.epoch = omega (arith, one.later, more.later) in more.content (e ∙ sym x) ∙ one.content x);
+        log = λ e. (let x : (life_step p word_of s a).epoch ≡ s.epoch = omega (arith, one.later, more.later) in
             let l = one.log x in let m = more.log (e ∙ sym x) in
-            (l.0 ++ m.0, m.1 ∙ ap (λ (rs : List BatchRecord). rs ++ m.0) l.1 ∙ append_more s.log l.0 m.0));
+            (l.0 ++ m.0, m.1 ∙ ap (λ (rs : List LifeBatch). rs ++ m.0) l.1 ∙ append_assoc s.log l.0 m.0));
       }
 
 pub attempts_agree : AttemptsAgree
 attempts_agree p word_of s acts life same begun within =
-    let s' : State = reached p word_of s acts in
+    let s' : LifeState = reached p word_of s acts in
     let x = extends p word_of s acts in
     let c = x.content same in
     let l = x.log same in (
@@ -111,8 +111,8 @@ attempts_agree p word_of s acts life same begun within =
       (λ i. phase_slots p word_of (same i + 1) (c i) (c i).table (l.1 i) (begun i)) ∙ phase_slots_more p word_of (s.epoch + 1) s.content s.content.table s.log l.0 s.begun within,
     )
 
-nothing_more : (xs ys : List BatchRecord) (n : ℕ) → length xs ≡ n → length (xs ++ ys) ≡ n → xs ++ ys ≡ xs
-nothing_more xs [] n e f = append_none xs
+nothing_more : (xs ys : List LifeBatch) (n : ℕ) → length xs ≡ n → length (xs ++ ys) ≡ n → xs ++ ys ≡ xs
+nothing_more xs [] n e f = append-nil xs
 nothing_more xs (y ∷ ys) n e f = absurd (omega (arith, length-append xs (y ∷ ys)))
 
 pub lifts_agree : LiftsAgree

@@ -2,10 +2,13 @@
 use Rattle.std.specs.Prelude.{◌≡◌, ℕ, ◌+◌, ◌<◌, ◌≤◌, ◌==◌, Bool, true, false, cond, List, [], ◌∷◌, ◌++◌, length, Option, unwrap_or}
 use Rattle.std.specs.declared.option.Option.TheVariants.{None, Some}
 use Rattle.std.proofs.Common.{suc, arith, refl, sym, ap, subst, ◌∙◌, inl, inr, ◌⊎◌}
-use Rattle.std.proofs.lemmas.Bool.{true≢false, false≢true, eqb-true, eq-eqb}
+use Rattle.std.proofs.lemmas.Bool.{true≢false, false≢true, eqb-true}
+use Rattle.std.proofs.lemmas.List.{append_assoc, append-nil}
 use Rattle.ob_ring.specs.FlatTable.{asks_for, shown_label, rebound, after_label}
-use Rattle.ob_life.specs.Life.{WordId, next_word, LabelFill, Has, with_words, labels_of, book_after, IsPutOf}
-use Rattle.ob_life.proofs.Has.{has_push, append_more, append_none}
+use Rattle.ob_ring.proofs.FetchLaws.{asks_some}
+use Rattle.ob_life.specs.Life.{WordId, next_word, LabelFill, with_words, labels_of, book_after, IsPutOf}
+use Rattle.ob_base.proofs.Repeats.{has_push}
+use Rattle.ob_base.specs.Repeats.{Has}
 
 abbrev pub IsOlder : WordId → ℕ → ℕ → Type 0
 IsOlder w g n = (w.generation < g) ⊎ ((w.generation ≡ g) × (w.place < n))
@@ -53,10 +56,6 @@ asks_is (Some c) a k e f = let x : c ≡ a = cc in sym x ∙ eqb-true c k f
 asks_one : (ask : Option ℕ) (k k' : ℕ) → asks_for ask k ≡ true → asks_for ask k' ≡ true → k ≡ k'
 asks_one None k k' e f = absurd (false≢true e)
 asks_one (Some c) k k' e f = sym (eqb-true c k e) ∙ eqb-true c k' f
-
-asks_itself : (ask : Option ℕ) (a k : ℕ) → ask ≡ Some a → a ≡ k → asks_for ask k ≡ true
-asks_itself None a k e f = absurd (cc)
-asks_itself (Some c) a k e f = let x : c ≡ a = cc in eq-eqb c k (x ∙ f)
 
 before_next : (l : LabelFill) (e b i : ℕ) → IsNamedBefore l e b i → IsNamedBefore l e b (i + 1)
 before_next l e b i (inl h) = inl h
@@ -117,7 +116,7 @@ module _ (ls : List LabelFill) (book : ℕ → Option WordId) (g n e b i : ℕ) 
     ]
     | inr old ↦ elim (label_from book ask own) [
       | inl same ↦ own_unheld k word old.1 same
-      | inr held ↦ true≢false (sym (asks_itself ask held.0 k held.1 (s.held_once held.0 k word held.2 old.1)) ∙ old.0)
+      | inr held ↦ true≢false (sym (asks_some ask held.0 k held.1 (s.held_once held.0 k word held.2 old.1)) ∙ old.0)
     ]
   ]
 
@@ -174,14 +173,15 @@ apart_later ls book g n e b i g' n' e' b' i' older name s = record {
 apart_at : (ls ls' : List LabelFill) (book : ℕ → Option WordId) (g e b n n' i i' : ℕ) → ls ≡ ls' → n ≡ n' → i ≡ i' → IsApart ls book g n e b i → IsApart ls' book g n' e b i'
 apart_at ls ls' book g e b n n' i i' x y z s = subst (λ (l : List LabelFill). IsApart l book g n' e b i') x (subst (λ (m : ℕ). IsApart ls book g m e b i') y (subst (λ (j : ℕ). IsApart ls book g n e b j) z s))
 
-pub label_batch : (ls : List LabelFill) (book : ℕ → Option WordId) (g e b i n : ℕ) (first : WordId) (asks : List (Option ℕ)) → first.generation ≡ g → n ≤ first.place → IsApart ls book g n e b i → IsApart (ls ++ labels_of e b i book (with_words first asks)) (book_after book (with_words first asks)) g (first.place + length asks) e b (i + length asks)
+pub label_batch : (ls : List LabelFill) (book : ℕ → Option WordId) (g e b i n : ℕ) (first : WordId) (asks : List (Option ℕ)) → first.generation ≡ g → n ≤ first.place → IsApart ls book g n e b i → IsApart (ls ++ labels_of e b i book (with_words first asks))
+    (book_after book (with_words first asks)) g (first.place + length asks) e b (i + length asks)
 label_batch ls book g e b i n first [] now free s =
-    apart_at ls (ls ++ []) book g e b (first.place + 0) (first.place + 0) i (i + 0) (sym (append_none ls)) refl (omega arith)
+    apart_at ls (ls ++ []) book g e b (first.place + 0) (first.place + 0) i (i + 0) (sym (append-nil ls)) refl (omega arith)
     (apart_later ls book g n e b i g (first.place + 0) e b i (λ w. older_yet w g n (first.place + 0) (omega arith)) (λ l h. h) s)
 label_batch ls book g e b i n first (a ∷ asks) now free s =
     let one : IsApart (ls ++ record { epoch = e; batch = b; place = i; word = shown_label book a first } ∷ []) (after_label book a first) g (first.place + 1) e b (i + 1) = label_step ls book g n e b i s a first now free in
     apart_at _ _ (book_after (after_label book a first) (with_words (next_word first) asks)) g e b ((first.place + 1) + length asks) (first.place + suc (length asks)) ((i + 1) + length asks) (i + suc (length asks))
-    (append_more ls (record { epoch = e; batch = b; place = i; word = shown_label book a first } ∷ []) (labels_of e b (i + 1) (after_label book a first) (with_words (next_word first) asks)))
+    (append_assoc ls (record { epoch = e; batch = b; place = i; word = shown_label book a first } ∷ []) (labels_of e b (i + 1) (after_label book a first) (with_words (next_word first) asks)))
     (omega arith) (omega arith)
     (label_batch (ls ++ record { epoch = e; batch = b; place = i; word = shown_label book a first } ∷ []) (after_label book a first) g e b (i + 1) (first.place + 1) (next_word first) asks now (omega arith) one)
 

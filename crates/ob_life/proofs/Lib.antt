@@ -1,7 +1,6 @@
 pub mod BookLaws
 pub mod EndLaws
 pub mod FreshLaws
-pub mod Has
 pub mod LabelLaws
 pub mod LifeLabels
 pub mod LifeSlots

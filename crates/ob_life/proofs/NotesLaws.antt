@@ -10,14 +10,14 @@ use Rattle.ob_schedule.specs.Paths.{is_one_of, eviction_path}
 use Rattle.ob_ring.specs.FlatTable.{FlatTable, Shown, leaf_shown, place_shown, after_place, batch_shown, after_batch, leaves_shown, final_shown, after_final}
 use Rattle.ob_schedule.specs.Holes.{place_holes, passes_before, final_holes}
 use Rattle.ob_ring.specs.News.{Seen, with_shown, AreNew, Marks}
-use Rattle.ob_life.specs.Life.{Has}
 use Rattle.ob_life.specs.Laws.{PicksAreScheduled, LiftsAreScheduled}
 use Rattle.ob_store.specs.declared.watch.Note.{Note}
 use Rattle.ob_store.specs.declared.watch.Note.TheVariants.{Label, Read}
 use Rattle.ob_base.specs.Layout.{slot_cell}
-use Rattle.ob_schedule.specs.Schedule.{Public, Fills, counts_now, hole_reads, phase_notes, after_phase, after_end, is_lifted}
+use Rattle.ob_schedule.specs.Schedule.{Public, Fills, counts_now, hole_reads, phase_notes, after_phase, after_end, is_lifted_by_end}
 use Rattle.ob_life.specs.Bridge.{index_at, picked_reads, picked_notes, slot_read_off}
-use Rattle.ob_life.proofs.Has.{has_left, has_right}
+use Rattle.ob_base.proofs.Repeats.{has_left, has_right}
+use Rattle.ob_base.specs.Repeats.{Has}
 use Rattle.ob_ring.specs.Sound.{IsSound}
 use Rattle.ob_ring.specs.Sound.{hole_of, IsCounted}
 use Rattle.ob_ring.proofs.Batches.{PlaceLaw, place_law, passed, shift_range, count_more, at_next, BatchLaw, batch_law, final_holes_law, FinalLaw, final_law}
@@ -82,7 +82,8 @@ notes_as_counts p q f count (x ∷ xs) =
     let first : (Label x ∷ hole_reads p q f (place_holes p count x)) ≡ F 0 = λ i. Label x ∷ hole_reads p q f (place_holes p (λ u. (let z : count u ≡ count u + 0 = omega arith in z i)) x) in
     (λ i. first i ++ (notes_as_counts p q f (passed p x count) xs ∙ sym rest) i)
 
-picked_by_places : (p : Params) (q : Public) (f : Fills) (slot : ℕ → ℕ → ℕ) (t : FlatTable) (places : List (Option ℕ × ℕ)) (count : ℕ → ℕ) → IsSound p t → IsCounted p t count → ((s : Shown) → Has (batch_shown p t places) s → f.slot (hole_of s) ≡ slot s.bucket s.index) → picked_notes p q.homes slot t places ≡ notes_by_places p q f count (leaves_shown p t places)
+picked_by_places : (p : Params) (q : Public) (f : Fills) (slot : ℕ → ℕ → ℕ) (t : FlatTable) (places : List (Option ℕ × ℕ)) (count : ℕ → ℕ) → IsSound p t → IsCounted p t count →
+    ((s : Shown) → Has (batch_shown p t places) s → f.slot (hole_of s) ≡ slot s.bucket s.index) → picked_notes p q.homes slot t places ≡ notes_by_places p q f count (leaves_shown p t places)
 picked_by_places p q f slot t [] count s c h = refl
 picked_by_places p q f slot t (a ∷ rest) count s c h =
     let one : PlaceLaw p t a.0 a.1 count = place_law p t a.0 a.1 count s c in
@@ -119,14 +120,15 @@ counts_follow p q t places s c =
     law.counted
 
 -- the public counts follow an end
-pub end_follows : (p : Params) (q : Public) (t : FlatTable) (ws : List (ℕ × Option ℕ)) (seen : Seen) → 0 < p.dummies → IsSound p t → IsCounted p t (counts_now p q) → IsLow p t → ArePutsLow p ws → ((u : ℕ) → 2 ^ (p.levels + 1) - 1 ≤ u → counts_now p q u < p.dummies) → Marks p (after_final p t (eviction_path p t.counter)) seen → t.counter ≡ q.counter →
+pub end_follows : (p : Params) (q : Public) (t : FlatTable) (ws : List (ℕ × Option ℕ)) (seen : Seen) → 0 < p.dummies → IsSound p t → IsCounted p t (counts_now p q) → IsLow p t → ArePutsLow p ws →
+    ((u : ℕ) → 2 ^ (p.levels + 1) - 1 ≤ u → counts_now p q u < p.dummies) → Marks p (after_final p t (eviction_path p t.counter)) seen → t.counter ≡ q.counter →
     IsCounted p (ended_table p t ws) (counts_now p (after_end p q))
 end_follows p q t ws seen some s c l puts bound m same =
     let law : EndLaw p t (counts_now p q) seen ws = end_law p some t (counts_now p q) seen ws s c l puts bound m in
     let fin : FinalLaw p t (counts_now p q) (λ u. false) (eviction_path p t.counter) = final_law p t (counts_now p q) (λ u. false) (eviction_path p t.counter) s (record { lifted_is = c.lifted_is; reads_is = c.reads_is }) in
-    let up : (u : ℕ) → up_of p t u ≡ is_lifted p q u = λ u. fin.lifted_is u ∙ (λ i. is_one_of (eviction_path p (same i)) u || nat_le p.dummies (counts_now p q u)) in
+    let up : (u : ℕ) → up_of p t u ≡ is_lifted_by_end p q u = λ u. fin.lifted_is u ∙ (λ i. is_one_of (eviction_path p (same i)) u || nat_le p.dummies (counts_now p q u)) in
     subst (λ (count : ℕ → ℕ). IsCounted p (ended_table p t ws) count)
-    (λ i u. (let z : cond (is_lifted p q u) 0 (counts_now p q u) ≡ counts_now p (after_end p q) u = omega arith in ap (λ (b : Bool). cond b 0 (counts_now p q u)) (up u) ∙ z) i)
+    (λ i u. (let z : cond (is_lifted_by_end p q u) 0 (counts_now p q u) ≡ counts_now p (after_end p q) u = omega arith in ap (λ (b : Bool). cond b 0 (counts_now p q u)) (up u) ∙ z) i)
     law.counted
 
 pub picks_scheduled : PicksAreScheduled

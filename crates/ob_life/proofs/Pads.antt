@@ -4,9 +4,10 @@ use Rattle.std.specs.List.{range_with_len}
 use Rattle.std.proofs.Common.{zero, suc, arith, sym, ap, inl, inr}
 use Rattle.ob_base.specs.declared.params.Params.{Params}
 use Rattle.ob_base.specs.Tree.{below}
-use Rattle.ob_life.specs.Life.{WordId, State, Act, Has, step, reached, IsLife}
-use Rattle.ob_life.specs.Calls.{RunSeals, pads_of, AreRising, NoRepeats}
-use Rattle.ob_life.proofs.Has.{has_cases}
+use Rattle.ob_life.specs.Life.{WordId, LifeState, LifeAct, life_step, reached, IsLife}
+use Rattle.ob_life.specs.Calls.{RunSeals, pads_of, AreRising}
+use Rattle.ob_base.proofs.Repeats.{has_cases}
+use Rattle.ob_base.specs.Repeats.{Has, NoRepeats}
 
 in_run : (g a n : ℕ) (x : ℕ × ℕ) → Has (map (λ m. (g, m)) (range_with_len a n)) x → (x.0 ≡ g) × (a ≤ x.1)
 in_run g a zero x h = absurd h
@@ -36,6 +37,6 @@ pads_differ g (r ∷ runs) rise = run_first r.generation 0 r.sealed (pads_of run
 
 module _ (p : Params) (word_of : WordId → ℕ) where
   -- a life goes on by a call's acts
-  pub life_goes_on : (s : State) (xs ys : List Act) → IsLife p word_of s xs → IsLife p word_of (reached p word_of s xs) ys → IsLife p word_of s (xs ++ ys)
+  pub life_goes_on : (s : LifeState) (xs ys : List LifeAct) → IsLife p word_of s xs → IsLife p word_of (reached p word_of s xs) ys → IsLife p word_of s (xs ++ ys)
   life_goes_on s [] ys a b = b
-  life_goes_on s (x ∷ xs) ys a b = (a.0, life_goes_on (step p word_of s x) xs ys a.1 b)
+  life_goes_on s (x ∷ xs) ys a b = (a.0, life_goes_on (life_step p word_of s x) xs ys a.1 b)

@@ -2,12 +2,14 @@
 use Rattle.std.specs.Prelude.{◌≡◌, ℕ, ◌+◌, ◌<◌, ◌≤◌, ◌==◌, Bool, true, false, cond, not, ◌&&◌, List, [], ◌∷◌, ◌++◌}
 use Rattle.std.proofs.Common.{arith, refl, sym, ap, subst, ◌∙◌, inl, inr}
 use Rattle.std.proofs.lemmas.Bool.{true≢false, cases_Bool, eq-eqb, or_left, or_right, and_from}
+use Rattle.std.proofs.lemmas.List.{append_assoc, append-nil}
 use Rattle.ob_bucket.specs.Rank.{IsRanking}
 use Rattle.ob_base.specs.declared.params.Params.{Params}
 use Rattle.ob_ring.specs.FlatTable.{Shown}
 use Rattle.ob_ring.specs.News.{Seen, with_shown, with_all, AreNew}
-use Rattle.ob_life.specs.Life.{Content, SlotFill, Has, slot_fill, slots_of}
-use Rattle.ob_life.proofs.Has.{has_push, append_more, append_none}
+use Rattle.ob_life.specs.Life.{LifeContent, SlotFill, slot_fill, slots_of}
+use Rattle.ob_base.proofs.Repeats.{has_push}
+use Rattle.ob_base.specs.Repeats.{Has}
 
 -- of the slots planned so far, the present versions with what was seen of them, and the epoch that runs
 pub record AreSlotsApart (p : Params) (fs : List SlotFill) (version : ℕ → ℕ) (slot : ℕ → ℕ → ℕ) (k : Seen) (e : ℕ) : Type 0 where
@@ -30,7 +32,7 @@ version_at f g e = ap (λ (x : SlotFill). x.version) e
 epoch_at : (f g : SlotFill) → f ≡ g → f.epoch ≡ g.epoch
 epoch_at f g e = ap (λ (x : SlotFill). x.epoch) e
 
-module _ (p : Params) (fs : List SlotFill) (c : Content) (k : Seen) (e : ℕ) (a : AreSlotsApart p fs c.version c.slot k e) (s : Shown) (within : s.index < p.real + p.dummies) (unseen : k.shown s.bucket s.index ≡ false) (at : s.number ≡ k.next s.bucket) where
+module _ (p : Params) (fs : List SlotFill) (c : LifeContent) (k : Seen) (e : ℕ) (a : AreSlotsApart p fs c.version c.slot k e) (s : Shown) (within : s.index < p.real + p.dummies) (unseen : k.shown s.bucket s.index ≡ false) (at : s.number ≡ k.next s.bucket) where
   abbrev new : SlotFill
   new = slot_fill e c s
 
@@ -61,8 +63,10 @@ module _ (p : Params) (fs : List SlotFill) (c : Content) (k : Seen) (e : ℕ) (a
     present = λ f h v. elim (has_push fs new f h) [
       | inl o ↦ (let was : (f.number < k.next f.bucket) × ((j : ℕ) × (j < p.real + p.dummies) × (f.slot ≡ c.slot f.bucket j) × (k.shown f.bucket j ≡ true)) = a.present f o v in
           (omega (arith, was.0, grows f.bucket), ((was.1).0, (was.1).1, (was.1).2, or_right ((f.bucket == s.bucket) && ((was.1).0 == s.index)) (k.shown f.bucket (was.1).0) (was.1).3)))
-      | inr n ↦ subst (λ (f : SlotFill). (f.number < (with_shown k s).next f.bucket) × ((j : ℕ) × (j < p.real + p.dummies) × (f.slot ≡ c.slot f.bucket j) × ((with_shown k s).shown f.bucket j ≡ true))) n
-          ((let g : k.next s.bucket < (with_shown k s).next s.bucket = grown in omega arith), (s.index, within, refl, or_left ((s.bucket == s.bucket) && (s.index == s.index)) (k.shown s.bucket s.index) (and_from (s.bucket == s.bucket) (s.index == s.index) (eq-eqb s.bucket s.bucket refl) (eq-eqb s.index s.index refl))))
+      | inr n ↦ subst (λ (f : SlotFill). (f.number < (with_shown k s).next f.bucket) × ((j : ℕ) × (j < p.real + p.dummies) × (f.slot ≡ c.slot f.bucket j) × ((with_shown k s).shown f.bucket j ≡ true))) n (
+        (let g : k.next s.bucket < (with_shown k s).next s.bucket = grown in omega arith),
+        (s.index, within, refl, or_left ((s.bucket == s.bucket) && (s.index == s.index)) (k.shown s.bucket s.index) (and_from (s.bucket == s.bucket) (s.index == s.index) (eq-eqb s.bucket s.bucket refl) (eq-eqb s.index s.index refl))),
+      )
     ];
     old = λ f h. elim (has_push fs new f h) [
       | inl o ↦ a.old f o
@@ -108,10 +112,10 @@ module _ (p : Params) (fs : List SlotFill) (c : Content) (k : Seen) (e : ℕ) (a
     ];
   }
 
-pub slots_step : (p : Params) (fs : List SlotFill) (c : Content) (k : Seen) (e : ℕ) (ss : List Shown) → AreSlotsApart p fs c.version c.slot k e → AreNew p k ss → AreSlotsApart p (fs ++ slots_of e c ss) c.version c.slot (with_all k ss) e
-slots_step p fs c k e [] a n = subst (λ (l : List SlotFill). AreSlotsApart p l c.version c.slot k e) (sym (append_none fs)) a
+pub slots_step : (p : Params) (fs : List SlotFill) (c : LifeContent) (k : Seen) (e : ℕ) (ss : List Shown) → AreSlotsApart p fs c.version c.slot k e → AreNew p k ss → AreSlotsApart p (fs ++ slots_of e c ss) c.version c.slot (with_all k ss) e
+slots_step p fs c k e [] a n = subst (λ (l : List SlotFill). AreSlotsApart p l c.version c.slot k e) (sym (append-nil fs)) a
 slots_step p fs c k e (s ∷ ss) a n =
-    subst (λ (l : List SlotFill). AreSlotsApart p l c.version c.slot (with_all (with_shown k s) ss) e) (append_more fs (slot_fill e c s ∷ []) (slots_of e c ss))
+    subst (λ (l : List SlotFill). AreSlotsApart p l c.version c.slot (with_all (with_shown k s) ss) e) (append_assoc fs (slot_fill e c s ∷ []) (slots_of e c ss))
     (slots_step p (fs ++ slot_fill e c s ∷ []) c (with_shown k s) e ss (slot_step p fs c k e a s n.0 n.1 n.2) n.3)
 
 -- ---- an end: the lifted buckets begin new versions
@@ -135,7 +139,8 @@ end_ranked : (n : ℕ) (b : Bool) (s t : ℕ → ℕ) → (b ≡ true → IsRank
 end_ranked n true s t h k = h refl
 end_ranked n false s t h k = k
 
-pub slots_end : (p : Params) (fs : List SlotFill) (version : ℕ → ℕ) (slot slot' : ℕ → ℕ → ℕ) (k : Seen) (e : ℕ) (up : ℕ → Bool) → AreSlotsApart p fs version slot k e → ((u : ℕ) → up u ≡ true → IsRanking (p.real + p.dummies) (slot' u)) → AreSlotsApart p fs (λ u. cond (up u) e (version u)) (λ u. cond (up u) (slot' u) (slot u)) (seen_ended up k) (e + 1)
+pub slots_end : (p : Params) (fs : List SlotFill) (version : ℕ → ℕ) (slot slot' : ℕ → ℕ → ℕ) (k : Seen) (e : ℕ) (up : ℕ → Bool) → AreSlotsApart p fs version slot k e → ((u : ℕ) → up u ≡ true → IsRanking (p.real + p.dummies) (slot' u)) → AreSlotsApart p fs
+    (λ u. cond (up u) e (version u)) (λ u. cond (up u) (slot' u) (slot u)) (seen_ended up k) (e + 1)
 slots_end p fs version slot slot' k e up a r = record {
   ranked = λ u. end_ranked (p.real + p.dummies) (up u) (slot' u) (slot u) (r u) (a.ranked u);
   versions_old = λ u. end_lt (up u) (version u) e (a.versions_old u);

@@ -61,7 +61,8 @@ unfolding buckets record_cells log_cells checkpoint_len checkpoint_cells home_ce
 end_1 = refl
 
 -- a crash after the first batch, then an opening that repeats it
-again : open_notes p0 q1 fills_1 q1.gates 3 1 ≡ reads_of (1 ∷ 2 ∷ 3 ∷ 4 ∷ 5 ∷ 6 ∷ 7 ∷ 8 ∷ 17 ∷ 18 ∷ 19 ∷ 20 ∷ 21 ∷ 22 ∷ 23 ∷ 24 ∷ 25 ∷ 26 ∷ 27 ∷ 13 ∷ 14 ∷ 15 ∷ 16 ∷ []) ++ Sync ∷ Write 4 ∷ Sync ∷ Write 3 ∷ Sync ∷ Write 4 ∷ Sync ∷ Label 0 ∷ Read 41 ∷ Read 46 ∷ Read 56 ∷ Label 0 ∷ Read 42 ∷ Read 47 ∷ Read 57 ∷ []
+again : open_notes p0 q1 fills_1 q1.gates 3 1 ≡ reads_of (1 ∷ 2 ∷ 3 ∷ 4 ∷ 5 ∷ 6 ∷ 7 ∷ 8 ∷ 17 ∷ 18 ∷ 19 ∷ 20 ∷ 21 ∷ 22 ∷ 23 ∷ 24 ∷ 25 ∷ 26 ∷ 27 ∷ 13 ∷ 14 ∷ 15 ∷ 16 ∷ []) ++ Sync ∷ Write 4 ∷ Sync ∷ Write 3 ∷ Sync ∷ Write 4 ∷ Sync ∷ Label 0 ∷ Read 41 ∷ Read 46 ∷
+    Read 56 ∷ Label 0 ∷ Read 42 ∷ Read 47 ∷ Read 57 ∷ []
 unfolding buckets record_cells log_cells checkpoint_len checkpoint_cells home_cells
 again = refl
 

@@ -2,35 +2,36 @@
 use Rattle.std.specs.Prelude.{◌≡◌, ℕ, ◌+◌, ◌<◌, List, ◌++◌, Option, length}
 use Rattle.ob_bucket.specs.Rank.{IsRanking}
 use Rattle.ob_base.specs.declared.params.Params.{Params}
+use Rattle.ob_base.specs.Repeats.{Has, NoRepeats}
 use Rattle.ob_ring.specs.FlatTable.{FlatTable, Batch, FinalLifts, picks, after, leaves_shown}
 use Rattle.ob_schedule.specs.Holes.{final_holes}
 use Rattle.ob_ring.specs.Sound.{IsSound, IsCounted}
 use Rattle.ob_ring.specs.News.{Seen, with_all, AreNew, Marks}
 use Rattle.ob_schedule.specs.Schedule.{Public, counts_now, phase_notes, after_phase, hole_reads}
 use Rattle.ob_life.specs.Bridge.{picked_notes, picked_reads, slot_read_off}
-use Rattle.ob_life.specs.Life.{WordId, State, Act, ShowBatch, ShowLifts, LabelFill, SlotFill, Has, IsFresh, IsLife, life_labels, life_slots, formatted, reached, labels_shown, slots_shown}
-use Rattle.ob_life.specs.Calls.{RunSeals, AreRising, NoRepeats, pads_of}
+use Rattle.ob_life.specs.Life.{WordId, LifeState, LifeAct, ShowBatch, ShowLifts, LabelFill, SlotFill, HolesAreFresh, IsLife, life_labels, life_slots, formatted_life, reached, labels_shown, slots_shown}
+use Rattle.ob_life.specs.Calls.{RunSeals, AreRising, pads_of}
 
 -- every life from a format on is fresh, over any number of runs, crashes and repeats
 abbrev pub LivesAreFresh : Type 0
-LivesAreFresh = (p : Params) (word_of : WordId → ℕ) (slot : ℕ → ℕ → ℕ) (acts : List Act) → 0 < p.dummies → ((u : ℕ) → IsRanking (p.real + p.dummies) (slot u)) →
-    IsLife p word_of (formatted slot) acts → IsFresh (life_labels p word_of (formatted slot) acts) (life_slots p word_of (formatted slot) acts)
+LivesAreFresh = (p : Params) (word_of : WordId → ℕ) (slot : ℕ → ℕ → ℕ) (acts : List LifeAct) → 0 < p.dummies → ((u : ℕ) → IsRanking (p.real + p.dummies) (slot u)) →
+    IsLife p word_of (formatted_life slot) acts → HolesAreFresh (life_labels p word_of (formatted_life slot) acts) (life_slots p word_of (formatted_life slot) acts)
 
 -- two attempts of an epoch that have begun equally many phases show the same next
 abbrev pub AttemptsAgree : Type 0
-AttemptsAgree = (p : Params) (word_of : WordId → ℕ) (s : State) (acts : List Act) → IsLife p word_of s acts →
+AttemptsAgree = (p : Params) (word_of : WordId → ℕ) (s : LifeState) (acts : List LifeAct) → IsLife p word_of s acts →
     (reached p word_of s acts).epoch ≡ s.epoch → (reached p word_of s acts).begun ≡ s.begun → s.begun < length s.log →
     (labels_shown p word_of (reached p word_of s acts) ShowBatch ≡ labels_shown p word_of s ShowBatch) × (slots_shown p word_of (reached p word_of s acts) ShowBatch ≡ slots_shown p word_of s ShowBatch)
 
 -- and the final lifts of an epoch are the same in each attempt that comes to them
 abbrev pub LiftsAgree : Type 0
-LiftsAgree = (p : Params) (word_of : WordId → ℕ) (s : State) (acts : List Act) → IsLife p word_of s acts →
+LiftsAgree = (p : Params) (word_of : WordId → ℕ) (s : LifeState) (acts : List LifeAct) → IsLife p word_of s acts →
     (reached p word_of s acts).epoch ≡ s.epoch → length s.log ≡ p.batches → length (reached p word_of s acts).log ≡ p.batches →
     slots_shown p word_of (reached p word_of s acts) ShowLifts ≡ slots_shown p word_of s ShowLifts
 
 -- a part of what is shown, as where a call stops inside a phase, is fresh too
 abbrev pub PartsAreFresh : Type 0
-PartsAreFresh = (labels ls : List LabelFill) (slots fs : List SlotFill) → ((l : LabelFill) → Has ls l → Has labels l) → ((f : SlotFill) → Has fs f → Has slots f) → IsFresh labels slots → IsFresh ls fs
+PartsAreFresh = (labels ls : List LabelFill) (slots fs : List SlotFill) → ((l : LabelFill) → Has ls l → Has labels l) → ((f : SlotFill) → Has fs f → Has slots f) → HolesAreFresh labels slots → HolesAreFresh ls fs
 
 -- what a batch reads is its public schedule, filled with the leaves shown and with the slots read off by their holes' names,
 -- whatever the order of the slots is; no index was shown before; and the counts that the schedule goes on from are the table's
@@ -58,4 +59,4 @@ PadsDiffer = (generation : ℕ) (runs : List RunSeals) → AreRising generation 
 
 -- a life goes on by the acts of a further call
 abbrev pub LivesGoOn : Type 0
-LivesGoOn = (p : Params) (word_of : WordId → ℕ) (s : State) (xs ys : List Act) → IsLife p word_of s xs → IsLife p word_of (reached p word_of s xs) ys → IsLife p word_of s (xs ++ ys)
+LivesGoOn = (p : Params) (word_of : WordId → ℕ) (s : LifeState) (xs ys : List LifeAct) → IsLife p word_of s xs → IsLife p word_of (reached p word_of s xs) ys → IsLife p word_of s (xs ++ ys)

@@ -13,8 +13,9 @@ use Rattle.ob_seal.specs.Pieces.{onward, piece}
 use Rattle.ob_seal.specs.Sealing.{Sealing}
 use Rattle.ob_seal.specs.Seals.{sealed}
 use Rattle.ob_cells.specs.Runs.{AreSealed, run_at}
+use Rattle.ob_cells.specs.Writes.{WritesWithin}
 use Rattle.ob_store.specs.Disk.{Disk, Image}
-use Rattle.ob_store.specs.Images.{Settled, LeavesOnly, Passes, SameBut, SameOff}
+use Rattle.ob_store.specs.Images.{IsSynced, LeavesOnly, Passes, SameBut, SameOff}
 use Rattle.ob_store.specs.declared.watch.Note.{Note}
 use Rattle.ob_store.specs.declared.watch.Note.TheVariants.{Write, Sync}
 use Rattle.ob_store.specs.Runs.{write_notes}
@@ -24,11 +25,11 @@ use Rattle.ob_store.specs.Lines.{Trace}
 use Rattle.ob_store.specs.Told.{Tells, TellsFirst, Does}
 use Rattle.ob_store.proofs.Doing.{does_all, does_err, first_behind, tells_then}
 use Rattle.ob_store.proofs.Serving.{goes_then}
-use Rattle.ob_store.proofs.Moments.{then_on, weakened, leaves_of, passed_then}
+use Rattle.ob_store.proofs.Moments.{passed_none, then_on, weakened, leaves_of, passed_then, passes_so}
 use Rattle.ob_twin.specs.Bodies.{open_gate}
 use Rattle.ob_twin.proofs.Moves.{same_or_not}
 use Rattle.ob_log.specs.Logs.{BatchRecord, RecordObeys, OpenRecords, SpellsRecord, record_at, record_bytes, nothing}
-use Rattle.ob_log.specs.Appends.{HoldsOneOf, record_for, append_notes}
+use Rattle.ob_log.specs.Appends.{HoldsRecord, HoldsOneOf, record_for, append_notes}
 
 module _ (p : Params) (a n : ℕ) where
   abbrev base : ℕ
@@ -120,7 +121,7 @@ module _ (keys : Keys) (p : Params) (epoch : ℕ) (rs : List BatchRecord) (r : B
   pub same_image : (c d : Image) → ((k : ℕ) → c k ≡ d k) → OpenRecords keys p epoch rs d → OpenRecords keys p epoch rs c
   same_image c d same = body_kept c d (λ k off. same k)
 
-  module _ (old mid : Disk) (only : (c : Image) → old.left_since old.moment c → old.may_leave c) (settled : Settled old) (held : OpenRecords keys p epoch rs old.cells) (passes : Passes BodyStep old mid) where
+  module _ (old mid : Disk) (only : (c : Image) → old.left_since old.moment c → old.may_leave c) (settled : IsSynced old) (held : OpenRecords keys p epoch rs old.cells) (passes : Passes BodyStep old mid) where
     -- while the body is written and synced
     pub filling : LeavesOnly old mid (OpenRecords keys p epoch rs)
     filling = leaves_of BodyStep (OpenRecords keys p epoch rs) (OpenRecords keys p epoch rs) old mid passes only (λ c left. same_image c old.cells (settled c left) held) (λ c d was step. body_kept c d step was) (λ c was. was)
@@ -135,27 +136,37 @@ module _ (keys : Keys) (p : Params) (epoch : ℕ) (rs : List BatchRecord) (r : B
 
 -- ---- as the calls say it
 
-pub passes_weakened : (one step : Image → Image → Type 0) (old new : Disk) → ((c d : Image) → one c d → step c d) → Passes one old new → Passes step old new
-passes_weakened one step old new so p = record {
-  later = p.later;
-  now = λ c left. (let back = p.now c left in (back.0, back.1, so c back.0 back.2));
-  since = λ t c le left. ⊎_elim (λ was. inl was) (λ back. inr (back.0, back.1, so c back.0 back.2)) (p.since t c le left);
-}
+-- what is off a run and the cell behind it
+off_run : (base many k : ℕ) → (k < base) ⊎ (base + (many + 1) ≤ k) → (k < base) ⊎ (base + many ≤ k)
+off_run base many k (inl low) = inl low
+off_run base many k (inr high) = inr (omega arith)
+
+off_gate : (base many gate k : ℕ) → gate ≡ base + many → (k < base) ⊎ (base + (many + 1) ≤ k) → k ≢ gate
+off_gate base many gate k is (inl low) = omega arith
+off_gate base many gate k is (inr high) = omega arith
 
 -- the body, and the cell behind it
 pub passes_both : (base many gate : ℕ) (old mid new : Disk) → gate ≡ base + many → Passes (SameOff base many) old mid → Passes (SameBut gate) mid new → Passes (SameOff base (many + 1)) old new
 passes_both base many gate old mid new is first second =
     passed_then (SameOff base (many + 1)) old mid new (λ c d e a b k off. a k off ∙ b k off)
-    (passes_weakened (SameOff base many) (SameOff base (many + 1)) old mid (λ c d same k off. same k (wider k off)) first)
-    (passes_weakened (SameBut gate) (SameOff base (many + 1)) mid new (λ c d same k off. same k (besides k off)) second)
-  where
-    wider : (k : ℕ) → (k < base) ⊎ (base + (many + 1) ≤ k) → (k < base) ⊎ (base + many ≤ k)
-    wider k (inl low) = inl low
-    wider k (inr high) = inr (omega arith)
+    (passes_so (SameOff base many) (SameOff base (many + 1)) old mid (λ c d same k off. same k (off_run base many k off)) first)
+    (passes_so (SameBut gate) (SameOff base (many + 1)) mid new (λ c d same k off. same k (off_gate base many gate k is off)) second)
 
-    besides : (k : ℕ) → (k < base) ⊎ (base + (many + 1) ≤ k) → k ≢ gate
-    besides k (inl low) = omega arith
-    besides k (inr high) = omega arith
+within_wider : (base many : ℕ) (old new : Disk) → WritesWithin base many old new → WritesWithin base (many + 1) old new
+within_wider base many old new within = record {
+  rest = λ tells k off. within.rest tells k (off_run base many k off);
+  passes = passes_so (SameOff base many) (SameOff base (many + 1)) old new (λ c d same k off. same k (off_run base many k off)) within.passes;
+}
+
+within_both : (base many gate : ℕ) (old mid new : Disk) → gate ≡ base + many → WritesWithin base many old mid → (old.tells → mid.tells) → (mid.tells → SameBut gate new.cells mid.cells) → Passes (SameBut gate) mid new
+    → WritesWithin base (many + 1) old new
+within_both base many gate old mid new is within told rest passes = record {
+  rest = λ tells k off. rest (told tells) k (off_gate base many gate k is off) ∙ within.rest tells k (off_run base many k off);
+  passes = passes_both base many gate old mid new is within.passes passes;
+}
+
+pub within_none : (base many : ℕ) (d : Disk) → WritesWithin base many d d
+within_none base many d = record { rest = λ tells k off. refl; passes = passed_none d (SameOff base many) (λ c k off. refl) }
 
 -- the cells of a run that spells a record's bytes
 pub spells_at : (keys : Keys) (p : Params) (epoch batch base many : ℕ) (r : BatchRecord) (bytes : List ℕ) (image : Image) → base ≡ log_cell p (epoch % 2) batch 0 → many ≡ record_cells p → bytes ≡ record_bytes epoch r
@@ -180,9 +191,9 @@ module _ (keys : Keys) (p : Params) (epoch batch : ℕ) (rs : List BatchRecord) 
   gate_of : (c d : Image) → SameBut gate c d → GateStep keys p epoch rs r room_at obeys_at c d
   gate_of c d same = subst (λ k. SameBut k c d) (gate_is ∙ ap (λ b. log_gate p (epoch % 2) b) (sym long)) same
 
-  module _ (old mid : Disk) (only : (c : Image) → old.left_since old.moment c → old.may_leave c) (passes : Passes (SameOff base many) old mid) (settled : Settled old) (held : OpenRecords keys p epoch rs old.cells) where
+  module _ (old mid : Disk) (only : (c : Image) → old.left_since old.moment c → old.may_leave c) (passes : Passes (SameOff base many) old mid) (settled : IsSynced old) (held : OpenRecords keys p epoch rs old.cells) where
     passes_at : Passes (BodyStep keys p epoch rs r room_at obeys_at) old mid
-    passes_at = passes_weakened (SameOff base many) (BodyStep keys p epoch rs r room_at obeys_at) old mid body_of passes
+    passes_at = passes_so (SameOff base many) (BodyStep keys p epoch rs r room_at obeys_at) old mid body_of passes
 
     -- the body was refused
     pub prefix_refused : LeavesOnly old mid (HoldsOneOf keys p epoch rs r)
@@ -202,6 +213,14 @@ module _ (keys : Keys) (p : Params) (epoch batch : ℕ) (rs : List BatchRecord) 
       (left (log_gate p (epoch % 2) (length rs)) ∙ ap now (sym (gate_is ∙ ap (λ b. log_gate p (epoch % 2) b) (sym long))) ∙ opened)
       (subst (λ b. SpellsRecord keys p epoch b r mid) (sym long) spells)
       (body_kept keys p epoch rs r room_at obeys_at mid old (body_of mid old rest) held)
+
+-- the gate's write leaves the body
+pub holds_record : (keys : Keys) (p : Params) (epoch batch : ℕ) (r : BatchRecord) (gate : ℕ) → gate ≡ log_gate p (epoch % 2) batch → (mid now : Image) → SpellsRecord keys p epoch batch r mid → SameBut gate now mid → now gate ≡ open_gate
+    → HoldsRecord keys p epoch batch r now
+holds_record keys p epoch batch r gate is mid now spells same opened = record {
+  body = λ i lt. same _ (λ at. body_gate p (epoch % 2) batch batch i lt (at ∙ is)) ∙ spells i lt;
+  gate = ap now (sym is) ∙ opened;
+}
 
 -- the record that is appended obeys
 pub obeys_for : (p : Params) (sealer : Sealing) (batch first : ℕ) (asks : List (Option ℕ)) (words : List ℕ) → sealer.generation < 2 ^ 64 → sealer.next ≤ 2 ^ 62 → first < 2 ^ 64
@@ -228,11 +247,17 @@ run_notes base many gate = (write_notes base many ++ Sync ∷ []) ++ (Write gate
 
 -- where the record lies
 module _ (p : Params) (epoch batch base many gate : ℕ) (base_is : base ≡ log_cell p (epoch % 2) batch 0) (many_is : many ≡ record_cells p) (gate_is : gate ≡ log_gate p (epoch % 2) batch) where
-  pub passes_at_log : (old mid new : Disk) → Passes (SameOff base many) old mid → Passes (SameBut gate) mid new → Passes (SameOff (log_cell p (epoch % 2) batch 0) (record_cells p + 1)) old new
-  passes_at_log old mid new first second =
-      let behind : gate ≡ base + many = omega arith in
-      subst (λ n. Passes (SameOff (log_cell p (epoch % 2) batch 0) (n + 1)) old new) many_is
-      (subst (λ b. Passes (SameOff b (many + 1)) old new) base_is (passes_both base many gate old mid new behind first second))
+  at_log : (old new : Disk) → WritesWithin base (many + 1) old new → WritesWithin (log_cell p (epoch % 2) batch 0) (record_cells p + 1) old new
+  at_log old new within = subst (λ n. WritesWithin (log_cell p (epoch % 2) batch 0) (n + 1) old new) many_is (subst (λ b. WritesWithin b (many + 1) old new) base_is within)
+
+  -- only the body was written
+  pub body_within : (old new : Disk) → WritesWithin base many old new → WritesWithin (log_cell p (epoch % 2) batch 0) (record_cells p + 1) old new
+  body_within old new within = at_log old new (within_wider base many old new within)
+
+  -- the body, and the gate
+  pub both_within : (old mid new : Disk) → WritesWithin base many old mid → (old.tells → mid.tells) → (mid.tells → SameBut gate new.cells mid.cells) → Passes (SameBut gate) mid new
+      → WritesWithin (log_cell p (epoch % 2) batch 0) (record_cells p + 1) old new
+  both_within old mid new within told rest passes = at_log old new (within_both base many gate old mid new (omega arith) within told rest passes)
 
   pub notes_are : run_notes base many gate ≡ append_notes p epoch batch
   notes_are =

@@ -1,5 +1,7 @@
+pub mod Accepting
 pub mod AppendLaws
 pub mod Apart
+pub mod Fitting
 pub mod OnceLaws
 pub mod OneAsk
 pub mod Opens

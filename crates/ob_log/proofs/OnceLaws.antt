@@ -1,12 +1,12 @@
 -- A log area has one list of open records.
-use Rattle.std.proofs.Common.{◌≡◌, ◌≢◌, ℕ, zero, suc, ◌+◌, ◌*◌, ◌%◌, ◌<◌, ◌≤◌, ◌^◌, List, [], ◌∷◌, ◌++◌, Option, Some, None, drop, length, get_or, refl, sym, ap, ◌∙◌, ⊎_elim, arith}
+use Rattle.std.proofs.Common.{◌≡◌, ℕ, suc, ◌+◌, ◌*◌, ◌%◌, ◌<◌, ◌≤◌, ◌^◌, List, [], ◌∷◌, ◌++◌, Option, Some, None, drop, length, get_or, refl, sym, ap, ◌∙◌, ⊎_elim, arith}
 use Rattle.std.proofs.lemmas.Bool.{cases_order}
 use Rattle.ob_base.specs.declared.params.Params.{Params}
 use Rattle.ob_base.specs.Layout.{record_cells, log_cell}
 use Rattle.ob_seal.specs.declared.keys.Keys.{Keys}
 use Rattle.ob_seal.specs.Pieces.{onward, piece}
 use Rattle.ob_seal.specs.Seals.{le64}
-use Rattle.ob_seal.proofs.SpelledAlike.{split_same, front64, le32_same}
+use Rattle.ob_base.proofs.Spelled.{split_same, front64, le32_same}
 use Rattle.ob_seal.proofs.Spelling.{sealed_same}
 use Rattle.ob_seal.proofs.PieceLaws.{pieces_same, length-piece}
 use Rattle.ob_store.specs.Disk.{Image}

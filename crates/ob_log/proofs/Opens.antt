@@ -1,5 +1,5 @@
 -- The open records among the cells of an area, batch by batch.
-use Rattle.std.proofs.Common.{◌≡◌, ◌≢◌, ◌⊎◌, inl, inr, ⊎_elim, ℕ, ◌+◌, ◌*◌, ◌%◌, ◌<◌, ◌≤◌, List, [], ◌∷◌, ◌++◌, take, drop, Option, Result, Ok, Err, length, get_or, refl, sym, ap, ◌∙◌, subst, arith, length-append}
+use Rattle.std.proofs.Common.{◌≡◌, ◌≢◌, inl, inr, ⊎_elim, ℕ, ◌+◌, ◌*◌, ◌%◌, ◌<◌, ◌≤◌, List, [], ◌∷◌, ◌++◌, take, drop, Result, Ok, Err, length, get_or, sym, ap, ◌∙◌, subst, arith, length-append}
 use Rattle.std.proofs.lemmas.Bool.{cases_lt}
 use Rattle.std.proofs.lemmas.List.{get_or-take, get_or-drop}
 use Rattle.std.proofs.Math.ListN.{get_or-append}
@@ -18,7 +18,7 @@ use Rattle.ob_cells.specs.declared.run.Identity.{Identity}
 use Rattle.ob_cells.specs.Runs.{IsRun}
 use Rattle.ob_cells.specs.Reads.{IsFirstDamage, expected_at}
 use Rattle.ob_log.specs.Logs.{BatchRecord, record_at, nothing}
-use Rattle.ob_log.specs.Reads.{IsBody, IsBodyDamage, IsBodyRead, IsMisformed, Accepts, AreAccepted, IsFirstBroken, body_cells}
+use Rattle.ob_log.specs.Reads.{IsBody, IsBodyDamage, IsBodyRead, Accepts, AreAccepted, IsFirstBroken, body_cells}
 
 -- ---- the same cells are read as the same
 

@@ -1,9 +1,10 @@
 -- What the places of a record tell, place by place.
-use Rattle.std.proofs.Common.{◌≡◌, inl, inr, ℕ, zero, suc, ◌+◌, ◌<◌, ◌≤◌, Bool, true, false, if◌then◌else◌, List, [], ◌∷◌, ◌++◌, Option, Some, None, length, refl, sym, ap, ◌∙◌, arith, add-one, length-append}
+use Rattle.std.proofs.Common.{◌≡◌, inl, inr, ℕ, zero, suc, ◌+◌, ◌<◌, true, false, if◌then◌else◌, List, [], ◌∷◌, ◌++◌, Option, Some, None, length, refl, sym, ap, ◌∙◌, arith, add-one, length-append}
 use Rattle.std.proofs.lemmas.Bool.{cases_eq}
 use Rattle.ob_base.specs.declared.params.Params.{Params}
 use Rattle.ob_base.specs.declared.fault.Damaged.{Damaged}
 use Rattle.ob_cells.specs.Rules.{Rule, first_broken, told_of}
+use Rattle.ob_cells.proofs.RuleLaws.{kept_then, broken_then}
 use Rattle.ob_log.specs.Places.{ask_in, asks_in, word_in, words_in, is_asked, least_from, kind_rule, key_rule, place_rules}
 
 -- ---- the least key that no place asks for
@@ -34,27 +35,6 @@ words_many bytes zero = refl
 words_many bytes (suc n) = let so = words_many bytes n in omega (arith, length-append (words_in bytes n) (word_in bytes n ∷ []))
 
 -- ---- the first rule that is broken
-
--- the first of two answers that tells one
-abbrev pub or_rule : Option Rule → Option Rule → Option Rule
-or_rule None other = other
-or_rule (Some r) other = Some r
-
-if_or : (b : Bool) (x y : Option Rule) (r : Rule) → (if b then or_rule x y else Some r) ≡ or_rule (if b then x else Some r) y
-if_or true x y r = refl
-if_or false x y r = refl
-
-first_append : (xs ys : List Rule) → first_broken (xs ++ ys) ≡ or_rule (first_broken xs) (first_broken ys)
-first_append [] ys = refl
-first_append (r ∷ xs) ys = ap (λ (o : Option Rule). if r.obeys then o else Some r) (first_append xs ys) ∙ if_or r.obeys (first_broken xs) (first_broken ys) r
-
--- the rules before all keep theirs
-pub kept_then : (xs ys : List Rule) → first_broken xs ≡ None → first_broken (xs ++ ys) ≡ first_broken ys
-kept_then xs ys e = first_append xs ys ∙ ap (λ (o : Option Rule). or_rule o (first_broken ys)) e
-
--- one of them is broken
-pub broken_then : (xs ys : List Rule) (r : Rule) → first_broken xs ≡ Some r → first_broken (xs ++ ys) ≡ Some r
-broken_then xs ys r e = first_append xs ys ∙ ap (λ (o : Option Rule). or_rule o (first_broken ys)) e
 
 module _ (p : Params) (bytes : List ℕ) where
   abbrev rules_at : ℕ → List Rule

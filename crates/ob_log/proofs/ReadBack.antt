@@ -1,23 +1,22 @@
 -- Open records are read as they were written.
-use Rattle.std.proofs.Common.{◌≡◌, ◌≢◌, ◌⊎◌, inl, inr, ⊎_elim, ℕ, ◌+◌, ◌*◌, ◌%◌, ◌<◌, ◌≤◌, ◌^◌, List, [], ◌∷◌, ◌++◌, drop, Option, Some, None, Result, Ok, Err, length, get_or, refl, sym, ap, ◌∙◌, subst, arith}
+use Rattle.std.proofs.Common.{◌≡◌, inl, inr, ⊎_elim, ℕ, ◌+◌, ◌%◌, ◌<◌, ◌≤◌, ◌^◌, List, [], ◌++◌, drop, Option, Some, None, Result, Ok, Err, length, sym, ap, ◌∙◌, arith}
 use Rattle.std.proofs.lemmas.Bool.{cases_lt, cases_order}
 use Rattle.ob_base.specs.declared.params.Params.{Params}
 use Rattle.ob_base.specs.declared.fault.Damaged.{Damaged}
 use Rattle.ob_base.specs.declared.fault.Fault.{Fault}
 use Rattle.ob_base.specs.declared.fault.Fault.TheVariants.{Memory, Usage, BadScript, BadParams, NotStore, Damaged as Broken, StoreFault, StashFull, Worn, SourceFault, SinkFault}
-use Rattle.ob_base.specs.Layout.{record_cells, log_cell, log_gate}
+use Rattle.ob_base.specs.Layout.{record_cells, log_cell}
 use Rattle.ob_seal.specs.declared.keys.Keys.{Keys}
 use Rattle.ob_seal.specs.Pieces.{onward, piece}
 use Rattle.ob_seal.specs.Seals.{sealed}
 use Rattle.ob_seal.proofs.PieceLaws.{length-piece}
 use Rattle.ob_store.specs.Disk.{Image}
-use Rattle.ob_twin.specs.Bodies.{open_gate}
 use Rattle.ob_cells.specs.declared.run.Identity.{Identity}
 use Rattle.ob_cells.specs.Reads.{IsFirstDamage, IsRunOpened}
 use Rattle.ob_cells.proofs.RunReads.{reads_back}
 use Rattle.ob_log.specs.Logs.{BatchRecord, RecordObeys, OpenRecords, SpellsRecord, record_at, record_bytes, nothing}
 use Rattle.ob_log.specs.Places.{plain_damage, record_in}
-use Rattle.ob_log.specs.Reads.{HasBody, IsBody, IsMisformed, IsBodyDamage, Accepts, AreAccepted, IsFirstBroken, AreRead, AreReadBack, body_cells}
+use Rattle.ob_log.specs.Reads.{HasBody, IsBodyDamage, Accepts, AreAccepted, IsFirstBroken, AreRecordsRead, AreReadBack, body_cells}
 use Rattle.ob_log.proofs.OnceLaws.{same_lists, some_cell, cells_hold}
 use Rattle.ob_log.proofs.Spelled.{length-record_bytes}
 use Rattle.ob_log.proofs.Told.{begins, kept_all, tells_it}
@@ -97,7 +96,7 @@ module _ (keys : Keys) (p : Params) (e : ℕ) (rs : List BatchRecord) (image : I
       (λ (ge : length rs ≤ length was.earlier). log.shut (length was.earlier) ge was.few (was.opened (length was.earlier) (omega arith)))
       (cases_lt (length was.earlier) (length rs))
 
-  pub read_back : (result : Result (List BatchRecord) Fault) → AreRead keys p e image result → AreReadBack rs result
+  pub read_back : (result : Result (List BatchRecord) Fault) → AreRecordsRead keys p e image result → AreReadBack rs result
   read_back (Ok qs) was = accepted_same qs was
   read_back (Err (Broken cell check kept computed)) was = absurd (not_first_broken _ was)
   read_back (Err Memory) was = tt

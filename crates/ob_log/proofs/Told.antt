@@ -1,5 +1,5 @@
 -- What the bytes of a record tell: the record, and no broken rule.
-use Rattle.std.proofs.Common.{◌≡◌, ◌≢◌, ℕ, zero, suc, ◌+◌, ◌*◌, ◌/◌, ◌%◌, ◌<◌, ◌≤◌, ◌^◌, ◌==◌, ◌&&◌, ◌||◌, not, Bool, true, false, if◌then◌else◌, List, [], ◌∷◌, ◌++◌, Option, Some, None, take, drop, length, get_or, refl, sym, ap, ◌∙◌, arith, add-one, append_assoc, length-append}
+use Rattle.std.proofs.Common.{◌≡◌, ℕ, zero, suc, ◌+◌, ◌*◌, ◌/◌, ◌%◌, ◌<◌, ◌≤◌, ◌^◌, ◌==◌, ◌&&◌, ◌||◌, not, true, if◌then◌else◌, List, [], ◌∷◌, ◌++◌, Option, Some, None, take, drop, length, get_or, refl, sym, ap, ◌∙◌, arith, add-one, append_assoc, length-append}
 use Rattle.std.specs.Prelude.{nat_lt, replicate}
 use Rattle.std.specs.Int.{w32, w64, from_le_bytes}
 use Rattle.std.specs.List.{count_by}
@@ -8,9 +8,7 @@ use Rattle.std.proofs.lemmas.List.{take_at, take_all, take_more, drop_at, drop-d
 use Rattle.std.proofs.Math.ListN.{get_or-append}
 use Rattle.std.proofs.lemmas.Nat.{from_le_bytes-to_le_bytes_4, from_le_bytes-to_le_bytes_8}
 use Rattle.ob_base.specs.declared.params.Params.{Params}
-use Rattle.ob_base.specs.declared.fault.Damaged.{Damaged}
 use Rattle.ob_base.specs.LittleEndian.{field_at}
-use Rattle.ob_base.specs.Layout.{record_cells}
 use Rattle.ob_seal.specs.Pieces.{piece}
 use Rattle.ob_seal.specs.Seals.{le64}
 use Rattle.ob_cells.specs.Rules.{Rule, first_broken, told_of, form_damage, epoch_damage}
@@ -18,8 +16,8 @@ use Rattle.ob_log.specs.Logs.{BatchRecord, RecordObeys, le32, ask_bytes, places_
 use Rattle.ob_log.specs.Places.{place_at, kind_in, key_in, word_in, ask_in, asks_in, words_in, is_ask, is_asked, kind_rule, key_rule, place_rules, batch_rule, record_rules, plain_damage, record_in}
 use Rattle.ob_log.proofs.Apart.{lt_so, not_before, few_before}
 use Rattle.ob_log.proofs.PlaceReads.{kept_on}
-use Rattle.ob_log.proofs.Spelled.{ask_width, length-record_bytes}
-use Rattle.ob_log.proofs.OnceLaws.{cells_hold, record_of}
+use Rattle.ob_log.proofs.Spelled.{ask_width}
+use Rattle.ob_log.proofs.OnceLaws.{record_of}
 
 -- ---- bytes by their pieces
 

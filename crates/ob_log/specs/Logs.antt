@@ -1,5 +1,5 @@
 -- The read batches that a log area keeps: each has its record's body, and a gate behind it.
-use Rattle.std.specs.Prelude.{◌≡◌, ◌≢◌, ◌<◌, ◌≤◌, ℕ, ◌+◌, ◌%◌, ◌^◌, List, [], ◌∷◌, ◌++◌, length, slice_index_or, Option, Some, None}
+use Rattle.std.specs.Prelude.{◌≡◌, ◌≢◌, ◌<◌, ◌≤◌, ℕ, ◌%◌, ◌^◌, List, [], ◌∷◌, ◌++◌, length, slice_index_or, Option, Some, None}
 use Rattle.std.specs.Int.{w32, to_le_bytes}
 use Rattle.ob_base.specs.declared.params.Params.{Params}
 use Rattle.ob_base.specs.Layout.{record_cells, log_cell, log_gate}
@@ -42,8 +42,8 @@ nothing = record { batch = 0; generation = 0; number = 0; first = 0; asks = []; 
 abbrev pub record_at : List BatchRecord → ℕ → BatchRecord
 record_at rs b = slice_index_or rs b nothing
 
-abbrev pub asked_at : BatchRecord → ℕ → Option ℕ
-asked_at r i = slice_index_or r.asks i None
+abbrev pub asked_key_at : BatchRecord → ℕ → Option ℕ
+asked_key_at r i = slice_index_or r.asks i None
 
 -- It is the record of this batch, its numbers can be spelled, and its keys are keys, each at one place at most.
 pub record RecordObeys (p : Params) (b : ℕ) (r : BatchRecord) : Type 0 where
@@ -54,8 +54,22 @@ pub record RecordObeys (p : Params) (b : ℕ) (r : BatchRecord) : Type 0 where
   pub asks_many : length r.asks ≡ p.places
   pub words_many : length r.words ≡ p.places
   pub words_fit : (i : ℕ) → slice_index_or r.words i 0 < 2 ^ 64
-  pub keys_low : (i k : ℕ) → asked_at r i ≡ Some k → k < p.keys
-  pub keys_apart : (i j k : ℕ) → asked_at r i ≡ Some k → asked_at r j ≡ Some k → i ≡ j
+  pub keys_low : (i k : ℕ) → asked_key_at r i ≡ Some k → k < p.keys
+  pub keys_apart : (i j k : ℕ) → asked_key_at r i ≡ Some k → asked_key_at r j ≡ Some k → i ≡ j
+
+-- The part of it that every accepted record has: the number of its batch, as many places as a batch has, and keys that are keys, each at
+-- one place at most. (Its other numbers fit, since they were read.)
+pub record RecordFits (p : Params) (b : ℕ) (r : BatchRecord) : Type 0 where
+  pub batch_is : r.batch ≡ b
+  pub asks_many : length r.asks ≡ p.places
+  pub words_many : length r.words ≡ p.places
+  pub keys_low : (i k : ℕ) → asked_key_at r i ≡ Some k → k < p.keys
+  pub keys_apart : (i j k : ℕ) → asked_key_at r i ≡ Some k → asked_key_at r j ≡ Some k → i ≡ j
+
+-- at most as many as an epoch has batches, and each fits its own
+pub record RecordsFit (p : Params) (rs : List BatchRecord) : Type 0 where
+  pub few : length rs ≤ p.batches
+  pub each : (b : ℕ) → b < length rs → RecordFits p b (record_at rs b)
 
 -- the body cells of a batch spell this record
 abbrev pub SpellsRecord : Keys → Params → ℕ → ℕ → BatchRecord → Image → Type 0

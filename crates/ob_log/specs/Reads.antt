@@ -1,5 +1,5 @@
 -- What a read of a log area answers.
-use Rattle.std.specs.Prelude.{◌≡◌, ◌≢◌, ◌⊎◌, ◌<◌, ◌≤◌, ℕ, ◌+◌, ◌*◌, ◌%◌, List, length, Option, Some, None, Result, Ok, Err}
+use Rattle.std.specs.Prelude.{◌≡◌, ◌≢◌, ◌⊎◌, ◌<◌, ◌≤◌, ℕ, ◌+◌, ◌*◌, ◌%◌, List, length, Some, None, Result, Ok, Err}
 use Rattle.ob_base.specs.declared.params.Params.{Params}
 use Rattle.ob_base.specs.declared.fault.Damaged.{Damaged}
 use Rattle.ob_base.specs.declared.fault.Fault.{Fault}
@@ -30,7 +30,7 @@ pub record IsBody (keys : Keys) (p : Params) (epoch b cell : ℕ) (cells : ℕ �
   pub tells : r ≡ record_in p b first.generation first.number bytes
 
 -- Their plain bytes break a rule.
-pub record IsMisformed (keys : Keys) (p : Params) (epoch b cell : ℕ) (cells : ℕ → List ℕ) (damaged : Damaged) : Type 0 where
+pub record IsMisformedRecord (keys : Keys) (p : Params) (epoch b cell : ℕ) (cells : ℕ → List ℕ) (damaged : Damaged) : Type 0 where
   pub first : Identity
   pub bytes : List ℕ
   pub body : HasBody keys p cell first bytes cells
@@ -38,7 +38,7 @@ pub record IsMisformed (keys : Keys) (p : Params) (epoch b cell : ℕ) (cells : 
 
 -- what is told of a body that is no record: first of a cell's tag or seal, then of its plain bytes
 abbrev pub IsBodyDamage : Keys → Params → ℕ → ℕ → ℕ → (ℕ → List ℕ) → Damaged → Type 0
-IsBodyDamage keys p epoch b cell cells damaged = IsFirstDamage keys cell (record_cells p) cells damaged ⊎ IsMisformed keys p epoch b cell cells damaged
+IsBodyDamage keys p epoch b cell cells damaged = IsFirstDamage keys cell (record_cells p) cells damaged ⊎ IsMisformedRecord keys p epoch b cell cells damaged
 
 -- what is read of body cells
 abbrev pub IsBodyRead : Keys → Params → ℕ → ℕ → ℕ → (ℕ → List ℕ) → Result BatchRecord Damaged → Type 0
@@ -68,12 +68,12 @@ pub record IsFirstBroken (keys : Keys) (p : Params) (epoch : ℕ) (image : Image
   pub breaks : IsBodyDamage keys p epoch (length earlier) (log_cell p (epoch % 2) (length earlier) 0) (body_cells p epoch (length earlier) image) damaged
 
 -- what a read of the open records answers
-abbrev pub AreRead : Keys → Params → ℕ → Image → Result (List BatchRecord) Fault → Type 0
-AreRead keys p epoch image (Ok rs) = AreAccepted keys p epoch rs image
-AreRead keys p epoch image (Err (Broken cell check kept computed)) = IsFirstBroken keys p epoch image (record { cell = cell; check = check; kept = kept; computed = computed })
-AreRead keys p epoch image (Err _) = Unit {0}
+abbrev pub AreRecordsRead : Keys → Params → ℕ → Image → Result (List BatchRecord) Fault → Type 0
+AreRecordsRead keys p epoch image (Ok rs) = AreAccepted keys p epoch rs image
+AreRecordsRead keys p epoch image (Err (Broken cell check kept computed)) = IsFirstBroken keys p epoch image (record { cell = cell; check = check; kept = kept; computed = computed })
+AreRecordsRead keys p epoch image (Err _) = Unit {0}
 
--- the open records were written so: the answer is these, unless memory was wanting or the store failed
+-- the answer is these records, unless memory was wanting or the store failed
 abbrev pub AreReadBack : List BatchRecord → Result (List BatchRecord) Fault → Type 0
 AreReadBack rs (Ok read) = read ≡ rs
 AreReadBack rs (Err (Broken cell check kept computed)) = ⊥
@@ -83,15 +83,9 @@ AreReadBack rs (Err _) = Unit {0}
 abbrev pub area_notes : Params → ℕ → List Note
 area_notes p epoch = read_notes (log_cell p (epoch % 2) 0 0) (p.batches * (record_cells p + 1))
 
--- what became of the reads: damage is found once all are made
-abbrev pub reads_of : {T : Type 0} → Result T Fault → Result (Unit {0}) Fault
-reads_of (Ok value) = Ok tt
-reads_of (Err (Broken cell check kept computed)) = Ok tt
-reads_of (Err fault) = Err fault
-
 -- the faults of a read of the open records
-abbrev pub IsReadFault : Fault → Type 0
-IsReadFault Memory = Unit {0}
-IsReadFault (Broken cell check kept computed) = Unit {0}
-IsReadFault (StoreFault unsure) = unsure ≡ None
-IsReadFault _ = ⊥
+abbrev pub IsRecordReadFault : Fault → Type 0
+IsRecordReadFault Memory = Unit {0}
+IsRecordReadFault (Broken cell check kept computed) = Unit {0}
+IsRecordReadFault (StoreFault unsure) = unsure ≡ None
+IsRecordReadFault _ = ⊥

@@ -1,15 +1,16 @@
-ghost use Rattle.std.specs.Prelude.{◌≡◌, ◌⊎◌, ◌↔◌, ◌<◌, ◌≤◌, ◌+◌, ◌%◌, ◌^◌, ℕ, List, [], ◌∷◌, ◌++◌, Some, None, length, slice_index_or, OnOk, OnErr, IfErr};
-ghost use Rattle.ob_base.specs.Layout.{record_cells, log_cell, log_gate};
+//! Appending a record to the log.
+
+ghost use Rattle.std.specs.Prelude.{◌≡◌, ◌↔◌, ◌<◌, ◌≤◌, ◌+◌, ◌%◌, ◌^◌, ℕ, List, [], ◌∷◌, ◌++◌, Some, None, length, slice_index_or, OnOk, IfErr};
+ghost use Rattle.ob_base.specs.Layout.{record_cells, log_cell};
 ghost use Rattle.ob_store.specs.Disk.{Image};
 ghost use Rattle.ob_store.specs.declared.watch.Note.{Note};
-ghost use Rattle.ob_store.specs.Images.{Settled, SameOff, LeavesOnly, Passes};
+ghost use Rattle.ob_store.specs.Images.{IsSynced, LeavesOnly};
 ghost use Rattle.ob_store.specs.Calls.{Serves, IsFailed, IsStoreFault};
 ghost use Rattle.ob_store.specs.Runs.{write_notes};
 ghost use Rattle.ob_store.specs.Told.{Does};
-ghost use Rattle.ob_twin.specs.Bodies.{open_gate};
-ghost use Rattle.ob_cells.specs.Runs.{AreSealed, IsFurther, run_at};
-ghost use Rattle.ob_log.specs.Logs.{BatchRecord, OpenRecords, SpellsRecord};
-ghost use Rattle.ob_log.specs.Appends.{record_for, append_notes, HoldsOneOf, IsAppendFault, IsWornOut};
+ghost use Rattle.ob_cells.specs.Writes.{Seals, WritesWithin, WritesRun};
+ghost use Rattle.ob_log.specs.Logs.{BatchRecord, OpenRecords};
+ghost use Rattle.ob_log.specs.Appends.{record_for, append_notes, HoldsRecord, HoldsOneOf, IsAppendFault, IsWornOut};
 
 use crate::spelling::record_bytes as bytes_of;
 use ob_base::{Failed, Fault, Key, NUMBER_LIMIT, Params, log_cell, log_gate, record_cells};
@@ -31,13 +32,11 @@ fn write_sure<S: Store, P: Pieces, W: Watch>(
     requires fits { base + many < 2 ^ 64 }
     requires room { sealer.old.next + many ≤ 2 ^ 62 }
     ensures serves { Serves IsFailed (S.disk store.old) (S.disk store.new) result }
-    ensures written { (S.disk store.old).tells → OnOk result (AreSealed sealer.old.keys base many sealer.old.generation sealer.old.next (P.plain pieces.now) (run_at base (S.disk store.new).cells)) }
-    ensures sealed { OnOk result (sealer.new ≡ record sealer.old { next = sealer.old.next + many }) }
-    ensures some_sealed { IsFurther many sealer.old sealer.new }
-    ensures rest { (S.disk store.old).tells → SameOff base many (S.disk store.new).cells (S.disk store.old).cells }
-    ensures passes { Passes (SameOff base many) (S.disk store.old) (S.disk store.new) }
-    ensures durable { (S.disk store.old).tells → OnOk result (Settled (S.disk store.new)) }
-    ensures does { Does (write_notes base many ++ Note.Sync ∷ []) (S.disk store.old).seen (S.disk store.new).seen (W.trace watch.old) (W.trace watch.new) result }
+    ensures run { WritesRun base many (P.plain pieces.now) sealer.old sealer.new (S.disk store.old)
+        (S.disk store.new) result }
+    ensures durable { (S.disk store.old).tells → OnOk result (IsSynced (S.disk store.new)) }
+    ensures does { Does (write_notes base many ++ Note.Sync ∷ []) (S.disk store.old).seen
+        (S.disk store.new).seen (W.trace watch.old) (W.trace watch.new) result }
 {
     write_sealed(store, sealer, base, many, pieces, watch)?;
     sync_noted(store, watch)
@@ -70,24 +69,34 @@ pub fn append<S: Store, W: Watch>(
     requires asks { length asks.now ≡ p.now.places }
     requires words { length words.now ≡ p.now.places }
     requires keys_low { (i k : ℕ) → slice_index_or asks.now i None ≡ Some k → k < p.now.keys }
-    requires keys_apart { (i j k : ℕ) → slice_index_or asks.now i None ≡ Some k → slice_index_or asks.now j None ≡ Some k → i ≡ j }
+    requires keys_apart { (i j k : ℕ) → slice_index_or asks.now i None ≡ Some k
+        → slice_index_or asks.now j None ≡ Some k → i ≡ j }
     requires epoch { epoch ≤ 2 ^ 62 }
     ensures serves { Serves IsStoreFault (S.disk store.old) (S.disk store.new) result }
     ensures faults { IfErr result IsAppendFault }
     ensures worn { IsWornOut result ↔ (2 ^ 62 < sealer.old.next + record_cells p.now) }
-    ensures idle { IsWornOut result → (store.new ≡ store.old) × (sealer.new ≡ sealer.old) × (watch.new ≡ watch.old) }
-    ensures body { (S.disk store.old).tells → OnOk result (SpellsRecord sealer.old.keys p.now epoch batch (record_for sealer.old batch first asks.now words.now) (S.disk store.new).cells) }
-    ensures gate { (S.disk store.old).tells → OnOk result ((S.disk store.new).cells (log_gate p.now (epoch % 2) batch) ≡ open_gate) }
-    ensures rest { (S.disk store.old).tells → SameOff (log_cell p.now (epoch % 2) batch 0) (record_cells p.now + 1) (S.disk store.new).cells (S.disk store.old).cells }
-    ensures passes { Passes (SameOff (log_cell p.now (epoch % 2) batch 0) (record_cells p.now + 1)) (S.disk store.old) (S.disk store.new) }
-    ensures durable { (S.disk store.old).tells → OnOk result (Settled (S.disk store.new)) }
-    ensures open_has_acknowledged { (rs : List BatchRecord) → (S.disk store.old).tells → length rs ≡ batch → OpenRecords sealer.old.keys p.now epoch rs (S.disk store.old).cells
-        → OnOk result ((c : Image) → (S.disk store.new).may_leave c → OpenRecords sealer.old.keys p.now epoch (rs ++ record_for sealer.old batch first asks.now words.now ∷ []) c) }
-    ensures open_prefix { (rs : List BatchRecord) → (S.disk store.old).tells → Settled (S.disk store.old) → length rs ≡ batch → OpenRecords sealer.old.keys p.now epoch rs (S.disk store.old).cells
-        → LeavesOnly (S.disk store.old) (S.disk store.new) (HoldsOneOf sealer.old.keys p.now epoch rs (record_for sealer.old batch first asks.now words.now)) }
-    ensures sealed { OnOk result (sealer.new ≡ record sealer.old { next = sealer.old.next + record_cells p.now }) }
-    ensures some_sealed { IsFurther (record_cells p.now) sealer.old sealer.new }
-    ensures does { Does (append_notes p.now epoch batch) (S.disk store.old).seen (S.disk store.new).seen (W.trace watch.old) (W.trace watch.new) result }
+    ensures idle { IsWornOut result → (store.new ≡ store.old) × (sealer.new ≡ sealer.old)
+        × (watch.new ≡ watch.old) }
+    ensures written { (S.disk store.old).tells
+        → OnOk result (HoldsRecord sealer.old.keys p.now epoch batch
+        (record_for sealer.old batch first asks.now words.now) (S.disk store.new).cells) }
+    ensures within { WritesWithin (log_cell p.now (epoch % 2) batch 0) (record_cells p.now + 1)
+        (S.disk store.old) (S.disk store.new) }
+    ensures seals { Seals (record_cells p.now) sealer.old sealer.new result }
+    ensures durable { (S.disk store.old).tells → OnOk result (IsSynced (S.disk store.new)) }
+    ensures open_has_acknowledged { (rs : List BatchRecord) → (S.disk store.old).tells
+        → length rs ≡ batch → OpenRecords sealer.old.keys p.now epoch rs (S.disk store.old).cells
+        → OnOk result ((c : Image) → (S.disk store.new).may_leave c
+        → OpenRecords sealer.old.keys p.now epoch
+        (rs ++ record_for sealer.old batch first asks.now words.now ∷ []) c) }
+    ensures open_prefix { (rs : List BatchRecord) → (S.disk store.old).tells
+        → IsSynced (S.disk store.old) → length rs ≡ batch
+        → OpenRecords sealer.old.keys p.now epoch rs (S.disk store.old).cells
+        → LeavesOnly (S.disk store.old) (S.disk store.new)
+        (HoldsOneOf sealer.old.keys p.now epoch rs
+        (record_for sealer.old batch first asks.now words.now)) }
+    ensures does { Does (append_notes p.now epoch batch) (S.disk store.old).seen
+        (S.disk store.new).seen (W.trace watch.old) (W.trace watch.new) result }
 {
     let many = record_cells(p);
     if NUMBER_LIMIT - sealer.next().1 < many {

@@ -1,3 +1,5 @@
+//! A body spells one record; an area has one list of open records.
+
 ghost use Rattle.ob_log.specs.Laws.{RecordSame, RecordsSame};
 
 /// A body spells one record.

@@ -1,3 +1,5 @@
+//! The open records of a log area, judged.
+
 ghost use Rattle.std.specs.Prelude.{◌≡◌, ◌<◌, ◌≤◌, ◌+◌, ◌*◌, ◌%◌, ◌^◌, length, Some, None, MatchResult, MatchBool, ◌≢◌, slice_index_or, take, drop, vec_capacity, [], ◌∷◌, ◌++◌};
 ghost use Rattle.ob_base.specs.Layout.{record_cells, log_cell};
 ghost use Rattle.ob_store.specs.Disk.{Image};
@@ -25,7 +27,8 @@ fn read_plain(
     requires room { 20 + 13 * p.now.places ≤ length bytes.now }
     requires fits { cell + 9 < 2 ^ 64 }
     ensures { MatchResult result
-        (λ r. (plain_damage p.now epoch batch cell bytes.now ≡ None) × (r ≡ record_in p.now batch first.now.generation first.now.number bytes.now))
+        (λ r. (plain_damage p.now epoch batch cell bytes.now ≡ None)
+        × (r ≡ record_in p.now batch first.now.generation first.now.number bytes.now))
         (λ damaged. plain_damage p.now epoch batch cell bytes.now ≡ Some damaged) }
 {
     let kept = u64_at(bytes, 0);
@@ -64,7 +67,8 @@ fn read_into(
     requires body { length cells.now ≡ record_cells p.now }
     requires room { length plain.old ≡ 96 * record_cells p.now }
     requires fits { cell + 10 < 2 ^ 64 }
-    ensures { IsBodyRead sealer.now.keys p.now epoch batch cell (λ i. slice_index_or cells.now i []) result }
+    ensures { IsBodyRead sealer.now.keys p.now epoch batch cell (λ i. slice_index_or cells.now i [])
+        result }
 {
     let first = match open_sealed(sealer, cell, cells, plain) {
         Ok(first) => first,
@@ -86,7 +90,8 @@ fn read_body(
     requires body { length cells.now ≡ record_cells p.now }
     requires room { 864 ≤ length room.old }
     requires fits { cell + 10 < 2 ^ 64 }
-    ensures value { IsBodyRead sealer.now.keys p.now epoch batch cell (λ i. slice_index_or cells.now i []) result }
+    ensures value { IsBodyRead sealer.now.keys p.now epoch batch cell
+        (λ i. slice_index_or cells.now i []) result }
     ensures room { length room.new ≡ length room.old }
 {
     let most = 96 * cells.len();
@@ -107,7 +112,8 @@ fn place_of(p: &Params, batch: u32) -> usize
 fn body_of<'a>(p: &Params, cells: &'a [[u8; 128]], batch: u32) -> &'a [[u8; 128]]
     requires batch { batch < p.now.batches }
     requires area { length cells.now ≡ p.now.batches * (record_cells p.now + 1) }
-    ensures cells { result.now ≡ take (record_cells p.now) (drop (batch * (record_cells p.now + 1)) cells.now) }
+    ensures cells { result.now
+        ≡ take (record_cells p.now) (drop (batch * (record_cells p.now + 1)) cells.now) }
     ensures many { length result.now ≡ record_cells p.now }
 {
     let at = place_of(p, batch);
@@ -119,8 +125,10 @@ fn is_shown(p: &Params, cells: &[[u8; 128]], batch: u32) -> bool
     requires batch { batch < p.now.batches }
     requires area { length cells.now ≡ p.now.batches * (record_cells p.now + 1) }
     ensures { MatchBool result
-        (slice_index_or cells.now (batch * (record_cells p.now + 1) + record_cells p.now) [] ≡ open_gate)
-        (slice_index_or cells.now (batch * (record_cells p.now + 1) + record_cells p.now) [] ≢ open_gate) }
+        (slice_index_or cells.now (batch * (record_cells p.now + 1) + record_cells p.now) []
+        ≡ open_gate)
+        (slice_index_or cells.now (batch * (record_cells p.now + 1) + record_cells p.now) [] ≢
+        open_gate) }
 {
     is_open(&cells[place_of(p, batch) + record_cells(p) as usize])
 }
@@ -152,7 +160,8 @@ pub fn open_records(
     requires none { records.old.items ≡ [] }
     requires capacity { p.now.batches ≤ vec_capacity records.old }
     ensures { (image : Image) → Holds base cells.now image
-        → MatchResult result (λ _. AreAccepted sealer.now.keys p.now epoch records.new.items image) (IsFirstBroken sealer.now.keys p.now epoch image) }
+        → MatchResult result (λ _. AreAccepted sealer.now.keys p.now epoch records.new.items image)
+        (IsFirstBroken sealer.now.keys p.now epoch image) }
 {
     for batch in 0..p.batches {
         if !is_shown(p, cells, batch) {

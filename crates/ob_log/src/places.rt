@@ -1,3 +1,5 @@
+//! The rules of a record's places.
+
 ghost use Rattle.std.specs.Prelude.{◌≡◌, ◌<◌, ◌≤◌, ◌+◌, ◌*◌, ◌^◌, ◌==◌, ◌&&◌, not, nat_lt, ◌∷◌, [], length, Some, None, MatchResult};
 ghost use Rattle.std.specs.List.{count_by};
 ghost use Rattle.ob_cells.specs.Rules.{first_broken, told_of};
@@ -54,11 +56,22 @@ fn least_unasked(asks: &[Option<Key>]) -> u64
     asks.len() as u64
 }
 
+// Whether fewer places ask for a key than there are keys. Where there are more keys than places none
+// is counted.
+fn is_key_left(p: &Params, asks: &[Option<Key>]) -> bool
+    ensures { result ≡ nat_lt (count_by is_ask asks.now) p.now.keys }
+{
+    if asks.len() < p.keys as usize {
+        return true;
+    }
+    asked(asks) < p.keys as usize
+}
+
 // Whether the kind is that of a key that may be asked for.
 fn may_ask(p: &Params, asks: &[Option<Key>], kind: u8) -> bool
     ensures { result ≡ (kind == 1 && nat_lt (count_by is_ask asks.now) p.now.keys) }
 {
-    kind == 1 && asked(asks) < p.keys as usize
+    kind == 1 && is_key_left(p, asks)
 }
 
 // Whether the key is one that no place asks for.
@@ -82,8 +95,11 @@ fn read_ask(
     requires room { 20 + 13 * i + 13 ≤ length bytes.now }
     requires fits { cell + 9 < 2 ^ 64 }
     ensures { MatchResult result
-        (λ ask. (first_broken (kind_rule p.now bytes.now i ∷ key_rule p.now bytes.now i ∷ []) ≡ None) × (ask ≡ ask_in bytes.now i))
-        (λ damaged. told_of cell (first_broken (kind_rule p.now bytes.now i ∷ key_rule p.now bytes.now i ∷ [])) ≡ Some damaged) }
+        (λ ask. (first_broken (kind_rule p.now bytes.now i ∷ key_rule p.now bytes.now i ∷ [])
+        ≡ None) × (ask ≡ ask_in bytes.now i))
+        (λ damaged. told_of cell
+        (first_broken (kind_rule p.now bytes.now i ∷ key_rule p.now bytes.now i ∷ []))
+        ≡ Some damaged) }
 {
     let at = 20 + 13 * i;
     let kind = bytes[at];
@@ -117,8 +133,11 @@ pub fn read_places(
     requires room { 20 + 13 * p.now.places ≤ length bytes.now }
     requires fits { cell + 9 < 2 ^ 64 }
     ensures { MatchResult result
-        (λ _. (first_broken (place_rules p.now bytes.now p.now.places) ≡ None) × (asks.new.items ≡ asks_in bytes.now p.now.places) × (words.new.items ≡ words_in bytes.now p.now.places))
-        (λ damaged. told_of cell (first_broken (place_rules p.now bytes.now p.now.places)) ≡ Some damaged) }
+        (λ _. (first_broken (place_rules p.now bytes.now p.now.places) ≡ None)
+        × (asks.new.items ≡ asks_in bytes.now p.now.places)
+        × (words.new.items ≡ words_in bytes.now p.now.places))
+        (λ damaged. told_of cell (first_broken (place_rules p.now bytes.now p.now.places))
+        ≡ Some damaged) }
 {
     for i in 0..p.places as usize {
         let ask = match read_ask(p, cell, bytes, i, asks.as_slice()) {

@@ -1,11 +1,14 @@
+//! Reading a log area.
+
 ghost use Rattle.std.specs.Prelude.{◌≡◌, ◌≢◌, ◌<◌, ◌≤◌, ◌+◌, ◌*◌, ◌%◌, ◌^◌, [], Ok, Err, OnOk, IfErr, IfOk, List, length, replicate, vec_capacity, MatchResult};
 ghost use Rattle.ob_base.specs.declared.fault.Fault.TheVariants as fault;
 ghost use Rattle.ob_base.specs.Layout.{record_cells, log_cell};
 ghost use Rattle.ob_store.specs.Images.{Same, Passes};
 ghost use Rattle.ob_store.specs.Calls.{Serves, IsStoreFault, Keeps};
 ghost use Rattle.ob_store.specs.Told.{Does};
-ghost use Rattle.ob_log.specs.Logs.{BatchRecord, OpenRecords};
-ghost use Rattle.ob_log.specs.Reads.{AreRead, AreReadBack, IsReadFault, area_notes, reads_of};
+ghost use Rattle.ob_cells.specs.Orders.{reads_of};
+ghost use Rattle.ob_log.specs.Logs.{BatchRecord, OpenRecords, RecordsFit};
+ghost use Rattle.ob_log.specs.Reads.{AreAccepted, AreRecordsRead, AreReadBack, IsRecordReadFault, area_notes};
 
 use crate::opening::open_records;
 use crate::record::{Record, Records};
@@ -41,11 +44,14 @@ fn read_area<S: Store, W: Watch>(
     requires none { list.items ≡ [] }
     requires capacity { p.now.batches ≤ vec_capacity list }
     ensures serves { Serves IsStoreFault (S.disk store.old) (S.disk store.new) result }
-    ensures faults { IfErr result IsReadFault }
-    ensures value { (S.disk store.old).tells → AreRead sealer.now.keys p.now epoch (S.disk store.old).cells result }
+    ensures faults { IfErr result IsRecordReadFault }
+    ensures value { (S.disk store.old).tells
+        → AreRecordsRead sealer.now.keys p.now epoch (S.disk store.old).cells result }
+    ensures fit { IfOk result (RecordsFit p.now) }
     ensures keeps { Keeps (S.disk store.old) (S.disk store.new) }
     ensures passes { Passes Same (S.disk store.old) (S.disk store.new) }
-    ensures does { Does (area_notes p.now epoch) (S.disk store.old).seen (S.disk store.new).seen (W.trace watch.old) (W.trace watch.new) (reads_of result) }
+    ensures does { Does (area_notes p.now epoch) (S.disk store.old).seen (S.disk store.new).seen
+        (W.trace watch.old) (W.trace watch.new) (reads_of result) }
     ensures no_memory { IfErr result (λ told. told ≢ fault.Memory) }
 {
     let base = log_cell(p, (epoch % 2) as u8, 0, 0);
@@ -80,13 +86,21 @@ pub fn read_open<S: Store, W: Watch>(
     watch: &mut W,
 ) -> Result<Records, Fault>
     ensures serves { Serves IsStoreFault (S.disk store.old) (S.disk store.new) result }
-    ensures faults { IfErr result IsReadFault }
-    ensures value { (S.disk store.old).tells → AreRead sealer.now.keys p.now epoch (S.disk store.old).cells result }
-    ensures as_written { (rs : List BatchRecord) → (S.disk store.old).tells → OpenRecords sealer.now.keys p.now epoch rs (S.disk store.old).cells → AreReadBack rs result }
+    ensures faults { IfErr result IsRecordReadFault }
+    ensures value { (S.disk store.old).tells
+        → AreRecordsRead sealer.now.keys p.now epoch (S.disk store.old).cells result }
+    ensures as_written { (rs : List BatchRecord) → (S.disk store.old).tells
+        → OpenRecords sealer.now.keys p.now epoch rs (S.disk store.old).cells
+        → AreReadBack rs result }
+    ensures accepted { (rs : List BatchRecord) → (S.disk store.old).tells
+        → AreAccepted sealer.now.keys p.now epoch rs (S.disk store.old).cells
+        → AreReadBack rs result }
     ensures memory { result ≡ Err fault.Memory → (store.new ≡ store.old) × (watch.new ≡ watch.old) }
+    ensures fit { IfOk result (RecordsFit p.now) }
     ensures keeps { Keeps (S.disk store.old) (S.disk store.new) }
     ensures passes { Passes Same (S.disk store.old) (S.disk store.new) }
-    ensures does { Does (area_notes p.now epoch) (S.disk store.old).seen (S.disk store.new).seen (W.trace watch.old) (W.trace watch.new) (reads_of result) }
+    ensures does { Does (area_notes p.now epoch) (S.disk store.old).seen (S.disk store.new).seen
+        (W.trace watch.old) (W.trace watch.new) (reads_of result) }
 {
     let list = match Vec::with_capacity(alloc, p.batches as usize) {
         Ok(list) => list,

@@ -1,3 +1,5 @@
+//! The record of a read batch.
+
 ghost use Rattle.std.specs.Prelude.{◌≡◌};
 
 use arrayvec::ArrayVec;
@@ -7,6 +9,7 @@ use std::marker::Model;
 // What the places of a batch ask for, and their words.
 pub type Asks = ArrayVec<Option<Key>, 64>;
 
+/// The words of the places of a batch.
 pub type Words = ArrayVec<u64, 64>;
 
 /// The record of a read batch. Contracts see its parts as lists and numbers.

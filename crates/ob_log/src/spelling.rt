@@ -1,3 +1,5 @@
+//! The bytes of a record.
+
 ghost use Rattle.std.specs.Prelude.{◌≡◌, ◌≤◌, ◌+◌, ◌*◌, ◌++◌, ℕ, length};
 ghost use Rattle.ob_log.specs.Logs.{ask_bytes, places_bytes, record_bytes};
 
@@ -52,7 +54,16 @@ pub fn record_bytes(
 ) -> Bytes
     requires same { length words.now ≡ length asks.now }
     requires few { length asks.now ≤ 64 }
-    ensures { (generation number : ℕ) → result.items ≡ record_bytes epoch (record { batch = batch; generation = generation; number = number; first = first; asks = asks.now; words = words.now }) }
+    ensures { (generation number : ℕ)
+        → result.items
+        ≡ record_bytes epoch (record {
+          batch = batch;
+          generation = generation;
+          number = number;
+          first = first;
+          asks = asks.now;
+          words = words.now;
+        }) }
 {
     let mut all = Bytes::new();
     add(&mut all, &epoch.to_le_bytes());

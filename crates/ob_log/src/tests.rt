@@ -1,6 +1,8 @@
+//! Records against cells made elsewhere, at each moment of an append, and each rule broken once.
+
 ghost use Rattle.std.specs.Prelude.{◌≡◌, ◌<◌, ◌≤◌, ◌^◌, ◌∷◌, IfSome, Some, replicate, None, true};
 
-use crate::{Records, append, read_open};
+use crate::{append, read_open};
 use hex::FromHex;
 use ob_base::{Check, Failed, Fault, Key, Params};
 use ob_cells::read_cells;
@@ -11,14 +13,35 @@ use std::alloc::Global;
 use std::process::Abort;
 use std::test::Fail as Broken;
 
-const OPEN: [u8; 128] = [0xA5; 128];
-
 // The words of three batches, as the tape of another implementation drew them.
 const FIRST: [u64; 2] = [6358360514227290561, 11633887360776027008];
 
 const SECOND: [u64; 2] = [14052829551288606090, 10622309020714539063];
 
 const THIRD: [u64; 2] = [10102863338132011689, 14418781035664499212];
+
+const OPEN: [u8; 128] = [0xA5; 128];
+
+const ZEROS: [u8; 128] = [0; 128];
+
+// A call on a store and on the log in it.
+#[derive(Clone, Copy)]
+enum Call {
+    // Appends the record of a batch of an epoch, with the place of its first word: what its first
+    // place asks for, the others being pads, and its words.
+    Append(u64, u32, u64, Option<Key>, &'static [u64]),
+    // Makes so many other seals.
+    Seal(u64),
+    // Writes these bytes into a cell.
+    Put(u64, [u8; 128]),
+    // Writes a cell of a body under the seal of this number: the epoch, the batch, and the kind and
+    // key of two places.
+    Forge(u64, u64, [u8; 6]),
+    // Changes a bit of a cell.
+    Bend(u64),
+    // Reads the open records of epoch 1: how many they are.
+    Read,
+}
 
 // A sealer under the keys of the bytes 0 to 95.
 fn test_sealer() -> Sealer
@@ -29,11 +52,6 @@ fn test_sealer() -> Sealer
         bytes[i] = i as u8;
     }
     Sealer::new(&Keys::from_bytes(&bytes), 2)
-}
-
-// A store of 8 keys with two read batches of so many places.
-fn params(rt: &impl Abort, places: u32) -> Params {
-    Params::new(8, 2, 2, 3, 2, places, 2, 2, 8).expect(rt, "parameters in range")
 }
 
 // One place asks for a key, or for none, and 63 for none.
@@ -90,45 +108,305 @@ fn append_one<W: Watch>(
     )
 }
 
+// Makes so many seals.
+fn seal_more(sealer: &mut Sealer, many: u64) {
+    for _ in 0..many {
+        let _ = sealer.seal(0, &[0; 96]);
+    }
+}
+
+// A cell under the seal of a number: its plain bytes have the epoch, the batch, and the kind and key
+// of two places.
+fn forged(cell: u64, number: u64, numbers: [u8; 6]) -> [u8; 128] {
+    let mut plain = [0; 96];
+    for (byte, at) in numbers.iter().zip([0, 8, 20, 21, 33, 34]) {
+        plain[at] = *byte;
+    }
+    let mut sealer = test_sealer();
+    seal_more(&mut sealer, number);
+    match sealer.seal(cell, &plain) {
+        Ok(bytes) => bytes,
+        Err(_) => ZEROS,
+    }
+}
+
 // The bytes of a cell.
 fn cell_of(store: &mut MemStore, cell: u64) -> Result<[u8; 128], Failed>
     requires fits { cell < 2 ^ 63 }
     ensures none_out { store.new.log.out ≤ store.old.log.out }
 {
-    let mut cells = [[0; 128]];
+    let mut cells = [ZEROS];
     read_cells(store, cell, &mut cells, &mut Blind)?;
     Ok(cells[0])
 }
 
-// The open records of epoch 1.
-fn read_one(alloc: Global, store: &mut MemStore, p: &Params) -> Result<Records, Fault>
+// The same with another bit.
+fn bent(store: &mut MemStore, cell: u64) -> Result<[u8; 128], Failed>
     ensures none_out { store.new.log.out ≤ store.old.log.out }
 {
-    read_open(alloc, store, &test_sealer(), p, 1, &mut Blind)
+    let mut bytes = cell_of(store, cell.min(1 << 20))?;
+    bytes[50] ^= 1;
+    Ok(bytes)
 }
 
-// How many they are, where it is a log.
-fn many(alloc: Global, store: &mut MemStore, p: &Params) -> Option<usize>
-    ensures none_out { store.new.log.out ≤ store.old.log.out }
+// Writes a cell.
+fn put(store: &mut MemStore, cell: u64, bytes: &[u8; 128]) -> Result<usize, Fault>
+    requires none_out { store.old.log.out ≡ 0 }
+    ensures none_out { store.new.log.out ≡ 0 }
 {
-    match read_one(alloc, store, p) {
-        Ok(records) => Some(records.as_slice().len()),
-        Err(_) => None,
+    match write_through(store, cell, bytes, &mut Blind) {
+        Ok(()) => Ok(0),
+        Err(Failed) => Err(Fault::SinkFault),
     }
 }
 
-// A store with the records of two batches of pads in epoch 1, and its events so far.
-fn two_records(rt: &impl Abort, alloc: Global, sealer: &mut Sealer, fails: Vec<Fail>) -> MemStore
+// What a call answers: of a read, how many records.
+fn make<W: Watch>(
+    alloc: Global,
+    p: &Params,
+    store: &mut MemStore,
+    sealer: &mut Sealer,
+    call: &Call,
+    watch: &mut W,
+) -> Result<usize, Fault>
+    requires none_out { store.old.log.out ≡ 0 }
+    ensures none_out { store.new.log.out ≡ 0 }
+{
+    match call {
+        Call::Append(epoch, batch, first, one, words) => {
+            let at = (*epoch, *batch, *first);
+            match append_one(store, sealer, p, at, *one, words, watch) {
+                Ok(()) => Ok(0),
+                Err(fault) => Err(fault),
+            }
+        }
+        Call::Seal(many) => {
+            seal_more(sealer, *many);
+            Ok(0)
+        }
+        Call::Put(cell, bytes) => put(store, *cell, bytes),
+        Call::Forge(cell, number, numbers) => {
+            put(store, *cell, &forged(*cell, *number, *numbers))
+        }
+        Call::Bend(cell) => match bent(store, *cell) {
+            Ok(bytes) => put(store, *cell, &bytes),
+            Err(Failed) => Err(Fault::SourceFault),
+        },
+        Call::Read => match read_open(alloc, store, sealer, p, 1, watch) {
+            Ok(records) => Ok(records.as_slice().len()),
+            Err(fault) => Err(fault),
+        },
+    }
+}
+
+// The parameters of a store with so many keys and two read batches of so many places.
+fn params(rt: &impl Abort, keys: u32, places: u32) -> Params {
+    Params::new(keys, 2, 2, 3, 2, places, 2, 2, 8).expect(rt, "parameters in range")
+}
+
+type Row = (Call, Result<usize, Fault>);
+
+// A store in which these calls were made, each of which has to answer so, and what was then shown.
+fn played(
+    rt: &impl Abort,
+    alloc: Global,
+    p: &Params,
+    fails: &[Fail],
+    calls: &[Row],
+    shown: &str,
+) -> MemStore
     ensures { result.log.out ≡ 0 }
 {
-    let p = params(rt, 2);
-    let mut store = MemStore::new(alloc, 109, fails).expect(rt, "memory");
-    for (batch, first, words) in [(0, 0, FIRST), (1, 2, SECOND)] {
-        let at = (1, batch, first);
-        let done = append_one(&mut store, sealer, &p, at, None, &words, &mut Blind);
-        assert!(rt; done.is_ok());
+    let fails = fails.to_vec(alloc).expect(rt, "memory");
+    let mut store = MemStore::new(alloc, 200, fails).expect(rt, "memory");
+    let mut sink = MemSink::new(alloc, 200, Vec::new(alloc)).expect(rt, "memory");
+    let mut sealer = test_sealer();
+    let mut watch = SinkWatch::new(&mut sink);
+    for (call, wanted) in calls {
+        let answer = make(alloc, p, &mut store, &mut sealer, call, &mut watch);
+        assert_eq!(rt; answer, *wanted, "{shown}");
     }
+    assert_eq!(rt; sink.written(), shown.as_bytes());
     store
+}
+
+const FAULT: Result<usize, Fault> = Err(Fault::StoreFault { unsure: None });
+
+const ONE: Row = (Call::Append(1, 0, 0, None, &FIRST), Ok(0));
+
+const TWO: Row = (Call::Append(1, 1, 2, None, &SECOND), Ok(0));
+
+// Two batches and one of the next epoch are written; then gates are shut and opened.
+const WRITTEN: &[Row] = &[
+    ONE,
+    TWO,
+    (Call::Seal(36), Ok(0)),
+    (Call::Append(2, 0, 31, Some(5), &THIRD), Ok(0)),
+    (Call::Read, Ok(2)),
+    (Call::Put(16, ZEROS), Ok(0)),
+    (Call::Read, Ok(1)),
+    (Call::Bend(14), Ok(0)),
+    (Call::Put(16, OPEN), Ok(0)),
+    (Call::Read, Ok(0)),
+    (Call::Put(14, OPEN), Ok(0)),
+    (Call::Read, Ok(2)),
+];
+
+// A number as it is told of a damaged cell.
+fn told(number: u8) -> [u8; 16] {
+    let mut bytes = [0; 16];
+    bytes[0] = number;
+    bytes
+}
+
+// A bit of the first body is another one. The tags are those of another implementation.
+const BENT: &[Row] = &[
+    ONE,
+    (Call::Bend(13), Ok(0)),
+    (
+        Call::Read,
+        Err(Fault::Damaged {
+            cell: 13,
+            check: Check::Tag,
+            kept: [
+                0x80, 0x13, 0x5f, 0xb4, 0xf2, 0x6b, 0xc7, 0x48, 0x79, 0x05, 0x46, 0xd9, 0x39, 0x85,
+                0xba, 0x0c,
+            ],
+            computed: [
+                0x59, 0x4e, 0x0d, 0xda, 0x80, 0x56, 0x84, 0x94, 0xb6, 0xfe, 0x48, 0xd5, 0x8a, 0x2e,
+                0xc7, 0xe7,
+            ],
+        }),
+    ),
+];
+
+// Bodies of two cells, of which the last one is sealed one number too far.
+const WIDE: &[Row] = &[
+    (Call::Append(1, 1, 0, Some(7), &[9; 8]), Ok(0)),
+    (Call::Append(1, 0, 0, Some(7), &[9; 8]), Ok(0)),
+    (Call::Read, Ok(2)),
+    (Call::Forge(19, 2, [0; 6]), Ok(0)),
+    (
+        Call::Read,
+        Err(Fault::Damaged {
+            cell: 19,
+            check: Check::Seal,
+            kept: [2, 0, 0, 0, 0, 0, 0, 0, 2, 0, 0, 0, 0, 0, 0, 0],
+            computed: [2, 0, 0, 0, 0, 0, 0, 0, 1, 0, 0, 0, 0, 0, 0, 0],
+        }),
+    ),
+];
+
+#[test]
+fn calls_answer(rt: HostRuntime) {
+    let alloc = rt.alloc();
+    let fails = [Fail::Read {
+        cell: 15,
+        writes: 4,
+    }];
+    let table: [(u32, &[Fail], &[Row], &str); 5] = [
+        (
+            2,
+            &[],
+            WRITTEN,
+            "W 13\nS\nW 14\nS\nW 15\nS\nW 16\nS\nW 9\nS\nW 10\nS\nR 13\nR 14\nR 15\nR 16\nR 13\nR 14\nR 15\nR 16\nR 13\nR 14\nR 15\nR 16\nR 13\nR 14\nR 15\nR 16\n",
+        ),
+        (
+            2,
+            &fails,
+            &[ONE, TWO, (Call::Read, FAULT)],
+            "W 13\nS\nW 14\nS\nW 15\nS\nW 16\nS\nR 13\nR 14\nR 15\n",
+        ),
+        (2, &[], BENT, "W 13\nS\nW 14\nS\nR 13\nR 14\nR 15\nR 16\n"),
+        (
+            2,
+            &[],
+            &[
+                (Call::Forge(13, 0, [1, 0, 1, 7, 1, 0]), Ok(0)),
+                (Call::Put(14, OPEN), Ok(0)),
+                (Call::Read, Ok(1)),
+            ],
+            "R 13\nR 14\nR 15\nR 16\n",
+        ),
+        (
+            8,
+            &[],
+            WIDE,
+            "W 18\nW 19\nS\nW 20\nS\nW 15\nW 16\nS\nW 17\nS\nR 15\nR 16\nR 17\nR 18\nR 19\nR 20\nR 15\nR 16\nR 17\nR 18\nR 19\nR 20\n",
+        ),
+    ];
+    for (places, fails, calls, shown) in table {
+        let p = params(&rt, 8, places);
+        let _ = played(&rt, alloc, &p, fails, calls, shown);
+    }
+}
+
+// What a crash leaves in cells that aren't sure: what they got last, zeros, or A5 in every byte.
+const KEPT: &[(u64, [u8; 128])] = &[];
+
+const BLANK: &[(u64, [u8; 128])] = &[(13, ZEROS), (14, ZEROS)];
+
+const FULL: &[(u64, [u8; 128])] = &[(13, OPEN), (14, OPEN)];
+
+#[test]
+fn a_crash_leaves_a_prefix(rt: HostRuntime) -> Result<(), Broken> {
+    let alloc = rt.alloc();
+    let p = params(&rt, 8, 2);
+    // The call that fails, if one does; what the append answers and shows; the moment of the crash,
+    // what it leaves, and how many records are then open.
+    let well: (&[Fail], Result<usize, Fault>, &str) = (&[], Ok(0), "W 13\nS\nW 14\nS\n");
+    let first_write: (&[Fail], Result<usize, Fault>, &str) = (&[Fail::Write(0)], FAULT, "W 13\n");
+    let first_sync: (&[Fail], Result<usize, Fault>, &str) = (&[Fail::Sync(0)], FAULT, "W 13\n");
+    let last_write: (&[Fail], Result<usize, Fault>, &str) = (
+        &[Fail::Write(1)],
+        FAULT,
+        "W 13\nS\nW 14\n",
+    );
+    let last_sync: (&[Fail], Result<usize, Fault>, &str) = (
+        &[Fail::Sync(1)],
+        FAULT,
+        "W 13\nS\nW 14\n",
+    );
+    let table = [
+        (well, 0, KEPT, 0),
+        (well, 0, BLANK, 0),
+        (well, 0, FULL, 0),
+        (well, 1, KEPT, 0),
+        (well, 1, BLANK, 0),
+        (well, 1, FULL, 0),
+        (well, 2, KEPT, 0),
+        (well, 2, BLANK, 0),
+        (well, 2, FULL, 0),
+        (well, 3, KEPT, 1),
+        (well, 3, BLANK, 0),
+        (well, 3, FULL, 1),
+        (well, 4, KEPT, 1),
+        (well, 4, BLANK, 1),
+        (well, 4, FULL, 1),
+        (first_write, 4, KEPT, 0),
+        (first_write, 4, BLANK, 0),
+        (first_sync, 4, KEPT, 0),
+        (first_sync, 4, BLANK, 0),
+        (last_write, 4, KEPT, 1),
+        (last_write, 4, BLANK, 0),
+        (last_sync, 4, KEPT, 1),
+        (last_sync, 4, BLANK, 0),
+    ];
+    for ((fails, answer, shown), moment, filling, left) in table {
+        let calls = [(Call::Append(1, 0, 0, None, &FIRST), answer)];
+        let store = played(&rt, alloc, &p, fails, &calls, shown);
+        let mut crashed = store.crash(moment, filling)?;
+        let read = make(
+            alloc,
+            &p,
+            &mut crashed,
+            &mut test_sealer(),
+            &Call::Read,
+            &mut Blind,
+        );
+        assert_eq!(rt; read, Ok(left), "{shown} {moment}");
+    }
+    Ok(())
 }
 
 // The cells were made by another implementation.
@@ -148,42 +426,22 @@ const CELLS: [(u64, &str); 3] = [
 ];
 
 #[test]
-fn records_are_written_and_read(rt: HostRuntime) -> Result<(), Broken> {
+fn records_are_spelled_and_told(rt: HostRuntime) -> Result<(), Broken> {
     let alloc = rt.alloc();
-    let p = params(&rt, 2);
-    let mut sealer = test_sealer();
-    let mut store = MemStore::new(alloc, 109, Vec::new(alloc))?;
-    let mut sink = MemSink::new(alloc, 200, Vec::new(alloc))?;
-    let mut watch = SinkWatch::new(&mut sink);
-    let table = [
-        (1, 0, 0, None, FIRST, 0),
-        (1, 1, 2, None, SECOND, 36),
-        (2, 0, 31, Some(5), THIRD, 0),
-    ];
-    for (epoch, batch, first, one, words, seals) in table {
-        let at = (epoch, batch, first);
-        let done = append_one(&mut store, &mut sealer, &p, at, one, &words, &mut watch);
-        assert_eq!(rt; done, Ok(()));
-        for _ in 0..seals {
-            assert!(rt; sealer.seal(0, &[0; 96]).is_ok());
-        }
-    }
-    let read = read_open(alloc, &mut store, &sealer, &p, 1, &mut watch);
-    assert_eq!(rt;
-        sink.written(),
-        b"W 13\nS\nW 14\nS\nW 15\nS\nW 16\nS\nW 9\nS\nW 10\nS\nR 13\nR 14\nR 15\nR 16\n".as_slice()
-    );
+    let p = params(&rt, 8, 2);
+    let shown = "W 13\nS\nW 14\nS\nW 15\nS\nW 16\nS\nW 9\nS\nW 10\nS\n";
+    let mut store = played(&rt, alloc, &p, &[], &WRITTEN[..4], shown);
     for (cell, digits) in CELLS {
         let wanted = <[u8; 128] as FromHex>::from_hex(digits)?;
         assert_eq!(rt; cell_of(&mut store, cell), Ok(wanted), "{cell}");
         assert_eq!(rt; cell_of(&mut store, cell + 1), Ok(OPEN), "{cell}");
     }
-    let Ok(records) = read else {
+    let Ok(records) = read_open(alloc, &mut store, &test_sealer(), &p, 1, &mut Blind) else {
         return Err("no records".into());
     };
     assert_eq!(rt; records.as_slice().len(), 2);
-    for (record, first, words) in [(0, 0, FIRST), (1, 2, SECOND)] {
-        let record = &records.as_slice()[record];
+    for (i, first, words) in [(0, 0, FIRST), (1, 2, SECOND)] {
+        let record = &records.as_slice()[i];
         assert_eq!(rt; (record.generation(), record.first()), (2, first));
         assert_eq!(rt; record.asks(), [None, None].as_slice());
         assert_eq!(rt; record.words(), words.as_slice());
@@ -191,236 +449,36 @@ fn records_are_written_and_read(rt: HostRuntime) -> Result<(), Broken> {
     Ok(())
 }
 
-#[test]
-fn records_end_at_the_first_closed_gate(rt: HostRuntime) -> Result<(), Broken> {
-    let alloc = rt.alloc();
-    let p = params(&rt, 2);
-    let mut almost = OPEN;
-    almost[127] = 0xA4;
-    for (cell, bytes, left) in [(16, [0; 128], 1), (14, almost, 0), (14, OPEN, 2)] {
-        let mut store = two_records(&rt, alloc, &mut test_sealer(), Vec::new(alloc));
-        assert!(rt; write_through(&mut store, cell, &bytes, &mut Blind).is_ok());
-        assert_eq!(rt; many(alloc, &mut store, &p), Some(left), "{cell}");
-    }
-    Ok(())
-}
-
-#[test]
-fn a_crash_leaves_a_prefix(rt: HostRuntime) -> Result<(), Broken> {
-    let alloc = rt.alloc();
-    let p = params(&rt, 2);
-    let mut store = MemStore::new(alloc, 109, Vec::new(alloc))?;
-    let at = (1, 0, 0);
-    let done = append_one(
-        &mut store,
-        &mut test_sealer(),
-        &p,
-        at,
-        None,
-        &FIRST,
-        &mut Blind,
-    );
-    assert_eq!(rt; done, Ok(()));
-    // After so many calls: the open records where the cells that aren't sure hold what they got
-    // last, zeros, or A5 in every byte.
-    let table = [
-        (0, [0, 0, 0]),
-        (1, [0, 0, 0]),
-        (2, [0, 0, 0]),
-        (3, [1, 0, 1]),
-        (4, [1, 1, 1]),
-    ];
-    for (moment, left) in table {
-        let mut kept = store.crash(moment, &[])?;
-        let mut zeros = store.crash(moment, &[(13, [0; 128]), (14, [0; 128])])?;
-        let mut open = store.crash(moment, &[(13, OPEN), (14, OPEN)])?;
-        assert_eq!(rt;
-            many(alloc, &mut kept, &p),
-            Some(left[0]),
-            "kept at {moment}"
-        );
-        assert_eq!(rt;
-            many(alloc, &mut zeros, &p),
-            Some(left[1]),
-            "zeros at {moment}"
-        );
-        assert_eq!(rt;
-            many(alloc, &mut open, &p),
-            Some(left[2]),
-            "open at {moment}"
-        );
-    }
-    Ok(())
-}
-
-#[test]
-fn a_failing_call_is_told(rt: HostRuntime) -> Result<(), Broken> {
-    let alloc = rt.alloc();
-    let p = params(&rt, 2);
-    // The call that fails, and the open records that a crash behind it leaves: as they got last, or
-    // zeros.
-    let table = [
-        (Fail::Write(0), 0, 0),
-        (Fail::Sync(0), 0, 0),
-        (Fail::Write(1), 1, 0),
-        (Fail::Sync(1), 1, 0),
-    ];
-    for (fail, kept, zeros) in table {
-        let mut store = MemStore::new(alloc, 109, [fail].to_vec(alloc)?)?;
-        let at = (1, 0, 0);
-        let done = append_one(
-            &mut store,
-            &mut test_sealer(),
-            &p,
-            at,
-            None,
-            &FIRST,
-            &mut Blind,
-        );
-        assert_eq!(rt; done, Err(Fault::StoreFault { unsure: None }), "{fail:?}");
-        let mut last = store.crash(4, &[])?;
-        let mut blank = store.crash(4, &[(13, [0; 128]), (14, [0; 128])])?;
-        assert_eq!(rt; many(alloc, &mut last, &p), Some(kept), "{fail:?}");
-        assert_eq!(rt; many(alloc, &mut blank, &p), Some(zeros), "{fail:?}");
-    }
-    let fails = [Fail::Read {
-        cell: 15,
-        writes: 4,
-    }]
-    .to_vec(alloc)?;
-    let mut store = two_records(&rt, alloc, &mut test_sealer(), fails);
-    let read = read_one(alloc, &mut store, &p).err();
-    assert_eq!(rt; read, Some(Fault::StoreFault { unsure: None }));
-    Ok(())
-}
-
-// A number as it is told of a damaged cell.
-fn told(number: u8) -> [u8; 16] {
-    let mut bytes = [0; 16];
-    bytes[0] = number;
-    bytes
-}
-
-// The plain bytes of a record of two places: the epoch, the batch, and each place's kind and key.
-fn plain_of(numbers: [u8; 6]) -> [u8; 96] {
-    let mut bytes = [0; 96];
-    for (number, at) in numbers.iter().zip([0, 8, 20, 21, 33, 34]) {
-        bytes[at] = *number;
-    }
-    bytes
-}
-
-// What is read where the first body of epoch 1 has these plain bytes, under the first seal.
-fn read_with(rt: &impl Abort, alloc: Global, p: &Params, plain: &[u8; 96]) -> Option<Fault> {
-    let mut store = MemStore::new(alloc, 109, Vec::new(alloc)).expect(rt, "memory");
-    if let Ok(bytes) = test_sealer().seal(13, plain) {
-        assert!(rt; write_through(&mut store, 13, &bytes, &mut Blind).is_ok());
-    }
-    assert!(rt; write_through(&mut store, 14, &OPEN, &mut Blind).is_ok());
-    read_one(alloc, &mut store, p).err()
-}
+// The keys of the store; the epoch, the batch, and the kind and key of two places in the first body;
+// and what is told.
+const BROKEN: [(u32, [u8; 6], Check, u8, u8); 10] = [
+    (8, [3, 0, 0, 0, 0, 0], Check::Epoch, 3, 1),
+    (8, [1, 1, 0, 0, 0, 0], Check::Form, 1, 0),
+    (8, [1, 0, 2, 0, 0, 0], Check::Form, 2, 0),
+    (8, [1, 0, 0, 4, 0, 0], Check::Form, 4, 0),
+    (8, [1, 0, 1, 8, 0, 0], Check::Form, 8, 0),
+    (8, [1, 0, 1, 0, 1, 0], Check::Form, 0, 1),
+    (8, [1, 0, 1, 1, 1, 9], Check::Form, 9, 0),
+    (1, [1, 0, 1, 0, 1, 0], Check::Form, 1, 0),
+    (8, [3, 1, 2, 0, 0, 0], Check::Epoch, 3, 1),
+    (8, [1, 1, 2, 0, 0, 0], Check::Form, 1, 0),
+];
 
 #[test]
 fn the_first_broken_rule_is_told(rt: HostRuntime) {
-    let one_key = Params::new(1, 1, 2, 3, 2, 2, 2, 2, 8).expect(&rt, "parameters in range");
-    let two = params(&rt, 2);
-    let table = [
-        (two, [3, 0, 0, 0, 0, 0], Check::Epoch, 3, 1),
-        (two, [1, 1, 0, 0, 0, 0], Check::Form, 1, 0),
-        (two, [1, 0, 2, 0, 0, 0], Check::Form, 2, 0),
-        (two, [1, 0, 0, 4, 0, 0], Check::Form, 4, 0),
-        (two, [1, 0, 1, 8, 0, 0], Check::Form, 8, 0),
-        (two, [1, 0, 1, 0, 1, 0], Check::Form, 0, 1),
-        (two, [1, 0, 1, 1, 1, 9], Check::Form, 9, 0),
-        (one_key, [1, 0, 1, 0, 1, 0], Check::Form, 1, 0),
-        (two, [3, 1, 2, 0, 0, 0], Check::Epoch, 3, 1),
-        (two, [1, 1, 2, 0, 0, 0], Check::Form, 1, 0),
-    ];
-    for (p, numbers, check, kept, least) in table {
-        let wanted = Fault::Damaged {
+    for (keys, numbers, check, kept, least) in BROKEN {
+        let wanted = Err(Fault::Damaged {
             cell: 13,
             check,
             kept: told(kept),
             computed: told(least),
-        };
-        let read = read_with(&rt, rt.alloc(), &p, &plain_of(numbers));
-        assert_eq!(rt; read, Some(wanted), "{numbers:?}");
+        });
+        let calls = [
+            (Call::Forge(13, 0, numbers), Ok(0)),
+            (Call::Put(14, OPEN), Ok(0)),
+            (Call::Read, wanted),
+        ];
+        let p = params(&rt, keys, 2);
+        let _ = played(&rt, rt.alloc(), &p, &[], &calls, "R 13\nR 14\nR 15\nR 16\n");
     }
-    let read = read_with(&rt, rt.alloc(), &two, &plain_of([1, 0, 1, 7, 1, 0]));
-    assert_eq!(rt; read, None);
-}
-
-#[test]
-fn a_flipped_bit_is_told(rt: HostRuntime) -> Result<(), Broken> {
-    let alloc = rt.alloc();
-    let p = params(&rt, 2);
-    let mut store = two_records(&rt, alloc, &mut test_sealer(), Vec::new(alloc));
-    if let Ok(mut bytes) = cell_of(&mut store, 13) {
-        bytes[50] ^= 1;
-        assert!(rt; write_through(&mut store, 13, &bytes, &mut Blind).is_ok());
-    }
-    assert!(rt;
-        matches!(
-            read_one(alloc, &mut store, &p),
-            Err(Fault::Damaged {
-                cell: 13,
-                check: Check::Tag,
-                ..
-            })
-        )
-    );
-    Ok(())
-}
-
-#[test]
-fn a_body_of_two_cells(rt: HostRuntime) -> Result<(), Broken> {
-    let alloc = rt.alloc();
-    let p = params(&rt, 8);
-    let mut store = MemStore::new(alloc, 200, Vec::new(alloc))?;
-    let mut sink = MemSink::new(alloc, 200, Vec::new(alloc))?;
-    let mut sealer = test_sealer();
-    let mut watch = SinkWatch::new(&mut sink);
-    for batch in [1, 0] {
-        let at = (1, batch, 0);
-        let done = append_one(
-            &mut store,
-            &mut sealer,
-            &p,
-            at,
-            Some(7),
-            &[9; 8],
-            &mut watch,
-        );
-        assert_eq!(rt; done, Ok(()));
-    }
-    assert_eq!(rt;
-        sink.written(),
-        b"W 18\nW 19\nS\nW 20\nS\nW 15\nW 16\nS\nW 17\nS\n".as_slice()
-    );
-    assert_eq!(rt; many(alloc, &mut store, &p), Some(2));
-    // The second body cell of batch 1 under seal 2, in place of 1.
-    let mut again = test_sealer();
-    let mut other = [0; 128];
-    for _ in 0..3 {
-        if let Ok(bytes) = again.seal(19, &[0; 96]) {
-            other = bytes;
-        }
-    }
-    assert!(rt; write_through(&mut store, 19, &other, &mut Blind).is_ok());
-    let wanted = Fault::Damaged {
-        cell: 19,
-        check: Check::Seal,
-        kept: identity(2, 2),
-        computed: identity(2, 1),
-    };
-    assert_eq!(rt; read_one(alloc, &mut store, &p).err(), Some(wanted));
-    Ok(())
-}
-
-// The 16 bytes of an identity of small numbers.
-fn identity(generation: u8, number: u8) -> [u8; 16] {
-    let mut bytes = [0; 16];
-    bytes[0] = generation;
-    bytes[8] = number;
-    bytes
 }

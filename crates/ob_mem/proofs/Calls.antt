@@ -6,7 +6,7 @@ use Rattle.std.proofs.lemmas.List.Elements.{Contains-append_cases}
 use Rattle.std.proofs.lemmas.List.{take_all, take-append-le, get_or-set_other, get_or-set_same, set_past, length-set}
 use Rattle.ob_store.specs.declared.event.Event.{Event}
 use Rattle.ob_store.specs.Disk.{Disk, Image}
-use Rattle.ob_store.specs.Images.{SameBut, Elapses, Tears, Shrinks, Settled}
+use Rattle.ob_store.specs.Images.{SameBut, Elapses, Tears, Shrinks, IsSynced}
 use Rattle.ob_store.specs.Calls.{TellsOn, GoesOn, Serves, IsFailed, Keeps}
 use Rattle.ob_base.specs.declared.fault.Failed.{Failed}
 use Rattle.ob_base.specs.Causes.{Rose}
@@ -151,7 +151,7 @@ module _ (past later : Past) (call : Call) (is : later ≡ with_call past call) 
   pub keeps_call : (done : Bool) → call ≡ Synced done → Keeps (disk_of past a i f) (disk_of later b j g)
   keeps_call done synced = record { tells = λ t. t; cells = λ t k. ap (λ (s : Moment). cell_of s.cells k) (now_later ∙ ap (λ (x : Call). after_call x (now_of past)) synced) }
 
-  pub settles_call : call ≡ Synced true → Settled (disk_of later b j g)
+  pub settles_call : call ≡ Synced true → IsSynced (disk_of later b j g)
   settles_call synced c left k =
       let now = now_later ∙ ap (λ (x : Call). after_call x (now_of past)) synced in
       settles (now_of past) c (subst (λ (s : Moment). MayLeave s c) now left) k ∙ sym (ap (λ (s : Moment). cell_of s.cells k) now)

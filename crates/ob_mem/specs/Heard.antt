@@ -5,10 +5,10 @@ use Rattle.ob_mem.specs.declared.log.Heard.{Heard}
 use Rattle.ob_mem.specs.declared.log.Heard.TheVariants.{Call, Lane}
 
 -- a lane's events stand where the lane was absorbed
-abbrev pub events_of : List Heard → List Event
-events_of [] = []
-events_of (Call event ∷ rest) = event ∷ events_of rest
-events_of (Lane events ∷ rest) = events.items ++ events_of rest
+abbrev pub heard_events : List Heard → List Event
+heard_events [] = []
+heard_events (Call event ∷ rest) = event ∷ heard_events rest
+heard_events (Lane events ∷ rest) = events.items ++ heard_events rest
 
 -- none once an event could not be kept
 abbrev pub told : ℕ → List Event → Option (List Event)

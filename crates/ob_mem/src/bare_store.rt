@@ -1,3 +1,5 @@
+//! A store in memory that tells its cells alone.
+
 ghost use Rattle.std.specs.Prelude.{◌≡◌, ◌≤◌, ◌↔◌, [], None, IfOk, IsErr, IsOk, OnOk, OnErr, ℕ, length, slice_set};
 ghost use Rattle.ob_base.specs.Causes.{Rose};
 ghost use Rattle.ob_store.specs.Disk.{bare};

@@ -1,3 +1,5 @@
+//! What a store in memory keeps of a write or a sync.
+
 /// What a store in memory keeps of a write or a sync.
 #[derive(Clone, Copy)]
 pub enum Call {

@@ -1,3 +1,5 @@
+//! Calls that are to fail.
+
 /// A call that is to fail.
 #[derive(Clone, Copy, Debug, PartialEq, Eq)]
 pub enum Fail {

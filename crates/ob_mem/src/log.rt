@@ -1,3 +1,5 @@
+//! What a store in memory was asked.
+
 ghost use Rattle.std.specs.Prelude.{◌≡◌, ◌≤◌, ◌<◌, ◌+◌, ◌-◌, ◌^◌, ◌∷◌, ◌++◌, [], ℕ, List, Option, min, vec_len, vec_capacity, true, false};
 ghost use Rattle.ob_base.specs.Causes.{Rose};
 ghost use Rattle.ob_store.specs.declared.event.Event.{Event};
@@ -33,6 +35,7 @@ pub struct MemLane {
 }
 
 impl MemLane {
+    /// A lane that has read nothing.
     pub fn new(alloc: Global) -> MemLane
         ensures events { result.events.items ≡ [] }
         ensures faults { result.faults ≡ 0 }
@@ -47,8 +50,10 @@ impl MemLane {
 
     /// Keeps a read. Whether there was memory for it.
     pub fn note(&mut self, event: Event) -> bool
-        ensures notes { Notes (event ∷ []) (told self.old.starved self.old.events.items) (told self.new.starved self.new.events.items) }
-        ensures tells { TellsOn (told self.old.starved self.old.events.items) (told self.new.starved self.new.events.items) self.old.faults self.new.faults }
+        ensures notes { Notes (event ∷ []) (told self.old.starved self.old.events.items)
+            (told self.new.starved self.new.events.items) }
+        ensures tells { TellsOn (told self.old.starved self.old.events.items)
+            (told self.new.starved self.new.events.items) self.old.faults self.new.faults }
         ensures later { self.old.faults ≤ self.new.faults }
         ensures kept { result ≡ true → self.new.faults ≡ self.old.faults }
         ensures lost { result ≡ false → Rose self.old.faults self.new.faults }
@@ -74,8 +79,9 @@ pub struct Log {
 }
 
 impl Log {
-    ghost use Rattle.ob_mem.specs.Heard.{events_of};
+    ghost use Rattle.ob_mem.specs.Heard.{heard_events};
 
+    /// A log of no calls.
     pub fn new(alloc: Global) -> Log
         ensures heard { result.heard.items ≡ [] }
         ensures out { result.out ≡ 0 }
@@ -91,8 +97,12 @@ impl Log {
     /// Keeps a call of the store itself. Whether there was memory for it.
     pub fn note(&mut self, event: Event) -> bool
         requires { self.old.out ≡ 0 }
-        ensures notes { Notes (event ∷ []) (told self.old.starved (events_of self.old.heard.items)) (told self.new.starved (events_of self.new.heard.items)) }
-        ensures tells { (l m : ℕ) → (result ≡ false → Rose l m) → TellsOn (told self.old.starved (events_of self.old.heard.items)) (told self.new.starved (events_of self.new.heard.items)) l m }
+        ensures notes { Notes (event ∷ [])
+            (told self.old.starved (heard_events self.old.heard.items))
+            (told self.new.starved (heard_events self.new.heard.items)) }
+        ensures tells { (l m : ℕ) → (result ≡ false → Rose l m)
+            → TellsOn (told self.old.starved (heard_events self.old.heard.items))
+            (told self.new.starved (heard_events self.new.heard.items)) l m }
         ensures out { self.new.out ≡ 0 }
         ensures kept { result ≡ true → self.new.starved ≡ self.old.starved }
         ensures lost { result ≡ false → Rose self.old.starved self.new.starved }
@@ -106,8 +116,10 @@ impl Log {
 
     /// Counts a call that was not kept elsewhere for want of memory.
     pub fn starve(&mut self)
-        ensures notes { (events : List Event) (seen : Option (List Event)) → Notes events seen (told self.new.starved (events_of self.new.heard.items)) }
-        ensures tells { (l m : ℕ) (seen : Option (List Event)) → Rose l m → TellsOn seen (told self.new.starved (events_of self.new.heard.items)) l m }
+        ensures notes { (events : List Event) (seen : Option (List Event))
+            → Notes events seen (told self.new.starved (heard_events self.new.heard.items)) }
+        ensures tells { (l m : ℕ) (seen : Option (List Event)) → Rose l m
+            → TellsOn seen (told self.new.starved (heard_events self.new.heard.items)) l m }
         ensures out { self.new.out ≡ self.old.out }
         ensures starved { Rose self.old.starved self.new.starved }
     {
@@ -116,8 +128,11 @@ impl Log {
 
     /// Makes room for the reads of one lane more. Whether there was memory for it.
     pub fn lend(&mut self) -> bool
-        ensures notes { Notes [] (told self.old.starved (events_of self.old.heard.items)) (told self.new.starved (events_of self.new.heard.items)) }
-        ensures tells { (l m : ℕ) → (result ≡ false → Rose l m) → TellsOn (told self.old.starved (events_of self.old.heard.items)) (told self.new.starved (events_of self.new.heard.items)) l m }
+        ensures notes { Notes [] (told self.old.starved (heard_events self.old.heard.items))
+            (told self.new.starved (heard_events self.new.heard.items)) }
+        ensures tells { (l m : ℕ) → (result ≡ false → Rose l m)
+            → TellsOn (told self.old.starved (heard_events self.old.heard.items))
+            (told self.new.starved (heard_events self.new.heard.items)) l m }
         ensures out { result ≡ true → self.new.out ≡ self.old.out + 1 }
         ensures out_err { result ≡ false → self.new.out ≡ self.old.out }
         ensures kept { result ≡ true → self.new.starved ≡ self.old.starved }
@@ -135,10 +150,15 @@ impl Log {
 
     /// Keeps the reads of a lane, for which there is room. Whether a lane was out.
     pub fn take(&mut self, events: Vec<Event>, starved: u64) -> bool
-        ensures notes { NotesLane (told starved events.items) (told self.old.starved (events_of self.old.heard.items)) (told self.new.starved (events_of self.new.heard.items)) }
-        ensures tells { (l m : ℕ) → (result ≡ false → Rose l m) → (0 < starved → Rose l m) → TellsOn (told self.old.starved (events_of self.old.heard.items)) (told self.new.starved (events_of self.new.heard.items)) l m }
+        ensures notes { NotesLane (told starved events.items)
+            (told self.old.starved (heard_events self.old.heard.items))
+            (told self.new.starved (heard_events self.new.heard.items)) }
+        ensures tells { (l m : ℕ) → (result ≡ false → Rose l m) → (0 < starved → Rose l m)
+            → TellsOn (told self.old.starved (heard_events self.old.heard.items))
+            (told self.new.starved (heard_events self.new.heard.items)) l m }
         ensures out { self.new.out ≡ self.old.out - 1 }
-        ensures kept { result ≡ true → self.new.starved ≡ min (self.old.starved + starved) (2 ^ 64 - 1) }
+        ensures kept { result ≡ true
+            → self.new.starved ≡ min (self.old.starved + starved) (2 ^ 64 - 1) }
         ensures lost { result ≡ false → self.old.out ≡ 0 }
     {
         if self.out == 0 {

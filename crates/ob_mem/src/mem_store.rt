@@ -1,12 +1,14 @@
+//! A store in memory that crashes and fails as planned.
+
 ghost use Rattle.std.specs.Prelude.{◌≡◌, ◌≤◌, ◌<◌, ◌+◌, ◌-◌, ◌∷◌, [], ◌⊎◌, ◌^◌, min, length, OnOk, OnErr, IfOk, IsErr, IsTrue, ◌↔◌, ℕ, Contains, Some, is_ok};
 ghost use Rattle.ob_base.specs.Causes.{Rose, HasCause};
 ghost use Rattle.ob_store.specs.declared.event.Event.{Event};
-ghost use Rattle.ob_store.specs.Images.{SameBut, Tears, Shrinks, Elapses, Settled};
+ghost use Rattle.ob_store.specs.Images.{SameBut, Tears, Shrinks, Elapses, IsSynced};
 ghost use Rattle.ob_store.specs.Calls.{GoesOn, Serves, IsFailed, Keeps, Notes, NotesLane, TellsOn, IsFreshLane, AddsFaults};
 ghost use Rattle.ob_mem.specs.declared.call.Call.TheVariants.{Wrote, Synced};
 ghost use Rattle.ob_mem.specs.Plan.{next_call, FailsExactly};
 ghost use Rattle.ob_mem.specs.Replay.{disk_of, with_call, zeros, moment_at, IsLeft, MayLeave};
-ghost use Rattle.ob_mem.specs.Heard.{told, events_of};
+ghost use Rattle.ob_mem.specs.Heard.{told, heard_events};
 ghost use Rattle.ob_mem.specs.Memory.{disk_of_store};
 ghost use Rattle.ob_mem.specs.Laws.{counts_now, only_now, includes_reads};
 
@@ -37,7 +39,7 @@ impl MemStore {
     /// There was no memory for the cells.
     pub fn new(alloc: Global, cells: usize, fails: Vec<Fail>) -> Result<MemStore, Memory>
         ensures blank { IfOk result (λ s. (k : ℕ) → (disk_of_store s).cells k ≡ zeros) }
-        ensures sure { IfOk result (λ s. Settled (disk_of_store s)) }
+        ensures sure { IfOk result (λ s. IsSynced (disk_of_store s)) }
         ensures seen { IfOk result (λ s. (disk_of_store s).seen ≡ Some []) }
         ensures out { IfOk result (λ s. (disk_of_store s).out ≡ 0) }
         ensures faults { IfOk result (λ s. (disk_of_store s).faults ≡ 0) }
@@ -67,9 +69,11 @@ impl MemStore {
     /// # Errors
     /// There was no memory for the cells.
     pub fn crash(&self, moment: usize, bytes: &[(u64, [u8; 128])]) -> Result<MemStore, Memory>
-        ensures left { IfOk result (λ s. IsLeft (moment_at self.now.past moment) bytes.now (disk_of_store s).cells) }
-        ensures possible { IfOk result (λ s. MayLeave (moment_at self.now.past moment) (disk_of_store s).cells) }
-        ensures sure { IfOk result (λ s. Settled (disk_of_store s)) }
+        ensures left { IfOk result
+            (λ s. IsLeft (moment_at self.now.past moment) bytes.now (disk_of_store s).cells) }
+        ensures possible { IfOk result
+            (λ s. MayLeave (moment_at self.now.past moment) (disk_of_store s).cells) }
+        ensures sure { IfOk result (λ s. IsSynced (disk_of_store s)) }
         ensures seen { IfOk result (λ s. (disk_of_store s).seen ≡ Some []) }
         ensures out { IfOk result (λ s. (disk_of_store s).out ≡ 0) }
         ensures faults { IfOk result (λ s. (disk_of_store s).faults ≡ 0) }
@@ -116,7 +120,7 @@ fn is_named(fails: &[Fail], call: Fail) -> bool
 impl Store for MemStore {
     type Lane = MemLane;
 
-    ghost disk = { λ m. disk_of m.past (told m.log.starved (events_of m.log.heard.items)) m.log.out m.faults };
+    ghost disk = { λ m. disk_of m.past (told m.log.starved (heard_events m.log.heard.items)) m.log.out m.faults };
 
     ghost lane_faults = { λ lane. lane.faults };
 
@@ -131,17 +135,24 @@ impl Store for MemStore {
     fn lane(&mut self) -> Result<MemLane, Failed>
         ensures goes { GoesOn (disk_of_store self.old) (disk_of_store self.new) }
         ensures fresh { IfOk result (λ lane. lane.faults ≡ 0) }
-        ensures fresh_seen { IfOk result (λ lane. IsFreshLane (disk_of_store self.old).seen (told lane.starved lane.events.items)) }
+        ensures fresh_seen { IfOk result
+            (λ lane. IsFreshLane (disk_of_store self.old).seen
+            (told lane.starved lane.events.items)) }
         ensures keeps { Keeps (disk_of_store self.old) (disk_of_store self.new) }
         ensures crash { Shrinks (disk_of_store self.old) (disk_of_store self.new) }
         ensures time { Elapses (disk_of_store self.old) (disk_of_store self.new) }
         ensures seen { Notes [] (disk_of_store self.old).seen (disk_of_store self.new).seen }
-        ensures out { OnOk result ((disk_of_store self.new).out ≤ (disk_of_store self.old).out + 1) }
-        ensures out_err { OnErr result ((disk_of_store self.new).out ≤ (disk_of_store self.old).out) }
-        ensures cause { HasCause (disk_of_store self.old).faults (disk_of_store self.new).faults result }
+        ensures out { OnOk result ((disk_of_store self.new).out
+            ≤ (disk_of_store self.old).out + 1) }
+        ensures out_err { OnErr result ((disk_of_store self.new).out
+            ≤ (disk_of_store self.old).out) }
+        ensures cause { HasCause (disk_of_store self.old).faults (disk_of_store self.new).faults
+            result }
         // Which calls fail.
-        ensures fails { FailsExactly (Contains self.old.fails.items (Fail.Lane self.old.made.lanes)) self.old.log.starved self.new.log.starved result }
-        ensures made { self.new.made ≡ record self.old.made { lanes = next_call self.old.made.lanes } }
+        ensures fails { FailsExactly (Contains self.old.fails.items (Fail.Lane self.old.made.lanes))
+            self.old.log.starved self.new.log.starved result }
+        ensures made { self.new.made
+            ≡ record self.old.made { lanes = next_call self.old.made.lanes } }
         ensures stays { (self.new.past ≡ self.old.past) × (self.new.fails ≡ self.old.fails) }
     {
         let lane = self.made.lanes;
@@ -158,12 +169,17 @@ impl Store for MemStore {
     }
 
     fn read(&self, lane: &mut MemLane, cell: u64, out: &mut [u8; 128]) -> Result<(), Failed>
-        ensures bytes { (disk_of_store self.now).tells → OnOk result (out.new ≡ (disk_of_store self.now).cells cell) }
-        ensures seen { Notes (Event.Read cell ∷ []) (told lane.old.starved lane.old.events.items) (told lane.new.starved lane.new.events.items) }
-        ensures tells { TellsOn (told lane.old.starved lane.old.events.items) (told lane.new.starved lane.new.events.items) lane.old.faults lane.new.faults }
+        ensures bytes { (disk_of_store self.now).tells
+            → OnOk result (out.new ≡ (disk_of_store self.now).cells cell) }
+        ensures seen { Notes (Event.Read cell ∷ []) (told lane.old.starved lane.old.events.items)
+            (told lane.new.starved lane.new.events.items) }
+        ensures tells { TellsOn (told lane.old.starved lane.old.events.items)
+            (told lane.new.starved lane.new.events.items) lane.old.faults lane.new.faults }
         ensures cause { HasCause lane.old.faults lane.new.faults result }
         // Which calls fail.
-        ensures fails { FailsExactly (Contains self.now.fails.items (Fail.Read cell self.now.made.writes)) lane.old.starved lane.new.starved result }
+        ensures fails { FailsExactly
+            (Contains self.now.fails.items (Fail.Read cell self.now.made.writes)) lane.old.starved
+            lane.new.starved result }
     {
         let writes = self.made.writes;
         if !lane.note(Event::Read(cell)) {
@@ -182,12 +198,16 @@ impl Store for MemStore {
         ensures keeps { Keeps (disk_of_store self.old) (disk_of_store self.new) }
         ensures crash { Shrinks (disk_of_store self.old) (disk_of_store self.new) }
         ensures time { Elapses (disk_of_store self.old) (disk_of_store self.new) }
-        ensures seen { NotesLane (told lane.starved lane.events.items) (disk_of_store self.old).seen (disk_of_store self.new).seen }
+        ensures seen { NotesLane (told lane.starved lane.events.items) (disk_of_store self.old).seen
+            (disk_of_store self.new).seen }
         ensures out { (disk_of_store self.new).out ≤ (disk_of_store self.old).out - 1 }
-        ensures faults { AddsFaults lane.faults (disk_of_store self.old).faults (disk_of_store self.new).faults }
+        ensures faults { AddsFaults lane.faults (disk_of_store self.old).faults
+            (disk_of_store self.new).faults }
         // A lane that is out is taken back without memory.
-        ensures starved { 0 < self.old.log.out → self.new.log.starved ≡ min (self.old.log.starved + lane.starved) (2 ^ 64 - 1) }
-        ensures stays { (self.new.past ≡ self.old.past) × (self.new.made ≡ self.old.made) × (self.new.fails ≡ self.old.fails) }
+        ensures starved { 0 < self.old.log.out
+            → self.new.log.starved ≡ min (self.old.log.starved + lane.starved) (2 ^ 64 - 1) }
+        ensures stays { (self.new.past ≡ self.old.past) × (self.new.made ≡ self.old.made)
+            × (self.new.fails ≡ self.old.fails) }
     {
         let MemLane {
             events,
@@ -203,15 +223,23 @@ impl Store for MemStore {
     fn write(&mut self, cell: u64, bytes: &[u8; 128]) -> Result<(), Failed>
         requires { (disk_of_store self.old).out ≡ 0 }
         ensures serves { Serves IsFailed (disk_of_store self.old) (disk_of_store self.new) result }
-        ensures written { (disk_of_store self.old).tells → OnOk result ((disk_of_store self.new).cells cell ≡ bytes.now) }
-        ensures rest { (disk_of_store self.old).tells → SameBut cell (disk_of_store self.new).cells (disk_of_store self.old).cells }
+        ensures written { (disk_of_store self.old).tells
+            → OnOk result ((disk_of_store self.new).cells cell ≡ bytes.now) }
+        ensures rest { (disk_of_store self.old).tells
+            → SameBut cell (disk_of_store self.new).cells (disk_of_store self.old).cells }
         ensures crash { Tears cell (disk_of_store self.old) (disk_of_store self.new) }
         ensures time { Elapses (disk_of_store self.old) (disk_of_store self.new) }
-        ensures seen { Notes (Event.Write cell ∷ []) (disk_of_store self.old).seen (disk_of_store self.new).seen }
+        ensures seen { Notes (Event.Write cell ∷ []) (disk_of_store self.old).seen
+            (disk_of_store self.new).seen }
         // Which calls fail. A write counts, whatever it answers, unless memory was wanting.
-        ensures fails { FailsExactly (Contains self.old.fails.items (Fail.Write self.old.made.writes) ⊎ (length self.old.past.first ≤ cell)) self.old.log.starved self.new.log.starved result }
-        ensures counts { (self.new.past ≡ with_call self.old.past (Wrote cell bytes.now)) ⊎ Rose self.old.log.starved self.new.log.starved }
-        ensures made { self.new.made ≡ record self.old.made { writes = next_call self.old.made.writes } }
+        ensures fails { FailsExactly
+            (Contains self.old.fails.items (Fail.Write self.old.made.writes)
+            ⊎ (length self.old.past.first
+            ≤ cell)) self.old.log.starved self.new.log.starved result }
+        ensures counts { (self.new.past ≡ with_call self.old.past (Wrote cell bytes.now))
+            ⊎ Rose self.old.log.starved self.new.log.starved }
+        ensures made { self.new.made
+            ≡ record self.old.made { writes = next_call self.old.made.writes } }
         ensures stays { self.new.fails ≡ self.old.fails }
     {
         let write = self.made.writes;
@@ -242,15 +270,20 @@ impl Store for MemStore {
     fn sync(&mut self) -> Result<(), Failed>
         requires { (disk_of_store self.old).out ≡ 0 }
         ensures serves { Serves IsFailed (disk_of_store self.old) (disk_of_store self.new) result }
-        ensures durable { (disk_of_store self.old).tells → OnOk result (Settled (disk_of_store self.new)) }
+        ensures durable { (disk_of_store self.old).tells
+            → OnOk result (IsSynced (disk_of_store self.new)) }
         ensures keeps { Keeps (disk_of_store self.old) (disk_of_store self.new) }
         ensures crash { Shrinks (disk_of_store self.old) (disk_of_store self.new) }
         ensures time { Elapses (disk_of_store self.old) (disk_of_store self.new) }
-        ensures seen { Notes (Event.Sync ∷ []) (disk_of_store self.old).seen (disk_of_store self.new).seen }
+        ensures seen { Notes (Event.Sync ∷ []) (disk_of_store self.old).seen
+            (disk_of_store self.new).seen }
         // Which calls fail. A sync that fails makes nothing sure.
-        ensures fails { FailsExactly (Contains self.old.fails.items (Fail.Sync self.old.made.syncs)) self.old.log.starved self.new.log.starved result }
-        ensures counts { (self.new.past ≡ with_call self.old.past (Synced (is_ok result))) ⊎ Rose self.old.log.starved self.new.log.starved }
-        ensures made { self.new.made ≡ record self.old.made { syncs = next_call self.old.made.syncs } }
+        ensures fails { FailsExactly (Contains self.old.fails.items (Fail.Sync self.old.made.syncs))
+            self.old.log.starved self.new.log.starved result }
+        ensures counts { (self.new.past ≡ with_call self.old.past (Synced (is_ok result)))
+            ⊎ Rose self.old.log.starved self.new.log.starved }
+        ensures made { self.new.made
+            ≡ record self.old.made { syncs = next_call self.old.made.syncs } }
         ensures stays { self.new.fails ≡ self.old.fails }
     {
         let sync = self.made.syncs;

@@ -1,3 +1,5 @@
+//! Cells with the writes and syncs that made them.
+
 ghost use Rattle.std.specs.Prelude.{◌≡◌, ◌<◌, ◌≤◌, length, is_ok, IfOk, OnOk, IsTrue, Contains, take, ◌↔◌, ◌⊎◌, slice_set, true, List, [], ℕ, replicate, if◌then◌else◌};
 ghost use Rattle.ob_mem.specs.declared.call.Call.TheVariants.{Wrote, Synced};
 ghost use Rattle.ob_mem.specs.Replay.{Past, replay, sure, zeros, cell_of, now_of, with_call, moment_at, after_call, IsLeft, IsCell, MayLeave};
@@ -25,6 +27,7 @@ impl Model for History {
     ghost invariant = { λ h. h.cells.items ≡ (replay h.calls.items (sure h.first.items)).cells };
 }
 
+/// So many cells of zeros.
 pub fn blank(alloc: Global, size: usize) -> Result<Vec<[u8; 128]>, AllocError>
     ensures { IfOk result (λ v. v.items ≡ replicate size zeros) }
 {
@@ -69,7 +72,8 @@ impl History {
 
     /// Keeps a write, and does it where there is such a cell.
     pub fn write(&mut self, cell: u64, bytes: &[u8; 128]) -> Result<(), AllocError>
-        ensures { self.new ≡ (if is_ok result then with_call self.old (Wrote cell bytes.now) else self.old) }
+        ensures { self.new
+            ≡ (if is_ok result then with_call self.old (Wrote cell bytes.now) else self.old) }
     {
         self.calls.push(Call::Wrote(cell, *bytes))?;
         if cell < self.cells.len() as u64 {
@@ -96,8 +100,10 @@ impl History {
     ) -> Result<History, AllocError>
         ensures calls { IfOk result (λ h. h.calls ≡ []) }
         ensures size { IfOk result (λ h. length h.first ≡ length self.now.first) }
-        ensures left { IfOk result (λ h. IsLeft (moment_at self.now moment) fillings.now (cell_of h.first)) }
-        ensures possible { IfOk result (λ h. MayLeave (moment_at self.now moment) (cell_of h.first)) }
+        ensures left { IfOk result
+            (λ h. IsLeft (moment_at self.now moment) fillings.now (cell_of h.first)) }
+        ensures possible { IfOk result
+            (λ h. MayLeave (moment_at self.now moment) (cell_of h.first)) }
     {
         let cells = left_after(alloc, &self.first, &self.calls, moment, fillings)?;
         let first = Vec::from_slice(alloc, &cells)?;
@@ -125,8 +131,11 @@ fn left_after(
     fillings: &[(u64, [u8; 128])],
 ) -> Result<Vec<[u8; 128]>, AllocError>
     ensures size { IfOk result (λ v. length v.items ≡ length first.now) }
-    ensures left { IfOk result (λ v. IsLeft (replay (take moment calls.now) (sure first.now)) fillings.now (cell_of v.items)) }
-    ensures possible { IfOk result (λ v. MayLeave (replay (take moment calls.now) (sure first.now)) (cell_of v.items)) }
+    ensures left { IfOk result
+        (λ v. IsLeft (replay (take moment calls.now) (sure first.now)) fillings.now
+        (cell_of v.items)) }
+    ensures possible { IfOk result
+        (λ v. MayLeave (replay (take moment calls.now) (sure first.now)) (cell_of v.items)) }
 {
     let kept = moment.min(calls.len());
     let mut held = held_after(alloc, first, &calls[..kept])?;
@@ -138,7 +147,8 @@ fn left_after(
 fn held_after(alloc: Global, first: &[[u8; 128]], calls: &[Call]) -> Result<Held, AllocError>
     ensures size { IfOk result (λ h. length h.cells.items ≡ length first.now) }
     ensures cells { IfOk result (λ h. h.cells.items ≡ (replay calls.now (sure first.now)).cells) }
-    ensures unsure { IfOk result (λ h. h.unsure.items ≡ (replay calls.now (sure first.now)).unsure) }
+    ensures unsure { IfOk result (λ h. h.unsure.items
+        ≡ (replay calls.now (sure first.now)).unsure) }
 {
     let mut held = Held {
         cells: Vec::from_slice(alloc, first)?,
@@ -151,8 +161,12 @@ fn held_after(alloc: Global, first: &[[u8; 128]], calls: &[Call]) -> Result<Held
 }
 
 fn apply(held: &mut Held, call: &Call) -> Result<(), AllocError>
-    ensures cells { OnOk result (held.new.cells.items ≡ (after_call call.now (record { cells = held.old.cells.items; unsure = held.old.unsure.items })).cells) }
-    ensures unsure { OnOk result (held.new.unsure.items ≡ (after_call call.now (record { cells = held.old.cells.items; unsure = held.old.unsure.items })).unsure) }
+    ensures cells { OnOk result (held.new.cells.items
+        ≡ (after_call call.now
+        (record { cells = held.old.cells.items; unsure = held.old.unsure.items })).cells) }
+    ensures unsure { OnOk result (held.new.unsure.items
+        ≡ (after_call call.now
+        (record { cells = held.old.cells.items; unsure = held.old.unsure.items })).unsure) }
 {
     match *call {
         Call::Wrote(cell, bytes) => {
@@ -182,7 +196,9 @@ fn is_among(cells: &[u64], cell: u64) -> bool
 
 // Puts bytes into a cell, where it isn't sure.
 fn fill_one(cells: &mut Vec<[u8; 128]>, unsure: &[u64], cell: u64, bytes: &[u8; 128])
-    ensures cases { (Contains unsure.now cell × (cells.new.items ≡ slice_set cells.old.items cell bytes.now)) ⊎ ((Contains unsure.now cell → ⊥) × (cells.new.items ≡ cells.old.items)) }
+    ensures cases { (Contains unsure.now cell
+        × (cells.new.items ≡ slice_set cells.old.items cell bytes.now))
+        ⊎ ((Contains unsure.now cell → ⊥) × (cells.new.items ≡ cells.old.items)) }
     ensures size { length cells.new.items ≡ length cells.old.items }
     ensures whole { IsCell bytes.now }
 {
@@ -194,8 +210,10 @@ fn fill_one(cells: &mut Vec<[u8; 128]>, unsure: &[u64], cell: u64, bytes: &[u8; 
 // Puts the given bytes into the cells that aren't sure.
 fn fill(cells: &mut Vec<[u8; 128]>, unsure: &[u64], fillings: &[(u64, [u8; 128])])
     ensures size { length cells.new.items ≡ length cells.old.items }
-    ensures left { IsLeft (record { cells = cells.old.items; unsure = unsure.now }) fillings.now (cell_of cells.new.items) }
-    ensures possible { MayLeave (record { cells = cells.old.items; unsure = unsure.now }) (cell_of cells.new.items) }
+    ensures left { IsLeft (record { cells = cells.old.items; unsure = unsure.now }) fillings.now
+        (cell_of cells.new.items) }
+    ensures possible { MayLeave (record { cells = cells.old.items; unsure = unsure.now })
+        (cell_of cells.new.items) }
 {
     for (cell, bytes) in fillings {
         fill_one(cells, unsure, *cell, bytes);

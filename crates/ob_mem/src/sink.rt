@@ -1,3 +1,5 @@
+//! A sink in memory.
+
 ghost use Rattle.std.specs.Prelude.{◌≡◌, ◌≤◌, ◌<◌, ◌-◌, ◌+◌, ◌↔◌, ◌⊎◌, ◌++◌, [], ℕ, length, take, min, vec_len, vec_capacity, Contains, IfOk, IsErr, Some};
 ghost use Rattle.ob_base.specs.Causes.{HasCause};
 ghost use Rattle.ob_io.specs.Flows.{count_of};
@@ -64,11 +66,14 @@ impl Sink for MemSink {
     fn write(&mut self, bytes: &[u8]) -> Result<usize, Failed>
         requires { 0 < length bytes.now }
         ensures some { IfOk result (λ n. (0 < n) × (n ≤ length bytes.now)) }
-        ensures written { self.new.bytes.items ≡ self.old.bytes.items ++ take (count_of result) bytes.now }
+        ensures written { self.new.bytes.items
+            ≡ self.old.bytes.items ++ take (count_of result) bytes.now }
         ensures cause { HasCause self.old.faults self.new.faults result }
         // It takes as much as there is room for, and fails at the named calls and where no room is left.
-        ensures whole { IfOk result (λ n. n ≡ min (length bytes.now) (self.old.room - length self.old.bytes.items)) }
-        ensures fails { IsErr result ↔ (Contains self.old.fails.items self.old.calls ⊎ (length self.old.bytes.items ≡ self.old.room)) }
+        ensures whole { IfOk result (λ n. n
+            ≡ min (length bytes.now) (self.old.room - length self.old.bytes.items)) }
+        ensures fails { IsErr result ↔ (Contains self.old.fails.items self.old.calls
+            ⊎ (length self.old.bytes.items ≡ self.old.room)) }
         ensures room { self.new.room ≡ self.old.room }
         ensures fails_kept { self.new.fails ≡ self.old.fails }
         ensures calls { self.new.calls ≡ next_call self.old.calls }

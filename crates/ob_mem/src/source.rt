@@ -1,3 +1,5 @@
+//! A source in memory.
+
 ghost use Rattle.std.specs.Prelude.{◌≡◌, ◌≤◌, ◌<◌, ◌-◌, ◌+◌, ◌↔◌, ℕ, length, take, drop, min, vec_len, Contains, IfOk, OnErr, IsErr, Some, ◌++◌, []};
 ghost use Rattle.ob_base.specs.Causes.{HasCause};
 ghost use Rattle.ob_io.specs.Flows.{prepended, IsAtEnd};
@@ -56,12 +58,16 @@ impl Source for MemSource {
 
     fn read(&mut self, out: &mut [u8]) -> Result<usize, Failed>
         ensures within { IfOk result (λ n. n ≤ length out.old) }
-        ensures bytes { IfOk result (λ n. drop self.old.at self.old.bytes.items ≡ take n out.new ++ drop self.new.at self.new.bytes.items) }
-        ensures end { IfOk result (λ n. n ≡ 0 → 0 < length out.old → drop self.old.at self.old.bytes.items ≡ []) }
-        ensures kept { OnErr result (drop self.new.at self.new.bytes.items ≡ drop self.old.at self.old.bytes.items) }
+        ensures bytes { IfOk result (λ n. drop self.old.at self.old.bytes.items
+            ≡ take n out.new ++ drop self.new.at self.new.bytes.items) }
+        ensures end { IfOk result (λ n. n ≡ 0 → 0 < length out.old
+            → drop self.old.at self.old.bytes.items ≡ []) }
+        ensures kept { OnErr result (drop self.new.at self.new.bytes.items
+            ≡ drop self.old.at self.old.bytes.items) }
         ensures cause { HasCause self.old.faults self.new.faults result }
         // It takes as much as there is room for, and fails at the named calls alone.
-        ensures whole { IfOk result (λ n. n ≡ min (length out.old) (length (drop self.old.at self.old.bytes.items))) }
+        ensures whole { IfOk result (λ n. n
+            ≡ min (length out.old) (length (drop self.old.at self.old.bytes.items))) }
         ensures fails { IsErr result ↔ Contains self.old.fails.items self.old.calls }
         ensures fails_kept { self.new.fails ≡ self.old.fails }
         ensures calls { self.new.calls ≡ next_call self.old.calls }

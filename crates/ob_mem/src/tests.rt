@@ -1,3 +1,5 @@
+//! Planned failures, and what a crash may leave.
+
 use crate::{BareStore, Fail, MemSink, MemSource, MemStore, Void};
 use ob_io::{ReadErr, Sink, Source, put_all, read_all};
 use ob_store::{SinkWatch, Store, write_run};

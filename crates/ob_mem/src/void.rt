@@ -1,3 +1,5 @@
+//! A sink that keeps nothing.
+
 ghost use Rattle.std.specs.Prelude.{◌≡◌, ◌<◌, length, Ok, None};
 
 use ob_base::Failed;

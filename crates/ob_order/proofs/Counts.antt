@@ -1,5 +1,5 @@
 -- How many keys have versions.
-use Rattle.std.proofs.Common.{◌≡◌, ℕ, zero, suc, ◌+◌, ◌<◌, ◌≤◌, Bool, true, false, not, ◌&&◌, ◌==◌, if◌then◌else◌, List, [], ◌∷◌, ◌++◌, map, length, Option, None, Some, option_map, option_and_then, is_some, slice_get, refl, sym, ap, ◌∙◌, subst, ⊎_elim, arith, add-one, length-append}
+use Rattle.std.proofs.Common.{◌≡◌, ℕ, zero, suc, ◌+◌, ◌<◌, ◌≤◌, Bool, true, false, not, ◌&&◌, ◌==◌, if◌then◌else◌, List, [], ◌∷◌, ◌++◌, map, length, Option, None, Some, option_map, option_and_then, is_some, slice_get, refl, sym, ap, ◌∙◌, subst, ⊎_elim, arith, add-one, length-append, eq-eqb}
 use Rattle.std.specs.List.{filter_map, range_with_len, cons_option}
 use Rattle.std.proofs.lemmas.Bool.{cases_eq, false≢true, ne_eqb}
 use Rattle.std.proofs.lemmas.Option.{none-some, same_Some}
@@ -110,9 +110,14 @@ written_begun ws n = written_same ws (ws ++ fresh ∷ []) n (λ j.
         (λ last. absurd (let e : u ≡ length ws = last.0 in omega arith))
         (slice_get-push ws fresh u)
 
-other_written : (k : ℕ) (v : Option (List ℕ)) (j : ℕ) → (j ≡ k → ⊥) → write_of (write_op k v) j ≡ None
+-- what one write writes
+pub other_written : (k : ℕ) (v : Option (List ℕ)) (j : ℕ) → (j ≡ k → ⊥) → write_of (write_op k v) j ≡ None
 other_written k None j h = ap (λ b. if b then Some None else None) (ne_eqb j k h)
 other_written k (Some v) j h = ap (λ b. if b then Some (Some v) else None) (ne_eqb j k h)
+
+pub own_written : (k : ℕ) (v : Option (List ℕ)) → write_of (write_op k v) k ≡ Some v
+own_written k None = ap (λ b. if b then Some None else None) (eq-eqb k k refl)
+own_written k (Some v) = ap (λ b. if b then Some (Some v) else None) (eq-eqb k k refl)
 
 -- a write adds its key at most
 pub written_wrote : (p : Params) (o : OrderState) (t k : ℕ) (v : Option (List ℕ)) → count_below (is_written o.works) p.keys ≤ p.writes → (other_keys p o k ≡ p.writes → ⊥)

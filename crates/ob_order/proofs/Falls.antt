@@ -2,7 +2,7 @@
 use Rattle.std.proofs.Common.{◌≡◌, ℕ, zero, suc, ◌<◌, ◌≤◌, Bool, true, false, not, ◌&&◌, if◌then◌else◌, List, [], ◌∷◌, min, length, Option, None, Some, option_map, option_and_then, unwrap_or, slice_get, refl, sym, ap, ◌∙◌, subst, inl, inr, ◌⊎◌, ⊎_elim, arith}
 use Rattle.std.proofs.lemmas.Bool.{cases_eq, false≢true}
 use Rattle.std.proofs.lemmas.Option.{none-some, same_Some}
-use Rattle.ob_order.specs.Works.{wait_for, is_gone, Op, Get, Work, Fate, Going, Ended, Fell, is_going, at_ticket, edit, goes_on, version_in, last_write, end_work, Rises, aborted_since, least_of, source_in, least_source, fall, cascade, aborted}
+use Rattle.ob_order.specs.Works.{wait_for, is_gone, Op, Get, Work, Fate, Going, Ended, Fell, is_going, at_ticket, edit, goes_on, version_in, last_write, end_work, SourcesRise, aborted_since, least_of, source_in, least_source, fall, cascade, aborted}
 use Rattle.ob_order.proofs.Edits.{at_edit_same, at_edit_other, slice_get-edit_same, length-edit}
 use Rattle.ob_order.proofs.Newest.{Thinned, by_option}
 
@@ -44,11 +44,11 @@ fallen_edit f ws t keeps stops = record { same_ops = same_ops; went_on = went_on
         (λ other. ap (λ o. unwrap_or (option_map (λ w. is_going w.fate) o) false) (sym (at_edit_other f ws t u other)) ∙ e)
         (cases_eq u t)
 
-fall_keeps : (o : Option ℕ) (w : Work) → (fall o w).ops ≡ w.ops
+pub fall_keeps : (o : Option ℕ) (w : Work) → (fall o w).ops ≡ w.ops
 fall_keeps None w = refl
 fall_keeps (Some on) w = refl
 
-fall_stops : (o : Option ℕ) (w : Work) → is_going (fall o w).fate ≡ true → is_going w.fate ≡ true
+pub fall_stops : (o : Option ℕ) (w : Work) → is_going (fall o w).fate ≡ true → is_going w.fate ≡ true
 fall_stops None w e = e
 fall_stops (Some on) w e = step w.fate e
   where
@@ -99,7 +99,8 @@ thinned_from_fallen ws vs h = record { at_each = λ u k. step k (at_ticket vs u)
     step k (Some v) None e g = absurd (none-some v.ops (sym e))
     step k (Some v) (Some w) e g =
         let ops : v.ops ≡ w.ops = same_Some v.ops w.ops e in
-        subst (λ (ops : List (Op ℕ)). ((if is_going v.fate then last_write v.ops k else None) ≡ (if is_going w.fate then last_write ops k else None)) ⊎ (((if is_going v.fate then last_write v.ops k else None) ≡ None) × (is_going v.fate ≡ false))) ops (by_fate k v.ops (is_going v.fate) (is_going w.fate) g)
+        subst (λ (ops : List (Op ℕ)). ((if is_going v.fate then last_write v.ops k else None) ≡ (if is_going w.fate then last_write ops k else None)) ⊎ (((if is_going v.fate then last_write v.ops k else None) ≡ None) × (is_going v.fate ≡ false))) ops
+        (by_fate k v.ops (is_going v.fate) (is_going w.fate) g)
 
 -- who goes on afterwards went on before, with the same operations
 pub went_on_before : (ws vs : List Work) → Fallen ws vs → (n : ℕ) (w : Work) → slice_get vs n ≡ Some w → is_going w.fate ≡ true → (v : Work) × (slice_get ws n ≡ Some v) × (is_going v.fate ≡ true) × (v.ops ≡ w.ops)
@@ -134,7 +135,7 @@ least_source-none p (o ∷ os) e (suc i) k r s got = least_source-none p os (lea
 pub record Unbroken (before now : List Work) (n : ℕ) : Type 0 where
   pub at_each : (u : ℕ) (w : Work) → u < n → slice_get now u ≡ Some w → is_going w.fate ≡ true → (i k : ℕ) (r : Option (List ℕ)) (s : ℕ) → slice_get w.ops i ≡ Some (Get k r s) → aborted_since before now s ≡ false
 
-pub unbroken_cascade : (before now : List Work) (n : ℕ) → Rises before → Fallen before now → Unbroken before (cascade before now n) n
+pub unbroken_cascade : (before now : List Work) (n : ℕ) → SourcesRise before → Fallen before now → Unbroken before (cascade before now n) n
 unbroken_cascade before now zero low fallen = record { at_each = λ u w l. absurd (omega arith) }
 unbroken_cascade before now (suc n) low fallen =
     let mid = cascade before now n in

@@ -7,5 +7,4 @@ pub mod Mapped
 pub mod Newest
 pub mod Steps
 pub mod Tidies
-pub mod Bases
 pub mod Batches

@@ -83,7 +83,8 @@ conflict_alike stored ticket real t h l = ⊎_elim
 
 -- ---- the mark of a version that a put sets
 
-any_found : (k s : ℕ) (os : List (Op ℕ)) → has_get os k s ≡ true → (i : ℕ) × (r : Option (List ℕ)) × (slice_get os i ≡ Some (Get k r s))
+-- a get that a test finds
+pub any_found : (k s : ℕ) (os : List (Op ℕ)) → has_get os k s ≡ true → (i : ℕ) × (r : Option (List ℕ)) × (slice_get os i ≡ Some (Get k r s))
 any_found k s [] e = absurd (false≢true e)
 any_found k s (Get j r q ∷ os) e = ⊎_elim
     (λ here. let p = and_parts (k == j) (s == q) here in (0, r, ap₂ (λ (a b : ℕ). Some (Get a r b)) (sym (eqb-true k j p.0)) (sym (eqb-true s q p.1))))
@@ -123,7 +124,12 @@ mark_at_put ws n k h going test = by_option (version ws (suc n) k)
 
 writes_still : (ws : List Work) (t : ℕ) (o : Op ℕ) (s k : ℕ) → (v : Work) × (at_ticket ws s ≡ Some v) × (is_some (last_write v.ops k) ≡ true) → (v : Work) × (at_ticket (with_op ws t o) s ≡ Some v) × (is_some (last_write v.ops k) ≡ true)
 writes_still ws t o s k h = ⊎_elim
-    (λ same. (add_op o h.0, subst (λ q. at_ticket (with_op ws t o) q ≡ Some (add_op o h.0)) (sym same) (at_edit_same (add_op o) ws t ∙ ap (option_map (add_op o)) (subst (λ q. at_ticket ws q ≡ Some h.0) same h.1)), ap is_some (last_write-push h.0.ops o k) ∙ either (write_of o k) (last_write h.0.ops k) h.2))
+    (λ same. (
+      add_op o h.0,
+      subst (λ q. at_ticket (with_op ws t o) q ≡ Some (add_op o h.0)) (sym same) (at_edit_same (add_op o) ws t ∙ ap (option_map (add_op o)) (subst (λ q. at_ticket ws q ≡ Some h.0) same h.1)),
+      ap is_some (last_write-push h.0.ops o k) ∙
+          either (write_of o k) (last_write h.0.ops k) h.2,
+    ))
     (λ other. (h.0, at_edit_other (add_op o) ws t s other ∙ h.1, h.2))
     (cases_eq s t)
   where

@@ -34,7 +34,7 @@ gone_since before now s h e = step (at_ticket before s) (at_ticket now s) (h.sam
     step (Some b) (Some n) o e = known (is_going b.fate) (is_going n.fate) e
 
 -- who doesn't go on can't fall
-fall_idle : (o : Option ℕ) (w : Work) → is_going w.fate ≡ false → fall o w ≡ w
+pub fall_idle : (o : Option ℕ) (w : Work) → is_going w.fate ≡ false → fall o w ≡ w
 fall_idle None w e = refl
 fall_idle (Some on) w e = ap (λ b. record w { fate = if b then Fell on else w.fate }) e
 

@@ -2,4 +2,3 @@ pub mod Chains
 pub mod Order
 pub mod OrderModel
 pub mod Works
-pub mod Writes

@@ -6,8 +6,9 @@ use Rattle.std.specs.declared.option.Option.{Option}
 use Rattle.std.specs.declared.option.Option.TheVariants.{None, Some}
 use Rattle.std.specs.Ordering.{nat_cmp}
 use Rattle.std.specs.FinMap as finite
-use Rattle.ob_order.specs.Works.{Op, Get, Put, Del, Work, Version, Going, edit, wait_for, stop_work, newest, source_of, mark, with_op, aborted}
+use Rattle.ob_order.specs.Works.{Get, Work, Version, Going, edit, wait_for, stop_work, newest, source_of, mark, with_op, aborted}
 pub use Rattle.ob_base.specs.declared.params.Params.{Params}
+pub use Rattle.ob_base.specs.Writes.{write_op}
 pub use Rattle.ob_order.specs.declared.answers.Read.{Read}
 pub use Rattle.ob_order.specs.declared.answers.Read.TheVariants.{Value as Found, Queued, Full as ReadsAreFull}
 pub use Rattle.ob_order.specs.declared.answers.Wrote.{Wrote}
@@ -97,11 +98,6 @@ is_other_written ws k j = not (j == k) && is_written ws j
 -- how many keys but k have a version of a transaction that isn't aborted
 abbrev pub other_keys : Params → OrderState → ℕ → ℕ
 other_keys p o k = count_below (is_other_written o.works k) p.keys
-
--- the operation that sets k to this
-abbrev pub write_op : ℕ → Option (List ℕ) → Op ℕ
-write_op k None = Del k
-write_op k (Some v) = Put k v
 
 -- a put or del by a ticket that goes on
 abbrev pub write_reply : Params → OrderState → ℕ → ℕ → Wrote

@@ -13,12 +13,6 @@ pub record OrderModel : Type 0 where
 abbrev pub bases_code : Coded (finite.FinMap nat_cmp (Option (List ℕ)))
 bases_code = finite.code coded_ℕ (coded_option (coded_list coded_ℕ))
 
--- there is room for a batch in flight, for all values of an epoch, and for those that may still come
-pub record HasRoom (places batches left flying bases flying_room bases_room : ℕ) : Type 0 where
-  pub flying_fits : places ≤ flying_room
-  pub bases_fit : places * batches ≤ bases_room
-  pub rest_fits : bases + flying + places * left ≤ bases_room
-
 -- no transaction that goes on has read from one that is gone, and the write batch has a place for each key with a version
 pub record IsKept (p : Params) (ws : List Work) : Type 0 where
   pub tidy : Tidy ws

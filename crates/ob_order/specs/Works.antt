@@ -180,10 +180,10 @@ abbrev pub last_writes : ℕ → List Work → List (ℕ × Option (List ℕ))
 last_writes keys ws = filter_map (λ k. option_map (λ v. (k, v.value)) (newest ws (length ws) k)) (range_with_len 0 keys)
 
 -- sources stand at or below their reader
-pub record Rises (ws : List Work) : Type 0 where
+pub record SourcesRise (ws : List Work) : Type 0 where
   pub at_each : (u : ℕ) (w : Work) → slice_get ws u ≡ Some w → is_going w.fate ≡ true → (i k : ℕ) (r : Option (List ℕ)) (s : ℕ) → slice_get w.ops i ≡ Some (Get k r s) → s ≤ suc u
 
 -- sources stand at or below their reader, and none of a transaction that goes on is gone
 pub record Tidy (ws : List Work) : Type 0 where
-  pub rises : Rises ws
+  pub rises : SourcesRise ws
   pub at_each : (u : ℕ) (w : Work) → slice_get ws u ≡ Some w → is_going w.fate ≡ true → (i k : ℕ) (r : Option (List ℕ)) (s : ℕ) → slice_get w.ops i ≡ Some (Get k r s) → is_gone ws s ≡ false

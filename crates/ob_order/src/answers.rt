@@ -1,3 +1,5 @@
+//! What a read and a write are answered.
+
 use ob_base::{Key, Value};
 
 /// A version of a key.

@@ -1,3 +1,5 @@
+//! How a transaction stands in the order.
+
 /// How a transaction stands.
 #[derive(Clone, Copy, Debug, PartialEq, Eq)]
 pub enum Fate {

@@ -2,12 +2,16 @@
 #![tactic(auto)]
 
 mod answers;
+mod batch;
 mod fate;
-pub mod plain;
+mod order;
+mod work;
 
 pub use answers::{Read, Version, Wrote};
+pub use batch::{fill, push_write};
 pub use fate::Fate;
-pub use plain::{Order, Work};
+pub use order::EpochOrder;
+pub use work::{Work, add_awaited, add_to, end_in, fall_in, fell_on, make_wait, set_waiting};
 
 #[cfg(test)]
 mod tests;

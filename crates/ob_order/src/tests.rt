@@ -1,167 +1,75 @@
-ghost use Rattle.std.specs.Prelude.{◌≡◌, ◌≤◌, ◌<◌, length};
-ghost use Rattle.ob_order.specs.Works as works;
+//! What goes into batches, and on whom a work falls.
 
-use crate::{Fate, Order, Read, Wrote};
-use ob_base::{Key, Memory, Params, Value};
+use crate::{Version, Work, add_to, end_in, fell_on, fill, push_write};
+use ob_base::{Key, Memory, Op, Value, Write};
 use std::alloc::Global;
 use std::test::Fail;
 
-fn is_live(order: &Order, t: u64) -> bool
-    ensures { result ≡ works.goes_on order.now.state.works t }
-{
-    t != 0 && matches!(order.fate(t), Some(Fate::Going))
-}
-
-// The calls, as far as the ticket isn't aborted.
-fn read(order: &mut Order, t: u64, key: Key) -> Result<Option<Read>, Memory> {
-    if !is_live(order, t) {
-        return Ok(None);
-    }
-    let read = order.read(t, key)?;
-    Ok(Some(read))
-}
-
-fn write(
-    order: &mut Order,
-    t: u64,
-    key: Key,
-    value: Option<Value>,
-) -> Result<Option<Wrote>, Memory> {
-    if !is_live(order, t) {
-        return Ok(None);
-    }
-    let wrote = order.write(t, key, value)?;
-    Ok(Some(wrote))
-}
-
-fn abort(order: &mut Order, t: u64) {
-    if is_live(order, t) {
-        order.abort(t);
-    }
-}
-
-// The poll of a ticket that isn't aborted and waits.
-fn again(order: &mut Order, t: u64) -> Option<Read> {
-    if !is_live(order, t) {
-        return None;
-    }
-    let key = order.waiting(t)?;
-    Some(order.again(t, key))
-}
-
-fn fate(order: &Order, t: u64) -> Option<Fate> {
-    if t == 0 { None } else { order.fate(t) }
-}
-
-// 8 keys, 2 read batches of 2 places, 2 write places, and so many transactions that have begun.
-fn order(alloc: Global, tickets: u64) -> Result<Option<Order>, Memory> {
-    let Ok(p) = Params::new(8, 2, 2, 3, 2, 2, 2, 2, 6) else {
-        return Ok(None);
+// Ticket t has read key 5 from the source.
+fn read_from(works: &mut Vec<Work>, t: usize, source: u64) -> Result<(), Memory> {
+    let op: Op<Key> = Op::Get {
+        key: 5,
+        reply: None,
+        source,
     };
-    let mut order = Order::new(alloc, &p, 2)?;
-    for _ in 0..tickets {
-        let _ticket = order.begin()?;
+    if t != 0 && t <= works.len() {
+        add_to(works, t, op)?;
     }
-    Ok(Some(order))
+    Ok(())
+}
+
+fn end(works: &mut Vec<Work>, t: usize) {
+    if t != 0 && t <= works.len() {
+        end_in(works, t);
+    }
+}
+
+#[test]
+fn the_first_keys_fill_a_batch(rt: HostRuntime) -> Result<(), Fail> {
+    let mut places = [None; 3];
+    fill(&mut places, &[4, 2]);
+    assert_eq!(rt; places, [Some(4), Some(2), None]);
+    Ok(())
 }
 
 fn seven() -> Option<Value> {
     Value::new(b"7")
 }
 
-// A batch is taken, and each of its keys is absent.
-#[tactic(auto, using(crate::proofs::Batches::taken_in_flight, crate::proofs::Batches::none_of_length))]
-fn round(order: &mut Order) {
-    let mut keys = [None; 2];
-    let values = [None; 2];
-    if order.left() == 0 || order.in_flight() != 0 || order.params().places != 2 {
-        return;
-    }
-    order.take_batch(&mut keys);
-    order.deliver(&keys, &values);
-}
-
-#[test]
-fn an_earlier_get_waits_for_its_batch(rt: HostRuntime) -> Result<(), Fail> {
-    let mut order = order(rt.alloc(), 2)?.expect(&rt, "parameters in range");
-    assert_eq!(rt; write(&mut order, 2, 5, seven())?, Some(Wrote::Yes));
-    assert_eq!(rt; read(&mut order, 1, 5)?, Some(Read::Queued));
-    assert_eq!(rt; again(&mut order, 1), Some(Read::Queued));
-    round(&mut order);
-    let value = None;
-    assert_eq!(rt;
-        again(&mut order, 1),
-        Some(Read::Value { value, source: 0 })
-    );
-    assert_eq!(rt; again(&mut order, 1), None);
-    Ok(())
-}
-
-#[test]
-fn an_abort_takes_its_reader(rt: HostRuntime) -> Result<(), Fail> {
-    let mut order = order(rt.alloc(), 2)?.expect(&rt, "parameters in range");
-    assert_eq!(rt; write(&mut order, 1, 5, seven())?, Some(Wrote::Yes));
+// The writes of key 4, which has no version, and of key 5, which has one.
+fn written(alloc: Global) -> Result<Vec<Write>, Memory> {
     let value = seven();
-    assert_eq!(rt;
-        read(&mut order, 2, 5)?,
-        Some(Read::Value { value, source: 1 })
-    );
-    abort(&mut order, 1);
-    assert_eq!(rt; fate(&order, 1), Some(Fate::Ended));
-    assert_eq!(rt; order.depends(2), Some(1));
-    Ok(())
+    let mut writes = Vec::with_capacity(alloc, 2)?;
+    push_write(&mut writes, 4, None);
+    push_write(&mut writes, 5, Some(Version { source: 1, value }));
+    Ok(writes)
 }
 
 #[test]
-fn a_write_below_a_later_reader_is_a_conflict(rt: HostRuntime) -> Result<(), Fail> {
-    let mut order = order(rt.alloc(), 3)?.expect(&rt, "parameters in range");
-    assert_eq!(rt; write(&mut order, 1, 5, seven())?, Some(Wrote::Yes));
+fn a_key_without_a_version_is_not_written(rt: HostRuntime) -> Result<(), Fail> {
+    let writes = written(rt.alloc())?;
     let value = seven();
-    assert_eq!(rt;
-        read(&mut order, 3, 5)?,
-        Some(Read::Value { value, source: 1 })
-    );
-    let conflict = Wrote::Conflict { key: 5, reader: 3 };
-    assert_eq!(rt; write(&mut order, 1, 5, seven())?, Some(conflict));
-    abort(&mut order, 1);
-    assert_eq!(rt; fate(&order, 2), Some(Fate::Going));
-    assert_eq!(rt; fate(&order, 3), Some(Fate::Fell { on: 1 }));
+    assert_eq!(rt; writes.len(), 1);
+    assert_eq!(rt; writes.get(0).copied(), Some(Write { key: 5, value }));
     Ok(())
 }
 
 #[test]
-fn a_third_key_has_no_write_place(rt: HostRuntime) -> Result<(), Fail> {
-    let mut order = order(rt.alloc(), 1)?.expect(&rt, "parameters in range");
-    assert_eq!(rt; write(&mut order, 1, 0, seven())?, Some(Wrote::Yes));
-    assert_eq!(rt; write(&mut order, 1, 1, seven())?, Some(Wrote::Yes));
-    assert_eq!(rt;
-        write(&mut order, 1, 2, seven())?,
-        Some(Wrote::Full { keys: 2 })
-    );
-    assert_eq!(rt; write(&mut order, 1, 0, None)?, Some(Wrote::Yes));
-    Ok(())
-}
-
-#[test]
-fn a_fifth_key_has_no_read_place(rt: HostRuntime) -> Result<(), Fail> {
-    let mut order = order(rt.alloc(), 6)?.expect(&rt, "parameters in range");
-    for key in 0..4 {
-        assert_eq!(rt;
-            read(&mut order, u64::from(key) + 1, key)?,
-            Some(Read::Queued)
-        );
+fn a_work_falls_on_its_least_source(rt: HostRuntime) -> Result<(), Fail> {
+    let mut works = Vec::new(rt.alloc());
+    for _ in 0..3 {
+        works.push(Work::new(rt.alloc()))?;
     }
-    assert_eq!(rt;
-        read(&mut order, 5, 4)?,
-        Some(Read::Full { queued: 4, left: 2 })
-    );
-    assert_eq!(rt; read(&mut order, 6, 3)?, Some(Read::Queued));
-    assert_eq!(rt; order.queued(), 4);
-    round(&mut order);
-    round(&mut order);
-    assert_eq!(rt;
-        read(&mut order, 6, 7)?,
-        Some(Read::Full { queued: 0, left: 0 })
-    );
+    read_from(&mut works, 3, 2)?;
+    read_from(&mut works, 3, 1)?;
+    end(&mut works, 2);
+    end(&mut works, 1);
+    assert_eq!(rt; works.len(), 3);
+    let on = if works.len() == 3 {
+        fell_on(&works, 2)
+    } else {
+        None
+    };
+    assert_eq!(rt; on, Some(1));
     Ok(())
 }

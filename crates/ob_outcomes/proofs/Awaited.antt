@@ -1,5 +1,6 @@
 -- What is queued has a place, and each key that is waited for is there, queued or in flight.
-use Rattle.std.proofs.Common.{◌≡◌, ℕ, zero, suc, ◌+◌, ◌-◌, ◌*◌, ◌<◌, ◌≤◌, Bool, true, false, cond, not, ◌&&◌, ◌||◌, ◌==◌, if◌then◌else◌, List, [], ◌∷◌, ◌++◌, length, map, take, drop, replicate, Option, None, Some, option_map, option_and_then, unwrap_or, slice_get, refl, sym, ap, ap₂, ◌∙◌, subst, inl, inr, ◌⊎◌, ⊎_elim, arith, nat_cmp, length-append, length-drop}
+use Rattle.std.proofs.Common.{◌≡◌, ℕ, zero, suc, ◌+◌, ◌-◌, ◌*◌, ◌<◌, ◌≤◌, Bool, true, false, cond, not, ◌&&◌, ◌||◌, ◌==◌, if◌then◌else◌, List, [], ◌∷◌, ◌++◌, length, map, take, drop, replicate, Option}
+use Rattle.std.proofs.Common.{None, Some, option_map, option_and_then, unwrap_or, slice_get, refl, sym, ap, ap₂, ◌∙◌, subst, inl, inr, ◌⊎◌, ⊎_elim, arith, nat_cmp, length-append, length-drop}
 use Rattle.std.specs.List.{list_any}
 use Rattle.std.specs.Option.{option_or}
 use Rattle.std.specs.FinMap as finite
@@ -134,7 +135,8 @@ awaited_queued o s k h = record {
       (λ same. by_option (at_ticket o.works s)
       (λ no. absurd (none-some j (sym (ap (λ x. option_and_then (λ (w : Work). w.waiting) (option_map (wait_for k) x)) no) ∙ (ap (option_and_then (λ (w : Work). w.waiting)) (sym (at_edit_same (wait_for k) o.works s)) ∙ subst (λ q. waiting_at (edit (wait_for k) o.works s) q ≡ Some j) same e))))
       (λ w is.
-      let here : k ≡ j = same_Some k j (sym (ap (λ x. option_and_then (λ (w : Work). w.waiting) (option_map (wait_for k) x)) is) ∙ (ap (option_and_then (λ (w : Work). w.waiting)) (sym (at_edit_same (wait_for k) o.works s)) ∙ subst (λ q. waiting_at (edit (wait_for k) o.works s) q ≡ Some j) same e)) in
+      let here : k ≡ j = same_Some k j (sym (ap (λ x. option_and_then (λ (w : Work). w.waiting) (option_map (wait_for k) x)) is) ∙
+      (ap (option_and_then (λ (w : Work). w.waiting)) (sym (at_edit_same (wait_for k) o.works s)) ∙ subst (λ q. waiting_at (edit (wait_for k) o.works s) q ≡ Some j) same e)) in
       subst (λ q. is_asked_for (asked o k) q ≡ true) here (asked_for_new o k)))
       (λ other. asked_before (ap (option_and_then (λ (w : Work). w.waiting)) (sym (at_edit_other (wait_for k) o.works s t other)) ∙ e))
       (cases_eq t s);

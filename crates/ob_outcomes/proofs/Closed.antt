@@ -9,18 +9,6 @@ use Rattle.ob_desk.specs.declared.clients.Holder.{Holder}
 use Rattle.ob_desk.specs.Desk.{Part, end_of, end_unasked, close_to, closing, asked_at, note_cause, txns_from}
 use Rattle.ob_outcomes.specs.Ends.{AllAsked, CloseLosesNone}
 
--- a close keeps the number
-closed_epoch : (part : Part) (n : ℕ) → (close_to part n).epoch ≡ part.epoch
-closed_epoch part zero = refl
-closed_epoch part (suc n) = step (goes_on (close_to part n).order.works (suc n) && not (asked_at (close_to part n) (suc n))) ∙ closed_epoch part n
-  where
-    step : (b : Bool) → (if b then end_of (close_to part n) (suc n) EpochEnd else close_to part n).epoch ≡ (close_to part n).epoch
-    step true = refl
-    step false = refl
-
-pub closing_epoch : (part : Part) → (closing part).epoch ≡ part.epoch
-closing_epoch part = closed_epoch part (length part.order.works)
-
 -- who asked isn't ended
 end_unasked_none : (part : Part) (t : ℕ) → (goes_on part.order.works t ≡ true → asked_at part t ≡ true) → end_unasked part t ≡ part
 end_unasked_none part t asked = step (goes_on part.order.works t) (asked_at part t) asked

@@ -7,7 +7,9 @@ use Rattle.ob_serial.specs.declared.records.Outcome.{Outcome}
 use Rattle.ob_serial.specs.declared.records.Outcome.TheVariants.{Committed, Aborted as AbortedBy, Unsure as UnsureOf}
 use Rattle.ob_serial.specs.declared.records.Why.TheVariants.{Stopped}
 use Rattle.ob_desk.specs.declared.clients.Client.{Client}
-use Rattle.ob_desk.specs.Desk.{Part, DeskState, Setup, new_desk, new_client, is_memory, stop_closed, stopped_by, stop_part, settle_client, settle, on_client, begin_client, sign_off_client, Call, Begin, GetKey, Poll, Write, Commit, Abort, Settled, Looks, SignOff, Stop, Unsure, IsStopped, TakeBatch, Deliver, Close, Publish, Reply, Begun, Refused, Value, Waits, Aborted, Done, IsSettled, Seen, StoppedBy, Batch, Writes, Published, DeskStep, MayCall}
+use Rattle.ob_desk.specs.Desk.{Part, DeskState, Setup, new_desk, new_client, is_memory, stop_closed, stopped_by, stop_part, settle_client, settle, on_client, begin_client, sign_off_client, Call, Begin}
+use Rattle.ob_desk.specs.Desk.{GetKey, Poll, Write, Commit, Abort, Settled, Looks, SignOff, Stop, Unsure, IsStopped, TakeBatch, Deliver, Close, Publish, Reply, Begun, Refused, Value, Waits, Aborted}
+use Rattle.ob_desk.specs.Desk.{Done, IsSettled, Seen, StoppedBy, Batch, Writes, Published, DeskStep, MayCall}
 use Rattle.ob_outcomes.proofs.Reached.{Kept, kept_new, kept_step}
 
 pub record Runs (setup : Setup) (clients : List ℕ) (d : DeskState) : Type 0 where

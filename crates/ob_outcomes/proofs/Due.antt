@@ -1,5 +1,6 @@
 -- Who still goes on at the end of an epoch has asked to commit.
-use Rattle.std.proofs.Common.{◌≡◌, ℕ, zero, suc, ◌+◌, ◌-◌, ◌*◌, ◌<◌, ◌≤◌, Bool, true, false, cond, not, ◌&&◌, ◌||◌, ◌==◌, List, [], ◌∷◌, ◌++◌, length, All, map, take, drop, replicate, Option, None, Some, option_map, unwrap_or, is_some, refl, sym, ap, ap₂, ◌∙◌, subst, ⊎_elim, arith, nat_cmp, add-one, drop_of_length-le}
+use Rattle.std.proofs.Common.{◌≡◌, ℕ, zero, suc, ◌+◌, ◌-◌, ◌*◌, ◌<◌, ◌≤◌, Bool, true, false, cond, not, ◌&&◌, ◌||◌, ◌==◌, List, [], ◌∷◌, ◌++◌, length, All, map, take, drop, replicate, Option, None}
+use Rattle.std.proofs.Common.{Some, option_map, unwrap_or, is_some, refl, sym, ap, ap₂, ◌∙◌, subst, ⊎_elim, arith, nat_cmp, add-one, drop_of_length-le}
 use Rattle.std.specs.Option.{is_none}
 use Rattle.std.specs.List.{count_by, range_with_len}
 use Rattle.std.proofs.lemmas.Bool.{cases_eq, cases_Bool, false≢true}

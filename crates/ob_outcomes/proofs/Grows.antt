@@ -6,13 +6,12 @@ use Rattle.std.proofs.lemmas.List.Folds.{list_any-append}
 use Rattle.std.proofs.lemmas.Option.{none-some, same_Some}
 use Rattle.ob_base.specs.declared.op.Op.{Op}
 use Rattle.ob_base.specs.declared.op.Op.TheVariants.{Get, Put, Del}
-use Rattle.ob_order.specs.declared.fate.Fate.{Fate}
-use Rattle.ob_order.specs.declared.fate.Fate.TheVariants.{Going, Ended, Fell}
-use Rattle.ob_order.specs.Works.{Work, is_going, at_ticket, edit, goes_on, fate_at, is_gone, has_get, has_read, is_get_of, add_op, with_op, end_work, Rises, aborted_since, least_of, source_in, least_source, fall, cascade, aborted}
+use Rattle.ob_order.specs.declared.fate.Fate.TheVariants.{Fell}
+use Rattle.ob_order.specs.Works.{Work, is_going, at_ticket, edit, goes_on, fate_at, is_gone, has_get, has_read, is_get_of, add_op, with_op, end_work, SourcesRise, aborted_since, least_of, source_in, least_source, fall, cascade, aborted}
 use Rattle.ob_order.specs.Order.{fresh}
 use Rattle.ob_order.proofs.Edits.{at_edit_same, at_edit_other, slice_get-push}
 use Rattle.ob_order.proofs.Newest.{by_option}
-use Rattle.ob_order.proofs.Falls.{Fallen, fallen_edit, fallen_then, fallen_ended, fallen_cascade, went_on_before, is_gone-edit}
+use Rattle.ob_order.proofs.Falls.{Fallen, fallen_edit, fallen_then, fallen_ended, fallen_cascade, went_on_before, is_gone-edit, fall_keeps, fall_stops}
 
 pub record Grows (ws vs : List Work) : Type 0 where
   pub reads : (k s t : ℕ) → has_read ws k s t ≡ true → has_read vs k s t ≡ true
@@ -151,20 +150,7 @@ any_at p [] i o e q = absurd (none-some o e)
 any_at p (x ∷ os) zero o e q = or_left (p x) (list_any p os) (ap p (same_Some x o e) ∙ q)
 any_at p (x ∷ os) (suc i) o e q = or_right (p x) (list_any p os) (any_at p os i o e q)
 
-fall_keeps : (o : Option ℕ) (w : Work) → (fall o w).ops ≡ w.ops
-fall_keeps None w = refl
-fall_keeps (Some on) w = refl
-
-fall_stops : (o : Option ℕ) (w : Work) → is_going (fall o w).fate ≡ true → is_going w.fate ≡ true
-fall_stops None w e = e
-fall_stops (Some on) w e = step w.fate e
-  where
-    step : (f : Fate) → is_going (if is_going f then Fell on else f) ≡ true → is_going f ≡ true
-    step Going e = refl
-    step Ended e = e
-    step (Fell s) e = e
-
-module _ (before now : List Work) (n : ℕ) (rises : Rises before) (fallen : Fallen before now) where
+module _ (before now : List Work) (n : ℕ) (rises : SourcesRise before) (fallen : Fallen before now) where
   abbrev mid : List Work
   mid = cascade before now n
 
@@ -226,10 +212,10 @@ module _ (before now : List Work) (n : ℕ) (rises : Rises before) (fallen : Fal
       (λ other. as_before t (ap (option_map (λ w. w.fate)) (at_edit_other falls mid (suc n) t other)) h)
       (cases_eq t (suc n))
 
-stands_cascade : (before now : List Work) (n t : ℕ) → Rises before → Fallen before now → Stands before now (cascade before now n) t
+stands_cascade : (before now : List Work) (n t : ℕ) → SourcesRise before → Fallen before now → Stands before now (cascade before now n) t
 stands_cascade before now zero t rises fallen = record { either = inl refl }
 stands_cascade before now (suc n) t rises fallen = stands_next before now n rises fallen t (stands_cascade before now n t rises fallen)
 
 -- how ticket t stands after ticket s was aborted
-pub stands_aborted : (ws : List Work) (s t : ℕ) → Rises ws → Stands ws (edit end_work ws s) (aborted ws s) t
+pub stands_aborted : (ws : List Work) (s t : ℕ) → SourcesRise ws → Stands ws (edit end_work ws s) (aborted ws s) t
 stands_aborted ws s t rises = stands_cascade ws (edit end_work ws s) (length ws) t rises (fallen_ended ws s)

@@ -1,22 +1,22 @@
 -- Who goes on is its client's last transaction and hasn't ended; and as long as it hasn't asked to commit its client is here.
-use Rattle.std.proofs.Common.{◌≡◌, ℕ, zero, suc, ◌<◌, Bool, true, false, cond, ◌==◌, if◌then◌else◌, List, [], ◌∷◌, ◌++◌, length, map, Option, None, Some, option_map, option_and_then, unwrap_or, is_some, slice_get, refl, sym, ap, ap₂, ◌∙◌, subst, ⊎_elim, arith, eqb-true}
+use Rattle.std.proofs.Common.{◌≡◌, ℕ, zero, suc, ◌<◌, Bool, true, false, ◌==◌, if◌then◌else◌, List, [], ◌∷◌, ◌++◌, length, map, Option, None, Some, option_map, option_and_then, unwrap_or, is_some, slice_get, refl, sym, ap, ap₂, ◌∙◌, subst, ⊎_elim, arith}
 use Rattle.std.specs.Option.{option_or}
 use Rattle.std.proofs.lemmas.Bool.{cases_eq, false≢true, ne_eqb, eq-eqb}
 use Rattle.std.proofs.lemmas.Option.{none-some, same_Some, slice_get_within}
 use Rattle.ob_serial.specs.declared.records.Why.{Why}
 use Rattle.ob_serial.specs.declared.records.Outcome.{Outcome}
 use Rattle.ob_serial.specs.declared.records.Outcome.TheVariants.{Aborted as AbortedBy}
-use Rattle.ob_order.specs.declared.fate.Fate.{Fate}
-use Rattle.ob_order.specs.declared.fate.Fate.TheVariants.{Going, Ended, Fell}
 use Rattle.ob_order.specs.Works.{Work, is_going, at_ticket, edit, goes_on, stop_work}
 use Rattle.ob_order.specs.Order.{fresh, after_begin}
-use Rattle.ob_desk.specs.declared.calls.Txn.{Txn as TxnId}
+use Rattle.ob_desk.specs.declared.calls.Txn.{Txn}
 use Rattle.ob_desk.specs.declared.clients.Holder.{Holder}
 use Rattle.ob_desk.specs.declared.clients.Client.{Client}
-use Rattle.ob_desk.specs.Desk.{DeskState, Part, Begin, SignOff, MayCall, client_in, outcome_at, outcome_in, why_of, why_at, cause_at, on_client, begin_client, sign_off_client, settle_client, settle, new_holder}
+use Rattle.ob_desk.specs.Desk.{DeskState, Part, Begin, SignOff, MayCall, client_in, outcome_at, outcome_in, why_at, on_client, begin_client, sign_off_client, settle_client, settle, new_holder}
+use Rattle.ob_desk.proofs.Answered.{going_why}
 use Rattle.ob_order.proofs.Edits.{at_edit_same, at_edit_other, slice_get-push}
 use Rattle.ob_order.proofs.Newest.{by_option}
 use Rattle.ob_order.proofs.Counts.{stopped_at}
+use Rattle.ob_session.proofs.Rolls.{client_number, client_in-map}
 
 -- this transaction's client has it as its last one, which hasn't ended
 pub record IsOpenAt (clients : List Client) (epoch t : ℕ) (h : Holder) : Type 0 where
@@ -45,7 +45,7 @@ held_fewer clients old new less h = record {
       record {
         client = o.client;
         found = ap (client_in clients) (sym b.2) ∙ o.found;
-        last = o.last ∙ ap₂ (λ c e. Some (let q : TxnId = record { client = c; epoch = e; ticket = t } in q)) b.2 (sym less.epoch);
+        last = o.last ∙ ap₂ (λ c e. Some (let q : Txn = record { client = c; epoch = e; ticket = t } in q)) b.2 (sym less.epoch);
         not_ended = o.not_ended;
         here = λ q. o.here (b.3 q);
       };
@@ -94,24 +94,6 @@ none_in_new (suc n) e = false≢true e
 
 -- ---- a client changes
 
--- the client that is found has the number
-pub client_number : (cs : List Client) (n : ℕ) (c : Client) → client_in cs n ≡ Some c → c.number ≡ n
-client_number [] n c e = absurd (none-some c e)
-client_number (x ∷ cs) n c e = step (x.number == n) refl (client_number cs n c) e
-  where
-    step : (b : Bool) → (x.number == n) ≡ b → (client_in cs n ≡ Some c → c.number ≡ n) → cond b (Some x) (client_in cs n) ≡ Some c → c.number ≡ n
-    step true is rest q = ap (λ y. y.number) (sym (same_Some x c q)) ∙ eqb-true x.number n is
-    step false is rest q = rest q
-
--- a change of every client that keeps its number
-pub client_mapped : (f : Client → Client) → ((c : Client) → (f c).number ≡ c.number) → (cs : List Client) (n : ℕ) → client_in (map f cs) n ≡ option_map f (client_in cs n)
-client_mapped f keeps [] n = refl
-client_mapped f keeps (x ∷ cs) n = ap (λ b. cond b (Some (f x)) (client_in (map f cs) n)) (ap (λ k. k == n) (keeps x)) ∙ (ap (λ o. cond (x.number == n) (Some (f x)) o) (client_mapped f keeps cs n) ∙ step (x.number == n))
-  where
-    step : (b : Bool) → cond b (Some (f x)) (option_map f (client_in cs n)) ≡ option_map f (cond b (Some x) (client_in cs n))
-    step true = refl
-    step false = refl
-
 -- the change of one client
 abbrev changes : (Client → Client) → ℕ → Client → Client
 changes f number c = if c.number == number then f c else c
@@ -124,24 +106,11 @@ changes_keeps f keeps number c = step (c.number == number)
     step false = refl
 
 pub client_changed : (f : Client → Client) → ((c : Client) → (f c).number ≡ c.number) → (cs : List Client) (n : ℕ) (c : Client) → client_in cs n ≡ Some c → client_in (on_client f cs n) n ≡ Some (f c)
-client_changed f keeps cs n c e = client_mapped (changes f n) (changes_keeps f keeps n) cs n ∙ (ap (option_map (changes f n)) e ∙ ap (λ b. Some (if b then f c else c)) (eq-eqb c.number n (client_number cs n c e)))
+client_changed f keeps cs n c e = client_in-map (changes f n) (changes_keeps f keeps n) cs n ∙ (ap (option_map (changes f n)) e ∙ ap (λ b. Some (if b then f c else c)) (eq-eqb c.number n (client_number cs n c e)))
 
 pub client_unchanged : (f : Client → Client) → ((c : Client) → (f c).number ≡ c.number) → (cs : List Client) (number n : ℕ) (c : Client) → (n ≡ number → ⊥) → client_in cs n ≡ Some c → client_in (on_client f cs number) n ≡ Some c
-client_unchanged f keeps cs number n c other e = client_mapped (changes f number) (changes_keeps f keeps number) cs n ∙ (ap (option_map (changes f number)) e
+client_unchanged f keeps cs number n c other e = client_in-map (changes f number) (changes_keeps f keeps number) cs n ∙ (ap (option_map (changes f number)) e
     ∙ ap (λ b. Some (if b then f c else c)) (ne_eqb c.number number (λ same. other (sym (client_number cs n c e) ∙ same))))
-
--- who goes on wasn't aborted
-pub going_why : (part : Part) (t : ℕ) → goes_on part.order.works t ≡ true → why_at part t ≡ None
-going_why part t e = step (at_ticket part.order.works t) e
-  where
-    by_fate : (f : Fate) → is_going f ≡ true → why_of f (cause_at part.holders t) ≡ None
-    by_fate Going e = refl
-    by_fate Ended e = absurd (false≢true e)
-    by_fate (Fell on) e = absurd (false≢true e)
-
-    step : (o : Option Work) → unwrap_or (option_map (λ w. is_going w.fate) o) false ≡ true → option_and_then (λ f. why_of f (cause_at part.holders t)) (option_map (λ w. w.fate) o) ≡ None
-    step None e = refl
-    step (Some w) e = by_fate w.fate e
 
 -- an open transaction of the running part has no outcome
 open_outcome : (d : DeskState) (t : ℕ) (h : Holder) → goes_on d.running.order.works t ≡ true → IsOpenAt d.clients d.running.epoch t h
@@ -162,7 +131,7 @@ pub held_begun : (d : DeskState) (client : ℕ) → MayCall d (Begin client) →
     → Held (on_client (begin_client (record { client = client; epoch = d.running.epoch; ticket = suc (length d.running.order.works) })) d.clients client) (record d.running { order = after_begin d.running.order; holders = d.running.holders ++ new_holder client ∷ [] })
 held_begun d client may even held = record { at_each = at_each }
   where
-    x : TxnId
+    x : Txn
     x = record { client = client; epoch = d.running.epoch; ticket = suc (length d.running.order.works) }
 
     older : (t : ℕ) (h : Holder) → at_ticket d.running.holders t ≡ Some h → goes_on d.running.order.works t ≡ true → IsOpenAt (on_client (begin_client x) d.clients client) d.running.epoch t h
@@ -193,7 +162,7 @@ held_begun d client may even held = record { at_each = at_each }
         subst (λ q. IsOpenAt (on_client (begin_client x) d.clients client) d.running.epoch (suc n) q) is (record {
           client = begin_client x may.0.client;
           found = client_changed (begin_client x) (λ c. refl) d.clients client may.0.client may.0.found;
-          last = ap (λ k. Some (let q : TxnId = record { client = client; epoch = d.running.epoch; ticket = suc k } in q)) (sym at);
+          last = ap (λ k. Some (let q : Txn = record { client = client; epoch = d.running.epoch; ticket = suc k } in q)) (sym at);
           not_ended = refl;
           here = λ q. may.0.not_signed_off;
         }))
@@ -230,11 +199,11 @@ held_settled clients part closed otherwise below held = record {
   at_each = λ t h there going.
       let o = held.at_each t h there going in
       let none : option_or (option_and_then (λ x. if x.epoch == closed.epoch then Some (outcome_in closed otherwise x.ticket) else None) o.client.last) o.client.outcome ≡ None =
-      ap₂ (λ (l : Option TxnId) (q : Option (Outcome ℕ)). option_or (option_and_then (λ x. if x.epoch == closed.epoch then Some (outcome_in closed otherwise x.ticket) else None) l) q) o.last o.not_ended
+      ap₂ (λ (l : Option Txn) (q : Option (Outcome ℕ)). option_or (option_and_then (λ x. if x.epoch == closed.epoch then Some (outcome_in closed otherwise x.ticket) else None) l) q) o.last o.not_ended
       ∙ ap (λ b. option_or (if b then Some (outcome_in closed otherwise t) else None) None) (ne_eqb part.epoch closed.epoch (λ e. omega arith)) in
       record {
         client = settle_client closed otherwise o.client;
-        found = client_mapped (settle_client closed otherwise) (λ c. refl) clients h.client ∙ ap (option_map (settle_client closed otherwise)) o.found;
+        found = client_in-map (settle_client closed otherwise) (λ c. refl) clients h.client ∙ ap (option_map (settle_client closed otherwise)) o.found;
         last = o.last;
         not_ended = none;
         here = o.here;

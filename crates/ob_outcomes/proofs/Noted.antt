@@ -13,13 +13,14 @@ use Rattle.ob_order.specs.declared.answers.Wrote.TheVariants.{Yes, Conflict as C
 use Rattle.ob_order.specs.Works.{Work, is_going, is_gone, has_get, has_read, newest, source_of, greatest, Tidy}
 use Rattle.ob_order.specs.Order.{OrderState, answer, found, is_asked_for, read_reply, covered_mark, other_keys, write_reply}
 use Rattle.ob_order.proofs.Newest.{by_option, newest_found}
+use Rattle.ob_order.proofs.Links.{any_found}
 use Rattle.ob_desk.specs.declared.clients.Holder.{Holder}
 use Rattle.ob_desk.specs.Desk.{Part, Setup, new_desk, record_of, why_of, why_refused}
 use Rattle.ob_outcomes.specs.Shown.{SourcesStand, IsWhy, IsOutcome, OutcomesAreShown}
 use Rattle.ob_outcomes.proofs.Grows.{Grows, HasLost, lost_grows}
 use Rattle.ob_outcomes.proofs.Desks.{runs_new}
 use Rattle.ob_outcomes.proofs.Told.{IsTale, Sound, good_new, told_all}
-use Rattle.ob_outcomes.proofs.Records.{place_of, contains_at, got_at, made, record_all, reader_of, gone_in, going_in, why_told, why_none}
+use Rattle.ob_outcomes.proofs.Records.{place_of, contains_at, made, record_all, reader_of, gone_in, going_in, why_told, why_none}
 
 -- a later ticket has read the key from a source at or below t
 pub record HasReader (ws : List Work) (t key reader : ℕ) : Type 0 where
@@ -131,7 +132,7 @@ why_shown p part n w h even at (Conflict key reader) noted =
     record { later = noted.later; txn = r.txn; there = r.there; named = r.named; source = noted.source; at_or_below = noted.at_or_below; got = (r.reply, r.got) }
 why_shown p part n w h even at (Depends on) noted =
     let g = gone_in part on even noted.gone in
-    let r = got_at noted.key on w.ops (sym (ap (λ o. unwrap_or (option_map (λ x. has_get x.ops noted.key on) o) false) at) ∙ noted.read) in
+    let r = any_found noted.key on w.ops (sym (ap (λ o. unwrap_or (option_map (λ x. has_get x.ops noted.key on) o) false) at) ∙ noted.read) in
     record { earlier = noted.earlier; key = noted.key; got = (r.1, contains_at w.ops r.0 (Get noted.key r.1 on) r.2); txn = g.txn; there = g.there; named = g.named; not_committed = g.stands }
 why_shown p part n w h even at (ReadsFull queued left) noted = noted
 why_shown p part n w h even at (WritesFull keys) noted = noted

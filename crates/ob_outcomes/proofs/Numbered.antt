@@ -7,13 +7,15 @@ use Rattle.std.proofs.lemmas.List.Elements.{All-weaker}
 use Rattle.std.proofs.lemmas.List.FromFn.{length-range_with_len, get_or-range_with_len}
 use Rattle.std.proofs.lemmas.Option.{none-some, same_Some}
 use Rattle.ob_base.specs.declared.fault.Fault.{Fault}
-use Rattle.ob_serial.specs.Serial.{Txn, EpochRecord}
+use Rattle.ob_serial.specs.Serial.{TxnRecord, EpochRecord}
 use Rattle.ob_order.specs.Works.{Work}
 use Rattle.ob_desk.specs.declared.clients.Holder.{Holder}
-use Rattle.ob_desk.specs.Desk.{Part, DeskState, Setup, new_desk, is_memory, stop_closed, stopped_by, stop_part, closing, txns_from, published, records_told, Call, Begin, GetKey, Poll, Write, Commit, Abort, Settled, Looks, SignOff, Stop, Unsure, IsStopped, TakeBatch, Deliver, Close, Publish, Reply, Begun, Refused, Value, Waits, Aborted, Done, IsSettled, Seen, StoppedBy, Batch, Writes, Published, DeskStep, MayCall}
+use Rattle.ob_desk.specs.Desk.{Part, DeskState, Setup, new_desk, is_memory, stop_closed, stopped_by, stop_part, closing, txns_from, published, records_told, Call, Begin, GetKey, Poll, Write, Commit}
+use Rattle.ob_desk.specs.Desk.{Abort, Settled, Looks, SignOff, Stop, Unsure, IsStopped, TakeBatch, Deliver, Close, Publish, Reply, Begun, Refused, Value, Waits, Aborted, Done, IsSettled, Seen}
+use Rattle.ob_desk.specs.Desk.{StoppedBy, Batch, Writes, Published, DeskStep, MayCall}
+use Rattle.ob_desk.proofs.Ends.{closing-epoch}
 use Rattle.ob_session.specs.Steps.{Leads}
 use Rattle.ob_outcomes.specs.Shown.{RecordsAreNumbered}
-use Rattle.ob_outcomes.proofs.Closed.{closing_epoch}
 use Rattle.ob_outcomes.proofs.Desks.{never_none, runs_new}
 use Rattle.ob_outcomes.proofs.Records.{txns_all}
 use Rattle.ob_outcomes.proofs.Told.{good_new, told_all}
@@ -90,8 +92,8 @@ moves_step d TakeBatch (Batch keys) new may step = quiet d new _ step.state refl
 moves_step d (Deliver keys values) Done new may step = quiet d new _ step.state refl refl refl
 moves_step d Close (Writes writes) new may step = subst (Moves d []) (sym step.state) (record {
   over = λ o. absurd (o.stopped may.3);
-  follows = λ f. record { at_each = λ part is. ap (λ (p : Part). suc p.epoch) (sym (same_Some (closing d.running) part is)) ∙ ap suc (closing_epoch d.running) };
-  counts = λ f. inl (refl, inl (closing_epoch d.running ∙ sym (ap (λ c. unwrap_or (option_map (λ (p : Part). p.epoch) c) d.running.epoch) may.0)));
+  follows = λ f. record { at_each = λ part is. ap (λ (p : Part). suc p.epoch) (sym (same_Some (closing d.running) part is)) ∙ ap suc (closing-epoch d.running) };
+  counts = λ f. inl (refl, inl (closing-epoch d.running ∙ sym (ap (λ c. unwrap_or (option_map (λ (p : Part). p.epoch) c) d.running.epoch) may.0)));
 })
 moves_step d (Publish epoch left) (Published told) new may step = subst (Moves d (told ∷ [])) (sym step.state) (record {
   over = λ o. absurd (none-some step.part (sym o.none_closed ∙ step.is_closed));
@@ -130,20 +132,20 @@ in_a_row d (step ∷ steps) new run f =
 
 -- ---- tickets
 
-tickets_from : (epoch t : ℕ) (ws : List Work) (hs : List Holder) → map (λ (x : Txn ℕ). x.ticket) (txns_from epoch t ws hs) ≡ range_with_len t (length (txns_from epoch t ws hs))
+tickets_from : (epoch t : ℕ) (ws : List Work) (hs : List Holder) → map (λ (x : TxnRecord ℕ). x.ticket) (txns_from epoch t ws hs) ≡ range_with_len t (length (txns_from epoch t ws hs))
 tickets_from epoch t [] hs = refl
 tickets_from epoch t (w ∷ ws) [] = refl
 tickets_from epoch t (w ∷ ws) (h ∷ hs) = ap (λ ts. t ∷ ts) (tickets_from epoch (suc t) ws hs ∙ ap (λ k. range_with_len k (length (txns_from epoch (suc t) ws hs))) (sym (add-one t)))
 
 -- a record's tickets are in a row from 1, and its transactions have its epoch
 record IsNamed (r : EpochRecord ℕ) : Type 0 where
-  tickets : map (λ (x : Txn ℕ). x.ticket) r.txns ≡ range_with_len 1 (length r.txns)
-  named : All (λ (x : Txn ℕ). x.epoch ≡ r.epoch) r.txns
+  tickets : map (λ (x : TxnRecord ℕ). x.ticket) r.txns ≡ range_with_len 1 (length r.txns)
+  named : All (λ (x : TxnRecord ℕ). x.epoch ≡ r.epoch) r.txns
 
 all_named : (setup : Setup) (epoch left : ℕ) (clients : List ℕ) (steps : List (Call × Reply)) (d : DeskState) → Leads (new_desk setup epoch left clients) steps d → All IsNamed (published steps)
 all_named setup epoch left clients steps d run =
     told_all (IsNoted setup.params) (λ ws. Unit {0}) setup clients (noted_tale setup clients) IsNamed
-    (λ part sound. record { tickets = tickets_from part.epoch 1 part.order.works part.holders; named = txns_all (λ (x : Txn ℕ). x.epoch ≡ part.epoch) part.epoch 1 part.order.works part.holders (λ n w h a b. refl) })
+    (λ part sound. record { tickets = tickets_from part.epoch 1 part.order.works part.holders; named = txns_all (λ (x : TxnRecord ℕ). x.epoch ≡ part.epoch) part.epoch 1 part.order.works part.holders (λ n w h a b. refl) })
     (new_desk setup epoch left clients) steps d run (runs_new setup epoch left clients) (good_new (IsNoted setup.params) (λ ws. Unit {0}) setup clients (noted_tale setup clients) epoch left)
 
 -- a row rises
@@ -160,10 +162,10 @@ records_are_numbered setup epoch left clients steps d may run =
     let row : InARow epoch (published steps) = in_a_row (new_desk setup epoch left clients) steps d run (record { at_each = λ part is. absurd (none-some part is) }) in
     record {
       epochs = row;
-      tickets = All-weaker IsNamed (λ r. map (λ (x : Txn ℕ). x.ticket) r.txns ≡ range_with_len 1 (length r.txns)) (λ r n. n.tickets) (published steps) named;
+      tickets = All-weaker IsNamed (λ r. map (λ (x : TxnRecord ℕ). x.ticket) r.txns ≡ range_with_len 1 (length r.txns)) (λ r n. n.tickets) (published steps) named;
       in_order = record {
         epochs = subst IsStrictlyIncreasing (sym row) (row_rises epoch (length (published steps)));
-        tickets = All-weaker IsNamed (λ r. IsStrictlyIncreasing (map (λ (x : Txn ℕ). x.ticket) r.txns)) (λ r n. subst IsStrictlyIncreasing (sym n.tickets) (row_rises 1 (length r.txns))) (published steps) named;
-        named = All-weaker IsNamed (λ r. All (λ (x : Txn ℕ). x.epoch ≡ r.epoch) r.txns) (λ r n. n.named) (published steps) named;
+        tickets = All-weaker IsNamed (λ r. IsStrictlyIncreasing (map (λ (x : TxnRecord ℕ). x.ticket) r.txns)) (λ r n. subst IsStrictlyIncreasing (sym n.tickets) (row_rises 1 (length r.txns))) (published steps) named;
+        named = All-weaker IsNamed (λ r. All (λ (x : TxnRecord ℕ). x.epoch ≡ r.epoch) r.txns) (λ r n. n.named) (published steps) named;
       };
     }

@@ -13,12 +13,14 @@ use Rattle.ob_order.specs.Works.{stop_work, wait_for, add_op, with_op, aborted, 
 use Rattle.ob_order.specs.Order.{fresh, after_begin, after_queued, after_take, after_deliver, write_op}
 use Rattle.ob_order.proofs.Edits.{length-edit}
 use Rattle.ob_order.proofs.Falls.{goes_on-edit, fallen_aborted, length-aborted}
-use Rattle.ob_desk.specs.declared.calls.Txn.{Txn as TxnId}
-use Rattle.ob_desk.specs.Desk.{Part, DeskState, Setup, new_desk, is_memory, stop_closed, stopped_by, end_of, closing, stop_part, stop_holder, with_order, with_holder, on_client, begin_client, note_cause, note_asked, new_holder, Call, Begin, GetKey, Poll, Write, Commit, Abort, Settled, Looks, SignOff, Stop, Unsure, IsStopped, TakeBatch, Deliver, Close, Publish, Reply, Begun, Refused, Value, Waits, Aborted, Done, IsSettled, Seen, StoppedBy, Batch, Writes, Published, DeskStep, MayCall}
+use Rattle.ob_desk.specs.declared.calls.Txn.{Txn}
+use Rattle.ob_desk.specs.Desk.{Part, DeskState, Setup, new_desk, is_memory, stop_closed, stopped_by, end_of, closing, stop_part, stop_holder, with_order, with_holder, on_client, begin_client}
+use Rattle.ob_desk.specs.Desk.{note_cause, note_asked, new_holder, Call, Begin, GetKey, Poll, Write, Commit, Abort, Settled, Looks, SignOff, Stop, Unsure, IsStopped, TakeBatch, Deliver, Close, Publish}
+use Rattle.ob_desk.specs.Desk.{Reply, Begun, Refused, Value, Waits, Aborted, Done, IsSettled, Seen, StoppedBy, Batch, Writes, Published, DeskStep, MayCall}
+use Rattle.ob_desk.proofs.Ends.{closing-epoch}
 use Rattle.ob_session.specs.Steps.{Leads}
 use Rattle.ob_outcomes.proofs.Awaited.{Awaited, Fits, awaited_new, fits_new, awaited_works, none_waits_op, none_waits_aborted, none_waits_begun, none_waits_stopped, awaited_queued, fits_queued, fits_taken, awaited_taken, awaited_delivered}
 use Rattle.ob_outcomes.proofs.Held.{Held, held_fewer, fewer_works, fewer_edit, none_goes_on, held_none, none_in_new, held_begun, held_signed_off, held_settled}
-use Rattle.ob_outcomes.proofs.Closed.{closing_epoch}
 
 pub record Kept (d : DeskState) : Type 0 where
   pub fits : Fits d.setup.params.places d.running.order
@@ -96,7 +98,7 @@ stopped d f h = step (is_memory f)
     step false = halted d _ f refl refl (λ c is. absurd (none-some c is)) h
 
 -- a desk where this transaction of the client has begun
-abbrev begun : DeskState → ℕ → TxnId → DeskState
+abbrev begun : DeskState → ℕ → Txn → DeskState
 begun d client x = record d {
   running = record d.running { order = after_begin d.running.order; holders = d.running.holders ++ new_holder client ∷ [] };
   clients = on_client (begin_client x) d.clients client;
@@ -106,7 +108,7 @@ no_longer : true ≡ false → ⊥
 no_longer e = false≢true (sym e)
 
 pub kept_step : (d : DeskState) (call : Call) (reply : Reply) (new : DeskState) → MayCall d call → DeskStep d call reply new → Kept d → Kept new
-kept_step d (Begin client) (Begun x) new may step h = subst Kept (sym step.state) (subst (λ (q : TxnId). Kept (begun d client q)) (sym step.next) (record {
+kept_step d (Begin client) (Begun x) new may step h = subst Kept (sym step.state) (subst (λ (q : Txn). Kept (begun d client q)) (sym step.next) (record {
   fits = record { few = h.fits.few };
   awaited = awaited_works d.running.order (d.running.order.works ++ fresh ∷ []) (none_waits_begun d.running.order.works) h.awaited;
   even = length-append d.running.holders (new_holder client ∷ []) ∙ (ap (λ q. q + 1) h.even ∙ sym (length-append d.running.order.works (fresh ∷ [])));
@@ -154,7 +156,7 @@ kept_step d Close (Writes writes) new may step h = subst Kept (sym step.state) (
   awaited = awaited_new d.setup.params.batches;
   even = refl;
   held = held_none _ _ none_in_new;
-  below = λ c is. let e = ap (λ (p : Part). p.epoch) (sym (same_Some (closing d.running) c is)) ∙ closing_epoch d.running in omega (arith, e);
+  below = λ c is. let e = ap (λ (p : Part). p.epoch) (sym (same_Some (closing d.running) c is)) ∙ closing-epoch d.running in omega (arith, e);
 })
 kept_step d (Publish epoch left) (Published told) new may step h = subst Kept (sym step.state) (record {
   fits = h.fits;

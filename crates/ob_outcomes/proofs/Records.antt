@@ -1,17 +1,18 @@
 -- A record and the part that it tells of.
-use Rattle.std.proofs.Common.{◌≡◌, ℕ, zero, suc, ◌+◌, Bool, true, false, not, ◌&&◌, ◌==◌, List, [], ◌∷◌, length, All, Contains, Option, None, Some, option_map, option_and_then, unwrap_or, slice_get, refl, sym, ap, ap₂, ◌∙◌, subst, ⊎_elim, arith, eqb-true}
-use Rattle.std.proofs.lemmas.Bool.{false≢true, and_parts, or_cases}
+use Rattle.std.proofs.Common.{◌≡◌, ℕ, zero, suc, ◌+◌, Bool, true, false, not, List, [], ◌∷◌, length, All, Contains, Option, None, Some, option_map, option_and_then, unwrap_or, slice_get, refl, sym, ap, ap₂, ◌∙◌, subst, arith}
+use Rattle.std.proofs.lemmas.Bool.{false≢true}
 use Rattle.std.proofs.lemmas.List.Elements.{All-nil, All-cons, Contains-get_or, at_from_Contains}
 use Rattle.std.proofs.lemmas.Option.{none-some, same_Some, slice_get_within, get_or_from_slice_get, slice_get-get_or}
 use Rattle.ob_base.specs.declared.op.Op.{Op}
-use Rattle.ob_base.specs.declared.op.Op.TheVariants.{Get, Put, Del}
-use Rattle.ob_serial.specs.Serial.{Txn, is_committed}
+use Rattle.ob_base.specs.declared.op.Op.TheVariants.{Get}
+use Rattle.ob_serial.specs.Serial.{TxnRecord, is_committed}
 use Rattle.ob_serial.specs.declared.records.Why.{Why}
 use Rattle.ob_serial.specs.declared.records.Outcome.TheVariants.{Committed, Aborted as AbortedBy}
 use Rattle.ob_order.specs.declared.fate.Fate.{Fate}
 use Rattle.ob_order.specs.declared.fate.Fate.TheVariants.{Going, Ended, Fell}
 use Rattle.ob_order.specs.Works.{Work, is_going, is_gone, has_get, has_read}
 use Rattle.ob_order.proofs.Newest.{by_option}
+use Rattle.ob_order.proofs.Links.{any_found}
 use Rattle.ob_desk.specs.declared.clients.Holder.{Holder}
 use Rattle.ob_desk.specs.Desk.{Part, txns_from, record_of, why_of, why_at}
 
@@ -23,20 +24,10 @@ contains_at xs i x e = subst (Contains xs) (get_or_from_slice_get xs i x x e) (C
 pub place_of : {X : Type 0} (xs : List X) (x : X) → Contains xs x → (i : ℕ) × (slice_get xs i ≡ Some x)
 place_of xs x c = let at = at_from_Contains xs x c in (at.0, slice_get-get_or xs at.0 x at.1 ∙ ap Some (at.2 x))
 
--- a Get that a test finds
-pub got_at : (k s : ℕ) (os : List (Op ℕ)) → has_get os k s ≡ true → (i : ℕ) × (r : Option (List ℕ)) × (slice_get os i ≡ Some (Get k r s))
-got_at k s [] e = absurd (false≢true e)
-got_at k s (Get j r q ∷ os) e = ⊎_elim
-    (λ here. let p = and_parts (k == j) (s == q) here in (0, r, ap₂ (λ (a b : ℕ). Some (Get a r b)) (sym (eqb-true k j p.0)) (sym (eqb-true s q p.1))))
-    (λ later. let f = got_at k s os later in (suc f.0, f.1, f.2))
-    (or_cases ((k == j) && (s == q)) (has_get os k s) e)
-got_at k s (Put j v ∷ os) e = let f = got_at k s os e in (suc f.0, f.1, f.2)
-got_at k s (Del j ∷ os) e = let f = got_at k s os e in (suc f.0, f.1, f.2)
-
 -- ---- transactions
 
 -- what is told of a transaction
-abbrev pub made : ℕ → ℕ → Work → Holder → Txn ℕ
+abbrev pub made : ℕ → ℕ → Work → Holder → TxnRecord ℕ
 made epoch t w h = record { epoch = epoch; ticket = t; client = h.client; ops = w.ops; outcome = unwrap_or (option_map AbortedBy (why_of w.fate h.cause)) Committed }
 
 pub txn_there : (epoch t : ℕ) (ws : List Work) (hs : List Holder) (n : ℕ) (w : Work) → length hs ≡ length ws → slice_get ws n ≡ Some w
@@ -48,7 +39,7 @@ txn_there epoch t (v ∷ ws) (h ∷ hs) (suc n) w e there =
     let rest = txn_there epoch (suc t) ws hs n w (omega arith) there in
     (rest.0, rest.1, rest.2 ∙ ap (λ u. Some (made epoch u w rest.0)) (let u : suc t + n ≡ t + suc n = omega arith in u))
 
-pub txns_all : (R : Txn ℕ → Type 0) (epoch t : ℕ) (ws : List Work) (hs : List Holder)
+pub txns_all : (R : TxnRecord ℕ → Type 0) (epoch t : ℕ) (ws : List Work) (hs : List Holder)
     → ((n : ℕ) (w : Work) (h : Holder) → slice_get ws n ≡ Some w → slice_get hs n ≡ Some h → R (made epoch (t + n) w h)) → All R (txns_from epoch t ws hs)
 txns_all R epoch t [] hs each = All-nil R
 txns_all R epoch t (w ∷ ws) [] each = All-nil R
@@ -57,13 +48,13 @@ txns_all R epoch t (w ∷ ws) (h ∷ hs) each = All-cons R (made epoch t w h) (t
     (txns_all R epoch (suc t) ws hs (λ n v g at_work at_holder. subst (λ u. R (made epoch u v g)) (let u : t + suc n ≡ suc t + n = omega arith in u) (each (suc n) v g at_work at_holder)))
 
 -- of each transaction of a part's record
-pub record_all : (R : Txn ℕ → Type 0) (part : Part)
+pub record_all : (R : TxnRecord ℕ → Type 0) (part : Part)
     → ((n : ℕ) (w : Work) (h : Holder) → slice_get part.order.works n ≡ Some w → slice_get part.holders n ≡ Some h → R (made part.epoch (suc n) w h)) → All R (record_of part).txns
 record_all R part each = txns_all R part.epoch 1 part.order.works part.holders (λ n w h at_work at_holder. subst (λ u. R (made part.epoch u w h)) (let u : suc n ≡ 1 + n = omega arith in u) (each n w h at_work at_holder))
 
 -- the transaction of a work's ticket
 pub record TxnOf (part : Part) (n : ℕ) (w : Work) : Type 0 where
-  pub txn : Txn ℕ
+  pub txn : TxnRecord ℕ
   pub there : Contains (record_of part).txns txn
   pub named : txn.ticket ≡ suc n
   pub ops : txn.ops ≡ w.ops
@@ -72,7 +63,7 @@ pub record TxnOf (part : Part) (n : ℕ) (w : Work) : Type 0 where
 committed_going : (epoch t : ℕ) (w : Work) (h : Holder) → is_committed (made epoch t w h) ≡ is_going w.fate
 committed_going epoch t w h = step w.fate
   where
-    step : (f : Fate) → is_committed (let x : Txn ℕ = record { epoch = epoch; ticket = t; client = h.client; ops = w.ops; outcome = unwrap_or (option_map AbortedBy (why_of f h.cause)) Committed } in x) ≡ is_going f
+    step : (f : Fate) → is_committed (let x : TxnRecord ℕ = record { epoch = epoch; ticket = t; client = h.client; ops = w.ops; outcome = unwrap_or (option_map AbortedBy (why_of f h.cause)) Committed } in x) ≡ is_going f
     step Going = refl
     step Ended = refl
     step (Fell on) = refl
@@ -92,7 +83,7 @@ txn_of_work part n w even there =
 
 -- ticket t has read the key from there
 pub record ReaderOf (part : Part) (key source t : ℕ) : Type 0 where
-  pub txn : Txn ℕ
+  pub txn : TxnRecord ℕ
   pub there : Contains (record_of part).txns txn
   pub named : txn.ticket ≡ t
   pub reply : Option (List ℕ)
@@ -104,7 +95,7 @@ reader_of part key source (suc n) even e = by_option (slice_get part.order.works
     (λ none. absurd (false≢true (sym (ap (λ o. unwrap_or (option_map (λ w. has_get w.ops key source) o) false) none) ∙ e)))
     (λ w is.
     let x = txn_of_work part n w even is in
-    let g = got_at key source w.ops (sym (ap (λ o. unwrap_or (option_map (λ w. has_get w.ops key source) o) false) is) ∙ e) in
+    let g = any_found key source w.ops (sym (ap (λ o. unwrap_or (option_map (λ w. has_get w.ops key source) o) false) is) ∙ e) in
     record {
       txn = x.txn;
       there = x.there;
@@ -115,7 +106,7 @@ reader_of part key source (suc n) even e = by_option (slice_get part.order.works
 
 -- ticket t is in the record, committed or not
 pub record StandsIn (part : Part) (t : ℕ) (committed : Bool) : Type 0 where
-  pub txn : Txn ℕ
+  pub txn : TxnRecord ℕ
   pub there : Contains (record_of part).txns txn
   pub named : txn.ticket ≡ t
   pub stands : is_committed txn ≡ committed

@@ -21,7 +21,10 @@ use Rattle.ob_order.proofs.Falls.{fallen_aborted, fallen_ended, fallen_waits, go
 use Rattle.ob_order.proofs.Tidies.{tidy_none, tidy_begun, tidy_got, tidy_wrote, tidy_waits, tidy_aborted}
 use Rattle.ob_desk.proofs.Fine.{read_found, again_found}
 use Rattle.ob_desk.specs.declared.clients.Holder.{Holder}
-use Rattle.ob_desk.specs.Desk.{Part, DeskState, Setup, new_desk, new_part, is_memory, stop_closed, stopped_by, stop_part, end_of, end_unasked, close_to, closing, record_of, with_order, with_holder, note_cause, note_asked, new_holder, why_of, why_at, cause_at, why_refused, asked_at, published, records_told, Call, Begin, GetKey, Poll, Write, Commit, Abort, Settled, Looks, SignOff, Stop, Unsure, IsStopped, TakeBatch, Deliver, Close, Publish, Reply, Begun, Refused, Value, Waits, Aborted, Done, IsSettled, Seen, StoppedBy, Batch, Writes, Published, DeskStep, MayCall}
+use Rattle.ob_desk.specs.Desk.{Part, DeskState, Setup, new_desk, new_part, is_memory, stop_closed, stopped_by, stop_part, end_of, end_unasked, close_to, closing, record_of, with_order, with_holder}
+use Rattle.ob_desk.specs.Desk.{note_cause, note_asked, new_holder, why_of, why_at, cause_at, why_refused, asked_at, published, records_told, Call, Begin, GetKey, Poll, Write, Commit, Abort, Settled}
+use Rattle.ob_desk.specs.Desk.{Looks, SignOff, Stop, Unsure, IsStopped, TakeBatch, Deliver, Close, Publish, Reply, Begun, Refused, Value, Waits, Aborted, Done, IsSettled, Seen, StoppedBy, Batch, Writes}
+use Rattle.ob_desk.specs.Desk.{Published, DeskStep, MayCall}
 use Rattle.ob_session.specs.Steps.{Leads}
 use Rattle.ob_outcomes.proofs.Grows.{Grows, grows_op, grows_begun, grows_fallen, HasLost, stands_aborted}
 use Rattle.ob_outcomes.proofs.Desks.{Runs, never_none, runs_step}
@@ -189,7 +192,8 @@ module _ (P : List Work → ℕ → Why ℕ → Type 0) (Q : List Work → Type 
         fell : ((on : ℕ) × (fate_at vs t ≡ Some (Fell on)) × (goes_on (edit end_work ws s) t ≡ true) × HasLost vs t on) → P vs t w
         fell c =
             let is : Depends c.0 ≡ w = same_Some (Depends c.0) w (sym (ap (λ x. why_by x (cause t)) c.1) ∙ e) in
-            subst (P vs t) is (tale.falls ws s t c.0 h.more going ((fallen_ended ws s).went_on t c.2) (λ at. absurd (false≢true (sym (none_there (at_ticket ws s)) ∙ (sym (ap (λ o. unwrap_or (option_map (λ x. is_going x.fate) o) false) (at_edit_same end_work ws s)) ∙ subst (λ q. goes_on (edit end_work ws s) q ≡ true) at c.2)))) c.3)
+            subst (P vs t) is (tale.falls ws s t c.0 h.more going ((fallen_ended ws s).went_on t c.2)
+            (λ at. absurd (false≢true (sym (none_there (at_ticket ws s)) ∙ (sym (ap (λ o. unwrap_or (option_map (λ x. is_going x.fate) o) false) (at_edit_same end_work ws s)) ∙ subst (λ q. goes_on (edit end_work ws s) q ≡ true) at c.2)))) c.3)
           where
             none_there : (o : Option Work) → unwrap_or (option_map (λ x. is_going x.fate) (option_map end_work o)) false ≡ false
             none_there None = refl
@@ -241,7 +245,8 @@ module _ (P : List Work → ℕ → Why ℕ → Type 0) (Q : List Work → Type 
     good_step d (GetKey x k) Waits new may step runs h = in_running d new _ step.state (sound_waits d.running x.ticket k) h
     good_step d (GetKey x k) (Aborted why) new may (inl step) runs h = same d new step.same h
     good_step d (GetKey x k) (Aborted why) new may (inr step) runs h = in_running d new _ step.state
-        (sound_ended d.running x.ticket why step.live.goes (subst (P d.running.order.works x.ticket) (sym step.cause) (tale.full d.running.order x.ticket k step.queued step.left (subst (λ (q : Setup). read_reply q.params d.running.order x.ticket k ≡ ReadsAreFull step.queued step.left) runs.same_setup step.reply)))) h
+        (sound_ended d.running x.ticket why step.live.goes (subst (P d.running.order.works x.ticket) (sym step.cause)
+        (tale.full d.running.order x.ticket k step.queued step.left (subst (λ (q : Setup). read_reply q.params d.running.order x.ticket k ≡ ReadsAreFull step.queued step.left) runs.same_setup step.reply)))) h
     good_step d (Poll x) (Value value) new may step runs h = in_running d new _ step.state
         (λ s. sound_op d.running x.ticket (Get step.key value step.source) (tidy_got d.running.order x.ticket step.key (version_of value step.source) s.tidy (again_found d.running.order x.ticket step.key value step.source step.reply)) s) h
     good_step d (Poll x) Waits new may step runs h = same d new step.same h

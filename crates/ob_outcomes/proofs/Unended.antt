@@ -17,9 +17,11 @@ use Rattle.ob_order.specs.Works.{at_ticket, edit, fate_at}
 use Rattle.ob_order.specs.Order.{write_reply}
 use Rattle.ob_order.proofs.Edits.{at_edit_same, at_edit_other, slice_get-push}
 use Rattle.ob_desk.specs.declared.clients.Holder.{Holder}
-use Rattle.ob_desk.specs.Desk.{Part, DeskState, new_desk, closing, record_of, records_told, published, is_memory, stop_closed, stop_part, stop_holder, new_holder, note_asked, note_cause, why_of, cause_at, why_refused, Call, Begin, GetKey, Poll, Write, Commit, Abort, Settled, Looks, SignOff, Stop, Unsure, IsStopped, TakeBatch, Deliver, Close, Publish, Reply, Begun, Refused, Value, Waits, Aborted, Done, IsSettled, Seen, StoppedBy, Batch, Writes, Published, DeskStep}
+use Rattle.ob_desk.specs.Desk.{Part, DeskState, new_desk, closing, record_of, records_told, published, is_memory, stop_closed, stop_part, stop_holder, new_holder, note_asked, note_cause, why_of}
+use Rattle.ob_desk.specs.Desk.{cause_at, why_refused, Call, Begin, GetKey, Poll, Write, Commit, Abort, Settled, Looks, SignOff, Stop, Unsure, IsStopped, TakeBatch, Deliver, Close, Publish, Reply, Begun}
+use Rattle.ob_desk.specs.Desk.{Refused, Value, Waits, Aborted, Done, IsSettled, Seen, StoppedBy, Batch, Writes, Published, DeskStep}
 use Rattle.ob_session.specs.Steps.{Leads}
-use Rattle.ob_outcomes.specs.Ends.{NoneEndedYet, IsDue, ClosesAreDue, DueClosesEndNone}
+use Rattle.ob_outcomes.specs.Ends.{NoneEndedYet, CloseIsDue, ClosesAreDue, DueClosesEndNone}
 use Rattle.ob_outcomes.proofs.Closed.{asked_outlast_close}
 use Rattle.ob_outcomes.proofs.Records.{record_all, why_told}
 
@@ -161,7 +163,7 @@ kept_closed d new made e same = record { closed = λ part is. inl (sym same ∙ 
 none_closed : (d new made : DeskState) → new ≡ made → made.closed ≡ None → ClosesUnended d new
 none_closed d new made e none = record { closed = λ part is. absurd (none-some part (sym none ∙ (sym (ap (λ (n : DeskState). n.closed) e) ∙ is))) }
 
-closes_step : (d : DeskState) (call : Call) (reply : Reply) (new : DeskState) → DeskStep d call reply new → IsDue d call → ClosesUnended d new
+closes_step : (d : DeskState) (call : Call) (reply : Reply) (new : DeskState) → DeskStep d call reply new → CloseIsDue d call → ClosesUnended d new
 closes_step d (Begin client) (Begun x) new step due = kept_closed d new _ step.state refl
 closes_step d (Begin client) (Refused f) new step due = kept_closed d new d step.same refl
 closes_step d (GetKey x k) (Value value) new step due = kept_closed d new _ step.state refl
@@ -196,7 +198,7 @@ closes_step d Close (Writes writes) new step due = record {
 closes_step d (Publish epoch left) (Published told) new step due = none_closed d new _ step.state refl
 closes_step d _ _ new step due = absurd step
 
-both_step : (d : DeskState) (call : Call) (reply : Reply) (new : DeskState) → DeskStep d call reply new → IsDue d call → InBoth d → InBoth new
+both_step : (d : DeskState) (call : Call) (reply : Reply) (new : DeskState) → DeskStep d call reply new → CloseIsDue d call → InBoth d → InBoth new
 both_step d call reply new step due h = record {
   running = unended_step d call reply new step h.running;
   closed = λ part is. ⊎_elim

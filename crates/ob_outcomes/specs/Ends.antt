@@ -76,14 +76,14 @@ abbrev pub CloseLosesNone : Type 0
 CloseLosesNone = (part : Part) → LosesNone part
 
 -- at a close all that go on have asked
-abbrev pub IsDue : DeskState → Call → Type 0
-IsDue d Close = AllAsked d.running
-IsDue d _ = Unit {0}
+abbrev pub CloseIsDue : DeskState → Call → Type 0
+CloseIsDue d Close = AllAsked d.running
+CloseIsDue d _ = Unit {0}
 
 -- and so at each close of these calls
 abbrev pub ClosesAreDue : (d : DeskState) (steps : List (Call × Reply)) (new : DeskState) → Leads d steps new → Type 0
 ClosesAreDue d [] new run = Unit {0}
-ClosesAreDue d (step ∷ steps) new run = IsDue d step.0 × ClosesAreDue run.0 steps new run.3
+ClosesAreDue d (step ∷ steps) new run = CloseIsDue d step.0 × ClosesAreDue run.0 steps new run.3
 
 -- Then no published transaction was aborted for the epoch's end.
 abbrev pub DueClosesEndNone : Type 0

@@ -8,18 +8,18 @@ use Rattle.ob_serial.specs.declared.records.Why.{Why}
 use Rattle.ob_serial.specs.declared.records.Why.TheVariants.{Conflict, Depends, ReadsFull, WritesFull, EpochEnd, Asked, Stopped}
 use Rattle.ob_serial.specs.declared.records.Outcome.{Outcome}
 use Rattle.ob_serial.specs.declared.records.Outcome.TheVariants.{Committed, Aborted, Unsure}
-use Rattle.ob_serial.specs.Serial.{Txn, EpochRecord, AreInOrder, is_committed}
+use Rattle.ob_serial.specs.Serial.{TxnRecord, EpochRecord, AreInOrder, is_committed}
 use Rattle.ob_desk.specs.Desk.{DeskState, Setup, Call, Reply, MayOpen, new_desk, published}
 use Rattle.ob_session.specs.Steps.{Leads}
 
 -- it has a Get of the key that was answered from this source
-abbrev pub HasGot : Txn ℕ → ℕ → ℕ → Type 0
+abbrev pub HasGot : TxnRecord ℕ → ℕ → ℕ → Type 0
 HasGot t key source = (reply : Option (List ℕ)) × Contains t.ops (Get key reply source)
 
 -- a later transaction of the record has read what a write of the key by t would have hidden from it
-pub record ReaderIsThere (r : EpochRecord ℕ) (t : Txn ℕ) (key reader : ℕ) : Type 0 where
+pub record ReaderIsThere (r : EpochRecord ℕ) (t : TxnRecord ℕ) (key reader : ℕ) : Type 0 where
   pub later : t.ticket < reader
-  pub txn : Txn ℕ
+  pub txn : TxnRecord ℕ
   pub there : Contains r.txns txn
   pub named : txn.ticket ≡ reader
   pub source : ℕ
@@ -27,28 +27,28 @@ pub record ReaderIsThere (r : EpochRecord ℕ) (t : Txn ℕ) (key reader : ℕ) 
   pub got : HasGot txn key source
 
 -- t has read from an earlier transaction of the record, which isn't committed
-pub record SourceIsGone (r : EpochRecord ℕ) (t : Txn ℕ) (on : ℕ) : Type 0 where
+pub record SourceIsGone (r : EpochRecord ℕ) (t : TxnRecord ℕ) (on : ℕ) : Type 0 where
   pub earlier : on < t.ticket
   pub key : ℕ
   pub got : HasGot t key on
-  pub txn : Txn ℕ
+  pub txn : TxnRecord ℕ
   pub there : Contains r.txns txn
   pub named : txn.ticket ≡ on
   pub not_committed : is_committed txn ≡ false
 
 -- a committed transaction of the record
 pub record IsCommittedIn (r : EpochRecord ℕ) (ticket : ℕ) : Type 0 where
-  pub txn : Txn ℕ
+  pub txn : TxnRecord ℕ
   pub there : Contains r.txns txn
   pub named : txn.ticket ≡ ticket
   pub committed : is_committed txn ≡ true
 
 -- what t has read was the map's below the epoch, or is of a committed transaction at or below t
-abbrev pub SourcesStand : EpochRecord ℕ → Txn ℕ → Type 0
+abbrev pub SourcesStand : EpochRecord ℕ → TxnRecord ℕ → Type 0
 SourcesStand r t = (key source : ℕ) → HasGot t key source → (source ≡ 0) ⊎ ((source ≤ t.ticket) × IsCommittedIn r source)
 
 -- why t was aborted, shown by the record
-abbrev pub IsWhy : Params → EpochRecord ℕ → Txn ℕ → Why ℕ → Type 0
+abbrev pub IsWhy : Params → EpochRecord ℕ → TxnRecord ℕ → Why ℕ → Type 0
 IsWhy p r t (Conflict key reader) = ReaderIsThere r t key reader
 IsWhy p r t (Depends on) = SourceIsGone r t on
 IsWhy p r t (ReadsFull queued left) = queued ≡ p.places * left
@@ -58,7 +58,7 @@ IsWhy p r t Asked = Unit {0}
 IsWhy p r t (Stopped fault) = ⊥
 
 -- how t ended, shown by the record: none was stopped, and of none it is unknown
-abbrev pub IsOutcome : Params → EpochRecord ℕ → Txn ℕ → Outcome ℕ → Type 0
+abbrev pub IsOutcome : Params → EpochRecord ℕ → TxnRecord ℕ → Outcome ℕ → Type 0
 IsOutcome p r t Committed = SourcesStand r t
 IsOutcome p r t (Aborted why) = IsWhy p r t why
 IsOutcome p r t (Unsure epoch) = ⊥

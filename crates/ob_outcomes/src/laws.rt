@@ -1,3 +1,5 @@
+//! Whom an epoch's end aborts, and what an outcome shows.
+
 ghost use Rattle.ob_outcomes.specs.Ends.{QueueFits, WaitingHaveAsked, SignedOffHaveAsked, AskedOutlastClose, PadsChangeNothing, AskedOutlastPads, WaitingAreLive, NoneEndedYet, DueClosesEndNone, EachHasHolder, CloseLosesNone};
 ghost use Rattle.ob_outcomes.specs.Alone.{OneClient};
 ghost use Rattle.ob_outcomes.specs.Callers.{ClientsStay, OnlyClientsCall};

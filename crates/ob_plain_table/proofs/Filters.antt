@@ -66,7 +66,8 @@ level_more f a n xs now new on h e = e ∙ ap (λ ys. ys ++ (a + n) ∷ []) h �
 pub level_same : (f : ℕ → Bool) (a n : ℕ) (xs now new : List ℕ) → f (a + n) ≡ false → now ≡ xs ++ filter f (range_with_len a n) → new ≡ now → new ≡ xs ++ filter f (range_with_len a (n + 1))
 level_same f a n xs now new off h e = e ∙ h ∙ ap (λ ys. xs ++ ys) (sym (filter_more f a n false off ∙ append-nil (filter f (range_with_len a n))))
 
-pub levels_more : (f : ℕ → Bool) (n k many total : ℕ) (whole mid new : List ℕ) → n + suc k ≡ total → many ≡ 2 ^ k → ((rest : ℕ) → n + rest ≡ total → mid ++ filter f (by_falling_level rest) ≡ whole) → new ≡ mid ++ filter f (range_with_len (many - 1) many) → (rest : ℕ) → (n + 1) + rest ≡ total → new ++ filter f (by_falling_level rest) ≡ whole
+pub levels_more : (f : ℕ → Bool) (n k many total : ℕ) (whole mid new : List ℕ) → n + suc k ≡ total → many ≡ 2 ^ k → ((rest : ℕ) → n + rest ≡ total → mid ++ filter f (by_falling_level rest) ≡ whole) → new ≡ mid ++ filter f (range_with_len (many - 1) many) →
+    (rest : ℕ) → (n + 1) + rest ≡ total → new ++ filter f (by_falling_level rest) ≡ whole
 levels_more f n k many total whole mid new at is listed pushed rest e =
     let same : rest ≡ k = omega arith in
     let order : new ≡ mid ++ filter f (range_with_len (2 ^ k - 1) (2 ^ k)) = pushed ∙ (λ i. mid ++ filter f (range_with_len (is i - 1) (is i))) in

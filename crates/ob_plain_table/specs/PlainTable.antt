@@ -35,23 +35,23 @@ shown_of r = record { bucket = r.bucket; number = r.number; index = r.index }
 abbrev pub picked_of : Read → Picked
 picked_of r = record { bucket = r.bucket; index = r.index; key = r.key }
 
-abbrev pub place_of : PlaceShown → Place
-place_of s = record { leaf = s.leaf; first = s.first }
+abbrev pub shown_place : PlaceShown → Place
+shown_place s = record { leaf = s.leaf; first = s.first }
 
 -- the reads with these behind them
-pub record Adds (old new : List Read) (shown : List flat.Shown) (picked : List Picked) : Type 0 where
+pub record AddsReads (old new : List Read) (shown : List flat.Shown) (picked : List Picked) : Type 0 where
   pub shown_is : map shown_of new ≡ map shown_of old ++ shown
   pub picked_is : map picked_of new ≡ map picked_of old ++ picked
 
 -- a step of the table, and the reads that it adds
-pub record Steps (old new : PlainTable) (before now : List Read) (shown : List flat.Shown) (picked : List Picked) (next : FlatTable) : Type 0 where
+pub record StepsTable (old new : PlainTable) (before now : List Read) (shown : List flat.Shown) (picked : List Picked) (next : FlatTable) : Type 0 where
   pub params_are : new.params ≡ old.params
   pub many : length new.rows.items ≡ length old.rows.items
   pub table : table_of new ≡ next
-  pub reads : Adds before now shown picked
+  pub reads : AddsReads before now shown picked
 
 -- the same of a step that reads nothing
-pub record Moves (old new : PlainTable) (next : FlatTable) : Type 0 where
+pub record MovesTable (old new : PlainTable) (next : FlatTable) : Type 0 where
   pub params_are : new.params ≡ old.params
   pub many : length new.rows.items ≡ length old.rows.items
   pub table : table_of new ≡ next

@@ -1,10 +1,12 @@
+//! Writes and refills of the plain table.
+
 ghost use Rattle.std.specs.Prelude.{◌≡◌, ℕ, ◌≤◌, ◌+◌, ◌<◌, ◌==◌, OnOk, IfOk, cond, length, not, filter, position, None, slice_index_or, slice_set};
 ghost use Rattle.std.specs.List.{position_or_len};
 ghost use Rattle.ob_schedule.specs.Paths.{is_one_of};
 ghost use Rattle.ob_ring.specs.FlatTable as flat;
 ghost use Rattle.ob_ring.specs.FlatTable.{Refill, after, placed, write, fill, fills};
 ghost use Rattle.ob_ring.specs.Ring.{empty_table};
-ghost use Rattle.ob_plain_table.specs.PlainTable.{table_of, row_is, spot_is, Moves, HasRows};
+ghost use Rattle.ob_plain_table.specs.PlainTable.{table_of, row_is, spot_is, MovesTable, HasRows};
 
 use crate::table::{PlainTable, Row, Shown, Spot};
 use ob_base::{Key, Memory, Params};
@@ -19,7 +21,9 @@ fn place_in(keys: &[Key], key: Key) -> Option<usize>
 
 // Where a key lies, of which these keys go into the bucket, the i-th to index i.
 fn spot_placed(bucket: u64, keys: &[Key], key: Key, spot: Spot) -> Spot
-    ensures { spot_is result ≡ cond (is_one_of keys.now key) (flat.In bucket (position_or_len (λ c. c == key) keys.now)) (spot_is spot) }
+    ensures { spot_is result
+        ≡ cond (is_one_of keys.now key) (flat.In bucket (position_or_len (λ c. c == key) keys.now))
+        (spot_is spot) }
 {
     match place_in(keys, key) {
         Some(index) => Spot::In { bucket, index },
@@ -29,7 +33,9 @@ fn spot_placed(bucket: u64, keys: &[Key], key: Key, spot: Spot) -> Spot
 
 // The row of a key, of which these keys go into the bucket, the i-th to index i.
 fn placed(bucket: u64, keys: &[Key], key: Key, row: Option<Row>) -> Option<Row>
-    ensures { row_is result ≡ placed bucket (is_one_of keys.now key) (position_or_len (λ c. c == key) keys.now) (row_is row) }
+    ensures { row_is result
+        ≡ placed bucket (is_one_of keys.now key) (position_or_len (λ c. c == key) keys.now)
+        (row_is row) }
 {
     match row {
         Some(row) => Some(Row {
@@ -98,7 +104,7 @@ impl PlainTable {
     pub fn write(&mut self, key: Key, leaf: Option<u32>)
         requires rows { HasRows self.old }
         requires key { key < self.old.params.keys }
-        ensures { Moves self.old self.new (write (table_of self.old) key leaf) }
+        ensures { MovesTable self.old self.new (write (table_of self.old) key leaf) }
     {
         let row = match leaf {
             Some(leaf) => Some(Row {
@@ -115,7 +121,10 @@ impl PlainTable {
         requires { HasRows self.old }
         ensures kept { self.new ≡ record self.old { rows = self.new.rows } }
         ensures many { length self.new.rows.items ≡ length self.old.rows.items }
-        ensures rows { (k : ℕ) → row_is (slice_index_or self.new.rows.items k None) ≡ placed bucket (is_one_of keys.now k) (position_or_len (λ c. c == k) keys.now) (row_is (slice_index_or self.old.rows.items k None)) }
+        ensures rows { (k : ℕ)
+            → row_is (slice_index_or self.new.rows.items k None)
+            ≡ placed bucket (is_one_of keys.now k) (position_or_len (λ c. c == k) keys.now)
+            (row_is (slice_index_or self.old.rows.items k None)) }
     {
         for key in 0..self.params.keys {
             let row = placed(bucket, keys, key, self.rows[key as usize]);
@@ -126,7 +135,8 @@ impl PlainTable {
     // Fills a bucket anew.
     fn fill(&mut self, bucket: u64) -> Result<(), Memory>
         requires { HasRows self.old }
-        ensures { OnOk result (Moves self.old self.new (fill self.old.params (table_of self.old) bucket)) }
+        ensures { OnOk result (MovesTable self.old self.new
+            (fill self.old.params (table_of self.old) bucket)) }
     {
         let keys = self.chosen(bucket)?;
         self.place(bucket, &keys);
@@ -138,7 +148,8 @@ impl PlainTable {
     // Fills these buckets, one after another.
     fn fill_all(&mut self, buckets: &[u64]) -> Result<(), Memory>
         requires { HasRows self.old }
-        ensures { OnOk result (Moves self.old self.new (fills self.old.params (table_of self.old) buckets.now)) }
+        ensures { OnOk result (MovesTable self.old self.new
+            (fills self.old.params (table_of self.old) buckets.now)) }
     {
         for u in buckets {
             self.fill(*u)?;
@@ -152,7 +163,8 @@ impl PlainTable {
     /// Memory was wanting.
     pub fn refill(&mut self) -> Result<(), Memory>
         requires { HasRows self.old }
-        ensures { OnOk result (Moves self.old self.new (after self.old.params (table_of self.old) Refill)) }
+        ensures { OnOk result (MovesTable self.old self.new
+            (after self.old.params (table_of self.old) Refill)) }
     {
         let order = self.refill_order()?;
         self.fill_all(&order)

@@ -1,8 +1,10 @@
+//! Lifts at an epoch's end.
+
 ghost use Rattle.std.specs.Prelude.{◌≡◌, ℕ, ◌≤◌, ◌+◌, ◌<◌, ◌%◌, ◌^◌, OnOk, IfOk, map, cond, length, [], None, slice_index_or};
 ghost use Rattle.ob_schedule.specs.Paths.{eviction_path};
-ghost use Rattle.ob_ring.specs.FlatTable.{FinalLifts, picks, after, leave, numbered, reads as reads_of, lift_shown, lift, final_shown, after_final};
+ghost use Rattle.ob_ring.specs.FlatTable.{FinalLifts, picks, after, leave, shown_numbered, reads as reads_of, lift_shown, lift, final_shown, after_final};
 ghost use Rattle.ob_ring.specs.Picked.{lift_picked, final_picked, holder};
-ghost use Rattle.ob_plain_table.specs.PlainTable.{table_of, row_is, Adds, Steps};
+ghost use Rattle.ob_plain_table.specs.PlainTable.{table_of, row_is, AddsReads, StepsTable};
 
 use crate::table::{PlainTable, Read, Row, Spot};
 use ob_base::{Memory, reverse};
@@ -27,7 +29,9 @@ impl PlainTable {
     fn empty(&mut self, bucket: u64)
         ensures kept { self.new ≡ record self.old { rows = self.new.rows } }
         ensures many { length self.new.rows.items ≡ length self.old.rows.items }
-        ensures rows { (k : ℕ) → row_is (slice_index_or self.new.rows.items k None) ≡ leave bucket (row_is (slice_index_or self.old.rows.items k None)) }
+        ensures rows { (k : ℕ)
+            → row_is (slice_index_or self.new.rows.items k None)
+            ≡ leave bucket (row_is (slice_index_or self.old.rows.items k None)) }
     {
         for k in 0..self.rows.len() {
             self.rows[k] = leave(bucket, self.rows[k]);
@@ -36,7 +40,15 @@ impl PlainTable {
 
     // Adds the reads of these indexes of a bucket.
     fn show_all(&self, bucket: u64, indexes: &[usize], reads: &mut Vec<Read>) -> Result<(), Memory>
-        ensures { OnOk result (Adds reads.old.items reads.new.items (numbered bucket (reads_of self.now.params (table_of self.now) bucket) indexes.now) (map (λ j. record { bucket = bucket; index = j; key = holder self.now.params (table_of self.now) bucket j }) indexes.now)) }
+        ensures { OnOk result (AddsReads reads.old.items reads.new.items
+            (shown_numbered bucket (reads_of self.now.params (table_of self.now) bucket)
+            indexes.now) (map (λ j.
+            record {
+              bucket = bucket;
+              index = j;
+              key = holder self.now.params (table_of self.now)
+                  bucket j;
+            }) indexes.now)) }
     {
         let before = self.reads(bucket);
         for i in 0..indexes.len() {
@@ -54,7 +66,10 @@ impl PlainTable {
 
     // Reads a bucket out: what lies there goes to the stash.
     pub(crate) fn lift(&mut self, bucket: u64, reads: &mut Vec<Read>) -> Result<(), Memory>
-        ensures { OnOk result (Steps self.old self.new reads.old.items reads.new.items (lift_shown self.old.params (table_of self.old) bucket) (lift_picked self.old.params (table_of self.old) bucket) (lift (table_of self.old) bucket)) }
+        ensures { OnOk result (StepsTable self.old self.new reads.old.items reads.new.items
+            (lift_shown self.old.params (table_of self.old) bucket)
+            (lift_picked self.old.params (table_of self.old) bucket)
+            (lift (table_of self.old) bucket)) }
     {
         let order = self.lift_order(bucket)?;
         self.show_all(bucket, &order, reads)?;
@@ -65,7 +80,13 @@ impl PlainTable {
 
     // Reads a bucket out, unless that was done.
     fn lift_standing(&mut self, bucket: u64, reads: &mut Vec<Read>) -> Result<(), Memory>
-        ensures { OnOk result (Steps self.old self.new reads.old.items reads.new.items (cond ((table_of self.old).lifted bucket) [] (lift_shown self.old.params (table_of self.old) bucket)) (cond ((table_of self.old).lifted bucket) [] (lift_picked self.old.params (table_of self.old) bucket)) (cond ((table_of self.old).lifted bucket) (table_of self.old) (lift (table_of self.old) bucket))) }
+        ensures { OnOk result (StepsTable self.old self.new reads.old.items reads.new.items
+            (cond ((table_of self.old).lifted bucket) []
+            (lift_shown self.old.params (table_of self.old) bucket))
+            (cond ((table_of self.old).lifted bucket) []
+            (lift_picked self.old.params (table_of self.old) bucket))
+            (cond ((table_of self.old).lifted bucket) (table_of self.old)
+            (lift (table_of self.old) bucket))) }
     {
         if self.is_lifted(bucket) {
             return Ok(());
@@ -75,7 +96,10 @@ impl PlainTable {
 
     // Reads these buckets out, those that aren't lifted yet.
     fn lift_all(&mut self, buckets: &[u64], reads: &mut Vec<Read>) -> Result<(), Memory>
-        ensures { OnOk result (Steps self.old self.new reads.old.items reads.new.items (final_shown self.old.params (table_of self.old) buckets.now) (final_picked self.old.params (table_of self.old) buckets.now) (after_final self.old.params (table_of self.old) buckets.now)) }
+        ensures { OnOk result (StepsTable self.old self.new reads.old.items reads.new.items
+            (final_shown self.old.params (table_of self.old) buckets.now)
+            (final_picked self.old.params (table_of self.old) buckets.now)
+            (after_final self.old.params (table_of self.old) buckets.now)) }
     {
         for u in buckets {
             self.lift_standing(*u, reads)?;
@@ -98,7 +122,11 @@ impl PlainTable {
 
     // So many paths more were evicted as in an epoch.
     fn count_evicted(&mut self)
-        ensures { self.new ≡ record self.old { counter = (self.old.counter + self.old.params.evictions) % 2 ^ self.old.params.levels } }
+        ensures { self.new
+            ≡ record self.old {
+              counter = (self.old.counter + self.old.params.evictions) % 2 ^
+                  self.old.params.levels;
+            } }
     {
         let leaves = 1u64 << self.params.levels;
         let next = self.counter as u64 + self.params.evictions as u64;
@@ -110,7 +138,11 @@ impl PlainTable {
     /// # Errors
     /// Memory was wanting.
     pub fn final_lifts(&mut self, reads: &mut Vec<Read>) -> Result<(), Memory>
-        ensures { OnOk result (Steps self.old self.new reads.old.items reads.new.items (picks self.old.params (table_of self.old) FinalLifts) (final_picked self.old.params (table_of self.old) (eviction_path self.old.params self.old.counter)) (after self.old.params (table_of self.old) FinalLifts)) }
+        ensures { OnOk result (StepsTable self.old self.new reads.old.items reads.new.items
+            (picks self.old.params (table_of self.old) FinalLifts)
+            (final_picked self.old.params (table_of self.old)
+            (eviction_path self.old.params self.old.counter))
+            (after self.old.params (table_of self.old) FinalLifts)) }
     {
         let path = self.eviction_path()?;
         self.lift_all(&path, reads)?;

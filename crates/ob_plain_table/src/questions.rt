@@ -1,3 +1,5 @@
+//! What the plain table is asked.
+
 ghost use Rattle.std.specs.Prelude.{◌≡◌, ℕ, ◌≤◌, ◌+◌, ◌-◌, ◌^◌, ◌<◌, ◌++◌, IfOk, OnOk, unwrap_or, not, filter};
 ghost use Rattle.std.specs.List.{find, range_with_len};
 ghost use Rattle.ob_base.specs.Tree.{bucket_of, passes, path};
@@ -142,7 +144,9 @@ impl PlainTable {
 
     // The lowest dummy that wasn't shown, else 0.
     fn next_dummy(&self, bucket: u64) -> usize
-        ensures { result ≡ unwrap_or (find (λ j. not ((table_of self.now).used bucket j)) (range_with_len self.now.params.real self.now.params.dummies)) 0 }
+        ensures { result
+            ≡ unwrap_or (find (λ j. not ((table_of self.now).used bucket j))
+            (range_with_len self.now.params.real self.now.params.dummies)) 0 }
     {
         self.first_unused(bucket, self.params.real as usize, self.width())
             .unwrap_or(0)
@@ -150,14 +154,17 @@ impl PlainTable {
 
     // The lowest index from one on and below another that wasn't shown.
     fn first_unused(&self, bucket: u64, from: usize, to: usize) -> Option<usize>
-        ensures { result ≡ find (λ j. not ((table_of self.now).used bucket j)) (range_with_len from (to - from)) }
+        ensures { result
+            ≡ find (λ j. not ((table_of self.now).used bucket j))
+            (range_with_len from (to - from)) }
     {
         (from..to).find(|j| !self.is_used(bucket, *j))
     }
 
     // The unread indexes that a lift reads: the live ones rising, then the others rising.
     pub(crate) fn lift_order(&self, bucket: u64) -> Result<Vec<usize>, Memory>
-        ensures { IfOk result (λ v. v.items ≡ lift_order self.now.params (table_of self.now) bucket) }
+        ensures { IfOk result (λ v. v.items
+            ≡ lift_order self.now.params (table_of self.now) bucket) }
     {
         let live = (0..self.width()).filter(|j| self.is_live(bucket, *j));
         let spare = (0..self.width()).filter(|j| !self.is_live(bucket, *j)
@@ -228,7 +235,8 @@ impl PlainTable {
     // Puts the lifted ones of so many buckets, from this one on, behind the list.
     fn list_level(&self, first: u64, many: u64, order: &mut Vec<u64>) -> Result<(), Memory>
         requires { first + many < 2 ^ 64 }
-        ensures { OnOk result (order.new.items ≡ order.old.items ++ filter (table_of self.now).lifted (range_with_len first many)) }
+        ensures { OnOk result (order.new.items
+            ≡ order.old.items ++ filter (table_of self.now).lifted (range_with_len first many)) }
     {
         for i in 0..many {
             if self.is_lifted(first + i) {

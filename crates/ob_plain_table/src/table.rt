@@ -1,3 +1,5 @@
+//! The plain table: Ring ORAM's state as rows and sets, for comparison.
+
 use ob_base::{Key, Params};
 use std::alloc::Global;
 

@@ -1,3 +1,5 @@
+//! Planner and plain table agree on random epochs.
+
 mod agree;
 mod draws;
 mod epochs;

@@ -1,7 +1,9 @@
+//! A read batch of the plain table.
+
 ghost use Rattle.std.specs.Prelude.{◌≡◌, ℕ, ◌≤◌, ◌+◌, ◌<◌, ◌++◌, OnOk, IfOk, map, length, None, slice_index_or};
-ghost use Rattle.ob_ring.specs.FlatTable.{index_in, mark, visit_shown, visit, visits_shown, visits, place_shown, after_place, batch_shown, after_batch, leaf_shown, fetch, spot_of, asked_row, leaf_of};
+ghost use Rattle.ob_ring.specs.FlatTable.{index_in, mark_index, visit_shown, visit, visits_shown, visits, place_shown, after_place, batch_shown, after_batch, leaf_shown, fetch, spot_of, asked_row, leaf_of};
 ghost use Rattle.ob_ring.specs.Picked.{key_shown, visit_picked, visits_picked, place_picked, batch_picked, places_from};
-ghost use Rattle.ob_plain_table.specs.PlainTable.{table_of, row_is, spot_is, place_of, Steps};
+ghost use Rattle.ob_plain_table.specs.PlainTable.{table_of, row_is, spot_is, shown_place, StepsTable};
 
 use crate::table::{PlaceShown, PlainTable, Read, Row, Shown, Spot};
 use ob_base::{Key, Memory};
@@ -20,7 +22,8 @@ impl PlainTable {
     // An index of a bucket was shown.
     fn mark(&mut self, bucket: u64, index: usize) -> Result<(), Memory>
         ensures kept { self.new ≡ record self.old { used = self.new.used } }
-        ensures table { OnOk result (table_of self.new ≡ mark (table_of self.old) bucket index) }
+        ensures table { OnOk result (table_of self.new
+            ≡ mark_index (table_of self.old) bucket index) }
     {
         self.used.push(Shown { bucket, index })?;
         Ok(())
@@ -34,7 +37,10 @@ impl PlainTable {
         bucket: u64,
         reads: &mut Vec<Read>,
     ) -> Result<(), Memory>
-        ensures { OnOk result (Steps self.old self.new reads.old.items reads.new.items (visit_shown self.old.params (table_of self.old) (spot_is own) bucket) (visit_picked self.old.params (table_of self.old) ask (spot_is own) bucket) (visit self.old.params (table_of self.old) (spot_is own) bucket)) }
+        ensures { OnOk result (StepsTable self.old self.new reads.old.items reads.new.items
+            (visit_shown self.old.params (table_of self.old) (spot_is own) bucket)
+            (visit_picked self.old.params (table_of self.old) ask (spot_is own) bucket)
+            (visit self.old.params (table_of self.old) (spot_is own) bucket)) }
     {
         if self.is_lifted(bucket) {
             return Ok(());
@@ -63,7 +69,10 @@ impl PlainTable {
         buckets: &[u64],
         reads: &mut Vec<Read>,
     ) -> Result<(), Memory>
-        ensures { OnOk result (Steps self.old self.new reads.old.items reads.new.items (visits_shown self.old.params (table_of self.old) (spot_is own) buckets.now) (visits_picked self.old.params (table_of self.old) ask (spot_is own) buckets.now) (visits self.old.params (table_of self.old) (spot_is own) buckets.now)) }
+        ensures { OnOk result (StepsTable self.old self.new reads.old.items reads.new.items
+            (visits_shown self.old.params (table_of self.old) (spot_is own) buckets.now)
+            (visits_picked self.old.params (table_of self.old) ask (spot_is own) buckets.now)
+            (visits self.old.params (table_of self.old) (spot_is own) buckets.now)) }
     {
         for u in buckets {
             self.visit(ask, own, *u, reads)?;
@@ -134,7 +143,10 @@ impl PlainTable {
         leaf: u32,
         reads: &mut Vec<Read>,
     ) -> Result<(), Memory>
-        ensures { OnOk result (Steps self.old self.new reads.old.items reads.new.items (place_shown self.old.params (table_of self.old) ask leaf) (place_picked self.old.params (table_of self.old) ask leaf) (after_place self.old.params (table_of self.old) ask leaf)) }
+        ensures { OnOk result (StepsTable self.old self.new reads.old.items reads.new.items
+            (place_shown self.old.params (table_of self.old) ask leaf)
+            (place_picked self.old.params (table_of self.old) ask leaf)
+            (after_place self.old.params (table_of self.old) ask leaf)) }
     {
         let own = self.asked_spot(ask);
         let path = self.path(self.leaf_shown(ask, leaf))?;
@@ -153,8 +165,14 @@ impl PlainTable {
         shown: &mut Vec<PlaceShown>,
         reads: &mut Vec<Read>,
     ) -> Result<(), Memory>
-        ensures steps { OnOk result (Steps self.old self.new reads.old.items reads.new.items (batch_shown self.old.params (table_of self.old) places.now) (batch_picked self.old.params (table_of self.old) places.now) (after_batch self.old.params (table_of self.old) places.now)) }
-        ensures shown { OnOk result (map place_of shown.new.items ≡ map place_of shown.old.items ++ places_from self.old.params (length reads.old.items) (table_of self.old) places.now) }
+        ensures steps { OnOk result
+            (StepsTable self.old self.new reads.old.items reads.new.items
+            (batch_shown self.old.params (table_of self.old) places.now)
+            (batch_picked self.old.params (table_of self.old) places.now)
+            (after_batch self.old.params (table_of self.old) places.now)) }
+        ensures shown { OnOk result (map shown_place shown.new.items
+            ≡ map shown_place shown.old.items ++ places_from self.old.params
+            (length reads.old.items) (table_of self.old) places.now) }
     {
         for i in 0..places.len() {
             let (ask, leaf) = places[i];

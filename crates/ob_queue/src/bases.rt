@@ -15,10 +15,13 @@ pub type Bases = IndexMap<Key, Option<Value>>;
 // The key has this value from now on.
 fn put(bases: &mut Bases, key: Key, value: Option<Value>)
     requires { 0 < spare bases.old }
-    ensures given { finite.from_entries {R = nat_cmp} bases.new.entries ≡ finite.insert (finite.from_entries {R = nat_cmp} bases.old.entries) key value }
-    ensures all { index_map_len bases.old + spare bases.old ≤ index_map_len bases.new + spare bases.new }
+    ensures given { finite.from_entries {R = nat_cmp} bases.new.entries
+        ≡ finite.insert (finite.from_entries {R = nat_cmp} bases.old.entries) key value }
+    ensures all { index_map_len bases.old + spare bases.old
+        ≤ index_map_len bases.new + spare bases.new }
     ensures rest { spare bases.old ≤ spare bases.new + 1 }
 {
+    // The prover has to see this type named here.
     let _told: Option<Value> = None;
     match bases.get_mut(&key) {
         Some(held) => *held = value,
@@ -32,10 +35,14 @@ fn put(bases: &mut Bases, key: Key, value: Option<Value>)
 pub fn put_all(bases: &mut Bases, keys: &[Key], values: &[Option<Value>])
     requires each { length keys.now ≤ length values.now }
     requires room { length keys.now ≤ spare bases.old }
-    ensures given { finite.from_entries {R = nat_cmp} bases.new.entries ≡ rules.delivered (finite.from_entries {R = nat_cmp} bases.old.entries) (map Some keys.now) values.now }
-    ensures all { index_map_len bases.old + spare bases.old ≤ index_map_len bases.new + spare bases.new }
+    ensures given { finite.from_entries {R = nat_cmp} bases.new.entries
+        ≡ rules.delivered (finite.from_entries {R = nat_cmp} bases.old.entries) (map Some keys.now)
+        values.now }
+    ensures all { index_map_len bases.old + spare bases.old
+        ≤ index_map_len bases.new + spare bases.new }
     ensures rest { spare bases.old ≤ spare bases.new + length keys.now }
 {
+    // The prover has to see this type named here.
     let _told: Option<Value> = None;
     for i in 0..keys.len() {
         put(bases, keys[i], values[i]);

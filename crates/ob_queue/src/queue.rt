@@ -8,7 +8,7 @@ ghost use Rattle.ob_queue.specs.Queues.{without_last};
 use crate::bases::{Bases, put_all, value_of};
 use indexmap::{IndexMap, IndexSet};
 use ob_base::{Key, Memory, Params, Value};
-use ob_order::plain::batches::fill;
+use ob_order::fill;
 use std::alloc::Global;
 use std::marker::Model;
 
@@ -51,6 +51,7 @@ impl Queue {
         ensures params { IfOk result (λ q. q.params ≡ params.now) }
         ensures state { IfOk result (λ q. q.state ≡ rules.new_order left) }
     {
+        // The prover has to see this type named here.
         let _told: Option<Value> = None;
         let values = params.places as usize * params.batches as usize;
         Ok(Queue {
@@ -68,6 +69,7 @@ impl Queue {
         requires { left ≤ self.old.params.batches }
         ensures { self.new ≡ record self.old { state = rules.new_order left } }
     {
+        // The prover has to see this type named here.
         let _told: Option<Value> = None;
         self.asked.clear();
         self.flying = 0;
@@ -84,7 +86,8 @@ impl Queue {
 
     /// Whether the batches that are left have no place for one more key.
     pub fn is_full(&self) -> bool
-        ensures { result ≡ (length self.now.state.queue == self.now.params.places * self.now.state.left) }
+        ensures { result
+            ≡ (length self.now.state.queue == self.now.params.places * self.now.state.left) }
     {
         self.queued() == u64::from(self.params.places) * u64::from(self.left)
     }
@@ -94,7 +97,8 @@ impl Queue {
     /// # Errors
     /// Memory was wanting. All is as before.
     pub fn ask(&mut self, key: Key) -> Result<(), Memory>
-        ensures ok { OnOk result (self.new ≡ record self.old { state = rules.asked self.old.state key }) }
+        ensures ok { OnOk result (self.new
+            ≡ record self.old { state = rules.asked self.old.state key }) }
         ensures err { OnErr result (self.new ≡ self.old) }
     {
         self.asked.insert(key)?;
@@ -123,7 +127,8 @@ impl Queue {
         requires none_flying { self.old.state.flying ≡ [] }
         requires places { length out.old ≡ self.old.params.places }
         ensures batch { out.new ≡ rules.batch_of self.old.params self.old.state }
-        ensures state { self.new ≡ record self.old { state = rules.after_take self.old.params self.old.state } }
+        ensures state { self.new
+            ≡ record self.old { state = rules.after_take self.old.params self.old.state } }
     {
         fill(out, &self.asked.as_slice()[self.flying..]);
         self.flying = out.len().min(self.asked.len());
@@ -134,7 +139,8 @@ impl Queue {
     pub fn deliver(&mut self, keys: &[Option<Key>], values: &[Option<Value>])
         requires batch { keys.now ≡ rules.batch_in_flight self.old.params self.old.state }
         requires each { length values.now ≡ length keys.now }
-        ensures { self.new ≡ record self.old { state = rules.after_deliver self.old.state keys.now values.now } }
+        ensures { self.new
+            ≡ record self.old { state = rules.after_deliver self.old.state keys.now values.now } }
     {
         put_all(
             &mut self.bases,

@@ -1,3 +1,5 @@
+//! Keys asked for, taken and delivered.
+
 ghost use Rattle.std.specs.Prelude.{◌≡◌, ◌≤◌, ◌<◌, length};
 
 use crate::Queue;

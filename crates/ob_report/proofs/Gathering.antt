@@ -6,7 +6,8 @@ use Rattle.std.proofs.lemmas.Grind.{flat_map-append}
 use Rattle.ob_base.specs.Causes.{Rose, HasCause}
 use Rattle.ob_io.specs.Flows.{appended}
 use Rattle.ob_io.proofs.Pieces.{appended-again, appended-none, take-more}
-use Rattle.ob_report.specs.Printed.{Flow, flow, Prints}
+use Rattle.ob_io.specs.Streams.{flow}
+use Rattle.ob_report.specs.Printed.{Prints}
 use Rattle.ob_report.specs.Gathered.{Gathering, gathering, Gathers}
 
 -- All of a text was gathered.

@@ -1,7 +1,8 @@
--- What it means that a text was gathered for a sink: a front of it may have gone there, and the rest is held.
+-- Private: what it means that a text was gathered for a sink: a prefix of it may have gone there, and the rest is held.
 use Rattle.std.specs.Prelude.{ℕ, ◌≡◌, ◌≤◌, List, ◌++◌, length, take, drop, Option, Result, OnOk}
 use Rattle.ob_base.specs.Causes.{HasCause}
 use Rattle.ob_io.specs.Flows.{appended}
+use Rattle.ob_io.specs.declared.Sink as sink
 
 -- The bytes that went to a sink, where it tells, its count of faults, and the bytes that are held.
 pub record Gathering : Type 0 where
@@ -11,6 +12,10 @@ pub record Gathering : Type 0 where
 
 abbrev pub gathering : Option (List ℕ) → ℕ → List ℕ → Gathering
 gathering bytes faults held = record { bytes = bytes; faults = faults; held = held }
+
+-- what a sink tells, and the bytes that are held for it
+abbrev pub gathered : {S : Type 0} → sink.Ghosts S → S → List ℕ → Gathering
+gathered tells one held = gathering (tells.written one) (tells.faults one) held
 
 -- A call gathers the text: of what was held and the text behind it a front went to the sink, and the rest is held.
 -- It is refused only where the count of faults rose.

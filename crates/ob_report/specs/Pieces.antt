@@ -1,4 +1,4 @@
--- The pieces that a line is put together from.
+-- Private: the pieces that a line is put together from.
 use Rattle.std.specs.Prelude.{ℕ, List, flat_map}
 use Rattle.std.specs.Fmt.{decimal}
 use Rattle.ob_report.specs.declared.piece.Piece.{Piece}

@@ -1,15 +1,8 @@
 -- What it means that a text was printed to a sink.
-use Rattle.std.specs.Prelude.{ℕ, ◌≡◌, ◌≤◌, ◌⊎◌, List, length, take, Option, Result, OnOk}
+use Rattle.std.specs.Prelude.{ℕ, ◌≡◌, ◌≤◌, ◌⊎◌, List, length, take, Result, OnOk}
 use Rattle.ob_base.specs.Causes.{Rose, HasCause}
 use Rattle.ob_io.specs.Flows.{appended}
-
--- What is seen of bytes that come in or go out: those that are left or written, where it is told, and the count of faults.
-pub record Flow : Type 0 where
-  pub bytes : Option (List ℕ)
-  pub faults : ℕ
-
-abbrev pub flow : Option (List ℕ) → ℕ → Flow
-flow bytes faults = record { bytes = bytes; faults = faults }
+use Rattle.ob_io.specs.Streams.{Flow}
 
 -- Of the text a front was written, all of it unless the output failed.
 pub record IsPrinted (before after : Flow) (text : List ℕ) : Type 0 where

@@ -7,7 +7,7 @@ use Rattle.ob_serial.specs.declared.records.Outcome.{Outcome}
 use Rattle.ob_serial.specs.declared.records.Outcome.TheVariants.{Committed, Aborted, Unsure}
 use Rattle.ob_serial.specs.declared.records.Why.{Why}
 use Rattle.ob_serial.specs.declared.records.Why.TheVariants.{Conflict, Depends, ReadsFull, WritesFull, EpochEnd, Asked, Stopped}
-use Rattle.ob_serial.specs.Serial.{Txn, EpochRecord}
+use Rattle.ob_serial.specs.Serial.{TxnRecord, EpochRecord}
 
 abbrev pub line_end : List ℕ
 line_end = 10 ∷ []
@@ -39,10 +39,10 @@ module _ {K : Type 0} (key_text : K → List ℕ) where
   outcome_text (Unsure epoch) = codes "unsure"
 
   -- the line of a transaction
-  abbrev pub head_line : Txn K → List ℕ
+  abbrev pub head_line : TxnRecord K → List ℕ
   head_line t = codes "txn " ++ decimal t.ticket ++ codes " client " ++ decimal t.client ++ codes " " ++ outcome_text t.outcome ++ line_end
 
-  abbrev pub txn_text : Txn K → List ℕ
+  abbrev pub txn_text : TxnRecord K → List ℕ
   txn_text t = head_line t ++ flat_map op_line t.ops
 
   abbrev pub record_text : EpochRecord K → List ℕ

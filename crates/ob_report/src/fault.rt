@@ -1,8 +1,11 @@
+//! The line and the status of a fault.
+
 ghost use Rattle.std.specs.Prelude.{◌≡◌, Some};
 ghost use Rattle.ob_report.specs.Faults.{check_text, field_text, fault_line, fault_status};
 ghost use Rattle.ob_base.specs.declared.fault.Fault.TheVariants as Fault;
-ghost use Rattle.ob_report.specs.Gathered.{gathering, Gathers};
-ghost use Rattle.ob_report.specs.Printed.{flow, Prints};
+ghost use Rattle.ob_report.specs.Gathered.{gathered, Gathers};
+ghost use Rattle.ob_io.specs.Streams.{outflow};
+ghost use Rattle.ob_report.specs.Printed.{Prints};
 
 use crate::page::{Page, hand_over};
 use crate::piece::Piece::{Number, Text};
@@ -58,8 +61,8 @@ fn field_text(field: Field) -> &'static [u8]
 
 fn put_store<S: Sink>(sink: &mut S, page: &mut Page, unsure: Option<u64>) -> Result<(), Failed>
     ensures { Gathers (fault_line (Some (Fault.StoreFault unsure)))
-        (gathering (S.written sink.old) (S.faults sink.old) page.old.items)
-        (gathering (S.written sink.new) (S.faults sink.new) page.new.items) result }
+        (gathered S.Sink sink.old page.old.items)
+        (gathered S.Sink sink.new page.new.items) result }
 {
     match unsure {
         None => put_pieces(sink, page, &[Text(b"fault: store\n")]),
@@ -77,8 +80,8 @@ fn put_store<S: Sink>(sink: &mut S, page: &mut Page, unsure: Option<u64>) -> Res
 
 fn put_fault<S: Sink>(sink: &mut S, page: &mut Page, fault: &Fault) -> Result<(), Failed>
     ensures { Gathers (fault_line (Some fault.now))
-        (gathering (S.written sink.old) (S.faults sink.old) page.old.items)
-        (gathering (S.written sink.new) (S.faults sink.new) page.new.items) result }
+        (gathered S.Sink sink.old page.old.items)
+        (gathered S.Sink sink.new page.new.items) result }
 {
     match *fault {
         Fault::Usage => put_pieces(sink, page, &[Text(b"fault: usage\n")]),
@@ -131,8 +134,8 @@ fn put_fault<S: Sink>(sink: &mut S, page: &mut Page, fault: &Fault) -> Result<()
 /// The sink failed. A front of the line is written.
 pub fn fault_text<S: Sink>(fault: &Fault, sink: &mut S) -> Result<(), Failed>
     ensures { Prints (fault_line (Some fault.now))
-        (flow (S.written sink.old) (S.faults sink.old))
-        (flow (S.written sink.new) (S.faults sink.new)) result }
+        (outflow S.Sink sink.old)
+        (outflow S.Sink sink.new) result }
 {
     let mut page = Page::new();
     put_fault(sink, &mut page, fault)?;

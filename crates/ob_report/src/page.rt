@@ -1,6 +1,8 @@
+//! Bytes gathered for a sink.
+
 ghost use Rattle.std.specs.Prelude.{◌≡◌, ◌<◌, ◌≤◌, ◌++◌, [], length, take, OnOk};
 ghost use Rattle.arrayvec.specs.ArrayVec.{array_vec_len};
-ghost use Rattle.ob_report.specs.Gathered.{gathering, Gathers};
+ghost use Rattle.ob_report.specs.Gathered.{gathered, Gathers};
 
 use arrayvec::ArrayVec;
 use ob_base::Failed;
@@ -15,8 +17,8 @@ pub type Page = ArrayVec<u8, 4096>;
 /// The sink failed. A front of what was held is written.
 pub fn hand_over<S: Sink>(sink: &mut S, page: &mut Page) -> Result<(), Failed>
     ensures gathers { Gathers []
-        (gathering (S.written sink.old) (S.faults sink.old) page.old.items)
-        (gathering (S.written sink.new) (S.faults sink.new) page.new.items) result }
+        (gathered S.Sink sink.old page.old.items)
+        (gathered S.Sink sink.new page.new.items) result }
     ensures empty { page.new.items ≡ [] }
 {
     let handed = put_all(sink, page.as_slice());
@@ -27,8 +29,8 @@ pub fn hand_over<S: Sink>(sink: &mut S, page: &mut Page) -> Result<(), Failed>
 // Sees to it that a byte more has place.
 fn make_room<S: Sink>(sink: &mut S, page: &mut Page) -> Result<(), Failed>
     ensures gathers { Gathers []
-        (gathering (S.written sink.old) (S.faults sink.old) page.old.items)
-        (gathering (S.written sink.new) (S.faults sink.new) page.new.items) result }
+        (gathered S.Sink sink.old page.old.items)
+        (gathered S.Sink sink.new page.new.items) result }
     ensures room { OnOk result (array_vec_len page.new < 4096) }
 {
     if page.is_full() {
@@ -55,8 +57,8 @@ fn hold(page: &mut Page, part: &[u8]) -> usize
 /// The sink failed. A front of what was held and of the bytes is written.
 pub fn put_bytes<S: Sink>(sink: &mut S, page: &mut Page, bytes: &[u8]) -> Result<(), Failed>
     ensures { Gathers bytes.now
-        (gathering (S.written sink.old) (S.faults sink.old) page.old.items)
-        (gathering (S.written sink.new) (S.faults sink.new) page.new.items) result }
+        (gathered S.Sink sink.old page.old.items)
+        (gathered S.Sink sink.new page.new.items) result }
 {
     let mut at = 0;
     while at < bytes.len() {

@@ -1,4 +1,6 @@
-ghost use Rattle.ob_report.specs.Gathered.{gathering, Gathers};
+//! Parts of a line.
+
+ghost use Rattle.ob_report.specs.Gathered.{gathered, Gathers};
 ghost use Rattle.ob_report.specs.Pieces.{piece_text, pieces_text};
 
 use crate::page::{Page, put_bytes};
@@ -17,8 +19,8 @@ pub enum Piece<'a> {
 
 fn put_piece<S: Sink>(sink: &mut S, page: &mut Page, piece: &Piece<'_>) -> Result<(), Failed>
     ensures { Gathers (piece_text piece.now)
-        (gathering (S.written sink.old) (S.faults sink.old) page.old.items)
-        (gathering (S.written sink.new) (S.faults sink.new) page.new.items) result }
+        (gathered S.Sink sink.old page.old.items)
+        (gathered S.Sink sink.new page.new.items) result }
 {
     match *piece {
         Piece::Text(bytes) => put_bytes(sink, page, bytes),
@@ -39,8 +41,8 @@ pub fn put_pieces<S: Sink>(
     pieces: &[Piece<'_>],
 ) -> Result<(), Failed>
     ensures { Gathers (pieces_text pieces.now)
-        (gathering (S.written sink.old) (S.faults sink.old) page.old.items)
-        (gathering (S.written sink.new) (S.faults sink.new) page.new.items) result }
+        (gathered S.Sink sink.old page.old.items)
+        (gathered S.Sink sink.new page.new.items) result }
 {
     for piece in pieces {
         put_piece(sink, page, piece)?;

@@ -1,10 +1,13 @@
+//! The lines of an epoch's record.
+
 ghost use Rattle.std.specs.Prelude.{◌++◌, codes, map, flat_map};
 ghost use Rattle.std.specs.Fmt.{decimal};
 ghost use Rattle.ob_serial.specs.Views.{txn_of, record_of};
 ghost use Rattle.ob_report.specs.Report.{line_end, reply_text, op_line, outcome_text, head_line, txn_text, record_text};
 ghost use Rattle.ob_serial.specs.declared.records.Outcome.TheVariants as Outcome;
-ghost use Rattle.ob_report.specs.Gathered.{gathering, Gathers};
-ghost use Rattle.ob_report.specs.Printed.{flow, Prints};
+ghost use Rattle.ob_report.specs.Gathered.{gathered, Gathers};
+ghost use Rattle.ob_io.specs.Streams.{outflow};
+ghost use Rattle.ob_report.specs.Printed.{Prints};
 
 use crate::page::{Page, hand_over};
 use crate::piece::Piece::{Number, Text};
@@ -20,8 +23,8 @@ fn put_get<S: Sink>(
     reply: Option<Value>,
 ) -> Result<(), Failed>
     ensures { Gathers (codes "get " ++ decimal key ++ reply_text decimal reply ++ line_end)
-        (gathering (S.written sink.old) (S.faults sink.old) page.old.items)
-        (gathering (S.written sink.new) (S.faults sink.new) page.new.items) result }
+        (gathered S.Sink sink.old page.old.items)
+        (gathered S.Sink sink.new page.new.items) result }
 {
     let key = Number(u64::from(key));
     match reply {
@@ -42,8 +45,8 @@ fn put_get<S: Sink>(
 
 fn put_op<S: Sink>(sink: &mut S, page: &mut Page, op: Op<Key>) -> Result<(), Failed>
     ensures { Gathers (op_line decimal op)
-        (gathering (S.written sink.old) (S.faults sink.old) page.old.items)
-        (gathering (S.written sink.new) (S.faults sink.new) page.new.items) result }
+        (gathered S.Sink sink.old page.old.items)
+        (gathered S.Sink sink.new page.new.items) result }
 {
     match op {
         Op::Get { key, reply, .. } => put_get(sink, page, key, reply),
@@ -69,8 +72,8 @@ fn put_op<S: Sink>(sink: &mut S, page: &mut Page, op: Op<Key>) -> Result<(), Fai
 // Gathers why a transaction was aborted, and its line's end.
 fn put_why<S: Sink>(sink: &mut S, page: &mut Page, why: Why<Key>) -> Result<(), Failed>
     ensures { Gathers (outcome_text decimal (Outcome.Aborted why) ++ line_end)
-        (gathering (S.written sink.old) (S.faults sink.old) page.old.items)
-        (gathering (S.written sink.new) (S.faults sink.new) page.new.items) result }
+        (gathered S.Sink sink.old page.old.items)
+        (gathered S.Sink sink.new page.new.items) result }
 {
     match why {
         Why::Conflict { key, reader } => put_pieces(
@@ -118,8 +121,8 @@ fn put_why<S: Sink>(sink: &mut S, page: &mut Page, why: Why<Key>) -> Result<(), 
 // Gathers how a transaction ended, and its line's end.
 fn put_outcome<S: Sink>(sink: &mut S, page: &mut Page, outcome: Outcome<Key>) -> Result<(), Failed>
     ensures { Gathers (outcome_text decimal outcome ++ line_end)
-        (gathering (S.written sink.old) (S.faults sink.old) page.old.items)
-        (gathering (S.written sink.new) (S.faults sink.new) page.new.items) result }
+        (gathered S.Sink sink.old page.old.items)
+        (gathered S.Sink sink.new page.new.items) result }
 {
     match outcome {
         Outcome::Committed => put_pieces(sink, page, &[Text(b"committed\n")]),
@@ -130,8 +133,8 @@ fn put_outcome<S: Sink>(sink: &mut S, page: &mut Page, outcome: Outcome<Key>) ->
 
 fn put_ops<S: Sink>(sink: &mut S, page: &mut Page, ops: &[Op<Key>]) -> Result<(), Failed>
     ensures { Gathers (flat_map (op_line decimal) ops.now)
-        (gathering (S.written sink.old) (S.faults sink.old) page.old.items)
-        (gathering (S.written sink.new) (S.faults sink.new) page.new.items) result }
+        (gathered S.Sink sink.old page.old.items)
+        (gathered S.Sink sink.new page.new.items) result }
 {
     for op in ops {
         put_op(sink, page, *op)?;
@@ -142,8 +145,8 @@ fn put_ops<S: Sink>(sink: &mut S, page: &mut Page, ops: &[Op<Key>]) -> Result<()
 // Gathers a transaction's line.
 fn put_head<S: Sink>(sink: &mut S, page: &mut Page, txn: &TxnRecord<Key>) -> Result<(), Failed>
     ensures { Gathers (head_line decimal (txn_of txn.now))
-        (gathering (S.written sink.old) (S.faults sink.old) page.old.items)
-        (gathering (S.written sink.new) (S.faults sink.new) page.new.items) result }
+        (gathered S.Sink sink.old page.old.items)
+        (gathered S.Sink sink.new page.new.items) result }
 {
     put_pieces(
         sink,
@@ -161,8 +164,8 @@ fn put_head<S: Sink>(sink: &mut S, page: &mut Page, txn: &TxnRecord<Key>) -> Res
 
 fn put_txn<S: Sink>(sink: &mut S, page: &mut Page, txn: &TxnRecord<Key>) -> Result<(), Failed>
     ensures { Gathers (txn_text decimal (txn_of txn.now))
-        (gathering (S.written sink.old) (S.faults sink.old) page.old.items)
-        (gathering (S.written sink.new) (S.faults sink.new) page.new.items) result }
+        (gathered S.Sink sink.old page.old.items)
+        (gathered S.Sink sink.new page.new.items) result }
 {
     put_head(sink, page, txn)?;
     put_ops(sink, page, &txn.ops)
@@ -170,8 +173,8 @@ fn put_txn<S: Sink>(sink: &mut S, page: &mut Page, txn: &TxnRecord<Key>) -> Resu
 
 fn put_txns<S: Sink>(sink: &mut S, page: &mut Page, txns: &[TxnRecord<Key>]) -> Result<(), Failed>
     ensures { Gathers (flat_map (txn_text decimal) (map (λ t. txn_of t) txns.now))
-        (gathering (S.written sink.old) (S.faults sink.old) page.old.items)
-        (gathering (S.written sink.new) (S.faults sink.new) page.new.items) result }
+        (gathered S.Sink sink.old page.old.items)
+        (gathered S.Sink sink.new page.new.items) result }
 {
     for txn in txns {
         put_txn(sink, page, txn)?;
@@ -185,8 +188,8 @@ fn put_record<S: Sink>(
     record: &EpochRecord<Key>,
 ) -> Result<(), Failed>
     ensures { Gathers (record_text decimal (record_of «record».now))
-        (gathering (S.written sink.old) (S.faults sink.old) page.old.items)
-        (gathering (S.written sink.new) (S.faults sink.new) page.new.items) result }
+        (gathered S.Sink sink.old page.old.items)
+        (gathered S.Sink sink.new page.new.items) result }
 {
     put_pieces(
         sink,
@@ -204,8 +207,8 @@ fn put_record<S: Sink>(
 /// The sink failed. A front of the lines is written.
 pub fn text<S: Sink>(record: &EpochRecord<Key>, sink: &mut S) -> Result<(), Failed>
     ensures { Prints (record_text decimal (record_of «record».now))
-        (flow (S.written sink.old) (S.faults sink.old))
-        (flow (S.written sink.new) (S.faults sink.new)) result }
+        (outflow S.Sink sink.old)
+        (outflow S.Sink sink.new) result }
 {
     let mut page = Page::new();
     put_record(sink, &mut page, record)?;

@@ -1,5 +1,8 @@
-ghost use Rattle.ob_report.specs.Gathered.{gathering, Gathers};
-ghost use Rattle.ob_report.specs.Printed.{flow, Prints};
+//! The line of a new store's size.
+
+ghost use Rattle.ob_report.specs.Gathered.{gathered, Gathers};
+ghost use Rattle.ob_io.specs.Streams.{outflow};
+ghost use Rattle.ob_report.specs.Printed.{Prints};
 ghost use Rattle.ob_report.specs.Sizes.{size_line};
 
 use crate::page::{Page, hand_over};
@@ -10,8 +13,8 @@ use ob_io::Sink;
 
 fn put_size<S: Sink>(sink: &mut S, page: &mut Page, cells: u64) -> Result<(), Failed>
     ensures { Gathers (size_line cells)
-        (gathering (S.written sink.old) (S.faults sink.old) page.old.items)
-        (gathering (S.written sink.new) (S.faults sink.new) page.new.items) result }
+        (gathered S.Sink sink.old page.old.items)
+        (gathered S.Sink sink.new page.new.items) result }
 {
     put_pieces(
         sink,
@@ -27,8 +30,8 @@ fn put_size<S: Sink>(sink: &mut S, page: &mut Page, cells: u64) -> Result<(), Fa
 /// The sink failed. A front of the line is written.
 pub fn size_text<S: Sink>(cells: u64, sink: &mut S) -> Result<(), Failed>
     ensures { Prints (size_line cells)
-        (flow (S.written sink.old) (S.faults sink.old))
-        (flow (S.written sink.new) (S.faults sink.new)) result }
+        (outflow S.Sink sink.old)
+        (outflow S.Sink sink.new) result }
 {
     let mut page = Page::new();
     put_size(sink, &mut page, cells)?;

@@ -1,3 +1,5 @@
+//! Lines, letter by letter.
+
 use crate::{fault_status, fault_text, text};
 use ob_base::{Check, Fault, Field, Key, Op, Value};
 use ob_mem::MemSink;
@@ -183,6 +185,7 @@ fn many_puts(alloc: Global, puts: u32) -> Result<EpochRecord<Key>, AllocError> {
     let value = Value::new(
         b"xxxxxxxxxxxxxxxxxxxxxxxxxxxxxxxxxxxxxxxxxxxxxxxxxxxxxxxxxxxxxxxx",
     ).unwrap();
+    // The prover has to see this type named here.
     let _told: Option<Value> = None;
     let mut ops = Vec::new(alloc);
     for key in 0..puts {

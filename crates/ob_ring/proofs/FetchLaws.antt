@@ -86,11 +86,11 @@ asked_spot : (t : FlatTable) (ask : Option ℕ) (u j : ℕ) → spot_of (asked_r
 asked_spot t None u j e = absurd (cc)
 asked_spot t (Some a) u j e = (a, refl, e)
 
-asked_key : (t : FlatTable) (ask : Option ℕ) (k : ℕ) → asks_for ask k ≡ true → asked_row t ask ≡ t.rows k
+pub asked_key : (t : FlatTable) (ask : Option ℕ) (k : ℕ) → asks_for ask k ≡ true → asked_row t ask ≡ t.rows k
 asked_key t None k e = absurd (false≢true e)
 asked_key t (Some a) k e = ap t.rows (eqb-true a k e)
 
-asks_some : (ask : Option ℕ) (a k : ℕ) → ask ≡ Some a → a ≡ k → asks_for ask k ≡ true
+pub asks_some : (ask : Option ℕ) (a k : ℕ) → ask ≡ Some a → a ≡ k → asks_for ask k ≡ true
 asks_some None a k e f = absurd (cc)
 asks_some (Some c) a k e f = let x : c ≡ a = cc in eq-eqb c k (x ∙ f)
 
@@ -129,7 +129,8 @@ label_leaf true own (Some e) = refl
 label_leaf false own (Some e) = refl
 
 -- the arrays after a place's key was taken out stand for the table after the flat fetch
-pub fetched_is : (p : Params) (book_old book_new : List (Option Entry)) (old new : Buckets) (ask : Option ℕ) (own : Entry) (found : Option Found) (c : ℕ) (t : FlatTable) → IsFetched p book_old book_new old new ask own found → IsSound p t → IsTableOf p (arrays_of old (rest_of book_old c)) t → IsTableOf p (arrays_of new (rest_of book_new c)) (fetch t ask own.leaf)
+pub fetched_is : (p : Params) (book_old book_new : List (Option Entry)) (old new : Buckets) (ask : Option ℕ) (own : Entry) (found : Option Found) (c : ℕ) (t : FlatTable) → IsFetched p book_old book_new old new ask own found → IsSound p t → IsTableOf p
+    (arrays_of old (rest_of book_old c)) t → IsTableOf p (arrays_of new (rest_of book_new c)) (fetch t ask own.leaf)
 fetched_is p book_old book_new old new ask own found c t f sound is =
     let at : spot_of (asked_row t ask) ≡ spot_at found = fetched_spot p old book_old c t ask found sound is f.found in
     table_like p (with_fetched (arrays_of old (rest_of book_old c)) ask (spot_of (asked_row t ask)) own.leaf) (arrays_of new (rest_of book_new c)) (fetch t ask own.leaf)
@@ -153,7 +154,8 @@ book_fetched p book_old book_new old new ask own found b h f = record {
   leaves = λ k e at. rebound_low p (asks_for ask k) own (entry_at book_old k) e h (b.leaves k) (sym (f.labels k) ∙ at);
 }
 
-pub place_fetches : (p : Params) (book_old book_new : List (Option Entry)) (old mid new : Buckets) (before middle now : Planned) (ask : Option ℕ) (own : Entry) (found : Option Found) (leaf : ℕ) → IsBook p book_old → own.leaf < 2 ^ p.levels → IsFetched p book_old book_new old mid ask own found → leaf ≡ leaf_of_place (kept_of book_old ask) own →
+pub place_fetches : (p : Params) (book_old book_new : List (Option Entry)) (old mid new : Buckets) (before middle now : Planned) (ask : Option ℕ) (own : Entry) (found : Option Found) (leaf : ℕ) → IsBook p book_old → own.leaf < 2 ^ p.levels → IsFetched p
+    book_old book_new old mid ask own found → leaf ≡ leaf_of_place (kept_of book_old ask) own →
     middle ≡ record before { places = before.places ++ record { leaf = leaf; first = length before.jobs } ∷ [] } → now.places ≡ middle.places →
     Plans p mid new middle now (λ t. visits_picked p t ask (spot_at found) (path p leaf)) (λ t. visits p t (spot_at found) (path p leaf)) → Fetches p book_old book_new old new before now ((ask, own) ∷ [])
 place_fetches p book_old book_new old mid new before middle now ask own found leaf book low f at pushed kept plans =
@@ -205,7 +207,8 @@ length-jobs p s before now qs e = ap length e ∙ length-append before.jobs (map
     length-mapped f [] = refl
     length-mapped f (x ∷ xs) = ap suc (length-mapped f xs)
 
-pub fetches_then : (p : Params) (book_old book_mid book_new : List (Option Entry)) (old mid new : Buckets) (before middle now : Planned) (xs ys : List (Option ℕ × Entry)) → Fetches p book_old book_mid old mid before middle xs → Fetches p book_mid book_new mid new middle now ys → Fetches p book_old book_new old new before now (xs ++ ys)
+pub fetches_then : (p : Params) (book_old book_mid book_new : List (Option Entry)) (old mid new : Buckets) (before middle now : Planned) (xs ys : List (Option ℕ × Entry)) → Fetches p book_old book_mid old mid before middle xs → Fetches p book_mid book_new mid
+    new middle now ys → Fetches p book_old book_new old new before now (xs ++ ys)
 fetches_then p book_old book_mid book_new old mid new before middle now xs ys a b =
     let split : leaf_places (xs ++ ys) ≡ leaf_places xs ++ leaf_places ys = map-both (λ x. (x.0, (x.1).leaf)) xs ys in
     record {

@@ -59,7 +59,8 @@ or_off true b e = absurd (true≢false e)
 or_off false true e = absurd (true≢false e)
 or_off false false e = (refl, refl)
 
-module _ (p : Params) (book : List (Option Entry)) (old mid new : Buckets) (words : List ℕ) (first : ℕ × ℕ) (n u : ℕ) (listed : IsListed p old) (h : n < length old.order) (at : u ≡ get_or old.order n 0) (a : FillsTo p book old mid words first n) (b : FillsOne p mid new u (words_of p words n) first.0 (base_of p first n)) where
+module _ (p : Params) (book : List (Option Entry)) (old mid new : Buckets) (words : List ℕ) (first : ℕ × ℕ) (n u : ℕ) (listed : IsListed p old) (h : n < length old.order) (at : u ≡ get_or old.order n 0) (a : FillsTo p book old mid words first n)
+    (b : FillsOne p mid new u (words_of p words n) first.0 (base_of p first n)) where
   more : take (n + 1) old.order ≡ take n old.order ++ u ∷ []
   more = take_more old.order n 0 h ∙ ap (λ (x : ℕ). take n old.order ++ x ∷ []) (sym at)
 
@@ -84,7 +85,8 @@ module _ (p : Params) (book : List (Option Entry)) (old mid new : Buckets) (word
         subst (λ (v : Version). IsSealedAnew (version_at old.versions (slice_index old.order i)) v first.0 (base_of p first i) (words_of p words i)) (sym (b.others (slice_index old.order i) there)) ((a.anew).anew i (omega arith)))
   ]
 
-  pub fills_more : ((lifted : ℕ → Bool) (counter : ℕ) (t : FlatTable) → IsSound p t → t.lifted u ≡ true → IsTableOf p (arrays_in mid lifted (rest_of book counter)) t → IsTableOf p (arrays_in new (λ w. not (w == u) && lifted w) (rest_of book counter)) (fill p t u)) → FillsTo p book old new words first (n + 1)
+  pub fills_more : ((lifted : ℕ → Bool) (counter : ℕ) (t : FlatTable) → IsSound p t → t.lifted u ≡ true → IsTableOf p (arrays_in mid lifted (rest_of book counter)) t → IsTableOf p (arrays_in new (λ w. not (w == u) && lifted w) (rest_of book counter))
+      (fill p t u)) → FillsTo p book old new words first (n + 1)
   fills_more next = record {
     whole = b.whole;
     anew = record {
@@ -135,7 +137,8 @@ none_lifted p s u whole listed = elim (cases_Bool (is_lifted s u)) [
     and_no true = refl
     and_no false = refl
 
-pub refilled_is : (p : Params) (book : List (Option Entry)) (metas mid cleared : Buckets) (counter : ℕ) (words : List ℕ) (first : ℕ × ℕ) → AreWhole p metas → IsListed p metas → FillsTo p book metas mid words first (length metas.order) → cleared ≡ record mid { lifted = replicate (length mid.lifted) false } → (t : FlatTable) → IsSound p t → IsTableOf p (arrays_of metas (rest_of book counter)) t → IsTableOf p (arrays_of cleared (rest_of book counter)) (fills p t (refill_order p t))
+pub refilled_is : (p : Params) (book : List (Option Entry)) (metas mid cleared : Buckets) (counter : ℕ) (words : List ℕ) (first : ℕ × ℕ) → AreWhole p metas → IsListed p metas → FillsTo p book metas mid words first (length metas.order) → cleared ≡ record mid
+    { lifted = replicate (length mid.lifted) false } → (t : FlatTable) → IsSound p t → IsTableOf p (arrays_of metas (rest_of book counter)) t → IsTableOf p (arrays_of cleared (rest_of book counter)) (fills p t (refill_order p t))
 refilled_is p book metas mid cleared counter words first whole listed f changed t sound is =
     let order : take (length metas.order) metas.order ≡ refill_order p t = take_all (length metas.order) metas.order (omega arith) ∙ listed ∙ (λ i. filter (λ u. sym (is.lifted_is u) i) (by_falling_level (p.levels + 1))) in
     subst (λ (s : Buckets). IsTableOf p (arrays_of s (rest_of book counter)) (fills p t (refill_order p t))) (sym changed)

@@ -96,11 +96,11 @@ placed_false u i b None off = refl
 placed_false u i true (Some r) off = absurd (true≢false off)
 placed_false u i false (Some r) off = refl
 
-stash_spot : (s : Spot) → is_stash s ≡ true → s ≡ InStash
+pub stash_spot : (s : Spot) → is_stash s ≡ true → s ≡ InStash
 stash_spot InStash e = refl
 stash_spot (In u j) e = absurd (false≢true e)
 
-go_stash : (p : Params) (u : ℕ) (r : Option Row) → can_go p u r ≡ true → spot_of r ≡ InStash
+pub go_stash : (p : Params) (u : ℕ) (r : Option Row) → can_go p u r ≡ true → spot_of r ≡ InStash
 go_stash p u None e = refl
 go_stash p u (Some r) e = stash_spot r.spot (and_parts (is_stash r.spot) _ e).0
 
@@ -136,7 +136,7 @@ fill_is p a t u sound up is =
 
 -- ---- as the code does it
 
-none_used : (n j : ℕ) → slice_index_or (replicate n false) j false ≡ false
+pub none_used : (n j : ℕ) → slice_index_or (replicate n false) j false ≡ false
 none_used zero j = refl
 none_used (suc n) zero = refl
 none_used (suc n) (suc j) = none_used n j
@@ -144,7 +144,8 @@ none_used (suc n) (suc j) = none_used n j
 and_off : (b c : Bool) → b ≡ false → (b && c) ≡ false
 and_off b c e = ap (λ (x : Bool). x && c) e
 
-pub filled_follows : (p : Params) (s : Buckets) (u : ℕ) (v v' : Version) (home under from : ℕ) (ks words : List ℕ) (lifted : ℕ → Bool) (r : Rest) (t : FlatTable) → AreWhole p s → u < buckets p → v' ≡ filled v home under from ks words → ks ≡ chosen p t u → IsSound p t → t.lifted u ≡ true → IsTableOf p (arrays_in s lifted r) t →
+pub filled_follows : (p : Params) (s : Buckets) (u : ℕ) (v v' : Version) (home under from : ℕ) (ks words : List ℕ) (lifted : ℕ → Bool) (r : Rest) (t : FlatTable) → AreWhole p s → u < buckets p → v' ≡ filled v home under from ks words → ks ≡ chosen p t u →
+    IsSound p t → t.lifted u ≡ true → IsTableOf p (arrays_in s lifted r) t →
     IsTableOf p (arrays_in (with_version s u v') (λ w. not (w == u) && lifted w) r) (fill p t u)
 filled_follows p s u v v' home under from ks words lifted r t whole hu changed taken sound up is =
     let many : u < length s.versions = omega (arith, whole.many) in
@@ -171,7 +172,8 @@ length-mapped : (f : ℕ → ℕ) (xs : List ℕ) → length (map f xs) ≡ leng
 length-mapped f [] = refl
 length-mapped f (x ∷ xs) = ap suc (length-mapped f xs)
 
-pub filled_one : (p : Params) (s : Buckets) (u : ℕ) (v v' : Version) (home under from : ℕ) (ks words : List ℕ) → AreWhole p s → u < buckets p → v ≡ version_at s.versions u → v' ≡ filled v home under from ks words → length ks ≤ p.real → length words ≡ width p → home ≡ 1 - (version_at s.versions u).home → FillsOne p s (with_version s u v') u words under from
+pub filled_one : (p : Params) (s : Buckets) (u : ℕ) (v v' : Version) (home under from : ℕ) (ks words : List ℕ) → AreWhole p s → u < buckets p → v ≡ version_at s.versions u → v' ≡ filled v home under from ks words → length ks ≤ p.real → length words ≡ width p →
+    home ≡ 1 - (version_at s.versions u).home → FillsOne p s (with_version s u v') u words under from
 filled_one p s u v v' home under from ks words whole hu is changed few long other =
     let many : u < length s.versions = omega (arith, whole.many) in
     let slots : HasSlots p (version_at s.versions u) = whole.slots u hu in

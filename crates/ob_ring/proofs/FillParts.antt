@@ -43,7 +43,8 @@ out_case None x found e f = absurd (cc)
 out_case (Some r) x None e f = sym (ap is_stash f)
 out_case (Some r) x (Some g) e f = sym (ap is_stash f)
 
-pub out_is : (p : Params) (book : List (Option Entry)) (s : Buckets) (lifted : ℕ → Bool) (c : ℕ) (t : FlatTable) (key : ℕ) (e : Entry) (found : Option Found) → entry_at book key ≡ Some e → IsFound p s key e.leaf found → IsSound p t → IsTableOf p (arrays_in s lifted (rest_of book c)) t → is_nowhere found ≡ in_stash (t.rows key)
+pub out_is : (p : Params) (book : List (Option Entry)) (s : Buckets) (lifted : ℕ → Bool) (c : ℕ) (t : FlatTable) (key : ℕ) (e : Entry) (found : Option Found) → entry_at book key ≡ Some e → IsFound p s key e.leaf found → IsSound p t → IsTableOf p
+    (arrays_in s lifted (rest_of book c)) t → is_nowhere found ≡ in_stash (t.rows key)
 out_is p book s lifted c t key e found at f sound is =
     let leaf : leaf_in (t.rows key) ≡ Some e.leaf = is.leaves_are key ∙ ap leaf_of_entry at in
     out_case (t.rows key) e.leaf found leaf (spot_is p s lifted (rest_of book c) t key e.leaf found sound is (leaf_some (t.rows key) e.leaf 0 leaf) f)
@@ -60,7 +61,8 @@ go_case : (p : Params) (u : ℕ) (r : Option Row) (x : ℕ) → leaf_in r ≡ So
 go_case p u None x e f = refl
 go_case p u (Some r) x e f = let same : r.leaf ≡ x = cc in and_true (is_stash r.spot) (passes p u r.leaf) (ap (passes p u) same ∙ f)
 
-pub go_is : (p : Params) (book : List (Option Entry)) (s : Buckets) (lifted : ℕ → Bool) (c : ℕ) (t : FlatTable) (u key : ℕ) (e : Entry) (b : Bool) → entry_at book key ≡ Some e → passes p u e.leaf ≡ true → b ≡ in_stash (t.rows key) → IsTableOf p (arrays_in s lifted (rest_of book c)) t → b ≡ can_go p u (t.rows key)
+pub go_is : (p : Params) (book : List (Option Entry)) (s : Buckets) (lifted : ℕ → Bool) (c : ℕ) (t : FlatTable) (u key : ℕ) (e : Entry) (b : Bool) → entry_at book key ≡ Some e → passes p u e.leaf ≡ true → b ≡ in_stash (t.rows key) → IsTableOf p
+    (arrays_in s lifted (rest_of book c)) t → b ≡ can_go p u (t.rows key)
 go_is p book s lifted c t u key e b at on out is = out ∙ go_case p u (t.rows key) e.leaf (is.leaves_are key ∙ ap leaf_of_entry at) on
 
 pub one_more_out : (q : ℕ → Bool) (k many next : ℕ) (b : Bool) → many ≡ count_by q (range_with_len 0 k) → q k ≡ b → next ≡ many + cond b 1 0 → next ≡ count_by q (range_with_len 0 (k + 1))

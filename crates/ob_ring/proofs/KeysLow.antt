@@ -11,7 +11,7 @@ use Rattle.ob_base.specs.Planned.{job_at}
 use Rattle.ob_bucket.specs.Version.{Version}
 use Rattle.ob_tables.specs.declared.entry.Entry.{Entry}
 use Rattle.ob_schedule.specs.Paths.{eviction_path}
-use Rattle.ob_ring.specs.FlatTable.{FlatTable, Spot, is_at, spot_of, index_in, index_shown, mark, lift, lift_order, reads, visit, fetch, asked_row, leaf_shown, after_place}
+use Rattle.ob_ring.specs.FlatTable.{FlatTable, Spot, is_at, spot_of, index_in, index_shown, mark_index, lift, lift_order, reads, visit, fetch, asked_row, leaf_shown, after_place}
 use Rattle.ob_ring.specs.Picked.{Picked, holder, key_shown, lift_picked, visit_picked, visits_picked, place_picked, batch_picked, final_picked, job_of}
 use Rattle.ob_ring.specs.Fetching.{own_entry, places_of, leaf_places}
 
@@ -50,8 +50,8 @@ shown_low n ask (Some j) h = h
 visit_low : (p : Params) (t : FlatTable) (ask : Option ℕ) (own : Spot) (u : ℕ) → IsLow p.keys ask → AreLow p.keys (visit_picked p t ask own u)
 visit_low p t ask own u h =
     let j : ℕ = index_shown p t own u in
-    either_low p.keys (t.lifted u) [] (record { bucket = u; index = j; key = key_shown ask (index_in u own) } ∷ cond (reads p t u + 1 == p.dummies) (lift_picked p (mark t u j) u) []) tt
-    (shown_low p.keys ask (index_in u own) h, either_low p.keys (reads p t u + 1 == p.dummies) (lift_picked p (mark t u j) u) [] (lift_low p (mark t u j) u (lift_order p (mark t u j) u)) tt)
+    either_low p.keys (t.lifted u) [] (record { bucket = u; index = j; key = key_shown ask (index_in u own) } ∷ cond (reads p t u + 1 == p.dummies) (lift_picked p (mark_index t u j) u) []) tt
+    (shown_low p.keys ask (index_in u own) h, either_low p.keys (reads p t u + 1 == p.dummies) (lift_picked p (mark_index t u j) u) [] (lift_low p (mark_index t u j) u (lift_order p (mark_index t u j) u)) tt)
 
 visits_low : (p : Params) (t : FlatTable) (ask : Option ℕ) (own : Spot) (us : List ℕ) → IsLow p.keys ask → AreLow p.keys (visits_picked p t ask own us)
 visits_low p t ask own [] h = tt
@@ -81,7 +81,8 @@ jobs_low p versions n (q ∷ qs) h zero = h.0
 jobs_low p versions n (q ∷ qs) h (suc i) = jobs_low p versions n qs h.1 i
 
 -- of a read batch whose places ask for keys of these parameters
-pub batch_keys : (p : Params) (versions : List Version) (t : FlatTable) (asks : List (Option ℕ)) (words : List ℕ) (first : ℕ × ℕ) (n : ℕ) (jobs : List Job) → ((i : ℕ) → IsLow p.keys (slice_index_or asks i None)) → jobs ≡ map (job_of p versions) (batch_picked p t (leaf_places (places_of p asks words first n))) → (i : ℕ) → IsLow p.keys (job_at jobs i).key
+pub batch_keys : (p : Params) (versions : List Version) (t : FlatTable) (asks : List (Option ℕ)) (words : List ℕ) (first : ℕ × ℕ) (n : ℕ) (jobs : List Job) → ((i : ℕ) → IsLow p.keys (slice_index_or asks i None)) → jobs ≡ map (job_of p versions)
+    (batch_picked p t (leaf_places (places_of p asks words first n))) → (i : ℕ) → IsLow p.keys (job_at jobs i).key
 batch_keys p versions t asks words first n jobs low e i =
     subst (λ (js : List Job). IsLow p.keys (job_at js i).key) (sym e) (jobs_low p versions p.keys (batch_picked p t (leaf_places (places_of p asks words first n))) (batch_low p t (leaf_places (places_of p asks words first n)) (asks_low p asks words first 0 n low)) i)
 

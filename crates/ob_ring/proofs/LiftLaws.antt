@@ -37,7 +37,8 @@ final_picked_both p t (u ∷ us) vs =
     let one : List Picked = cond (t.lifted u) [] (lift_picked p t u) in
     ap (λ (qs : List Picked). one ++ qs) (final_picked_both p t1 us vs) ∙ sym (append_more one (final_picked p t1 us) (final_picked p (after_final p t1 us) vs))
 
-pub finals_then : (p : Params) (old mid new : Buckets) (before middle now : Planned) (us vs all : List ℕ) → all ≡ us ++ vs → Plans p old mid before middle (λ t. final_picked p t us) (λ t. after_final p t us) → Plans p mid new middle now (λ t. final_picked p t vs) (λ t. after_final p t vs) → Plans p old new before now (λ t. final_picked p t all) (λ t. after_final p t all)
+pub finals_then : (p : Params) (old mid new : Buckets) (before middle now : Planned) (us vs all : List ℕ) → all ≡ us ++ vs → Plans p old mid before middle (λ t. final_picked p t us) (λ t. after_final p t us) → Plans p mid new middle now
+    (λ t. final_picked p t vs) (λ t. after_final p t vs) → Plans p old new before now (λ t. final_picked p t all) (λ t. after_final p t all)
 finals_then p old mid new before middle now us vs all e a b =
     plans_like p old new before now (λ t. final_picked p t us ++ final_picked p (after_final p t us) vs) (λ t. final_picked p t all) (λ t. after_final p (after_final p t us) vs) (λ t. after_final p t all)
     (plans_then p old mid new before middle now (λ t. final_picked p t us) (λ t. final_picked p t vs) (λ t. after_final p t us) (λ t. after_final p t vs) a b)

@@ -10,7 +10,7 @@ use Rattle.ob_ring.proofs.Counts.{count_by-cons}
 use Rattle.ob_base.specs.declared.params.Params.{Params}
 use Rattle.ob_base.specs.Tree.{below, bucket_of, path, passes, reversed}
 use Rattle.ob_schedule.specs.Paths.{is_one_of, eviction_path}
-use Rattle.ob_ring.specs.FlatTable.{FlatTable, Row, Spot, spot_of, leaf_of, asked_row, asks_for, fetched, fetch, leaf_shown, mark, lift, visit, visits, after_place, after_batch, leaves_shown, after_final, written, write, after_writes, fill, fills, index_shown, reads}
+use Rattle.ob_ring.specs.FlatTable.{FlatTable, Row, Spot, spot_of, leaf_of, asked_row, asks_for, fetched, fetch, leaf_shown, mark_index, lift, visit, visits, after_place, after_batch, leaves_shown, after_final, written_row, write, after_writes, fill, fills, index_shown, reads}
 use Rattle.ob_ring.proofs.Members.{one_of-append, off_unless}
 use Rattle.ob_ring.proofs.Sounds.{leaf-leave}
 use Rattle.ob_ring.proofs.Fills.{leaf-placed}
@@ -70,8 +70,8 @@ SameLeaves t t' = (k : ℕ) → leaf_of (t'.rows k) 0 ≡ leaf_of (t.rows k) 0
 
 leaves_visit : (p : Params) (t : FlatTable) (own : Spot) (u : ℕ) → SameLeaves t (visit p t own u)
 leaves_visit p t own u =
-    cond_both (t.lifted u) t (cond (reads p t u + 1 == p.dummies) (lift (mark t u (index_shown p t own u)) u) (mark t u (index_shown p t own u))) (SameLeaves t) (λ e k. refl)
-    (λ e. cond_both (reads p t u + 1 == p.dummies) (lift (mark t u (index_shown p t own u)) u) (mark t u (index_shown p t own u)) (SameLeaves t) (λ f k. leaf-leave u (t.rows k) 0) (λ f k. refl))
+    cond_both (t.lifted u) t (cond (reads p t u + 1 == p.dummies) (lift (mark_index t u (index_shown p t own u)) u) (mark_index t u (index_shown p t own u))) (SameLeaves t) (λ e k. refl)
+    (λ e. cond_both (reads p t u + 1 == p.dummies) (lift (mark_index t u (index_shown p t own u)) u) (mark_index t u (index_shown p t own u)) (SameLeaves t) (λ f k. leaf-leave u (t.rows k) 0) (λ f k. refl))
 
 leaves_visits : (p : Params) (t : FlatTable) (own : Spot) (us : List ℕ) → SameLeaves t (visits p t own us)
 leaves_visits p t own [] k = refl
@@ -130,7 +130,7 @@ low_fills p t us l k = subst (λ (x : ℕ). x < 2 ^ p.levels) (sym (leaves_fills
 
 abbrev pub ArePutsLow : Params → List (ℕ × Option ℕ) → Type 0
 ArePutsLow p [] = Unit {0}
-ArePutsLow p (w ∷ ws) = (leaf_of (written w.1) 0 < 2 ^ p.levels) × ArePutsLow p ws
+ArePutsLow p (w ∷ ws) = (leaf_of (written_row w.1) 0 < 2 ^ p.levels) × ArePutsLow p ws
 
 low_case : (b : Bool) (v r : Option Row) (m : ℕ) → leaf_of v 0 < m → leaf_of r 0 < m → leaf_of (cond b v r) 0 < m
 low_case true v r m h k = h
@@ -138,4 +138,4 @@ low_case false v r m h k = k
 
 pub low_writes : (p : Params) (t : FlatTable) (ws : List (ℕ × Option ℕ)) → ArePutsLow p ws → IsLow p t → IsLow p (after_writes t ws)
 low_writes p t [] h l = l
-low_writes p t (w ∷ ws) h l = low_writes p (write t w.0 w.1) ws h.1 (λ k. low_case (k == w.0) (written w.1) (t.rows k) (2 ^ p.levels) h.0 (l k))
+low_writes p t (w ∷ ws) h l = low_writes p (write t w.0 w.1) ws h.1 (λ k. low_case (k == w.0) (written_row w.1) (t.rows k) (2 ^ p.levels) h.0 (l k))

@@ -6,7 +6,7 @@ use Rattle.std.proofs.lemmas.Bool.Decides.{nat_tests}
 use Rattle.ob_base.specs.declared.params.Params.{Params}
 use Rattle.ob_base.specs.Tree.{path}
 use Rattle.ob_schedule.specs.Paths.{is_one_of}
-use Rattle.ob_ring.specs.FlatTable.{FlatTable, Spot, In, Shown, spot_of, asked_row, fetch, leaf_shown, place_shown, after_place, batch_shown, after_batch, reads, mark, lift, lift_order, lift_shown, numbered, visit_shown, visit, visits_shown, visits, final_shown, after_final, index_shown}
+use Rattle.ob_ring.specs.FlatTable.{FlatTable, Spot, In, Shown, spot_of, asked_row, fetch, leaf_shown, place_shown, after_place, batch_shown, after_batch, reads, mark_index, lift, lift_order, lift_shown, shown_numbered, visit_shown, visit, visits_shown, visits, final_shown, after_final, index_shown}
 use Rattle.ob_ring.specs.News.{Seen, with_shown, with_all, AreNew, Marks}
 use Rattle.ob_ring.proofs.Members.{IsDistinct}
 use Rattle.ob_ring.specs.Sound.{IsSound}
@@ -32,7 +32,7 @@ one_further : (u n m : ℕ) → n ≡ m → n + 1 ≡ m + cond (u == u) 1 0
 one_further u n m e = rw (eq-eqb u u refl) (omega arith)
 
 -- different unread indexes of one bucket
-pub new_numbered : (p : Params) (seen : Seen) (u n : ℕ) (js : List ℕ) → n ≡ seen.next u → IsDistinct js → ((j : ℕ) → is_one_of js j ≡ true → (j < p.real + p.dummies) × (seen.shown u j ≡ false)) → AreNew p seen (numbered u n js)
+pub new_numbered : (p : Params) (seen : Seen) (u n : ℕ) (js : List ℕ) → n ≡ seen.next u → IsDistinct js → ((j : ℕ) → is_one_of js j ≡ true → (j < p.real + p.dummies) × (seen.shown u j ≡ false)) → AreNew p seen (shown_numbered u n js)
 new_numbered p seen u n [] at d h = tt
 new_numbered p seen u n (j ∷ js) at d h =
     let here : (j < p.real + p.dummies) × (seen.shown u j ≡ false) = h j (or_left (j == j) (is_one_of js j) (eq-eqb j j refl)) in (
@@ -45,14 +45,14 @@ new_numbered p seen u n (j ∷ js) at d h =
     )
 
 -- what is seen of one bucket changes nothing elsewhere
-with_numbered : (seen : Seen) (u n : ℕ) (js : List ℕ) (v j : ℕ) → (v == u) ≡ false → (with_all seen (numbered u n js)).shown v j ≡ seen.shown v j
+with_numbered : (seen : Seen) (u n : ℕ) (js : List ℕ) (v j : ℕ) → (v == u) ≡ false → (with_all seen (shown_numbered u n js)).shown v j ≡ seen.shown v j
 with_numbered seen u n [] v j off = refl
 with_numbered seen u n (i ∷ js) v j off = with_numbered (with_shown seen (record { bucket = u; number = n; index = i })) u (n + 1) js v j off ∙ ap (λ (b : Bool). (b && (j == i)) || seen.shown v j) off
 
 next_elsewhere : (seen : Seen) (u v : ℕ) → (v == u) ≡ false → seen.next v + cond (v == u) 1 0 ≡ seen.next v
 next_elsewhere seen u v off = rw off (omega arith)
 
-next_numbered : (seen : Seen) (u n : ℕ) (js : List ℕ) (v : ℕ) → (v == u) ≡ false → (with_all seen (numbered u n js)).next v ≡ seen.next v
+next_numbered : (seen : Seen) (u n : ℕ) (js : List ℕ) (v : ℕ) → (v == u) ≡ false → (with_all seen (shown_numbered u n js)).next v ≡ seen.next v
 next_numbered seen u n [] v off = refl
 next_numbered seen u n (i ∷ js) v off = next_numbered (with_shown seen (record { bucket = u; number = n; index = i })) u (n + 1) js v off ∙ next_elsewhere seen u v off
 
@@ -60,7 +60,8 @@ pub record NewLaw (p : Params) (t' : FlatTable) (seen : Seen) (shown : List Show
   pub new : AreNew p seen shown
   pub marks : Marks p t' (with_all seen shown)
 
-lift_new : (p : Params) (t : FlatTable) (u : ℕ) (seen : Seen) → IsSound p t → seen.next u ≡ reads p t u → ((j : ℕ) → seen.shown u j ≡ t.used u j) → ((v j : ℕ) → (v == u) ≡ false → t.lifted v ≡ false → seen.shown v j ≡ t.used v j) → ((v : ℕ) → (v == u) ≡ false → t.lifted v ≡ false → seen.next v ≡ reads p t v) → NewLaw p (lift t u) seen (lift_shown p t u)
+lift_new : (p : Params) (t : FlatTable) (u : ℕ) (seen : Seen) → IsSound p t → seen.next u ≡ reads p t u → ((j : ℕ) → seen.shown u j ≡ t.used u j) → ((v j : ℕ) → (v == u) ≡ false → t.lifted v ≡ false → seen.shown v j ≡ t.used v j) →
+    ((v : ℕ) → (v == u) ≡ false → t.lifted v ≡ false → seen.next v ≡ reads p t v) → NewLaw p (lift t u) seen (lift_shown p t u)
 lift_new p t u seen s at here m n = record {
   new = new_numbered p seen u (reads p t u) (lift_order p t u) (sym at) (distinct-lift_order p t u)
       (λ j on. (let h : (j < p.real + p.dummies) × (t.used u j ≡ false) = unread_lift_order p t u j s on in (h.0, here j ∙ h.1)));
@@ -72,20 +73,21 @@ lift_new p t u seen s at here m n = record {
   };
 }
 
-next_mark : (p : Params) (t : FlatTable) (u j n v : ℕ) → j < p.real + p.dummies → t.used u j ≡ false → n ≡ reads p t v → n + cond (v == u) 1 0 ≡ reads p (mark t u j) v
+next_mark : (p : Params) (t : FlatTable) (u j n v : ℕ) → j < p.real + p.dummies → t.used u j ≡ false → n ≡ reads p t v → n + cond (v == u) 1 0 ≡ reads p (mark_index t u j) v
 next_mark p t u j n v h off at = elim (cases_eq v u) [
   | inl same ↦ (let e : n ≡ reads p t u = at ∙ ap (reads p t) same in
       let one : n + cond (v == u) 1 0 ≡ n + 1 = ap (λ (b : Bool). n + cond b 1 0) (eq-eqb v u same) in
-      let more : reads p (mark t u j) u ≡ reads p t u + 1 = reads_mark_same p t u j h off in
-      let sum : n + 1 ≡ reads p (mark t u j) u = ap (λ (m : ℕ). m + 1) e ∙ sym more in
-      one ∙ sum ∙ ap (reads p (mark t u j)) (sym same))
+      let more : reads p (mark_index t u j) u ≡ reads p t u + 1 = reads_mark_same p t u j h off in
+      let sum : n + 1 ≡ reads p (mark_index t u j) u = ap (λ (m : ℕ). m + 1) e ∙ sym more in
+      one ∙ sum ∙ ap (reads p (mark_index t u j)) (sym same))
   | inr ne ↦ (let e : (v == u) ≡ false = ne_eqb v u ne in
       let none : n + cond (v == u) 1 0 ≡ n + 0 = ap (λ (b : Bool). n + cond b 1 0) e in
       let z : n + 0 ≡ n = omega arith in
       none ∙ z ∙ at ∙ sym (reads_mark_other p t u j v e))
 ]
 
-visit_new : (p : Params) (t : FlatTable) (own : Spot) (u : ℕ) (count : ℕ → ℕ) (seen : Seen) → IsSound p t → IsCounted p t count → IsVacant t own → ((j : ℕ) → own ≡ In u j → (j < p.real) × (t.used u j ≡ false)) → Marks p t seen → (b c : Bool) → t.lifted u ≡ b → (reads p t u + 1 == p.dummies) ≡ c → NewLaw p (visit p t own u) seen (visit_shown p t own u)
+visit_new : (p : Params) (t : FlatTable) (own : Spot) (u : ℕ) (count : ℕ → ℕ) (seen : Seen) → IsSound p t → IsCounted p t count → IsVacant t own → ((j : ℕ) → own ≡ In u j → (j < p.real) × (t.used u j ≡ false)) → Marks p t seen → (b c : Bool) → t.lifted u ≡ b →
+    (reads p t u + 1 == p.dummies) ≡ c → NewLaw p (visit p t own u) seen (visit_shown p t own u)
 visit_new p t own u count seen s k gone free m true c is last = record { new = rw is tt; marks = rw is m }
 visit_new p t own u count seen s k gone free m false false is last =
     let low : count u < p.dummies = leb-false p.dummies (count u) (sym (k.lifted_is u) ∙ is) in
@@ -102,7 +104,7 @@ visit_new p t own u count seen s k gone free m false true is last =
     let j : ℕ = index_shown p t own u in
     let new : IsNew p t u j = index_shown_new p t own u s (omega (arith, k.reads_is u low)) gone free in
     let seen1 : Seen = with_shown seen (record { bucket = u; number = reads p t u; index = j }) in
-    let l : NewLaw p (lift (mark t u j) u) seen1 (lift_shown p (mark t u j) u) = lift_new p (mark t u j) u seen1 (sound_mark p t u j new.vacant s)
+    let l : NewLaw p (lift (mark_index t u j) u) seen1 (lift_shown p (mark_index t u j) u) = lift_new p (mark_index t u j) u seen1 (sound_mark p t u j new.vacant s)
     (next_mark p t u j (seen.next u) u new.within new.unread (m.next_is u is))
     (λ i. ap (λ (b : Bool). ((u == u) && (i == j)) || b) (m.shown_is u i is))
     (λ v i off down. ap (λ (b : Bool). ((v == u) && (i == j)) || b) (m.shown_is v i down))
@@ -112,7 +114,8 @@ visit_new p t own u count seen s k gone free m false true is last =
       marks = rw (is, last) l.marks;
     }
 
-visits_new : (p : Params) (t : FlatTable) (own : Spot) (us : List ℕ) (count : ℕ → ℕ) (seen : Seen) → IsDistinct us → IsSound p t → IsCounted p t count → IsVacant t own → ((u j : ℕ) → is_one_of us u ≡ true → own ≡ In u j → (j < p.real) × (t.used u j ≡ false)) → Marks p t seen → NewLaw p (visits p t own us) seen (visits_shown p t own us)
+visits_new : (p : Params) (t : FlatTable) (own : Spot) (us : List ℕ) (count : ℕ → ℕ) (seen : Seen) → IsDistinct us → IsSound p t → IsCounted p t count → IsVacant t own → ((u j : ℕ) → is_one_of us u ≡ true → own ≡ In u j → (j < p.real) × (t.used u j ≡ false)) →
+    Marks p t seen → NewLaw p (visits p t own us) seen (visits_shown p t own us)
 visits_new p t own [] count seen d s c gone free m = record { new = tt; marks = m }
 visits_new p t own (u ∷ us) count seen d s c gone free m =
     let mine : (j : ℕ) → own ≡ In u j → (j < p.real) × (t.used u j ≡ false) = λ j. free u j (or_left (u == u) (is_one_of us u) (eq-eqb u u refl)) in

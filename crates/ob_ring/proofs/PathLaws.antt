@@ -133,7 +133,8 @@ taken_out p s u j v v' whole hu is changed =
 
 pub visits_picked_push : (p : Params) (t : FlatTable) (ask : Option ℕ) (own : Spot) (us : List ℕ) (u : ℕ) → visits_picked p t ask own (us ++ u ∷ []) ≡ visits_picked p t ask own us ++ visit_picked p (visits p t own us) ask own u
 visits_picked_push p t ask own [] u = append_none (visit_picked p t ask own u)
-visits_picked_push p t ask own (v ∷ us) u = ap (λ (qs : List Picked). visit_picked p t ask own v ++ qs) (visits_picked_push p (visit p t own v) ask own us u) ∙ sym (append_more (visit_picked p t ask own v) (visits_picked p (visit p t own v) ask own us) (visit_picked p (visits p (visit p t own v) own us) ask own u))
+visits_picked_push p t ask own (v ∷ us) u = ap (λ (qs : List Picked). visit_picked p t ask own v ++ qs) (visits_picked_push p (visit p t own v) ask own us u) ∙ sym
+    (append_more (visit_picked p t ask own v) (visits_picked p (visit p t own v) ask own us) (visit_picked p (visits p (visit p t own v) own us) ask own u))
 
 abbrev pub path_to : Params → ℕ → ℕ → List ℕ
 path_to p leaf n = map (λ level. bucket_of p level leaf) (below n)
@@ -141,7 +142,8 @@ path_to p leaf n = map (λ level. bucket_of p level leaf) (below n)
 pub path_more : (p : Params) (leaf n : ℕ) → path_to p leaf (n + 1) ≡ path_to p leaf n ++ bucket_of p n leaf ∷ []
 path_more p leaf n = map-range_with_len_more (λ level. bucket_of p level leaf) 0 n n (omega arith)
 
-pub visits_more : (p : Params) (old mid new : Buckets) (before middle now : Planned) (ask : Option ℕ) (own : Spot) (leaf n : ℕ) → Plans p old mid before middle (λ t. visits_picked p t ask own (path_to p leaf n)) (λ t. visits p t own (path_to p leaf n)) → Plans p mid new middle now (λ t. visit_picked p t ask own (bucket_of p n leaf)) (λ t. visit p t own (bucket_of p n leaf)) →
+pub visits_more : (p : Params) (old mid new : Buckets) (before middle now : Planned) (ask : Option ℕ) (own : Spot) (leaf n : ℕ) → Plans p old mid before middle (λ t. visits_picked p t ask own (path_to p leaf n)) (λ t. visits p t own (path_to p leaf n)) → Plans
+    p mid new middle now (λ t. visit_picked p t ask own (bucket_of p n leaf)) (λ t. visit p t own (bucket_of p n leaf)) →
     Plans p old new before now (λ t. visits_picked p t ask own (path_to p leaf (n + 1))) (λ t. visits p t own (path_to p leaf (n + 1)))
 visits_more p old mid new before middle now ask own leaf n a b =
     plans_like p old new before now (λ t. visits_picked p t ask own (path_to p leaf n) ++ visit_picked p (visits p t own (path_to p leaf n)) ask own (bucket_of p n leaf)) (λ t. visits_picked p t ask own (path_to p leaf (n + 1)))

@@ -12,7 +12,7 @@ use Rattle.ob_base.specs.Tree.{buckets, width}
 use Rattle.ob_base.specs.Planned.{Planned}
 use Rattle.ob_bucket.specs.Version.{Version, HasSlots, key_at, used_at}
 use Rattle.ob_bucket.specs.Buckets.{Buckets, version_at, with_version, is_lifted, no_version}
-use Rattle.ob_ring.specs.FlatTable.{FlatTable, Spot, index_in, mark, lift, lift_order, reads, visit}
+use Rattle.ob_ring.specs.FlatTable.{FlatTable, Spot, index_in, mark_index, lift, lift_order, reads, visit}
 use Rattle.ob_ring.specs.Order.{order_of, is_live, is_spare}
 use Rattle.ob_ring.specs.Arrays.{IsTableOf, AreWhole, Rest, arrays_of}
 use Rattle.ob_ring.specs.Picked.{Picked, Plans, SameSeals, job_of, with_jobs, index_of, lift_picked, show_picked, shown_index, shown_of, key_shown, visit_picked, IsEmptied}
@@ -107,13 +107,14 @@ set_bit xs j i h = elim (cases_eq i j) [
   | inr ne ↦ get_or-set_other xs j i true false ne ∙ sym (ap (λ (b : Bool). b || slice_index_or xs i false) (ne_eqb i j ne))
 ]
 
-pub marked : (p : Params) (s : Buckets) (u j : ℕ) → AreWhole p s → u < buckets p → j < width p → (r : Rest) (t : FlatTable) → IsTableOf p (arrays_of s r) t → IsTableOf p (arrays_of (with_version s u (record (version_at s.versions u) { used = slice_set (version_at s.versions u).used j true })) r) (mark t u j)
+pub marked : (p : Params) (s : Buckets) (u j : ℕ) → AreWhole p s → u < buckets p → j < width p → (r : Rest) (t : FlatTable) → IsTableOf p (arrays_of s r) t → IsTableOf p
+    (arrays_of (with_version s u (record (version_at s.versions u) { used = slice_set (version_at s.versions u).used j true })) r) (mark_index t u j)
 marked p s u j whole hu hj r t is =
     let v : Version = version_at s.versions u in
     let v' : Version = record v { used = slice_set v.used j true } in
     let many : u < length s.versions = omega (arith, whole.many) in
     let slots : HasSlots p v = whole.slots u hu in
-    table_like p (with_used (arrays_of s r) u j) (arrays_of (with_version s u v') r) (mark t u j) (mark_is p (arrays_of s r) t u j is)
+    table_like p (with_used (arrays_of s r) u j) (arrays_of (with_version s u v') r) (mark_index t u j) (mark_is p (arrays_of s r) t u j is)
     (λ w i. sym (at_kept (λ x. key_at x i) s u v' many refl w))
     (λ w i. elim (cases_eq w u) [
       | inl e ↦ ap (λ (b : Bool). (b && (i == j)) || used_at (version_at s.versions w) i) (eq-eqb w u e) ∙ ap (λ (x : ℕ). (i == j) || used_at (version_at s.versions x) i) e
@@ -125,7 +126,7 @@ marked p s u j whole hu hj r t is =
 pub show_plans : (p : Params) (s : Buckets) (u : ℕ) (own ask : Option ℕ) (before : Planned) → AreWhole p s → u < buckets p → shown_of (version_at s.versions u) own < width p →
     Plans p s (with_version s u (record (version_at s.versions u) { used = slice_set (version_at s.versions u).used (shown_of (version_at s.versions u) own) true })) before
     (with_jobs before (job_of p s.versions (record { bucket = u; index = shown_of (version_at s.versions u) own; key = key_shown ask own }) ∷ []))
-    (λ t. show_picked p t ask own u) (λ t. mark t u (shown_index p t own u))
+    (λ t. show_picked p t ask own u) (λ t. mark_index t u (shown_index p t own u))
 show_plans p s u own ask before whole hu hj =
     let v : Version = version_at s.versions u in
     let j : ℕ = shown_of v own in
@@ -142,7 +143,7 @@ show_plans p s u own ask before whole hu hj =
         ranks = at_kept (λ x. x.ranks) s u v' many refl;
         order = refl;
       };
-      follows = λ r t is. subst (λ (i : ℕ). IsTableOf p (arrays_of (with_version s u v') r) (mark t u i)) (index r t is) (marked p s u j whole hu hj r t is);
+      follows = λ r t is. subst (λ (i : ℕ). IsTableOf p (arrays_of (with_version s u v') r) (mark_index t u i)) (index r t is) (marked p s u j whole hu hj r t is);
       jobs = λ r t is. ap (λ (i : ℕ). before.jobs ++ job_of p s.versions (record { bucket = u; index = i; key = key_shown ask own }) ∷ []) (index r t is);
     }
 
@@ -200,19 +201,21 @@ pub shown_low : (p : Params) (v : Version) (own : Option ℕ) → HasSlots p v �
 shown_low p v None slots low = found_low (λ j. not (used_at v j)) (length v.keys) (length v.used - length v.keys) (width p) (omega (arith, slots.keys, slots.used)) (omega (arith, p.in_range.some_real))
 shown_low p v (Some j) slots low = omega arith
 
-pub shown_plans : (p : Params) (s : Buckets) (u : ℕ) (own ask : Option ℕ) (before now : Planned) (v v' : Version) (index : ℕ) (job : Job) → AreWhole p s → u < buckets p → IfSome own (λ j. j < p.real) → v ≡ version_at s.versions u → index ≡ shown_of v own → v' ≡ record v { used = slice_set v.used index true } → job ≡ job_of p s.versions (record { bucket = u; index = index; key = key_shown ask own }) → now ≡ record before { jobs = before.jobs ++ job ∷ [] } →
-    Plans p s (with_version s u v') before now (λ t. show_picked p t ask own u) (λ t. mark t u (shown_index p t own u))
+pub shown_plans : (p : Params) (s : Buckets) (u : ℕ) (own ask : Option ℕ) (before now : Planned) (v v' : Version) (index : ℕ) (job : Job) → AreWhole p s → u < buckets p → IfSome own (λ j. j < p.real) → v ≡ version_at s.versions u → index ≡ shown_of v own → v'
+    ≡ record v { used = slice_set v.used index true } → job ≡ job_of p s.versions (record { bucket = u; index = index; key = key_shown ask own }) → now ≡ record before { jobs = before.jobs ++ job ∷ [] } →
+    Plans p s (with_version s u v') before now (λ t. show_picked p t ask own u) (λ t. mark_index t u (shown_index p t own u))
 shown_plans p s u own ask before now v v' index job whole hu low is at changed planned pushed =
     let j : ℕ = shown_of (version_at s.versions u) own in
     let at_j : index ≡ j = at ∙ ap (λ x. shown_of x own) is in
     let e : v' ≡ record (version_at s.versions u) { used = slice_set (version_at s.versions u).used j true } = changed ∙ (λ i. record (is i) { used = slice_set (is i).used (at_j i) true }) in
     let one : job ≡ job_of p s.versions (record { bucket = u; index = j; key = key_shown ask own }) = planned ∙ (λ i. job_of p s.versions (record { bucket = u; index = at_j i; key = key_shown ask own })) in
     let f : now ≡ with_jobs before (job_of p s.versions (record { bucket = u; index = j; key = key_shown ask own }) ∷ []) = pushed ∙ (λ i. with_jobs before (one i ∷ [])) in
-    subst (λ (x : Version). Plans p s (with_version s u x) before now (λ t. show_picked p t ask own u) (λ t. mark t u (shown_index p t own u))) (sym e)
-    (subst (λ (y : Planned). Plans p s (with_version s u (record (version_at s.versions u) { used = slice_set (version_at s.versions u).used j true })) before y (λ t. show_picked p t ask own u) (λ t. mark t u (shown_index p t own u))) (sym f)
+    subst (λ (x : Version). Plans p s (with_version s u x) before now (λ t. show_picked p t ask own u) (λ t. mark_index t u (shown_index p t own u))) (sym e)
+    (subst (λ (y : Planned). Plans p s (with_version s u (record (version_at s.versions u) { used = slice_set (version_at s.versions u).used j true })) before y (λ t. show_picked p t ask own u) (λ t. mark_index t u (shown_index p t own u))) (sym f)
     (show_plans p s u own ask before whole hu (shown_low p (version_at s.versions u) own (whole.slots u hu) low)))
 
-pub lifted_plans : (p : Params) (s new : Buckets) (u : ℕ) (v v' : Version) (js : List ℕ) (before now : Planned) → AreWhole p s → u < buckets p → v ≡ version_at s.versions u → js ≡ order_of v.keys v.used → IsEmptied (version_at s.versions u) v' → new ≡ record (with_version s u v') { lifted = slice_set s.lifted u true } → now ≡ with_jobs before (map (λ j. job_of p s.versions (index_of s.versions u j)) js) →
+pub lifted_plans : (p : Params) (s new : Buckets) (u : ℕ) (v v' : Version) (js : List ℕ) (before now : Planned) → AreWhole p s → u < buckets p → v ≡ version_at s.versions u → js ≡ order_of v.keys v.used → IsEmptied (version_at s.versions u) v' → new ≡ record
+    (with_version s u v') { lifted = slice_set s.lifted u true } → now ≡ with_jobs before (map (λ j. job_of p s.versions (index_of s.versions u j)) js) →
     Plans p s new before now (λ t. lift_picked p t u) (λ t. lift t u)
 lifted_plans p s new u v v' js before now whole hu is order emptied changed pushed =
     subst (λ (x : Buckets). Plans p s x before now (λ t. lift_picked p t u) (λ t. lift t u)) (sym changed)
@@ -260,24 +263,26 @@ visit_closed p s jobs ask own u whole up =
     plans_like p s s jobs jobs (λ t. []) (λ t. visit_picked p t ask own u) (λ t. t) (λ t. visit p t own u) (plans_none p s jobs whole)
     (λ r t is. closed_visit p t ask own u (is_lifted s u) (is.lifted_is u) up)
 
-pub visit_shows : (p : Params) (s new : Buckets) (before now : Planned) (ask own : Option ℕ) (spot : Spot) (u : ℕ) (many : ℕ) → AreWhole p s → u < buckets p → is_lifted s u ≡ false → own ≡ index_in u spot → many ≡ count_by (used_at (version_at s.versions u)) (range_with_len 0 (length (version_at s.versions u).used)) → (many + 1 ≢ p.dummies) →
-    Plans p s new before now (λ t. show_picked p t ask own u) (λ t. mark t u (shown_index p t own u)) → Plans p s new before now (λ t. visit_picked p t ask spot u) (λ t. visit p t spot u)
+pub visit_shows : (p : Params) (s new : Buckets) (before now : Planned) (ask own : Option ℕ) (spot : Spot) (u : ℕ) (many : ℕ) → AreWhole p s → u < buckets p → is_lifted s u ≡ false → own ≡ index_in u spot → many ≡ count_by (used_at (version_at s.versions u))
+    (range_with_len 0 (length (version_at s.versions u).used)) → (many + 1 ≢ p.dummies) →
+    Plans p s new before now (λ t. show_picked p t ask own u) (λ t. mark_index t u (shown_index p t own u)) → Plans p s new before now (λ t. visit_picked p t ask spot u) (λ t. visit p t spot u)
 visit_shows p s new before now ask own spot u many whole hu down at counted more plans =
-    plans_like p s new before now (λ t. show_picked p t ask own u) (λ t. visit_picked p t ask spot u) (λ t. mark t u (shown_index p t own u)) (λ t. visit p t spot u) plans
+    plans_like p s new before now (λ t. show_picked p t ask own u) (λ t. visit_picked p t ask spot u) (λ t. mark_index t u (shown_index p t own u)) (λ t. visit p t spot u) plans
     (λ r t is. (let open' : t.lifted u ≡ false = is.lifted_is u ∙ down in
     let n : reads p t u ≡ many = reads_are p (arrays_of s r) t u (version_at s.versions u) is (has_version s r u) (whole.slots u hu) ∙ sym counted in
     let mid : (reads p t u + 1 == p.dummies) ≡ false = ne_eqb (reads p t u + 1) p.dummies (λ e. more (omega arith)) in
-    (rw (open', mid) (λ i. show_picked p t ask (at i) u), rw (open', mid) (λ i. mark t u (shown_index p t (at i) u)))))
+    (rw (open', mid) (λ i. show_picked p t ask (at i) u), rw (open', mid) (λ i. mark_index t u (shown_index p t (at i) u)))))
 
-pub visit_lifts : (p : Params) (s mid new : Buckets) (before middle now : Planned) (ask own : Option ℕ) (spot : Spot) (u : ℕ) (many : ℕ) → AreWhole p s → u < buckets p → is_lifted s u ≡ false → own ≡ index_in u spot → many ≡ count_by (used_at (version_at s.versions u)) (range_with_len 0 (length (version_at s.versions u).used)) → (many + 1 ≡ p.dummies) →
-    Plans p s mid before middle (λ t. show_picked p t ask own u) (λ t. mark t u (shown_index p t own u)) → Plans p mid new middle now (λ t. lift_picked p t u) (λ t. lift t u) → Plans p s new before now (λ t. visit_picked p t ask spot u) (λ t. visit p t spot u)
+pub visit_lifts : (p : Params) (s mid new : Buckets) (before middle now : Planned) (ask own : Option ℕ) (spot : Spot) (u : ℕ) (many : ℕ) → AreWhole p s → u < buckets p → is_lifted s u ≡ false → own ≡ index_in u spot → many ≡ count_by
+    (used_at (version_at s.versions u)) (range_with_len 0 (length (version_at s.versions u).used)) → (many + 1 ≡ p.dummies) →
+    Plans p s mid before middle (λ t. show_picked p t ask own u) (λ t. mark_index t u (shown_index p t own u)) → Plans p mid new middle now (λ t. lift_picked p t u) (λ t. lift t u) → Plans p s new before now (λ t. visit_picked p t ask spot u) (λ t. visit p t spot u)
 visit_lifts p s mid new before middle now ask own spot u many whole hu down at counted last shows lifts =
-    plans_like p s new before now (λ t. show_picked p t ask own u ++ lift_picked p (mark t u (shown_index p t own u)) u) (λ t. visit_picked p t ask spot u) (λ t. lift (mark t u (shown_index p t own u)) u) (λ t. visit p t spot u)
-    (plans_then p s mid new before middle now (λ t. show_picked p t ask own u) (λ t. lift_picked p t u) (λ t. mark t u (shown_index p t own u)) (λ t. lift t u) shows lifts)
+    plans_like p s new before now (λ t. show_picked p t ask own u ++ lift_picked p (mark_index t u (shown_index p t own u)) u) (λ t. visit_picked p t ask spot u) (λ t. lift (mark_index t u (shown_index p t own u)) u) (λ t. visit p t spot u)
+    (plans_then p s mid new before middle now (λ t. show_picked p t ask own u) (λ t. lift_picked p t u) (λ t. mark_index t u (shown_index p t own u)) (λ t. lift t u) shows lifts)
     (λ r t is. (let open' : t.lifted u ≡ false = is.lifted_is u ∙ down in
     let n : reads p t u ≡ many = reads_are p (arrays_of s r) t u (version_at s.versions u) is (has_version s r u) (whole.slots u hu) ∙ sym counted in
     let end' : (reads p t u + 1 == p.dummies) ≡ true = eq-eqb (reads p t u + 1) p.dummies (omega arith) in
-    (rw (open', end') (λ i. show_picked p t ask (at i) u ++ lift_picked p (mark t u (shown_index p t (at i) u)) u), rw (open', end') (λ i. lift (mark t u (shown_index p t (at i) u)) u))))
+    (rw (open', end') (λ i. show_picked p t ask (at i) u ++ lift_picked p (mark_index t u (shown_index p t (at i) u)) u), rw (open', end') (λ i. lift (mark_index t u (shown_index p t (at i) u)) u))))
 
 pub one_counted : (xs : List Bool) (j many next : ℕ) (b : Bool) → many ≡ count_by (λ i. slice_index_or xs i false) (range_with_len 0 j) → slice_index_or xs j false ≡ b → next ≡ many + cond b 1 0 → next ≡ count_by (λ i. slice_index_or xs i false) (range_with_len 0 (j + 1))
 one_counted xs j many next b before is e = e ∙ (λ i. before i + cond (sym is i) 1 0) ∙ sym (count_by-range_more (λ i. slice_index_or xs i false) j)

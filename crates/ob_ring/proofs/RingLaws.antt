@@ -26,7 +26,8 @@ use Rattle.ob_ring.specs.Filling.{arrays_in, FillsTo}
 use Rattle.ob_ring.proofs.FillAll.{refilled_is}
 use Rattle.ob_ring.proofs.TableLaws.{steps_keep_order, none_counted}
 
-pub batch_is : (p : Params) (book book' : List (Option Entry)) (metas metas' : Buckets) (stash : Held) (counter : ℕ) (before now : Planned) (asked : List (Option ℕ × Entry)) → Fetches p book book' (record metas { order = [] }) metas' before now asked → before.jobs ≡ [] → before.places ≡ [] → (t : FlatTable) → StandsFor (record { p = p; book = book; metas = metas; stash = stash; counter = counter }) t →
+pub batch_is : (p : Params) (book book' : List (Option Entry)) (metas metas' : Buckets) (stash : Held) (counter : ℕ) (before now : Planned) (asked : List (Option ℕ × Entry)) → Fetches p book book' (record metas { order = [] }) metas' before now asked →
+    before.jobs ≡ [] → before.places ≡ [] → (t : FlatTable) → StandsFor (record { p = p; book = book; metas = metas; stash = stash; counter = counter }) t →
     IsBatch (record { p = p; book = book; metas = metas; stash = stash; counter = counter }) (record { p = p; book = book'; metas = metas'; stash = stash; counter = counter }) now asked t
 batch_is p book book' metas metas' stash counter before now asked f no_jobs no_places t s = record {
   table = record { orderly = steps_keep_order p t (Batch (leaf_places asked)) s.orderly; arrays = f.follows counter t s.orderly s.arrays };
@@ -34,7 +35,8 @@ batch_is p book book' metas metas' stash counter before now asked f no_jobs no_p
   places = f.places counter t s.orderly s.arrays ∙ (λ i. no_places i ++ places_from p (length (no_jobs i)) t (leaf_places asked));
 }
 
-pub lifting_is : (p : Params) (book : List (Option Entry)) (metas mid metas' : Buckets) (stash : Held) (counter next : ℕ) (before now : Planned) → Plans p metas mid before now (λ t. final_picked p t (eviction_path p counter)) (λ t. after_final p t (eviction_path p counter)) → before.jobs ≡ [] → metas' ≡ record mid { order = metas'.order } → next ≡ (counter + p.evictions) % 2 ^ p.levels → (t : FlatTable) → StandsFor (record { p = p; book = book; metas = metas; stash = stash; counter = counter }) t →
+pub lifting_is : (p : Params) (book : List (Option Entry)) (metas mid metas' : Buckets) (stash : Held) (counter next : ℕ) (before now : Planned) → Plans p metas mid before now (λ t. final_picked p t (eviction_path p counter))
+    (λ t. after_final p t (eviction_path p counter)) → before.jobs ≡ [] → metas' ≡ record mid { order = metas'.order } → next ≡ (counter + p.evictions) % 2 ^ p.levels → (t : FlatTable) → StandsFor (record { p = p; book = book; metas = metas; stash = stash; counter = counter }) t →
     IsLifting (record { p = p; book = book; metas = metas; stash = stash; counter = counter }) (record { p = p; book = book; metas = metas'; stash = stash; counter = next }) now t
 lifting_is p book metas mid metas' stash counter next before now plans no_jobs listed more t s =
     let after_lifts : IsTableOf p (arrays_of mid (rest_of book counter)) (after_final p t (eviction_path p counter)) = plans.follows (rest_of book counter) t s.arrays in
@@ -112,7 +114,8 @@ empty_stands p = record {
 
 -- ---- a refill
 
-module _ (r : Kept) (p : Params) (book : List (Option Entry)) (metas mid cleared : Buckets) (stash : Held) (counter : ℕ) (words : List ℕ) (first : ℕ × ℕ) (view : ◌≡◌ {A = Kept} (record { p = p; book = book; metas = metas; stash = stash; counter = counter }) r) (whole : AreWhole p metas) (listed : (r.metas).order ≡ filter (λ u. is_lifted r.metas u) (by_falling_level ((r.p).levels + 1))) (f : FillsTo p book metas mid words first (length metas.order)) (changed : cleared ≡ record mid { lifted = replicate (length mid.lifted) false }) where
+module _ (r : Kept) (p : Params) (book : List (Option Entry)) (metas mid cleared : Buckets) (stash : Held) (counter : ℕ) (words : List ℕ) (first : ℕ × ℕ) (view : ◌≡◌ {A = Kept} (record { p = p; book = book; metas = metas; stash = stash; counter = counter }) r)
+    (whole : AreWhole p metas) (listed : (r.metas).order ≡ filter (λ u. is_lifted r.metas u) (by_falling_level ((r.p).levels + 1))) (f : FillsTo p book metas mid words first (length metas.order)) (changed : cleared ≡ record mid { lifted = replicate (length mid.lifted) false }) where
   listed_here : metas.order ≡ filter (λ u. is_lifted metas u) (by_falling_level (p.levels + 1))
   listed_here = subst (λ (o : Kept). (o.metas).order ≡ filter (λ u. is_lifted o.metas u) (by_falling_level ((o.p).levels + 1))) (sym view) listed
 

@@ -5,7 +5,7 @@ use Rattle.std.proofs.Common.{arith, refl, sym, ◌∙◌}
 use Rattle.std.proofs.lemmas.Bool.{or_from, eqb-false}
 use Rattle.std.proofs.lemmas.Bool.Decides.{nat_tests}
 use Rattle.ob_base.specs.declared.params.Params.{Params}
-use Rattle.ob_ring.specs.FlatTable.{FlatTable, Row, Spot, InStash, In, spot_of, leaf_of, mark, lift, out_of, leave, fetched, fetch, asks_for, written, write, asked_row}
+use Rattle.ob_ring.specs.FlatTable.{FlatTable, Row, Spot, InStash, In, spot_of, leaf_of, mark_index, lift, out_of, leave, fetched, fetch, asks_for, written_row, write, asked_row}
 pub use Rattle.ob_ring.specs.Sound.{Placed, IsSound}
 
 -- ---- a spot after each change of a row
@@ -49,7 +49,7 @@ unmarked : (v i u j : ℕ) (b : Bool) → ((v ≡ u) → (i ≡ j) → ⊥) → 
 unmarked v i u j b h off = grind (arith, nat_tests)
 
 -- an index that no key holds may be marked
-pub sound_mark : (p : Params) (t : FlatTable) (v i : ℕ) → ((k : ℕ) → spot_of (t.rows k) ≢ In v i) → IsSound p t → IsSound p (mark t v i)
+pub sound_mark : (p : Params) (t : FlatTable) (v i : ℕ) → ((k : ℕ) → spot_of (t.rows k) ≢ In v i) → IsSound p t → IsSound p (mark_index t v i)
 sound_mark p t v i vacant s = record {
   placed = λ k u j e.
       (let at : Placed p t k u j = s.placed k u j e in
@@ -78,18 +78,18 @@ vacant_fetch p t (Some a) leaf s k u j e f =
     let was : ((a == k) ≡ false) × (spot_of (t.rows k) ≡ In u j) × (leaf_of (fetched (a == k) leaf (t.rows k)) 0 ≡ leaf_of (t.rows k) 0) = fetched-In (a == k) leaf (t.rows k) u j f in
     eqb-false a k was.0 (s.alone a k u j e was.1)
 
-written_stash : (leaf : Option ℕ) (u j : ℕ) → spot_of (written leaf) ≡ In u j → ⊥
+written_stash : (leaf : Option ℕ) (u j : ℕ) → spot_of (written_row leaf) ≡ In u j → ⊥
 written_stash None u j e = cc
 written_stash (Some x) u j e = cc
 
-write_case : (b : Bool) (leaf : Option ℕ) (r : Option Row) (u j : ℕ) → spot_of (cond b (written leaf) r) ≡ In u j → (cond b (written leaf) r ≡ r) × (spot_of r ≡ In u j)
+write_case : (b : Bool) (leaf : Option ℕ) (r : Option Row) (u j : ℕ) → spot_of (cond b (written_row leaf) r) ≡ In u j → (cond b (written_row leaf) r ≡ r) × (spot_of r ≡ In u j)
 write_case true leaf r u j e = absurd (written_stash leaf u j e)
 write_case false leaf r u j e = (refl, e)
 
 pub sound_write : (p : Params) (t : FlatTable) (key : ℕ) (leaf : Option ℕ) → IsSound p t → IsSound p (write t key leaf)
 sound_write p t key leaf s = record {
   placed = λ k u j e.
-      (let was : (cond (k == key) (written leaf) (t.rows k) ≡ t.rows k) × (spot_of (t.rows k) ≡ In u j) = write_case (k == key) leaf (t.rows k) u j e in
+      (let was : (cond (k == key) (written_row leaf) (t.rows k) ≡ t.rows k) × (spot_of (t.rows k) ≡ In u j) = write_case (k == key) leaf (t.rows k) u j e in
       let at : Placed p t k u j = s.placed k u j was.1 in
       record { real = at.real; on_path = rw was.0 at.on_path; unread = at.unread; standing = at.standing });
   alone = λ k k' u j e e'. s.alone k k' u j (write_case (k == key) leaf (t.rows k) u j e).1 (write_case (k' == key) leaf (t.rows k') u j e').1;

@@ -10,7 +10,7 @@ use Rattle.std.proofs.Common.{zero, suc, arith, refl, sym, ap, ◌∙◌, inl, i
 use Rattle.std.proofs.lemmas.Bool.{true≢false, false≢true, cases_Bool}
 use Rattle.ob_base.specs.declared.fault.Damaged.{Damaged}
 use Rattle.ob_base.specs.declared.job.Job.{Job}
-use Rattle.ob_ring.specs.Settling.{Rows, fault_of, or_else, first_fault, with_row, rows_after}
+use Rattle.ob_ring.specs.Settling.{Rows, job_damage, or_else, first_fault, with_row, rows_after}
 
 abbrev pub AreLow : ℕ → Rows → Type 0
 AreLow n m = (k : ℕ) → get m k ≢ None → k < n
@@ -70,13 +70,13 @@ room_left n room m k h g low none =
 
 -- ---- jobs one after another
 
-pub fault_both : (xs : List Job) (j : Job) → first_fault (xs ++ j ∷ []) ≡ or_else (first_fault xs) (fault_of j)
-fault_both [] j = or_none (fault_of j)
+pub fault_both : (xs : List Job) (j : Job) → first_fault (xs ++ j ∷ []) ≡ or_else (first_fault xs) (job_damage j)
+fault_both [] j = or_none (job_damage j)
   where
     or_none : (o : Option Damaged) → or_else o None ≡ o
     or_none None = refl
     or_none (Some d) = refl
-fault_both (x ∷ xs) j = ap (or_else (fault_of x)) (fault_both xs j) ∙ or_more (fault_of x) (first_fault xs) (fault_of j)
+fault_both (x ∷ xs) j = ap (or_else (job_damage x)) (fault_both xs j) ∙ or_more (job_damage x) (first_fault xs) (job_damage j)
   where
     or_more : (a b c : Option Damaged) → or_else a (or_else b c) ≡ or_else (or_else a b) c
     or_more None b c = refl
@@ -94,9 +94,9 @@ no_fault : (o e : Option Damaged) → or_else o e ≡ None → (o ≡ None) × (
 no_fault None e n = (refl, n)
 no_fault (Some c) e n = absurd (cc)
 
-pub first_at : (xs : List Job) (i : ℕ) (d : Damaged) (z : Job) → i < length xs → first_fault (take i xs) ≡ None → fault_of (slice_index_or xs i z) ≡ Some d → first_fault xs ≡ Some d
+pub first_at : (xs : List Job) (i : ℕ) (d : Damaged) (z : Job) → i < length xs → first_fault (take i xs) ≡ None → job_damage (slice_index_or xs i z) ≡ Some d → first_fault xs ≡ Some d
 first_at [] i d z h none at = absurd (omega arith)
 first_at (x ∷ xs) zero d z h none at = ap (λ (o : Option Damaged). or_else o (first_fault xs)) at
 first_at (x ∷ xs) (suc i) d z h none at =
-    let parts : (fault_of x ≡ None) × (first_fault (take i xs) ≡ None) = no_fault (fault_of x) (first_fault (take i xs)) none in
-    first_case x (fault_of x) (first_fault xs) d parts.0 (first_at xs i d z (omega arith) parts.1 at)
+    let parts : (job_damage x ≡ None) × (first_fault (take i xs) ≡ None) = no_fault (job_damage x) (first_fault (take i xs)) none in
+    first_case x (job_damage x) (first_fault xs) d parts.0 (first_at xs i d z (omega arith) parts.1 at)

@@ -53,7 +53,7 @@ counted_in p t o = record {
   reads_is = λ u low. count_low (t.lifted u) p.dummies (reads p t u) low;
 }
 
-few_counted : (p : Params) (t : FlatTable) (count : ℕ → ℕ) → IsCounted p t count → (u : ℕ) → t.lifted u ≡ false → reads p t u < p.dummies
+pub few_counted : (p : Params) (t : FlatTable) (count : ℕ → ℕ) → IsCounted p t count → (u : ℕ) → t.lifted u ≡ false → reads p t u < p.dummies
 few_counted p t count c u down =
     let low : count u < p.dummies = leb-false p.dummies (count u) (sym (c.lifted_is u) ∙ down) in
     omega (arith, c.reads_is u low)

@@ -7,7 +7,7 @@ use Rattle.std.proofs.lemmas.Bool.{true≢false, cases_Bool, cases_eq, eq-eqb, a
 use Rattle.ob_base.specs.declared.params.Params.{Params}
 use Rattle.ob_base.specs.Tree.{below}
 use Rattle.ob_bucket.specs.Version.{Version, HasSlots, key_at, used_at}
-use Rattle.ob_ring.specs.FlatTable.{FlatTable, Row, Spot, InStash, In, spot_of, is_at, live, reads, lift_order, mark, lift, leave, out_of}
+use Rattle.ob_ring.specs.FlatTable.{FlatTable, Row, Spot, InStash, In, spot_of, is_at, live, reads, lift_order, mark_index, lift, leave, out_of}
 use Rattle.ob_ring.specs.Order.{is_key, is_live, order_of}
 use Rattle.ob_ring.specs.Arrays.{Arrays, IsTableOf, leaf_in}
 use Rattle.ob_ring.specs.Picked.{holder, shown_index, shown_of}
@@ -29,7 +29,8 @@ table_like p a b t is keys used lifted leaves counter = record {
 
 -- ---- an index
 
-any_from : (q : ℕ → Bool) (a n k : ℕ) → a ≤ k → k < a + n → q k ≡ true → list_any q (range_with_len a n) ≡ true
+-- one of a row passes
+pub any_from : (q : ℕ → Bool) (a n k : ℕ) → a ≤ k → k < a + n → q k ≡ true → list_any q (range_with_len a n) ≡ true
 any_from q a zero k h g on = absurd (omega arith)
 any_from q a (suc n) k h g on = elim (cases_eq a k) [
   | inl at ↦ or_left (q a) (list_any q (range_with_len (a + 1) n)) (ap q at ∙ on)
@@ -114,7 +115,7 @@ with_used a u j = record a { used_at = λ v i. ((v == u) && (i == j)) || a.used_
 abbrev pub with_lifted : Arrays → ℕ → Arrays
 with_lifted a u = record a { key_at = λ v i. cond (v == u) None (a.key_at v i); lifted_at = λ v. (v == u) || a.lifted_at v }
 
-pub mark_is : (p : Params) (a : Arrays) (t : FlatTable) (u j : ℕ) → IsTableOf p a t → IsTableOf p (with_used a u j) (mark t u j)
+pub mark_is : (p : Params) (a : Arrays) (t : FlatTable) (u j : ℕ) → IsTableOf p a t → IsTableOf p (with_used a u j) (mark_index t u j)
 mark_is p a t u j is = record {
   keys_low = is.keys_low;
   leaves_are = is.leaves_are;

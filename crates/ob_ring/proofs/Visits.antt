@@ -6,7 +6,7 @@ use Rattle.std.proofs.Common.{arith, append_assoc, refl, sym, ap, ◌∙◌, inl
 use Rattle.std.proofs.lemmas.Bool.{true≢false, cases_Bool, eqb-true, eq-eqb, ne_eqb, lt-ltb, le-ltb, le-leb, lt-leb, cases_lt, cases_eq, or_left, or_right}
 use Rattle.ob_base.specs.declared.params.Params.{Params}
 use Rattle.ob_schedule.specs.Paths.{is_one_of}
-use Rattle.ob_ring.specs.FlatTable.{FlatTable, Spot, InStash, In, Shown, spot_of, index_shown, mark, lift, reads, lift_order, numbered, lift_shown, visit_shown, visit, visits_shown, visits}
+use Rattle.ob_ring.specs.FlatTable.{FlatTable, Spot, InStash, In, Shown, spot_of, index_shown, mark_index, lift, reads, lift_order, shown_numbered, lift_shown, visit_shown, visit, visits_shown, visits}
 use Rattle.ob_schedule.specs.Holes.{Hole, lift_holes, visit_holes}
 use Rattle.ob_ring.proofs.Ranges.{count_by-range_mark, count_by-range_agree, dummy_left}
 use Rattle.ob_ring.proofs.Members.{IsDistinct}
@@ -46,15 +46,15 @@ index_shown_new p t (In v i) u s few gone free =
     record { within = omega (arith, (free i at).0); unread = (free i at).1; vacant = λ k. gone k u i at }))
     (new_dummy p t u s few)
 
-pub reads_mark_same : (p : Params) (t : FlatTable) (u j : ℕ) → j < p.real + p.dummies → t.used u j ≡ false → reads p (mark t u j) u ≡ reads p t u + 1
+pub reads_mark_same : (p : Params) (t : FlatTable) (u j : ℕ) → j < p.real + p.dummies → t.used u j ≡ false → reads p (mark_index t u j) u ≡ reads p t u + 1
 reads_mark_same p t u j h off =
     count_by-range_agree (λ i. ((u == u) && (i == j)) || t.used u i) (λ i. (i == j) || t.used u i) (p.real + p.dummies) (λ i k. rw (eq-eqb u u refl) refl)
     ∙ count_by-range_mark (t.used u) (p.real + p.dummies) j h off
 
-pub reads_mark_other : (p : Params) (t : FlatTable) (u j v : ℕ) → (v == u) ≡ false → reads p (mark t u j) v ≡ reads p t v
+pub reads_mark_other : (p : Params) (t : FlatTable) (u j v : ℕ) → (v == u) ≡ false → reads p (mark_index t u j) v ≡ reads p t v
 reads_mark_other p t u j v off = count_by-range_agree (λ i. ((v == u) && (i == j)) || t.used v i) (t.used v) (p.real + p.dummies) (λ i k. rw off refl)
 
-pub holes-numbered : (u n : ℕ) (js : List ℕ) → map hole_of (numbered u n js) ≡ map (λ i. record { bucket = u; number = i }) (range_with_len n (length js))
+pub holes-numbered : (u n : ℕ) (js : List ℕ) → map hole_of (shown_numbered u n js) ≡ map (λ i. record { bucket = u; number = i }) (range_with_len n (length js))
 holes-numbered u n [] = refl
 holes-numbered u n (j ∷ js) = ap (λ (hs : List Hole). (record { bucket = u; number = n }) ∷ hs) (holes-numbered u (n + 1) js)
 
@@ -94,15 +94,15 @@ visit_closed p t own u count s c gone full =
 gone_lift : (t : FlatTable) (own : Spot) (v : ℕ) → IsVacant t own → IsVacant (lift t v) own
 gone_lift t own v gone k u j e f = gone k u j e (out_of-In v (spot_of (t.rows k)) u j (sym (spot-leave v (t.rows k)) ∙ f)).0
 
-counted_mark : (p : Params) (t : FlatTable) (u j : ℕ) (count : ℕ → ℕ) → IsCounted p t count → j < p.real + p.dummies → t.used u j ≡ false → count u < p.dummies → (v : ℕ) → bump u count v < p.dummies → reads p (mark t u j) v ≡ bump u count v
+counted_mark : (p : Params) (t : FlatTable) (u j : ℕ) (count : ℕ → ℕ) → IsCounted p t count → j < p.real + p.dummies → t.used u j ≡ false → count u < p.dummies → (v : ℕ) → bump u count v < p.dummies → reads p (mark_index t u j) v ≡ bump u count v
 counted_mark p t u j count c h off few v low = elim (cases_Bool (v == u)) [
   | inl on ↦ (let same : v ≡ u = eqb-true v u on in
-      let e : reads p (mark t u j) u ≡ bump u count u = reads_mark_same p t u j h off ∙ (let r : reads p t u ≡ count u = c.reads_is u few in let b : bump u count u ≡ count u + 1 = bump_same u count u (eq-eqb u u refl) in omega arith) in
+      let e : reads p (mark_index t u j) u ≡ bump u count u = reads_mark_same p t u j h off ∙ (let r : reads p t u ≡ count u = c.reads_is u few in let b : bump u count u ≡ count u + 1 = bump_same u count u (eq-eqb u u refl) in omega arith) in
       rw same e)
   | inr out ↦ (let b : bump u count v ≡ count v = bump_other u count v out in reads_mark_other p t u j v out ∙ c.reads_is v (omega arith) ∙ sym b)
 ]
 
-others_mark : (t : FlatTable) (u j v i : ℕ) → (v == u) ≡ false → (mark t u j).used v i ≡ t.used v i
+others_mark : (t : FlatTable) (u j v i : ℕ) → (v == u) ≡ false → (mark_index t u j).used v i ≡ t.used v i
 others_mark t u j v i off = rw off refl
 
 visit_open : (p : Params) (t : FlatTable) (own : Spot) (u : ℕ) (count : ℕ → ℕ) → IsSound p t → IsCounted p t count → IsVacant t own → ((j : ℕ) → own ≡ In u j → (j < p.real) × (t.used u j ≡ false)) → count u + 1 < p.dummies → VisitLaw p t own u count
@@ -133,11 +133,11 @@ visit_last p t own u count s c gone free last =
     let j : ℕ = index_shown p t own u in
     let new : IsNew p t u j = index_shown_new p t own u s (omega arith) gone free in
     let mid : (count u + 1 == p.dummies) ≡ true = eq-eqb (count u + 1) p.dummies last in
-    let marked : IsSound p (mark t u j) = sound_mark p t u j new.vacant s in
-    let full : reads p (mark t u j) u ≡ count u + 1 = reads_mark_same p t u j new.within new.unread ∙ (omega arith) in
-    let lifts : map hole_of (lift_shown p (mark t u j) u) ≡ lift_holes p u (count u + 1) =
-    holes-numbered u (reads p (mark t u j) u) (lift_order p (mark t u j) u)
-    ∙ (λ i. map (λ n. record { bucket = u; number = n }) (range_with_len (full i) (length-lift_order p (mark t u j) u marked (omega arith) i))) in
+    let marked : IsSound p (mark_index t u j) = sound_mark p t u j new.vacant s in
+    let full : reads p (mark_index t u j) u ≡ count u + 1 = reads_mark_same p t u j new.within new.unread ∙ (omega arith) in
+    let lifts : map hole_of (lift_shown p (mark_index t u j) u) ≡ lift_holes p u (count u + 1) =
+    holes-numbered u (reads p (mark_index t u j) u) (lift_order p (mark_index t u j) u)
+    ∙ (λ i. map (λ n. record { bucket = u; number = n }) (range_with_len (full i) (length-lift_order p (mark_index t u j) u marked (omega arith) i))) in
     record {
       holes = rw (down, many, mid, lt-ltb (count u) p.dummies (omega arith)) (ap (λ (hs : List Hole). (record { bucket = u; number = count u }) ∷ hs) lifts);
       counted = rw (down, many, mid) (record {
@@ -147,9 +147,9 @@ visit_last p t own u count s c gone free last =
         ];
         reads_is = counted_mark p t u j count c new.within new.unread (omega arith);
       });
-      sound = rw (down, many, mid) (sound_lift p (mark t u j) u marked);
+      sound = rw (down, many, mid) (sound_lift p (mark_index t u j) u marked);
       others = λ v i off. rw (down, many, mid) (others_mark t u j v i off);
-      gone = rw (down, many, mid) (gone_lift (mark t u j) own u gone);
+      gone = rw (down, many, mid) (gone_lift (mark_index t u j) own u gone);
     }
 
 pub visit_law : (p : Params) (t : FlatTable) (own : Spot) (u : ℕ) (count : ℕ → ℕ) → IsSound p t → IsCounted p t count → IsVacant t own → ((j : ℕ) → own ≡ In u j → (j < p.real) × (t.used u j ≡ false)) → VisitLaw p t own u count
@@ -191,7 +191,7 @@ pub record VisitsLaw (p : Params) (t : FlatTable) (own : Spot) (us : List ℕ) (
   pub counted : IsCounted p (visits p t own us) (bumps us count)
   pub sound : IsSound p (visits p t own us)
 
-off_itself : (us : List ℕ) (u v : ℕ) → is_one_of us u ≡ false → is_one_of us v ≡ true → (v == u) ≡ false
+pub off_itself : (us : List ℕ) (u v : ℕ) → is_one_of us u ≡ false → is_one_of us v ≡ true → (v == u) ≡ false
 off_itself us u v off on = ne_eqb v u (λ e. true≢false (sym on ∙ ap (is_one_of us) e ∙ off))
 
 pub visits_law : (p : Params) (t : FlatTable) (own : Spot) (us : List ℕ) (count : ℕ → ℕ) → IsDistinct us → IsSound p t → IsCounted p t count → IsVacant t own → ((u j : ℕ) → is_one_of us u ≡ true → own ≡ In u j → (j < p.real) × (t.used u j ≡ false)) → VisitsLaw p t own us count

@@ -10,7 +10,7 @@ use Rattle.ob_bucket.specs.Buckets.{Buckets, version_at}
 use Rattle.ob_tables.specs.declared.entry.Entry.{Entry}
 use Rattle.ob_tables.specs.Kept.{entry_at}
 use Rattle.ob_ring.specs.declared.found.Found.{Found}
-use Rattle.ob_ring.specs.FlatTable.{FlatTable, Row, Spot, InStash, In, Writes as WritesStep, spot_of, is_at, written, write, after_writes}
+use Rattle.ob_ring.specs.FlatTable.{FlatTable, Row, Spot, InStash, In, Writes as WritesStep, spot_of, is_at, written_row, write, after_writes}
 use Rattle.ob_ring.specs.Arrays.{Arrays, IsTableOf, AreWhole, arrays_of, rest_of, leaf_in, leaf_of_entry}
 use Rattle.ob_ring.specs.Picked.{spot_at}
 use Rattle.ob_ring.specs.Paths.{IsTakenOut}
@@ -28,23 +28,23 @@ use Rattle.ob_ring.proofs.FetchLaws.{fetched_spot, emptied, one_key}
 abbrev pub with_written : Arrays → ℕ → Spot → Option ℕ → Arrays
 with_written a key own leaf = record a { key_at = λ v i. cond (is_at v i own) None (a.key_at v i); leaf_at = λ k. cond (k == key) leaf (a.leaf_at k) }
 
-written_leaf : (leaf : Option ℕ) → leaf_in (written leaf) ≡ leaf
+written_leaf : (leaf : Option ℕ) → leaf_in (written_row leaf) ≡ leaf
 written_leaf None = refl
 written_leaf (Some x) = refl
 
-written_spot : (leaf : Option ℕ) → spot_of (written leaf) ≡ InStash
+written_spot : (leaf : Option ℕ) → spot_of (written_row leaf) ≡ InStash
 written_spot None = refl
 written_spot (Some x) = refl
 
-both_leaves : (b : Bool) (leaf o : Option ℕ) (r : Option Row) → leaf_in r ≡ o → leaf_in (cond b (written leaf) r) ≡ cond b leaf o
+both_leaves : (b : Bool) (leaf o : Option ℕ) (r : Option Row) → leaf_in r ≡ o → leaf_in (cond b (written_row leaf) r) ≡ cond b leaf o
 both_leaves true leaf o r e = written_leaf leaf
 both_leaves false leaf o r e = e
 
-still_in : (b : Bool) (leaf : Option ℕ) (r : Option Row) (u j : ℕ) → spot_of (cond b (written leaf) r) ≡ In u j → (b ≡ false) × (spot_of r ≡ In u j)
+still_in : (b : Bool) (leaf : Option ℕ) (r : Option Row) (u j : ℕ) → spot_of (cond b (written_row leaf) r) ≡ In u j → (b ≡ false) × (spot_of r ≡ In u j)
 still_in true leaf r u j e = let f : InStash ≡ In u j = sym (written_spot leaf) ∙ e in absurd (cc)
 still_in false leaf r u j e = (refl, e)
 
-now_in : (b : Bool) (leaf : Option ℕ) (r : Option Row) (u j : ℕ) → b ≡ false → spot_of r ≡ In u j → spot_of (cond b (written leaf) r) ≡ In u j
+now_in : (b : Bool) (leaf : Option ℕ) (r : Option Row) (u j : ℕ) → b ≡ false → spot_of r ≡ In u j → spot_of (cond b (written_row leaf) r) ≡ In u j
 now_in true leaf r u j off e = absurd (true≢false off)
 now_in false leaf r u j off e = e
 
@@ -87,7 +87,8 @@ chosen_low p true None own e o h g f = absurd (cc)
 chosen_low p true (Some v) own e o h g f = let same : own ≡ e = cc in subst (λ (x : Entry). x.leaf < 2 ^ p.levels) same h
 chosen_low p false value own e o h g f = g f
 
-pub one_written : (p : Params) (book_old book_new : List (Option Entry)) (old new : Buckets) (rows_old rows_new : Rows) (w : Write) (own : Entry) (found : Option Found) → IsBook p book_old → own.leaf < 2 ^ p.levels → w.key < p.keys → IsAskFound p old book_old (Some w.key) found → IsTakenOut p old new (spot_at found) → length book_new ≡ length book_old →
+pub one_written : (p : Params) (book_old book_new : List (Option Entry)) (old new : Buckets) (rows_old rows_new : Rows) (w : Write) (own : Entry) (found : Option Found) → IsBook p book_old → own.leaf < 2 ^ p.levels → w.key < p.keys → IsAskFound p old book_old
+    (Some w.key) found → IsTakenOut p old new (spot_at found) → length book_new ≡ length book_old →
     ((k : ℕ) → entry_at book_new k ≡ with_entry (λ i. entry_at book_old i) w.key (entry_of w.value own) k) → rows_new ≡ with_value rows_old w.key w.value → Writes p book_old book_new old new rows_old rows_new ((w, own) ∷ [])
 one_written p book_old book_new old new rows_old rows_new w own found book leaf low at taken many entries rows = record {
   book = record {
@@ -124,7 +125,8 @@ values_both : (rows : Rows) (xs ys : List (Write × Entry)) → values_after row
 values_both rows [] ys = refl
 values_both rows (x ∷ xs) ys = values_both (with_value rows (x.0).key (x.0).value) xs ys
 
-pub writes_then : (p : Params) (book_old book_mid book_new : List (Option Entry)) (old mid new : Buckets) (rows_old rows_mid rows_new : Rows) (xs ys : List (Write × Entry)) → Writes p book_old book_mid old mid rows_old rows_mid xs → Writes p book_mid book_new mid new rows_mid rows_new ys → Writes p book_old book_new old new rows_old rows_new (xs ++ ys)
+pub writes_then : (p : Params) (book_old book_mid book_new : List (Option Entry)) (old mid new : Buckets) (rows_old rows_mid rows_new : Rows) (xs ys : List (Write × Entry)) → Writes p book_old book_mid old mid rows_old rows_mid xs → Writes p book_mid book_new
+    mid new rows_mid rows_new ys → Writes p book_old book_new old new rows_old rows_new (xs ++ ys)
 writes_then p book_old book_mid book_new old mid new rows_old rows_mid rows_new xs ys a b =
     let split : leaf_writes (xs ++ ys) ≡ leaf_writes xs ++ leaf_writes ys = map-both (λ w. ((w.0).key, leaf_of_write (w.0).value w.1)) xs ys in
     record {

@@ -72,8 +72,8 @@ asks_for (Some a) k = a == k
 abbrev pub index_shown : Params → FlatTable → Spot → ℕ → ℕ
 index_shown p t own u = unwrap_or (index_in u own) (unwrap_or (find (λ j. not (t.used u j)) (range_with_len p.real p.dummies)) 0)
 
-abbrev pub mark : FlatTable → ℕ → ℕ → FlatTable
-mark t u j = record t { used = λ v i. ((v == u) && (i == j)) || t.used v i }
+abbrev pub mark_index : FlatTable → ℕ → ℕ → FlatTable
+mark_index t u j = record t { used = λ v i. ((v == u) && (i == j)) || t.used v i }
 
 -- the unread indexes that a lift reads: the live ones rising, then the others rising
 abbrev pub lift_order : Params → FlatTable → ℕ → List ℕ
@@ -97,23 +97,23 @@ pub record Shown : Type 0 where
   pub number : ℕ
   pub index : ℕ
 
-abbrev pub numbered : ℕ → ℕ → List ℕ → List Shown
-numbered u n [] = []
-numbered u n (j ∷ js) = record { bucket = u; number = n; index = j } ∷ numbered u (n + 1) js
+abbrev pub shown_numbered : ℕ → ℕ → List ℕ → List Shown
+shown_numbered u n [] = []
+shown_numbered u n (j ∷ js) = record { bucket = u; number = n; index = j } ∷ shown_numbered u (n + 1) js
 
 abbrev pub lift_shown : Params → FlatTable → ℕ → List Shown
-lift_shown p t u = numbered u (reads p t u) (lift_order p t u)
+lift_shown p t u = shown_numbered u (reads p t u) (lift_order p t u)
 
 -- a visit of a bucket by a place: it shows one index where the bucket isn't lifted, and a version's last read lifts it
 abbrev pub visit_shown : Params → FlatTable → Spot → ℕ → List Shown
 visit_shown p t own u =
     let j = index_shown p t own u in
     let n = reads p t u in
-    cond (t.lifted u) [] (record { bucket = u; number = n; index = j } ∷ cond (n + 1 == p.dummies) (lift_shown p (mark t u j) u) [])
+    cond (t.lifted u) [] (record { bucket = u; number = n; index = j } ∷ cond (n + 1 == p.dummies) (lift_shown p (mark_index t u j) u) [])
 
 abbrev pub visit : Params → FlatTable → Spot → ℕ → FlatTable
 visit p t own u =
-    let t1 = mark t u (index_shown p t own u) in
+    let t1 = mark_index t u (index_shown p t own u) in
     cond (t.lifted u) t (cond (reads p t u + 1 == p.dummies) (lift t1 u) t1)
 
 abbrev pub visits_shown : Params → FlatTable → Spot → List ℕ → List Shown
@@ -181,12 +181,12 @@ after_final p t [] = t
 after_final p t (u ∷ us) = after_final p (cond (t.lifted u) t (lift t u)) us
 
 -- a put sets the row in the stash, a del forgets the key
-abbrev pub written : Option ℕ → Option Row
-written None = None
-written (Some leaf) = Some (record { leaf = leaf; spot = InStash })
+abbrev pub written_row : Option ℕ → Option Row
+written_row None = None
+written_row (Some leaf) = Some (record { leaf = leaf; spot = InStash })
 
 abbrev pub write : FlatTable → ℕ → Option ℕ → FlatTable
-write t key leaf = record t { rows = λ k. cond (k == key) (written leaf) (t.rows k) }
+write t key leaf = record t { rows = λ k. cond (k == key) (written_row leaf) (t.rows k) }
 
 abbrev pub after_writes : FlatTable → List (ℕ × Option ℕ) → FlatTable
 after_writes t [] = t

@@ -1,4 +1,4 @@
--- Keys on the path of their leaf.
+-- Private: keys on the path of their leaf.
 use Rattle.std.specs.Prelude.{◌≡◌, ◌≢◌, ℕ, ◌<◌, ◌≤◌, cond, Option}
 use Rattle.std.specs.declared.option.Option.TheVariants.{None, Some}
 use Rattle.ob_base.specs.declared.params.Params.{Params}

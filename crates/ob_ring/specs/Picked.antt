@@ -10,7 +10,7 @@ use Rattle.ob_base.specs.Layout.{slot_cell}
 use Rattle.ob_base.specs.Planned.{Planned}
 use Rattle.ob_bucket.specs.Version.{Version, rank_at, key_at, next_dummy}
 use Rattle.ob_bucket.specs.Buckets.{Buckets, version_at}
-use Rattle.ob_ring.specs.FlatTable.{FlatTable, Spot, InStash, In, spot_of, is_at, index_in, asked_row, index_shown, mark, lift, lift_order, reads, visit, fetch, leaf_shown, after_place}
+use Rattle.ob_ring.specs.FlatTable.{FlatTable, Spot, InStash, In, spot_of, is_at, index_in, asked_row, index_shown, mark_index, lift, lift_order, reads, visit, fetch, leaf_shown, after_place}
 use Rattle.ob_ring.specs.declared.found.Found.{Found}
 use Rattle.ob_ring.specs.Arrays.{AreWhole, IsTableOf, arrays_of, Rest}
 
@@ -35,7 +35,7 @@ key_shown ask (Some j) = ask
 abbrev pub visit_picked : Params → FlatTable → Option ℕ → Spot → ℕ → List Picked
 visit_picked p t ask own u =
     let j = index_shown p t own u in
-    cond (t.lifted u) [] (record { bucket = u; index = j; key = key_shown ask (index_in u own) } ∷ cond (reads p t u + 1 == p.dummies) (lift_picked p (mark t u j) u) [])
+    cond (t.lifted u) [] (record { bucket = u; index = j; key = key_shown ask (index_in u own) } ∷ cond (reads p t u + 1 == p.dummies) (lift_picked p (mark_index t u j) u) [])
 
 abbrev pub visits_picked : Params → FlatTable → Option ℕ → Spot → List ℕ → List Picked
 visits_picked p t ask own [] = []

@@ -37,8 +37,8 @@ fault_at cell (Some key) None = None
 fault_at cell (Some key) (Some plain) = row_fault cell key plain
 
 -- a job that expects a key, and was read
-abbrev pub fault_of : Job → Option Damaged
-fault_of job = fault_at job.cell job.key job.result
+abbrev pub job_damage : Job → Option Damaged
+job_damage job = fault_at job.cell job.key job.result
 
 abbrev pub or_else : Option Damaged → Option Damaged → Option Damaged
 or_else None other = other
@@ -47,7 +47,7 @@ or_else (Some d) other = Some d
 -- the first fault of the jobs
 abbrev pub first_fault : List Job → Option Damaged
 first_fault [] = None
-first_fault (j ∷ js) = or_else (fault_of j) (first_fault js)
+first_fault (j ∷ js) = or_else (job_damage j) (first_fault js)
 
 abbrev pub Rows : Type 0
 Rows = finite.FinMap nat_cmp (List ℕ)

@@ -1,3 +1,5 @@
+//! Planning a read batch.
+
 ghost use Rattle.std.specs.Prelude.{◌≡◌, ℕ, ◌<◌, ◌≤◌, ◌+◌, ◌*◌, ◌%◌, ◌^◌, ◌∷◌, [], length, IfSome, None, slice_index_or};
 ghost use Rattle.ob_base.specs.Planned.{most_jobs};
 ghost use Rattle.ob_ring.specs.Arrays.{AreWhole};
@@ -67,7 +69,8 @@ pub(crate) fn plan_place(
     requires few { jobs.old.room < 2 ^ 32 }
     requires places { length jobs.old.places < jobs.old.place_room }
     ensures grows { GrowsBy ((p.now.levels + 1) * (p.now.real + 1)) 1 jobs.old jobs.new }
-    ensures plans { Fetches p.now book.old book.new metas.old metas.new jobs.old jobs.new ((ask, own) ∷ []) }
+    ensures plans { Fetches p.now book.old book.new metas.old metas.new jobs.old jobs.new
+        ((ask, own) ∷ []) }
 {
     let leaf = leaf_of(kept(book, ask), own);
     jobs.push_place(Place {
@@ -116,9 +119,11 @@ pub(crate) fn plan_places(
     requires asks { length asks.now ≡ p.now.places }
     requires keys { (i : ℕ) → IfSome (slice_index_or asks.now i None) (λ k. k < p.now.keys) }
     requires words { length words.now ≡ p.now.places }
-    requires jobs { jobs.old ≡ record { jobs = []; places = []; room = most_jobs p.now; place_room = p.now.places } }
+    requires jobs { jobs.old
+        ≡ record { jobs = []; places = []; room = most_jobs p.now; place_room = p.now.places } }
     ensures rooms { (jobs.new.room ≡ most_jobs p.now) × (jobs.new.place_room ≡ p.now.places) }
-    ensures plans { Fetches p.now book.old book.new metas.old metas.new jobs.old jobs.new (places_of p.now asks.now words.now first (length asks.now)) }
+    ensures plans { Fetches p.now book.old book.new metas.old metas.new jobs.old jobs.new
+        (places_of p.now asks.now words.now first (length asks.now)) }
 {
     for i in 0..asks.len() {
         let own = own_entry(p, words, first, i);

@@ -1,3 +1,5 @@
+//! Where a key lies.
+
 /// Where a key lies: a bucket and a real index.
 #[derive(Clone, Copy, Debug, PartialEq, Eq)]
 pub(crate) struct Found {

@@ -1,3 +1,5 @@
+//! What every step of the planner keeps.
+
 ghost use Rattle.ob_ring.specs.Jobs.{JobsReadPicks};
 ghost use Rattle.ob_ring.specs.Laws.{StepsKeepOrder, ShownOnce, LiftsTakeAll};
 

@@ -1,5 +1,7 @@
+//! The indexes that a lift reads.
+
 ghost use Rattle.std.specs.Prelude.{◌≡◌, ℕ, ◌<◌, ◌≤◌, ◌++◌, ◌∷◌, [], List, length, take};
-ghost use Rattle.ob_ring.specs.Order.{is_live, is_spare, order_of, Holds};
+ghost use Rattle.ob_ring.specs.Order.{is_live, is_spare, order_of, HoldsFirst};
 
 use ob_base::Key;
 
@@ -25,7 +27,8 @@ fn is_spare(keys: &[Option<Key>], used: &[bool], j: usize) -> bool
 fn push_below(out: &mut [u8], n: usize, limit: usize, j: u8) -> usize
     requires room { limit ≤ length out.old }
     ensures long { length out.new ≡ length out.old }
-    ensures pushed { (xs : List ℕ) → Holds out.old n limit xs → Holds out.new result limit (xs ++ j ∷ []) }
+    ensures pushed { (xs : List ℕ) → HoldsFirst out.old n limit xs
+        → HoldsFirst out.new result limit (xs ++ j ∷ []) }
 {
     if n < limit {
         out[n] = j;

@@ -1,3 +1,5 @@
+//! A path shown, and a key taken out of it.
+
 ghost use Rattle.std.specs.Prelude.{◌≡◌, ◌<◌, ◌≤◌, ◌+◌, ◌*◌, ◌^◌, length, IfSome};
 ghost use Rattle.ob_base.specs.Tree.{path};
 ghost use Rattle.ob_ring.specs.FlatTable.{visits};
@@ -53,7 +55,9 @@ pub(crate) fn visit_path(
     requires found { IfSome found (λ s. s.index < p.now.real) }
     requires room { length jobs.old.jobs + (p.now.levels + 1) * (p.now.real + 1) ≤ jobs.old.room }
     ensures grows { Grows ((p.now.levels + 1) * (p.now.real + 1)) jobs.old jobs.new }
-    ensures plans { Plans p.now metas.old metas.new jobs.old jobs.new (λ t. visits_picked p.now t ask (spot_at found) (path p.now leaf)) (λ t. visits p.now t (spot_at found) (path p.now leaf)) }
+    ensures plans { Plans p.now metas.old metas.new jobs.old jobs.new
+        (λ t. visits_picked p.now t ask (spot_at found) (path p.now leaf))
+        (λ t. visits p.now t (spot_at found) (path p.now leaf)) }
 {
     for level in 0..p.levels + 1 {
         visit(p, metas, bucket_of(p, level, leaf), found, ask, jobs);

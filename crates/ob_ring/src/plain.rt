@@ -1,3 +1,5 @@
+//! The plain bytes of a slot; keys that leave the stash.
+
 ghost use Rattle.std.specs.Prelude.{◌≡◌, ◌≢◌, ℕ, ◌<◌, ◌≤◌, ◌+◌, ◌∷◌, [], length, slice_index, None};
 ghost use Rattle.std.specs.FinMap as finite;
 ghost use Rattle.ob_base.specs.LittleEndian.{with_part};
@@ -96,10 +98,12 @@ fn forget_keys(p: &Params, stash: &mut Stash, keys: &[Option<Key>])
 pub(crate) fn forget_buckets(p: &Params, metas: &Metas, stash: &mut Stash)
     requires whole { AreWhole p.now metas.now }
     requires low { (k : ℕ) → finite.get stash.old.rows k ≢ None → k < p.now.keys }
-    requires within { (i : ℕ) → i < length metas.now.order → slice_index metas.now.order i < length metas.now.versions }
+    requires within { (i : ℕ) → i < length metas.now.order
+        → slice_index metas.now.order i < length metas.now.versions }
     ensures low { (k : ℕ) → finite.get stash.new.rows k ≢ None → k < p.now.keys }
     ensures room { stash.new.room ≡ stash.old.room }
-    ensures rows { stash.new.rows ≡ without_buckets stash.old.rows metas.now.versions metas.now.order }
+    ensures rows { stash.new.rows
+        ≡ without_buckets stash.old.rows metas.now.versions metas.now.order }
 {
     let order = metas.order();
     for i in 0..order.len() {

@@ -1,9 +1,11 @@
+//! Reads of a bucket's indexes as jobs.
+
 ghost use Rattle.std.specs.Prelude.{◌≡◌, ℕ, ◌<◌, ◌≤◌, ◌+◌, ◌++◌, ◌∷◌, [], map, length, slice_index, cond, IfSome, Some, None};
 ghost use Rattle.std.specs.List.{count_by, range_with_len};
 ghost use Rattle.ob_base.specs.Tree.{buckets, width};
 ghost use Rattle.ob_bucket.specs.Version.{Version, HasSlots, key_at, used_at};
 ghost use Rattle.ob_bucket.specs.Buckets.{version_at};
-ghost use Rattle.ob_ring.specs.FlatTable.{lift, mark, visit, index_in, is_at};
+ghost use Rattle.ob_ring.specs.FlatTable.{lift, mark_index, visit, index_in, is_at};
 ghost use Rattle.ob_ring.specs.Order.{order_of};
 ghost use Rattle.ob_ring.specs.Arrays.{AreWhole};
 ghost use Rattle.ob_ring.specs.Picked.{job_of, with_jobs, Grows, Plans, lift_picked, visit_picked, index_of, key_shown, shown_of, spot_at, shown_index, show_picked, IsEmptied};
@@ -18,7 +20,8 @@ fn job_of(p: &Params, metas: &Metas, bucket: u32, index: u8, key: Option<Key>) -
     requires whole { AreWhole p.now metas.now }
     requires bucket { bucket < buckets p.now }
     requires index { index < width p.now }
-    ensures { result ≡ job_of p.now metas.now.versions (record { bucket = bucket; index = index; key = key }) }
+    ensures { result
+        ≡ job_of p.now metas.now.versions (record { bucket = bucket; index = index; key = key }) }
 {
     let meta = metas.get(bucket);
     let slot = meta.slot(index);
@@ -37,7 +40,9 @@ fn read_all(p: &Params, metas: &Metas, bucket: u32, indexes: &[u8], jobs: &mut J
     requires bucket { bucket < buckets p.now }
     requires indexes { (i : ℕ) → i < length indexes.now → slice_index indexes.now i < width p.now }
     requires room { length jobs.old.jobs + length indexes.now ≤ jobs.old.room }
-    ensures { jobs.new ≡ with_jobs jobs.old (map (λ j. job_of p.now metas.now.versions (index_of metas.now.versions bucket j)) indexes.now) }
+    ensures { jobs.new
+        ≡ with_jobs jobs.old (map
+        (λ j. job_of p.now metas.now.versions (index_of metas.now.versions bucket j)) indexes.now) }
 {
     for j in indexes {
         let key = key_of(metas.get(bucket), *j);
@@ -70,7 +75,8 @@ pub(crate) fn lift(p: &Params, metas: &mut Metas, bucket: u32, jobs: &mut Jobs)
     requires bucket { bucket < buckets p.now }
     requires room { length jobs.old.jobs + p.now.real ≤ jobs.old.room }
     ensures grows { Grows p.now.real jobs.old jobs.new }
-    ensures plans { Plans p.now metas.old metas.new jobs.old jobs.new (λ t. lift_picked p.now t bucket) (λ t. lift t bucket) }
+    ensures plans { Plans p.now metas.old metas.new jobs.old jobs.new
+        (λ t. lift_picked p.now t bucket) (λ t. lift t bucket) }
 {
     let mut order = [0; 16];
     let meta = metas.get(bucket);
@@ -139,7 +145,9 @@ fn show(
     requires own { IfSome own (λ j. j < p.now.real) }
     requires room { length jobs.old.jobs < jobs.old.room }
     ensures grows { Grows 1 jobs.old jobs.new }
-    ensures plans { Plans p.now metas.old metas.new jobs.old jobs.new (λ t. show_picked p.now t ask own bucket) (λ t. mark t bucket (shown_index p.now t own bucket)) }
+    ensures plans { Plans p.now metas.old metas.new jobs.old jobs.new
+        (λ t. show_picked p.now t ask own bucket)
+        (λ t. mark_index t bucket (shown_index p.now t own bucket)) }
 {
     let index = index_shown(metas.get(bucket), own);
     jobs.push(job_of(p, metas, bucket, index, key_shown(own, ask)));
@@ -161,7 +169,9 @@ pub(crate) fn visit(
     requires found { IfSome found (λ s. s.index < p.now.real) }
     requires room { length jobs.old.jobs + (p.now.real + 1) ≤ jobs.old.room }
     ensures grows { Grows (p.now.real + 1) jobs.old jobs.new }
-    ensures plans { Plans p.now metas.old metas.new jobs.old jobs.new (λ t. visit_picked p.now t ask (spot_at found) bucket) (λ t. visit p.now t (spot_at found) bucket) }
+    ensures plans { Plans p.now metas.old metas.new jobs.old jobs.new
+        (λ t. visit_picked p.now t ask (spot_at found) bucket)
+        (λ t. visit p.now t (spot_at found) bucket) }
 {
     if metas.is_lifted(bucket) {
         return;

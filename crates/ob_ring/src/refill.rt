@@ -1,10 +1,12 @@
+//! Filling lifted buckets.
+
 ghost use Rattle.std.specs.Prelude.{◌≡◌, ℕ, ◌<◌, ◌≤◌, ◌+◌, ◌*◌, ◌^◌, ◌==◌, ◌&&◌, not, true, ◌++◌, ◌∷◌, [], Bool, List, length, take, filter};
 ghost use Rattle.ob_base.specs.Tree.{buckets, passes, width};
 ghost use Rattle.ob_ring.specs.FlatTable.{FlatTable, in_stash, can_go, chosen, fill, stash_size};
 ghost use Rattle.ob_bucket.specs.Buckets.{is_lifted};
 ghost use Rattle.ob_schedule.specs.Paths.{by_falling_level};
 ghost use Rattle.ob_ring.specs.Sound.{IsSound};
-ghost use Rattle.ob_ring.specs.Order.{Holds};
+ghost use Rattle.ob_ring.specs.Order.{HoldsFirst};
 ghost use Rattle.ob_ring.specs.Arrays.{IsTableOf, AreWhole, rest_of};
 ghost use Rattle.ob_ring.specs.Fetching.{IsBook};
 ghost use Rattle.ob_ring.specs.Filling.{arrays_in, is_nowhere, FillsOne, FillsTo};
@@ -43,7 +45,9 @@ fn is_out(p: &Params, book: &Book, metas: &Metas, key: Key) -> bool
     requires book { IsBook p.now book.now }
     requires whole { AreWhole p.now metas.now }
     requires key { key < p.now.keys }
-    ensures { (lifted : ℕ → Bool) (counter : ℕ) (t : FlatTable) → IsSound p.now t → IsTableOf p.now (arrays_in metas.now lifted (rest_of book.now counter)) t → result ≡ in_stash (t.rows key) }
+    ensures { (lifted : ℕ → Bool) (counter : ℕ) (t : FlatTable) → IsSound p.now t
+        → IsTableOf p.now (arrays_in metas.now lifted (rest_of book.now counter)) t
+        → result ≡ in_stash (t.rows key) }
 {
     match book.get(key) {
         Some(entry) => is_nowhere(find_key(p, metas, key, entry.leaf)),
@@ -56,7 +60,9 @@ fn can_go(p: &Params, book: &Book, metas: &Metas, bucket: u32, key: Key) -> bool
     requires book { IsBook p.now book.now }
     requires whole { AreWhole p.now metas.now }
     requires key { key < p.now.keys }
-    ensures { (lifted : ℕ → Bool) (counter : ℕ) (t : FlatTable) → IsSound p.now t → IsTableOf p.now (arrays_in metas.now lifted (rest_of book.now counter)) t → result ≡ can_go p.now bucket (t.rows key) }
+    ensures { (lifted : ℕ → Bool) (counter : ℕ) (t : FlatTable) → IsSound p.now t
+        → IsTableOf p.now (arrays_in metas.now lifted (rest_of book.now counter)) t
+        → result ≡ can_go p.now bucket (t.rows key) }
 {
     match book.get(key) {
         Some(entry) => passes(p, bucket, entry.leaf) && is_out(p, book, metas, key),
@@ -69,7 +75,8 @@ fn push_key(out: &mut [Key], n: usize, limit: usize, key: Key) -> usize
     requires room { limit ≤ length out.old }
     ensures long { length out.new ≡ length out.old }
     ensures few { n ≤ limit → result ≤ limit }
-    ensures pushed { (xs : List ℕ) → Holds out.old n limit xs → Holds out.new result limit (xs ++ key ∷ []) }
+    ensures pushed { (xs : List ℕ) → HoldsFirst out.old n limit xs
+        → HoldsFirst out.new result limit (xs ++ key ∷ []) }
 {
     if n < limit {
         out[n] = key;
@@ -87,7 +94,9 @@ fn choose(p: &Params, book: &Book, metas: &Metas, bucket: u32, out: &mut [Key]) 
     requires room { p.now.real ≤ length out.old }
     ensures long { length out.new ≡ length out.old }
     ensures few { result ≤ p.now.real }
-    ensures chosen { (lifted : ℕ → Bool) (counter : ℕ) (t : FlatTable) → IsSound p.now t → IsTableOf p.now (arrays_in metas.now lifted (rest_of book.now counter)) t → take result out.new ≡ chosen p.now t bucket }
+    ensures chosen { (lifted : ℕ → Bool) (counter : ℕ) (t : FlatTable) → IsSound p.now t
+        → IsTableOf p.now (arrays_in metas.now lifted (rest_of book.now counter)) t
+        → take result out.new ≡ chosen p.now t bucket }
 {
     let mut n: usize = 0;
     for key in 0..p.keys {
@@ -102,7 +111,9 @@ fn choose(p: &Params, book: &Book, metas: &Metas, bucket: u32, out: &mut [Key]) 
 pub(crate) fn count_out(p: &Params, book: &Book, metas: &Metas) -> u32
     requires book { IsBook p.now book.now }
     requires whole { AreWhole p.now metas.now }
-    ensures { (lifted : ℕ → Bool) (counter : ℕ) (t : FlatTable) → IsSound p.now t → IsTableOf p.now (arrays_in metas.now lifted (rest_of book.now counter)) t → result ≡ stash_size p.now t }
+    ensures { (lifted : ℕ → Bool) (counter : ℕ) (t : FlatTable) → IsSound p.now t
+        → IsTableOf p.now (arrays_in metas.now lifted (rest_of book.now counter)) t
+        → result ≡ stash_size p.now t }
 {
     let mut many: u32 = 0;
     for key in 0..p.keys {
@@ -128,7 +139,11 @@ fn fill_one(
     requires bucket { bucket < buckets p.now }
     requires words { length words.now ≡ width p.now }
     ensures fills { FillsOne p.now metas.old metas.new bucket words.now generation base }
-    ensures follows { (lifted : ℕ → Bool) (counter : ℕ) (t : FlatTable) → IsSound p.now t → t.lifted bucket ≡ true → IsTableOf p.now (arrays_in metas.old lifted (rest_of book.now counter)) t → IsTableOf p.now (arrays_in metas.new (λ w. not (w == bucket) && lifted w) (rest_of book.now counter)) (fill p.now t bucket) }
+    ensures follows { (lifted : ℕ → Bool) (counter : ℕ) (t : FlatTable) → IsSound p.now t
+        → t.lifted bucket ≡ true
+        → IsTableOf p.now (arrays_in metas.old lifted (rest_of book.now counter)) t
+        → IsTableOf p.now (arrays_in metas.new (λ w. not (w == bucket) && lifted w)
+        (rest_of book.now counter)) (fill p.now t bucket) }
 {
     let mut keys = [0; 16];
     let n = choose(p, book, metas, bucket, &mut keys);
@@ -142,9 +157,11 @@ fn fill_one(
 pub(crate) fn fill_all(p: &Params, book: &Book, metas: &mut Metas, words: &[u64], first: (u64, u64))
     requires book { IsBook p.now book.now }
     requires whole { AreWhole p.now metas.old }
-    requires listed { metas.old.order ≡ filter (λ u. is_lifted metas.old u) (by_falling_level (p.now.levels + 1)) }
+    requires listed { metas.old.order
+        ≡ filter (λ u. is_lifted metas.old u) (by_falling_level (p.now.levels + 1)) }
     requires words { length words.now ≡ length metas.old.order * width p.now }
-    ensures fills { FillsTo p.now book.now metas.old metas.new words.now first (length metas.old.order) }
+    ensures fills { FillsTo p.now book.now metas.old metas.new words.now first
+        (length metas.old.order) }
 {
     let width = (p.real + p.dummies) as usize;
     for i in 0..metas.order().len() {

@@ -1,3 +1,5 @@
+//! The planner of Ring ORAM.
+
 ghost use Rattle.std.specs.Prelude.{◌≡◌, ℕ, ◌+◌, ◌*◌, ◌%◌, ◌^◌, ◌<◌, ◌≤◌, [], length, IfSome, IfOk, MatchResult, None, Some, slice_index, slice_index_or, filter, replicate};
 ghost use Rattle.std.specs.FinMap as finite;
 ghost use Rattle.ob_base.specs.Planned.{most_jobs, job_at};
@@ -55,7 +57,15 @@ impl Ring {
     /// # Errors
     /// Memory was wanting.
     pub fn empty(alloc: Global, p: &Params) -> Result<Ring, Memory>
-        ensures empty { IfOk result (λ r. r ≡ record { p = p.now; book = replicate p.now.keys None; metas = new_buckets p.now; stash = record { rows = finite.empty; room = p.now.keys }; counter = 0 }) }
+        ensures empty { IfOk result (λ r. r
+            ≡ record {
+              p = p.now;
+              book = replicate p.now.keys None;
+              metas = new_buckets p.now;
+              stash
+                  = record { rows = finite.empty; room = p.now.keys };
+              counter = 0;
+            }) }
         ensures table { IfOk result (λ r. StandsFor r empty_table) }
     {
         Ok(Ring {
@@ -71,8 +81,22 @@ impl Ring {
 
     /// The ring of these tables, which obey the rules of an epoch's end.
     pub fn of_tables(p: &Params, tables: Tables<Metas>) -> Ring
-        requires { IsRing (record { p = p.now; book = tables.book; metas = tables.metas; stash = tables.stash; counter = tables.counter }) }
-        ensures { result ≡ record { p = p.now; book = tables.book; metas = tables.metas; stash = tables.stash; counter = tables.counter } }
+        requires { IsRing (record {
+          p = p.now;
+          book = tables.book;
+          metas = tables.metas;
+          stash =
+              tables.stash;
+          counter = tables.counter;
+        }) }
+        ensures { result
+            ≡ record {
+              p = p.now;
+              book = tables.book;
+              metas = tables.metas;
+              stash = tables.stash;
+              counter = tables.counter;
+            } }
     {
         Ring { params: *p, tables }
     }
@@ -98,15 +122,24 @@ impl Ring {
         jobs: &mut Jobs,
     )
         requires asks { length asks.now ≡ self.old.p.places }
-        requires keys { (i : ℕ) → IfSome (slice_index_or asks.now i None) (λ k. k < self.old.p.keys) }
+        requires keys { (i : ℕ)
+            → IfSome (slice_index_or asks.now i None) (λ k. k < self.old.p.keys) }
         requires words { length words.now ≡ self.old.p.places }
-        requires jobs { (jobs.old.room ≡ most_jobs self.old.p) × (jobs.old.place_room ≡ self.old.p.places) }
+        requires jobs { (jobs.old.room ≡ most_jobs self.old.p)
+            × (jobs.old.place_room ≡ self.old.p.places) }
         ensures kept { self.new ≡ record self.old { book = self.new.book; metas = self.new.metas } }
-        ensures rooms { (jobs.new.room ≡ jobs.old.room) × (jobs.new.place_room ≡ jobs.old.place_room) }
-        ensures labels { (k : ℕ) → entry_at self.new.book k ≡ after_labels (λ i. entry_at self.old.book i) (places_of self.old.p asks.now words.now first (length asks.now)) k }
+        ensures rooms { (jobs.new.room ≡ jobs.old.room)
+            × (jobs.new.place_room ≡ jobs.old.place_room) }
+        ensures labels { (k : ℕ)
+            → entry_at self.new.book k
+            ≡ after_labels (λ i. entry_at self.old.book i)
+            (places_of self.old.p asks.now words.now first (length asks.now)) k }
         ensures seals { SameSeals (record self.old.metas { order = [] }) self.new.metas }
-        ensures keys { (t : FlatTable) → StandsFor self.old t → (i : ℕ) → IfSome (job_at jobs.new.jobs i).key (λ k. k < self.old.p.keys) }
-        ensures planned { (t : FlatTable) → StandsFor self.old t → IsBatch self.old self.new jobs.new (places_of self.old.p asks.now words.now first (length asks.now)) t }
+        ensures keys { (t : FlatTable) → StandsFor self.old t → (i : ℕ)
+            → IfSome (job_at jobs.new.jobs i).key (λ k. k < self.old.p.keys) }
+        ensures planned { (t : FlatTable) → StandsFor self.old t
+            → IsBatch self.old self.new jobs.new
+            (places_of self.old.p asks.now words.now first (length asks.now)) t }
     {
         jobs.clear();
         self.tables.metas.clear_order();
@@ -124,14 +157,24 @@ impl Ring {
     /// Plans the lifts at an epoch's end: the buckets of the paths that are evicted next are read
     /// out, those that aren't lifted yet.
     pub fn plan_lifts(&mut self, jobs: &mut Jobs)
-        requires jobs { (jobs.old.room ≡ most_jobs self.old.p) × (jobs.old.place_room ≡ self.old.p.places) }
-        ensures kept { self.new ≡ record self.old { metas = self.new.metas; counter = (self.old.counter + self.old.p.evictions) % 2 ^ self.old.p.levels } }
-        ensures rooms { (jobs.new.room ≡ jobs.old.room) × (jobs.new.place_room ≡ jobs.old.place_room) }
+        requires jobs { (jobs.old.room ≡ most_jobs self.old.p)
+            × (jobs.old.place_room ≡ self.old.p.places) }
+        ensures kept { self.new
+            ≡ record self.old {
+              metas = self.new.metas;
+              counter =
+                  (self.old.counter + self.old.p.evictions) % 2 ^ self.old.p.levels;
+            } }
+        ensures rooms { (jobs.new.room ≡ jobs.old.room)
+            × (jobs.new.place_room ≡ jobs.old.place_room) }
         ensures places { jobs.new.places ≡ [] }
-        ensures seals { SameSeals (record self.old.metas { order = self.new.metas.order }) self.new.metas }
+        ensures seals { SameSeals (record self.old.metas { order = self.new.metas.order })
+            self.new.metas }
         ensures listed { IsListed self.new }
-        ensures keys { (t : FlatTable) → StandsFor self.old t → (i : ℕ) → IfSome (job_at jobs.new.jobs i).key (λ k. k < self.old.p.keys) }
-        ensures planned { (t : FlatTable) → StandsFor self.old t → IsLifting self.old self.new jobs.new t }
+        ensures keys { (t : FlatTable) → StandsFor self.old t → (i : ℕ)
+            → IfSome (job_at jobs.new.jobs i).key (λ k. k < self.old.p.keys) }
+        ensures planned { (t : FlatTable) → StandsFor self.old t
+            → IsLifting self.old self.new jobs.new t }
     {
         jobs.clear();
         lift_paths(
@@ -152,7 +195,10 @@ impl Ring {
         requires keys { (i : ℕ) → IfSome (job_at jobs.now.jobs i).key (λ k. k < self.old.p.keys) }
         ensures kept { self.new ≡ record self.old { stash = self.new.stash } }
         ensures room { self.new.stash.room ≡ self.old.stash.room }
-        ensures settled { MatchResult result (λ _. (first_fault jobs.now.jobs ≡ None) × (self.new.stash.rows ≡ rows_after self.old.stash.rows jobs.now.jobs)) (λ d. first_fault jobs.now.jobs ≡ Some d) }
+        ensures settled { MatchResult result (λ _. (first_fault jobs.now.jobs ≡ None)
+            × (self.new.stash.rows
+            ≡ rows_after self.old.stash.rows jobs.now.jobs)) (λ d. first_fault jobs.now.jobs
+            ≡ Some d) }
     {
         settle_jobs(&self.params, &mut self.tables.stash, jobs.jobs())
     }
@@ -160,16 +206,31 @@ impl Ring {
     /// Makes an epoch's writes, after the final lifts: the i-th takes the i-th word, whose id is
     /// that number after `first`. A put sets the key's row in the stash, a del forgets the key.
     pub fn apply_writes(&mut self, writes: &[Write], words: &[u64], first: (u64, u64))
-        requires keys { (i : ℕ) → i < length writes.now → (write_at writes.now i).key < self.old.p.keys }
+        requires keys { (i : ℕ) → i < length writes.now
+            → (write_at writes.now i).key < self.old.p.keys }
         requires words { length writes.now ≤ length words.now }
-        ensures kept { self.new ≡ record self.old { book = self.new.book; metas = self.new.metas; stash = self.new.stash } }
+        ensures kept { self.new
+            ≡ record self.old {
+              book = self.new.book;
+              metas = self.new.metas;
+              stash =
+                  self.new.stash;
+            } }
         ensures room { self.new.stash.room ≡ self.old.stash.room }
-        ensures entries { (k : ℕ) → entry_at self.new.book k ≡ entries_after (λ i. entry_at self.old.book i) (writes_of self.old.p writes.now words.now first (length writes.now)) k }
-        ensures values { self.new.stash.rows ≡ values_after self.old.stash.rows (writes_of self.old.p writes.now words.now first (length writes.now)) }
+        ensures entries { (k : ℕ)
+            → entry_at self.new.book k
+            ≡ entries_after (λ i. entry_at self.old.book i)
+            (writes_of self.old.p writes.now words.now first (length writes.now)) k }
+        ensures values { self.new.stash.rows
+            ≡ values_after self.old.stash.rows
+            (writes_of self.old.p writes.now words.now first (length writes.now)) }
         ensures seals { SameSeals self.old.metas self.new.metas }
         ensures lifted { self.new.metas.lifted ≡ self.old.metas.lifted }
         ensures listed { IsListed self.old → IsListed self.new }
-        ensures applied { (t : FlatTable) → StandsFor self.old t → StandsFor self.new (after self.old.p t (WritesStep (leaf_writes (writes_of self.old.p writes.now words.now first (length writes.now))))) }
+        ensures applied { (t : FlatTable) → StandsFor self.old t
+            → StandsFor self.new (after self.old.p t
+            (WritesStep (leaf_writes
+            (writes_of self.old.p writes.now words.now first (length writes.now))))) }
     {
         write_all(
             &self.params,
@@ -195,9 +256,14 @@ impl Ring {
         ensures kept { self.new ≡ record self.old { metas = self.new.metas } }
         ensures order { self.new.metas.order ≡ self.old.metas.order }
         ensures within { AreListedWithin self.new }
-        ensures anew { AreSealedAnew self.old.p self.old.metas self.new.metas words.now first (length self.old.metas.order) }
-        ensures refilled { (t : FlatTable) → StandsFor self.old t → StandsFor self.new (after self.old.p t Refill) }
-        ensures rows { (t : FlatTable) → StandsFor self.old t → MatchResult result (λ _. stash_size self.old.p (after self.old.p t Refill) ≤ self.old.p.room) (λ full. (full.rows ≡ stash_size self.old.p (after self.old.p t Refill)) × (self.old.p.room < full.rows)) }
+        ensures anew { AreSealedAnew self.old.p self.old.metas self.new.metas words.now first
+            (length self.old.metas.order) }
+        ensures refilled { (t : FlatTable) → StandsFor self.old t
+            → StandsFor self.new (after self.old.p t Refill) }
+        ensures rows { (t : FlatTable) → StandsFor self.old t
+            → MatchResult result (λ _. stash_size self.old.p (after self.old.p t Refill)
+            ≤ self.old.p.room) (λ full. (full.rows
+            ≡ stash_size self.old.p (after self.old.p t Refill)) × (self.old.p.room < full.rows)) }
     {
         fill_all(
             &self.params,
@@ -226,7 +292,10 @@ impl Ring {
     /// lies there, as far as the stash still has it.
     pub fn plain_of(&self, bucket: u32, slot: u8) -> [u8; 96]
         requires bucket { bucket < buckets self.now.p }
-        ensures { result ≡ plain_for self.now.stash.rows (key_of_index (version_at self.now.metas.versions bucket) (index_with (version_at self.now.metas.versions bucket) slot)) }
+        ensures { result
+            ≡ plain_for self.now.stash.rows
+            (key_of_index (version_at self.now.metas.versions bucket)
+            (index_with (version_at self.now.metas.versions bucket) slot)) }
     {
         let key = key_in(self.tables.metas.get(bucket), slot);
         plain_for(&self.tables.stash, key)
@@ -238,7 +307,8 @@ impl Ring {
         requires within { AreListedWithin self.old }
         ensures kept { self.new ≡ record self.old { stash = self.new.stash } }
         ensures room { self.new.stash.room ≡ self.old.stash.room }
-        ensures rows { self.new.stash.rows ≡ without_buckets self.old.stash.rows self.old.metas.versions self.old.metas.order }
+        ensures rows { self.new.stash.rows
+            ≡ without_buckets self.old.stash.rows self.old.metas.versions self.old.metas.order }
     {
         forget_buckets(&self.params, &self.tables.metas, &mut self.tables.stash);
     }

@@ -1,8 +1,10 @@
+//! Rows that were read go to the stash.
+
 ghost use Rattle.std.specs.Prelude.{◌≡◌, ◌≢◌, ℕ, ◌<◌, ◌≤◌, ◌∷◌, ◌++◌, replicate, length, take, None, Some, IfSome, MatchResult};
 ghost use Rattle.std.specs.Int.{w32, to_le_bytes};
 ghost use Rattle.std.specs.FinMap as finite;
 ghost use Rattle.ob_base.specs.Planned.{job_at};
-ghost use Rattle.ob_ring.specs.Settling.{key_field, len_field, row_value, other_key, long_row, row_fault, fault_of, first_fault, with_row, rows_after};
+ghost use Rattle.ob_ring.specs.Settling.{key_field, len_field, row_value, other_key, long_row, row_fault, job_damage, first_fault, with_row, rows_after};
 
 use ob_base::{Check, Damaged, Job, Key, Params, Value, set_u32, u32_at};
 use ob_tables::Stash;
@@ -39,7 +41,8 @@ fn long_row(cell: u64, plain: &[u8; 96]) -> Damaged
 
 // The value of the row that a slot holds for this key.
 fn read_row(cell: u64, key: Key, plain: &[u8; 96]) -> Result<Value, Damaged>
-    ensures { MatchResult result (λ v. (row_fault cell key plain.now ≡ None) × (v ≡ row_value plain.now)) (λ d. row_fault cell key plain.now ≡ Some d) }
+    ensures { MatchResult result (λ v. (row_fault cell key plain.now ≡ None)
+        × (v ≡ row_value plain.now)) (λ d. row_fault cell key plain.now ≡ Some d) }
 {
     if u32_at(plain, 0) != key {
         return Err(other_key(cell, key, plain));
@@ -61,7 +64,9 @@ fn settle_job(p: &Params, stash: &mut Stash, job: &Job) -> Result<(), Damaged>
     requires room { p.now.keys ≤ stash.old.room }
     ensures low { (k : ℕ) → finite.get stash.new.rows k ≢ None → k < p.now.keys }
     ensures room { stash.new.room ≡ stash.old.room }
-    ensures settled { MatchResult result (λ _. (fault_of job.now ≡ None) × (stash.new.rows ≡ with_row stash.old.rows job.now.key job.now.result)) (λ d. fault_of job.now ≡ Some d) }
+    ensures settled { MatchResult result (λ _. (job_damage job.now ≡ None)
+        × (stash.new.rows
+        ≡ with_row stash.old.rows job.now.key job.now.result)) (λ d. job_damage job.now ≡ Some d) }
 {
     if let Some(key) = job.key {
         if let Some(plain) = &job.result {
@@ -82,7 +87,9 @@ pub(crate) fn settle_jobs(p: &Params, stash: &mut Stash, jobs: &[Job]) -> Result
     requires room { p.now.keys ≤ stash.old.room }
     ensures low { (k : ℕ) → finite.get stash.new.rows k ≢ None → k < p.now.keys }
     ensures room { stash.new.room ≡ stash.old.room }
-    ensures settled { MatchResult result (λ _. (first_fault jobs.now ≡ None) × (stash.new.rows ≡ rows_after stash.old.rows jobs.now)) (λ d. first_fault jobs.now ≡ Some d) }
+    ensures settled { MatchResult result (λ _. (first_fault jobs.now ≡ None)
+        × (stash.new.rows ≡ rows_after stash.old.rows jobs.now)) (λ d. first_fault jobs.now
+        ≡ Some d) }
 {
     for i in 0..jobs.len() {
         if let Err(damaged) = settle_job(p, stash, &jobs[i]) {

@@ -1,3 +1,5 @@
+//! Plans of small trees, slot by slot.
+
 ghost use Rattle.std.specs.Prelude.{◌≡◌, ◌<◌, IfSome};
 ghost use Rattle.ob_base.specs.Tree.{buckets, width as width_of};
 ghost use Rattle.ob_ring.specs.Ring.{IsListed, AreListedWithin};
@@ -7,7 +9,8 @@ use ob_base::{Jobs, Params, StashFull, Value, Write};
 
 // Eight keys; seven buckets of two real and three dummy slots; batches of two places.
 fn small() -> Option<Params>
-    ensures { IfSome result (λ p. (p.keys ≡ 8) × (p.levels ≡ 2) × (p.real ≡ 2) × (p.dummies ≡ 3) × (p.places ≡ 2) × (p.writes ≡ 2) × (p.evictions ≡ 2) × (buckets p ≡ 7)) }
+    ensures { IfSome result (λ p. (p.keys ≡ 8) × (p.levels ≡ 2) × (p.real ≡ 2) × (p.dummies ≡ 3)
+        × (p.places ≡ 2) × (p.writes ≡ 2) × (p.evictions ≡ 2) × (buckets p ≡ 7)) }
 {
     match Params::new(8, 2, 2, 3, 2, 2, 2, 2, 8) {
         Ok(p) => Some(p),
@@ -96,7 +99,8 @@ fn refill(ring: &mut Ring, width: usize) -> Result<[u8; 96], StashFull>
 
 // Four keys; three buckets of two real slots and a dummy one; room for one row.
 fn tiny() -> Option<Params>
-    ensures { IfSome result (λ p. (p.keys ≡ 4) × (p.levels ≡ 1) × (p.real ≡ 2) × (p.dummies ≡ 1) × (p.places ≡ 1) × (p.evictions ≡ 1) × (buckets p ≡ 3)) }
+    ensures { IfSome result (λ p. (p.keys ≡ 4) × (p.levels ≡ 1) × (p.real ≡ 2) × (p.dummies ≡ 1)
+        × (p.places ≡ 1) × (p.evictions ≡ 1) × (buckets p ≡ 3)) }
 {
     match Params::new(4, 1, 2, 1, 1, 1, 4, 1, 1) {
         Ok(p) => Some(p),

@@ -1,3 +1,5 @@
+//! Writes of an epoch on the planner's tables.
+
 ghost use Rattle.std.specs.Prelude.{◌≡◌, ◌≢◌, ℕ, ◌<◌, ◌≤◌, ◌^◌, ◌∷◌, [], length, IfSome, None, Some};
 ghost use Rattle.std.specs.FinMap as finite;
 ghost use Rattle.ob_ring.specs.Arrays.{AreWhole};
@@ -40,7 +42,8 @@ fn entry_of(write: &Write, own: Entry) -> Option<Entry>
 fn keep(book: &mut Book, key: Key, entry: Option<Entry>)
     requires { key < length book.old }
     ensures many { length book.new ≡ length book.old }
-    ensures entries { (k : ℕ) → entry_at book.new k ≡ with_entry (λ i. entry_at book.old i) key entry k }
+    ensures entries { (k : ℕ)
+        → entry_at book.new k ≡ with_entry (λ i. entry_at book.old i) key entry k }
 {
     match entry {
         Some(entry) => book.set(key, entry),
@@ -83,7 +86,8 @@ pub(crate) fn write_one(
     requires room { p.now.keys ≤ stash.old.room }
     ensures low { (k : ℕ) → finite.get stash.new.rows k ≢ None → k < p.now.keys }
     ensures room { stash.new.room ≡ stash.old.room }
-    ensures writes { Writes p.now book.old book.new metas.old metas.new stash.old.rows stash.new.rows ((write.now, own) ∷ []) }
+    ensures writes { Writes p.now book.old book.new metas.old metas.new stash.old.rows
+        stash.new.rows ((write.now, own) ∷ []) }
 {
     let _ = drop_row(p, book, metas, write.key);
     keep(book, write.key, entry_of(write, own));
@@ -108,7 +112,8 @@ pub(crate) fn write_all(
     requires room { p.now.keys ≤ stash.old.room }
     ensures low { (k : ℕ) → finite.get stash.new.rows k ≢ None → k < p.now.keys }
     ensures room { stash.new.room ≡ stash.old.room }
-    ensures writes { Writes p.now book.old book.new metas.old metas.new stash.old.rows stash.new.rows (writes_of p.now writes.now words.now first (length writes.now)) }
+    ensures writes { Writes p.now book.old book.new metas.old metas.new stash.old.rows
+        stash.new.rows (writes_of p.now writes.now words.now first (length writes.now)) }
 {
     for i in 0..writes.len() {
         let own = own_entry(p, words, first, i);

@@ -1,5 +1,5 @@
 -- Which calls the desk takes of a runner, and what it can't be answered.
-use Rattle.std.proofs.Common.{◌≡◌, ◌<◌, ℕ, Bool, true, false, List, [], ◌∷◌, Option, Some, None, refl, sym, ap, subst, ◌∙◌, inl, inr}
+use Rattle.std.proofs.Common.{◌≡◌, ◌<◌, ℕ, Bool, true, false, List, [], ◌∷◌, Option, Some, None, sym, ap, subst, ◌∙◌, inl, inr}
 use Rattle.std.specs.Prelude.{◌⊎◌, is_some}
 use Rattle.std.specs.Option.{option_map}
 use Rattle.std.proofs.lemmas.Option.{none-some, same_Some}
@@ -11,64 +11,64 @@ use Rattle.ob_order.specs.declared.answers.Wrote.{Wrote}
 use Rattle.ob_order.specs.declared.answers.Wrote.TheVariants.{Yes, Conflict as Conflicts, Full as WritesAreFull}
 use Rattle.ob_order.specs.Order.{write_reply}
 use Rattle.ob_desk.specs.Desk as desk
-use Rattle.ob_desk.specs.Desk.{Call, Reply, DeskState, MayCall, DeskStep, IsLast, IsLive, IsFree, HasNotAsked, IsHere, client_at, outcome_at, asked_at, waiting_at, why_refused}
-use Rattle.ob_desk.specs.declared.calls.Txn.{Txn as TxnId}
-use Rattle.ob_desk.specs.declared.clients.Client.{Client}
+use Rattle.ob_desk.specs.Desk.{Call, Reply, DeskState, MayCall, DeskStep, IsLast, IsLive, IsFree, HasNotAsked, client_at, outcome_at, asked_at, waiting_at, why_refused}
+use Rattle.ob_desk.specs.declared.calls.Txn.{Txn}
 use Rattle.ob_session.specs.Clients.{Told, told_of, last_of, has_signed_off}
-use Rattle.ob_session.specs.Agreeing.{Agrees, IsKnown, IsLastKnown, IsOpen, IsNotGivenUp}
+use Rattle.ob_session.specs.Agreeing.{Agrees, IsTxnKnown, IsLastKnown, IsOpenTxn, IsNotGivenUp}
+use Rattle.ob_session.proofs.Between as between
 use Rattle.ob_script.specs.Script.{ScriptTxn}
 use Rattle.ob_runner.specs.Places.{RunnerState, ArePast, HasEnded, IsCurrent}
 use Rattle.ob_runner.proofs.Tellings.{last_more}
 use Rattle.ob_runner.proofs.Works.{Works}
 
 -- what the desk has of its client's last transaction
-pub record IsKnownAt (d : DeskState) (x : TxnId) (waiting : Option ℕ) (asked : Bool) : Type 0 where
+pub record IsKnownAt (d : DeskState) (x : Txn) (waiting : Option ℕ) (asked : Bool) : Type 0 where
   pub last : IsLast d x
-  pub known : IsKnown d x waiting asked None
+  pub known : IsTxnKnown d x waiting asked None
 
-known_as : (d : DeskState) (x : TxnId) (waiting : Option ℕ) (asked : Bool) (t : Told) → IsCurrent x waiting asked t → IsLastKnown d (Some t) → IsKnown d x waiting asked None
+known_as : (d : DeskState) (x : Txn) (waiting : Option ℕ) (asked : Bool) (t : Told) → IsCurrent x waiting asked t → IsLastKnown d (Some t) → IsTxnKnown d x waiting asked None
 known_as d x waiting asked t current known =
-    subst (λ (e : Option (Outcome ℕ)). IsKnown d x waiting asked e) current.not_ended
-    (subst (λ (b : Bool). IsKnown d x waiting b t.ended) current.asked_is
-    (subst (λ (w : Option ℕ). IsKnown d x w t.asked t.ended) current.waiting_is
-    (subst (λ (y : TxnId). IsKnown d y t.waiting t.asked t.ended) current.txn_is known)))
+    subst (λ (e : Option (Outcome ℕ)). IsTxnKnown d x waiting asked e) current.not_ended
+    (subst (λ (b : Bool). IsTxnKnown d x waiting b t.ended) current.asked_is
+    (subst (λ (w : Option ℕ). IsTxnKnown d x w t.asked t.ended) current.waiting_is
+    (subst (λ (y : Txn). IsTxnKnown d y t.waiting t.asked t.ended) current.txn_is known)))
 
-pub known_at : {P : ScriptTxn → Told → Type 0} (r : RunnerState) (d : DeskState) (said : List (Call × Reply)) (x : TxnId) (waiting : Option ℕ) (asked : Bool) → Agrees d r.client said → Works r said x waiting asked P → IsKnownAt d x waiting asked
+pub known_at : {P : ScriptTxn → Told → Type 0} (r : RunnerState) (d : DeskState) (said : List (Call × Reply)) (x : Txn) (waiting : Option ℕ) (asked : Bool) → Agrees d r.client said → Works r said x waiting asked P → IsKnownAt d x waiting asked
 known_at r d said x waiting asked agrees w =
     let last : last_of (told_of said) ≡ Some w.t = ap (λ (ts : List Told). last_of ts) w.told_is ∙ last_more w.before w.t in
     record {
       last = record {
         client = agrees.client;
         found = ap (client_at d) w.named ∙ agrees.found;
-        last = agrees.last ∙ ap (λ (o : Option Told). option_map (λ t. t.txn) o) last ∙ ap (λ (y : TxnId). Some y) w.current.txn_is;
+        last = agrees.last ∙ ap (λ (o : Option Told). option_map (λ t. t.txn) o) last ∙ ap (λ (y : Txn). Some y) w.current.txn_is;
       };
       known = known_as d x waiting asked w.t w.current (subst (IsLastKnown d) last agrees.known);
     }
 
-pub may_get : (d : DeskState) (x : TxnId) (key : ℕ) → IsKnownAt d x None false → key < d.setup.params.keys → MayCall d (desk.GetKey x key)
+pub may_get : (d : DeskState) (x : Txn) (key : ℕ) → IsKnownAt d x None false → key < d.setup.params.keys → MayCall d (desk.GetKey x key)
 may_get d x key known below = (known.last, known.known.1, below)
 
-pub may_write : (d : DeskState) (x : TxnId) (key : ℕ) (value : Option (List ℕ)) → IsKnownAt d x None false → key < d.setup.params.keys → MayCall d (desk.Write x key value)
+pub may_write : (d : DeskState) (x : Txn) (key : ℕ) (value : Option (List ℕ)) → IsKnownAt d x None false → key < d.setup.params.keys → MayCall d (desk.Write x key value)
 may_write d x key value known below = (known.last, known.known.1, below)
 
-pub may_commit : (d : DeskState) (x : TxnId) → IsKnownAt d x None false → MayCall d (desk.Commit x)
+pub may_commit : (d : DeskState) (x : Txn) → IsKnownAt d x None false → MayCall d (desk.Commit x)
 may_commit d x known = (known.last, known.known.1)
 
-not_asked : (d : DeskState) (x : TxnId) → IsOpen d x None → HasNotAsked d x
+not_asked : (d : DeskState) (x : Txn) → IsOpenTxn d x None → HasNotAsked d x
 not_asked d x (inl aborted) = inl aborted
 not_asked d x (inr open_is) = inr (open_is.0, open_is.1)
 
-pub may_abort : (d : DeskState) (x : TxnId) → IsKnownAt d x None false → MayCall d (desk.Abort x)
+pub may_abort : (d : DeskState) (x : Txn) → IsKnownAt d x None false → MayCall d (desk.Abort x)
 may_abort d x known = (known.last, not_asked d x known.known.1)
 
-may_wait : (d : DeskState) (x : TxnId) (key : ℕ) → IsOpen d x (Some key) → ((why : Why ℕ) × (outcome_at d x ≡ Some (AbortedBy why))) ⊎ (IsLive d x × (is_some (waiting_at d.running x.ticket) ≡ true))
+may_wait : (d : DeskState) (x : Txn) (key : ℕ) → IsOpenTxn d x (Some key) → ((why : Why ℕ) × (outcome_at d x ≡ Some (AbortedBy why))) ⊎ (IsLive d x × (is_some (waiting_at d.running x.ticket) ≡ true))
 may_wait d x key (inl aborted) = inl aborted
 may_wait d x key (inr open_is) = inr (open_is.0, ap (λ (o : Option ℕ). is_some o) open_is.2)
 
-pub may_poll : (d : DeskState) (x : TxnId) (key : ℕ) → IsKnownAt d x (Some key) false → MayCall d (desk.Poll x)
+pub may_poll : (d : DeskState) (x : Txn) (key : ℕ) → IsKnownAt d x (Some key) false → MayCall d (desk.Poll x)
 may_poll d x key known = (known.last, may_wait d x key known.known.1)
 
-pub may_settle : (d : DeskState) (x : TxnId) → IsKnownAt d x None true → MayCall d (desk.Settled x)
+pub may_settle : (d : DeskState) (x : Txn) → IsKnownAt d x None true → MayCall d (desk.Settled x)
 may_settle d x known = known.last
 
 -- ---- between transactions
@@ -80,37 +80,15 @@ last_ended (q ∷ txns) [] t past is = absurd past
 last_ended (q ∷ txns) (u ∷ []) t (meant, ended, past) is = subst HasEnded (same_Some u t is) ended
 last_ended (q ∷ txns) (u ∷ v ∷ told) t (meant, ended, past) is = last_ended txns (v ∷ told) t past is
 
--- what is known of the last one, which has ended
-record IsEndedAt (d : DeskState) (x : TxnId) : Type 0 where
-  outcome : Outcome ℕ
-  outcome_is : outcome_at d x ≡ Some outcome
-  not_live : IsLive d x → ⊥
-
-ended_known : (d : DeskState) (t : Told) → HasEnded t → IsLastKnown d (Some t) → IsEndedAt d t.txn
-ended_known d t (outcome, is) known = let k = subst (λ (e : Option (Outcome ℕ)). IsKnown d t.txn t.waiting t.asked e) is known in record { outcome = outcome; outcome_is = k.0; not_live = k.1 }
-
-named_last : (o : Option Told) (x : TxnId) → option_map (λ t. t.txn) o ≡ Some x → (t : Told) × (o ≡ Some t) × (t.txn ≡ x)
-named_last None x is = absurd (none-some x is)
-named_last (Some t) x is = (t, refl, same_Some t.txn x is)
-
-ended_last : (r : RunnerState) (d : DeskState) (said : List (Call × Reply)) (txns : List ScriptTxn) → Agrees d r.client said → ArePast txns (told_of said) → (c : Client) (x : TxnId) → client_at d r.client ≡ Some c → c.last ≡ Some x → IsEndedAt d x
-ended_last r d said txns agrees past c x found is =
-    let same : agrees.client ≡ c = same_Some agrees.client c (sym agrees.found ∙ found) in
-    let last = named_last (last_of (told_of said)) x (sym agrees.last ∙ ap (λ (q : Client). q.last) same ∙ is) in
-    subst (IsEndedAt d) last.2 (ended_known d last.0 (last_ended txns (told_of said) last.0 past last.1) (subst (IsLastKnown d) last.1 agrees.known))
-
-here : (r : RunnerState) (d : DeskState) (said : List (Call × Reply)) → Agrees d r.client said → has_signed_off said ≡ false → IsHere d r.client
-here r d said agrees none = record { client = agrees.client; found = agrees.found; not_signed_off = agrees.signed_off ∙ none }
-
 pub may_begin : (r : RunnerState) (d : DeskState) (said : List (Call × Reply)) (txns : List ScriptTxn) → Agrees d r.client said → has_signed_off said ≡ false → ArePast txns (told_of said) → MayCall d (desk.Begin r.client)
-may_begin r d said txns agrees none past = (here r d said agrees none, λ c x found is. ap (λ (o : Option (Outcome ℕ)). is_some o) (ended_last r d said txns agrees past c x found is).outcome_is)
+may_begin r d said txns agrees none past = between.may_begin d r.client said agrees none (λ t is. last_ended txns (told_of said) t past is)
 
 pub may_sign_off : (r : RunnerState) (d : DeskState) (said : List (Call × Reply)) (txns : List ScriptTxn) → Agrees d r.client said → has_signed_off said ≡ false → ArePast txns (told_of said) → MayCall d (desk.SignOff r.client)
-may_sign_off r d said txns agrees none past = (here r d said agrees none, λ c x found is live. absurd ((ended_last r d said txns agrees past c x found is).not_live live))
+may_sign_off r d said txns agrees none past = between.may_sign_off d r.client said agrees none (λ t is. last_ended txns (told_of said) t past is)
 
 -- ---- that its client aborted it isn't answered to another call
 
-earlier_not : (d : DeskState) (x : TxnId) (why : Why ℕ) → IsNotGivenUp d x → outcome_at d x ≡ Some (AbortedBy why) → why ≡ Asked → ⊥
+earlier_not : (d : DeskState) (x : Txn) (why : Why ℕ) → IsNotGivenUp d x → outcome_at d x ≡ Some (AbortedBy why) → why ≡ Asked → ⊥
 earlier_not d x why known is e = known (is ∙ ap (λ (w : Why ℕ). Some (AbortedBy w)) e)
 
 refused_not : (reply : Wrote) (why : Why ℕ) → why_refused reply ≡ Some why → why ≡ Asked → ⊥
@@ -118,16 +96,16 @@ refused_not Yes why is e = none-some why is
 refused_not (Conflicts key reader) why is e = let same : Conflict key reader ≡ Asked = same_Some _ why is ∙ e in cc same
 refused_not (WritesAreFull keys) why is e = let same : WritesFull keys ≡ Asked = same_Some _ why is ∙ e in cc same
 
-pub get_not_asked : (d new : DeskState) (x : TxnId) (key : ℕ) (why : Why ℕ) → IsNotGivenUp d x → DeskStep d (desk.GetKey x key) (desk.Aborted why) new → why ≡ Asked → ⊥
+pub get_not_asked : (d new : DeskState) (x : Txn) (key : ℕ) (why : Why ℕ) → IsNotGivenUp d x → DeskStep d (desk.GetKey x key) (desk.Aborted why) new → why ≡ Asked → ⊥
 get_not_asked d new x key why known (inl was) e = earlier_not d x why known was.earlier e
 get_not_asked d new x key why known (inr full) e = let same : ReadsFull full.queued full.left ≡ Asked = sym full.cause ∙ e in cc same
 
-pub poll_not_asked : (d new : DeskState) (x : TxnId) (why : Why ℕ) → IsNotGivenUp d x → DeskStep d (desk.Poll x) (desk.Aborted why) new → why ≡ Asked → ⊥
+pub poll_not_asked : (d new : DeskState) (x : Txn) (why : Why ℕ) → IsNotGivenUp d x → DeskStep d (desk.Poll x) (desk.Aborted why) new → why ≡ Asked → ⊥
 poll_not_asked d new x why known was e = earlier_not d x why known was.earlier e
 
-pub write_not_asked : (d new : DeskState) (x : TxnId) (key : ℕ) (value : Option (List ℕ)) (why : Why ℕ) → IsNotGivenUp d x → DeskStep d (desk.Write x key value) (desk.Aborted why) new → why ≡ Asked → ⊥
+pub write_not_asked : (d new : DeskState) (x : Txn) (key : ℕ) (value : Option (List ℕ)) (why : Why ℕ) → IsNotGivenUp d x → DeskStep d (desk.Write x key value) (desk.Aborted why) new → why ≡ Asked → ⊥
 write_not_asked d new x key value why known (inl was) e = earlier_not d x why known was.earlier e
 write_not_asked d new x key value why known (inr refused) e = refused_not (write_reply d.setup.params d.running.order x.ticket key) why refused.cause e
 
-pub commit_not_asked : (d new : DeskState) (x : TxnId) (why : Why ℕ) → IsNotGivenUp d x → DeskStep d (desk.Commit x) (desk.Aborted why) new → why ≡ Asked → ⊥
+pub commit_not_asked : (d new : DeskState) (x : Txn) (why : Why ℕ) → IsNotGivenUp d x → DeskStep d (desk.Commit x) (desk.Aborted why) new → why ≡ Asked → ⊥
 commit_not_asked d new x why known was e = earlier_not d x why known was.earlier e

@@ -1,6 +1,7 @@
 pub mod Tellings
 pub mod Meetings
 pub mod Works
+pub mod Nexts
 pub mod Moves
 pub mod Allowed
 pub mod Steps

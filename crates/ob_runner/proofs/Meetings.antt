@@ -7,7 +7,7 @@ use Rattle.ob_base.specs.declared.op.Op.{Op}
 use Rattle.ob_base.specs.declared.op.Op.TheVariants as op
 use Rattle.ob_script.specs.declared.line.Ask.{Ask}
 use Rattle.ob_script.specs.declared.line.Ask.TheVariants as ask
-use Rattle.ob_runner.specs.Meaning.{IsOf, Meets, MeetsFront, MeetsNoSum, IsAddsGet}
+use Rattle.ob_runner.specs.Meaning.{IsOpsOf, Meets, MeetsFront, MeetsNoSum, IsAddsGet}
 use Rattle.ob_runner.specs.Places.{HasRead}
 
 next_item : {A : Type 0} (xs : List A) (i : ℕ) (x : A) → slice_get xs i ≡ Some x → take (suc i) xs ≡ take i xs ++ x ∷ []
@@ -29,13 +29,13 @@ drop_item [] i x h = absurd (none-some x h)
 drop_item {A} (y ∷ ys) zero x h = ap (λ (z : A). z ∷ ys) (same_Some y x h)
 drop_item (y ∷ ys) (suc i) x h = drop_item ys i x h
 
-meets_more : (asks : List Ask) (ops : List (Op ℕ)) (a : Ask) (more : List (Op ℕ)) → Meets asks ops → IsOf a more → Meets (asks ++ a ∷ []) (ops ++ more)
+meets_more : (asks : List Ask) (ops : List (Op ℕ)) (a : Ask) (more : List (Op ℕ)) → Meets asks ops → IsOpsOf a more → Meets (asks ++ a ∷ []) (ops ++ more)
 meets_more [] ops a more met of = (more, [], ap (λ (os : List (Op ℕ)). os ++ more) met ∙ sym (append-nil more), of, refl)
 meets_more (b ∷ asks) ops a more (these, others, parts, of_b, met) of =
     (these, others ++ more, ap (λ (os : List (Op ℕ)). os ++ more) parts ∙ append_assoc these others more, of_b, meets_more asks others a more met of)
 
 -- the operations of the ask at this index are met too
-pub meets_next : (asks : List Ask) (i : ℕ) (a : Ask) (next : ℕ) (ops more : List (Op ℕ)) → slice_get asks i ≡ Some a → next ≡ i + 1 → IsOf a more → Meets (take i asks) ops → Meets (take next asks) (ops ++ more)
+pub meets_next : (asks : List Ask) (i : ℕ) (a : Ask) (next : ℕ) (ops more : List (Op ℕ)) → slice_get asks i ≡ Some a → next ≡ i + 1 → IsOpsOf a more → Meets (take i asks) ops → Meets (take next asks) (ops ++ more)
 meets_next asks i a next ops more is next_is of met = rw (next_is, take_next asks i a is) (meets_more (take i asks) ops a more met of)
 
 pub front_at : (asks : List Ask) (i : ℕ) (ops : List (Op ℕ)) → Meets (take i asks) ops → MeetsFront asks ops

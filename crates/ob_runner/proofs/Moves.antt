@@ -7,15 +7,15 @@ use Rattle.ob_serial.specs.declared.records.Why.TheVariants.{Asked}
 use Rattle.ob_serial.specs.declared.records.Outcome.{Outcome}
 use Rattle.ob_serial.specs.declared.records.Outcome.TheVariants.{Aborted as AbortedBy}
 use Rattle.ob_desk.specs.Desk.{Call, Reply}
-use Rattle.ob_desk.specs.declared.calls.Txn.{Txn as TxnId}
+use Rattle.ob_desk.specs.declared.calls.Txn.{Txn}
 use Rattle.ob_session.specs.declared.runner.Step.TheVariants as stands
-use Rattle.ob_session.specs.Clients.{Told, told_of, told_after, told_next, over, on_last, is_sign_off, stands_behind, stands_after}
+use Rattle.ob_session.specs.Clients.{Told, told_of, told_after, told_next, over, on_last, is_sign_off, is_refusal, stands_behind, stands_after}
 use Rattle.ob_script.specs.declared.line.Ending.TheVariants as ending
 use Rattle.ob_runner.specs.declared.place.Place.{Place}
 use Rattle.ob_script.specs.Script.{ScriptTxn}
 use Rattle.ob_runner.specs.Meaning.{IsMeant, Meets, MeetsFront, MeetsNoSum}
-use Rattle.ob_runner.specs.Places.{RunnerState, Fits, at_place, finished, IsPlaced, IsNamed, IsStanding, ArePast, HasEnded, is_over, is_stopped}
-use Rattle.ob_runner.proofs.Tellings.{told_more, last_more, on_last_more, signed_same}
+use Rattle.ob_runner.specs.Places.{RunnerState, Fits, at_place, finished, IsPlaced, IsClientOfPlace, IsStanding, ArePast, HasEnded, is_over, is_stopped}
+use Rattle.ob_runner.proofs.Tellings.{told_more, last_more, on_last_more, signed_same, refused_same}
 use Rattle.ob_runner.proofs.Meetings.{take_next}
 use Rattle.ob_runner.proofs.Works.{Works}
 
@@ -33,13 +33,14 @@ standing_as p said step h = subst (λ (o : Option (Call × Reply)). IsStanding p
 pub record Tells (step : Call × Reply) : Type 0 where
   pub is : (told : List Told) → told_after told step ≡ on_last (told_next step.0 step.1) told
   pub no_sign_off : is_sign_off step ≡ false
+  pub no_refusal : is_refusal step ≡ false
 
-module _ (r : RunnerState) (said : List (Call × Reply)) (x : TxnId) (waiting : Option ℕ) (asked : Bool) (P : ScriptTxn → Told → Type 0) (fits : Fits r said) (w : Works r said x waiting asked P) (step : Call × Reply) (tells : Tells step) where
+module _ (r : RunnerState) (said : List (Call × Reply)) (x : Txn) (waiting : Option ℕ) (asked : Bool) (P : ScriptTxn → Told → Type 0) (fits : Fits r said) (w : Works r said x waiting asked P) (step : Call × Reply) (tells : Tells step) where
   told_then : told_of (said ++ step ∷ []) ≡ w.before ++ told_next step.0 step.1 w.t ∷ []
   told_then = told_more said step ∙ ap (λ (ts : List Told). told_after ts step) w.told_is ∙ tells.is (w.before ++ w.t ∷ []) ∙ on_last_more (told_next step.0 step.1) w.before w.t
 
   -- it goes on in its transaction
-  pub goes : (p : Place) → IsPlaced p (slice_get r.script r.at) (told_next step.0 step.1 w.t ∷ []) → IsNamed r.client p → IsStanding p (stands_behind (Some step)) → is_over p ≡ false → is_stopped p ≡ false → Fits (at_place p r) (said ++ step ∷ [])
+  pub goes : (p : Place) → IsPlaced p (slice_get r.script r.at) (told_next step.0 step.1 w.t ∷ []) → IsClientOfPlace r.client p → IsStanding p (stands_behind (Some step)) → is_over p ≡ false → is_stopped p ≡ false → Fits (at_place p r) (said ++ step ∷ [])
   goes p placed named standing not_over not_stopped = record {
     before = w.before;
     now = told_next step.0 step.1 w.t ∷ [];
@@ -50,7 +51,7 @@ module _ (r : RunnerState) (said : List (Call × Reply)) (x : TxnId) (waiting : 
     named = named;
     standing = standing_as p said step standing;
     signed_off = signed_same said step tells.no_sign_off ∙ w.not_signed ∙ sym not_over;
-    refused = λ e. absurd (false≢true (sym not_stopped ∙ e));
+    refused = λ e. refused_same said step tells.no_refusal ∙ w.not_refused ∙ sym not_stopped;
     whole = λ e. absurd (false≢true (sym not_over ∙ e));
   }
 
@@ -66,7 +67,7 @@ module _ (r : RunnerState) (said : List (Call × Reply)) (x : TxnId) (waiting : 
     named = tt;
     standing = standing_as (finished r).place said step standing;
     signed_off = signed_same said step tells.no_sign_off ∙ w.not_signed;
-    refused = λ e. absurd (false≢true e);
+    refused = λ e. refused_same said step tells.no_refusal ∙ w.not_refused;
     whole = λ e. absurd (false≢true e);
   }
 

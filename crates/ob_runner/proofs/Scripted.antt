@@ -4,7 +4,7 @@ use Rattle.std.proofs.lemmas.Bool.{false≢true}
 use Rattle.std.proofs.lemmas.Option.{none-some}
 use Rattle.std.proofs.lemmas.List.{take-append-drop, take_all}
 use Rattle.ob_desk.specs.Desk.{Call, Reply}
-use Rattle.ob_desk.specs.declared.calls.Txn.{Txn as TxnId}
+use Rattle.ob_desk.specs.declared.calls.Txn.{Txn}
 use Rattle.ob_session.specs.Clients.{Told, told_of, has_signed_off, was_refused}
 use Rattle.ob_script.specs.Script.{ScriptTxn}
 use Rattle.ob_runner.specs.declared.place.Place.{Place}
@@ -39,17 +39,17 @@ past_all (q ∷ txns) [] over = absurd over
 past_all (q ∷ txns) (u ∷ told) (meant, ended, over) = (meant, past_all txns told over)
 
 -- one that goes on is meant
-current_meant : (x : TxnId) (waiting : Option ℕ) (s : ScriptTxn) (t : Told) → IsCurrent x waiting false t → MeetsFront s.asks t.ops → IsMeant s t
+current_meant : (x : Txn) (waiting : Option ℕ) (s : ScriptTxn) (t : Told) → IsCurrent x waiting false t → MeetsFront s.asks t.ops → IsMeant s t
 current_meant x waiting s t current front = record {
   front = front;
   committed = λ e. absurd (false≢true (sym current.asked_is ∙ e));
   asked = λ e. absurd (none-some _ (sym current.not_ended ∙ e));
 }
 
-asked_meant : (x : TxnId) (s : ScriptTxn) (t : Told) → IsCurrent x None true t → MeetsFront s.asks t.ops → IsCommitted s t → IsMeant s t
+asked_meant : (x : Txn) (s : ScriptTxn) (t : Told) → IsCurrent x None true t → MeetsFront s.asks t.ops → IsCommitted s t → IsMeant s t
 asked_meant x s t current front committed = record { front = front; committed = λ e. committed; asked = λ e. absurd (none-some _ (sym current.not_ended ∙ e)) }
 
-within_first : {x : TxnId} {waiting : Option ℕ} {asked : Bool} {P : ScriptTxn → Told → Type 0} (r : RunnerState) (said : List (Call × Reply)) (w : Works r said x waiting asked P) → IsMeant w.s w.t → MeantFirst r.script (told_of said)
+within_first : {x : Txn} {waiting : Option ℕ} {asked : Bool} {P : ScriptTxn → Told → Type 0} (r : RunnerState) (said : List (Call × Reply)) (w : Works r said x waiting asked P) → IsMeant w.s w.t → MeantFirst r.script (told_of said)
 within_first r said w meant =
     let script_is : take r.at r.script ++ w.s ∷ drop (suc r.at) r.script ≡ r.script =
     ap (λ (rest : List ScriptTxn). take r.at r.script ++ rest) (sym (drop_item r.script r.at w.s w.txn_is)) ∙ take-append-drop r.at r.script in

@@ -13,23 +13,13 @@ use Rattle.ob_order.proofs.Batches.{taken_in_flight}
 use Rattle.ob_desk.specs.Desk as desk
 use Rattle.ob_desk.specs.Desk.{DeskState, Setup, Call, Reply, MayCall, DeskStep, MayOpen, new_desk}
 use Rattle.ob_session.specs.Steps.{Leads, IsOwn}
-use Rattle.ob_session.specs.Clients.{is_of, said_by}
+use Rattle.ob_session.specs.Clients.{said_by}
 use Rattle.ob_session.specs.Agreeing.{Agrees}
 use Rattle.ob_session.proofs.Runs.{calls_agree}
+use Rattle.ob_session.proofs.Saying.{leads_join, said_append}
 use Rattle.ob_script.specs.Script.{Scripts, AreSound}
 use Rattle.ob_runner.specs.Places.{RunnerState, Fits}
-use Rattle.ob_runner.specs.Served.{IsServed}
-
-leads_join : (a : DeskState) (steps : List (Call × Reply)) (b : DeskState) (more : List (Call × Reply)) (c : DeskState) → Leads a steps b → Leads b more c → Leads a (steps ++ more) c
-leads_join a [] b more c first last = subst (λ (q : DeskState). Leads q more c) first last
-leads_join a (step ∷ steps) b more c (mid, may, does, rest) last = (mid, may, does, leads_join mid steps b more c rest last)
-
-said_join : (client : ℕ) (steps more : List (Call × Reply)) → said_by client (steps ++ more) ≡ said_by client steps ++ said_by client more
-said_join client [] more = refl
-said_join client (step ∷ steps) more = elim (is_of client step.0) as (λ b. cond b (step ∷ said_by client (steps ++ more)) (said_by client (steps ++ more)) ≡ cond b (step ∷ said_by client steps) (said_by client steps) ++ said_by client more) [
-  | true ↦ ap (λ (s : List (Call × Reply)). step ∷ s) (said_join client steps more)
-  | false ↦ said_join client steps more
-]
+use Rattle.ob_runner.specs.Served.{IsRunnerServed}
 
 -- what a client's calls leave of the desk
 record Keeps (d new : DeskState) : Type 0 where
@@ -83,12 +73,12 @@ run_kept client d (step ∷ steps) new own (mid, may, does, rest) =
     record { setup = last.setup ∙ first.setup; closed = λ none. last.closed (first.closed none); flying = last.flying ∙ first.flying }
 
 -- the runner's next step may be made
-pub served_agrees : (r : RunnerState) (d : DeskState) → IsServed r d → (said : List (Call × Reply)) × Fits r said × Agrees d r.client said
+pub served_agrees : (r : RunnerState) (d : DeskState) → IsRunnerServed r d → (said : List (Call × Reply)) × Fits r said × Agrees d r.client said
 served_agrees r d s = (said_by r.client s.steps, s.fits, calls_agree s.setup s.epoch s.left s.clients s.steps d r.client s.may s.leads s.has)
 
 -- and they go together behind it
-pub served_step : (r next : RunnerState) (d new : DeskState) (made : List (Call × Reply)) → IsServed r d → next.client ≡ r.client → next.keys ≡ r.keys → Leads d made new → All (IsOwn r.client) made
-    → ((said : List (Call × Reply)) → Fits r said → Fits next (said ++ said_by r.client made)) → IsServed next new
+pub served_step : (r next : RunnerState) (d new : DeskState) (made : List (Call × Reply)) → IsRunnerServed r d → next.client ≡ r.client → next.keys ≡ r.keys → Leads d made new → All (IsOwn r.client) made
+    → ((said : List (Call × Reply)) → Fits r said → Fits next (said ++ said_by r.client made)) → IsRunnerServed next new
 served_step r next d new made s client keys leads own fits =
     let kept = run_kept r.client d made new own leads in
     record {
@@ -101,15 +91,15 @@ served_step r next d new made s client keys leads own fits =
       leads = leads_join (new_desk s.setup s.epoch s.left s.clients) s.steps d made new s.leads leads;
       has = subst (λ (c : ℕ). Contains s.clients c) (sym client) s.has;
       fits = subst (λ (c : ℕ). Fits next (said_by c (s.steps ++ made))) (sym client)
-          (subst (λ (said : List (Call × Reply)). Fits next said) (sym (said_join r.client s.steps made)) (fits (said_by r.client s.steps) s.fits));
+          (subst (λ (said : List (Call × Reply)). Fits next said) (sym (said_append r.client s.steps made)) (fits (said_by r.client s.steps) s.fits));
       bound = subst (λ (q : Setup). next.keys ≤ q.params.keys) (sym kept.setup) (subst (λ (k : ℕ). k ≤ d.setup.params.keys) (sym keys) s.bound);
       not_closed = kept.closed s.not_closed;
       none_flying = kept.flying ∙ s.none_flying;
     }
 
 -- a call that is no client's
-pub served_call : (r : RunnerState) (d new : DeskState) (made : List (Call × Reply)) → IsServed r d → Leads d made new → said_by r.client made ≡ [] → new.setup ≡ d.setup → new.closed ≡ None → new.running.order.flying ≡ []
-    → IsServed r new
+pub served_call : (r : RunnerState) (d new : DeskState) (made : List (Call × Reply)) → IsRunnerServed r d → Leads d made new → said_by r.client made ≡ [] → new.setup ≡ d.setup → new.closed ≡ None → new.running.order.flying ≡ []
+    → IsRunnerServed r new
 served_call r d new made s leads none setup closed flying = record {
   setup = s.setup;
   epoch = s.epoch;
@@ -119,14 +109,14 @@ served_call r d new made s leads none setup closed flying = record {
   may = s.may;
   leads = leads_join (new_desk s.setup s.epoch s.left s.clients) s.steps d made new s.leads leads;
   has = s.has;
-  fits = subst (λ (said : List (Call × Reply)). Fits r said) (sym (said_join r.client s.steps made ∙ ap (λ (t : List (Call × Reply)). said_by r.client s.steps ++ t) none ∙ append-nil (said_by r.client s.steps))) s.fits;
+  fits = subst (λ (said : List (Call × Reply)). Fits r said) (sym (said_append r.client s.steps made ∙ ap (λ (t : List (Call × Reply)). said_by r.client s.steps ++ t) none ∙ append-nil (said_by r.client s.steps))) s.fits;
   bound = subst (λ (q : Setup). r.keys ≤ q.params.keys) (sym setup) s.bound;
   not_closed = closed;
   none_flying = flying;
 }
 
 -- the desk is stopped for want of memory
-pub served_stop : (r : RunnerState) (d new : DeskState) → IsServed r d → DeskStep d (desk.Stop Memory) desk.Done new → IsServed r new
+pub served_stop : (r : RunnerState) (d new : DeskState) → IsRunnerServed r d → DeskStep d (desk.Stop Memory) desk.Done new → IsRunnerServed r new
 served_stop r d new s step = let kept = step_kept r.client d (desk.Stop Memory) desk.Done new refl step in
     served_call r d new ((desk.Stop Memory, desk.Done) ∷ []) s (new, tt, step, refl) refl kept.setup (kept.closed s.not_closed) (kept.flying ∙ s.none_flying)
 
@@ -139,8 +129,8 @@ may_deliver d mid keys values closed take lengths = (
 )
 
 -- a batch is taken and delivered
-pub served_round : (r : RunnerState) (d mid new : DeskState) (keys : List (Option ℕ)) (values : List (Option (List ℕ))) → IsServed r d → 0 < d.running.order.left → DeskStep d desk.TakeBatch (desk.Batch keys) mid
-    → length values ≡ length keys → DeskStep mid (desk.Deliver keys values) desk.Done new → IsServed r new
+pub served_round : (r : RunnerState) (d mid new : DeskState) (keys : List (Option ℕ)) (values : List (Option (List ℕ))) → IsRunnerServed r d → 0 < d.running.order.left → DeskStep d desk.TakeBatch (desk.Batch keys) mid
+    → length values ≡ length keys → DeskStep mid (desk.Deliver keys values) desk.Done new → IsRunnerServed r new
 served_round r d mid new keys values s some take lengths deliver =
     served_call r d new ((desk.TakeBatch, desk.Batch keys) ∷ (desk.Deliver keys values, desk.Done) ∷ []) s
     (mid, (s.not_closed, some, s.none_flying), take, (new, may_deliver d mid keys values s.not_closed take lengths, deliver, refl)) refl
@@ -163,8 +153,8 @@ may_open params scripts clients sound same batches = record {
 
 -- a new one of each go together
 pub served_new : (r : RunnerState) (d : DeskState) (setup : Setup) (epoch left : ℕ) (clients : List ℕ) → MayOpen setup epoch left clients → Contains clients r.client → Fits r [] → r.keys ≤ setup.params.keys
-    → d ≡ new_desk setup epoch left clients → IsServed r d
-served_new r d setup epoch left clients may has fits bound is = subst (IsServed r) (sym is) (record {
+    → d ≡ new_desk setup epoch left clients → IsRunnerServed r d
+served_new r d setup epoch left clients may has fits bound is = subst (IsRunnerServed r) (sym is) (record {
   setup = setup;
   epoch = epoch;
   left = left;

@@ -1,5 +1,5 @@
 -- The steps of a runner that is in no transaction.
-use Rattle.std.proofs.Common.{◌≡◌, ◌<◌, ◌≤◌, ℕ, zero, suc, true, false, ◌==◌, List, Option, Some, [], ◌∷◌, ◌++◌, length, take, refl, sym, ap, subst, ◌∙◌, append-nil, arith, eq-eqb, ⊎_elim}
+use Rattle.std.proofs.Common.{◌≡◌, ◌<◌, ◌≤◌, ℕ, zero, suc, true, false, ◌==◌, List, Option, Some, [], ◌∷◌, ◌++◌, length, take, refl, sym, ap, subst, ◌∙◌, append-nil, arith, eq-eqb, ⊎_elim, inl, inr}
 use Rattle.std.specs.Prelude.{slice_get, All, is_some}
 use Rattle.std.proofs.lemmas.Bool.{false≢true}
 use Rattle.std.proofs.lemmas.List.Elements.{All-nil, All-filter}
@@ -7,7 +7,7 @@ use Rattle.ob_base.specs.declared.fault.Fault.{Fault}
 use Rattle.ob_desk.specs.Desk as desk
 use Rattle.ob_desk.specs.Desk.{Call, Reply, DeskState, MayCall, DeskStep}
 use Rattle.ob_desk.specs.Calls.{begun_reply}
-use Rattle.ob_desk.specs.declared.calls.Txn.{Txn as TxnId}
+use Rattle.ob_desk.specs.declared.calls.Txn.{Txn}
 use Rattle.ob_desk.specs.declared.calls.Begun.{Begun}
 use Rattle.ob_desk.specs.declared.calls.Begun.TheVariants as begun_as
 use Rattle.ob_session.specs.declared.runner.Step.{Step}
@@ -15,12 +15,14 @@ use Rattle.ob_session.specs.declared.runner.Step.TheVariants as stands
 use Rattle.ob_session.specs.Steps.{IsOwn}
 use Rattle.ob_session.specs.Clients.{Told, told_of, told_next, begun, has_signed_off, was_refused, stands_after}
 use Rattle.ob_script.specs.declared.line.Ask.{Ask}
-use Rattle.ob_script.specs.Script.{ScriptTxn, AreBelow, asks_by, key_of}
+use Rattle.ob_script.specs.Script.{ScriptTxn, AreOpsBelow, asks_by, key_of}
 use Rattle.ob_runner.specs.declared.place.Place.{Place}
 use Rattle.ob_runner.specs.declared.place.Place.TheVariants as place
-use Rattle.ob_runner.specs.Places.{RunnerState, new_runner, at_place, after_begun, IsInScript, IsDone, ArePast, Fits, MayStep, Halts, calls_at, takes_memory, IsNoStop, StepsTo}
+use Rattle.ob_runner.specs.Places.{RunnerState, new_runner, at_place, after_begun, IsInScript, IsDone, ArePast, Fits, MayStep, Halts, calls_at, takes_memory, is_stopped, StepsTo}
+use Rattle.ob_runner.specs.Turns.{script_next, MakesCall}
 use Rattle.ob_runner.proofs.Tellings.{told_more, on_last_same, signed_same, signed_now, refused_same, refused_now}
 use Rattle.ob_runner.proofs.Works.{placed_as}
+use Rattle.ob_runner.proofs.Nexts.{begin_next, sign_off_next, over_next}
 use Rattle.ob_runner.proofs.Moves.{standing_as}
 use Rattle.ob_runner.proofs.Allowed.{may_begin, may_sign_off}
 use Rattle.ob_runner.proofs.Steps.{made_one, steps_as, halts, one_as}
@@ -30,7 +32,8 @@ record IsFree (r : RunnerState) (said : List (Call × Reply)) : Type 0 where
   past : ArePast (take r.at r.script) (told_of said)
   ran : stands_after said ≡ stands.Ran
   not_signed : has_signed_off said ≡ false
-  below : AreBelow r.keys r.script
+  refused : was_refused said ≡ is_stopped r.place
+  below : AreOpsBelow r.keys r.script
 
 free_as : (r : RunnerState) (said : List (Call × Reply)) (p : Place) (before now : List Told) → told_of said ≡ before ++ now → now ≡ [] → ArePast (take r.at r.script) before → ArePast (take r.at r.script) (told_of said)
 free_as r said p before now told_is none past = subst (λ (told : List Told). ArePast (take r.at r.script) told) (sym (told_is ∙ ap (λ (ts : List Told). before ++ ts) none ∙ append-nil before)) past
@@ -40,6 +43,7 @@ between r said e fits = let f = placed_as r place.Between said e fits in record 
   past = free_as r said place.Between f.before f.now f.told_is f.placed f.past;
   ran = f.standing;
   not_signed = f.signed_off;
+  refused = f.refused refl ∙ ap (λ (p : Place). is_stopped p) (sym e);
   below = f.below;
 }
 
@@ -48,6 +52,7 @@ stopped r said e fits = let f = placed_as r place.Stopped said e fits in record 
   past = free_as r said place.Stopped f.before f.now f.told_is f.placed f.past;
   ran = f.standing;
   not_signed = f.signed_off;
+  refused = f.refused refl ∙ ap (λ (p : Place). is_stopped p) (sym e);
   below = f.below;
 }
 
@@ -74,7 +79,10 @@ module _ (r : RunnerState) (d new : DeskState) (may : MayStep r d) where
     pub begin_halts : (mid : DeskState) (last : DeskState) (stand : Step) (made : List (Call × Reply)) → mid ≡ d → Halts mid stand made last → StepsTo r d stand made r last
     begin_halts mid last stand made same halt = halts r d mid last stand made (one_as r.place place.Between at refl) takes_begin (λ said f. (between r said at f).ran) same halt
 
-    begun_fits : (x : TxnId) → x.client ≡ r.client → (said : List (Call × Reply)) → Fits r said → Fits (at_place (place.Next x 0) r) (said ++ (desk.Begin r.client, desk.Begun x) ∷ [])
+    not_refused : (said : List (Call × Reply)) → Fits r said → was_refused said ≡ false
+    not_refused said fits = (between r said at fits).refused ∙ ap (λ (p : Place). is_stopped p) at
+
+    begun_fits : (x : Txn) → x.client ≡ r.client → (said : List (Call × Reply)) → Fits r said → Fits (at_place (place.Next x 0) r) (said ++ (desk.Begin r.client, desk.Begun x) ∷ [])
     begun_fits x named said fits = let free = between r said at fits in let item = has_item r.script r.at more in record {
       before = told_of said;
       now = begun x ∷ [];
@@ -91,15 +99,18 @@ module _ (r : RunnerState) (d new : DeskState) (may : MayStep r d) where
       named = named;
       standing = standing_as (place.Next x 0) said (desk.Begin r.client, desk.Begun x) refl;
       signed_off = signed_same said (desk.Begin r.client, desk.Begun x) refl ∙ free.not_signed;
-      refused = λ e. absurd (false≢true e);
+      refused = λ e. refused_same said (desk.Begin r.client, desk.Begun x) refl ∙ not_refused said fits;
       whole = λ e. absurd (false≢true e);
     }
 
-    begun_steps : (x : TxnId) (made : List (Call × Reply)) (next : RunnerState) → DeskStep d (desk.Begin r.client) (desk.Begun x) new → made ≡ (desk.Begin r.client, desk.Begun x) ∷ [] → next ≡ at_place (place.Next x 0) r
+    begin_next_it : (said : List (Call × Reply)) → Fits r said → script_next r.client r.script said ≡ Some (desk.Begin r.client)
+    begin_next_it said fits = let free = between r said at fits in let item = has_item r.script r.at more in begin_next r said item.0 item.1 free.not_signed (not_refused said fits) free.past
+
+    begun_steps : (x : Txn) (made : List (Call × Reply)) (next : RunnerState) → DeskStep d (desk.Begin r.client) (desk.Begun x) new → made ≡ (desk.Begin r.client, desk.Begun x) ∷ [] → next ≡ at_place (place.Next x 0) r
         → StepsTo r d stands.Ran made next new
-    begun_steps x made next does e f = let named : x.client ≡ r.client = ap (λ (y : TxnId). y.client) does.next in
+    begun_steps x made next does e f = let named : x.client ≡ r.client = ap (λ (y : Txn). y.client) does.next in
         steps_as r d new stands.Ran stands.Ran made _ next _ refl e f
-        (made_one r (at_place (place.Next x 0) r) d new stands.Ran (desk.Begin r.client, desk.Begun x) (one_as r.place place.Between at refl) tt refl refl refl may_begin_it does refl (same_client r.client) (begun_fits x named) refl)
+        (made_one r (at_place (place.Next x 0) r) d new stands.Ran (desk.Begin r.client, desk.Begun x) (one_as r.place place.Between at refl) begin_next_it refl refl refl may_begin_it does refl (same_client r.client) (begun_fits x named) refl)
 
     refused_fits : (fault : Fault) → (said : List (Call × Reply)) → Fits r said → Fits (at_place place.Stopped r) (said ++ (desk.Begin r.client, desk.Refused fault) ∷ [])
     refused_fits fault said fits = let free = between r said at fits in record {
@@ -119,7 +130,7 @@ module _ (r : RunnerState) (d new : DeskState) (may : MayStep r d) where
     refused_steps : (fault : Fault) (made : List (Call × Reply)) (next : RunnerState) → DeskStep d (desk.Begin r.client) (desk.Refused fault) new → made ≡ (desk.Begin r.client, desk.Refused fault) ∷ [] → next ≡ at_place place.Stopped r
         → StepsTo r d stands.Ran made next new
     refused_steps fault made next does e f = steps_as r d new stands.Ran stands.Ran made _ next _ refl e f
-        (made_one r (at_place place.Stopped r) d new stands.Ran (desk.Begin r.client, desk.Refused fault) (one_as r.place place.Between at refl) tt refl refl refl may_begin_it does refl (same_client r.client) (refused_fits fault) refl)
+        (made_one r (at_place place.Stopped r) d new stands.Ran (desk.Begin r.client, desk.Refused fault) (one_as r.place place.Between at refl) begin_next_it refl refl refl may_begin_it does refl (same_client r.client) (refused_fits fault) refl)
 
     pub begin_steps : (reply : Begun) (made : List (Call × Reply)) (next : RunnerState) → DeskStep d (desk.Begin r.client) (begun_reply reply) new → made ≡ (desk.Begin r.client, begun_reply reply) ∷ [] → next ≡ after_begun (begun_reply reply) r
         → StepsTo r d stands.Ran made next new
@@ -133,6 +144,10 @@ module _ (r : RunnerState) (d new : DeskState) (may : MayStep r d) where
 
     whole_done : (said : List (Call × Reply)) → Fits r said → was_refused said ≡ false → length r.script ≤ r.at
     whole_done said fits none = ⊎_elim (λ one. one.1) (λ other. absurd (false≢true (sym none ∙ was_stopped r said other fits))) done
+
+    sign_off_next_it : (said : List (Call × Reply)) → Fits r said → script_next r.client r.script said ≡ Some (desk.SignOff r.client)
+    sign_off_next_it said fits = let free = free_done said fits in sign_off_next r said free.not_signed free.past
+        (⊎_elim (λ one. inr (free.refused ∙ ap (λ (p : Place). is_stopped p) one.0, one.1)) (λ other. inl (was_stopped r said other fits)) done)
 
     one_done : calls_at r.place ≡ 1
     one_done = ⊎_elim (λ one. one_as r.place place.Between one.0 refl) (λ other. one_as r.place place.Stopped other refl) done
@@ -151,20 +166,20 @@ module _ (r : RunnerState) (d new : DeskState) (may : MayStep r d) where
       named = tt;
       standing = standing_as place.Over said (desk.SignOff r.client, desk.Done) refl;
       signed_off = signed_now said (desk.SignOff r.client, desk.Done) refl;
-      refused = λ e. absurd (false≢true e);
+      refused = λ e. absurd (false≢true (sym e));
       whole = λ e none. whole_done said fits (sym (refused_same said (desk.SignOff r.client, desk.Done) refl) ∙ none);
     }
 
     pub sign_off_steps : (made : List (Call × Reply)) (next : RunnerState) → DeskStep d (desk.SignOff r.client) desk.Done new → made ≡ (desk.SignOff r.client, desk.Done) ∷ [] → next ≡ at_place place.Over r
         → StepsTo r d stands.Done made next new
     sign_off_steps made next does e f = steps_as r d new stands.Done stands.Done made _ next _ refl e f
-        (made_one r (at_place place.Over r) d new stands.Done (desk.SignOff r.client, desk.Done) one_done tt refl refl refl may_sign_off_it does refl (same_client r.client) signed_fits refl)
+        (made_one r (at_place place.Over r) d new stands.Done (desk.SignOff r.client, desk.Done) one_done sign_off_next_it refl refl refl may_sign_off_it does refl (same_client r.client) signed_fits refl)
 
 -- behind its sign-off it makes no call
 pub over_steps : (r : RunnerState) (d : DeskState) → r.place ≡ place.Over → StepsTo r d stands.Done [] r d
 over_steps r d at = record {
   one = sym (ap (λ (p : Place). calls_at p) at);
-  no_stop = λ e. All-nil IsNoStop;
+  turn = λ said f. subst (λ (o : Option Call). MakesCall o []) (sym (over_next r.client r.script said (placed_as r place.Over said at f).signed_off)) refl;
   client = refl;
   keys = refl;
   script = refl;
@@ -175,7 +190,7 @@ over_steps r d at = record {
 }
 
 -- one that has made no call fits
-pub new_fits : (client keys : ℕ) (script : List ScriptTxn) → AreBelow keys script → Fits (new_runner client keys script) []
+pub new_fits : (client keys : ℕ) (script : List ScriptTxn) → AreOpsBelow keys script → Fits (new_runner client keys script) []
 new_fits client keys script below = record {
   before = [];
   now = [];
@@ -186,11 +201,11 @@ new_fits client keys script below = record {
   named = tt;
   standing = refl;
   signed_off = refl;
-  refused = λ e. absurd (false≢true e);
+  refused = λ e. refl;
   whole = λ e. absurd (false≢true e);
 }
 
 -- and so does one with a client's transactions of a script
-pub client_fits : (client keys k : ℕ) (own txns all : List ScriptTxn) → k ≡ keys → own ≡ asks_by client txns → txns ≡ all → AreBelow keys all → Fits (new_runner client k own) []
+pub client_fits : (client keys k : ℕ) (own txns all : List ScriptTxn) → k ≡ keys → own ≡ asks_by client txns → txns ≡ all → AreOpsBelow keys all → Fits (new_runner client k own) []
 client_fits client keys k own txns all same_keys same_own same below = new_fits client k own
     (rw (same_keys, same_own, same) (All-filter (λ (t : ScriptTxn). t.client == client) (λ (t : ScriptTxn). All (λ (a : Ask). key_of a < keys) t.asks) all below))

@@ -1,4 +1,5 @@
 pub mod Meaning
+pub mod Turns
 pub mod Places
 pub mod RunnerViews
 pub mod Served

@@ -26,16 +26,16 @@ abbrev pub sum_of : Option (List ℕ) → ℤ → Option (List ℕ)
 sum_of value amount = option_and_then (λ z. spelled (z +ℤ amount)) (counted value)
 
 -- These are the operations of one ask, whatever was replied and from whatever source. An add is a get and then a put of the sum.
-abbrev pub IsOf : Ask → List (Op ℕ) → Type 0
-IsOf (Get key) ops = (reply : Option (List ℕ)) × (source : ℕ) × (ops ≡ op.Get key reply source ∷ [])
-IsOf (Put key value) ops = ops ≡ op.Put key value ∷ []
-IsOf (Del key) ops = ops ≡ op.Del key ∷ []
-IsOf (Add key amount) ops = (reply : Option (List ℕ)) × (source : ℕ) × (new : List ℕ) × (sum_of reply amount ≡ Some new) × (ops ≡ op.Get key reply source ∷ op.Put key new ∷ [])
+abbrev pub IsOpsOf : Ask → List (Op ℕ) → Type 0
+IsOpsOf (Get key) ops = (reply : Option (List ℕ)) × (source : ℕ) × (ops ≡ op.Get key reply source ∷ [])
+IsOpsOf (Put key value) ops = ops ≡ op.Put key value ∷ []
+IsOpsOf (Del key) ops = ops ≡ op.Del key ∷ []
+IsOpsOf (Add key amount) ops = (reply : Option (List ℕ)) × (source : ℕ) × (new : List ℕ) × (sum_of reply amount ≡ Some new) × (ops ≡ op.Get key reply source ∷ op.Put key new ∷ [])
 
 -- The operations are those that were asked for, all of them, in order.
 abbrev pub Meets : List Ask → List (Op ℕ) → Type 0
 Meets [] ops = ops ≡ []
-Meets (ask ∷ asks) ops = (these : List (Op ℕ)) × (more : List (Op ℕ)) × (ops ≡ these ++ more) × IsOf ask these × Meets asks more
+Meets (ask ∷ asks) ops = (these : List (Op ℕ)) × (more : List (Op ℕ)) × (ops ≡ these ++ more) × IsOpsOf ask these × Meets asks more
 
 -- The get of an add that comes first.
 pub record IsAddsGet (asks : List Ask) (ops : List (Op ℕ)) : Type 0 where

@@ -6,7 +6,7 @@ use Rattle.ob_base.specs.declared.fault.Fault.TheVariants.{Memory}
 use Rattle.ob_serial.specs.declared.records.Outcome.{Outcome}
 use Rattle.ob_desk.specs.Desk as desk
 use Rattle.ob_desk.specs.Desk.{Call, Reply, DeskState}
-use Rattle.ob_desk.specs.declared.calls.Txn.{Txn as TxnId}
+use Rattle.ob_desk.specs.declared.calls.Txn.{Txn}
 use Rattle.ob_session.specs.declared.runner.Step.{Step}
 use Rattle.ob_session.specs.declared.runner.Step.TheVariants as stands
 use Rattle.ob_session.specs.Steps.{Leads, IsOwn}
@@ -22,7 +22,8 @@ use Rattle.ob_runner.specs.declared.place.Place.TheVariants as place
 use Rattle.ob_runner.specs.declared.place.Read.{Read}
 use Rattle.ob_runner.specs.declared.place.Wanted.{Wanted}
 use Rattle.ob_runner.specs.declared.place.Wanted.TheVariants as wanted
-use Rattle.ob_script.specs.Script.{ScriptTxn, AreBelow}
+use Rattle.ob_script.specs.Script.{ScriptTxn, AreOpsBelow}
+use Rattle.ob_runner.specs.Turns.{IsScriptTurn}
 use Rattle.ob_runner.specs.Meaning.{sum_of, IsMeant, MeantFirst, MeantAll, Meets, MeetsNoSum}
 
 -- A runner: its client, a bound on its keys, its transactions, the index of the current or next one, and where it stands there.
@@ -62,12 +63,12 @@ abbrev pub ask_of : Read → Ask
 ask_of read = ask_with read.key read.amount
 
 -- the place behind a get that was answered with this value
-abbrev pub place_behind : TxnId → ℕ → ℕ → Option ℤ → Option (List ℕ) → Place
+abbrev pub place_behind : Txn → ℕ → ℕ → Option ℤ → Option (List ℕ) → Place
 place_behind txn key next None value = place.Next txn next
 place_behind txn key next (Some amount) value = place.Adding txn key (sum_of value amount) next
 
 -- the runner behind a get or a poll for it that was answered so
-abbrev pub after_got : TxnId → Read → Reply → RunnerState → RunnerState
+abbrev pub after_got : Txn → Read → Reply → RunnerState → RunnerState
 after_got txn read (desk.Value value) r = at_place (place_behind txn read.key read.next read.amount value) r
 after_got txn read desk.Waits r = at_place (place.Waiting txn read) r
 after_got txn read _ r = finished r
@@ -83,14 +84,14 @@ after_done p desk.Done r = at_place p r
 after_done p _ r = finished r
 
 -- it waits for this key alone, it asked to commit or not, and it isn't told how it ended
-pub record IsCurrent (txn : TxnId) (waiting : Option ℕ) (asked : Bool) (told : Told) : Type 0 where
+pub record IsCurrent (txn : Txn) (waiting : Option ℕ) (asked : Bool) (told : Told) : Type 0 where
   pub txn_is : told.txn ≡ txn
   pub waiting_is : told.waiting ≡ waiting
   pub asked_is : told.asked ≡ asked
   pub not_ended : told.ended ≡ None
 
 -- All asks are met before the one whose get this is.
-pub record IsReading (txn : TxnId) (waiting : Option ℕ) (read : Read) (s : ScriptTxn) (told : Told) : Type 0 where
+pub record IsReading (txn : Txn) (waiting : Option ℕ) (read : Read) (s : ScriptTxn) (told : Told) : Type 0 where
   pub index : ℕ
   pub current : IsCurrent txn waiting false told
   pub meets : Meets (take index s.asks) told.ops
@@ -122,16 +123,16 @@ abbrev pub InTxn : RunnerState → (ScriptTxn → Told → Type 0) → Type 0
 InTxn r P = (s : ScriptTxn) (t : Told) → slice_get r.script r.at ≡ Some s → IsPlacedIn r.place s t → P s t
 
 -- this operation meets the asks up to the next one
-abbrev pub Completes : Op ℕ → ℕ → ScriptTxn → Told → Type 0
-Completes one next s t = Meets (take next s.asks) (t.ops ++ one ∷ [])
+abbrev pub MeetsAsks : Op ℕ → ℕ → ScriptTxn → Told → Type 0
+MeetsAsks one next s t = Meets (take next s.asks) (t.ops ++ one ∷ [])
 
 -- all asks are met, and this is to be the end
-abbrev pub IsAtEnd : Ending → ScriptTxn → Told → Type 0
-IsAtEnd end s t = Meets s.asks t.ops × (s.ending ≡ end)
+abbrev pub IsAtTxnEnd : Ending → ScriptTxn → Told → Type 0
+IsAtTxnEnd end s t = Meets s.asks t.ops × (s.ending ≡ end)
 
 -- the script is to abort, or there is no sum
 abbrev pub IsToAbort : ScriptTxn → Told → Type 0
-IsToAbort s t = IsAtEnd ending.Abort s t ⊎ MeetsNoSum s.asks t.ops
+IsToAbort s t = IsAtTxnEnd ending.Abort s t ⊎ MeetsNoSum s.asks t.ops
 
 -- this ask is at the index, and all before it are met
 abbrev pub IsAskAt : Ask → ℕ → ℕ → ScriptTxn → Told → Type 0
@@ -146,7 +147,7 @@ abbrev pub IsDone : RunnerState → Type 0
 IsDone r = ((r.place ≡ place.Between) × (length r.script ≤ r.at)) ⊎ (r.place ≡ place.Stopped)
 
 -- it is in this transaction, and can make its next call
-abbrev pub IsAtWork : TxnId → Place → Type 0
+abbrev pub IsAtWork : Txn → Place → Type 0
 IsAtWork txn (place.Next x i) = x ≡ txn
 IsAtWork txn (place.Adding x key sum next) = x ≡ txn
 IsAtWork txn _ = ⊥
@@ -177,12 +178,12 @@ ArePast (ask ∷ txns) (one ∷ told) = IsMeant ask one × HasEnded one × ArePa
 ArePast _ _ = ⊥
 
 -- the client of the transaction that it is in
-abbrev pub IsNamed : ℕ → Place → Type 0
-IsNamed client (place.Next txn i) = txn.client ≡ client
-IsNamed client (place.Waiting txn read) = txn.client ≡ client
-IsNamed client (place.Adding txn key sum next) = txn.client ≡ client
-IsNamed client (place.Asked txn) = txn.client ≡ client
-IsNamed client _ = Unit {0}
+abbrev pub IsClientOfPlace : ℕ → Place → Type 0
+IsClientOfPlace client (place.Next txn i) = txn.client ≡ client
+IsClientOfPlace client (place.Waiting txn read) = txn.client ≡ client
+IsClientOfPlace client (place.Adding txn key sum next) = txn.client ≡ client
+IsClientOfPlace client (place.Asked txn) = txn.client ≡ client
+IsClientOfPlace client _ = Unit {0}
 
 -- how it stands behind its last call
 abbrev pub IsStanding : Place → Step → Type 0
@@ -203,14 +204,14 @@ is_stopped _ = false
 pub record Fits (r : RunnerState) (said : List (Call × Reply)) : Type 0 where
   pub before : List Told
   pub now : List Told
-  pub below : AreBelow r.keys r.script
+  pub below : AreOpsBelow r.keys r.script
   pub told_is : told_of said ≡ before ++ now
   pub past : ArePast (take r.at r.script) before
   pub placed : IsPlaced r.place (slice_get r.script r.at) now
-  pub named : IsNamed r.client r.place
+  pub named : IsClientOfPlace r.client r.place
   pub standing : IsStanding r.place (stands_after said)
   pub signed_off : has_signed_off said ≡ is_over r.place
-  pub refused : is_stopped r.place ≡ true → was_refused said ≡ true
+  pub refused : is_over r.place ≡ false → was_refused said ≡ is_stopped r.place
   pub whole : is_over r.place ≡ true → was_refused said ≡ false → length r.script ≤ r.at
 
 -- a step may be made: the desk has the keys, and agrees with what the runner was told
@@ -238,11 +239,6 @@ takes_memory (place.Next txn i) current = is_some (option_and_then (λ s. slice_
 takes_memory (place.Adding txn key sum next) current = is_some sum
 takes_memory _ current = false
 
--- the call isn't the desk's stop
-abbrev pub IsNoStop : Call × Reply → Type 0
-IsNoStop (desk.Stop fault, reply) = ⊥
-IsNoStop _ = Unit {0}
-
 -- A step: its calls lead from one state of the desk to the other, are the client's own, and fit where the runner stands then.
 pub record StepsTo (r : RunnerState) (d : DeskState) (stand : Step) (made : List (Call × Reply)) (next : RunnerState) (new : DeskState) : Type 0 where
   pub client : next.client ≡ r.client
@@ -250,8 +246,8 @@ pub record StepsTo (r : RunnerState) (d : DeskState) (stand : Step) (made : List
   pub script : next.script ≡ r.script
   -- it makes one call, and none behind its sign-off
   pub one : length made ≡ calls_at r.place
-  -- it stops the desk in place of a call that takes memory alone
-  pub no_stop : takes_memory r.place (slice_get r.script r.at) ≡ false → All IsNoStop made
+  -- that is its script's next one
+  pub turn : (said : List (Call × Reply)) → Fits r said → IsScriptTurn r.script r.client said made
   pub made_of : Leads d made new
   pub own : All (IsOwn r.client) made
   pub fits : (said : List (Call × Reply)) → Fits r said → Fits next (said ++ said_by r.client made)

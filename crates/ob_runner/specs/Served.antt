@@ -1,4 +1,4 @@
--- A desk and a runner that go together, as tests drive them.
+-- For tests: a desk and a runner that go together, as tests drive them.
 use Rattle.std.specs.Prelude.{ℕ, ◌≡◌, ◌≤◌, List, [], None, Contains}
 use Rattle.ob_desk.specs.Desk.{DeskState, Setup, Call, Reply, MayOpen, new_desk}
 use Rattle.ob_session.specs.Steps.{Leads}
@@ -6,7 +6,7 @@ use Rattle.ob_session.specs.Clients.{said_by}
 use Rattle.ob_runner.specs.Places.{RunnerState, Fits}
 
 -- Calls of a new desk led here, those of the runner's client are the runner's, and no batch is in flight.
-pub record IsServed (r : RunnerState) (d : DeskState) : Type 0 where
+pub record IsRunnerServed (r : RunnerState) (d : DeskState) : Type 0 where
   pub setup : Setup
   pub epoch : ℕ
   pub left : ℕ

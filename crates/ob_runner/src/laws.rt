@@ -1,3 +1,5 @@
+//! A runner is its script.
+
 ghost use Rattle.ob_runner.specs.Places.{RunnerIsItsScript};
 
 /// A runner is its script: whatever its calls were answered, what it was told of are the first of

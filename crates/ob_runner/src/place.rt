@@ -1,3 +1,5 @@
+//! Where a runner stands in its script.
+
 use ob_base::{Key, Value};
 use ob_desk::Txn;
 use ob_script::{Ask, Ending};

@@ -66,7 +66,8 @@ fn halt(desk: &mut Desk) -> (Step, Made)
 
 // The place behind a get that was answered with this value.
 fn place_behind(txn: &Txn, read: &Read, value: &Option<Value>) -> Place
-    ensures { result ≡ places.place_behind txn.now read.now.key read.now.next read.now.amount value.now }
+    ensures { result
+        ≡ places.place_behind txn.now read.now.key read.now.next read.now.amount value.now }
 {
     match read.amount {
         None => Place::Next {
@@ -92,7 +93,8 @@ impl ScriptRunner {
     pub fn new(alloc: Global, scripts: &Scripts, client: u32) -> Result<ScriptRunner, Memory>
         ensures client { IfOk result (λ r. (runner_state r).client ≡ client) }
         ensures bound { IfOk result (λ r. (runner_state r).keys ≡ scripts.now.keys) }
-        ensures plan { IfOk result (λ r. (runner_state r).script ≡ asks_by client scripts.now.txns) }
+        ensures plan { IfOk result (λ r. (runner_state r).script
+            ≡ asks_by client scripts.now.txns) }
         ensures fits { IfOk result (λ r. places.Fits (runner_state r) []) }
     {
         let txns = copy_by(alloc, scripts.txns(), client)?;
@@ -117,7 +119,8 @@ impl ScriptRunner {
     // What its script wants at this index of its transaction.
     fn wanted(&self, ask: usize) -> Wanted
         requires { places.IsInScript (runner_state self.now) }
-        ensures { option_map (λ s. places.wanted_of s ask) (slice_get (script_of self.now.txns.items) self.now.at) ≡ Some result }
+        ensures { option_map (λ s. places.wanted_of s ask)
+            (slice_get (script_of self.now.txns.items) self.now.at) ≡ Some result }
     {
         let txn = &self.txns[self.at];
         match txn.asks.get(ask) {
@@ -132,7 +135,8 @@ impl ScriptRunner {
     // Goes on behind a get, or a poll for it, that was answered so.
     fn take_got(&mut self, txn: &Txn, read: &Read, got: &Got) -> Step
         requires { places.IsInScript (runner_state self.old) }
-        ensures state { runner_state self.new ≡ places.after_got txn.now read.now (got_reply got.now) (runner_state self.old) }
+        ensures state { runner_state self.new
+            ≡ places.after_got txn.now read.now (got_reply got.now) (runner_state self.old) }
         ensures stand { result ≡ places.stand_of (got_reply got.now) }
     {
         match got {
@@ -157,7 +161,8 @@ impl ScriptRunner {
     // Goes on behind a call that was answered so, and that this place follows where it was done.
     fn take_done(&mut self, place: &Place, done: &Done)
         requires { places.IsInScript (runner_state self.old) }
-        ensures { runner_state self.new ≡ places.after_done place.now (done_reply done.now) (runner_state self.old) }
+        ensures { runner_state self.new
+            ≡ places.after_done place.now (done_reply done.now) (runner_state self.old) }
     {
         match done {
             Done::Yes => self.place = *place,
@@ -167,7 +172,8 @@ impl ScriptRunner {
 
     // Goes on behind a begin that was answered so.
     fn take_begun(&mut self, begun: &Begun)
-        ensures { runner_state self.new ≡ places.after_begun (begun_reply begun.now) (runner_state self.old) }
+        ensures { runner_state self.new
+            ≡ places.after_begun (begun_reply begun.now) (runner_state self.old) }
     {
         match begun {
             Begun::Txn { txn } => self.place = Place::Next { txn: *txn, ask: 0 },
@@ -180,7 +186,8 @@ impl ScriptRunner {
         requires may { places.MayStep (runner_state self.old) desk.old }
         requires place { self.old.place ≡ Place.Between }
         requires more { places.IsInScript (runner_state self.old) }
-        ensures { places.StepsTo (runner_state self.old) desk.old result.0 (steps_of result.1) (runner_state self.new) desk.new }
+        ensures { places.StepsTo (runner_state self.old) desk.old result.0 (steps_of result.1)
+            (runner_state self.new) desk.new }
     {
         let client = self.client;
         let Ok(reply) = desk.begin(client) else {
@@ -194,7 +201,8 @@ impl ScriptRunner {
     fn sign_off(&mut self, desk: &mut Desk) -> (Step, Made)
         requires may { places.MayStep (runner_state self.old) desk.old }
         requires done { places.IsDone (runner_state self.old) }
-        ensures { places.StepsTo (runner_state self.old) desk.old result.0 (steps_of result.1) (runner_state self.new) desk.new }
+        ensures { places.StepsTo (runner_state self.old) desk.old result.0 (steps_of result.1)
+            (runner_state self.new) desk.new }
     {
         let client = self.client;
         desk.sign_off(client);
@@ -206,9 +214,12 @@ impl ScriptRunner {
     fn get(&mut self, desk: &mut Desk, txn: &Txn, read: &Read) -> (Step, Made)
         requires may { places.MayStep (runner_state self.old) desk.old }
         requires place { places.IsAtWork txn.now self.old.place }
-        requires takes { places.takes_memory self.old.place (slice_get (runner_state self.old).script self.old.at) ≡ true }
-        requires read { places.InTxn (runner_state self.old) (places.IsReading txn.now None read.now) }
-        ensures { places.StepsTo (runner_state self.old) desk.old result.0 (steps_of result.1) (runner_state self.new) desk.new }
+        requires takes { places.takes_memory self.old.place
+            (slice_get (runner_state self.old).script self.old.at) ≡ true }
+        requires read { places.InTxn (runner_state self.old)
+            (places.IsReading txn.now None read.now) }
+        ensures { places.StepsTo (runner_state self.old) desk.old result.0 (steps_of result.1)
+            (runner_state self.new) desk.new }
     {
         let key = read.key;
         let Ok(reply) = desk.get(txn, key) else {
@@ -223,7 +234,8 @@ impl ScriptRunner {
     fn poll(&mut self, desk: &mut Desk, txn: &Txn, read: &Read) -> (Step, Made)
         requires may { places.MayStep (runner_state self.old) desk.old }
         requires place { self.old.place ≡ Place.Waiting txn.now read.now }
-        ensures { places.StepsTo (runner_state self.old) desk.old result.0 (steps_of result.1) (runner_state self.new) desk.new }
+        ensures { places.StepsTo (runner_state self.old) desk.old result.0 (steps_of result.1)
+            (runner_state self.new) desk.new }
     {
         let reply = desk.poll(txn);
         let stand = self.take_got(txn, read, &reply);
@@ -243,9 +255,12 @@ impl ScriptRunner {
         requires may { places.MayStep (runner_state self.old) desk.old }
         requires place { places.IsAtWork txn.now self.old.place }
         requires key { key < self.old.keys }
-        requires takes { places.takes_memory self.old.place (slice_get (runner_state self.old).script self.old.at) ≡ true }
-        requires put { places.InTxn (runner_state self.old) (places.Completes (op.Put key value.now) next) }
-        ensures { places.StepsTo (runner_state self.old) desk.old result.0 (steps_of result.1) (runner_state self.new) desk.new }
+        requires takes { places.takes_memory self.old.place
+            (slice_get (runner_state self.old).script self.old.at) ≡ true }
+        requires put { places.InTxn (runner_state self.old)
+            (places.MeetsAsks (op.Put key value.now) next) }
+        ensures { places.StepsTo (runner_state self.old) desk.old result.0 (steps_of result.1)
+            (runner_state self.new) desk.new }
     {
         let Ok(reply) = desk.put(txn, key, *value) else {
             return halt(desk);
@@ -269,9 +284,11 @@ impl ScriptRunner {
         requires may { places.MayStep (runner_state self.old) desk.old }
         requires place { places.IsAtWork txn.now self.old.place }
         requires key { key < self.old.keys }
-        requires takes { places.takes_memory self.old.place (slice_get (runner_state self.old).script self.old.at) ≡ true }
-        requires del { places.InTxn (runner_state self.old) (places.Completes (op.Del key) next) }
-        ensures { places.StepsTo (runner_state self.old) desk.old result.0 (steps_of result.1) (runner_state self.new) desk.new }
+        requires takes { places.takes_memory self.old.place
+            (slice_get (runner_state self.old).script self.old.at) ≡ true }
+        requires del { places.InTxn (runner_state self.old) (places.MeetsAsks (op.Del key) next) }
+        ensures { places.StepsTo (runner_state self.old) desk.old result.0 (steps_of result.1)
+            (runner_state self.new) desk.new }
     {
         let Ok(reply) = desk.del(txn, key) else {
             return halt(desk);
@@ -294,8 +311,9 @@ impl ScriptRunner {
     fn commit(&mut self, desk: &mut Desk, txn: &Txn) -> (Step, Made)
         requires may { places.MayStep (runner_state self.old) desk.old }
         requires place { places.IsAtWork txn.now self.old.place }
-        requires end { places.InTxn (runner_state self.old) (places.IsAtEnd Ending.Commit) }
-        ensures { places.StepsTo (runner_state self.old) desk.old result.0 (steps_of result.1) (runner_state self.new) desk.new }
+        requires end { places.InTxn (runner_state self.old) (places.IsAtTxnEnd Ending.Commit) }
+        ensures { places.StepsTo (runner_state self.old) desk.old result.0 (steps_of result.1)
+            (runner_state self.new) desk.new }
     {
         let reply = desk.commit(txn);
         let txn = *txn;
@@ -308,7 +326,8 @@ impl ScriptRunner {
         requires may { places.MayStep (runner_state self.old) desk.old }
         requires place { places.IsAtWork txn.now self.old.place }
         requires end { places.InTxn (runner_state self.old) places.IsToAbort }
-        ensures { places.StepsTo (runner_state self.old) desk.old result.0 (steps_of result.1) (runner_state self.new) desk.new }
+        ensures { places.StepsTo (runner_state self.old) desk.old result.0 (steps_of result.1)
+            (runner_state self.new) desk.new }
     {
         let why = desk.abort(txn);
         self.finish();
@@ -320,7 +339,8 @@ impl ScriptRunner {
     fn settle(&mut self, desk: &mut Desk, txn: &Txn) -> (Step, Made)
         requires may { places.MayStep (runner_state self.old) desk.old }
         requires place { self.old.place ≡ Place.Asked txn.now }
-        ensures { places.StepsTo (runner_state self.old) desk.old result.0 (steps_of result.1) (runner_state self.new) desk.new }
+        ensures { places.StepsTo (runner_state self.old) desk.old result.0 (steps_of result.1)
+            (runner_state self.new) desk.new }
     {
         let outcome = desk.settled(txn);
         let txn = *txn;
@@ -344,7 +364,8 @@ impl ScriptRunner {
         requires may { places.MayStep (runner_state self.old) desk.old }
         requires place { self.old.place ≡ Place.Next txn.now at }
         requires ask { places.InTxn (runner_state self.old) (places.IsAskAt ask.now at next) }
-        ensures { places.StepsTo (runner_state self.old) desk.old result.0 (steps_of result.1) (runner_state self.new) desk.new }
+        ensures { places.StepsTo (runner_state self.old) desk.old result.0 (steps_of result.1)
+            (runner_state self.new) desk.new }
     {
         match ask {
             Ask::Get { key } => {
@@ -366,7 +387,8 @@ impl ScriptRunner {
     fn go_on(&mut self, desk: &mut Desk, txn: &Txn, at: usize) -> (Step, Made)
         requires may { places.MayStep (runner_state self.old) desk.old }
         requires place { self.old.place ≡ Place.Next txn.now at }
-        ensures { places.StepsTo (runner_state self.old) desk.old result.0 (steps_of result.1) (runner_state self.new) desk.new }
+        ensures { places.StepsTo (runner_state self.old) desk.old result.0 (steps_of result.1)
+            (runner_state self.new) desk.new }
     {
         match self.wanted(at) {
             Wanted::Ask { ask, next } => self.make(desk, txn, &ask, at, next),
@@ -388,7 +410,8 @@ impl ScriptRunner {
     ) -> (Step, Made)
         requires may { places.MayStep (runner_state self.old) desk.old }
         requires place { self.old.place ≡ Place.Adding txn.now key sum.now next }
-        ensures { places.StepsTo (runner_state self.old) desk.old result.0 (steps_of result.1) (runner_state self.new) desk.new }
+        ensures { places.StepsTo (runner_state self.old) desk.old result.0 (steps_of result.1)
+            (runner_state self.new) desk.new }
     {
         match sum {
             Some(sum) => self.put(desk, txn, key, sum, next),
@@ -399,7 +422,8 @@ impl ScriptRunner {
     fn between(&mut self, desk: &mut Desk) -> (Step, Made)
         requires may { places.MayStep (runner_state self.old) desk.old }
         requires place { self.old.place ≡ Place.Between }
-        ensures { places.StepsTo (runner_state self.old) desk.old result.0 (steps_of result.1) (runner_state self.new) desk.new }
+        ensures { places.StepsTo (runner_state self.old) desk.old result.0 (steps_of result.1)
+            (runner_state self.new) desk.new }
     {
         if self.at < self.txns.len() {
             self.begin(desk)
@@ -411,7 +435,8 @@ impl ScriptRunner {
     // Makes the call that is next where it stands.
     fn call(&mut self, desk: &mut Desk) -> (Step, Made)
         requires { places.MayStep (runner_state self.old) desk.old }
-        ensures { places.StepsTo (runner_state self.old) desk.old result.0 (steps_of result.1) (runner_state self.new) desk.new }
+        ensures { places.StepsTo (runner_state self.old) desk.old result.0 (steps_of result.1)
+            (runner_state self.new) desk.new }
     {
         let place = self.place;
         match &place {
@@ -441,6 +466,7 @@ impl Runner for ScriptRunner {
     ghost use Rattle.ob_script.specs.ScriptViews.{script_of};
     ghost use Rattle.ob_runner.specs.RunnerViews.{runner_state};
     ghost use Rattle.ob_runner.specs.Places.{Fits};
+    ghost use Rattle.ob_runner.specs.Turns.{IsScriptTurn};
 
     ghost client = { λ r. r.client };
 
@@ -452,22 +478,28 @@ impl Runner for ScriptRunner {
 
     ghost fits = { λ r said. Fits (runner_state r) said };
 
-    /// Makes one call of its client, or none behind its sign-off. It stops the desk alone where a
+    ghost turn = { IsScriptTurn };
+
+    /// Makes its script's next call, or none behind its sign-off. It stops the desk alone where a
     /// begin, a get, a put or a delete finds no memory, and makes that call again in its next step.
     fn step(&mut self, desk: &mut Desk) -> (Step, Made)
         requires bound { self.old.keys ≤ desk.old.setup.params.keys }
-        requires agrees { (said : List (Call × Reply)) × Fits (runner_state self.old) said × Agrees desk.old self.old.client said }
+        requires agrees { (said : List (Call × Reply)) × Fits (runner_state self.old) said
+            × Agrees desk.old self.old.client said }
         ensures client { self.new.client ≡ self.old.client }
         ensures bound { self.new.keys ≡ self.old.keys }
         ensures plan { script_of self.new.txns.items ≡ script_of self.old.txns.items }
         ensures made { Leads desk.old (steps_of result.1) desk.new }
-        ensures one { (said : List (Call × Reply)) → Fits (runner_state self.old) said → IsOneCall said (steps_of result.1) }
+        ensures one { (said : List (Call × Reply)) → Fits (runner_state self.old) said
+            → IsOneCall said (steps_of result.1) }
+        ensures turn { (said : List (Call × Reply)) → Fits (runner_state self.old) said
+            → IsScriptTurn (script_of self.old.txns.items) self.old.client said
+            (steps_of result.1) }
         ensures own { All (IsOwn self.old.client) (steps_of result.1) }
-        ensures fits { (said : List (Call × Reply)) → Fits (runner_state self.old) said → Fits (runner_state self.new) (said ++ said_by self.old.client (steps_of result.1)) }
-        ensures step { (said : List (Call × Reply)) → Fits (runner_state self.old) said → result.0 ≡ stands_after (said ++ said_by self.old.client (steps_of result.1)) }
-
-        ensures count { length (steps_of result.1) ≡ places.calls_at self.old.place }
-        ensures no_stop { places.takes_memory self.old.place (slice_get (runner_state self.old).script self.old.at) ≡ false → All places.IsNoStop (steps_of result.1) }
+        ensures fits { (said : List (Call × Reply)) → Fits (runner_state self.old) said
+            → Fits (runner_state self.new) (said ++ said_by self.old.client (steps_of result.1)) }
+        ensures step { (said : List (Call × Reply)) → Fits (runner_state self.old) said
+            → result.0 ≡ stands_after (said ++ said_by self.old.client (steps_of result.1)) }
     {
         self.call(desk)
     }

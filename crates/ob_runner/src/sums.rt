@@ -1,3 +1,5 @@
+//! A value with an amount added.
+
 ghost use Rattle.std.specs.Prelude.{◌≡◌, Some};
 ghost use Rattle.std.specs.Fmt.{signed_decimal};
 ghost use Rattle.ob_runner.specs.Meaning.{counted, sum_of};

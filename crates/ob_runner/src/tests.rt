@@ -1,5 +1,7 @@
+//! Runners over a transaction manager, call by call.
+
 ghost use Rattle.std.specs.Prelude.{IfOk, IfSome};
-ghost use Rattle.ob_runner.specs.Served.{IsServed};
+ghost use Rattle.ob_runner.specs.Served.{IsRunnerServed};
 ghost use Rattle.ob_runner.specs.RunnerViews.{runner_state};
 
 use crate::ScriptRunner;
@@ -15,8 +17,8 @@ use std::test::Fail;
 
 // A step of the runner.
 fn step(runner: &mut ScriptRunner, desk: &mut Desk) -> (Step, Made)
-    requires { IsServed (runner_state runner.old) desk.old }
-    ensures { IsServed (runner_state runner.new) desk.new }
+    requires { IsRunnerServed (runner_state runner.old) desk.old }
+    ensures { IsRunnerServed (runner_state runner.new) desk.new }
 {
     runner.step(desk)
 }
@@ -24,8 +26,8 @@ fn step(runner: &mut ScriptRunner, desk: &mut Desk) -> (Step, Made)
 // A batch that gives its first key this value, and another none, where the epoch has one left.
 #[tactic(auto, using(ob_order::proofs::Batches::taken_in_flight))]
 fn round(runner: &ScriptRunner, desk: &mut Desk, value: Option<Value>) -> bool
-    requires { IsServed (runner_state runner.now) desk.old }
-    ensures { IsServed (runner_state runner.now) desk.new }
+    requires { IsRunnerServed (runner_state runner.now) desk.old }
+    ensures { IsRunnerServed (runner_state runner.now) desk.new }
 {
     let mut keys = [None; 2];
     let values = [value, None];
@@ -38,8 +40,8 @@ fn round(runner: &ScriptRunner, desk: &mut Desk, value: Option<Value>) -> bool
 }
 
 fn stop(runner: &ScriptRunner, desk: &mut Desk)
-    requires { IsServed (runner_state runner.now) desk.old }
-    ensures { IsServed (runner_state runner.now) desk.new }
+    requires { IsRunnerServed (runner_state runner.now) desk.old }
+    ensures { IsRunnerServed (runner_state runner.now) desk.new }
 {
     desk.stop(Fault::Memory);
 }
@@ -47,7 +49,7 @@ fn stop(runner: &ScriptRunner, desk: &mut Desk)
 // A runner of a client's part of a script, and a desk of 8 keys that has 2 batches of 2 keys and a
 // write batch of 2; none where the client isn't one of the script's.
 fn open(alloc: Global, scripts: &Scripts, client: u32) -> Result<Option<(ScriptRunner, Desk)>, Fail>
-    ensures { IfOk result (λ o. IfSome o (λ p. IsServed (runner_state p.0) p.1)) }
+    ensures { IfOk result (λ o. IfSome o (λ p. IsRunnerServed (runner_state p.0) p.1)) }
 {
     let Ok(params) = Params::new(8, 2, 2, 3, 2, 2, 2, 2, 6) else {
         return Ok(None);
@@ -149,7 +151,7 @@ fn spell(alloc: Global, said: &Said) -> Result<String, AllocError> {
             format!(in alloc; "settled {outcome}")
         }
         Said::SignOff { client } => format!(in alloc; "sign off {client}"),
-        Said::Stop { .. } | Said::Stopped { .. } => String::from_str(alloc, "stop"),
+        Said::Stop { .. } => String::from_str(alloc, "stop"),
     }
 }
 
@@ -177,8 +179,8 @@ fn take_turn(
     desk: &mut Desk,
     turn: &str,
 ) -> Result<String, AllocError>
-    requires { IsServed (runner_state runner.old) desk.old }
-    ensures { IsServed (runner_state runner.new) desk.new }
+    requires { IsRunnerServed (runner_state runner.old) desk.old }
+    ensures { IsRunnerServed (runner_state runner.new) desk.new }
 {
     if turn == "stop" {
         stop(runner, desk);
@@ -202,7 +204,7 @@ fn play<R: AllocGlobal + Abort>(
     desk: &mut Desk,
     turns: &[&str],
 ) -> Result<(), Fail>
-    requires { IsServed (runner_state runner.old) desk.old }
+    requires { IsRunnerServed (runner_state runner.old) desk.old }
 {
     for turn in turns {
         let told = take_turn(rt.alloc(), runner, desk, turn)?;

@@ -109,8 +109,8 @@ head_notes = Read 0 ∷ []
 
 -- A run begins with the register gates that its opening found open, and has shown nothing. (A gate whose closing was begun and not
 -- made sure of may be found in either state, so it isn't told by what was known before.)
-abbrev pub begun : (ℕ → Bool) → Public → Public
-begun found q = record q { gates = found; leaves = [] }
+abbrev pub begun_public : (ℕ → Bool) → Public → Public
+begun_public found q = record q { gates = found; leaves = [] }
 
 -- Behind the head an opening reads both registers, the checkpoint and the log of the next epoch, sets this generation, and repeats so
 -- many batches.
@@ -118,28 +118,28 @@ abbrev pub open_notes : Params → Public → Fills → (ℕ → Bool) → ℕ �
 open_notes p q f found generation batches =
     reads_of (region_cells p GenerationTwin ++ region_cells p EpochTwin) ++ reads_of (check_cells p (q.epoch % 2))
     ++ reads_of (region_cells p (LogArea ((q.epoch + 1) % 2)))
-    ++ (Sync ∷ []) ++ set_twin p GenerationTwin generation (found (gate_cell p GenerationTwin generation)) ++ repeats p (begun found q) f 0 batches
+    ++ (Sync ∷ []) ++ set_twin p GenerationTwin generation (found (gate_cell p GenerationTwin generation)) ++ repeats p (begun_public found q) f 0 batches
 
 abbrev pub after_open : Params → Public → Fills → (ℕ → Bool) → ℕ → ℕ → Public
-after_open p q f found generation batches = after_repeats p (opens_gate (begun found q) (gate_cell p GenerationTwin generation)) f 0 batches
+after_open p q f found generation batches = after_repeats p (opens_gate (begun_public found q) (gate_cell p GenerationTwin generation)) f 0 batches
 
 -- the buckets that an end has lifted: those read to the limit, and those on the eviction paths
-abbrev pub is_lifted : Params → Public → ℕ → Bool
-is_lifted p q u = is_one_of (eviction_path p q.counter) u || nat_le p.dummies (counts_now p q u)
+abbrev pub is_lifted_by_end : Params → Public → ℕ → Bool
+is_lifted_by_end p q u = is_one_of (eviction_path p q.counter) u || nat_le p.dummies (counts_now p q u)
 
 abbrev pub end_notes : Params → Public → Fills → List Note
 end_notes p q f =
     let e = q.epoch + 1 in
     hole_reads p q f (final_holes p (counts_now p q) q.counter)
-    ++ bucket_writes p (λ u. 1 - q.homes u) (filter (is_lifted p q) (by_falling_level (p.levels + 1)))
+    ++ bucket_writes p (λ u. 1 - q.homes u) (filter (is_lifted_by_end p q) (by_falling_level (p.levels + 1)))
     ++ writes_of (check_cells p (e % 2)) ++ writes_of (log_gates p ((e + 1) % 2)) ++ (Sync ∷ []) ++ set_twin p EpochTwin e (q.gates (gate_cell p EpochTwin e))
 
 abbrev pub after_end : Params → Public → Public
 after_end p q =
     record {
       epoch = q.epoch + 1;
-      homes = λ u. cond (is_lifted p q u) (1 - q.homes u) (q.homes u);
-      counts = λ u. cond (is_lifted p q u) 0 (counts_now p q u);
+      homes = λ u. cond (is_lifted_by_end p q u) (1 - q.homes u) (q.homes u);
+      counts = λ u. cond (is_lifted_by_end p q u) 0 (counts_now p q u);
       counter = (q.counter + p.evictions) % 2 ^ p.levels;
       gates = λ d. (d == gate_cell p EpochTwin (q.epoch + 1)) || q.gates d;
       leaves = [];

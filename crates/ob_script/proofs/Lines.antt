@@ -16,7 +16,7 @@ use Rattle.ob_script.specs.declared.line.Line.{Line}
 use Rattle.ob_script.specs.declared.line.Line.TheVariants.{Blank, Client, Begin, Asks, Ends}
 use Rattle.ob_script.specs.Script.{IsSpelled, IsInRange, IsAskInRange, ask_text, is_blank}
 use Rattle.ob_script.specs.Integers.{integer_of}
-use Rattle.ob_script.specs.Reading.{cut, number_at, client_at, key_at, get_at, put_at, del_at, add_at, ask_at, word_line, named_line, line_from, line_at}
+use Rattle.ob_script.specs.Reading.{cut, numeral_value, client_numeral, key_numeral, get_at, put_at, del_at, add_at, ask_at, word_line, named_line, line_from, line_at}
 use Rattle.ob_script.proofs.Numbers.{own, both, number_found, number_only}
 use Rattle.ob_script.proofs.Amounts.{integer_found, integer_only}
 
@@ -57,8 +57,8 @@ cut_digits (d ∷ ds) more h =
 word_is : (word name : List ℕ) → bytes_eq word name ≡ true → word ≡ name
 word_is word name h = (bytes_eq-Decides word name).0 h
 
-client_found : (n : ℕ) (rest : List ℕ) (line : Line) → client_at rest ≡ Some line → Found n (codes "client " ++ rest) line
-client_found n rest line h = option_and_then_some _ (number_at rest) line h (λ client e f.
+client_found : (n : ℕ) (rest : List ℕ) (line : Line) → client_numeral rest ≡ Some line → Found n (codes "client " ++ rest) line
+client_found n rest line h = option_and_then_some _ (numeral_value rest) line h (λ client e f.
     let tests = cond_some _ _ _ f in
     let parts = both _ _ tests.0 in
     let digits = number_found rest client e in
@@ -68,24 +68,24 @@ mapped_some : {A B P : Type 0} (f : A → B) (o : Option A) (y : B) → option_m
 mapped_some f None y h k = cc h
 mapped_some f (Some x) y h k = k x refl (cc h)
 
-key_found : (n : ℕ) (rest : List ℕ) (key : ℕ) → key_at n rest ≡ Some key → (rest ≡ decimal key) × (key < n)
-key_found n rest key h = option_and_then_some _ (number_at rest) key h (λ k e f.
+key_found : (n : ℕ) (rest : List ℕ) (key : ℕ) → key_numeral n rest ≡ Some key → (rest ≡ decimal key) × (key < n)
+key_found n rest key h = option_and_then_some _ (numeral_value rest) key h (λ k e f.
     let tests = cond_some _ _ _ f in
     let digits = number_found rest k e in
     rw (← tests.1) (digits.0, ltb-true _ _ tests.0))
 
 get_found : (n : ℕ) (rest : List ℕ) (ask : Ask) → get_at n rest ≡ Some ask → FoundAsk n (codes "get " ++ rest) ask
-get_found n rest ask h = mapped_some (λ key. Get key) (key_at n rest) ask h (λ key e f.
+get_found n rest ask h = mapped_some (λ key. Get key) (key_numeral n rest) ask h (λ key e f.
     let found = key_found n rest key e in
     rw (← f) (record { range = found.1; text_is = rw found.0 refl }))
 
 del_found : (n : ℕ) (rest : List ℕ) (ask : Ask) → del_at n rest ≡ Some ask → FoundAsk n (codes "del " ++ rest) ask
-del_found n rest ask h = mapped_some (λ key. Del key) (key_at n rest) ask h (λ key e f.
+del_found n rest ask h = mapped_some (λ key. Del key) (key_numeral n rest) ask h (λ key e f.
     let found = key_found n rest key e in
     rw (← f) (record { range = found.1; text_is = rw found.0 refl }))
 
 put_found : (n : ℕ) (rest : List ℕ) (ask : Ask) → put_at n rest ≡ Some ask → FoundAsk n (codes "put " ++ rest) ask
-put_found n rest ask h = option_and_then_some _ (cut 32 rest) ask h (λ p cut_is f. option_and_then_some _ (key_at n p.0) ask f (λ key e g.
+put_found n rest ask h = option_and_then_some _ (cut 32 rest) ask h (λ p cut_is f. option_and_then_some _ (key_numeral n p.0) ask f (λ key e g.
     let tests = cond_some _ _ _ g in
     let parts = both _ _ tests.0 in
     let found = key_found n p.0 key e in
@@ -93,7 +93,7 @@ put_found n rest ask h = option_and_then_some _ (cut 32 rest) ask h (λ p cut_is
     rw (← tests.1) (record { range = (found.1, leb-true _ _ parts.0, parts.1); text_is = rw (apart, found.0) refl })))
 
 add_found : (n : ℕ) (rest : List ℕ) (ask : Ask) → add_at n rest ≡ Some ask → FoundAsk n (codes "add " ++ rest) ask
-add_found n rest ask h = option_and_then_some _ (cut 32 rest) ask h (λ p cut_is f. option_and_then_some _ (key_at n p.0) ask f (λ key e g. mapped_some (λ amount. Add key amount) (integer_of p.1) ask g (λ amount i is.
+add_found n rest ask h = option_and_then_some _ (cut 32 rest) ask h (λ p cut_is f. option_and_then_some _ (key_numeral n p.0) ask f (λ key e g. mapped_some (λ amount. Add key amount) (integer_of p.1) ask g (λ amount i is.
     let found = key_found n p.0 key e in
     let number = integer_found p.1 amount i in
     let apart = cut_found 32 rest p cut_is in
@@ -131,7 +131,7 @@ ask_found n word rest ask h = elim (choose (bytes_eq word (codes "get")) (get_at
 ]
 
 named_found : (n : ℕ) (word rest : List ℕ) (line : Line) → named_line n word rest ≡ Some line → Found n (word ++ 32 ∷ rest) line
-named_found n word rest line h = elim (choose (bytes_eq word (codes "client")) (client_at rest) (option_map Asks (ask_at n word rest)) (Some line) h) [
+named_found n word rest line h = elim (choose (bytes_eq word (codes "client")) (client_numeral rest) (option_map Asks (ask_at n word rest)) (Some line) h) [
   | inl one ↦ rw (word_is word (codes "client") one.0) (client_found n rest line one.1)
   | inr other ↦ mapped_some (λ ask. Asks ask) (ask_at n word rest) line other.1 (λ ask e is.
       let found = ask_found n word rest ask e in
@@ -171,7 +171,7 @@ line_found n text line h = elim (choose (is_blank text) (Some Blank) (line_from 
   | inr other ↦ from_found n text line other.1
 ]
 
-key_only : (n key : ℕ) → n ≤ 2 ^ 32 → key < n → key_at n (decimal key) ≡ Some key
+key_only : (n key : ℕ) → n ≤ 2 ^ 32 → key < n → key_numeral n (decimal key) ≡ Some key
 key_only n key small below = rw (number_only key (omega arith), lt-ltb key n below) refl
 
 -- a key's digits end at the space behind them

@@ -8,7 +8,7 @@ use Rattle.std.proofs.lemmas.Fmt.{IsAscii-from_digits, digits_decimal, digits_va
 use Rattle.std.proofs.lemmas.Str.Parse.{IsNumeralModel, numerals_by_value, tells_all_ascii_digits}
 use Rattle.std.proofs.lemmas.Bool.{ltb-true, lt-ltb, eqb-true, ne_eqb}
 use Rattle.std.proofs.lemmas.Option.{cond_some}
-use Rattle.ob_script.specs.Reading.{is_numeral, number_at}
+use Rattle.ob_script.specs.Reading.{is_numeral, numeral_value}
 
 pub own : IsNumeralModel (λ ds. all_ascii_digits ds ≡ true) (digits_value 10)
 own = numerals_by_value _ tells_all_ascii_digits
@@ -20,7 +20,7 @@ numeral_digits (d ∷ ds) h = elim (all_ascii_digits (d ∷ ds)) as (λ b. (b &&
 pub numeral_utf8 : (bytes : List ℕ) → is_numeral bytes ≡ true → IsUtf8 bytes
 numeral_utf8 bytes h = IsUtf8-from_ascii bytes (IsAscii-from_digits bytes (own.to bytes (numeral_digits bytes h)))
 
-pub too_big : (bytes : List ℕ) → is_numeral bytes ≡ true → (digits_value 10 bytes < 2 ^ 32 → ⊥) → ◌≡◌ {A = Option ℕ} None (number_at bytes)
+pub too_big : (bytes : List ℕ) → is_numeral bytes ≡ true → (digits_value 10 bytes < 2 ^ 32 → ⊥) → ◌≡◌ {A = Option ℕ} None (numeral_value bytes)
 too_big bytes h big = rw h (elim (nat_lt (digits_value 10 bytes) (2 ^ 32)) as (λ b. nat_lt (digits_value 10 bytes) (2 ^ 32) ≡ b → ◌≡◌ {A = Option ℕ} None (cond b (Some (digits_value 10 bytes)) None)) [ true ↦ λ e. absurd (big (ltb-true _ _ e)) | false ↦ λ e. refl ] refl)
 
 pub numeral_some : (bytes : List ℕ) → is_numeral bytes ≡ true → 0 < length bytes
@@ -35,7 +35,7 @@ both false b h = cc
 front : (d : ℕ) (ds : List ℕ) → (not (d == 48) || length ds == 0) ≡ true → d ≡ 48 → length (d ∷ ds) ≡ 1
 front d ds h e = let again = rw e at h in ap (λ n. n) (omega (arith, eqb-true (length ds) 0 again))
 
-pub number_found : (bytes : List ℕ) (n : ℕ) → number_at bytes ≡ Some n → (bytes ≡ decimal n) × (n < 2 ^ 32)
+pub number_found : (bytes : List ℕ) (n : ℕ) → numeral_value bytes ≡ Some n → (bytes ≡ decimal n) × (n < 2 ^ 32)
 number_found [] n h = cc
 number_found (d ∷ ds) n h =
     let tests = cond_some _ _ _ h in
@@ -53,7 +53,7 @@ numeral_decimal : (n : ℕ) → n < 2 ^ 32 → is_numeral (decimal n) ≡ true
 numeral_decimal zero small = rw (decimal_digit 0 (omega arith)) refl
 numeral_decimal (suc m) small = numeral_from (decimal (suc m)) (digits_decimal own (suc m) (omega arith)) (decimal_nonempty (suc m) (omega arith)) (first_decimal (suc m) (omega arith) (omega arith))
 
-pub number_only : (n : ℕ) → n < 2 ^ 32 → number_at (decimal n) ≡ Some n
+pub number_only : (n : ℕ) → n < 2 ^ 32 → numeral_value (decimal n) ≡ Some n
 number_only n small =
     let value = digits_value-decimal own n (omega arith) in
     rw (numeral_decimal n small, value) (rw (lt-ltb n (2 ^ 32) small) refl)

@@ -11,7 +11,7 @@ use Rattle.ob_script.specs.declared.line.Ask.TheVariants.{Get, Put, Del, Add}
 use Rattle.ob_script.specs.declared.line.Ending.{Ending}
 use Rattle.ob_script.specs.declared.line.Line.{Line}
 use Rattle.ob_script.specs.declared.line.Line.TheVariants.{Blank, Client, Begin, Asks, Ends}
-use Rattle.ob_script.specs.Script.{Text, ScriptTxn, State, start, step, step_from, with_client, with_asks, with_txn, IsInRange, IsAskInRange, Reads, key_of, AreBelow, AreSound}
+use Rattle.ob_script.specs.Script.{Text, ScriptTxn, State, start, step, step_from, with_client, with_asks, with_txn, IsInRange, IsAskInRange, ReadsLines, key_of, AreOpsBelow, AreSound}
 
 -- what is so of a transaction that is open
 record IsOpenSound (n : ℕ) (s : State) (asks : List Ask) : Type 0 where
@@ -20,7 +20,7 @@ record IsOpenSound (n : ℕ) (s : State) (asks : List Ask) : Type 0 where
 
 -- What was read so far is sound: the clients are none above the last, which is one of them unless it is 0.
 record IsSoundSoFar (n : ℕ) (s : State) : Type 0 where
-  below : AreBelow n s.done
+  below : AreOpsBelow n s.done
   named : All (λ c. (1 ≤ c) × (c ≤ 64)) s.clients
   rising : IsStrictlyIncreasing s.clients
   owned : All (λ (t : ScriptTxn). Contains s.clients t.client) s.done
@@ -136,7 +136,7 @@ module _ (n : ℕ) where
   step_sound s next (Asks ask) sound range is = from_sound s s.open_asks (Asks ask) next sound refl range is
   step_sound s next (Ends ending) sound range is = from_sound s s.open_asks (Ends ending) next sound refl range is
 
-  reads_sound : (first last : State) (texts : List Text) → IsSoundSoFar n first → Reads n first texts last → IsSoundSoFar n last
+  reads_sound : (first last : State) (texts : List Text) → IsSoundSoFar n first → ReadsLines n first texts last → IsSoundSoFar n last
   reads_sound first last [] sound is = subst (IsSoundSoFar n) is sound
   reads_sound first last (text ∷ texts) sound (next, stands, rest) = reads_sound next last texts (step_sound first next stands.line sound stands.range stands.next_is) rest
 
@@ -152,6 +152,6 @@ module _ (n : ℕ) where
   }
 
   -- what is read is sound
-  pub read_sound : (last : State) (texts : List Text) → Reads n start texts last → AreSound (record { keys = n; clients = last.clients; txns = last.done })
+  pub read_sound : (last : State) (texts : List Text) → ReadsLines n start texts last → AreSound (record { keys = n; clients = last.clients; txns = last.done })
   read_sound last texts reads = let sound = reads_sound start last texts start_sound reads in
       record { below = sound.below; named = sound.named; rising = sound.rising; owned = sound.owned }

@@ -104,16 +104,16 @@ step s Blank = Some s
 step s line = step_from s s.open_asks line
 
 -- A line with this text stands there, and leads on to the next state.
-pub record Stands (n : ℕ) (s : State) (text : Text) (next : State) : Type 0 where
+pub record AcceptsLine (n : ℕ) (s : State) (text : Text) (next : State) : Type 0 where
   pub line : Line
   pub text_is : IsSpelled line text
   pub range : IsInRange n line
   pub next_is : step s line ≡ Some next
 
 -- Lines with these texts lead from one state to the other.
-abbrev pub Reads : ℕ → State → List Text → State → Type 0
-Reads n first [] last = first ≡ last
-Reads n first (text ∷ texts) last = (next : State) × Stands n first text next × Reads n next texts last
+abbrev pub ReadsLines : ℕ → State → List Text → State → Type 0
+ReadsLines n first [] last = first ≡ last
+ReadsLines n first (text ∷ texts) last = (next : State) × AcceptsLine n first text next × ReadsLines n next texts last
 
 -- No line with this text may stand there.
 abbrev pub CanNotStand : ℕ → State → Text → Type 0
@@ -146,7 +146,7 @@ lines_of bytes = lines_from (is_within bytes) (take limit bytes)
 pub record IsScript (n : ℕ) (bytes : List ℕ) (scripts : Scripts) : Type 0 where
   pub within : is_within bytes ≡ true
   pub last : State
-  pub reads : Reads n start (lines_of bytes) last
+  pub reads : ReadsLines n start (lines_of bytes) last
   pub whole : last.open_asks ≡ None
   pub scripts_are : scripts ≡ record { keys = n; clients = last.clients; txns = last.done }
 
@@ -161,7 +161,7 @@ pub record IsFirstBad (n : ℕ) (bytes : List ℕ) (number : ℕ) : Type 0 where
   pub behind : List Text
   pub state : State
   pub lines_are : lines_of bytes ≡ before ++ behind
-  pub good : Reads n start before state
+  pub good : ReadsLines n start before state
   pub bad : IsBad n bytes state behind
   pub number_is : number ≡ length before + 1
 
@@ -173,12 +173,12 @@ key_of (Del key) = key
 key_of (Add key amount) = key
 
 -- the keys of all operations are below n
-abbrev pub AreBelow : ℕ → List ScriptTxn → Type 0
-AreBelow n txns = All (λ t. All (λ ask. key_of ask < n) t.asks) txns
+abbrev pub AreOpsBelow : ℕ → List ScriptTxn → Type 0
+AreOpsBelow n txns = All (λ t. All (λ ask. key_of ask < n) t.asks) txns
 
 -- A script's keys are below its bound. Its clients are from 1 to 64 and rise, and each transaction is of one of them.
 pub record AreSound (scripts : Scripts) : Type 0 where
-  pub below : AreBelow scripts.keys scripts.txns
+  pub below : AreOpsBelow scripts.keys scripts.txns
   pub named : All (λ c. (1 ≤ c) × (c ≤ 64)) scripts.clients
   pub rising : IsStrictlyIncreasing scripts.clients
   pub owned : All (λ t. Contains scripts.clients t.client) scripts.txns

@@ -1,3 +1,5 @@
+//! Canonical integers.
+
 ghost use Rattle.std.specs.Prelude.{◌≡◌, ℤ, Some, None, MatchBool, IfSome, FitsSigned};
 ghost use Rattle.std.specs.Int.{w64};
 ghost use Rattle.std.specs.Fmt.{signed_decimal};
@@ -7,7 +9,8 @@ use itoa::Buffer;
 
 // Whether these bytes are what spells this integer.
 fn is_spelled(amount: i64, bytes: &[u8]) -> bool
-    ensures { MatchBool result (bytes.now ≡ signed_decimal amount) (bytes.now ≡ signed_decimal amount → ⊥) }
+    ensures { MatchBool result (bytes.now ≡ signed_decimal amount) (bytes.now
+        ≡ signed_decimal amount → ⊥) }
 {
     let mut digits = Buffer::new();
     digits.format(amount).as_bytes() == bytes
@@ -18,7 +21,8 @@ fn is_spelled(amount: i64, bytes: &[u8]) -> bool
 pub fn integer_of(bytes: &[u8]) -> Option<i64>
     ensures value { result ≡ integer_of bytes.now }
     ensures found { IfSome result (λ amount. bytes.now ≡ signed_decimal amount) }
-    ensures only { (amount : ℤ) → FitsSigned w64 amount → bytes.now ≡ signed_decimal amount → result ≡ Some amount }
+    ensures only { (amount : ℤ) → FitsSigned w64 amount → bytes.now ≡ signed_decimal amount
+        → result ≡ Some amount }
 {
     read_integer(bytes)
 }

@@ -1,3 +1,5 @@
+//! What a line of a script asks for.
+
 use ob_base::{Key, Value};
 
 /// An operation that a script asks for.

@@ -1,3 +1,5 @@
+//! Reading a script.
+
 ghost use Rattle.std.specs.Prelude.{◌≡◌, ◌<◌, ◌∷◌, [], length, take, IfOk, IfErr, IfSome, IfNone};
 ghost use Rattle.ob_script.specs.Script.{limit, lines_from, IsScript, AreSound};
 ghost use Rattle.ob_script.specs.ScriptViews.{IsRefusal};
@@ -13,7 +15,8 @@ pub const LIMIT: usize = 1_048_576;
 
 // What is in front of the first line's end, and what behind it. Where the bytes are all there is, the last line may lack its end.
 fn next_line(all: bool, bytes: &[u8]) -> Option<(&[u8], &[u8])>
-    ensures some { IfSome result (λ p. (lines_from all bytes.now ≡ p.0.now ∷ lines_from all p.1.now) × (length p.1.now < length bytes.now)) }
+    ensures some { IfSome result (λ p. (lines_from all bytes.now ≡ p.0.now ∷ lines_from all p.1.now)
+        × (length p.1.now < length bytes.now)) }
     ensures none { IfNone result (lines_from all bytes.now ≡ []) }
 {
     if let Some((line, rest)) = cut(bytes, b'\n') {

@@ -1,6 +1,8 @@
+//! What was read so far of a script.
+
 ghost use Rattle.std.specs.Prelude.{◌≡◌, IfOk, MatchBool, Some, None, if◌then◌else◌};
 ghost use Rattle.ob_script.specs.declared.line.Line.{Line};
-ghost use Rattle.ob_script.specs.Script.{step, start, CanNotStand, Stands};
+ghost use Rattle.ob_script.specs.Script.{step, start, CanNotStand, AcceptsLine};
 ghost use Rattle.ob_script.specs.ScriptViews.{state_of};
 
 use crate::line::{Ask, Ending, Line, ScriptTxn};
@@ -30,7 +32,8 @@ impl Reader {
     }
 
     fn take_client(&mut self, client: u32) -> Result<bool, AllocError>
-        ensures { IfOk result (λ good. step (state_of self.old) (Line.Client client) ≡ (if good then Some (state_of self.new) else None)) }
+        ensures { IfOk result (λ good. step (state_of self.old) (Line.Client client)
+            ≡ (if good then Some (state_of self.new) else None)) }
     {
         if self.open_asks.is_some() || client <= self.client {
             return Ok(false);
@@ -41,7 +44,8 @@ impl Reader {
     }
 
     fn take_begin(&mut self, alloc: Global) -> bool
-        ensures { step (state_of self.old) Line.Begin ≡ (if result then Some (state_of self.new) else None) }
+        ensures { step (state_of self.old) Line.Begin
+            ≡ (if result then Some (state_of self.new) else None) }
     {
         if self.open_asks.is_some() || self.client == 0 {
             return false;
@@ -51,7 +55,8 @@ impl Reader {
     }
 
     fn take_ask(&mut self, ask: Ask) -> Result<bool, AllocError>
-        ensures { IfOk result (λ good. step (state_of self.old) (Line.Asks ask) ≡ (if good then Some (state_of self.new) else None)) }
+        ensures { IfOk result (λ good. step (state_of self.old) (Line.Asks ask)
+            ≡ (if good then Some (state_of self.new) else None)) }
     {
         let Some(asks) = &mut self.open_asks else {
             return Ok(false);
@@ -61,7 +66,8 @@ impl Reader {
     }
 
     fn take_end(&mut self, ending: Ending) -> Result<bool, AllocError>
-        ensures { IfOk result (λ good. step (state_of self.old) (Line.Ends ending) ≡ (if good then Some (state_of self.new) else None)) }
+        ensures { IfOk result (λ good. step (state_of self.old) (Line.Ends ending)
+            ≡ (if good then Some (state_of self.new) else None)) }
     {
         let Some(asks) = self.open_asks.take() else {
             return Ok(false);
@@ -77,7 +83,9 @@ impl Reader {
 
     /// Takes the line with this text. Whether it may stand there.
     pub fn take_text(&mut self, alloc: Global, keys: u32, text: &[u8]) -> Result<bool, AllocError>
-        ensures { IfOk result (λ good. MatchBool good (Stands keys (state_of self.old) text.now (state_of self.new)) (CanNotStand keys (state_of self.old) text.now)) }
+        ensures { IfOk result (λ good. MatchBool good
+            (AcceptsLine keys (state_of self.old) text.now (state_of self.new))
+            (CanNotStand keys (state_of self.old) text.now)) }
     {
         match line_of(keys, text) {
             None => Ok(false),
@@ -86,7 +94,8 @@ impl Reader {
     }
 
     fn take(&mut self, alloc: Global, line: Line) -> Result<bool, AllocError>
-        ensures { IfOk result (λ good. step (state_of self.old) line ≡ (if good then Some (state_of self.new) else None)) }
+        ensures { IfOk result (λ good. step (state_of self.old) line
+            ≡ (if good then Some (state_of self.new) else None)) }
     {
         match line {
             Line::Blank => Ok(true),

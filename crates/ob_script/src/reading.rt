@@ -1,10 +1,12 @@
+//! Reading a line of a script.
+
 ghost use Rattle.std.specs.Prelude.{◌≡◌, ◌<◌, ◌^◌, ℕ, IfSome, Some, None, option_map};
 ghost use Rattle.std.specs.List.{list_all};
 ghost use Rattle.std.specs.Str.{all_ascii_digits};
 ghost use Rattle.std.specs.Fmt.{decimal};
 ghost use Rattle.ob_script.specs.declared.line.Line.{Line};
 ghost use Rattle.ob_script.specs.Script.{IsSpelled, IsInRange, is_blank, is_plain};
-ghost use Rattle.ob_script.specs.Reading.{cut, is_numeral, number_at, client_at, key_at, get_at, put_of, put_at, del_at, add_of, add_at, ask_at, word_line, named_line, line_at};
+ghost use Rattle.ob_script.specs.Reading.{cut, is_numeral, numeral_value, client_numeral, key_numeral, get_at, put_of, put_at, del_at, add_of, add_at, ask_at, word_line, named_line, line_at};
 
 use crate::integers::integer_of;
 use crate::line::{Ask, Ending, Line};
@@ -54,7 +56,7 @@ fn is_plain_text(bytes: &[u8]) -> bool
 }
 
 fn number_at(bytes: &[u8]) -> Option<u32>
-    ensures { result ≡ number_at bytes.now }
+    ensures { result ≡ numeral_value bytes.now }
 {
     if !is_numeral(bytes) {
         return None;
@@ -69,7 +71,7 @@ fn number_at(bytes: &[u8]) -> Option<u32>
 }
 
 fn client_at(bytes: &[u8]) -> Option<Line>
-    ensures { result ≡ client_at bytes.now }
+    ensures { result ≡ client_numeral bytes.now }
 {
     let client = number_at(bytes)?;
     if 1 <= client && client <= 64 {
@@ -80,7 +82,7 @@ fn client_at(bytes: &[u8]) -> Option<Line>
 }
 
 fn key_at(keys: u32, bytes: &[u8]) -> Option<Key>
-    ensures { result ≡ key_at keys bytes.now }
+    ensures { result ≡ key_numeral keys bytes.now }
 {
     let key = number_at(bytes)?;
     if key < keys { Some(key) } else { None }
@@ -200,7 +202,8 @@ fn line_read(keys: u32, text: &[u8]) -> Option<Line>
 /// The line with these bytes, where keys are below `keys`.
 pub fn line_of(keys: u32, text: &[u8]) -> Option<Line>
     ensures found { IfSome result (λ line. IsInRange keys line × IsSpelled line text.now) }
-    ensures only { (line : Line) → IsInRange keys line → IsSpelled line text.now → result ≡ Some line }
+    ensures only { (line : Line) → IsInRange keys line → IsSpelled line text.now
+        → result ≡ Some line }
 {
     line_read(keys, text)
 }

@@ -1,3 +1,5 @@
+//! A script that was read.
+
 ghost use Rattle.std.specs.Prelude.{◌≡◌};
 ghost use Rattle.ob_script.specs.Script.{AreSound};
 ghost use Rattle.ob_script.specs.ScriptViews.{script_of, scripts_of};

@@ -1,3 +1,5 @@
+//! Scripts, good and bad, line by line.
+
 use crate::{Ask, Ending, LIMIT, Scripts, parse};
 use ob_base::Fault;
 use std::alloc::{AllocError, Global};

@@ -1,12 +1,12 @@
 -- Each client's transactions in the records are those of its script.
-use Rattle.std.proofs.Common.{◌≡◌, ◌∙◌, ◌<◌, ◌⊎◌, ◌++◌, ℕ, zero, suc, ◌==◌, Bool, true, false, List, [], ◌∷◌, length, map, Option, Some, None, sym, subst, inl, inr, refl, ap, arith, ⊎_elim}
-use Rattle.std.specs.List.{All, Contains, slice_index_or}
+use Rattle.std.proofs.Common.{◌≡◌, ◌∙◌, ◌⊎◌, ℕ, zero, suc, ◌==◌, Bool, true, false, List, [], ◌∷◌, map, sym, subst, inl, inr, refl, ap, arith}
+use Rattle.std.specs.List.{All, Contains}
 use Rattle.std.proofs.lemmas.Bool.{false≢true}
 use Rattle.std.proofs.lemmas.Bool.Decides.{Decides-eqb}
 use Rattle.std.proofs.lemmas.List.Elements.{All-head, All-tail, All-cons, All-nil}
-use Rattle.ob_serial.specs.Serial.{Txn, EpochRecord}
+use Rattle.ob_serial.specs.Serial.{EpochRecord}
 use Rattle.ob_desk.specs.Desk.{Call, Reply}
-use Rattle.ob_session.specs.Clients.{Told, told_of, said_by, has_signed_off, was_refused}
+use Rattle.ob_session.specs.Clients.{told_of, said_by, has_signed_off, was_refused}
 use Rattle.ob_session.specs.Records.{txns_by, TellFirst, TellAll}
 use Rattle.ob_script.specs.Script.{ScriptTxn, asks_by}
 use Rattle.ob_runner.specs.Meaning.{MeantFirst, MeantAll}

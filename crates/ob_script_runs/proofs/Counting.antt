@@ -1,11 +1,11 @@
 -- There are no more epochs than transactions in the script.
-use Rattle.std.proofs.Common.{◌≡◌, ◌∙◌, ◌⊎◌, ◌<◌, ◌≤◌, ◌+◌, ◌++◌, ◌==◌, ℕ, zero, suc, Bool, true, false, if◌then◌else◌, List, [], ◌∷◌, length, map, sym, subst, refl, ap, inl, inr, arith}
+use Rattle.std.proofs.Common.{◌≡◌, ◌<◌, ◌≤◌, ◌+◌, ◌==◌, ℕ, suc, Bool, true, false, if◌then◌else◌, List, [], ◌∷◌, length, map, subst, refl, ap, arith}
 use Rattle.std.specs.List.{All}
 use Rattle.std.specs.Prelude.{filter, flat_map}
 use Rattle.std.proofs.lemmas.Bool.Decides.{Decides-eqb}
 use Rattle.std.proofs.lemmas.List.{length-append}
 use Rattle.std.proofs.lemmas.List.Elements.{All-head, All-tail}
-use Rattle.ob_serial.specs.Serial.{Txn, EpochRecord}
+use Rattle.ob_serial.specs.Serial.{TxnRecord, EpochRecord}
 use Rattle.ob_session.specs.Records.{txns_by}
 use Rattle.ob_script.specs.Script.{ScriptTxn, asks_by}
 use Rattle.ob_script_runs.specs.Served.{ServedFirst}
@@ -75,7 +75,7 @@ times_by client n (x ∷ xs) = by (client x == n) (times_by client n xs)
     by true rest = omega (arith, rest)
     by false rest = omega (arith, rest)
 
-served_few : (asks : List ScriptTxn) (txns : List (Txn ℕ)) → ServedFirst asks txns → length txns ≤ length asks
+served_few : (asks : List ScriptTxn) (txns : List (TxnRecord ℕ)) → ServedFirst asks txns → length txns ≤ length asks
 served_few asks [] served = omega arith
 served_few [] (t ∷ txns) served = absurd served
 served_few (ask ∷ asks) (t ∷ txns) (one, served) = let few = served_few asks txns served in omega (arith, few)
@@ -87,10 +87,10 @@ length_mapped f (x ∷ xs) = ap suc (length_mapped f xs)
 pub few_txns : (script : List ScriptTxn) (told : List (EpochRecord ℕ)) → ((c : ℕ) → ServedFirst (asks_by c script) (txns_by c told)) → length (flat_map (λ r. r.txns) told) ≤ length script
 few_txns script told served =
     let txns = flat_map (λ (r : EpochRecord ℕ). r.txns) told in
-    let few : length (map (λ (t : Txn ℕ). t.client) txns) ≤ length (map (λ (t : ScriptTxn). t.client) script) =
-    no_longer (map (λ (t : Txn ℕ). t.client) txns) (map (λ (t : ScriptTxn). t.client) script)
-    (λ n. let le = served_few (asks_by n script) (txns_by n told) (served n) in let a = times_by (λ (t : Txn ℕ). t.client) n txns in let b = times_by (λ (t : ScriptTxn). t.client) n script in omega (arith, a, b, le)) in
-    let a = length_mapped (λ (t : Txn ℕ). t.client) txns in let b = length_mapped (λ (t : ScriptTxn). t.client) script in omega (arith, few, a, b)
+    let few : length (map (λ (t : TxnRecord ℕ). t.client) txns) ≤ length (map (λ (t : ScriptTxn). t.client) script) =
+    no_longer (map (λ (t : TxnRecord ℕ). t.client) txns) (map (λ (t : ScriptTxn). t.client) script)
+    (λ n. let le = served_few (asks_by n script) (txns_by n told) (served n) in let a = times_by (λ (t : TxnRecord ℕ). t.client) n txns in let b = times_by (λ (t : ScriptTxn). t.client) n script in omega (arith, a, b, le)) in
+    let a = length_mapped (λ (t : TxnRecord ℕ). t.client) txns in let b = length_mapped (λ (t : ScriptTxn). t.client) script in omega (arith, few, a, b)
 
 -- where each epoch has a transaction there are no more epochs
 pub few_epochs : (told : List (EpochRecord ℕ)) → All (λ r. 0 < length r.txns) told → length told ≤ length (flat_map (λ r. r.txns) told)

@@ -1,15 +1,15 @@
 -- What a client was told, what its script means, and what the records tell of it.
-use Rattle.std.proofs.Common.{◌≡◌, ◌∙◌, ◌⊎◌, ◌++◌, ℕ, List, [], ◌∷◌, Option, Some, None, sym, subst, inl, inr, refl, ap}
+use Rattle.std.proofs.Common.{◌≡◌, ◌∙◌, ◌⊎◌, ◌++◌, ℕ, List, [], ◌∷◌, Option, sym, subst, inl, inr, refl, ap}
 use Rattle.ob_base.specs.declared.op.Op.{Op}
 use Rattle.ob_base.specs.declared.op.Op.TheVariants as op
 use Rattle.ob_serial.specs.declared.records.Outcome.{Outcome}
 use Rattle.ob_serial.specs.declared.records.Outcome.TheVariants.{Committed, Aborted, Unsure}
 use Rattle.ob_serial.specs.declared.records.Why.TheVariants.{Conflict, Depends, ReadsFull, WritesFull, EpochEnd, Asked, Stopped}
-use Rattle.ob_serial.specs.Serial.{Txn}
+use Rattle.ob_serial.specs.Serial.{TxnRecord}
 use Rattle.ob_session.specs.Clients.{Told}
-use Rattle.ob_session.specs.Records.{unsourced, all_unsourced, IsTold, IsToldEnd, TellFirst, TellAll}
+use Rattle.ob_session.specs.Records.{unsourced, all_unsourced, IsToldEnd, TellFirst, TellAll}
 use Rattle.ob_script.specs.Script.{ScriptTxn}
-use Rattle.ob_runner.specs.Meaning.{IsMeant, IsOf, Meets, MeetsFront, MeetsNoSum, IsAddsGet, MeantFirst, MeantAll}
+use Rattle.ob_runner.specs.Meaning.{IsMeant, IsOpsOf, Meets, MeetsFront, MeetsNoSum, IsAddsGet, MeantFirst, MeantAll}
 use Rattle.ob_script.specs.declared.line.Ask.{Ask}
 use Rattle.ob_script.specs.declared.line.Ask.TheVariants.{Get, Put, Del, Add}
 use Rattle.ob_script.specs.declared.line.Ending.TheVariants.{Abort}
@@ -71,7 +71,7 @@ one : (ops : List (Op ℕ)) (x : Op ℕ) → all_unsourced ops ≡ x ∷ [] → 
 one [] x is = absurd (cc is)
 one (o ∷ ops) x is = let (same, others) = heads (unsourced o) x (all_unsourced ops) [] is in (o, ap (λ l. o ∷ l) (none ops others), same)
 
-of_ask : (ask : Ask) (ops : List (Op ℕ)) → IsOf ask (all_unsourced ops) → IsOf ask ops
+of_ask : (ask : Ask) (ops : List (Op ℕ)) → IsOpsOf ask (all_unsourced ops) → IsOpsOf ask ops
 of_ask (Get key) ops (reply, source, is) =
     let (o, ops_are, same) = one ops (op.Get key reply source) is in
     let (from, o_is) = gets o key reply source same in
@@ -93,7 +93,7 @@ meets : (asks : List Ask) (ops : List (Op ℕ)) → Meets asks (all_unsourced op
 meets [] ops is = none ops is
 meets (ask ∷ asks) ops (these, more, is, of, rest) =
     let c = cut ops these more is in
-    (c.front, c.behind, c.ops_are, of_ask ask c.front (subst (IsOf ask) (sym c.front_is) of), meets asks c.behind (subst (Meets asks) (sym c.behind_is) rest))
+    (c.front, c.behind, c.ops_are, of_ask ask c.front (subst (IsOpsOf ask) (sym c.front_is) of), meets asks c.behind (subst (Meets asks) (sym c.behind_is) rest))
 
 adds_get : (asks : List Ask) (ops : List (Op ℕ)) (a : IsAddsGet asks (all_unsourced ops)) → (b : IsAddsGet asks ops) × (b.reply ≡ a.reply) × (b.amount ≡ a.amount)
 adds_get asks ops a =
@@ -167,14 +167,14 @@ ends_as ask ops outcome told same is m = by outcome is
     by (Unsure epoch) is = absurd is
 
 -- a client's transactions that the records tell of are the first of its script's
-pub served_first : (number : ℕ) (asks : List ScriptTxn) (txns : List (Txn ℕ)) (told : List Told) → TellFirst number txns told → MeantFirst asks told → ServedFirst asks txns
+pub served_first : (number : ℕ) (asks : List ScriptTxn) (txns : List (TxnRecord ℕ)) (told : List Told) → TellFirst number txns told → MeantFirst asks told → ServedFirst asks txns
 served_first number asks [] told tells means = tt
 served_first number asks (t ∷ txns) [] tells means = absurd tells
 served_first number [] (t ∷ txns) (one ∷ told) tells means = absurd means
 served_first number (ask ∷ asks) (t ∷ txns) (one ∷ told) (is, tells) (m, means) = (ends_as ask t.ops t.outcome one is.ops is.ends m, served_first number asks txns told tells means)
 
 -- or all of them
-pub served_all : (number : ℕ) (asks : List ScriptTxn) (txns : List (Txn ℕ)) (told : List Told) → TellAll number txns told → MeantAll asks told → ServedAll asks txns
+pub served_all : (number : ℕ) (asks : List ScriptTxn) (txns : List (TxnRecord ℕ)) (told : List Told) → TellAll number txns told → MeantAll asks told → ServedAll asks txns
 served_all number [] [] [] tells means = tt
 served_all number [] [] (one ∷ told) tells means = absurd tells
 served_all number [] (t ∷ txns) [] tells means = absurd tells

@@ -1,16 +1,15 @@
 -- The records of a run are those that its acts tell.
-use Rattle.std.proofs.Common.{◌≡◌, ◌∙◌, ◌⊎◌, ◌++◌, ℕ, suc, Bool, List, [], ◌∷◌, Option, Some, None, sym, subst, refl, ap, inl, inr}
+use Rattle.std.proofs.Common.{◌≡◌, ◌∙◌, ◌++◌, ℕ, List, [], ◌∷◌, Option, Some, None, sym, subst, refl, ap}
 use Rattle.std.specs.List.{All}
 use Rattle.std.proofs.lemmas.List.{append_assoc}
-use Rattle.std.proofs.lemmas.List.Elements.{All-head, All-tail, All-cons, All-nil, All-append}
-use Rattle.ob_base.specs.declared.fault.Fault.TheVariants.{SinkFault}
-use Rattle.ob_serial.specs.declared.vault.EndErr.TheVariants.{Before, Unsure}
-use Rattle.ob_serial.specs.Serial.{Txn, EpochRecord}
+use Rattle.std.proofs.lemmas.List.Elements.{All-head, All-tail, All-cons, All-nil}
+use Rattle.ob_serial.specs.Serial.{EpochRecord}
 use Rattle.ob_desk.specs.Desk as desk
 use Rattle.ob_desk.specs.Desk.{DeskState, DeskStep, Call, Reply, published, records_told}
 use Rattle.ob_desk.specs.declared.calls.Look.{Look}
+use Rattle.ob_desk.specs.Beats.{BeatKind}
 use Rattle.ob_session.specs.Steps.{Leads, IsOwn}
-use Rattle.ob_conduct.specs.Acts.{Act, Says, Halts, Rests, Takes, Delivers, DeliverFails, FetchFails, Closes, Publishes, Refuses, Unprinted, Batch, desk_calls, look_calls, rest_calls, batch_calls, close_calls, publish_calls, stop_calls, stop_for, history, records, IsAllowed, MayAct, IsToEnd}
+use Rattle.ob_conduct.specs.Acts.{Act, Says, Halts, Rests, Takes, Delivers, DeliverFails, FetchFails, Closes, Publishes, Refuses, Unprinted, Batch, desk_calls, rest_calls, close_calls, history, records, IsAllowed}
 use Rattle.ob_script_runs.proofs.Walk.{leads_split}
 use Rattle.ob_script_runs.proofs.EndsWell.{EndsWell, AreWell}
 
@@ -60,56 +59,56 @@ abbrev IsNoPublish : Act → Type 0
 IsNoPublish (Publishes writes left told) = ⊥
 IsNoPublish _ = Unit {0}
 
-act_tells : (passes : ℕ → ℕ → ℕ → ℕ → Bool) (d : DeskState) (act : Act) (new : DeskState) → IsAllowed passes act → Leads d (desk_calls act) new → IsNoPublish act → published (desk_calls act) ≡ []
-act_tells passes d (Says client steps) new allowed run other = own_calls_tell client d steps new allowed run
-act_tells passes d (Halts fault) new allowed run other = refl
-act_tells passes d (Rests look) new allowed run other = refl
-act_tells passes d (Takes look keys) new allowed run other = refl
-act_tells passes d (Delivers batch) new allowed run other = refl
-act_tells passes d (DeliverFails keys fault) new allowed run other = refl
-act_tells passes d (FetchFails look batches keys fault) new allowed run other = published_batches batches ((desk.TakeBatch, desk.Batch keys) ∷ (desk.Stop fault, desk.Done) ∷ [])
-act_tells passes d (Closes look batches writes) new allowed run other = published_batches batches (close_calls writes)
-act_tells passes d (Publishes writes left told) new allowed run other = absurd other
-act_tells passes d (Refuses writes refused) new allowed run other = refl
-act_tells passes d Unprinted new allowed run other = refl
+act_tells : (beat : BeatKind) (d : DeskState) (act : Act) (new : DeskState) → IsAllowed beat act → Leads d (desk_calls act) new → IsNoPublish act → published (desk_calls act) ≡ []
+act_tells beat d (Says client steps) new allowed run other = own_calls_tell client d steps new allowed run
+act_tells beat d (Halts fault) new allowed run other = refl
+act_tells beat d (Rests look) new allowed run other = refl
+act_tells beat d (Takes look keys) new allowed run other = refl
+act_tells beat d (Delivers batch) new allowed run other = refl
+act_tells beat d (DeliverFails keys fault) new allowed run other = refl
+act_tells beat d (FetchFails look batches keys fault) new allowed run other = published_batches batches ((desk.TakeBatch, desk.Batch keys) ∷ (desk.Stop fault, desk.Done) ∷ [])
+act_tells beat d (Closes look batches writes) new allowed run other = published_batches batches (close_calls writes)
+act_tells beat d (Publishes writes left told) new allowed run other = absurd other
+act_tells beat d (Refuses writes refused) new allowed run other = refl
+act_tells beat d Unprinted new allowed run other = refl
 
-module _ (passes : ℕ → ℕ → ℕ → ℕ → Bool) (P : EpochRecord ℕ → Type 0) (tells : (look : Look) (told : EpochRecord ℕ) → EndsWell passes look told → P told) where
+module _ (beat : BeatKind) (P : EpochRecord ℕ → Type 0) (tells : (look : Look) (told : EpochRecord ℕ) → EndsWell beat look told → P told) where
   -- behind an act that tells none
-  silent : (d : DeskState) (act : Act) (acts : List Act) (new : DeskState) → IsAllowed passes act → Leads d (desk_calls act) new → IsNoPublish act → All P (records acts) → All P (records (act ∷ acts))
-  silent d act acts new allowed run other rest = subst (All P) (sym (published_append (desk_calls act) (history acts) ∙ ap (λ l. l ++ records acts) (act_tells passes d act new allowed run other))) rest
+  silent : (d : DeskState) (act : Act) (acts : List Act) (new : DeskState) → IsAllowed beat act → Leads d (desk_calls act) new → IsNoPublish act → All P (records acts) → All P (records (act ∷ acts))
+  silent d act acts new allowed run other rest = subst (All P) (sym (published_append (desk_calls act) (history acts) ∙ ap (λ l. l ++ records acts) (act_tells beat d act new allowed run other))) rest
 
-  pub records_tell_all : (closed : Option Look) (d : DeskState) (acts : List Act) (new : DeskState) → All (IsAllowed passes) acts → AreWell passes closed acts → Leads d (history acts) new → All P (records acts)
+  pub records_tell_all : (closed : Option Look) (d : DeskState) (acts : List Act) (new : DeskState) → All (IsAllowed beat) acts → AreWell beat closed acts → Leads d (history acts) new → All P (records acts)
   records_tell_all closed d [] new allowed well run = All-nil P
   records_tell_all closed d (Publishes writes left told ∷ acts) new allowed (look, at, ends, well) run =
       let (mid, first, rest) = leads_split d (desk_calls (Publishes writes left told)) (history acts) new run in
-      All-cons P told (records acts) (tells look told ends) (records_tell_all None mid acts new (All-tail (IsAllowed passes) (Publishes writes left told) acts allowed) well rest)
+      All-cons P told (records acts) (tells look told ends) (records_tell_all None mid acts new (All-tail (IsAllowed beat) (Publishes writes left told) acts allowed) well rest)
   records_tell_all closed d (Says client steps ∷ acts) new allowed well run =
       let (mid, first, rest) = leads_split d (desk_calls (Says client steps)) (history acts) new run in
-      silent d (Says client steps) acts mid (All-head (IsAllowed passes) (Says client steps) acts allowed) first tt (records_tell_all closed mid acts new (All-tail (IsAllowed passes) (Says client steps) acts allowed) well rest)
+      silent d (Says client steps) acts mid (All-head (IsAllowed beat) (Says client steps) acts allowed) first tt (records_tell_all closed mid acts new (All-tail (IsAllowed beat) (Says client steps) acts allowed) well rest)
   records_tell_all closed d (Halts fault ∷ acts) new allowed well run =
       let (mid, first, rest) = leads_split d (desk_calls (Halts fault)) (history acts) new run in
-      silent d (Halts fault) acts mid (All-head (IsAllowed passes) (Halts fault) acts allowed) first tt (records_tell_all closed mid acts new (All-tail (IsAllowed passes) (Halts fault) acts allowed) well rest)
+      silent d (Halts fault) acts mid (All-head (IsAllowed beat) (Halts fault) acts allowed) first tt (records_tell_all closed mid acts new (All-tail (IsAllowed beat) (Halts fault) acts allowed) well rest)
   records_tell_all closed d (Rests look ∷ acts) new allowed well run =
       let (mid, first, rest) = leads_split d (desk_calls (Rests look)) (history acts) new run in
-      silent d (Rests look) acts mid (All-head (IsAllowed passes) (Rests look) acts allowed) first tt (records_tell_all closed mid acts new (All-tail (IsAllowed passes) (Rests look) acts allowed) well rest)
+      silent d (Rests look) acts mid (All-head (IsAllowed beat) (Rests look) acts allowed) first tt (records_tell_all closed mid acts new (All-tail (IsAllowed beat) (Rests look) acts allowed) well rest)
   records_tell_all closed d (Takes look keys ∷ acts) new allowed well run =
       let (mid, first, rest) = leads_split d (desk_calls (Takes look keys)) (history acts) new run in
-      silent d (Takes look keys) acts mid (All-head (IsAllowed passes) (Takes look keys) acts allowed) first tt (records_tell_all closed mid acts new (All-tail (IsAllowed passes) (Takes look keys) acts allowed) well rest)
+      silent d (Takes look keys) acts mid (All-head (IsAllowed beat) (Takes look keys) acts allowed) first tt (records_tell_all closed mid acts new (All-tail (IsAllowed beat) (Takes look keys) acts allowed) well rest)
   records_tell_all closed d (Delivers batch ∷ acts) new allowed well run =
       let (mid, first, rest) = leads_split d (desk_calls (Delivers batch)) (history acts) new run in
-      silent d (Delivers batch) acts mid (All-head (IsAllowed passes) (Delivers batch) acts allowed) first tt (records_tell_all closed mid acts new (All-tail (IsAllowed passes) (Delivers batch) acts allowed) well rest)
+      silent d (Delivers batch) acts mid (All-head (IsAllowed beat) (Delivers batch) acts allowed) first tt (records_tell_all closed mid acts new (All-tail (IsAllowed beat) (Delivers batch) acts allowed) well rest)
   records_tell_all closed d (DeliverFails keys fault ∷ acts) new allowed well run =
       let (mid, first, rest) = leads_split d (desk_calls (DeliverFails keys fault)) (history acts) new run in
-      silent d (DeliverFails keys fault) acts mid (All-head (IsAllowed passes) (DeliverFails keys fault) acts allowed) first tt (records_tell_all closed mid acts new (All-tail (IsAllowed passes) (DeliverFails keys fault) acts allowed) well rest)
+      silent d (DeliverFails keys fault) acts mid (All-head (IsAllowed beat) (DeliverFails keys fault) acts allowed) first tt (records_tell_all closed mid acts new (All-tail (IsAllowed beat) (DeliverFails keys fault) acts allowed) well rest)
   records_tell_all closed d (FetchFails look batches keys fault ∷ acts) new allowed well run =
       let (mid, first, rest) = leads_split d (desk_calls (FetchFails look batches keys fault)) (history acts) new run in
-      silent d (FetchFails look batches keys fault) acts mid (All-head (IsAllowed passes) (FetchFails look batches keys fault) acts allowed) first tt (records_tell_all closed mid acts new (All-tail (IsAllowed passes) (FetchFails look batches keys fault) acts allowed) well rest)
+      silent d (FetchFails look batches keys fault) acts mid (All-head (IsAllowed beat) (FetchFails look batches keys fault) acts allowed) first tt (records_tell_all closed mid acts new (All-tail (IsAllowed beat) (FetchFails look batches keys fault) acts allowed) well rest)
   records_tell_all closed d (Closes look batches writes ∷ acts) new allowed well run =
       let (mid, first, rest) = leads_split d (desk_calls (Closes look batches writes)) (history acts) new run in
-      silent d (Closes look batches writes) acts mid (All-head (IsAllowed passes) (Closes look batches writes) acts allowed) first tt (records_tell_all (Some look) mid acts new (All-tail (IsAllowed passes) (Closes look batches writes) acts allowed) well rest)
+      silent d (Closes look batches writes) acts mid (All-head (IsAllowed beat) (Closes look batches writes) acts allowed) first tt (records_tell_all (Some look) mid acts new (All-tail (IsAllowed beat) (Closes look batches writes) acts allowed) well rest)
   records_tell_all closed d (Refuses writes refused ∷ acts) new allowed well run =
       let (mid, first, rest) = leads_split d (desk_calls (Refuses writes refused)) (history acts) new run in
-      silent d (Refuses writes refused) acts mid (All-head (IsAllowed passes) (Refuses writes refused) acts allowed) first tt (records_tell_all closed mid acts new (All-tail (IsAllowed passes) (Refuses writes refused) acts allowed) well rest)
+      silent d (Refuses writes refused) acts mid (All-head (IsAllowed beat) (Refuses writes refused) acts allowed) first tt (records_tell_all closed mid acts new (All-tail (IsAllowed beat) (Refuses writes refused) acts allowed) well rest)
   records_tell_all closed d (Unprinted ∷ acts) new allowed well run =
       let (mid, first, rest) = leads_split d (desk_calls Unprinted) (history acts) new run in
-      silent d Unprinted acts mid (All-head (IsAllowed passes) Unprinted acts allowed) first tt (records_tell_all closed mid acts new (All-tail (IsAllowed passes) Unprinted acts allowed) well rest)
+      silent d Unprinted acts mid (All-head (IsAllowed beat) Unprinted acts allowed) first tt (records_tell_all closed mid acts new (All-tail (IsAllowed beat) Unprinted acts allowed) well rest)

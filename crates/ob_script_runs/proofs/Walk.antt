@@ -1,29 +1,25 @@
 -- What each end of an epoch in a run tells: whom it aborts, and that it ends some transaction.
-use Rattle.std.proofs.Common.{◌≡◌, ◌∙◌, ◌⊎◌, ◌<◌, ◌≤◌, ◌++◌, ◌==◌, ℕ, zero, suc, Bool, true, false, if◌then◌else◌, List, [], ◌∷◌, length, Option, Some, None, sym, subst, refl, ap, inl, inr, arith, ⊎_elim}
+use Rattle.std.proofs.Common.{◌≡◌, ◌∙◌, ◌++◌, ℕ, suc, Bool, true, false, if◌then◌else◌, List, [], ◌∷◌, Option, Some, None, sym, subst, refl, ap, inl, inr}
 use Rattle.std.specs.List.{All}
 use Rattle.std.specs.Option.{option_or, option_map, unwrap_or}
-use Rattle.std.proofs.lemmas.Bool.{false≢true}
-use Rattle.std.proofs.lemmas.Bool.Decides.{Decides-eqb}
-use Rattle.std.proofs.lemmas.Option.{none-some, same_Some}
+use Rattle.std.proofs.lemmas.Option.{none-some}
 use Rattle.std.proofs.lemmas.List.Elements.{All-head, All-tail, All-cons, All-nil, All-append}
-use Rattle.ob_base.specs.declared.params.Params.{Params}
-use Rattle.ob_base.specs.declared.fault.Fault.{Fault}
 use Rattle.ob_base.specs.declared.fault.Fault.TheVariants.{SinkFault}
 use Rattle.ob_serial.specs.declared.records.Outcome.TheVariants.{Committed, Aborted as AbortedBy}
 use Rattle.ob_serial.specs.declared.records.Why.TheVariants.{EpochEnd}
 use Rattle.ob_serial.specs.declared.vault.EndErr.{EndErr}
 use Rattle.ob_serial.specs.declared.vault.EndErr.TheVariants as ended
-use Rattle.ob_serial.specs.Serial.{Txn, EpochRecord}
+use Rattle.ob_serial.specs.Serial.{TxnRecord}
 use Rattle.ob_order.specs.Works.{Work}
-use Rattle.ob_order.specs.Order.{OrderState, is_asked_for, asked}
 use Rattle.ob_desk.specs.Desk as desk
 use Rattle.ob_desk.specs.Desk.{DeskState, DeskStep, MayCall, MayOpen, Part, Setup, Call, Reply, new_desk, look_at, closing, record_of, why_at, stop_part, stop_closed, is_memory}
 use Rattle.ob_desk.specs.declared.calls.Look.{Look}
 use Rattle.ob_desk.specs.declared.clients.Holder.{Holder}
+use Rattle.ob_desk.specs.Beats.{BeatKind}
 use Rattle.ob_serial.specs.declared.records.Why.{Why}
 use Rattle.ob_session.specs.Steps.{Leads, IsOwn}
-use Rattle.ob_outcomes.specs.Ends.{Always, AllAsked, NeedsNoBatch, IsOfBatch, WaitingHaveAsked, SignedOffHaveAsked, AskedOutlastPads, PadsChangeNothing}
-use Rattle.ob_conduct.specs.Acts.{Act, Says, Halts, Rests, Takes, Delivers, DeliverFails, FetchFails, Closes, Publishes, Refuses, Unprinted, Batch, desk_calls, look_calls, rest_calls, batch_calls, close_calls, publish_calls, stop_calls, stop_for, history, records, IsAllowed, MayAct, IsToEnd}
+use Rattle.ob_outcomes.specs.Ends.{IsOfBatch}
+use Rattle.ob_conduct.specs.Acts.{Act, Says, Halts, Rests, Takes, Delivers, DeliverFails, FetchFails, Closes, Publishes, Refuses, Unprinted, Batch, desk_calls, look_calls, rest_calls, batch_calls, stop_for, IsAllowed}
 
 -- ---- chains of calls
 
@@ -122,19 +118,19 @@ abbrev IsNoClose : Act → Type 0
 IsNoClose (Closes look batches writes) = ⊥
 IsNoClose _ = Unit {0}
 
-pub act_closes_none : (passes : ℕ → ℕ → ℕ → ℕ → Bool) (act : Act) → IsAllowed passes act → IsNoClose act → All NotClose (desk_calls act)
-act_closes_none passes (Says client steps) allowed other = own_close_none client steps allowed
-act_closes_none passes (Halts fault) allowed other = one_close_none (desk.IsStopped, desk.StoppedBy (Some fault)) tt
-act_closes_none passes (Rests look) allowed other = look_close_none look [] (All-nil NotClose)
-act_closes_none passes (Takes look keys) allowed other = look_close_none look ((desk.TakeBatch, desk.Batch keys) ∷ []) (one_close_none (desk.TakeBatch, desk.Batch keys) tt)
-act_closes_none passes (Delivers batch) allowed other = one_close_none (desk.Deliver batch.keys batch.values, desk.Done) tt
-act_closes_none passes (DeliverFails keys fault) allowed other = one_close_none (desk.Stop fault, desk.Done) tt
-act_closes_none passes (FetchFails look batches keys fault) allowed other = look_close_none look (rest_calls batches ++ (desk.TakeBatch, desk.Batch keys) ∷ (desk.Stop fault, desk.Done) ∷ [])
+pub act_closes_none : (beat : BeatKind) (act : Act) → IsAllowed beat act → IsNoClose act → All NotClose (desk_calls act)
+act_closes_none beat (Says client steps) allowed other = own_close_none client steps allowed
+act_closes_none beat (Halts fault) allowed other = one_close_none (desk.IsStopped, desk.StoppedBy (Some fault)) tt
+act_closes_none beat (Rests look) allowed other = look_close_none look [] (All-nil NotClose)
+act_closes_none beat (Takes look keys) allowed other = look_close_none look ((desk.TakeBatch, desk.Batch keys) ∷ []) (one_close_none (desk.TakeBatch, desk.Batch keys) tt)
+act_closes_none beat (Delivers batch) allowed other = one_close_none (desk.Deliver batch.keys batch.values, desk.Done) tt
+act_closes_none beat (DeliverFails keys fault) allowed other = one_close_none (desk.Stop fault, desk.Done) tt
+act_closes_none beat (FetchFails look batches keys fault) allowed other = look_close_none look (rest_calls batches ++ (desk.TakeBatch, desk.Batch keys) ∷ (desk.Stop fault, desk.Done) ∷ [])
     (batches_close_none batches ((desk.TakeBatch, desk.Batch keys) ∷ (desk.Stop fault, desk.Done) ∷ []) (All-cons NotClose (desk.TakeBatch, desk.Batch keys) ((desk.Stop fault, desk.Done) ∷ []) tt (one_close_none (desk.Stop fault, desk.Done) tt)))
-act_closes_none passes (Closes look batches writes) allowed other = absurd other
-act_closes_none passes (Publishes writes left told) allowed other = one_close_none (desk.Publish (suc told.epoch) left, desk.Published told) tt
-act_closes_none passes (Refuses writes refused) allowed other = stop_close_none refused
-act_closes_none passes Unprinted allowed other = one_close_none (desk.Stop SinkFault, desk.Done) tt
+act_closes_none beat (Closes look batches writes) allowed other = absurd other
+act_closes_none beat (Publishes writes left told) allowed other = one_close_none (desk.Publish (suc told.epoch) left, desk.Published told) tt
+act_closes_none beat (Refuses writes refused) allowed other = stop_close_none refused
+act_closes_none beat Unprinted allowed other = one_close_none (desk.Stop SinkFault, desk.Done) tt
 
 -- ---- in flight is nothing at a look that leads to a close
 
@@ -171,7 +167,7 @@ of_batches (batch ∷ batches) = All-append IsOfBatch (batch_calls batch) (rest_
 
 -- ---- the record of a part in which nobody was aborted for the epoch's end
 
-abbrev pub NotEnded : Txn ℕ → Type 0
+abbrev pub NotEnded : TxnRecord ℕ → Type 0
 NotEnded t = t.outcome ≡ AbortedBy EpochEnd → ⊥
 
 outcome_ended : (why : Option (Why ℕ)) → unwrap_or (option_map AbortedBy why) Committed ≡ AbortedBy EpochEnd → why ≡ Some EpochEnd

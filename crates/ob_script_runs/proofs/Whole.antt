@@ -1,17 +1,16 @@
 -- A run of the runners of a script serves the script.
-use Rattle.std.proofs.Common.{◌≡◌, ◌∙◌, ◌⊎◌, ◌<◌, ◌≤◌, ◌++◌, ◌==◌, ℕ, suc, Bool, true, false, if◌then◌else◌, not, List, [], ◌∷◌, length, map, Option, Some, None, Result, Ok, Err, sym, subst, refl, ap, inl, inr, arith, option_map}
+use Rattle.std.proofs.Common.{◌≡◌, ◌∙◌, ◌<◌, ◌++◌, ◌==◌, ℕ, suc, Bool, true, false, if◌then◌else◌, List, [], ◌∷◌, length, map, Option, Some, None, Result, sym, subst, refl, ap, arith}
 use Rattle.std.specs.List.{All, Contains}
-use Rattle.std.specs.Prelude.{filter, flat_map}
 use Rattle.std.proofs.lemmas.Bool.Decides.{Decides-eqb}
-use Rattle.std.proofs.lemmas.List.{append-nil, append_assoc}
-use Rattle.std.proofs.lemmas.List.Elements.{All-head, All-tail, All-cons, All-nil, All-weaker}
+use Rattle.std.proofs.lemmas.List.{append-nil}
+use Rattle.std.proofs.lemmas.List.Elements.{All-head, All-tail, All-map}
 use Rattle.std.proofs.lemmas.Grind.{flat_map-append}
 use Rattle.ob_base.specs.declared.params.Params.{Params}
 use Rattle.ob_base.specs.declared.fault.Fault.{Fault}
-use Rattle.ob_report.specs.Printed.{Flow}
+use Rattle.ob_io.specs.Streams.{Flow}
 use Rattle.ob_store.specs.Lines.{Trace}
 use Rattle.ob_serial.specs.VaultKinds.{Kind}
-use Rattle.ob_serial.specs.Serial.{Txn, EpochRecord}
+use Rattle.ob_serial.specs.Serial.{EpochRecord}
 use Rattle.ob_serial.specs.declared.records.Outcome.{Outcome}
 use Rattle.ob_serial.specs.declared.records.Outcome.TheVariants.{Committed, Aborted, Unsure}
 use Rattle.ob_serial.specs.declared.records.Why.TheVariants.{Conflict, Depends, ReadsFull, WritesFull, EpochEnd, Asked, Stopped}
@@ -20,11 +19,12 @@ use Rattle.ob_serial.specs.declared.vault.EndErr.TheVariants as refused
 use Rattle.ob_desk.specs.Desk as desk
 use Rattle.ob_desk.specs.Desk.{DeskState, MayOpen, Call, Reply, new_desk, published, record_of}
 use Rattle.ob_desk.specs.declared.calls.Look.{Look}
+use Rattle.ob_desk.specs.Beats.{BeatKind}
 use Rattle.ob_session.specs.Steps.{Leads}
-use Rattle.ob_session.specs.Clients.{told_of, said_by, is_of, has_signed_off, was_refused}
+use Rattle.ob_session.specs.Clients.{told_of, said_by, has_signed_off, was_refused}
 use Rattle.ob_session.specs.Records.{txns_by, TellFirst}
 use Rattle.ob_session.proofs.Runs.{calls_agree, records_tell}
-use Rattle.ob_outcomes.specs.Shown.{IsOutcome}
+use Rattle.ob_session.proofs.Saying.{said_append}
 use Rattle.ob_outcomes.specs.Alone.{IsOwnOutcome}
 use Rattle.ob_outcomes.proofs.Noted.{outcomes_are_shown}
 use Rattle.ob_outcomes.proofs.Numbered.{records_are_numbered}
@@ -33,13 +33,15 @@ use Rattle.ob_outcomes.proofs.Due.{all_signed_off}
 use Rattle.ob_outcomes.proofs.Alone.{one_client}
 use Rattle.ob_script.specs.Script.{ScriptTxn, Scripts, AreSound, asks_by}
 use Rattle.ob_runner.specs.Meaning.{MeantFirst, MeantAll}
-use Rattle.ob_conduct.specs.Rounds.{InRounds}
-use Rattle.ob_conduct.specs.Acts.{Act, Says, Halts, Rests, Takes, Delivers, DeliverFails, FetchFails, Closes, Publishes, Refuses, Unprinted, Batch, desk_calls, look_calls, rest_calls, batch_calls, close_calls, publish_calls, stop_calls, stop_for, history, records, IsAllowed, MayAct, IsToEnd}
-use Rattle.ob_conduct.specs.Scenes.{scene, RunState, run_state, RunnerKind}
+use Rattle.ob_runner.specs.Turns.{IsScriptTurn}
+use Rattle.ob_conduct.specs.Rounds.{KeepRule, plan_rule, InRounds}
+use Rattle.ob_conduct.specs.Acts.{Act, Says, Halts, Rests, Takes, Delivers, DeliverFails, FetchFails, Closes, Publishes, Refuses, Unprinted, desk_calls, stop_for, history, records}
+use Rattle.ob_conduct.specs.Scenes.{scene, RunState, run_state, RunnerKind, seat_of}
 use Rattle.ob_conduct.specs.Records.{IsOver}
 use Rattle.ob_conduct.specs.Moves.{IsUnended}
 use Rattle.ob_conduct.specs.Conducted.{Conducted}
-use Rattle.ob_script_runs.specs.Served.{IsServed, AreDue, IsDueAt, IsPatient, IsLonely, ClientsServed, ClientsServedAll}
+use Rattle.ob_conduct.proofs.Turning.{keeps_weaker}
+use Rattle.ob_script_runs.specs.Served.{IsServed, script_rule, AreDue, IsPatient, IsLonely, ClientsServed, ClientsServedAll}
 use Rattle.ob_script_runs.proofs.Clients.{IsRunner, still, clients_first, clients_all}
 use Rattle.ob_script_runs.proofs.Stops.{not_refused}
 use Rattle.ob_script_runs.proofs.EndsWell.{EndsWell, AreWell}
@@ -57,14 +59,6 @@ named_none clients (t ∷ txns) c owned other = by (t.client == c) refl (named_n
     by true is rest = absurd (other (subst (Contains clients) ((Decides-eqb t.client c).0 is) (All-head (λ (t : ScriptTxn). Contains clients t.client) t txns owned)))
     by false is rest = rest
 
-said_append : (c : ℕ) (xs ys : List (Call × Reply)) → said_by c (xs ++ ys) ≡ said_by c xs ++ said_by c ys
-said_append c [] ys = refl
-said_append c (x ∷ xs) ys = by (is_of c x.0) (said_append c xs ys)
-  where
-    by : (b : Bool) → said_by c (xs ++ ys) ≡ said_by c xs ++ said_by c ys → (if b then x ∷ said_by c (xs ++ ys) else said_by c (xs ++ ys)) ≡ (if b then x ∷ said_by c xs else said_by c xs) ++ said_by c ys
-    by true rest = ap (λ l. x ∷ l) rest
-    by false rest = rest
-
 -- ---- one client
 
 own_lonely : (o : Outcome ℕ) → IsOwnOutcome o → (o ≡ Aborted EpochEnd → ⊥) → IsLonely o
@@ -81,8 +75,8 @@ own_lonely (Unsure epoch) own not_ended = absurd own
 abbrev NotEndedIn : EpochRecord ℕ → Type 0
 NotEndedIn r = All (λ t. t.outcome ≡ Aborted EpochEnd → ⊥) r.txns
 
-patient_told : (passes : ℕ → ℕ → ℕ → ℕ → Bool) → IsPatient passes → (look : Look) (told : EpochRecord ℕ) → EndsWell passes look told → NotEndedIn told
-patient_told passes patient look told well k t low e =
+patient_told : (beat : BeatKind) → IsPatient beat → (look : Look) (told : EpochRecord ℕ) → EndsWell beat look told → NotEndedIn told
+patient_told beat patient look told well k t low e =
     let (passed, fewer) = well.due k t low e in
     let same = patient look.waiting look.live look.queued look.left passed in
     omega (arith, same, fewer)
@@ -90,19 +84,19 @@ patient_told passes patient look told well k t low e =
 both_lonely : (told : List (EpochRecord ℕ)) → All (λ r. All (λ t. IsOwnOutcome t.outcome) r.txns) told → All NotEndedIn told → All (λ r. All (λ t. IsLonely t.outcome) r.txns) told
 both_lonely told own not_ended k r low j t lower = own_lonely _ (own k r low j t lower) (not_ended k r low j t lower)
 
-due_of : (passes : ℕ → ℕ → ℕ → ℕ → Bool) (closed : Option Look) (acts : List Act) → AreWell passes closed acts → AreDue passes closed acts
-due_of passes closed [] well = tt
-due_of passes closed (Closes look batches writes ∷ acts) well = due_of passes (Some look) acts well
-due_of passes closed (Publishes writes left told ∷ acts) (look, at, ends, well) = (look, at, ends.due, due_of passes None acts well)
-due_of passes closed (Says client steps ∷ acts) well = due_of passes closed acts well
-due_of passes closed (Halts fault ∷ acts) well = due_of passes closed acts well
-due_of passes closed (Rests look ∷ acts) well = due_of passes closed acts well
-due_of passes closed (Takes look keys ∷ acts) well = due_of passes closed acts well
-due_of passes closed (Delivers batch ∷ acts) well = due_of passes closed acts well
-due_of passes closed (DeliverFails keys fault ∷ acts) well = due_of passes closed acts well
-due_of passes closed (FetchFails look batches keys fault ∷ acts) well = due_of passes closed acts well
-due_of passes closed (Refuses writes refused ∷ acts) well = due_of passes closed acts well
-due_of passes closed (Unprinted ∷ acts) well = due_of passes closed acts well
+due_of : (beat : BeatKind) (closed : Option Look) (acts : List Act) → AreWell beat closed acts → AreDue beat closed acts
+due_of beat closed [] well = tt
+due_of beat closed (Closes look batches writes ∷ acts) well = due_of beat (Some look) acts well
+due_of beat closed (Publishes writes left told ∷ acts) (look, at, ends, well) = (look, at, ends.due, due_of beat None acts well)
+due_of beat closed (Says client steps ∷ acts) well = due_of beat closed acts well
+due_of beat closed (Halts fault ∷ acts) well = due_of beat closed acts well
+due_of beat closed (Rests look ∷ acts) well = due_of beat closed acts well
+due_of beat closed (Takes look keys ∷ acts) well = due_of beat closed acts well
+due_of beat closed (Delivers batch ∷ acts) well = due_of beat closed acts well
+due_of beat closed (DeliverFails keys fault ∷ acts) well = due_of beat closed acts well
+due_of beat closed (FetchFails look batches keys fault ∷ acts) well = due_of beat closed acts well
+due_of beat closed (Refuses writes refused ∷ acts) well = due_of beat closed acts well
+due_of beat closed (Unprinted ∷ acts) well = due_of beat closed acts well
 
 -- ---- the end of an epoch that was refused
 
@@ -119,15 +113,30 @@ in_front front writes e = flat_map-append desk_calls front (Refuses writes e ∷
 
 -- ---- a run
 
-module _ {V U : Type 0} (k : Kind V) (passes : ℕ → ℕ → ℕ → ℕ → Bool) (kind : RunnerKind U (List ScriptTxn))
-    (means : (u : U) (said : List (Call × Reply)) → kind.fits u said → MeantFirst (kind.plan u) (told_of said) × (has_signed_off said ≡ true → was_refused said ≡ false → MeantAll (kind.plan u) (told_of said)))
+-- Runners of scripts: what they were told is what their scripts mean, and their turns are their scripts' next calls.
+pub record RunsScripts {U : Type 0} (kind : RunnerKind U (List ScriptTxn)) : Type 0 where
+  pub means : (u : U) (said : List (Call × Reply)) → kind.fits u said → MeantFirst (kind.plan u) (told_of said) × (has_signed_off said ≡ true → was_refused said ≡ false → MeantAll (kind.plan u) (told_of said))
+  pub turns : (script : List ScriptTxn) (client : ℕ) (said steps : List (Call × Reply)) → kind.turn script client said steps → IsScriptTurn script client said steps
+
+-- the client at a seat has its transactions of the script
+planned_at : {U : Type 0} (kind : RunnerKind U (List ScriptTxn)) (txns : List ScriptTxn) (us : List U) (client : ℕ) (script : List ScriptTxn) → All (λ u. kind.plan u ≡ asks_by (kind.client u) txns) us → Contains (map (seat_of kind) us) (client, script) → script ≡ asks_by client txns
+planned_at kind txns us client script planned (i, lt, at) = subst (λ (s : ℕ × List ScriptTxn). s.1 ≡ asks_by s.0 txns) at (All-map (λ (s : ℕ × List ScriptTxn). s.1 ≡ asks_by s.0 txns) (seat_of kind) us planned i (client, script) lt)
+
+keeps_script : {U : Type 0} (kind : RunnerKind U (List ScriptTxn)) (runs : RunsScripts kind) (script : Scripts) (us : List U) (acts : List Act) → All (λ u. kind.plan u ≡ asks_by (kind.client u) script.txns) us → KeepRule
+    (plan_rule kind.turn (map (seat_of kind) us)) [] acts → KeepRule (script_rule script) [] acts
+keeps_script kind runs script us acts planned keeps = keeps_weaker (plan_rule kind.turn (map (seat_of kind) us)) (script_rule script)
+    (λ client said steps (plan, at, turn). subst (λ (own : List ScriptTxn). IsScriptTurn own client said steps) (planned_at kind script.txns us client plan planned at) (runs.turns plan client said steps turn))
+    [] acts keeps
+
+module _ {V U : Type 0} (k : Kind V) (beat : BeatKind) (kind : RunnerKind U (List ScriptTxn))
+    (means : RunsScripts kind)
     (p : Params) (epoch left : ℕ) (script : Scripts) (sound : AreSound script) (may : MayOpen (record { params = p }) (suc epoch) left script.clients) where
   abbrev base : DeskState
   base = new_desk (record { params = p }) (suc epoch) left script.clients
 
   module _ (first : V) (trace : Trace) (before_runners : List U) (before : Flow) (end : RunState V U) (acts : List Act) (result : Result (Unit {0}) Fault)
       (named : map kind.client before_runners ≡ script.clients) (planned : All (λ u. kind.plan u ≡ asks_by (kind.client u) script.txns) before_runners)
-      (d : Conducted k kind passes (run_state (scene base first trace) before_runners before) end acts result) where
+      (d : Conducted k kind beat (run_state (scene base first trace) before_runners before) end acts result) where
     abbrev new : DeskState
     new = end.scene.desk
 
@@ -144,29 +153,30 @@ module _ {V U : Type 0} (k : Kind V) (passes : ℕ → ℕ → ℕ → ℕ → B
     only c other = only_clients_call (record { params = p }) (suc epoch) left script.clients (history acts) new c d.leads (subst (λ l. Contains l c → ⊥) clients_are other)
 
     first_served : ClientsServed script (records acts)
-    first_served c = clients_first kind.client kind.fits kind.plan means script.txns (history acts) after_runners runners only c (records acts)
+    first_served c = clients_first kind.client kind.fits kind.plan means.means script.txns (history acts) after_runners runners only c (records acts)
         (records_tell.first (record { params = p }) (suc epoch) left script.clients (history acts) new c may d.leads)
 
-    well : AreWell passes None acts
-    well = all_well p (suc epoch) left script.clients may passes acts d.allowed new d.leads
+    well : AreWell beat None acts
+    well = all_well p (suc epoch) left script.clients may beat acts d.allowed new d.leads
 
-    pub is_served : InRounds (map kind.client before_runners) acts → IsServed passes p epoch left script (records acts)
+    pub is_served : InRounds (map kind.client before_runners) acts → IsServed beat p epoch left script (records acts)
     is_served rounds = record {
       acts = acts;
       told_are = refl;
       allowed = d.allowed;
+      turns = keeps_script kind means script before_runners acts planned d.keeps;
       rounds = subst (λ numbers. InRounds numbers acts) named rounds;
       desk = new;
       leads = d.leads;
       first = first_served;
       shown = outcomes_are_shown (record { params = p }) (suc epoch) left script.clients (history acts) new may d.leads;
-      due = due_of passes None acts well;
+      due = due_of beat None acts well;
       numbered = records_are_numbered (record { params = p }) (suc epoch) left script.clients (history acts) new may d.leads;
-      some = records_tell_all passes (λ (r : EpochRecord ℕ). 0 < length r.txns) (λ look told w. w.some) None base acts new d.allowed well d.leads;
+      some = records_tell_all beat (λ (r : EpochRecord ℕ). 0 < length r.txns) (λ look told w. w.some) None base acts new d.allowed well d.leads;
       alone = λ c one patient. both_lonely (records acts)
           (one_client (record { params = p }) (suc epoch) left c (history acts) new (subst (MayOpen (record { params = p }) (suc epoch) left) one may)
           (subst (λ l. Leads (new_desk (record { params = p }) (suc epoch) left l) (history acts) new) one d.leads))
-          (records_tell_all passes NotEndedIn (patient_told passes patient) None base acts new d.allowed well d.leads);
+          (records_tell_all beat NotEndedIn (patient_told beat patient) None base acts new d.allowed well d.leads);
     }
 
     -- the acts are those of the run
@@ -181,7 +191,7 @@ module _ {V U : Type 0} (k : Kind V) (passes : ℕ → ℕ → ℕ → ℕ → B
 
     -- where each client has signed off, all of it
     pub all_served : IsOver new → ClientsServedAll script (records acts)
-    all_served over c = clients_all kind.client kind.fits kind.plan means script.txns (history acts) after_runners runners only signed_off
+    all_served over c = clients_all kind.client kind.fits kind.plan means.means script.txns (history acts) after_runners runners only signed_off
         (λ n. not_refused n base (history acts) new d.leads over.at_rest.not_stopped)
         (λ n other. named_none script.clients script.txns n sound.owned (subst (λ l. Contains l n → ⊥) clients_are other))
         c (records acts)
@@ -204,7 +214,7 @@ module _ {V U : Type 0} (k : Kind V) (passes : ℕ → ℕ → ℕ → ℕ → B
       told_same = ap published history_is ∙ published_append (history front) ((stop_for refusal, desk.Done) ∷ []) ∙ ap (λ l. records front ++ l) (stop_told refusal) ∙ append-nil (records front)
 
       pub next_served : ClientsServed script (records acts ++ record_of r.closed ∷ [])
-      next_served c = clients_first kind.client kind.fits kind.plan means script.txns (history acts) after_runners runners only c (records acts ++ record_of r.closed ∷ [])
+      next_served c = clients_first kind.client kind.fits kind.plan means.means script.txns (history acts) after_runners runners only c (records acts ++ record_of r.closed ∷ [])
           (subst (λ l. TellFirst c (txns_by c (records acts ++ record_of r.closed ∷ [])) (told_of l)) (sym (said_same c))
           (subst (λ l. TellFirst c (txns_by c (l ++ record_of r.closed ∷ [])) (told_of (said_by c (history front)))) (sym told_same)
           (records_tell.closed (record { params = p }) (suc epoch) left script.clients (history front) r.mid.desk r.closed c may r.moves.leads r.is_closed)))

@@ -1,6 +1,6 @@
 -- Laws of records and scripts.
 use Rattle.std.specs.Prelude.{ℕ, ◌≤◌, ◌<◌, All, List, length}
-use Rattle.ob_serial.specs.Serial.{Txn, EpochRecord}
+use Rattle.ob_serial.specs.Serial.{TxnRecord, EpochRecord}
 use Rattle.ob_session.specs.Clients.{Told}
 use Rattle.ob_session.specs.Records.{TellFirst, TellAll}
 use Rattle.ob_script.specs.Script.{ScriptTxn, Scripts}
@@ -12,5 +12,5 @@ EpochsAreFew = (script : Scripts) (told : List (EpochRecord ℕ)) → ClientsSer
 
 -- of the first ones, or of all
 pub record ToldIsAsked : Type 0 where
-  pub first : (number : ℕ) (asks : List ScriptTxn) (txns : List (Txn ℕ)) (told : List Told) → TellFirst number txns told → MeantFirst asks told → ServedFirst asks txns
-  pub all : (number : ℕ) (asks : List ScriptTxn) (txns : List (Txn ℕ)) (told : List Told) → TellAll number txns told → MeantAll asks told → ServedAll asks txns
+  pub first : (number : ℕ) (asks : List ScriptTxn) (txns : List (TxnRecord ℕ)) (told : List Told) → TellFirst number txns told → MeantFirst asks told → ServedFirst asks txns
+  pub all : (number : ℕ) (asks : List ScriptTxn) (txns : List (TxnRecord ℕ)) (told : List Told) → TellAll number txns told → MeantAll asks told → ServedAll asks txns

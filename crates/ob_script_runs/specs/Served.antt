@@ -1,23 +1,23 @@
 -- What the records of a run tell of the scripts that were run.
-use Rattle.std.specs.Prelude.{ℕ, suc, ◌≡◌, ◌⊎◌, ◌<◌, Bool, true, All, List, [], ◌∷◌, ◌++◌, length, map, Option, Some, None}
-use Rattle.std.specs.List.{range_with_len}
+use Rattle.std.specs.Prelude.{ℕ, suc, ◌≡◌, ◌⊎◌, ◌<◌, true, All, List, [], ◌∷◌, length, Option, Some, None}
 use Rattle.ob_base.specs.declared.params.Params.{Params}
 use Rattle.ob_base.specs.declared.op.Op.{Op}
 use Rattle.ob_serial.specs.declared.records.Outcome.{Outcome}
 use Rattle.ob_serial.specs.declared.records.Outcome.TheVariants.{Committed, Aborted, Unsure}
-use Rattle.ob_serial.specs.declared.records.Why.{Why}
-use Rattle.ob_serial.specs.declared.records.Why.TheVariants.{Conflict, Depends, ReadsFull, WritesFull, EpochEnd, Asked, Stopped}
-use Rattle.ob_serial.specs.Serial.{Txn, EpochRecord, AreInOrder}
+use Rattle.ob_serial.specs.declared.records.Why.TheVariants.{ReadsFull, WritesFull, EpochEnd, Asked}
+use Rattle.ob_serial.specs.Serial.{TxnRecord, EpochRecord}
 use Rattle.ob_desk.specs.Desk.{DeskState, new_desk}
 use Rattle.ob_desk.specs.declared.calls.Look.{Look}
+use Rattle.ob_desk.specs.Beats.{BeatKind}
 use Rattle.ob_session.specs.Steps.{Leads}
 use Rattle.ob_outcomes.specs.Shown.{IsOutcome, AreNumbered}
 use Rattle.ob_session.specs.Records.{txns_by}
 use Rattle.ob_script.specs.Script.{ScriptTxn, Scripts, asks_by}
 use Rattle.ob_runner.specs.Meaning.{Meets, MeetsFront, MeetsNoSum}
 use Rattle.ob_script.specs.declared.line.Ending.TheVariants.{Commit, Abort}
-use Rattle.ob_conduct.specs.Rounds.{InRounds}
-use Rattle.ob_conduct.specs.Acts.{Act, Says, Halts, Rests, Takes, Delivers, DeliverFails, FetchFails, Closes, Publishes, Refuses, Unprinted, history, records, IsAllowed}
+use Rattle.ob_runner.specs.Turns.{IsScriptTurn}
+use Rattle.ob_conduct.specs.Rounds.{TurnRule, KeepRule, InRounds}
+use Rattle.ob_conduct.specs.Acts.{Act, Closes, Publishes, history, records, PassesTest, IsAllowed}
 
 -- How a transaction of a script ended, and what it did. A committed one did all that it asks for, and its last line asks for that. One
 -- that is aborted because its client asked for that did all too, and its last line asks for that; or its last get was that of an add that
@@ -29,13 +29,13 @@ EndsAs ask ops (Aborted why) = MeetsFront ask.asks ops
 EndsAs ask ops (Unsure epoch) = ⊥
 
 -- These are the first of the script's transactions, in order, each once, and no others.
-abbrev pub ServedFirst : List ScriptTxn → List (Txn ℕ) → Type 0
+abbrev pub ServedFirst : List ScriptTxn → List (TxnRecord ℕ) → Type 0
 ServedFirst asks [] = Unit {0}
 ServedFirst [] (t ∷ txns) = ⊥
 ServedFirst (ask ∷ asks) (t ∷ txns) = EndsAs ask t.ops t.outcome × ServedFirst asks txns
 
 -- They are all of them.
-abbrev pub ServedAll : List ScriptTxn → List (Txn ℕ) → Type 0
+abbrev pub ServedAll : List ScriptTxn → List (TxnRecord ℕ) → Type 0
 ServedAll [] [] = Unit {0}
 ServedAll (ask ∷ asks) (t ∷ txns) = EndsAs ask t.ops t.outcome × ServedAll asks txns
 ServedAll _ _ = ⊥
@@ -48,20 +48,20 @@ abbrev pub ClientsServedAll : Scripts → List (EpochRecord ℕ) → Type 0
 ClientsServedAll script told = (client : ℕ) → ServedAll (asks_by client script.txns) (txns_by client told)
 
 -- Only where the beat was due, and fewer waited than were live, is a transaction aborted for the end of its epoch.
-abbrev pub IsDueAt : (ℕ → ℕ → ℕ → ℕ → Bool) → Look → EpochRecord ℕ → Type 0
-IsDueAt passes look told = All (λ t. t.outcome ≡ Aborted EpochEnd → (passes look.waiting look.live look.queued look.left ≡ true) × (look.waiting < look.live)) told.txns
+abbrev pub IsDueAt : BeatKind → Look → EpochRecord ℕ → Type 0
+IsDueAt beat look told = All (λ t. t.outcome ≡ Aborted EpochEnd → PassesTest beat look × (look.waiting < look.live)) told.txns
 
 -- Each record that was published is that of the epoch that was closed before it, and is due at the look that led to that close. None: no
 -- epoch is closed; Some: one is, since this look.
-abbrev pub AreDue : (ℕ → ℕ → ℕ → ℕ → Bool) → Option Look → List Act → Type 0
-AreDue passes closed [] = Unit {0}
-AreDue passes closed (Closes look batches writes ∷ acts) = AreDue passes (Some look) acts
-AreDue passes closed (Publishes writes left told ∷ acts) = (look : Look) × (closed ≡ Some look) × IsDueAt passes look told × AreDue passes None acts
-AreDue passes closed (_ ∷ acts) = AreDue passes closed acts
+abbrev pub AreDue : BeatKind → Option Look → List Act → Type 0
+AreDue beat closed [] = Unit {0}
+AreDue beat closed (Closes look batches writes ∷ acts) = AreDue beat (Some look) acts
+AreDue beat closed (Publishes writes left told ∷ acts) = (look : Look) × (closed ≡ Some look) × IsDueAt beat look told × AreDue beat None acts
+AreDue beat closed (_ ∷ acts) = AreDue beat closed acts
 
 -- A beat that is due only where all that are live wait.
-abbrev pub IsPatient : (ℕ → ℕ → ℕ → ℕ → Bool) → Type 0
-IsPatient passes = (waiting live queued left : ℕ) → passes waiting live queued left ≡ true → waiting ≡ live
+abbrev pub IsPatient : BeatKind → Type 0
+IsPatient beat = (waiting live queued left : ℕ) → beat.passes waiting live queued left ≡ true → waiting ≡ live
 
 -- It is committed, or had no place for a read or a write, or its client asked for its abort.
 abbrev pub IsLonely : Outcome ℕ → Type 0
@@ -71,13 +71,19 @@ IsLonely (Aborted (WritesFull keys)) = Unit {0}
 IsLonely (Aborted Asked) = Unit {0}
 IsLonely _ = ⊥
 
+-- what a turn of a client of the script may be: its next call, or `stop` for want of memory in its place; none behind its sign-off
+abbrev pub script_rule : Scripts → TurnRule
+script_rule script client said steps = IsScriptTurn (asks_by client script.txns) client said steps
+
 -- A run of a script, whatever the vault: from a new desk on, whose first epoch is the one behind this, with so many batches left.
-pub record IsServed (passes : ℕ → ℕ → ℕ → ℕ → Bool) (p : Params) (epoch left : ℕ) (script : Scripts) (told : List (EpochRecord ℕ)) : Type 0 where
+pub record IsServed (beat : BeatKind) (p : Params) (epoch left : ℕ) (script : Scripts) (told : List (EpochRecord ℕ)) : Type 0 where
   -- what was done, in order: calls of the desk, each of them allowed where it is made, of which the records are told
   pub acts : List Act
   pub told_are : told ≡ records acts
-  pub allowed : All (IsAllowed passes) acts
-  -- in rounds: each client in rising number makes one call, or none behind its sign-off, and then the driver does one thing
+  pub allowed : All (IsAllowed beat) acts
+  -- In its acts each client makes its script's next call, by what it was told.
+  pub turns : KeepRule (script_rule script) [] acts
+  -- They are whole rounds: an act of each client, in ascending number, and then one thing that the driver does.
   pub rounds : InRounds script.clients acts
   pub desk : DeskState
   pub leads : Leads (new_desk (record { params = p }) (suc epoch) left script.clients) (history acts) desk
@@ -85,9 +91,9 @@ pub record IsServed (passes : ℕ → ℕ → ℕ → ℕ → Bool) (p : Params)
   pub first : ClientsServed script told
   -- How each transaction ended is shown by its record; and for the end of its epoch one is aborted only where the beat was due.
   pub shown : All (λ r. All (λ t. IsOutcome p r t t.outcome) r.txns) told
-  pub due : AreDue passes None acts
+  pub due : AreDue beat None acts
   -- epochs and tickets are numbered one by one, and each epoch has a transaction
   pub numbered : AreNumbered (suc epoch) told
   pub some : All (λ r. 0 < length r.txns) told
   -- With one client, and a beat that is due only where all wait, no other transaction has a part in a cause.
-  pub alone : (client : ℕ) → script.clients ≡ client ∷ [] → IsPatient passes → All (λ r. All (λ t. IsLonely t.outcome) r.txns) told
+  pub alone : (client : ℕ) → script.clients ≡ client ∷ [] → IsPatient beat → All (λ r. All (λ t. IsLonely t.outcome) r.txns) told

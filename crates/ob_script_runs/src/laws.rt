@@ -1,3 +1,5 @@
+//! What was told is what was asked, and epochs are few.
+
 ghost use Rattle.ob_script_runs.specs.Laws.{EpochsAreFew, ToldIsAsked};
 
 /// Where each epoch has a transaction, and each client's transactions are a front of its script's,

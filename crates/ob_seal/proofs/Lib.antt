@@ -1,5 +1,4 @@
 pub mod KeyLemmas
 pub mod PadLemmas
 pub mod PieceLaws
-pub mod SpelledAlike
 pub mod Spelling

@@ -5,7 +5,7 @@ use Rattle.std.proofs.lemmas.Bool.{cases_lt}
 use Rattle.std.proofs.lemmas.List.{take-append-le, take-append-drop, drop-drop}
 use Rattle.std.proofs.Math.Seq.{take-append-add}
 use Rattle.ob_seal.specs.Pieces.{piece}
-use Rattle.ob_seal.proofs.SpelledAlike.{split_same}
+use Rattle.ob_base.proofs.Spelled.{split_same}
 
 length-take_long : (n : ℕ) (xs : List ℕ) → n ≤ length xs → length (take n xs) ≡ n
 length-take_long n xs le = omega (arith, length-append (take n xs) (drop n xs), ap length (take-append-drop n xs), length-drop n xs)
@@ -31,13 +31,15 @@ module _ (w : ℕ) (z : List ℕ) where
       let heads : take w xs ≡ take w ys = sym (take-append-le w xs z le) ∙ e ∙ take-append-le w ys z (omega arith) in
       sym (take-append-drop w xs) ∙ rw (heads, rest) (take-append-drop w ys)
 
-piece_next : (i : ℕ) (xs : List ℕ) → piece (suc i) xs ≡ piece i (drop 96 xs)
+-- pieces from the second on are those behind the first
+pub piece_next : (i : ℕ) (xs : List ℕ) → piece (suc i) xs ≡ piece i (drop 96 xs)
 unfolding piece
 piece_next i xs =
     let e : 96 * suc i ≡ 96 + 96 * i = omega arith in
     ap (λ l. take 96 (l ++ replicate 96 0)) (ap (λ n. drop n xs) e ∙ sym (drop-drop (96 * i) 96 xs))
 
-piece_first : (xs : List ℕ) → piece 0 xs ≡ take 96 (xs ++ replicate 96 0)
+-- the first piece
+pub piece_first : (xs : List ℕ) → piece 0 xs ≡ take 96 (xs ++ replicate 96 0)
 unfolding piece
 piece_first xs = refl
 

@@ -1,19 +1,16 @@
 -- Cells that are spelled alike hold the same.
-use Rattle.std.proofs.Common.{◌≡◌, ◌<◌, ◌≤◌, ℕ, zero, suc, ◌+◌, ◌^◌, List, [], ◌∷◌, ◌++◌, take, drop, length, get_or, arith, refl, sym, ap, ◌∙◌, append_assoc, length-append, length-drop, ap₂, inr, subst, Option, Some, None}
+use Rattle.std.proofs.Common.{◌≡◌, ◌<◌, ◌≤◌, ℕ, ◌+◌, ◌^◌, List, ◌++◌, take, drop, length, arith, refl, sym, ap, ◌∙◌, append_assoc, length-append, length-drop, ap₂, inr, subst, Option, Some, None}
 use Rattle.std.specs.Prelude.{IsSomeAnd}
 use Rattle.ob_base.specs.declared.fault.Damaged.{Damaged}
 use Rattle.ob_seal.specs.declared.sealer.Opened.{Opened}
-use Rattle.std.specs.Int.{w64}
-use Rattle.std.proofs.lemmas.List.{take-append-drop, take_all, take_at, drop_at, drop-drop, length-take-le, get_or-drop}
-use Rattle.std.proofs.lemmas.Nat.{le_bytes_8}
+use Rattle.std.proofs.lemmas.List.{take-append-drop, take_all, take_at, drop_at, drop-drop, length-take-le}
 use Rattle.sha2.specs.Sha256.{sha256}
 use Rattle.sha2.proofs.Facts256.{length-sha256}
-use Rattle.ob_base.specs.LittleEndian.{field_at}
 use Rattle.ob_seal.specs.declared.keys.Keys.{Keys}
 use Rattle.ob_seal.specs.Pads.{pad_of, xored}
 use Rattle.ob_seal.specs.Seals.{le64, tag_of, stamped, identity_bytes, sealed_front, sealed}
 use Rattle.ob_seal.specs.Damage.{kept_tag, computed_tag, IsOtherIdentity, IsExpected, IsDamage}
-use Rattle.ob_seal.proofs.SpelledAlike.{split_same, le64_same}
+use Rattle.ob_base.proofs.Spelled.{split_same, le64_same}
 use Rattle.ob_seal.proofs.PadLemmas.{length-xored, xored_twice, xored_same}
 
 -- an identity is told by its bytes
@@ -21,19 +18,6 @@ pub identity_same : (g h m n : ℕ) → g < 2 ^ 64 → h < 2 ^ 64 → m < 2 ^ 64
 identity_same g h m n hg hh hm hn e =
     let parts = split_same (le64 g) (le64 h) (le64 m) (le64 n) refl e in
     (le64_same g h hg hh parts.0, le64_same m n hm hn parts.1)
-
--- the bytes of a part are bytes
-small_front : (n : ℕ) (xs : List ℕ) → ((i : ℕ) → get_or xs i 0 < 256) → (i : ℕ) → get_or (take n xs) i 0 < 256
-small_front zero xs small i = omega arith
-small_front (suc n) [] small i = omega arith
-small_front (suc n) (x ∷ xs) small zero = small zero
-small_front (suc n) (x ∷ xs) small (suc i) = small_front n xs (λ j. small (suc j)) i
-
--- a number of 8 bytes spells them
-pub field_spelled : (xs : List ℕ) (at n : ℕ) → at + 8 ≤ length xs → ((i : ℕ) → get_or xs i 0 < 256) → n ≡ field_at w64 xs at → le64 n ≡ take 8 (drop at xs)
-field_spelled xs at n fits small e =
-    le_bytes_8 (take 8 (drop at xs)) n (length-take-le 8 (drop at xs) (rw (length-drop at xs) (omega arith)))
-    (small_front 8 (drop at xs) (λ i. rw (get_or-drop at xs i 0) (small (at + i)))) e
 
 -- ---- stamps
 

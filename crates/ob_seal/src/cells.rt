@@ -1,3 +1,5 @@
+//! The bytes of a sealed cell.
+
 // The parts of cells.
 
 ghost use Rattle.std.specs.Prelude.{◌≡◌, ◌+◌, ◌≤◌, ◌↔◌, ◌++◌, length, take, drop, IsTrue};

@@ -1,3 +1,5 @@
+//! The keys of a store.
+
 ghost use Rattle.std.specs.Prelude.{◌≡◌, ◌↔◌, ◌++◌, IsSome, IfSome, Ok};
 ghost use Rattle.hex.specs.Hex.{decode_of};
 ghost use Rattle.ob_seal.specs.KeyText.{IsDigits, IsKeyText, digits_of};
@@ -49,7 +51,8 @@ impl Keys {
     /// The keys of a key file's text: the 192 hexadecimal digits of their bytes, and at most one
     /// line feed after them. None exactly where it is another text.
     pub fn from_hex(text: &[u8]) -> Option<Keys>
-        ensures bytes { IfSome result (λ keys. decode_of (digits_of text.now) ≡ Ok (keys.seal ++ keys.tag ++ keys.tape)) }
+        ensures bytes { IfSome result (λ keys. decode_of (digits_of text.now)
+            ≡ Ok (keys.seal ++ keys.tag ++ keys.tape)) }
         ensures found { IsSome result ↔ IsKeyText text.now }
     {
         let bytes = bytes_of(without_line_feed(text))?;

@@ -1,3 +1,5 @@
+//! Sealing and opening cells.
+
 ghost use Rattle.std.specs.Prelude.{◌≡◌, ◌↔◌, ◌+◌, ◌≤◌, ◌<◌, ◌^◌, ℕ, List, length, IsErr, IfOk, OnOk, IfErr, OnErr, IfSome, IsSomeAnd, Ok};
 ghost use Rattle.ob_seal.specs.Seals.{sealed, sealed_front, stamped, identity_bytes};
 ghost use Rattle.ob_seal.specs.Damage.{IsExpected, IsDamage, IsOtherIdentity, IsWrongTag};
@@ -48,7 +50,10 @@ impl Model for Sealer {
 // Where an identity is expected, the cell must keep that one.
 fn check_identity(cell: u64, expected: Option<(u64, u64)>, opened: &Opened) -> Result<(), Damaged>
     ensures same { OnOk result (IsExpected expected opened.now.generation opened.now.number) }
-    ensures other { IfErr result (λ d. IsSomeAnd expected (λ e. IsOtherIdentity cell (identity_bytes opened.now.generation opened.now.number) (identity_bytes e.0 e.1) d)) }
+    ensures other { IfErr result
+        (λ d. IsSomeAnd expected
+        (λ e. IsOtherIdentity cell (identity_bytes opened.now.generation opened.now.number)
+        (identity_bytes e.0 e.1) d)) }
 {
     let Some((generation, number)) = expected else {
         return Ok(());
@@ -96,7 +101,8 @@ impl Sealer {
     /// # Errors
     /// Worn exactly where the next number is `2^62`. The sealer is as before.
     pub fn seal(&mut self, cell: u64, plain: &[u8; 96]) -> Result<[u8; 128], Worn>
-        ensures sealed { IfOk result (λ bytes. bytes ≡ sealed self.old.keys cell self.old.generation self.old.next plain.now) }
+        ensures sealed { IfOk result (λ bytes. bytes
+            ≡ sealed self.old.keys cell self.old.generation self.old.next plain.now) }
         ensures next { OnOk result (self.new ≡ record self.old { next = self.old.next + 1 }) }
         ensures worn { IsErr result ↔ (self.old.next ≡ 2 ^ 62) }
         ensures number { IfErr result (λ worn. worn.number ≡ 2 ^ 62) }
@@ -125,10 +131,12 @@ impl Sealer {
         expected: Option<(u64, u64)>,
         bytes: &[u8; 128],
     ) -> Result<Opened, Damaged>
-        ensures spelled { IfOk result (λ o. bytes.now ≡ sealed self.now.keys cell o.generation o.number o.plain) }
+        ensures spelled { IfOk result (λ o. bytes.now
+            ≡ sealed self.now.keys cell o.generation o.number o.plain) }
         ensures expected { IfOk result (λ o. IsExpected expected o.generation o.number) }
         ensures damaged { IfErr result (IsDamage self.now.keys cell expected bytes.now) }
-        ensures round_trip { (g n : ℕ) (plain : List ℕ) → g < 2 ^ 64 → n < 2 ^ 64 → length plain ≡ 96
+        ensures round_trip { (g n : ℕ) (plain : List ℕ) → g < 2 ^ 64 → n < 2 ^ 64
+            → length plain ≡ 96
             → bytes.now ≡ sealed self.now.keys cell g n plain → IsExpected expected g n
             → result ≡ Ok (record { generation = g; number = n; plain = plain }) }
     {
@@ -140,7 +148,8 @@ impl Sealer {
 
     // What a sealed cell holds that has these bytes before its tag.
     fn opened(&self, front: &[u8; 112]) -> Opened
-        ensures { front.now ≡ sealed_front self.now.keys result.generation result.number result.plain }
+        ensures { front.now
+            ≡ sealed_front self.now.keys result.generation result.number result.plain }
     {
         let generation = u64_at(front, 0);
         let number = u64_at(front, 8);

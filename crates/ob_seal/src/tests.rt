@@ -1,3 +1,5 @@
+//! Cells sealed elsewhere, and keys as text.
+
 use crate::cells::{pad_of, part_at, tag_of};
 use crate::{Keys, Sealer};
 use hex::FromHex;

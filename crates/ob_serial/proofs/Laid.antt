@@ -14,7 +14,7 @@ use Rattle.std.specs.FinMap.{same_map, nat_cmp-IsAntisymmetric, get-empty, get, 
 use Rattle.std.specs.FinMap.Entries.{is_sorted, below_all}
 use Rattle.ob_base.specs.declared.op.Op.{Op}
 use Rattle.ob_base.specs.declared.op.Op.TheVariants.{Get, Put, Del}
-use Rattle.ob_serial.specs.Serial.{Map, after}
+use Rattle.ob_serial.specs.Serial.{Map, after_ops}
 use Rattle.ob_serial.specs.Vaults.{with_writes, entry_writes}
 
 abbrev Entries : Type 0
@@ -59,7 +59,7 @@ one_over false v own m = refl
 
 -- where a map is another one laid over a third, it stays so under the same operations
 pub over_after : (ops : List (Op ℕ)) → HasNoDelete ops → (own m below : Map nat_cmp) → ((q : ℕ) → get m q ≡ first_of (get own q) (get below q))
-    → (q : ℕ) → get (after nat_cmp m ops) q ≡ first_of (get (after nat_cmp own ops) q) (get below q)
+    → (q : ℕ) → get (after_ops nat_cmp m ops) q ≡ first_of (get (after_ops nat_cmp own ops) q) (get below q)
 over_after [] none own m below is q = is q
 over_after (Get key reply source ∷ ops) none own m below is q = over_after ops none own m below is q
 over_after (Put key value ∷ ops) none own m below is q = over_after ops none (insert own key value) (insert m key value) below
@@ -112,8 +112,8 @@ laid (e ∷ es) sorted m q =
     here false is below = refl
 
 -- What operations without a delete write is what the writes of their own map lay over the map before them.
-pub laid_over : (m : Map nat_cmp) (ops : List (Op ℕ)) → HasNoDelete ops → with_writes m (entry_writes (after nat_cmp empty ops)) ≡ after nat_cmp m ops
+pub laid_over : (m : Map nat_cmp) (ops : List (Op ℕ)) → HasNoDelete ops → with_writes m (entry_writes (after_ops nat_cmp empty ops)) ≡ after_ops nat_cmp m ops
 laid_over m ops none = same_map nat_cmp_total nat_cmp-IsAntisymmetric _ _ (λ q.
-    laid (entries (after nat_cmp empty ops)) (entries_sorted (after nat_cmp empty ops)) m q
-    ∙ ap (λ x. first_of x (get m q)) (sym (get-entries (after nat_cmp empty ops) q))
+    laid (entries (after_ops nat_cmp empty ops)) (entries_sorted (after_ops nat_cmp empty ops)) m q
+    ∙ ap (λ x. first_of x (get m q)) (sym (get-entries (after_ops nat_cmp empty ops) q))
     ∙ sym (over_after ops none empty m m (λ p. ap (λ x. first_of x (get m p)) (sym (get-empty nat_cmp p))) q))

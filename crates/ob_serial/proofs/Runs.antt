@@ -10,51 +10,51 @@ use Rattle.std.specs.declared.cmp.Ordering.{Ordering}
 use Rattle.std.specs.FinMap.{get}
 use Rattle.ob_base.specs.declared.op.Op.{Op}
 use Rattle.ob_base.specs.declared.op.Op.TheVariants.{Get, Put, Del}
-use Rattle.ob_serial.specs.Serial.{Txn, Map, OneByOne, Replays, OpReplays, after, after_op, is_committed}
+use Rattle.ob_serial.specs.Serial.{TxnRecord, Map, OneByOne, Replays, OpReplays, after_ops, after_op, is_committed}
 
 module _ {K : Type 0} (cmp : K → K → Ordering) where
-  pub one_last : (m : Map cmp) (ts : List (Txn K)) (a b : Map cmp) → OneByOne cmp m ts a → OneByOne cmp m ts b → a ≡ b
+  pub one_last : (m : Map cmp) (ts : List (TxnRecord K)) (a b : Map cmp) → OneByOne cmp m ts a → OneByOne cmp m ts b → a ≡ b
   one_last m [] a b x y = sym x ∙ y
-  one_last m (t ∷ ts) a b x y = one_last (after cmp m t.ops) ts a b x.1 y.1
+  one_last m (t ∷ ts) a b x y = one_last (after_ops cmp m t.ops) ts a b x.1 y.1
 
-  pub goes_on : (m : Map cmp) (ts us : List (Txn K)) (a b : Map cmp) → OneByOne cmp m ts a → OneByOne cmp a us b → OneByOne cmp m (ts ++ us) b
+  pub goes_on : (m : Map cmp) (ts us : List (TxnRecord K)) (a b : Map cmp) → OneByOne cmp m ts a → OneByOne cmp a us b → OneByOne cmp m (ts ++ us) b
   goes_on m [] us a b x y = subst (λ (n : Map cmp). OneByOne cmp n us b) (sym x) y
-  goes_on m (t ∷ ts) us a b x y = (x.0, goes_on (after cmp m t.ops) ts us a b x.1 y)
+  goes_on m (t ∷ ts) us a b x y = (x.0, goes_on (after_ops cmp m t.ops) ts us a b x.1 y)
 
   -- a run of two lists stops somewhere between them
-  pub splits : (m : Map cmp) (ts us : List (Txn K)) (b : Map cmp) → OneByOne cmp m (ts ++ us) b → (a : Map cmp) × OneByOne cmp m ts a × OneByOne cmp a us b
+  pub splits : (m : Map cmp) (ts us : List (TxnRecord K)) (b : Map cmp) → OneByOne cmp m (ts ++ us) b → (a : Map cmp) × OneByOne cmp m ts a × OneByOne cmp a us b
   splits m [] us b x = (m, refl, x)
-  splits m (t ∷ ts) us b x = let rest = splits (after cmp m t.ops) ts us b x.1 in (rest.0, (x.0, rest.1), rest.2)
+  splits m (t ∷ ts) us b x = let rest = splits (after_ops cmp m t.ops) ts us b x.1 in (rest.0, (x.0, rest.1), rest.2)
 
-  pub after-append : (m : Map cmp) (xs ys : List (Op K)) → after cmp m (xs ++ ys) ≡ after cmp (after cmp m xs) ys
+  pub after-append : (m : Map cmp) (xs ys : List (Op K)) → after_ops cmp m (xs ++ ys) ≡ after_ops cmp (after_ops cmp m xs) ys
   after-append m [] ys = refl
   after-append m (x ∷ xs) ys = after-append (after_op cmp m x) xs ys
 
-  pub replays_append : (m : Map cmp) (xs ys : List (Op K)) → Replays cmp m xs → Replays cmp (after cmp m xs) ys → Replays cmp m (xs ++ ys)
+  pub replays_append : (m : Map cmp) (xs ys : List (Op K)) → Replays cmp m xs → Replays cmp (after_ops cmp m xs) ys → Replays cmp m (xs ++ ys)
   replays_append m [] ys r s = s
   replays_append m (x ∷ xs) ys r s = (r.0, replays_append (after_op cmp m x) xs ys r.1 s)
 
-  pub replays_split : (m : Map cmp) (xs ys : List (Op K)) → Replays cmp m (xs ++ ys) → Replays cmp m xs × Replays cmp (after cmp m xs) ys
+  pub replays_split : (m : Map cmp) (xs ys : List (Op K)) → Replays cmp m (xs ++ ys) → Replays cmp m xs × Replays cmp (after_ops cmp m xs) ys
   replays_split m [] ys r = (tt, r)
   replays_split m (x ∷ xs) ys r = let rest = replays_split (after_op cmp m x) xs ys r.1 in ((r.0, rest.0), rest.1)
 
   -- one operation more
-  pub op_more : (m v w : Map cmp) (xs : List (Op K)) (op : Op K) → Replays cmp m xs → v ≡ after cmp m xs → OpReplays cmp v op → w ≡ after_op cmp v op
-      → Replays cmp m (xs ++ op ∷ []) × (w ≡ after cmp m (xs ++ op ∷ []))
+  pub op_more : (m v w : Map cmp) (xs : List (Op K)) (op : Op K) → Replays cmp m xs → v ≡ after_ops cmp m xs → OpReplays cmp v op → w ≡ after_op cmp v op
+      → Replays cmp m (xs ++ op ∷ []) × (w ≡ after_ops cmp m (xs ++ op ∷ []))
   op_more m v w xs op r at one next = (
     replays_append m xs (op ∷ []) r (subst (λ (n : Map cmp). OpReplays cmp n op) at one, tt),
     next ∙ ap (λ (n : Map cmp). after_op cmp n op) at ∙ sym (after-append m xs (op ∷ [])),
   )
 
   -- an operation that finds another reply stops the run
-  pub op_stops : (m v : Map cmp) (xs ys : List (Op K)) (op : Op K) → v ≡ after cmp m xs → (OpReplays cmp v op → ⊥) → Replays cmp m ((xs ++ op ∷ []) ++ ys) → ⊥
+  pub op_stops : (m v : Map cmp) (xs ys : List (Op K)) (op : Op K) → v ≡ after_ops cmp m xs → (OpReplays cmp v op → ⊥) → Replays cmp m ((xs ++ op ∷ []) ++ ys) → ⊥
   op_stops m v xs ys op at no_reply r =
       let front = (replays_split m (xs ++ op ∷ []) ys r).0 in
       no_reply (subst (λ (n : Map cmp). OpReplays cmp n op) (sym at) (replays_split m xs (op ∷ []) front).1.0)
 
 -- whether each get finds its reply by its place
 abbrev pub Finds : {K : Type 0} (cmp : K → K → Ordering) → Map cmp → List (Op K) → Type 0
-Finds {K = K} cmp m ops = (i : ℕ) (key : K) (reply : Option (List ℕ)) (source : ℕ) → slice_get ops i ≡ Some (Get key reply source) → get (after cmp m (take i ops)) key ≡ reply
+Finds {K = K} cmp m ops = (i : ℕ) (key : K) (reply : Option (List ℕ)) (source : ℕ) → slice_get ops i ≡ Some (Get key reply source) → get (after_ops cmp m (take i ops)) key ≡ reply
 
 op_of : {K : Type 0} (cmp : K → K → Ordering) (m : Map cmp) (x : Op K) (key : K) (reply : Option (List ℕ)) (source : ℕ) → OpReplays cmp m x → x ≡ Get key reply source → get m key ≡ reply
 op_of cmp m x key reply source r e = subst (λ (o : Op _). OpReplays cmp m o) e r
@@ -79,16 +79,16 @@ rejoined xs i front e = ap (λ (f : List _). f ++ drop (i + 1) xs) (sym e) ∙ t
 
 module _ {K : Type 0} (cmp : K → K → Ordering) where
   -- the run with some transactions more, of which the committed ones count
-  pub txns_more : (m v w : Map cmp) (xs ys : List (Txn K)) → OneByOne cmp m (filter (λ t. is_committed t) xs) v → OneByOne cmp v (filter (λ t. is_committed t) ys) w
+  pub txns_more : (m v w : Map cmp) (xs ys : List (TxnRecord K)) → OneByOne cmp m (filter (λ t. is_committed t) xs) v → OneByOne cmp v (filter (λ t. is_committed t) ys) w
       → OneByOne cmp m (filter (λ t. is_committed t) (xs ++ ys)) w
-  txns_more m v w xs ys x y = rw (filter-append (λ (t : Txn K). is_committed t) xs ys) (goes_on cmp m _ _ v w x y)
+  txns_more m v w xs ys x y = rw (filter-append (λ (t : TxnRecord K). is_committed t) xs ys) (goes_on cmp m _ _ v w x y)
 
   -- where some of them can't run, neither can all
-  pub txns_stop : (m v : Map cmp) (xs ys zs : List (Txn K)) → OneByOne cmp m (filter (λ t. is_committed t) xs) v
+  pub txns_stop : (m v : Map cmp) (xs ys zs : List (TxnRecord K)) → OneByOne cmp m (filter (λ t. is_committed t) xs) v
       → ((last : Map cmp) → OneByOne cmp v (filter (λ t. is_committed t) ys) last → ⊥)
       → (last : Map cmp) → OneByOne cmp m (filter (λ t. is_committed t) ((xs ++ ys) ++ zs)) last → ⊥
   txns_stop m v xs ys zs x stuck last run =
-      let all = rw (filter-append (λ (t : Txn K). is_committed t) (xs ++ ys) zs, filter-append (λ (t : Txn K). is_committed t) xs ys) at run in
+      let all = rw (filter-append (λ (t : TxnRecord K). is_committed t) (xs ++ ys) zs, filter-append (λ (t : TxnRecord K). is_committed t) xs ys) at run in
       let front = splits cmp m (filter (λ t. is_committed t) xs ++ filter (λ t. is_committed t) ys) _ last all in
       let both = splits cmp m (filter (λ t. is_committed t) xs) (filter (λ t. is_committed t) ys) front.0 front.1 in
       stuck front.0 (subst (λ (n : Map cmp). OneByOne cmp n (filter (λ t. is_committed t) ys) front.0) (one_last cmp m _ both.0 v both.1 x) both.2)

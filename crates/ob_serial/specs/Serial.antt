@@ -9,7 +9,7 @@ use Rattle.ob_serial.specs.declared.records.Outcome.{Outcome}
 use Rattle.ob_serial.specs.declared.records.Outcome.TheVariants.{Committed, Aborted, Unsure}
 
 -- A transaction: its timestamp (epoch, then ticket), its client, its operations as they were answered, and how it ended.
-pub record Txn (K : Type 0) : Type 0 where
+pub record TxnRecord (K : Type 0) : Type 0 where
   pub epoch : ℕ
   pub ticket : ℕ
   pub client : ℕ
@@ -19,7 +19,7 @@ pub record Txn (K : Type 0) : Type 0 where
 -- An epoch with its transactions.
 pub record EpochRecord (K : Type 0) : Type 0 where
   pub epoch : ℕ
-  pub txns : List (Txn K)
+  pub txns : List (TxnRecord K)
 
 -- The records are in the order of timestamps.
 pub record AreInOrder {K : Type 0} (records : List (EpochRecord K)) : Type 0 where
@@ -27,7 +27,7 @@ pub record AreInOrder {K : Type 0} (records : List (EpochRecord K)) : Type 0 whe
   pub tickets : All (λ r. IsStrictlyIncreasing (map (λ t. t.ticket) r.txns)) records
   pub named : All (λ r. All (λ t. t.epoch ≡ r.epoch) r.txns) records
 
-abbrev pub is_committed : {K : Type 0} → Txn K → Bool
+abbrev pub is_committed : {K : Type 0} → TxnRecord K → Bool
 is_committed {K} t = committed t.outcome where
   committed : Outcome K → Bool
   committed Committed = true
@@ -35,7 +35,7 @@ is_committed {K} t = committed t.outcome where
   committed (Unsure epoch) = false
 
 -- the committed transactions of records, in order
-abbrev pub committed_of : {K : Type 0} → List (EpochRecord K) → List (Txn K)
+abbrev pub committed_of : {K : Type 0} → List (EpochRecord K) → List (TxnRecord K)
 committed_of records = filter (λ t. is_committed t) (flat_map (λ r. r.txns) records)
 
 module _ {K : Type 0} (cmp : K → K → Ordering) where
@@ -50,9 +50,9 @@ module _ {K : Type 0} (cmp : K → K → Ordering) where
   after_op m (Del key) = remove m key
 
   -- the map with a transaction's writes, in order
-  abbrev pub after : Map → List (Op K) → Map
-  after m [] = m
-  after m (op ∷ ops) = after (after_op m op) ops
+  abbrev pub after_ops : Map → List (Op K) → Map
+  after_ops m [] = m
+  after_ops m (op ∷ ops) = after_ops (after_op m op) ops
 
   -- a get finds its reply in the map
   abbrev pub OpReplays : Map → Op K → Type 0
@@ -66,6 +66,6 @@ module _ {K : Type 0} (cmp : K → K → Ordering) where
   Replays m (op ∷ ops) = OpReplays m op × Replays (after_op m op) ops
 
   -- From the first map the transactions run one by one, each on the map that those before it left, and leave the last map.
-  abbrev pub OneByOne : Map → List (Txn K) → Map → Type 0
+  abbrev pub OneByOne : Map → List (TxnRecord K) → Map → Type 0
   OneByOne first [] last = first ≡ last
-  OneByOne first (t ∷ ts) last = Replays first t.ops × OneByOne (after first t.ops) ts last
+  OneByOne first (t ∷ ts) last = Replays first t.ops × OneByOne (after_ops first t.ops) ts last

@@ -4,6 +4,7 @@ use Rattle.ob_store.specs.declared.watch.Note.{Note}
 use Rattle.ob_store.specs.Disk.{Image, Disk}
 use Rattle.ob_store.specs.Images.{LeavesOnly}
 use Rattle.ob_store.specs.Calls.{GoesOn}
+use Rattle.ob_serial.specs.declared.vault.Vault as vault
 use Rattle.ob_serial.specs.Vaults.{VaultCall, End, VaultAnswer, Ended, VaultState, Standing, IsAnswer, vault_next, MayStandIn, StandsIn, StandAlike}
 
 -- the words of a kind of vault
@@ -14,8 +15,9 @@ pub record Kind (V : Type 0) : Type 1 where
   pub disk : V → Disk
   pub called : V → VaultCall → VaultAnswer → List Note → V → Type 0
 
-abbrev pub kind_of : {V : Type 0} → (V → VaultState → Type 0) → (V → VaultState → Type 0) → (V → Image → Standing → Type 0) → (V → Disk) → (V → VaultCall → VaultAnswer → List Note → V → Type 0) → Kind V
-kind_of holds sound stands disk called = record { holds = holds; sound = sound; stands = stands; disk = disk; called = called }
+-- those of a vault
+abbrev pub kind_of : {V : Type 0} → vault.Ghosts V → Kind V
+kind_of words = record { holds = words.holds; sound = words.sound; stands = words.stands; disk = words.disk; called = words.called }
 
 -- One call: what it did in the vault's own words, and what every vault says of it.
 pub record Called {V : Type 0} (k : Kind V) (old : V) (call : VaultCall) (answer : VaultAnswer) (new : V) : Type 0 where

@@ -3,12 +3,13 @@ use Rattle.std.specs.Prelude.{ℕ, ◌≡◌, List, map, Option, None, Some, Res
 use Rattle.ob_base.specs.declared.fault.Fault.{Fault}
 use Rattle.ob_base.specs.declared.fault.Fault.TheVariants.{Damaged, StoreFault, StashFull, Worn}
 use Rattle.ob_base.specs.declared.value.Write.{Write}
+use Rattle.ob_base.specs.Writes.{pair_of}
 use Rattle.ob_serial.specs.declared.vault.EndErr.{EndErr}
 use Rattle.ob_serial.specs.declared.vault.EndErr.TheVariants.{Before, Unsure}
 use Rattle.ob_serial.specs.Vaults.{VaultAnswer, Values, Ended, RefusedBy, DoubtBy}
 
 abbrev pub writes_of : List Write → List (ℕ × Option (List ℕ))
-writes_of writes = map (λ w. (w.key, w.value)) writes
+writes_of writes = map pair_of writes
 
 abbrev pub fetch_answer : List (Option (List ℕ)) → Result (Unit {0}) Fault → VaultAnswer
 fetch_answer values (Ok done) = Values values

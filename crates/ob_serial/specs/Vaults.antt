@@ -3,10 +3,9 @@ use Rattle.std.specs.Prelude.{ℕ, suc, ◌≡◌, ◌⊎◌, ◌-◌, ◌<◌, 
 use Rattle.std.specs.Ordering.{nat_cmp}
 use Rattle.std.specs.FinMap as finite
 use Rattle.ob_base.specs.declared.fault.Fault.{Fault}
-use Rattle.ob_base.specs.declared.op.Op.{Op}
-use Rattle.ob_base.specs.declared.op.Op.TheVariants.{Put, Del}
+use Rattle.ob_base.specs.Writes.{write_op}
 use Rattle.ob_store.specs.Disk.{Image}
-use Rattle.ob_serial.specs.Serial.{Map, after}
+use Rattle.ob_serial.specs.Serial.{Map, after_ops}
 
 -- a fetch of the values of keys, None for a pad; and the end of an epoch with its writes, None for a delete
 pub data VaultCall : Type 0 where
@@ -49,13 +48,9 @@ pub record VaultState : Type 0 where
 abbrev pub counts_of : VaultState → VaultCounts
 counts_of v = record { epoch = v.epoch; left = v.left; spent = v.spent }
 
-abbrev pub write_op : ℕ × Option (List ℕ) → Op ℕ
-write_op (key, None) = Del key
-write_op (key, Some value) = Put key value
-
 -- the map with these writes
 abbrev pub with_writes : Map nat_cmp → List (ℕ × Option (List ℕ)) → Map nat_cmp
-with_writes m writes = after nat_cmp m (map write_op writes)
+with_writes m writes = after_ops nat_cmp m (map (λ w. write_op w.0 w.1) writes)
 
 -- the writes that put each entry of a map, in rising order of keys
 abbrev pub entry_writes : Map nat_cmp → List (ℕ × Option (List ℕ))

@@ -1,3 +1,5 @@
+//! A vault's calls as values.
+
 use ob_base::{Fault, Key, Value, Write};
 
 /// A call on a vault.

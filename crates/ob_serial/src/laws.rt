@@ -1,11 +1,13 @@
-ghost use Rattle.ob_serial.specs.Laws.{HasOneResult, GoesOn, IgnoresUncommitted, ReplaysByPlace};
+//! What one-by-one runs obey.
+
+ghost use Rattle.ob_serial.specs.Laws.{HasOneResult, RunsAppend, IgnoresUncommitted, ReplaysByPlace};
 
 /// What one-by-one runs obey: from a map, transactions leave one map at most; a run goes on with
 /// another one from where it ends, and each longer run is two such; and a transaction that isn't
 /// committed changes nothing.
 pub fn serial_runs()
     ensures one_result { HasOneResult }
-    ensures append { GoesOn }
+    ensures append { RunsAppend }
     ensures uncommitted { IgnoresUncommitted }
 {}
 

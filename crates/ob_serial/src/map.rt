@@ -1,3 +1,5 @@
+//! A map from keys to values, in memory.
+
 ghost use Rattle.std.specs.Prelude.{◌≡◌, OnOk, OnErr, IfOk, map as map_list};
 ghost use Rattle.std.specs.List.Sorted.{IsStrictlyIncreasing};
 ghost use Rattle.std.specs.FinMap as map;
@@ -70,7 +72,8 @@ impl PlainMap {
     /// Memory was wanting.
     pub fn to_writes(&self, alloc: Global) -> Result<Vec<Write>, Memory>
         ensures writes { IfOk result (λ writes. writes_of writes.items ≡ entry_writes self.now) }
-        ensures rising { IfOk result (λ writes. IsStrictlyIncreasing (map_list (λ w. w.key) writes.items)) }
+        ensures rising { IfOk result
+            (λ writes. IsStrictlyIncreasing (map_list (λ w. w.key) writes.items)) }
     {
         let mut writes = Vec::new(alloc);
         for (key, value) in &self.values {

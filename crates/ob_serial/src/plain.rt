@@ -1,7 +1,9 @@
+//! Transactions run one by one.
+
 ghost use Rattle.std.specs.Prelude.{◌≡◌, IfOk, MatchBool, MatchOption, map, filter, ◌∷◌, []};
 ghost use Rattle.std.specs.FinMap.{get};
 ghost use Rattle.std.specs.Ordering.{nat_cmp};
-ghost use Rattle.ob_serial.specs.Serial.{Map, OneByOne, Replays, OpReplays, after_op, after, is_committed, committed_of};
+ghost use Rattle.ob_serial.specs.Serial.{Map, OneByOne, Replays, OpReplays, after_op, after_ops, is_committed, committed_of};
 ghost use Rattle.ob_serial.specs.Views.{txn_of, record_of};
 
 use crate::map::PlainMap;
@@ -46,7 +48,7 @@ fn replay_op(values: &mut PlainMap, op: &Op<Key>) -> Result<bool, Memory>
 // Does the operations on the map, if each is answered as the map then has it.
 fn replay_ops(values: &mut PlainMap, ops: &[Op<Key>]) -> Result<bool, Memory>
     ensures { IfOk result (λ good. MatchBool good
-        (Replays nat_cmp values.old ops.now × (values.new ≡ after nat_cmp values.old ops.now))
+        (Replays nat_cmp values.old ops.now × (values.new ≡ after_ops nat_cmp values.old ops.now))
         (Replays nat_cmp values.old ops.now → ⊥)) }
 {
     for op in ops {
@@ -70,8 +72,11 @@ fn is_committed(txn: &TxnRecord<Key>) -> bool
 // Runs the transaction, if it is committed and that can be.
 fn run_txn(values: &mut PlainMap, txn: &TxnRecord<Key>) -> Result<bool, Memory>
     ensures { IfOk result (λ good. MatchBool good
-        (OneByOne nat_cmp values.old (filter (λ t. is_committed t) (txn_of txn.now ∷ [])) values.new)
-        ((last : Map nat_cmp) → OneByOne nat_cmp values.old (filter (λ t. is_committed t) (txn_of txn.now ∷ [])) last → ⊥)) }
+        (OneByOne nat_cmp values.old (filter (λ t. is_committed t) (txn_of txn.now ∷ []))
+        values.new)
+        ((last : Map nat_cmp)
+        → OneByOne nat_cmp values.old (filter (λ t. is_committed t) (txn_of txn.now ∷ [])) last
+        → ⊥)) }
 {
     if !is_committed(txn) {
         return Ok(true);
@@ -82,8 +87,11 @@ fn run_txn(values: &mut PlainMap, txn: &TxnRecord<Key>) -> Result<bool, Memory>
 // Runs the committed ones of the transactions one by one, if that can be.
 fn run_txns(values: &mut PlainMap, txns: &[TxnRecord<Key>]) -> Result<bool, Memory>
     ensures { IfOk result (λ good. MatchBool good
-        (OneByOne nat_cmp values.old (filter (λ t. is_committed t) (map (λ t. txn_of t) txns.now)) values.new)
-        ((last : Map nat_cmp) → OneByOne nat_cmp values.old (filter (λ t. is_committed t) (map (λ t. txn_of t) txns.now)) last → ⊥)) }
+        (OneByOne nat_cmp values.old (filter (λ t. is_committed t) (map (λ t. txn_of t) txns.now))
+        values.new)
+        ((last : Map nat_cmp)
+        → OneByOne nat_cmp values.old (filter (λ t. is_committed t) (map (λ t. txn_of t) txns.now))
+        last → ⊥)) }
 {
     for txn in txns {
         if !run_txn(values, txn)? {
@@ -96,8 +104,11 @@ fn run_txns(values: &mut PlainMap, txns: &[TxnRecord<Key>]) -> Result<bool, Memo
 // Runs the committed transactions of a record one by one, if that can be.
 fn run_record(values: &mut PlainMap, one: &EpochRecord<Key>) -> Result<bool, Memory>
     ensures { IfOk result (λ good. MatchBool good
-        (OneByOne nat_cmp values.old (filter (λ t. is_committed t) (record_of one.now).txns) values.new)
-        ((last : Map nat_cmp) → OneByOne nat_cmp values.old (filter (λ t. is_committed t) (record_of one.now).txns) last → ⊥)) }
+        (OneByOne nat_cmp values.old (filter (λ t. is_committed t) (record_of one.now).txns)
+        values.new)
+        ((last : Map nat_cmp)
+        → OneByOne nat_cmp values.old (filter (λ t. is_committed t) (record_of one.now).txns) last
+        → ⊥)) }
 {
     run_txns(values, &one.txns)
 }
@@ -106,7 +117,9 @@ fn run_record(values: &mut PlainMap, one: &EpochRecord<Key>) -> Result<bool, Mem
 fn run_records(values: &mut PlainMap, records: &[EpochRecord<Key>]) -> Result<bool, Memory>
     ensures { IfOk result (λ good. MatchBool good
         (OneByOne nat_cmp values.old (committed_of (map (λ r. record_of r) records.now)) values.new)
-        ((last : Map nat_cmp) → OneByOne nat_cmp values.old (committed_of (map (λ r. record_of r) records.now)) last → ⊥)) }
+        ((last : Map nat_cmp)
+        → OneByOne nat_cmp values.old (committed_of (map (λ r. record_of r) records.now)) last
+        → ⊥)) }
 {
     for one in records {
         if !run_record(values, one)? {
@@ -123,7 +136,8 @@ fn run_records(values: &mut PlainMap, records: &[EpochRecord<Key>]) -> Result<bo
 /// Memory was wanting.
 pub fn one_by_one(first: PlainMap, records: &[EpochRecord<Key>]) -> Result<Option<PlainMap>, Memory>
     ensures { IfOk result (λ r. MatchOption r
-        ((last : Map nat_cmp) → OneByOne nat_cmp first (committed_of (map (λ r. record_of r) records.now)) last → ⊥)
+        ((last : Map nat_cmp)
+        → OneByOne nat_cmp first (committed_of (map (λ r. record_of r) records.now)) last → ⊥)
         (λ last. OneByOne nat_cmp first (committed_of (map (λ r. record_of r) records.now)) last)) }
 {
     let mut values = first;

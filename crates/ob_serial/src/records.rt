@@ -1,3 +1,5 @@
+//! What an epoch's record has of each transaction.
+
 use ob_base::{Fault, Op};
 
 /// Why a transaction was aborted. Keys are of any kind `K`.

@@ -1,3 +1,5 @@
+//! Records that replay, and records that don't.
+
 use crate::{EpochRecord, Op, Outcome, PlainMap, TxnRecord, Why, one_by_one};
 use ob_base::{Key, Value};
 use std::alloc::{AllocError, Global};
@@ -14,6 +16,7 @@ fn txn(
     op: Op<Key>,
     outcome: Outcome<Key>,
 ) -> Result<TxnRecord<Key>, AllocError> {
+    // The prover has to see this type named here.
     let _told: Option<Value> = None;
     let mut ops = Vec::new(alloc);
     ops.push(op)?;

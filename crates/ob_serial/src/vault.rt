@@ -1,3 +1,5 @@
+//! The vault: a map by epochs over a store.
+
 ghost use Rattle.std.specs.Prelude.{◌≡◌, ◌<◌, ◌≤◌, ◌+◌, ◌^◌, ℕ, List, Bool, false, length, map, IfErr, IfOk};
 ghost use Rattle.std.specs.List.Sorted.{IsStrictlyIncreasing};
 
@@ -84,17 +86,26 @@ pub trait Vault {
         requires keys { AreBelow (params self.old).keys asks.now }
         requires distinct { AreDistinct asks.now }
         ensures params { params self.new ≡ params self.old }
-        ensures counts { counts self.new ≡ counts_next (params self.old).batches (counts self.old) (Fetch asks.now) (fetch_answer out.new result) }
-        ensures answered { (v : VaultState) → holds self.old v → IsAnswer v.content (Fetch asks.now) (fetch_answer out.new result) }
-        ensures holds { (v : VaultState) → holds self.old v → holds self.new (vault_next v (Fetch asks.now) (fetch_answer out.new result)) }
-        ensures sound { (v : VaultState) → sound self.old v → sound self.new (vault_next v (Fetch asks.now) (fetch_answer out.new result)) }
+        ensures counts { counts self.new
+            ≡ counts_next (params self.old).batches (counts self.old) (Fetch asks.now)
+            (fetch_answer out.new result) }
+        ensures answered { (v : VaultState) → holds self.old v
+            → IsAnswer v.content (Fetch asks.now) (fetch_answer out.new result) }
+        ensures holds { (v : VaultState) → holds self.old v
+            → holds self.new (vault_next v (Fetch asks.now) (fetch_answer out.new result)) }
+        ensures sound { (v : VaultState) → sound self.old v
+            → sound self.new (vault_next v (Fetch asks.now) (fetch_answer out.new result)) }
         // A crash at any moment of it leaves an image of what the vault held.
-        ensures images { (v : VaultState) → sound self.old v → LeavesOnly (disk self.old) (disk self.new) (StandsIn (stands self.old) (MayStandIn v (Fetch asks.now))) }
+        ensures images { (v : VaultState) → sound self.old v
+            → LeavesOnly (disk self.old) (disk self.new)
+            (StandsIn (stands self.old) (MayStandIn v (Fetch asks.now))) }
         ensures alike { StandAlike (stands self.old) (stands self.new) }
         ensures goes { GoesOn (disk self.old) (disk self.new) }
         ensures faults { IfErr result IsFetchFault }
-        ensures cause { IfErr result (λ fault. IsStoreFault fault → Rose (disk self.old).faults (disk self.new).faults) }
-        ensures called { (notes : List Note) × Shows notes (W.trace watch.old) (W.trace watch.new) × called self.old (Fetch asks.now) (fetch_answer out.new result) notes self.new };
+        ensures cause { IfErr result (λ fault. IsStoreFault fault
+            → Rose (disk self.old).faults (disk self.new).faults) }
+        ensures called { (notes : List Note) × Shows notes (W.trace watch.old) (W.trace watch.new)
+            × called self.old (Fetch asks.now) (fetch_answer out.new result) notes self.new };
 
     /// Ends the running epoch with these writes, in rising order of keys: the map has them from
     /// now on, whatever crashes.
@@ -109,16 +120,24 @@ pub trait Vault {
         requires rising { IsStrictlyIncreasing (map (λ w. w.key) writes.now) }
         requires keys { All (λ w. w.key < (params self.old).keys) writes.now }
         ensures params { params self.new ≡ params self.old }
-        ensures counts { counts self.new ≡ counts_next (params self.old).batches (counts self.old) (End (writes_of writes.now)) (end_answer result) }
-        ensures holds { (v : VaultState) → holds self.old v → holds self.new (vault_next v (End (writes_of writes.now)) (end_answer result)) }
-        ensures sound { (v : VaultState) → sound self.old v → sound self.new (vault_next v (End (writes_of writes.now)) (end_answer result)) }
+        ensures counts { counts self.new
+            ≡ counts_next (params self.old).batches (counts self.old) (End (writes_of writes.now))
+            (end_answer result) }
+        ensures holds { (v : VaultState) → holds self.old v
+            → holds self.new (vault_next v (End (writes_of writes.now)) (end_answer result)) }
+        ensures sound { (v : VaultState) → sound self.old v
+            → sound self.new (vault_next v (End (writes_of writes.now)) (end_answer result)) }
         // A crash at any moment of it leaves an image of what the vault held, or of what it then holds.
-        ensures images { (v : VaultState) → sound self.old v → LeavesOnly (disk self.old) (disk self.new) (StandsIn (stands self.old) (MayStandIn v (End (writes_of writes.now)))) }
+        ensures images { (v : VaultState) → sound self.old v
+            → LeavesOnly (disk self.old) (disk self.new)
+            (StandsIn (stands self.old) (MayStandIn v (End (writes_of writes.now)))) }
         ensures alike { StandAlike (stands self.old) (stands self.new) }
         ensures goes { GoesOn (disk self.old) (disk self.new) }
         ensures faults { IfErr result (IsEndFault ((counts self.old).epoch + 1)) }
-        ensures cause { IfErr result (λ refused. IsStoreEnd refused → Rose (disk self.old).faults (disk self.new).faults) }
-        ensures called { (notes : List Note) × Shows notes (W.trace watch.old) (W.trace watch.new) × called self.old (End (writes_of writes.now)) (end_answer result) notes self.new };
+        ensures cause { IfErr result (λ refused. IsStoreEnd refused
+            → Rose (disk self.old).faults (disk self.new).faults) }
+        ensures called { (notes : List Note) × Shows notes (W.trace watch.old) (W.trace watch.new)
+            × called self.old (End (writes_of writes.now)) (end_answer result) notes self.new };
 
     /// What it holds agrees with what it tells of itself.
     ghost agrees: { (vault : Self) (v : VaultState) → holds vault v → (counts_of v ≡ counts vault) × (v.batches ≡ (params vault).batches) };

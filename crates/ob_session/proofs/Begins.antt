@@ -1,9 +1,9 @@
 -- What a begin and a sign-off leave of the tie to one client.
 use Rattle.std.proofs.Common.{◌≡◌, ℕ, suc, ◌+◌, Bool, true, List, [], ◌∷◌, ◌++◌, length, Option, refl, sym, ap, ap₂, ◌∙◌, subst, append_assoc, arith}
 use Rattle.ob_base.specs.declared.fault.Fault.{Fault}
-use Rattle.ob_serial.specs.Serial.{Txn}
+use Rattle.ob_serial.specs.Serial.{TxnRecord}
 use Rattle.ob_order.specs.Order.{fresh}
-use Rattle.ob_desk.specs.declared.calls.Txn.{Txn as TxnId}
+use Rattle.ob_desk.specs.declared.calls.Txn.{Txn}
 use Rattle.ob_desk.specs.declared.clients.Client.{Client}
 use Rattle.ob_desk.specs.Desk.{Part, DeskState, new_holder, begin_client, sign_off_client, BeginStep, SignOffStep}
 use Rattle.ob_session.specs.Clients.{Told, begun}
@@ -13,7 +13,7 @@ use Rattle.ob_session.proofs.Fits.{Fits, name, fits_begun}
 use Rattle.ob_session.proofs.State.{Last, is_none, runs, closes, was_settled, Mirror}
 use Rattle.ob_session.proofs.Rolls.{only_changed, only_unchanged}
 
-pub begun_own : (d new : DeskState) (n : ℕ) (txns : List (Txn ℕ)) (told : List Told) (signed : Bool) (client : ℕ) (x : TxnId) → client ≡ n → BeginStep d client x new → Mirror d n txns told signed
+pub begun_own : (d new : DeskState) (n : ℕ) (txns : List (TxnRecord ℕ)) (told : List Told) (signed : Bool) (client : ℕ) (x : Txn) → client ≡ n → BeginStep d client x new → Mirror d n txns told signed
     → Mirror new n txns (told ++ begun x ∷ []) signed
 begun_own d new n txns told signed client x same step m = subst (λ (q : DeskState). Mirror q n txns (told ++ begun x ∷ []) signed) (sym step.state) (record {
   client = begin_client x m.client;
@@ -35,9 +35,9 @@ begun_own d new n txns told signed client x same step m = subst (λ (q : DeskSta
 
     fit : Fits n d.running.epoch (1 + length d.running.order.works) fresh (new_holder client) (begun x)
     fit = subst (λ c. Fits n d.running.epoch (1 + length d.running.order.works) fresh (new_holder c) (begun x)) (sym same)
-        (subst (λ (y : TxnId). Fits n d.running.epoch (1 + length d.running.order.works) fresh (new_holder n) (begun y)) next (fits_begun n d.running.epoch (1 + length d.running.order.works)))
+        (subst (λ (y : Txn). Fits n d.running.epoch (1 + length d.running.order.works) fresh (new_holder n) (begun y)) next (fits_begun n d.running.epoch (1 + length d.running.order.works)))
 
-pub begun_other : (d new : DeskState) (n : ℕ) (txns : List (Txn ℕ)) (told : List Told) (signed : Bool) (client : ℕ) (x : TxnId) → (client ≡ n → ⊥) → BeginStep d client x new → Mirror d n txns told signed → Mirror new n txns told signed
+pub begun_other : (d new : DeskState) (n : ℕ) (txns : List (TxnRecord ℕ)) (told : List Told) (signed : Bool) (client : ℕ) (x : Txn) → (client ≡ n → ⊥) → BeginStep d client x new → Mirror d n txns told signed → Mirror new n txns told signed
 begun_other d new n txns told signed client x other step m = subst (λ (q : DeskState). Mirror q n txns told signed) (sym step.state) (record {
   client = m.client;
   found = only_unchanged (begin_client x) (λ c. refl) d.clients client n m.client other m.found;
@@ -52,7 +52,7 @@ begun_other d new n txns told signed client x other step m = subst (λ (q : Desk
   last = m.last;
 })
 
-signed_last : (n epoch : ℕ) (closed : Option Part) (stop : Option Fault) (txns : List (Txn ℕ)) (client : Client) (past shut running : List Told) → Last n epoch closed stop txns client past shut running
+signed_last : (n epoch : ℕ) (closed : Option Part) (stop : Option Fault) (txns : List (TxnRecord ℕ)) (client : Client) (past shut running : List Told) → Last n epoch closed stop txns client past shut running
     → Last n epoch closed stop txns (sign_off_client client) past shut running
 signed_last n epoch closed stop txns client past shut running (is_none h) = is_none (record { last = h.last; none_before = h.none_before; none_closed = h.none_closed; none_runs = h.none_runs })
 signed_last n epoch closed stop txns client past shut running (runs r) = runs (record { one = r.one; is = r.is; last = r.last; unsettled = r.unsettled })
@@ -74,7 +74,7 @@ signed_last n epoch closed stop txns client past shut running (was_settled s) = 
   keeps = s.keeps;
 })
 
-pub signed_own : (d new : DeskState) (n : ℕ) (txns : List (Txn ℕ)) (told : List Told) (signed : Bool) (client : ℕ) → client ≡ n → SignOffStep d client new → Mirror d n txns told signed → Mirror new n txns told true
+pub signed_own : (d new : DeskState) (n : ℕ) (txns : List (TxnRecord ℕ)) (told : List Told) (signed : Bool) (client : ℕ) → client ≡ n → SignOffStep d client new → Mirror d n txns told signed → Mirror new n txns told true
 signed_own d new n txns told signed client same step m = subst (λ (q : DeskState). Mirror q n txns told true) (sym step.state) (record {
   client = sign_off_client m.client;
   found = only_changed sign_off_client (λ c. refl) d.clients client n m.client same m.found;
@@ -89,7 +89,7 @@ signed_own d new n txns told signed client same step m = subst (λ (q : DeskStat
   last = signed_last n d.running.epoch d.closed d.stop txns m.client m.past m.shut m.running m.last;
 })
 
-pub signed_other : (d new : DeskState) (n : ℕ) (txns : List (Txn ℕ)) (told : List Told) (signed : Bool) (client : ℕ) → (client ≡ n → ⊥) → SignOffStep d client new → Mirror d n txns told signed → Mirror new n txns told signed
+pub signed_other : (d new : DeskState) (n : ℕ) (txns : List (TxnRecord ℕ)) (told : List Told) (signed : Bool) (client : ℕ) → (client ≡ n → ⊥) → SignOffStep d client new → Mirror d n txns told signed → Mirror new n txns told signed
 signed_other d new n txns told signed client other step m = subst (λ (q : DeskState). Mirror q n txns told signed) (sym step.state) (record {
   client = m.client;
   found = only_unchanged sign_off_client (λ c. refl) d.clients client n m.client other m.found;

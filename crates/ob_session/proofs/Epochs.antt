@@ -8,17 +8,18 @@ use Rattle.ob_serial.specs.declared.records.Why.{Why}
 use Rattle.ob_serial.specs.declared.records.Why.TheVariants.{Depends, Asked}
 use Rattle.ob_serial.specs.declared.records.Outcome.{Outcome}
 use Rattle.ob_serial.specs.declared.records.Outcome.TheVariants.{Aborted as AbortedBy}
-use Rattle.ob_serial.specs.Serial.{Txn}
+use Rattle.ob_serial.specs.Serial.{TxnRecord}
 use Rattle.ob_order.specs.declared.fate.Fate.{Fate}
 use Rattle.ob_order.specs.declared.fate.Fate.TheVariants.{Going, Ended, Fell}
 use Rattle.ob_order.specs.Works.{is_going}
-use Rattle.ob_desk.specs.declared.calls.Txn.{Txn as TxnId}
+use Rattle.ob_desk.specs.declared.calls.Txn.{Txn}
 use Rattle.ob_desk.specs.Desk.{Part, DeskState, new_part, why_of, closing, stop_part, outcome_in, settle_client, settle}
+use Rattle.ob_desk.proofs.Ends.{closed_epoch}
 use Rattle.ob_session.specs.Clients.{Told, on_last, last_of, over}
 use Rattle.ob_session.proofs.Lasts.{last_of-append, on_last-append}
 use Rattle.ob_session.proofs.Mirrors.{Mirrors}
 use Rattle.ob_session.proofs.Fits.{Fits, named_ticket}
-use Rattle.ob_session.proofs.Parts.{FitsClosed, close_epoch, tells_closed, stopped}
+use Rattle.ob_session.proofs.Parts.{FitsClosed, tells_closed, stopped}
 use Rattle.ob_session.proofs.State.{Shut, Before, Last, is_none, runs, closes, was_settled, Mirror, Held, held, why_is}
 use Rattle.ob_session.proofs.Rolls.{only_mapped}
 
@@ -28,11 +29,11 @@ use Rattle.ob_session.proofs.Rolls.{only_mapped}
 pub none_shut : (n epoch : ℕ) (closed : Option Part) (shut : List Told) → closed ≡ None → Shut n epoch closed shut → shut ≡ []
 none_shut n epoch closed shut none h = subst (λ (c : Option Part). Shut n epoch c shut) none h
 
-before_close : (n : ℕ) (closed next : Option Part) (stop : Option Fault) (txns : List (Txn ℕ)) (past : List Told) → stop ≡ None → Before n closed stop txns past → Before n next stop txns past
+before_close : (n : ℕ) (closed next : Option Part) (stop : Option Fault) (txns : List (TxnRecord ℕ)) (past : List Told) → stop ≡ None → Before n closed stop txns past → Before n next stop txns past
 before_close n closed next stop txns past none (inl all) = inl all
 before_close n closed next stop txns past none (inr first) = absurd (false≢true (sym (ap is_some none) ∙ first.2))
 
-pub closed_mirror : (d new : DeskState) (n : ℕ) (txns : List (Txn ℕ)) (told : List Told) (signed : Bool) (left : ℕ) → d.closed ≡ None → d.stop ≡ None
+pub closed_mirror : (d new : DeskState) (n : ℕ) (txns : List (TxnRecord ℕ)) (told : List Told) (signed : Bool) (left : ℕ) → d.closed ≡ None → d.stop ≡ None
     → new ≡ record d { running = new_part (suc d.running.epoch) left; closed = Some (closing d.running) } → Mirror d n txns told signed → Mirror new n txns told signed
 closed_mirror d new n txns told signed left none_closed not_stopped e m = subst (λ (q : DeskState). Mirror q n txns told signed) (sym e) (record {
   client = m.client;
@@ -52,7 +53,7 @@ closed_mirror d new n txns told signed left none_closed not_stopped e m = subst 
     none = none_shut n d.running.epoch d.closed m.shut none_closed m.closed
 
     epoch_kept : (closing d.running).epoch ≡ d.running.epoch
-    epoch_kept = close_epoch d.running (length d.running.order.works)
+    epoch_kept = closed_epoch d.running (length d.running.order.works)
 
     low : (closing d.running).epoch < suc d.running.epoch
     low = omega (arith, epoch_kept)
@@ -83,7 +84,7 @@ closed_mirror d new n txns told signed left none_closed not_stopped e m = subst 
 
 -- ---- a stop
 
-before_stopped : (n : ℕ) (closed : Option Part) (stop : Option Fault) (f : Fault) (txns : List (Txn ℕ)) (past : List Told) → Before n closed stop txns past → Before n closed (option_or stop (Some f)) txns past
+before_stopped : (n : ℕ) (closed : Option Part) (stop : Option Fault) (f : Fault) (txns : List (TxnRecord ℕ)) (past : List Told) → Before n closed stop txns past → Before n closed (option_or stop (Some f)) txns past
 before_stopped n closed stop f txns past (inl all) = inl all
 before_stopped n closed None f txns past (inr first) = inr (first.0, first.1, refl)
 before_stopped n closed (Some g) f txns past (inr first) = inr (first.0, first.1, refl)
@@ -92,7 +93,7 @@ before_stopped n closed (Some g) f txns past (inr first) = inr (first.0, first.1
 abbrev pub halted : Fault → DeskState → DeskState
 halted f d = record d { stop = option_or d.stop (Some f); running = stop_part f d.running }
 
-pub halted_mirror : (d : DeskState) (n : ℕ) (txns : List (Txn ℕ)) (told : List Told) (signed : Bool) (f : Fault) → Mirror d n txns told signed → Mirror (halted f d) n txns told signed
+pub halted_mirror : (d : DeskState) (n : ℕ) (txns : List (TxnRecord ℕ)) (told : List Told) (signed : Bool) (f : Fault) → Mirror d n txns told signed → Mirror (halted f d) n txns told signed
 halted_mirror d n txns told signed f m = record {
   client = m.client;
   found = m.found;
@@ -131,7 +132,7 @@ halted_mirror d n txns told signed f m = record {
 -- ---- the closed part ends
 
 -- what its end does to what was told before
-pub record PastGrows (n : ℕ) (d : DeskState) (part : Part) (otherwise : Outcome ℕ) (txns next : List (Txn ℕ)) (past shut : List Told) : Type 0 where
+pub record PastGrows (n : ℕ) (d : DeskState) (part : Part) (otherwise : Outcome ℕ) (txns next : List (TxnRecord ℕ)) (past shut : List Told) : Type 0 where
   pub tells : Before n d.closed d.stop txns past → Before n None d.stop next (past ++ shut)
   pub keeps_last : (one : Told) → last_of shut ≡ Some one → Before n d.closed d.stop txns past → Before n None d.stop next (past ++ on_last (over (outcome_in part otherwise one.txn.ticket)) shut)
 
@@ -140,18 +141,18 @@ client_caused : (why : Option (Why ℕ)) (otherwise : Outcome ℕ) → (otherwis
 client_caused None otherwise other e = absurd (other e)
 client_caused (Some why) otherwise other e = let same : why ≡ Asked = cc in ap Some same
 
-module _ (d : DeskState) (n : ℕ) (txns next : List (Txn ℕ)) (told : List Told) (signed : Bool) (part : Part) (otherwise : Outcome ℕ) (other : otherwise ≡ AbortedBy Asked → ⊥) (m : Mirror d n txns told signed) (is : d.closed ≡ Some part)
+module _ (d : DeskState) (n : ℕ) (txns next : List (TxnRecord ℕ)) (told : List Told) (signed : Bool) (part : Part) (otherwise : Outcome ℕ) (other : otherwise ≡ AbortedBy Asked → ⊥) (m : Mirror d n txns told signed) (is : d.closed ≡ Some part)
     (grows : (past : List Told) → PastGrows n d part otherwise txns next past m.shut) where
   here : Shut n d.running.epoch (Some part) m.shut
   here = subst (λ (c : Option Part). Shut n d.running.epoch c m.shut) is m.closed
 
   -- who isn't of the part stays as it was
-  unsettled_by : (x : TxnId) → m.client.last ≡ Some x → (x.epoch ≡ part.epoch → ⊥) → (settle_client part otherwise m.client).outcome ≡ m.client.outcome
-  unsettled_by x last other = ap (λ o. option_or (option_and_then (λ (y : TxnId). if y.epoch == part.epoch then Some (outcome_in part otherwise y.ticket) else None) o) m.client.outcome) last
+  unsettled_by : (x : Txn) → m.client.last ≡ Some x → (x.epoch ≡ part.epoch → ⊥) → (settle_client part otherwise m.client).outcome ≡ m.client.outcome
+  unsettled_by x last other = ap (λ o. option_or (option_and_then (λ (y : Txn). if y.epoch == part.epoch then Some (outcome_in part otherwise y.ticket) else None) o) m.client.outcome) last
       ∙ ap (λ b. option_or (if b then Some (outcome_in part otherwise x.ticket) else None) m.client.outcome) (ne_eqb x.epoch part.epoch other)
 
-  settled_by : (x : TxnId) → m.client.last ≡ Some x → x.epoch ≡ part.epoch → (settle_client part otherwise m.client).outcome ≡ Some (outcome_in part otherwise x.ticket)
-  settled_by x last same = ap (λ o. option_or (option_and_then (λ (y : TxnId). if y.epoch == part.epoch then Some (outcome_in part otherwise y.ticket) else None) o) m.client.outcome) last
+  settled_by : (x : Txn) → m.client.last ≡ Some x → x.epoch ≡ part.epoch → (settle_client part otherwise m.client).outcome ≡ Some (outcome_in part otherwise x.ticket)
+  settled_by x last same = ap (λ o. option_or (option_and_then (λ (y : Txn). if y.epoch == part.epoch then Some (outcome_in part otherwise y.ticket) else None) o) m.client.outcome) last
       ∙ ap (λ b. option_or (if b then Some (outcome_in part otherwise x.ticket) else None) m.client.outcome) (eq-eqb x.epoch part.epoch same)
 
   not_going : (one : Told) (q : Held (FitsClosed n part.epoch) n part.order.works part.holders one) (f : Fate) → q.work.fate ≡ f → one.asked ≡ false → (why : Why ℕ) × (unwrap_or (option_map AbortedBy (why_of f q.holder.cause)) otherwise ≡ AbortedBy why)
@@ -163,12 +164,12 @@ module _ (d : DeskState) (n : ℕ) (txns next : List (Txn ℕ)) (told : List Tol
   last_settled (is_none h) = is_none (record { last = h.last; none_before = ap (λ (ys : List Told). m.past ++ ys) h.none_closed ∙ (append-nil m.past ∙ h.none_before); none_closed = refl; none_runs = h.none_runs })
   last_settled (runs r) =
       let q = held (Fits n d.running.epoch) n d.running.order.works d.running.holders m.running r.one (named_ticket n d.running.epoch) m.runs r.is in
-      let e : r.one.txn.epoch ≡ d.running.epoch = ap (λ (x : TxnId). x.epoch) q.fits.named in
+      let e : r.one.txn.epoch ≡ d.running.epoch = ap (λ (x : Txn). x.epoch) q.fits.named in
       let l : part.epoch < d.running.epoch = here.0 in
       runs (record { one = r.one; is = r.is; last = r.last; unsettled = unsettled_by r.one.txn r.last (λ same. absurd (omega (arith, e, l, same))) ∙ r.unsettled })
   last_settled (closes c) =
       let q = held (FitsClosed n part.epoch) n part.order.works part.holders m.shut c.one (λ t w h x f. named_ticket n part.epoch t w h x f.fits) here.1 c.is in
-      let e : c.one.txn.epoch ≡ part.epoch = ap (λ (x : TxnId). x.epoch) q.fits.fits.named in
+      let e : c.one.txn.epoch ≡ part.epoch = ap (λ (x : Txn). x.epoch) q.fits.fits.named in
       let l : part.epoch < d.running.epoch = here.0 in
       let why = why_is part c.one.txn.ticket q.work q.holder q.work_is q.holder_is in
       let asked = not_going c.one q q.work.fate refl in
@@ -178,7 +179,7 @@ module _ (d : DeskState) (n : ℕ) (txns next : List (Txn ℕ)) (told : List Tol
         one = c.one;
         is = last_of-append m.past m.shut c.one c.is;
         last = c.last;
-        named = ap (λ (x : TxnId). x.client) q.fits.fits.named;
+        named = ap (λ (x : Txn). x.client) q.fits.fits.named;
         before = omega (arith, e, l);
         apart = λ p none. absurd (none-some p none);
         outcome = outcome_in part otherwise c.one.txn.ticket;

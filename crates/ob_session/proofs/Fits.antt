@@ -13,7 +13,7 @@ use Rattle.ob_order.specs.declared.fate.Fate.{Fate}
 use Rattle.ob_order.specs.declared.fate.Fate.TheVariants.{Going, Ended, Fell}
 use Rattle.ob_order.specs.Works.{Work, is_going, add_op, wait_for, end_work, stop_work, fall}
 use Rattle.ob_order.specs.Order.{fresh, write_op}
-use Rattle.ob_desk.specs.declared.calls.Txn.{Txn as TxnId}
+use Rattle.ob_desk.specs.declared.calls.Txn.{Txn}
 use Rattle.ob_desk.specs.declared.clients.Holder.{Holder}
 use Rattle.ob_desk.specs.Desk.{why_of, new_holder, note_asked, note_cause, stop_holder}
 use Rattle.ob_session.specs.Clients.{Told, begun, answered, over}
@@ -73,7 +73,7 @@ stands_over f cause ended o is h = record { caused = h.caused; as_told = λ p e.
 -- ---- the transaction
 
 -- this client's transaction of this epoch and ticket
-abbrev pub name : ℕ → ℕ → ℕ → TxnId
+abbrev pub name : ℕ → ℕ → ℕ → Txn
 name n epoch t = record { client = n; epoch = epoch; ticket = t }
 
 pub record Fits (n epoch t : ℕ) (w : Work) (h : Holder) (one : Told) : Type 0 where
@@ -84,7 +84,7 @@ pub record Fits (n epoch t : ℕ) (w : Work) (h : Holder) (one : Told) : Type 0 
   pub stands : Stands w.fate h.cause one.ended
 
 pub named_ticket : (n epoch t : ℕ) (w : Work) (h : Holder) (one : Told) → Fits n epoch t w h one → one.txn.ticket ≡ t
-named_ticket n epoch t w h one f = ap (λ (x : TxnId). x.ticket) f.named
+named_ticket n epoch t w h one f = ap (λ (x : Txn). x.ticket) f.named
 
 unsourced_push : (ops : List (Op ℕ)) (op : Op ℕ) → all_unsourced (ops ++ op ∷ []) ≡ all_unsourced ops ++ unsourced op ∷ []
 unsourced_push [] op = refl

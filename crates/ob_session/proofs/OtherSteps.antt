@@ -4,14 +4,15 @@ use Rattle.std.proofs.lemmas.Bool.{false≢true}
 use Rattle.ob_base.specs.declared.op.Op.TheVariants.{Get}
 use Rattle.ob_serial.specs.declared.records.Why.{Why}
 use Rattle.ob_serial.specs.declared.records.Why.TheVariants.{Asked}
-use Rattle.ob_serial.specs.Serial.{Txn}
+use Rattle.ob_serial.specs.Serial.{TxnRecord}
 use Rattle.ob_order.specs.Works.{Work, at_ticket, edit, add_op, wait_for}
 use Rattle.ob_order.specs.Order.{OrderState, after_read, after_again, after_write, after_take, after_deliver, write_op}
 use Rattle.ob_order.specs.declared.answers.Read.TheVariants.{Value as Found, Queued}
 use Rattle.ob_order.specs.declared.answers.Wrote.TheVariants.{Yes}
-use Rattle.ob_desk.specs.declared.calls.Txn.{Txn as TxnId}
+use Rattle.ob_desk.specs.declared.calls.Txn.{Txn}
 use Rattle.ob_desk.specs.declared.clients.Holder.{Holder}
-use Rattle.ob_desk.specs.Desk.{DeskState, Call, Begin, GetKey, Poll, Write, Commit, Abort, Settled, Looks, SignOff, Stop, Unsure, IsStopped, TakeBatch, Deliver, Close, Publish, Reply, Begun, Refused, Value, Waits, Aborted, Done, IsSettled, Seen, StoppedBy, Batch, Writes, Published, DeskStep, MayCall, IsLast, IsLive, note_asked, end_of}
+use Rattle.ob_desk.specs.Desk.{DeskState, Call, Begin, GetKey, Poll, Write, Commit, Abort, Settled, Looks, SignOff, Stop, Unsure, IsStopped, TakeBatch, Deliver, Close, Publish, Reply, Begun, Refused}
+use Rattle.ob_desk.specs.Desk.{Value, Waits, Aborted, Done, IsSettled, Seen, StoppedBy, Batch, Writes, Published, DeskStep, MayCall, IsLast, IsLive, note_asked, end_of}
 use Rattle.ob_session.specs.Clients.{Told, is_of}
 use Rattle.ob_session.proofs.Parts.{Tells, edit_same, edited_at, worked_at, ended_other}
 use Rattle.ob_session.proofs.State.{Mirror}
@@ -23,12 +24,12 @@ use Rattle.ob_session.proofs.Tellings.{more_txns}
 
 -- a live transaction of another client isn't held by this one
 abbrev pub IsTheirs : DeskState → ℕ → Type 0
-IsTheirs d n = (x : TxnId) → (x.client ≡ n → ⊥) → IsLast d x → IsLive d x → (h : Holder) → at_ticket d.running.holders x.ticket ≡ Some h → h.client ≡ n → ⊥
+IsTheirs d n = (x : Txn) → (x.client ≡ n → ⊥) → IsLast d x → IsLive d x → (h : Holder) → at_ticket d.running.holders x.ticket ≡ Some h → h.client ≡ n → ⊥
 
 differ : (a b : ℕ) → (a == b) ≡ false → a ≡ b → ⊥
 differ a b off e = false≢true (sym off ∙ eq-eqb a b e)
 
-module _ (d : DeskState) (n : ℕ) (txns : List (Txn ℕ)) (told : List Told) (signed : Bool) (new : DeskState) (x : TxnId) (m : Mirror d n txns told signed) (theirs : IsTheirs d n) (other : (x.client == n) ≡ false) (last : IsLast d x) (live : IsLive d x) where
+module _ (d : DeskState) (n : ℕ) (txns : List (TxnRecord ℕ)) (told : List Told) (signed : Bool) (new : DeskState) (x : Txn) (m : Mirror d n txns told signed) (theirs : IsTheirs d n) (other : (x.client == n) ≡ false) (last : IsLast d x) (live : IsLive d x) where
   not_mine : (h : Holder) → at_ticket d.running.holders x.ticket ≡ Some h → h.client ≡ n → ⊥
   not_mine = theirs x (differ x.client n other) last live
 
@@ -47,7 +48,7 @@ module _ (d : DeskState) (n : ℕ) (txns : List (Txn ℕ)) (told : List Told) (s
   ended : (why : Why ℕ) → new ≡ record d { running = end_of d.running x.ticket why } → Mirror new n txns told signed
   ended why e = in_running d new n txns told signed (end_of d.running x.ticket why).order (end_of d.running x.ticket why).holders e (λ running tells. ended_other n d.running.epoch d.running x.ticket why running not_mine tells) m
 
-pub other_step : (d : DeskState) (n : ℕ) (txns : List (Txn ℕ)) (told : List Told) (signed : Bool) (call : Call) (reply : Reply) (new : DeskState) → is_of n call ≡ false → IsTheirs d n → MayCall d call → DeskStep d call reply new
+pub other_step : (d : DeskState) (n : ℕ) (txns : List (TxnRecord ℕ)) (told : List Told) (signed : Bool) (call : Call) (reply : Reply) (new : DeskState) → is_of n call ≡ false → IsTheirs d n → MayCall d call → DeskStep d call reply new
     → Mirror d n txns told signed → Mirror new n (more_txns n txns reply) told signed
 other_step d n txns told signed (Begin client) (Begun x) new other theirs may step m = begun_other d new n txns told signed client x (differ client n other) step m
 other_step d n txns told signed (Begin client) (Refused f) new other theirs may step m = same d new n txns told signed step.same m

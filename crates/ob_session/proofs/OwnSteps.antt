@@ -5,14 +5,16 @@ use Rattle.ob_base.specs.declared.op.Op.TheVariants.{Get}
 use Rattle.ob_serial.specs.declared.records.Why.{Why}
 use Rattle.ob_serial.specs.declared.records.Outcome.{Outcome}
 use Rattle.ob_serial.specs.declared.records.Outcome.TheVariants.{Aborted as AbortedBy}
-use Rattle.ob_serial.specs.Serial.{Txn}
+use Rattle.ob_serial.specs.Serial.{TxnRecord}
 use Rattle.ob_order.specs.Works.{Work, at_ticket, edit, add_op, wait_for}
 use Rattle.ob_order.specs.Order.{OrderState, after_read, after_again, after_write, write_op}
 use Rattle.ob_order.specs.declared.answers.Read.TheVariants.{Value as Found, Queued}
 use Rattle.ob_order.specs.declared.answers.Wrote.TheVariants.{Yes}
-use Rattle.ob_desk.specs.declared.calls.Txn.{Txn as TxnId}
+use Rattle.ob_desk.specs.declared.calls.Txn.{Txn}
 use Rattle.ob_desk.specs.declared.clients.Holder.{Holder}
-use Rattle.ob_desk.specs.Desk.{DeskState, Call, Begin, GetKey, Poll, Write, Commit, Abort, Settled, Looks, SignOff, Stop, Unsure, IsStopped, TakeBatch, Deliver, Close, Publish, Reply, Begun, Refused, Value, Waits, Aborted, Done, IsSettled, Seen, StoppedBy, Batch, Writes, Published, DeskStep, MayCall, IsLast, IsLive, waiting_at, outcome_at, note_asked, end_of, GetStep, QueuedStep, PollStep, StillQueuedStep, WriteStep, CommitStep}
+use Rattle.ob_desk.specs.Desk.{DeskState, Call, Begin, GetKey, Poll, Write, Commit, Abort, Settled, Looks, SignOff, Stop, Unsure, IsStopped, TakeBatch, Deliver, Close, Publish, Reply, Begun, Refused}
+use Rattle.ob_desk.specs.Desk.{Value, Waits, Aborted, Done, IsSettled, Seen, StoppedBy, Batch, Writes, Published, DeskStep, MayCall, IsLast, IsLive, waiting_at, outcome_at, note_asked, end_of, GetStep}
+use Rattle.ob_desk.specs.Desk.{QueuedStep, PollStep, StillQueuedStep, WriteStep, CommitStep}
 use Rattle.ob_session.specs.Clients.{Told, is_of, answered, over, told_next, on_last, told_after}
 use Rattle.ob_session.proofs.Lasts.{on_last-same}
 use Rattle.ob_session.proofs.Fits.{Fits, fits_answered, fits_waits, fits_still, fits_asked, unsourced_write}
@@ -28,23 +30,23 @@ signs signed (SignOff client) = true
 signs signed _ = signed
 
 -- nothing was told
-unmoved : (d new : DeskState) (n : ℕ) (txns : List (Txn ℕ)) (told : List Told) (signed : Bool) (k : Told → Told) → ((t : Told) → k t ≡ t) → new ≡ d → Mirror d n txns told signed → Mirror new n txns (on_last k told) signed
+unmoved : (d new : DeskState) (n : ℕ) (txns : List (TxnRecord ℕ)) (told : List Told) (signed : Bool) (k : Told → Told) → ((t : Told) → k t ≡ t) → new ≡ d → Mirror d n txns told signed → Mirror new n txns (on_last k told) signed
 unmoved d new n txns told signed k nothing e m = subst (λ (ts : List Told). Mirror new n txns ts signed) (sym (on_last-same k told nothing)) (same d new n txns told signed e m)
 
 -- it was aborted before, and is told so
-was_aborted : (d new : DeskState) (n : ℕ) (txns : List (Txn ℕ)) (told : List Told) (signed : Bool) (x : TxnId) (o : Outcome ℕ) → x.client ≡ n → IsLast d x → outcome_at d x ≡ Some o → new ≡ d → Mirror d n txns told signed
+was_aborted : (d new : DeskState) (n : ℕ) (txns : List (TxnRecord ℕ)) (told : List Told) (signed : Bool) (x : Txn) (o : Outcome ℕ) → x.client ≡ n → IsLast d x → outcome_at d x ≡ Some o → new ≡ d → Mirror d n txns told signed
     → Mirror new n txns (on_last (over o) told) signed
 was_aborted d new n txns told signed x o named h is e m = same d new n txns (on_last (over o) told) signed e (over_told d n txns told signed x o m named is h)
 
 -- its work alone changes
-worked : (d new : DeskState) (n : ℕ) (txns : List (Txn ℕ)) (told : List Told) (signed : Bool) (x : TxnId) (f : Work → Work) (k : Told → Told) (o : OrderState) (m : Mirror d n txns told signed) → RunsAs x m.client m.running
+worked : (d new : DeskState) (n : ℕ) (txns : List (TxnRecord ℕ)) (told : List Told) (signed : Bool) (x : Txn) (f : Work → Work) (k : Told → Told) (o : OrderState) (m : Mirror d n txns told signed) → RunsAs x m.client m.running
     → ((one : Told) → (k one).txn ≡ one.txn)
     → ((w : Work) (h : Holder) (one : Told) → at_ticket d.running.order.works x.ticket ≡ Some w → Fits n d.running.epoch x.ticket w h one → Fits n d.running.epoch x.ticket (f w) h (k one))
     → o.works ≡ edit f d.running.order.works x.ticket → new ≡ record d { running = record d.running { order = o } } → Mirror new n txns (on_last k told) signed
 worked d new n txns told signed x f k o m r name_kept fit works_are e =
     own_edited d new n txns told signed x f (λ h. h) k o d.running.holders m r (λ h. refl) name_kept (λ w h one at_work at_holder fits. fit w h one at_work fits) works_are (sym (edit_same d.running.holders x.ticket)) e
 
-module _ (d : DeskState) (n : ℕ) (txns : List (Txn ℕ)) (told : List Told) (signed : Bool) (new : DeskState) (x : TxnId) (m : Mirror d n txns told signed) (named : x.client ≡ n) (h : IsLast d x) where
+module _ (d : DeskState) (n : ℕ) (txns : List (TxnRecord ℕ)) (told : List Told) (signed : Bool) (new : DeskState) (x : Txn) (m : Mirror d n txns told signed) (named : x.client ≡ n) (h : IsLast d x) where
   got_value : (k : ℕ) (value : Option (List ℕ)) → GetStep d x k value new → Mirror new n txns (on_last (answered (Get k value 0)) told) signed
   got_value k value step = worked d new n txns told signed x (add_op (Get k value step.source)) (answered (Get k value 0)) (after_read d.running.order x.ticket k (Found value step.source)) m
       (live_runs d n txns told signed x m h named step.live) (λ one. refl)
@@ -84,7 +86,7 @@ module _ (d : DeskState) (n : ℕ) (txns : List (Txn ℕ)) (told : List Told) (s
   ended : (why : Why ℕ) → IsLive d x → new ≡ record d { running = end_of d.running x.ticket why } → Mirror new n txns (on_last (over (AbortedBy why)) told) signed
   ended why live e = own_ended d new n txns told signed x why m (live_runs d n txns told signed x m h named live) e
 
-pub own_step : (d : DeskState) (n : ℕ) (txns : List (Txn ℕ)) (told : List Told) (signed : Bool) (call : Call) (reply : Reply) (new : DeskState) → is_of n call ≡ true → MayCall d call → DeskStep d call reply new → Mirror d n txns told signed
+pub own_step : (d : DeskState) (n : ℕ) (txns : List (TxnRecord ℕ)) (told : List Told) (signed : Bool) (call : Call) (reply : Reply) (new : DeskState) → is_of n call ≡ true → MayCall d call → DeskStep d call reply new → Mirror d n txns told signed
     → Mirror new n (more_txns n txns reply) (told_after told (call, reply)) (signs signed call)
 own_step d n txns told signed (Begin client) (Begun x) new own may step m = begun_own d new n txns told signed client x (eqb-true client n own) step m
 own_step d n txns told signed (Begin client) (Refused f) new own may step m = unmoved d new n txns told signed (told_next (Begin client) (Refused f)) (λ t. refl) step.same m

@@ -1,15 +1,14 @@
 -- What each change of an epoch leaves of what its clients were told.
-use Rattle.std.proofs.Common.{◌≡◌, ℕ, zero, suc, ◌+◌, Bool, true, false, not, ◌&&◌, if◌then◌else◌, List, [], ◌∷◌, length, Option, None, Some, option_map, unwrap_or, refl, sym, ap, ◌∙◌, subst, ⊎_elim, arith}
-use Rattle.std.proofs.lemmas.Bool.{cases_eq, false≢true}
+use Rattle.std.proofs.Common.{◌≡◌, ℕ, zero, suc, ◌+◌, Bool, true, false, not, ◌&&◌, if◌then◌else◌, List, [], ◌∷◌, length, Some, option_map, unwrap_or, refl, sym, ap, ◌∙◌, subst, arith}
+use Rattle.std.proofs.lemmas.Bool.{false≢true}
 use Rattle.ob_base.specs.declared.fault.Fault.{Fault}
 use Rattle.ob_serial.specs.declared.records.Why.{Why}
 use Rattle.ob_serial.specs.declared.records.Why.TheVariants.{EpochEnd}
 use Rattle.ob_order.specs.Works.{Work, is_going, at_ticket, edit, edit_index, goes_on, end_work, stop_work, least_source, aborted_since, fall, cascade}
-use Rattle.ob_order.proofs.Edits.{at_edit_same, at_edit_other}
 use Rattle.ob_order.proofs.Falls.{fallen_aborted}
 use Rattle.ob_desk.specs.declared.clients.Holder.{Holder}
 use Rattle.ob_desk.specs.Desk.{Part, asked_at, note_cause, end_of, close_to, closing, stop_holder, stop_part}
-use Rattle.ob_desk.proofs.Answered.{unasked_end}
+use Rattle.ob_desk.proofs.Answered.{unasked_end, close_asked}
 use Rattle.ob_session.specs.Clients.{Told, on_last, last_of}
 use Rattle.ob_session.proofs.Mirrors.{Mirrors, found_last, edited, last_edited, mapped, weakened}
 use Rattle.ob_session.proofs.Fits.{Fits, fits_closed, fits_stopped, fits_fell}
@@ -101,14 +100,6 @@ pub record FitsClosed (n epoch t : ℕ) (w : Work) (h : Holder) (one : Told) : T
   pub fits : Fits n epoch t w h one
   pub asked : is_going w.fate ≡ true → h.asked ≡ true
 
-pub close_epoch : (part : Part) (u : ℕ) → (close_to part u).epoch ≡ part.epoch
-close_epoch part zero = refl
-close_epoch part (suc u) = step (goes_on (close_to part u).order.works (suc u) && not (asked_at (close_to part u) (suc u))) ∙ close_epoch part u
-  where
-    step : (b : Bool) → (if b then end_of (close_to part u) (suc u) EpochEnd else close_to part u).epoch ≡ (close_to part u).epoch
-    step true = refl
-    step false = refl
-
 went_on : (part : Part) (u t : ℕ) → goes_on (close_to part u).order.works t ≡ true → goes_on part.order.works t ≡ true
 went_on part zero t e = e
 went_on part (suc u) t e = went_on part u t (step (goes_on (close_to part u).order.works (suc u) && not (asked_at (close_to part u) (suc u))) e)
@@ -116,25 +107,6 @@ went_on part (suc u) t e = went_on part u t (step (goes_on (close_to part u).ord
     step : (b : Bool) → goes_on (if b then end_of (close_to part u) (suc u) EpochEnd else close_to part u).order.works t ≡ true → goes_on (close_to part u).order.works t ≡ true
     step true e = (fallen_aborted (close_to part u).order.works (suc u)).went_on t e
     step false e = e
-
-asked_kept : (part : Part) (s t : ℕ) (why : Why ℕ) → asked_at (end_of part s why) t ≡ asked_at part t
-asked_kept part s t why = ⊎_elim
-    (λ same. subst (λ q. asked_at (end_of part q why) t ≡ asked_at part t) same
-    (ap (λ o. unwrap_or (option_map (λ h. h.asked) o) false) (at_edit_same (note_cause why) part.holders t) ∙ noted (at_ticket part.holders t)))
-    (λ other. ap (λ o. unwrap_or (option_map (λ h. h.asked) o) false) (at_edit_other (note_cause why) part.holders s t other))
-    (cases_eq t s)
-  where
-    noted : (o : Option Holder) → unwrap_or (option_map (λ h. h.asked) (option_map (note_cause why) o)) false ≡ unwrap_or (option_map (λ h. h.asked) o) false
-    noted None = refl
-    noted (Some h) = refl
-
-asked_closed : (part : Part) (u t : ℕ) → asked_at (close_to part u) t ≡ asked_at part t
-asked_closed part zero t = refl
-asked_closed part (suc u) t = step (goes_on (close_to part u).order.works (suc u) && not (asked_at (close_to part u) (suc u))) ∙ asked_closed part u t
-  where
-    step : (b : Bool) → asked_at (if b then end_of (close_to part u) (suc u) EpochEnd else close_to part u) t ≡ asked_at (close_to part u) t
-    step true = asked_kept (close_to part u) (suc u) t EpochEnd
-    step false = refl
 
 -- who goes on behind the close asked to commit
 outlasts : (part : Part) (t : ℕ) (b : Bool) → asked_at part t ≡ b → goes_on (closing part).order.works t ≡ true → b ≡ true
@@ -147,7 +119,7 @@ tells_closed n epoch part told m = weakened (Fits n epoch) (FitsClosed n epoch) 
     (λ t i w h one at at_work at_holder fits. record {
       fits = fits;
       asked = λ going.
-          let kept : asked_at part (suc i) ≡ h.asked = sym (asked_closed part (length part.order.works) (suc i)) ∙ ap (λ o. unwrap_or (option_map (λ q. q.asked) o) false) at_holder in
+          let kept : asked_at part (suc i) ≡ h.asked = sym (close_asked part (length part.order.works) (suc i)) ∙ ap (λ o. unwrap_or (option_map (λ q. q.asked) o) false) at_holder in
           outlasts part (suc i) h.asked kept (ap (λ o. unwrap_or (option_map (λ v. is_going v.fate) o) false) at_work ∙ going);
     })
     (closed_to n epoch part (length part.order.works) told m)

@@ -6,6 +6,7 @@ use Rattle.std.proofs.lemmas.Option.{none-some, same_Some}
 use Rattle.ob_desk.specs.declared.clients.Client.{Client}
 use Rattle.ob_desk.specs.Desk.{new_client, client_in, on_client}
 
+-- the client that is found has the number
 pub client_number : (cs : List Client) (n : ℕ) (c : Client) → client_in cs n ≡ Some c → c.number ≡ n
 client_number [] n c e = absurd (none-some c e)
 client_number (x ∷ cs) n c e = step (x.number == n) refl e (client_number cs n c)
@@ -14,7 +15,8 @@ client_number (x ∷ cs) n c e = step (x.number == n) refl e (client_number cs n
     step true is e next = ap (λ (q : Client). q.number) (sym (same_Some x c e)) ∙ eqb-true x.number n is
     step false is e next = next e
 
-client_in-map : (g : Client → Client) → ((c : Client) → (g c).number ≡ c.number) → (cs : List Client) (n : ℕ) → client_in (map g cs) n ≡ option_map g (client_in cs n)
+-- a change of every client that keeps its number
+pub client_in-map : (g : Client → Client) → ((c : Client) → (g c).number ≡ c.number) → (cs : List Client) (n : ℕ) → client_in (map g cs) n ≡ option_map g (client_in cs n)
 client_in-map g keeps [] n = refl
 client_in-map g keeps (x ∷ cs) n = ap (λ m. cond (m == n) (Some (g x)) (client_in (map g cs) n)) (keeps x) ∙ step (x.number == n) (client_in-map g keeps cs n)
   where

@@ -1,76 +1,29 @@
 -- Over any calls of a new desk, the desk and its records are what each client was told.
-use Rattle.std.proofs.Common.{◌≡◌, ℕ, ◌||◌, Bool, true, false, cond, if◌then◌else◌, List, [], ◌∷◌, ◌++◌, Option, None, Some, is_some, option_map, unwrap_or, refl, sym, ap, ◌∙◌, subst, inl, inr, append_assoc, append-nil, filter, ◌==◌}
+use Rattle.std.proofs.Common.{◌≡◌, ℕ, ◌||◌, Bool, true, false, cond, if◌then◌else◌, List, [], ◌∷◌, ◌++◌, Option, None, is_some, refl, sym, ap, ◌∙◌, subst, inl, inr, append_assoc, append-nil, filter, ◌==◌}
 use Rattle.std.proofs.lemmas.Bool.{or_right, false≢true}
 use Rattle.std.proofs.lemmas.Option.{same_Some}
 use Rattle.ob_base.specs.declared.fault.Fault.{Fault}
-use Rattle.ob_serial.specs.declared.records.Outcome.TheVariants.{Aborted as AbortedBy}
-use Rattle.ob_serial.specs.declared.records.Why.TheVariants.{Stopped}
-use Rattle.ob_serial.specs.Serial.{Txn, EpochRecord}
+use Rattle.ob_serial.specs.Serial.{TxnRecord, EpochRecord}
 use Rattle.ob_order.specs.Works.{Work, at_ticket}
-use Rattle.ob_desk.specs.declared.calls.Txn.{Txn as TxnId}
+use Rattle.ob_desk.specs.declared.calls.Txn.{Txn}
 use Rattle.ob_desk.specs.declared.clients.Holder.{Holder}
-use Rattle.ob_desk.specs.Desk.{Part, Setup, DeskState, new_desk, new_client, settle, settle_client, begin_client, sign_off_client, is_memory, stop_closed, Call, Begin, GetKey, Poll, Write, Commit, Abort, Settled, Looks, SignOff, Stop, Unsure, IsStopped, TakeBatch, Deliver, Close, Publish, Reply, Begun, Refused, Value, Waits, Aborted, Done, IsSettled, Seen, StoppedBy, Batch, Writes, Published, DeskStep, MayCall, published, records_told, record_of}
+use Rattle.ob_desk.specs.Desk.{Part, Setup, DeskState, new_desk, new_client, Call, SignOff, Reply, Published, DeskStep, MayCall, published, records_told, record_of}
 use Rattle.ob_session.specs.Steps.{Leads}
 use Rattle.ob_session.specs.Clients.{Told, is_of, said_by, told_after, told_from, told_of, is_sign_off, has_signed_off}
 use Rattle.ob_session.specs.Agreeing.{CallsAgree}
 use Rattle.ob_session.specs.Records.{TellFirst, TellAll, txns_by, RecordsTell}
 use Rattle.ob_session.proofs.Agreement.{held_running, agrees}
 use Rattle.ob_session.proofs.Changes.{live_runs}
-use Rattle.ob_session.proofs.Epochs.{halted, none_shut}
+use Rattle.ob_session.proofs.Epochs.{none_shut}
 use Rattle.ob_session.proofs.Endings.{first_before, closed_tells}
 use Rattle.ob_session.proofs.Fits.{Fits}
 use Rattle.ob_session.proofs.Mirrors.{Mirrors}
+use Rattle.ob_session.proofs.Numbers.{numbers_run}
 use Rattle.ob_session.proofs.OtherSteps.{IsTheirs, other_step}
 use Rattle.ob_session.proofs.OwnSteps.{signs, own_step}
-use Rattle.ob_session.proofs.Rolls.{numbers, is_one, numbers_mapped, numbers_changed, new_numbers, only_new, is_one-from_Contains}
+use Rattle.ob_session.proofs.Rolls.{is_one, new_numbers, only_new, is_one-from_Contains}
 use Rattle.ob_session.proofs.State.{Before, is_none, Mirror, none_more}
 use Rattle.ob_session.proofs.Tellings.{more_txns, more_is, txns_by-append, tell_first-append, first_from_all}
-
--- ---- the clients' numbers stay
-
-kept : (d new : DeskState) → new ≡ d → numbers new.clients ≡ numbers d.clients
-kept d new e = ap (λ (q : DeskState). numbers q.clients) e
-
-settled_numbers : (d : DeskState) (f : Fault) (closed : Option Part) → numbers (unwrap_or (option_map (λ c. settle c (AbortedBy (Stopped f)) d.clients) closed) d.clients) ≡ numbers d.clients
-settled_numbers d f None = refl
-settled_numbers d f (Some part) = numbers_mapped (settle_client part (AbortedBy (Stopped f))) (λ c. refl) d.clients
-
-stopped_numbers : (d : DeskState) (f : Fault) (b : Bool) → numbers (if b then halted f d else stop_closed f (halted f d)).clients ≡ numbers d.clients
-stopped_numbers d f true = refl
-stopped_numbers d f false = settled_numbers d f d.closed
-
-numbers_step : (d : DeskState) (call : Call) (reply : Reply) (new : DeskState) → DeskStep d call reply new → numbers new.clients ≡ numbers d.clients
-numbers_step d (Begin client) (Begun x) new step = ap (λ (q : DeskState). numbers q.clients) step.state ∙ numbers_changed (begin_client x) (λ c. refl) d.clients client
-numbers_step d (Begin client) (Refused f) new step = kept d new step.same
-numbers_step d (GetKey x k) (Value value) new step = ap (λ (q : DeskState). numbers q.clients) step.state
-numbers_step d (GetKey x k) Waits new step = ap (λ (q : DeskState). numbers q.clients) step.state
-numbers_step d (GetKey x k) (Aborted why) new (inl step) = kept d new step.same
-numbers_step d (GetKey x k) (Aborted why) new (inr step) = ap (λ (q : DeskState). numbers q.clients) step.state
-numbers_step d (Poll x) (Value value) new step = ap (λ (q : DeskState). numbers q.clients) step.state
-numbers_step d (Poll x) Waits new step = kept d new step.same
-numbers_step d (Poll x) (Aborted why) new step = kept d new step.same
-numbers_step d (Write x k value) Done new step = ap (λ (q : DeskState). numbers q.clients) step.state
-numbers_step d (Write x k value) (Aborted why) new (inl step) = kept d new step.same
-numbers_step d (Write x k value) (Aborted why) new (inr step) = ap (λ (q : DeskState). numbers q.clients) step.state
-numbers_step d (Commit x) Done new step = ap (λ (q : DeskState). numbers q.clients) step.state
-numbers_step d (Commit x) (Aborted why) new step = kept d new step.same
-numbers_step d (Abort x) (Aborted why) new (inl step) = kept d new step.same
-numbers_step d (Abort x) (Aborted why) new (inr step) = ap (λ (q : DeskState). numbers q.clients) step.state
-numbers_step d (Settled x) (IsSettled outcome) new step = kept d new step.1
-numbers_step d Looks (Seen look) new step = kept d new step.1
-numbers_step d (SignOff client) Done new step = ap (λ (q : DeskState). numbers q.clients) step.state ∙ numbers_changed sign_off_client (λ c. refl) d.clients client
-numbers_step d (Stop f) Done new step = ap (λ (q : DeskState). numbers q.clients) step.state ∙ stopped_numbers d f (is_memory f)
-numbers_step d (Unsure f) Done new step = ap (λ (q : DeskState). numbers q.clients) step.state ∙ numbers_mapped (settle_client step.part _) (λ c. refl) d.clients
-numbers_step d IsStopped (StoppedBy fault) new step = kept d new step.1
-numbers_step d TakeBatch (Batch keys) new step = ap (λ (q : DeskState). numbers q.clients) step.state
-numbers_step d (Deliver keys values) Done new step = ap (λ (q : DeskState). numbers q.clients) step.state
-numbers_step d Close (Writes writes) new step = ap (λ (q : DeskState). numbers q.clients) step.state
-numbers_step d (Publish epoch left) (Published told) new step = ap (λ (q : DeskState). numbers q.clients) step.state ∙ numbers_mapped (settle_client step.part _) (λ c. refl) d.clients
-numbers_step d _ _ new step = absurd step
-
-numbers_run : (d : DeskState) (steps : List (Call × Reply)) (new : DeskState) → Leads d steps new → numbers new.clients ≡ numbers d.clients
-numbers_run d [] new leads = kept d new leads
-numbers_run d (step ∷ steps) new leads = numbers_run leads.0 steps new leads.3 ∙ numbers_step d step.0 step.1 leads.0 leads.2
 
 -- ---- every client
 
@@ -83,13 +36,13 @@ their_holder d records tolds signed n all x other last live holder at mine =
     let m = all x.client in
     let r = live_runs d x.client (txns_by x.client records) (tolds x.client) (signed x.client) x m last refl live in
     let q = held_running d x.client (txns_by x.client records) (tolds x.client) (signed x.client) m r.it in
-    let same : q.holder ≡ holder = same_Some q.holder holder (sym q.holder_is ∙ (ap (λ (y : TxnId). at_ticket d.running.holders y.ticket) r.is ∙ at)) in
+    let same : q.holder ≡ holder = same_Some q.holder holder (sym q.holder_is ∙ (ap (λ (y : Txn). at_ticket d.running.holders y.ticket) r.is ∙ at)) in
     other (sym q.mine ∙ (ap (λ (h : Holder). h.client) same ∙ mine))
 
 everyone_step : (d : DeskState) (records : List (EpochRecord ℕ)) (tolds : ℕ → List Told) (signed : ℕ → Bool) (call : Call) (reply : Reply) (new : DeskState) → MayCall d call → DeskStep d call reply new → Everyone d records tolds signed
     → Everyone new (records ++ records_told reply) (λ n. if is_of n call then told_after (tolds n) (call, reply) else tolds n) (λ n. if is_of n call then signs (signed n) call else signed n)
 everyone_step d records tolds signed call reply new may step all n =
-    subst (λ (txns : List (Txn ℕ)). Mirror new n txns (if is_of n call then told_after (tolds n) (call, reply) else tolds n) (if is_of n call then signs (signed n) call else signed n))
+    subst (λ (txns : List (TxnRecord ℕ)). Mirror new n txns (if is_of n call then told_after (tolds n) (call, reply) else tolds n) (if is_of n call then signs (signed n) call else signed n))
     (more_is n (txns_by n records) reply ∙ sym (txns_by-append n records (records_told reply))) (by_call (is_of n call) refl)
   where
     by_call : (b : Bool) → is_of n call ≡ b → Mirror new n (more_txns n (txns_by n records) reply) (if b then told_after (tolds n) (call, reply) else tolds n) (if b then signs (signed n) call else signed n)
@@ -154,7 +107,7 @@ none_running : (P : ℕ → Work → Holder → Told → Type 0) (n : ℕ) (hs :
 none_running P n [] running h = h
 none_running P n (x ∷ hs) running h = absurd h
 
-tell_all : (n : ℕ) (closed : Option Part) (stop : Option Fault) (txns : List (Txn ℕ)) (past : List Told) → stop ≡ None → Before n closed stop txns past → TellAll n txns past
+tell_all : (n : ℕ) (closed : Option Part) (stop : Option Fault) (txns : List (TxnRecord ℕ)) (past : List Told) → stop ≡ None → Before n closed stop txns past → TellAll n txns past
 tell_all n closed stop txns past none (inl all) = all
 tell_all n closed stop txns past none (inr first) = absurd (false≢true (sym (ap is_some none) ∙ first.2))
 
@@ -169,12 +122,12 @@ records_tell = record {
       let none_closed : m.shut ≡ [] = none_shut n d.running.epoch d.closed m.shut rest.none_closed m.closed in
       subst (TellAll n (txns_by n (published steps))) (sym (m.split ∙ none_more m.past m.shut m.running none_runs none_closed)) (tell_all n d.closed d.stop (txns_by n (published steps)) m.past rest.not_stopped m.tells);
   closed = λ setup epoch left clients steps d part n opens leads is.
-      let txns : List (Txn ℕ) = txns_by n (published steps) in
+      let txns : List (TxnRecord ℕ) = txns_by n (published steps) in
       let m = tied setup epoch left clients steps d n leads in
       let all = closed_tells d n txns (told_of (said_by n steps)) (has_signed_off (said_by n steps)) part is m in
       let records_are : txns_by n (published steps ++ record_of part ∷ []) ≡ txns ++ filter (λ t. t.client == n) (record_of part).txns =
       txns_by-append n (published steps) (record_of part ∷ []) ∙ sym (more_is n txns (Published (record_of part))) in
-      subst (λ (ts : List (Txn ℕ)). TellFirst n ts (told_of (said_by n steps))) (sym records_are)
+      subst (λ (ts : List (TxnRecord ℕ)). TellFirst n ts (told_of (said_by n steps))) (sym records_are)
       (subst (TellFirst n (txns ++ filter (λ t. t.client == n) (record_of part).txns)) (append_assoc m.past m.shut m.running ∙ sym m.split)
       (tell_first-append n (txns ++ filter (λ t. t.client == n) (record_of part).txns) (m.past ++ m.shut) m.running
       (first_from_all n (txns ++ filter (λ t. t.client == n) (record_of part).txns) (m.past ++ m.shut) all)));

@@ -6,9 +6,9 @@ use Rattle.ob_serial.specs.declared.records.Why.{Why}
 use Rattle.ob_serial.specs.declared.records.Why.TheVariants.{Asked}
 use Rattle.ob_serial.specs.declared.records.Outcome.{Outcome}
 use Rattle.ob_serial.specs.declared.records.Outcome.TheVariants.{Aborted as AbortedBy}
-use Rattle.ob_serial.specs.Serial.{Txn}
+use Rattle.ob_serial.specs.Serial.{TxnRecord}
 use Rattle.ob_order.specs.Works.{Work, at_ticket}
-use Rattle.ob_desk.specs.declared.calls.Txn.{Txn as TxnId}
+use Rattle.ob_desk.specs.declared.calls.Txn.{Txn}
 use Rattle.ob_desk.specs.declared.clients.Holder.{Holder}
 use Rattle.ob_desk.specs.declared.clients.Client.{Client}
 use Rattle.ob_desk.specs.Desk.{Part, DeskState, client_at, part_at, why_of, cause_at, why_at, outcome_at}
@@ -25,7 +25,7 @@ Shut n epoch None shut = shut ≡ []
 Shut n epoch (Some part) shut = (part.epoch < epoch) × Mirrors (FitsClosed n part.epoch) n 1 part.order.works part.holders shut
 
 -- what was told of the parts before: all of it is published, or else the desk is stopped and closes no part any more
-abbrev pub Before : ℕ → Option Part → Option Fault → List (Txn ℕ) → List Told → Type 0
+abbrev pub Before : ℕ → Option Part → Option Fault → List (TxnRecord ℕ) → List Told → Type 0
 Before n closed stop txns past = TellAll n txns past ⊎ (TellFirst n txns past × (closed ≡ None) × (is_some stop ≡ true))
 
 -- ---- the client's last transaction
@@ -53,7 +53,7 @@ pub record Closes (client : Client) (shut running : List Told) : Type 0 where
   pub unsettled : client.outcome ≡ None
 
 -- of a part before; it may be told how it ended
-pub record WasSettled (n epoch : ℕ) (closed : Option Part) (stop : Option Fault) (txns : List (Txn ℕ)) (client : Client) (past shut running : List Told) : Type 0 where
+pub record WasSettled (n epoch : ℕ) (closed : Option Part) (stop : Option Fault) (txns : List (TxnRecord ℕ)) (client : Client) (past shut running : List Told) : Type 0 where
   pub none_runs : running ≡ []
   pub none_closed : shut ≡ []
   pub one : Told
@@ -69,13 +69,13 @@ pub record WasSettled (n epoch : ℕ) (closed : Option Part) (stop : Option Faul
   pub by_client : outcome ≡ AbortedBy Asked → one.ended ≡ Some (AbortedBy Asked)
   pub keeps : Before n closed stop txns (on_last (over outcome) past)
 
-pub data Last (n epoch : ℕ) (closed : Option Part) (stop : Option Fault) (txns : List (Txn ℕ)) (client : Client) (past shut running : List Told) : Type 0 where
+pub data Last (n epoch : ℕ) (closed : Option Part) (stop : Option Fault) (txns : List (TxnRecord ℕ)) (client : Client) (past shut running : List Told) : Type 0 where
   is_none : IsNone client past shut running → Last n epoch closed stop txns client past shut running
   runs : Runs client running → Last n epoch closed stop txns client past shut running
   closes : Closes client shut running → Last n epoch closed stop txns client past shut running
   was_settled : WasSettled n epoch closed stop txns client past shut running → Last n epoch closed stop txns client past shut running
 
-pub record Mirror (d : DeskState) (n : ℕ) (txns : List (Txn ℕ)) (told : List Told) (signed : Bool) : Type 0 where
+pub record Mirror (d : DeskState) (n : ℕ) (txns : List (TxnRecord ℕ)) (told : List Told) (signed : Bool) : Type 0 where
   pub client : Client
   pub found : (c : Client) → client_at d n ≡ Some c → c ≡ client
   pub signed_off : client.signed_off ≡ signed
@@ -134,7 +134,7 @@ or_none : {A : Type 0} (o p : Option A) → p ≡ None → option_or o p ≡ o
 or_none None p e = e
 or_none (Some x) p e = refl
 
-module _ (d : DeskState) (n : ℕ) (x : TxnId) (client : Client) where
+module _ (d : DeskState) (n : ℕ) (x : Txn) (client : Client) where
   outcome_in_part : (part : Part) → part_at d x.epoch ≡ Some part → x.client ≡ n → client_at d n ≡ Some client → client.outcome ≡ None → outcome_at d x ≡ option_map AbortedBy (why_at part x.ticket)
   outcome_in_part part at named found unsettled =
       or_none _ (option_and_then (λ c. c.outcome) (client_at d x.client)) (ap (λ m. option_and_then (λ c. c.outcome) (client_at d m)) named ∙ (ap (option_and_then (λ c. c.outcome)) found ∙ unsettled))

@@ -8,11 +8,11 @@ use Rattle.ob_serial.specs.declared.records.Why.{Why}
 use Rattle.ob_serial.specs.declared.records.Why.TheVariants.{Conflict, Depends, ReadsFull, WritesFull, EpochEnd, Asked, Stopped}
 use Rattle.ob_serial.specs.declared.records.Outcome.{Outcome}
 use Rattle.ob_serial.specs.declared.records.Outcome.TheVariants.{Committed, Aborted as AbortedBy, Unsure as UnsureOf}
-use Rattle.ob_serial.specs.Serial.{Txn, EpochRecord}
+use Rattle.ob_serial.specs.Serial.{TxnRecord, EpochRecord}
 use Rattle.ob_order.specs.declared.fate.Fate.{Fate}
 use Rattle.ob_order.specs.declared.fate.Fate.TheVariants.{Going, Ended, Fell}
 use Rattle.ob_order.specs.Works.{Work, is_going}
-use Rattle.ob_desk.specs.declared.calls.Txn.{Txn as TxnId}
+use Rattle.ob_desk.specs.declared.calls.Txn.{Txn}
 use Rattle.ob_desk.specs.declared.clients.Holder.{Holder}
 use Rattle.ob_desk.specs.Desk.{why_of, txns_from, Reply, Published, records_told}
 use Rattle.ob_session.specs.Clients.{Told, over}
@@ -24,7 +24,7 @@ use Rattle.ob_session.proofs.Parts.{FitsClosed}
 -- ---- one transaction
 
 -- the record of a transaction
-abbrev pub txn_at : ℕ → ℕ → Work → Holder → Txn ℕ
+abbrev pub txn_at : ℕ → ℕ → Work → Holder → TxnRecord ℕ
 txn_at epoch t w h = record { epoch = epoch; ticket = t; client = h.client; ops = w.ops; outcome = unwrap_or (option_map AbortedBy (why_of w.fate h.cause)) Committed }
 
 -- its record will tell of what its client was told
@@ -52,8 +52,8 @@ recorded n epoch t w h one f = record {
   ticket = named_ticket n epoch t w h one f.fits;
   told = λ mine. record {
     client = mine;
-    named = ap (λ (x : TxnId). x.client) f.fits.named;
-    epoch = sym (ap (λ (x : TxnId). x.epoch) f.fits.named);
+    named = ap (λ (x : Txn). x.client) f.fits.named;
+    epoch = sym (ap (λ (x : Txn). x.epoch) f.fits.named);
     ticket = sym (named_ticket n epoch t w h one f.fits);
     ops = f.fits.ops;
     ends = told_end w.fate h.cause one f.fits.stands (λ going. sym f.fits.asked ∙ f.asked going);
@@ -73,7 +73,7 @@ over_end (AbortedBy (Stopped fault)) o one e h = tt
 over_end (UnsureOf epoch) o one e h = h
 
 -- told how it ended, as the record says
-pub told_over : (n : ℕ) (t : Txn ℕ) (one : Told) (o : Outcome ℕ) → t.outcome ≡ o → IsTold n t one → IsTold n t (over o one)
+pub told_over : (n : ℕ) (t : TxnRecord ℕ) (one : Told) (o : Outcome ℕ) → t.outcome ≡ o → IsTold n t one → IsTold n t (over o one)
 told_over n t one o e h = record {
   client = h.client;
   named = h.named;
@@ -99,32 +99,32 @@ tells_record n epoch s (w ∷ ws) (x ∷ hs) told (inr own) =
 
 -- ---- several
 
-pub tell_all-append : (n : ℕ) (xs ys : List (Txn ℕ)) (a b : List Told) → TellAll n xs a → TellAll n ys b → TellAll n (xs ++ ys) (a ++ b)
+pub tell_all-append : (n : ℕ) (xs ys : List (TxnRecord ℕ)) (a b : List Told) → TellAll n xs a → TellAll n ys b → TellAll n (xs ++ ys) (a ++ b)
 tell_all-append n [] ys [] b h g = g
 tell_all-append n [] ys (one ∷ a) b h g = absurd h
 tell_all-append n (t ∷ xs) ys [] b h g = absurd h
 tell_all-append n (t ∷ xs) ys (one ∷ a) b h g = (h.0, tell_all-append n xs ys a b h.1 g)
 
-pub tell_first-append : (n : ℕ) (xs : List (Txn ℕ)) (a b : List Told) → TellFirst n xs a → TellFirst n xs (a ++ b)
+pub tell_first-append : (n : ℕ) (xs : List (TxnRecord ℕ)) (a b : List Told) → TellFirst n xs a → TellFirst n xs (a ++ b)
 tell_first-append n [] a b h = tt
 tell_first-append n (t ∷ xs) [] b h = absurd h
 tell_first-append n (t ∷ xs) (one ∷ a) b h = (h.0, tell_first-append n xs a b h.1)
 
-pub first_from_all : (n : ℕ) (xs : List (Txn ℕ)) (a : List Told) → TellAll n xs a → TellFirst n xs a
+pub first_from_all : (n : ℕ) (xs : List (TxnRecord ℕ)) (a : List Told) → TellAll n xs a → TellFirst n xs a
 first_from_all n [] a h = tt
 first_from_all n (t ∷ xs) [] h = h
 first_from_all n (t ∷ xs) (one ∷ a) h = (h.0, first_from_all n xs a h.1)
 
 -- the client's transactions that were published, behind one reply more
-abbrev pub more_txns : ℕ → List (Txn ℕ) → Reply → List (Txn ℕ)
+abbrev pub more_txns : ℕ → List (TxnRecord ℕ) → Reply → List (TxnRecord ℕ)
 more_txns n txns (Published told) = txns ++ filter (λ t. t.client == n) told.txns
 more_txns n txns _ = txns
 
-pub more_is : (n : ℕ) (txns : List (Txn ℕ)) (reply : Reply) → more_txns n txns reply ≡ txns ++ txns_by n (records_told reply)
-more_is n txns (Published told) = ap (λ ts. txns ++ filter (λ (t : Txn ℕ). t.client == n) ts) (sym (append-nil told.txns))
+pub more_is : (n : ℕ) (txns : List (TxnRecord ℕ)) (reply : Reply) → more_txns n txns reply ≡ txns ++ txns_by n (records_told reply)
+more_is n txns (Published told) = ap (λ ts. txns ++ filter (λ (t : TxnRecord ℕ). t.client == n) ts) (sym (append-nil told.txns))
 more_is n txns _ = sym (append-nil txns)
 
 pub txns_by-append : (n : ℕ) (xs ys : List (EpochRecord ℕ)) → txns_by n (xs ++ ys) ≡ txns_by n xs ++ txns_by n ys
 txns_by-append n xs ys =
-    ap (filter (λ (t : Txn ℕ). t.client == n)) (flat_map-append (λ (r : EpochRecord ℕ). r.txns) xs ys)
-    ∙ filter-append (λ (t : Txn ℕ). t.client == n) (flat_map (λ (r : EpochRecord ℕ). r.txns) xs) (flat_map (λ (r : EpochRecord ℕ). r.txns) ys)
+    ap (filter (λ (t : TxnRecord ℕ). t.client == n)) (flat_map-append (λ (r : EpochRecord ℕ). r.txns) xs ys)
+    ∙ filter-append (λ (t : TxnRecord ℕ). t.client == n) (flat_map (λ (r : EpochRecord ℕ). r.txns) xs) (flat_map (λ (r : EpochRecord ℕ). r.txns) ys)

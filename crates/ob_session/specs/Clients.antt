@@ -7,7 +7,7 @@ use Rattle.ob_base.specs.declared.op.Op.TheVariants.{Get}
 use Rattle.ob_order.specs.Order.{write_op}
 use Rattle.ob_desk.specs.Desk as desk
 use Rattle.ob_desk.specs.Desk.{Call, Reply}
-use Rattle.ob_desk.specs.declared.calls.Txn.{Txn as TxnId}
+use Rattle.ob_desk.specs.declared.calls.Txn.{Txn}
 use Rattle.ob_serial.specs.declared.records.Outcome.{Outcome}
 use Rattle.ob_serial.specs.declared.records.Outcome.TheVariants.{Aborted as AbortedBy}
 use Rattle.ob_session.specs.declared.runner.Step.{Step}
@@ -35,13 +35,13 @@ said_by number steps = filter (λ s. is_of number s.0) steps
 -- A transaction as its client was told of it: the operations that were answered, in order, with 0 for each source; the key of a get that
 -- isn't answered yet; whether it asked to commit; and how it ended, where that was told.
 pub record Told : Type 0 where
-  pub txn : TxnId
+  pub txn : Txn
   pub ops : List (Op ℕ)
   pub waiting : Option ℕ
   pub asked : Bool
   pub ended : Option (Outcome ℕ)
 
-abbrev pub begun : TxnId → Told
+abbrev pub begun : Txn → Told
 begun x = record { txn = x; ops = []; waiting = None; asked = false; ended = None }
 
 -- one answered operation more

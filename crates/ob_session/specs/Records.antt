@@ -2,7 +2,7 @@
 use Rattle.std.specs.Prelude.{ℕ, ◌≡◌, ◌==◌, true, List, [], ◌∷◌, ◌++◌, filter, flat_map, Some, None}
 use Rattle.ob_base.specs.declared.op.Op.{Op}
 use Rattle.ob_base.specs.declared.op.Op.TheVariants.{Get, Put, Del}
-use Rattle.ob_serial.specs.Serial.{Txn, EpochRecord}
+use Rattle.ob_serial.specs.Serial.{TxnRecord, EpochRecord}
 use Rattle.ob_desk.specs.Desk.{DeskState, Setup, Call, Reply, Part, MayOpen, new_desk, published, record_of}
 use Rattle.ob_serial.specs.declared.records.Why.TheVariants.{Asked}
 use Rattle.ob_serial.specs.declared.records.Outcome.{Outcome}
@@ -11,7 +11,7 @@ use Rattle.ob_session.specs.Steps.{Leads}
 use Rattle.ob_session.specs.Clients.{Told, told_of, said_by}
 
 -- the transactions of one client, in order
-abbrev pub txns_by : ℕ → List (EpochRecord ℕ) → List (Txn ℕ)
+abbrev pub txns_by : ℕ → List (EpochRecord ℕ) → List (TxnRecord ℕ)
 txns_by number records = filter (λ t. t.client == number) (flat_map (λ r. r.txns) records)
 
 -- an operation without its source
@@ -32,7 +32,7 @@ IsToldEnd (AbortedBy why) told = Unit {0}
 IsToldEnd (UnsureOf epoch) told = ⊥
 
 -- The record tells of the transaction that the client was told of.
-pub record IsTold (number : ℕ) (t : Txn ℕ) (told : Told) : Type 0 where
+pub record IsTold (number : ℕ) (t : TxnRecord ℕ) (told : Told) : Type 0 where
   pub client : t.client ≡ number
   pub named : told.txn.client ≡ number
   pub epoch : t.epoch ≡ told.txn.epoch
@@ -43,13 +43,13 @@ pub record IsTold (number : ℕ) (t : Txn ℕ) (told : Told) : Type 0 where
   pub as_told : (outcome : Outcome ℕ) → told.ended ≡ Some outcome → t.outcome ≡ outcome
 
 -- They tell of the first ones.
-abbrev pub TellFirst : ℕ → List (Txn ℕ) → List Told → Type 0
+abbrev pub TellFirst : ℕ → List (TxnRecord ℕ) → List Told → Type 0
 TellFirst number [] told = Unit {0}
 TellFirst number (t ∷ txns) [] = ⊥
 TellFirst number (t ∷ txns) (one ∷ told) = IsTold number t one × TellFirst number txns told
 
 -- They tell of all.
-abbrev pub TellAll : ℕ → List (Txn ℕ) → List Told → Type 0
+abbrev pub TellAll : ℕ → List (TxnRecord ℕ) → List Told → Type 0
 TellAll number [] [] = Unit {0}
 TellAll number (t ∷ txns) (one ∷ told) = IsTold number t one × TellAll number txns told
 TellAll number _ _ = ⊥

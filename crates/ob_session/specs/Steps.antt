@@ -18,7 +18,6 @@ step_of (said.Abort txn why) = (desk.Abort txn, desk.Aborted why)
 step_of (said.Settled txn outcome) = (desk.Settled txn, desk.IsSettled outcome)
 step_of (said.SignOff client) = (desk.SignOff client, desk.Done)
 step_of (said.Stop fault) = (desk.Stop fault, desk.Done)
-step_of (said.Stopped fault) = (desk.IsStopped, desk.StoppedBy fault)
 
 abbrev pub steps_in : Option Said → List (desk.Call × desk.Reply)
 steps_in None = []
@@ -33,7 +32,7 @@ abbrev pub Leads : desk.DeskState → List (desk.Call × desk.Reply) → desk.De
 Leads d [] new = new ≡ d
 Leads d (step ∷ steps) new = (mid : desk.DeskState) × desk.MayCall d step.0 × desk.DeskStep d step.0 step.1 mid × Leads mid steps new
 
--- It is a call of this client; or `stop` for want of memory; or `stopped`.
+-- It is a call of this client; or `stop` for want of memory.
 abbrev pub IsOwn : ℕ → desk.Call × desk.Reply → Type 0
 IsOwn client (desk.Begin number, reply) = number ≡ client
 IsOwn client (desk.GetKey txn key, reply) = txn.client ≡ client
@@ -44,5 +43,4 @@ IsOwn client (desk.Abort txn, reply) = txn.client ≡ client
 IsOwn client (desk.Settled txn, reply) = txn.client ≡ client
 IsOwn client (desk.SignOff number, reply) = number ≡ client
 IsOwn client (desk.Stop fault, reply) = fault ≡ Memory
-IsOwn client (desk.IsStopped, reply) = Unit {0}
 IsOwn client _ = ⊥

@@ -1,3 +1,5 @@
+//! What a client was told agrees with the desk, whatever others call.
+
 ghost use Rattle.ob_session.specs.Agreeing.{CallsAgree};
 ghost use Rattle.ob_session.specs.Records.{RecordsTell};
 

@@ -1,3 +1,5 @@
+//! Calls that a client made, with their replies.
+
 ghost use Rattle.std.specs.Prelude.{◌≡◌, ◌∷◌, []};
 ghost use Rattle.ob_session.specs.Steps.{step_of, steps_of};
 
@@ -45,9 +47,6 @@ pub enum Said {
     },
     Stop {
         fault: Fault,
-    },
-    Stopped {
-        fault: Option<Fault>,
     },
 }
 

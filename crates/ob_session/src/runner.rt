@@ -1,3 +1,5 @@
+//! Who makes a client's calls.
+
 ghost use Rattle.std.specs.Prelude.{◌≡◌, ◌≤◌, ℕ, All, List, ◌++◌};
 ghost use Rattle.ob_desk.specs.Desk.{Call, Reply};
 ghost use Rattle.ob_session.specs.Steps.{steps_of, Leads, IsOwn};
@@ -39,20 +41,31 @@ pub trait Runner: Drop {
     /// Whether these may be all the calls that it has made for its client.
     ghost fits: { Self → List (Call × Reply) → Type 0 };
 
+    /// Which calls its client may make in a step, by what it is to do, the client's number and all
+    /// that the client said before, with the answers.
+    ghost turn: { Plan → ℕ → List (Call × Reply) → List (Call × Reply) → Type 0 };
+
     /// Makes the next call of its client, or the last one again where that is to be repeated; and
     /// none behind its sign-off. Where a call finds no memory it stops the desk. A desk that agrees
     /// with what the client was told takes each of these calls.
     fn step(&mut self, desk: &mut Desk) -> (Step, Made)
         requires bound { bound self.old ≤ desk.old.setup.params.keys }
-        requires agrees { (said : List (Call × Reply)) × fits self.old said × Agrees desk.old (client self.old) said }
+        requires agrees { (said : List (Call × Reply)) × fits self.old said
+            × Agrees desk.old (client self.old) said }
         ensures client { client self.new ≡ client self.old }
         ensures bound { bound self.new ≡ bound self.old }
         ensures plan { plan self.new ≡ plan self.old }
         ensures made { Leads desk.old (steps_of result.1) desk.new }
         // It makes one call, and none only behind its sign-off.
-        ensures one { (said : List (Call × Reply)) → fits self.old said → IsOneCall said (steps_of result.1) }
-        // Its steps make its client's calls alone, besides `stop` for want of memory and `stopped`.
+        ensures one { (said : List (Call × Reply)) → fits self.old said
+            → IsOneCall said (steps_of result.1) }
+        // That is what it is to do next.
+        ensures turn { (said : List (Call × Reply)) → fits self.old said
+            → turn (plan self.old) (client self.old) said (steps_of result.1) }
+        // Its steps make its client's calls alone, besides `stop` for want of memory.
         ensures own { All (IsOwn (client self.old)) (steps_of result.1) }
-        ensures fits { (said : List (Call × Reply)) → fits self.old said → fits self.new (said ++ said_by (client self.old) (steps_of result.1)) }
-        ensures step { (said : List (Call × Reply)) → fits self.old said → result.0 ≡ stands_after (said ++ said_by (client self.old) (steps_of result.1)) };
+        ensures fits { (said : List (Call × Reply)) → fits self.old said
+            → fits self.new (said ++ said_by (client self.old) (steps_of result.1)) }
+        ensures step { (said : List (Call × Reply)) → fits self.old said
+            → result.0 ≡ stands_after (said ++ said_by (client self.old) (steps_of result.1)) };
 }

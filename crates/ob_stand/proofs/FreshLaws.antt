@@ -29,16 +29,12 @@ use Rattle.ob_values.proofs.Planned.{past_none}
 use Rattle.ob_epoch.proofs.Sampling.{none_some, no_entry}
 use Rattle.ob_stand.specs.Stands.{SpellsSlot, Stands}
 use Rattle.ob_stand.specs.Fresh.{Ranks, fresh_version, fresh_content, fresh_standing, AreRanked, IsFormatOf, FormattedStands}
+use Rattle.ob_ring.proofs.FillLaws.{none_used}
 
 no_key_in : (n j : ℕ) → ◌≡◌ {A = Option ℕ} (slice_index_or (replicate n None) j None) None
 no_key_in zero j = refl
 no_key_in (suc n) zero = refl
 no_key_in (suc n) (suc j) = no_key_in n j
-
-no_mark_in : (n j : ℕ) → slice_index_or (replicate n false) j false ≡ false
-no_mark_in zero j = refl
-no_mark_in (suc n) zero = refl
-no_mark_in (suc n) (suc j) = no_mark_in n j
 
 none_marked : (n m : ℕ) → fold (λ m b. m + cond b 1 0) m (replicate n false) ≡ m
 none_marked zero m = refl
@@ -74,12 +70,12 @@ module _ (p : Params) (ranks : Ranks) (ranked : AreRanked p ranks) where
       let most : buckets p * width p ≤ 131072 * width p = mul-le-mul_right (width p) (omega arith) in
       omega (arith, rows)
 
-  version_obeys : (u : ℕ) → u < buckets p → bucket.Obeys p (fresh_version p ranks u)
+  version_obeys : (u : ℕ) → u < buckets p → bucket.VersionObeys p (fresh_version p ranks u)
   version_obeys u lt = record {
     slots = record { keys = length-replicate {A = Option ℕ} p.real None; ranks = ranked.many u lt; used = length-replicate {A = Bool} (width p) false };
     home = omega arith;
     ranks = ranked.each u lt;
-    marks = record { unshown = λ j k at. no_mark_in (width p) j; few = (let some = p.in_range.some_dummies in let none : count_by (λ b. b) (replicate (width p) false) ≡ 0 = none_marked (width p) 0 in omega arith) };
+    marks = record { unshown = λ j k at. none_used (width p) j; few = (let some = p.in_range.some_dummies in let none : count_by (λ b. b) (replicate (width p) false) ≡ 0 = none_marked (width p) 0 in omega arith) };
   }
 
   fits : (u : ℕ) → u < buckets p → FitsSeals (fresh_version p ranks u)
@@ -90,7 +86,7 @@ module _ (p : Params) (ranks : Ranks) (ranked : AreRanked p ranks) where
     counter = pow_pos p.levels;
     book = record { many = length-replicate {A = Option Entry} p.keys None; entries = λ k e at. absurd (not_kept k e at) };
     many = length-map-range_with_len (fresh_version p ranks) 0 (buckets p);
-    versions = λ u lt. subst (bucket.Obeys p) (sym (version_is u lt)) (version_obeys u lt);
+    versions = λ u lt. subst (bucket.VersionObeys p) (sym (version_is u lt)) (version_obeys u lt);
     seals = λ u lt. subst FitsSeals (sym (version_is u lt)) (fits u lt);
     keys = λ u j k at. absurd (not_there u j k at);
     once = λ k u v i j at at'. absurd (not_there u i k at);

@@ -1,5 +1,5 @@
 -- An image stands for one thing at most.
-use Rattle.std.specs.Prelude.{◌≡◌, ◌≢◌, ◌<◌, ◌≤◌, ℕ, suc, ◌+◌, ◌*◌, ◌%◌, ◌^◌, false, List, length, Option, Some, None}
+use Rattle.std.specs.Prelude.{◌≡◌, ◌≢◌, ◌<◌, ◌≤◌, ℕ, suc, ◌+◌, ◌%◌, ◌^◌, false, List, length, Option, Some, None}
 use Rattle.std.specs.Int.{w32, to_le_bytes}
 use Rattle.std.specs.FinMap.{same_map, nat_cmp-IsAntisymmetric}
 use Rattle.std.proofs.Common.{arith, refl, sym, ap, ◌∙◌, ⊎_elim, subst}
@@ -12,7 +12,8 @@ use Rattle.ob_store.specs.Disk.{Image}
 use Rattle.ob_seal.specs.declared.keys.Keys.{Keys}
 use Rattle.ob_seal.specs.Pieces.{onward, piece}
 use Rattle.ob_seal.specs.Seals.{sealed}
-use Rattle.ob_seal.proofs.SpelledAlike.{split_same}
+use Rattle.ob_base.proofs.Spelled.{split_same}
+use Rattle.ob_base.proofs.LayoutLaws.{checkpoint_cells_hold}
 use Rattle.ob_seal.proofs.Spelling.{sealed_same}
 use Rattle.ob_seal.proofs.PieceLaws.{pieces_same, length-piece}
 use Rattle.ob_twin.specs.Bodies.{Tagging}
@@ -54,16 +55,12 @@ register_once tag first image m n a b = ⊎_elim (λ is. is) (λ other. absurd (
 
 -- ---- an area spells one content
 
-cells_hold : (p : Params) → checkpoint_len p ≤ 96 * checkpoint_cells p
-unfolding checkpoint_cells
-cells_hold p = omega arith
-
 pub content_same : (keys : Keys) (p : Params) (epoch g h : ℕ) (a b : Content) (image : Image) → epoch < 2 ^ 64 → Obeys p a → Obeys p b
     → HoldsCheckpoint keys p epoch g a image → HoldsCheckpoint keys p epoch h b image → a ≡ b
 content_same keys p epoch g h a b image low o o' one two =
     let long : length (checkpoint_bytes p epoch a) ≡ checkpoint_len p = content_length p epoch a o in
     let long' : length (checkpoint_bytes p epoch b) ≡ checkpoint_len p = content_length p epoch b o' in
-    let bytes : checkpoint_bytes p epoch a ≡ checkpoint_bytes p epoch b = pieces_same (checkpoint_cells p) (checkpoint_bytes p epoch a) (checkpoint_bytes p epoch b) (long ∙ sym long') (omega (arith, cells_hold p)) same in
+    let bytes : checkpoint_bytes p epoch a ≡ checkpoint_bytes p epoch b = pieces_same (checkpoint_cells p) (checkpoint_bytes p epoch a) (checkpoint_bytes p epoch b) (long ∙ sym long') (omega (arith, checkpoint_cells_hold p)) same in
     (content_once p epoch epoch a b low low o o' bytes).1
   where
     same : (i : ℕ) → i < checkpoint_cells p → piece i (checkpoint_bytes p epoch a) ≡ piece i (checkpoint_bytes p epoch b)

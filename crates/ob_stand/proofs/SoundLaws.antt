@@ -3,11 +3,11 @@ use Rattle.std.specs.Prelude.{◌⊎◌}
 use Rattle.std.proofs.Common.{refl, inl, inr, ⊎_elim}
 use Rattle.ob_base.specs.declared.params.Params.{Params}
 use Rattle.ob_store.specs.Disk.{Clock, NotAfter, Disk, Image}
-use Rattle.ob_store.specs.Images.{Settled, LeavesOnly}
+use Rattle.ob_store.specs.Images.{IsSynced, LeavesOnly}
 use Rattle.ob_twin.proofs.Moves.{at_the_end}
 use Rattle.ob_seal.specs.declared.keys.Keys.{Keys}
 use Rattle.ob_stand.specs.Stands.{RingStanding, Stands, OneOf}
-use Rattle.ob_stand.specs.Sound.{point_of, StandsAtPoint, AreNear, IsSound, StoresAreSound}
+use Rattle.ob_stand.specs.Sound.{point_of, StandsAtPoint, AreNear, IsSoundDisk, StoresAreSound}
 use Rattle.ob_stand.proofs.Frames.{stands_all}
 
 either_point : (keys : Keys) (p : Params) (a b : RingStanding) (c : Image) → OneOf keys p a b c → StandsAtPoint keys p (point_of a) c ⊎ StandsAtPoint keys p (point_of b) c
@@ -17,7 +17,7 @@ either_point keys p a b c either = ⊎_elim
     either
 
 after_run : (keys : Keys) (p : Params) (a b : RingStanding) (old new : Disk) → ((t : Clock) (c : Image) → NotAfter t new.moment → new.may_leave c → new.left_since t c) → AreNear (point_of a) (point_of b)
-    → LeavesOnly old new (OneOf keys p a b) → (new.tells → OneOf keys p a b new.cells) → IsSound keys p new
+    → LeavesOnly old new (OneOf keys p a b) → (new.tells → OneOf keys p a b new.cells) → IsSoundDisk keys p new
 after_run keys p a b old new counts near run read = record {
   low = point_of a;
   high = point_of b;
@@ -26,7 +26,7 @@ after_run keys p a b old new counts near run read = record {
   cells = λ tells. either_point keys p a b new.cells (read tells);
 }
 
-settled_sound : (keys : Keys) (p : Params) (s : RingStanding) (d : Disk) → Settled d → Stands keys p s d.cells → IsSound keys p d
+settled_sound : (keys : Keys) (p : Params) (s : RingStanding) (d : Disk) → IsSynced d → Stands keys p s d.cells → IsSoundDisk keys p d
 settled_sound keys p s d settled stands = record {
   low = point_of s;
   high = point_of s;

@@ -11,7 +11,7 @@ use Rattle.ob_tables.proofs.RowLaws.{ties, differs}
 use Rattle.ob_taken.specs.Values as taken
 use Rattle.ob_taken.specs.Values.{Values, with_write}
 use Rattle.ob_serial.specs.Serial.{Map, after_op}
-use Rattle.ob_serial.specs.Vaults as vault
+use Rattle.ob_base.specs.Writes.{write_op}
 use Rattle.ob_serial.specs.Vaults.{Standing}
 use Rattle.ob_stand.specs.Stands.{RingStanding, Stands}
 use Rattle.ob_stand.specs.Vaults.{RingStands, WritesAgree}
@@ -34,12 +34,12 @@ ordered_as q k = ⊎_elim
     (λ (other : q ≢ k). differs q k other ∙ sym (ne_eqb q k other))
     (cases_eq q k)
 
-one_write : (m : Map nat_cmp) (key : ℕ) (value : Option (List ℕ)) (k : ℕ) → cond (k == key) value (finite.get m k) ≡ finite.get (after_op nat_cmp m (vault.write_op (key, value))) k
+one_write : (m : Map nat_cmp) (key : ℕ) (value : Option (List ℕ)) (k : ℕ) → cond (k == key) value (finite.get m k) ≡ finite.get (after_op nat_cmp m (write_op key value)) k
 one_write m key None k = ap (λ b. cond b None (finite.get m k)) (sym (ordered_as k key)) ∙ sym (get-remove nat_cmp_total m key k)
 one_write m key (Some value) k = ap (λ b. cond b (Some value) (finite.get m k)) (sym (ordered_as k key)) ∙ sym (get-insert nat_cmp_total m key value k)
 
 pub writes_agree : WritesAgree
 writes_agree m [] k = refl
 writes_agree m (w ∷ ws) k =
-    let now : Map nat_cmp = after_op nat_cmp m (vault.write_op (w.0.key, w.0.value)) in
+    let now : Map nat_cmp = after_op nat_cmp m (write_op w.0.key w.0.value) in
     ap (λ (f : Values). taken.with_writes f ws k) (λ i q. one_write m w.0.key w.0.value q i) ∙ writes_agree now ws k

@@ -13,7 +13,7 @@ use Rattle.ob_taken.specs.Values.{with_writes}
 use Rattle.ob_values.specs.Carries.{Slots}
 use Rattle.ob_values.specs.Epochs.{Read, IsEpoch}
 use Rattle.ob_values.specs.Runs.{Plains, slots_of}
-use Rattle.ob_epoch.specs.Ends.{Run, IsRunFrom}
+use Rattle.ob_epoch.specs.Ends.{RefillRun, IsRunFrom}
 use Rattle.ob_epoch.specs.Table.{flat_of}
 use Rattle.ob_epoch.specs.Valued.{IsValued, content_with}
 use Rattle.ob_stand.specs.Ends.{RingEnd, IsEndOf}
@@ -37,12 +37,12 @@ abbrev pub StandsValued : Type 0
 StandsValued = (keys : Keys) (p : Params) (s : RingStanding) (image : Image) → Stands keys p s image → IsValued s.content (slots_in keys p s.content image) s.map
 
 -- the end that a run of the planner's calls leads to
-abbrev pub end_of_run : RingStanding → Run → List (Option Entry) → Rows → ℕ → Slots → List (Write × Entry) → RingEnd
+abbrev pub end_of_run : RingStanding → RefillRun → List (Option Entry) → Rows → ℕ → Slots → List (Write × Entry) → RingEnd
 end_of_run s r book rows counter slots ws =
     record { content = content_with r.filled book rows counter; map = with_writes s.map ws; slots = slots; order = (r.before).order }
 
 -- From an image that stands: a run of the planner's calls, which read the image's slots and sealed in its generation, leads to an end.
 abbrev pub RunsEnd : Type 0
-RunsEnd = (keys : Keys) (p : Params) (s : RingStanding) (image : Image) (r : Run) (slots : Slots) (bs : List Read) (js : List Job) (ws : List (Write × Entry)) (book : List (Option Entry)) (rows : Rows) (counter : ℕ)
+RunsEnd = (keys : Keys) (p : Params) (s : RingStanding) (image : Image) (r : RefillRun) (slots : Slots) (bs : List Read) (js : List Job) (ws : List (Write × Entry)) (book : List (Option Entry)) (rows : Rows) (counter : ℕ)
     → Stands keys p s image → (r.first).0 ≡ s.generation → IsEpoch p (flat_of p s.content) s.content.rows rows (slots_in keys p s.content image) slots bs js ws
     → IsRunFrom p r s.content book counter bs ws → IsEndOf p s (end_of_run s r book rows counter slots ws)

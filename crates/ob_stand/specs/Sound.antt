@@ -2,7 +2,7 @@
 use Rattle.std.specs.Prelude.{◌≡◌, ◌⊎◌, ℕ, suc, List}
 use Rattle.ob_base.specs.declared.params.Params.{Params}
 use Rattle.ob_store.specs.Disk.{Disk, Image}
-use Rattle.ob_store.specs.Images.{Settled, LeavesOnly}
+use Rattle.ob_store.specs.Images.{IsSynced, LeavesOnly}
 use Rattle.ob_seal.specs.declared.keys.Keys.{Keys}
 use Rattle.ob_log.specs.Logs.{BatchRecord}
 use Rattle.ob_content.specs.Content.{Content}
@@ -33,7 +33,7 @@ AreNear low high = (high ≡ low) ⊎ (high.epoch ≡ suc low.epoch)
 
 -- Each image that a crash may leave stands, and what is read does: all for one epoch or for two neighbours, each with one map and one
 -- content.
-pub record IsSound (keys : Keys) (p : Params) (disk : Disk) : Type 0 where
+pub record IsSoundDisk (keys : Keys) (p : Params) (disk : Disk) : Type 0 where
   pub low : Point
   pub high : Point
   pub near : AreNear low high
@@ -45,6 +45,6 @@ pub record IsSound (keys : Keys) (p : Params) (disk : Disk) : Type 0 where
 pub record StoresAreSound {S : Type 0} (disk : S → Disk) : Type 0 where
   -- after a run whose images stand for one of two
   pub after_run : (keys : Keys) (p : Params) (a b : RingStanding) (old new : S) → AreNear (point_of a) (point_of b)
-      → LeavesOnly (disk old) (disk new) (OneOf keys p a b) → ((disk new).tells → OneOf keys p a b (disk new).cells) → IsSound keys p (disk new)
+      → LeavesOnly (disk old) (disk new) (OneOf keys p a b) → ((disk new).tells → OneOf keys p a b (disk new).cells) → IsSoundDisk keys p (disk new)
   -- after a sync that succeeded
-  pub settled : (keys : Keys) (p : Params) (s : RingStanding) (store : S) → Settled (disk store) → Stands keys p s (disk store).cells → IsSound keys p (disk store)
+  pub settled : (keys : Keys) (p : Params) (s : RingStanding) (store : S) → IsSynced (disk store) → Stands keys p s (disk store).cells → IsSoundDisk keys p (disk store)

@@ -1,3 +1,5 @@
+//! Each law is called once.
+
 use crate::{
     agree_off_spare, append_stands, appends_leave, end_fills_spare, end_is_held, end_sets,
     end_spares, end_writes_spare, end_writes_stay, ends_exist, ends_leave, formats_exist,

@@ -4,7 +4,7 @@ use Rattle.ob_store.specs.declared.event.Event.{Event}
 use Rattle.ob_store.specs.declared.watch.Note.{Note}
 use Rattle.ob_store.specs.declared.watch.Note.TheVariants.{Sync}
 use Rattle.ob_store.specs.Disk.{Disk, Image, NotAfter}
-use Rattle.ob_store.specs.Images.{Same, Shrinks, Elapses, Passes, Settled, LeavesOnly}
+use Rattle.ob_store.specs.Images.{Same, Shrinks, Elapses, Passes, IsSynced, LeavesOnly}
 use Rattle.ob_store.specs.Calls.{Keeps}
 use Rattle.ob_store.specs.Lines.{Trace}
 use Rattle.ob_store.specs.Told.{Tells, TellsFirst, Does}
@@ -47,8 +47,8 @@ next_stands tag g old mid new small same stands put =
     subst (λ n. KeepsAt tag 1 old n new) (add-one g) (record { stands = kept.stands; rest = λ k out. kept.rest k out ∙ same k })
 
 -- from the sync on
-pub begins : {S : Type 0} (disk : S → Disk) (keys : Keys) (g : ℕ) (old mid new : S) (r : Result (Unit {0}) SetErr) → Passes Same (disk old) (disk mid) → Keeps (disk old) (disk mid) → ((disk old).tells → Settled (disk mid))
-    → ((m : ℕ) → g + 1 ≡ m + 1 → (disk mid).tells → Settled (disk mid) → StandsAt (tagging keys) 1 (disk mid).cells m → LeavesOnly (disk mid) (disk new) (SetLeaves (tagging keys) 1 (disk mid).cells m (g + 1) r))
+pub begins : {S : Type 0} (disk : S → Disk) (keys : Keys) (g : ℕ) (old mid new : S) (r : Result (Unit {0}) SetErr) → Passes Same (disk old) (disk mid) → Keeps (disk old) (disk mid) → ((disk old).tells → IsSynced (disk mid))
+    → ((m : ℕ) → g + 1 ≡ m + 1 → (disk mid).tells → IsSynced (disk mid) → StandsAt (tagging keys) 1 (disk mid).cells m → LeavesOnly (disk mid) (disk new) (SetLeaves (tagging keys) 1 (disk mid).cells m (g + 1) r))
     → BeginsFrom disk keys g old new
 begins disk keys g old mid new r until keeps settled set = record {
   synced = mid;

@@ -1,12 +1,12 @@
 -- A head that is cleared, and what lies behind it.
-use Rattle.std.proofs.Common.{◌≡◌, ◌≢◌, ◌⊎◌, ⊎_elim, inl, inr, ℕ, zero, suc, ◌+◌, ◌%◌, ◌<◌, ◌≤◌, ◌^◌, ◌==◌, List, Bool, true, false, not, ◌||◌, if◌then◌else◌, replicate, take, length, get_or, Result, Ok, Err, refl, sym, ◌∙◌, ap, subst, arith}
+use Rattle.std.proofs.Common.{◌≡◌, ◌≢◌, ◌⊎◌, inl, inr, ℕ, zero, suc, ◌+◌, ◌%◌, ◌<◌, ◌≤◌, ◌^◌, ◌==◌, List, Bool, true, false, not, ◌||◌, if◌then◌else◌, replicate, take, length, get_or, Result, Ok, Err, refl, sym, ◌∙◌, ap, subst, arith}
 use Rattle.std.specs.Prelude.{IsErr}
 use Rattle.ob_base.specs.declared.fault.Failed.{Failed}
 use Rattle.ob_store.specs.Disk.{Disk, Image, NotAfter}
-use Rattle.ob_store.specs.Images.{Settled, SameBut, Tears, Elapses, Passes, LeavesOnly}
+use Rattle.ob_store.specs.Images.{IsSynced, SameBut, Tears, Elapses, Passes, LeavesOnly}
 use Rattle.ob_store.specs.Calls.{GoesOn, Serves, IsFailed}
 use Rattle.ob_store.proofs.Serving.{goes_then}
-use Rattle.ob_store.proofs.Moments.{torn_once, passed_then, leaves_of, then_on, weakened}
+use Rattle.ob_store.proofs.Moments.{torn_once, passed_then, leaves_of, then_on, weakened, passes_so}
 use Rattle.ob_twin.specs.declared.gates.Gates.{Gates}
 use Rattle.ob_twin.specs.declared.gates.Open.{Open}
 use Rattle.ob_twin.specs.declared.twin.Twin.{Twin}
@@ -18,17 +18,9 @@ use Rattle.ob_twin.specs.Reading.{NoneOpen}
 use Rattle.ob_twin.proofs.Moves.{closed-isnt-open}
 use Rattle.ob_twin.proofs.Judging.{at_place}
 use Rattle.ob_twin.proofs.Sets.{put_stands}
-use Rattle.ob_start.specs.Heads.{mark}
+use Rattle.ob_start.specs.Heads.{head_mark}
 use Rattle.ob_start.specs.Laying.{SameHead, HasNoHead, IsTornHead, AreShut, SameButThese, LieBehind}
 use Rattle.ob_start.specs.Orders.{register_gates}
-
--- a step that is another one too
-pub passes_so : (one step : Image → Image → Type 0) (old new : Disk) → ((c d : Image) → one c d → step c d) → Passes one old new → Passes step old new
-passes_so one step old new so passes = record {
-  later = passes.later;
-  now = λ c left. (let back = passes.now c left in (back.0, back.1, so c back.0 back.2));
-  since = λ t c le left. ⊎_elim (λ was. inl was) (λ back. inr (back.0, back.1, so c back.0 back.2)) (passes.since t c le left);
-}
 
 pub head_then : (old mid new : Disk) → Passes SameHead old mid → Passes SameHead mid new → Passes SameHead old new
 head_then old mid new one two = passed_then SameHead old mid new (λ c d e first second. first ∙ second) one two
@@ -40,10 +32,10 @@ torn_high cell old new high later time tears = passes_so (SameBut cell) SameHead
 pub outside_head : (first : ℕ) (old new : Disk) → 0 < first → Passes (SameOutside first) old new → Passes SameHead old new
 outside_head first old new high passes = passes_so (SameOutside first) SameHead old new (λ c d same. same 0 (inl (omega arith))) passes
 
-no_head : (bytes : List ℕ) → bytes ≡ replicate 128 0 → (version : ℕ) → take 12 bytes ≢ mark version
-unfolding mark
+no_head : (bytes : List ℕ) → bytes ≡ replicate 128 0 → (version : ℕ) → take 12 bytes ≢ head_mark version
+unfolding head_mark
 no_head bytes is version same =
-    let wrong : ◌≡◌ {A = List ℕ} (take 12 (replicate 128 0)) (mark version) = ap (λ (l : List ℕ). take 12 l) (sym is) ∙ same in
+    let wrong : ◌≡◌ {A = List ℕ} (take 12 (replicate 128 0)) (head_mark version) = ap (λ (l : List ℕ). take 12 l) (sym is) ∙ same in
     cc
 
 -- the head as it is cleared
@@ -52,9 +44,9 @@ first_torn old new only passes =
     leaves_of (SameBut 0) old.may_leave (IsTornHead old) old new passes only (λ c left. left) (λ c d left step. (d, left, step)) (λ c left. (c, left, λ k off. refl))
 
 -- and until it is written
-pub no_head_left : (a b : Disk) → ((c : Image) → a.left_since a.moment c → a.may_leave c) → a.cells 0 ≡ replicate 128 0 → Settled a → Passes SameHead a b → LeavesOnly a b HasNoHead
+pub no_head_left : (a b : Disk) → ((c : Image) → a.left_since a.moment c → a.may_leave c) → a.cells 0 ≡ replicate 128 0 → IsSynced a → Passes SameHead a b → LeavesOnly a b HasNoHead
 no_head_left a b only blank settled passes =
-    leaves_of SameHead HasNoHead HasNoHead a b passes only (λ c left. no_head (c 0) (settled c left 0 ∙ blank)) (λ c d was step version. subst (λ (l : List ℕ). take 12 l ≢ mark version) (sym step) (was version)) (λ c was. was)
+    leaves_of SameHead HasNoHead HasNoHead a b passes only (λ c left. no_head (c 0) (settled c left 0 ∙ blank)) (λ c d was step version. subst (λ (l : List ℕ). take 12 l ≢ head_mark version) (sym step) (was version)) (λ c was. was)
 
 -- the head is cleared, and then is none
 pub cleared : (old a b : Disk) → LeavesOnly old a (IsTornHead old) → LeavesOnly a b HasNoHead → LeavesOnly old b (λ c. IsTornHead old c ⊎ HasNoHead c)

@@ -8,23 +8,23 @@ use Rattle.std.proofs.Math.Seq.{drop-append-add}
 use Rattle.ob_base.specs.declared.params.Params.{Params}
 use Rattle.ob_base.specs.LittleEndian.{with_part}
 use Rattle.ob_seal.specs.declared.keys.Keys.{Keys}
-use Rattle.ob_start.specs.Heads.{mark, head_plain, head_cell, number_at, IsHead}
+use Rattle.ob_start.specs.Heads.{head_mark, head_plain, head_cell, head_number_at, IsHead}
 
 -- the head that is written is one of its parameters
 pub head_is : (keys : Keys) (version : ℕ) (p : Params) → IsHead keys version p (head_cell keys version p)
-unfolding head_plain mark
+unfolding head_plain head_mark
 head_is keys version p =
     let r = p.in_range in
     let deep : 2 ^ 16 < 2 ^ 32 = omega arith in
-    let a : number_at (head_cell keys version p) 0 ≡ p.keys = from_le_bytes-to_le_bytes_4 p.keys (omega (arith, r.few_keys)) in
-    let b : number_at (head_cell keys version p) 1 ≡ p.levels = from_le_bytes-to_le_bytes_4 p.levels (omega (arith, r.few_levels)) in
-    let c : number_at (head_cell keys version p) 2 ≡ p.real = from_le_bytes-to_le_bytes_4 p.real (omega (arith, r.few_real)) in
-    let d : number_at (head_cell keys version p) 3 ≡ p.dummies = from_le_bytes-to_le_bytes_4 p.dummies (omega (arith, r.few_dummies)) in
-    let e : number_at (head_cell keys version p) 4 ≡ p.batches = from_le_bytes-to_le_bytes_4 p.batches (omega (arith, r.few_batches)) in
-    let f : number_at (head_cell keys version p) 5 ≡ p.places = from_le_bytes-to_le_bytes_4 p.places (omega (arith, r.few_places)) in
-    let g : number_at (head_cell keys version p) 6 ≡ p.writes = from_le_bytes-to_le_bytes_4 p.writes (omega (arith, r.few_writes)) in
-    let h : number_at (head_cell keys version p) 7 ≡ p.evictions = from_le_bytes-to_le_bytes_4 p.evictions (omega (arith, r.few_evictions)) in
-    let i : number_at (head_cell keys version p) 8 ≡ p.room = from_le_bytes-to_le_bytes_4 p.room (omega (arith, r.few_room)) in
+    let a : head_number_at (head_cell keys version p) 0 ≡ p.keys = from_le_bytes-to_le_bytes_4 p.keys (omega (arith, r.few_keys)) in
+    let b : head_number_at (head_cell keys version p) 1 ≡ p.levels = from_le_bytes-to_le_bytes_4 p.levels (omega (arith, r.few_levels)) in
+    let c : head_number_at (head_cell keys version p) 2 ≡ p.real = from_le_bytes-to_le_bytes_4 p.real (omega (arith, r.few_real)) in
+    let d : head_number_at (head_cell keys version p) 3 ≡ p.dummies = from_le_bytes-to_le_bytes_4 p.dummies (omega (arith, r.few_dummies)) in
+    let e : head_number_at (head_cell keys version p) 4 ≡ p.batches = from_le_bytes-to_le_bytes_4 p.batches (omega (arith, r.few_batches)) in
+    let f : head_number_at (head_cell keys version p) 5 ≡ p.places = from_le_bytes-to_le_bytes_4 p.places (omega (arith, r.few_places)) in
+    let g : head_number_at (head_cell keys version p) 6 ≡ p.writes = from_le_bytes-to_le_bytes_4 p.writes (omega (arith, r.few_writes)) in
+    let h : head_number_at (head_cell keys version p) 7 ≡ p.evictions = from_le_bytes-to_le_bytes_4 p.evictions (omega (arith, r.few_evictions)) in
+    let i : head_number_at (head_cell keys version p) 8 ≡ p.room = from_le_bytes-to_le_bytes_4 p.room (omega (arith, r.few_room)) in
     record { marked = refl; stamped = refl; numbers = nine a b c d e f g h i }
   where
     nine : {a b c d e f g h i a' b' c' d' e' f' g' h' i' : ℕ} → a ≡ a' → b ≡ b' → c ≡ c' → d ≡ d' → e ≡ e' → f ≡ f' → g ≡ g' → h ≡ h' → i ≡ i'

@@ -1,9 +1,9 @@
 -- What the begin of a generation tells and leaves.
-use Rattle.std.specs.Prelude.{◌≡◌, ◌⊎◌, ◌^◌, ℕ, suc, None, Result, Ok, Err}
+use Rattle.std.specs.Prelude.{◌≡◌, ◌<◌, ◌⊎◌, ◌^◌, ℕ, suc, None, Result, Ok, Err}
 use Rattle.ob_base.specs.declared.fault.Fault.{Fault}
 use Rattle.ob_base.specs.declared.fault.Fault.TheVariants as fault
 use Rattle.ob_store.specs.Disk.{Disk}
-use Rattle.ob_store.specs.Images.{Same, Settled, Passes, LeavesOnly}
+use Rattle.ob_store.specs.Images.{Same, IsSynced, Passes, LeavesOnly}
 use Rattle.ob_store.specs.Calls.{Keeps}
 use Rattle.ob_seal.specs.declared.keys.Keys.{Keys}
 use Rattle.ob_twin.specs.Keyed.{tagging}
@@ -12,7 +12,7 @@ use Rattle.ob_twin.specs.Register.{StandsAt, OldOrNew}
 -- its refusals
 abbrev pub IsBeginFault : ℕ → Fault → Type 0
 IsBeginFault generation (fault.Worn number) = (number ≡ 2 ^ 62) × (suc generation ≡ 2 ^ 62)
-IsBeginFault generation (fault.StoreFault unsure) = unsure ≡ None
+IsBeginFault generation (fault.StoreFault unsure) = (unsure ≡ None) × (suc generation < 2 ^ 62)
 IsBeginFault generation _ = ⊥
 
 abbrev pub IsWornFault : Fault → Type 0
@@ -25,7 +25,7 @@ pub record BeginsFrom {S : Type 0} (disk : S → Disk) (keys : Keys) (generation
   pub synced : S
   pub until : Passes Same (disk old) (disk synced)
   pub keeps : Keeps (disk old) (disk synced)
-  pub settled : (disk old).tells → Settled (disk synced)
+  pub settled : (disk old).tells → IsSynced (disk synced)
   pub since : (disk old).tells → StandsAt (tagging keys) 1 (disk old).cells generation → LeavesOnly (disk synced) (disk new) (OldOrNew (tagging keys) 1 (disk synced).cells generation (suc generation))
 
 -- a refused one may have left all images as they were

@@ -17,8 +17,8 @@ use Rattle.ob_twin.specs.Bodies.{IsStamped, IsMisstamped}
 use Rattle.ob_twin.specs.Keyed.{tagging}
 
 -- a head begins with `OBLADIST` and the version's number
-unfoldable pub mark : ℕ → List ℕ
-mark version = codes "OBLADIST" ++ to_le_bytes w32 version
+unfoldable pub head_mark : ℕ → List ℕ
+head_mark version = codes "OBLADIST" ++ to_le_bytes w32 version
 
 -- the parameters in their order
 abbrev pub numbers_of : Params → List ℕ
@@ -26,57 +26,57 @@ numbers_of p = p.keys ∷ p.levels ∷ p.real ∷ p.dummies ∷ p.batches ∷ p.
 
 -- behind the mark stand the parameters, of 4 bytes each, and zeros
 unfoldable pub head_plain : ℕ → Params → List ℕ
-head_plain version p = mark version ++ flat_map (λ n. to_le_bytes w32 n) (numbers_of p) ++ replicate 64 0
+head_plain version p = head_mark version ++ flat_map (λ n. to_le_bytes w32 n) (numbers_of p) ++ replicate 64 0
 
 abbrev pub head_cell : Keys → ℕ → Params → List ℕ
 head_cell keys version p = head_plain version p ++ tagging keys 0 (head_plain version p)
 
 -- the number at one of the nine places behind the mark
-abbrev pub number_at : List ℕ → ℕ → ℕ
-number_at bytes place = field_at w32 bytes (12 + 4 * place)
+abbrev pub head_number_at : List ℕ → ℕ → ℕ
+head_number_at bytes place = field_at w32 bytes (12 + 4 * place)
 
 abbrev pub numbers_in : List ℕ → List ℕ
 numbers_in bytes =
-    number_at bytes 0 ∷ number_at bytes 1 ∷ number_at bytes 2 ∷ number_at bytes 3 ∷ number_at bytes 4
-    ∷ number_at bytes 5 ∷ number_at bytes 6 ∷ number_at bytes 7 ∷ number_at bytes 8 ∷ []
+    head_number_at bytes 0 ∷ head_number_at bytes 1 ∷ head_number_at bytes 2 ∷ head_number_at bytes 3 ∷ head_number_at bytes 4
+    ∷ head_number_at bytes 5 ∷ head_number_at bytes 6 ∷ head_number_at bytes 7 ∷ head_number_at bytes 8 ∷ []
 
 -- the head of these parameters
 pub record IsHead (keys : Keys) (version : ℕ) (p : Params) (bytes : List ℕ) : Type 0 where
-  pub marked : take 12 bytes ≡ mark version
+  pub marked : take 12 bytes ≡ head_mark version
   pub stamped : IsStamped (tagging keys) 0 bytes
   pub numbers : numbers_in bytes ≡ numbers_of p
 
 -- the first number that is out of its range
 abbrev pub first_bad : List ℕ → Option Field
 first_bad bytes =
-    first_out_of_range (number_at bytes 0) (number_at bytes 1) (number_at bytes 2) (number_at bytes 3) (number_at bytes 4)
-    (number_at bytes 5) (number_at bytes 6) (number_at bytes 7) (number_at bytes 8)
+    first_out_of_range (head_number_at bytes 0) (head_number_at bytes 1) (head_number_at bytes 2) (head_number_at bytes 3) (head_number_at bytes 4)
+    (head_number_at bytes 5) (head_number_at bytes 6) (head_number_at bytes 7) (head_number_at bytes 8)
 
-abbrev pub place_of : Field → ℕ
-place_of L = 1
-place_of Z = 2
-place_of S = 3
-place_of R = 4
-place_of BR = 5
-place_of BW = 6
-place_of E = 7
-place_of T = 8
-place_of _ = 0
+abbrev pub field_place : Field → ℕ
+field_place L = 1
+field_place Z = 2
+field_place S = 3
+field_place R = 4
+field_place BR = 5
+field_place BW = 6
+field_place E = 7
+field_place T = 8
+field_place _ = 0
 
 -- what is told of a number out of its range: the number, and 1, which is the least in each range
-pub record IsBadNumber (bytes : List ℕ) (damaged : Damaged) : Type 0 where
+pub record IsBadHeadNumber (bytes : List ℕ) (damaged : Damaged) : Type 0 where
   pub field : Field
   pub first : first_bad bytes ≡ Some field
-  pub is : damaged ≡ record { cell = 0; check = Form; kept = told_number (number_at bytes (place_of field)); computed = told_number 1 }
+  pub is : damaged ≡ record { cell = 0; check = Form; kept = told_number (head_number_at bytes (field_place field)); computed = told_number 1 }
 
 -- what is read of a head, where the store doesn't fail
 abbrev pub IsHeadRead : Keys → ℕ → List ℕ → Result Params Fault → Type 0
 IsHeadRead keys version bytes (Ok p) = IsHead keys version p bytes
-IsHeadRead keys version bytes (Err fault.NotStore) = take 12 bytes ≢ mark version
+IsHeadRead keys version bytes (Err fault.NotStore) = take 12 bytes ≢ head_mark version
 IsHeadRead keys version bytes (Err (fault.Damaged cell check kept computed)) =
-    (take 12 bytes ≡ mark version)
+    (take 12 bytes ≡ head_mark version)
     × (IsMisstamped (tagging keys) 0 bytes (record { cell = cell; check = check; kept = kept; computed = computed })
-    ⊎ (IsStamped (tagging keys) 0 bytes × IsBadNumber bytes (record { cell = cell; check = check; kept = kept; computed = computed })))
+    ⊎ (IsStamped (tagging keys) 0 bytes × IsBadHeadNumber bytes (record { cell = cell; check = check; kept = kept; computed = computed })))
 IsHeadRead keys version bytes (Err (fault.StoreFault unsure)) = Unit {0}
 IsHeadRead keys version bytes (Err _) = ⊥
 

@@ -3,7 +3,7 @@ use Rattle.std.specs.Prelude.{◌≡◌, ◌≢◌, ◌<◌, ℕ, List, length, 
 use Rattle.ob_store.specs.Disk.{Disk, Image}
 use Rattle.ob_store.specs.Images.{SameBut}
 use Rattle.ob_twin.specs.Bodies.{closed_gate}
-use Rattle.ob_start.specs.Heads.{mark}
+use Rattle.ob_start.specs.Heads.{head_mark}
 
 -- the two images have the same head
 abbrev pub SameHead : Image → Image → Type 0
@@ -11,7 +11,7 @@ SameHead a b = a 0 ≡ b 0
 
 -- the image is no store, of any version
 abbrev pub HasNoHead : Image → Type 0
-HasNoHead image = (version : ℕ) → take 12 (image 0) ≢ mark version
+HasNoHead image = (version : ℕ) → take 12 (image 0) ≢ head_mark version
 
 -- an image that might have been left before, but for its head, which may hold anything
 abbrev pub IsTornHead : Disk → Image → Type 0

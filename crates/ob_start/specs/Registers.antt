@@ -10,7 +10,7 @@ use Rattle.ob_twin.specs.declared.gates.Gates.{Gates}
 use Rattle.ob_twin.specs.declared.gates.Open.{Open}
 use Rattle.ob_twin.specs.Keyed.{tagging}
 use Rattle.ob_twin.specs.Register.{first_of}
-use Rattle.ob_twin.specs.Reading.{NoneOpen, AllWhole, Counts, IsFirstDamage}
+use Rattle.ob_twin.specs.Reading.{NoneOpen, AllWhole, Counts, IsFirstTwinDamage}
 use Rattle.ob_twin.specs.Opening.{with_known, GatesAre}
 use Rattle.ob_start.specs.declared.registers.Register.{Register}
 use Rattle.ob_start.specs.declared.registers.Register.TheVariants.{Closed, Number, Broken}
@@ -27,13 +27,13 @@ pub record Found (keys : Keys) (image : Image) (generation epoch : ℕ) : Type 0
 pub record IsRegisterDamage (keys : Keys) (image : Image) (damaged : Damaged) : Type 0 where
   pub generation_open : NoneOpen 1 image → ⊥
   pub epoch_open : NoneOpen 5 image → ⊥
-  pub first : IsFirstDamage (tagging keys) 1 image damaged ⊎ (AllWhole (tagging keys) 1 image × IsFirstDamage (tagging keys) 5 image damaged)
+  pub first : IsFirstTwinDamage (tagging keys) 1 image damaged ⊎ (AllWhole (tagging keys) 1 image × IsFirstTwinDamage (tagging keys) 5 image damaged)
 
 -- what is read of one
 abbrev pub IsRegister : Keys → ℕ → Image → Register → Type 0
 IsRegister keys first image Closed = NoneOpen first image
 IsRegister keys first image (Number n) = AllWhole (tagging keys) first image × Counts first image n
-IsRegister keys first image (Broken damaged) = IsFirstDamage (tagging keys) first image damaged
+IsRegister keys first image (Broken damaged) = IsFirstTwinDamage (tagging keys) first image damaged
 
 -- its number is small
 abbrev pub IsBelow : Register → Type 0

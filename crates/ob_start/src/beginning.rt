@@ -1,5 +1,7 @@
+//! A generation, begun.
+
 ghost use Rattle.std.specs.Prelude.{◌≡◌, ◌<◌, ◌^◌, suc, OnOk, IfOk, IfErr};
-ghost use Rattle.ob_store.specs.Images.{Settled};
+ghost use Rattle.ob_store.specs.Images.{IsSynced};
 ghost use Rattle.ob_store.specs.Calls.{Serves, IsStoreFault};
 ghost use Rattle.ob_store.specs.Told.{Does};
 ghost use Rattle.ob_twin.specs.Keyed.{tagging};
@@ -28,19 +30,27 @@ pub fn begin<S: Store, W: Watch>(
 ) -> Result<u64, Fault>
     requires none_out { (S.disk store.old).out ≡ 0 }
     requires small { generation < 2 ^ 62 }
-    requires told { (S.disk store.old).tells → GatesAre gates.old.generation 1 (S.disk store.old).cells }
+    requires told { (S.disk store.old).tells
+        → GatesAre gates.old.generation 1 (S.disk store.old).cells }
     ensures serves { Serves IsStoreFault (S.disk store.old) (S.disk store.new) result }
     ensures faults { IfErr result (IsBeginFault generation) }
-    ensures untouched { IfErr result (λ refused. IsWornFault refused → (store.new ≡ store.old) × (watch.new ≡ watch.old)) }
+    ensures untouched { IfErr result (λ refused. IsWornFault refused → (store.new ≡ store.old)
+        × (watch.new ≡ watch.old)) }
     ensures next { IfOk result (λ next. (next ≡ suc generation) × (next < 2 ^ 62)) }
     ensures epoch { gates.new.epoch ≡ gates.old.epoch }
-    ensures rest { (S.disk store.old).tells → SameOutside 1 (S.disk store.new).cells (S.disk store.old).cells }
-    ensures durable { (S.disk store.old).tells → OnOk result (Settled (S.disk store.new)) }
+    ensures known { (S.disk store.old).tells
+        → OnOk result (GatesAre gates.new.generation 1 (S.disk store.new).cells) }
+    ensures rest { (S.disk store.old).tells
+        → SameOutside 1 (S.disk store.new).cells (S.disk store.old).cells }
+    ensures durable { (S.disk store.old).tells → OnOk result (IsSynced (S.disk store.new)) }
     // Where the register stood at the generation, it stands at the next one once it is done.
-    ensures stands { (S.disk store.old).tells → StandsAt (tagging sealer.now.keys) 1 (S.disk store.old).cells generation
-        → OnOk result (KeepsAt (tagging sealer.now.keys) 1 (S.disk store.old).cells (suc generation) (S.disk store.new).cells) }
+    ensures stands { (S.disk store.old).tells
+        → StandsAt (tagging sealer.now.keys) 1 (S.disk store.old).cells generation
+        → OnOk result (KeepsAt (tagging sealer.now.keys) 1 (S.disk store.old).cells (suc generation)
+        (S.disk store.new).cells) }
     ensures leaves { BeginLeaves S.disk sealer.now.keys generation store.old store.new result }
-    ensures does { Does (begin_notes gates.old.generation (suc generation)) (S.disk store.old).seen (S.disk store.new).seen (W.trace watch.old) (W.trace watch.new) result }
+    ensures does { Does (begin_notes gates.old.generation (suc generation)) (S.disk store.old).seen
+        (S.disk store.new).seen (W.trace watch.old) (W.trace watch.new) result }
 {
     let next = generation + 1;
     if next >= NUMBER_LIMIT {

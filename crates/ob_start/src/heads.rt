@@ -1,3 +1,5 @@
+//! The head of a store.
+
 ghost use Rattle.std.specs.Prelude.{◌≡◌, ◌↔◌, ◌≤◌, ◌+◌, ◌*◌, ◌^◌, [], ◌∷◌, IsTrue, IfErr, OnOk, OnErr, length, take, ◌++◌};
 ghost use Rattle.std.specs.List.{flat_map};
 ghost use Rattle.std.specs.Int.{w32, to_le_bytes};
@@ -7,7 +9,7 @@ ghost use Rattle.ob_store.specs.Images.{Same, Passes};
 ghost use Rattle.ob_store.specs.Calls.{Serves, IsFailed, IsStoreFault, Keeps};
 ghost use Rattle.ob_store.specs.Told.{Does};
 ghost use Rattle.ob_twin.specs.Got.{DoesReads};
-ghost use Rattle.ob_start.specs.Heads.{mark, head_plain, number_at, place_of, IsHeadRead, IsHeadFault};
+ghost use Rattle.ob_start.specs.Heads.{head_mark, head_plain, head_number_at, field_place, IsHeadRead, IsHeadFault};
 
 use ob_base::{Failed, Fault, Field, Params, set_u32, u32_at};
 use ob_cells::{bad_number, put};
@@ -16,9 +18,9 @@ use ob_store::{Store, Watch, read_noted};
 use ob_twin::Stamper;
 
 // What a head of a version begins with.
-#[tactic(auto, unfolding(crate::specs::Heads::mark))]
+#[tactic(auto, unfolding(crate::specs::Heads::head_mark))]
 fn mark(version: u32) -> [u8; 12]
-    ensures { result ≡ mark version }
+    ensures { result ≡ head_mark version }
 {
     let mut bytes = *b"OBLADIST\0\0\0\0";
     bytes[8..].copy_from_slice(&version.to_le_bytes());
@@ -37,7 +39,8 @@ fn put_numbers(plain: &mut [u8], numbers: &[u32])
 
 /// The cell of a head: `OBLADIST`, the version, the nine parameters of 4 bytes each, zeros, the tag.
 pub fn head_cell<T: Stamper>(stamper: &T, version: u32, params: &Params) -> [u8; 128]
-    ensures { result ≡ head_plain version params.now ++ T.tag stamper.now 0 (head_plain version params.now) }
+    ensures { result
+        ≡ head_plain version params.now ++ T.tag stamper.now 0 (head_plain version params.now) }
 {
     let mut plain = [0; 112];
     put(&mut plain, 0, &mark(version));
@@ -60,7 +63,7 @@ pub fn head_cell<T: Stamper>(stamper: &T, version: u32, params: &Params) -> [u8;
 
 // Whether a cell begins as a head of this version does.
 fn is_marked(bytes: &[u8; 128], version: u32) -> bool
-    ensures { IsTrue result ↔ take 12 bytes.now ≡ mark version }
+    ensures { IsTrue result ↔ take 12 bytes.now ≡ head_mark version }
 {
     bytes[..12] == mark(version)[..]
 }
@@ -68,14 +71,14 @@ fn is_marked(bytes: &[u8; 128], version: u32) -> bool
 // The number at one of the nine places of a head.
 fn number_at(bytes: &[u8; 128], place: usize) -> u32
     requires { place ≤ 8 }
-    ensures { result ≡ number_at bytes.now place }
+    ensures { result ≡ head_number_at bytes.now place }
 {
     u32_at(bytes, 12 + 4 * place)
 }
 
 // The place of a parameter in the head.
 fn place_of(field: Field) -> usize
-    ensures place { result ≡ place_of field }
+    ensures place { result ≡ field_place field }
     ensures few { result ≤ 8 }
 {
     match field {
@@ -132,10 +135,12 @@ fn read_cell<S: Store, W: Watch>(
     watch: &mut W,
 ) -> Result<(), Failed>
     ensures serves { Serves IsFailed (S.disk store.old) (S.disk store.new) result }
-    ensures bytes { (S.disk store.old).tells → OnOk result (bytes.new ≡ (S.disk store.old).cells cell) }
+    ensures bytes { (S.disk store.old).tells
+        → OnOk result (bytes.new ≡ (S.disk store.old).cells cell) }
     ensures keeps { Keeps (S.disk store.old) (S.disk store.new) }
     ensures passes { Passes Same (S.disk store.old) (S.disk store.new) }
-    ensures does { Does (note.Read cell ∷ []) (S.disk store.old).seen (S.disk store.new).seen (W.trace watch.old) (W.trace watch.new) result }
+    ensures does { Does (note.Read cell ∷ []) (S.disk store.old).seen (S.disk store.new).seen
+        (W.trace watch.old) (W.trace watch.new) result }
 {
     let mut lane = store.lane()?;
     let outcome = read_noted(store, &mut lane, cell, bytes, watch);
@@ -157,11 +162,13 @@ pub fn read_head<S: Store, W: Watch>(
 ) -> Result<Params, Fault>
     ensures serves { Serves IsStoreFault (S.disk store.old) (S.disk store.new) result }
     ensures faults { IfErr result IsHeadFault }
-    ensures value { (S.disk store.old).tells → IsHeadRead keys.now version ((S.disk store.old).cells 0) result }
+    ensures value { (S.disk store.old).tells
+        → IsHeadRead keys.now version ((S.disk store.old).cells 0) result }
     ensures keeps { Keeps (S.disk store.old) (S.disk store.new) }
     // A crash at any moment leaves what it might have left before.
     ensures passes { Passes Same (S.disk store.old) (S.disk store.new) }
-    ensures does { DoesReads (note.Read 0 ∷ []) (S.disk store.old).seen (S.disk store.new).seen (W.trace watch.old) (W.trace watch.new) result }
+    ensures does { DoesReads (note.Read 0 ∷ []) (S.disk store.old).seen (S.disk store.new).seen
+        (W.trace watch.old) (W.trace watch.new) result }
 {
     let mut bytes = [0; 128];
     match read_cell(store, 0, &mut bytes, watch) {

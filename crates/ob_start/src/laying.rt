@@ -1,5 +1,7 @@
+//! Registers of a new store.
+
 ghost use Rattle.std.specs.Prelude.{◌≡◌, ◌⊎◌, ◌<◌, ◌^◌, [], ◌∷◌, true, OnOk, replicate};
-ghost use Rattle.ob_store.specs.Images.{Settled, Passes, LeavesOnly};
+ghost use Rattle.ob_store.specs.Images.{IsSynced, Passes, LeavesOnly};
 ghost use Rattle.ob_store.specs.Calls.{Serves, IsFailed};
 ghost use Rattle.ob_store.specs.Told.{Does};
 ghost use Rattle.ob_twin.specs.Keyed.{tagging};
@@ -19,10 +21,13 @@ fn shut<S: Store, W: Watch>(store: &mut S, gates: &[u64], watch: &mut W) -> Resu
     requires none_out { (S.disk store.old).out ≡ 0 }
     requires behind { LieBehind 0 gates.now }
     ensures serves { Serves IsFailed (S.disk store.old) (S.disk store.new) result }
-    ensures shut { (S.disk store.old).tells → OnOk result (AreShut gates.now (S.disk store.new).cells) }
-    ensures rest { (S.disk store.old).tells → SameButThese gates.now (S.disk store.new).cells (S.disk store.old).cells }
+    ensures shut { (S.disk store.old).tells
+        → OnOk result (AreShut gates.now (S.disk store.new).cells) }
+    ensures rest { (S.disk store.old).tells
+        → SameButThese gates.now (S.disk store.new).cells (S.disk store.old).cells }
     ensures passes { Passes SameHead (S.disk store.old) (S.disk store.new) }
-    ensures does { Does (writes_of gates.now) (S.disk store.old).seen (S.disk store.new).seen (W.trace watch.old) (W.trace watch.new) result }
+    ensures does { Does (writes_of gates.now) (S.disk store.old).seen (S.disk store.new).seen
+        (W.trace watch.old) (W.trace watch.new) result }
 {
     let closed = closed_gate();
     for gate in gates {
@@ -36,11 +41,15 @@ fn shut_gates<S: Store, W: Watch>(store: &mut S, more: &[u64], watch: &mut W) ->
     requires none_out { (S.disk store.old).out ≡ 0 }
     requires behind { LieBehind 8 more.now }
     ensures serves { Serves IsFailed (S.disk store.old) (S.disk store.new) result }
-    ensures registers { (S.disk store.old).tells → OnOk result (AreShut register_gates (S.disk store.new).cells) }
-    ensures more { (S.disk store.old).tells → OnOk result (AreShut more.now (S.disk store.new).cells) }
-    ensures head { (S.disk store.old).tells → OnOk result (SameHead (S.disk store.new).cells (S.disk store.old).cells) }
+    ensures registers { (S.disk store.old).tells
+        → OnOk result (AreShut register_gates (S.disk store.new).cells) }
+    ensures more { (S.disk store.old).tells
+        → OnOk result (AreShut more.now (S.disk store.new).cells) }
+    ensures head { (S.disk store.old).tells
+        → OnOk result (SameHead (S.disk store.new).cells (S.disk store.old).cells) }
     ensures passes { Passes SameHead (S.disk store.old) (S.disk store.new) }
-    ensures does { Does (shut_notes more.now) (S.disk store.old).seen (S.disk store.new).seen (W.trace watch.old) (W.trace watch.new) result }
+    ensures does { Does (shut_notes more.now) (S.disk store.old).seen (S.disk store.new).seen
+        (W.trace watch.old) (W.trace watch.new) result }
 {
     shut(store, &[2, 4, 6, 8], watch)?;
     shut(store, more, watch)?;
@@ -62,11 +71,15 @@ pub fn set_first<S: Store, W: Watch>(
     requires small { n < 2 ^ 62 }
     requires closed { (S.disk store.old).tells → NoneOpen (first_of twin) (S.disk store.old).cells }
     ensures serves { Serves IsFailed (S.disk store.old) (S.disk store.new) result }
-    ensures stands { (S.disk store.old).tells → OnOk result (StandsAt (tagging sealer.now.keys) (first_of twin) (S.disk store.new).cells n) }
-    ensures rest { (S.disk store.old).tells → SameOutside (first_of twin) (S.disk store.new).cells (S.disk store.old).cells }
+    ensures stands { (S.disk store.old).tells
+        → OnOk result (StandsAt (tagging sealer.now.keys) (first_of twin) (S.disk store.new).cells
+        n) }
+    ensures rest { (S.disk store.old).tells
+        → SameOutside (first_of twin) (S.disk store.new).cells (S.disk store.old).cells }
     ensures passes { Passes (SameOutside (first_of twin)) (S.disk store.old) (S.disk store.new) }
-    ensures durable { (S.disk store.old).tells → OnOk result (Settled (S.disk store.new)) }
-    ensures does { Does (set_notes true (first_of twin) n) (S.disk store.old).seen (S.disk store.new).seen (W.trace watch.old) (W.trace watch.new) result }
+    ensures durable { (S.disk store.old).tells → OnOk result (IsSynced (S.disk store.new)) }
+    ensures does { Does (set_notes true (first_of twin) n) (S.disk store.old).seen
+        (S.disk store.new).seen (W.trace watch.old) (W.trace watch.new) result }
 {
     match twin.set(store, sealer, &mut Gates::new(), n, watch) {
         Ok(()) => Ok(()),
@@ -88,14 +101,20 @@ pub fn lay_registers<S: Store, W: Watch>(
     requires none_out { (S.disk store.old).out ≡ 0 }
     requires behind { LieBehind 8 more_gates.now }
     ensures serves { Serves IsFailed (S.disk store.old) (S.disk store.new) result }
-    ensures generation { (S.disk store.old).tells → OnOk result (StandsAt (tagging sealer.now.keys) 1 (S.disk store.new).cells 1) }
+    ensures generation { (S.disk store.old).tells
+        → OnOk result (StandsAt (tagging sealer.now.keys) 1 (S.disk store.new).cells 1) }
     ensures epoch { (S.disk store.old).tells → OnOk result (NoneOpen 5 (S.disk store.new).cells) }
-    ensures shut { (S.disk store.old).tells → OnOk result (AreShut more_gates.now (S.disk store.new).cells) }
-    ensures blank { (S.disk store.old).tells → OnOk result ((S.disk store.new).cells 0 ≡ replicate 128 0) }
-    ensures durable { (S.disk store.old).tells → OnOk result (Settled (S.disk store.new)) }
+    ensures shut { (S.disk store.old).tells
+        → OnOk result (AreShut more_gates.now (S.disk store.new).cells) }
+    ensures blank { (S.disk store.old).tells
+        → OnOk result ((S.disk store.new).cells 0 ≡ replicate 128 0) }
+    ensures durable { (S.disk store.old).tells → OnOk result (IsSynced (S.disk store.new)) }
     // A crash at any moment leaves a torn head, or no store.
-    ensures crash { (S.disk store.old).tells → LeavesOnly (S.disk store.old) (S.disk store.new) (λ c. IsTornHead (S.disk store.old) c ⊎ HasNoHead c) }
-    ensures does { Does (lay_notes more_gates.now) (S.disk store.old).seen (S.disk store.new).seen (W.trace watch.old) (W.trace watch.new) result }
+    ensures crash { (S.disk store.old).tells
+        → LeavesOnly (S.disk store.old) (S.disk store.new) (λ c. IsTornHead (S.disk store.old) c
+        ⊎ HasNoHead c) }
+    ensures does { Does (lay_notes more_gates.now) (S.disk store.old).seen (S.disk store.new).seen
+        (W.trace watch.old) (W.trace watch.new) result }
 {
     write_through(store, 0, &[0; 128], watch)?;
     shut_gates(store, more_gates, watch)?;

@@ -1,3 +1,5 @@
+//! Reading both registers.
+
 ghost use Rattle.std.specs.Prelude.{◌≡◌, ◌<◌, ◌^◌, ℕ, suc, None, IfOk, IfErr, OnOk, OnErr};
 ghost use Rattle.ob_base.specs.declared.fault.Fault.TheVariants as fault;
 ghost use Rattle.ob_store.specs.Disk.{Image};
@@ -44,12 +46,15 @@ fn read_register<S: Store, W: Watch>(
 ) -> Result<Register, Fault>
     ensures serves { Serves IsStoreFault (S.disk store.old) (S.disk store.new) result }
     ensures faults { IfErr result (λ refused. refused ≡ fault.StoreFault None) }
-    ensures value { (S.disk store.old).tells → IfOk result (IsRegister sealer.now.keys (first_of twin) (S.disk store.old).cells) }
+    ensures value { (S.disk store.old).tells
+        → IfOk result (IsRegister sealer.now.keys (first_of twin) (S.disk store.old).cells) }
     ensures below { IfOk result IsBelow }
-    ensures gates { (S.disk store.old).tells → OnOk result (KnowsGates twin gates.old gates.new (S.disk store.old).cells) }
+    ensures gates { (S.disk store.old).tells
+        → OnOk result (KnowsGates twin gates.old gates.new (S.disk store.old).cells) }
     ensures keeps { Keeps (S.disk store.old) (S.disk store.new) }
     ensures passes { Passes Same (S.disk store.old) (S.disk store.new) }
-    ensures does { Does (get_notes (first_of twin)) (S.disk store.old).seen (S.disk store.new).seen (W.trace watch.old) (W.trace watch.new) result }
+    ensures does { Does (get_notes (first_of twin)) (S.disk store.old).seen (S.disk store.new).seen
+        (W.trace watch.old) (W.trace watch.new) result }
 {
     match twin.get(store, sealer, gates, watch) {
         Ok(None) => Ok(Register::Closed),
@@ -73,10 +78,12 @@ fn read_register<S: Store, W: Watch>(
 
 // What both registers tell: first whether the store is one, then the damage in the order of cells.
 fn judge(generation: Register, epoch: Register) -> Result<Numbers, Fault>
-    ensures value { (keys : Keys) (image : Image) → IsRegister keys 1 image generation → IsRegister keys 5 image epoch → AreRegisters keys image result }
+    ensures value { (keys : Keys) (image : Image) → IsRegister keys 1 image generation
+        → IsRegister keys 5 image epoch → AreRegisters keys image result }
     ensures faults { IfErr result IsRegistersFault }
     ensures own { IfErr result (λ refused. IsStoreFault refused → ⊥) }
-    ensures below { IsBelow generation → IsBelow epoch → IfOk result (λ numbers. (numbers.generation < 2 ^ 62) × (numbers.epoch < 2 ^ 62)) }
+    ensures below { IsBelow generation → IsBelow epoch
+        → IfOk result (λ numbers. (numbers.generation < 2 ^ 62) × (numbers.epoch < 2 ^ 62)) }
 {
     match (generation, epoch) {
         (Register::Closed, _) => Err(Fault::NotStore),
@@ -106,13 +113,18 @@ pub fn read_registers<S: Store, W: Watch>(
 ) -> Result<Numbers, Fault>
     ensures serves { Serves IsStoreFault (S.disk store.old) (S.disk store.new) result }
     ensures faults { IfErr result IsRegistersFault }
-    ensures value { (S.disk store.old).tells → AreRegisters sealer.now.keys (S.disk store.old).cells result }
-    ensures below { IfOk result (λ numbers. (numbers.generation < 2 ^ 62) × (numbers.epoch < 2 ^ 62)) }
-    ensures generation { (S.disk store.old).tells → OnOk result (GatesAre gates.new.generation 1 (S.disk store.old).cells) }
-    ensures epoch { (S.disk store.old).tells → OnOk result (GatesAre gates.new.epoch 5 (S.disk store.old).cells) }
+    ensures value { (S.disk store.old).tells
+        → AreRegisters sealer.now.keys (S.disk store.old).cells result }
+    ensures below { IfOk result (λ numbers. (numbers.generation < 2 ^ 62)
+        × (numbers.epoch < 2 ^ 62)) }
+    ensures generation { (S.disk store.old).tells
+        → OnOk result (GatesAre gates.new.generation 1 (S.disk store.old).cells) }
+    ensures epoch { (S.disk store.old).tells
+        → OnOk result (GatesAre gates.new.epoch 5 (S.disk store.old).cells) }
     ensures keeps { Keeps (S.disk store.old) (S.disk store.new) }
     ensures passes { Passes Same (S.disk store.old) (S.disk store.new) }
-    ensures does { DoesReads registers_notes (S.disk store.old).seen (S.disk store.new).seen (W.trace watch.old) (W.trace watch.new) result }
+    ensures does { DoesReads registers_notes (S.disk store.old).seen (S.disk store.new).seen
+        (W.trace watch.old) (W.trace watch.new) result }
 {
     let generation = match read_register(Twin::GENERATION, store, sealer, gates, watch) {
         Ok(generation) => generation,

@@ -1,3 +1,5 @@
+//! A store of another version, begun.
+
 use crate::{begin, lay_registers, read_head, read_registers, set_first};
 use ob_base::Fault;
 use ob_mem::{MemSink, MemStore};

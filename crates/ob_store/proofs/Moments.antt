@@ -1,7 +1,7 @@
 -- How images go on through a run of calls.
 use Rattle.std.proofs.Common.{◌≡◌, ◌≢◌, ◌⊎◌, inl, inr, ⊎_elim, ℕ, ◌+◌, ◌<◌, ◌≤◌, ◌∙◌, arith}
 use Rattle.ob_store.specs.Disk.{Clock, NotAfter, Disk, Image}
-use Rattle.ob_store.specs.Images.{Elapses, LeavesOnly, Passes, SameBut, SameOff, Tears, Shrinks, Settled}
+use Rattle.ob_store.specs.Images.{Elapses, LeavesOnly, Passes, SameBut, SameOff, Tears, Shrinks, IsSynced}
 
 pub no_later : (t : Clock) → NotAfter t t
 no_later t part = omega arith
@@ -56,6 +56,14 @@ passed_on step one old mid new join so_far later time crash = record {
         let back = so_far.now one_back.0 one_back.1 in
         (back.0, back.1, join c one_back.0 back.0 one_back.2 back.2)
 
+-- a step that is another one too
+pub passes_so : (one step : Image → Image → Type 0) (old new : Disk) → ((c d : Image) → one c d → step c d) → Passes one old new → Passes step old new
+passes_so one step old new so passes = record {
+  later = passes.later;
+  now = λ c left. (let back = passes.now c left in (back.0, back.1, so c back.0 back.2));
+  since = λ t c le left. ⊎_elim (λ was. inl was) (λ back. inr (back.0, back.1, so c back.0 back.2)) (passes.since t c le left);
+}
+
 -- one run after another, by steps that join
 pub passed_then : (step : Image → Image → Type 0) (old mid new : Disk) → ((c d e : Image) → step c d → step d e → step c e) → Passes step old mid → Passes step mid new → Passes step old new
 passed_then step old mid new join first second = record {
@@ -109,7 +117,7 @@ passed_still step old mid new so_far later time shrinks = record {
 }
 
 -- from a settled store on, only this cell is torn
-pub torn_alone : (cell : ℕ) (old new : Disk) → ((c : Image) → old.left_since old.moment c → old.may_leave c) → Passes (SameBut cell) old new → Settled old → LeavesOnly old new (λ c. SameBut cell c old.cells)
+pub torn_alone : (cell : ℕ) (old new : Disk) → ((c : Image) → old.left_since old.moment c → old.may_leave c) → Passes (SameBut cell) old new → IsSynced old → LeavesOnly old new (λ c. SameBut cell c old.cells)
 torn_alone cell old new only passes settled =
     leaves_of (SameBut cell) (λ d. (k : ℕ) → d k ≡ old.cells k) (λ c. SameBut cell c old.cells) old new passes only settled
     (λ c d was step k off. step k off ∙ was k)

@@ -43,7 +43,8 @@ goes_then a b c p q = record {
   seen = tells_then a.seen b.seen c.seen a.faults b.faults c.faults p.faults q.faults p.seen q.seen;
 }
 
-rose_later : (l m n : ℕ) → l ≤ m → Rose m n → Rose l n
+-- a count that rose later rose since
+pub rose_later : (l m n : ℕ) → l ≤ m → Rose m n → Rose l n
 rose_later l m n le rose = omega arith
 
 -- a call behind others that went well

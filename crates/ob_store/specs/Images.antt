@@ -3,8 +3,8 @@ use Rattle.std.specs.Prelude.{◌≡◌, ◌≢◌, ◌⊎◌, ◌<◌, ◌≤�
 use Rattle.ob_store.specs.Disk.{Disk, Image, Clock, NotAfter}
 
 -- a crash leaves what a read returns, and nothing else: no write waits for a sync
-abbrev pub Settled : Disk → Type 0
-Settled disk = (c : Image) → disk.may_leave c → (k : ℕ) → c k ≡ disk.cells k
+abbrev pub IsSynced : Disk → Type 0
+IsSynced disk = (c : Image) → disk.may_leave c → (k : ℕ) → c k ≡ disk.cells k
 
 -- the two images are the same
 abbrev pub Same : Image → Image → Type 0

@@ -1,4 +1,4 @@
--- Two stores that serve as one.
+-- Private: two stores that serve as one; the proof that they do is in proofs/Pairs.
 use Rattle.std.specs.Prelude.{◌⊎◌, ◌+◌, ◌*◌, ◌/◌, ◌%◌, ◌==◌, ◌++◌, if◌then◌else◌, None}
 use Rattle.ob_store.specs.Disk.{Clock, Disk}
 

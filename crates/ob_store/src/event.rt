@@ -1,3 +1,5 @@
+//! A call on a store.
+
 /// A call on a store, whatever it answered.
 #[derive(Clone, Copy, Debug, PartialEq, Eq)]
 pub enum Event {

@@ -1,6 +1,8 @@
+//! Calls that are shown to a watch.
+
 ghost use Rattle.std.specs.Prelude.{◌≡◌, [], ◌∷◌, OnOk};
 ghost use Rattle.ob_store.specs.declared.watch.Note.{Note};
-ghost use Rattle.ob_store.specs.Images.{Settled, SameBut, Tears, Shrinks, Elapses};
+ghost use Rattle.ob_store.specs.Images.{IsSynced, SameBut, Tears, Shrinks, Elapses};
 ghost use Rattle.ob_store.specs.Calls.{Serves, IsFailed, Keeps, TellsOn};
 ghost use Rattle.ob_base.specs.Causes.{HasCause};
 ghost use Rattle.ob_store.specs.Told.{Tells, if_well};
@@ -21,11 +23,14 @@ pub fn write_noted<S: Store, W: Watch>(
 ) -> Result<(), Failed>
     requires { (S.disk store.old).out ≡ 0 }
     ensures serves { Serves IsFailed (S.disk store.old) (S.disk store.new) result }
-    ensures written { (S.disk store.old).tells → OnOk result ((S.disk store.new).cells cell ≡ bytes.now) }
-    ensures rest { (S.disk store.old).tells → SameBut cell (S.disk store.new).cells (S.disk store.old).cells }
+    ensures written { (S.disk store.old).tells
+        → OnOk result ((S.disk store.new).cells cell ≡ bytes.now) }
+    ensures rest { (S.disk store.old).tells
+        → SameBut cell (S.disk store.new).cells (S.disk store.old).cells }
     ensures crash { Tears cell (S.disk store.old) (S.disk store.new) }
     ensures time { Elapses (S.disk store.old) (S.disk store.new) }
-    ensures told { Tells (Note.Write cell ∷ []) (Note.Write cell ∷ []) (S.disk store.old).seen (S.disk store.new).seen (W.trace watch.old) (W.trace watch.new) }
+    ensures told { Tells (Note.Write cell ∷ []) (Note.Write cell ∷ []) (S.disk store.old).seen
+        (S.disk store.new).seen (W.trace watch.old) (W.trace watch.new) }
 {
     let outcome = store.write(cell, bytes);
     watch.note(Note::Write(cell));
@@ -40,11 +45,12 @@ pub fn write_noted<S: Store, W: Watch>(
 pub fn sync_noted<S: Store, W: Watch>(store: &mut S, watch: &mut W) -> Result<(), Failed>
     requires { (S.disk store.old).out ≡ 0 }
     ensures serves { Serves IsFailed (S.disk store.old) (S.disk store.new) result }
-    ensures durable { (S.disk store.old).tells → OnOk result (Settled (S.disk store.new)) }
+    ensures durable { (S.disk store.old).tells → OnOk result (IsSynced (S.disk store.new)) }
     ensures keeps { Keeps (S.disk store.old) (S.disk store.new) }
     ensures crash { Shrinks (S.disk store.old) (S.disk store.new) }
     ensures time { Elapses (S.disk store.old) (S.disk store.new) }
-    ensures told { Tells (Note.Sync ∷ []) (if_well result (Note.Sync ∷ [])) (S.disk store.old).seen (S.disk store.new).seen (W.trace watch.old) (W.trace watch.new) }
+    ensures told { Tells (Note.Sync ∷ []) (if_well result (Note.Sync ∷ [])) (S.disk store.old).seen
+        (S.disk store.new).seen (W.trace watch.old) (W.trace watch.new) }
 {
     store.sync()?;
     watch.note(Note::Sync);
@@ -62,10 +68,13 @@ pub fn read_noted<S: Store, W: Watch>(
     out: &mut [u8; 128],
     watch: &mut W,
 ) -> Result<(), Failed>
-    ensures bytes { (S.disk store.now).tells → OnOk result (out.new ≡ (S.disk store.now).cells cell) }
-    ensures tells { TellsOn (S.lane_seen lane.old) (S.lane_seen lane.new) (S.lane_faults lane.old) (S.lane_faults lane.new) }
+    ensures bytes { (S.disk store.now).tells
+        → OnOk result (out.new ≡ (S.disk store.now).cells cell) }
+    ensures tells { TellsOn (S.lane_seen lane.old) (S.lane_seen lane.new) (S.lane_faults lane.old)
+        (S.lane_faults lane.new) }
     ensures cause { HasCause (S.lane_faults lane.old) (S.lane_faults lane.new) result }
-    ensures told { Tells (Note.Read cell ∷ []) (Note.Read cell ∷ []) (S.lane_seen lane.old) (S.lane_seen lane.new) (W.trace watch.old) (W.trace watch.new) }
+    ensures told { Tells (Note.Read cell ∷ []) (Note.Read cell ∷ []) (S.lane_seen lane.old)
+        (S.lane_seen lane.new) (W.trace watch.old) (W.trace watch.new) }
 {
     let outcome = store.read(lane, cell, out);
     watch.note(Note::Read(cell));

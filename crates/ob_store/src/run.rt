@@ -1,3 +1,5 @@
+//! A run of cells written.
+
 ghost use Rattle.std.specs.Prelude.{◌≡◌, ◌<◌, ◌+◌, ◌^◌, length, OnOk};
 ghost use Rattle.ob_store.specs.Images.{SameOff, Passes};
 ghost use Rattle.ob_store.specs.Calls.{Serves, IsFailed, Holds};
@@ -21,10 +23,13 @@ pub fn write_run<S: Store, W: Watch>(
     requires none_out { (S.disk store.old).out ≡ 0 }
     requires fits { base + length rows.now < 2 ^ 64 }
     ensures serves { Serves IsFailed (S.disk store.old) (S.disk store.new) result }
-    ensures written { (S.disk store.old).tells → OnOk result (Holds base rows.now (S.disk store.new).cells) }
-    ensures rest { (S.disk store.old).tells → SameOff base (length rows.now) (S.disk store.new).cells (S.disk store.old).cells }
+    ensures written { (S.disk store.old).tells
+        → OnOk result (Holds base rows.now (S.disk store.new).cells) }
+    ensures rest { (S.disk store.old).tells
+        → SameOff base (length rows.now) (S.disk store.new).cells (S.disk store.old).cells }
     ensures passes { Passes (SameOff base (length rows.now)) (S.disk store.old) (S.disk store.new) }
-    ensures does { Does (write_notes base (length rows.now)) (S.disk store.old).seen (S.disk store.new).seen (W.trace watch.old) (W.trace watch.new) result }
+    ensures does { Does (write_notes base (length rows.now)) (S.disk store.old).seen
+        (S.disk store.new).seen (W.trace watch.old) (W.trace watch.new) result }
 {
     for (i, row) in rows.iter().enumerate() {
         write_noted(store, base + i as u64, row, watch)?;

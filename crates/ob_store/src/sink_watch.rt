@@ -1,3 +1,5 @@
+//! A watch that writes a line for each note.
+
 ghost use Rattle.std.specs.Prelude.{◌≡◌, ◌≤◌, ◌++◌, ◌∷◌, [], ℕ, length, take, decimal, OnOk, false};
 ghost use Rattle.ob_base.specs.Causes.{HasCause};
 ghost use Rattle.ob_io.specs.Flows.{appended};
@@ -17,8 +19,10 @@ pub struct SinkWatch<'a, S: Sink> {
 
 // Writes the one piece, then the other.
 fn put_both<S: Sink>(sink: &mut S, first: &[u8], second: &[u8]) -> Result<(), Failed>
-    ensures all { OnOk result (S.written sink.new ≡ appended (S.written sink.old) (first.now ++ second.now)) }
-    ensures front { (n : ℕ) × (n ≤ length (first.now ++ second.now)) × (S.written sink.new ≡ appended (S.written sink.old) (take n (first.now ++ second.now))) }
+    ensures all { OnOk result (S.written sink.new
+        ≡ appended (S.written sink.old) (first.now ++ second.now)) }
+    ensures front { (n : ℕ) × (n ≤ length (first.now ++ second.now))
+        × (S.written sink.new ≡ appended (S.written sink.old) (take n (first.now ++ second.now))) }
     ensures cause { HasCause (S.faults sink.old) (S.faults sink.new) result }
 {
     put_all(sink, first)?;
@@ -27,8 +31,11 @@ fn put_both<S: Sink>(sink: &mut S, first: &[u8], second: &[u8]) -> Result<(), Fa
 
 // Writes a letter and a blank, a number and a line feed.
 fn put_numbered<S: Sink>(sink: &mut S, head: &[u8; 2], number: u64) -> Result<(), Failed>
-    ensures all { OnOk result (S.written sink.new ≡ appended (S.written sink.old) (head.now ++ decimal number ++ 10 ∷ [])) }
-    ensures front { (n : ℕ) × (n ≤ length (head.now ++ decimal number ++ 10 ∷ [])) × (S.written sink.new ≡ appended (S.written sink.old) (take n (head.now ++ decimal number ++ 10 ∷ []))) }
+    ensures all { OnOk result (S.written sink.new
+        ≡ appended (S.written sink.old) (head.now ++ decimal number ++ 10 ∷ [])) }
+    ensures front { (n : ℕ) × (n ≤ length (head.now ++ decimal number ++ 10 ∷ []))
+        × (S.written sink.new
+        ≡ appended (S.written sink.old) (take n (head.now ++ decimal number ++ 10 ∷ []))) }
     ensures cause { HasCause (S.faults sink.old) (S.faults sink.new) result }
 {
     let mut digits = Buffer::new();
@@ -38,7 +45,8 @@ fn put_numbered<S: Sink>(sink: &mut S, head: &[u8; 2], number: u64) -> Result<()
 
 fn put_note<S: Sink>(sink: &mut S, note: Note) -> Result<(), Failed>
     ensures all { OnOk result (S.written sink.new ≡ appended (S.written sink.old) (line_of note)) }
-    ensures front { (n : ℕ) × (n ≤ length (line_of note)) × (S.written sink.new ≡ appended (S.written sink.old) (take n (line_of note))) }
+    ensures front { (n : ℕ) × (n ≤ length (line_of note))
+        × (S.written sink.new ≡ appended (S.written sink.old) (take n (line_of note))) }
     ensures cause { HasCause (S.faults sink.old) (S.faults sink.new) result }
 {
     match note {

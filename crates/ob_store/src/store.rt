@@ -1,8 +1,10 @@
+//! The store: cells that outlive a crash as the disk model says.
+
 ghost use Rattle.std.specs.Prelude.{◌≡◌, ◌≤◌, ◌+◌, ◌-◌, ℕ, [], ◌∷◌, List, Option, OnOk, OnErr, IfOk};
 ghost use Rattle.ob_base.specs.Causes.{HasCause};
 ghost use Rattle.ob_store.specs.declared.event.Event.{Event};
 ghost use Rattle.ob_store.specs.Disk.{Disk, Image, Clock, NotAfter};
-ghost use Rattle.ob_store.specs.Images.{Settled, SameBut, Tears, Shrinks, Elapses};
+ghost use Rattle.ob_store.specs.Images.{IsSynced, SameBut, Tears, Shrinks, Elapses};
 ghost use Rattle.ob_store.specs.Calls.{GoesOn, Serves, IsFailed, Keeps, Notes, NotesLane, TellsOn, IsFreshLane, AddsFaults};
 
 use ob_base::Failed;
@@ -33,7 +35,8 @@ pub trait Store {
     fn lane(&mut self) -> Result<Self::Lane, Failed>
         ensures goes { GoesOn (disk self.old) (disk self.new) }
         ensures fresh { IfOk result (λ lane. lane_faults lane ≡ 0) }
-        ensures fresh_seen { IfOk result (λ lane. IsFreshLane (disk self.old).seen (lane_seen lane)) }
+        ensures fresh_seen { IfOk result
+            (λ lane. IsFreshLane (disk self.old).seen (lane_seen lane)) }
         ensures keeps { Keeps (disk self.old) (disk self.new) }
         ensures crash { Shrinks (disk self.old) (disk self.new) }
         ensures time { Elapses (disk self.old) (disk self.new) }
@@ -49,7 +52,8 @@ pub trait Store {
     fn read(&self, lane: &mut Self::Lane, cell: u64, out: &mut [u8; 128]) -> Result<(), Failed>
         ensures bytes { (disk self.now).tells → OnOk result (out.new ≡ (disk self.now).cells cell) }
         ensures seen { Notes (Event.Read cell ∷ []) (lane_seen lane.old) (lane_seen lane.new) }
-        ensures tells { TellsOn (lane_seen lane.old) (lane_seen lane.new) (lane_faults lane.old) (lane_faults lane.new) }
+        ensures tells { TellsOn (lane_seen lane.old) (lane_seen lane.new) (lane_faults lane.old)
+            (lane_faults lane.new) }
         ensures cause { HasCause (lane_faults lane.old) (lane_faults lane.new) result };
 
     /// Takes a lane back, with its reads and its count of faults.
@@ -60,7 +64,8 @@ pub trait Store {
         ensures time { Elapses (disk self.old) (disk self.new) }
         ensures seen { NotesLane (lane_seen lane) (disk self.old).seen (disk self.new).seen }
         ensures out { (disk self.new).out ≤ (disk self.old).out - 1 }
-        ensures faults { AddsFaults (lane_faults lane) (disk self.old).faults (disk self.new).faults };
+        ensures faults { AddsFaults (lane_faults lane) (disk self.old).faults
+            (disk self.new).faults };
 
     /// Writes a cell.
     ///
@@ -69,8 +74,10 @@ pub trait Store {
     fn write(&mut self, cell: u64, bytes: &[u8; 128]) -> Result<(), Failed>
         requires { (disk self.old).out ≡ 0 }
         ensures serves { Serves IsFailed (disk self.old) (disk self.new) result }
-        ensures written { (disk self.old).tells → OnOk result ((disk self.new).cells cell ≡ bytes.now) }
-        ensures rest { (disk self.old).tells → SameBut cell (disk self.new).cells (disk self.old).cells }
+        ensures written { (disk self.old).tells
+            → OnOk result ((disk self.new).cells cell ≡ bytes.now) }
+        ensures rest { (disk self.old).tells
+            → SameBut cell (disk self.new).cells (disk self.old).cells }
         ensures crash { Tears cell (disk self.old) (disk self.new) }
         ensures time { Elapses (disk self.old) (disk self.new) }
         ensures seen { Notes (Event.Write cell ∷ []) (disk self.old).seen (disk self.new).seen };
@@ -82,7 +89,7 @@ pub trait Store {
     fn sync(&mut self) -> Result<(), Failed>
         requires { (disk self.old).out ≡ 0 }
         ensures serves { Serves IsFailed (disk self.old) (disk self.new) result }
-        ensures durable { (disk self.old).tells → OnOk result (Settled (disk self.new)) }
+        ensures durable { (disk self.old).tells → OnOk result (IsSynced (disk self.new)) }
         ensures keeps { Keeps (disk self.old) (disk self.new) }
         ensures crash { Shrinks (disk self.old) (disk self.new) }
         ensures time { Elapses (disk self.old) (disk self.new) }

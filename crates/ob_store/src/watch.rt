@@ -1,3 +1,5 @@
+//! What is shown of a call, and to whom.
+
 ghost use Rattle.std.specs.Prelude.{◌≡◌, [], ◌∷◌, None, Bool, false};
 
 /// What is shown of a call: the label of a path that is read, a read, a write, or a sync.

@@ -5,8 +5,8 @@ use Rattle.std.specs.FinMap.{is_sorted}
 use Rattle.std.specs.List.{filter}
 
 -- the key of a row
-abbrev pub key_at : List (ℕ × List ℕ) → ℕ → ℕ
-key_at rows j = (slice_index_or rows j (0, [])).0
+abbrev pub row_key_at : List (ℕ × List ℕ) → ℕ → ℕ
+row_key_at rows j = (slice_index_or rows j (0, [])).0
 
 -- each key is above the one before it
 abbrev pub Rises : List (ℕ × List ℕ) → Type 0
@@ -19,5 +19,5 @@ rows_but k rows = filter (λ row. not (eq_by_cmp nat_cmp k row.0)) rows
 -- a place in front of which the keys are lesser, and from which on they aren't
 pub record Splits (k : ℕ) (rows : List (ℕ × List ℕ)) (i : ℕ) : Type 0 where
   pub within : i ≤ length rows
-  pub before : (j : ℕ) → j < i → key_at rows j < k
-  pub after : (j : ℕ) → i ≤ j → j < length rows → k ≤ key_at rows j
+  pub before : (j : ℕ) → j < i → row_key_at rows j < k
+  pub after : (j : ℕ) → i ≤ j → j < length rows → k ≤ row_key_at rows j

@@ -1,3 +1,5 @@
+//! The position map.
+
 ghost use Rattle.std.specs.Prelude.{◌≡◌, ◌<◌, length, replicate, slice_set, IfOk, Some, None};
 ghost use Rattle.ob_tables.specs.Kept.{entry_at};
 

@@ -1,3 +1,5 @@
+//! What the position map has of a key.
+
 /// What the position map has of a present key: the id of the word that it kept, which is a
 /// generation and a place in that generation's tape, and the leaf on whose path its row lies.
 #[derive(Clone, Copy, Debug, PartialEq, Eq)]

@@ -1,3 +1,5 @@
+//! A position map is a finite map.
+
 ghost use Rattle.ob_tables.specs.BookMap.{BooksAreMaps};
 
 /// A position map is a finite map from the keys that are present to their entries: `get`, `set`

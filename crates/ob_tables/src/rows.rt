@@ -1,7 +1,9 @@
+//! Rows in ascending order of their keys.
+
 ghost use Rattle.std.specs.Prelude.{◌≡◌, ◌≢◌, ◌<◌, ◌≤◌, ℕ, length, vec_capacity, MatchResult, None};
 ghost use Rattle.std.specs.Ordering.{nat_cmp};
 ghost use Rattle.std.specs.FinMap.{find, put};
-ghost use Rattle.ob_tables.specs.Rows.{key_at, Rises, Splits, rows_but};
+ghost use Rattle.ob_tables.specs.Rows.{row_key_at, Rises, Splits, rows_but};
 
 use ob_base::{Key, Value};
 
@@ -16,7 +18,9 @@ fn lesser(rows: &[(Key, Value)], k: Key) -> usize
 // The place of the key's row, or where it would be.
 fn place_of(rows: &[(Key, Value)], k: Key) -> Result<usize, usize>
     requires { Rises rows.now }
-    ensures { MatchResult result (λ i. (i < length rows.now) × (key_at rows.now i ≡ k) × Splits k rows.now i) (λ i. ((j : ℕ) → j < length rows.now → k ≢ key_at rows.now j) × Splits k rows.now i) }
+    ensures { MatchResult result (λ i. (i < length rows.now) × (row_key_at rows.now i ≡ k)
+        × Splits k rows.now i) (λ i. ((j : ℕ) → j < length rows.now → k ≢ row_key_at rows.now j)
+        × Splits k rows.now i) }
 {
     let i = lesser(rows, k);
     match rows.get(i) {
@@ -39,7 +43,8 @@ pub(crate) fn find(rows: &[(Key, Value)], k: Key) -> Option<Value>
 // Puts the key's row in its place.
 pub(crate) fn put(rows: &mut Vec<(Key, Value)>, k: Key, v: Value)
     requires rises { Rises rows.old.items }
-    requires room { find nat_cmp k rows.old.items ≡ None → length rows.old.items < vec_capacity rows.old }
+    requires room { find nat_cmp k rows.old.items ≡ None
+        → length rows.old.items < vec_capacity rows.old }
     ensures rows { rows.new.items ≡ put nat_cmp k v rows.old.items }
     ensures capacity { vec_capacity rows.old ≤ vec_capacity rows.new }
 {

@@ -1,3 +1,5 @@
+//! The stash.
+
 ghost use Rattle.std.specs.Prelude.{◌≡◌, ◌<◌, ◌==◌, length, slice_index_or, [], IfOk, None};
 ghost use Rattle.std.specs.FinMap as map;
 ghost use Rattle.ob_tables.specs.Kept.{Held};

@@ -1,3 +1,5 @@
+//! All that the planner keeps between epochs.
+
 use crate::book::Book;
 use crate::stash::Stash;
 

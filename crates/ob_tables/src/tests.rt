@@ -1,3 +1,5 @@
+//! Position maps and stashes of a few keys.
+
 use crate::{Book, Entry, Stash, Tables};
 use ob_base::Value;
 

@@ -9,7 +9,7 @@ use Rattle.ob_base.specs.declared.value.Write.{Write}
 use Rattle.ob_base.specs.Tree.{path}
 use Rattle.ob_tables.specs.declared.entry.Entry.{Entry}
 use Rattle.ob_schedule.specs.Paths.{is_one_of, eviction_path, by_falling_level}
-use Rattle.ob_ring.specs.FlatTable.{FlatTable, Row, Spot, In, Refill, after, spot_of, asked_row, fetch, leaf_shown, index_shown, mark, lift, reads, visit, visits, after_place, after_batch, after_final, written, write, after_writes, refill_order}
+use Rattle.ob_ring.specs.FlatTable.{FlatTable, Row, Spot, In, Refill, after, spot_of, asked_row, fetch, leaf_shown, index_shown, mark_index, lift, reads, visit, visits, after_place, after_batch, after_final, written_row, write, after_writes, refill_order}
 use Rattle.ob_ring.specs.Picked.{batch_picked, final_picked}
 use Rattle.ob_ring.specs.Writing.{leaf_of_write, leaf_writes}
 use Rattle.ob_ring.proofs.Refills.{FillsLaw, refill_law, writes_keep}
@@ -22,7 +22,7 @@ use Rattle.ob_taken.proofs.Moving.{refill_move}
 
 -- ---- marks
 
-step_used : (up last : Bool) (t : FlatTable) (u j v i : ℕ) → (cond up t (cond last (lift (mark t u j) u) (mark t u j))).used v i ≡ false → t.used v i ≡ false
+step_used : (up last : Bool) (t : FlatTable) (u j v i : ℕ) → (cond up t (cond last (lift (mark_index t u j) u) (mark_index t u j))).used v i ≡ false → t.used v i ≡ false
 step_used true last t u j v i e = e
 step_used false true t u j v i e = (or_parts ((v == u) && (i == j)) (t.used v i) e).1
 step_used false false t u j v i e = (or_parts ((v == u) && (i == j)) (t.used v i) e).1
@@ -37,11 +37,11 @@ batch_used p t (a ∷ rest) v i e = visits_used p (fetch t a.0 a.1) (spot_of (as
 
 -- ---- writes
 
-written_in : (o : Option ℕ) (u j : ℕ) → spot_of (written o) ≡ In u j → ⊥
+written_in : (o : Option ℕ) (u j : ℕ) → spot_of (written_row o) ≡ In u j → ⊥
 written_in None u j e = absurd (cc)
 written_in (Some x) u j e = absurd (cc)
 
-write_lay : (b : Bool) (o : Option ℕ) (r : Option Row) (u j : ℕ) → spot_of (cond b (written o) r) ≡ In u j → (b ≡ false) × (spot_of r ≡ In u j)
+write_lay : (b : Bool) (o : Option ℕ) (r : Option Row) (u j : ℕ) → spot_of (cond b (written_row o) r) ≡ In u j → (b ≡ false) × (spot_of r ≡ In u j)
 write_lay true o r u j e = absurd (written_in o u j e)
 write_lay false o r u j e = (refl, e)
 

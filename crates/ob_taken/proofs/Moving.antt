@@ -3,22 +3,15 @@ use Rattle.std.specs.Prelude.{◌≡◌, ℕ, ◌+◌, ◌==◌, Bool, true, fal
 use Rattle.std.specs.declared.option.Option.TheVariants.{None, Some}
 use Rattle.std.specs.List.{position_or_len}
 use Rattle.std.proofs.Common.{refl, ◌∙◌, inl, inr, ◌⊎◌}
-use Rattle.std.proofs.lemmas.Bool.{false≢true, and_parts, eq-eqb, or_left, or_right}
+use Rattle.std.proofs.lemmas.Bool.{eq-eqb, or_left, or_right}
 use Rattle.ob_base.specs.declared.params.Params.{Params}
 use Rattle.ob_schedule.specs.Paths.{is_one_of, by_falling_level}
-use Rattle.ob_ring.specs.FlatTable.{FlatTable, Row, Spot, InStash, In, Refill, spot_of, is_stash, can_go, chosen, placed, fill, fills, refill_order, after}
+use Rattle.ob_ring.specs.FlatTable.{FlatTable, Row, InStash, In, Refill, spot_of, chosen, placed, fill, fills, refill_order, after}
 use Rattle.ob_ring.proofs.Fills.{placed-In, chosen_goes}
 use Rattle.ob_ring.proofs.Members.{one_of-filter}
+use Rattle.ob_ring.proofs.FillLaws.{stash_spot, go_stash}
 use Rattle.ob_taken.specs.Takes.{is_present, KeepsKeys}
 use Rattle.ob_taken.specs.Goes.{RefillsMove}
-
-stash_is : (s : Spot) → is_stash s ≡ true → s ≡ InStash
-stash_is InStash e = refl
-stash_is (In u j) e = absurd (false≢true e)
-
-can_go-stash : (p : Params) (u : ℕ) (r : Option Row) → can_go p u r ≡ true → spot_of r ≡ InStash
-can_go-stash p u None e = refl
-can_go-stash p u (Some r) e = stash_is r.spot (and_parts (is_stash r.spot) _ e).0
 
 placed_stash : (u i : ℕ) (goes : Bool) (r : Option Row) → spot_of (placed u goes i r) ≡ InStash → spot_of r ≡ InStash
 placed_stash u i goes None e = refl
@@ -43,7 +36,7 @@ fills_move p t [] k v j e = inr e
 fills_move p t (u ∷ us) k v j e = elim (fills_move p (fill p t u) us k v j e) [
   | inl later ↦ inl (or_right (u == v) (is_one_of us v) later.0, placed_stash u (position_or_len (λ c. c == k) (chosen p t u)) (is_one_of (chosen p t u) k) (t.rows k) later.1)
   | inr here ↦ elim (placed-In u (position_or_len (λ c. c == k) (chosen p t u)) (is_one_of (chosen p t u) k) (t.rows k) v j here) [
-    | inl now ↦ inl (or_left (u == v) (is_one_of us v) (eq-eqb u v now.1), can_go-stash p u (t.rows k) (chosen_goes p t u k now.0))
+    | inl now ↦ inl (or_left (u == v) (is_one_of us v) (eq-eqb u v now.1), go_stash p u (t.rows k) (chosen_goes p t u k now.0))
     | inr was ↦ inr was.1
   ]
 ]

@@ -1,25 +1,26 @@
 -- The keys of the indexes that are picked leave their buckets.
 use Rattle.std.specs.Prelude.{◌≡◌, ◌≢◌, ℕ, ◌+◌, ◌<◌, ◌≤◌, ◌==◌, Bool, true, false, cond, not, ◌&&◌, ◌||◌, List, [], ◌∷◌, ◌++◌, map, Option, unwrap_or}
 use Rattle.std.specs.declared.option.Option.TheVariants.{None, Some}
-use Rattle.std.specs.List.{list_any, find, range_with_len}
-use Rattle.std.proofs.Common.{zero, suc, arith, refl, sym, ap, ◌∙◌, subst, inl, inr}
-use Rattle.std.proofs.lemmas.Bool.{true≢false, false≢true, cases_Bool, or_cases, or_parts, or_left, or_right, leb-false, eqb-true, eq-eqb, ne_eqb, cases_eq}
+use Rattle.std.specs.List.{find, range_with_len}
+use Rattle.std.proofs.Common.{arith, refl, sym, ap, ◌∙◌, subst, inl, inr}
+use Rattle.std.proofs.lemmas.Bool.{true≢false, false≢true, cases_Bool, or_cases, or_parts, or_left, or_right, eqb-true, eq-eqb, ne_eqb, cases_eq}
 use Rattle.ob_base.specs.declared.params.Params.{Params}
 use Rattle.ob_base.specs.Tree.{path, passes}
 use Rattle.ob_schedule.specs.Paths.{is_one_of}
-use Rattle.ob_ring.specs.FlatTable.{FlatTable, Row, Spot, InStash, In, Batch, spot_of, leaf_of, is_at, index_in, asked_row, asks_for, fetched, fetch, leaf_shown, index_shown, mark, lift, lift_order, leave, out_of, live, reads, visit, visits, after_place, after_batch, after_final}
+use Rattle.ob_ring.specs.FlatTable.{FlatTable, Row, Spot, InStash, In, Batch, spot_of, leaf_of, is_at, index_in, asked_row, asks_for, fetched, fetch, leaf_shown, index_shown, mark_index, lift, lift_order, leave, out_of, live, reads, visit, visits, after_place, after_batch, after_final}
 use Rattle.ob_ring.specs.Laws.{IsOrderly}
-use Rattle.ob_ring.specs.Sound.{IsSound, IsCounted, Placed}
+use Rattle.ob_ring.specs.Sound.{IsSound, Placed}
 use Rattle.ob_ring.specs.Picked.{Picked, holder, key_shown, lift_picked, visit_picked, visits_picked, place_picked, batch_picked, final_picked}
 use Rattle.ob_ring.proofs.Members.{off_unless, IsDistinct}
-use Rattle.ob_ring.proofs.Visits.{IsVacant, IsNew, index_shown_new, reads_mark_same, VisitLaw, visit_law, bump}
+use Rattle.ob_ring.proofs.Visits.{IsVacant, IsNew, index_shown_new, reads_mark_same, VisitLaw, visit_law, bump, off_itself}
 use Rattle.ob_ring.proofs.Batches.{own_is_free}
 use Rattle.ob_ring.proofs.Paths.{distinct_path}
 use Rattle.ob_ring.proofs.Sounds.{spot-leave, sound_fetch, sound_mark, vacant_fetch}
 use Rattle.ob_ring.proofs.LiftOrder.{is_at-is}
-use Rattle.ob_ring.proofs.TableOf.{at_is, found_first}
+use Rattle.ob_ring.proofs.TableOf.{at_is, found_first, any_from}
 use Rattle.ob_ring.proofs.PathLaws.{find_some}
-use Rattle.ob_ring.proofs.TableLaws.{lifts_take_all, counts_in, counted_in, keeps_final, steps_keep_order}
+use Rattle.ob_ring.proofs.TableLaws.{lifts_take_all, counts_in, counted_in, keeps_final, steps_keep_order, few_counted}
+use Rattle.ob_ring.proofs.FetchLaws.{asked_key}
 use Rattle.ob_ring.specs.Laws.{IsLiftOf}
 use Rattle.ob_taken.specs.Takes.{is_present, spots, is_picked, AreOwn, Takes, KeepsKeys, AreKeysLow}
 
@@ -152,13 +153,6 @@ own_bucket p t u k (i ∷ js) e = elim (or_cases (asks_for (holder p t u i) k) _
   | inr more ↦ own_bucket p t u k js more
 ]
 
-any_from : (q : ℕ → Bool) (a n k : ℕ) → a ≤ k → k < a + n → q k ≡ true → list_any q (range_with_len a n) ≡ true
-any_from q a zero k h g on = absurd (omega arith)
-any_from q a (suc n) k h g on = elim (cases_eq a k) [
-  | inl at ↦ or_left (q a) (list_any q (range_with_len (a + 1) n)) (ap q at ∙ on)
-  | inr ne ↦ or_right (q a) (list_any q (range_with_len (a + 1) n)) (any_from q (a + 1) n k (omega arith) (omega arith) on)
-]
-
 live_at : (p : Params) (t : FlatTable) (k u j : ℕ) → AreKeysLow p t → spot_of (t.rows k) ≡ In u j → live p t u j ≡ true
 live_at p t k u j low e = let l : k < p.keys = low k (present_at (t.rows k) u j e) in any_from (λ i. is_at u j (spot_of (t.rows i))) 0 p.keys k (omega arith) (omega arith) (at_is u j (spot_of (t.rows k)) e)
 
@@ -226,7 +220,8 @@ show_other t t1 ask own u j us same h = record {
     none_some k e = cc
 
 -- the asked key's own index is shown
-show_own : (t t1 : FlatTable) (ask : Option ℕ) (u i : ℕ) (us : List ℕ) → t1.rows ≡ t.rows → is_one_of us u ≡ false → ((k : ℕ) → asks_for ask k ≡ true → spot_of (t.rows k) ≡ InStash) → Takes (pending t ask (In u i) (u ∷ us)) (pending t1 ask (In u i) us) (record { bucket = u; index = i; key = ask } ∷ [])
+show_own : (t t1 : FlatTable) (ask : Option ℕ) (u i : ℕ) (us : List ℕ) → t1.rows ≡ t.rows → is_one_of us u ≡ false → ((k : ℕ) → asks_for ask k ≡ true → spot_of (t.rows k) ≡ InStash) → Takes (pending t ask (In u i) (u ∷ us)) (pending t1 ask (In u i) us)
+    (record { bucket = u; index = i; key = ask } ∷ [])
 show_own t t1 ask u i us same off away =
     let later : (k : ℕ) → pending t1 ask (In u i) us k ≡ spot_of (t.rows k) = λ k. ap (λ (b : Bool). cond (b && asks_for ask k) (In u i) (spot_of (t1.rows k))) off ∙ ap (λ (f : ℕ → Option Row). spot_of (f k)) same in
     record {
@@ -258,7 +253,7 @@ pub record Visiting (p : Params) (t : FlatTable) (ask : Option ℕ) (own : Spot)
 
 -- a visit, by whether the bucket is lifted and whether this is its version's last read
 abbrev step : Bool → Bool → FlatTable → ℕ → ℕ → FlatTable
-step up last t u j = cond up t (cond last (lift (mark t u j) u) (mark t u j))
+step up last t u j = cond up t (cond last (lift (mark_index t u j) u) (mark_index t u j))
 
 pub leave_present : (u : ℕ) (r : Option Row) → is_present (leave u r) ≡ is_present r
 leave_present u None = refl
@@ -280,43 +275,35 @@ step_lifted false true t u j v off = ap (λ (b : Bool). b || t.lifted v) off
 step_lifted false false t u j v off = refl
 
 visit_case : (p : Params) (t : FlatTable) (ask : Option ℕ) (own : Spot) (u : ℕ) (us : List ℕ) (up last : Bool) → t.lifted u ≡ up → is_one_of us u ≡ false → Visiting p t ask own (u ∷ us)
-    → Takes (pending t ask own (u ∷ us)) (pending (step up last t u (index_shown p t own u)) ask own us) (cond up [] (record { bucket = u; index = index_shown p t own u; key = key_shown ask (index_in u own) } ∷ cond last (lift_picked p (mark t u (index_shown p t own u)) u) []))
+    → Takes (pending t ask own (u ∷ us)) (pending (step up last t u (index_shown p t own u)) ask own us) (cond up [] (record { bucket = u; index = index_shown p t own u; key = key_shown ask (index_in u own) } ∷ cond last (lift_picked p (mark_index t u (index_shown p t own u)) u) []))
 visit_case p t ask own u us true last is off v = takes_none (pending t ask own (u ∷ us)) (pending t ask own us)
     (pending_more t ask own u us (λ j e. true≢false (sym is ∙ v.standing u j (or_left (u == u) (is_one_of us u) (eq-eqb u u refl)) e)))
 visit_case p t ask own u us false true is off v =
     let few : reads p t u < p.dummies = (v.orderly).few u is in
     let j : ℕ = index_shown p t own u in
-    let t1 : FlatTable = mark t u j in
+    let t1 : FlatTable = mark_index t u j in
     let new : IsNew p t u j = index_shown_new p t own u (v.orderly).sound few v.gone (λ i. v.free u i (or_left (u == u) (is_one_of us u) (eq-eqb u u refl))) in
     let many : reads p t1 u ≤ p.dummies = omega (arith, reads_mark_same p t u j new.within new.unread, few) in
     takes_then (pending t ask own (u ∷ us)) (pending t1 ask own us) (pending (lift t1 u) ask own us) (record { bucket = u; index = j; key = key_shown ask (index_in u own) } ∷ []) (lift_picked p t1 u)
     (show_takes p t t1 ask own u us refl off v.away)
     (pending_takes t1 (lift t1 u) ask own us (lift_picked p t1 u) v.away (lift_takes p t1 u (sound_mark p t u j new.vacant (v.orderly).sound) v.low many))
-visit_case p t ask own u us false false is off v = show_takes p t (mark t u (index_shown p t own u)) ask own u us refl off v.away
+visit_case p t ask own u us false false is off v = show_takes p t (mark_index t u (index_shown p t own u)) ask own u us refl off v.away
 
 visit_takes : (p : Params) (t : FlatTable) (ask : Option ℕ) (own : Spot) (u : ℕ) (us : List ℕ) → is_one_of us u ≡ false → Visiting p t ask own (u ∷ us) → Takes (pending t ask own (u ∷ us)) (pending (visit p t own u) ask own us) (visit_picked p t ask own u)
 visit_takes p t ask own u us off v = visit_case p t ask own u us (t.lifted u) (reads p t u + 1 == p.dummies) refl off v
-
-other_than : (us : List ℕ) (u v : ℕ) → is_one_of us u ≡ false → is_one_of us v ≡ true → (v == u) ≡ false
-other_than us u v off on = ne_eqb v u (λ e. true≢false (sym on ∙ ap (is_one_of us) e ∙ off))
-
-counted_few : (p : Params) (t : FlatTable) (count : ℕ → ℕ) → IsCounted p t count → (u : ℕ) → t.lifted u ≡ false → reads p t u < p.dummies
-counted_few p t count c u down =
-    let low : count u < p.dummies = leb-false p.dummies (count u) (sym (c.lifted_is u) ∙ down) in
-    omega (arith, c.reads_is u low)
 
 visiting_next : (p : Params) (t : FlatTable) (ask : Option ℕ) (own : Spot) (u : ℕ) (us : List ℕ) → is_one_of us u ≡ false → Visiting p t ask own (u ∷ us) → Visiting p (visit p t own u) ask own us
 visiting_next p t ask own u us off v =
     let law : VisitLaw p t own u (counts_in p t) = visit_law p t own u (counts_in p t) (v.orderly).sound (counted_in p t v.orderly) v.gone (λ j. v.free u j (or_left (u == u) (is_one_of us u) (eq-eqb u u refl))) in
     let last : Bool = reads p t u + 1 == p.dummies in
     record {
-      orderly = record { sound = law.sound; few = counted_few p (visit p t own u) (bump u (counts_in p t)) law.counted };
+      orderly = record { sound = law.sound; few = few_counted p (visit p t own u) (bump u (counts_in p t)) law.counted };
       low = λ k e. v.low k (sym (step_present (t.lifted u) (reads p t u + 1 == p.dummies) t u (index_shown p t own u) k) ∙ e);
       away = λ k on. step_stash (t.lifted u) (reads p t u + 1 == p.dummies) t u (index_shown p t own u) k (v.away k on);
       gone = law.gone;
       free = λ w j on e. (let f : (j < p.real) × (t.used w j ≡ false) = v.free w j (or_right (u == w) (is_one_of us w) on) e in
-          (f.0, law.others w j (other_than us u w off on) ∙ f.1));
-      standing = λ w j on e. step_lifted (t.lifted u) (reads p t u + 1 == p.dummies) t u (index_shown p t own u) w (other_than us u w off on) ∙ v.standing w j (or_right (u == w) (is_one_of us w) on) e;
+          (f.0, law.others w j (off_itself us u w off on) ∙ f.1));
+      standing = λ w j on e. step_lifted (t.lifted u) (reads p t u + 1 == p.dummies) t u (index_shown p t own u) w (off_itself us u w off on) ∙ v.standing w j (or_right (u == w) (is_one_of us w) on) e;
     }
 
 pub visits_take : (p : Params) (t : FlatTable) (ask : Option ℕ) (own : Spot) (us : List ℕ) → IsDistinct us → Visiting p t ask own us → Takes (pending t ask own us) (pending (visits p t own us) ask own []) (visits_picked p t ask own us)
@@ -360,10 +347,6 @@ pending_end : (t : FlatTable) (ask : Option ℕ) (own : Spot) (k : ℕ) → spot
 pending_end t ask InStash k = refl
 pending_end t ask (In v i) k = refl
 
-asked_row_of : (t : FlatTable) (ask : Option ℕ) (k : ℕ) → asks_for ask k ≡ true → asked_row t ask ≡ t.rows k
-asked_row_of t None k e = absurd (false≢true e)
-asked_row_of t (Some a) k e = ap t.rows (eqb-true a k e)
-
 leaf_any : (r : Option Row) (u j x y : ℕ) → spot_of r ≡ In u j → leaf_of r x ≡ leaf_of r y
 leaf_any None u j x y e = absurd (cc)
 leaf_any (Some r) u j x y e = refl
@@ -375,7 +358,7 @@ first_case p r b leaf (In v i) on asked e = sym (ap (λ (c : Bool). cond (c && b
 
 pending_first : (p : Params) (t : FlatTable) (ask : Option ℕ) (leaf k : ℕ) → IsSound p t → spot_of (t.rows k) ≡ pending (fetch t ask leaf) ask (spot_of (asked_row t ask)) (path p (leaf_shown t ask leaf)) k
 pending_first p t ask leaf k s = elim (cases_Bool (asks_for ask k)) [
-  | inl on ↦ (let row : asked_row t ask ≡ t.rows k = asked_row_of t ask k on in
+  | inl on ↦ (let row : asked_row t ask ≡ t.rows k = asked_key t ask k on in
       subst (λ (r : Option Row). spot_of (t.rows k) ≡ cond (awaits (spot_of r) (path p (leaf_of r leaf)) && asks_for ask k) (spot_of r) (spot_of (fetched (asks_for ask k) leaf (t.rows k)))) (sym row)
       (first_case p (t.rows k) (asks_for ask k) leaf (spot_of (t.rows k))
       (λ u j e. (let at : Placed p t k u j = s.placed k u j e in subst (λ (x : ℕ). passes p u x ≡ true) (leaf_any (t.rows k) u j 0 leaf e) at.on_path))

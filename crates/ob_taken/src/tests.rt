@@ -1,3 +1,5 @@
+//! Each law is called once.
+
 use crate::{goes_further, picked_are_taken, refills_move, steps_only_take, versions_go};
 
 // each law is the contract of a call that returns

@@ -1,3 +1,5 @@
+//! A tape of given words.
+
 ghost use Rattle.std.specs.Prelude.{◌≡◌, ◌+◌, ◌<◌, ◌^◌, [], ◌∷◌, ◌++◌, length, IfOk};
 ghost use Rattle.ob_tape.specs.Draws.{list_word, list_drawn};
 

@@ -1,3 +1,5 @@
+//! A tape over ChaCha20.
+
 ghost use Rattle.std.specs.Prelude.{◌≡◌, ◌+◌, ◌<◌, ◌^◌, [], ◌∷◌, ◌++◌, length};
 ghost use Rattle.rand_chacha.specs.ChaCha.{key_of};
 ghost use Rattle.ob_tape.specs.Draws.{stream_word, stream_drawn};

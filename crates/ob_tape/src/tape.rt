@@ -1,3 +1,5 @@
+//! Random words in generations.
+
 ghost use Rattle.std.specs.Prelude.{◌≡◌, ◌<◌, ◌^◌, ℕ, List, [], ◌∷◌, ◌++◌, length};
 
 /// A source of random words, in generations. A word's identity is its generation and its place

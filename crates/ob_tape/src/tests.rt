@@ -1,3 +1,5 @@
+//! Words of both tapes.
+
 ghost use Rattle.std.specs.Prelude.{◌≡◌, ◌<◌};
 
 use crate::{ChaChaTape, ListTape, Tape};

@@ -1,11 +1,11 @@
 -- How the head's read and the opening join.
-use Rattle.std.proofs.Common.{◌≡◌, ◌≤◌, ◌∙◌, ℕ, suc, List, [], ◌∷◌, Option, Err, subst, sym, arith, inl, inr, rules, ⊎_elim}
+use Rattle.std.proofs.Common.{◌≡◌, ◌≤◌, ◌⊎◌, ◌∙◌, ℕ, suc, List, [], ◌∷◌, Option, Err, subst, sym, arith, inl, inr, ⊎_elim}
 use Rattle.ob_base.specs.declared.params.Params.{Params}
 use Rattle.ob_seal.specs.declared.keys.Keys.{Keys}
 use Rattle.ob_base.specs.declared.fault.Fault.{Fault}
 use Rattle.ob_base.specs.declared.fault.Fault.TheVariants.{Memory, Usage, BadScript, BadParams, NotStore, Damaged, StoreFault, StashFull, Worn, SourceFault, SinkFault}
 use Rattle.ob_base.specs.Causes.{Rose}
-use Rattle.ob_report.specs.Printed.{Flow}
+use Rattle.ob_io.specs.Streams.{Flow}
 use Rattle.ob_store.specs.declared.event.Event.{Event}
 use Rattle.ob_store.specs.declared.event.Event.TheVariants as event
 use Rattle.ob_store.specs.Disk.{Disk, Image}
@@ -18,6 +18,7 @@ use Rattle.ob_store.specs.Told.{events_of}
 use Rattle.ob_store.proofs.Doing.{first_noted}
 use Rattle.ob_store.specs.Lines.{Trace}
 use Rattle.ob_store.proofs.Events.{joined, joined_first}
+use Rattle.ob_store.proofs.Serving.{rose_later}
 use Rattle.ob_twin.specs.Opening.{GatesAre}
 use Rattle.ob_script.specs.Script.{Scripts}
 use Rattle.ob_twin.specs.declared.gates.Open.{Open}
@@ -26,17 +27,15 @@ use Rattle.ob_flat.specs.Heads.{IsHead}
 use Rattle.ob_start.specs.Registers.{Found}
 use Rattle.ob_start.specs.Orders.{registers_notes}
 use Rattle.ob_flat.specs.Openings.{IsFoundIn, IsOpenedAt, IsOpeningOf, IsOpenFault, OpensIn, OpensFirst, ReadsAlone}
+use Rattle.ob_flat.specs.Openings.{OpensFrom as FlatOpensFrom}
 use Rattle.ob_flat.specs.Orders.{registers_events, found_notes, open_notes, open_events}
 use Rattle.ob_kinds.specs.Kinds as kinds
 use Rattle.ob_top.specs.Flat.{flat_kind, FlatOpensPartly}
-use Rattle.ob_top.specs.Runs.{CameIn, EndsEarly, IsOpened, begin_events}
+use Rattle.ob_top.specs.Runs.{CameIn, EndsEarly, OpensStanding, IsOpened, begin_events}
 use Rattle.ob_top.proofs.FlatSteps.{open_same}
 
 pub same_cells : (old mid : Disk) → Keeps old mid → old.tells → mid.cells ≡ old.cells
 same_cells old mid keeps tells = λ i k. keeps.cells tells k i
-
-pub rose_since : (a b c : ℕ) → a ≤ b → Rose b c → Rose a c
-rose_since a b c le rose = search rules
 
 -- What a crash leaves of the head's read and the opening.
 -- in the words of the kind of store
@@ -77,6 +76,23 @@ module _ (keys : Keys) (p : Params) (old mid new : Disk) (passes : Passes Same o
   left_opening at crash stands all = weakened old new (StandsAsBefore keys p old) (kinds.StandsAsBefore flat_kind keys p old) (as_kind keys p old) (then_on old mid new (StandsAsBefore keys p old)
       (leaves_of Same (λ d. old.may_leave d) (StandsAsBefore keys p old) old mid passes only (λ c left. left) (λ c d was same. subst (StandsAsBefore keys p old) (sym same) (as_before all d was)) (λ c was. as_before all c was))
       (weakened mid new (StandsAsBefore keys p mid) (StandsAsBefore keys p old) since_old (crash at (keeps.tells tells) (kept at stands) (all_stand all))))
+
+-- the head's read and the opening's first sync
+pub opens_from : {S : Type 0} (disk : S → Disk) (keys : Keys) (p : Params) (old mid new : S) → Passes Same (disk old) (disk mid) → Keeps (disk old) (disk mid) → FlatOpensFrom disk keys p mid new → OpensStanding flat_kind disk keys p (disk old) (disk new)
+opens_from disk keys p old mid new passes keeps f = record {
+  synced = f.synced;
+  until = passed_then Same (disk old) (disk mid) (disk f.synced) (λ c d e one run. one ∙ run) passes f.until;
+  settled = λ tells. f.settled (keeps.tells tells);
+  since = λ g at tells stands. weakened (disk f.synced) (disk new) (λ c. StandsFlat keys p g c at ⊎ StandsFlat keys p (suc g) c at) (λ c. (later : ℕ) × (g ≤ later) × StandsFlat keys p later c at)
+      (λ c. ⊎_elim (λ same. (g, omega arith, same)) (λ next. (suc g, omega arith, next)))
+      (f.since g at (keeps.tells tells) (subst (λ (i : Image). StandsFlat keys p g i at) (sym (same_cells (disk old) (disk mid) keeps tells)) stands));
+}
+
+-- of an opening that was refused
+pub opens_or_not : {S : Type 0} (disk : S → Disk) (keys : Keys) (p : Params) (old mid new : S) → Passes Same (disk old) (disk mid) → Keeps (disk old) (disk mid) → Passes Same (disk mid) (disk new) ⊎ FlatOpensFrom disk keys p mid new
+    → Passes Same (disk old) (disk new) ⊎ OpensStanding flat_kind disk keys p (disk old) (disk new)
+opens_or_not disk keys p old mid new passes keeps (inl same) = inl (passed_then Same (disk old) (disk mid) (disk new) (λ c d e one run. one ∙ run) passes same)
+opens_or_not disk keys p old mid new passes keeps (inr from) = inr (opens_from disk keys p old mid new passes keeps from)
 
 module _ (keys : Keys) (old mid new : Disk) (before : Flow) (p : Params) (script : Scripts) (shown shown_new : Trace) where
   -- the head was read, a script came in, and the store was opened
@@ -132,19 +148,20 @@ module _ (keys : Keys) (old mid new : Disk) (before : Flow) (p : Params) (script
   )
 
   -- the opening was refused
-  pub unopened : (after : Flow) (fault : Fault) → (old.tells → IsHead keys p (old.cells 0)) → Keeps old mid → old.faults ≤ mid.faults → Notes (event.Read 0 ∷ []) old.seen mid.seen → CameIn p.keys before script
+  pub unopened : {S : Type 0} (disk : S → Disk) (after : Flow) (fault : Fault) → (old.tells → IsHead keys p (old.cells 0)) → Keeps old mid → old.faults ≤ mid.faults → Notes (event.Read 0 ∷ []) old.seen mid.seen → CameIn p.keys before script
       → IsOpenFault fault → (mid.tells → IsOpeningOf keys p.keys mid.cells (Err fault)) → (IsStoreFault fault → Rose mid.faults new.faults) → OpensFirst keys p.keys mid new shown shown_new
       → Passes Same old mid → ((IsStoreFault fault → ⊥) → ReadsAlone p.keys mid new shown shown_new)
-      → ((at : Standing) → old.tells → Stands keys p old.cells at → AllStand keys p old → LeavesOnly old new (kinds.StandsAsBefore flat_kind keys p old)) → EndsEarly flat_kind keys old new before after fault
-  unopened after fault head keeps later seen came kind read cause order passes alone left = inr (inr (record {
+      → ((at : Standing) → old.tells → Stands keys p old.cells at → AllStand keys p old → LeavesOnly old new (kinds.StandsAsBefore flat_kind keys p old)) → Passes Same old new ⊎ OpensStanding flat_kind disk keys p old new → EndsEarly flat_kind keys old new disk before after fault
+  unopened disk after fault head keeps later seen came kind read cause order passes alone left opens = inr (inr (record {
     p = p;
     head = head;
     script = script;
     came = came;
     kind = kind;
     read = λ tells. subst (λ (i : Image). IsOpeningOf keys p.keys i (Err fault)) (same_cells old mid keeps tells) (read (keeps.tells tells));
-    cause = λ is. rose_since old.faults mid.faults new.faults later (cause is);
+    cause = λ is. rose_later old.faults mid.faults new.faults later (cause is);
     seen = partly fault keeps seen order alone;
     unwritten = λ kind. unwritten keeps passes (alone kind);
     left = left;
+    opens = opens;
   }))

@@ -10,6 +10,7 @@ use Rattle.ob_seal.specs.declared.keys.Keys.{Keys}
 use Rattle.ob_report.specs.Printed.{IsPrinted}
 use Rattle.ob_report.specs.Faults.{fault_line, status_of}
 use Rattle.ob_store.specs.Disk.{Disk}
+use Rattle.ob_desk.specs.Beats.{BeatKind}
 use Rattle.ob_words.specs.Reading.{Asked, asked_by, format_asked, run_asked}
 use Rattle.ob_top.specs.declared.words.Command.{Command}
 use Rattle.ob_top.specs.declared.words.Command.TheVariants.{Format, Run}
@@ -147,7 +148,7 @@ module _ (before mid after : Outside) (status : ℕ) (input : after.input ≡ mi
 
   -- ---- with a store
 
-  module _ {S : Type 0} (disk : S → Disk) (passes : ℕ → ℕ → ℕ → ℕ → Bool) (words : List (List ℕ)) (text : Option (Bor (List ℕ))) (old new : S) where
+  module _ {S : Type 0} (disk : S → Disk) (beat : BeatKind) (words : List (List ℕ)) (text : Option (Bor (List ℕ))) (old new : S) where
     abbrev Tell : Fault → Type 0
     Tell f = (new ≡ old) × IsOnlyTold f before after status
 
@@ -156,29 +157,29 @@ module _ (before mid after : Outside) (status : ℕ) (input : after.input ≡ mi
 
     abbrev FormatTells : List (List ℕ) → Type 0
     FormatTells numbers = Tell Memory ⊎ (((field : Field) × IsBadNumber numbers field × Tell (BadParams field))
-        ⊎ ((p : Params) × AreParams numbers p × (KeysTell ⊎ ((keys : Keys) × HasKeys text keys × FormatDone keys p (disk old) (disk new) before after status))))
+        ⊎ ((p : Params) × AreParams numbers p × (KeysTell ⊎ ((keys : Keys) × HasKeys text keys × FormatDone disk keys p old new before after status))))
 
     abbrev RunTells : Option (List ℕ) → Type 0
     RunTells lanes = Tell Memory ⊎ ((AreBadLanes lanes × Tell (BadParams LANES))
-        ⊎ ((k : ℕ) × AreLanes lanes k × (KeysTell ⊎ ((keys : Keys) × HasKeys text keys × RunDone flat_kind disk passes keys (disk old) (disk new) before after status))))
+        ⊎ ((k : ℕ) × AreLanes lanes k × (KeysTell ⊎ ((keys : Keys) × HasKeys text keys × RunDone flat_kind disk beat keys old new before after status))))
 
-    pub usage_done : (fault : Option Fault) → CommandDoes disk passes words text old new before mid fault → IsFinished mid.output after.output fault status → asked_by words ≡ None → Tell Usage ⊎ Tell Memory
+    pub usage_done : (fault : Option Fault) → CommandDoes disk beat words text old new before mid fault → IsFinished mid.output after.output fault status → asked_by words ≡ None → Tell Usage ⊎ Tell Memory
     usage_done fault (inl (f, is, inl refused, kept, same)) done nothing = usage_tells (new ≡ old) kept same words text fault f is done refused nothing
     usage_done fault (inl (f, is, inr ((command, (asked, by, fits)), bad), kept, same)) done nothing = absurd (nothing_asked words asked nothing by)
     usage_done fault (inr (keys, has, inl (p, (asked, by, fits), ends, leaves, same))) done nothing = absurd (nothing_asked words asked nothing by)
     usage_done fault (inr (keys, has, inr (k, (asked, by, fits), on))) done nothing = absurd (nothing_asked words asked nothing by)
 
-    pub format_does : (fault : Option Fault) → CommandDoes disk passes words text old new before mid fault → IsFinished mid.output after.output fault status
+    pub format_does : (fault : Option Fault) → CommandDoes disk beat words text old new before mid fault → IsFinished mid.output after.output fault status
         → (store keys : List ℕ) (numbers : List (List ℕ)) → asked_by words ≡ Some (format_asked store keys numbers) → FormatTells numbers
     format_does fault (inl (f, is, inl refused, kept, same)) done store keys numbers asks = early (format_tells (new ≡ old) kept same words text fault f is done store keys numbers refused asks)
     format_does fault (inl (f, is, inr ((command, (asked, by, fits)), bad), kept, same)) done store keys numbers asks =
         let (p, are) = params_at store keys numbers command (params_asked words asked command store keys numbers by fits asks) in
         inr (inr (p, are, inl (keys_tell (new ≡ old) kept same words text fault f is done bad)))
     format_does fault (inr (found, has, inl (p, (asked, by, fits), ends, leaves, same))) done store keys numbers asks =
-        inr (inr (p, params_asked words asked (Format p) store keys numbers by fits asks, inr (found, has, format_done found p (disk old) (disk new) before mid after status fault ends leaves same input done)))
+        inr (inr (p, params_asked words asked (Format p) store keys numbers by fits asks, inr (found, has, format_done disk found p old new before mid after status fault ends leaves same input done)))
     format_does fault (inr (found, has, inr (k, (asked, by, fits), on))) done store keys numbers asks = absurd (params_asked words asked (Run k) store keys numbers by fits asks)
 
-    pub run_does : (fault : Option Fault) → CommandDoes disk passes words text old new before mid fault → IsFinished mid.output after.output fault status
+    pub run_does : (fault : Option Fault) → CommandDoes disk beat words text old new before mid fault → IsFinished mid.output after.output fault status
         → (store keys : List ℕ) (lanes : Option (List ℕ)) (turns : Bool) → asked_by words ≡ Some (run_asked store keys lanes turns) → RunTells lanes
     run_does fault (inl (f, is, inl refused, kept, same)) done store keys lanes turns asks = early (run_tells (new ≡ old) kept same words text fault f is done store keys lanes turns refused asks)
     run_does fault (inl (f, is, inr ((command, (asked, by, fits)), bad), kept, same)) done store keys lanes turns asks =
@@ -186,7 +187,7 @@ module _ (before mid after : Outside) (status : ℕ) (input : after.input ≡ mi
         inr (inr (k, are, inl (keys_tell (new ≡ old) kept same words text fault f is done bad)))
     run_does fault (inr (found, has, inl (p, (asked, by, fits), ends, leaves, same))) done store keys lanes turns asks = absurd (lanes_asked words asked (Format p) store keys lanes turns by fits asks)
     run_does fault (inr (found, has, inr (k, (asked, by, fits), on))) done store keys lanes turns asks =
-        inr (inr (k, lanes_asked words asked (Run k) store keys lanes turns by fits asks, inr (found, has, run_done disk passes found (disk old) (disk new) before mid after input status fault on done)))
+        inr (inr (k, lanes_asked words asked (Run k) store keys lanes turns by fits asks, inr (found, has, run_done disk beat found old new before mid after input status fault on done)))
 
   -- ---- without one
 

@@ -1,34 +1,30 @@
 -- What can be done is done.
-use Rattle.std.proofs.Common.{◌≡◌, ◌⊎◌, ◌<◌, ◌≤◌, ◌+◌, ◌*◌, ◌-◌, ◌^◌, ◌++◌, ℕ, Bool, suc, List, [], length, take, Option, Some, None, Err, refl, sym, ap, subst, inl, inr, arith, ◌∙◌, length-append}
-use Rattle.std.proofs.lemmas.List.{append-nil}
+use Rattle.std.proofs.Common.{◌≡◌, ◌⊎◌, ◌<◌, ◌≤◌, ◌+◌, ◌*◌, ◌-◌, ◌^◌, ℕ, Bool, suc, List, length, take, Option, Some, None, Err, refl, subst, inl, inr, arith, ◌∙◌, ⊎_elim}
 use Rattle.std.proofs.Math.Nat.{mul-le-mul_left}
-use Rattle.std.specs.Prelude.{decimal}
 use Rattle.std.specs.Borrow.{Bor}
 use Rattle.ob_base.specs.declared.params.Params.{Params}
 use Rattle.ob_base.specs.declared.fault.Damaged.{Damaged}
 use Rattle.ob_base.specs.declared.fault.Fault.{Fault}
 use Rattle.ob_base.specs.declared.fault.Fault.TheVariants as fault
 use Rattle.ob_base.specs.Causes.{Rose}
-use Rattle.ob_io.specs.Flows.{IsInput, appended}
-use Rattle.ob_report.specs.Report.{report}
+use Rattle.ob_io.specs.Flows.{IsInput}
 use Rattle.ob_report.specs.Faults.{status_of}
 use Rattle.ob_seal.specs.declared.keys.Keys.{Keys}
 use Rattle.ob_store.specs.Disk.{Disk, Image}
 use Rattle.ob_store.specs.Calls.{IsStoreFault}
 use Rattle.ob_serial.specs.Serial.{EpochRecord}
 use Rattle.ob_serial.specs.Vaults.{Standing}
-use Rattle.ob_script.specs.Script.{ScriptTxn, Scripts, IsScript, IsFirstBad, limit}
+use Rattle.ob_script.specs.Script.{Scripts, IsScript, IsFirstBad, limit}
 use Rattle.ob_script.proofs.OneReading.{not_both}
 use Rattle.ob_flat_rows.specs.Reads.{IsFirstRowDamage}
 use Rattle.ob_twin.specs.Keyed.{tagging}
-use Rattle.ob_twin.specs.Reading.{AllWhole, IsFirstDamage}
+use Rattle.ob_twin.specs.Reading.{AllWhole, IsFirstTwinDamage}
 use Rattle.ob_flat.specs.Heads.{IsHead}
 use Rattle.ob_start.specs.Registers.{IsRegisterDamage}
 use Rattle.ob_flat.specs.Places.{area_of}
 use Rattle.ob_flat.specs.Openings.{IsOpenFault, IsOpeningOf, IsRowsDamage}
 use Rattle.ob_flat.specs.Standing.{StandsFlat}
 use Rattle.ob_flat.proofs.Opened.{number_found}
-use Rattle.ob_script_runs.specs.Served.{IsServed, ClientsServedAll}
 use Rattle.ob_script_runs.proofs.Counting.{few_txns, few_epochs}
 use Rattle.ob_base.specs.declared.fault.Field.{Field}
 use Rattle.ob_base.specs.declared.fault.Field.TheVariants.{LANES}
@@ -39,29 +35,30 @@ use Rattle.ob_top.specs.Formats.{FormatTold, FormatDone}
 use Rattle.ob_top.specs.Flat.{flat_kind}
 use Rattle.ob_kinds.specs.Phases.{Shape, shapes}
 use Rattle.ob_conduct.specs.Acts.{calls}
+use Rattle.ob_desk.specs.Beats.{BeatKind}
 use Rattle.ob_flat.specs.declared.opening.Opening.{Opening}
 use Rattle.ob_top.specs.Runs.{CameIn, IsInputRefused, EndsEarly, EndsFor, Ran, Went, RunDone}
-use Rattle.ob_top.specs.Complete.{CanFormat, CanRun, RunsWhole, RunAnswers, DoesWhatItCan}
+use Rattle.ob_top.specs.Complete.{CanFormat, CanRun, DoesWhatItCan}
 use Rattle.ob_top.proofs.Judged.{head_told, keys_same, not_closed, not_broken, rows_obey}
 use Rattle.ob_top.proofs.Counted.{one_script}
 use Rattle.ob_top.proofs.Named.{no_bad_number, no_bad_lanes, one_keys, keys_stand}
 
 -- ---- format
 
-format_fault : (keys : Keys) (p : Params) (old new : Disk) (before after : Outside) (f : Option Fault) → FormatTold keys p old new before.output after.output f
-    → (Rose old.faults new.faults → ⊥) → (Rose before.output.faults after.output.faults → ⊥) → status_of f ≡ 0
-format_fault keys p old new before after None told store output = refl
-format_fault keys p old new before after (Some fault.SinkFault) told store output = absurd (output told.1)
-format_fault keys p old new before after (Some (fault.StoreFault unsure)) told store output = absurd (store told.1)
-format_fault keys p old new before after (Some fault.Memory) told store output = absurd told
-format_fault keys p old new before after (Some fault.Usage) told store output = absurd told
-format_fault keys p old new before after (Some (fault.BadScript line)) told store output = absurd told
-format_fault keys p old new before after (Some (fault.BadParams field)) told store output = absurd told
-format_fault keys p old new before after (Some fault.NotStore) told store output = absurd told
-format_fault keys p old new before after (Some (fault.Damaged cell check kept computed)) told store output = absurd told
-format_fault keys p old new before after (Some (fault.StashFull rows)) told store output = absurd told
-format_fault keys p old new before after (Some (fault.Worn number)) told store output = absurd told
-format_fault keys p old new before after (Some fault.SourceFault) told store output = absurd told
+format_fault : {S : Type 0} (disk : S → Disk) (keys : Keys) (p : Params) (old new : S) (before after : Outside) (f : Option Fault) → FormatTold disk keys p old new before.output after.output f
+    → (Rose (disk old).faults (disk new).faults → ⊥) → (Rose before.output.faults after.output.faults → ⊥) → status_of f ≡ 0
+format_fault disk keys p old new before after None told store output = refl
+format_fault disk keys p old new before after (Some fault.SinkFault) told store output = absurd (output told.1)
+format_fault disk keys p old new before after (Some (fault.StoreFault unsure)) told store output = absurd (store told.1)
+format_fault disk keys p old new before after (Some fault.Memory) told store output = absurd told
+format_fault disk keys p old new before after (Some fault.Usage) told store output = absurd told
+format_fault disk keys p old new before after (Some (fault.BadScript line)) told store output = absurd told
+format_fault disk keys p old new before after (Some (fault.BadParams field)) told store output = absurd told
+format_fault disk keys p old new before after (Some fault.NotStore) told store output = absurd told
+format_fault disk keys p old new before after (Some (fault.Damaged cell check kept computed)) told store output = absurd told
+format_fault disk keys p old new before after (Some (fault.StashFull rows)) told store output = absurd told
+format_fault disk keys p old new before after (Some (fault.Worn number)) told store output = absurd told
+format_fault disk keys p old new before after (Some fault.SourceFault) told store output = absurd told
 
 -- ---- run
 
@@ -75,7 +72,7 @@ module _ (keys : Keys) (p : Params) (g : ℕ) (at : Standing) (image : Image) (s
   whole_registers : (d : Damaged) → IsRegisterDamage keys image d → ⊥
   whole_registers d damage = by_register damage.first
     where
-      by_register : IsFirstDamage (tagging keys) 1 image d ⊎ (AllWhole (tagging keys) 1 image × IsFirstDamage (tagging keys) 5 image d) → ⊥
+      by_register : IsFirstTwinDamage (tagging keys) 1 image d ⊎ (AllWhole (tagging keys) 1 image × IsFirstTwinDamage (tagging keys) 5 image d) → ⊥
       by_register (inl first) = not_broken keys 1 g image stands.begun d first
       by_register (inr (whole, first)) = not_broken keys 5 at.epoch image stands.epoch d first
 
@@ -100,7 +97,7 @@ module _ (keys : Keys) (p : Params) (g : ℕ) (at : Standing) (image : Image) (s
 keys_few : (p : Params) → p.keys ≤ 2 ^ 32
 keys_few p = omega (arith, p.in_range.few_keys)
 
-module _ (words : List (List ℕ)) (text : Option (Bor (List ℕ))) (old new : Disk) (before after : Outside) (script : Scripts) (can : CanRun words text old new before after flat_kind script) where
+module _ {S : Type 0} (disk : S → Disk) (words : List (List ℕ)) (text : Option (Bor (List ℕ))) (old new : S) (before after : Outside) (script : Scripts) (can : CanRun words text (disk old) (disk new) before after flat_kind script) where
   input_is : (input : List ℕ) → IsInput before.input.bytes limit input → input ≡ take (limit + 1) can.bytes
   input_is input is = subst (λ (b : Option (List ℕ)). IsInput b limit input) can.told is
 
@@ -124,14 +121,14 @@ module _ (words : List (List ℕ)) (text : Option (Bor (List ℕ))) (old new : D
   input_told n (fault.Worn number) same refused = absurd refused
   input_told n fault.SinkFault same refused = absurd refused
 
-  one_p : (q : Params) → (old.tells → IsHead can.keys q (old.cells 0)) → q.keys ≡ can.p.keys
-  one_p q head = keys_same can.keys q can.p (old.cells 0) (head can.tells) can.stands.head
+  one_p : (q : Params) → ((disk old).tells → IsHead can.keys q ((disk old).cells 0)) → q.keys ≡ can.p.keys
+  one_p q head = keys_same can.keys q can.p ((disk old).cells 0) (head can.tells) can.stands.head
 
-  early : (f : Fault) → EndsEarly flat_kind can.keys old new before.input after.input f → status_of (Some f) ≡ 9
-  early f (inl head) = absurd (head_told can.keys can.p (old.cells 0) f can.stands.head head.kind (head.read can.tells) (λ is. can.store_holds (head.cause is)))
+  early : (f : Fault) → EndsEarly flat_kind can.keys (disk old) (disk new) disk before.input after.input f → status_of (Some f) ≡ 9
+  early f (inl head) = absurd (head_told can.keys can.p ((disk old).cells 0) f can.stands.head head.kind (head.read can.tells) (λ is. can.store_holds (head.cause is)))
   early f (inr (inl input)) = input_told input.p.keys f (one_p input.p input.head) input.refused
   early f (inr (inr opening)) =
-      opening_told can.keys can.p can.generation can.at old.cells can.stands opening.p.keys f (one_p opening.p opening.head) can.lasts.0 opening.kind (opening.read can.tells) (λ is. can.store_holds (opening.cause is))
+      opening_told can.keys can.p can.generation can.at (disk old).cells can.stands opening.p.keys f (one_p opening.p opening.head) can.lasts.0 opening.kind (opening.read can.tells) (λ is. can.store_holds (opening.cause is))
 
   -- neither the epochs nor the seals came to their end
   not_worn : (k epoch n : ℕ) → k ≡ can.p.keys → epoch ≡ can.at.epoch → n ≤ length script.txns → (suc (epoch + n) ≡ 2 ^ 62) ⊎ (2 ^ 62 < k * n + k) → ⊥
@@ -142,19 +139,19 @@ module _ (words : List (List ℕ)) (text : Option (Bor (List ℕ))) (old new : D
       let left = can.lasts.2 in
       omega arith
 
-  module _ {S : Type 0} (disk : S → Disk) (passes : ℕ → ℕ → ℕ → ℕ → Bool) (records : List (EpochRecord ℕ)) where
-    ran_keys : (f : Option Fault) (r : Ran flat_kind disk passes can.keys old new before after records f) → r.p.keys ≡ can.p.keys
+  module _ (beat : BeatKind) (records : List (EpochRecord ℕ)) where
+    ran_keys : (f : Option Fault) (r : Ran flat_kind disk beat can.keys old new before after records f) → r.p.keys ≡ can.p.keys
     ran_keys f r = one_p r.p r.opened.head
 
-    ran_epoch : (f : Option Fault) (r : Ran flat_kind disk passes can.keys old new before after records f) → r.found.epoch ≡ can.at.epoch
+    ran_epoch : (f : Option Fault) (r : Ran flat_kind disk beat can.keys old new before after records f) → r.found.epoch ≡ can.at.epoch
     ran_epoch f r =
         let found = (r.opened.finds can.tells).0.found in
-        number_found can.keys 5 old.cells can.at.epoch r.found.epoch can.stands.epoch found.epoch_whole found.epoch_counts
+        number_found can.keys 5 (disk old).cells can.at.epoch r.found.epoch can.stands.epoch found.epoch_whole found.epoch_counts
 
-    ran_script : (f : Option Fault) (r : Ran flat_kind disk passes can.keys old new before after records f) → r.script ≡ script
+    ran_script : (f : Option Fault) (r : Ran flat_kind disk beat can.keys old new before after records f) → r.script ≡ script
     ran_script f r = came_one r.p.keys r.script (ran_keys f r) r.opened.came
 
-    ran_few : (f : Option Fault) (r : Ran flat_kind disk passes can.keys old new before after records f) → length records ≤ length script.txns
+    ran_few : (f : Option Fault) (r : Ran flat_kind disk beat can.keys old new before after records f) → length records ≤ length script.txns
     ran_few f r =
         let served = r.is_served.served in
         let epochs = few_epochs records served.some in
@@ -162,7 +159,7 @@ module _ (words : List (List ℕ)) (text : Option (Bor (List ℕ))) (old new : D
         subst (λ (s : Scripts). length records ≤ length s.txns) (ran_script f r) (omega (arith, epochs, txns))
 
     ran_fault : (f : Fault) (q : Params) (found : Opening) (so_far : List Shape) → q.keys ≡ can.p.keys → found.epoch ≡ can.at.epoch → length records ≤ length script.txns
-        → EndsFor flat_kind q found so_far (length records) old new before.output after.output (Some f) → status_of (Some f) ≡ 9
+        → EndsFor flat_kind q found so_far (length records) (disk old) (disk new) before.output after.output (Some f) → status_of (Some f) ≡ 9
     ran_fault fault.Memory q found so_far keys is few cause = refl
     ran_fault fault.SinkFault q found so_far keys is few cause = absurd (can.output_holds cause)
     ran_fault (fault.StoreFault unsure) q found so_far keys is few cause = absurd (can.store_holds cause.0)
@@ -175,34 +172,17 @@ module _ (words : List (List ℕ)) (text : Option (Bor (List ℕ))) (old new : D
     ran_fault (fault.StashFull rows) q found so_far keys is few cause = absurd cause
     ran_fault fault.SourceFault q found so_far keys is few cause = absurd cause
 
-    ran_whole : (r : Ran flat_kind disk passes can.keys old new before after records None) → after.output.bytes ≡ appended before.output.bytes (report decimal records) → RunsWhole flat_kind passes can.keys old.cells can.at.epoch script before after
-    ran_whole r written =
-        let same = ran_script None r in
-        record {
-          p = r.p;
-          head = r.opened.head can.tells;
-          found = r.found;
-          finds = r.opened.finds can.tells;
-          records = records;
-          served = subst (λ (s : Scripts). IsServed passes r.p can.at.epoch r.p.batches s records) same (subst (λ e. IsServed passes r.p e r.p.batches r.script records) (ran_epoch None r) r.is_served.served);
-          all = subst (λ (s : Scripts). ClientsServedAll s records) same (r.is_served.all refl);
-          written = written;
-        }
+    answers : (status : ℕ) (f : Option Fault) → status ≡ status_of f → Went flat_kind disk beat can.keys old new before after records f → (status ≡ 0) ⊎ (status ≡ 9)
+    answers status None is ran = inl is
+    answers status (Some f) is (inl (none, ended, lives)) = inr (is ∙ early f ended)
+    answers status (Some f) is (inr ran) = inr (is ∙ ran_fault f ran.p ran.found (shapes (calls ran.is_served.served.acts)) (ran_keys (Some f) ran) (ran_epoch (Some f) ran) (ran_few (Some f) ran) ran.cause)
 
-    abbrev Answers : ℕ → Type 0
-    Answers status = RunAnswers flat_kind passes can.keys old.cells can.at.epoch script before after status
-
-    answers : (status : ℕ) (f : Option Fault) → status ≡ status_of f → (f ≡ None → after.output.bytes ≡ appended before.output.bytes (report decimal records)) → Went flat_kind disk passes can.keys old new before after records f → Answers status
-    answers status None is written ran = inl (is, ran_whole ran (written refl))
-    answers status (Some f) is written (inl (none, ended)) = inr (is ∙ early f ended)
-    answers status (Some f) is written (inr ran) = inr (is ∙ ran_fault f ran.p ran.found (shapes (calls ran.is_served.served.acts)) (ran_keys (Some f) ran) (ran_epoch (Some f) ran) (ran_few (Some f) ran) ran.cause)
-
-  pub run_answers : {S : Type 0} (disk : S → Disk) (passes : ℕ → ℕ → ℕ → ℕ → Bool) (status : ℕ) → RunDone flat_kind disk passes can.keys old new before after status → RunAnswers flat_kind passes can.keys old.cells can.at.epoch script before after status
-  run_answers disk passes status d = answers disk passes d.records status d.fault d.status_is d.all_written d.went
+  pub run_answers : (beat : BeatKind) (status : ℕ) → RunDone flat_kind disk beat can.keys old new before after status → (status ≡ 0) ⊎ (status ≡ 9)
+  run_answers beat status d = answers beat d.records status d.fault d.status_is d.went
 
 -- ---- both
 
-module _ {S : Type 0} (disk : S → Disk) (passes : ℕ → ℕ → ℕ → ℕ → Bool) (words : List (List ℕ)) (text : Option (Bor (List ℕ))) (old new : S) (before after : Outside) (status : ℕ) where
+module _ {S : Type 0} (disk : S → Disk) (beat : BeatKind) (words : List (List ℕ)) (text : Option (Bor (List ℕ))) (old new : S) (before after : Outside) (status : ℕ) where
   abbrev Tell : Fault → Type 0
   Tell f = (new ≡ old) × IsOnlyTold f before after status
 
@@ -212,27 +192,27 @@ module _ {S : Type 0} (disk : S → Disk) (passes : ℕ → ℕ → ℕ → ℕ 
 
   abbrev FormatTells : List (List ℕ) → Type 0
   FormatTells numbers = Tell fault.Memory ⊎ (((field : Field) × IsBadNumber numbers field × Tell (fault.BadParams field))
-      ⊎ ((p : Params) × AreParams numbers p × (KeysTell ⊎ ((keys : Keys) × HasKeys text keys × FormatDone keys p (disk old) (disk new) before after status))))
+      ⊎ ((p : Params) × AreParams numbers p × (KeysTell ⊎ ((keys : Keys) × HasKeys text keys × FormatDone disk keys p old new before after status))))
 
   abbrev RunTells : Option (List ℕ) → Type 0
   RunTells lanes = Tell fault.Memory ⊎ ((AreBadLanes lanes × Tell (fault.BadParams LANES))
-      ⊎ ((k : ℕ) × AreLanes lanes k × (KeysTell ⊎ ((keys : Keys) × HasKeys text keys × RunDone flat_kind disk passes keys (disk old) (disk new) before after status))))
+      ⊎ ((k : ℕ) × AreLanes lanes k × (KeysTell ⊎ ((keys : Keys) × HasKeys text keys × RunDone flat_kind disk beat keys old new before after status))))
 
   format_whole : (can : CanFormat words text (disk old) (disk new) before after) → FormatTells can.numbers → (status ≡ 0) ⊎ (status ≡ 9)
   format_whole can (inl (kept, told)) = inr told.status_is
   format_whole can (inr (inl (field, bad, (kept, told)))) = absurd (no_bad_number can.numbers can.p field can.params bad)
   format_whole can (inr (inr (p, are, inl (f, refused, (kept, told))))) = absurd (keys_stand text can.keys f can.has refused)
-  format_whole can (inr (inr (p, are, inr (keys, has, d)))) = inl (d.status_is ∙ format_fault keys p (disk old) (disk new) before after d.fault d.told can.store_holds can.output_holds)
+  format_whole can (inr (inr (p, are, inr (keys, has, d)))) = inl (d.status_is ∙ format_fault disk keys p old new before after d.fault d.told can.store_holds can.output_holds)
 
-  run_whole : (script : Scripts) (can : CanRun words text (disk old) (disk new) before after flat_kind script) → RunTells can.lanes → RunAnswers flat_kind passes can.keys (disk old).cells can.at.epoch script before after status
+  run_whole : (script : Scripts) (can : CanRun words text (disk old) (disk new) before after flat_kind script) → RunTells can.lanes → (status ≡ 0) ⊎ (status ≡ 9)
   run_whole script can (inl (kept, told)) = inr told.status_is
   run_whole script can (inr (inl (bad, (kept, told)))) = absurd (no_bad_lanes can.lanes can.k can.in_range bad)
   run_whole script can (inr (inr (k, are, inl (f, refused, (kept, told))))) = absurd (keys_stand text can.keys f can.has refused)
   run_whole script can (inr (inr (k, are, inr (keys, has, d)))) =
-      run_answers words text (disk old) (disk new) before after script can disk passes status (subst (λ (k : Keys). RunDone flat_kind disk passes k (disk old) (disk new) before after status) (one_keys text keys can.keys has can.has) d)
+      run_answers disk words text old new before after script can beat status (subst (λ (k : Keys). RunDone flat_kind disk beat k old new before after status) (one_keys text keys can.keys has can.has) d)
 
   pub completes : ((store keys : List ℕ) (numbers : List (List ℕ)) → asked_by words ≡ Some (format_asked store keys numbers) → FormatTells numbers)
       → ((store keys : List ℕ) (lanes : Option (List ℕ)) (turns : Bool) → asked_by words ≡ Some (run_asked store keys lanes turns) → RunTells lanes)
-      → DoesWhatItCan disk passes words text before after status old new
+      → DoesWhatItCan disk words text before after status old new
   completes format run =
-      (λ can. format_whole can (format can.store_path can.keys_path can.numbers can.asked), λ script can. run_whole script can (run can.store_path can.keys_path can.lanes can.turns can.asked))
+      ⊎_elim (λ can. format_whole can (format can.store_path can.keys_path can.numbers can.asked)) (λ (script, can). run_whole script can (run can.store_path can.keys_path can.lanes can.turns can.asked))

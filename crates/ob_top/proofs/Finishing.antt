@@ -1,5 +1,5 @@
 -- How a run or a formatting ends, with its fault's line.
-use Rattle.std.proofs.Common.{◌≡◌, ◌≤◌, ◌+◌, ◌∙◌, ℕ, Bool, List, [], ◌++◌, length, take, Option, Some, None, refl, sym, ap, subst, inl, inr, arith, ⊎_elim, length-append}
+use Rattle.std.proofs.Common.{◌≡◌, ◌≤◌, ◌+◌, ◌∙◌, ℕ, List, [], ◌++◌, length, take, Option, Some, None, refl, sym, ap, subst, inl, inr, arith, ⊎_elim, length-append}
 use Rattle.std.proofs.lemmas.List.{append-nil, take_all, take-append-le}
 use Rattle.std.proofs.Math.Seq.{take-append-add}
 use Rattle.std.specs.Prelude.{decimal}
@@ -10,7 +10,8 @@ use Rattle.ob_base.specs.declared.fault.Fault.TheVariants.{Memory, Usage, BadScr
 use Rattle.ob_base.specs.Causes.{Rose}
 use Rattle.ob_io.specs.Flows.{appended}
 use Rattle.ob_io.proofs.Pieces.{appended-again}
-use Rattle.ob_report.specs.Printed.{Flow, IsPrinted}
+use Rattle.ob_io.specs.Streams.{Flow}
+use Rattle.ob_report.specs.Printed.{IsPrinted}
 use Rattle.ob_report.specs.Report.{report}
 use Rattle.ob_report.specs.Faults.{fault_line, status_of}
 use Rattle.ob_report.specs.Sizes.{size_line}
@@ -18,6 +19,7 @@ use Rattle.ob_flat.specs.Places.{cells}
 use Rattle.ob_store.specs.Disk.{Disk}
 use Rattle.ob_store.specs.Images.{LeavesOnly}
 use Rattle.ob_store.specs.Calls.{NotesFirst, IsStoreFault}
+use Rattle.ob_store.proofs.Serving.{rose_later}
 use Rattle.ob_flat.specs.Orders.{format_events}
 use Rattle.ob_flat.specs.Formats.{FormatLeaves}
 use Rattle.ob_serial.specs.Serial.{EpochRecord}
@@ -27,8 +29,8 @@ use Rattle.ob_top.specs.Flat.{flat_kind}
 use Rattle.ob_kinds.specs.Phases.{Shape, shapes}
 use Rattle.ob_flat.specs.declared.opening.Opening.{Opening}
 use Rattle.ob_conduct.specs.Acts.{calls}
+use Rattle.ob_desk.specs.Beats.{BeatKind}
 use Rattle.ob_top.specs.Runs.{EndsEarly, EndsFor, Ran, Went, RunOn, RunDone}
-use Rattle.ob_top.proofs.Beginnings.{rose_since}
 
 -- a text behind one that is whole
 behind : (before mid after : Flow) (text more : List ℕ) → mid.bytes ≡ appended before.bytes text → before.faults ≤ mid.faults → IsPrinted mid after more → IsPrinted before after (text ++ more)
@@ -36,7 +38,7 @@ behind before mid after text more bytes later p = record {
   count = length text + p.count;
   within = omega (arith, p.within, length-append text more);
   written = p.written ∙ rw bytes (appended-again before.bytes text (take p.count more)) ∙ ap (λ (l : List ℕ). appended before.bytes l) (sym (take-append-add text more p.count));
-  whole = ⊎_elim (λ e. inl (ap (λ n. length text + n) e ∙ sym (length-append text more))) (λ r. inr (rose_since before.faults mid.faults after.faults later r)) p.whole;
+  whole = ⊎_elim (λ e. inl (ap (λ n. length text + n) e ∙ sym (length-append text more))) (λ r. inr (rose_later before.faults mid.faults after.faults later r)) p.whole;
 }
 
 whole : (before after : Flow) (text : List ℕ) → after.bytes ≡ appended before.bytes text → IsPrinted before after text
@@ -52,16 +54,17 @@ front before after text more p rose = record {
 }
 
 -- a store that failed while it was made
-pub format_failed : (keys : Keys) (p : Params) (old new : Disk) (before : Flow) (fault : Fault) → fault ≡ StoreFault None → (IsStoreFault fault → Rose old.faults new.faults) → NotesFirst (format_events p.keys) old.seen new.seen
-    → FormatEnds keys p old new before before (Some fault)
-format_failed keys p old new before fault is cause seen =
-    subst (λ (f : Fault). FormatEnds keys p old new before before (Some f)) (sym is) (refl, cause (subst IsStoreFault (sym is) tt), seen, refl)
+pub format_failed : {S : Type 0} (disk : S → Disk) (keys : Keys) (p : Params) (old new : S) (before : Flow) (fault : Fault) → fault ≡ StoreFault None → (IsStoreFault fault → Rose (disk old).faults (disk new).faults) → NotesFirst (format_events p.keys) (disk old).seen (disk new).seen
+    → FormatEnds disk keys p old new before before (Some fault)
+format_failed disk keys p old new before fault is cause seen =
+    subst (λ (f : Fault). FormatEnds disk keys p old new before before (Some f)) (sym is) (refl, cause (subst IsStoreFault (sym is) tt), seen, refl)
 
-module _ {S : Type 0} (disk : S → Disk) (passes : ℕ → ℕ → ℕ → ℕ → Bool) (keys : Keys) (old new : Disk) (before mid after : Outside) (input : after.input ≡ mid.input) where
-  early_on : (fault : Fault) → EndsEarly flat_kind keys old new before.input mid.input fault → EndsEarly flat_kind keys old new before.input after.input fault
-  early_on fault early = subst (λ (f : Flow). EndsEarly flat_kind keys old new before.input f fault) (sym input) early
+module _ {S : Type 0} (disk : S → Disk) (beat : BeatKind) (keys : Keys) (old new : S) (before mid after : Outside) (input : after.input ≡ mid.input) where
+  early_on : (fault : Fault) → EndsEarly flat_kind keys (disk old) (disk new) disk before.input mid.input fault → EndsEarly flat_kind keys (disk old) (disk new) disk before.input after.input fault
+  early_on fault early = subst (λ (f : Flow). EndsEarly flat_kind keys (disk old) (disk new) disk before.input f fault) (sym input) early
 
-  ran_on : (records : List (EpochRecord ℕ)) (fault : Option Fault) (r : Ran flat_kind disk passes keys old new before mid records fault) → EndsFor flat_kind r.p r.found (shapes (calls r.is_served.served.acts)) (length records) old new before.output after.output fault → Ran flat_kind disk passes keys old new before after records fault
+  ran_on : (records : List (EpochRecord ℕ)) (fault : Option Fault) (r : Ran flat_kind disk beat keys old new before mid records fault) → EndsFor flat_kind r.p r.found (shapes (calls r.is_served.served.acts)) (length records) (disk old) (disk new) before.output after.output
+      fault → Ran flat_kind disk beat keys old new before after records fault
   ran_on records fault r cause = record {
     p = r.p;
     script = r.script;
@@ -76,12 +79,14 @@ module _ {S : Type 0} (disk : S → Disk) (passes : ℕ → ℕ → ℕ → ℕ 
     between = r.between;
     opening_seen = r.opening_seen;
     serving_seen = r.serving_seen;
+    opens = r.opens;
     stood = r.stood;
     left = r.left;
+    lives = r.lives;
   }
 
   module _ (status : ℕ) where
-    done_whole : (r : RunOn flat_kind disk passes keys old new before mid None) → IsFinished mid.output after.output None status → RunDone flat_kind disk passes keys old new before after status
+    done_whole : (r : RunOn flat_kind disk beat keys old new before mid None) → IsFinished mid.output after.output None status → RunDone flat_kind disk beat keys old new before after status
     done_whole r f =
         let bytes : after.output.bytes ≡ appended before.output.bytes (report decimal r.records) = ap (λ (o : Flow). o.bytes) f.line ∙ r.reported.bytes in
         record {
@@ -93,17 +98,17 @@ module _ {S : Type 0} (disk : S → Disk) (passes : ℕ → ℕ → ℕ → ℕ 
           went = ran_on r.records None r.went r.went.cause;
         }
 
-    sink_rose : (records : List (EpochRecord ℕ)) → Went flat_kind disk passes keys old new before mid records (Some SinkFault) → Rose before.output.faults mid.output.faults
-    sink_rose records (inl (none, inl head)) = absurd head.kind
-    sink_rose records (inl (none, inr (inl input))) = absurd input.refused
-    sink_rose records (inl (none, inr (inr opening))) = absurd opening.kind
+    sink_rose : (records : List (EpochRecord ℕ)) → Went flat_kind disk beat keys old new before mid records (Some SinkFault) → Rose before.output.faults mid.output.faults
+    sink_rose records (inl (none, inl head, lives)) = absurd head.kind
+    sink_rose records (inl (none, inr (inl input), lives)) = absurd input.refused
+    sink_rose records (inl (none, inr (inr opening), lives)) = absurd opening.kind
     sink_rose records (inr ran) = ran.cause
 
-    sink_went : (records : List (EpochRecord ℕ)) → after.output ≡ mid.output → Went flat_kind disk passes keys old new before mid records (Some SinkFault) → Went flat_kind disk passes keys old new before after records (Some SinkFault)
-    sink_went records same (inl (none, early)) = inl (none, early_on SinkFault early)
+    sink_went : (records : List (EpochRecord ℕ)) → after.output ≡ mid.output → Went flat_kind disk beat keys old new before mid records (Some SinkFault) → Went flat_kind disk beat keys old new before after records (Some SinkFault)
+    sink_went records same (inl (none, early, lives)) = inl (none, early_on SinkFault early, lives)
     sink_went records same (inr ran) = inr (ran_on records (Some SinkFault) ran (subst (λ (f : Flow). Rose before.output.faults f.faults) (sym same) ran.cause))
 
-    done_sink : (r : RunOn flat_kind disk passes keys old new before mid (Some SinkFault)) → IsFinished mid.output after.output (Some SinkFault) status → RunDone flat_kind disk passes keys old new before after status
+    done_sink : (r : RunOn flat_kind disk beat keys old new before mid (Some SinkFault)) → IsFinished mid.output after.output (Some SinkFault) status → RunDone flat_kind disk beat keys old new before after status
     done_sink r f = record {
       fault = Some SinkFault;
       status_is = f.status_is;
@@ -119,7 +124,7 @@ module _ {S : Type 0} (disk : S → Disk) (passes : ℕ → ℕ → ℕ → ℕ 
 
     -- any other fault, behind the whole report
     done_other : (fault : Fault) (records : List (EpochRecord ℕ)) → mid.output.bytes ≡ appended before.output.bytes (report decimal records) → before.output.faults ≤ mid.output.faults
-        → IsPrinted mid.output after.output (fault_line (Some fault)) → status ≡ status_of (Some fault) → Went flat_kind disk passes keys old new before after records (Some fault) → RunDone flat_kind disk passes keys old new before after status
+        → IsPrinted mid.output after.output (fault_line (Some fault)) → status ≡ status_of (Some fault) → Went flat_kind disk beat keys old new before after records (Some fault) → RunDone flat_kind disk beat keys old new before after status
     done_other fault records bytes later line status_is went = record {
       fault = Some fault;
       status_is = status_is;
@@ -132,12 +137,13 @@ module _ {S : Type 0} (disk : S → Disk) (passes : ℕ → ℕ → ℕ → ℕ 
         no_fault : Some fault ≡ None → ⊥
         no_fault is = cc is
 
-    went_other : (fault : Fault) (records : List (EpochRecord ℕ)) → ((p : Params) (found : Opening) (so_far : List Shape) (n : ℕ) → EndsFor flat_kind p found so_far n old new before.output mid.output (Some fault) → EndsFor flat_kind p found so_far n old new before.output after.output (Some fault))
-        → Went flat_kind disk passes keys old new before mid records (Some fault) → Went flat_kind disk passes keys old new before after records (Some fault)
-    went_other fault records same (inl (none, early)) = inl (none, early_on fault early)
+    went_other : (fault : Fault) (records : List (EpochRecord ℕ)) → ((p : Params) (found : Opening) (so_far : List Shape) (n : ℕ) → EndsFor flat_kind p found so_far n (disk old) (disk new) before.output mid.output (Some fault)
+        → EndsFor flat_kind p found so_far n (disk old) (disk new) before.output after.output (Some fault))
+        → Went flat_kind disk beat keys old new before mid records (Some fault) → Went flat_kind disk beat keys old new before after records (Some fault)
+    went_other fault records same (inl (none, early, lives)) = inl (none, early_on fault early, lives)
     went_other fault records same (inr ran) = inr (ran_on records (Some fault) ran (same ran.p ran.found (shapes (calls ran.is_served.served.acts)) (length records) ran.cause))
 
-    pub run_done : (fault : Option Fault) → RunOn flat_kind disk passes keys old new before mid fault → IsFinished mid.output after.output fault status → RunDone flat_kind disk passes keys old new before after status
+    pub run_done : (fault : Option Fault) → RunOn flat_kind disk beat keys old new before mid fault → IsFinished mid.output after.output fault status → RunDone flat_kind disk beat keys old new before after status
     run_done None r f = done_whole r f
     run_done (Some SinkFault) r f = done_sink r f
     run_done (Some Memory) r f = done_other Memory r.records r.reported.bytes r.reported.later f.line f.status_is (went_other Memory r.records (λ p found so_far n cause. cause) r.went)
@@ -151,8 +157,8 @@ module _ {S : Type 0} (disk : S → Disk) (passes : ℕ → ℕ → ℕ → ℕ 
     run_done (Some (Worn number)) r f = done_other (Worn number) r.records r.reported.bytes r.reported.later f.line f.status_is (went_other (Worn number) r.records (λ p found so_far n cause. cause) r.went)
     run_done (Some SourceFault) r f = done_other SourceFault r.records r.reported.bytes r.reported.later f.line f.status_is (went_other SourceFault r.records (λ p found so_far n cause. cause) r.went)
 
-module _ (keys : Keys) (p : Params) (old new : Disk) (before mid after : Flow) where
-  format_told : (fault : Option Fault) → FormatEnds keys p old new before mid fault → LineTold mid after fault → FormatTold keys p old new before after fault
+module _ {S : Type 0} (disk : S → Disk) (keys : Keys) (p : Params) (old new : S) (before mid after : Flow) where
+  format_told : (fault : Option Fault) → FormatEnds disk keys p old new before mid fault → LineTold mid after fault → FormatTold disk keys p old new before after fault
   format_told None (formatted, bytes) line = (formatted, ap (λ (o : Flow). o.bytes) line ∙ bytes)
   format_told (Some SinkFault) (formatted, rose, printed) line = (
     formatted,
@@ -170,12 +176,13 @@ module _ (keys : Keys) (p : Params) (old new : Disk) (before mid after : Flow) w
   format_told (Some (Worn number)) ends line = absurd ends
   format_told (Some SourceFault) ends line = absurd ends
 
-pub format_done : (keys : Keys) (p : Params) (old new : Disk) (before mid after : Outside) (status : ℕ) (fault : Option Fault) → FormatEnds keys p old new before.output mid.output fault → (old.tells → LeavesOnly old new (FormatLeaves keys p.keys old)) → mid.input ≡ before.input → after.input ≡ mid.input
-    → IsFinished mid.output after.output fault status → FormatDone keys p old new before after status
-format_done keys p old new before mid after status fault ends leaves first second f = record {
+pub format_done : {S : Type 0} (disk : S → Disk) (keys : Keys) (p : Params) (old new : S) (before mid after : Outside) (status : ℕ) (fault : Option Fault) → FormatEnds disk keys p old new before.output mid.output fault
+    → ((disk old).tells → LeavesOnly (disk old) (disk new) (FormatLeaves keys p.keys (disk old))) → mid.input ≡ before.input → after.input ≡ mid.input
+    → IsFinished mid.output after.output fault status → FormatDone disk keys p old new before after status
+format_done disk keys p old new before mid after status fault ends leaves first second f = record {
   fault = fault;
   status_is = f.status_is;
   untouched = second ∙ first;
-  told = format_told keys p old new before.output mid.output after.output fault ends f.line;
+  told = format_told disk keys p old new before.output mid.output after.output fault ends f.line;
   left = leaves;
 }

@@ -1,5 +1,5 @@
 -- What a call of the plain vault shows.
-use Rattle.std.proofs.Common.{◌≡◌, ◌∙◌, ◌⊎◌, ◌+◌, ◌*◌, ◌^◌, ◌<◌, ◌≤◌, ℕ, suc, Bool, true, false, if◌then◌else◌, List, [], ◌∷◌, ◌++◌, length, take, map, Option, Some, None, refl, sym, ap, subst, inl, inr, ⊎_elim, arith}
+use Rattle.std.proofs.Common.{◌≡◌, ◌∙◌, ◌⊎◌, ◌+◌, ◌*◌, ◌^◌, ◌<◌, ℕ, suc, Bool, true, false, if◌then◌else◌, List, [], ◌∷◌, ◌++◌, take, map, Option, Some, None, refl, sym, ap, subst, inl, inr, ⊎_elim, arith}
 use Rattle.std.proofs.lemmas.List.{append-nil}
 use Rattle.ob_base.specs.declared.params.Params.{Params}
 use Rattle.ob_base.specs.declared.fault.Fault.{Fault}
@@ -17,19 +17,19 @@ use Rattle.ob_store.proofs.Events.{none_noted}
 use Rattle.ob_store.proofs.Doing.{cut_noted, events_join as notes_join}
 use Rattle.ob_twin.specs.declared.gates.Open.{Open}
 use Rattle.ob_twin.specs.Register.{place_of, gate_at, body_at}
-use Rattle.ob_twin.specs.Opening.{is_closed_first, with_mark}
+use Rattle.ob_twin.specs.Opening.{is_closed_first}
 use Rattle.ob_twin.specs.Orders.{set_notes, prepare_notes, gate_notes, through_notes}
 use Rattle.ob_serial.specs.Vaults.{VaultCall, Fetch, End, VaultAnswer, Values, Ended, RefusedBy, DoubtBy}
-use Rattle.ob_kinds.specs.Phases.{Phase, Reads, Writes, Syncs, Shape, Fetches, Ends, events_of}
+use Rattle.ob_kinds.specs.Phases.{Phase, Reads, Writes, Syncs, Shape, Fetches, Ends, events_of_phases}
 use Rattle.ob_kinds.proofs.Shapes.{events_join}
 use Rattle.ob_flat.specs.declared.opening.Opening.{Opening}
 use Rattle.ob_flat.specs.Places.{area_of}
-use Rattle.ob_flat.specs.Calls.{FlatCalled, RefusedDoes, IsCutShort, IsInDoubt, IsWorn, Holding}
+use Rattle.ob_flat.specs.Calls.{FlatCalled, RefusedDoes, IsEndCutShort, IsInDoubt, IsWorn, Holding}
 use Rattle.ob_flat.specs.Orders.{end_events, end_prepare_notes, end_gate_notes, open_events, rows_notes}
 use Rattle.ob_start.specs.Orders.{registers_notes, begin_notes}
 use Rattle.ob_cells.specs.Orders.{read_notes}
-use Rattle.ob_top.specs.Flat.{FlatPublic, flat_kind, prepare_phases, set_phases, through_phases, end_phases, end_prepare_phases, end_gate_phases, open_phases, FlatCauses}
-use Rattle.ob_top.proofs.Steps.{Stops, Goes, CallDoes, IsWhy}
+use Rattle.ob_top.specs.Flat.{FlatPublic, flat_kind, prepare_phases, set_phases, through_phases, end_phases, end_prepare_phases, end_gate_phases, open_phases}
+use Rattle.ob_top.proofs.Steps.{Stops, Goes, CallDoes}
 
 -- ---- phases and orders
 
@@ -41,42 +41,42 @@ writes_same : (cells : List ℕ) → map (λ cell. event.Write cell) cells ≡ t
 writes_same [] = refl
 writes_same (cell ∷ cells) = ap (λ (l : List Event). event.Write cell ∷ l) (writes_same cells)
 
-both : (xs ys : List Phase) (ms ns : List Note) → events_of xs ≡ told.events_of ms → events_of ys ≡ told.events_of ns → events_of (xs ++ ys) ≡ told.events_of (ms ++ ns)
+both : (xs ys : List Phase) (ms ns : List Note) → events_of_phases xs ≡ told.events_of ms → events_of_phases ys ≡ told.events_of ns → events_of_phases (xs ++ ys) ≡ told.events_of (ms ++ ns)
 both xs ys ms ns p q = events_join xs ys ∙ rw (p, q) refl ∙ sym (notes_join ms ns)
 
-closed_same : (closed_first : Bool) (cell : ℕ) → events_of (if closed_first then through_phases cell else []) ≡ told.events_of (if closed_first then through_notes cell else [])
+closed_same : (closed_first : Bool) (cell : ℕ) → events_of_phases (if closed_first then through_phases cell else []) ≡ told.events_of (if closed_first then through_notes cell else [])
 closed_same true cell = refl
 closed_same false cell = refl
 
-prepare_same : (closed_first : Bool) (first n : ℕ) → events_of (prepare_phases closed_first first n) ≡ told.events_of (prepare_notes closed_first first n)
+prepare_same : (closed_first : Bool) (first n : ℕ) → events_of_phases (prepare_phases closed_first first n) ≡ told.events_of (prepare_notes closed_first first n)
 prepare_same closed_first first n =
     both (if closed_first then through_phases (gate_at first (place_of n)) else []) (through_phases (body_at first (place_of n)))
     (if closed_first then through_notes (gate_at first (place_of n)) else []) (through_notes (body_at first (place_of n))) (closed_same closed_first (gate_at first (place_of n))) refl
 
-set_same : (closed_first : Bool) (first n : ℕ) → events_of (set_phases closed_first first n) ≡ told.events_of (set_notes closed_first first n)
+set_same : (closed_first : Bool) (first n : ℕ) → events_of_phases (set_phases closed_first first n) ≡ told.events_of (set_notes closed_first first n)
 set_same closed_first first n =
     both (prepare_phases closed_first first n) (through_phases (gate_at first (place_of n))) (prepare_notes closed_first first n) (through_notes (gate_at first (place_of n))) (prepare_same closed_first first n) refl
 
-rows_same : (base keys : ℕ) → events_of (Writes (from_on base keys) ∷ Syncs ∷ []) ≡ told.events_of (rows_notes base keys)
+rows_same : (base keys : ℕ) → events_of_phases (Writes (from_on base keys) ∷ Syncs ∷ []) ≡ told.events_of (rows_notes base keys)
 rows_same base keys =
     both (Writes (from_on base keys) ∷ []) (Syncs ∷ []) (write_notes base keys) (note.Sync ∷ []) (append-nil (map (λ cell. event.Write cell) (from_on base keys)) ∙ writes_same (from_on base keys)) refl
 
 module _ (keys : ℕ) (known : Open) (epoch : ℕ) where
-  behind_rows : (ys : List Phase) (ns : List Note) → events_of ys ≡ told.events_of ns → events_of ((Writes (from_on (area_of keys epoch) keys) ∷ Syncs ∷ []) ++ ys) ≡ told.events_of (rows_notes (area_of keys epoch) keys ++ ns)
+  behind_rows : (ys : List Phase) (ns : List Note) → events_of_phases ys ≡ told.events_of ns → events_of_phases ((Writes (from_on (area_of keys epoch) keys) ∷ Syncs ∷ []) ++ ys) ≡ told.events_of (rows_notes (area_of keys epoch) keys ++ ns)
   behind_rows ys ns is = both (Writes (from_on (area_of keys epoch) keys) ∷ Syncs ∷ []) ys (rows_notes (area_of keys epoch) keys) ns (rows_same (area_of keys epoch) keys) is
 
-  pub end_same : events_of (end_phases keys known epoch) ≡ end_events keys known epoch
+  pub end_same : events_of_phases (end_phases keys known epoch) ≡ end_events keys known epoch
   end_same = behind_rows (set_phases (is_closed_first known (place_of epoch)) 5 epoch) (set_notes (is_closed_first known (place_of epoch)) 5 epoch) (set_same (is_closed_first known (place_of epoch)) 5 epoch)
 
-  end_prepare_same : events_of (end_prepare_phases keys known epoch) ≡ told.events_of (end_prepare_notes keys known epoch)
+  end_prepare_same : events_of_phases (end_prepare_phases keys known epoch) ≡ told.events_of (end_prepare_notes keys known epoch)
   end_prepare_same = behind_rows (prepare_phases (is_closed_first known (place_of epoch)) 5 epoch) (prepare_notes (is_closed_first known (place_of epoch)) 5 epoch) (prepare_same (is_closed_first known (place_of epoch)) 5 epoch)
 
-  end_gate_same : events_of (end_gate_phases keys known epoch) ≡ told.events_of (end_gate_notes keys known epoch)
+  end_gate_same : events_of_phases (end_gate_phases keys known epoch) ≡ told.events_of (end_gate_notes keys known epoch)
   end_gate_same = behind_rows (prepare_phases (is_closed_first known (place_of epoch)) 5 epoch ++ Writes (gate_at 5 (place_of epoch) ∷ []) ∷ []) (gate_notes (is_closed_first known (place_of epoch)) 5 epoch)
       (both (prepare_phases (is_closed_first known (place_of epoch)) 5 epoch) (Writes (gate_at 5 (place_of epoch) ∷ []) ∷ []) (prepare_notes (is_closed_first known (place_of epoch)) 5 epoch) (note.Write (gate_at 5 (place_of epoch)) ∷ [])
       (prepare_same (is_closed_first known (place_of epoch)) 5 epoch) refl)
 
-pub open_same : (keys epoch : ℕ) (known : Open) (generation : ℕ) → events_of (open_phases keys epoch known generation) ≡ open_events keys epoch known generation
+pub open_same : (keys epoch : ℕ) (known : Open) (generation : ℕ) → events_of_phases (open_phases keys epoch known generation) ≡ open_events keys epoch known generation
 open_same keys epoch known generation =
     both (Reads (1 ∷ 2 ∷ 3 ∷ 4 ∷ []) ∷ Reads (5 ∷ 6 ∷ 7 ∷ 8 ∷ []) ∷ []) (Reads (from_on (area_of keys epoch) keys) ∷ Syncs ∷ set_phases (is_closed_first known (place_of generation)) 1 generation)
     registers_notes (read_notes (area_of keys epoch) keys ++ begin_notes known generation) refl
@@ -100,7 +100,7 @@ module _ {V S : Type 0} (called : V → VaultCall → VaultAnswer → List Note 
 
   module _ (q : FlatPublic) (so_far : List Shape) (n : ℕ) (v w : V) (notes : List Note) (at : FlatAt q so_far n v) where
     -- the order of an end here
-    its_end : events_of (end_phases p.keys q.known (suc q.epoch)) ≡ end_events (p_of v).keys (known_of v) (suc (epoch_of v))
+    its_end : events_of_phases (end_phases p.keys q.known (suc q.epoch)) ≡ end_events (p_of v).keys (known_of v) (suc (epoch_of v))
     its_end = end_same p.keys q.known (suc q.epoch) ∙ sym (rw (at.params, at.known, at.epoch) refl)
 
     fetched : (keys : List (Option ℕ)) (values : List (Option (List ℕ))) → called v (Fetch keys) (Values values) notes w → Goes flat_kind p FlatAt (disk (store_of v)) (disk (store_of w)) w q so_far Fetches n
@@ -136,14 +136,14 @@ module _ {V S : Type 0} (called : V → VaultCall → VaultAnswer → List Note 
         more_rows : (i j : ℕ) → i * j + i ≡ i * suc j
         more_rows i j = omega arith
 
-    its_prepare : events_of (end_prepare_phases p.keys q.known (suc q.epoch)) ≡ told.events_of (end_prepare_notes (p_of v).keys (known_of v) (suc (epoch_of v)))
+    its_prepare : events_of_phases (end_prepare_phases p.keys q.known (suc q.epoch)) ≡ told.events_of (end_prepare_notes (p_of v).keys (known_of v) (suc (epoch_of v)))
     its_prepare = end_prepare_same p.keys q.known (suc q.epoch) ∙ sym (rw (at.params, at.known, at.epoch) refl)
 
-    its_gate : events_of (end_gate_phases p.keys q.known (suc q.epoch)) ≡ told.events_of (end_gate_notes (p_of v).keys (known_of v) (suc (epoch_of v)))
+    its_gate : events_of_phases (end_gate_phases p.keys q.known (suc q.epoch)) ≡ told.events_of (end_gate_notes (p_of v).keys (known_of v) (suc (epoch_of v)))
     its_gate = end_gate_same p.keys q.known (suc q.epoch) ∙ sym (rw (at.params, at.known, at.epoch) refl)
 
     -- some of the first of what comes before the gate
-    short : IsCutShort (p_of v).keys (known_of v) (epoch_of v) (sealing_of v) (sealing_of w) (disk (store_of v)) (disk (store_of w)) notes → Stops flat_kind p found (disk (store_of v)) (disk (store_of w)) q so_far n Ends (StoreFault None)
+    short : IsEndCutShort (p_of v).keys (known_of v) (epoch_of v) (sealing_of v) (sealing_of w) (disk (store_of v)) (disk (store_of w)) notes → Stops flat_kind p found (disk (store_of v)) (disk (store_of w)) q so_far n Ends (StoreFault None)
     short one =
         let (c, within, seen) = cut_noted (end_prepare_notes (p_of v).keys (known_of v) (suc (epoch_of v))) one.made notes (disk (store_of v)).seen (disk (store_of w)).seen one.cut one.seen in
         record {

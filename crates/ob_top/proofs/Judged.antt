@@ -16,7 +16,7 @@ use Rattle.ob_seal.specs.Seals.{identity_bytes}
 use Rattle.ob_seal.proofs.Spelling.{sealed_same, sealed_parts}
 use Rattle.ob_twin.specs.Keyed.{tagging}
 use Rattle.ob_twin.specs.Register.{place_of, StandsAt}
-use Rattle.ob_twin.specs.Reading.{NoneOpen, IsFirstDamage}
+use Rattle.ob_twin.specs.Reading.{NoneOpen, IsFirstTwinDamage}
 use Rattle.ob_twin.proofs.Judging.{damage_read}
 use Rattle.ob_serial.specs.Serial.{Map}
 use Rattle.ob_flat_rows.specs.Rows.{HasValue, IsRow}
@@ -24,7 +24,7 @@ use Rattle.ob_cells.specs.Reads.{expected_at}
 use Rattle.ob_flat_rows.specs.Reads.{IsFormDamage, IsRowDamage, IsFirstRowDamage}
 use Rattle.ob_start.specs.Heads.{numbers_of, numbers_in, IsHeadFault}
 use Rattle.ob_flat.specs.Heads.{IsHead, IsHeadRead}
-use Rattle.ob_flat.specs.Standing.{HasRows}
+use Rattle.ob_flat.specs.Standing.{HasSealedRows}
 use Rattle.ob_top.specs.Words.{first_out}
 
 -- ---- the head
@@ -78,7 +78,7 @@ module _ (keys : Keys) (first n : ℕ) (image : Image) (stands : StandsAt (taggi
   pub not_closed : NoneOpen first image → ⊥
   not_closed none = none (place_of n) (omega arith) stands.open_at
 
-  pub not_broken : (d : Damaged) → IsFirstDamage (tagging keys) first image d → ⊥
+  pub not_broken : (d : Damaged) → IsFirstTwinDamage (tagging keys) first image d → ⊥
   not_broken d damage = damage_read (tagging keys) first n image stands d damage
 
 -- ---- the rows
@@ -109,7 +109,7 @@ pair p q = cc
 onward_same : (f g i : ℕ) → onward f 0 ≡ onward g 0 → onward f i ≡ onward g i
 onward_same f g i same = omega (arith, same)
 
-module _ (keys : Keys) (base n : ℕ) (image : Image) (content : Map nat_cmp) (d : Damaged) (rows : HasRows keys base n image content) where
+module _ (keys : Keys) (base n : ℕ) (image : Image) (content : Map nat_cmp) (d : Damaged) (rows : HasSealedRows keys base n image content) where
   obeys_at : (row : ℕ) → row < n → (generation first : ℕ) → ((i : ℕ) → i < row → (value : Option (List ℕ)) × IsRow keys (base + i) generation (onward first i) (image (base + i)) value)
       → IsRowDamage keys (base + row) (expected_at generation first row) (image (base + row)) d → ⊥
   obeys_at zero lt generation first earlier breaks = row_obeys keys (base + 0) None rows.generation (onward rows.first 0) (image (base + 0)) _ d (rows.each 0 lt) tt breaks

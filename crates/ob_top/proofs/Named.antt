@@ -9,7 +9,7 @@ use Rattle.ob_base.specs.declared.fault.Fault.{Fault}
 use Rattle.ob_seal.specs.declared.keys.Keys.{Keys}
 use Rattle.ob_seal.specs.KeyText.{digits_of}
 use Rattle.ob_seal.proofs.KeyLemmas.{is_key_text}
-use Rattle.ob_seal.proofs.SpelledAlike.{split_same}
+use Rattle.ob_base.proofs.Spelled.{split_same}
 use Rattle.ob_start.specs.Heads.{numbers_of}
 use Rattle.ob_top.specs.Words.{Denotes, AllDenote, AreParams, IsBadNumber, AreLanes, AreBadLanes, AreKeys, HasKeys, IsKeysRefused, first_out}
 use Rattle.ob_top.proofs.Judged.{none_some}

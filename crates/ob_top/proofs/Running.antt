@@ -1,15 +1,16 @@
 -- How what was begun and what was served join into a run.
-use Rattle.std.proofs.Common.{◌≤◌, ◌⊎◌, ℕ, Bool, List, [], ◌++◌, length, Option, Some, None, refl, inl, inr, arith}
+use Rattle.std.proofs.Common.{◌≤◌, ◌⊎◌, ℕ, List, [], length, map, Option, Some, None, refl, inl, inr, arith}
 use Rattle.ob_base.specs.declared.params.Params.{Params}
 use Rattle.ob_seal.specs.declared.keys.Keys.{Keys}
 use Rattle.ob_base.specs.declared.fault.Fault.{Fault}
 use Rattle.ob_base.specs.declared.fault.Fault.TheVariants.{Memory, Usage, BadScript, BadParams, NotStore, Damaged, StoreFault, StashFull, Worn, SourceFault, SinkFault}
 use Rattle.ob_io.proofs.Pieces.{appended-none}
-use Rattle.ob_report.specs.Printed.{Flow}
+use Rattle.ob_io.specs.Streams.{Flow}
 use Rattle.ob_store.specs.Disk.{Disk}
-use Rattle.ob_store.specs.Images.{LeavesOnly, Settled}
+use Rattle.ob_store.specs.Images.{LeavesOnly, IsSynced}
 use Rattle.ob_store.proofs.Moments.{then_on, weakened}
 use Rattle.ob_serial.specs.Vaults.{Standing, StandsIn}
+use Rattle.ob_pads.specs.Lives.{LivesOn}
 use Rattle.ob_kinds.specs.Phases.{Shape, shapes}
 use Rattle.ob_kinds.specs.Kinds.{Stands, AllStand, StandsAsBefore, IsOpenedAt, opened_with}
 use Rattle.ob_flat.specs.Standing.{StandsFlat}
@@ -18,35 +19,39 @@ use Rattle.ob_top.specs.Flat.{flat_kind}
 use Rattle.ob_conduct.specs.Left.{IsLeftStanding}
 use Rattle.ob_store.specs.Calls.{Notes}
 use Rattle.ob_store.proofs.Events.{joined}
+use Rattle.ob_store.proofs.Serving.{rose_later}
 use Rattle.ob_twin.specs.declared.gates.Open.{Open}
 use Rattle.ob_serial.specs.Serial.{EpochRecord}
+use Rattle.ob_desk.specs.Beats.{BeatKind}
 use Rattle.ob_script.specs.Script.{Scripts}
 use Rattle.ob_flat.specs.declared.opening.Opening.{Opening}
 use Rattle.ob_top.specs.Outside.{Outside, outside}
-use Rattle.ob_top.specs.Runs.{EndsEarly, IsOpened, EndsFor, IsReported, IsLeft, LeftByWholeRun, ServedOver, Ran, Went, RunOn, begin_events}
-use Rattle.ob_top.proofs.Beginnings.{rose_since}
+use Rattle.ob_top.specs.Runs.{EndsEarly, OpensStanding, IsOpened, EndsFor, IsReported, IsLeftOnDisk, LeftByWholeRun, IsReadAndOpened, ServedOver, Ran, Went, RunOn, begin_events}
+use Rattle.ob_top.proofs.Living.{whole_lives}
 
 -- an early end has printed nothing, which is the report of no records
-pub early_reported : (keys : Keys) (old new : Disk) (before after output : Flow) (fault : Fault) → EndsEarly flat_kind keys old new before after fault → IsReported output output [] (Some fault)
-early_reported keys old new before after output SinkFault (inl head) = absurd head.kind
-early_reported keys old new before after output SinkFault (inr (inl input)) = absurd input.refused
-early_reported keys old new before after output SinkFault (inr (inr opening)) = absurd opening.kind
-early_reported keys old new before after output Memory early = record { bytes = appended-none output.bytes; later = omega arith }
-early_reported keys old new before after output Usage early = record { bytes = appended-none output.bytes; later = omega arith }
-early_reported keys old new before after output (BadScript line) early = record { bytes = appended-none output.bytes; later = omega arith }
-early_reported keys old new before after output (BadParams field) early = record { bytes = appended-none output.bytes; later = omega arith }
-early_reported keys old new before after output NotStore early = record { bytes = appended-none output.bytes; later = omega arith }
-early_reported keys old new before after output (Damaged cell check kept computed) early = record { bytes = appended-none output.bytes; later = omega arith }
-early_reported keys old new before after output (StoreFault unsure) early = record { bytes = appended-none output.bytes; later = omega arith }
-early_reported keys old new before after output (StashFull rows) early = record { bytes = appended-none output.bytes; later = omega arith }
-early_reported keys old new before after output (Worn number) early = record { bytes = appended-none output.bytes; later = omega arith }
-early_reported keys old new before after output SourceFault early = record { bytes = appended-none output.bytes; later = omega arith }
+pub early_reported : {S : Type 0} (disk : S → Disk) (keys : Keys) (old new : Disk) (before after output : Flow) (fault : Fault) → EndsEarly flat_kind keys old new disk before after fault → IsReported output output [] (Some fault)
+early_reported disk keys old new before after output SinkFault (inl head) = absurd head.kind
+early_reported disk keys old new before after output SinkFault (inr (inl input)) = absurd input.refused
+early_reported disk keys old new before after output SinkFault (inr (inr opening)) = absurd opening.kind
+early_reported disk keys old new before after output Memory early = record { bytes = appended-none output.bytes; later = omega arith }
+early_reported disk keys old new before after output Usage early = record { bytes = appended-none output.bytes; later = omega arith }
+early_reported disk keys old new before after output (BadScript line) early = record { bytes = appended-none output.bytes; later = omega arith }
+early_reported disk keys old new before after output (BadParams field) early = record { bytes = appended-none output.bytes; later = omega arith }
+early_reported disk keys old new before after output NotStore early = record { bytes = appended-none output.bytes; later = omega arith }
+early_reported disk keys old new before after output (Damaged cell check kept computed) early = record { bytes = appended-none output.bytes; later = omega arith }
+early_reported disk keys old new before after output (StoreFault unsure) early = record { bytes = appended-none output.bytes; later = omega arith }
+early_reported disk keys old new before after output (StashFull rows) early = record { bytes = appended-none output.bytes; later = omega arith }
+early_reported disk keys old new before after output (Worn number) early = record { bytes = appended-none output.bytes; later = omega arith }
+early_reported disk keys old new before after output SourceFault early = record { bytes = appended-none output.bytes; later = omega arith }
 
-pub ended_early : {S : Type 0} (disk : S → Disk) (passes : ℕ → ℕ → ℕ → ℕ → Bool) (keys : Keys) (old new : Disk) (before after output : Flow) (fault : Fault) → EndsEarly flat_kind keys old new before after fault → RunOn flat_kind disk passes keys old new (outside before output) (outside after output) (Some fault)
-ended_early disk passes keys old new before after output fault early = record {
+pub ended_early : {S : Type 0} (disk : S → Disk) (beat : BeatKind) (keys : Keys) (old new : S) (before after output : Flow) (fault : Fault) → EndsEarly flat_kind keys (disk old) (disk new) disk before after fault → ((disk new).tells → LivesOn disk keys old new [])
+    → RunOn flat_kind disk beat keys old new
+    (outside before output) (outside after output) (Some fault)
+ended_early disk beat keys old new before after output fault early lives = record {
   records = [];
-  reported = early_reported keys old new before after output fault early;
-  went = inl (refl, early);
+  reported = early_reported disk keys (disk old) (disk new) before after output fault early;
+  went = inl (refl, early, lives);
 }
 
 module _ (p : Params) (found : Opening) (so_far : List Shape) (n : ℕ) (old mid new : Disk) (before after : Flow) (later : old.faults ≤ mid.faults) where
@@ -55,7 +60,7 @@ module _ (p : Params) (found : Opening) (so_far : List Shape) (n : ℕ) (old mid
   cause_since None cause = cause
   cause_since (Some Memory) cause = cause
   cause_since (Some SinkFault) cause = cause
-  cause_since (Some (StoreFault unsure)) (rose, which) = (rose_since old.faults mid.faults new.faults later rose, which)
+  cause_since (Some (StoreFault unsure)) (rose, which) = (rose_later old.faults mid.faults new.faults later rose, which)
   cause_since (Some (Worn number)) cause = cause
   cause_since (Some Usage) cause = cause
   cause_since (Some (BadScript line)) cause = cause
@@ -65,13 +70,14 @@ module _ (p : Params) (found : Opening) (so_far : List Shape) (n : ℕ) (old mid
   cause_since (Some (StashFull rows)) cause = cause
   cause_since (Some SourceFault) cause = cause
 
-pub went_of : {S : Type 0} (disk : S → Disk) (passes : ℕ → ℕ → ℕ → ℕ → Bool) (keys : Keys) (old new : Disk) (before after : Outside) (records : List (EpochRecord ℕ)) (fault : Option Fault) → Ran flat_kind disk passes keys old new before after records fault → Went flat_kind disk passes keys old new before after records fault
-went_of disk passes keys old new before after records None ran = ran
-went_of disk passes keys old new before after records (Some fault) ran = inr ran
+pub went_of : {S : Type 0} (disk : S → Disk) (beat : BeatKind) (keys : Keys) (old new : S) (before after : Outside) (records : List (EpochRecord ℕ)) (fault : Option Fault) → Ran flat_kind disk beat keys old new before after records fault → Went flat_kind
+    disk beat keys old new before after records fault
+went_of disk beat keys old new before after records None ran = ran
+went_of disk beat keys old new before after records (Some fault) ran = inr ran
 
 -- What a crash leaves of the opening and of the serving.
 left_both : {S : Type 0} (disk : S → Disk) (keys : Keys) (old mid new : Disk) (p : Params) (found : Opening) (at : Standing) (script : Scripts) (records : List (EpochRecord ℕ)) (fault : Option Fault)
-    → LeavesOnly old mid (StandsAsBefore flat_kind keys p old) → IsLeft flat_kind keys p found at script records fault disk mid new → LeftByWholeRun flat_kind keys p found at script records fault disk old mid new
+    → LeavesOnly old mid (StandsAsBefore flat_kind keys p old) → IsLeftOnDisk flat_kind keys p found at script records fault disk mid new → LeftByWholeRun flat_kind keys p found at script records fault disk old mid new
 left_both disk keys old mid new p found at script records fault first l = record {
   next = l.next;
   is_next = l.is_next;
@@ -79,37 +85,42 @@ left_both disk keys old mid new p found at script records fault first l = record
   stages = l.stages;
   since = then_on old mid new (λ c. StandsAsBefore flat_kind keys p old c ⊎ StandsIn (StandsFlat keys p found.sealer.generation) (IsLeftStanding (opened_with p p.batches at) records l.next) c)
       (weakened old mid (StandsAsBefore flat_kind keys p old) (λ c. StandsAsBefore flat_kind keys p old c ⊎ StandsIn (StandsFlat keys p found.sealer.generation) (IsLeftStanding (opened_with p p.batches at) records l.next) c) (λ c is. inl is) first)
-      (weakened mid new (StandsIn (StandsFlat keys p found.sealer.generation) (IsLeftStanding (opened_with p p.batches at) records l.next)) (λ c. StandsAsBefore flat_kind keys p old c ⊎ StandsIn (StandsFlat keys p found.sealer.generation) (IsLeftStanding (opened_with p p.batches at) records l.next) c) (λ c is. inr is) l.since);
+      (weakened mid new (StandsIn (StandsFlat keys p found.sealer.generation) (IsLeftStanding (opened_with p p.batches at) records l.next))
+      (λ c. StandsAsBefore flat_kind keys p old c ⊎ StandsIn (StandsFlat keys p found.sealer.generation) (IsLeftStanding (opened_with p p.batches at) records l.next) c) (λ c is. inr is) l.since);
   now = l.now;
 }
 
 -- The script was run over the store that was opened.
-pub ran : {S : Type 0} (disk : S → Disk) (passes : ℕ → ℕ → ℕ → ℕ → Bool) (keys : Keys) (old : Disk) (between : S) (new : Disk) (input input_new output output_new : Flow) (p : Params) (script : Scripts) (found : Opening) (start : Open) (fault : Option Fault) → old.faults ≤ (disk between).faults
-    → IsOpened flat_kind keys old input p script found start → Notes (begin_events flat_kind p found start) old.seen (disk between).seen
-    → (old.tells → (disk between).tells × Settled (disk between))
-    → ((at : Standing) → old.tells → Stands flat_kind keys p old.cells at → IsOpenedAt flat_kind keys p at found (disk between))
-    → ((at : Standing) → old.tells → Stands flat_kind keys p old.cells at → AllStand flat_kind keys p old → LeavesOnly old (disk between) (StandsAsBefore flat_kind keys p old))
-    → ServedOver flat_kind disk passes keys p found script (disk between) new output output_new fault
-    → RunOn flat_kind disk passes keys old new (outside input output) (outside input_new output_new) fault
-ran disk passes keys old between new input input_new output output_new p script found start fault later opened seen durable stood before s = record {
+pub ran : {S : Type 0} (disk : S → Disk) (beat : BeatKind) (keys : Keys) (old between new : S) (input input_new output output_new : Flow) (p : Params) (script : Scripts) (found : Opening) (start : Open) (fault : Option Fault) → (disk old).faults ≤ (disk between).faults
+    → IsOpened flat_kind keys (disk old) input p script found start → Notes (begin_events flat_kind p found start) (disk old).seen (disk between).seen
+    → ((disk old).tells → (disk between).tells × IsSynced (disk between))
+    → ((at : Standing) → (disk old).tells → Stands flat_kind keys p (disk old).cells at → IsOpenedAt flat_kind keys p at found (disk between))
+    → ((at : Standing) → (disk old).tells → Stands flat_kind keys p (disk old).cells at → AllStand flat_kind keys p (disk old) → LeavesOnly (disk old) (disk between) (StandsAsBefore flat_kind keys p (disk old)))
+    → OpensStanding flat_kind disk keys p (disk old) (disk between)
+    → IsReadAndOpened disk keys old between found.sealer
+    → ServedOver flat_kind disk beat keys p found found.sealer script between new output output_new fault
+    → RunOn flat_kind disk beat keys old new (outside input output) (outside input_new output_new) fault
+ran disk beat keys old between new input input_new output output_new p script found start fault later opened seen durable stood before opens begun s = record {
   records = s.records;
   reported = s.reported;
-  went = went_of disk passes keys old new (outside input output) (outside input_new output_new) s.records fault (record {
+  went = went_of disk beat keys old new (outside input output) (outside input_new output_new) s.records fault (record {
     p = p;
     script = script;
     found = found;
     start = start;
     opened = opened;
     is_served = s.is_served;
-    cause = cause_since p found (shapes (calls s.is_served.served.acts)) (length s.records) old (disk between) new output output_new later fault s.cause;
+    cause = cause_since p found (shapes (calls s.is_served.served.acts)) (length s.records) (disk old) (disk between) (disk new) output output_new later fault s.cause;
     events = s.events;
     traced = s.traced;
-    seen = joined (begin_events flat_kind p found start) s.events old.seen (disk between).seen new.seen seen s.seen;
+    seen = joined (begin_events flat_kind p found start) s.events (disk old).seen (disk between).seen (disk new).seen seen s.seen;
     between = between;
     opening_seen = seen;
     serving_seen = s.seen;
+    opens = opens;
     stood = stood;
     left = λ at tells stands all. let (told, settled) = durable tells in
-        left_both disk keys old (disk between) new p found at script s.records fault (before at tells stands all) (s.left at told settled (stood at tells stands));
+        left_both disk keys (disk old) (disk between) (disk new) p found at script s.records fault (before at tells stands all) (s.left at told settled (stood at tells stands));
+    lives = whole_lives disk keys old between new found.sealer (map (λ s. s.1) (calls s.is_served.served.acts)) s.goes begun s.lives;
   });
 }

@@ -1,6 +1,6 @@
 -- What serving a script does to the store that the vault was lent, whatever the kind of store.
 use Rattle.std.specs.List.{All}
-use Rattle.std.proofs.Common.{Bool, true, false, ◌≡◌, ◌≤◌, ◌+◌, ◌∙◌, ◌⊎◌, ℕ, suc, List, [], ◌∷◌, ◌++◌, length, map, Option, Some, None, Result, Ok, Err, refl, sym, ap, subst, inl, inr, arith, ⊎_elim}
+use Rattle.std.proofs.Common.{◌≡◌, ◌+◌, ◌∙◌, ◌⊎◌, ℕ, suc, List, [], ◌∷◌, ◌++◌, length, map, Option, Some, None, Result, Ok, Err, refl, sym, ap, subst, inl, inr, arith, ⊎_elim}
 use Rattle.std.proofs.lemmas.List.{append-nil, append_assoc}
 use Rattle.std.proofs.lemmas.Option.{same_Some}
 use Rattle.std.proofs.lemmas.Grind.{flat_map-append}
@@ -10,47 +10,49 @@ use Rattle.ob_base.specs.declared.params.Params.{Params}
 use Rattle.ob_base.specs.declared.fault.Fault.{Fault}
 use Rattle.ob_base.specs.declared.fault.Fault.TheVariants.{Memory, Usage, BadScript, BadParams, NotStore, Damaged, StoreFault, StashFull, Worn, SourceFault, SinkFault}
 use Rattle.ob_base.specs.Causes.{Rose}
-use Rattle.ob_report.specs.Printed.{Flow, IsPrinted}
+use Rattle.ob_io.specs.Streams.{Flow}
+use Rattle.ob_report.specs.Printed.{IsPrinted}
 use Rattle.ob_report.specs.Report.{report}
 use Rattle.ob_store.specs.declared.event.Event.{Event}
 use Rattle.ob_store.specs.declared.watch.Note.{Note}
 use Rattle.ob_store.specs.Disk.{Disk, Image}
-use Rattle.ob_store.specs.Images.{LeavesOnly, Settled}
+use Rattle.ob_store.specs.Images.{LeavesOnly, IsSynced}
 use Rattle.ob_store.specs.Lines.{Trace}
 use Rattle.ob_store.specs.Calls.{GoesOn, Notes, IsStoreFault}
 use Rattle.ob_store.proofs.Events.{joined, none_noted}
 use Rattle.ob_store.proofs.Moments.{weakened}
+use Rattle.ob_store.proofs.Serving.{rose_later}
 use Rattle.ob_seal.specs.declared.keys.Keys.{Keys}
+use Rattle.ob_seal.specs.Sealing.{Sealing}
 use Rattle.ob_serial.specs.Serial.{EpochRecord, Map}
 use Rattle.ob_serial.specs.VaultViews.{end_answer}
 use Rattle.ob_serial.specs.declared.vault.EndErr.{EndErr}
 use Rattle.ob_serial.specs.declared.vault.EndErr.TheVariants.{Before, Unsure}
-use Rattle.ob_serial.specs.Vaults.{Standing, StandsIn, VaultState, VaultCall, Fetch, End, VaultAnswer, Values, Ended, RefusedBy, DoubtBy}
+use Rattle.ob_serial.specs.Vaults.{Standing, StandsIn, VaultCall, Fetch, End, VaultAnswer, Values, Ended, RefusedBy, DoubtBy}
 use Rattle.ob_serial.specs.VaultKinds.{Kind, Called, AllCalled, ended_of, ended_by}
-use Rattle.ob_kinds.specs.Phases.{Shape, Fetches, Ends, events_of, shapes, refused}
+use Rattle.ob_kinds.specs.Phases.{Shape, Fetches, Ends, events_of_phases, shapes, refused}
 use Rattle.ob_kinds.specs.Kinds.{StoreKind, IsOpenedAt, opened_with}
-use Rattle.ob_kinds.specs.Shown.{steps_phases, public_behind, IsCut}
+use Rattle.ob_kinds.specs.Shown.{steps_phases, public_behind, IsSeenCut}
 use Rattle.ob_kinds.specs.Laws.{AllAnswered}
 use Rattle.ob_kinds.proofs.Shapes.{events_join, shapes_join, answered_not_refused, refused_last}
 use Rattle.ob_script.specs.Script.{ScriptTxn, Scripts, AreSound, asks_by}
-use Rattle.ob_desk.specs.Desk.{DeskState, MayOpen, Run, Call, Reply, new_desk}
-use Rattle.ob_session.specs.Clients.{told_of, has_signed_off, was_refused}
-use Rattle.ob_runner.specs.Meaning.{MeantFirst, MeantAll}
+use Rattle.ob_desk.specs.Desk.{DeskState, MayOpen, Run, new_desk}
 use Rattle.ob_conduct.specs.Acts.{Act, Says, Halts, Rests as Looked, Takes, Delivers, DeliverFails, FetchFails, Closes, Publishes, Refuses, Unprinted, calls, history, vault_calls, rest_fetches, fault_in, fault_told, records as records_of_acts}
 use Rattle.ob_conduct.specs.Rounds.{InRounds}
-use Rattle.ob_conduct.specs.Scenes.{Scene, scene, RunState, run_state, RunnerKind}
+use Rattle.ob_conduct.specs.Scenes.{scene, RunState, run_state, RunnerKind}
 use Rattle.ob_conduct.specs.Records.{IsWritten, AreAnswered, AreWritten, HoldsMap, contents}
-use Rattle.ob_conduct.specs.Moves.{Failure, IsReason, AreLines, IsUnended}
+use Rattle.ob_conduct.specs.Moves.{Failure, IsReason, AreLines}
 use Rattle.ob_conduct.specs.Conducted.{Conducted, ByHand, RunEnds}
-use Rattle.ob_conduct.specs.Left.{Rests, OnlyNow, IsLeftStanding, TellsDoubt, IsNextOf, IsBetween, Stages, next_at}
+use Rattle.ob_conduct.specs.Left.{Rests, OnlyNow, IsLeftStanding, TellsDoubt, IsNextOf, IsThisOrNext, Stages, next_at}
 use Rattle.ob_conduct.proofs.Leaving.{run_leaves}
-use Rattle.ob_conduct.proofs.Moving.{goes_all, called, rose_since}
+use Rattle.ob_conduct.proofs.Moving.{goes_all, called}
 use Rattle.ob_conduct.proofs.Acting.{written_none, answered_rest}
 use Rattle.ob_conduct.proofs.Going.{answered_join}
 use Rattle.ob_conduct.proofs.Conducting.{due_epoch, due_in_order, due_one_by_one}
 use Rattle.ob_script_runs.specs.Served.{IsServed, ClientsServedAll}
-use Rattle.ob_script_runs.proofs.Whole.{is_served, its_acts, its_desk, all_served, next_served}
-use Rattle.ob_top.specs.Runs.{EndsWith, EndsFor, IsTraced, IsReported, IsLeft, StagedFrom, IsNext, ComesNext, ServedOver, fault_of}
+use Rattle.ob_script_runs.proofs.Whole.{RunsScripts, is_served, its_acts, its_desk, all_served, next_served}
+use Rattle.ob_desk.specs.Beats.{BeatKind}
+use Rattle.ob_top.specs.Runs.{EndsWith, EndsFor, IsTraced, IsReported, IsLeftOnDisk, StagedFrom, IsNextEpoch, ComesNext, ServedOver, LivesBehind, fault_of}
 use Rattle.ob_top.proofs.Steps.{Goes, Stops, CallDoes}
 
 -- an end that was refused ended nothing
@@ -88,7 +90,7 @@ module _ {V S : Type 0} (k : Kind V) (store : StoreKind) (disk : S → Disk) (st
     pub taken : List (Shape × store.Drawn)
     pub shapes_are : map (λ s. s.0) taken ≡ shapes steps
     pub at : At (public_behind store p q taken) (so_far ++ shapes steps) (n + length (ended_of steps)) last
-    pub seen : Notes (events_of (steps_phases store p q taken)) (disk (store_of first)).seen (disk (store_of last)).seen
+    pub seen : Notes (events_of_phases (steps_phases store p q taken)) (disk (store_of first)).seen (disk (store_of last)).seen
 
   stays : (q : store.Public) (so_far : List Shape) (n : ℕ) (v : V) → At q so_far n v → Behind q so_far n v [] v
   stays q so_far n v at = record {
@@ -111,7 +113,7 @@ module _ {V S : Type 0} (k : Kind V) (store : StoreKind) (disk : S → Disk) (st
     at = subst (λ (l : List Shape). At (public_behind store p q ((shape, one.drawn) ∷ b.taken)) l (n + length (ended_of (step ∷ steps))) last) (append_assoc so_far (shape ∷ []) (shapes steps) ∙ ap (λ (l : List Shape). so_far ++ l) (sym is))
         (subst (λ i. At (public_behind store p q ((shape, one.drawn) ∷ b.taken)) ((so_far ++ shape ∷ []) ++ shapes steps) i last) counts b.at);
     seen = subst (λ (l : List Event). Notes l (disk (store_of first)).seen (disk (store_of last)).seen) (sym (events_join (store.phases p q shape one.drawn) (steps_phases store p (store.next p q shape one.drawn) b.taken)))
-        (joined (events_of (store.phases p q shape one.drawn)) (events_of (steps_phases store p (store.next p q shape one.drawn) b.taken)) _ _ _ one.seen b.seen);
+        (joined (events_of_phases (store.phases p q shape one.drawn)) (events_of_phases (steps_phases store p (store.next p q shape one.drawn) b.taken)) _ _ _ one.seen b.seen);
   }
 
   pub behind : (q : store.Public) (so_far : List Shape) (n : ℕ) (first : V) (steps : List (VaultCall × VaultAnswer)) (last : V) → At q so_far n first → AllCalled k first steps last → AreAnswered steps → Behind q so_far n first steps last
@@ -155,8 +157,8 @@ module _ {V S : Type 0} (k : Kind V) (store : StoreKind) (disk : S → Disk) (st
       pub traced : IsTraced store p (store.public found) asked fault events
       pub seen : Notes events (disk (store_of first)).seen (disk (store_of last)).seen
 
-    none_cut : (q : store.Public) (one : Option Shape) (fault : Option Fault) → one ≡ None → IsCut store p q one fault []
-    none_cut q one fault is = subst (λ (o : Option Shape). IsCut store p q o fault []) (sym is) refl
+    none_cut : (q : store.Public) (one : Option Shape) (fault : Option Fault) → one ≡ None → IsSeenCut store p q one fault []
+    none_cut q one fault is = subst (λ (o : Option Shape). IsSeenCut store p q o fault []) (sym is) refl
 
     -- no call was refused
     ends_alone : (asked : List (VaultCall × VaultAnswer)) → AllCalled k first asked last → AreAnswered asked → (fault : Option Fault) → EndsFor store p found (shapes asked) (length records) (disk (store_of first)) (disk (store_of last)) before after fault
@@ -166,7 +168,7 @@ module _ {V S : Type 0} (k : Kind V) (store : StoreKind) (disk : S → Disk) (st
         record {
           cause = cause;
           reported = reported;
-          events = events_of (steps_phases store p (store.public found) b.taken) ++ [];
+          events = events_of_phases (steps_phases store p (store.public found) b.taken) ++ [];
           traced = record {
             steps = b.taken;
             shapes_are = b.shapes_are;
@@ -174,7 +176,7 @@ module _ {V S : Type 0} (k : Kind V) (store : StoreKind) (disk : S → Disk) (st
             cut = none_cut (public_behind store p (store.public found) b.taken) (refused asked) fault (answered_not_refused asked (all_answered asked answered));
             events_are = refl;
           };
-          seen = subst (λ (l : List Event). Notes l (disk (store_of first)).seen (disk (store_of last)).seen) (sym (append-nil (events_of (steps_phases store p (store.public found) b.taken)))) b.seen;
+          seen = subst (λ (l : List Event). Notes l (disk (store_of first)).seen (disk (store_of last)).seen) (sym (append-nil (events_of_phases (steps_phases store p (store.public found) b.taken)))) b.seen;
         }
 
     module _ (faults : (v : V) → (k.disk v).faults ≡ (disk (store_of v)).faults) where
@@ -225,15 +227,15 @@ module _ {V S : Type 0} (k : Kind V) (store : StoreKind) (disk : S → Disk) (st
             cause = subst (λ (l : List Shape). EndsFor store p found l (length records) (disk (store_of first)) (disk (store_of last)) before after (Some fault)) (sym all)
                 (cause_of (shapes front) (0 + length (ended_of front)) shape fault mid q s refl (none_before (length (ended_of front)) ∙ counted (ended_of front) records wrote) cause);
             reported = all_reported fault (shapes front) (0 + length (ended_of front)) shape q (disk (store_of mid)) (disk (store_of last)) s written;
-            events = events_of (steps_phases store p (store.public found) b.taken) ++ s.more;
+            events = events_of_phases (steps_phases store p (store.public found) b.taken) ++ s.more;
             traced = record {
               steps = b.taken;
               shapes_are = b.shapes_are ∙ sym all;
               more = s.more;
-              cut = subst (λ (o : Option Shape). IsCut store p q o (Some fault) s.more) (sym (refused_last front (call, answer) (all_answered front answered) ∙ is)) s.cut;
+              cut = subst (λ (o : Option Shape). IsSeenCut store p q o (Some fault) s.more) (sym (refused_last front (call, answer) (all_answered front answered) ∙ is)) s.cut;
               events_are = refl;
             };
-            seen = joined (events_of (steps_phases store p (store.public found) b.taken)) s.more _ _ _ b.seen s.seen;
+            seen = joined (events_of_phases (steps_phases store p (store.public found) b.taken)) s.more _ _ _ b.seen s.seen;
           }
         where
           none_before : (m : ℕ) → 0 + m ≡ m
@@ -273,7 +275,7 @@ module _ {V S : Type 0} (k : Kind V) (store : StoreKind) (disk : S → Disk) (st
           by_act : (act : Act) → f.act ≡ act → IsReason k (scene d first t) f.front act → AreLines act records before after → Ending (calls acts) (Some fault)
           by_act (Halts given) is reason lines = its_fault (Halts given) Memory is (ap Some reason) (ends_alone (calls acts) chain (answered_all (Halts given) is refl) (Some Memory) tt lines)
           by_act Unprinted is reason lines = its_fault Unprinted SinkFault is refl
-              (ends_alone (calls acts) chain (answered_all Unprinted is refl) (Some SinkFault) (rose_since before.faults lines.mid.faults after.faults lines.written.later lines.rose) printed)
+              (ends_alone (calls acts) chain (answered_all Unprinted is refl) (Some SinkFault) (rose_later before.faults lines.mid.faults after.faults lines.written.later lines.rose) printed)
           by_act (DeliverFails keys given) is reason lines = by_last (calls f.front) (Fetch keys) (RefusedBy given) given (told_by (DeliverFails keys given) given is refl) (its_calls (DeliverFails keys given) is) refl
               (λ c w cause. by_fetch (calls f.front) keys given c f.answered w cause lines)
           by_act (FetchFails look batches keys given) is reason lines = by_last (calls f.front ++ rest_fetches batches) (Fetch keys) (RefusedBy given) given (told_by (FetchFails look batches keys given) given is refl)
@@ -296,7 +298,7 @@ module _ {V S : Type 0} (k : Kind V) (store : StoreKind) (disk : S → Disk) (st
         ending d e t u were are (Err fault) (inr f) = by_act d e t u fault f f.act refl f.reason (subst (λ (rs : List (EpochRecord ℕ)). AreLines f.act rs before after) same f.lines)
 
   -- what the lender knows of a vault's words
-  pub record IsLender (keys : Keys) (first : V) : Type 1 where
+  pub record IsLender (keys : Keys) (sealing : Sealing) (first : V) : Type 1 where
     pub faults : (v : V) → (k.disk v).faults ≡ (disk (store_of v)).faults
     pub goes : (v w : V) → GoesOn (k.disk v) (k.disk w) → GoesOn (disk (store_of v)) (disk (store_of w))
     pub since : (a b : V) (P : Image → Type 0) → LeavesOnly (k.disk a) (k.disk b) P → LeavesOnly (disk (store_of a)) (disk (store_of b)) P
@@ -305,11 +307,12 @@ module _ {V S : Type 0} (k : Kind V) (store : StoreKind) (disk : S → Disk) (st
     pub only : OnlyNow k
     pub rests : Rests k
     pub holds : (m : Map nat_cmp) → store.is_map found m → HoldsMap k first m
-    pub sound : (at : Standing) → (disk (store_of first)).tells → Settled (disk (store_of first)) → IsOpenedAt store keys p at found (disk (store_of first)) → k.sound first (opened_with p (store.left p found) at)
+    pub sound : (at : Standing) → (disk (store_of first)).tells → IsSynced (disk (store_of first)) → IsOpenedAt store keys p at found (disk (store_of first)) → k.sound first (opened_with p (store.left p found) at)
+    pub lives : (w : V) (steps : List (VaultCall × VaultAnswer)) → AllCalled k first steps w → LivesBehind disk keys sealing (store_of first) (store_of w) (map (λ s. s.1) steps)
 
-  module _ {U : Type 0} (passes : ℕ → ℕ → ℕ → ℕ → Bool) (kind : RunnerKind U (List ScriptTxn))
-      (means : (u : U) (said : List (Call × Reply)) → kind.fits u said → MeantFirst (kind.plan u) (told_of said) × (has_signed_off said ≡ true → was_refused said ≡ false → MeantAll (kind.plan u) (told_of said)))
-      (keys : Keys) (script : Scripts) (sound : AreSound script) (may : MayOpen (record { params = p }) (suc (store.epoch found)) (store.left p found) script.clients)
+  module _ {U : Type 0} (beat : BeatKind) (kind : RunnerKind U (List ScriptTxn))
+      (means : RunsScripts kind)
+      (keys : Keys) (sealing : Sealing) (script : Scripts) (sound : AreSound script) (may : MayOpen (record { params = p }) (suc (store.epoch found)) (store.left p found) script.clients)
       (first : V) (trace : Trace) (runners : List U) (before : Flow) (end : RunState V U) (result : Result (Unit {0}) Fault)
       (named : map kind.client runners ≡ script.clients) (planned : All (λ u. kind.plan u ≡ asks_by (kind.client u) script.txns) runners) where
     abbrev base : DeskState
@@ -318,7 +321,7 @@ module _ {V S : Type 0} (k : Kind V) (store : StoreKind) (disk : S → Disk) (st
     abbrev begin : RunState V U
     begin = run_state (scene base first trace) runners before
 
-    module _ (acts : List Act) (d : Conducted k kind passes begin end acts result) (rounds : InRounds (map kind.client runners) acts) (l : IsLender keys first) where
+    module _ (acts : List Act) (d : Conducted k kind beat begin end acts result) (rounds : InRounds (map kind.client runners) acts) (l : IsLender keys sealing first) where
       abbrev last : V
       last = end.scene.vault
 
@@ -328,15 +331,15 @@ module _ {V S : Type 0} (k : Kind V) (store : StoreKind) (disk : S → Disk) (st
       abbrev records : List (EpochRecord ℕ)
       records = records_of_acts acts
 
-      comes_next : (epoch : ℕ) → epoch ≡ store.epoch found → (next : Option (EpochRecord ℕ)) → IsNextOf k begin end acts result next → IsNext store found (suc epoch + length records) script records next
+      comes_next : (epoch : ℕ) → epoch ≡ store.epoch found → (next : Option (EpochRecord ℕ)) → IsNextOf k begin end acts result next → IsNextEpoch store found (suc epoch + length records) script records next
       comes_next epoch same None is = tt
       comes_next epoch same (Some r) (fault, told, f, (writes, refused, act_is, u, the)) =
           let is = f.acts_are ∙ ap (λ (x : Act). f.front ++ x ∷ []) act_is in
           subst (ComesNext store found (suc epoch + length records) script records) the (record {
-            epoch_is = due_epoch k kind p passes begin (record { params = p }) (suc (store.epoch found)) (store.left p found) script.clients refl acts end result d f.front writes refused is u ∙ ap (λ e. suc e + length records) (sym same);
-            served = next_served k passes kind means p (store.epoch found) (store.left p found) script sound may first trace runners before end acts result named planned d f.front writes refused is u;
-            in_order = due_in_order k kind p passes begin (record { params = p }) (suc (store.epoch found)) (store.left p found) script.clients refl acts end result d f.front writes refused is u;
-            one_by_one = λ m of. due_one_by_one k kind p passes begin (record { params = p }) (suc (store.epoch found)) (store.left p found) script.clients refl acts end result d f.front writes refused is u m (l.holds m of);
+            epoch_is = due_epoch k kind p beat begin (record { params = p }) (suc (store.epoch found)) (store.left p found) script.clients refl acts end result d f.front writes refused is u ∙ ap (λ e. suc e + length records) (sym same);
+            served = next_served k beat kind means p (store.epoch found) (store.left p found) script sound may first trace runners before end acts result named planned d f.front writes refused is u;
+            in_order = due_in_order k kind p beat begin (record { params = p }) (suc (store.epoch found)) (store.left p found) script.clients refl acts end result d f.front writes refused is u;
+            one_by_one = λ m of. due_one_by_one k kind p beat begin (record { params = p }) (suc (store.epoch found)) (store.left p found) script.clients refl acts end result d f.front writes refused is u m (l.holds m of);
           })
 
       doubt_told : (epoch n : ℕ) → epoch ≡ n → TellsDoubt epoch result → fault_of result ≡ Some (StoreFault (Some n))
@@ -350,15 +353,15 @@ module _ {V S : Type 0} (k : Kind V) (store : StoreKind) (disk : S → Disk) (st
           (λ c is. standing_in c (λ s x. x) is) (l.since from to (StandsIn (k.stands first) P) leaves)
 
       staged_stores : (at : Standing) (told : List (EpochRecord ℕ)) (next : Option (EpochRecord ℕ)) (from to : V) → Stages k (k.stands first) at told next from to → StagedFrom store keys p found at script records (fault_of result) disk at told next (disk (store_of from)) (disk (store_of to))
-      staged_stores at [] next from to leaves = as_stored (IsBetween at next) from to leaves
-      staged_stores at (r ∷ told) next from to (mid, leaves, rest) = (store_of mid, as_stored (IsBetween at (Some r)) from mid leaves, staged_stores (next_at at r) told next mid to rest)
+      staged_stores at [] next from to leaves = as_stored (IsThisOrNext at next) from to leaves
+      staged_stores at (r ∷ told) next from to (mid, leaves, rest) = (store_of mid, as_stored (IsThisOrNext at (Some r)) from mid leaves, staged_stores (next_at at r) told next mid to rest)
 
-      left : (at : Standing) → (disk (store_of first)).tells → Settled (disk (store_of first)) → IsOpenedAt store keys p at found (disk (store_of first))
-          → IsLeft store keys p found at script records (fault_of result) disk (disk (store_of first)) (disk (store_of last))
+      left : (at : Standing) → (disk (store_of first)).tells → IsSynced (disk (store_of first)) → IsOpenedAt store keys p at found (disk (store_of first))
+          → IsLeftOnDisk store keys p found at script records (fault_of result) disk (disk (store_of first)) (disk (store_of last))
       left at tells settled opened =
           let v = opened_with p (store.left p found) at in
           let same : at.epoch ≡ store.epoch found = sym opened.epoch in
-          let by = run_leaves k l.only l.rests kind passes begin end acts v (l.sound at tells settled opened) refl result d in
+          let by = run_leaves k l.only l.rests kind beat begin end acts v (l.sound at tells settled opened) refl result d in
           record {
             next = by.next;
             is_next = comes_next at.epoch same by.next by.is_next;
@@ -370,7 +373,7 @@ module _ {V S : Type 0} (k : Kind V) (store : StoreKind) (disk : S → Disk) (st
           }
 
       whole : (r : Result (Unit {0}) Fault) → RunEnds k begin end acts r → r ≡ result → fault_of result ≡ None → ClientsServedAll script records
-      whole (Ok done) (answered, over, written) is none = all_served k passes kind means p (store.epoch found) (store.left p found) script sound may first trace runners before end acts result named planned d over
+      whole (Ok done) (answered, over, written) is none = all_served k beat kind means p (store.epoch found) (store.left p found) script sound may first trace runners before end acts result named planned d over
       whole (Err fault) ends is none = absurd (no_fault fault (ap fault_of is ∙ none))
         where
           no_fault : (f : Fault) → ◌≡◌ {A = Option Fault} (Some f) None → ⊥
@@ -379,14 +382,14 @@ module _ {V S : Type 0} (k : Kind V) (store : StoreKind) (disk : S → Disk) (st
       chain : AllCalled k first (calls acts) last
       chain = called k first (calls acts) d.notes last d.chain
 
-      abbrev is_run : IsServed passes p (store.epoch found) (store.left p found) script records
-      is_run = is_served k passes kind means p (store.epoch found) (store.left p found) script sound may first trace runners before end acts result named planned d rounds
+      abbrev is_run : IsServed beat p (store.epoch found) (store.left p found) script records
+      is_run = is_served k beat kind means p (store.epoch found) (store.left p found) script sound may first trace runners before end acts result named planned d rounds
 
-      acts_are : acts ≡ (is_served k passes kind means p (store.epoch found) (store.left p found) script sound may first trace runners before end acts result named planned d rounds).acts
-      acts_are = sym (its_acts k passes kind means p (store.epoch found) (store.left p found) script sound may first trace runners before end acts result named planned d rounds)
+      acts_are : acts ≡ (is_served k beat kind means p (store.epoch found) (store.left p found) script sound may first trace runners before end acts result named planned d rounds).acts
+      acts_are = sym (its_acts k beat kind means p (store.epoch found) (store.left p found) script sound may first trace runners before end acts result named planned d rounds)
 
-      desk_is : end.scene.desk ≡ (is_served k passes kind means p (store.epoch found) (store.left p found) script sound may first trace runners before end acts result named planned d rounds).desk
-      desk_is = sym (its_desk k passes kind means p (store.epoch found) (store.left p found) script sound may first trace runners before end acts result named planned d rounds)
+      desk_is : end.scene.desk ≡ (is_served k beat kind means p (store.epoch found) (store.left p found) script sound may first trace runners before end acts result named planned d rounds).desk
+      desk_is = sym (its_desk k beat kind means p (store.epoch found) (store.left p found) script sound may first trace runners before end acts result named planned d rounds)
 
       ends_with : (r : Result (Unit {0}) Fault) → RunEnds k begin end acts r → EndsWith (fault_of r) acts end.scene.desk
       ends_with (Ok done) (answered, over, written) = over
@@ -394,7 +397,7 @@ module _ {V S : Type 0} (k : Kind V) (store : StoreKind) (disk : S → Disk) (st
       ends_with (Err fault) (inr f) = inr (f.front, f.act, f.acts_are, f.told)
 
       -- what serving does
-      pub serves : At (store.public found) [] 0 first → ServedOver store disk passes keys p found script (disk (store_of first)) (disk (store_of last)) before after (fault_of result)
+      pub serves : At (store.public found) [] 0 first → ServedOver store disk beat keys p found sealing script (store_of first) (store_of last) before after (fault_of result)
       serves begun =
           let e = ending first last before after records begun l.faults acts refl chain d.wrote d.printed base end.scene.desk trace end.scene.trace runners end.runners result d.ends in
           record {
@@ -415,23 +418,24 @@ module _ {V S : Type 0} (k : Kind V) (store : StoreKind) (disk : S → Disk) (st
             seen = e.seen;
             goes = l.goes first last (goes_all k first (calls acts) d.notes last d.chain);
             left = left;
+            lives = subst (λ (xs : List Act). LivesBehind disk keys sealing (store_of first) (store_of last) (map (λ s. s.1) (calls xs))) acts_are (l.lives last (calls acts) chain);
           }
 
   -- the same, from the epoch and the batches left that the vault tells
-  pub serves_on : {U : Type 0} (passes : ℕ → ℕ → ℕ → ℕ → Bool) (kind : RunnerKind U (List ScriptTxn))
-      (means : (u : U) (said : List (Call × Reply)) → kind.fits u said → MeantFirst (kind.plan u) (told_of said) × (has_signed_off said ≡ true → was_refused said ≡ false → MeantAll (kind.plan u) (told_of said)))
-      (keys : Keys) (script : Scripts) (sound : AreSound script) (may : MayOpen (record { params = p }) (suc (store.epoch found)) (store.left p found) script.clients)
+  pub serves_on : {U : Type 0} (beat : BeatKind) (kind : RunnerKind U (List ScriptTxn))
+      (means : RunsScripts kind)
+      (keys : Keys) (sealing : Sealing) (script : Scripts) (sound : AreSound script) (may : MayOpen (record { params = p }) (suc (store.epoch found)) (store.left p found) script.clients)
       (first : V) (trace : Trace) (runners : List U) (before : Flow) (end : RunState V U) (result : Result (Unit {0}) Fault) (epoch left : ℕ)
       → map kind.client runners ≡ script.clients → All (λ u. kind.plan u ≡ asks_by (kind.client u) script.txns) runners → epoch ≡ store.epoch found → left ≡ store.left p found
-      → ByHand k kind passes (run_state (scene (new_desk (record { params = p }) (suc epoch) left script.clients) first trace) runners before) end result
-      → IsLender keys first → At (store.public found) [] 0 first
-      → ServedOver store disk passes keys p found script (disk (store_of first)) (disk (store_of end.scene.vault)) before end.output (fault_of result)
-  serves_on passes kind means keys script sound may first trace runners before end result epoch left named planned epoch_is left_is run l begun =
-      let (acts, d, rounds) = subst (λ n. ByHand k kind passes (run_state (scene (new_desk (record { params = p }) (suc (store.epoch found)) n script.clients) first trace) runners before) end result) left_is
-      (subst (λ e. ByHand k kind passes (run_state (scene (new_desk (record { params = p }) (suc e) left script.clients) first trace) runners before) end result) epoch_is run) in
-      serves passes kind means keys script sound may first trace runners before end result named planned acts d rounds l begun
+      → ByHand k kind beat (run_state (scene (new_desk (record { params = p }) (suc epoch) left script.clients) first trace) runners before) end result
+      → IsLender keys sealing first → At (store.public found) [] 0 first
+      → ServedOver store disk beat keys p found sealing script (store_of first) (store_of end.scene.vault) before end.output (fault_of result)
+  serves_on beat kind means keys sealing script sound may first trace runners before end result epoch left named planned epoch_is left_is run l begun =
+      let (acts, d, rounds) = subst (λ n. ByHand k kind beat (run_state (scene (new_desk (record { params = p }) (suc (store.epoch found)) n script.clients) first trace) runners before) end result) left_is
+      (subst (λ e. ByHand k kind beat (run_state (scene (new_desk (record { params = p }) (suc e) left script.clients) first trace) runners before) end result) epoch_is run) in
+      serves beat kind means keys sealing script sound may first trace runners before end result named planned acts d rounds l begun
 
 -- the same by other names
-pub renamed : (store : StoreKind) {S : Type 0} (disk : S → Disk) (passes : ℕ → ℕ → ℕ → ℕ → Bool) (keys : Keys) (p : Params) (found : store.Found) (script : Scripts) (a old b new : S) (before after : Flow) (fault : Option Fault)
-    → a ≡ old → new ≡ b → ServedOver store disk passes keys p found script (disk a) (disk b) before after fault → ServedOver store disk passes keys p found script (disk old) (disk new) before after fault
-renamed store disk passes keys p found script a old b new before after fault old_is new_is s = rw (← old_is, new_is) s
+pub renamed : (store : StoreKind) {S : Type 0} (disk : S → Disk) (beat : BeatKind) (keys : Keys) (p : Params) (found : store.Found) (sealing : Sealing) (script : Scripts) (a old b new : S) (before after : Flow) (fault : Option Fault)
+    → a ≡ old → new ≡ b → ServedOver store disk beat keys p found sealing script a b before after fault → ServedOver store disk beat keys p found sealing script old new before after fault
+renamed store disk beat keys p found sealing script a old b new before after fault old_is new_is s = rw (← old_is, new_is) s

@@ -1,15 +1,15 @@
 -- What a call of a vault shows, in the words of its kind of store.
-use Rattle.std.proofs.Common.{◌≡◌, ◌⊎◌, ◌+◌, ℕ, suc, List, [], ◌∷◌, ◌++◌, Option, Some, None}
+use Rattle.std.proofs.Common.{◌≡◌, ◌⊎◌, ◌+◌, ℕ, suc, List, [], ◌∷◌, ◌++◌, Some, None}
 use Rattle.ob_base.specs.declared.params.Params.{Params}
 use Rattle.ob_base.specs.declared.fault.Fault.{Fault}
-use Rattle.ob_base.specs.declared.fault.Fault.TheVariants.{Memory, StoreFault, SinkFault}
+use Rattle.ob_base.specs.declared.fault.Fault.TheVariants.{StoreFault, SinkFault}
 use Rattle.ob_store.specs.declared.event.Event.{Event}
 use Rattle.ob_store.specs.Disk.{Disk}
 use Rattle.ob_store.specs.Calls.{Notes}
 use Rattle.ob_serial.specs.Vaults.{VaultCall, Fetch, End, VaultAnswer, Values, Ended, RefusedBy, DoubtBy}
-use Rattle.ob_kinds.specs.Phases.{Shape, Fetches, Ends, events_of}
+use Rattle.ob_kinds.specs.Phases.{Shape, Fetches, Ends, events_of_phases}
 use Rattle.ob_kinds.specs.Kinds.{StoreKind}
-use Rattle.ob_kinds.specs.Shown.{IsCut}
+use Rattle.ob_kinds.specs.Shown.{IsSeenCut}
 
 -- Why a vault refuses: its store failed, perhaps at the last write or sync of the epoch behind n; or for a cause of its kind.
 abbrev pub IsWhy : (store : StoreKind) → Params → store.Found → List Shape → ℕ → Fault → Type 0
@@ -20,14 +20,14 @@ IsWhy store p found so_far n fault = store.causes p found so_far n fault
 -- A call that was refused, behind calls of these shapes and so many epochs.
 pub record Stops (store : StoreKind) (p : Params) (found : store.Found) (old new : Disk) (q : store.Public) (so_far : List Shape) (n : ℕ) (shape : Shape) (fault : Fault) : Type 0 where
   pub more : List Event
-  pub cut : IsCut store p q (Some shape) (Some fault) more
+  pub cut : IsSeenCut store p q (Some shape) (Some fault) more
   pub seen : Notes more old.seen new.seen
   pub why : IsWhy store p found so_far n fault
 
 -- A call that was answered, and where the vault then is.
 pub record Goes {V : Type 0} (store : StoreKind) (p : Params) (At : store.Public → List Shape → ℕ → V → Type 0) (old new : Disk) (w : V) (q : store.Public) (so_far : List Shape) (shape : Shape) (n : ℕ) : Type 0 where
   pub drawn : store.Drawn
-  pub seen : Notes (events_of (store.phases p q shape drawn)) old.seen new.seen
+  pub seen : Notes (events_of_phases (store.phases p q shape drawn)) old.seen new.seen
   pub at : At (store.next p q shape drawn) (so_far ++ shape ∷ []) n w
 
 -- What a call does, from a vault that is there behind calls of these shapes and so many epochs.

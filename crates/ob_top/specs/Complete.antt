@@ -1,17 +1,13 @@
 -- When a command must do what it is asked for.
-use Rattle.std.specs.Prelude.{ℕ, suc, ◌≡◌, ◌⊎◌, ◌+◌, ◌*◌, ◌^◌, ◌<◌, ◌≤◌, Bool, List, length, take, Option, Some, decimal}
+use Rattle.std.specs.Prelude.{ℕ, ◌≡◌, ◌⊎◌, ◌+◌, Bool, List, length, take, Option, Some}
 use Rattle.std.specs.Borrow.{Bor, MutBor}
 use Rattle.ob_base.specs.declared.params.Params.{Params}
 use Rattle.ob_base.specs.Causes.{Rose}
 use Rattle.ob_seal.specs.declared.keys.Keys.{Keys}
-use Rattle.ob_io.specs.Flows.{appended}
-use Rattle.ob_report.specs.Report.{report}
-use Rattle.ob_store.specs.Disk.{Disk, Image}
-use Rattle.ob_serial.specs.Serial.{EpochRecord}
+use Rattle.ob_store.specs.Disk.{Disk}
 use Rattle.ob_serial.specs.Vaults.{Standing}
 use Rattle.ob_script.specs.Script.{Scripts, IsScript, limit}
 use Rattle.ob_kinds.specs.Kinds.{StoreKind}
-use Rattle.ob_script_runs.specs.Served.{IsServed, ClientsServedAll}
 use Rattle.ob_words.specs.Reading.{asked_by, format_asked, run_asked}
 use Rattle.ob_top.specs.Words.{AreParams, AreLanes, HasKeys}
 use Rattle.ob_top.specs.Outside.{Outside, Left, OfStore}
@@ -59,29 +55,11 @@ module _ (words : List (List ℕ)) (text : Option (Bor (List ℕ))) (old new : D
     -- even if each transaction ends an epoch
     pub lasts : store.lasts p generation at.epoch (length script.txns)
 
--- The whole script was run, behind this epoch: each client's transactions have their records, in order. Each is committed, unless a cause
--- holds of it, which its record shows; and with one client, and a beat that is due only where all wait, unless it had no place for a read
--- or a write, or its script aborts it. And the whole report stands in the output.
-pub record RunsWhole (store : StoreKind) (passes : ℕ → ℕ → ℕ → ℕ → Bool) (keys : Keys) (image : Image) (epoch : ℕ) (script : Scripts) (before after : Outside) : Type 0 where
-  pub p : Params
-  pub head : store.is_head keys p (image 0)
-  -- what opening found
-  pub found : store.Found
-  pub finds : store.finds keys p image found
-  pub records : List (EpochRecord ℕ)
-  pub served : IsServed passes p epoch (store.left p found) script records
-  pub all : ClientsServedAll script records
-  pub written : after.output.bytes ≡ appended before.output.bytes (report decimal records)
-
--- what a run then answers: all is done, or memory was wanting
-abbrev pub RunAnswers : StoreKind → (ℕ → ℕ → ℕ → ℕ → Bool) → Keys → Image → ℕ → Scripts → Outside → Outside → ℕ → Type 0
-RunAnswers store passes keys image epoch script before after status = ((status ≡ 0) × RunsWhole store passes keys image epoch script before after) ⊎ (status ≡ 9)
-
-module _ {S : Type 0} (disk : S → Disk) (passes : ℕ → ℕ → ℕ → ℕ → Bool) (words : List (List ℕ)) (text : Option (Bor (List ℕ))) (before after : Outside) (status : ℕ) where
-  -- What can be done is done, but for want of memory.
+module _ {S : Type 0} (disk : S → Disk) (words : List (List ℕ)) (text : Option (Bor (List ℕ))) (before after : Outside) (status : ℕ) where
+  -- What can be done is done, but for want of memory: `FormatDoes` and `RunDoes` say what that comes to.
   abbrev pub DoesWhatItCan : S → S → Type 0
-  DoesWhatItCan old new = (CanFormat words text (disk old) (disk new) before after → (status ≡ 0) ⊎ (status ≡ 9))
-      × ((script : Scripts) (can : CanRun words text (disk old) (disk new) before after flat_kind script) → RunAnswers flat_kind passes can.keys (disk old).cells can.at.epoch script before after status)
+  DoesWhatItCan old new = CanFormat words text (disk old) (disk new) before after ⊎ ((script : Scripts) × CanRun words text (disk old) (disk new) before after flat_kind script)
+      → (status ≡ 0) ⊎ (status ≡ 9)
 
   abbrev pub Completes : Option (MutBor S) → Left S → Type 0
   Completes entry exit = OfStore entry exit (Unit {0}) DoesWhatItCan

@@ -1,5 +1,5 @@
 -- The plain vault's store, as a kind of store.
-use Rattle.std.specs.Prelude.{ℕ, suc, ◌≡◌, ◌⊎◌, ◌+◌, ◌*◌, ◌^◌, ◌<◌, ◌≤◌, Bool, true, false, if◌then◌else◌, List, [], ◌∷◌, ◌++◌, take, Option, Some, None, Err}
+use Rattle.std.specs.Prelude.{ℕ, suc, ◌≡◌, ◌⊎◌, ◌+◌, ◌*◌, ◌^◌, ◌<◌, ◌≤◌, Bool, if◌then◌else◌, List, [], ◌∷◌, ◌++◌, take, Some, None, Err}
 use Rattle.ob_base.specs.declared.params.Params.{Params}
 use Rattle.ob_base.specs.declared.fault.Fault.{Fault}
 use Rattle.ob_base.specs.declared.fault.Fault.TheVariants.{StoreFault, Worn}
@@ -21,7 +21,7 @@ use Rattle.ob_flat.specs.Openings.{IsFoundIn, IsOpeningOf, IsOpenFault}
 use Rattle.ob_start.specs.Heads.{IsHeadFault}
 use Rattle.ob_flat.specs.Orders.{registers_events, found_notes, open_events}
 use Rattle.ob_flat.specs.Standing.{IsMapOf, StandsFlat}
-use Rattle.ob_kinds.specs.Phases.{Phase, Reads, Writes, Syncs, Shape, Fetches, Ends, events_of}
+use Rattle.ob_kinds.specs.Phases.{Phase, Reads, Writes, Syncs, Shape, Fetches, Ends, events_of_phases}
 use Rattle.ob_kinds.specs.Kinds.{StoreKind}
 
 -- a cell that is written, and a sync
@@ -79,8 +79,8 @@ FlatLasts p generation epoch n = (suc generation < 2 ^ 62) × (suc (epoch + n) <
 -- Of an end that its store refused, some of the first events of what comes before its gate; of one that is in doubt, all of these and the
 -- gate's write, with the sync behind it or without. Of a call that was refused for another cause, nothing.
 abbrev pub FlatCut : Params → FlatPublic → Shape → Fault → List Event → Type 0
-FlatCut p q Ends (StoreFault None) more = (k : ℕ) × (more ≡ take k (events_of (end_prepare_phases p.keys q.known (suc q.epoch))))
-FlatCut p q Ends (StoreFault (Some epoch)) more = (more ≡ events_of (end_gate_phases p.keys q.known (suc q.epoch))) ⊎ (more ≡ events_of (end_phases p.keys q.known (suc q.epoch)))
+FlatCut p q Ends (StoreFault None) more = (k : ℕ) × (more ≡ take k (events_of_phases (end_prepare_phases p.keys q.known (suc q.epoch))))
+FlatCut p q Ends (StoreFault (Some epoch)) more = (more ≡ events_of_phases (end_gate_phases p.keys q.known (suc q.epoch))) ⊎ (more ≡ events_of_phases (end_phases p.keys q.known (suc q.epoch)))
 FlatCut p q shape fault more = more ≡ []
 
 -- An opening that its store refused showed some of the first reads, or all of them and some of what follows; one that was refused for

@@ -7,7 +7,8 @@ use Rattle.ob_base.specs.declared.fault.Fault.TheVariants.{SinkFault}
 use Rattle.ob_report.specs.Faults.{status_of, fault_status, fault_line}
 use Rattle.ob_store.specs.Disk.{Disk}
 use Rattle.ob_store.specs.Calls.{GoesOn}
-use Rattle.ob_report.specs.Printed.{Flow, IsPrinted}
+use Rattle.ob_io.specs.Streams.{Flow}
+use Rattle.ob_report.specs.Printed.{IsPrinted}
 
 -- the bytes that come in and go out, at one moment
 pub record Outside : Type 0 where

@@ -1,37 +1,41 @@
 -- What `run` does.
-use Rattle.std.specs.Prelude.{ℕ, suc, ◌≡◌, ◌⊎◌, ◌+◌, ◌≤◌, Bool, List, [], ◌∷◌, ◌++◌, length, map, Option, Some, None, Result, Ok, Err, decimal}
+use Rattle.std.specs.Prelude.{ℕ, suc, ◌≡◌, ◌⊎◌, ◌+◌, ◌≤◌, List, [], ◌∷◌, ◌++◌, length, map, Option, Some, None, Result, Ok, Err, decimal}
 use Rattle.std.specs.Ordering.{nat_cmp}
 use Rattle.ob_base.specs.declared.params.Params.{Params}
 use Rattle.ob_seal.specs.declared.keys.Keys.{Keys}
+use Rattle.ob_seal.specs.Sealing.{Sealing}
 use Rattle.ob_base.specs.declared.fault.Fault.{Fault}
 use Rattle.ob_base.specs.declared.fault.Fault.TheVariants.{Memory, BadScript, StoreFault, SourceFault, SinkFault}
 use Rattle.ob_base.specs.Causes.{Rose}
 use Rattle.ob_io.specs.Flows.{appended, IsInput}
 use Rattle.ob_report.specs.Faults.{status_of, fault_line}
-use Rattle.ob_report.specs.Printed.{Flow, IsPrinted}
+use Rattle.ob_io.specs.Streams.{Flow}
+use Rattle.ob_report.specs.Printed.{IsPrinted}
 use Rattle.ob_report.specs.Report.{report}
 use Rattle.ob_store.specs.declared.event.Event.{Event}
 use Rattle.ob_store.specs.declared.event.Event.TheVariants as event
 use Rattle.ob_store.specs.Disk.{Disk, Image}
-use Rattle.ob_store.specs.Images.{Settled, LeavesOnly, Passes, Same}
+use Rattle.ob_store.specs.Images.{IsSynced, LeavesOnly, Passes, Same}
 use Rattle.ob_store.specs.Calls.{GoesOn, Keeps, Notes, IsStoreFault}
 use Rattle.ob_serial.specs.Serial.{EpochRecord, Map, OneByOne, AreInOrder, committed_of}
 use Rattle.ob_serial.specs.Vaults.{VaultCall, VaultAnswer, VaultState, Standing, StandsIn}
-use Rattle.ob_kinds.specs.Phases.{Reads, Shape, events_of, shapes, refused}
+use Rattle.ob_pads.specs.Lives.{Opens, LivesOn}
+use Rattle.ob_kinds.specs.Phases.{Reads, Shape, events_of_phases, shapes, refused}
 use Rattle.ob_kinds.specs.Kinds.{StoreKind, Stands, AllStand, StandsAsBefore, IsOpenedAt, opened_with}
-use Rattle.ob_kinds.specs.Shown.{steps_phases, public_behind, IsCut}
+use Rattle.ob_kinds.specs.Shown.{steps_phases, public_behind, IsSeenCut}
 use Rattle.ob_desk.specs.Desk.{DeskState, MayOpen, Run, new_desk}
+use Rattle.ob_desk.specs.Beats.{BeatKind}
 use Rattle.ob_script.specs.Script.{Scripts, IsScript, IsFirstBad, limit}
 use Rattle.ob_flat.specs.Noting.{NotesReads}
 use Rattle.ob_conduct.specs.Acts.{Act, calls, history, fault_told}
 use Rattle.ob_conduct.specs.Records.{IsWritten, IsOver, contents}
-use Rattle.ob_conduct.specs.Left.{IsLeftStanding, IsLeftNow, IsBetween, next_at}
+use Rattle.ob_conduct.specs.Left.{IsLeftStanding, IsLeftNow, IsThisOrNext, next_at}
 use Rattle.ob_script_runs.specs.Served.{IsServed, ClientsServed, ClientsServedAll}
 use Rattle.ob_top.specs.Outside.{Outside}
 
 -- What is seen of the opening: the head's read, and the order that the kind of store gives.
 abbrev pub begin_events : (store : StoreKind) → Params → store.Found → store.Start → List Event
-begin_events store p found start = events_of (Reads (0 ∷ []) ∷ store.opens p found start)
+begin_events store p found start = events_of_phases (Reads (0 ∷ []) ∷ store.opens p found start)
 
 -- What is seen of serving: the phases of the vault's calls, and of one that was refused a front. It depends on the parameters, on what is
 -- public of the vault, on how the calls follow one another, and on what they draw; on no key, no value and no write.
@@ -39,8 +43,8 @@ pub record IsTraced (store : StoreKind) (p : Params) (q : store.Public) (asked :
   pub steps : List (Shape × store.Drawn)
   pub shapes_are : map (λ s. s.0) steps ≡ shapes asked
   pub more : List Event
-  pub cut : IsCut store p (public_behind store p q steps) (refused asked) fault more
-  pub events_are : events ≡ events_of (steps_phases store p q steps) ++ more
+  pub cut : IsSeenCut store p (public_behind store p q steps) (refused asked) fault more
+  pub events_are : events ≡ events_of_phases (steps_phases store p q steps) ++ more
 
 -- a script came in
 pub record CameIn (keys : ℕ) (before : Flow) (script : Scripts) : Type 0 where
@@ -55,6 +59,15 @@ IsInputRefused keys before after Memory = Unit {0}
 IsInputRefused keys before after SourceFault = Rose before.faults after.faults
 IsInputRefused keys before after (BadScript line) = (input : List ℕ) × IsInput before.bytes limit input × IsFirstBad keys input line
 IsInputRefused keys before after _ = ⊥
+
+-- The first sync of an opening succeeded, and the store was this one then: no write waited. Until then a crash leaves what it might have
+-- left before; from then on only an image that stands for what the store stood for, at no lower generation.
+pub record OpensStanding (store : StoreKind) {S : Type 0} (disk : S → Disk) (keys : Keys) (p : Params) (old new : Disk) : Type 0 where
+  pub synced : S
+  pub until : Passes Same old (disk synced)
+  pub settled : old.tells → IsSynced (disk synced)
+  pub since : (generation : ℕ) (at : Standing) → old.tells → store.stands keys p generation old.cells at
+      → LeavesOnly (disk synced) new (λ c. (later : ℕ) × (generation ≤ later) × store.stands keys p later c at)
 
 module _ (store : StoreKind) (keys : Keys) (old new : Disk) where
   -- The head was refused: all that was done is to read it.
@@ -80,7 +93,7 @@ module _ (store : StoreKind) (keys : Keys) (old new : Disk) where
     pub seen : Notes (event.Read 0 ∷ []) old.seen new.seen
 
   -- Opening was refused, once the script had come in.
-  pub record StopsAtOpening (before : Flow) (fault : Fault) : Type 0 where
+  pub record StopsAtOpening {S : Type 0} (disk : S → Disk) (before : Flow) (fault : Fault) : Type 0 where
     pub p : Params
     pub head : old.tells → store.is_head keys p (old.cells 0)
     pub script : Scripts
@@ -91,12 +104,13 @@ module _ (store : StoreKind) (keys : Keys) (old new : Disk) where
     pub seen : store.opens_partly keys p old new fault
     -- unless its store failed, no cell is written, and a crash leaves what it might have left before
     pub unwritten : (IsStoreFault fault → ⊥) → Keeps old new × Passes Same old new
-    -- each image that a crash leaves stands as one did before
+    -- each image that a crash leaves stands as one did before; and from the first sync on for what the store stood for
     pub left : (at : Standing) → old.tells → Stands store keys p old.cells at → AllStand store keys p old → LeavesOnly old new (StandsAsBefore store keys p old)
+    pub opens : Passes Same old new ⊎ OpensStanding store disk keys p old new
 
   -- Nothing was run: the head, the input or the opening was refused.
-  abbrev pub EndsEarly : Flow → Flow → Fault → Type 0
-  EndsEarly before after fault = StopsAtHead before after fault ⊎ StopsAtInput before after fault ⊎ StopsAtOpening before fault
+  abbrev pub EndsEarly : {S : Type 0} → (S → Disk) → Flow → Flow → Fault → Type 0
+  EndsEarly disk before after fault = StopsAtHead before after fault ⊎ StopsAtInput before after fault ⊎ StopsAtOpening disk before fault
 
 -- A script came in for a store of these parameters, and this was found in it.
 pub record IsOpened (store : StoreKind) (keys : Keys) (old : Disk) (before : Flow) (p : Params) (script : Scripts) (found : store.Found) (start : store.Start) : Type 0 where
@@ -123,8 +137,8 @@ EndsWith (Some fault) acts desk = ((fault ≡ Memory) × (acts ≡ [])) ⊎ ((fr
 
 -- A script was served from a map on, all of each client's part where there was no fault. The committed transactions ran one by one from
 -- that map, in the order of their epochs and tickets.
-pub record ScriptServed (store : StoreKind) (passes : ℕ → ℕ → ℕ → ℕ → Bool) (p : Params) (found : store.Found) (script : Scripts) (records : List (EpochRecord ℕ)) (fault : Option Fault) : Type 0 where
-  pub served : IsServed passes p (store.epoch found) (store.left p found) script records
+pub record ScriptServed (store : StoreKind) (beat : BeatKind) (p : Params) (found : store.Found) (script : Scripts) (records : List (EpochRecord ℕ)) (fault : Option Fault) : Type 0 where
+  pub served : IsServed beat p (store.epoch found) (store.left p found) script records
   pub all : fault ≡ None → ClientsServedAll script records
   pub ends : EndsWith fault served.acts served.desk
   -- what batches delivered is the map's, so the acts are a run from that map
@@ -146,9 +160,9 @@ pub record ComesNext (store : StoreKind) (found : store.Found) (epoch : ℕ) (sc
   pub one_by_one : (m : Map nat_cmp) → store.is_map found m → OneByOne nat_cmp m (committed_of (records ++ r ∷ [])) (contents m (records ++ r ∷ []))
 
 -- the epoch whose end was begun behind those of the records, where one was
-abbrev pub IsNext : (store : StoreKind) → store.Found → ℕ → Scripts → List (EpochRecord ℕ) → Option (EpochRecord ℕ) → Type 0
-IsNext store found epoch script records None = Unit {0}
-IsNext store found epoch script records (Some r) = ComesNext store found epoch script records r
+abbrev pub IsNextEpoch : (store : StoreKind) → store.Found → ℕ → Scripts → List (EpochRecord ℕ) → Option (EpochRecord ℕ) → Type 0
+IsNextEpoch store found epoch script records None = Unit {0}
+IsNextEpoch store found epoch script records (Some r) = ComesNext store found epoch script records r
 
 module _ (store : StoreKind) (keys : Keys) (p : Params) (found : store.Found) (at : Standing) (script : Scripts) (records : List (EpochRecord ℕ)) (fault : Option Fault) where
   -- what the vault held once the store was opened
@@ -162,8 +176,8 @@ module _ (store : StoreKind) (keys : Keys) (p : Params) (found : store.Found) (a
   -- Stages of serving, one behind each epoch's end. From one to the next a crash leaves what stands behind the epochs so far, or behind one
   -- more; from the last one on, that or what stands behind the epoch whose end was begun.
   abbrev pub StagedFrom : {S : Type 0} → (S → Disk) → Standing → List (EpochRecord ℕ) → Option (EpochRecord ℕ) → Disk → Disk → Type 0
-  StagedFrom disk now [] next from last = LeavesOnly from last (StandsNow (IsBetween now next))
-  StagedFrom {S} disk now (r ∷ told) next from last = (mid : S) × LeavesOnly from (disk mid) (StandsNow (IsBetween now (Some r))) × StagedFrom disk (next_at now r) told next (disk mid) last
+  StagedFrom disk now [] next from last = LeavesOnly from last (StandsNow (IsThisOrNext now next))
+  StagedFrom {S} disk now (r ∷ told) next from last = (mid : S) × LeavesOnly from (disk mid) (StandsNow (IsThisOrNext now (Some r))) × StagedFrom disk (next_at now r) told next (disk mid) last
 
   -- the answer tells that the end of the epoch behind the records is in doubt
   abbrev pub IsDoubt : Type 0
@@ -172,9 +186,9 @@ module _ (store : StoreKind) (keys : Keys) (p : Params) (found : store.Found) (a
   -- What a crash leaves of the store, from when it was opened at an epoch and its map: an image that stands for a front of the records
   -- laid over that map, or for all of them and the epoch whose end was begun. At the return it stands for all of them, or, only where that
   -- is answered, for the epoch in doubt as well; so for none below the last one that is reported.
-  pub record IsLeft {S : Type 0} (disk : S → Disk) (old new : Disk) : Type 0 where
+  pub record IsLeftOnDisk {S : Type 0} (disk : S → Disk) (old new : Disk) : Type 0 where
     pub next : Option (EpochRecord ℕ)
-    pub is_next : IsNext store found (suc at.epoch + length records) script records next
+    pub is_next : IsNextEpoch store found (suc at.epoch + length records) script records next
     pub since : LeavesOnly old new (StandsNow (IsLeftStanding held records next))
     pub stages : StagedFrom disk at records next old new
     pub now : (c : Image) → new.may_leave c → StandsNow (IsLeftNow held records next IsDoubt) c
@@ -182,7 +196,7 @@ module _ (store : StoreKind) (keys : Keys) (p : Params) (found : store.Found) (a
   -- What a crash leaves of a whole run: of the opening, from old to opened, and of serving, from then on to new.
   pub record LeftByWholeRun {S : Type 0} (disk : S → Disk) (old opened new : Disk) : Type 0 where
     pub next : Option (EpochRecord ℕ)
-    pub is_next : IsNext store found (suc at.epoch + length records) script records next
+    pub is_next : IsNextEpoch store found (suc at.epoch + length records) script records next
     -- until the store is opened, an image that stands as one did before;
     pub opening : LeavesOnly old opened (StandsAsBefore store keys p old)
     -- from then on, only one that stands as served, and from each epoch's end on for that epoch at least;
@@ -192,54 +206,70 @@ module _ (store : StoreKind) (keys : Keys) (p : Params) (found : store.Found) (a
     -- and at its return
     pub now : (c : Image) → new.may_leave c → StandsNow (IsLeftNow held records next IsDoubt) c
 
+-- The head was read, and then the store was opened with this sealer.
+pub record IsReadAndOpened {S : Type 0} (disk : S → Disk) (keys : Keys) (old new : S) (sealing : Sealing) : Type 0 where
+  pub read : S
+  pub head : (disk new).tells → LivesOn disk keys old read []
+  pub opens : (disk new).tells → Opens keys (disk read) (disk new) sealing
+
+-- Where an opening gave this sealer, the life of the store that was opened went on with calls that had these answers.
+abbrev pub LivesBehind : {S : Type 0} → (S → Disk) → Keys → Sealing → S → S → List VaultAnswer → Type 0
+LivesBehind {S} disk keys sealing opened new answers = (old : S) → ((disk opened).tells → Opens keys (disk old) (disk opened) sealing) → (disk new).tells → LivesOn disk keys old new answers
+
 -- What serving does to the store and the output.
-pub record ServedOver (store : StoreKind) {S : Type 0} (disk : S → Disk) (passes : ℕ → ℕ → ℕ → ℕ → Bool) (keys : Keys) (p : Params) (found : store.Found) (script : Scripts) (old new : Disk) (before after : Flow) (fault : Option Fault) : Type 0 where
+pub record ServedOver (store : StoreKind) {S : Type 0} (disk : S → Disk) (beat : BeatKind) (keys : Keys) (p : Params) (found : store.Found) (sealing : Sealing) (script : Scripts) (old new : S) (before after : Flow) (fault : Option Fault) : Type 0 where
   pub records : List (EpochRecord ℕ)
-  pub is_served : ScriptServed store passes p found script records fault
-  pub cause : EndsFor store p found (shapes (calls is_served.served.acts)) (length records) old new before after fault
+  pub is_served : ScriptServed store beat p found script records fault
+  pub cause : EndsFor store p found (shapes (calls is_served.served.acts)) (length records) (disk old) (disk new) before after fault
   pub reported : IsReported before after records fault
   pub events : List Event
   pub traced : IsTraced store p (store.public found) (calls is_served.served.acts) fault events
-  pub seen : Notes events old.seen new.seen
-  pub goes : GoesOn old new
-  pub left : (at : Standing) → old.tells → Settled old → IsOpenedAt store keys p at found old → IsLeft store keys p found at script records fault disk old new
+  pub seen : Notes events (disk old).seen (disk new).seen
+  pub goes : GoesOn (disk old) (disk new)
+  pub left : (at : Standing) → (disk old).tells → IsSynced (disk old) → IsOpenedAt store keys p at found (disk old) → IsLeftOnDisk store keys p found at script records fault disk (disk old) (disk new)
+  pub lives : LivesBehind disk keys sealing old new (map (λ s. s.1) (calls is_served.served.acts))
 
-module _ (store : StoreKind) {S : Type 0} (disk : S → Disk) (passes : ℕ → ℕ → ℕ → ℕ → Bool) where
+module _ (store : StoreKind) {S : Type 0} (disk : S → Disk) (beat : BeatKind) where
   -- The script was run, whole or up to a fault.
-  pub record Ran (keys : Keys) (old new : Disk) (before after : Outside) (records : List (EpochRecord ℕ)) (fault : Option Fault) : Type 0 where
+  pub record Ran (keys : Keys) (old new : S) (before after : Outside) (records : List (EpochRecord ℕ)) (fault : Option Fault) : Type 0 where
     pub p : Params
     pub script : Scripts
     pub found : store.Found
     pub start : store.Start
-    pub opened : IsOpened store keys old before.input p script found start
-    pub is_served : ScriptServed store passes p found script records fault
-    pub cause : EndsFor store p found (shapes (calls is_served.served.acts)) (length records) old new before.output after.output fault
+    pub opened : IsOpened store keys (disk old) before.input p script found start
+    pub is_served : ScriptServed store beat p found script records fault
+    pub cause : EndsFor store p found (shapes (calls is_served.served.acts)) (length records) (disk old) (disk new) before.output after.output fault
     -- the trace is that of the opening, and then that of the vault's calls
     pub events : List Event
     pub traced : IsTraced store p (store.public found) (calls is_served.served.acts) fault events
-    pub seen : Notes (begin_events store p found start ++ events) old.seen new.seen
+    pub seen : Notes (begin_events store p found start ++ events) (disk old).seen (disk new).seen
     -- the store as it was once it was opened, before the first transaction was run
     pub between : S
-    pub opening_seen : Notes (begin_events store p found start) old.seen (disk between).seen
-    pub serving_seen : Notes events (disk between).seen new.seen
+    pub opening_seen : Notes (begin_events store p found start) (disk old).seen (disk between).seen
+    pub serving_seen : Notes events (disk between).seen (disk new).seen
+    pub opens : OpensStanding store disk keys p (disk old) (disk between)
     -- Where the store stood for an epoch, opening found that, and the opened store stands for it, whatever crashes. Where each image that a
     -- crash might have left stood too, each that a crash leaves stands as one did before, until the store is opened, and then as served.
-    pub stood : (at : Standing) → old.tells → Stands store keys p old.cells at → IsOpenedAt store keys p at found (disk between)
-    pub left : (at : Standing) → old.tells → Stands store keys p old.cells at → AllStand store keys p old → LeftByWholeRun store keys p found at script records fault disk old (disk between) new
+    pub stood : (at : Standing) → (disk old).tells → Stands store keys p (disk old).cells at → IsOpenedAt store keys p at found (disk between)
+    pub left : (at : Standing) → (disk old).tells → Stands store keys p (disk old).cells at → AllStand store keys p (disk old)
+        → LeftByWholeRun store keys p found at script records fault disk (disk old) (disk between) (disk new)
+    -- The head's read, the opening and the vault's calls, with their answers, are a run in the life of the store.
+    pub lives : (disk new).tells → LivesOn disk keys old new (map (λ s. s.1) (calls is_served.served.acts))
 
-  -- The run ended early, and nothing was run; or the script was run.
-  abbrev pub Went : Keys → Disk → Disk → Outside → Outside → List (EpochRecord ℕ) → Option Fault → Type 0
+  -- The run ended early, and nothing was run: no vault's call is in the store's life. Or the script was run.
+  abbrev pub Went : Keys → S → S → Outside → Outside → List (EpochRecord ℕ) → Option Fault → Type 0
   Went keys old new before after records None = Ran keys old new before after records None
-  Went keys old new before after records (Some fault) = ((records ≡ []) × EndsEarly store keys old new before.input after.input fault) ⊎ Ran keys old new before after records (Some fault)
+  Went keys old new before after records (Some fault) =
+      ((records ≡ []) × EndsEarly store keys (disk old) (disk new) disk before.input after.input fault × ((disk new).tells → LivesOn disk keys old new [])) ⊎ Ran keys old new before after records (Some fault)
 
   -- What it comes to before the fault's line is written.
-  pub record RunOn (keys : Keys) (old new : Disk) (before after : Outside) (fault : Option Fault) : Type 0 where
+  pub record RunOn (keys : Keys) (old new : S) (before after : Outside) (fault : Option Fault) : Type 0 where
     pub records : List (EpochRecord ℕ)
     pub reported : IsReported before.output after.output records fault
     pub went : Went keys old new before after records fault
 
   -- What `run` has done with a store that was handed in.
-  pub record RunDone (keys : Keys) (old new : Disk) (before after : Outside) (status : ℕ) : Type 0 where
+  pub record RunDone (keys : Keys) (old new : S) (before after : Outside) (status : ℕ) : Type 0 where
     -- the fault, where there is one
     pub fault : Option Fault
     pub status_is : status ≡ status_of fault

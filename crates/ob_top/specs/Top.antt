@@ -10,6 +10,7 @@ use Rattle.std.specs.Borrow.{Bor}
 use Rattle.ob_seal.specs.declared.keys.Keys.{Keys}
 use Rattle.ob_store.specs.Disk.{Disk}
 use Rattle.ob_store.specs.Images.{LeavesOnly}
+use Rattle.ob_desk.specs.Beats.{BeatKind}
 use Rattle.ob_flat.specs.Formats.{FormatLeaves}
 use Rattle.ob_words.specs.Reading.{asked_by, format_asked, run_asked}
 use Rattle.ob_top.specs.declared.words.Command.{Command}
@@ -33,14 +34,14 @@ abbrev pub IsRefusedWithout : List (List ℕ) → Option (Bor (List ℕ)) → Fa
 IsRefusedWithout words text fault = IsRefusedBefore words text fault ⊎ (AskForSomething words × ((keys : Keys) × HasKeys text keys) × (fault ≡ StoreFault None))
 
 -- What came of the words over a store, before the fault's line is written.
-abbrev pub CommandDoes : {S : Type 0} → (S → Disk) → (ℕ → ℕ → ℕ → ℕ → Bool) → List (List ℕ) → Option (Bor (List ℕ)) → S → S → Outside → Outside → Option Fault → Type 0
-CommandDoes disk passes words text old new before after fault =
+abbrev pub CommandDoes : {S : Type 0} → (S → Disk) → BeatKind → List (List ℕ) → Option (Bor (List ℕ)) → S → S → Outside → Outside → Option Fault → Type 0
+CommandDoes disk beat words text old new before after fault =
     ((f : Fault) × (fault ≡ Some f) × IsRefusedBefore words text f × (new ≡ old) × (after ≡ before))
-    ⊎ ((keys : Keys) × HasKeys text keys × (((p : Params) × Asks words (Format p) × FormatEnds keys p (disk old) (disk new) before.output after.output fault
+    ⊎ ((keys : Keys) × HasKeys text keys × (((p : Params) × Asks words (Format p) × FormatEnds disk keys p old new before.output after.output fault
     × ((disk old).tells → LeavesOnly (disk old) (disk new) (FormatLeaves keys p.keys (disk old))) × (after.input ≡ before.input))
-    ⊎ ((k : ℕ) × Asks words (Run k) × RunOn flat_kind disk passes keys (disk old) (disk new) before after fault)))
+    ⊎ ((k : ℕ) × Asks words (Run k) × RunOn flat_kind disk beat keys old new before after fault)))
 
-module _ {S : Type 0} (disk : S → Disk) (passes : ℕ → ℕ → ℕ → ℕ → Bool) (words : List (List ℕ)) (text : Option (Bor (List ℕ))) (entry : Option (MutBor S)) (exit : Left S) (before after : Outside) (status : ℕ) where
+module _ {S : Type 0} (disk : S → Disk) (beat : BeatKind) (words : List (List ℕ)) (text : Option (Bor (List ℕ))) (entry : Option (MutBor S)) (exit : Left S) (before after : Outside) (status : ℕ) where
   -- a store that was handed in is as it was
   abbrev pub StoreKept : Type 0
   StoreKept = OfStore entry exit (Unit {0}) (λ old new. new ≡ old)
@@ -64,7 +65,7 @@ module _ {S : Type 0} (disk : S → Disk) (passes : ℕ → ℕ → ℕ → ℕ 
       Refuses Memory
       ⊎ (((field : Field) × IsBadNumber numbers field × Refuses (BadParams field))
       ⊎ ((p : Params) × AreParams numbers p × (KeysDo
-      ⊎ ((keys : Keys) × HasKeys text keys × OfStore entry exit (IsOnlyTold (StoreFault None) before after status) (λ old new. FormatDone keys p (disk old) (disk new) before after status)))))
+      ⊎ ((keys : Keys) × HasKeys text keys × OfStore entry exit (IsOnlyTold (StoreFault None) before after status) (λ old new. FormatDone disk keys p old new before after status)))))
 
   -- `run`: want of memory for the words is told, then lanes out of their range, then what is wrong with the keys, then that there is no
   -- store, before anything is touched.
@@ -73,4 +74,4 @@ module _ {S : Type 0} (disk : S → Disk) (passes : ℕ → ℕ → ℕ → ℕ 
       Refuses Memory
       ⊎ ((AreBadLanes lanes × Refuses (BadParams LANES))
       ⊎ ((k : ℕ) × AreLanes lanes k × (KeysDo
-      ⊎ ((keys : Keys) × HasKeys text keys × OfStore entry exit (IsOnlyTold (StoreFault None) before after status) (λ old new. RunDone flat_kind disk passes keys (disk old) (disk new) before after status)))))
+      ⊎ ((keys : Keys) × HasKeys text keys × OfStore entry exit (IsOnlyTold (StoreFault None) before after status) (λ old new. RunDone flat_kind disk beat keys old new before after status)))))

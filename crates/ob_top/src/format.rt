@@ -1,5 +1,7 @@
+//! `format` over a store.
+
 ghost use Rattle.std.specs.Prelude.{◌≡◌};
-ghost use Rattle.ob_report.specs.Printed.{flow};
+ghost use Rattle.ob_io.specs.Streams.{outflow};
 ghost use Rattle.ob_store.specs.Images.{LeavesOnly};
 ghost use Rattle.ob_store.specs.Calls.{GoesOn};
 ghost use Rattle.ob_flat.specs.Formats.{FormatLeaves};
@@ -26,8 +28,11 @@ pub fn format_on<S: Store, O: Sink>(
     requires none_out { (S.disk store.old).out ≡ 0 }
     ensures goes { GoesOn (S.disk store.old) (S.disk store.new) }
     ensures none_out { (S.disk store.new).out ≡ 0 }
-    ensures ends { FormatEnds keys.now params.now (S.disk store.old) (S.disk store.new) (flow (O.written output.old) (O.faults output.old)) (flow (O.written output.new) (O.faults output.new)) (fault_of result) }
-    ensures left { (S.disk store.old).tells → LeavesOnly (S.disk store.old) (S.disk store.new) (FormatLeaves keys.now params.now.keys (S.disk store.old)) }
+    ensures ends { FormatEnds S.disk keys.now params.now store.old store.new
+        (outflow O.Sink output.old) (outflow O.Sink output.new) (fault_of result) }
+    ensures left { (S.disk store.old).tells
+        → LeavesOnly (S.disk store.old) (S.disk store.new)
+        (FormatLeaves keys.now params.now.keys (S.disk store.old)) }
 {
     match format(store, keys, params, &mut Blind) {
         Ok(()) => {}

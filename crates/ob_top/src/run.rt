@@ -1,22 +1,27 @@
-ghost use Rattle.std.specs.Prelude.{◌≡◌, ◌≤◌, ℕ, List, IfOk, IfErr, OnOk, None, suc, false, map, All, []};
+//! `run` over a store.
+
+ghost use Rattle.std.specs.Prelude.{◌≡◌, ◌≤◌, ℕ, List, IfOk, IfErr, OnOk, OnErr, None, suc, false, map, All, []};
 ghost use Rattle.ob_base.specs.declared.params.Params.{Params};
-ghost use Rattle.ob_report.specs.Printed.{flow, Flow};
+ghost use Rattle.ob_io.specs.Streams.{inflow, outflow};
 ghost use Rattle.ob_store.specs.Calls.{GoesOn, Notes};
-ghost use Rattle.ob_store.specs.Images.{Settled, LeavesOnly};
+ghost use Rattle.ob_store.specs.Images.{IsSynced, LeavesOnly};
 ghost use Rattle.ob_twin.specs.Opening.{GatesAre};
 ghost use Rattle.ob_twin.specs.declared.gates.Open.{Open};
 ghost use Rattle.ob_serial.specs.Vaults.{Standing};
-ghost use Rattle.ob_flat.specs.Openings.{IsFresh};
+ghost use Rattle.ob_pads.specs.Lives.{LivesOn};
+ghost use Rattle.ob_flat.specs.Openings.{HasSealedNothing};
 ghost use Rattle.ob_kinds.specs.Kinds.{Stands, AllStand, StandsAsBefore, IsOpenedAt};
 ghost use Rattle.ob_top.specs.Flat.{flat_kind};
 ghost use Rattle.ob_desk.specs.Desk.{DeskState, MayOpen, new_desk};
+ghost use Rattle.ob_desk.specs.Beats.{beat_kind};
 ghost use Rattle.ob_script.specs.Script.{AreSound};
 ghost use Rattle.ob_runner.specs.Runners.{AreRunners};
 ghost use Rattle.ob_runner.specs.RunnerViews.{client_of, bound_of, plan_of, MayHaveMade};
+ghost use Rattle.ob_runner.specs.Turns.{IsScriptTurn};
 ghost use Rattle.ob_conduct.specs.Scenes.{scene, run_state, runner_kind};
 ghost use Rattle.ob_conduct.specs.Conducted.{ByHand};
 ghost use Rattle.ob_serial.specs.VaultKinds.{kind_of};
-ghost use Rattle.ob_top.specs.Runs.{CameIn, IsInputRefused, EndsEarly, IsOpened, ServedOver, RunOn, begin_events, fault_of};
+ghost use Rattle.ob_top.specs.Runs.{CameIn, IsInputRefused, EndsEarly, OpensStanding, IsOpened, IsReadAndOpened, ServedOver, RunOn, begin_events, fault_of};
 ghost use Rattle.ob_top.specs.Outside.{outside};
 
 use ob_base::{Fault, Memory, Params};
@@ -45,8 +50,10 @@ struct Begun {
 // Reads the script that comes in.
 fn read_script<I: Source>(alloc: Global, input: &mut I, keys: u32) -> Result<Scripts, Fault>
     ensures sound { IfOk result (λ scripts. AreSound scripts) }
-    ensures came { IfOk result (λ scripts. CameIn keys (flow (I.left input.old) (I.faults input.old)) scripts) }
-    ensures refused { IfErr result (λ fault. IsInputRefused keys (flow (I.left input.old) (I.faults input.old)) (flow (I.left input.new) (I.faults input.new)) fault) }
+    ensures came { IfOk result (λ scripts. CameIn keys (inflow I.Source input.old) scripts) }
+    ensures refused { IfErr result
+        (λ fault. IsInputRefused keys (inflow I.Source input.old) (inflow I.Source input.new)
+        fault) }
 {
     let bytes = match read_all(alloc, input, LIMIT) {
         Ok(bytes) => bytes,
@@ -67,18 +74,37 @@ fn begin<S: Store, I: Source>(
     ensures none_out { (S.disk store.new).out ≡ 0 }
     ensures goes { GoesOn (S.disk store.old) (S.disk store.new) }
     ensures params { IfOk result (λ begun. begun.opening.params ≡ begun.params) }
-    ensures sealer { IfOk result (λ begun. IsFresh keys.now begun.opening.sealer) }
+    ensures sealer { IfOk result (λ begun. HasSealedNothing keys.now begun.opening.sealer) }
     ensures sound { IfOk result (λ begun. AreSound begun.scripts) }
     ensures runners { IfOk result (λ begun. AreRunners begun.scripts begun.runners.items) }
     ensures keys { IfOk result (λ begun. begun.scripts.keys ≡ begun.params.keys) }
-    ensures durable { (S.disk store.old).tells → OnOk result ((S.disk store.new).tells × Settled (S.disk store.new)) }
-    ensures opened { (at : Standing) → (S.disk store.old).tells → IfOk result (λ begun. Stands flat_kind keys.now begun.params (S.disk store.old).cells at → IsOpenedAt flat_kind keys.now begun.params at begun.opening (S.disk store.new)) }
-    ensures left { (at : Standing) → (S.disk store.old).tells → IfOk result (λ begun. Stands flat_kind keys.now begun.params (S.disk store.old).cells at → AllStand flat_kind keys.now begun.params (S.disk store.old)
-        → LeavesOnly (S.disk store.old) (S.disk store.new) (StandsAsBefore flat_kind keys.now begun.params (S.disk store.old))) }
-    ensures told { (S.disk store.new).tells → IfOk result (λ begun. GatesAre begun.opening.gates.epoch 5 (S.disk store.new).cells) }
-    ensures begun { IfOk result (λ begun. (start : Open) × IsOpened flat_kind keys.now (S.disk store.old) (flow (I.left input.old) (I.faults input.old)) begun.params begun.scripts begun.opening start
-        × Notes (begin_events flat_kind begun.params begun.opening start) (S.disk store.old).seen (S.disk store.new).seen) }
-    ensures refused { IfErr result (λ fault. EndsEarly flat_kind keys.now (S.disk store.old) (S.disk store.new) (flow (I.left input.old) (I.faults input.old)) (flow (I.left input.new) (I.faults input.new)) fault) }
+    ensures durable { (S.disk store.old).tells
+        → OnOk result ((S.disk store.new).tells × IsSynced (S.disk store.new)) }
+    ensures opened { (at : Standing) → (S.disk store.old).tells
+        → IfOk result (λ begun. Stands flat_kind keys.now begun.params (S.disk store.old).cells at
+        → IsOpenedAt flat_kind keys.now begun.params at begun.opening (S.disk store.new)) }
+    ensures left { (at : Standing) → (S.disk store.old).tells
+        → IfOk result (λ begun. Stands flat_kind keys.now begun.params (S.disk store.old).cells at
+        → AllStand flat_kind keys.now begun.params (S.disk store.old)
+        → LeavesOnly (S.disk store.old) (S.disk store.new)
+        (StandsAsBefore flat_kind keys.now begun.params (S.disk store.old))) }
+    ensures since { IfOk result
+        (λ begun. OpensStanding flat_kind S.disk keys.now begun.params (S.disk store.old)
+        (S.disk store.new)) }
+    ensures told { (S.disk store.new).tells
+        → IfOk result (λ begun. GatesAre begun.opening.gates.epoch 5 (S.disk store.new).cells) }
+    ensures begun { IfOk result (λ begun. (start : Open)
+        × IsOpened flat_kind keys.now (S.disk store.old) (inflow I.Source input.old) begun.params
+        begun.scripts begun.opening start
+        × Notes (begin_events flat_kind begun.params begun.opening start) (S.disk store.old).seen
+        (S.disk store.new).seen) }
+    ensures refused { IfErr result
+        (λ fault. EndsEarly flat_kind keys.now (S.disk store.old) (S.disk store.new) S.disk
+        (inflow I.Source input.old) (inflow I.Source input.new) fault) }
+    ensures opens { IfOk result (λ begun. IsReadAndOpened S.disk keys.now store.old store.new
+        begun.opening.sealer) }
+    ensures lives { (S.disk store.new).tells
+        → OnErr result (LivesOn S.disk keys.now store.old store.new []) }
 {
     let params = match head(store, keys, &mut Blind) {
         Ok(params) => params,
@@ -117,14 +143,21 @@ fn serve_all<R: Wait, V: Vault, W: Watch, O: Sink, B: Beat>(
 ) -> Result<(), Fault>
     requires params { V.params vault.old ≡ params.now }
     requires serves { (V.counts vault.old).spent ≡ false }
-    requires fresh { desk.old ≡ new_desk (record { params = params.now }) (suc (V.counts vault.old).epoch) (V.counts vault.old).left (map client_of runners.old.items) }
-    requires opens { MayOpen (record { params = params.now }) (suc (V.counts vault.old).epoch) (V.counts vault.old).left (map client_of runners.old.items) }
+    requires fresh { desk.old
+        ≡ new_desk (record { params = params.now }) (suc (V.counts vault.old).epoch)
+        (V.counts vault.old).left (map client_of runners.old.items) }
+    requires opens { MayOpen (record { params = params.now }) (suc (V.counts vault.old).epoch)
+        (V.counts vault.old).left (map client_of runners.old.items) }
     requires below { All (λ u. bound_of u ≤ params.now.keys) runners.old.items }
     requires none_made { All (λ u. MayHaveMade u []) runners.old.items }
     ensures anchors { (V.disk vault.new).anchors ≡ (V.disk vault.old).anchors }
-    ensures done { ByHand (kind_of V.holds V.sound V.stands V.disk V.called) (runner_kind client_of bound_of plan_of MayHaveMade) B.passes
-        (run_state (scene desk.old vault.old (W.trace watch.old)) runners.old.items (flow (O.written output.old) (O.faults output.old)))
-        (run_state (scene desk.new vault.new (W.trace watch.new)) runners.new.items (flow (O.written output.new) (O.faults output.new))) result }
+    ensures done { ByHand (kind_of V.Vault)
+        (runner_kind client_of bound_of plan_of MayHaveMade IsScriptTurn)
+        (beat_kind B.passes B.exact)
+        (run_state (scene desk.old vault.old (W.trace watch.old)) runners.old.items
+        (outflow O.Sink output.old))
+        (run_state (scene desk.new vault.new (W.trace watch.new)) runners.new.items
+        (outflow O.Sink output.new)) result }
 {
     serve(rt, alloc, params, desk, runners, vault, watch, beat, output)
 }
@@ -148,9 +181,14 @@ fn conduct<R: Wait, V: Vault, W: Watch, O: Sink, B: Beat>(
     requires keys { scripts.now.keys ≡ params.now.keys }
     requires runners { AreRunners scripts.now runners.old.items }
     ensures anchors { (V.disk vault.new).anchors ≡ (V.disk vault.old).anchors }
-    ensures done { (new : DeskState) × ByHand (kind_of V.holds V.sound V.stands V.disk V.called) (runner_kind client_of bound_of plan_of MayHaveMade) B.passes
-        (run_state (scene (new_desk (record { params = params.now }) (suc (V.counts vault.old).epoch) (V.counts vault.old).left scripts.now.clients) vault.old (W.trace watch.old)) runners.old.items (flow (O.written output.old) (O.faults output.old)))
-        (run_state (scene new vault.new (W.trace watch.new)) runners.new.items (flow (O.written output.new) (O.faults output.new))) result }
+    ensures done { (new : DeskState)
+        × ByHand (kind_of V.Vault) (runner_kind client_of bound_of plan_of MayHaveMade IsScriptTurn)
+        (beat_kind B.passes B.exact)
+        (run_state (scene (new_desk (record { params = params.now })
+        (suc (V.counts vault.old).epoch) (V.counts vault.old).left scripts.now.clients) vault.old
+        (W.trace watch.old)) runners.old.items (outflow O.Sink output.old))
+        (run_state (scene new vault.new (W.trace watch.new)) runners.new.items
+        (outflow O.Sink output.new)) result }
 {
     let mut desk = match Desk::new(
         alloc,
@@ -179,14 +217,17 @@ fn serve_on<R: Wait, S: Store, O: Sink, B: Beat>(
 ) -> Result<(), Fault>
     requires none_out { (S.disk store.old).out ≡ 0 }
     requires params { begun.opening.params ≡ begun.params }
-    requires sealer { IsFresh keys.now begun.opening.sealer }
-    requires told { (S.disk store.old).tells → GatesAre begun.opening.gates.epoch 5 (S.disk store.old).cells }
+    requires sealer { HasSealedNothing keys.now begun.opening.sealer }
+    requires told { (S.disk store.old).tells
+        → GatesAre begun.opening.gates.epoch 5 (S.disk store.old).cells }
     requires sound { AreSound begun.scripts }
     requires runners { AreRunners begun.scripts begun.runners.items }
     requires keys { begun.scripts.keys ≡ begun.params.keys }
     ensures none_out { (S.disk store.new).out ≡ 0 }
-    ensures serves { ServedOver flat_kind S.disk B.passes keys.now begun.params begun.opening begun.scripts (S.disk store.old) (S.disk store.new)
-        (flow (O.written output.old) (O.faults output.old)) (flow (O.written output.new) (O.faults output.new)) (fault_of result) }
+    ensures serves { ServedOver flat_kind S.disk (beat_kind B.passes B.exact) keys.now begun.params
+        begun.opening begun.opening.sealer
+        begun.scripts store.old store.new
+        (outflow O.Sink output.old) (outflow O.Sink output.new) (fault_of result) }
 {
     let Begun {
         params,
@@ -226,9 +267,9 @@ pub fn run_on<R: Wait, S: Store, I: Source, O: Sink, B: Beat>(
     requires none_out { (S.disk store.old).out ≡ 0 }
     ensures goes { GoesOn (S.disk store.old) (S.disk store.new) }
     ensures none_out { (S.disk store.new).out ≡ 0 }
-    ensures done { RunOn flat_kind S.disk B.passes keys.now (S.disk store.old) (S.disk store.new)
-        (outside (flow (I.left input.old) (I.faults input.old)) (flow (O.written output.old) (O.faults output.old)))
-        (outside (flow (I.left input.new) (I.faults input.new)) (flow (O.written output.new) (O.faults output.new)))
+    ensures done { RunOn flat_kind S.disk (beat_kind B.passes B.exact) keys.now store.old store.new
+        (outside (inflow I.Source input.old) (outflow O.Sink output.old))
+        (outside (inflow I.Source input.new) (outflow O.Sink output.new))
         (fault_of result) }
 {
     let begun = match begin(alloc, store, keys, input) {

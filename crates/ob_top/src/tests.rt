@@ -1,3 +1,5 @@
+//! Calls of the top, with the words, outputs and statuses wanted.
+
 ghost use Rattle.std.specs.Prelude.{◌≡◌, ◌≤◌};
 ghost use Rattle.ob_mem.specs.Memory.{disk_of_store};
 ghost use Rattle.ob_top.specs.Outside.{NoneOut};

@@ -1,10 +1,13 @@
+//! The one call that the program makes.
+
 ghost use Rattle.std.specs.Prelude.{◌≡◌, map};
-ghost use Rattle.ob_report.specs.Printed.{flow};
+ghost use Rattle.ob_io.specs.Streams.{inflow, outflow};
 ghost use Rattle.ob_store.specs.Calls.{GoesOn};
 ghost use Rattle.ob_top.specs.Outside.{outside, IsFinished, NoneOut, StoreGoesOn};
 ghost use Rattle.ob_top.specs.Runs.{fault_of};
 ghost use Rattle.ob_top.specs.Top.{CommandDoes, IsRefusedWithout, UsageDoes, FormatDoes, RunDoes};
 ghost use Rattle.ob_top.specs.Complete.{Completes};
+ghost use Rattle.ob_desk.specs.Beats.{beat_kind};
 
 use crate::format::format_on;
 use crate::run::run_on;
@@ -20,7 +23,8 @@ use std::sync::Wait;
 /// Writes the line of a fault behind what stands in the output, if there is one, and answers its
 /// status. Where the output itself has failed nothing more is written.
 pub fn finish<O: Sink>(output: &mut O, ended: Result<(), Fault>) -> u8
-    ensures { IsFinished (flow (O.written output.old) (O.faults output.old)) (flow (O.written output.new) (O.faults output.new)) (fault_of ended) result }
+    ensures { IsFinished (outflow O.Sink output.old) (outflow O.Sink output.new) (fault_of ended)
+        result }
 {
     match ended {
         Ok(()) => 0,
@@ -46,9 +50,11 @@ fn do_on<R: Wait, S: Store, I: Source, O: Sink, B: Beat>(
     requires none_out { (S.disk store.old).out ≡ 0 }
     ensures goes { GoesOn (S.disk store.old) (S.disk store.new) }
     ensures none_out { (S.disk store.new).out ≡ 0 }
-    ensures does { CommandDoes S.disk B.passes (map (λ w. w.now) words.entry.now) keys.entry store.old store.new
-        (outside (flow (I.left input.old) (I.faults input.old)) (flow (O.written output.old) (O.faults output.old)))
-        (outside (flow (I.left input.new) (I.faults input.new)) (flow (O.written output.new) (O.faults output.new))) (fault_of result) }
+    ensures does { CommandDoes S.disk (beat_kind B.passes B.exact)
+        (map (λ w. w.now) words.entry.now) keys.entry
+        store.old store.new
+        (outside (inflow I.Source input.old) (outflow O.Sink output.old))
+        (outside (inflow I.Source input.new) (outflow O.Sink output.new)) (fault_of result) }
 {
     let command = match command_of(alloc, words) {
         Ok(command) => command,
@@ -106,19 +112,26 @@ pub fn obladi<R: AllocGlobal + Wait, S: Store, I: Source, O: Sink, B: Beat>(
     // A store that was handed in can be handed in again.
     ensures goes { StoreGoesOn S.disk store.entry store.exit }
     // Words that are no command leave everything but the output untouched.
-    ensures usage { UsageDoes S.disk B.passes (map (λ w. w.now) words.entry.now) keys.entry store.entry store.exit
-        (outside (flow (I.left input.old) (I.faults input.old)) (flow (O.written output.old) (O.faults output.old)))
-        (outside (flow (I.left input.new) (I.faults input.new)) (flow (O.written output.new) (O.faults output.new))) result }
-    ensures format { FormatDoes S.disk B.passes (map (λ w. w.now) words.entry.now) keys.entry store.entry store.exit
-        (outside (flow (I.left input.old) (I.faults input.old)) (flow (O.written output.old) (O.faults output.old)))
-        (outside (flow (I.left input.new) (I.faults input.new)) (flow (O.written output.new) (O.faults output.new))) result }
-    ensures run { RunDoes S.disk B.passes (map (λ w. w.now) words.entry.now) keys.entry store.entry store.exit
-        (outside (flow (I.left input.old) (I.faults input.old)) (flow (O.written output.old) (O.faults output.old)))
-        (outside (flow (I.left input.new) (I.faults input.new)) (flow (O.written output.new) (O.faults output.new))) result }
-    // What is asked for is done, where nothing stands against it.
-    ensures complete { Completes S.disk B.passes (map (λ w. w.now) words.entry.now) keys.entry
-        (outside (flow (I.left input.old) (I.faults input.old)) (flow (O.written output.old) (O.faults output.old)))
-        (outside (flow (I.left input.new) (I.faults input.new)) (flow (O.written output.new) (O.faults output.new))) result store.entry store.exit }
+    ensures usage { UsageDoes S.disk (beat_kind B.passes B.exact) (map (λ w. w.now) words.entry.now)
+        keys.entry
+        store.entry store.exit
+        (outside (inflow I.Source input.old) (outflow O.Sink output.old))
+        (outside (inflow I.Source input.new) (outflow O.Sink output.new)) result }
+    ensures format { FormatDoes S.disk (beat_kind B.passes B.exact)
+        (map (λ w. w.now) words.entry.now) keys.entry
+        store.entry store.exit
+        (outside (inflow I.Source input.old) (outflow O.Sink output.old))
+        (outside (inflow I.Source input.new) (outflow O.Sink output.new)) result }
+    ensures run { RunDoes S.disk (beat_kind B.passes B.exact) (map (λ w. w.now) words.entry.now)
+        keys.entry store.entry
+        store.exit
+        (outside (inflow I.Source input.old) (outflow O.Sink output.old))
+        (outside (inflow I.Source input.new) (outflow O.Sink output.new)) result }
+    // What is asked for is done, where nothing stands against it but want of memory.
+    ensures complete { Completes S.disk (map (λ w. w.now) words.entry.now) keys.entry
+        (outside (inflow I.Source input.old) (outflow O.Sink output.old))
+        (outside (inflow I.Source input.new) (outflow O.Sink output.new)) result store.entry
+        store.exit }
 {
     match store {
         Some(store) => {

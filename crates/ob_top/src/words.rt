@@ -1,3 +1,5 @@
+//! What the words ask for.
+
 ghost use Rattle.std.specs.Prelude.{◌≡◌, ◌∷◌, [], map, option_map, MatchResult, IfOk, IfErr};
 ghost use Rattle.ob_words.specs.Reading.{asked_of};
 ghost use Rattle.ob_top.specs.Words.{Denotes, AreParams, IsBadNumber, AreLanes, AreBadLanes, IsCommandOf, IsOutOfRange, Asks, IsRefusedFor, AreFilesOf, AreWanted, HasKeys, IsKeysRefused};
@@ -54,8 +56,11 @@ fn params_in(
     e: &str,
     t: &str,
 ) -> Result<Params, Field>
-    ensures { MatchResult result (λ p. AreParams (n.now ∷ l.now ∷ z.now ∷ s.now ∷ r.now ∷ br.now ∷ bw.now ∷ e.now ∷ t.now ∷ []) p)
-        (λ field. IsBadNumber (n.now ∷ l.now ∷ z.now ∷ s.now ∷ r.now ∷ br.now ∷ bw.now ∷ e.now ∷ t.now ∷ []) field) }
+    ensures { MatchResult result
+        (λ p. AreParams (n.now ∷ l.now ∷ z.now ∷ s.now ∷ r.now ∷ br.now ∷ bw.now ∷ e.now ∷ t.now ∷
+        []) p)
+        (λ field. IsBadNumber
+        (n.now ∷ l.now ∷ z.now ∷ s.now ∷ r.now ∷ br.now ∷ bw.now ∷ e.now ∷ t.now ∷ []) field) }
 {
     Params::new(
         number_in(n),
@@ -86,7 +91,8 @@ fn lanes_in(word: Option<&str>) -> Result<u32, Field>
 
 // The command of a request, or the first field that is out of its range.
 fn command_in(request: &Request<'_>) -> Result<Command, Field>
-    ensures { MatchResult result (λ command. IsCommandOf (asked_of request.now) command) (λ field. IsOutOfRange (asked_of request.now) field) }
+    ensures { MatchResult result (λ command. IsCommandOf (asked_of request.now) command)
+        (λ field. IsOutOfRange (asked_of request.now) field) }
 {
     match request {
         Request::Format {
@@ -118,7 +124,8 @@ fn command_in(request: &Request<'_>) -> Result<Command, Field>
 /// of its range, the first one; and `Memory`.
 pub fn command_of(alloc: Global, words: &[&str]) -> Result<Command, Fault>
     ensures command { IfOk result (λ command. Asks (map (λ w. w.now) words.entry.now) command) }
-    ensures refused { IfErr result (λ fault. IsRefusedFor (map (λ w. w.now) words.entry.now) fault) }
+    ensures refused { IfErr result
+        (λ fault. IsRefusedFor (map (λ w. w.now) words.entry.now) fault) }
 {
     let request = read_words(alloc, words)?;
     match command_in(&request) {
@@ -132,7 +139,8 @@ pub fn command_of(alloc: Global, words: &[&str]) -> Result<Command, Fault>
 /// # Errors
 /// `SourceFault` where no text was read, and `BadParams` naming KEYS where it isn't one of keys.
 pub fn keys_of(text: Option<&[u8]>) -> Result<Keys, Fault>
-    ensures { MatchResult result (λ keys. HasKeys text.entry keys) (λ fault. IsKeysRefused text.entry fault) }
+    ensures { MatchResult result (λ keys. HasKeys text.entry keys)
+        (λ fault. IsKeysRefused text.entry fault) }
 {
     let Some(text) = text else {
         return Err(Fault::SourceFault);
@@ -145,7 +153,8 @@ pub fn keys_of(text: Option<&[u8]>) -> Result<Keys, Fault>
 
 // The files of a request: none where a number is out of its range.
 fn paths_of<'a>(request: &Request<'a>) -> Paths<'a>
-    ensures { AreFilesOf (asked_of request.now) (option_map (λ s. (s.0.now, s.1)) result.store) (option_map (λ k. k.now) result.keys) }
+    ensures { AreFilesOf (asked_of request.now) (option_map (λ s. (s.0.now, s.1)) result.store)
+        (option_map (λ k. k.now) result.keys) }
 {
     if command_in(request).is_err() {
         return Paths {
@@ -171,7 +180,8 @@ fn paths_of<'a>(request: &Request<'a>) -> Paths<'a>
 /// # Errors
 /// Memory was wanting.
 pub fn store_wanted<'a>(alloc: Global, words: &'a [&'a str]) -> Result<Paths<'a>, Memory>
-    ensures { IfOk result (λ paths. AreWanted (map (λ w. w.now) words.entry.now) (option_map (λ s. (s.0.now, s.1)) paths.store) (option_map (λ k. k.now) paths.keys)) }
+    ensures { IfOk result (λ paths. AreWanted (map (λ w. w.now) words.entry.now)
+        (option_map (λ s. (s.0.now, s.1)) paths.store) (option_map (λ k. k.now) paths.keys)) }
 {
     match read_words(alloc, words) {
         Ok(request) => Ok(paths_of(&request)),

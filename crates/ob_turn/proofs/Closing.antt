@@ -7,8 +7,7 @@ use Rattle.atomic_table.specs.Seated.{TableId}
 use Rattle.ob_turn.specs.declared.turn.Entry.{Entry}
 use Rattle.ob_turn.specs.declared.turn.View.{View}
 use Rattle.ob_turn.specs.declared.turn.Joined.{Joined}
-use Rattle.ob_turn.specs.History.{TellsOf, Tells}
-use Rattle.ob_turn.specs.BellHistory.{longer}
+use Rattle.ob_turn.specs.History.{longer, TellsOf, TellsSeats}
 use Rattle.ob_turn.specs.TurnRule.{both_views, joined_of}
 use Rattle.ob_turn.specs.TurnCalls.{Turn, TurnSeat, IsIdle, Joins, Whole}
 use Rattle.ob_turn.proofs.Prefixes.{prefix_trans, longer-left}
@@ -28,7 +27,7 @@ module _ {A : Type 0} (P : A → Type 0) where
 module _ {T E : Type 0} (steps : ℕ → T → E → T → Type 0) where
   -- whatever the first seat tells of a history, it tells for the second too
   abbrev pub Carries : View T E → View T E → Type 0
-  Carries v w = (log : List (Entry E)) (x : T) → Tells steps log x v → Tells steps log x w
+  Carries v w = (log : List (Entry E)) (x : T) → TellsSeats steps log x v → TellsSeats steps log x w
 
   abbrev TellsJoined : List (Entry E) → T → Joined T E → Type 0
   TellsJoined log x j = TellsOf steps log x j.opening j.by j.seen j.mine
@@ -99,10 +98,10 @@ module _ {T E : Type 0} (steps : ℕ → T → E → T → Type 0) where
   -- At the end the one seat tells for all.
   pub ends : (turn : Turn T E) (z : TableId) (all items : List (TurnSeat T E)) (seat : TurnSeat T E) (x : T) → IsGathering z all items seat → items ≡ [] → Whole steps turn (seat ∷ []) x → Whole steps turn all x
   ends turn z all items seat x g none_left w =
-      let told : Tells steps w.log x seat.me.0 = All-head (λ (s : TurnSeat T E). Tells steps w.log x s.me.0) seat [] w.told in
+      let told : TellsSeats steps w.log x seat.me.0 = All-head (λ (s : TurnSeat T E). TellsSeats steps w.log x s.me.0) seat [] w.told in
       let same : all ≡ g.taken = g.split ∙ ap (λ (l : List (TurnSeat T E)). l ++ g.taken) none_left in record {
         log = w.log;
-        told = subst (All (λ (s : TurnSeat T E). Tells steps w.log x s.me.0)) (sym same)
-            (All-weaker (λ (s : TurnSeat T E). Carries seat.me.0 s.me.0) (λ (s : TurnSeat T E). Tells steps w.log x s.me.0) (λ s c. c w.log x told) g.taken g.carried);
+        told = subst (All (λ (s : TurnSeat T E). TellsSeats steps w.log x s.me.0)) (sym same)
+            (All-weaker (λ (s : TurnSeat T E). Carries seat.me.0 s.me.0) (λ (s : TurnSeat T E). TellsSeats steps w.log x s.me.0) (λ s c. c w.log x told) g.taken g.carried);
         no_others = w.no_others;
       }

@@ -10,7 +10,7 @@ use Rattle.ob_turn.specs.declared.turn.Stage.{Stage}
 use Rattle.ob_turn.specs.declared.turn.Stage.TheVariants.{Idle, Inside}
 use Rattle.ob_turn.specs.declared.turn.Slot.{Slot}
 use Rattle.ob_turn.specs.declared.turn.Slot.TheVariants.{Rests}
-use Rattle.ob_turn.specs.TurnRule.{queued, readied, Holds, HasTicket, HasName, parts_of, queued_of, readied_of, FitsStage, Settled, Fits, Home, Kept, kept_back, handed_on, first_view}
+use Rattle.ob_turn.specs.TurnRule.{queued, readied, HasTicketAt, HasTicket, HasName, parts_of, queued_of, readied_of, FitsStage, IsJoinedAway, SeatFits, Home, TurnKept, kept_back, handed_on, first_view}
 use Rattle.std.specs.List.{All}
 use Rattle.std.proofs.lemmas.List.Elements.{All-nil, All-weaker}
 use Rattle.ob_turn.proofs.Totals.{total_set, total_snoc, stay, stay_longer, unique_same, unique_longer}
@@ -21,7 +21,7 @@ module _ (T E : Type 0) (steps : ℕ → T → E → T → Type 0) (opened : T) 
   P = View T E
 
   abbrev Rule : State (Slot T E) (View T E) → Type 0
-  Rule s = Kept steps opened seats s
+  Rule s = TurnKept steps opened seats s
 
   home_longer : (log : List (Entry E)) (homes : List (Opt (Slot T E))) (views : List P) (u : P) → ((k : ℕ) → u.stage ≢ Inside k)
       → Home steps opened log homes views → Home steps opened log homes (views ++ u ∷ [])
@@ -32,10 +32,10 @@ module _ (T E : Type 0) (steps : ℕ → T → E → T → Type 0) (opened : T) 
 
   -- A new seat knows of none that was joined, and its caller is new.
   settled_longer : (log : List (Entry E)) (names : ℕ) (views : List P) (u : P) → names ≤ u.by → u.joined ≡ []
-      → ((i : ℕ) (z : P) → get_elem? views i ≡ some z → All (Settled opened log names views) z.joined)
-      → (i : ℕ) (z : P) → get_elem? (views ++ u ∷ []) i ≡ some z → All (Settled opened log (names + 1) (views ++ u ∷ [])) z.joined
+      → ((i : ℕ) (z : P) → get_elem? views i ≡ some z → All (IsJoinedAway opened log names views) z.joined)
+      → (i : ℕ) (z : P) → get_elem? (views ++ u ∷ []) i ≡ some z → All (IsJoinedAway opened log (names + 1) (views ++ u ∷ [])) z.joined
   settled_longer log names views u new none_joined old i z ati =
-      All-weaker (Settled opened log names views) (Settled opened log (names + 1) (views ++ u ∷ []))
+      All-weaker (IsJoinedAway opened log names views) (IsJoinedAway opened log (names + 1) (views ++ u ∷ []))
       (λ gone s. let below : gone.by < names = s.named in record {
         opening_is = s.opening_is;
         prefix = s.prefix;
@@ -44,8 +44,8 @@ module _ (T E : Type 0) (steps : ℕ → T → E → T → Type 0) (opened : T) 
         no_seat = stay_longer (λ (n : ℕ) (z : P). 0 < z.parts → z.by ≡ gone.by → ⊥) views u (λ n z b p e. s.no_seat n z b p e) (λ _ e. absurd (omega (arith, e, below, new)));
       })
       z.joined
-      (stay_longer (λ (n : ℕ) (z : P). All (Settled opened log names views) z.joined) views u (λ n z b. old n z b)
-      (subst (All (Settled opened log names views)) (sym none_joined) (All-nil (Settled opened log names views))) i z ati)
+      (stay_longer (λ (n : ℕ) (z : P). All (IsJoinedAway opened log names views) z.joined) views u (λ n z b. old n z b)
+      (subst (All (IsJoinedAway opened log names views)) (sym none_joined) (All-nil (IsJoinedAway opened log names views))) i z ati)
 
   pub splits : (id : ℕ) (v : P) → v.stage ≡ Idle → v.cuts ≡ true → 2 ≤ v.parts → Splits {S = Slot T E} Rule id v (kept_back v) (handed_on v)
   splits id v is cuts two s r at =
@@ -72,8 +72,8 @@ module _ (T E : Type 0) (steps : ℕ → T → E → T → Type 0) (opened : T) 
         parts = omega (arith, total_set parts_of s.views id v w at, total_snoc parts_of views' u, r.parts, two);
         queue = omega (arith, total_set queued_of s.views id v w at, total_snoc queued_of views' u, waits, r.queue);
         bound = omega (arith, total_set readied_of s.views id v w at, total_snoc readied_of views' u, unready, r.bound);
-        each = stay_longer (Fits opened r.log r.ticket (length views') (r.names + 1) seats) views' u
-            (stay (Fits opened r.log r.ticket (length views') (r.names + 1) seats) s.views id w
+        each = stay_longer (SeatFits opened r.log r.ticket (length views') (r.names + 1) seats) views' u
+            (stay (SeatFits opened r.log r.ticket (length views') (r.names + 1) seats) s.views id w
             record { opening_is = λ _. fit.opening_is cutter.2; prefix = fit.prefix; named = λ _. (omega (arith, last), named.1); cuts = λ e. absurd (cc e); stage = subst (FitsStage r.log r.ticket w) (sym is) tt }
             (λ j z ne a. let f = r.each j z a in record {
               opening_is = f.opening_is;
@@ -89,7 +89,7 @@ module _ (T E : Type 0) (steps : ℕ → T → E → T → Type 0) (opened : T) 
               cuts = λ _. (refl, omega (arith, last), omega (arith, two), omega (arith, two, cutter.3));
               stage = idle;
             };
-        one_turn = unique_longer HasTicket views' u (unique_same HasTicket s.views id v w r.one_turn at (λ k h. h)) (λ k j z h _ _. subst (λ (q : Stage). Holds q k) is h);
+        one_turn = unique_longer HasTicket views' u (unique_same HasTicket s.views id v w r.one_turn at (λ k h. h)) (λ k j z h _ _. subst (λ (q : Stage). HasTicketAt q k) is h);
         one_name = unique_longer HasName views' u (unique_same HasName s.views id v w r.one_name at (λ k h. (cutter.2, h.1)))
             (λ k j z h a g. let below = joined j z a g.0 in let p = h.1 in let q = g.1 in omega (arith, below, last, p, q));
         settled = settled_longer r.log r.names views' u (omega (arith, last)) refl (settled_stays T E steps opened seats r.log r.names s.views id v w at refl (λ _. (cutter.2, refl)) r.settled);
@@ -111,11 +111,11 @@ module _ (T E : Type 0) (steps : ℕ → T → E → T → Type 0) (opened : T) 
     parts = omega arith;
     queue = refl;
     bound = omega arith;
-    each = λ j v e. stay_longer (Fits opened [] 0 0 1 seats) [] (first_view opened seats) (λ k z a. absurd (some-ne-none z (sym a)))
+    each = λ j v e. stay_longer (SeatFits opened [] 0 0 1 seats) [] (first_view opened seats) (λ k z a. absurd (some-ne-none z (sym a)))
         record { opening_is = λ _. refl; prefix = ([], refl); named = λ _. (omega arith, refl); cuts = λ _. (refl, refl, omega (arith, one_part), omega arith); stage = tt } j v e;
-    one_turn = λ i j k v w a b h _. absurd (stay_longer (λ (n : ℕ) (z : P). Holds z.stage k → ⊥) [] (first_view opened seats) (λ n z q. absurd (some-ne-none z (sym q))) (λ g. g) i v a h);
+    one_turn = λ i j k v w a b h _. absurd (stay_longer (λ (n : ℕ) (z : P). HasTicketAt z.stage k → ⊥) [] (first_view opened seats) (λ n z q. absurd (some-ne-none z (sym q))) (λ g. g) i v a h);
     one_name = λ i j k v w a b _ _. alone i v a ∙ sym (alone j w b);
-    settled = λ i v a. stay_longer (λ (n : ℕ) (z : P). All (Settled opened [] 1 (first_view opened seats ∷ [])) z.joined) [] (first_view opened seats) (λ n z q. absurd (some-ne-none z (sym q))) (All-nil (Settled opened [] 1 (first_view opened seats ∷ []))) i v a;
+    settled = λ i v a. stay_longer (λ (n : ℕ) (z : P). All (IsJoinedAway opened [] 1 (first_view opened seats ∷ [])) z.joined) [] (first_view opened seats) (λ n z q. absurd (some-ne-none z (sym q))) (All-nil (IsJoinedAway opened [] 1 (first_view opened seats ∷ []))) i v a;
     covered = one_part;
     legal = (opened, refl);
     unnamed = λ by _. refl;

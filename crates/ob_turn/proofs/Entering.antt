@@ -9,7 +9,7 @@ use Rattle.ob_turn.specs.declared.turn.View.{View}
 use Rattle.ob_turn.specs.declared.turn.Slot.{Slot}
 use Rattle.ob_turn.specs.declared.turn.Slot.TheVariants.{Out}
 use Rattle.ob_turn.specs.declared.turn.Stage.TheVariants.{Waiting, Inside}
-use Rattle.ob_turn.specs.History.{entries_of, HasPart, Stands, Reaches}
+use Rattle.ob_turn.specs.History.{entries_of, HasPart, LeadsFromOpening, Reaches}
 use Rattle.ob_turn.specs.TurnRule.{value_in, staged, Entered}
 use Rattle.ob_turn.specs.TurnCalls.{TurnSeat, IsSame, Enters}
 
@@ -39,5 +39,5 @@ module _ {T E : Type 0} (steps : ℕ → T → E → T → Type 0) where
         goes_on = subst (IsPrefix before.me.0.seen) seen e.6;
         own = subst (λ (v : View T E). entries_of v.by v.seen ≡ v.mine) (sym view) e.7;
         joined = subst (λ (l : List (Entry E)). All (HasPart l) before.me.0.joined) seen e.8;
-        value = subst (λ (v : View T E). Reaches steps v x) (sym view) (x, subst (Stands steps before.me.0.opening log) (sym value) e.5, refl);
+        value = subst (λ (v : View T E). Reaches steps v x) (sym view) (x, subst (LeadsFromOpening steps before.me.0.opening log) (sym value) e.5, refl);
       }

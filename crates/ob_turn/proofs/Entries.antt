@@ -1,7 +1,7 @@
 -- Histories: the entries of one caller, and what a longer history leads to.
 use Rattle.std.proofs.Common.{◌≡◌, ◌≢◌, ℕ, ◌==◌, Option, Some, None, Bool, true, false, List, [], ◌∷◌, ◌++◌, if◌then◌else◌, refl, ap, sym, subst, eq-eqb, ne_eqb}
 use Rattle.ob_turn.specs.declared.turn.Entry.{Entry}
-use Rattle.ob_turn.specs.History.{entry, entries_of, Calls, Leads, Stands}
+use Rattle.ob_turn.specs.History.{entry, entries_of, Calls, LeadsByTurns, LeadsFromOpening}
 
 if-cons : {A : Type 0} (b : Bool) (l : A) (xs ys zs : List A) → xs ≡ ys ++ zs → (if b then l ∷ xs else xs) ≡ (if b then l ∷ ys else ys) ++ zs
 if-cons true l xs ys zs e = ap (λ m. l ∷ m) e
@@ -27,10 +27,10 @@ module _ {T E : Type 0} (steps : ℕ → T → E → T → Type 0) where
   calls-snoc by x (c ∷ es) y z e h st = (h.0, h.1, calls-snoc by h.0 es y z e h.2 st)
 
   -- A turn more, whose calls lead on.
-  pub leads-snoc : (x : T) (ls : List (Entry E)) (y z : T) (by : ℕ) (es : List E) → Leads steps x ls y → Calls steps by y es z → Leads steps x (ls ++ entry by es ∷ []) z
+  pub leads-snoc : (x : T) (ls : List (Entry E)) (y z : T) (by : ℕ) (es : List E) → LeadsByTurns steps x ls y → Calls steps by y es z → LeadsByTurns steps x (ls ++ entry by es ∷ []) z
   leads-snoc x [] y z by es h st = (z, subst (λ u. Calls steps by u es z) (sym h) st, refl)
   leads-snoc x (l ∷ ls) y z by es h st = (h.0, h.1, leads-snoc h.0 ls y z by es h.2 st)
 
-  pub stands-snoc : (o : Option T) (ls : List (Entry E)) (y z : T) (by : ℕ) (es : List E) → Stands steps o ls y → Calls steps by y es z → Stands steps o (ls ++ entry by es ∷ []) z
+  pub stands-snoc : (o : Option T) (ls : List (Entry E)) (y z : T) (by : ℕ) (es : List E) → LeadsFromOpening steps o ls y → Calls steps by y es z → LeadsFromOpening steps o (ls ++ entry by es ∷ []) z
   stands-snoc None ls y z by es h st = absurd h
   stands-snoc (Some x) ls y z by es h st = leads-snoc x ls y z by es h st

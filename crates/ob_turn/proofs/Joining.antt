@@ -11,8 +11,8 @@ use Rattle.ob_turn.specs.declared.turn.Joined.{Joined}
 use Rattle.ob_turn.specs.declared.turn.View.{View}
 use Rattle.ob_turn.specs.declared.turn.Stage.TheVariants.{Idle, Inside}
 use Rattle.ob_turn.specs.declared.turn.Slot.{Slot}
-use Rattle.ob_turn.specs.History.{entries_of, Leads, Stands, TellsOf, Tells}
-use Rattle.ob_turn.specs.TurnRule.{value_in, queued, readied, HasTicket, HasName, parts_of, queued_of, readied_of, FitsStage, Settled, Fits, Kept, both_views, spent_view, joined_of}
+use Rattle.ob_turn.specs.History.{entries_of, LeadsByTurns, LeadsFromOpening, TellsOf, TellsSeats}
+use Rattle.ob_turn.specs.TurnRule.{value_in, queued, readied, HasTicket, HasName, parts_of, queued_of, readied_of, FitsStage, IsJoinedAway, SeatFits, TurnKept, both_views, spent_view, joined_of}
 use Rattle.std.specs.List.{All}
 use Rattle.std.proofs.lemmas.List.Elements.{All-nil, All-append, All-push, All-weaker}
 use Rattle.ob_turn.proofs.Prefixes.{longer-prefix}
@@ -30,14 +30,14 @@ module _ (T E : Type 0) (steps : ℕ → T → E → T → Type 0) (opened : T) 
   M = Me (Slot T E) (View T E)
 
   abbrev Rule : S → Type 0
-  Rule s = Kept steps opened seats s
+  Rule s = TurnKept steps opened seats s
 
   -- What the rule says of a seat's part of the history.
-  tells : (s : S) (r : Rule s) (id : ℕ) (v : P) (x : T) → get_elem? s.views id ≡ some v → 0 < v.parts → Leads steps opened r.log x → Tells steps r.log x v
+  tells : (s : S) (r : Rule s) (id : ℕ) (v : P) (x : T) → get_elem? s.views id ≡ some v → 0 < v.parts → LeadsByTurns steps opened r.log x → TellsSeats steps r.log x v
   tells s r id v x at some_part led = let fit = r.each id v at in record {
-    seat = record { legal = subst (λ (o : Option T). Stands steps o r.log x) (sym (fit.opening_is some_part)) led; prefix = fit.prefix; own = (fit.named some_part).1 };
-    joined = All-weaker (Settled opened r.log r.names s.views) (λ (j : Joined T E). TellsOf steps r.log x j.opening j.by j.seen j.mine)
-        (λ j q. record { legal = subst (λ (o : Option T). Stands steps o r.log x) (sym q.opening_is) led; prefix = q.prefix; own = q.own }) v.joined (r.settled id v at);
+    seat = record { legal = subst (λ (o : Option T). LeadsFromOpening steps o r.log x) (sym (fit.opening_is some_part)) led; prefix = fit.prefix; own = (fit.named some_part).1 };
+    joined = All-weaker (IsJoinedAway opened r.log r.names s.views) (λ (j : Joined T E). TellsOf steps r.log x j.opening j.by j.seen j.mine)
+        (λ j q. record { legal = subst (λ (o : Option T). LeadsFromOpening steps o r.log x) (sym q.opening_is) led; prefix = q.prefix; own = q.own }) v.joined (r.settled id v at);
   }
 
   -- the name that no other seat has before is no seat's after
@@ -51,11 +51,11 @@ module _ (T E : Type 0) (steps : ℕ → T → E → T → Type 0) (opened : T) 
   -- Those joined before are settled, and so is the one that was joined last.
   settled_joined : (s : S) (r : Rule s) (id : ℕ) (v : P) (other : ℕ) (w : P) → 0 < v.parts → 0 < w.parts → get_elem? s.views id ≡ some v → ¬ (other ≡ id) → get_elem? s.views other ≡ some w
       → (i : ℕ) (u : P) → get_elem? (set (set s.views id (both_views v w)) other spent_view) i ≡ some u
-      → All (Settled opened r.log r.names (set (set s.views id (both_views v w)) other spent_view)) u.joined
+      → All (IsJoinedAway opened r.log r.names (set (set s.views id (both_views v w)) other spent_view)) u.joined
   settled_joined s r id v other w some_part its_part at apart was i u ati =
       let views' : List P = set (set s.views id (both_views v w)) other spent_view in
-      let S0 : Joined T E → Type 0 = Settled opened r.log r.names s.views in
-      let S1 : Joined T E → Type 0 = Settled opened r.log r.names views' in
+      let S0 : Joined T E → Type 0 = IsJoinedAway opened r.log r.names s.views in
+      let S1 : Joined T E → Type 0 = IsJoinedAway opened r.log r.names views' in
       let carry : (l : List (Joined T E)) → All S0 l → All S1 l =
       λ l h. All-weaker S0 S1 (λ gone t. record { opening_is = t.opening_is; prefix = t.prefix; named = t.named; own = t.own; no_seat = unnamed_joined s id v other w some_part at apart gone.by (λ n z _ q p e. t.no_seat n z q p e) }) l h in
       let fit = r.each other w was in
@@ -97,9 +97,9 @@ module _ (T E : Type 0) (steps : ℕ → T → E → T → Type 0) (opened : T) 
         parts = omega (arith, total_set parts_of s.views id v both at, total_set parts_of one other w gone there, r.parts);
         queue = omega (arith, total_set queued_of s.views id v both at, total_set queued_of one other w gone there, r.queue, b);
         bound = omega (arith, total_set readied_of s.views id v both at, total_set readied_of one other w gone there, r.bound, d);
-        each = stay (Fits opened r.log r.ticket r.cutter r.names seats) one other gone
+        each = stay (SeatFits opened r.log r.ticket r.cutter r.names seats) one other gone
             record { opening_is = λ p. absurd (omega (arith, p)); prefix = (r.log, refl); named = λ p. absurd (omega (arith, p)); cuts = λ e. absurd (cc e); stage = tt }
-            (λ j u _ q. stay (Fits opened r.log r.ticket r.cutter r.names seats) s.views id both
+            (λ j u _ q. stay (SeatFits opened r.log r.ticket r.cutter r.names seats) s.views id both
             record {
               opening_is = λ _. fit.opening_is some_part;
               prefix = longer-prefix v.seen w.seen r.log fit.prefix fitw.prefix;
@@ -131,13 +131,13 @@ module _ (T E : Type 0) (steps : ℕ → T → E → T → Type 0) (opened : T) 
 
   -- The value that comes out at the end is what the whole history leads to.
   pub ends : (id : ℕ) (v : P) (ws : List ℕ) (xs : List (Slot T E)) → v.parts ≡ seats → v.stage ≡ Idle → Final (Seen Rule id v) ws xs
-      → (y : Slot T E) × (x : T) × (get_elem? xs 0 ≡ some y) × (value_in y ≡ some x) × (log : List (Entry E)) × Tells steps log x v × ((by : ℕ) → seats ≤ by → entries_of by log ≡ [])
+      → (y : Slot T E) × (x : T) × (get_elem? xs 0 ≡ some y) × (value_in y ≡ some x) × (log : List (Entry E)) × TellsSeats steps log x v × ((by : ℕ) → seats ≤ by → entries_of by log ≡ [])
   ends id v ws xs all is f =
       let s : S = f.0 in
       let r : Rule s = f.1.0 in
       let at = f.1.1 in
       let some_part : 0 < v.parts = let n = r.some_seat in omega (arith, all, n) in
-      let t = ⊎_elim {C = (y : Slot T E) × (x : T) × (s.homes ≡ some y ∷ []) × (value_in y ≡ some x) × Leads steps opened r.log x}
+      let t = ⊎_elim {C = (y : Slot T E) × (x : T) × (s.homes ≡ some y ∷ []) × (value_in y ≡ some x) × LeadsByTurns steps opened r.log x}
       (λ t. (t.0, t.1, t.2, t.3, t.4)) (λ t. absurd (none_inside s r id v at all is t.1.0 t.1.1 t.1.2 t.1.3 t.1.4)) r.home in (
         t.0,
         t.1,
@@ -149,12 +149,12 @@ module _ (T E : Type 0) (steps : ℕ → T → E → T → Type 0) (opened : T) 
       )
 
   pub comes_out : (id : ℕ) (v : P) (ws : List ℕ) (xs : List (Slot T E)) → v.parts ≡ seats → v.stage ≡ Idle → Final (Seen Rule id v) ws xs
-      → (slot : Slot T E) (x : T) → get_elem? xs 0 ≡ some slot → value_in slot ≡ some x → (log : List (Entry E)) × Tells steps log x v × ((by : ℕ) → seats ≤ by → entries_of by log ≡ [])
+      → (slot : Slot T E) (x : T) → get_elem? xs 0 ≡ some slot → value_in slot ≡ some x → (log : List (Entry E)) × TellsSeats steps log x v × ((by : ℕ) → seats ≤ by → entries_of by log ≡ [])
   comes_out id v ws xs all is f slot x at has =
       let e = ends id v ws xs all is f in
       let same : slot ≡ e.0 = some-injective slot e.0 (sym at ∙ e.2) in
       let value : x ≡ e.1 = some-injective x e.1 (sym has ∙ (ap value_in same ∙ e.3)) in
-      (e.4, subst (λ (y : T). Tells steps e.4 y v) (sym value) e.5, e.6)
+      (e.4, subst (λ (y : T). TellsSeats steps e.4 y v) (sym value) e.5, e.6)
 
   -- The slot has a value at the end.
   pub never_empty : (id : ℕ) (v : P) (ws : List ℕ) (xs : List (Slot T E)) → v.parts ≡ seats → v.stage ≡ Idle → Final (Seen Rule id v) ws xs

@@ -2,7 +2,7 @@
 use Rattle.std.proofs.Common.{◌≡◌, ap, sym, ◌∙◌, List, [], ◌∷◌, ◌++◌, refl, append_assoc}
 use Rattle.std.proofs.lemmas.List.{append-nil}
 use mathlib.Core.List.{IsPrefix}
-use Rattle.ob_turn.specs.BellHistory.{longer}
+use Rattle.ob_turn.specs.History.{longer}
 
 module _ {A : Type 0} where
   pub prefix_self : (xs : List A) → IsPrefix xs xs
@@ -19,19 +19,6 @@ module _ {A : Type 0} where
       let head : x ≡ z = cc (p.1) in
       let rest = longer-prefix xs ys zs (p.0, cc (p.1)) (q.0, cc (q.1)) in
       (rest.0, cc (head, rest.1))
-
-  -- The longer of a whole list and one of its beginnings is the whole.
-  pub longer-whole : (xs ys : List A) → IsPrefix ys xs → longer xs ys ≡ xs
-  longer-whole [] [] p = refl
-  longer-whole [] (y ∷ ys) p = absurd (cc (p.1))
-  longer-whole (x ∷ xs) [] p = refl
-  longer-whole (x ∷ xs) (y ∷ ys) p = ap (λ l. x ∷ l) (longer-whole xs ys (p.0, cc (p.1)))
-
-  -- And so it is the other way round.
-  pub longer-other : (xs ys : List A) → IsPrefix xs ys → longer xs ys ≡ ys
-  longer-other [] ys p = refl
-  longer-other (x ∷ xs) [] p = absurd (cc (p.1))
-  longer-other (x ∷ xs) (y ∷ ys) p = let head : x ≡ y = cc (p.1) in let rest : longer xs ys ≡ ys = longer-other xs ys (p.0, cc (p.1)) in cc (head, rest)
 
   pub longer-left : (xs ys : List A) → IsPrefix xs (longer xs ys)
   longer-left [] ys = (ys, refl)

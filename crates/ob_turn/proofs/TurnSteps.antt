@@ -15,8 +15,8 @@ use Rattle.ob_turn.specs.declared.turn.Stage.TheVariants.{Idle, Ready, Waiting, 
 use Rattle.ob_turn.specs.declared.turn.Slot.{Slot}
 use Rattle.ob_turn.specs.declared.turn.Slot.TheVariants.{Noted, Leaves}
 use Rattle.ob_turn.specs.declared.turn.Joined.{Joined}
-use Rattle.ob_turn.specs.History.{entry, entries_of, HasPart, Leads, Stands, IsAt}
-use Rattle.ob_turn.specs.TurnRule.{value_in, queued, readied, Holds, total, HasTicket, HasName, parts_of, queued_of, readied_of, staged, FitsStage, Settled, Fits, Home, Kept, Entered, Watches, Arrives, Draws, noting, Notes, left, Goes}
+use Rattle.ob_turn.specs.History.{entry, entries_of, HasPart, LeadsByTurns, LeadsFromOpening, IsAt}
+use Rattle.ob_turn.specs.TurnRule.{value_in, queued, readied, HasTicketAt, total, HasTicket, HasName, parts_of, queued_of, readied_of, staged, FitsStage, IsJoinedAway, SeatFits, Home, TurnKept, Entered, Watches, Arrives, Draws, noting, NotesStep, left, GoesStep}
 use Rattle.ob_turn.proofs.Entries.{entries-same, entries-other, stands-snoc}
 use Rattle.ob_turn.proofs.Prefixes.{prefix_self, prefix_snoc}
 use Rattle.std.specs.List.{All}
@@ -36,7 +36,7 @@ module _ {T E : Type 0} where
   later log ticket v (Waiting k) h = let a = h.1 in (h.0, omega (arith, a), h.2)
   later log ticket v (Inside k) h = let a = h.1 in (h.0, omega (arith, a), h.2, h.3)
 
-  below : (log : List (Entry E)) (ticket k : ℕ) (v : View T E) (st : Stage) → FitsStage log ticket v st → Holds st k → k < ticket
+  below : (log : List (Entry E)) (ticket k : ℕ) (v : View T E) (st : Stage) → FitsStage log ticket v st → HasTicketAt st k → k < ticket
   below log ticket k v Idle h a = absurd a
   below log ticket k v Ready h a = absurd a
   below log ticket k v (Waiting n) h a = let b = h.1 in omega (arith, a, b)
@@ -44,7 +44,7 @@ module _ {T E : Type 0} where
 
   -- a seat that is behind the one that leaves waits on
   pub others_wait : (log log' : List (Entry E)) (ticket k : ℕ) (u : View T E) → k ≡ length log → length log' ≡ length log + 1 → (st : Stage) → FitsStage log ticket u st
-      → ((m : ℕ) → Holds st m → m ≡ k → ⊥) → FitsStage log' ticket u st
+      → ((m : ℕ) → HasTicketAt st m → m ≡ k → ⊥) → FitsStage log' ticket u st
   others_wait log log' ticket k u here long Idle f not = tt
   others_wait log log' ticket k u here long Ready f not = f
   others_wait log log' ticket k u here long (Waiting m) f not =
@@ -64,7 +64,7 @@ module _ (T E : Type 0) (steps : ℕ → T → E → T → Type 0) (opened : T) 
   M = Me (Slot T E) (View T E)
 
   abbrev Rule : S → Type 0
-  Rule s = Kept steps opened seats s
+  Rule s = TurnKept steps opened seats s
 
   abbrev NotInside : P → Type 0
   NotInside v = (k : ℕ) → v.stage ≢ Inside k
@@ -87,7 +87,7 @@ module _ (T E : Type 0) (steps : ℕ → T → E → T → Type 0) (opened : T) 
 
   -- What was settled stays so, where a seat keeps its caller and what it knows of those joined into it.
   settled_one : (log : List (Entry E)) (names : ℕ) (views : List P) (id : ℕ) (v w : P) → get_elem? views id ≡ some v → (0 < w.parts → (0 < v.parts) × (w.by ≡ v.by))
-      → (gone : Joined T E) → Settled opened log names views gone → Settled opened log names (set views id w) gone
+      → (gone : Joined T E) → IsJoinedAway opened log names views gone → IsJoinedAway opened log names (set views id w) gone
   settled_one log names views id v w at named gone s = record {
     opening_is = s.opening_is;
     prefix = s.prefix;
@@ -98,12 +98,12 @@ module _ (T E : Type 0) (steps : ℕ → T → E → T → Type 0) (opened : T) 
   }
 
   pub settled_stays : (log : List (Entry E)) (names : ℕ) (views : List P) (id : ℕ) (v w : P) → get_elem? views id ≡ some v → w.joined ≡ v.joined → (0 < w.parts → (0 < v.parts) × (w.by ≡ v.by))
-      → ((i : ℕ) (u : P) → get_elem? views i ≡ some u → All (Settled opened log names views) u.joined)
-      → (i : ℕ) (u : P) → get_elem? (set views id w) i ≡ some u → All (Settled opened log names (set views id w)) u.joined
+      → ((i : ℕ) (u : P) → get_elem? views i ≡ some u → All (IsJoinedAway opened log names views) u.joined)
+      → (i : ℕ) (u : P) → get_elem? (set views id w) i ≡ some u → All (IsJoinedAway opened log names (set views id w)) u.joined
   settled_stays log names views id v w at joined named old i u ati =
-      All-weaker (Settled opened log names views) (Settled opened log names (set views id w)) (settled_one log names views id v w at named) u.joined
-      (stay (λ (n : ℕ) (z : P). All (Settled opened log names views) z.joined) views id w
-      (subst (All (Settled opened log names views)) (sym joined) (old id v at)) (λ n z _ b. old n z b) i u ati)
+      All-weaker (IsJoinedAway opened log names views) (IsJoinedAway opened log names (set views id w)) (settled_one log names views id v w at named) u.joined
+      (stay (λ (n : ℕ) (z : P). All (IsJoinedAway opened log names views) z.joined) views id w
+      (subst (All (IsJoinedAway opened log names views)) (sym joined) (old id v at)) (λ n z _ b. old n z b) i u ati)
 
   pub arrives : (slots id : ℕ) (me : M) → me.0.stage ≡ Idle → 0 < me.0.parts → Allows Rule slots id me 0 (λ n. n) (Arrives (step slots 0 0 0 none) me)
   arrives slots id me is some_part s r _ at _ =
@@ -121,8 +121,8 @@ module _ (T E : Type 0) (steps : ℕ → T → E → T → Type 0) (opened : T) 
       (λ early.
       let w : P = staged v Ready in
       let fit = r.each id v at in
-      let each' : (j : ℕ) (u : P) → get_elem? (set s.views id w) j ≡ some u → Fits opened r.log r.ticket r.cutter r.names seats j u =
-      stay (Fits opened r.log r.ticket r.cutter r.names seats) s.views id w
+      let each' : (j : ℕ) (u : P) → get_elem? (set s.views id w) j ≡ some u → SeatFits opened r.log r.ticket r.cutter r.names seats j u =
+      stay (SeatFits opened r.log r.ticket r.cutter r.names seats) s.views id w
       record { opening_is = fit.opening_is; prefix = fit.prefix; named = fit.named; cuts = fit.cuts; stage = some_part }
       (λ j u _ e. r.each j u e) in
       let parts : total parts_of (set s.views id w) ≡ seats = omega (arith, total_set parts_of s.views id v w at, r.parts) in
@@ -166,8 +166,8 @@ module _ (T E : Type 0) (steps : ℕ → T → E → T → Type 0) (opened : T) 
       let waits : queued v.stage ≡ 0 = ap queued is in
       let one : readied v.stage ≤ total readied_of s.views = total_at readied_of s.views id v at in
       let fits : (n + 1) % 2 ^ 64 ≡ r.ticket + 1 = grind (arith, found, one, ready, r.bound, r.few) in
-      let each' : (j : ℕ) (u : P) → get_elem? (set s.views id w) j ≡ some u → Fits opened r.log (r.ticket + 1) r.cutter r.names seats j u =
-      stay (Fits opened r.log (r.ticket + 1) r.cutter r.names seats) s.views id w
+      let each' : (j : ℕ) (u : P) → get_elem? (set s.views id w) j ≡ some u → SeatFits opened r.log (r.ticket + 1) r.cutter r.names seats j u =
+      stay (SeatFits opened r.log (r.ticket + 1) r.cutter r.names seats) s.views id w
       record { opening_is = fit.opening_is; prefix = fit.prefix; named = fit.named; cuts = fit.cuts; stage = (omega (arith, r.queue, found), omega (arith, found), some_part) }
       (λ j u _ e. let f = r.each j u e in record { opening_is = f.opening_is; prefix = f.prefix; named = f.named; cuts = f.cuts; stage = later r.log r.ticket u u.stage f.stage }) in (
         w,
@@ -207,7 +207,7 @@ module _ (T E : Type 0) (steps : ℕ → T → E → T → Type 0) (opened : T) 
       let inside : u.stage ≡ Inside n = t.1.4 in
       let fit : FitsStage r.log r.ticket u (Inside n) = subst (FitsStage r.log r.ticket u) inside (r.each by u there).stage in
       let same : n ≡ k = fit.0 ∙ sym here in
-      let one : by ≡ id = r.one_turn by id k u v there at (subst (λ (z : Stage). Holds z k) (sym inside) same) (subst (λ (z : Stage). Holds z k) (sym is) refl) in
+      let one : by ≡ id = r.one_turn by id k u v there at (subst (λ (z : Stage). HasTicketAt z k) (sym inside) same) (subst (λ (z : Stage). HasTicketAt z k) (sym is) refl) in
       let both : u ≡ v = some-injective u v (sym there ∙ (ap (get_elem? s.views) one ∙ at)) in
       let stages : Inside n ≡ Waiting k = sym inside ∙ (ap (λ (z : P). z.stage) both ∙ is) in
       cc stages
@@ -216,7 +216,7 @@ module _ (T E : Type 0) (steps : ℕ → T → E → T → Type 0) (opened : T) 
   waiting-injective a b e = cc e
 
   enters : (s : S) (r : Rule s) (id k : ℕ) (me : M) → get_elem? s.views id ≡ some me.0 → me.0.stage ≡ Waiting k → slice_index s.words 1 ≡ k
-      → ((y : Slot T E) × (x : T) × (s.homes ≡ some y ∷ []) × (value_in y ≡ some x) × Leads steps opened r.log x × ((by n : ℕ) (u : P) → get_elem? s.views by ≡ some u → u.stage ≢ Inside n))
+      → ((y : Slot T E) × (x : T) × (s.homes ≡ some y ∷ []) × (value_in y ≡ some x) × LeadsByTurns steps opened r.log x × ((by n : ℕ) (u : P) → get_elem? s.views by ≡ some u → u.stage ≢ Inside n))
       → (w : P) × (y : Slot T E) × (get_elem? s.homes 0 ≡ some (some y)) × Rule (stepped s 1 (slice_index s.words 1) id me.1 w (takes 0 y)) × Entered steps me k (w, (0, y) ∷ me.1)
   enters s r id k me at is found t =
       let v : P = me.0 in
@@ -228,7 +228,7 @@ module _ (T E : Type 0) (steps : ℕ → T → E → T → Type 0) (opened : T) 
       let same : slice_set s.words 1 (slice_index s.words 1) ≡ s.words = subst (λ (l : List ℕ). slice_set l 1 (slice_index l 1) ≡ l) (sym r.words) refl in
       let waits : queued v.stage ≡ 1 = ap queued is in
       let unready : readied v.stage ≡ 0 = ap readied is in
-      let led : Stands steps v.opening r.log t.1 = subst (λ (o : Option T). Stands steps o r.log t.1) (sym (fit.opening_is stage.2)) t.4 in (
+      let led : LeadsFromOpening steps v.opening r.log t.1 = subst (λ (o : Option T). LeadsFromOpening steps o r.log t.1) (sym (fit.opening_is stage.2)) t.4 in (
         w,
         y,
         ap (λ (l : List (Opt (Slot T E))). get_elem? l 0) t.2,
@@ -243,10 +243,10 @@ module _ (T E : Type 0) (steps : ℕ → T → E → T → Type 0) (opened : T) 
           parts = omega (arith, total_set parts_of s.views id v w at, r.parts);
           queue = omega (arith, total_set queued_of s.views id v w at, waits, r.queue);
           bound = omega (arith, total_set readied_of s.views id v w at, unready, r.bound);
-          each = stay (Fits opened r.log r.ticket r.cutter r.names seats) s.views id w
+          each = stay (SeatFits opened r.log r.ticket r.cutter r.names seats) s.views id w
               record { opening_is = fit.opening_is; prefix = prefix_self r.log; named = fit.named; cuts = fit.cuts; stage = (sym found ∙ now, stage.1, stage.2, refl) }
               (λ j u _ e. r.each j u e);
-          one_turn = unique_same HasTicket s.views id v w r.one_turn at (λ n h. subst (λ (z : Stage). Holds z n) (sym is) h);
+          one_turn = unique_same HasTicket s.views id v w r.one_turn at (λ n h. subst (λ (z : Stage). HasTicketAt z n) (sym is) h);
           one_name = unique_same HasName s.views id v w r.one_name at (λ n h. h);
           settled = settled_stays r.log r.names s.views id v w at refl (λ p. (p, refl)) r.settled;
           covered = r.covered;
@@ -263,7 +263,7 @@ module _ (T E : Type 0) (steps : ℕ → T → E → T → Type 0) (opened : T) 
           led,
           fit.prefix,
           (fit.named stage.2).1,
-          All-weaker (Settled opened r.log r.names s.views) (HasPart r.log) (λ gone q. (q.prefix, q.own)) v.joined (r.settled id v at),
+          All-weaker (IsJoinedAway opened r.log r.names s.views) (HasPart r.log) (λ gone q. (q.prefix, q.own)) v.joined (r.settled id v at),
         ),
       )
 
@@ -300,7 +300,7 @@ module _ (T E : Type 0) (steps : ℕ → T → E → T → Type 0) (opened : T) 
   noted_injective e f p = cc p
 
   pub notes : (slots id : ℕ) (me : M) (k : ℕ) (e : Snapshot E) → me.0.stage ≡ Inside k → me.1 ≡ (0, Noted e) ∷ []
-      → Allows Rule slots id me 1 (λ n. n) (Notes (step slots 1 0 0 none) me)
+      → Allows Rule slots id me 1 (λ n. n) (NotesStep (step slots 1 0 0 none) me)
   notes slots id me k e is holds s r _ at _ =
       let v : P = me.0 in
       let w : P = noting v e.value in
@@ -321,7 +321,7 @@ module _ (T E : Type 0) (steps : ℕ → T → E → T → Type 0) (opened : T) 
           parts = omega (arith, total_set parts_of s.views id v w at, r.parts);
           queue = omega (arith, total_set queued_of s.views id v w at, r.queue);
           bound = omega (arith, total_set readied_of s.views id v w at, r.bound);
-          each = stay (Fits opened r.log r.ticket r.cutter r.names seats) s.views id w
+          each = stay (SeatFits opened r.log r.ticket r.cutter r.names seats) s.views id w
               record { opening_is = fit.opening_is; prefix = fit.prefix; named = fit.named; cuts = fit.cuts; stage = subst (FitsStage r.log r.ticket w) (sym is) (subst (FitsStage r.log r.ticket v) is fit.stage) }
               (λ j u _ e. r.each j u e);
           one_turn = unique_same HasTicket s.views id v w r.one_turn at (λ n h. h);
@@ -341,7 +341,7 @@ module _ (T E : Type 0) (steps : ℕ → T → E → T → Type 0) (opened : T) 
   leaves_injective x y e f p = cc p
 
   pub goes : (slots id : ℕ) (me : M) (k : ℕ) (x : T) (e : Snapshot E) → me.0.stage ≡ Inside k → me.1 ≡ (0, Leaves x e) ∷ [] → IsAt steps me.0 (me.0.noted ++ e.value ∷ []) x
-      → Allows Rule slots id me 1 (λ n. (n + 1) % 2 ^ 64) (Goes (step slots 1 1 0 none) me)
+      → Allows Rule slots id me 1 (λ n. (n + 1) % 2 ^ 64) (GoesStep (step slots 1 1 0 none) me)
   goes slots id me k x e is holds led s r _ at _ =
       let v : P = me.0 in
       let w : P = left v e.value in
@@ -361,15 +361,15 @@ module _ (T E : Type 0) (steps : ℕ → T → E → T → Type 0) (opened : T) 
       let waits : queued v.stage ≡ 1 = ap queued is in
       let unready : readied v.stage ≡ 0 = ap readied is in
       let fits : (n + 1) % 2 ^ 64 ≡ length log = grind (arith, now, here, under, long, r.bound, r.few) in
-      let mine : Holds v.stage k = subst (λ (z : Stage). Holds z k) (sym is) refl in
-      let other_turn : (j m : ℕ) (u : P) → j ≢ id → get_elem? s.views j ≡ some u → Holds u.stage m → m ≡ k → ⊥ =
-      λ j m u ne a h same. ne (r.one_turn j id k u v a at (subst (Holds u.stage) same h) mine) in
+      let mine : HasTicketAt v.stage k = subst (λ (z : Stage). HasTicketAt z k) (sym is) refl in
+      let other_turn : (j m : ℕ) (u : P) → j ≢ id → get_elem? s.views j ≡ some u → HasTicketAt u.stage m → m ≡ k → ⊥ =
+      λ j m u ne a h same. ne (r.one_turn j id k u v a at (subst (HasTicketAt u.stage) same h) mine) in
       let out : s.homes ≡ none ∷ [] = ⊎_elim (λ t. absurd (t.5 id k v at is)) (λ t. t.0) r.home in
       let back : put_back s.homes me.1 ≡ some (Leaves x e) ∷ [] = (λ i. put_back (out i) (holds i)) in
-      let led' : Leads steps opened log x = subst (λ (o : Option T). Stands steps o log x) (fit.opening_is some_part) (subst (λ (q : List (Entry E)). Stands steps v.opening (q ++ l ∷ []) x) whole (stands-snoc steps v.opening v.seen led.0 x v.by es led.1 led.2)) in
+      let led' : LeadsByTurns steps opened log x = subst (λ (o : Option T). LeadsFromOpening steps o log x) (fit.opening_is some_part) (subst (λ (q : List (Entry E)). LeadsFromOpening steps v.opening (q ++ l ∷ []) x) whole (stands-snoc steps v.opening v.seen led.0 x v.by es led.1 led.2)) in
       let own : entries_of v.by log ≡ v.mine ++ l ∷ [] = entries-same v.by r.log es ∙ ap (λ (q : List (Entry E)). q ++ l ∷ []) named.1 in
-      let settled' : (j : ℕ) (u : P) → get_elem? s.views j ≡ some u → All (Settled opened log r.names s.views) u.joined =
-      λ j u a. All-weaker (Settled opened r.log r.names s.views) (Settled opened log r.names s.views)
+      let settled' : (j : ℕ) (u : P) → get_elem? s.views j ≡ some u → All (IsJoinedAway opened log r.names s.views) u.joined =
+      λ j u a. All-weaker (IsJoinedAway opened r.log r.names s.views) (IsJoinedAway opened log r.names s.views)
       (λ gone t. record {
         opening_is = t.opening_is;
         prefix = prefix_snoc gone.seen r.log l t.prefix;
@@ -392,7 +392,7 @@ module _ (T E : Type 0) (steps : ℕ → T → E → T → Type 0) (opened : T) 
           parts = omega (arith, total_set parts_of s.views id v w at, r.parts);
           queue = omega (arith, total_set queued_of s.views id v w at, waits, long, r.queue);
           bound = omega (arith, total_set readied_of s.views id v w at, unready, r.bound);
-          each = stay (Fits opened log r.ticket r.cutter r.names seats) s.views id w
+          each = stay (SeatFits opened log r.ticket r.cutter r.names seats) s.views id w
               record {
                 opening_is = fit.opening_is;
                 prefix = subst (λ (q : List (Entry E)). IsPrefix (q ++ l ∷ []) log) (sym whole) (prefix_self log);
@@ -421,7 +421,7 @@ module _ (T E : Type 0) (steps : ℕ → T → E → T → Type 0) (opened : T) 
             led',
             λ j m u a. stay (λ (j : ℕ) (u : P). (m : ℕ) → u.stage ≢ Inside m) s.views id w (λ m p. cc p)
                 (λ j u ne a m p. let f : FitsStage r.log r.ticket u (Inside m) = subst (FitsStage r.log r.ticket u) p (r.each j u a).stage in
-                other_turn j m u ne a (subst (λ (z : Stage). Holds z m) (sym p) refl) (f.0 ∙ sym here)) j u a m,
+                other_turn j m u ne a (subst (λ (z : Stage). HasTicketAt z m) (sym p) refl) (f.0 ∙ sym here)) j u a m,
           );
         },
         λ y f also.

@@ -10,7 +10,7 @@ use Rattle.ob_turn.specs.declared.turn.Opened.{Opened}
 use Rattle.ob_turn.specs.declared.turn.Slot.{Slot}
 use Rattle.ob_turn.specs.declared.turn.View.{View}
 use Rattle.ob_turn.specs.declared.turn.Stage.TheVariants.{Idle, Inside}
-use Rattle.ob_turn.specs.History.{entries_of, HasPart, Reaches, Tells}
+use Rattle.ob_turn.specs.History.{entries_of, HasPart, Reaches, TellsSeats}
 use Rattle.ob_turn.specs.TurnRule.{fresh_view, noting, left, both_views}
 
 abbrev pub Turn : Type 0 → Type 0 → Type 0
@@ -21,8 +21,8 @@ TurnSeat T E = Seat (Slot T E) (View T E)
 
 module _ {T E : Type 0} where
   -- the seat is one at this turn
-  abbrev pub IsOf : Turn T E → TurnSeat T E → Type 0
-  IsOf turn seat = seat.table_id ≡ turn.table.shared.table_id
+  abbrev pub IsTurnSeat : Turn T E → TurnSeat T E → Type 0
+  IsTurnSeat turn seat = seat.table_id ≡ turn.table.shared.table_id
 
   -- how many seats the turn was made with
   abbrev pub seats_of : Turn T E → ℕ
@@ -72,22 +72,22 @@ module _ {T E : Type 0} where
     pub value : Reaches steps after.me.0 x
 
   -- The seat's turn goes on: since it began, calls were noted and nothing else changed, and they lead to the value.
-  pub record GoesOn (steps : ℕ → T → E → T → Type 0) (entered now : TurnSeat T E) (x : T) : Type 0 where
+  pub record TurnGoesOn (steps : ℕ → T → E → T → Type 0) (entered now : TurnSeat T E) (x : T) : Type 0 where
     pub same : IsSame entered now
     pub inside : IsInside now
     pub knows : now.me.0 ≡ record entered.me.0 { noted = now.me.0.noted }
     pub value : Reaches steps now.me.0 x
 
   -- the seat of a caller that has seen and done nothing, at a turn that began with x
-  pub record IsFresh (turn : Turn T E) (x : T) (by : ℕ) (seat : TurnSeat T E) : Type 0 where
-    pub own : IsOf turn seat
+  pub record IsFreshSeat (turn : Turn T E) (x : T) (by : ℕ) (seat : TurnSeat T E) : Type 0 where
+    pub own : IsTurnSeat turn seat
     pub knows : seat.me ≡ (fresh_view x by 1 seat.me.0.cuts, [])
 
   -- fresh seats, named by their places
   pub record AreSeats (turn : Turn T E) (x : T) (count : ℕ) (seats : List (TurnSeat T E)) : Type 0 where
     pub told : seats_of turn ≡ count
     pub long : length seats ≡ count
-    pub fresh : (k : ℕ) (d : TurnSeat T E) → k < length seats → IsFresh turn x k (slice_index_or seats k d)
+    pub fresh : (k : ℕ) (d : TurnSeat T E) → k < length seats → IsFreshSeat turn x k (slice_index_or seats k d)
 
   -- these seats are all that there are: they have all parts
   pub record HaveAll (turn : Turn T E) (seats : List (TurnSeat T E)) : Type 0 where
@@ -97,5 +97,5 @@ module _ {T E : Type 0} where
   -- One whole history leads from the opening value to x. It begins with all that each seat, and each that was joined into one, had seen, and has just the entries that it made, each once. There are no others.
   pub record Whole (steps : ℕ → T → E → T → Type 0) (turn : Turn T E) (seats : List (TurnSeat T E)) (x : T) : Type 0 where
     pub log : List (Entry E)
-    pub told : All (λ (s : TurnSeat T E). Tells steps log x s.me.0) seats
+    pub told : All (λ (s : TurnSeat T E). TellsSeats steps log x s.me.0) seats
     pub no_others : (by : ℕ) → seats_of turn ≤ by → entries_of by log ≡ []

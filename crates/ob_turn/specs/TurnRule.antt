@@ -13,8 +13,7 @@ use Rattle.ob_turn.specs.declared.turn.Stage.TheVariants.{Idle, Ready, Waiting, 
 use Rattle.ob_turn.specs.declared.turn.Slot.{Slot}
 use Rattle.ob_turn.specs.declared.turn.Slot.TheVariants.{Rests, Out, Noted, Leaves}
 use Rattle.ob_turn.specs.declared.turn.Joined.{Joined}
-use Rattle.ob_turn.specs.BellHistory.{longer}
-use Rattle.ob_turn.specs.History.{entry, entries_of, HasPart, Leads, Stands}
+use Rattle.ob_turn.specs.History.{entry, longer, entries_of, HasPart, LeadsByTurns, LeadsFromOpening}
 
 -- the value that a slot has, if it has one
 abbrev pub value_in : {T E : Type 0} → Slot T E → Opt T
@@ -37,11 +36,11 @@ readied (Waiting k) = 0
 readied (Inside k) = 0
 
 -- the stage has this ticket
-abbrev pub Holds : Stage → ℕ → Type 0
-Holds Idle k = ⊥
-Holds Ready k = ⊥
-Holds (Waiting n) k = n ≡ k
-Holds (Inside n) k = n ≡ k
+abbrev pub HasTicketAt : Stage → ℕ → Type 0
+HasTicketAt Idle k = ⊥
+HasTicketAt Ready k = ⊥
+HasTicketAt (Waiting n) k = n ≡ k
+HasTicketAt (Inside n) k = n ≡ k
 
 -- the numbers of the views, added up
 abbrev pub total : {V : Type 0} → (V → ℕ) → List V → ℕ
@@ -54,7 +53,7 @@ Unique {V = V} R views = (i j k : ℕ) (v w : V) → get_elem? views i ≡ some 
 
 module _ {T E : Type 0} where
   abbrev pub HasTicket : View T E → ℕ → Type 0
-  HasTicket v k = Holds v.stage k
+  HasTicket v k = HasTicketAt v.stage k
 
   -- the seat is the caller k's
   abbrev pub HasName : View T E → ℕ → Type 0
@@ -80,7 +79,7 @@ module _ {T E : Type 0} where
   FitsStage log ticket v (Inside k) = (k ≡ length log) × (k < ticket) × (0 < v.parts) × (v.seen ≡ log)
 
   -- what a seat knew that was joined away is so, and its caller has no seat any more
-  pub record Settled (opening : T) (log : List (Entry E)) (names : ℕ) (views : List (View T E)) (gone : Joined T E) : Type 0 where
+  pub record IsJoinedAway (opening : T) (log : List (Entry E)) (names : ℕ) (views : List (View T E)) (gone : Joined T E) : Type 0 where
     pub opening_is : gone.opening ≡ Some opening
     pub prefix : IsPrefix gone.seen log
     pub named : gone.by < names
@@ -88,7 +87,7 @@ module _ {T E : Type 0} where
     pub no_seat : (n : ℕ) (u : View T E) → get_elem? views n ≡ some u → 0 < u.parts → u.by ≡ gone.by → ⊥
 
   -- what a seat knows is so
-  pub record Fits (opening : T) (log : List (Entry E)) (ticket cutter names seats by : ℕ) (v : View T E) : Type 0 where
+  pub record SeatFits (opening : T) (log : List (Entry E)) (ticket cutter names seats by : ℕ) (v : View T E) : Type 0 where
     pub opening_is : 0 < v.parts → v.opening ≡ Some opening
     pub prefix : IsPrefix v.seen log
     pub named : 0 < v.parts → (v.by < names) × (entries_of v.by log ≡ v.mine)
@@ -99,12 +98,12 @@ module _ {T E : Type 0} where
     -- the value is at home, and stands for the history, or the one seat whose turn it is has it
     abbrev pub Home : T → List (Entry E) → List (Opt (Slot T E)) → List (View T E) → Type 0
     Home opening log homes views =
-        ((y : Slot T E) × (x : T) × (homes ≡ some y ∷ []) × (value_in y ≡ some x) × Leads steps opening log x
+        ((y : Slot T E) × (x : T) × (homes ≡ some y ∷ []) × (value_in y ≡ some x) × LeadsByTurns steps opening log x
         × ((by k : ℕ) (v : View T E) → get_elem? views by ≡ some v → v.stage ≢ Inside k))
         ⊎ ((homes ≡ none ∷ []) × ((by k : ℕ) × (v : View T E) × (get_elem? views by ≡ some v) × (v.stage ≡ Inside k)))
 
     -- There is one legal history, as long as tickets were served; served tickets and those that seats hold are the tickets drawn; and what each seat knows is so.
-    pub record Kept (opening : T) (seats : ℕ) (s : State (Slot T E) (View T E)) : Type 0 where
+    pub record TurnKept (opening : T) (seats : ℕ) (s : State (Slot T E) (View T E)) : Type 0 where
       pub log : List (Entry E)
       pub ticket : ℕ
       pub cutter : ℕ
@@ -115,12 +114,12 @@ module _ {T E : Type 0} where
       pub parts : total parts_of s.views ≡ seats
       pub queue : length log + total queued_of s.views ≡ ticket
       pub bound : ticket + total readied_of s.views ≤ 2 ^ 63 + seats
-      pub each : (by : ℕ) (v : View T E) → get_elem? s.views by ≡ some v → Fits opening log ticket cutter names seats by v
+      pub each : (by : ℕ) (v : View T E) → get_elem? s.views by ≡ some v → SeatFits opening log ticket cutter names seats by v
       pub one_turn : Unique HasTicket s.views
       pub one_name : Unique HasName s.views
-      pub settled : (by : ℕ) (v : View T E) → get_elem? s.views by ≡ some v → All (Settled opening log names s.views) v.joined
+      pub settled : (by : ℕ) (v : View T E) → get_elem? s.views by ≡ some v → All (IsJoinedAway opening log names s.views) v.joined
       pub covered : names ≤ seats
-      pub legal : (x : T) × Leads steps opening log x
+      pub legal : (x : T) × LeadsByTurns steps opening log x
       pub unnamed : (by : ℕ) → names ≤ by → entries_of by log ≡ []
       pub home : Home opening log s.homes s.views
 
@@ -129,7 +128,7 @@ module _ {T E : Type 0} where
     Entered m k w =
         (y : Slot T E) × (x : T) × (log : List (Entry E))
         × (w ≡ (record m.0 { stage = Inside k; noted = []; seen = log }, (0, y) ∷ m.1))
-        × (value_in y ≡ some x) × Stands steps m.0.opening log x × IsPrefix m.0.seen log × (entries_of m.0.by log ≡ m.0.mine) × All (HasPart log) m.0.joined
+        × (value_in y ≡ some x) × LeadsFromOpening steps m.0.opening log x × IsPrefix m.0.seen log × (entries_of m.0.by log ≡ m.0.mine) × All (HasPart log) m.0.joined
 
     -- a waiting seat enters exactly where its ticket is served
     abbrev pub Watches : Step (Slot T E) → Me (Slot T E) (View T E) → ℕ → Me (Slot T E) (View T E) → Type 0
@@ -146,8 +145,8 @@ module _ {T E : Type 0} where
   abbrev pub noting : View T E → E → View T E
   noting v e = record v { noted = v.noted ++ e ∷ [] }
 
-  abbrev pub Notes : Step (Slot T E) → Me (Slot T E) (View T E) → ℕ → Me (Slot T E) (View T E) → Type 0
-  Notes st m found w = (e : Snapshot E) → m.1 ≡ (0, Noted e) ∷ [] → w ≡ (noting m.0 e.value, m.1)
+  abbrev pub NotesStep : Step (Slot T E) → Me (Slot T E) (View T E) → ℕ → Me (Slot T E) (View T E) → Type 0
+  NotesStep st m found w = (e : Snapshot E) → m.1 ≡ (0, Noted e) ∷ [] → w ≡ (noting m.0 e.value, m.1)
 
   -- the turn's entry, all that it noted and its last call, stands at the end of all that was seen
   abbrev pub left : View T E → E → View T E
@@ -158,8 +157,8 @@ module _ {T E : Type 0} where
     mine = v.mine ++ entry v.by (v.noted ++ e ∷ []) ∷ [];
   }
 
-  abbrev pub Goes : Step (Slot T E) → Me (Slot T E) (View T E) → ℕ → Me (Slot T E) (View T E) → Type 0
-  Goes st m found w = (x : T) (e : Snapshot E) → m.1 ≡ (0, Leaves x e) ∷ [] → (w ≡ (left m.0 e.value, [])) × (entries_of w.0.by w.0.seen ≡ w.0.mine)
+  abbrev pub GoesStep : Step (Slot T E) → Me (Slot T E) (View T E) → ℕ → Me (Slot T E) (View T E) → Type 0
+  GoesStep st m found w = (x : T) (e : Snapshot E) → m.1 ≡ (0, Leaves x e) ∷ [] → (w ≡ (left m.0 e.value, [])) × (entries_of w.0.by w.0.seen ≡ w.0.mine)
 
   -- how the seat is cut off which the others are: the first is done, and the second goes on
   abbrev pub kept_back : View T E → View T E

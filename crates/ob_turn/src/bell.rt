@@ -1,3 +1,5 @@
+//! The bell: a number that only rises, read without a turn.
+
 ghost use Rattle.std.specs.Prelude.{◌≡◌};
 
 use atomic_table::{Join, Play, Seat, Split, Table, TableRule};
@@ -5,8 +7,8 @@ use std::alloc::Global;
 use std::collections::LinkedList;
 
 /// What a seat at a bell knows: how many parts it has, whether it may raise, the numbers that
-/// were raised as far as it was told, and what each seat that was joined into it had been told.
-/// No value of it is made.
+/// were raised as far as it was told, and what it and each seat that was joined into it had been
+/// told when they were joined. No value of it is made.
 pub struct Heard {
     pub parts: u64,
     pub raises: bool,
@@ -20,7 +22,7 @@ pub struct Rising;
 impl TableRule<(), Heard, u32> for Rising {
     ghost use Rattle.ob_turn.specs.BellHistory.{Rung, first_heard};
 
-    ghost holds = { λ _ s. Rung s };
+    ghost holds = { λ seats s. Rung seats s };
 
     ghost first = { first_heard };
 }
@@ -38,20 +40,20 @@ impl Play<(), Heard> for Look {
 pub(crate) struct Add;
 
 impl Play<(), Heard> for Add {
-    ghost use Rattle.ob_turn.specs.BellHistory.{Adds};
+    ghost use Rattle.ob_turn.specs.BellHistory.{AddsNumber};
 
-    ghost then = { Adds };
+    ghost then = { AddsNumber };
 }
 
 // How a part is taken off a seat, and how a seat takes in another.
 pub(crate) struct Part;
 
 impl Split<Heard> for Part {
-    ghost use Rattle.ob_turn.specs.BellHistory.{kept_part, new_part};
+    ghost use Rattle.ob_turn.specs.BellHistory.{kept_part, heard_anew};
 
     ghost left = { kept_part };
 
-    ghost right = { new_part };
+    ghost right = { heard_anew };
 }
 
 impl Join<Heard> for Part {
@@ -71,5 +73,5 @@ pub type BellSeat = Seat<(), Heard>;
 #[derive(Drop)]
 pub struct Bell {
     pub(crate) table: Table<(), Heard, u32, Rising, Global>,
-    ghost one: { table.shared.table_id.words ≡ 1 },
+    ghost one: { (table.shared.table_id.words ≡ 1) × (table.shared.table_id.slots ≡ 0) },
 }

@@ -1,6 +1,8 @@
+//! A turn that is being taken.
+
 ghost use Rattle.std.specs.Prelude.{◌≡◌, ◌++◌, [], ◌∷◌};
 ghost use Rattle.ob_turn.specs.History.{IsAt};
-ghost use Rattle.ob_turn.specs.TurnCalls.{IsOf, IsIdle, IsInside, Enters, NotesCall, EndsTurn};
+ghost use Rattle.ob_turn.specs.TurnCalls.{IsTurnSeat, IsIdle, IsInside, Enters, NotesCall, EndsTurn};
 
 use crate::turn::{Stepped, Turn, TurnSeat};
 use std::snapshot::Snapshot;
@@ -18,10 +20,10 @@ impl<'s, 't, E, T: Stepped<E>> Guard<'s, 't, T, E> {
     /// Notes a call of this turn, behind those that are noted. It waits for nobody and takes no
     /// memory, so a turn may have any number of calls, which are one entry of the history.
     pub fn note(&mut self, call: Snapshot<E>)
-        requires own { IsOf self.old.turn.now self.old.seat.now }
+        requires own { IsTurnSeat self.old.turn.now self.old.seat.now }
         requires inside { IsInside self.old.seat.now }
         ensures noted { NotesCall self.old.seat.now self.new.seat.now call.value }
-        ensures own { IsOf self.new.turn.now self.new.seat.now }
+        ensures own { IsTurnSeat self.new.turn.now self.new.seat.now }
         ensures value { self.new.value ≡ self.old.value }
         ensures seat { self.new.seat.ghost_name ≡ self.old.seat.ghost_name }
     {
@@ -36,10 +38,10 @@ impl<E, T: Stepped<E>> Turn<T, E> {
         rt: &R,
         seat: &'s mut TurnSeat<T, E>,
     ) -> Guard<'s, 't, T, E>
-        requires own { IsOf self.now seat.old }
+        requires own { IsTurnSeat self.now seat.old }
         requires idle { IsIdle seat.old }
         ensures seat { result.seat.ghost_name ≡ seat.entry.ghost_name }
-        ensures own { IsOf result.turn.now result.seat.now }
+        ensures own { IsTurnSeat result.turn.now result.seat.now }
         ensures entered { Enters T.steps seat.old result.seat.now result.value }
     {
         let value = self.take(rt, seat);
@@ -52,9 +54,10 @@ impl<E, T: Stepped<E>> Turn<T, E> {
 
     /// Ends the turn with its last call, as `put` does.
     pub fn leave(guard: Guard<T, E>, last: Snapshot<E>)
-        requires own { IsOf guard.turn.now guard.seat.now }
+        requires own { IsTurnSeat guard.turn.now guard.seat.now }
         requires inside { IsInside guard.seat.now }
-        requires value { IsAt T.steps guard.seat.now.me.0 (guard.seat.now.me.0.noted ++ last.value ∷ []) guard.value }
+        requires value { IsAt T.steps guard.seat.now.me.0
+            (guard.seat.now.me.0.noted ++ last.value ∷ []) guard.value }
         ensures left { EndsTurn guard.entry.seat.now guard.exit.0.now last.value }
     {
         let Guard { seat, turn, value } = guard;

@@ -1,3 +1,5 @@
+//! Words on which waiting callers sleep.
+
 ghost use Rattle.std.specs.Prelude.{◌≤◌, ◌≡◌, length, IfOk};
 
 use std::alloc::{AllocError, Global};

@@ -1,10 +1,12 @@
+//! Turns and bells, alone and by threads.
+
 ghost use Rattle.std.specs.Prelude.{◌≡◌, ◌+◌, ◌-◌, ◌^◌, ◌≤◌, ◌++◌, [], ◌∷◌, ℕ, List, length, map, min, ◌<◌, slice_index_or, true};
 ghost use Rattle.std.specs.List.{All};
 ghost use Rattle.std.specs.Thread.{IsSync};
 ghost use Rattle.ob_turn.specs.declared.tests.Added.{Added};
 ghost use Rattle.ob_turn.specs.BellCalls as bell_calls;
 ghost use Rattle.ob_turn.specs.History.{entry};
-ghost use Rattle.ob_turn.specs.TurnCalls.{IsOf, IsIdle, IsSame};
+ghost use Rattle.ob_turn.specs.TurnCalls.{IsTurnSeat, IsIdle, IsSame};
 
 use crate::{Bell, BellSeat, Stepped, Turn, TurnSeat};
 use ob_base::Memory;
@@ -58,9 +60,9 @@ fn count<R: Wait>(
     seat: &mut TurnSeat<Counter, Added>,
     times: u32,
 )
-    requires own { IsOf turn.now seat.old }
+    requires own { IsTurnSeat turn.now seat.old }
     requires idle { IsIdle seat.old }
-    ensures own { IsOf turn.now seat.new }
+    ensures own { IsTurnSeat turn.now seat.new }
     ensures idle { IsIdle seat.new }
     ensures parts { seat.new.me.0.parts ≡ seat.old.me.0.parts }
 {
@@ -80,12 +82,13 @@ fn add_all<R: Wait>(
     amounts: &[u64],
     last: u64,
 )
-    requires own { IsOf turn.now seat.old }
+    requires own { IsTurnSeat turn.now seat.old }
     requires idle { IsIdle seat.old }
-    ensures own { IsOf turn.now seat.new }
+    ensures own { IsTurnSeat turn.now seat.new }
     ensures idle { IsIdle seat.new }
     ensures parts { seat.new.me.0.parts ≡ seat.old.me.0.parts }
-    ensures one_entry { (calls : List Added) × (map (λ c. c.by) calls ≡ amounts.now ++ last ∷ []) × (seat.new.me.0.mine ≡ seat.old.me.0.mine ++ entry seat.old.me.0.by calls ∷ []) }
+    ensures one_entry { (calls : List Added) × (map (λ c. c.by) calls ≡ amounts.now ++ last ∷ [])
+        × (seat.new.me.0.mine ≡ seat.old.me.0.mine ++ entry seat.old.me.0.by calls ∷ []) }
 {
     let mut value = turn.take(rt, seat);
     for amount in amounts {
@@ -105,20 +108,22 @@ fn count_each<R: Threads + Wait + Sync>(
     seats: &mut [TurnSeat<Counter, Added>],
     times: u32,
 )
-    requires own { All (λ s. IsOf turn.now s) seats.old }
+    requires own { All (λ s. IsTurnSeat turn.now s) seats.old }
     requires idle { All (λ s. IsIdle s) seats.old }
     ensures length { length seats.new ≡ length seats.old }
-    ensures own { All (λ s. IsOf turn.now s) seats.new }
+    ensures own { All (λ s. IsTurnSeat turn.now s) seats.new }
     ensures idle { All (λ s. IsIdle s) seats.new }
-    ensures parts { (k : ℕ) (d : _) → k < length seats.old → (slice_index_or seats.new k d).me.0.parts ≡ (slice_index_or seats.old k d).me.0.parts }
+    ensures parts { (k : ℕ) (d : _) → k < length seats.old
+        → (slice_index_or seats.new k d).me.0.parts ≡ (slice_index_or seats.old k d).me.0.parts }
 {
     thread::for_each_mut(
         rt,
         seats,
         64,
         &|_, seat: &mut TurnSeat<Counter, Added>|
-            requires { IsOf turn.now seat.old × IsIdle seat.old }
-            ensures { IsOf turn.entry.now seat.new × IsIdle seat.new × (seat.new.me.0.parts ≡ seat.old.me.0.parts) }
+            requires { IsTurnSeat turn.now seat.old × IsIdle seat.old }
+            ensures { IsTurnSeat turn.entry.now seat.new × IsIdle seat.new
+                × (seat.new.me.0.parts ≡ seat.old.me.0.parts) }
         { count(rt, turn, seat, times) },
     );
 }
@@ -151,9 +156,9 @@ fn add_two<R: Wait>(
     first: u64,
     second: u64,
 )
-    requires own { IsOf turn.now seat.old }
+    requires own { IsTurnSeat turn.now seat.old }
     requires idle { IsIdle seat.old }
-    ensures own { IsOf turn.now seat.new }
+    ensures own { IsTurnSeat turn.now seat.new }
     ensures idle { IsIdle seat.new }
     ensures parts { seat.new.me.0.parts ≡ seat.old.me.0.parts }
 {
@@ -182,10 +187,10 @@ fn turns_of_many_calls_lead_to_their_sum(rt: HostRuntime) {
 
 // Raises the bell one by one.
 fn raise_to(bell: &Bell, mut seat: BellSeat, top: u64) -> BellSeat
-    requires own { bell_calls.IsOf bell.now seat }
+    requires own { bell_calls.IsBellSeat bell.now seat }
     requires conductor { seat.me.0.raises ≡ true }
     requires unraised { seat.me.0.seen ≡ [] }
-    ensures own { bell_calls.IsOf bell.now result }
+    ensures own { bell_calls.IsBellSeat bell.now result }
 {
     for epoch in 0..top {
         bell.raise(&mut seat, epoch + 1);
@@ -195,8 +200,8 @@ fn raise_to(bell: &Bell, mut seat: BellSeat, top: u64) -> BellSeat
 
 // Whether no reading is below the one before it.
 fn never_falls(bell: &Bell, mut seat: BellSeat, times: u32) -> (BellSeat, bool)
-    requires own { bell_calls.IsOf bell.now seat }
-    ensures own { bell_calls.IsOf bell.now result.0 }
+    requires own { bell_calls.IsBellSeat bell.now seat }
+    ensures own { bell_calls.IsBellSeat bell.now result.0 }
     ensures never { result.1 ≡ true }
 {
     let mut last = 0;
@@ -217,10 +222,10 @@ fn raise_beside<R: Threads + Sync>(
     mut seat: BellSeat,
     top: u64,
 ) -> (BellSeat, bool)
-    requires own { bell_calls.IsOf bell.now seat }
+    requires own { bell_calls.IsBellSeat bell.now seat }
     requires conductor { (seat.me.0.raises ≡ true) × (3 ≤ seat.me.0.parts) }
     requires unraised { seat.me.0.seen ≡ [] }
-    ensures own { bell_calls.IsOf bell.now result.0 }
+    ensures own { bell_calls.IsBellSeat bell.now result.0 }
     ensures never { result.1 ≡ true }
 {
     let one = bell.split(&mut seat);
@@ -228,22 +233,26 @@ fn raise_beside<R: Threads + Sync>(
     let (mut seat, ((one, first), (two, second))) = join(
         rt,
         move || -> BellSeat
-            requires { bell_calls.IsOf bell.now seat × (seat.me.0.raises ≡ true) × (seat.me.0.seen ≡ []) }
-            ensures { bell_calls.IsOf bell.entry.now result }
+            requires { bell_calls.IsBellSeat bell.now seat × (seat.me.0.raises ≡ true)
+                × (seat.me.0.seen ≡ []) }
+            ensures { bell_calls.IsBellSeat bell.entry.now result }
         { raise_to(bell, seat, top) },
         move || -> ((BellSeat, bool), (BellSeat, bool))
-            requires { IsSync R.row × bell_calls.IsOf bell.now one × bell_calls.IsOf bell.now two }
-            ensures { bell_calls.IsOf bell.entry.now result.0.0 × bell_calls.IsOf bell.entry.now result.1.0 × (result.0.1 ≡ true) × (result.1.1 ≡ true) }
+            requires { IsSync R.row × bell_calls.IsBellSeat bell.now one
+                × bell_calls.IsBellSeat bell.now two }
+            ensures { bell_calls.IsBellSeat bell.entry.now result.0.0
+                × bell_calls.IsBellSeat bell.entry.now result.1.0 × (result.0.1 ≡ true)
+                × (result.1.1 ≡ true) }
         {
             join(
                 rt,
                 move || -> (BellSeat, bool)
-                    requires { bell_calls.IsOf bell.now one }
-                    ensures { bell_calls.IsOf bell.entry.now result.0 × (result.1 ≡ true) }
+                    requires { bell_calls.IsBellSeat bell.now one }
+                    ensures { bell_calls.IsBellSeat bell.entry.now result.0 × (result.1 ≡ true) }
                 { never_falls(bell, one, 500) },
                 move || -> (BellSeat, bool)
-                    requires { bell_calls.IsOf bell.now two }
-                    ensures { bell_calls.IsOf bell.entry.now result.0 × (result.1 ≡ true) }
+                    requires { bell_calls.IsBellSeat bell.now two }
+                    ensures { bell_calls.IsBellSeat bell.entry.now result.0 × (result.1 ≡ true) }
                 { never_falls(bell, two, 500) },
             )
         },
@@ -261,6 +270,21 @@ fn a_bell_that_one_thread_raises_never_falls(rt: HostRuntime) {
     let (mut seat, never) = raise_beside(&rt, &bell, seat, 500);
     assert!(rt; never);
     assert_eq!(rt; bell.durable(&mut seat), 500);
+}
+
+// What a reader is told, and the end of the bell, once it took in the seat that raised.
+fn close_raised(alloc: Global, epoch: u64) -> Result<(u64, u64), Memory> {
+    let (bell, mut seat) = Bell::new(alloc, 2)?;
+    let mut other = bell.split(&mut seat);
+    bell.raise(&mut seat, epoch);
+    let told = bell.durable(&mut other);
+    bell.join(&mut other, seat);
+    Ok((told, bell.close_with(other)))
+}
+
+#[test]
+fn a_closed_bell_tells_the_last_number(rt: HostRuntime) {
+    assert_eq!(rt; close_raised(rt.alloc(), 7), Ok((7, 7)));
 }
 
 // A turn and a bell side by side, as a session layer holds them: generic in its parts.

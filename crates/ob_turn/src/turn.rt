@@ -1,3 +1,5 @@
+//! A turn: one history, and who may add to it.
+
 ghost use Rattle.std.specs.Prelude.{◌≡◌, ℕ};
 
 use crate::sleepers::Sleepers;
@@ -72,9 +74,9 @@ pub struct Opened<T> {
 pub struct OneHistory;
 
 impl<E, T: Stepped<E>> TableRule<Slot<T, E>, View<T, E>, Opened<T>> for OneHistory {
-    ghost use Rattle.ob_turn.specs.TurnRule.{Kept, first_view};
+    ghost use Rattle.ob_turn.specs.TurnRule.{TurnKept, first_view};
 
-    ghost holds = { λ k s. Kept T.steps k.value.value k.seats s };
+    ghost holds = { λ k s. TurnKept T.steps k.value.value k.seats s };
 
     ghost first = { λ k. first_view k.value.value k.seats };
 }
@@ -110,18 +112,18 @@ impl<E, T: Stepped<E>> Play<Slot<T, E>, View<T, E>> for Watch {
 pub(crate) struct Note;
 
 impl<E, T: Stepped<E>> Play<Slot<T, E>, View<T, E>> for Note {
-    ghost use Rattle.ob_turn.specs.TurnRule.{Notes};
+    ghost use Rattle.ob_turn.specs.TurnRule.{NotesStep};
 
-    ghost then = { Notes };
+    ghost then = { NotesStep };
 }
 
 // The next ticket is served.
 pub(crate) struct Go;
 
 impl<E, T: Stepped<E>> Play<Slot<T, E>, View<T, E>> for Go {
-    ghost use Rattle.ob_turn.specs.TurnRule.{Goes};
+    ghost use Rattle.ob_turn.specs.TurnRule.{GoesStep};
 
-    ghost then = { Goes };
+    ghost then = { GoesStep };
 }
 
 // How the seats of a new turn are cut, and how a seat takes in another.

@@ -1,7 +1,9 @@
+//! A turn's calls: drawn, waited for, served.
+
 ghost use Rattle.std.specs.Prelude.{◌≡◌, ◌<◌, ◌≤◌, ◌++◌, [], ◌∷◌, true, IfOk};
 ghost use Rattle.ob_turn.specs.History.{IsAt};
 ghost use Rattle.ob_turn.specs.TurnRule.{staged, Entered, kept_back, handed_on};
-ghost use Rattle.ob_turn.specs.TurnCalls.{IsOf, IsSame, IsIdle, IsInside, AreSeats, Enters, NotesCall, EndsTurn, Joins};
+ghost use Rattle.ob_turn.specs.TurnCalls.{IsTurnSeat, IsSame, IsIdle, IsInside, AreSeats, Enters, NotesCall, EndsTurn, Joins};
 ghost use Rattle.ob_turn.specs.declared.turn.Stage.TheVariants.{Idle, Waiting};
 
 use crate::sleepers::Sleepers;
@@ -20,7 +22,7 @@ const LAST: u64 = 1 << 63;
 impl<E, T: Stepped<E>> Turn<T, E> {
     // Draws a ticket. It waits for good once they are used up.
     fn draw<R: Wait>(&self, rt: &R, seat: &mut TurnSeat<T, E>) -> u64
-        requires own { IsOf self.now seat.old }
+        requires own { IsTurnSeat self.now seat.old }
         requires idle { (seat.old.me.0.stage ≡ Idle) × (0 < seat.old.me.0.parts) }
         ensures same { IsSame seat.old seat.new }
         ensures drawn { seat.new.me ≡ (staged seat.old.me.0 (Waiting result), seat.old.me.1) }
@@ -35,7 +37,7 @@ impl<E, T: Stepped<E>> Turn<T, E> {
 
     // Waits until the ticket is served, and takes the slot.
     fn wait<R: Wait>(&self, rt: &R, seat: &mut TurnSeat<T, E>, ticket: u64)
-        requires own { IsOf self.now seat.old }
+        requires own { IsTurnSeat self.now seat.old }
         requires waiting { seat.old.me.0.stage ≡ Waiting ticket }
         ensures same { IsSame seat.old seat.new }
         ensures entered { Entered T.steps seat.old.me ticket seat.new.me }
@@ -63,7 +65,7 @@ impl<E, T: Stepped<E>> Turn<T, E> {
     /// that finds the seat's ticket served: the seat has then seen the whole history, which leads
     /// to the value. It waits for good once `2^63` tickets are drawn. `enter` makes a guard of it.
     pub fn take<R: Wait>(&self, rt: &R, seat: &mut TurnSeat<T, E>) -> T
-        requires own { IsOf self.now seat.old }
+        requires own { IsTurnSeat self.now seat.old }
         requires idle { IsIdle seat.old }
         ensures entered { Enters T.steps seat.old seat.new result }
     {
@@ -80,7 +82,7 @@ impl<E, T: Stepped<E>> Turn<T, E> {
     /// Notes a call of this turn, behind those that are noted. It waits for nobody and takes no
     /// memory, so a turn may have any number of calls, which are one entry of the history.
     pub fn note(&self, seat: &mut TurnSeat<T, E>, call: Snapshot<E>)
-        requires own { IsOf self.now seat.old }
+        requires own { IsTurnSeat self.now seat.old }
         requires inside { IsInside seat.old }
         ensures noted { NotesCall seat.old seat.new call.value }
     {
@@ -94,7 +96,7 @@ impl<E, T: Stepped<E>> Turn<T, E> {
     /// the caller with the next ticket, and makes no system call where none was drawn. `leave` does
     /// it with a guard.
     pub fn put(&self, seat: &mut TurnSeat<T, E>, value: T, last: Snapshot<E>)
-        requires own { IsOf self.now seat.old }
+        requires own { IsTurnSeat self.now seat.old }
         requires inside { IsInside seat.old }
         requires value { IsAt T.steps seat.old.me.0 (seat.old.me.0.noted ++ last.value ∷ []) value }
         ensures left { EndsTurn seat.old seat.new last.value }
@@ -107,8 +109,9 @@ impl<E, T: Stepped<E>> Turn<T, E> {
 
     // Cuts off the seat that is done. The other goes on.
     fn cut(&self, seat: &mut TurnSeat<T, E>) -> TurnSeat<T, E>
-        requires own { IsOf self.now seat.old }
-        requires cuts { (seat.old.me.0.stage ≡ Idle) × (seat.old.me.0.cuts ≡ true) × (2 ≤ seat.old.me.0.parts) }
+        requires own { IsTurnSeat self.now seat.old }
+        requires cuts { (seat.old.me.0.stage ≡ Idle) × (seat.old.me.0.cuts ≡ true)
+            × (2 ≤ seat.old.me.0.parts) }
         ensures same { IsSame seat.old seat.new × (result.table_id ≡ seat.old.table_id) }
         ensures kept { seat.new.me ≡ (kept_back seat.old.me.0, seat.old.me.1) }
         ensures given { result.me ≡ (handed_on seat.old.me.0, []) }
@@ -164,7 +167,7 @@ impl<E, T: Stepped<E>> Turn<T, E> {
 
     /// Takes in another seat, with its parts. The seat then knows what the other had seen and made.
     pub fn join(&self, seat: &mut TurnSeat<T, E>, other: TurnSeat<T, E>)
-        requires own { IsOf self.now seat.old × IsOf self.now other }
+        requires own { IsTurnSeat self.now seat.old × IsTurnSeat self.now other }
         requires idle { IsIdle seat.old × IsIdle other }
         ensures joined { Joins seat.old other seat.new }
     {

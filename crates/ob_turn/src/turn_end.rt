@@ -1,13 +1,15 @@
+//! The end of a turn: the value is given back.
+
 ghost use Rattle.std.specs.Prelude.{◌≡◌, [], ◌∷◌};
 ghost use Rattle.std.specs.List.{All};
-ghost use Rattle.ob_turn.specs.TurnCalls.{IsOf, IsIdle, HaveAll, Whole};
+ghost use Rattle.ob_turn.specs.TurnCalls.{IsTurnSeat, IsIdle, HaveAll, Whole};
 
 use crate::turn::{Board, Slot, Stepped, Turn, TurnSeat};
 
 impl<E, T: Stepped<E>> Turn<T, E> {
     /// The value at the end, to the seat that took in all others.
     pub fn close_with(self, seat: TurnSeat<T, E>) -> T
-        requires own { IsOf self seat }
+        requires own { IsTurnSeat self seat }
         requires idle { IsIdle seat }
         requires all { HaveAll self (seat ∷ []) }
         ensures whole { Whole T.steps self (seat ∷ []) result }
@@ -26,7 +28,7 @@ impl<E, T: Stepped<E>> Turn<T, E> {
 
     /// The value at the end, to which the whole history leads. It takes no memory.
     pub fn close(self, mut seats: Vec<TurnSeat<T, E>>) -> T
-        requires own { All (λ s. IsOf self s) seats.items }
+        requires own { All (λ s. IsTurnSeat self s) seats.items }
         requires idle { All (λ s. IsIdle s) seats.items }
         requires all { HaveAll self seats.items }
         ensures whole { Whole T.steps self seats.items result }

@@ -3,9 +3,9 @@ use Rattle.std.proofs.Common.{◌≡◌, ◌⊎◌, inl, inr, ⊎_elim, ℕ, zer
 use Rattle.std.proofs.lemmas.Bool.{cases_eq}
 use Rattle.ob_base.specs.declared.fault.Damaged.{Damaged}
 use Rattle.ob_store.specs.Disk.{Image}
-use Rattle.ob_twin.specs.Bodies.{Tagging, IsWhole, number_of}
+use Rattle.ob_twin.specs.Bodies.{Tagging, IsWholeBody, number_of}
 use Rattle.ob_twin.specs.Register.{body_at, gate_at, place_of, IsOpen, number_at, StandsAt}
-use Rattle.ob_twin.specs.Reading.{IsDamage, IsPlace, AllWhole, IsRead, greater}
+use Rattle.ob_twin.specs.Reading.{IsTwinDamage, IsPlace, AllWhole, IsRead, greater}
 
 pub at_place : (Q : ℕ → Type 0) → Q 0 → Q 1 → (place : ℕ) → place < 2 → Q place
 at_place Q a b zero lt = a
@@ -17,17 +17,17 @@ module _ (tag : Tagging) (first place cell : ℕ) (image : Image) (gate body : L
   pub place_none : IsPlace tag cell gate body (Ok None) → IsOpen first image place → ⊥
   place_none shut opened = shut (gate_is ∙ opened)
 
-  pub place_some : (n : ℕ) → IsPlace tag cell gate body (Ok (Some n)) → IsOpen first image place × IsWhole tag (body_at first place) (image (body_at first place)) × (number_at first image place ≡ n)
+  pub place_some : (n : ℕ) → IsPlace tag cell gate body (Ok (Some n)) → IsOpen first image place × IsWholeBody tag (body_at first place) (image (body_at first place)) × (number_at first image place ≡ n)
   place_some n p = (
     sym gate_is ∙ p.0,
-    subst (λ (l : List ℕ). IsWhole tag (body_at first place) l) body_is (subst (λ k. IsWhole tag k body) at p.1),
+    subst (λ (l : List ℕ). IsWholeBody tag (body_at first place) l) body_is (subst (λ k. IsWholeBody tag k body) at p.1),
     sym (p.2 ∙ ap number_of body_is),
   )
 
-  pub place_err : (d : Damaged) → IsPlace tag cell gate body (Err d) → IsOpen first image place × IsDamage tag (body_at first place) (image (body_at first place)) d
+  pub place_err : (d : Damaged) → IsPlace tag cell gate body (Err d) → IsOpen first image place × IsTwinDamage tag (body_at first place) (image (body_at first place)) d
   place_err d p = (
     sym gate_is ∙ p.0,
-    subst (λ (l : List ℕ). IsDamage tag (body_at first place) l d) body_is (subst (λ k. IsDamage tag k body d) at p.1),
+    subst (λ (l : List ℕ). IsTwinDamage tag (body_at first place) l d) body_is (subst (λ k. IsTwinDamage tag k body d) at p.1),
   )
 
 module _ (tag : Tagging) (first a b : ℕ) (image : Image) (gz bz go bo : List ℕ) (at_zero : a ≡ body_at first 0) (at_one : b ≡ body_at first 1)
@@ -37,11 +37,11 @@ module _ (tag : Tagging) (first a b : ℕ) (image : Image) (gz bz go bo : List �
       let here = place_err tag first 0 a image gz bz at_zero bz_is gz_is d p in
       (0, omega arith, here.0, here.1, λ earlier lt _. absurd (omega arith))
 
-  whole_zero : (o : Option ℕ) → IsPlace tag a gz bz (Ok o) → IsOpen first image 0 → IsWhole tag (body_at first 0) (image (body_at first 0))
+  whole_zero : (o : Option ℕ) → IsPlace tag a gz bz (Ok o) → IsOpen first image 0 → IsWholeBody tag (body_at first 0) (image (body_at first 0))
   whole_zero None p opened = absurd (place_none tag first 0 a image gz bz at_zero bz_is gz_is p opened)
   whole_zero (Some n) p opened = (place_some tag first 0 a image gz bz at_zero bz_is gz_is n p).1
 
-  whole_one : (o : Option ℕ) → IsPlace tag b go bo (Ok o) → IsOpen first image 1 → IsWhole tag (body_at first 1) (image (body_at first 1))
+  whole_one : (o : Option ℕ) → IsPlace tag b go bo (Ok o) → IsOpen first image 1 → IsWholeBody tag (body_at first 1) (image (body_at first 1))
   whole_one None p opened = absurd (place_none tag first 1 b image go bo at_one bo_is go_is p opened)
   whole_one (Some n) p opened = (place_some tag first 1 b image go bo at_one bo_is go_is n p).1
 
@@ -50,11 +50,11 @@ module _ (tag : Tagging) (first a b : ℕ) (image : Image) (gz bz go bo : List �
       let here = place_err tag first 1 b image go bo at_one bo_is go_is d q in
       (1, omega arith, here.0, here.1, λ earlier lt. only_zero earlier lt)
     where
-      only_zero : (earlier : ℕ) → earlier < 1 → IsOpen first image earlier → IsWhole tag (body_at first earlier) (image (body_at first earlier))
-      only_zero earlier lt = let none : 0 ≡ earlier = omega arith in subst (λ k. IsOpen first image k → IsWhole tag (body_at first k) (image (body_at first k))) none (whole_zero low p)
+      only_zero : (earlier : ℕ) → earlier < 1 → IsOpen first image earlier → IsWholeBody tag (body_at first earlier) (image (body_at first earlier))
+      only_zero earlier lt = let none : 0 ≡ earlier = omega arith in subst (λ k. IsOpen first image k → IsWholeBody tag (body_at first k) (image (body_at first k))) none (whole_zero low p)
 
   all_whole : (low high : Option ℕ) → IsPlace tag a gz bz (Ok low) → IsPlace tag b go bo (Ok high) → AllWhole tag first image
-  all_whole low high p q = at_place (λ k. IsOpen first image k → IsWhole tag (body_at first k) (image (body_at first k))) (whole_zero low p) (whole_one high q)
+  all_whole low high p q = at_place (λ k. IsOpen first image k → IsWholeBody tag (body_at first k) (image (body_at first k))) (whole_zero low p) (whole_one high q)
 
   pub both_read : (low high : Option ℕ) → IsPlace tag a gz bz (Ok low) → IsPlace tag b go bo (Ok high) → IsRead tag first image (Ok (greater low high))
   both_read None None p q =
@@ -90,17 +90,17 @@ module _ (tag : Tagging) (first n : ℕ) (image : Image) (stands : StandsAt tag 
   either_place : (place : ℕ) → place < 2 → (place ≡ place_of n) ⊎ (place ≡ place_of (n + 1))
   either_place place lt = ⊎_elim (λ e. inl e) (λ ne. inr (omega arith)) (cases_eq place (n % 2))
 
-  at_or_under : (place : ℕ) → place < 2 → IsOpen first image place → IsWhole tag (body_at first place) (image (body_at first place)) × (number_at first image place ≤ n)
+  at_or_under : (place : ℕ) → place < 2 → IsOpen first image place → IsWholeBody tag (body_at first place) (image (body_at first place)) × (number_at first image place ≤ n)
   at_or_under place lt opened = ⊎_elim
       (λ (e : place ≡ place_of n).
       let number = stands.number in
       let small = stands.small in
-      subst (λ k. IsWhole tag (body_at first k) (image (body_at first k)) × (number_at first image k ≤ n)) (sym e) ((stands.stamped, omega arith), omega arith))
+      subst (λ k. IsWholeBody tag (body_at first k) (image (body_at first k)) × (number_at first image k ≤ n)) (sym e) ((stands.stamped, omega arith), omega arith))
       (λ (e : place ≡ place_of (n + 1)).
       let small = stands.small in
       let under = stands.other (subst (λ k. IsOpen first image k) e opened) in
       let le = under.1 in
-      subst (λ k. IsWhole tag (body_at first k) (image (body_at first k)) × (number_at first image k ≤ n)) (sym e) ((under.0, omega arith), le))
+      subst (λ k. IsWholeBody tag (body_at first k) (image (body_at first k)) × (number_at first image k ≤ n)) (sym e) ((under.0, omega arith), le))
       (either_place place lt)
 
   pub read_at : (r : Result (Option ℕ) Damaged) → IsRead tag first image r → r ≡ Ok (Some n)

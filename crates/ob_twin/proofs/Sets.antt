@@ -6,7 +6,7 @@ use Rattle.ob_store.specs.declared.event.Event.{Event}
 use Rattle.ob_store.specs.declared.watch.Note.{Note}
 use Rattle.ob_store.specs.declared.watch.Note.TheVariants.{Write, Sync}
 use Rattle.ob_store.specs.Disk.{Disk, Image}
-use Rattle.ob_store.specs.Images.{SameBut, Settled, LeavesOnly}
+use Rattle.ob_store.specs.Images.{SameBut, IsSynced, LeavesOnly}
 use Rattle.ob_store.specs.Lines.{Trace}
 use Rattle.ob_store.specs.Told.{Tells, IsCut, TellsFirst, Does, if_well}
 use Rattle.ob_store.proofs.Moments.{weakened}
@@ -73,7 +73,7 @@ pub put_stands : (tag : Tagging) (first n : ℕ) (from image : Image) → n < 2 
 put_stands tag first n from image small under put = new_one tag first n from small under image put.rest put.opened put.body
 
 -- and so is every image of a store where no write waits
-pub put_everywhere : (tag : Tagging) (first n : ℕ) (from : Image) (new : Disk) → n < 2 ^ 62 → IsUnder tag first from (place_of (n + 1)) n → IsPut tag first from n new.cells → Settled new → (c : Image) → new.may_leave c → KeepsAt tag first from n c
+pub put_everywhere : (tag : Tagging) (first n : ℕ) (from : Image) (new : Disk) → n < 2 ^ 62 → IsUnder tag first from (place_of (n + 1)) n → IsPut tag first from n new.cells → IsSynced new → (c : Image) → new.may_leave c → KeepsAt tag first from n c
 put_everywhere tag first n from new small under put settled c left = kept_everywhere tag first n from c new.cells (settled c left) (put_stands tag first n from new.cells small under put)
 
 -- What a refused set leaves, by its answer.

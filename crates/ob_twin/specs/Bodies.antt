@@ -38,8 +38,8 @@ abbrev pub body_of : Tagging → ℕ → ℕ → List ℕ
 body_of tag cell n = plain_of n ++ tag cell (plain_of n)
 
 -- a body that obeys its rules
-abbrev pub IsWhole : Tagging → ℕ → List ℕ → Type 0
-IsWhole tag cell body = IsStamped tag cell body × (number_of body < 2 ^ 62)
+abbrev pub IsWholeBody : Tagging → ℕ → List ℕ → Type 0
+IsWholeBody tag cell body = IsStamped tag cell body × (number_of body < 2 ^ 62)
 
 -- the number is too great: told are the number, and 0 as the least that the rule allows
 pub record IsTooGreat (cell : ℕ) (body : List ℕ) (damaged : Damaged) : Type 0 where

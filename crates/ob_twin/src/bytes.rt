@@ -1,3 +1,5 @@
+//! The bytes of gates and bodies.
+
 ghost use Rattle.std.specs.Prelude.{◌≡◌, ◌↔◌, IsTrue};
 ghost use Rattle.ob_twin.specs.Bodies.{open_gate, closed_gate, number_of, plain_of};
 

@@ -1,3 +1,5 @@
+//! Which gates of the registers are known to be open.
+
 ghost use Rattle.std.specs.Prelude.{◌≡◌, false};
 
 /// Which gates of a register are known to be open.

@@ -1,3 +1,5 @@
+//! Reading a register.
+
 ghost use Rattle.std.specs.Prelude.{◌≡◌, ◌<◌, ◌≤◌, ◌+◌, ◌^◌, ◌++◌, ℕ, [], ◌∷◌, Some, Ok, Err, take, replicate, IfOk, IfSome, OnOk, OnErr, IfErr, is_ok};
 ghost use Rattle.ob_base.specs.Causes.{HasCause};
 ghost use Rattle.ob_base.specs.declared.fault.Check.TheVariants as check;
@@ -5,9 +7,9 @@ ghost use Rattle.ob_store.specs.Disk.{Image};
 ghost use Rattle.ob_store.specs.Images.{Same, Shrinks, Passes};
 ghost use Rattle.ob_store.specs.Calls.{Serves, IsFailed, IsStoreFault, Keeps, TellsOn};
 ghost use Rattle.ob_store.specs.Told.{Does};
-ghost use Rattle.ob_twin.specs.Bodies.{open_gate, number_of, IsWhole};
+ghost use Rattle.ob_twin.specs.Bodies.{open_gate, number_of, IsWholeBody};
 ghost use Rattle.ob_twin.specs.Register.{first_of, body_at, gate_at, StandsAt};
-ghost use Rattle.ob_twin.specs.Reading.{IsDamage, IsPlace, IsRead, IsGot, IsGetFault, greater};
+ghost use Rattle.ob_twin.specs.Reading.{IsTwinDamage, IsPlace, IsRead, IsGot, IsGetFault, greater};
 ghost use Rattle.ob_twin.specs.Opening.{known_of, with_known, GatesAre};
 ghost use Rattle.ob_twin.specs.Orders.{get_notes};
 ghost use Rattle.ob_twin.specs.Got.{IsOkOr, IsGates, DoesReads};
@@ -35,12 +37,17 @@ fn read_cells<S: Store, W: Watch>(
     watch: &mut W,
 ) -> Result<(), Failed>
     requires { first < 16 }
-    ensures body_zero { (S.disk store.now).tells → OnOk result (cells.new.body_zero ≡ (S.disk store.now).cells (body_at first 0)) }
-    ensures gate_zero { (S.disk store.now).tells → OnOk result (cells.new.gate_zero ≡ (S.disk store.now).cells (gate_at first 0)) }
-    ensures body_one { (S.disk store.now).tells → OnOk result (cells.new.body_one ≡ (S.disk store.now).cells (body_at first 1)) }
-    ensures gate_one { (S.disk store.now).tells → OnOk result (cells.new.gate_one ≡ (S.disk store.now).cells (gate_at first 1)) }
+    ensures body_zero { (S.disk store.now).tells
+        → OnOk result (cells.new.body_zero ≡ (S.disk store.now).cells (body_at first 0)) }
+    ensures gate_zero { (S.disk store.now).tells
+        → OnOk result (cells.new.gate_zero ≡ (S.disk store.now).cells (gate_at first 0)) }
+    ensures body_one { (S.disk store.now).tells
+        → OnOk result (cells.new.body_one ≡ (S.disk store.now).cells (body_at first 1)) }
+    ensures gate_one { (S.disk store.now).tells
+        → OnOk result (cells.new.gate_one ≡ (S.disk store.now).cells (gate_at first 1)) }
     ensures cause { HasCause (S.lane_faults lane.old) (S.lane_faults lane.new) result }
-    ensures does { Does (get_notes first) (S.lane_seen lane.old) (S.lane_seen lane.new) (W.trace watch.old) (W.trace watch.new) result }
+    ensures does { Does (get_notes first) (S.lane_seen lane.old) (S.lane_seen lane.new)
+        (W.trace watch.old) (W.trace watch.new) result }
 {
     read_noted(store, lane, first, &mut cells.body_zero, watch)?;
     read_noted(store, lane, first + 1, &mut cells.gate_zero, watch)?;
@@ -60,11 +67,16 @@ fn read_register<S: Store, W: Watch>(
     ensures keeps { Keeps (S.disk store.old) (S.disk store.new) }
     ensures crash { Shrinks (S.disk store.old) (S.disk store.new) }
     ensures passes { Passes Same (S.disk store.old) (S.disk store.new) }
-    ensures body_zero { (S.disk store.old).tells → OnOk result (cells.new.body_zero ≡ (S.disk store.old).cells (body_at first 0)) }
-    ensures gate_zero { (S.disk store.old).tells → OnOk result (cells.new.gate_zero ≡ (S.disk store.old).cells (gate_at first 0)) }
-    ensures body_one { (S.disk store.old).tells → OnOk result (cells.new.body_one ≡ (S.disk store.old).cells (body_at first 1)) }
-    ensures gate_one { (S.disk store.old).tells → OnOk result (cells.new.gate_one ≡ (S.disk store.old).cells (gate_at first 1)) }
-    ensures does { Does (get_notes first) (S.disk store.old).seen (S.disk store.new).seen (W.trace watch.old) (W.trace watch.new) result }
+    ensures body_zero { (S.disk store.old).tells
+        → OnOk result (cells.new.body_zero ≡ (S.disk store.old).cells (body_at first 0)) }
+    ensures gate_zero { (S.disk store.old).tells
+        → OnOk result (cells.new.gate_zero ≡ (S.disk store.old).cells (gate_at first 0)) }
+    ensures body_one { (S.disk store.old).tells
+        → OnOk result (cells.new.body_one ≡ (S.disk store.old).cells (body_at first 1)) }
+    ensures gate_one { (S.disk store.old).tells
+        → OnOk result (cells.new.gate_one ≡ (S.disk store.old).cells (gate_at first 1)) }
+    ensures does { Does (get_notes first) (S.disk store.old).seen (S.disk store.new).seen
+        (W.trace watch.old) (W.trace watch.new) result }
 {
     let mut lane = store.lane()?;
     let outcome = read_cells(store, &mut lane, first, cells, watch);
@@ -94,7 +106,13 @@ fn number_in<T: Stamper>(
 
 // The number of a body is too great.
 fn too_great(cell: u64, body: &[u8; 128]) -> Damaged
-    ensures { result ≡ record { cell = cell; check = check.Form; kept = take 8 body.now ++ replicate 8 0; computed = replicate 16 0 } }
+    ensures { result
+        ≡ record {
+          cell = cell;
+          check = check.Form;
+          kept = take 8 body.now ++ replicate 8 0;
+          computed = replicate 16 0;
+        } }
 {
     let mut kept = [0; 16];
     kept[..8].copy_from_slice(&body[..8]);
@@ -120,7 +138,10 @@ fn greater(a: Option<u64>, b: Option<u64>) -> Option<u64>
 // What the four cells tell.
 fn judge<T: Stamper>(stamper: &T, first: u64, cells: &Cells) -> Result<Option<u64>, Damaged>
     requires { first < 16 }
-    ensures read { (image : Image) → cells.now.body_zero ≡ image (body_at first 0) → cells.now.gate_zero ≡ image (gate_at first 0) → cells.now.body_one ≡ image (body_at first 1) → cells.now.gate_one ≡ image (gate_at first 1)
+    ensures read { (image : Image) → cells.now.body_zero ≡ image (body_at first 0)
+        → cells.now.gate_zero ≡ image (gate_at first 0)
+        → cells.now.body_one ≡ image (body_at first 1)
+        → cells.now.gate_one ≡ image (gate_at first 1)
         → IsRead (T.tag stamper.now) first image result }
     ensures below { IfOk result (λ number. IfSome number (λ n. n < 2 ^ 62)) }
 {
@@ -151,16 +172,21 @@ impl Twin {
     ) -> Result<Option<u64>, Fault>
         ensures serves { Serves IsStoreFault (S.disk store.old) (S.disk store.new) result }
         ensures faults { IfErr result IsGetFault }
-        ensures value { (S.disk store.old).tells → IsGot (T.tag stamper.now) (first_of self) (S.disk store.old).cells result }
+        ensures value { (S.disk store.old).tells
+            → IsGot (T.tag stamper.now) (first_of self) (S.disk store.old).cells result }
         ensures below { IfOk result (λ number. IfSome number (λ n. n < 2 ^ 62)) }
         // A register that stands at a number gives it.
-        ensures stands { (n : ℕ) → (S.disk store.old).tells → StandsAt (T.tag stamper.now) (first_of self) (S.disk store.old).cells n → IsOkOr (Some n) IsStoreFault result }
-        ensures gates { (S.disk store.old).tells → IsGates self gates.old gates.new (S.disk store.old).cells result }
+        ensures stands { (n : ℕ) → (S.disk store.old).tells
+            → StandsAt (T.tag stamper.now) (first_of self) (S.disk store.old).cells n
+            → IsOkOr (Some n) IsStoreFault result }
+        ensures gates { (S.disk store.old).tells
+            → IsGates self gates.old gates.new (S.disk store.old).cells result }
         ensures keeps { Keeps (S.disk store.old) (S.disk store.new) }
         ensures crash { Shrinks (S.disk store.old) (S.disk store.new) }
         // A crash at any moment leaves what it might have left before.
         ensures passes { Passes Same (S.disk store.old) (S.disk store.new) }
-        ensures does { DoesReads (get_notes (first_of self)) (S.disk store.old).seen (S.disk store.new).seen (W.trace watch.old) (W.trace watch.new) result }
+        ensures does { DoesReads (get_notes (first_of self)) (S.disk store.old).seen
+            (S.disk store.new).seen (W.trace watch.old) (W.trace watch.new) result }
     {
         let first = self.first();
         let mut cells = Cells {

@@ -1,3 +1,5 @@
+//! Stamps by a store's keys.
+
 ghost use Rattle.std.specs.Prelude.{◌≡◌};
 
 use crate::Stamper;

@@ -1,8 +1,11 @@
+//! What is known of a register's gates, as it changes.
+
 ghost use Rattle.std.specs.Prelude.{◌≡◌, ◌<◌};
 ghost use Rattle.ob_twin.specs.Opening.{known_of, with_known, is_marked, with_mark, is_closed_first};
 
 use crate::{Gates, Open, Twin};
 
+/// What is known of the gates of one register.
 pub fn known_of(twin: Twin, gates: &Gates) -> Open
     ensures { result ≡ known_of twin gates.now }
 {
@@ -12,6 +15,7 @@ pub fn known_of(twin: Twin, gates: &Gates) -> Open
     }
 }
 
+/// Changes what is known of the gates of one register.
 pub fn set_known(twin: Twin, gates: &mut Gates, known: Open)
     ensures { gates.new ≡ with_known twin gates.old known }
 {

@@ -1,3 +1,5 @@
+//! Why a set was refused.
+
 use ob_base::Fault;
 
 /// Why a set was refused: before the write that opens the gate, or there or at the sync after it.

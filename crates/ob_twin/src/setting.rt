@@ -1,6 +1,8 @@
+//! Setting a register.
+
 ghost use Rattle.std.specs.Prelude.{◌≡◌, ◌≢◌, ◌<◌, ◌+◌, ◌%◌, ◌^◌, ◌≤◌, ℕ, [], OnOk, OnErr, IfErr, IsTrue, if◌then◌else◌};
 ghost use Rattle.ob_store.specs.Disk.{Image};
-ghost use Rattle.ob_store.specs.Images.{Settled, SameBut, LeavesOnly, Passes};
+ghost use Rattle.ob_store.specs.Images.{IsSynced, SameBut, LeavesOnly, Passes};
 ghost use Rattle.ob_store.specs.Calls.{Serves, IsFailed};
 ghost use Rattle.ob_store.specs.Told.{Does};
 ghost use Rattle.ob_twin.specs.Bodies.{open_gate};
@@ -23,14 +25,21 @@ fn close<S: Store, W: Watch>(
     watch: &mut W,
 ) -> Result<(), Failed>
     requires none_out { (S.disk store.old).out ≡ 0 }
-    requires told { (S.disk store.old).tells → (IsTrue closes → ⊥) → (S.disk store.old).cells gate ≢ open_gate }
+    requires told { (S.disk store.old).tells → (IsTrue closes → ⊥)
+        → (S.disk store.old).cells gate ≢ open_gate }
     ensures serves { Serves IsFailed (S.disk store.old) (S.disk store.new) result }
-    ensures shut { (S.disk store.old).tells → OnOk result ((S.disk store.new).cells gate ≢ open_gate) }
-    ensures rest { (S.disk store.old).tells → SameBut gate (S.disk store.new).cells (S.disk store.old).cells }
-    ensures durable { (S.disk store.old).tells → Settled (S.disk store.old) → OnOk result (Settled (S.disk store.new)) }
-    ensures any_moment { Settled (S.disk store.old) → LeavesOnly (S.disk store.old) (S.disk store.new) (λ c. IsTornOnly closes gate c (S.disk store.old).cells) }
+    ensures shut { (S.disk store.old).tells
+        → OnOk result ((S.disk store.new).cells gate ≢ open_gate) }
+    ensures rest { (S.disk store.old).tells
+        → SameBut gate (S.disk store.new).cells (S.disk store.old).cells }
+    ensures durable { (S.disk store.old).tells → IsSynced (S.disk store.old)
+        → OnOk result (IsSynced (S.disk store.new)) }
+    ensures any_moment { IsSynced (S.disk store.old)
+        → LeavesOnly (S.disk store.old) (S.disk store.new)
+        (λ c. IsTornOnly closes gate c (S.disk store.old).cells) }
     ensures passes { Passes (SameBut gate) (S.disk store.old) (S.disk store.new) }
-    ensures does { Does (if closes then through_notes gate else []) (S.disk store.old).seen (S.disk store.new).seen (W.trace watch.old) (W.trace watch.new) result }
+    ensures does { Does (if closes then through_notes gate else []) (S.disk store.old).seen
+        (S.disk store.new).seen (W.trace watch.old) (W.trace watch.new) result }
 {
     if closes {
         return write_through(store, gate, &closed_gate(), watch);
@@ -50,15 +59,25 @@ fn prepare<S: Store, T: Stamper, W: Watch>(
     requires none_out { (S.disk store.old).out ≡ 0 }
     requires small { n < 2 ^ 62 }
     requires low { first < 16 }
-    requires told { (S.disk store.old).tells → (IsTrue closes → ⊥) → IsOpen first (S.disk store.old).cells (place_of n) → ⊥ }
+    requires told { (S.disk store.old).tells → (IsTrue closes → ⊥)
+        → IsOpen first (S.disk store.old).cells (place_of n) → ⊥ }
     ensures serves { Serves IsFailed (S.disk store.old) (S.disk store.new) result }
-    ensures done { (S.disk store.old).tells → OnOk result (IsPrepared (T.tag stamper.now) first (S.disk store.old).cells n (S.disk store.new).cells) }
-    ensures rest { (S.disk store.old).tells → SameTwo (body_at first (place_of n)) (gate_at first (place_of n)) (S.disk store.new).cells (S.disk store.old).cells }
+    ensures done { (S.disk store.old).tells
+        → OnOk result (IsPrepared (T.tag stamper.now) first (S.disk store.old).cells n
+        (S.disk store.new).cells) }
+    ensures rest { (S.disk store.old).tells
+        → SameTwo (body_at first (place_of n)) (gate_at first (place_of n)) (S.disk store.new).cells
+        (S.disk store.old).cells }
     ensures passes { Passes (SameOutside first) (S.disk store.old) (S.disk store.new) }
-    ensures durable { (S.disk store.old).tells → OnOk result (Settled (S.disk store.new)) }
-    ensures any_moment { (m : ℕ) → n ≡ m + 1 → (S.disk store.old).tells → (IsTrue closes → IsOpen first (S.disk store.old).cells (place_of n)) → Settled (S.disk store.old) → StandsAt (T.tag stamper.now) first (S.disk store.old).cells m
-        → LeavesOnly (S.disk store.old) (S.disk store.new) (KeepsAt (T.tag stamper.now) first (S.disk store.old).cells m) }
-    ensures does { Does (prepare_notes closes first n) (S.disk store.old).seen (S.disk store.new).seen (W.trace watch.old) (W.trace watch.new) result }
+    ensures durable { (S.disk store.old).tells → OnOk result (IsSynced (S.disk store.new)) }
+    ensures any_moment { (m : ℕ) → n ≡ m + 1 → (S.disk store.old).tells
+        → (IsTrue closes → IsOpen first (S.disk store.old).cells (place_of n))
+        → IsSynced (S.disk store.old)
+        → StandsAt (T.tag stamper.now) first (S.disk store.old).cells m
+        → LeavesOnly (S.disk store.old) (S.disk store.new)
+        (KeepsAt (T.tag stamper.now) first (S.disk store.old).cells m) }
+    ensures does { Does (prepare_notes closes first n) (S.disk store.old).seen
+        (S.disk store.new).seen (W.trace watch.old) (W.trace watch.new) result }
 {
     let body = first + 2 * (n % 2);
     close(store, closes, body + 1, watch)?;
@@ -69,12 +88,17 @@ fn prepare<S: Store, T: Stamper, W: Watch>(
 fn open<S: Store, W: Watch>(store: &mut S, gate: u64, watch: &mut W) -> Result<(), Failed>
     requires none_out { (S.disk store.old).out ≡ 0 }
     ensures serves { Serves IsFailed (S.disk store.old) (S.disk store.new) result }
-    ensures opened { (S.disk store.old).tells → OnOk result ((S.disk store.new).cells gate ≡ open_gate) }
-    ensures rest { (S.disk store.old).tells → SameBut gate (S.disk store.new).cells (S.disk store.old).cells }
-    ensures durable { (S.disk store.old).tells → OnOk result (Settled (S.disk store.new)) }
+    ensures opened { (S.disk store.old).tells
+        → OnOk result ((S.disk store.new).cells gate ≡ open_gate) }
+    ensures rest { (S.disk store.old).tells
+        → SameBut gate (S.disk store.new).cells (S.disk store.old).cells }
+    ensures durable { (S.disk store.old).tells → OnOk result (IsSynced (S.disk store.new)) }
     ensures passes { Passes (SameBut gate) (S.disk store.old) (S.disk store.new) }
-    ensures any_moment { Settled (S.disk store.old) → LeavesOnly (S.disk store.old) (S.disk store.new) (λ c. SameBut gate c (S.disk store.old).cells) }
-    ensures does { GateDoes gate (S.disk store.old).seen (S.disk store.new).seen (W.trace watch.old) (W.trace watch.new) result }
+    ensures any_moment { IsSynced (S.disk store.old)
+        → LeavesOnly (S.disk store.old) (S.disk store.new)
+        (λ c. SameBut gate c (S.disk store.old).cells) }
+    ensures does { GateDoes gate (S.disk store.old).seen (S.disk store.new).seen (W.trace watch.old)
+        (W.trace watch.new) result }
 {
     write_noted(store, gate, &open_gate(), watch)?;
     sync_noted(store, watch)
@@ -91,16 +115,26 @@ fn put<S: Store, T: Stamper, W: Watch>(
 ) -> Result<(), SetErr>
     requires none_out { (S.disk store.old).out ≡ 0 }
     requires small { n < 2 ^ 62 }
-    requires told { (S.disk store.old).tells → (IsTrue closes → ⊥) → IsOpen (first_of twin) (S.disk store.old).cells (place_of n) → ⊥ }
+    requires told { (S.disk store.old).tells → (IsTrue closes → ⊥)
+        → IsOpen (first_of twin) (S.disk store.old).cells (place_of n) → ⊥ }
     ensures serves { Serves (IsSetFault twin n) (S.disk store.old) (S.disk store.new) result }
     ensures faults { IfErr result (IsSetFault twin n) }
-    ensures done { (S.disk store.old).tells → OnOk result (IsPut (T.tag stamper.now) (first_of twin) (S.disk store.old).cells n (S.disk store.new).cells) }
-    ensures rest { (S.disk store.old).tells → SameTwo (body_at (first_of twin) (place_of n)) (gate_at (first_of twin) (place_of n)) (S.disk store.new).cells (S.disk store.old).cells }
+    ensures done { (S.disk store.old).tells
+        → OnOk result (IsPut (T.tag stamper.now) (first_of twin) (S.disk store.old).cells n
+        (S.disk store.new).cells) }
+    ensures rest { (S.disk store.old).tells
+        → SameTwo (body_at (first_of twin) (place_of n)) (gate_at (first_of twin) (place_of n))
+        (S.disk store.new).cells (S.disk store.old).cells }
     ensures passes { Passes (SameOutside (first_of twin)) (S.disk store.old) (S.disk store.new) }
-    ensures durable { (S.disk store.old).tells → OnOk result (Settled (S.disk store.new)) }
-    ensures any_moment { (m : ℕ) → n ≡ m + 1 → (S.disk store.old).tells → (IsTrue closes → IsOpen (first_of twin) (S.disk store.old).cells (place_of n)) → Settled (S.disk store.old) → StandsAt (T.tag stamper.now) (first_of twin) (S.disk store.old).cells m
-        → LeavesOnly (S.disk store.old) (S.disk store.new) (SetLeaves (T.tag stamper.now) (first_of twin) (S.disk store.old).cells m n result) }
-    ensures does { SetDoes closes (first_of twin) n (S.disk store.old).seen (S.disk store.new).seen (W.trace watch.old) (W.trace watch.new) result }
+    ensures durable { (S.disk store.old).tells → OnOk result (IsSynced (S.disk store.new)) }
+    ensures any_moment { (m : ℕ) → n ≡ m + 1 → (S.disk store.old).tells
+        → (IsTrue closes → IsOpen (first_of twin) (S.disk store.old).cells (place_of n))
+        → IsSynced (S.disk store.old)
+        → StandsAt (T.tag stamper.now) (first_of twin) (S.disk store.old).cells m
+        → LeavesOnly (S.disk store.old) (S.disk store.new)
+        (SetLeaves (T.tag stamper.now) (first_of twin) (S.disk store.old).cells m n result) }
+    ensures does { SetDoes closes (first_of twin) n (S.disk store.old).seen (S.disk store.new).seen
+        (W.trace watch.old) (W.trace watch.new) result }
 {
     let first = twin.first();
     match prepare(store, stamper, closes, first, n, watch) {
@@ -144,26 +178,41 @@ impl Twin {
     ) -> Result<(), SetErr>
         requires none_out { (S.disk store.old).out ≡ 0 }
         requires small { n < 2 ^ 62 }
-        requires told { (S.disk store.old).tells → GatesAre (known_of self gates.old) (first_of self) (S.disk store.old).cells }
+        requires told { (S.disk store.old).tells
+            → GatesAre (known_of self gates.old) (first_of self) (S.disk store.old).cells }
         ensures serves { Serves (IsSetFault self n) (S.disk store.old) (S.disk store.new) result }
         ensures faults { IfErr result (IsSetFault self n) }
         // Once it is done, the number's body, each byte of it, stands under an open gate.
-        ensures done { (S.disk store.old).tells → OnOk result (IsPut (T.tag stamper.now) (first_of self) (S.disk store.old).cells n (S.disk store.new).cells) }
+        ensures done { (S.disk store.old).tells
+            → OnOk result (IsPut (T.tag stamper.now) (first_of self) (S.disk store.old).cells n
+            (S.disk store.new).cells) }
         // No other cell changes.
-        ensures rest { (S.disk store.old).tells → SameOutside (first_of self) (S.disk store.new).cells (S.disk store.old).cells }
+        ensures rest { (S.disk store.old).tells
+            → SameOutside (first_of self) (S.disk store.new).cells (S.disk store.old).cells }
         // A crash at any moment leaves no other cell changed.
-        ensures passes { Passes (SameOutside (first_of self)) (S.disk store.old) (S.disk store.new) }
-        ensures durable { (S.disk store.old).tells → OnOk result (Settled (S.disk store.new)) }
+        ensures passes { Passes (SameOutside (first_of self)) (S.disk store.old)
+            (S.disk store.new) }
+        ensures durable { (S.disk store.old).tells → OnOk result (IsSynced (S.disk store.new)) }
         // Once it is done, each image stands at the new number.
-        ensures reads_new { (S.disk store.old).tells → IsUnder (T.tag stamper.now) (first_of self) (S.disk store.old).cells (place_of (n + 1)) n
-            → OnOk result ((c : Image) → (S.disk store.new).may_leave c → KeepsAt (T.tag stamper.now) (first_of self) (S.disk store.old).cells n c) }
+        ensures reads_new { (S.disk store.old).tells
+            → IsUnder (T.tag stamper.now) (first_of self) (S.disk store.old).cells
+            (place_of (n + 1)) n
+            → OnOk result ((c : Image) → (S.disk store.new).may_leave c
+            → KeepsAt (T.tag stamper.now) (first_of self) (S.disk store.old).cells n c) }
         // A crash at any moment leaves the old number or the new one; the old one where it was refused before the gate.
-        ensures old_or_new { (m : ℕ) → n ≡ m + 1 → (S.disk store.old).tells → Settled (S.disk store.old) → StandsAt (T.tag stamper.now) (first_of self) (S.disk store.old).cells m
-            → LeavesOnly (S.disk store.old) (S.disk store.new) (SetLeaves (T.tag stamper.now) (first_of self) (S.disk store.old).cells m n result) }
+        ensures old_or_new { (m : ℕ) → n ≡ m + 1 → (S.disk store.old).tells
+            → IsSynced (S.disk store.old)
+            → StandsAt (T.tag stamper.now) (first_of self) (S.disk store.old).cells m
+            → LeavesOnly (S.disk store.old) (S.disk store.new)
+            (SetLeaves (T.tag stamper.now) (first_of self) (S.disk store.old).cells m n result) }
         ensures gates { gates.new ≡ gates_set self n gates.old result }
-        ensures tell { (S.disk store.old).tells → OnOk result (GatesAre (known_of self gates.new) (first_of self) (S.disk store.new).cells) }
+        ensures tell { (S.disk store.old).tells
+            → OnOk result (GatesAre (known_of self gates.new) (first_of self)
+            (S.disk store.new).cells) }
         // The order of its writes and syncs. It is unsure only where the gate was written.
-        ensures does { SetDoes (is_closed_first (known_of self gates.old) (place_of n)) (first_of self) n (S.disk store.old).seen (S.disk store.new).seen (W.trace watch.old) (W.trace watch.new) result }
+        ensures does { SetDoes (is_closed_first (known_of self gates.old) (place_of n))
+            (first_of self) n (S.disk store.old).seen (S.disk store.new).seen (W.trace watch.old)
+            (W.trace watch.new) result }
     {
         let known = known_of(self, gates);
         let place = n % 2;

@@ -1,3 +1,5 @@
+//! Who stamps cells.
+
 ghost use Rattle.std.specs.Prelude.{◌≡◌, ◌++◌, ℕ, List, take, IfOk, IfErr};
 
 use ob_base::Damaged;
@@ -18,6 +20,7 @@ pub trait Stamper {
     /// # Errors
     /// The cell is damaged: its tag is another than the one that was computed.
     fn unstamp(&self, cell: u64, bytes: &[u8; 128]) -> Result<[u8; 112], Damaged>
-        ensures plain { IfOk result (λ plain. (plain ≡ take 112 bytes.now) × IsStamped (tag self.now) cell bytes.now) }
+        ensures plain { IfOk result (λ plain. (plain ≡ take 112 bytes.now)
+            × IsStamped (tag self.now) cell bytes.now) }
         ensures damaged { IfErr result (λ d. IsMisstamped (tag self.now) cell bytes.now d) };
 }

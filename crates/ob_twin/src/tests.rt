@@ -1,3 +1,5 @@
+//! Registers at each moment of a set.
+
 ghost use Rattle.std.specs.Prelude.{◌≡◌, ℕ};
 ghost use Rattle.ob_mem.specs.Replay.{zeros};
 ghost use Rattle.ob_mem.specs.Memory.{disk_of_store};

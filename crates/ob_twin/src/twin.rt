@@ -1,3 +1,5 @@
+//! The two-place registers of a store.
+
 ghost use Rattle.std.specs.Prelude.{◌≡◌};
 
 use ob_base::{EPOCH_CELL, GENERATION_CELL};

@@ -1,3 +1,5 @@
+//! Stamps of zeros, for a store without keys.
+
 ghost use Rattle.std.specs.Prelude.{◌≡◌, ◌↔◌, IsTrue, take, drop, replicate};
 
 use crate::Stamper;

@@ -11,7 +11,7 @@ use Rattle.ob_base.specs.declared.job.Job.{Job}
 use Rattle.ob_base.specs.declared.fault.Damaged.{Damaged}
 use Rattle.ob_ring.specs.FlatTable.{FlatTable, Row, Spot, InStash, In, spot_of, asks_for}
 use Rattle.ob_ring.specs.Picked.{Picked}
-use Rattle.ob_ring.specs.Settling.{Rows, row_value, fault_at, fault_of, or_else, first_fault, with_row, rows_after}
+use Rattle.ob_ring.specs.Settling.{Rows, row_value, fault_at, job_damage, or_else, first_fault, with_row, rows_after}
 use Rattle.ob_taken.specs.Takes.{is_present, spots, is_picked, AreOwn, Takes, KeepsKeys}
 use Rattle.ob_content.specs.Spelling.{slot_bytes}
 use Rattle.ob_taken.specs.Values.{Values}
@@ -67,7 +67,7 @@ key_fault : (slots : ℕ → ℕ → List ℕ) (m : Values) (q : Picked) (cell :
 key_fault slots m q cell None h = refl
 key_fault slots m q cell (Some k) h = let s : IsSpelled slots m q k = h k refl in rw s.spelled (no_fault cell k s.value s.low s.short)
 
-job_fault : (slots : ℕ → ℕ → List ℕ) (m : Values) (q : Picked) (j : Job) → ((k : ℕ) → q.key ≡ Some k → IsSpelled slots m q k) → j.key ≡ q.key → j.result ≡ Some (slots q.bucket q.index) → fault_of j ≡ None
+job_fault : (slots : ℕ → ℕ → List ℕ) (m : Values) (q : Picked) (j : Job) → ((k : ℕ) → q.key ≡ Some k → IsSpelled slots m q k) → j.key ≡ q.key → j.result ≡ Some (slots q.bucket q.index) → job_damage j ≡ None
 job_fault slots m q j h e f = (λ i. fault_at j.cell (e i) (f i)) ∙ key_fault slots m q j.cell q.key h
 
 pub get_insert : (rows : Rows) (a : ℕ) (v : List ℕ) (k : ℕ) → finite.get (finite.insert rows a v) k ≡ cond (k == a) (Some v) (finite.get rows k)

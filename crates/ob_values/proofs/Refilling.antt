@@ -12,7 +12,7 @@ use Rattle.ob_values.proofs.Spelling.{plain_is_spelled}
 same_bucket : (s : Spot) (u j v i : ℕ) → s ≡ In u j → s ≡ In v i → u ≡ v
 same_bucket s u j v i e f = let x : In u j ≡ In v i = sym e ∙ f in cc
 
-stash_not : (s : Spot) (u j : ℕ) → s ≡ InStash → s ≡ In u j → ⊥
+pub stash_not : (s : Spot) (u j : ℕ) → s ≡ InStash → s ≡ In u j → ⊥
 stash_not s u j e f = let x : InStash ≡ In u j = sym e ∙ f in absurd (cc)
 
 pub refill_carries : RefillCarries

@@ -7,7 +7,7 @@ use Rattle.std.proofs.lemmas.Bool.{eqb-true}
 use Rattle.ob_base.specs.declared.params.Params.{Params}
 use Rattle.ob_base.specs.declared.value.Write.{Write}
 use Rattle.ob_tables.specs.declared.entry.Entry.{Entry}
-use Rattle.ob_ring.specs.FlatTable.{FlatTable, Row, InStash, In, spot_of, written, write}
+use Rattle.ob_ring.specs.FlatTable.{FlatTable, Row, InStash, In, spot_of, written_row, write}
 use Rattle.ob_ring.specs.Settling.{Rows}
 use Rattle.ob_ring.specs.Writing.{leaf_of_write, with_value}
 use Rattle.ob_taken.specs.Takes.{is_present}
@@ -21,11 +21,11 @@ get_value : (rows : Rows) (key : ℕ) (o : Option (List ℕ)) (k : ℕ) → fini
 get_value rows key None k = get_remove rows key k
 get_value rows key (Some v) k = get_insert rows key v k
 
-written_present : (o : Option (List ℕ)) (own : Entry) → is_present (written (leaf_of_write o own)) ≡ is_present o
+written_present : (o : Option (List ℕ)) (own : Entry) → is_present (written_row (leaf_of_write o own)) ≡ is_present o
 written_present None own = refl
 written_present (Some v) own = refl
 
-written_spot : (o : Option ℕ) → spot_of (written o) ≡ InStash
+written_spot : (o : Option ℕ) → spot_of (written_row o) ≡ InStash
 written_spot None = refl
 written_spot (Some x) = refl
 
@@ -41,10 +41,11 @@ record IsCarried (p : Params) (slots : ℕ → ℕ → List ℕ) (k : ℕ) (r : 
 carried : (p : Params) (t : FlatTable) (rows : Rows) (slots : ℕ → ℕ → List ℕ) (m : Values) (k : ℕ) → Carries p t rows slots m → IsCarried p slots k (t.rows k) (finite.get rows k) (m k)
 carried p t rows slots m k c = record { low = c.low k; keys = c.keys k; short = c.short k; held = c.held k; others = c.others k; placed = c.placed k }
 
-in_both : (o : Option ℕ) (u j : ℕ) → spot_of (written o) ≡ In u j → InStash ≡ In u j
+in_both : (o : Option ℕ) (u j : ℕ) → spot_of (written_row o) ≡ In u j → InStash ≡ In u j
 in_both o u j e = sym (written_spot o) ∙ e
 
-write_case : (p : Params) (slots : ℕ → ℕ → List ℕ) (k key : ℕ) (o : Option (List ℕ)) (own : Entry) (r : Option Row) (held value : Option (List ℕ)) (b : Bool) → (k == key) ≡ b → key < p.keys → ((v : List ℕ) → o ≡ Some v → length v ≤ 64) → IsCarried p slots k r held value → IsCarried p slots k (cond b (written (leaf_of_write o own)) r) (cond b o held) (cond b o value)
+write_case : (p : Params) (slots : ℕ → ℕ → List ℕ) (k key : ℕ) (o : Option (List ℕ)) (own : Entry) (r : Option Row) (held value : Option (List ℕ)) (b : Bool) → (k == key) ≡ b → key < p.keys → ((v : List ℕ) → o ≡ Some v → length v ≤ 64) → IsCarried p slots k r
+    held value → IsCarried p slots k (cond b (written_row (leaf_of_write o own)) r) (cond b o held) (cond b o value)
 write_case p slots k key o own r held value true is low short c = record {
   low = λ e. subst (λ (x : ℕ). x < p.keys) (sym (eqb-true k key is)) low;
   keys = written_present o own;
@@ -58,7 +59,8 @@ write_case p slots k key o own r held value true is low short c = record {
     no_spot u j e = absurd (cc)
 write_case p slots k key o own r held value false is low short c = c
 
-one_write : (p : Params) (t : FlatTable) (w : Write) (own : Entry) (rows : Rows) (slots : ℕ → ℕ → List ℕ) (m : Values) → w.key < p.keys → ((v : List ℕ) → w.value ≡ Some v → length v ≤ 64) → Carries p t rows slots m → Carries p (write t w.key (leaf_of_write w.value own)) (with_value rows w.key w.value) slots (with_write m w)
+one_write : (p : Params) (t : FlatTable) (w : Write) (own : Entry) (rows : Rows) (slots : ℕ → ℕ → List ℕ) (m : Values) → w.key < p.keys → ((v : List ℕ) → w.value ≡ Some v → length v ≤ 64) → Carries p t rows slots m → Carries p
+    (write t w.key (leaf_of_write w.value own)) (with_value rows w.key w.value) slots (with_write m w)
 one_write p t w own rows slots m low short c =
     let all : (k : ℕ) → IsCarried p slots k ((write t w.key (leaf_of_write w.value own)).rows k) (finite.get (with_value rows w.key w.value) k) (with_write m w k) = λ k.
     subst (λ (x : Option (List ℕ)). IsCarried p slots k ((write t w.key (leaf_of_write w.value own)).rows k) x (with_write m w k)) (sym (get_value rows w.key w.value k))

@@ -1,3 +1,5 @@
+//! Each law is called once.
+
 use crate::{
     batch_carries, buckets_go, epochs_are_met, epochs_follow, fetch_is_answered, jobs_are_read,
     lifts_carry, plain_is_spelled, refill_carries, refill_is_written, sampled, stash_counts,

@@ -3,14 +3,15 @@ use Rattle.std.proofs.Common.{◌≡◌, ℕ, zero, suc, max, ◌<◌, ◌≤◌
 use Rattle.std.proofs.lemmas.Bool.{cases_eq, false≢true}
 use Rattle.std.specs.Option.{option_or}
 use Rattle.std.proofs.lemmas.Option.{none-some, same_Some}
-use Rattle.ob_order.specs.Works.{Get, Work, is_going, goes_on, at_ticket, edit, with_op, add_op, version, version_in, newest, source_of, mark, write_of, last_write, is_get_of}
+use Rattle.ob_order.specs.Works.{Get, Work, is_going, goes_on, at_ticket, edit, with_op, add_op, version, version_in, newest, source_of, mark, last_write, is_get_of}
 use Rattle.ob_order.specs.declared.answers.Version.{Version}
 use Rattle.ob_order.specs.Order.{write_op}
 use Rattle.ob_order.specs.Chains.{IsMark, Sourced}
 use Rattle.ob_order.proofs.Edits.{at_edit_same, at_edit_other, length-edit, last_write-push}
 use Rattle.ob_order.proofs.Newest.{by_option, newest_own, newest_lower, version-with_op}
-use Rattle.ob_order.proofs.Falls.{ops_at}
+use Rattle.ob_order.proofs.Falls.{fallen_edit}
 use Rattle.ob_order.proofs.Links.{conflict_alike, mark_at_put}
+use Rattle.ob_order.proofs.Counts.{other_written, own_written}
 use Rattle.ob_chains.specs.declared.chain.Link.{Link}
 use Rattle.ob_chains.specs.Chains.{IsNewest}
 use Rattle.ob_chains.specs.Tables.{raised}
@@ -138,14 +139,6 @@ index_got_base ws links links' base base' t k r h above within same_links raises
 }
 
 -- a write that passed the test
-other_write : (k : ℕ) (v : Option (List ℕ)) (j : ℕ) → (k ≡ j → ⊥) → write_of (write_op k v) j ≡ None
-other_write k None j h = ap (λ b. if b then Some None else None) (ne_eqb j k (λ e. h (sym e)))
-other_write k (Some v) j h = ap (λ b. if b then Some (Some v) else None) (ne_eqb j k (λ e. h (sym e)))
-
-own_write : (k : ℕ) (v : Option (List ℕ)) → write_of (write_op k v) k ≡ Some v
-own_write k None = ap (λ b. if b then Some None else None) (eq-eqb k k refl)
-own_write k (Some v) = ap (λ b. if b then Some (Some v) else None) (eq-eqb k k refl)
-
 no_get : (k : ℕ) (v : Option (List ℕ)) (j q : ℕ) → is_get_of j q (write_op k v) ≡ false
 no_get k None j q = refl
 no_get k (Some v) j q = refl
@@ -159,12 +152,12 @@ version_wrote ws t k v going = ap (option_and_then (λ w. version_in w k)) (at_e
 
     step : (o : Option Work) → unwrap_or (option_map (λ w. is_going w.fate) o) false ≡ true → option_and_then (λ w. version_in w k) (option_map (add_op (write_op k v)) o) ≡ Some v
     step None e = absurd (false≢true e)
-    step (Some w) e = by_fate (is_going w.fate) (last_write (w.ops ++ write_op k v ∷ []) k) e (last_write-push w.ops (write_op k v) k ∙ ap (λ a. option_or a (last_write w.ops k)) (own_write k v))
+    step (Some w) e = by_fate (is_going w.fate) (last_write (w.ops ++ write_op k v ∷ []) k) e (last_write-push w.ops (write_op k v) k ∙ ap (λ a. option_or a (last_write w.ops k)) (own_written k v))
 
 version_beside : (ws : List Work) (t k : ℕ) (v : Option (List ℕ)) (j u : ℕ) → ((k ≡ j) × (t ≡ u) → ⊥) → version (with_op ws t (write_op k v)) u j ≡ version ws u j
 version_beside ws t k v j u h = ⊎_elim
     (λ same. ap (option_and_then (λ w. version_in w j)) (at_edit_other (add_op (write_op k v)) ws t u (λ e. h (same, sym e))))
-    (λ other. version-with_op ws t (write_op k v) j (other_write k v j other) u)
+    (λ other. version-with_op ws t (write_op k v) j (other_written k v j (λ e. other (sym e))) u)
     (cases_eq k j)
 
 covered_write : (ws : List Work) (t k : ℕ) → Sourced ws → goes_on ws t ≡ true → mark ws k (source_of (newest ws t k)) ≤ t → mark ws k t ≤ t
@@ -213,15 +206,5 @@ index_ended ws links links' base base' f t h keeps ends takes same_bases = recor
     ended j None = refl
     ended j (Some w) = by_fate (is_going (f w).fate) (last_write (f w).ops j) (ends w)
 
-    ops_kept : (o : Option Work) → option_map (λ w. w.ops) (option_map f o) ≡ option_map (λ w. w.ops) o
-    ops_kept None = refl
-    ops_kept (Some w) = ap Some (keeps w)
-
-    same_ops : (u : ℕ) → ops_at (edit f ws t) u ≡ ops_at ws u
-    same_ops u = ⊎_elim
-        (λ same. subst (λ q. ops_at (edit f ws t) q ≡ ops_at ws q) (sym same) (ap (option_map (λ w. w.ops)) (at_edit_same f ws t) ∙ ops_kept (at_ticket ws t)))
-        (λ other. ap (option_map (λ w. w.ops)) (at_edit_other f ws t u other))
-        (cases_eq u t)
-
     same_marks : (j u : ℕ) → mark (edit f ws t) j u ≡ mark ws j u
-    same_marks j u = mark_same_ops ws (edit f ws t) same_ops (length-edit f ws t) j u
+    same_marks j u = mark_same_ops ws (edit f ws t) (fallen_edit f ws t keeps (λ w e. absurd (false≢true (sym (ends w) ∙ e)))).same_ops (length-edit f ws t) j u

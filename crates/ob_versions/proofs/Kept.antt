@@ -1,5 +1,6 @@
 -- What each call keeps of a ledger.
-use Rattle.std.proofs.Common.{◌≡◌, ℕ, zero, suc, ◌+◌, ◌-◌, ◌<◌, ◌≤◌, Bool, true, false, not, ◌==◌, ◌&&◌, nat_lt, if◌then◌else◌, List, [], ◌∷◌, ◌++◌, length, Option, None, Some, option_map, option_and_then, unwrap_or, is_some, slice_get, refl, sym, ap, ap₂, ◌∙◌, subst, inl, inr, ⊎_elim, arith, eq-eqb, ne_eqb, length-append}
+use Rattle.std.proofs.Common.{◌≡◌, ℕ, zero, suc, ◌+◌, ◌-◌, ◌<◌, ◌≤◌, Bool, true, false, not, ◌==◌, ◌&&◌, nat_lt, if◌then◌else◌, List, [], ◌∷◌, ◌++◌, length, Option, None, Some, option_map}
+use Rattle.std.proofs.Common.{option_and_then, unwrap_or, is_some, slice_get, refl, sym, ap, ap₂, ◌∙◌, subst, inl, inr, ⊎_elim, arith, eq-eqb, ne_eqb, length-append}
 use Rattle.std.proofs.lemmas.Bool.{cases_eq, cases_lt, lt-ltb, le-ltb}
 use Rattle.std.proofs.lemmas.Option.{none-some, same_Some}
 use Rattle.std.specs.Map.{lookup}
@@ -12,10 +13,10 @@ use Rattle.ob_order.proofs.Newest.{by_option}
 use Rattle.ob_chains.specs.declared.chain.Link.{Link}
 use Rattle.ob_chains.specs.declared.chain.Chain.{Chain}
 use Rattle.ob_chains.specs.Chains.{IsNewest, link_in, has_reader}
-use Rattle.ob_chains.specs.Tables.{chain_at, link_at, base_mark, has_links, is_reader, SameLinks, SameBases, SameKeys, SameReaders, IsRaised}
+use Rattle.ob_chains.specs.Tables.{chain_at, link_at, base_mark, has_links, is_reader, SameLinks, SameBases, SameKeys, SameReaders, IsMarkRaised}
 use Rattle.ob_chains.specs.Agendas.{AgendaModel}
 use Rattle.ob_versions.specs.Index.{IsIndex}
-use Rattle.ob_versions.specs.Ledgers.{LedgerModel, IsLedger, IsReady, Notes, covered_mark}
+use Rattle.ob_versions.specs.Ledgers.{LedgerModel, IsLedger, IsReadyAgenda, NotesReader, covered_mark}
 use Rattle.ob_versions.proofs.Marks.{mark_begun, mark_same_ops, ops_edit, version_edit, version_begun}
 use Rattle.ob_versions.proofs.Indexed.{version_from, newest_is, IsCovered, covered_is, index_moved, index_got, index_got_base, index_wrote, index_ended}
 use Rattle.ob_chains.proofs.Counted.{count_moved, count_stays}
@@ -135,7 +136,7 @@ ledger_room keys w ws m n h links bases same readers = record {
 }
 
 -- a reader was noted
-pub ledger_noted : {S : Type 0} (keys w : ℕ) (ws : List Work) (m n : hash.HashMap ℕ Chain S) (t : ℕ) → IsLedger keys w ws m → 0 < t → t ≤ length ws → SameLinks m n → SameBases m n → SameKeys m n → Notes m n t → IsLedger keys w ws n
+pub ledger_noted : {S : Type 0} (keys w : ℕ) (ws : List Work) (m n : hash.HashMap ℕ Chain S) (t : ℕ) → IsLedger keys w ws m → 0 < t → t ≤ length ws → SameLinks m n → SameBases m n → SameKeys m n → NotesReader m n t → IsLedger keys w ws n
 ledger_noted keys w ws m n t h above within links bases same notes = record {
   index = index_moved ws ws _ _ _ _ h.index (λ k t. refl) (λ k s. refl) links bases;
   sourced = h.sourced;
@@ -154,7 +155,7 @@ ledger_waits keys w ws m t k h there = record {
 
 -- a get was answered
 pub ledger_got : {S : Type 0} (keys w : ℕ) (ws : List Work) (m n : hash.HashMap ℕ Chain S) (t k : ℕ) (r : Option (List ℕ)) (s : ℕ) → IsLedger keys w ws m → 0 < t → t ≤ length ws
-    → (0 < s → is_some (version ws s k) ≡ true) → (0 < s → is_reader m k t ≡ true) → IsRaised m n k s t → SameKeys m n → SameReaders m n → IsLedger keys w (with_op ws t (Get k r s)) n
+    → (0 < s → is_some (version ws s k) ≡ true) → (0 < s → is_reader m k t ≡ true) → IsMarkRaised m n k s t → SameKeys m n → SameReaders m n → IsLedger keys w (with_op ws t (Get k r s)) n
 ledger_got keys w ws m n t k r s h above within from noted raises same readers = record {
   index = ⊎_elim
       (λ zero. subst (λ q. IsIndex (with_op ws t (Get k r q)) (λ j u. link_at n j u) (λ j. base_mark n j)) (sym zero) (index_got_base ws _ _ _ _ t k r h.index above within (raises.from_base zero).0 (raises.from_base zero).1))
@@ -251,20 +252,20 @@ ledger_ended keys w ws m n f t lost h above within keeps ends waits takes count 
 
 -- ---- the agenda is ready for all tickets
 
-pub ready_none : (vs : List Work) (agenda : AgendaModel) → vs ≡ [] → agenda.tickets ≡ [] → IsReady vs agenda
+pub ready_none : (vs : List Work) (agenda : AgendaModel) → vs ≡ [] → agenda.tickets ≡ [] → IsReadyAgenda vs agenda
 ready_none vs agenda e empty = (omega (arith, ap length e), empty)
 
-pub ready_same : (ws vs : List Work) (agenda : AgendaModel) → vs ≡ ws → IsReady ws agenda → IsReady vs agenda
+pub ready_same : (ws vs : List Work) (agenda : AgendaModel) → vs ≡ ws → IsReadyAgenda ws agenda → IsReadyAgenda vs agenda
 ready_same ws vs agenda e h = (omega (arith, ap length e, h.0), h.1)
 
-pub ready_edit : (f : Work → Work) (ws vs : List Work) (t : ℕ) (agenda : AgendaModel) → vs ≡ edit f ws t → IsReady ws agenda → IsReady vs agenda
+pub ready_edit : (f : Work → Work) (ws vs : List Work) (t : ℕ) (agenda : AgendaModel) → vs ≡ edit f ws t → IsReadyAgenda ws agenda → IsReadyAgenda vs agenda
 ready_edit f ws vs t agenda e h = (omega (arith, ap length e, length-edit f ws t, h.0), h.1)
 
 -- there is room for one more
-pub ready_more : (ws vs : List Work) (w : Work) (old new : AgendaModel) → vs ≡ ws ++ w ∷ [] → IsReady ws old → length ws + 1 ≤ new.room → new.tickets ≡ old.tickets → IsReady vs new
+pub ready_more : (ws vs : List Work) (w : Work) (old new : AgendaModel) → vs ≡ ws ++ w ∷ [] → IsReadyAgenda ws old → length ws + 1 ≤ new.room → new.tickets ≡ old.tickets → IsReadyAgenda vs new
 ready_more ws vs w old new e h l same = (omega (arith, ap length e, length-append ws (w ∷ []), l), same ∙ h.1)
 
-pub ready_still : (ws vs : List Work) (old new : AgendaModel) → vs ≡ ws → IsReady ws old → old.room ≤ new.room → new.tickets ≡ old.tickets → IsReady vs new
+pub ready_still : (ws vs : List Work) (old new : AgendaModel) → vs ≡ ws → IsReadyAgenda ws old → old.room ≤ new.room → new.tickets ≡ old.tickets → IsReadyAgenda vs new
 ready_still ws vs old new e h l same = (omega (arith, ap length e, h.0, l), same ∙ h.1)
 
 -- ---- works that waited for room

@@ -3,18 +3,17 @@ use Rattle.std.proofs.Common.{◌≡◌, ℕ, zero, suc, ◌+◌, ◌-◌, ◌<�
 use Rattle.std.proofs.lemmas.Bool.{cases_eq, cases_Bool, false≢true}
 use Rattle.std.proofs.lemmas.Option.{none-some, same_Some}
 use Rattle.std.specs.HashMap as hash
-use Rattle.ob_order.specs.Works.{Op, Get, Put, Del, Work, is_going, is_gone, at_ticket, edit, edit_index, goes_on, last_write, end_work, aborted_since, least_of, least_source, fall, cascade, aborted, Rises, Tidy}
+use Rattle.ob_order.specs.Works.{Op, Get, Put, Del, Work, is_going, is_gone, at_ticket, edit, edit_index, goes_on, last_write, end_work, aborted_since, least_of, least_source, fall, cascade, aborted, SourcesRise, Tidy}
 use Rattle.ob_order.specs.Chains.{Sourced}
 use Rattle.ob_order.proofs.Edits.{at_edit_other, slice_get-edit_same, length-edit}
 use Rattle.ob_order.proofs.Newest.{by_option}
 use Rattle.ob_order.proofs.Falls.{Fallen, fallen_ended, fallen_cascade, fallen_then, went_on_before, length-cascade}
-use Rattle.ob_order.proofs.Tidies.{cascade_more}
+use Rattle.ob_order.proofs.Tidies.{cascade_more, fall_idle}
 use Rattle.ob_order.proofs.Steps.{item}
 use Rattle.ob_chains.specs.declared.chain.Chain.{Chain}
 use Rattle.ob_chains.specs.Tables.{is_reader}
 use Rattle.ob_chains.specs.Agendas.{AgendaModel, has_ticket, Adds, IsReaderAbove}
-use Rattle.ob_versions.specs.Ledgers.{IsLedger, IsReady, HasReaders, ReadersIn, IsAbove}
-use Rattle.ob_versions.proofs.Falling.{fall_stays}
+use Rattle.ob_versions.specs.Ledgers.{IsLedger, IsReadyAgenda, HasReaders, ReadersIn, IsAbove}
 
 -- ---- who is noted
 
@@ -63,7 +62,7 @@ none_least p (Del k ∷ os) h = none_least p os (λ i. h (suc i))
 idle_step : (before mid : List Work) (w : Work) → (is_going w.fate ≡ true → (i k : ℕ) (r : Option (List ℕ)) (s : ℕ) → slice_get w.ops i ≡ Some (Get k r s) → aborted_since before mid s ≡ false) → step_of before mid w ≡ w
 idle_step before mid w h = ⊎_elim
     (λ going. ap (λ o. fall o w) (none_least (aborted_since before mid) w.ops (h going)))
-    (λ idle. fall_stays (least_source (aborted_since before mid) w.ops) w idle)
+    (λ idle. fall_idle (least_source (aborted_since before mid) w.ops) w idle)
     (cases_Bool (is_going w.fate))
 
 -- ---- below the ticket that is aborted nobody falls
@@ -75,7 +74,7 @@ both_ways false = refl
 since_other : (before : List Work) (t s : ℕ) → (s ≡ t → ⊥) → aborted_since before (edit end_work before t) s ≡ false
 since_other before t s other = ap (λ o. goes_on before s && not (unwrap_or (option_map (λ w. is_going w.fate) o) false)) (at_edit_other end_work before t s other) ∙ both_ways (goes_on before s)
 
-pub none_below : (before : List Work) (t : ℕ) → Rises before → cascade before (edit end_work before t) t ≡ edit end_work before t
+pub none_below : (before : List Work) (t : ℕ) → SourcesRise before → cascade before (edit end_work before t) t ≡ edit end_work before t
 none_below before zero low = refl
 none_below before (suc q) low =
     let now = edit end_work before (suc q) in
@@ -169,7 +168,7 @@ pub record Running {S : Type 0} (before : List Work) (t keys written : ℕ) (lis
   pub ahead : (u : ℕ) → has_ticket agenda.tickets u ≡ true → IsAbove last before u
   pub room : length before ≤ agenda.room
 
-pub running_begins : {S : Type 0} (before : List Work) (t keys written : ℕ) (list : List Work) (m : hash.HashMap ℕ Chain S) (idle agenda : AgendaModel) → Rises before → t ≤ length before → IsReady before idle
+pub running_begins : {S : Type 0} (before : List Work) (t keys written : ℕ) (list : List Work) (m : hash.HashMap ℕ Chain S) (idle agenda : AgendaModel) → SourcesRise before → t ≤ length before → IsReadyAgenda before idle
     → ReadersIn before agenda.tickets t t → Adds idle agenda (IsAbove t before) → list ≡ edit end_work before t → IsLedger keys written list m → Running before t keys written list m agenda
 running_begins before t keys written list m idle agenda rises within ready has adds is kept = record {
   last = t;
@@ -248,7 +247,7 @@ running_on {S} before t keys written written' list list' m m' old rest new next 
 
 -- an empty agenda ends it
 pub running_ends : {S : Type 0} (before : List Work) (t keys written : ℕ) (list : List Work) (m : hash.HashMap ℕ Chain S) (old new : AgendaModel) → Running before t keys written list m old → old.tickets ≡ [] → new.tickets ≡ [] → new.room ≡ old.room
-    → (list ≡ aborted before t) × IsLedger keys written list m × IsReady list new
+    → (list ≡ aborted before t) × IsLedger keys written list m × IsReadyAgenda list new
 running_ends before t keys written list m old new h none empty same =
     let now = edit end_work before t in
     let len : length list ≡ length before = ap length h.so_far ∙ (length-cascade before now h.last ∙ length-edit end_work before t) in (

@@ -11,7 +11,7 @@ use Rattle.ob_order.proofs.Falls.{ops_at}
 use Rattle.ob_chains.specs.declared.chain.Chain.{Chain}
 use Rattle.ob_chains.specs.Chains.{has_reader}
 use Rattle.ob_chains.specs.Tables.{chain_at, is_reader, SameReaders}
-use Rattle.ob_versions.specs.Ledgers.{HasReaders, Notes}
+use Rattle.ob_versions.specs.Ledgers.{HasReaders, NotesReader}
 
 -- a key with readers has room for its chain
 pub chain_there : {S : Type 0} (m : hash.HashMap ℕ Chain S) (k t : ℕ) → is_reader m k t ≡ true → is_some (chain_at m k) ≡ true
@@ -23,13 +23,13 @@ chain_there m k t e = step (chain_at m k) e
 
 -- ---- the readers alone
 
-pub notes_same : {S : Type 0} (m n : hash.HashMap ℕ Chain S) (t : ℕ) → SameReaders m n → Notes m n t
+pub notes_same : {S : Type 0} (m n : hash.HashMap ℕ Chain S) (t : ℕ) → SameReaders m n → NotesReader m n t
 notes_same m n t same = record {
   kept = λ k u e. same k u ∙ e;
   came = λ k u e f. absurd (false≢true (sym f ∙ (sym (same k u) ∙ e)));
 }
 
-pub notes_then : {S : Type 0} (l m n : hash.HashMap ℕ Chain S) (t : ℕ) → Notes l m t → Notes m n t → Notes l n t
+pub notes_then : {S : Type 0} (l m n : hash.HashMap ℕ Chain S) (t : ℕ) → NotesReader l m t → NotesReader m n t → NotesReader l n t
 notes_then l m n t one two = record {
   kept = λ k u e. two.kept k u (one.kept k u e);
   came = λ k u e f. ⊎_elim
@@ -38,7 +38,7 @@ notes_then l m n t one two = record {
       (cases_Bool (is_reader m k u));
 }
 
-pub notes_one : {S : Type 0} (m n : hash.HashMap ℕ Chain S) (key t : ℕ) → ((k u : ℕ) → is_reader n k u ≡ (if (key == k) && (t == u) then true else is_reader m k u)) → Notes m n t
+pub notes_one : {S : Type 0} (m n : hash.HashMap ℕ Chain S) (key t : ℕ) → ((k u : ℕ) → is_reader n k u ≡ (if (key == k) && (t == u) then true else is_reader m k u)) → NotesReader m n t
 notes_one m n key t is = record {
   kept = λ k u e. is k u ∙ up ((key == k) && (t == u)) (is_reader m k u) e;
   came = λ k u e f. ⊎_elim
@@ -58,7 +58,7 @@ notes_one m n key t is = record {
 pub noted_here : {S : Type 0} (m n : hash.HashMap ℕ Chain S) (key t : ℕ) → ((k u : ℕ) → is_reader n k u ≡ (if (key == k) && (t == u) then true else is_reader m k u)) → is_reader n key t ≡ true
 noted_here m n key t is = is key t ∙ ap₂ (λ (a b : Bool). if a && b then true else is_reader m key t) (eq-eqb key key refl) (eq-eqb t t refl)
 
-pub readers_noted : {S : Type 0} (ws : List Work) (m n : hash.HashMap ℕ Chain S) (t : ℕ) → HasReaders ws m → Notes m n t → 0 < t → t ≤ length ws → HasReaders ws n
+pub readers_noted : {S : Type 0} (ws : List Work) (m n : hash.HashMap ℕ Chain S) (t : ℕ) → HasReaders ws m → NotesReader m n t → 0 < t → t ≤ length ws → HasReaders ws n
 readers_noted ws m n t h new above within = record {
   gets = λ u w there i k r s got l. new.kept k (suc u) (h.gets u w there i k r s got l);
   waits = λ u k e. new.kept k u (h.waits u k e);

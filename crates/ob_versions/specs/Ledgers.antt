@@ -23,7 +23,7 @@ pub record HasReaders {S : Type 0} (ws : List Work) (m : hash.HashMap ℕ Chain 
   pub drawn : (k t : ℕ) → is_reader m k t ≡ true → (0 < t) × (t ≤ length ws)
 
 -- no readers went, and none came but this one
-pub record Notes {S : Type 0} (m n : hash.HashMap ℕ Chain S) (t : ℕ) : Type 0 where
+pub record NotesReader {S : Type 0} (m n : hash.HashMap ℕ Chain S) (t : ℕ) : Type 0 where
   pub kept : (k u : ℕ) → is_reader m k u ≡ true → is_reader n k u ≡ true
   pub came : (k u : ℕ) → is_reader n k u ≡ true → is_reader m k u ≡ false → u ≡ t
 
@@ -47,5 +47,5 @@ abbrev pub IsAbove : ℕ → List Work → ℕ → Type 0
 IsAbove t ws u = (t < u) × (u ≤ length ws)
 
 -- the agenda is empty, with room for all tickets
-abbrev pub IsReady : List Work → AgendaModel → Type 0
-IsReady ws agenda = (length ws ≤ agenda.room) × (agenda.tickets ≡ [])
+abbrev pub IsReadyAgenda : List Work → AgendaModel → Type 0
+IsReadyAgenda ws agenda = (length ws ≤ agenda.room) × (agenda.tickets ≡ [])

@@ -4,15 +4,14 @@ ghost use Rattle.std.specs.Prelude.{◌≡◌, ℕ, ◌+◌, ◌-◌, ◌<◌, �
 ghost use Rattle.ob_order.specs.Works as works;
 ghost use Rattle.ob_order.specs.Chains.{Sourced};
 ghost use Rattle.ob_chains.specs.Agendas.{Adds};
-ghost use Rattle.ob_versions.specs.Ledgers.{IsLedger, IsReady, HasReaders, ReadersIn, IsAbove};
+ghost use Rattle.ob_versions.specs.Ledgers.{IsLedger, IsReadyAgenda, HasReaders, ReadersIn, IsAbove};
 
 use ob_base::Key;
 use ob_chains::agenda::Agenda;
 use ob_chains::readers::add_readers_of;
 use ob_chains::table::Table;
 use ob_chains::unlink::unlink_at;
-use ob_order::plain::read_off::{end_in, fall_in, fell_on};
-use ob_order::{Fate, Work};
+use ob_order::{Fate, Work, end_in, fall_in, fell_on};
 
 /// Whether the work at a place isn't aborted.
 pub fn goes_on_at(list: &[Work], n: usize) -> bool
@@ -26,7 +25,9 @@ pub fn goes_on_at(list: &[Work], n: usize) -> bool
 // The least source of the work at a place that is aborted, where it goes on.
 fn falls_on(list: &[Work], n: usize) -> Option<u64>
     requires { n < length list.now }
-    ensures { (w : works.Work) → w ≡ get_or list.now n w → result ≡ (if works.is_going w.fate then works.least_source (works.is_gone list.now) w.ops else None) }
+    ensures { (w : works.Work) → w ≡ get_or list.now n w
+        → result ≡ (if works.is_going w.fate then works.least_source (works.is_gone list.now) w.ops
+        else None) }
 {
     if goes_on_at(list, n) {
         fell_on(list, n)
@@ -82,9 +83,14 @@ fn fall(
     requires in_range { n < length list.old.items }
     requires room { length list.old.items ≤ agenda.old.room }
     requires kept { IsLedger keys written.old list.old.items table.old }
-    ensures list { (w : works.Work) → w ≡ get_or list.old.items n w → list.new.items ≡ set list.old.items n (works.fall (works.least_source (works.is_gone list.old.items) w.ops) w) }
+    ensures list { (w : works.Work) → w ≡ get_or list.old.items n w
+        → list.new.items
+        ≡ set list.old.items n
+        (works.fall (works.least_source (works.is_gone list.old.items) w.ops) w) }
     ensures kept { IsLedger keys written.new list.new.items table.new }
-    ensures has { works.goes_on list.old.items (n + 1) ≡ true → works.goes_on list.new.items (n + 1) ≡ false → ReadersIn list.old.items agenda.new.tickets (n + 1) (n + 1) }
+    ensures has { works.goes_on list.old.items (n + 1) ≡ true
+        → works.goes_on list.new.items (n + 1) ≡ false
+        → ReadersIn list.old.items agenda.new.tickets (n + 1) (n + 1) }
     ensures adds { Adds agenda.old agenda.new (IsAbove (n + 1) list.old.items) }
 {
     if let Some(on) = falls_on(list, n as usize) {
@@ -107,10 +113,10 @@ pub fn abort_in(
     requires live { works.goes_on list.old.items t ≡ true }
     requires tidy { works.Tidy list.old.items }
     requires kept { IsLedger keys written.old list.old.items table.old }
-    requires ready { IsReady list.old.items agenda.old }
+    requires ready { IsReadyAgenda list.old.items agenda.old }
     ensures list { list.new.items ≡ works.aborted list.old.items t }
     ensures kept { IsLedger keys written.new list.new.items table.new }
-    ensures ready { IsReady list.new.items agenda.new }
+    ensures ready { IsReadyAgenda list.new.items agenda.new }
 {
     note_readers(agenda, table, list, t);
     end_at(table, list, written, t, keys);

@@ -4,8 +4,8 @@ ghost use Rattle.std.specs.Prelude.{◌≡◌, ℕ, ◌+◌, ◌-◌, ◌<◌, �
 ghost use Rattle.ob_order.specs.Works as works;
 ghost use Rattle.ob_order.specs.Order as rules;
 ghost use Rattle.std.specs.Option.{option_map, unwrap_or};
-ghost use Rattle.ob_chains.specs.Tables.{chain_at, link_at, has_links, is_reader, SameLinks, SameBases, SameKeys, SameReaders, IsRaised};
-ghost use Rattle.ob_versions.specs.Ledgers.{covered_mark, Notes};
+ghost use Rattle.ob_chains.specs.Tables.{chain_at, link_at, has_links, is_reader, SameLinks, SameBases, SameKeys, SameReaders, IsMarkRaised};
+ghost use Rattle.ob_versions.specs.Ledgers.{covered_mark, NotesReader};
 
 use crate::cascade::{abort_in, end_at, goes_on_at};
 use ob_base::{Key, Memory, Op, Value};
@@ -15,8 +15,7 @@ use ob_chains::table::{
     Table, has_versions, make_room, mark_of_base, newest, note, put, raise, raise_base,
 };
 use ob_chains::unlink::count_where;
-use ob_order::plain::read_off::{add_awaited, add_to, make_wait, set_waiting};
-use ob_order::{Fate, Version, Work};
+use ob_order::{Fate, Version, Work, add_awaited, add_to, make_wait, set_waiting};
 use std::alloc::Global;
 use std::collections::HashMap;
 use std::marker::Model;
@@ -34,13 +33,13 @@ pub struct Ledger {
 }
 
 impl Model for Ledger {
-    ghost use Rattle.ob_versions.specs.Ledgers.{LedgerModel, IsLedger, IsReady};
+    ghost use Rattle.ob_versions.specs.Ledgers.{LedgerModel, IsLedger, IsReadyAgenda};
 
     ghost Value = { LedgerModel };
 
     ghost view = { λ l. record { keys = l.keys; works = l.works.items } };
 
-    ghost invariant = { λ l. IsLedger l.keys l.written l.works.items l.table × IsReady l.works.items l.agenda };
+    ghost invariant = { λ l. IsLedger l.keys l.written l.works.items l.table × IsReadyAgenda l.works.items l.agenda };
 }
 
 // The operation that sets the key to this.
@@ -88,7 +87,7 @@ fn mark_of(version: Option<(u64, Link)>, base: u64) -> u64
 // reader too.
 fn raise_mark(table: &mut Table, key: Key, source: u64, reader: u64)
     requires { is_some (chain_at table.old key) ≡ true }
-    ensures raises { IsRaised table.old table.new key source reader }
+    ensures raises { IsMarkRaised table.old table.new key source reader }
     ensures keys { SameKeys table.old table.new }
     ensures readers { SameReaders table.old table.new }
 {
@@ -101,8 +100,9 @@ fn raise_mark(table: &mut Table, key: Key, source: u64, reader: u64)
 
 // Room for the key's chain is made, and the ticket is noted there as a reader.
 fn note_reader(table: &mut Table, alloc: Global, key: Key, t: u64) -> Result<(), Memory>
-    ensures ok { OnOk result ((is_some (chain_at table.new key) ≡ true) × (is_reader table.new key t ≡ true)) }
-    ensures notes { Notes table.old table.new t }
+    ensures ok { OnOk result ((is_some (chain_at table.new key) ≡ true)
+        × (is_reader table.new key t ≡ true)) }
+    ensures notes { NotesReader table.old table.new t }
     ensures links { SameLinks table.old table.new }
     ensures bases { SameBases table.old table.new }
     ensures keys { SameKeys table.old table.new }
@@ -120,8 +120,9 @@ fn note_source(
     source: u64,
     t: u64,
 ) -> Result<(), Memory>
-    ensures ok { OnOk result ((is_some (chain_at table.new key) ≡ true) × (0 < source → is_reader table.new key t ≡ true)) }
-    ensures notes { Notes table.old table.new t }
+    ensures ok { OnOk result ((is_some (chain_at table.new key) ≡ true)
+        × (0 < source → is_reader table.new key t ≡ true)) }
+    ensures notes { NotesReader table.old table.new t }
     ensures links { SameLinks table.old table.new }
     ensures bases { SameBases table.old table.new }
     ensures keys { SameKeys table.old table.new }
@@ -152,10 +153,15 @@ fn put_write(
 ) -> Result<bool, Memory>
     requires room { is_some (chain_at table.old key) ≡ true }
     requires in_range { (0 < t) × (t ≤ length list.old.items) }
-    ensures ok { OnOk result (list.new.items ≡ works.with_op list.old.items t (rules.write_op key value.now)) }
+    ensures ok { OnOk result (list.new.items
+        ≡ works.with_op list.old.items t (rules.write_op key value.now)) }
     ensures first { IfOk result (λ first. first ≡ not (has_links table.old key)) }
-    ensures links { OnOk result ((k u : ℕ) → link_at table.new k u ≡ (if (key == k) && (t == u) then Some (record { value = value.now; mark = 0 }) else link_at table.old k u)) }
-    ensures keys { OnOk result ((k : ℕ) → has_links table.new k ≡ (if key == k then true else has_links table.old k)) }
+    ensures links { OnOk result ((k u : ℕ)
+        → link_at table.new k u
+        ≡ (if (key == k) && (t == u) then Some (record { value = value.now; mark = 0 }) else link_at
+        table.old k u)) }
+    ensures keys { OnOk result ((k : ℕ)
+        → has_links table.new k ≡ (if key == k then true else has_links table.old k)) }
     ensures bases { SameBases table.old table.new }
     ensures readers { SameReaders table.old table.new }
     ensures err { OnErr result (list.new.items ≡ list.old.items) }
@@ -215,7 +221,8 @@ impl Ledger {
     /// # Errors
     /// Memory was wanting. All is as before.
     pub fn begin(&mut self) -> Result<(), Memory>
-        ensures ok { OnOk result (self.new ≡ record self.old { works = self.old.works ++ rules.fresh ∷ [] }) }
+        ensures ok { OnOk result (self.new
+            ≡ record self.old { works = self.old.works ++ rules.fresh ∷ [] }) }
         ensures err { OnErr result (self.new ≡ self.old) }
     {
         self.agenda.make_room(self.works.len() as u64 + 1)?;
@@ -246,7 +253,8 @@ impl Ledger {
     /// The greatest ticket that has read what a write of the key by ticket t would cover, where
     /// that is above t.
     pub fn reader_above(&self, t: u64, key: Key) -> Option<u64>
-        ensures { MatchOption result (covered_mark self.now.works t key ≤ t) (λ reader. (t < reader) × (covered_mark self.now.works t key ≡ reader)) }
+        ensures { MatchOption result (covered_mark self.now.works t key ≤ t) (λ reader. (t < reader)
+            × (covered_mark self.now.works t key ≡ reader)) }
     {
         let newest = newest(&self.table, key, t);
         let mark = mark_of(newest, mark_of_base(&self.table, key));
@@ -255,7 +263,8 @@ impl Ledger {
 
     /// How many of the keys but this one have versions.
     pub fn other_keys(&self, key: Key) -> u64
-        ensures { result ≡ rules.count_below (rules.is_other_written self.now.works key) self.now.keys }
+        ensures { result
+            ≡ rules.count_below (rules.is_other_written self.now.works key) self.now.keys }
     {
         self.written - count_where(has_versions(&self.table, key), key, self.keys)
     }
@@ -288,8 +297,13 @@ impl Ledger {
     /// Memory was wanting. All is as before.
     pub fn add_get(&mut self, t: u64, key: Key, version: &Version) -> Result<(), Memory>
         requires in_range { (0 < t) × (t ≤ length self.old.works) }
-        requires source { 0 < version.now.source → is_some (works.version self.old.works version.now.source key) ≡ true }
-        ensures ok { OnOk result (self.new ≡ record self.old { works = works.with_op self.old.works t (works.Get key version.now.value version.now.source) }) }
+        requires source { 0 < version.now.source
+            → is_some (works.version self.old.works version.now.source key) ≡ true }
+        ensures ok { OnOk result (self.new
+            ≡ record self.old {
+              works = works.with_op self.old.works t
+                  (works.Get key version.now.value version.now.source);
+            }) }
         ensures err { OnErr result (self.new ≡ self.old) }
     {
         note_source(&mut self.table, self.alloc, key, version.source, t)?;
@@ -302,8 +316,13 @@ impl Ledger {
     pub fn add_awaited(&mut self, t: u64, key: Key, version: &Version)
         requires in_range { (0 < t) × (t ≤ length self.old.works) }
         requires waits { works.waiting_at self.old.works t ≡ Some key }
-        requires source { 0 < version.now.source → is_some (works.version self.old.works version.now.source key) ≡ true }
-        ensures { self.new ≡ record self.old { works = works.with_op self.old.works t (works.Get key version.now.value version.now.source) } }
+        requires source { 0 < version.now.source
+            → is_some (works.version self.old.works version.now.source key) ≡ true }
+        ensures { self.new
+            ≡ record self.old {
+              works = works.with_op self.old.works t
+                  (works.Get key version.now.value version.now.source);
+            } }
     {
         add_awaited(&mut self.works, t as usize, get_op(key, version));
         raise_mark(&mut self.table, key, version.source, t);
@@ -315,7 +334,8 @@ impl Ledger {
     /// Memory was wanting. All is as before.
     pub fn wait(&mut self, t: u64, key: Key) -> Result<(), Memory>
         requires in_range { (0 < t) × (t ≤ length self.old.works) }
-        ensures ok { OnOk result (self.new ≡ record self.old { works = works.edit (works.wait_for key) self.old.works t }) }
+        ensures ok { OnOk result (self.new
+            ≡ record self.old { works = works.edit (works.wait_for key) self.old.works t }) }
         ensures err { OnErr result (self.new ≡ self.old) }
     {
         note_reader(&mut self.table, self.alloc, key, t)?;
@@ -331,7 +351,11 @@ impl Ledger {
     pub fn add_write(&mut self, t: u64, key: Key, value: Option<Value>) -> Result<(), Memory>
         requires live { works.goes_on self.old.works t ≡ true }
         requires unread { covered_mark self.old.works t key ≤ t }
-        ensures ok { OnOk result (self.new ≡ record self.old { works = works.with_op self.old.works t (rules.write_op key value) }) }
+        ensures ok { OnOk result (self.new
+            ≡ record self.old {
+              works = works.with_op self.old.works t
+                  (rules.write_op key value);
+            }) }
         ensures err { OnErr result (self.new ≡ self.old) }
     {
         make_room(&mut self.table, self.alloc, key)?;
@@ -343,7 +367,8 @@ impl Ledger {
     // Ticket t is aborted in a call of its own.
     fn end(&mut self, t: u64)
         requires { (0 < t) × (t ≤ length self.old.works) }
-        ensures { self.new ≡ record self.old { works = works.edit works.end_work self.old.works t } }
+        ensures { self.new
+            ≡ record self.old { works = works.edit works.end_work self.old.works t } }
     {
         end_at(
             &mut self.table,
@@ -374,7 +399,8 @@ impl Ledger {
     // Stops the work at a place, if it goes on.
     fn stop_one(&mut self, n: u64)
         requires { n < length self.old.works }
-        ensures { (w : works.Work) → w ≡ get_or self.old.works n w → self.new ≡ record self.old { works = set self.old.works n (works.stop_work w) } }
+        ensures { (w : works.Work) → w ≡ get_or self.old.works n w
+            → self.new ≡ record self.old { works = set self.old.works n (works.stop_work w) } }
     {
         if goes_on_at(&self.works, n as usize) {
             self.end(n + 1);

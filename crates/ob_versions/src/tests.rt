@@ -1,9 +1,11 @@
-ghost use Rattle.std.specs.Prelude.{◌≡◌, ◌≤◌, ◌<◌, length};
+//! Worked cases of one epoch.
+
+ghost use Rattle.std.specs.Prelude.{◌≡◌};
 ghost use Rattle.ob_order.specs.Works as works;
 
 use crate::Order;
 use ob_base::{Key, Memory, Params, Value};
-use ob_order::{Fate, Read, Wrote, plain};
+use ob_order::{EpochOrder, Fate, Read, Wrote};
 use std::alloc::Global;
 use std::test::Fail;
 
@@ -13,23 +15,9 @@ fn is_live(order: &Order, t: u64) -> bool
     t != 0 && matches!(order.fate(t), Some(Fate::Going))
 }
 
-fn is_live_plainly(order: &plain::Order, t: u64) -> bool
-    ensures { result ≡ works.goes_on order.now.state.works t }
-{
-    t != 0 && matches!(order.fate(t), Some(Fate::Going))
-}
-
 // The calls, as far as the ticket isn't aborted.
 fn read(order: &mut Order, t: u64, key: Key) -> Result<Option<Read>, Memory> {
     if !is_live(order, t) {
-        return Ok(None);
-    }
-    let read = order.read(t, key)?;
-    Ok(Some(read))
-}
-
-fn read_plainly(order: &mut plain::Order, t: u64, key: Key) -> Result<Option<Read>, Memory> {
-    if !is_live_plainly(order, t) {
         return Ok(None);
     }
     let read = order.read(t, key)?;
@@ -49,27 +37,8 @@ fn write(
     Ok(Some(wrote))
 }
 
-fn write_plainly(
-    order: &mut plain::Order,
-    t: u64,
-    key: Key,
-    value: Option<Value>,
-) -> Result<Option<Wrote>, Memory> {
-    if !is_live_plainly(order, t) {
-        return Ok(None);
-    }
-    let wrote = order.write(t, key, value)?;
-    Ok(Some(wrote))
-}
-
 fn abort(order: &mut Order, t: u64) {
     if is_live(order, t) {
-        order.abort(t);
-    }
-}
-
-fn abort_plainly(order: &mut plain::Order, t: u64) {
-    if is_live_plainly(order, t) {
         order.abort(t);
     }
 }
@@ -83,12 +52,24 @@ fn again(order: &mut Order, t: u64) -> Option<Read> {
     Some(order.again(t, key))
 }
 
-fn again_plainly(order: &mut plain::Order, t: u64) -> Option<Read> {
-    if !is_live_plainly(order, t) {
-        return None;
+fn fate(order: &Order, t: u64) -> Option<Fate> {
+    if t == 0 { None } else { order.fate(t) }
+}
+
+// 8 keys, 2 read batches of 2 places, 2 write places, and so many transactions that have begun.
+fn order(alloc: Global, tickets: u64) -> Result<Option<Order>, Memory> {
+    let Ok(p) = Params::new(8, 2, 2, 3, 2, 2, 2, 2, 6) else {
+        return Ok(None);
+    };
+    let mut order = Order::new(alloc, &p, 2)?;
+    for _ in 0..tickets {
+        let _ticket = order.begin()?;
     }
-    let key = order.waiting(t)?;
-    Some(order.again(t, key))
+    Ok(Some(order))
+}
+
+fn seven() -> Option<Value> {
+    Value::new(b"7")
 }
 
 // A batch is taken, and each of its keys is absent.
@@ -103,115 +84,87 @@ fn round(order: &mut Order) {
     order.deliver(&keys, &values);
 }
 
-#[tactic(auto, using(ob_order::proofs::Batches::taken_in_flight, ob_order::proofs::Batches::none_of_length))]
-fn round_plainly(order: &mut plain::Order) {
-    let mut keys = [None; 2];
-    let values = [None; 2];
-    if order.left() == 0 || order.in_flight() != 0 || order.params().places != 2 {
-        return;
-    }
-    order.take_batch(&mut keys);
-    order.deliver(&keys, &values);
-}
-
-// 8 keys, 4 read batches of 2 places, and 6 write places.
-fn params() -> Option<Params> {
-    Params::new(8, 2, 2, 3, 4, 2, 6, 2, 6).ok()
-}
-
-// Two orders, the same calls on both.
-#[derive(Drop)]
-struct Both {
-    real: Order,
-    plain: plain::Order,
-}
-
-fn make_both(alloc: Global) -> Result<Option<Both>, Memory> {
-    let Some(p) = params() else {
-        return Ok(None);
-    };
-    if p.batches < 4 {
-        return Ok(None);
-    }
-    let mut real = Order::new(alloc, &p, 4)?;
-    let mut plain = plain::Order::new(alloc, &p, 4)?;
-    for _ in 0..12 {
-        let _ticket = real.begin()?;
-        let _ticket = plain.begin()?;
-    }
-    Ok(Some(Both { real, plain }))
-}
-
-// One call on both, chosen by a word: whether both answered the same.
-fn same_call(real: &mut Order, plain: &mut plain::Order, word: u32) -> Result<bool, Memory> {
-    let t = u64::from(word / 128 % 12) + 1;
-    let key = word / 16 % 8;
-    let kind = word % 16;
-    if kind < 6 {
-        return Ok(read(real, t, key)? == read_plainly(plain, t, key)?);
-    }
-    if kind < 12 {
-        let value = if kind == 6 {
-            None
-        } else {
-            Value::new(&[kind as u8])
-        };
-        return Ok(write(real, t, key, value)? == write_plainly(plain, t, key, value)?);
-    }
-    if kind < 14 {
-        return Ok(again(real, t) == again_plainly(plain, t));
-    }
-    if kind == 14 && word / 2048 % 4 == 0 {
-        abort(real, t);
-        abort_plainly(plain, t);
-    }
-    if kind == 15 {
-        round(real);
-        round_plainly(plain);
-    }
-    Ok(true)
-}
-
-// The next of a row of words without a pattern.
-fn next(state: u32) -> u32 {
-    state.wrapping_mul(1664525).wrapping_add(1013904223)
-}
-
-// How many tickets stand otherwise in one than in the other.
-fn count_apart(real: &Order, plain: &plain::Order) -> u32 {
-    let mut count = 0_u32;
-    for n in 0..12 {
-        if real.fate(n + 1) != plain.fate(n + 1) {
-            count = count.saturating_add(1);
-        }
-    }
-    count
-}
-
-// So many calls on both from this word on: how many were answered otherwise.
-fn run(alloc: Global, seed: u32, calls: u32) -> Result<Option<(u32, u32)>, Memory> {
-    let Some(both) = make_both(alloc)? else {
-        return Ok(None);
-    };
-    let Both {
-        mut real,
-        mut plain,
-    } = both;
-    let mut word = seed;
-    let mut count = 0_u32;
-    for _ in 0..calls {
-        word = next(word);
-        if !same_call(&mut real, &mut plain, word / 4096)? {
-            count = count.saturating_add(1);
-        }
-    }
-    Ok(Some((count, count_apart(&real, &plain))))
+#[test]
+fn an_earlier_get_waits_for_its_batch(rt: HostRuntime) -> Result<(), Fail> {
+    let mut order = order(rt.alloc(), 2)?.expect(&rt, "parameters in range");
+    assert_eq!(rt; write(&mut order, 2, 5, seven())?, Some(Wrote::Yes));
+    assert_eq!(rt; read(&mut order, 1, 5)?, Some(Read::Queued));
+    assert_eq!(rt; again(&mut order, 1), Some(Read::Queued));
+    round(&mut order);
+    let value = None;
+    assert_eq!(rt;
+        again(&mut order, 1),
+        Some(Read::Value { value, source: 0 })
+    );
+    assert_eq!(rt; again(&mut order, 1), None);
+    Ok(())
 }
 
 #[test]
-fn both_orders_answer_alike(rt: HostRuntime) -> Result<(), Fail> {
-    for seed in 0..40 {
-        assert_eq!(rt; run(rt.alloc(), seed, 120)?, Some((0, 0)));
+fn an_abort_takes_its_reader(rt: HostRuntime) -> Result<(), Fail> {
+    let mut order = order(rt.alloc(), 2)?.expect(&rt, "parameters in range");
+    assert_eq!(rt; write(&mut order, 1, 5, seven())?, Some(Wrote::Yes));
+    let value = seven();
+    assert_eq!(rt;
+        read(&mut order, 2, 5)?,
+        Some(Read::Value { value, source: 1 })
+    );
+    abort(&mut order, 1);
+    assert_eq!(rt; fate(&order, 1), Some(Fate::Ended));
+    assert_eq!(rt; order.depends(2), Some(1));
+    Ok(())
+}
+
+#[test]
+fn a_write_below_a_later_reader_is_a_conflict(rt: HostRuntime) -> Result<(), Fail> {
+    let mut order = order(rt.alloc(), 3)?.expect(&rt, "parameters in range");
+    assert_eq!(rt; write(&mut order, 1, 5, seven())?, Some(Wrote::Yes));
+    let value = seven();
+    assert_eq!(rt;
+        read(&mut order, 3, 5)?,
+        Some(Read::Value { value, source: 1 })
+    );
+    let conflict = Wrote::Conflict { key: 5, reader: 3 };
+    assert_eq!(rt; write(&mut order, 1, 5, seven())?, Some(conflict));
+    abort(&mut order, 1);
+    assert_eq!(rt; fate(&order, 2), Some(Fate::Going));
+    assert_eq!(rt; fate(&order, 3), Some(Fate::Fell { on: 1 }));
+    Ok(())
+}
+
+#[test]
+fn a_third_key_has_no_write_place(rt: HostRuntime) -> Result<(), Fail> {
+    let mut order = order(rt.alloc(), 1)?.expect(&rt, "parameters in range");
+    assert_eq!(rt; write(&mut order, 1, 0, seven())?, Some(Wrote::Yes));
+    assert_eq!(rt; write(&mut order, 1, 1, seven())?, Some(Wrote::Yes));
+    assert_eq!(rt;
+        write(&mut order, 1, 2, seven())?,
+        Some(Wrote::Full { keys: 2 })
+    );
+    assert_eq!(rt; write(&mut order, 1, 0, None)?, Some(Wrote::Yes));
+    Ok(())
+}
+
+#[test]
+fn a_fifth_key_has_no_read_place(rt: HostRuntime) -> Result<(), Fail> {
+    let mut order = order(rt.alloc(), 6)?.expect(&rt, "parameters in range");
+    for key in 0..4 {
+        assert_eq!(rt;
+            read(&mut order, u64::from(key) + 1, key)?,
+            Some(Read::Queued)
+        );
     }
+    assert_eq!(rt;
+        read(&mut order, 5, 4)?,
+        Some(Read::Full { queued: 4, left: 2 })
+    );
+    assert_eq!(rt; read(&mut order, 6, 3)?, Some(Read::Queued));
+    assert_eq!(rt; order.queued(), 4);
+    round(&mut order);
+    round(&mut order);
+    assert_eq!(rt;
+        read(&mut order, 6, 7)?,
+        Some(Read::Full { queued: 0, left: 0 })
+    );
     Ok(())
 }

@@ -10,12 +10,12 @@ use Rattle.clap.specs.Faults.{fault_of}
 use Rattle.clap.specs.declared.error.ErrorKind.{ErrorKind}
 use Rattle.clap.proofs.OnLiterals.{clap_on_literals}
 use Rattle.ob_words.specs.Commands.{program}
-use Rattle.ob_words.specs.Reading.{Asked, asked_at}
+use Rattle.ob_words.specs.Reading.{Asked, asked_command}
 use Rattle.ob_words.proofs.Top.{IsNoCommand, format_subcommand, no_command_fails, no_words_fail, run_subcommand}
 
 -- what the words ask for, faults or none
 abbrev pub asked_at_all : List Text → Option Asked
-asked_at_all words = option_and_then (λ p. asked_at p.0 p.1) (subcommand_of program words)
+asked_at_all words = option_and_then (λ p. asked_command p.0 p.1) (subcommand_of program words)
 
 pub is_simple_alone : is_simple program ≡ true
 unfolding clap_on_literals
@@ -26,10 +26,10 @@ among_some k [] h e = absurd h
 among_some k (x ∷ xs) h e = cc
 
 asked_format : (rest : List Text) → asked_at_all (codes "format" ∷ rest) ≡ None → ⊥
-asked_format rest e = let some = sym (ap (λ o. option_and_then (λ p. asked_at p.0 p.1) o) (format_subcommand rest)) ∙ e in cc
+asked_format rest e = let some = sym (ap (λ o. option_and_then (λ p. asked_command p.0 p.1) o) (format_subcommand rest)) ∙ e in cc
 
 asked_run : (rest : List Text) → asked_at_all (codes "run" ∷ rest) ≡ None → ⊥
-asked_run rest e = let some = sym (ap (λ o. option_and_then (λ p. asked_at p.0 p.1) o) (run_subcommand rest)) ∙ e in cc
+asked_run rest e = let some = sym (ap (λ o. option_and_then (λ p. asked_command p.0 p.1) o) (run_subcommand rest)) ∙ e in cc
 
 same_word : (name word : Text) → bytes_eq name word ≡ true → word ≡ name
 same_word name word e = sym ((bytes_eq-Decides name word).0 e)

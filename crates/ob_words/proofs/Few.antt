@@ -7,7 +7,11 @@ use Rattle.std.specs.Str.{bytes_eq, chars}
 use Rattle.std.proofs.lemmas.Slice.Eq.{bytes_eq-Decides}
 use Rattle.std.proofs.lemmas.Bool.Decides.{nat_tests}
 use Rattle.clap.specs.Lexer.{usize_max, long_of, short_of}
-use Rattle.clap.specs.Walk.{after_flag, after_step, arg_by_id, arg_by_index, arg_by_long, arg_by_short, at_row, bundle_met, bundle_step, count_of, default_rows, done, finished, flag_met, has_row, Held, idle, is_multiple, is_pending, long_met, long_or_other, more_values, next, new_count, nothing_held, option, option_met, option_word, started, Outcome, plain, plain_word, positional, pushed, reacted, refused, Row, Rule, settled, settled_rows, short_or_plain, Step, subcommand, subcommand_met, takes_several, takes_values, Text, to_positional, trailing, used, used_as, used_by_id, value, values_or_missing, Waiting, waits, Walk, walk_from, walked, with_count, with_default, with_values, without, word_met, action_of, reading_by}
+use Rattle.clap.specs.Walk.{after_flag, after_step, arg_by_id, arg_by_index, arg_by_long, arg_by_short, at_row, bundle_met, bundle_step, count_of, default_rows, done, finished, flag_met, has_row, Held}
+use Rattle.clap.specs.Walk.{idle, is_multiple, is_pending, long_met, long_or_other, more_values, next, new_count, nothing_held, option, option_met, option_word, started, Outcome, plain, plain_word}
+use Rattle.clap.specs.Walk.{positional, pushed, reacted, refused, Row, Rule, settled, settled_rows, short_or_plain, Step, subcommand, subcommand_met, takes_several, takes_values, Text, to_positional}
+use Rattle.clap.specs.Walk.{trailing, used, used_as, used_by_id, value, values_or_missing, Waiting, waits, Walk, walk_from, walked, with_count, with_default, with_values, without, word_met, action_of}
+use Rattle.clap.specs.Walk.{reading_by}
 use Rattle.clap.specs.declared.builder.value_parser.Reading.{Reading}
 use Rattle.clap.specs.declared.parser.matches.ValueSource.{ValueSource}
 use Rattle.clap.specs.declared.parser.matches.ValueSource.TheVariants.{CommandLine, DefaultValue}

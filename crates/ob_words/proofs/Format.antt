@@ -76,13 +76,16 @@ abbrev rows_8 : Text → Text → Text → Text → Text → Text → Text → T
 rows_8 store keys n l z s r br = operand_row 1 (codes "STORE") store ∷ operand_row 2 (codes "KEYS") keys ∷ operand_row 3 (codes "N") n ∷ operand_row 4 (codes "L") l ∷ operand_row 5 (codes "Z") z ∷ operand_row 6 (codes "S") s ∷ operand_row 7 (codes "R") r ∷ operand_row 8 (codes "BR") br ∷ []
 
 abbrev rows_9 : Text → Text → Text → Text → Text → Text → Text → Text → Text → List Row
-rows_9 store keys n l z s r br bw = operand_row 1 (codes "STORE") store ∷ operand_row 2 (codes "KEYS") keys ∷ operand_row 3 (codes "N") n ∷ operand_row 4 (codes "L") l ∷ operand_row 5 (codes "Z") z ∷ operand_row 6 (codes "S") s ∷ operand_row 7 (codes "R") r ∷ operand_row 8 (codes "BR") br ∷ operand_row 9 (codes "BW") bw ∷ []
+rows_9 store keys n l z s r br bw = operand_row 1 (codes "STORE") store ∷ operand_row 2 (codes "KEYS") keys ∷ operand_row 3 (codes "N") n ∷ operand_row 4 (codes "L") l ∷ operand_row 5 (codes "Z") z ∷ operand_row 6 (codes "S") s ∷ operand_row 7 (codes "R") r ∷
+    operand_row 8 (codes "BR") br ∷ operand_row 9 (codes "BW") bw ∷ []
 
 abbrev rows_10 : Text → Text → Text → Text → Text → Text → Text → Text → Text → Text → List Row
-rows_10 store keys n l z s r br bw e = operand_row 1 (codes "STORE") store ∷ operand_row 2 (codes "KEYS") keys ∷ operand_row 3 (codes "N") n ∷ operand_row 4 (codes "L") l ∷ operand_row 5 (codes "Z") z ∷ operand_row 6 (codes "S") s ∷ operand_row 7 (codes "R") r ∷ operand_row 8 (codes "BR") br ∷ operand_row 9 (codes "BW") bw ∷ operand_row 10 (codes "E") e ∷ []
+rows_10 store keys n l z s r br bw e = operand_row 1 (codes "STORE") store ∷ operand_row 2 (codes "KEYS") keys ∷ operand_row 3 (codes "N") n ∷ operand_row 4 (codes "L") l ∷ operand_row 5 (codes "Z") z ∷ operand_row 6 (codes "S") s ∷ operand_row 7 (codes "R") r
+    ∷ operand_row 8 (codes "BR") br ∷ operand_row 9 (codes "BW") bw ∷ operand_row 10 (codes "E") e ∷ []
 
 abbrev pub rows_11 : Text → Text → Text → Text → Text → Text → Text → Text → Text → Text → Text → List Row
-rows_11 store keys n l z s r br bw e t = operand_row 1 (codes "STORE") store ∷ operand_row 2 (codes "KEYS") keys ∷ operand_row 3 (codes "N") n ∷ operand_row 4 (codes "L") l ∷ operand_row 5 (codes "Z") z ∷ operand_row 6 (codes "S") s ∷ operand_row 7 (codes "R") r ∷ operand_row 8 (codes "BR") br ∷ operand_row 9 (codes "BW") bw ∷ operand_row 10 (codes "E") e ∷ operand_row 11 (codes "T") t ∷ []
+rows_11 store keys n l z s r br bw e t = operand_row 1 (codes "STORE") store ∷ operand_row 2 (codes "KEYS") keys ∷ operand_row 3 (codes "N") n ∷ operand_row 4 (codes "L") l ∷ operand_row 5 (codes "Z") z ∷ operand_row 6 (codes "S") s ∷ operand_row 7 (codes "R")
+    r ∷ operand_row 8 (codes "BR") br ∷ operand_row 9 (codes "BW") bw ∷ operand_row 10 (codes "E") e ∷ operand_row 11 (codes "T") t ∷ []
 
 ready_1 : (store : Text) → Ready format_built (pending_held rows_0 (codes "STORE") store) (rows_1 store)
 ready_1 store = operand_ready format_built (codes "STORE") store 1 2 rows_0 place_1 refl

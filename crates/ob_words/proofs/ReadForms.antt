@@ -8,7 +8,7 @@ use Rattle.clap.specs.Kinds.{Kinds, or_else}
 use Rattle.clap.specs.Faults.{fault_of}
 use Rattle.ob_words.specs.Commands.{program}
 use Rattle.ob_words.specs.Forms.{Choice, AreChoices, ArePlain, IsPlain, IsNoName, lanes_in, turns_in}
-use Rattle.ob_words.specs.Reading.{Asked, asked_at, asked_by, text_at, run_asked, format_asked, unless_refused}
+use Rattle.ob_words.specs.Reading.{Asked, asked_command, asked_by, text_at, run_asked, format_asked, unless_refused}
 use Rattle.ob_words.proofs.Built.{run_built, format_built}
 use Rattle.ob_words.proofs.Few.{few_fail}
 use Rattle.ob_words.proofs.Run.{choice_row, flag_text, run_end, run_keys, run_lanes_read, run_passes, run_reads, run_store, run_turns_text, run_words}
@@ -17,7 +17,7 @@ use Rattle.ob_words.proofs.Asks.{asked_at_all}
 use Rattle.ob_words.proofs.Top.{IsNoCommand, no_command_fails, no_words_fail, format_fault, format_subcommand, run_fault, run_subcommand}
 
 abbrev reads_by : Option (Text × List Row) → Option Asked
-reads_by o = option_and_then (λ p. asked_at p.0 p.1) o
+reads_by o = option_and_then (λ p. asked_command p.0 p.1) o
 
 is_true : (t : Bool) → bytes_eq (flag_text t) (codes "true") ≡ t
 is_true true = refl
@@ -43,7 +43,7 @@ run_law store keys cs ps pk fine =
     let rest = run_words store keys cs in
     let rows = run_end store keys (map choice_row cs) in
     let none = run_fault rest ∙ ap (λ k. or_else k []) (run_passes store keys cs ps pk fine) in
-    let read = ap reads_by (run_subcommand rest) ∙ ap (λ r. asked_at (codes "run") r) (run_reads store keys cs ps pk fine) in
+    let read = ap reads_by (run_subcommand rest) ∙ ap (λ r. asked_command (codes "run") r) (run_reads store keys cs ps pk fine) in
     let flag : bytes_eq (text_at (codes "turns") rows) (codes "true") ≡ turns_in cs =
     ap (λ o. bytes_eq (unwrap_or o []) (codes "true")) (run_turns_text store keys cs (turns_in cs) refl) ∙ is_true (turns_in cs) in
     let one = ap (λ o. run_asked (unwrap_or o []) (text_at (codes "KEYS") rows) (first_of (codes "lanes") rows)
@@ -59,7 +59,7 @@ format_law store keys n l z s r br bw e t plain =
     let rest = format_words store keys n l z s r br bw e t in
     read_is (codes "format" ∷ rest) _
     (format_fault rest ∙ ap (λ k. or_else k []) (format_passes store keys n l z s r br bw e t plain))
-    (ap reads_by (format_subcommand rest) ∙ ap (λ x. asked_at (codes "format") x) (format_reads store keys n l z s r br bw e t plain))
+    (ap reads_by (format_subcommand rest) ∙ ap (λ x. asked_command (codes "format") x) (format_reads store keys n l z s r br bw e t plain))
 
 empty_left : (a b : Kinds) → or_else a b ≡ [] → a ≡ []
 empty_left [] b e = refl

@@ -29,8 +29,8 @@ abbrev pub text_at : Text → List Row → Text
 text_at id rows = unwrap_or (first_of id rows) []
 
 -- what a command asks for, by what a parse found of it
-abbrev pub asked_at : Text → List Row → Option Asked
-asked_at name rows =
+abbrev pub asked_command : Text → List Row → Option Asked
+asked_command name rows =
     if bytes_eq name (codes "format") then Some (format_asked (text_at (codes "STORE") rows) (text_at (codes "KEYS") rows)
     (text_at (codes "N") rows ∷ text_at (codes "L") rows ∷ text_at (codes "Z") rows ∷ text_at (codes "S") rows
     ∷ text_at (codes "R") rows ∷ text_at (codes "BR") rows ∷ text_at (codes "BW") rows ∷ text_at (codes "E") rows
@@ -45,7 +45,7 @@ unless_refused (kind ∷ kinds) asked = None
 
 -- what the words ask for, as a parse of the program's commands reads them: nothing where it has a fault
 unfoldable pub asked_by : List Text → Option Asked
-asked_by words = unless_refused (fault_of program words) (option_and_then (λ p. asked_at p.0 p.1) (subcommand_of program words))
+asked_by words = unless_refused (fault_of program words) (option_and_then (λ p. asked_command p.0 p.1) (subcommand_of program words))
 
 -- what an error of the words is among the program's faults
 abbrev pub fault_for : WordsErr → Fault

@@ -1,3 +1,5 @@
+//! The command line, as its parser is told.
+
 ghost use Rattle.std.specs.Prelude.{◌≡◌, IfOk, false};
 ghost use Rattle.clap.specs.Words.{app_of, with_rule};
 ghost use Rattle.clap.specs.declared.Command.TheViews.{out-Command};
@@ -12,8 +14,10 @@ fn with_operand<'a>(
     command: Command<'a>,
     id: &'a str,
 ) -> Result<Command<'a>, AllocError>
-    ensures app { IfOk result (λ c. app_of c ≡ with_rule (app_of command.entry) (operand id.entry.now)) }
-    ensures local { IfOk result (λ c. (out-Command c).has_globals ≡ (out-Command command.entry).has_globals) }
+    ensures app { IfOk result (λ c. app_of c
+        ≡ with_rule (app_of command.entry) (operand id.entry.now)) }
+    ensures local { IfOk result (λ c. (out-Command c).has_globals
+        ≡ (out-Command command.entry).has_globals) }
 {
     command.arg(Arg::new(alloc, id).required(true))
 }
@@ -24,8 +28,10 @@ fn with_option<'a>(
     command: Command<'a>,
     id: &'a str,
 ) -> Result<Command<'a>, AllocError>
-    ensures app { IfOk result (λ c. app_of c ≡ with_rule (app_of command.entry) (option id.entry.now)) }
-    ensures local { IfOk result (λ c. (out-Command c).has_globals ≡ (out-Command command.entry).has_globals) }
+    ensures app { IfOk result (λ c. app_of c
+        ≡ with_rule (app_of command.entry) (option id.entry.now)) }
+    ensures local { IfOk result (λ c. (out-Command c).has_globals
+        ≡ (out-Command command.entry).has_globals) }
 {
     command.arg(Arg::new(alloc, id).long(id))
 }
@@ -36,8 +42,10 @@ fn with_flag<'a>(
     command: Command<'a>,
     id: &'a str,
 ) -> Result<Command<'a>, AllocError>
-    ensures app { IfOk result (λ c. app_of c ≡ with_rule (app_of command.entry) (flag id.entry.now)) }
-    ensures local { IfOk result (λ c. (out-Command c).has_globals ≡ (out-Command command.entry).has_globals) }
+    ensures app { IfOk result (λ c. app_of c
+        ≡ with_rule (app_of command.entry) (flag id.entry.now)) }
+    ensures local { IfOk result (λ c. (out-Command c).has_globals
+        ≡ (out-Command command.entry).has_globals) }
 {
     command.arg(Arg::new(alloc, id).long(id).action(ArgAction::SetTrue))
 }

@@ -1,7 +1,9 @@
+//! What the words ask for.
+
 ghost use Rattle.std.specs.Prelude.{◌≡◌, ◌≢◌, ◌⊎◌, [], map, option_map, option_and_then, Some, None, MatchResult, codes};
 ghost use Rattle.clap.specs.Words.{first_of, found_of, rows_of, fault_of, kind_of, subcommand_rows_of};
 ghost use Rattle.ob_words.specs.Commands.{program};
-ghost use Rattle.ob_words.specs.Reading.{text_at, asked_of, asked_at, asked_by, fault_for};
+ghost use Rattle.ob_words.specs.Reading.{text_at, asked_of, asked_command, asked_by, fault_for};
 
 use crate::commands::program_command;
 use clap::error::ErrorKind;
@@ -71,7 +73,8 @@ fn value_of<'a>(found: &ArgMatches<'a>, id: &str) -> Option<&'a str>
 }
 
 fn format_request<'a>(found: &ArgMatches<'a>) -> Request<'a>
-    ensures { Some (asked_of result) ≡ asked_at (codes "format") (rows_of (found_of found.now)) }
+    ensures { Some (asked_of result)
+        ≡ asked_command (codes "format") (rows_of (found_of found.now)) }
 {
     Request::Format {
         store: text_of(found, "STORE"),
@@ -89,7 +92,7 @@ fn format_request<'a>(found: &ArgMatches<'a>) -> Request<'a>
 }
 
 fn run_request<'a>(found: &ArgMatches<'a>) -> Request<'a>
-    ensures { Some (asked_of result) ≡ asked_at (codes "run") (rows_of (found_of found.now)) }
+    ensures { Some (asked_of result) ≡ asked_command (codes "run") (rows_of (found_of found.now)) }
 {
     Request::Run {
         store: text_of(found, "STORE"),
@@ -101,7 +104,8 @@ fn run_request<'a>(found: &ArgMatches<'a>) -> Request<'a>
 
 // The request of a parse: none where it met no command of the program.
 fn request_of<'a>(matches: &ArgMatches<'a>) -> Option<Request<'a>>
-    ensures { option_map asked_of result ≡ option_and_then (λ p. asked_at p.0 p.1) (subcommand_rows_of matches.now) }
+    ensures { option_map asked_of result
+        ≡ option_and_then (λ p. asked_command p.0 p.1) (subcommand_rows_of matches.now) }
 {
     let (name, found) = matches.subcommand()?;
     if name == "format" {
@@ -130,10 +134,13 @@ fn cause_of(error: &Error) -> WordsErr
 /// # Errors
 /// `Usage` where the parse refuses them for another cause than memory, and then only; `Memory`.
 pub fn read_words<'a>(alloc: Global, words: &'a [&'a str]) -> Result<Request<'a>, WordsErr>
-    ensures asked { MatchResult result (λ r. asked_by (map (λ w. w.now) words.entry.now) ≡ Some (asked_of r))
-        (λ e. (e ≡ WordsErr.Memory) ⊎ ((e ≡ WordsErr.Usage) × (asked_by (map (λ w. w.now) words.entry.now) ≡ None))) }
+    ensures asked { MatchResult result (λ r. asked_by (map (λ w. w.now) words.entry.now)
+        ≡ Some (asked_of r))
+        (λ e. (e ≡ WordsErr.Memory)
+        ⊎ ((e ≡ WordsErr.Usage) × (asked_by (map (λ w. w.now) words.entry.now) ≡ None))) }
     // The parse's own list of faults is empty where they are read, and isn't where they are refused.
-    ensures faults { MatchResult result (λ r. fault_of program (map (λ w. w.now) words.entry.now) ≡ [])
+    ensures faults { MatchResult result (λ r. fault_of program (map (λ w. w.now) words.entry.now)
+        ≡ [])
         (λ e. (e ≡ WordsErr.Memory) ⊎ (fault_of program (map (λ w. w.now) words.entry.now) ≢ [])) }
 {
     let Ok(command) = program_command(alloc) else {

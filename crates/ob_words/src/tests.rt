@@ -1,3 +1,5 @@
+//! Words, good and bad.
+
 use crate::{Request, WordsErr, read_words};
 use std::process::Abort;
 use std::test::Fail;

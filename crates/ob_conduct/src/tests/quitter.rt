@@ -3,7 +3,7 @@
 ghost use Rattle.std.specs.Prelude.{◌≡◌, ◌++◌, ℕ, List, [], All, false, true, None, Some};
 ghost use Rattle.ob_desk.specs.Desk.{Call, Reply};
 ghost use Rattle.ob_session.specs.Steps.{steps_of, Leads, IsOwn};
-ghost use Rattle.ob_session.specs.Clients.{said_by, stands_after};
+ghost use Rattle.ob_session.specs.Clients.{said_by, stands_after, IsOneCall};
 ghost use Rattle.ob_session.specs.Agreeing.{Agrees};
 ghost use Rattle.ob_conduct.specs.Quitting.{Quits, QuitterStep};
 
@@ -38,9 +38,13 @@ impl Quitter {
         requires new { self.old.txn ≡ None }
         requires not_over { self.old.over ≡ false }
         requires not_gone { self.old.gone ≡ false }
-        requires agrees { (said : List (Call × Reply)) × Quits self.old.client self.old.txn self.old.over self.old.gone said × Agrees desk.old self.old.client said }
+        requires agrees { (said : List (Call × Reply))
+            × Quits self.old.client self.old.txn self.old.over self.old.gone said
+            × Agrees desk.old self.old.client said }
         ensures client { self.new.client ≡ self.old.client }
-        ensures stepped { QuitterStep self.old.client self.old.txn self.old.over self.old.gone self.new.txn self.new.over self.new.gone desk.old desk.new (steps_of result.1) result.0 }
+        ensures stepped { QuitterStep self.old.client self.old.txn self.old.over self.old.gone
+            self.new.txn self.new.over self.new.gone desk.old desk.new (steps_of result.1)
+            result.0 }
     {
         let client = self.client;
         let Ok(reply) = desk.begin(client) else {
@@ -65,9 +69,13 @@ impl Quitter {
         requires begun { self.old.txn ≡ Some txn }
         requires not_over { self.old.over ≡ false }
         requires not_gone { self.old.gone ≡ false }
-        requires agrees { (said : List (Call × Reply)) × Quits self.old.client self.old.txn self.old.over self.old.gone said × Agrees desk.old self.old.client said }
+        requires agrees { (said : List (Call × Reply))
+            × Quits self.old.client self.old.txn self.old.over self.old.gone said
+            × Agrees desk.old self.old.client said }
         ensures client { self.new.client ≡ self.old.client }
-        ensures stepped { QuitterStep self.old.client self.old.txn self.old.over self.old.gone self.new.txn self.new.over self.new.gone desk.old desk.new (steps_of result.1) result.0 }
+        ensures stepped { QuitterStep self.old.client self.old.txn self.old.over self.old.gone
+            self.new.txn self.new.over self.new.gone desk.old desk.new (steps_of result.1)
+            result.0 }
     {
         let why = desk.abort(&txn);
         self.over = true;
@@ -77,9 +85,13 @@ impl Quitter {
     fn leave(&mut self, desk: &mut Desk) -> (Step, Made)
         requires over { self.old.over ≡ true }
         requires not_gone { self.old.gone ≡ false }
-        requires agrees { (said : List (Call × Reply)) × Quits self.old.client self.old.txn self.old.over self.old.gone said × Agrees desk.old self.old.client said }
+        requires agrees { (said : List (Call × Reply))
+            × Quits self.old.client self.old.txn self.old.over self.old.gone said
+            × Agrees desk.old self.old.client said }
         ensures client { self.new.client ≡ self.old.client }
-        ensures stepped { QuitterStep self.old.client self.old.txn self.old.over self.old.gone self.new.txn self.new.over self.new.gone desk.old desk.new (steps_of result.1) result.0 }
+        ensures stepped { QuitterStep self.old.client self.old.txn self.old.over self.old.gone
+            self.new.txn self.new.over self.new.gone desk.old desk.new (steps_of result.1)
+            result.0 }
     {
         let client = self.client;
         desk.sign_off(client);
@@ -100,6 +112,8 @@ impl Runner for Quitter {
     ghost plan = { λ q. tt };
 
     ghost fits = { λ q said. Quits q.client q.txn q.over q.gone said };
+
+    ghost turn = { λ plan client said steps. IsOneCall said steps };
 
     fn step(&mut self, desk: &mut Desk) -> (Step, Made) {
         if self.gone {

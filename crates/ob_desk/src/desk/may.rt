@@ -9,6 +9,7 @@ use crate::desk::Desk;
 use crate::part::{goes_on, has_asked};
 use crate::roll::client_in;
 use ob_base::{Key, NUMBER_LIMIT};
+use ob_order::EpochOrder;
 
 impl Desk {
     fn is_here(&self, number: u32) -> bool
@@ -58,6 +59,7 @@ impl Desk {
         self.running.order.waiting(txn.ticket)
     }
 
+    /// Whether this transaction may be aborted.
     pub fn may_abort(&self, txn: &Txn) -> bool
         ensures { result ≡ true → desks.MayCall self.now (desks.Abort txn.now) }
     {
@@ -70,6 +72,7 @@ impl Desk {
         self.is_open(txn)
     }
 
+    /// Whether this transaction may be committed.
     pub fn may_commit(&self, txn: &Txn) -> bool
         ensures { result ≡ true → desks.MayCall self.now (desks.Commit txn.now) }
     {
@@ -82,6 +85,7 @@ impl Desk {
         self.is_open(txn) && self.waits_for(txn).is_none()
     }
 
+    /// Whether this transaction may get, put or delete this key.
     pub fn may_access(&self, txn: &Txn, key: Key) -> bool
         ensures commit { result ≡ true → desks.MayCall self.now (desks.Commit txn.now) }
         ensures key { result ≡ true → key < self.now.setup.params.keys }
@@ -89,6 +93,7 @@ impl Desk {
         self.may_commit(txn) && key < self.running.order.params().keys
     }
 
+    /// Whether this transaction may ask again for the get that waits.
     pub fn may_poll(&self, txn: &Txn) -> bool
         ensures { result ≡ true → desks.MayCall self.now (desks.Poll txn.now) }
     {
@@ -101,12 +106,14 @@ impl Desk {
         self.is_live(txn) && self.waits_for(txn).is_some()
     }
 
+    /// Whether the outcome of this transaction may be asked for.
     pub fn may_settle(&self, txn: &Txn) -> bool
         ensures { result ≡ true → desks.MayCall self.now (desks.Settled txn.now) }
     {
         self.is_last(txn)
     }
 
+    /// Whether the client of this number may begin a transaction.
     pub fn may_begin(&self, number: u32) -> bool
         ensures { result ≡ true → desks.MayCall self.now (desks.Begin number) }
     {
@@ -118,18 +125,21 @@ impl Desk {
         }
     }
 
+    /// Whether the driver may look: no end is under way.
     pub fn may_look(&self) -> bool
         ensures { result ≡ true → desks.MayCall self.now desks.Looks }
     {
         !self.is_closed
     }
 
+    /// Whether a batch may be taken.
     pub fn may_take(&self) -> bool
         ensures { result ≡ true → desks.MayCall self.now desks.TakeBatch }
     {
         !self.is_closed && self.running.order.left() > 0 && self.running.order.in_flight() == 0
     }
 
+    /// Whether the epoch may be closed.
     pub fn may_close(&self) -> bool
         ensures { result ≡ true → desks.MayCall self.now desks.Close }
     {
@@ -139,6 +149,7 @@ impl Desk {
             && self.stopped.is_none()
     }
 
+    /// Whether the closed epoch may be published under this number, with so many batches left.
     pub fn may_publish(&self, epoch: u64, left: u32) -> bool
         ensures { result ≡ true → desks.MayCall self.now (desks.Publish epoch left) }
     {
@@ -150,7 +161,8 @@ impl Desk {
 
     // It has asked to commit, if it goes on.
     fn has_left(&self, txn: &Txn) -> bool
-        ensures { result ≡ true → desks.IsLive self.now txn.now → desks.asked_at self.now.running txn.now.ticket ≡ true }
+        ensures { result ≡ true → desks.IsLive self.now txn.now
+            → desks.asked_at self.now.running txn.now.ticket ≡ true }
     {
         if !goes_on(&self.running.order, txn.ticket) {
             return true;
@@ -158,6 +170,7 @@ impl Desk {
         self.asked(txn)
     }
 
+    /// Whether the client of this number may sign off.
     pub fn may_sign_off(&self, number: u32) -> bool
         ensures { result ≡ true → desks.MayCall self.now (desks.SignOff number) }
     {
@@ -169,6 +182,7 @@ impl Desk {
         }
     }
 
+    /// Whether the epoch is closed and its end under way.
     pub fn is_closed(&self) -> bool
         ensures { result ≡ is_some self.now.closed }
     {

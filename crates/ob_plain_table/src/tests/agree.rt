@@ -1,3 +1,5 @@
+//! Whether planner and plain table agree.
+
 ghost use Rattle.std.specs.Prelude.{◌≡◌, ◌<◌, ℕ};
 ghost use Rattle.ob_base.specs.Tree.{buckets};
 

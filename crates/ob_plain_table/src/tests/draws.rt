@@ -1,3 +1,5 @@
+//! Random asks and writes.
+
 use crate::tests::world::World;
 use ob_base::{Key, Memory, Value, Write};
 

@@ -1,3 +1,5 @@
+//! An epoch of both.
+
 ghost use Rattle.std.specs.Prelude.{◌≡◌, ℕ, ◌<◌, OnOk, IfOk, IfSome, None, slice_index_or, length, true};
 ghost use Rattle.ob_base.specs.Planned.{most_jobs, job_at};
 ghost use Rattle.ob_base.specs.Tree.{buckets, width};
@@ -235,6 +237,7 @@ fn write(
 // The 96 bytes of a slot that holds a key's row, or none.
 fn slot_bytes(world: &World, key: Option<Key>) -> [u8; 96] {
     let mut bytes = [0; 96];
+    // The prover has to see this type named here.
     let _told: Option<Value> = None;
     match key {
         Some(key) => {

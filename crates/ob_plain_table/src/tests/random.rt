@@ -1,3 +1,5 @@
+//! Random words from a seed.
+
 ghost use Rattle.std.specs.Prelude.{◌<◌};
 
 /// Words that follow from a seed (a xorshift generator).

@@ -1,3 +1,5 @@
+//! Cells as a table from slots to rows.
+
 ghost use Rattle.std.specs.Prelude.{◌≡◌, IfOk};
 
 use crate::tests::random::Random;
@@ -57,6 +59,7 @@ impl World {
     pub(crate) fn new(alloc: Global, p: &Params, seed: u64, limit: u64) -> Result<World, Memory>
         ensures { IfOk result (λ w. w.p ≡ p.now) }
     {
+        // The prover has to see this type named here.
         let _told: Option<Value> = None;
         let width = (p.real + p.dummies) as usize;
         let buckets = (2usize << p.levels) - 1;

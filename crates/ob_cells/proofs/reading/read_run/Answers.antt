@@ -1,18 +1,18 @@
-use Rattle.std.proofs.Common.{◌/◌, length, arith}
-use Rattle.ob_store.proofs.Doing.{does_err}
-use Rattle.ob_cells.specs.Orders.{read_notes}
+use Rattle.std.proofs.Common.{◌≡◌, ◌/◌, length, arith}
 use Rattle.ob_cells.specs.Runs.{run_at}
-use Rattle.ob_cells.proofs.Notes.{first_told, first_part, read_more, read_part}
+use Rattle.ob_cells.proofs.Notes.{first_told, read_more}
 use Rattle.ob_cells.proofs.RunReads.{run_first_at, run_more_at, stopped_first_at, stopped_more_at}
+use Rattle.ob_cells.proofs.Stopping.{fault_first, fault_more, does_first, does_more, read_all}
 use Rattle.ob_cells.proofs.reading.read_run.Goals as goal
 
-pub returns-in-Err-clause-value : goal.returns-in-Err-clause-value
-returns-in-Err-clause-value g c = λ tells.
-    stopped_first_at c.args.sealer.now.keys c.args.base (g.S.Store.disk c.args.store.now).cells (length c.args.plain.now / 96) c.args.plain.now c.in-Err.fault (omega arith) (c.in-Err.ensures.value tells)
-
-pub returns-in-Err-clause-does : goal.returns-in-Err-clause-does
-returns-in-Err-clause-does g c = does_err _ _ _ _ (read_notes c.args.base (length c.args.plain.now / 96)) c.in-Err.fault
-    (first_part c.args.base _ _ _ _ (length c.args.plain.now / 96) (omega arith) c.in-Err.ensures.told)
+pub returns-in-Err-clause-run : goal.returns-in-Err-clause-run
+returns-in-Err-clause-run g c =
+    let many = length c.args.plain.now / 96 in
+    record {
+      value = λ tells. stopped_first_at c.args.sealer.now.keys c.args.base (g.S.Store.disk c.args.store.now).cells many c.args.plain.now c.in-Err.fault (omega arith) (c.in-Err.ensures.value tells);
+      faults = fault_first c.args.base many c.in-Err.fault (omega arith) c.in-Err.ensures.faults;
+      does = does_first c.args.base many _ _ _ _ c.in-Err.fault (omega arith) c.in-Err.ensures.faults c.in-Err.ensures.told;
+    }
 
 pub loop-i-init : goal.loop-i-init
 loop-i-init g c = record {
@@ -21,14 +21,22 @@ loop-i-init g c = record {
   tells = first_told c.args.base _ _ _ _ c.in-Ok.ensures.told;
 }
 
-pub returns-in-Err-read_next-clause-value : goal.returns-in-Err-read_next-clause-value
-returns-in-Err-read_next-clause-value g c = λ tells.
-    stopped_more_at c.args.sealer.now.keys c.args.base (run_at c.args.base (g.S.Store.disk c.args.store.now).cells) (length c.args.plain.now / 96) c.loop-i.i (record { generation = c.in-Ok.opened.generation; number = c.in-Ok.opened.number })
-    c.loop-i.plain c.loop-i.plain c.in-Err-read_next.fault _ (omega arith) (omega arith) c.seal_at.ensures (c.loop-i.invariant.run tells) (c.in-Err-read_next.ensures.value tells)
+pub returns-in-Err-read_next-clause-run : goal.returns-in-Err-read_next-clause-run
+returns-in-Err-read_next-clause-run g c =
+    let many = length c.args.plain.now / 96 in
+    record {
+      value = λ tells.
+          stopped_more_at c.args.sealer.now.keys c.args.base (run_at c.args.base (g.S.Store.disk c.args.store.now).cells) many c.loop-i.i (record { generation = c.in-Ok.opened.generation; number = c.in-Ok.opened.number })
+          c.loop-i.plain c.loop-i.plain c.in-Err-read_next.fault _ (omega arith) (omega arith) c.seal_at.ensures (c.loop-i.invariant.run tells) (c.in-Err-read_next.ensures.value tells);
+      faults = fault_more c.args.base many c.loop-i.i c.in-Err-read_next.fault (omega arith) c.in-Err-read_next.ensures.faults;
+      does = does_more c.args.base many c.loop-i.i _ _ _ _ _ _ c.in-Err-read_next.fault (omega arith) c.in-Err-read_next.ensures.faults c.loop-i.invariant.tells c.in-Err-read_next.ensures.told;
+    }
 
-pub returns-in-Err-read_next-clause-does : goal.returns-in-Err-read_next-clause-does
-returns-in-Err-read_next-clause-does g c = does_err _ _ _ _ (read_notes c.args.base (length c.args.plain.now / 96)) c.in-Err-read_next.fault
-    (read_part c.args.base c.loop-i.i _ _ _ _ _ _ c.loop-i.invariant.tells c.in-Err-read_next.ensures.told (length c.args.plain.now / 96) (omega arith))
+pub returns-clause-run : goal.returns-clause-run
+returns-clause-run g c =
+    let many = length c.args.plain.now / 96 in
+    let whole : c.loop-i.i ≡ many = omega arith in
+    read_all c.args.sealer.now.keys c.args.base many c.loop-i.i (g.S.Store.disk c.args.store.now) c.loop-i.plain _ _ _ _ (record { generation = c.in-Ok.opened.generation; number = c.in-Ok.opened.number }) whole c.loop-i.invariant.run c.loop-i.invariant.tells
 
 pub loop-i-preserved : goal.loop-i-preserved
 loop-i-preserved g c = record {

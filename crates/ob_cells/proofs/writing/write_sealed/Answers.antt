@@ -3,23 +3,12 @@ use Rattle.ob_store.specs.Runs.{write_notes}
 use Rattle.ob_store.specs.Told.{Tells}
 use Rattle.ob_store.proofs.Doing.{does_all, does_refused}
 use Rattle.ob_store.proofs.Runs.{one_more, passes_one, elsewhere_one, told_next, first_run}
+use Rattle.ob_cells.proofs.Written.{refused_run, sealing_on}
 use Rattle.ob_cells.proofs.Listed.{sealed_rows, sealed_at, length-rows, rest_of, passes_of, whole_of}
 use Rattle.ob_cells.proofs.writing.write_sealed.Goals as goal
 
-pub returns-in_err-write_noted-clause-rest : goal.returns-in_err-write_noted-clause-rest
-returns-in_err-write_noted-clause-rest g c = λ tells.
-    let before = c.args.sealer.now in
-    let plain = g.P.Pieces.plain c.args.pieces.now in
-    let rows = sealed_rows before c.args.base c.args.many plain in
-    let old = g.S.Store.disk c.args.store.now in
-    let mid = g.S.Store.disk c.loop-i.store in
-    let new = g.S.Store.disk c.write_noted.new.store in
-    let within : c.loop-i.i < length rows = omega (arith, length-rows before c.args.base c.args.many plain, c.loop-i-test.true) in
-    rest_of before c.args.base c.args.many plain new.cells old.cells
-    (elsewhere_one c.args.base rows c.loop-i.i old mid new within c.loop-i.invariant.writing (λ t. c.write_noted.ensures.rest (c.loop-i.invariant.writing.tells t)) tells)
-
-pub returns-in_err-write_noted-clause-passes : goal.returns-in_err-write_noted-clause-passes
-returns-in_err-write_noted-clause-passes g c =
+pub returns-in_err-write_noted-clause-run : goal.returns-in_err-write_noted-clause-run
+returns-in_err-write_noted-clause-run g c =
     let before = c.args.sealer.now in
     let plain = g.P.Pieces.plain c.args.pieces.now in
     let rows = sealed_rows before c.args.base c.args.many plain in
@@ -28,7 +17,18 @@ returns-in_err-write_noted-clause-passes g c =
     let new = g.S.Store.disk c.write_noted.new.store in
     let within : c.loop-i.i < length rows = omega (arith, length-rows before c.args.base c.args.many plain, c.loop-i-test.true) in
     let e = c.write_noted.ensures in
-    passes_of before c.args.base c.args.many plain old new (passes_one c.args.base rows c.loop-i.i old mid new within c.loop-i.invariant.writing e.serves.goes e.crash e.time)
+    refused_run c.args.base c.args.many plain before _ old new c.from_residual.result c.from_residual.ensures.0
+    (record {
+      keys = ap (λ s. s.keys) c.seal_next.ensures.next ∙ c.loop-i.invariant.keys;
+      generation = ap (λ s. s.generation) c.seal_next.ensures.next ∙ c.loop-i.invariant.generation;
+      on = (let now = ap (λ s. s.next) c.seal_next.ensures.next in let then = c.loop-i.invariant.next in omega arith);
+      within = (let now = ap (λ s. s.next) c.seal_next.ensures.next in let then = c.loop-i.invariant.next in omega (arith, c.loop-i-test.true));
+    })
+    (record {
+      rest = λ tells. rest_of before c.args.base c.args.many plain new.cells old.cells
+          (elsewhere_one c.args.base rows c.loop-i.i old mid new within c.loop-i.invariant.writing (λ t. e.rest (c.loop-i.invariant.writing.tells t)) tells);
+      passes = passes_of before c.args.base c.args.many plain old new (passes_one c.args.base rows c.loop-i.i old mid new within c.loop-i.invariant.writing e.serves.goes e.crash e.time);
+    })
 
 pub returns-in_err-write_noted-clause-does : goal.returns-in_err-write_noted-clause-does
 returns-in_err-write_noted-clause-does g c =
@@ -59,19 +59,30 @@ loop-i-preserved g c =
       next = (let now = ap (λ s. s.next) c.seal_next.ensures.next in let then = c.loop-i.invariant.next in omega arith);
     }
 
-pub returns-clause-written : goal.returns-clause-written
-returns-clause-written g c = λ tells.
+pub returns-clause-run : goal.returns-clause-run
+returns-clause-run g c =
     let before = c.args.sealer.now in
     let plain = g.P.Pieces.plain c.args.pieces.now in
-    whole_of before c.args.base c.args.many plain c.loop-i.i (g.S.Store.disk c.args.store.now) (g.S.Store.disk c.loop-i.store) (omega arith) c.requires.room c.loop-i.invariant.writing tells
-
-pub returns-clause-rest : goal.returns-clause-rest
-returns-clause-rest g c = λ tells.
-    rest_of c.args.sealer.now c.args.base c.args.many (g.P.Pieces.plain c.args.pieces.now) (g.S.Store.disk c.loop-i.store).cells (g.S.Store.disk c.args.store.now).cells (c.loop-i.invariant.writing.elsewhere tells)
-
-pub returns-clause-passes : goal.returns-clause-passes
-returns-clause-passes g c =
-    passes_of c.args.sealer.now c.args.base c.args.many (g.P.Pieces.plain c.args.pieces.now) (g.S.Store.disk c.args.store.now) (g.S.Store.disk c.loop-i.store) c.loop-i.invariant.writing.passes
+    let old = g.S.Store.disk c.args.store.now in
+    let new = g.S.Store.disk c.loop-i.store in
+    let all : c.loop-i.i ≡ c.args.many = omega (arith, c.loop-i-test.false, c.loop-i.auto.i-end) in
+    record {
+      written = λ tells. whole_of before c.args.base c.args.many plain c.loop-i.i old new (omega arith) c.requires.room c.loop-i.invariant.writing tells;
+      whole = λ i lt. c.loop-i.invariant.whole i (omega arith);
+      seals = record {
+        all = sealing_on before c.loop-i.sealer c.args.many c.loop-i.invariant.keys c.loop-i.invariant.generation (c.loop-i.invariant.next ∙ ap (λ n. before.next + n) all);
+        some = record {
+          keys = c.loop-i.invariant.keys;
+          generation = c.loop-i.invariant.generation;
+          on = (let then = c.loop-i.invariant.next in omega arith);
+          within = (let then = c.loop-i.invariant.next in omega arith);
+        };
+      };
+      within = record {
+        rest = λ tells. rest_of before c.args.base c.args.many plain new.cells old.cells (c.loop-i.invariant.writing.elsewhere tells);
+        passes = passes_of before c.args.base c.args.many plain old new c.loop-i.invariant.writing.passes;
+      };
+    }
 
 pub returns-clause-does : goal.returns-clause-does
 returns-clause-does g c =

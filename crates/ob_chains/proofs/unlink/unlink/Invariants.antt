@@ -1,7 +1,7 @@
 use Rattle.std.proofs.Common.{◌≡◌, ℕ, ◌+◌, ◌≤◌, ◌==◌, ◌&&◌, if◌then◌else◌, take, is_some, None}
 use Rattle.ob_order.specs.Works as works
 use Rattle.ob_order.specs.Order.{count_below}
-use Rattle.ob_chains.specs.Tables.{link_at, has_links, SameBases, SameReaders, KeepsRoom}
+use Rattle.ob_chains.specs.Tables.{link_at, has_links, SameBases, SameReaders, KeepsChainRoom}
 use Rattle.ob_chains.proofs.unlink.unlink.Given as goal
 
 -- what the operations so far wrote has gone
@@ -11,5 +11,5 @@ invariant-loop-op l =
     × (count_below (has_links l.fn.table) l.keys ≡ count_below (has_links l.table) l.keys + l.lost)
     × (l.lost ≤ l.op-index)
     × SameBases l.fn.table l.table
-    × KeepsRoom l.fn.table l.table
+    × KeepsChainRoom l.fn.table l.table
     × SameReaders l.fn.table l.table

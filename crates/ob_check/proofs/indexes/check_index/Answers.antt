@@ -15,8 +15,9 @@ returns c =
     let xs : List ℕ = ranks_in p bytes c.args.u c.args.i in
     let rank : slice_index_or bytes c.index_place-place.result 0 ≡ rank_in p bytes c.args.u c.args.i = ap (λ n. slice_index_or bytes n 0) at in
     let mark : slice_index_or bytes (c.index_place-place.result + 1) 0 ≡ mark_in p bytes c.args.u c.args.i = ap (λ n. slice_index_or bytes (n + 1) 0) at in
-    two_rules _ _ _ _ _ _ _ c.first.ensures c.check-one.ensures c.check-other.ensures
-    (rule_is _ _ _ _ _ _ _ _ at rank (c.may_rank.ensures 48 xs few c.requires.taken ∙ ap (may_rank p xs) rank) (c.least_rank.ensures 48 xs few c.requires.taken))
+    two_rules _ _ _ _ _ _ _ c.first.ensures (c.check_rank-one.ensures 48 xs few c.requires.taken) c.check-other.ensures
+    (rule_is _ _ _ _ _ _ _ _ at rank (ap (may_rank p xs) rank) refl)
     (rule_is _ _ _ _ _ _ _ _ (ap (λ n. n + 1) at) mark
-    (c.may_mark-marks.ensures ∙ ap (λ (h : Bool). may_mark p h c.args.shown (slice_index_or bytes (c.index_place-place.result + 1) 0)) c.holds_key.ensures ∙ ap (λ n. may_mark p (holds_key p bytes c.args.u c.args.i) n (slice_index_or bytes (c.index_place-place.result + 1) 0)) c.requires.shown ∙ ap (may_mark p (holds_key p bytes c.args.u c.args.i) (shown_in p bytes c.args.u c.args.i)) mark)
+    (c.may_mark-marks.ensures ∙ ap (λ (h : Bool). may_mark p h c.args.shown (slice_index_or bytes (c.index_place-place.result + 1) 0)) c.holds_key.ensures ∙ ap
+    (λ n. may_mark p (holds_key p bytes c.args.u c.args.i) n (slice_index_or bytes (c.index_place-place.result + 1) 0)) c.requires.shown ∙ ap (may_mark p (holds_key p bytes c.args.u c.args.i) (shown_in p bytes c.args.u c.args.i)) mark)
     refl)

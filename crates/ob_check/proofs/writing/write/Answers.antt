@@ -2,10 +2,10 @@ use Rattle.std.proofs.Common.{◌≤◌, [], arith, sym, ap, length, List, ℕ}
 use Rattle.std.proofs.lemmas.List.{length-take-le}
 use Rattle.ob_base.specs.declared.fault.Fault.TheVariants.{Worn}
 use Rattle.ob_base.specs.Layout.{checkpoint_cells}
+use Rattle.ob_base.proofs.LayoutLaws.{checkpoint_cells_hold}
 use Rattle.ob_store.specs.Runs.{write_notes}
 use Rattle.ob_store.proofs.Doing.{does_err, first_more, first_all, tells_none}
 use Rattle.ob_check.specs.Written.{area_of}
-use Rattle.ob_check.proofs.PlaceLaws.{cells_hold}
 use Rattle.ob_check.proofs.writing.write.Goals as goal
 
 pub returns-then-next-many-gt-NUMBER_LIMIT-clause-does : goal.returns-then-next-many-gt-NUMBER_LIMIT-clause-does
@@ -18,5 +18,5 @@ returns-then-next-many-gt-NUMBER_LIMIT-clause-does g c =
 pub slice_bounds-pieces-end : goal.slice_bounds-pieces-end
 slice_bounds-pieces-end g c =
     let long : c.checkpoint_len.result ≤ length c.bytes.result.now =
-    omega (arith, cells_hold c.args.p.now, c.requires.sheet, c.spell.ensures.long, ap (λ (xs : List ℕ). length xs) c.bytes.ensures, c.checkpoint_len.ensures.len) in
+    omega (arith, checkpoint_cells_hold c.args.p.now, c.requires.sheet, c.spell.ensures.long, ap (λ (xs : List ℕ). length xs) c.bytes.ensures, c.checkpoint_len.ensures.len) in
     sym (length-take-le c.checkpoint_len.result c.bytes.result.now long)

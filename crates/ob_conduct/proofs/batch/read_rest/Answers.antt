@@ -2,7 +2,7 @@ use Rattle.std.proofs.Common.{◌∙◌, refl, [], ◌++◌, ◌∷◌, ap, subs
 use Rattle.ob_base.specs.declared.params.Params.{Params}
 use Rattle.ob_serial.specs.VaultKinds.{kind_of}
 use Rattle.ob_conduct.specs.Scenes.{scene}
-use Rattle.ob_conduct.specs.Moves.{Reads}
+use Rattle.ob_conduct.specs.Moves.{ReadsBatches}
 use Rattle.ob_conduct.proofs.Batches.{reads_none, reads_more, fails_behind}
 use Rattle.ob_conduct.proofs.batch.read_rest.Goals as goal
 
@@ -20,8 +20,9 @@ loop-desk-preserved g c =
     let i = c.loop-desk.invariant in
     let e = c.in-Ok.ensures in
     let (batch, one) = e.read in
-    let read : Reads _ (g.V.Vault.params c.args.vault.now) (scene c.loop-desk.desk c.loop-desk.vault (g.W.Watch.trace c.loop-desk.watch)) (batch ∷ []) (scene c.read_batch.new.desk c.read_batch.new.vault (g.W.Watch.trace c.read_batch.new.watch)) (g.V.Vault.counts c.read_batch.new.vault) =
-    subst (λ (p : Params). Reads (kind_of g.V.Vault.holds g.V.Vault.sound g.V.Vault.stands g.V.Vault.disk g.V.Vault.called) p (scene c.loop-desk.desk c.loop-desk.vault (g.W.Watch.trace c.loop-desk.watch)) (batch ∷ []) (scene c.read_batch.new.desk c.read_batch.new.vault (g.W.Watch.trace c.read_batch.new.watch)) (g.V.Vault.counts c.read_batch.new.vault)) i.params one in
+    let read : ReadsBatches _ (g.V.Vault.params c.args.vault.now) (scene c.loop-desk.desk c.loop-desk.vault (g.W.Watch.trace c.loop-desk.watch)) (batch ∷ []) (scene c.read_batch.new.desk c.read_batch.new.vault (g.W.Watch.trace c.read_batch.new.watch)) (g.V.Vault.counts c.read_batch.new.vault) =
+    subst (λ (p : Params). ReadsBatches (kind_of g.V.Vault) p (scene c.loop-desk.desk c.loop-desk.vault (g.W.Watch.trace c.loop-desk.watch)) (batch ∷ []) (scene c.read_batch.new.desk c.read_batch.new.vault (g.W.Watch.trace c.read_batch.new.watch))
+    (g.V.Vault.counts c.read_batch.new.vault)) i.params one in
     record {
       params = e.params ∙ i.params;
       goes_on = one.same_stop ∙ i.goes_on;

@@ -2,7 +2,7 @@ use Rattle.std.proofs.Common.{◌≡◌, None, length, List}
 use Rattle.ob_serial.specs.VaultKinds.{kind_of}
 use Rattle.ob_conduct.specs.Acts.{Batch}
 use Rattle.ob_conduct.specs.Scenes.{scene}
-use Rattle.ob_conduct.specs.Moves.{Reads}
+use Rattle.ob_conduct.specs.Moves.{ReadsBatches}
 use Rattle.ob_conduct.proofs.batch.read_rest.Given as goal
 
 abbrev pub decreases-loop-desk : goal.decreases-loop-desk
@@ -14,5 +14,5 @@ invariant-loop-desk g l = record {
   goes_on : l.desk.stop ≡ None;
   places : length l.asks ≡ (g.V.Vault.params l.fn.vault).places;
   room : length l.found ≡ (g.V.Vault.params l.fn.vault).places;
-  read : (batches : List Batch) × Reads (kind_of g.V.Vault.holds g.V.Vault.sound g.V.Vault.stands g.V.Vault.disk g.V.Vault.called) (g.V.Vault.params l.fn.vault) (scene l.fn.desk l.fn.vault (g.W.Watch.trace l.fn.watch)) batches (scene l.desk l.vault (g.W.Watch.trace l.watch)) (g.V.Vault.counts l.vault);
+  read : (batches : List Batch) × ReadsBatches (kind_of g.V.Vault) (g.V.Vault.params l.fn.vault) (scene l.fn.desk l.fn.vault (g.W.Watch.trace l.fn.watch)) batches (scene l.desk l.vault (g.W.Watch.trace l.watch)) (g.V.Vault.counts l.vault);
 }

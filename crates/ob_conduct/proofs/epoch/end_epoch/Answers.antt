@@ -1,33 +1,32 @@
 use Rattle.std.proofs.Common.{◌∙◌, refl}
 use Rattle.ob_base.specs.declared.fault.Fault.TheVariants.{SinkFault}
 use Rattle.ob_serial.specs.Views.{record_of}
-use Rattle.ob_conduct.specs.Scenes.{scene}
 use Rattle.ob_conduct.proofs.Batches.{stop_is}
 use Rattle.ob_conduct.proofs.Moving.{moves_one}
 use Rattle.ob_conduct.proofs.Acting.{unread, ended, unended, unwritten}
 use Rattle.ob_conduct.proofs.epoch.end_epoch.Goals as goal
 
 pub returns-in-Err-clause-refused : goal.returns-in-Err-clause-refused
-returns-in-Err-clause-refused g c = λ passes look seen may end.
+returns-in-Err-clause-refused g c = λ beat look seen may end.
     let (batches, fails) = c.in-Err.ensures.refused in
-    unread _ c.args.params.now passes _ _ _ look c.requires.ready c.requires.goes_on seen _ batches c.in-Err.fault may end fails
+    unread _ c.args.params.now beat _ _ _ look c.requires.ready c.requires.goes_on seen _ batches c.in-Err.fault may end fails
 
 pub returns-in-Err-close-clause-refused : goal.returns-in-Err-close-clause-refused
-returns-in-Err-close-clause-refused g c = λ passes look seen may end.
+returns-in-Err-close-clause-refused g c = λ beat look seen may end.
     let (batches, read) = c.in-Ok.ensures.read in
-    unended _ c.args.params.now passes _ _ _ look c.requires.ready c.requires.goes_on seen batches _ _ read may end _ c.in-Err-close.fault c.in-Err-close.ensures.refused
+    unended _ c.args.params.now beat _ _ _ look c.requires.ready c.requires.goes_on seen batches _ _ read may end _ c.in-Err-close.fault c.in-Err-close.ensures.refused
 
 pub returns-in-Ok-text-clause-ended : goal.returns-in-Ok-text-clause-ended
-returns-in-Ok-text-clause-ended g c = λ passes look seen may end.
+returns-in-Ok-text-clause-ended g c = λ beat look seen may end.
     let (batches, read) = c.in-Ok.ensures.read in
-    ended _ c.args.params.now passes _ _ _ look c.requires.ready c.requires.goes_on seen batches _ _ read may end _ _ _ (record_of c.in-Ok-close.told) c.in-Ok-close.ensures.ended
+    ended _ c.args.params.now beat _ _ _ look c.requires.ready c.requires.goes_on seen batches _ _ read may end _ _ _ (record_of c.in-Ok-close.told) c.in-Ok-close.ensures.ended
     (record { bytes = rw c.in-Ok-text.is at c.text.ensures.all; later = c.text.ensures.cause.later })
 
 pub returns-clause-refused : goal.returns-clause-refused
-returns-clause-refused g c = λ passes look seen may end.
+returns-clause-refused g c = λ beat look seen may end.
     let (batches, read) = c.in-Ok.ensures.read in
     let e = c.in-Ok-close.ensures.ended in
-    unwritten _ c.args.params.now passes _ _ _ look c.requires.ready c.requires.goes_on seen batches _ _ read may end _ _ _ _ (record_of c.in-Ok-close.told) e
+    unwritten _ c.args.params.now beat _ _ _ look c.requires.ready c.requires.goes_on seen batches _ _ read may end _ _ _ _ (record_of c.in-Ok-close.told) e
     (moves_one _ c.close.new.desk c.stop.new.self c.close.new.vault _ _ _ tt c.stop.ensures (λ m. (tt, refl)))
     (stop_is c.close.new.desk c.stop.new.self SinkFault (e.same_stop ∙ read.same_stop ∙ c.requires.goes_on) c.stop.ensures.state)
     c.text.ensures.printed (rw c.in-Err-text.is at c.text.ensures.cause).failed

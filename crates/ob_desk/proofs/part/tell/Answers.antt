@@ -1,6 +1,6 @@
 use Rattle.std.proofs.Common.{◌≡◌, ℕ, ◌+◌, length, ap, ◌∙◌}
 use Rattle.std.specs.Option.{option_map, unwrap_or}
-use Rattle.ob_serial.specs.declared.records.TxnRecord.{TxnRecord}
+use Rattle.ob_serial.specs.declared.records.TxnRecord.{TxnRecord as CodeTxn}
 use Rattle.ob_order.specs.Works.{Work}
 use Rattle.ob_desk.specs.Desk.{Outcome, Committed, AbortedBy, why_of}
 use Rattle.ob_desk.proofs.Told.{tells, tells_none, holder_here, same_txn, holder_past}
@@ -13,7 +13,7 @@ returns-in-Some-clause-told c =
     let at : c.len-at.result ≡ length told.items = c.len-at.ensures ∙ told.ok.0 in
     let ended : Outcome ℕ = unwrap_or (option_map AbortedBy (why_of c.args.work.fate holder.cause)) Committed in
     let outcome : c.outcome_of-outcome.result ≡ ended = c.outcome_of-outcome.ensures ∙ ap (λ (w : Work). unwrap_or (option_map AbortedBy (why_of w.fate holder.cause)) Committed) c.work.view_is in
-    let made : TxnRecord ℕ = record { epoch = c.args.epoch; ticket = c.len-at.result + 1; client = holder.client; ops = c.into_ops.result; outcome = c.outcome_of-outcome.result } in
+    let made : CodeTxn ℕ = record { epoch = c.args.epoch; ticket = c.len-at.result + 1; client = holder.client; ops = c.into_ops.result; outcome = c.outcome_of-outcome.result } in
     tells c.args.epoch (length told.items) c.args.work c.args.holders.now holder told.items c.append.new.told.items made
     (holder_here c.args.holders.now holder c.len-at.result (length told.items) at c.in-Some.ensures.lookup.3.0 c.in-Some.ensures.lookup.1)
     (same_txn c.args.epoch (c.len-at.result + 1) (length told.items + 1) holder.client c.into_ops.result.items c.args.work.ops c.outcome_of-outcome.result ended (ap (λ n. n + 1) at) c.into_ops.ensures outcome)

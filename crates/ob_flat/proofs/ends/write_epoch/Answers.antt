@@ -18,6 +18,7 @@ use Rattle.ob_flat.specs.Ends.{StandsAtOne}
 use Rattle.ob_flat.proofs.Moved.{rows_kept, rows_written}
 use Rattle.ob_flat.proofs.Areas.{rows_leave, rows_stay, stands_next, ends_at_one, ends_before}
 use Rattle.ob_flat.proofs.Tellings.{rows_refused, end_tells}
+use Rattle.ob_flat.proofs.Frames.{if_unsure, rows_off, register_off, epoch_again, rows_pass, both_pass}
 use Rattle.ob_flat.proofs.ends.write_epoch.Goals as goal
 
 pub returns-in-Err-clause-old_or_new : goal.returns-in-Err-clause-old_or_new
@@ -124,3 +125,51 @@ returns-clause-does g c =
     end_tells n c.args.gates.now.epoch c.args.epoch _ _ _ _ _ _ c.set.result
     (subst (λ b. Tells (rows_notes b n) (rows_notes b n) (g.S.Store.disk c.args.store.now).seen (g.S.Store.disk c.fill.new.store).seen (g.W.Watch.trace c.args.watch.now) (g.W.Watch.trace c.fill.new.watch)) c.area_of-base.ensures.area c.in-Ok.ensures.does.all)
     c.set.ensures.does
+
+pub returns-in-Err-clause-rest : goal.returns-in-Err-clause-rest
+returns-in-Err-clause-rest g c = λ tells.
+    let n = length c.args.values.now in
+    let old = g.S.Store.disk c.args.store.now in
+    let new = g.S.Store.disk c.fill.new.store in
+    rows_off n c.args.epoch new.cells old.cells (subst (λ b. SameOff b n new.cells old.cells) c.area_of-base.ensures.area (c.fill.ensures.rest tells))
+
+pub returns-in-Err-clause-passes : goal.returns-in-Err-clause-passes
+returns-in-Err-clause-passes g c =
+    let n = length c.args.values.now in
+    let old = g.S.Store.disk c.args.store.now in
+    let new = g.S.Store.disk c.fill.new.store in
+    rows_pass n c.args.epoch old new (subst (λ b. Passes (SameOff b n) old new) c.area_of-base.ensures.area c.fill.ensures.passes)
+
+pub returns-clause-rest : goal.returns-clause-rest
+returns-clause-rest g c = λ tells.
+    let n = length c.args.values.now in
+    let old = g.S.Store.disk c.args.store.now in
+    let mid = g.S.Store.disk c.fill.new.store in
+    let new = g.S.Store.disk c.set.new.store in
+    let rows = rows_off n c.args.epoch mid.cells old.cells (subst (λ b. SameOff b n mid.cells old.cells) c.area_of-base.ensures.area (c.fill.ensures.rest tells)) in
+    let register = register_off n c.args.epoch new.cells mid.cells (c.set.ensures.rest (c.in-Ok.ensures.serves.tells tells)) in
+    epoch_again n c.args.epoch new.cells mid.cells old.cells register rows
+
+pub returns-clause-passes : goal.returns-clause-passes
+returns-clause-passes g c =
+    let n = length c.args.values.now in
+    let old = g.S.Store.disk c.args.store.now in
+    let mid = g.S.Store.disk c.fill.new.store in
+    let new = g.S.Store.disk c.set.new.store in
+    both_pass n c.args.epoch old mid new (subst (λ b. Passes (SameOff b n) old mid) c.area_of-base.ensures.area c.fill.ensures.passes) c.set.ensures.passes
+
+pub returns-clause-written_unsure : goal.returns-clause-written_unsure
+returns-clause-written_unsure g c =
+    let before = c.args.sealer.now in
+    let old = g.S.Store.disk c.args.store.now in
+    let mid = g.S.Store.disk c.fill.new.store in
+    let new = g.S.Store.disk c.set.new.store in
+    let n = length c.args.values.now in
+    let e = c.in-Ok.ensures in
+    let base = area_of n c.args.epoch in
+    let rows = row_cells before.keys base before.generation before.next c.args.values.now in
+    if_unsure (old.tells → Holds base rows new.cells) c.set.result (λ tells. rows_kept n c.args.epoch rows new.cells mid.cells (c.set.ensures.rest (e.serves.tells tells))
+    (subst (λ b. Holds b (row_cells before.keys b before.generation before.next c.args.values.now) mid.cells) c.area_of-base.ensures.area (e.written tells)))
+
+pub returns-clause-sealed_unsure : goal.returns-clause-sealed_unsure
+returns-clause-sealed_unsure g c = if_unsure _ c.set.result c.in-Ok.ensures.sealed

@@ -9,7 +9,8 @@ use Rattle.ob_flat.proofs.formatting.format.Goals as goal
 
 pub returns-in-Ok-clause-images : goal.returns-in-Ok-clause-images
 returns-in-Ok-clause-images g c = λ tells image left.
-    stands_same c.args.keys.now c.args.params.now 1 (record { epoch = 0; content = finite.empty }) image (g.S.Store.disk c.lay.new.store).cells (c.in-Ok.ensures.durable tells image left) (subst (λ (s : Sealing). StandsFlat s.keys c.args.params.now 1 (g.S.Store.disk c.lay.new.store).cells (record { epoch = 0; content = finite.empty })) c.new.ensures (c.in-Ok.ensures.stands tells))
+    stands_same c.args.keys.now c.args.params.now 1 (record { epoch = 0; content = finite.empty }) image (g.S.Store.disk c.lay.new.store).cells (c.in-Ok.ensures.durable tells image left)
+    (subst (λ (s : Sealing). StandsFlat s.keys c.args.params.now 1 (g.S.Store.disk c.lay.new.store).cells (record { epoch = 0; content = finite.empty })) c.new.ensures (c.in-Ok.ensures.stands tells))
 
 pub returns-in-Ok-clause-crash : goal.returns-in-Ok-clause-crash
 returns-in-Ok-clause-crash g c = λ tells.

@@ -1,9 +1,13 @@
-use Rattle.std.proofs.Common.{suc, ◌+◌, ◌<◌, ◌≤◌, ◌^◌, length, Err, subst, sym, arith, add-one, rules}
+use Rattle.std.proofs.Common.{◌≡◌, suc, ◌+◌, ◌<◌, ◌≤◌, ◌^◌, length, Err, subst, sym, arith, add-one, rules}
 use Rattle.ob_cells.specs.Runs.{IsFurther}
 use Rattle.ob_twin.specs.declared.twin.Twin.TheVariants.{EPOCH}
 use Rattle.ob_twin.specs.Refused.{IsSetFault}
-use Rattle.ob_flat.specs.Ends.{EndsFrom, EndTells}
+use Rattle.ob_flat.specs.Ends.{EndsFrom, EndTells, IfUnsure}
+use Rattle.ob_store.specs.Calls.{Holds}
+use Rattle.ob_flat_rows.specs.Rows.{row_cells}
+use Rattle.ob_flat.specs.Places.{area_of}
 use Rattle.ob_flat.proofs.Refusals.{none_done, refused_leaves, refused_tells}
+use Rattle.ob_flat.proofs.Frames.{none_pass}
 use Rattle.ob_flat.proofs.held_end.end_held.Goals as goal
 
 pub returns-then-is_worn-clause-images : goal.returns-then-is_worn-clause-images
@@ -22,6 +26,7 @@ returns-in-Err-clause-called g c = λ p keys.
     let old = g.S.Store.disk c.args.held.now.store.now in
     let new = g.S.Store.disk c.write_epoch.new.store in
     let e = c.in-Err.ensures in
+    let before = c.args.held.now.sealer in
     let known = c.args.held.now.gates.epoch in
     let shown_old = g.W.Watch.trace c.args.watch.now in
     let shown_new = g.W.Watch.trace c.write_epoch.new.watch in
@@ -33,6 +38,10 @@ returns-in-Err-clause-called g c = λ p keys.
     (subst (λ n. IsSetFault EPOCH n c.in-Err.refused) next e.faults)
     (subst (λ n. EndTells p.keys known n old.seen new.seen shown_old shown_new (Err c.in-Err.refused)) next
     (subst (λ k. EndTells k known (c.args.held.now.epoch + 1) old.seen new.seen shown_old shown_new (Err c.in-Err.refused)) keys e.does))
+    c.args.values.now keys
+    (subst (λ n. IfUnsure (old.tells → Holds (area_of p.keys n) (row_cells before.keys (area_of p.keys n) before.generation before.next c.args.values.now) new.cells) c.in-Err.refused) next
+    (subst (λ k. IfUnsure (old.tells → Holds (area_of k (c.args.held.now.epoch + 1)) (row_cells before.keys (area_of k (c.args.held.now.epoch + 1)) before.generation before.next c.args.values.now) new.cells) c.in-Err.refused) keys e.written_unsure))
+    (subst (λ k. IfUnsure (c.write_epoch.new.sealer ≡ record before { next = before.next + k }) c.in-Err.refused) keys e.sealed_unsure)
 
 pub returns-clause-images : goal.returns-clause-images
 returns-clause-images g c = λ p n now next from.
@@ -40,3 +49,6 @@ returns-clause-images g c = λ p n now next from.
     let here = subst (λ e. EndsFrom c.args.held.now.sealer.keys p n old e c.args.values.now now next) (sym (add-one c.args.held.now.epoch)) from in
     let e = c.in-Ok.ensures in
     (e.old_or_new p n now next here, record { tells = e.serves.tells from.tells; settled = e.durable from.tells; stands = e.done p n now next here })
+
+pub returns-then-is_worn-clause-passes : goal.returns-then-is_worn-clause-passes
+returns-then-is_worn-clause-passes g c = none_pass (length c.args.values.now) (suc c.args.held.now.epoch) (g.S.Store.disk c.args.held.now.store.now)

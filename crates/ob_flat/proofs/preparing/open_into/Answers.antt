@@ -18,7 +18,7 @@ use Rattle.ob_flat.specs.Standing.{StandsFlat}
 use Rattle.ob_twin.specs.Opening.{GatesAre}
 use Rattle.ob_twin.proofs.Frames.{gates_moved}
 use Rattle.ob_flat.proofs.Moved.{stands_same, generation_set}
-use Rattle.ob_flat.proofs.Opens.{reads_before, reads_both, keeps_both, begun_before, begin_before, opens_from, opens_or_not, all_after, alone_still, worn_out}
+use Rattle.ob_flat.proofs.Opens.{reads_before, reads_both, keeps_both, begun_before, begin_before, opens_from, opens_or_not, begins_or_not, begins_next, all_after, alone_still, worn_out}
 use Rattle.ob_flat.proofs.Opened.{values_of, number_found, rows_opening, begin_opening}
 use Rattle.ob_flat.proofs.preparing.open_into.Goals as goal
 
@@ -304,3 +304,34 @@ returns-clause-begins g c =
           (λ k from to. c.begin.ensures.rest (second.tells told) k (inr from) ∙ (second.cells told k ∙ first.cells tells k))
           (gates tells);
     }
+
+pub returns-in-Err-clause-register : goal.returns-in-Err-clause-register
+returns-in-Err-clause-register g c = inl c.read_registers.ensures.passes
+
+pub returns-in-Err-read_values-clause-register : goal.returns-in-Err-read_values-clause-register
+returns-in-Err-read_values-clause-register g c =
+    inl (reads_both (g.S.Store.disk c.args.store.now) (g.S.Store.disk c.read_registers.new.store) (g.S.Store.disk c.read_values.new.store) c.read_registers.ensures.passes c.read_values.ensures.passes)
+
+pub returns-in-Err-begin-clause-register : goal.returns-in-Err-begin-clause-register
+returns-in-Err-begin-clause-register g c =
+    let keys = c.args.sealer.now.keys in
+    let old = g.S.Store.disk c.args.store.now in
+    let one = g.S.Store.disk c.read_registers.new.store in
+    let mid = g.S.Store.disk c.read_values.new.store in
+    begins_or_not g.S.Store.disk keys c.in-Ok.numbers.generation c.args.store.now c.read_values.new.store c.begin.new.store
+    (reads_both old one mid c.read_registers.ensures.passes c.read_values.ensures.passes) (keeps_both old one mid c.read_registers.ensures.keeps c.read_values.ensures.keeps)
+    (λ h tells at. number_found keys 1 old.cells h c.in-Ok.numbers.generation at (c.in-Ok.ensures.value tells).generation_whole (c.in-Ok.ensures.value tells).generation_counts)
+    c.in-Err-begin.ensures.leaves
+
+pub returns-clause-register : goal.returns-clause-register
+returns-clause-register g c =
+    let keys = c.args.sealer.now.keys in
+    let old = g.S.Store.disk c.args.store.now in
+    let one = g.S.Store.disk c.read_registers.new.store in
+    let mid = g.S.Store.disk c.read_values.new.store in
+    begins_next g.S.Store.disk keys c.in-Ok.numbers.generation c.args.store.now c.read_values.new.store c.begin.new.store
+    (reads_both old one mid c.read_registers.ensures.passes c.read_values.ensures.passes) (keeps_both old one mid c.read_registers.ensures.keeps c.read_values.ensures.keeps)
+    (λ h tells at. number_found keys 1 old.cells h c.in-Ok.numbers.generation at (c.in-Ok.ensures.value tells).generation_whole (c.in-Ok.ensures.value tells).generation_counts)
+    _ (ap (λ (s : Sealing). s.generation) c.new.ensures ∙ c.in-Ok-begin.ensures.next.0)
+    (λ tells at. (c.in-Ok-begin.ensures.stands tells at).stands)
+    c.in-Ok-begin.ensures.leaves

@@ -7,7 +7,7 @@ use Rattle.ob_store.proofs.Lanes.{first_none}
 use Rattle.ob_start.specs.Orders.{registers_notes}
 use Rattle.ob_seal.specs.Sealing.{Sealing}
 use Rattle.ob_flat.specs.Standing.{Stands, AllStand, StandsAsBefore}
-use Rattle.ob_flat.specs.Openings.{IsOpenedAt, OpeningLeaves}
+use Rattle.ob_flat.specs.Openings.{IsOpenedAt, OpeningLeaves, OpeningBegins}
 use Rattle.ob_flat.proofs.Opens.{none_before, none_alone}
 use Rattle.ob_flat.proofs.preparing.prepare.Goals as goal
 
@@ -53,3 +53,12 @@ returns-in-Err-blank_values-clause-since g c = inl (passed_none (g.S.Store.disk 
 
 pub returns-clause-since : goal.returns-clause-since
 returns-clause-since g c = subst (λ (s : Sealing). OpeningLeaves g.S.Store.disk s.keys c.args.params.now c.args.store.now c.open_into.new.store c.open_into.result) c.new.ensures c.open_into.ensures.since
+
+pub returns-in-Err-clause-register : goal.returns-in-Err-clause-register
+returns-in-Err-clause-register g c = inl (passed_none (g.S.Store.disk c.args.store.now) Same (λ image. refl))
+
+pub returns-in-Err-blank_values-clause-register : goal.returns-in-Err-blank_values-clause-register
+returns-in-Err-blank_values-clause-register g c = inl (passed_none (g.S.Store.disk c.args.store.now) Same (λ image. refl))
+
+pub returns-clause-register : goal.returns-clause-register
+returns-clause-register g c = subst (λ (s : Sealing). OpeningBegins g.S.Store.disk s.keys c.args.store.now c.open_into.new.store c.open_into.result) c.new.ensures c.open_into.ensures.register

@@ -7,7 +7,7 @@ returns-clause-written g c = λ tells.
     let s = c.args.sealer.now in
     on_both _ _ _ c.write_sealed.result
     (λ so whole. holds_rows s.keys c.args.base s.generation s.next (g.S.Store.disk c.write_sealed.new.store).cells c.args.values.now c.requires.room whole so)
-    (c.write_sealed.ensures.written tells) c.write_sealed.ensures.whole
+    (c.write_sealed.ensures.run.written tells) c.write_sealed.ensures.run.whole
 
 pub returns-clause-short : goal.returns-clause-short
-returns-clause-short g c = on_ok _ _ c.write_sealed.result (λ whole. all_short c.args.values.now whole) c.write_sealed.ensures.whole
+returns-clause-short g c = on_ok _ _ c.write_sealed.result (λ whole. all_short c.args.values.now whole) c.write_sealed.ensures.run.whole

@@ -1,21 +1,17 @@
-use Rattle.std.proofs.Common.{◌≡◌, ◌<◌, ◌≤◌, ◌+◌, ◌%◌, ◌^◌, ℕ, List, [], ◌∷◌, ◌++◌, Option, None, Ok, Err, length, refl, rules, arith, ap, ◌∙◌, sym, subst}
+use Rattle.std.proofs.Common.{◌≡◌, ◌<◌, ◌+◌, ◌%◌, ◌^◌, ℕ, None, Ok, Err, refl, rules, arith, ◌∙◌, subst}
+use Rattle.ob_base.specs.declared.fault.Fault.{Fault}
 use Rattle.ob_base.specs.declared.fault.Fault.TheVariants.{StoreFault, Worn}
-use Rattle.ob_base.specs.declared.params.Params.{Params}
 use Rattle.ob_base.specs.Layout.{record_cells, log_cell, log_gate}
 use Rattle.ob_base.proofs.Bounds.{cells_le}
-use Rattle.ob_store.specs.declared.watch.Note.{Note}
-use Rattle.ob_store.specs.declared.watch.Note.TheVariants.{Write, Sync}
-use Rattle.ob_store.specs.Images.{SameOff, Passes}
 use Rattle.ob_store.specs.Calls.{IsFailed, IsStoreFault}
-use Rattle.ob_store.specs.Runs.{write_notes}
-use Rattle.ob_store.specs.Told.{Does}
-use Rattle.ob_store.proofs.Doing.{does_all, does_err, first_behind, tells_then}
+use Rattle.ob_store.proofs.Doing.{does_err}
 use Rattle.ob_store.proofs.Serving.{serves_then, serves_err}
 use Rattle.ob_store.proofs.Lanes.{first_none}
 use Rattle.ob_store.proofs.Events.{none_noted}
-use Rattle.ob_log.specs.Logs.{BatchRecord, RecordObeys}
+use Rattle.ob_cells.specs.Runs.{IsFurther}
+use Rattle.ob_cells.specs.Writes.{Seals}
 use Rattle.ob_log.specs.Appends.{record_for, append_notes}
-use Rattle.ob_log.proofs.AppendLaws.{spells_at, prefix_refused, prefix_open, acknowledged, obeys_for, serves_both, passes_at_log, told_all, told_refused}
+use Rattle.ob_log.proofs.AppendLaws.{spells_at, prefix_refused, prefix_open, acknowledged, obeys_for, serves_both, told_all, told_refused, within_none, body_within, both_within, holds_record}
 use Rattle.ob_log.proofs.appending.append.Goals as goal
 
 pub returns-then-next-many-clause-does : goal.returns-then-next-many-clause-does
@@ -36,17 +32,10 @@ returns-in-Err-clause-open_prefix g c = λ rs tells settled long held.
     c.log_cell-base.result c.record_cells-many.result (log_gate c.args.p.now (c.args.epoch % 2) c.args.batch) long c.requires.batch
     (obeys_for c.args.p.now c.args.sealer.now c.args.batch c.args.first c.args.asks.now c.args.words.now (generation_fits c.next.result c.args.sealer.now.generation c.args.sealer.now.next c.next.ensures.identity (search rules)) c.next.ensures.few c.ranges.first.fits
     c.requires.asks c.requires.words (λ i. (c.type_inv.words i).fits) c.requires.keys_low c.requires.keys_apart) c.log_cell-base.ensures.cell c.record_cells-many.ensures.cells refl
-    (g.S.Store.disk c.args.store.now) (g.S.Store.disk c.write_sure.new.store) (g.met.S.Store.only_now c.args.store.now) c.in-Err.ensures.passes settled held
+    (g.S.Store.disk c.args.store.now) (g.S.Store.disk c.write_sure.new.store) (g.met.S.Store.only_now c.args.store.now) c.in-Err.ensures.run.within.passes settled held
 
 pub returns-in-Ok-write_through-clause-serves : goal.returns-in-Ok-write_through-clause-serves
 returns-in-Ok-write_through-clause-serves g c = serves_both IsFailed IsFailed IsStoreFault (g.S.Store.disk c.args.store.now) (g.S.Store.disk c.write_sure.new.store) (g.S.Store.disk c.write_through.new.store) _ _ tt c.in-Ok.ensures.serves c.in-Ok-write_through.ensures.serves
-
-pub returns-in-Ok-write_through-clause-passes : goal.returns-in-Ok-write_through-clause-passes
-returns-in-Ok-write_through-clause-passes g c =
-    let old = g.S.Store.disk c.args.store.now in
-    let new = g.S.Store.disk c.write_through.new.store in
-    passes_at_log c.args.p.now c.args.epoch c.args.batch c.log_cell-base.result c.record_cells-many.result c.log_gate.result c.log_cell-base.ensures.cell c.record_cells-many.ensures.cells c.log_gate.ensures.cell
-    old (g.S.Store.disk c.write_sure.new.store) new c.in-Ok.ensures.passes c.in-Ok-write_through.ensures.passes
 
 pub returns-in-Ok-write_through-clause-open_prefix : goal.returns-in-Ok-write_through-clause-open_prefix
 returns-in-Ok-write_through-clause-open_prefix g c = λ rs tells settled long held.
@@ -54,17 +43,10 @@ returns-in-Ok-write_through-clause-open_prefix g c = λ rs tells settled long he
     c.log_cell-base.result c.record_cells-many.result c.log_gate.result long c.requires.batch
     (obeys_for c.args.p.now c.args.sealer.now c.args.batch c.args.first c.args.asks.now c.args.words.now (generation_fits c.next.result c.args.sealer.now.generation c.args.sealer.now.next c.next.ensures.identity (search rules)) c.next.ensures.few c.ranges.first.fits
     c.requires.asks c.requires.words (λ i. (c.type_inv.words i).fits) c.requires.keys_low c.requires.keys_apart) c.log_cell-base.ensures.cell c.record_cells-many.ensures.cells c.log_gate.ensures.cell
-    (g.S.Store.disk c.args.store.now) (g.S.Store.disk c.write_sure.new.store) (g.met.S.Store.only_now c.args.store.now) c.in-Ok.ensures.passes settled held (g.S.Store.disk c.write_through.new.store) (c.in-Ok.ensures.rest tells)
+    (g.S.Store.disk c.args.store.now) (g.S.Store.disk c.write_sure.new.store) (g.met.S.Store.only_now c.args.store.now) c.in-Ok.ensures.run.within.passes settled held (g.S.Store.disk c.write_through.new.store) (c.in-Ok.ensures.run.within.rest tells)
     (spells_at c.args.sealer.now.keys c.args.p.now c.args.epoch c.args.batch c.log_cell-base.result c.record_cells-many.result (record_for c.args.sealer.now c.args.batch c.args.first c.args.asks.now c.args.words.now) c.as_slice.result.now
-    (g.S.Store.disk c.write_sure.new.store).cells c.log_cell-base.ensures.cell c.record_cells-many.ensures.cells (c.as_slice.ensures.value ∙ c.record_bytes-bytes.ensures c.args.sealer.now.generation c.args.sealer.now.next) (c.in-Ok.ensures.written tells))
+    (g.S.Store.disk c.write_sure.new.store).cells c.log_cell-base.ensures.cell c.record_cells-many.ensures.cells (c.as_slice.ensures.value ∙ c.record_bytes-bytes.ensures c.args.sealer.now.generation c.args.sealer.now.next) (c.in-Ok.ensures.run.written tells))
     (c.in-Ok-write_through.ensures.any_moment (c.in-Ok.ensures.durable tells))
-
-pub returns-in-Err-write_through-clause-passes : goal.returns-in-Err-write_through-clause-passes
-returns-in-Err-write_through-clause-passes g c =
-    let old = g.S.Store.disk c.args.store.now in
-    let new = g.S.Store.disk c.write_through.new.store in
-    passes_at_log c.args.p.now c.args.epoch c.args.batch c.log_cell-base.result c.record_cells-many.result c.log_gate.result c.log_cell-base.ensures.cell c.record_cells-many.ensures.cells c.log_gate.ensures.cell
-    old (g.S.Store.disk c.write_sure.new.store) new c.in-Ok.ensures.passes c.in-Err-write_through.ensures.passes
 
 pub returns-in-Err-write_through-clause-open_prefix : goal.returns-in-Err-write_through-clause-open_prefix
 returns-in-Err-write_through-clause-open_prefix g c = λ rs tells settled long held.
@@ -72,9 +54,9 @@ returns-in-Err-write_through-clause-open_prefix g c = λ rs tells settled long h
     c.log_cell-base.result c.record_cells-many.result c.log_gate.result long c.requires.batch
     (obeys_for c.args.p.now c.args.sealer.now c.args.batch c.args.first c.args.asks.now c.args.words.now (generation_fits c.next.result c.args.sealer.now.generation c.args.sealer.now.next c.next.ensures.identity (search rules)) c.next.ensures.few c.ranges.first.fits
     c.requires.asks c.requires.words (λ i. (c.type_inv.words i).fits) c.requires.keys_low c.requires.keys_apart) c.log_cell-base.ensures.cell c.record_cells-many.ensures.cells c.log_gate.ensures.cell
-    (g.S.Store.disk c.args.store.now) (g.S.Store.disk c.write_sure.new.store) (g.met.S.Store.only_now c.args.store.now) c.in-Ok.ensures.passes settled held (g.S.Store.disk c.write_through.new.store) (c.in-Ok.ensures.rest tells)
+    (g.S.Store.disk c.args.store.now) (g.S.Store.disk c.write_sure.new.store) (g.met.S.Store.only_now c.args.store.now) c.in-Ok.ensures.run.within.passes settled held (g.S.Store.disk c.write_through.new.store) (c.in-Ok.ensures.run.within.rest tells)
     (spells_at c.args.sealer.now.keys c.args.p.now c.args.epoch c.args.batch c.log_cell-base.result c.record_cells-many.result (record_for c.args.sealer.now c.args.batch c.args.first c.args.asks.now c.args.words.now) c.as_slice.result.now
-    (g.S.Store.disk c.write_sure.new.store).cells c.log_cell-base.ensures.cell c.record_cells-many.ensures.cells (c.as_slice.ensures.value ∙ c.record_bytes-bytes.ensures c.args.sealer.now.generation c.args.sealer.now.next) (c.in-Ok.ensures.written tells))
+    (g.S.Store.disk c.write_sure.new.store).cells c.log_cell-base.ensures.cell c.record_cells-many.ensures.cells (c.as_slice.ensures.value ∙ c.record_bytes-bytes.ensures c.args.sealer.now.generation c.args.sealer.now.next) (c.in-Ok.ensures.run.written tells))
     (c.in-Err-write_through.ensures.any_moment (c.in-Ok.ensures.durable tells))
 
 pub returns-in-Ok-write_through-clause-open_has_acknowledged : goal.returns-in-Ok-write_through-clause-open_has_acknowledged
@@ -84,9 +66,9 @@ returns-in-Ok-write_through-clause-open_has_acknowledged g c = λ rs tells long 
     c.log_cell-base.result c.record_cells-many.result c.log_gate.result long c.requires.batch
     (obeys_for c.args.p.now c.args.sealer.now c.args.batch c.args.first c.args.asks.now c.args.words.now (generation_fits c.next.result c.args.sealer.now.generation c.args.sealer.now.next c.next.ensures.identity (search rules)) c.next.ensures.few c.ranges.first.fits
     c.requires.asks c.requires.words (λ i. (c.type_inv.words i).fits) c.requires.keys_low c.requires.keys_apart) c.log_cell-base.ensures.cell c.record_cells-many.ensures.cells c.log_gate.ensures.cell
-    (g.S.Store.disk c.args.store.now).cells (g.S.Store.disk c.write_sure.new.store).cells (g.S.Store.disk c.write_through.new.store).cells image held (c.in-Ok.ensures.rest tells)
+    (g.S.Store.disk c.args.store.now).cells (g.S.Store.disk c.write_sure.new.store).cells (g.S.Store.disk c.write_through.new.store).cells image held (c.in-Ok.ensures.run.within.rest tells)
     (spells_at c.args.sealer.now.keys c.args.p.now c.args.epoch c.args.batch c.log_cell-base.result c.record_cells-many.result (record_for c.args.sealer.now c.args.batch c.args.first c.args.asks.now c.args.words.now) c.as_slice.result.now
-    (g.S.Store.disk c.write_sure.new.store).cells c.log_cell-base.ensures.cell c.record_cells-many.ensures.cells (c.as_slice.ensures.value ∙ c.record_bytes-bytes.ensures c.args.sealer.now.generation c.args.sealer.now.next) (c.in-Ok.ensures.written tells))
+    (g.S.Store.disk c.write_sure.new.store).cells c.log_cell-base.ensures.cell c.record_cells-many.ensures.cells (c.as_slice.ensures.value ∙ c.record_bytes-bytes.ensures c.args.sealer.now.generation c.args.sealer.now.next) (c.in-Ok.ensures.run.written tells))
     (c.in-Ok-write_through.ensures.rest told) (c.in-Ok-write_through.ensures.written told ∙ c.open_gate.ensures) (c.in-Ok-write_through.ensures.durable told image left)
 
 pub returns-in-Ok-write_through-clause-does : goal.returns-in-Ok-write_through-clause-does
@@ -103,3 +85,44 @@ pub returns-in-Err-write_through-clause-serves : goal.returns-in-Err-write_throu
 returns-in-Err-write_through-clause-serves g c =
     serves_then IsStoreFault (g.S.Store.disk c.args.store.now) (g.S.Store.disk c.write_sure.new.store) (g.S.Store.disk c.write_through.new.store) (Err (StoreFault None)) c.in-Ok.ensures.serves.goes c.in-Ok.ensures.serves.out c.in-Ok.ensures.serves.tells
     (serves_err IsFailed IsStoreFault (g.S.Store.disk c.write_sure.new.store) (g.S.Store.disk c.write_through.new.store) _ (StoreFault None) (λ b. tt) c.in-Err-write_through.ensures.serves)
+
+-- ---- what is written, and sealed
+
+pub returns-then-next-many-clause-within : goal.returns-then-next-many-clause-within
+returns-then-next-many-clause-within g c = within_none (log_cell c.args.p.now (c.args.epoch % 2) c.args.batch 0) (record_cells c.args.p.now + 1) (g.S.Store.disk c.args.store.now)
+
+pub returns-then-next-many-clause-seals : goal.returns-then-next-many-clause-seals
+returns-then-next-many-clause-seals g c = record { all = tt; some = record { keys = refl; generation = refl; on = omega arith; within = omega arith } }
+
+pub returns-in-Err-clause-within : goal.returns-in-Err-clause-within
+returns-in-Err-clause-within g c =
+    body_within c.args.p.now c.args.epoch c.args.batch c.log_cell-base.result c.record_cells-many.result (log_gate c.args.p.now (c.args.epoch % 2) c.args.batch) c.log_cell-base.ensures.cell c.record_cells-many.ensures.cells refl
+    (g.S.Store.disk c.args.store.now) (g.S.Store.disk c.write_sure.new.store) c.in-Err.ensures.run.within
+
+pub returns-in-Err-clause-seals : goal.returns-in-Err-clause-seals
+returns-in-Err-clause-seals g c = record { all = tt; some = subst (λ n. IsFurther n c.args.sealer.now c.write_sure.new.sealer) c.record_cells-many.ensures.cells c.in-Err.ensures.run.seals.some }
+
+pub returns-in-Ok-write_through-clause-within : goal.returns-in-Ok-write_through-clause-within
+returns-in-Ok-write_through-clause-within g c =
+    both_within c.args.p.now c.args.epoch c.args.batch c.log_cell-base.result c.record_cells-many.result c.log_gate.result c.log_cell-base.ensures.cell c.record_cells-many.ensures.cells c.log_gate.ensures.cell
+    (g.S.Store.disk c.args.store.now) (g.S.Store.disk c.write_sure.new.store) (g.S.Store.disk c.write_through.new.store) c.in-Ok.ensures.run.within c.in-Ok.ensures.serves.tells c.in-Ok-write_through.ensures.rest c.in-Ok-write_through.ensures.passes
+
+pub returns-in-Ok-write_through-clause-seals : goal.returns-in-Ok-write_through-clause-seals
+returns-in-Ok-write_through-clause-seals g c =
+    subst (λ n. Seals {T = Unit {0}} {E = Fault} n c.args.sealer.now c.write_sure.new.sealer (Ok tt)) c.record_cells-many.ensures.cells (record { all = c.in-Ok.ensures.run.seals.all; some = c.in-Ok.ensures.run.seals.some })
+
+pub returns-in-Err-write_through-clause-within : goal.returns-in-Err-write_through-clause-within
+returns-in-Err-write_through-clause-within g c =
+    both_within c.args.p.now c.args.epoch c.args.batch c.log_cell-base.result c.record_cells-many.result c.log_gate.result c.log_cell-base.ensures.cell c.record_cells-many.ensures.cells c.log_gate.ensures.cell
+    (g.S.Store.disk c.args.store.now) (g.S.Store.disk c.write_sure.new.store) (g.S.Store.disk c.write_through.new.store) c.in-Ok.ensures.run.within c.in-Ok.ensures.serves.tells c.in-Err-write_through.ensures.rest c.in-Err-write_through.ensures.passes
+
+pub returns-in-Err-write_through-clause-seals : goal.returns-in-Err-write_through-clause-seals
+returns-in-Err-write_through-clause-seals g c = record { all = tt; some = subst (λ n. IsFurther n c.args.sealer.now c.write_sure.new.sealer) c.record_cells-many.ensures.cells c.in-Ok.ensures.run.seals.some }
+
+pub returns-in-Ok-write_through-clause-written : goal.returns-in-Ok-write_through-clause-written
+returns-in-Ok-write_through-clause-written g c = λ tells.
+    let told = c.in-Ok.ensures.serves.tells tells in
+    let spells = spells_at c.args.sealer.now.keys c.args.p.now c.args.epoch c.args.batch c.log_cell-base.result c.record_cells-many.result (record_for c.args.sealer.now c.args.batch c.args.first c.args.asks.now c.args.words.now) c.as_slice.result.now
+    (g.S.Store.disk c.write_sure.new.store).cells c.log_cell-base.ensures.cell c.record_cells-many.ensures.cells (c.as_slice.ensures.value ∙ c.record_bytes-bytes.ensures c.args.sealer.now.generation c.args.sealer.now.next) (c.in-Ok.ensures.run.written tells) in
+    holds_record c.args.sealer.now.keys c.args.p.now c.args.epoch c.args.batch (record_for c.args.sealer.now c.args.batch c.args.first c.args.asks.now c.args.words.now) c.log_gate.result c.log_gate.ensures.cell
+    (g.S.Store.disk c.write_sure.new.store).cells (g.S.Store.disk c.write_through.new.store).cells spells (c.in-Ok-write_through.ensures.rest told) (c.in-Ok-write_through.ensures.written told ∙ c.open_gate.ensures)

@@ -1,7 +1,4 @@
-use Rattle.std.proofs.Common.{◌≡◌, ◌≢◌, ◌<◌, ◌≤◌, ◌+◌, ◌*◌, ◌%◌, ◌++◌, ◌∷◌, [], ℕ, List, Ok, Err, length, get_or, arith, ap, length-append, refl, sym, ◌∙◌, subst}
-use Rattle.ob_base.specs.Layout.{record_cells, log_cell, log_gate}
-use Rattle.ob_twin.specs.Bodies.{open_gate}
-use Rattle.ob_log.specs.Logs.{BatchRecord}
+use Rattle.std.proofs.Common.{◌+◌, ◌∷◌, [], Ok, Err, length, arith, ap, length-append, refl, sym, ◌∙◌, subst}
 use Rattle.ob_log.proofs.Opens.{SoFar, so_far_more, ends_closed, ends_all, ends_broken, gate_at, found}
 use Rattle.ob_log.proofs.opening.open_records.Goals as goal
 

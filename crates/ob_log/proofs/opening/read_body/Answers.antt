@@ -1,4 +1,4 @@
-use Rattle.std.proofs.Common.{◌≡◌, ◌≤◌, ◌*◌, length, take, arith, ap, sym, ◌∙◌}
+use Rattle.std.proofs.Common.{◌*◌, length, arith, ap, sym, ◌∙◌}
 use Rattle.std.proofs.lemmas.List.{length-take-le}
 use Rattle.ob_base.proofs.Bounds.{record_cells_le}
 use Rattle.ob_log.proofs.opening.read_body.Goals as goal

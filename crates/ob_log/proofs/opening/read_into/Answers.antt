@@ -1,4 +1,4 @@
-use Rattle.std.proofs.Common.{◌≡◌, ◌≤◌, ◌<◌, ◌+◌, ◌*◌, length, arith}
+use Rattle.std.proofs.Common.{arith}
 use Rattle.ob_base.proofs.Bounds.{record_cells_le}
 use Rattle.ob_log.proofs.OnceLaws.{some_cell, cells_hold}
 use Rattle.ob_log.proofs.opening.read_into.Goals as goal

@@ -1,4 +1,4 @@
-use Rattle.std.proofs.Common.{◌≡◌, ◌+◌, ◌-◌, ℕ, suc, length, arith, sym, ◌∙◌}
+use Rattle.std.proofs.Common.{◌≡◌, ◌-◌, ℕ, suc, length, arith, sym, ◌∙◌}
 use Rattle.ob_log.proofs.PlaceReads.{least_on, least_here}
 use Rattle.ob_log.proofs.places.least_unasked.Goals as goal
 

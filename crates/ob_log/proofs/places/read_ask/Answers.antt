@@ -1,4 +1,4 @@
-use Rattle.std.proofs.Common.{◌≤◌, length, arith, ap}
+use Rattle.std.proofs.Common.{length, arith, ap}
 use Rattle.ob_log.proofs.PlaceReads.{asks_many}
 use Rattle.ob_log.proofs.places.read_ask.Goals as goal
 

@@ -1,4 +1,4 @@
-use Rattle.std.proofs.Common.{◌≡◌, ◌+◌, ◌<◌, ◌≤◌, ◌++◌, [], ◌∷◌, List, ℕ, Option, length, arith, sym, ap, ◌∙◌}
+use Rattle.std.proofs.Common.{◌++◌, [], ◌∷◌, List, ℕ, Option, length, arith, sym, ap, ◌∙◌}
 use Rattle.ob_log.specs.Places.{asks_in, words_in}
 use Rattle.ob_log.proofs.PlaceReads.{asks_more, words_more, asks_many, words_many, kept_on, stops_at}
 use Rattle.ob_log.proofs.places.read_places.Goals as goal

@@ -1,6 +1,7 @@
-use Rattle.std.proofs.Common.{◌≡◌, ◌≤◌, ◌<◌, ◌+◌, ◌*◌, ◌^◌, Err, length, arith, sym, subst}
+use Rattle.std.proofs.Common.{Err, arith, sym, subst}
 use Rattle.ob_base.proofs.Bounds.{cells_le}
-use Rattle.ob_log.specs.Reads.{AreRead}
+use Rattle.ob_log.specs.Reads.{AreRecordsRead}
+use Rattle.ob_log.proofs.Fitting.{accepted_fit, image_of, image_holds}
 use Rattle.ob_log.proofs.Opens.{area_few}
 use Rattle.ob_log.proofs.reading.read_area.Goals as goal
 
@@ -17,5 +18,10 @@ returns-in-Ok-open_records-clause-value g c = λ tells. c.in-Ok-open_records.ens
 
 pub returns-in-Err-open_records-clause-value : goal.returns-in-Err-open_records-clause-value
 returns-in-Err-open_records-clause-value g c = λ tells.
-    subst (λ f. AreRead c.args.sealer.now.keys c.args.p.now c.args.epoch (g.S.Store.disk c.args.store.now).cells (Err f)) (sym c.from.ensures)
+    subst (λ f. AreRecordsRead c.args.sealer.now.keys c.args.p.now c.args.epoch (g.S.Store.disk c.args.store.now).cells (Err f)) (sym c.from.ensures)
     (c.in-Err-open_records.ensures (g.S.Store.disk c.args.store.now).cells (c.in-Ok.ensures.bytes tells))
+
+pub returns-in-Ok-open_records-clause-fit : goal.returns-in-Ok-open_records-clause-fit
+returns-in-Ok-open_records-clause-fit g c =
+    let base = c.log_cell-base.result in
+    accepted_fit c.args.sealer.now.keys c.args.p.now c.args.epoch _ (image_of base c.read_cells.new.cells) (c.in-Ok-open_records.ensures (image_of base c.read_cells.new.cells) (image_holds base c.read_cells.new.cells))

@@ -1,5 +1,5 @@
-use Rattle.std.proofs.Common.{◌≡◌, ◌≤◌, ◌+◌, ◌*◌, ◌++◌, ℕ, List, length, take, arith, ap, ◌∙◌, sym, length-append}
-use Rattle.ob_log.proofs.Spelled.{placed, room_for, all_places}
+use Rattle.std.proofs.Common.{length, arith, ap, length-append}
+use Rattle.ob_log.proofs.Spelled.{placed, room_for}
 use Rattle.ob_log.proofs.spelling.add_places.Goals as goal
 
 pub add-requires : goal.add-requires

@@ -18,7 +18,8 @@ plan_place-requires-clause-room c =
 
 pub loop-i-preserved : goal.loop-i-preserved
 loop-i-preserved c =
-    let more : places_of c.args.p.now c.args.asks.now c.args.words.now c.args.first (c.loop-i.i + 1) ≡ places_of c.args.p.now c.args.asks.now c.args.words.now c.args.first c.loop-i.i ++ (slice_index_or c.args.asks.now c.loop-i.i None, own_entry c.args.p.now c.args.words.now c.args.first c.loop-i.i) ∷ [] =
+    let more : places_of c.args.p.now c.args.asks.now c.args.words.now c.args.first (c.loop-i.i + 1) ≡ places_of c.args.p.now c.args.asks.now c.args.words.now c.args.first c.loop-i.i ++
+    (slice_index_or c.args.asks.now c.loop-i.i None, own_entry c.args.p.now c.args.words.now c.args.first c.loop-i.i) ∷ [] =
     map-range_with_len_more (λ i. (slice_index_or c.args.asks.now i None, own_entry c.args.p.now c.args.words.now c.args.first i)) 0 c.loop-i.i c.loop-i.i (omega arith) in (
       grows_by_then (c.loop-i.i * ((c.args.p.now.levels + 1) * (c.args.p.now.real + 1))) c.loop-i.i ((c.args.p.now.levels + 1) * (c.args.p.now.real + 1)) ((c.loop-i.i + 1) * ((c.args.p.now.levels + 1) * (c.args.p.now.real + 1))) c.args.jobs.now c.loop-i.jobs c.plan_place.new.jobs
           (sym (product_more c.loop-i.i ((c.args.p.now.levels + 1) * (c.args.p.now.real + 1)))) c.loop-i.invariant.0 c.plan_place.ensures.grows,

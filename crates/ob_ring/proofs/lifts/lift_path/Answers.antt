@@ -10,7 +10,8 @@ use Rattle.ob_ring.proofs.lifts.lift_path.Goals as goal
 pub loop-level-preserved : goal.loop-level-preserved
 loop-level-preserved c = (
   grows_then (c.loop-level.level * c.args.p.now.real) c.args.p.now.real ((c.loop-level.level + 1) * c.args.p.now.real) c.args.jobs.now c.loop-level.jobs c.lift_standing.new.jobs (omega (arith, product_more c.loop-level.level c.args.p.now.real)) c.loop-level.invariant.0 c.lift_standing.ensures.grows,
-  finals_then c.args.p.now c.args.metas.now c.loop-level.metas c.lift_standing.new.metas c.args.jobs.now c.loop-level.jobs c.lift_standing.new.jobs (path_to c.args.p.now c.args.leaf c.loop-level.level) (bucket_of c.args.p.now c.loop-level.level c.args.leaf ∷ []) (path_to c.args.p.now c.args.leaf (c.loop-level.level + 1))
+  finals_then c.args.p.now c.args.metas.now c.loop-level.metas c.lift_standing.new.metas c.args.jobs.now c.loop-level.jobs c.lift_standing.new.jobs (path_to c.args.p.now c.args.leaf c.loop-level.level)
+      (bucket_of c.args.p.now c.loop-level.level c.args.leaf ∷ []) (path_to c.args.p.now c.args.leaf (c.loop-level.level + 1))
       (path_more c.args.p.now c.args.leaf c.loop-level.level) c.loop-level.invariant.1
       (subst (λ (u : ℕ). Plans c.args.p.now c.loop-level.metas c.lift_standing.new.metas c.loop-level.jobs c.lift_standing.new.jobs (λ t. final_picked c.args.p.now t (u ∷ [])) (λ t. after_final c.args.p.now t (u ∷ []))) c.bucket_of.ensures.bucket c.lift_standing.ensures.plans),
 )

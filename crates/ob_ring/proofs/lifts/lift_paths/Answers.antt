@@ -16,8 +16,10 @@ lift_path-requires-clause-room c =
 
 pub loop-i-preserved : goal.loop-i-preserved
 loop-i-preserved c = (
-  grows_then (c.loop-i.i * ((c.args.p.now.levels + 1) * c.args.p.now.real)) ((c.args.p.now.levels + 1) * c.args.p.now.real) ((c.loop-i.i + 1) * ((c.args.p.now.levels + 1) * c.args.p.now.real)) c.args.jobs.now c.loop-i.jobs c.lift_path.new.jobs (omega (arith, product_more c.loop-i.i ((c.args.p.now.levels + 1) * c.args.p.now.real))) c.loop-i.invariant.0 c.lift_path.ensures.grows,
-  finals_then c.args.p.now c.args.metas.now c.loop-i.metas c.lift_path.new.metas c.args.jobs.now c.loop-i.jobs c.lift_path.new.jobs (evicted_to c.args.p.now c.args.counter c.loop-i.i) (path c.args.p.now (reversed c.args.p.now.levels (c.args.counter + c.loop-i.i))) (evicted_to c.args.p.now c.args.counter (c.loop-i.i + 1))
+  grows_then (c.loop-i.i * ((c.args.p.now.levels + 1) * c.args.p.now.real)) ((c.args.p.now.levels + 1) * c.args.p.now.real) ((c.loop-i.i + 1) * ((c.args.p.now.levels + 1) * c.args.p.now.real)) c.args.jobs.now c.loop-i.jobs c.lift_path.new.jobs
+      (omega (arith, product_more c.loop-i.i ((c.args.p.now.levels + 1) * c.args.p.now.real))) c.loop-i.invariant.0 c.lift_path.ensures.grows,
+  finals_then c.args.p.now c.args.metas.now c.loop-i.metas c.lift_path.new.metas c.args.jobs.now c.loop-i.jobs c.lift_path.new.jobs (evicted_to c.args.p.now c.args.counter c.loop-i.i)
+      (path c.args.p.now (reversed c.args.p.now.levels (c.args.counter + c.loop-i.i))) (evicted_to c.args.p.now c.args.counter (c.loop-i.i + 1))
       (evicted_more c.args.p.now c.args.counter c.loop-i.i) c.loop-i.invariant.1
       (subst (λ (x : ℕ). Plans c.args.p.now c.loop-i.metas c.lift_path.new.metas c.loop-i.jobs c.lift_path.new.jobs (λ t. final_picked c.args.p.now t (path c.args.p.now x)) (λ t. after_final c.args.p.now t (path c.args.p.now x))) c.reverse.ensures.leaf c.lift_path.ensures.plans),
 )

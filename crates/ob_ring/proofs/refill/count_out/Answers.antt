@@ -8,8 +8,16 @@ use Rattle.ob_ring.proofs.refill.count_out.Goals.{then-is_out, else-is_out}
 
 pub loop-key-preserved : goal.loop-key-preserved
 loop-key-preserved c = elim c.if-is_out.branch [
-  | then-is_out w ↦ (omega (arith, c.loop-key.invariant.0, w.many-is), λ lifted counter t sound is. one_more_out (λ i. in_stash (t.rows i)) c.loop-key.key c.loop-key.many c.if-is_out.many true (c.loop-key.invariant.1 lifted counter t sound is) (sym (c.is_out.ensures lifted counter t sound is) ∙ w.if-is_out.true) w.many-is)
-  | else-is_out w ↦ (omega (arith, c.loop-key.invariant.0, w.many-is), λ lifted counter t sound is. one_more_out (λ i. in_stash (t.rows i)) c.loop-key.key c.loop-key.many c.if-is_out.many false (c.loop-key.invariant.1 lifted counter t sound is) (sym (c.is_out.ensures lifted counter t sound is) ∙ w.if-is_out.false) (w.many-is ∙ (let z : c.loop-key.many ≡ c.loop-key.many + 0 = omega arith in z)))
+  | then-is_out w ↦ (
+    omega (arith, c.loop-key.invariant.0, w.many-is),
+    λ lifted counter t sound is. one_more_out (λ i. in_stash (t.rows i)) c.loop-key.key c.loop-key.many c.if-is_out.many true (c.loop-key.invariant.1 lifted counter t sound is)
+        (sym (c.is_out.ensures lifted counter t sound is) ∙ w.if-is_out.true) w.many-is,
+  )
+  | else-is_out w ↦ (
+    omega (arith, c.loop-key.invariant.0, w.many-is),
+    λ lifted counter t sound is. one_more_out (λ i. in_stash (t.rows i)) c.loop-key.key c.loop-key.many c.if-is_out.many false (c.loop-key.invariant.1 lifted counter t sound is)
+        (sym (c.is_out.ensures lifted counter t sound is) ∙ w.if-is_out.false) (w.many-is ∙ (let z : c.loop-key.many ≡ c.loop-key.many + 0 = omega arith in z)),
+  )
 ]
 
 pub returns : goal.returns

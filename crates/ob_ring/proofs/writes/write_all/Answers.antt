@@ -11,7 +11,8 @@ use Rattle.ob_ring.proofs.writes.write_all.Goals as goal
 
 pub loop-i-preserved : goal.loop-i-preserved
 loop-i-preserved c =
-    let more : writes_of c.args.p.now c.args.writes.now c.args.words.now c.args.first (c.loop-i.i + 1) ≡ writes_of c.args.p.now c.args.writes.now c.args.words.now c.args.first c.loop-i.i ++ (write_at c.args.writes.now c.loop-i.i, own_entry c.args.p.now c.args.words.now c.args.first c.loop-i.i) ∷ [] =
+    let more : writes_of c.args.p.now c.args.writes.now c.args.words.now c.args.first (c.loop-i.i + 1) ≡ writes_of c.args.p.now c.args.writes.now c.args.words.now c.args.first c.loop-i.i ++
+    (write_at c.args.writes.now c.loop-i.i, own_entry c.args.p.now c.args.words.now c.args.first c.loop-i.i) ∷ [] =
     map-range_with_len_more (λ i. (write_at c.args.writes.now i, own_entry c.args.p.now c.args.words.now c.args.first i)) 0 c.loop-i.i c.loop-i.i (omega arith) in
     let at : c.index-writes-i.result ≡ write_at c.args.writes.now c.loop-i.i = c.index-writes-i.is ∙ get_or_default c.args.writes.now c.loop-i.i c.index-writes-i.result (record { key = 0; value = None }) c.loop-i-test.true in (
       c.write_one.ensures.low,

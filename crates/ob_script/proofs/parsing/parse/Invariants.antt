@@ -1,5 +1,5 @@
 use Rattle.std.proofs.Common.{◌≡◌, ◌+◌, ◌≤◌, List, ◌++◌, length}
-use Rattle.ob_script.specs.Script.{Text, Reads, lines_of, lines_from, start}
+use Rattle.ob_script.specs.Script.{Text, ReadsLines, lines_of, lines_from, start}
 use Rattle.ob_script.specs.ScriptViews.{state_of}
 use Rattle.ob_script.proofs.parsing.parse.Given as goal
 
@@ -7,7 +7,7 @@ abbrev pub invariant-loop-text : goal.invariant-loop-text
 invariant-loop-text l = record {
   before : List Text;
   lines_are : lines_of l.bytes ≡ before ++ lines_from l.all l.rest;
-  good : Reads l.keys start before (state_of l.reader);
+  good : ReadsLines l.keys start before (state_of l.reader);
   number_is : l.number ≡ length before + 1;
   room : l.number + length l.rest ≤ length l.bytes + 1;
 }

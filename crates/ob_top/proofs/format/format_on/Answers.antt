@@ -6,5 +6,5 @@ use Rattle.ob_top.proofs.format.format_on.Goals as goal
 pub returns-in-Err-clause-ends : goal.returns-in-Err-clause-ends
 returns-in-Err-clause-ends g c =
     let e = c.in-Err.ensures in
-    format_failed c.args.keys.now c.args.params.now (g.S.Store.disk c.args.store.now) (g.S.Store.disk c.format.new.store) _ c.in-Err.fault e.faults e.serves.cause
+    format_failed g.S.Store.disk c.args.keys.now c.args.params.now c.args.store.now c.format.new.store _ c.in-Err.fault e.faults e.serves.cause
     (first_noted (format_notes c.args.params.now.keys) _ _ _ _ e.does.first)

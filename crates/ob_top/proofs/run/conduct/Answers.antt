@@ -1,8 +1,4 @@
-use Rattle.std.proofs.Common.{refl, sym, subst, ◌∙◌, ◌≡◌, ◌≤◌, ℕ, List, [], map, suc, ap, arith, Result}
-use Rattle.std.specs.List.{All}
-use Rattle.std.proofs.lemmas.List.Elements.{All-weaker}
-use Rattle.ob_runner.specs.RunnerViews.{client_of, bound_of, plan_of, MayHaveMade}
-use Rattle.ob_runner.specs.Runners.{IsNewOf}
+use Rattle.std.proofs.Common.{refl, sym, ◌∙◌, arith}
 use Rattle.ob_desk.specs.Desk.{new_desk}
 use Rattle.ob_conduct.proofs.Conducting.{done_short}
 use Rattle.ob_top.proofs.Opens.{none_made, below_all, opens_all, new_same}

@@ -1,4 +1,4 @@
-use Rattle.std.proofs.Common.{◌≡◌, sym, ap, length, ◌∙◌}
+use Rattle.std.proofs.Common.{sym}
 use Rattle.ob_top.proofs.Opens.{same_items, as_long}
 use Rattle.ob_top.proofs.run.serve_all.Goals as goal
 

@@ -1,5 +1,4 @@
 use Rattle.std.proofs.Common.{inl, inr, refl}
-use Rattle.ob_top.specs.declared.words.Command.{Command}
 use Rattle.ob_top.proofs.top.do_on.Goals as goal
 
 pub returns-in-Err-keys_of-clause-does : goal.returns-in-Err-keys_of-clause-does

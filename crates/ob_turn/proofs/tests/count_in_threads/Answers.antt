@@ -20,4 +20,5 @@ close-requires-clause-all g c =
     let less : k < length c.as_mut_slice.result.now = omega (arith, lt, c.count_each.ensures.length) in
     c.count_each.ensures.parts k d less ∙ subst (All IsOne) (sym value) old k d less in
     have_all c.in_ok-turn.turn _ (omega (arith, opened.told, c.requires)) (grind (arith, common_steps, c.count_each.ensures.length, opened.long, opened.told, c.as_mut_slice.ensures.len, value))
-    (All-take IsOne c.in_ok-turn.seats.len (c.count_each.new.seats ++ drop (length c.count_each.new.seats) c.in_ok-turn.seats.items) (All-append IsOne c.count_each.new.seats (drop (length c.count_each.new.seats) c.in_ok-turn.seats.items) new (All-drop IsOne (length c.count_each.new.seats) c.in_ok-turn.seats.items old)))
+    (All-take IsOne c.in_ok-turn.seats.len (c.count_each.new.seats ++ drop (length c.count_each.new.seats) c.in_ok-turn.seats.items)
+    (All-append IsOne c.count_each.new.seats (drop (length c.count_each.new.seats) c.in_ok-turn.seats.items) new (All-drop IsOne (length c.count_each.new.seats) c.in_ok-turn.seats.items old)))

@@ -40,7 +40,8 @@ pub loop-next-preserved : goal.loop-next-preserved
 loop-next-preserved c =
     let l = c.loop-next in
     let e = c.fall.ensures in
-    running_on c.args.list.now.items c.args.t c.args.keys l.written c.fall.new.written l.list.items c.fall.new.list.items l.table c.fall.new.table l.agenda c.take_least.new.self c.fall.new.agenda c.in-Some.next c.requires.tidy l.invariant c.in-Some.ensures.least c.in-Some.ensures.above c.take_least.ensures.room e.list e.kept e.has e.adds
+    running_on c.args.list.now.items c.args.t c.args.keys l.written c.fall.new.written l.list.items c.fall.new.list.items l.table c.fall.new.table l.agenda c.take_least.new.self c.fall.new.agenda c.in-Some.next c.requires.tidy l.invariant
+    c.in-Some.ensures.least c.in-Some.ensures.above c.take_least.ensures.room e.list e.kept e.has e.adds
 
 pub loop-next-smaller : goal.loop-next-smaller
 loop-next-smaller c =

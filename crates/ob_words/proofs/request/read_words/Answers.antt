@@ -2,14 +2,14 @@ use Rattle.std.proofs.Common.{◌≢◌, ◌∙◌, ap, sym, map, List, [], Opti
 use Rattle.std.specs.Prelude.{option_and_then}
 use Rattle.clap.specs.Words.{App, Row, Text, fault_of, is_simple, is_simple_and_free, subcommand_of}
 use Rattle.ob_words.specs.Commands.{program}
-use Rattle.ob_words.specs.Reading.{Asked, asked_at}
+use Rattle.ob_words.specs.Reading.{Asked, asked_command}
 use Rattle.ob_words.proofs.Built.{is_simple_program}
 use Rattle.ob_words.proofs.Asks.{among_some, is_simple_alone, passes_asks}
 use Rattle.ob_words.proofs.ReadForms.{read_is, refused_is}
 use Rattle.ob_words.proofs.request.read_words.Goals as goal
 
 abbrev reads_by : Option (Text × List Row) → Option Asked
-reads_by o = option_and_then (λ p. asked_at p.0 p.1) o
+reads_by o = option_and_then (λ p. asked_command p.0 p.1) o
 
 pub returns-in-Some : goal.returns-in-Some
 returns-in-Some c =

@@ -1,5 +1,5 @@
 use Rattle.std.proofs.Common.{◌≡◌, ◌+◌, ◌≤◌, ◌^◌, true, map, sym, ap, ap₂, ◌∙◌, subst, arith}
-use Rattle.ob_order.specs.Writes.{pair_of}
+use Rattle.ob_base.specs.Writes.{pair_of}
 use Rattle.ob_desk.specs.Parts.{desk_of}
 use Rattle.ob_desk.specs.Desk as desks
 use Rattle.ob_desk.specs.Desk.{DeskState}

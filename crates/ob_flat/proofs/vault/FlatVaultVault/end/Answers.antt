@@ -1,10 +1,11 @@
-use Rattle.std.proofs.Common.{◌≡◌, ℕ, List, Option, length, sym, ap, subst, ◌∙◌, refl}
+use Rattle.std.proofs.Common.{◌≡◌, ℕ, suc, List, Option, length, sym, ap, subst, ◌∙◌, refl}
 use Rattle.std.specs.Ordering.{nat_cmp}
 use Rattle.ob_serial.specs.Serial.{Map}
 use Rattle.ob_serial.specs.Vaults.{standing_now, standing_next, with_writes}
 use Rattle.ob_serial.specs.VaultViews.{writes_of}
 use Rattle.ob_flat.specs.Standing.{IsMapOf}
-use Rattle.ob_flat.specs.Calls.{IsEnded}
+use Rattle.ob_store.specs.Images.{Passes}
+use Rattle.ob_flat.specs.Calls.{IsEndDone, SameOffEpoch}
 use Rattle.ob_flat.proofs.Soundness.{begins, refused_in, ended_in, refused_sound, ended_sound, lent_leaves, kept_sound, alike_kept}
 use Rattle.ob_flat.proofs.Refusals.{values_free}
 use Rattle.ob_flat.proofs.vault.FlatVaultVault.end.Goals as goal
@@ -45,8 +46,19 @@ returns-in-Err-clause-called g c =
     let new = g.S.Store.disk c.end_held.new.held.store.now in
     let next = c.deref-2.result.now in
     let whole : length next ≡ self.params.keys = ap length c.deref-2.ensures.value ∙ c.prepare_next.ensures.whole ∙ ap length c.deref.ensures.value ∙ self.whole in
-    let told = c.in-Err.ensures.called self.params whole in
-    (told.0, told.1, record { params = refl; does = values_free self.params self.held.gates.epoch self.held.epoch next (record { store = self.held.store.now; sealing = self.held.sealer }) (record { store = c.end_held.new.held.store.now; sealing = c.end_held.new.held.sealer }) old new self.values.items told.0 c.in-Err.refused told.2; knows = c.in-Err.ensures.knows })
+    let told = c.in-Err.ensures.called self.params whole in (
+      told.0,
+      told.1,
+      record {
+        params = refl;
+        does = values_free self.params self.held.gates.epoch self.held.epoch next (record { store = self.held.store.now; sealing = self.held.sealer })
+            (record { store = c.end_held.new.held.store.now; sealing = c.end_held.new.held.sealer }) old new self.values.items told.0 c.in-Err.refused told.2;
+        knows = c.in-Err.ensures.knows;
+        goes = c.end_held.ensures.serves.goes;
+        rest = subst (λ n. old.tells → SameOffEpoch n (suc self.held.epoch) new.cells old.cells) whole c.end_held.ensures.rest;
+        passes = subst (λ n. Passes (SameOffEpoch n (suc self.held.epoch)) old new) whole c.end_held.ensures.passes;
+      },
+    )
 
 pub returns-clause-sound : goal.returns-clause-sound
 returns-clause-sound g c = λ v sound.
@@ -86,8 +98,18 @@ returns-clause-called g c =
     let next = c.deref-2.result.now in
     let whole : length next ≡ self.params.keys = ap length c.deref-2.ensures.value ∙ c.prepare_next.ensures.whole ∙ ap length c.deref.ensures.value ∙ self.whole in
     let told = c.in-Ok.ensures.called self.params whole in
-    let kept : c.swap.new.x.items ≡ next = ap (λ (l : _). l.items) c.swap.ensures.x_after ∙ sym c.deref-2.ensures.value in
-    (told.0, told.1, record { params = refl; does = subst (λ (l : List (Option (List ℕ))). IsEnded self.params.keys self.held.gates.epoch self.held.epoch l self.held.sealer c.end_held.new.held.sealer old new told.0) (sym kept) told.2; knows = c.in-Ok.ensures.knows })
+    let kept : c.swap.new.x.items ≡ next = ap (λ (l : _). l.items) c.swap.ensures.x_after ∙ sym c.deref-2.ensures.value in (
+      told.0,
+      told.1,
+      record {
+        params = refl;
+        does = subst (λ (l : List (Option (List ℕ))). IsEndDone self.params.keys self.held.gates.epoch self.held.epoch l self.held.sealer c.end_held.new.held.sealer old new told.0) (sym kept) told.2;
+        knows = c.in-Ok.ensures.knows;
+        goes = c.end_held.ensures.serves.goes;
+        rest = subst (λ n. old.tells → SameOffEpoch n (suc self.held.epoch) new.cells old.cells) whole c.end_held.ensures.rest;
+        passes = subst (λ n. Passes (SameOffEpoch n (suc self.held.epoch)) old new) whole c.end_held.ensures.passes;
+      },
+    )
 
 pub returns-in-Err-clause-alike : goal.returns-in-Err-clause-alike
 returns-in-Err-clause-alike g c = alike_kept c.args.self.now.held.sealer c.end_held.new.held.sealer c.in-Err.ensures.same_keys c.in-Err.ensures.same_generation c.args.self.now.params

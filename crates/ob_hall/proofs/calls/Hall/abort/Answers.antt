@@ -1,7 +1,7 @@
 use Rattle.std.proofs.Common.{refl, ◌≡◌, [], ◌∷◌}
 use Rattle.ob_desk.specs.Desk as desk
 use Rattle.ob_session.specs.Steps.{steps_of}
-use Rattle.ob_hall.specs.Calling.{Tells}
+use Rattle.ob_hall.specs.Calling.{TellsCalls}
 use Rattle.ob_hall.proofs.Turning as turning
 use Rattle.ob_hall.proofs.Afterwards.{abort_stands}
 use Rattle.ob_hall.proofs.calls.Hall.abort.Goals as goal
@@ -12,18 +12,21 @@ abort-why-requires g c = turning.abort_allowed c.args.self.now c.args.pass.now c
 pub leave_client-requires-clause-desk : goal.leave_client-requires-clause-desk
 leave_client-requires-clause-desk g c =
     let i = (turning.is_in c.args.pass.now c.in-Some.txn c.in-Some.is c.requires.inside) in
-    turning.leave_one c.args.self.now c.args.pass.now c.enter-desk.new.pass c.enter-desk.result c.requires.ready c.enter-desk.ensures.entered c.abort-why.new.self (steps_of c.one.result) (desk.Abort c.in-Some.txn) (desk.Aborted c.abort-why.result) c.one.ensures (turning.abort_allowed c.args.self.now c.args.pass.now c.enter-desk.new.pass c.enter-desk.result c.requires.ready c.enter-desk.ensures.entered c.in-Some.txn i) c.abort-why.ensures.step i.client
+    turning.leave_one c.args.self.now c.args.pass.now c.enter-desk.new.pass c.enter-desk.result c.requires.ready c.enter-desk.ensures.entered c.abort-why.new.self (steps_of c.one.result) (desk.Abort c.in-Some.txn) (desk.Aborted c.abort-why.result)
+    c.one.ensures (turning.abort_allowed c.args.self.now c.args.pass.now c.enter-desk.new.pass c.enter-desk.result c.requires.ready c.enter-desk.ensures.entered c.in-Some.txn i) c.abort-why.ensures.step i.client
 
 pub returns-clause-one_history : goal.returns-clause-one_history
 returns-clause-one_history g c =
     let i = (turning.is_in c.args.pass.now c.in-Some.txn c.in-Some.is c.requires.inside) in
-    turning.of_any c.args.pass.now c.in-Some.txn (λ x. Tells c.args.self.now c.args.pass.now c.leave_client.new.pass (λ calls. calls ≡ (desk.Abort x, desk.Aborted c.abort-why.result) ∷ [])) c.in-Some.is
-    (turning.tells_one c.args.self.now c.args.pass.now c.enter-desk.new.pass c.enter-desk.result c.requires.ready c.enter-desk.ensures.entered c.leave_client.new.pass c.abort-why.new.self (steps_of c.one.result) (desk.Abort c.in-Some.txn) (desk.Aborted c.abort-why.result) (λ calls. calls ≡ (desk.Abort c.in-Some.txn, desk.Aborted c.abort-why.result) ∷ [])
+    turning.of_any c.args.pass.now c.in-Some.txn (λ x. TellsCalls c.args.self.now c.args.pass.now c.leave_client.new.pass (λ calls. calls ≡ (desk.Abort x, desk.Aborted c.abort-why.result) ∷ [])) c.in-Some.is
+    (turning.tells_one c.args.self.now c.args.pass.now c.enter-desk.new.pass c.enter-desk.result c.requires.ready c.enter-desk.ensures.entered c.leave_client.new.pass c.abort-why.new.self (steps_of c.one.result) (desk.Abort c.in-Some.txn)
+    (desk.Aborted c.abort-why.result) (λ calls. calls ≡ (desk.Abort c.in-Some.txn, desk.Aborted c.abort-why.result) ∷ [])
     c.one.ensures (turning.abort_allowed c.args.self.now c.args.pass.now c.enter-desk.new.pass c.enter-desk.result c.requires.ready c.enter-desk.ensures.entered c.in-Some.txn i) c.abort-why.ensures.step i.client c.leave_client.ensures.left refl)
 
 pub returns-clause-stands : goal.returns-clause-stands
 returns-clause-stands g c =
     let i = (turning.is_in c.args.pass.now c.in-Some.txn c.in-Some.is c.requires.inside) in
     abort_stands c.args.self.now c.args.pass.now c.leave_client.new.pass c.in-Some.txn c.abort-why.result i
-    (turning.tells_one c.args.self.now c.args.pass.now c.enter-desk.new.pass c.enter-desk.result c.requires.ready c.enter-desk.ensures.entered c.leave_client.new.pass c.abort-why.new.self (steps_of c.one.result) (desk.Abort c.in-Some.txn) (desk.Aborted c.abort-why.result) (λ calls. calls ≡ (desk.Abort c.in-Some.txn, desk.Aborted c.abort-why.result) ∷ [])
+    (turning.tells_one c.args.self.now c.args.pass.now c.enter-desk.new.pass c.enter-desk.result c.requires.ready c.enter-desk.ensures.entered c.leave_client.new.pass c.abort-why.new.self (steps_of c.one.result) (desk.Abort c.in-Some.txn)
+    (desk.Aborted c.abort-why.result) (λ calls. calls ≡ (desk.Abort c.in-Some.txn, desk.Aborted c.abort-why.result) ∷ [])
     c.one.ensures (turning.abort_allowed c.args.self.now c.args.pass.now c.enter-desk.new.pass c.enter-desk.result c.requires.ready c.enter-desk.ensures.entered c.in-Some.txn i) c.abort-why.ensures.step i.client c.leave_client.ensures.left refl)

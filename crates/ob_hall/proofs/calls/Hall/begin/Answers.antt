@@ -1,5 +1,5 @@
 use Rattle.std.proofs.Common.{refl, ap, ◌∙◌, Option, Ok, Err}
-use Rattle.ob_desk.specs.declared.calls.Txn.{Txn as TxnId}
+use Rattle.ob_desk.specs.declared.calls.Txn.{Txn}
 use Rattle.ob_desk.specs.Desk as desk
 use Rattle.ob_desk.specs.Calls.{begun_reply}
 use Rattle.ob_session.specs.Steps.{steps_of}
@@ -13,7 +13,8 @@ begin-requires g c = turning.begin_allowed c.args.self.now c.args.pass.now c.ent
 
 pub leave_client-requires-clause-desk : goal.leave_client-requires-clause-desk
 leave_client-requires-clause-desk g c =
-    turning.leave_one c.args.self.now c.args.pass.now c.enter-desk.new.pass c.enter-desk.result c.requires.ready c.enter-desk.ensures.entered c.begin.new.self (steps_of c.one.result) (desk.Begin c.args.pass.now.client) (begun_reply c.in-Ok.reply) c.one.ensures (turning.begin_allowed c.args.self.now c.args.pass.now c.enter-desk.new.pass c.enter-desk.result c.requires.ready c.enter-desk.ensures.entered c.requires.between) c.in-Ok.ensures.step refl
+    turning.leave_one c.args.self.now c.args.pass.now c.enter-desk.new.pass c.enter-desk.result c.requires.ready c.enter-desk.ensures.entered c.begin.new.self (steps_of c.one.result) (desk.Begin c.args.pass.now.client) (begun_reply c.in-Ok.reply) c.one.ensures
+    (turning.begin_allowed c.args.self.now c.args.pass.now c.enter-desk.new.pass c.enter-desk.result c.requires.ready c.enter-desk.ensures.entered c.requires.between) c.in-Ok.ensures.step refl
 
 pub leave_client-requires-in-Err-clause-desk : goal.leave_client-requires-in-Err-clause-desk
 leave_client-requires-in-Err-clause-desk g c = turning.leave_none c.args.self.now c.args.pass.now c.enter-desk.new.pass c.enter-desk.result c.requires.ready c.enter-desk.ensures.entered c.begin.new.self (steps_of c.no_call.result) c.no_call.ensures c.in-Err.ensures.err
@@ -21,23 +22,27 @@ leave_client-requires-in-Err-clause-desk g c = turning.leave_none c.args.self.no
 pub returns-in-Ok-clause-one_history : goal.returns-in-Ok-clause-one_history
 returns-in-Ok-clause-one_history g c =
     turning.tells_last c.args.self.now c.args.pass.now c.leave_client.new.pass c.last_behind-pass.result (BeginSays c.args.pass.now.client (Ok c.in-Ok.reply))
-    (turning.tells_one c.args.self.now c.args.pass.now c.enter-desk.new.pass c.enter-desk.result c.requires.ready c.enter-desk.ensures.entered c.leave_client.new.pass c.begin.new.self (steps_of c.one.result) (desk.Begin c.args.pass.now.client) (begun_reply c.in-Ok.reply) (BeginSays c.args.pass.now.client (Ok c.in-Ok.reply))
+    (turning.tells_one c.args.self.now c.args.pass.now c.enter-desk.new.pass c.enter-desk.result c.requires.ready c.enter-desk.ensures.entered c.leave_client.new.pass c.begin.new.self (steps_of c.one.result) (desk.Begin c.args.pass.now.client)
+    (begun_reply c.in-Ok.reply) (BeginSays c.args.pass.now.client (Ok c.in-Ok.reply))
     c.one.ensures (turning.begin_allowed c.args.self.now c.args.pass.now c.enter-desk.new.pass c.enter-desk.result c.requires.ready c.enter-desk.ensures.entered c.requires.between) c.in-Ok.ensures.step refl c.leave_client.ensures.left refl)
 
 pub returns-in-Err-clause-one_history : goal.returns-in-Err-clause-one_history
 returns-in-Err-clause-one_history g c =
-    turning.tells_none c.args.self.now c.args.pass.now c.enter-desk.new.pass c.enter-desk.result c.requires.ready c.enter-desk.ensures.entered c.leave_client-in-Err.new.pass c.begin.new.self (steps_of c.no_call.result) (BeginSays c.args.pass.now.client (Err c.in-Err.memory)) c.no_call.ensures c.in-Err.ensures.err c.leave_client-in-Err.ensures.left refl
+    turning.tells_none c.args.self.now c.args.pass.now c.enter-desk.new.pass c.enter-desk.result c.requires.ready c.enter-desk.ensures.entered c.leave_client-in-Err.new.pass c.begin.new.self (steps_of c.no_call.result)
+    (BeginSays c.args.pass.now.client (Err c.in-Err.memory)) c.no_call.ensures c.in-Err.ensures.err c.leave_client-in-Err.ensures.left refl
 
 pub returns-in-Ok-clause-stands : goal.returns-in-Ok-clause-stands
 returns-in-Ok-clause-stands g c =
     begin_stands c.args.self.now c.args.pass.now (record c.leave_client.new.pass { last = c.last_behind-pass.result }) (Ok c.in-Ok.reply) c.requires.between
     (turning.tells_last c.args.self.now c.args.pass.now c.leave_client.new.pass c.last_behind-pass.result (BeginSays c.args.pass.now.client (Ok c.in-Ok.reply))
-    (turning.tells_one c.args.self.now c.args.pass.now c.enter-desk.new.pass c.enter-desk.result c.requires.ready c.enter-desk.ensures.entered c.leave_client.new.pass c.begin.new.self (steps_of c.one.result) (desk.Begin c.args.pass.now.client) (begun_reply c.in-Ok.reply) (BeginSays c.args.pass.now.client (Ok c.in-Ok.reply))
+    (turning.tells_one c.args.self.now c.args.pass.now c.enter-desk.new.pass c.enter-desk.result c.requires.ready c.enter-desk.ensures.entered c.leave_client.new.pass c.begin.new.self (steps_of c.one.result) (desk.Begin c.args.pass.now.client)
+    (begun_reply c.in-Ok.reply) (BeginSays c.args.pass.now.client (Ok c.in-Ok.reply))
     c.one.ensures (turning.begin_allowed c.args.self.now c.args.pass.now c.enter-desk.new.pass c.enter-desk.result c.requires.ready c.enter-desk.ensures.entered c.requires.between) c.in-Ok.ensures.step refl c.leave_client.ensures.left refl))
-    (c.last_behind-pass.ensures ∙ ap (λ (o : Option TxnId). last_begun o (Ok c.in-Ok.reply)) (c.leave_client.ensures.left.beside.last ∙ c.enter-desk.ensures.entered.beside.last)) (is_named c.enter-desk.result c.args.pass.now.client c.in-Ok.reply c.begin.new.self c.in-Ok.ensures.step)
+    (c.last_behind-pass.ensures ∙ ap (λ (o : Option Txn). last_begun o (Ok c.in-Ok.reply)) (c.leave_client.ensures.left.beside.last ∙ c.enter-desk.ensures.entered.beside.last)) (is_named c.enter-desk.result c.args.pass.now.client c.in-Ok.reply c.begin.new.self c.in-Ok.ensures.step)
 
 pub returns-in-Err-clause-stands : goal.returns-in-Err-clause-stands
 returns-in-Err-clause-stands g c =
     begin_stands c.args.self.now c.args.pass.now c.leave_client-in-Err.new.pass (Err c.in-Err.memory) c.requires.between
-    (turning.tells_none c.args.self.now c.args.pass.now c.enter-desk.new.pass c.enter-desk.result c.requires.ready c.enter-desk.ensures.entered c.leave_client-in-Err.new.pass c.begin.new.self (steps_of c.no_call.result) (BeginSays c.args.pass.now.client (Err c.in-Err.memory)) c.no_call.ensures c.in-Err.ensures.err c.leave_client-in-Err.ensures.left refl)
+    (turning.tells_none c.args.self.now c.args.pass.now c.enter-desk.new.pass c.enter-desk.result c.requires.ready c.enter-desk.ensures.entered c.leave_client-in-Err.new.pass c.begin.new.self (steps_of c.no_call.result)
+    (BeginSays c.args.pass.now.client (Err c.in-Err.memory)) c.no_call.ensures c.in-Err.ensures.err c.leave_client-in-Err.ensures.left refl)
     (c.leave_client-in-Err.ensures.left.beside.last ∙ c.enter-desk.ensures.entered.beside.last) tt

@@ -3,7 +3,7 @@ use Rattle.ob_desk.specs.Desk as desk
 use Rattle.ob_desk.specs.Calls.{done_reply}
 use Rattle.ob_session.specs.Steps.{steps_of}
 use Rattle.ob_hall.specs.declared.calls.Refused.TheVariants as refused
-use Rattle.ob_hall.specs.Calling.{WriteSays, Tells, StaysIn}
+use Rattle.ob_hall.specs.Calling.{WriteSays, TellsCalls, StaysIn}
 use Rattle.ob_hall.proofs.Turning as turning
 use Rattle.ob_hall.proofs.Afterwards.{write_stands}
 use Rattle.ob_hall.proofs.calls.Hall.put.Goals as goal
@@ -14,7 +14,8 @@ put-requires g c = turning.write_allowed c.args.self.now c.args.pass.now c.enter
 pub leave_client-requires-clause-desk : goal.leave_client-requires-clause-desk
 leave_client-requires-clause-desk g c =
     let i = (turning.is_in c.args.pass.now c.in-Some.txn c.in-Some.is c.requires.inside) in
-    turning.leave_one c.args.self.now c.args.pass.now c.enter-desk.new.pass c.enter-desk.result c.requires.ready c.enter-desk.ensures.entered c.put.new.self (steps_of c.one.result) (desk.Write c.in-Some.txn c.args.key (Some c.args.value)) (done_reply c.in-Ok.reply) c.one.ensures (turning.write_allowed c.args.self.now c.args.pass.now c.enter-desk.new.pass c.enter-desk.result c.requires.ready c.enter-desk.ensures.entered c.in-Some.txn c.args.key (Some c.args.value) i c.requires.key) c.in-Ok.ensures.step i.client
+    turning.leave_one c.args.self.now c.args.pass.now c.enter-desk.new.pass c.enter-desk.result c.requires.ready c.enter-desk.ensures.entered c.put.new.self (steps_of c.one.result) (desk.Write c.in-Some.txn c.args.key (Some c.args.value))
+    (done_reply c.in-Ok.reply) c.one.ensures (turning.write_allowed c.args.self.now c.args.pass.now c.enter-desk.new.pass c.enter-desk.result c.requires.ready c.enter-desk.ensures.entered c.in-Some.txn c.args.key (Some c.args.value) i c.requires.key) c.in-Ok.ensures.step i.client
 
 pub leave_client-requires-in-Err-clause-desk : goal.leave_client-requires-in-Err-clause-desk
 leave_client-requires-in-Err-clause-desk g c = turning.leave_none c.args.self.now c.args.pass.now c.enter-desk.new.pass c.enter-desk.result c.requires.ready c.enter-desk.ensures.entered c.put.new.self (steps_of c.no_call.result) c.no_call.ensures c.in-Err.ensures.err
@@ -22,22 +23,27 @@ leave_client-requires-in-Err-clause-desk g c = turning.leave_none c.args.self.no
 pub returns-in-Ok-clause-one_history : goal.returns-in-Ok-clause-one_history
 returns-in-Ok-clause-one_history g c =
     let i = (turning.is_in c.args.pass.now c.in-Some.txn c.in-Some.is c.requires.inside) in
-    turning.of_any c.args.pass.now c.in-Some.txn (λ x. Tells c.args.self.now c.args.pass.now c.leave_client.new.pass (WriteSays x c.args.key (Some c.args.value) c.answer_of.result)) c.in-Some.is
-    (turning.tells_one c.args.self.now c.args.pass.now c.enter-desk.new.pass c.enter-desk.result c.requires.ready c.enter-desk.ensures.entered c.leave_client.new.pass c.put.new.self (steps_of c.one.result) (desk.Write c.in-Some.txn c.args.key (Some c.args.value)) (done_reply c.in-Ok.reply) (WriteSays c.in-Some.txn c.args.key (Some c.args.value) c.answer_of.result)
-    c.one.ensures (turning.write_allowed c.args.self.now c.args.pass.now c.enter-desk.new.pass c.enter-desk.result c.requires.ready c.enter-desk.ensures.entered c.in-Some.txn c.args.key (Some c.args.value) i c.requires.key) c.in-Ok.ensures.step i.client c.leave_client.ensures.left (c.answer_of.ensures c.in-Some.txn c.args.key (Some c.args.value)))
+    turning.of_any c.args.pass.now c.in-Some.txn (λ x. TellsCalls c.args.self.now c.args.pass.now c.leave_client.new.pass (WriteSays x c.args.key (Some c.args.value) c.answer_of.result)) c.in-Some.is
+    (turning.tells_one c.args.self.now c.args.pass.now c.enter-desk.new.pass c.enter-desk.result c.requires.ready c.enter-desk.ensures.entered c.leave_client.new.pass c.put.new.self (steps_of c.one.result)
+    (desk.Write c.in-Some.txn c.args.key (Some c.args.value)) (done_reply c.in-Ok.reply) (WriteSays c.in-Some.txn c.args.key (Some c.args.value) c.answer_of.result)
+    c.one.ensures (turning.write_allowed c.args.self.now c.args.pass.now c.enter-desk.new.pass c.enter-desk.result c.requires.ready c.enter-desk.ensures.entered c.in-Some.txn c.args.key (Some c.args.value) i c.requires.key) c.in-Ok.ensures.step i.client
+    c.leave_client.ensures.left (c.answer_of.ensures c.in-Some.txn c.args.key (Some c.args.value)))
 
 pub returns-in-Err-clause-one_history : goal.returns-in-Err-clause-one_history
 returns-in-Err-clause-one_history g c =
-    turning.of_any c.args.pass.now c.in-Some.txn (λ x. Tells c.args.self.now c.args.pass.now c.leave_client-in-Err.new.pass (WriteSays x c.args.key (Some c.args.value) (Err refused.Memory))) c.in-Some.is
-    (turning.tells_none c.args.self.now c.args.pass.now c.enter-desk.new.pass c.enter-desk.result c.requires.ready c.enter-desk.ensures.entered c.leave_client-in-Err.new.pass c.put.new.self (steps_of c.no_call.result) (WriteSays c.in-Some.txn c.args.key (Some c.args.value) (Err refused.Memory)) c.no_call.ensures c.in-Err.ensures.err c.leave_client-in-Err.ensures.left refl)
+    turning.of_any c.args.pass.now c.in-Some.txn (λ x. TellsCalls c.args.self.now c.args.pass.now c.leave_client-in-Err.new.pass (WriteSays x c.args.key (Some c.args.value) (Err refused.Memory))) c.in-Some.is
+    (turning.tells_none c.args.self.now c.args.pass.now c.enter-desk.new.pass c.enter-desk.result c.requires.ready c.enter-desk.ensures.entered c.leave_client-in-Err.new.pass c.put.new.self (steps_of c.no_call.result)
+    (WriteSays c.in-Some.txn c.args.key (Some c.args.value) (Err refused.Memory)) c.no_call.ensures c.in-Err.ensures.err c.leave_client-in-Err.ensures.left refl)
 
 pub returns-in-Ok-clause-stands : goal.returns-in-Ok-clause-stands
 returns-in-Ok-clause-stands g c =
     let i = (turning.is_in c.args.pass.now c.in-Some.txn c.in-Some.is c.requires.inside) in
     turning.of_any c.args.pass.now c.in-Some.txn (λ x. StaysIn c.answer_of.result c.args.pass.now c.leave_client.new.pass x) c.in-Some.is
     (write_stands c.args.self.now c.args.pass.now c.leave_client.new.pass c.in-Some.txn c.args.key (Some c.args.value) c.answer_of.result i
-    (turning.tells_one c.args.self.now c.args.pass.now c.enter-desk.new.pass c.enter-desk.result c.requires.ready c.enter-desk.ensures.entered c.leave_client.new.pass c.put.new.self (steps_of c.one.result) (desk.Write c.in-Some.txn c.args.key (Some c.args.value)) (done_reply c.in-Ok.reply) (WriteSays c.in-Some.txn c.args.key (Some c.args.value) c.answer_of.result)
-    c.one.ensures (turning.write_allowed c.args.self.now c.args.pass.now c.enter-desk.new.pass c.enter-desk.result c.requires.ready c.enter-desk.ensures.entered c.in-Some.txn c.args.key (Some c.args.value) i c.requires.key) c.in-Ok.ensures.step i.client c.leave_client.ensures.left (c.answer_of.ensures c.in-Some.txn c.args.key (Some c.args.value)))
+    (turning.tells_one c.args.self.now c.args.pass.now c.enter-desk.new.pass c.enter-desk.result c.requires.ready c.enter-desk.ensures.entered c.leave_client.new.pass c.put.new.self (steps_of c.one.result)
+    (desk.Write c.in-Some.txn c.args.key (Some c.args.value)) (done_reply c.in-Ok.reply) (WriteSays c.in-Some.txn c.args.key (Some c.args.value) c.answer_of.result)
+    c.one.ensures (turning.write_allowed c.args.self.now c.args.pass.now c.enter-desk.new.pass c.enter-desk.result c.requires.ready c.enter-desk.ensures.entered c.in-Some.txn c.args.key (Some c.args.value) i c.requires.key) c.in-Ok.ensures.step i.client
+    c.leave_client.ensures.left (c.answer_of.ensures c.in-Some.txn c.args.key (Some c.args.value)))
     (c.leave_client.ensures.left.beside.last ∙ c.enter-desk.ensures.entered.beside.last))
 
 pub returns-in-Err-clause-stands : goal.returns-in-Err-clause-stands
@@ -45,5 +51,6 @@ returns-in-Err-clause-stands g c =
     let i = turning.is_in c.args.pass.now c.in-Some.txn c.in-Some.is c.requires.inside in
     turning.of_any c.args.pass.now c.in-Some.txn (λ x. StaysIn {A = Unit {0}} (Err refused.Memory) c.args.pass.now c.leave_client-in-Err.new.pass x) c.in-Some.is
     (write_stands c.args.self.now c.args.pass.now c.leave_client-in-Err.new.pass c.in-Some.txn c.args.key (Some c.args.value) (Err refused.Memory) i
-    (turning.tells_none c.args.self.now c.args.pass.now c.enter-desk.new.pass c.enter-desk.result c.requires.ready c.enter-desk.ensures.entered c.leave_client-in-Err.new.pass c.put.new.self (steps_of c.no_call.result) (WriteSays c.in-Some.txn c.args.key (Some c.args.value) (Err refused.Memory)) c.no_call.ensures c.in-Err.ensures.err c.leave_client-in-Err.ensures.left refl)
+    (turning.tells_none c.args.self.now c.args.pass.now c.enter-desk.new.pass c.enter-desk.result c.requires.ready c.enter-desk.ensures.entered c.leave_client-in-Err.new.pass c.put.new.self (steps_of c.no_call.result)
+    (WriteSays c.in-Some.txn c.args.key (Some c.args.value) (Err refused.Memory)) c.no_call.ensures c.in-Err.ensures.err c.leave_client-in-Err.ensures.left refl)
     (c.leave_client-in-Err.ensures.left.beside.last ∙ c.enter-desk.ensures.entered.beside.last))

@@ -9,9 +9,11 @@ sign_off-requires g c = turning.sign_off_allowed c.args.self.now c.args.pass.now
 
 pub leave_client-requires-clause-desk : goal.leave_client-requires-clause-desk
 leave_client-requires-clause-desk g c =
-    turning.leave_one c.args.self.now c.args.pass.now c.enter-desk.new.pass c.enter-desk.result c.requires.ready c.enter-desk.ensures.entered c.sign_off.new.self (steps_of c.one.result) (desk.SignOff c.args.pass.now.client) desk.Done c.one.ensures (turning.sign_off_allowed c.args.self.now c.args.pass.now c.enter-desk.new.pass c.enter-desk.result c.requires.ready c.enter-desk.ensures.entered c.requires.between) c.sign_off.ensures refl
+    turning.leave_one c.args.self.now c.args.pass.now c.enter-desk.new.pass c.enter-desk.result c.requires.ready c.enter-desk.ensures.entered c.sign_off.new.self (steps_of c.one.result) (desk.SignOff c.args.pass.now.client) desk.Done c.one.ensures
+    (turning.sign_off_allowed c.args.self.now c.args.pass.now c.enter-desk.new.pass c.enter-desk.result c.requires.ready c.enter-desk.ensures.entered c.requires.between) c.sign_off.ensures refl
 
 pub returns-clause-one_history : goal.returns-clause-one_history
 returns-clause-one_history g c =
-    turning.tells_one c.args.self.now c.args.pass.now c.enter-desk.new.pass c.enter-desk.result c.requires.ready c.enter-desk.ensures.entered c.leave_client.new.pass c.sign_off.new.self (steps_of c.one.result) (desk.SignOff c.args.pass.now.client) desk.Done (λ calls. calls ≡ (desk.SignOff c.args.pass.now.client, desk.Done) ∷ [])
+    turning.tells_one c.args.self.now c.args.pass.now c.enter-desk.new.pass c.enter-desk.result c.requires.ready c.enter-desk.ensures.entered c.leave_client.new.pass c.sign_off.new.self (steps_of c.one.result) (desk.SignOff c.args.pass.now.client) desk.Done
+    (λ calls. calls ≡ (desk.SignOff c.args.pass.now.client, desk.Done) ∷ [])
     c.one.ensures (turning.sign_off_allowed c.args.self.now c.args.pass.now c.enter-desk.new.pass c.enter-desk.result c.requires.ready c.enter-desk.ensures.entered c.requires.between) c.sign_off.ensures refl c.leave_client.ensures.left refl

@@ -1,6 +1,6 @@
 use Rattle.std.proofs.Common.{◌≤◌, ◌∙◌, length, ap, arith}
 use Rattle.ob_session.proofs.Rolls.{new_numbers}
-use Rattle.ob_hall.specs.Turns.{numbers_of}
+use Rattle.ob_hall.specs.Turns.{client_numbers}
 use Rattle.ob_hall.proofs.Seating.{few}
 use Rattle.ob_hall.proofs.opening.Hall.new.Goals as goal
 
@@ -14,5 +14,5 @@ pub seat_all-requires-clause-new : goal.seat_all-requires-clause-new
 seat_all-requires-clause-new c =
     let o = c.requires.opens in (
       record { setup = o.0; epoch = o.1; left = o.2; clients = c.args.clients.now; opens = o.3; is = c.of-opened.ensures ∙ o.4 },
-      ap numbers_of (c.of-opened.ensures ∙ o.4) ∙ new_numbers c.args.clients.now,
+      ap client_numbers (c.of-opened.ensures ∙ o.4) ∙ new_numbers c.args.clients.now,
     )

@@ -20,22 +20,26 @@ leave_client-requires-in-Err-clause-desk g c = turning.leave_none c.args.self.no
 
 pub returns-in-Ok-clause-one_history : goal.returns-in-Ok-clause-one_history
 returns-in-Ok-clause-one_history g c =
-    turning.tells_one c.args.self.now c.args.pass.now c.enter-desk.new.pass c.enter-desk.result c.requires.ready c.enter-desk.ensures.entered c.leave_client.new.pass c.get.new.self (steps_of c.got.result) (desk.GetKey c.args.txn.now c.args.key) (got_reply c.in-Ok.reply) (AskSays c.args.txn.now c.args.key (Ok c.in-Ok.reply))
+    turning.tells_one c.args.self.now c.args.pass.now c.enter-desk.new.pass c.enter-desk.result c.requires.ready c.enter-desk.ensures.entered c.leave_client.new.pass c.get.new.self (steps_of c.got.result) (desk.GetKey c.args.txn.now c.args.key)
+    (got_reply c.in-Ok.reply) (AskSays c.args.txn.now c.args.key (Ok c.in-Ok.reply))
     c.got.ensures (turning.get_allowed c.args.self.now c.args.pass.now c.enter-desk.new.pass c.enter-desk.result c.requires.ready c.enter-desk.ensures.entered c.args.txn.now c.args.key c.requires.inside c.requires.key) c.in-Ok.ensures.step c.requires.inside.client c.leave_client.ensures.left refl
 
 pub returns-in-Ok-clause-stands : goal.returns-in-Ok-clause-stands
 returns-in-Ok-clause-stands g c =
     ask_stands c.args.self.now c.args.pass.now c.enter-desk.new.pass c.enter-desk.result c.requires.ready c.enter-desk.ensures.entered c.leave_client.new.pass c.args.txn.now c.args.key c.in-Ok.reply c.get.new.self c.requires.inside c.in-Ok.ensures.step
-    (turning.tells_one c.args.self.now c.args.pass.now c.enter-desk.new.pass c.enter-desk.result c.requires.ready c.enter-desk.ensures.entered c.leave_client.new.pass c.get.new.self (steps_of c.got.result) (desk.GetKey c.args.txn.now c.args.key) (got_reply c.in-Ok.reply) (AskSays c.args.txn.now c.args.key (Ok c.in-Ok.reply))
+    (turning.tells_one c.args.self.now c.args.pass.now c.enter-desk.new.pass c.enter-desk.result c.requires.ready c.enter-desk.ensures.entered c.leave_client.new.pass c.get.new.self (steps_of c.got.result) (desk.GetKey c.args.txn.now c.args.key)
+    (got_reply c.in-Ok.reply) (AskSays c.args.txn.now c.args.key (Ok c.in-Ok.reply))
     c.got.ensures (turning.get_allowed c.args.self.now c.args.pass.now c.enter-desk.new.pass c.enter-desk.result c.requires.ready c.enter-desk.ensures.entered c.args.txn.now c.args.key c.requires.inside c.requires.key) c.in-Ok.ensures.step c.requires.inside.client c.leave_client.ensures.left refl)
     (c.leave_client.ensures.left.beside.last ∙ c.enter-desk.ensures.entered.beside.last)
 
 pub returns-in-Err-clause-one_history : goal.returns-in-Err-clause-one_history
 returns-in-Err-clause-one_history g c =
-    turning.tells_none c.args.self.now c.args.pass.now c.enter-desk.new.pass c.enter-desk.result c.requires.ready c.enter-desk.ensures.entered c.leave_client-in-Err.new.pass c.get.new.self (steps_of c.no_call.result) (AskSays c.args.txn.now c.args.key (Err c.in-Err.memory)) c.no_call.ensures c.in-Err.ensures.err c.leave_client-in-Err.ensures.left refl
+    turning.tells_none c.args.self.now c.args.pass.now c.enter-desk.new.pass c.enter-desk.result c.requires.ready c.enter-desk.ensures.entered c.leave_client-in-Err.new.pass c.get.new.self (steps_of c.no_call.result)
+    (AskSays c.args.txn.now c.args.key (Err c.in-Err.memory)) c.no_call.ensures c.in-Err.ensures.err c.leave_client-in-Err.ensures.left refl
 
 pub returns-in-Err-clause-stands : goal.returns-in-Err-clause-stands
 returns-in-Err-clause-stands g c =
     ask_failed c.args.self.now c.args.pass.now c.leave_client-in-Err.new.pass c.args.txn.now c.args.key c.in-Err.memory c.requires.inside
-    (turning.tells_none c.args.self.now c.args.pass.now c.enter-desk.new.pass c.enter-desk.result c.requires.ready c.enter-desk.ensures.entered c.leave_client-in-Err.new.pass c.get.new.self (steps_of c.no_call.result) (AskSays c.args.txn.now c.args.key (Err c.in-Err.memory)) c.no_call.ensures c.in-Err.ensures.err c.leave_client-in-Err.ensures.left refl)
+    (turning.tells_none c.args.self.now c.args.pass.now c.enter-desk.new.pass c.enter-desk.result c.requires.ready c.enter-desk.ensures.entered c.leave_client-in-Err.new.pass c.get.new.self (steps_of c.no_call.result)
+    (AskSays c.args.txn.now c.args.key (Err c.in-Err.memory)) c.no_call.ensures c.in-Err.ensures.err c.leave_client-in-Err.ensures.left refl)
     (c.leave_client-in-Err.ensures.left.beside.last ∙ c.enter-desk.ensures.entered.beside.last)

@@ -10,8 +10,11 @@ pub poll-reply-requires : goal.poll-reply-requires
 poll-reply-requires g c = poll_allowed c.args.self.now c.args.pass.now c.enter-desk.new.pass c.enter-desk.result c.requires.ready c.enter-desk.ensures.entered c.args.txn.now c.requires.waiting
 
 pub leave_client-requires-clause-desk : goal.leave_client-requires-clause-desk
-leave_client-requires-clause-desk g c = turning.leave_one c.args.self.now c.args.pass.now c.enter-desk.new.pass c.enter-desk.result c.requires.ready c.enter-desk.ensures.entered c.poll-reply.new.self (steps_of c.got_again.result) (desk.Poll c.args.txn.now) (got_reply c.poll-reply.result) c.got_again.ensures (poll_allowed c.args.self.now c.args.pass.now c.enter-desk.new.pass c.enter-desk.result c.requires.ready c.enter-desk.ensures.entered c.args.txn.now c.requires.waiting) c.poll-reply.ensures.step c.requires.waiting.is.client
+leave_client-requires-clause-desk g c = turning.leave_one c.args.self.now c.args.pass.now c.enter-desk.new.pass c.enter-desk.result c.requires.ready c.enter-desk.ensures.entered c.poll-reply.new.self (steps_of c.got_again.result) (desk.Poll c.args.txn.now)
+    (got_reply c.poll-reply.result) c.got_again.ensures (poll_allowed c.args.self.now c.args.pass.now c.enter-desk.new.pass c.enter-desk.result c.requires.ready c.enter-desk.ensures.entered c.args.txn.now c.requires.waiting) c.poll-reply.ensures.step c.requires.waiting.is.client
 
 pub returns-clause-one_history : goal.returns-clause-one_history
 returns-clause-one_history g c =
-    turning.tells_one c.args.self.now c.args.pass.now c.enter-desk.new.pass c.enter-desk.result c.requires.ready c.enter-desk.ensures.entered c.leave_client.new.pass c.poll-reply.new.self (steps_of c.got_again.result) (desk.Poll c.args.txn.now) (got_reply c.poll-reply.result) (λ calls. calls ≡ (desk.Poll c.args.txn.now, got_reply c.poll-reply.result) ∷ []) c.got_again.ensures (poll_allowed c.args.self.now c.args.pass.now c.enter-desk.new.pass c.enter-desk.result c.requires.ready c.enter-desk.ensures.entered c.args.txn.now c.requires.waiting) c.poll-reply.ensures.step c.requires.waiting.is.client c.leave_client.ensures.left refl
+    turning.tells_one c.args.self.now c.args.pass.now c.enter-desk.new.pass c.enter-desk.result c.requires.ready c.enter-desk.ensures.entered c.leave_client.new.pass c.poll-reply.new.self (steps_of c.got_again.result) (desk.Poll c.args.txn.now)
+    (got_reply c.poll-reply.result) (λ calls. calls ≡ (desk.Poll c.args.txn.now, got_reply c.poll-reply.result) ∷ []) c.got_again.ensures
+    (poll_allowed c.args.self.now c.args.pass.now c.enter-desk.new.pass c.enter-desk.result c.requires.ready c.enter-desk.ensures.entered c.args.txn.now c.requires.waiting) c.poll-reply.ensures.step c.requires.waiting.is.client c.leave_client.ensures.left refl

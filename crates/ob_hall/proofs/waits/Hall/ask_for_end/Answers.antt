@@ -9,8 +9,11 @@ pub settled-outcome-requires : goal.settled-outcome-requires
 settled-outcome-requires g c = settled_allowed c.args.self.now c.args.pass.now c.enter-desk.new.pass c.enter-desk.result c.requires.ready c.enter-desk.ensures.entered c.args.txn.now c.requires.begun
 
 pub leave_client-requires-clause-desk : goal.leave_client-requires-clause-desk
-leave_client-requires-clause-desk g c = turning.leave_one c.args.self.now c.args.pass.now c.enter-desk.new.pass c.enter-desk.result c.requires.ready c.enter-desk.ensures.entered c.enter-desk.result (steps_of c.one.result) (desk.Settled c.args.txn.now) (desk.IsSettled c.settled-outcome.result) c.one.ensures (settled_allowed c.args.self.now c.args.pass.now c.enter-desk.new.pass c.enter-desk.result c.requires.ready c.enter-desk.ensures.entered c.args.txn.now c.requires.begun) c.settled-outcome.ensures c.requires.begun.1.client
+leave_client-requires-clause-desk g c = turning.leave_one c.args.self.now c.args.pass.now c.enter-desk.new.pass c.enter-desk.result c.requires.ready c.enter-desk.ensures.entered c.enter-desk.result (steps_of c.one.result) (desk.Settled c.args.txn.now)
+    (desk.IsSettled c.settled-outcome.result) c.one.ensures (settled_allowed c.args.self.now c.args.pass.now c.enter-desk.new.pass c.enter-desk.result c.requires.ready c.enter-desk.ensures.entered c.args.txn.now c.requires.begun) c.settled-outcome.ensures c.requires.begun.1.client
 
 pub returns-clause-one_history : goal.returns-clause-one_history
 returns-clause-one_history g c =
-    turning.tells_one c.args.self.now c.args.pass.now c.enter-desk.new.pass c.enter-desk.result c.requires.ready c.enter-desk.ensures.entered c.leave_client.new.pass c.enter-desk.result (steps_of c.one.result) (desk.Settled c.args.txn.now) (desk.IsSettled c.settled-outcome.result) (λ calls. calls ≡ (desk.Settled c.args.txn.now, desk.IsSettled c.settled-outcome.result) ∷ []) c.one.ensures (settled_allowed c.args.self.now c.args.pass.now c.enter-desk.new.pass c.enter-desk.result c.requires.ready c.enter-desk.ensures.entered c.args.txn.now c.requires.begun) c.settled-outcome.ensures c.requires.begun.1.client c.leave_client.ensures.left refl
+    turning.tells_one c.args.self.now c.args.pass.now c.enter-desk.new.pass c.enter-desk.result c.requires.ready c.enter-desk.ensures.entered c.leave_client.new.pass c.enter-desk.result (steps_of c.one.result) (desk.Settled c.args.txn.now)
+    (desk.IsSettled c.settled-outcome.result) (λ calls. calls ≡ (desk.Settled c.args.txn.now, desk.IsSettled c.settled-outcome.result) ∷ []) c.one.ensures
+    (settled_allowed c.args.self.now c.args.pass.now c.enter-desk.new.pass c.enter-desk.result c.requires.ready c.enter-desk.ensures.entered c.args.txn.now c.requires.begun) c.settled-outcome.ensures c.requires.begun.1.client c.leave_client.ensures.left refl

@@ -1,4 +1,4 @@
-use Rattle.ob_hall.specs.Calling.{Tells}
+use Rattle.ob_hall.specs.Calling.{TellsCalls}
 use Rattle.ob_hall.specs.Waiting.{CommitSays}
 use Rattle.ob_hall.proofs.Turning.{is_in, of_any}
 use Rattle.ob_hall.proofs.Asking.{begins_ending, ends_on, has_ended, ended_between, aborted_between}
@@ -14,7 +14,7 @@ loop-init g c =
 
 pub returns-in-Some-ask_for_end-clause-one_history : goal.returns-in-Some-ask_for_end-clause-one_history
 returns-in-Some-ask_for_end-clause-one_history g c =
-    of_any c.args.pass.now c.in-Some.txn (λ x. Tells c.args.self.now c.args.pass.now c.ask_for_end.new.pass (CommitSays x c.in-Some-ask_for_end.outcome)) c.in-Some.is
+    of_any c.args.pass.now c.in-Some.txn (λ x. TellsCalls c.args.self.now c.args.pass.now c.ask_for_end.new.pass (CommitSays x c.in-Some-ask_for_end.outcome)) c.in-Some.is
     (has_ended c.args.self.now c.args.pass.now c.loop.pass c.ask_for_end.new.pass c.in-Some.txn c.in-Some-ask_for_end.outcome c.loop.invariant c.in-Some-ask_for_end.ensures.one_history)
 
 pub returns-in-Some-ask_for_end-clause-stands : goal.returns-in-Some-ask_for_end-clause-stands

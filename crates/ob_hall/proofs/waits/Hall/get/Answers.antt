@@ -1,4 +1,4 @@
-use Rattle.ob_hall.specs.Calling.{Tells, StaysIn}
+use Rattle.ob_hall.specs.Calling.{TellsCalls, StaysIn}
 use Rattle.ob_hall.specs.Waiting.{GetSays}
 use Rattle.ob_hall.proofs.Turning.{is_in, of_any}
 use Rattle.ob_hall.proofs.Asking.{begins_asking, still_waits, asks_on, ends_asking, get_stands}
@@ -21,7 +21,7 @@ loop-preserved g c =
 
 pub returns-in-Some-end_of-clause-one_history : goal.returns-in-Some-end_of-clause-one_history
 returns-in-Some-end_of-clause-one_history g c =
-    of_any c.args.pass.now c.in-Some.txn (λ x. Tells c.args.self.now c.args.pass.now c.loop.pass (GetSays x c.args.key c.in-Some-end_of.answer)) c.in-Some.is
+    of_any c.args.pass.now c.in-Some.txn (λ x. TellsCalls c.args.self.now c.args.pass.now c.loop.pass (GetSays x c.args.key c.in-Some-end_of.answer)) c.in-Some.is
     (ends_asking c.args.self.now c.args.pass.now c.loop.pass c.in-Some.txn c.args.key c.loop.reply c.in-Some-end_of.answer c.loop.invariant c.in-Some-end_of.ensures)
 
 pub returns-in-Some-end_of-clause-stands : goal.returns-in-Some-end_of-clause-stands

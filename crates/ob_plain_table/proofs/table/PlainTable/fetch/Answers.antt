@@ -11,8 +11,10 @@ pub loop-i-preserved : goal.loop-i-preserved
 loop-i-preserved c =
     let lt : c.loop-i.i < length c.args.places.now = omega arith in
     let many : c.len.result ≡ length c.loop-i.reads.items = search rules in
-    batch_more c.args.self.now c.loop-i.self c.fetch_place.new.self c.args.reads.now.items c.loop-i.reads.items c.fetch_place.new.reads.items c.args.shown.now.items c.loop-i.shown.items c.push.new.self.items c.args.places.now c.loop-i.i (slice_index_or c.args.places.now c.loop-i.i (None, 0)) c.leaf_shown.result lt
-    (get_or_default c.args.places.now c.loop-i.i (None, 0) (slice_index_or c.args.places.now c.loop-i.i (None, 0)) lt) c.loop-i.invariant c.in_ok-fetch_place.ensures c.leaf_shown.ensures (c.in_ok-push.ensures.items ∙ ap (λ (n : ℕ). c.loop-i.shown.items ++ record { leaf = c.leaf_shown.result; first = n } ∷ []) many)
+    batch_more c.args.self.now c.loop-i.self c.fetch_place.new.self c.args.reads.now.items c.loop-i.reads.items c.fetch_place.new.reads.items c.args.shown.now.items c.loop-i.shown.items c.push.new.self.items c.args.places.now c.loop-i.i
+    (slice_index_or c.args.places.now c.loop-i.i (None, 0)) c.leaf_shown.result lt
+    (get_or_default c.args.places.now c.loop-i.i (None, 0) (slice_index_or c.args.places.now c.loop-i.i (None, 0)) lt) c.loop-i.invariant c.in_ok-fetch_place.ensures c.leaf_shown.ensures
+    (c.in_ok-push.ensures.items ∙ ap (λ (n : ℕ). c.loop-i.shown.items ++ record { leaf = c.leaf_shown.result; first = n } ∷ []) many)
 
 pub returns : goal.returns
 returns c =

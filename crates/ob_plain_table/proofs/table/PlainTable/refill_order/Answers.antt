@@ -13,7 +13,8 @@ loop-i-init c = λ rest e. (let same : rest ≡ c.args.self.now.params.levels + 
 pub loop-i-preserved : goal.loop-i-preserved
 loop-i-preserved c =
     let k : ℕ = c.args.self.now.params.levels - c.loop-i.i in
-    levels_more (table_of c.args.self.now).lifted c.loop-i.i k (1 * 2 ^ k % 18446744073709551616) (c.args.self.now.params.levels + 1) _ c.loop-i.order.items c.list_level.new.order.items (let z : c.loop-i.i + suc k ≡ c.args.self.now.params.levels + 1 = omega arith in z) (wide_shifted k (omega arith)) c.loop-i.invariant c.in_ok-list_level.ensures
+    levels_more (table_of c.args.self.now).lifted c.loop-i.i k (1 * 2 ^ k % 18446744073709551616) (c.args.self.now.params.levels + 1) _ c.loop-i.order.items c.list_level.new.order.items
+    (let z : c.loop-i.i + suc k ≡ c.args.self.now.params.levels + 1 = omega arith in z) (wide_shifted k (omega arith)) c.loop-i.invariant c.in_ok-list_level.ensures
 
 pub returns : goal.returns
 returns c = sym (append-nil c.loop-i.order.items) ∙ c.loop-i.invariant 0 (omega arith)

@@ -13,7 +13,8 @@ loop-i-init c = show_none c.args.reads.now.items c.args.bucket (reads c.args.sel
 pub loop-i-preserved : goal.loop-i-preserved
 loop-i-preserved c =
     let lt : c.loop-i.i < length c.args.indexes.now = omega arith in
-    show_more c.args.reads.now.items c.loop-i.reads.items c.push.new.self.items _ _ c.args.bucket (reads c.args.self.now.params (table_of c.args.self.now) c.args.bucket) c.loop-i.i (slice_index_or c.args.indexes.now c.loop-i.i 0) (c.reads-before.result + c.loop-i.i) c.holder-key.result (λ j. holder c.args.self.now.params (table_of c.args.self.now) c.args.bucket j) c.args.indexes.now lt
+    show_more c.args.reads.now.items c.loop-i.reads.items c.push.new.self.items _ _ c.args.bucket (reads c.args.self.now.params (table_of c.args.self.now) c.args.bucket) c.loop-i.i (slice_index_or c.args.indexes.now c.loop-i.i 0)
+    (c.reads-before.result + c.loop-i.i) c.holder-key.result (λ j. holder c.args.self.now.params (table_of c.args.self.now) c.args.bucket j) c.args.indexes.now lt
     (get_or_default c.args.indexes.now c.loop-i.i 0 (slice_index_or c.args.indexes.now c.loop-i.i 0) lt) (ap (λ (n : ℕ). n + c.loop-i.i) c.reads-before.ensures.reads) c.holder-key.ensures c.in_ok-push.ensures.items c.loop-i.invariant
 
 pub returns : goal.returns

@@ -14,4 +14,5 @@ returns-then-number-self c =
       kept = c.in_ok-mark.ensures.kept;
       table = c.in_ok-mark.ensures.table;
     } in
-    on_ok c.lift.result (visit_lifts c.args.self.now c.mark.new.self c.lift.new.self c.args.reads.now.items c.push.new.self.items c.lift.new.reads.items c.args.ask (spot_is c.args.own) c.args.bucket c.reads-number.result c.index_shown-index.result c.key_shown-key.result showed (c.if-number-self.true ∙ ap (λ t. (t.params).dummies) c.in_ok-mark.ensures.kept)) c.lift.ensures
+    on_ok c.lift.result (visit_lifts c.args.self.now c.mark.new.self c.lift.new.self c.args.reads.now.items c.push.new.self.items c.lift.new.reads.items c.args.ask (spot_is c.args.own) c.args.bucket c.reads-number.result c.index_shown-index.result
+    c.key_shown-key.result showed (c.if-number-self.true ∙ ap (λ t. (t.params).dummies) c.in_ok-mark.ensures.kept)) c.lift.ensures

@@ -13,7 +13,8 @@ returns-clause-planned c = λ t s.
     subst (λ (o : Kept). IsBatch o new' c.plan_places.new.jobs (places_of o.p c.args.asks.now c.args.words.now c.args.first (length c.args.asks.now)) t) c.self.view_is
     (batch_is c.self.inside.params c.self.inside.tables.book c.plan_places.new.book c.self.inside.tables.metas c.plan_places.new.metas c.self.inside.tables.stash c.self.inside.tables.counter c.clear.new.self c.plan_places.new.jobs
     (places_of c.self.inside.params c.args.asks.now c.args.words.now c.args.first (length c.args.asks.now))
-    (subst (λ (m : Buckets). Fetches c.self.inside.params c.self.inside.tables.book c.plan_places.new.book m c.plan_places.new.metas c.clear.new.self c.plan_places.new.jobs (places_of c.self.inside.params c.args.asks.now c.args.words.now c.args.first (length c.args.asks.now))) c.clear_order.ensures c.plan_places.ensures.plans)
+    (subst (λ (m : Buckets). Fetches c.self.inside.params c.self.inside.tables.book c.plan_places.new.book m c.plan_places.new.metas c.clear.new.self c.plan_places.new.jobs
+    (places_of c.self.inside.params c.args.asks.now c.args.words.now c.args.first (length c.args.asks.now))) c.clear_order.ensures c.plan_places.ensures.plans)
     (ap (λ (x : Planned). x.jobs) c.clear.ensures) (ap (λ (x : Planned). x.places) c.clear.ensures) t
     (subst (λ (o : Kept). StandsFor o t) (sym c.self.view_is) s))
 

@@ -14,4 +14,5 @@ pub take_done-requires : goal.take_done-requires
 take_done-requires c = write_in (runner_state c.args.self.now) c.args.desk.now c.args.desk.now c.args.txn.now c.requires.may c.args.key None c.args.next c.requires.place c.requires.key c.requires.del
 
 pub returns : goal.returns
-returns c = write_steps (runner_state c.args.self.now) c.args.desk.now c.del.new.self c.args.txn.now c.requires.may c.args.key None c.args.next c.requires.place c.requires.key c.requires.del c.in-Ok.reply (steps_of c.one.result) (runner_state c.take_done.new.self) c.in-Ok.ensures.step c.one.ensures c.take_done.ensures
+returns c = write_steps (runner_state c.args.self.now) c.args.desk.now c.del.new.self c.args.txn.now c.requires.may c.args.key None c.args.next c.requires.place c.requires.key c.requires.del c.in-Ok.reply (steps_of c.one.result)
+    (runner_state c.take_done.new.self) c.in-Ok.ensures.step c.one.ensures c.take_done.ensures

@@ -13,4 +13,5 @@ pub take_got-stand-requires : goal.take_got-stand-requires
 take_got-stand-requires c = get_in (runner_state c.args.self.now) c.args.desk.now c.args.desk.now c.args.txn.now c.requires.may c.args.read.now c.requires.place c.requires.read
 
 pub returns : goal.returns
-returns c = get_steps (runner_state c.args.self.now) c.args.desk.now c.get.new.self c.args.txn.now c.requires.may c.args.read.now c.requires.place c.requires.read c.in-Ok.reply c.take_got-stand.result (steps_of c.one.result) (runner_state c.take_got-stand.new.self) c.in-Ok.ensures.step c.take_got-stand.ensures.stand c.one.ensures c.take_got-stand.ensures.state
+returns c = get_steps (runner_state c.args.self.now) c.args.desk.now c.get.new.self c.args.txn.now c.requires.may c.args.read.now c.requires.place c.requires.read c.in-Ok.reply c.take_got-stand.result (steps_of c.one.result)
+    (runner_state c.take_got-stand.new.self) c.in-Ok.ensures.step c.take_got-stand.ensures.stand c.one.ensures c.take_got-stand.ensures.state

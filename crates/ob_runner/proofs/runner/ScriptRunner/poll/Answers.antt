@@ -10,4 +10,5 @@ pub take_got-stand-requires : goal.take_got-stand-requires
 take_got-stand-requires c = poll_in (runner_state c.args.self.now) c.args.desk.now c.args.desk.now c.args.txn.now c.requires.may c.args.read.now c.requires.place
 
 pub returns : goal.returns
-returns c = poll_steps (runner_state c.args.self.now) c.args.desk.now c.poll-reply.new.self c.args.txn.now c.requires.may c.args.read.now c.requires.place c.poll-reply.result c.take_got-stand.result (steps_of c.one.result) (runner_state c.take_got-stand.new.self) c.poll-reply.ensures.step c.take_got-stand.ensures.stand c.one.ensures c.take_got-stand.ensures.state
+returns c = poll_steps (runner_state c.args.self.now) c.args.desk.now c.poll-reply.new.self c.args.txn.now c.requires.may c.args.read.now c.requires.place c.poll-reply.result c.take_got-stand.result (steps_of c.one.result)
+    (runner_state c.take_got-stand.new.self) c.poll-reply.ensures.step c.take_got-stand.ensures.stand c.one.ensures c.take_got-stand.ensures.state

@@ -13,4 +13,5 @@ pub finish-requires : goal.finish-requires
 finish-requires c = settle_in (runner_state c.args.self.now) c.args.desk.now c.args.desk.now c.args.txn.now c.requires.may c.requires.place
 
 pub returns : goal.returns
-returns c = settle_steps (runner_state c.args.self.now) c.args.desk.now c.args.desk.now c.args.txn.now c.requires.may c.requires.place c.settled-outcome.result (steps_of c.one-made.result) (runner_state c.finish.new.self) c.settled-outcome.ensures c.if-is_none.ensures c.one-made.ensures c.finish.ensures
+returns c = settle_steps (runner_state c.args.self.now) c.args.desk.now c.args.desk.now c.args.txn.now c.requires.may c.requires.place c.settled-outcome.result (steps_of c.one-made.result) (runner_state c.finish.new.self) c.settled-outcome.ensures
+    c.if-is_none.ensures c.one-made.ensures c.finish.ensures

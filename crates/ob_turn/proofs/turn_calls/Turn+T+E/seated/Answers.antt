@@ -2,7 +2,7 @@ use Rattle.std.proofs.Common.{◌≡◌, ◌∷◌, [], ◌++◌, ◌+◌, List,
 use Rattle.atomic_table.specs.Table.{opening}
 use Rattle.ob_turn.specs.declared.turn.Slot.{Slot}
 use Rattle.ob_turn.specs.declared.turn.Slot.TheVariants.{Rests}
-use Rattle.ob_turn.specs.TurnRule.{Kept, first_view}
+use Rattle.ob_turn.specs.TurnRule.{TurnKept, first_view}
 use Rattle.ob_turn.specs.TurnCalls.{TurnSeat}
 use Rattle.ob_turn.proofs.Cuts.{opens}
 use Rattle.ob_turn.proofs.Opening.{IsMaking, goes_on, done}
@@ -16,8 +16,8 @@ new-requires g c =
     let T : Type 0 = g.row.T.Denot in
     let E : Type 0 = g.row.E.Denot in
     let slots : c.push.new.self.items ≡ Rests c.args.value ∷ [] = slots_are (Rests c.args.value) c.new-slots.result.items c.push.new.self.items c.in_ok-push.ensures.items c.new-slots.ensures.items in
-    subst (λ (x : T). Kept g.T.Stepped.steps x c.args.seats (opening (0 ∷ 0 ∷ []) c.push.new.self.items (first_view x c.args.seats))) (sym c.of.ensures)
-    (subst (λ (l : List (Slot T E)). Kept g.T.Stepped.steps c.args.value c.args.seats (opening (0 ∷ 0 ∷ []) l (first_view c.args.value c.args.seats))) (sym slots)
+    subst (λ (x : T). TurnKept g.T.Stepped.steps x c.args.seats (opening (0 ∷ 0 ∷ []) c.push.new.self.items (first_view x c.args.seats))) (sym c.of.ensures)
+    (subst (λ (l : List (Slot T E)). TurnKept g.T.Stepped.steps c.args.value c.args.seats (opening (0 ∷ 0 ∷ []) l (first_view c.args.value c.args.seats))) (sym slots)
     (opens T E g.T.Stepped.steps c.args.value c.args.seats c.requires (omega (arith, c.ranges.seats.fits))))
 
 pub loop-preserved : goal.loop-preserved

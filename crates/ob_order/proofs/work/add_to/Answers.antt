@@ -1,0 +1,10 @@
+use Rattle.std.proofs.Common.{◌-◌, set, sym, ap, ◌∙◌}
+use Rattle.ob_order.specs.Works as works
+use Rattle.ob_order.proofs.Tidies.{edit_set_before}
+use Rattle.ob_order.proofs.work.add_to.Goals as goal
+
+pub returns-clause-ok : goal.returns-clause-ok
+returns-clause-ok c =
+    let items = c.args.list.now.items in
+    ap (λ (w : works.Work). set items (c.args.t - 1) w) c.in_ok-push_op.ensures.ok
+    ∙ sym (edit_set_before (works.add_op c.args.op) items c.args.t c.index_mut.result.now c.requires.t_in.0 c.requires.t_in.1 c.index_mut.ensures.value)

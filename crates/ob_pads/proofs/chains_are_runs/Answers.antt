@@ -1,0 +1,6 @@
+use Rattle.ob_serial.specs.VaultKinds.{kind_of}
+use Rattle.ob_pads.proofs.Chains.{chain_runs}
+use Rattle.ob_pads.proofs.chains_are_runs.Goals as goal
+
+pub returns : goal.returns
+returns g c = λ store sealing each keys old first last steps tells opens called. chain_runs (kind_of g.V.Vault) (λ s. g.S.Store.disk s) store sealing each keys old first last steps tells opens called
