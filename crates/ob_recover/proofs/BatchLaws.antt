@@ -1,0 +1,183 @@
+-- One batch of a record: what its call answers and tells.
+use Rattle.std.proofs.Common.{◌≡◌, ◌⊎◌, inl, inr, ⊎_elim, ℕ, zero, suc, ◌+◌, ◌<◌, ◌≤◌, List, [], ◌∷◌, Option, Some, None, Result, Ok, Err, map, length, get_or, refl, sym, ◌∙◌, ap, subst, arith}
+use Rattle.std.proofs.lemmas.Bool.{cases_lt}
+use Rattle.std.specs.Prelude.{IfSome}
+use Rattle.std.specs.List.{range_with_len}
+use Rattle.ob_base.specs.declared.params.Params.{Params}
+use Rattle.ob_base.specs.declared.job.Job.{Job}
+use Rattle.ob_base.specs.declared.fault.Damaged.{Damaged as Damage}
+use Rattle.ob_base.specs.declared.fault.Fault.{Fault}
+use Rattle.ob_base.specs.declared.fault.Fault.TheVariants.{Memory, Usage, BadScript, BadParams, NotStore, Damaged, StoreFault, StashFull, Worn, SourceFault, SinkFault}
+use Rattle.ob_base.specs.Planned.{Planned, job_at, most_jobs}
+use Rattle.ob_store.specs.declared.event.Event.{Event}
+use Rattle.ob_store.specs.declared.watch.Note.{Note}
+use Rattle.ob_store.specs.Disk.{Image}
+use Rattle.ob_store.specs.Calls.{Notes}
+use Rattle.ob_store.specs.Lines.{Trace, Shows}
+use Rattle.ob_seal.specs.declared.keys.Keys.{Keys}
+use Rattle.ob_bucket.specs.Buckets.{Buckets}
+use Rattle.ob_bucket.specs.Version.{Version}
+use Rattle.ob_content.specs.Content.{Rows}
+use Rattle.ob_ring.specs.FlatTable.{FlatTable}
+use Rattle.ob_ring.specs.Picked.{SameSeals, job_of, batch_picked}
+use Rattle.ob_ring.specs.Ring.{IsBatch, Kept}
+use Rattle.ob_ring.specs.Settling.{first_fault, rows_after}
+use Rattle.ob_log.specs.Logs.{BatchRecord}
+use Rattle.ob_batch.specs.Jobs as jobs
+use Rattle.ob_batch.specs.Jobs.{AreFilled, AreJobsRead, AreKept, AreSeen, IsFirstFailing, cells_of}
+use Rattle.ob_batch.specs.Lanes.{ReadByLanes}
+use Rattle.ob_batch.specs.declared.error.JobsErr.{JobsErr}
+use Rattle.ob_batch.specs.declared.error.JobsErr.TheVariants as error
+use Rattle.ob_epoch.proofs.Calling.{plans_are_read}
+use Rattle.ob_stand.specs.Reads.{plains_in}
+use Rattle.ob_recover.specs.Repeats.{record_places, asked_of_record, batch_cells, batch_jobs, repeated_notes, BatchAnswers, BatchIsShown, BatchTells, HaveKeysOf, IsRepeatFault, JobsAnswer}
+use Rattle.ob_recover.specs.Shows.{placed_notes}
+use Rattle.ob_recover.proofs.FewLaws.{jobs_few}
+use Rattle.ob_recover.proofs.ShowLaws.{batch_shows}
+use Rattle.ob_recover.proofs.RepeatLaws.{jobs_run, jobs_same, past}
+
+-- ---- jobs
+
+no_job : Job
+no_job = record { cell = 0; generation = 0; number = 0; key = None; result = None }
+
+filled_keys : (old new : List Job) (plain : ℕ → List ℕ) → AreFilled old new plain → HaveKeysOf old new
+filled_keys old new plain filled i = elim (cases_lt i (length old)) [
+  | inl low ↦ ap (λ (j : Job). j.key) (filled.each i low)
+  | inr high ↦ (let many = filled.many in
+      ap (λ (j : Job). j.key) (past new (record { cell = 0; generation = 0; number = 0; key = None; result = None }) i (omega arith)) ∙ sym (ap (λ (j : Job). j.key) (past old (record { cell = 0; generation = 0; number = 0; key = None; result = None }) i high)))
+]
+
+pub kept_keys : (old new : List Job) (r : Result (Unit {0}) JobsErr) → AreKept old new r → HaveKeysOf old new
+kept_keys old new (Ok done) kept = filled_keys old new kept.0 kept.1
+kept_keys old new (Err e) kept = λ i. ap (λ (js : List Job). (job_at js i).key) kept
+
+-- keys below a number stay so
+pub keys_low : (n : ℕ) (old new : List Job) → HaveKeysOf old new → ((i : ℕ) → IfSome (job_at old i).key (λ k. k < n)) → (i : ℕ) → IfSome (job_at new i).key (λ k. k < n)
+keys_low n old new same low i = subst (λ (key : Option ℕ). IfSome key (λ k. k < n)) (sym (same i)) (low i)
+
+-- the kind of a failing job's fault
+pub job_fault : (f : Fault) → jobs.IsReadFault f → IsRepeatFault f
+job_fault Memory fault = absurd fault
+job_fault Usage fault = absurd fault
+job_fault (BadScript line) fault = absurd fault
+job_fault (BadParams field) fault = absurd fault
+job_fault NotStore fault = absurd fault
+job_fault (Damaged cell check kept computed) fault = tt
+job_fault (StoreFault unsure) fault = fault
+job_fault (StashFull rows) fault = absurd fault
+job_fault (Worn number) fault = absurd fault
+job_fault SourceFault fault = absurd fault
+job_fault SinkFault fault = absurd fault
+
+-- what the jobs answer, where one of them fails,
+pub failing_answer : (keys : Keys) (image : Image) (old new : List Job) (f : Fault) → jobs.IsReadFault f → IsFirstFailing keys image old f → JobsAnswer keys image old new (Err f)
+failing_answer keys image old new Memory fault failing = absurd fault
+failing_answer keys image old new Usage fault failing = absurd fault
+failing_answer keys image old new (BadScript line) fault failing = absurd fault
+failing_answer keys image old new (BadParams field) fault failing = absurd fault
+failing_answer keys image old new NotStore fault failing = absurd fault
+failing_answer keys image old new (Damaged cell check kept computed) fault failing = failing
+failing_answer keys image old new (StoreFault unsure) fault failing = tt
+failing_answer keys image old new (StashFull rows) fault failing = absurd fault
+failing_answer keys image old new (Worn number) fault failing = absurd fault
+failing_answer keys image old new SourceFault fault failing = absurd fault
+failing_answer keys image old new SinkFault fault failing = absurd fault
+
+-- or a lane was refused
+pub refused_answer : (keys : Keys) (image : Image) (old new : List Job) (f : Fault) → f ≡ StoreFault None → JobsAnswer keys image old new (Err f)
+refused_answer keys image old new f is = subst (λ (e : Fault). JobsAnswer keys image old new (Err e)) (sym is) tt
+
+pub refused_fault : (f : Fault) → f ≡ StoreFault None → IsRepeatFault f
+refused_fault f is = subst IsRepeatFault (sym is) refl
+
+-- ---- what is told
+
+module _ (most : ℕ) (cells : List ℕ) (notes : List Note) (a b : Option (List Event)) (k l : Trace) where
+  -- all was read and shown, and a job failed
+  pub failing_tells : (f : Fault) → jobs.IsReadFault f → BatchIsShown most cells notes a b k l → BatchTells most cells notes a b k l (Err f)
+  failing_tells Memory fault all = absurd fault
+  failing_tells Usage fault all = absurd fault
+  failing_tells (BadScript line) fault all = absurd fault
+  failing_tells (BadParams field) fault all = absurd fault
+  failing_tells NotStore fault all = absurd fault
+  failing_tells (Damaged cell check kept computed) fault all = all
+  failing_tells (StoreFault unsure) fault all = inl all
+  failing_tells (StashFull rows) fault all = absurd fault
+  failing_tells (Worn number) fault all = absurd fault
+  failing_tells SourceFault fault all = absurd fault
+  failing_tells SinkFault fault all = absurd fault
+
+  -- a lane was refused
+  pub refused_tells : (f : Fault) → f ≡ StoreFault None → Notes [] a b → Shows [] k l → BatchTells most cells notes a b k l (Err f)
+  refused_tells f is none shows = subst (λ (e : Fault). BatchTells most cells notes a b k l (Err e)) (sym is) (inr (none, shows))
+
+-- ---- a planned batch that was read
+
+module _ (keys : Keys) (image : Image) (old mid : Kept) (r : BatchRecord) (now : Planned) (js : List Job) (start : Buckets) (t : FlatTable) (seals : SameSeals start old.metas)
+    (planned : IsBatch old mid now (record_places old.p r) t) where
+  jobs_are : now.jobs ≡ batch_jobs old.p start.versions t (asked_of_record old.p r)
+  jobs_are = planned.jobs ∙ jobs_same old.p start old.metas (batch_picked old.p t (asked_of_record old.p r)) seals
+
+  -- and settled
+  pub settled_well : (rows rows' : Rows) → AreJobsRead keys image now.jobs js → first_fault js ≡ None → rows' ≡ rows_after rows js → BatchAnswers keys old.p start.versions image t r rows rows' (Ok tt)
+  settled_well rows rows' read faultless rows_are = record {
+    jobs = js;
+    read = plans_are_read.batch old mid now (record_places old.p r) t start (plains_in keys image) js seals planned (jobs_run keys image now.jobs js read);
+    faultless = faultless;
+    rows_are = rows_are;
+  }
+
+  -- or a row broke its form
+  pub settled_badly : (rows rows' : Rows) (d : Damage) → AreJobsRead keys image now.jobs js → first_fault js ≡ Some d → BatchAnswers keys old.p start.versions image t r rows rows' (Err (Damaged d.cell d.check d.kept d.computed))
+  settled_badly rows rows' d read first = inr (record {
+    jobs = js;
+    read = plans_are_read.batch old mid now (record_places old.p r) t start (plains_in keys image) js seals planned (jobs_run keys image now.jobs js read);
+    first = first;
+  })
+
+  -- or a job failed
+  pub not_settled : (rows rows' : Rows) (f : Fault) → IsRepeatFault f → JobsAnswer keys image now.jobs js (Err f) → BatchAnswers keys old.p start.versions image t r rows rows' (Err f)
+  not_settled rows rows' Memory fault answer = absurd fault
+  not_settled rows rows' Usage fault answer = absurd fault
+  not_settled rows rows' (BadScript line) fault answer = absurd fault
+  not_settled rows rows' (BadParams field) fault answer = absurd fault
+  not_settled rows rows' NotStore fault answer = absurd fault
+  not_settled rows rows' (Damaged cell check kept computed) fault answer = inl (subst (λ (xs : List Job). IsFirstFailing keys image xs (Damaged cell check kept computed)) jobs_are answer)
+  not_settled rows rows' (StoreFault unsure) fault answer = tt
+  not_settled rows rows' (StashFull full) fault answer = absurd fault
+  not_settled rows rows' (Worn number) fault answer = absurd fault
+  not_settled rows rows' SourceFault fault answer = absurd fault
+  not_settled rows rows' SinkFault fault answer = absurd fault
+
+-- ---- a planned batch
+
+length-map : {X Y : Type 0} (f : X → Y) (xs : List X) → length (map f xs) ≡ length xs
+length-map f [] = refl
+length-map f (x ∷ xs) = ap suc (length-map f xs)
+
+length-range : (a n : ℕ) → length (range_with_len a n) ≡ n
+length-range a zero = refl
+length-range a (suc n) = ap suc (length-range (a + 1) n)
+
+asked_many : (p : Params) (r : BatchRecord) → length (asked_of_record p r) ≡ length r.asks
+asked_many p r = length-map _ (record_places p r) ∙ length-map _ (range_with_len 0 (length r.asks)) ∙ length-range 0 (length r.asks)
+
+-- there is room for its jobs
+pub batch_few : (p : Params) (t : FlatTable) (r : BatchRecord) (versions : List Version) (js : List Job) → length r.asks ≡ p.places → js ≡ map (job_of p versions) (batch_picked p t (asked_of_record p r)) → length js ≤ most_jobs p
+batch_few p t r versions js many is =
+    let long : length js ≡ length (batch_picked p t (asked_of_record p r)) = ap length is ∙ length-map (job_of p versions) (batch_picked p t (asked_of_record p r)) in
+    let few = jobs_few p t (asked_of_record p r) (asked_many p r ∙ many) in
+    omega arith
+
+-- what is told of it is that of the table's batch
+module _ (most : ℕ) (old mid : Kept) (r : BatchRecord) (now : Planned) (start : Buckets) (t : FlatTable) (seals : SameSeals start old.metas)
+    (planned : IsBatch old mid now (record_places old.p r) t) (a b : Option (List Event)) (k l : Trace) where
+  planned_jobs : now.jobs ≡ batch_jobs old.p start.versions t (asked_of_record old.p r)
+  planned_jobs = planned.jobs ∙ jobs_same old.p start old.metas (batch_picked old.p t (asked_of_record old.p r)) seals
+
+  pub batch_tells : (result : Result (Unit {0}) Fault) → BatchTells most (cells_of now.jobs) (placed_notes now (length now.places)) a b k l result
+      → BatchTells most (batch_cells old.p start.versions t (asked_of_record old.p r)) (repeated_notes old.p start.versions t (asked_of_record old.p r)) a b k l result
+  batch_tells result told =
+      subst (λ (ns : List Note). BatchTells most (batch_cells old.p start.versions t (asked_of_record old.p r)) ns a b k l result) (batch_shows old.p start.versions t (asked_of_record old.p r) now planned_jobs planned.places)
+      (subst (λ (js : List Job). BatchTells most (cells_of js) (placed_notes now (length now.places)) a b k l result) planned_jobs told)

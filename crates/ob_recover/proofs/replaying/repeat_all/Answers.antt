@@ -1,0 +1,91 @@
+use Rattle.std.proofs.Common.{◌≡◌, ◌≤◌, ◌+◌, [], Ok, Err, ◌∙◌, ap, arith, subst, sym}
+use Rattle.ob_batch.specs.Jobs.{Manned}
+use Rattle.ob_store.specs.Calls.{IsStoreFault}
+use Rattle.ob_store.proofs.Serving.{goes_then, serves_then}
+use Rattle.ob_ring.specs.Ring.{Kept}
+use Rattle.ob_recover.proofs.FindLaws.{keeps_both, reads_both}
+use Rattle.ob_log.specs.Logs.{nothing}
+use Rattle.ob_recover.proofs.ShowLaws.{get_same}
+use Rattle.ob_recover.proofs.ReplayLaws.{OneRepeat, at_record, told_by, refused_does, refused_value, repeated}
+use Rattle.ob_recover.proofs.replaying.repeat_all.Goals as goal
+
+pub returns-in-Err-clause-serves : goal.returns-in-Err-clause-serves
+returns-in-Err-clause-serves g c =
+    let inv = c.loop-i.invariant in
+    serves_then IsStoreFault (g.S.Store.disk c.args.store.now) (g.S.Store.disk c.loop-i.store) (g.S.Store.disk c.repeat_batch.new.store) (Err c.in-Err.fault) inv.goes inv.out (λ t. inv.keeps.tells t) c.in-Err.ensures.serves
+
+pub returns-in-Err-clause-passes : goal.returns-in-Err-clause-passes
+returns-in-Err-clause-passes g c =
+    reads_both (g.S.Store.disk c.args.store.now) (g.S.Store.disk c.loop-i.store) (g.S.Store.disk c.repeat_batch.new.store) c.loop-i.invariant.passes c.repeat_batch.ensures.passes
+
+pub returns-in-Err-clause-value : goal.returns-in-Err-clause-value
+returns-in-Err-clause-value g c = λ tells.
+    let inv = c.loop-i.invariant in
+    let o = c.args.ring.now in
+    let e = c.in-Err.ensures in
+    let one : OneRepeat c.args.sealer.now.keys c.loop-i.ring.p c.args.crew.now.lanes (g.S.Store.disk c.loop-i.store) (g.S.Store.disk c.repeat_batch.new.store) (g.W.Watch.trace c.loop-i.watch) (g.W.Watch.trace c.repeat_batch.new.watch)
+    c.loop-i.ring c.repeat_batch.new.ring c.index-records-i.result (Err c.in-Err.fault) = record {
+      params = ap (λ (r : Kept). r.p) e.kept;
+      counter = ap (λ (r : Kept). r.counter) e.kept;
+      room = e.room;
+      entries = e.entries;
+      seals = e.seals;
+      table = e.table;
+      value = e.value;
+      told = λ start t seals stands. told_by (ap (λ (m : Manned). m.lanes) inv.crew) _ _ _ _ _ _ (Err c.in-Err.fault) (e.told start t seals stands);
+    } in
+    refused_value c.args.sealer.now.keys o c.args.crew.now.lanes c.args.records.now c.loop-i.i c.loop-i-test.true (g.S.Store.disk c.args.store.now) (g.S.Store.disk c.loop-i.store) (g.S.Store.disk c.repeat_batch.new.store)
+    (g.W.Watch.trace c.args.watch.now) (g.W.Watch.trace c.loop-i.watch) (g.W.Watch.trace c.repeat_batch.new.watch) c.loop-i.ring c.repeat_batch.new.ring inv.so_far (inv.so_far.seals.order ∙ c.requires.unlisted) inv.keeps
+    c.repeat_batch.new.ring.stash.rows c.in-Err.fault e.faults (at_record (c.index-records-i.is ∙ get_same c.args.records.now c.loop-i.i c.index-records-i.result nothing c.loop-i-test.true) one) tells
+
+pub returns-in-Err-clause-does : goal.returns-in-Err-clause-does
+returns-in-Err-clause-does g c =
+    let inv = c.loop-i.invariant in
+    let o = c.args.ring.now in
+    let e = c.in-Err.ensures in
+    let one : OneRepeat c.args.sealer.now.keys c.loop-i.ring.p c.args.crew.now.lanes (g.S.Store.disk c.loop-i.store) (g.S.Store.disk c.repeat_batch.new.store) (g.W.Watch.trace c.loop-i.watch) (g.W.Watch.trace c.repeat_batch.new.watch)
+    c.loop-i.ring c.repeat_batch.new.ring c.index-records-i.result (Err c.in-Err.fault) = record {
+      params = ap (λ (r : Kept). r.p) e.kept;
+      counter = ap (λ (r : Kept). r.counter) e.kept;
+      room = e.room;
+      entries = e.entries;
+      seals = e.seals;
+      table = e.table;
+      value = e.value;
+      told = λ start t seals stands. told_by (ap (λ (m : Manned). m.lanes) inv.crew) _ _ _ _ _ _ (Err c.in-Err.fault) (e.told start t seals stands);
+    } in
+    refused_does c.args.sealer.now.keys o c.args.crew.now.lanes c.args.records.now c.loop-i.i c.loop-i-test.true (g.S.Store.disk c.args.store.now) (g.S.Store.disk c.loop-i.store) (g.S.Store.disk c.repeat_batch.new.store)
+    (g.W.Watch.trace c.args.watch.now) (g.W.Watch.trace c.loop-i.watch) (g.W.Watch.trace c.repeat_batch.new.watch) c.loop-i.ring c.repeat_batch.new.ring inv.so_far (inv.so_far.seals.order ∙ c.requires.unlisted) inv.keeps
+    c.in-Err.fault e.faults (at_record (c.index-records-i.is ∙ get_same c.args.records.now c.loop-i.i c.index-records-i.result nothing c.loop-i-test.true) one)
+
+pub loop-i-preserved : goal.loop-i-preserved
+loop-i-preserved g c =
+    let inv = c.loop-i.invariant in
+    let o = c.args.ring.now in
+    let e = c.in-Ok.ensures in
+    let old = g.S.Store.disk c.args.store.now in
+    let mid = g.S.Store.disk c.loop-i.store in
+    let new = g.S.Store.disk c.repeat_batch.new.store in
+    let one : OneRepeat c.args.sealer.now.keys c.loop-i.ring.p c.args.crew.now.lanes mid new (g.W.Watch.trace c.loop-i.watch) (g.W.Watch.trace c.repeat_batch.new.watch)
+    c.loop-i.ring c.repeat_batch.new.ring c.index-records-i.result (Ok tt) = record {
+      params = ap (λ (r : Kept). r.p) e.kept;
+      counter = ap (λ (r : Kept). r.counter) e.kept;
+      room = e.room;
+      entries = e.entries;
+      seals = e.seals;
+      table = e.table;
+      value = e.value;
+      told = λ start t seals stands. told_by (ap (λ (m : Manned). m.lanes) inv.crew) _ _ _ _ _ _ (Ok tt) (e.told start t seals stands);
+    } in
+    record {
+      goes = goes_then old mid new inv.goes e.serves.goes;
+      out = (let a = inv.out in let b = e.serves.out in omega arith);
+      keeps = keeps_both old mid new inv.keeps e.keeps;
+      passes = reads_both old mid new inv.passes e.passes;
+      crew = e.crew ∙ inv.crew;
+      room = e.rooms.0 ∙ inv.room;
+      place_room = e.rooms.1 ∙ inv.place_room;
+      so_far = repeated c.args.sealer.now.keys o c.args.crew.now.lanes c.args.records.now c.loop-i.i c.loop-i-test.true old mid new
+          (g.W.Watch.trace c.args.watch.now) (g.W.Watch.trace c.loop-i.watch) (g.W.Watch.trace c.repeat_batch.new.watch) c.loop-i.ring c.repeat_batch.new.ring inv.so_far (inv.so_far.seals.order ∙ c.requires.unlisted) inv.keeps
+          (at_record (c.index-records-i.is ∙ get_same c.args.records.now c.loop-i.i c.index-records-i.result nothing c.loop-i-test.true) one);
+    }
