@@ -1,0 +1,4 @@
+pub mod OrderLaws
+pub mod EpochLaws
+pub mod DrawLaws
+pub mod FirstLaws

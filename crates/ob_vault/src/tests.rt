@@ -1,0 +1,103 @@
+//! Tests of the format.
+
+ghost use Rattle.std.specs.Prelude.{◌≡◌};
+
+use crate::format;
+use ob_base::{Fault, Params, ring_cells};
+use ob_cells::read_cells;
+use ob_mem::{Fail, MemSink, MemStore};
+use ob_recover::{find, head};
+use ob_seal::Keys;
+use ob_store::{Blind, SinkWatch};
+use ob_tape::{ChaChaTape, ListTape};
+use sha2::{Digest, Sha256};
+use std::alloc::Global;
+use std::process::Abort;
+
+// The SHA-256 digest of all 109 cells of a new store of 8 keys under the keys of the bytes 0 to 95,
+// as another implementation made it.
+const NEW: [u8; 32] = [
+    0x3c, 0x8c, 0xb5, 0x7c, 0x7f, 0x39, 0x9d, 0x40, 0x6e, 0xb9, 0x73, 0x8b, 0x96, 0x0c, 0x65, 0x64,
+    0x3d, 0x91, 0x4b, 0x30, 0xe9, 0xcb, 0xbf, 0xd9, 0x80, 0xaf, 0x27, 0x1b, 0x6d, 0x17, 0xb8, 0xa1,
+];
+
+// The bytes 0 to 95.
+fn key_bytes() -> [u8; 96] {
+    let mut bytes = [0; 96];
+    for i in 0..96 {
+        bytes[i] = i as u8;
+    }
+    bytes
+}
+
+// Their last 32.
+fn tape_key() -> [u8; 32] {
+    let mut bytes = [0; 32];
+    for i in 0..32 {
+        bytes[i] = 64 + i as u8;
+    }
+    bytes
+}
+
+fn small_store(rt: &impl Abort) -> Params {
+    Params::new(8, 2, 2, 3, 2, 2, 2, 2, 8).expect(rt, "parameters")
+}
+
+// The digest of all cells of a store.
+fn digest_of(rt: &impl Abort, store: &mut MemStore) -> [u8; 32] {
+    let mut all = [[0; 128]; 109];
+    assert!(rt; read_cells(store, 0, &mut all, &mut Blind).is_ok());
+    let mut hasher = Sha256::new();
+    for cell in &all {
+        hasher.update(cell);
+    }
+    hasher.finalize().into()
+}
+
+#[test]
+fn a_new_store_is_that_of_another_implementation(rt: HostRuntime) {
+    let alloc = rt.alloc();
+    let p = small_store(&rt);
+    let keys = Keys::from_bytes(&key_bytes());
+    let mut store = MemStore::new(alloc, 109, Vec::new(alloc)).expect(&rt, "memory");
+    let mut tape = ChaChaTape::new(&tape_key());
+    let mut sink = MemSink::new(alloc, 1000, Vec::new(alloc)).expect(&rt, "memory");
+    let mut watch = SinkWatch::new(&mut sink);
+    assert!(rt; format(alloc, &mut store, &mut tape, &keys, &p, &mut watch).is_ok());
+    assert_eq!(rt; digest_of(&rt, &mut store), NEW);
+    let shown =
+        b"W 0\nS\nW 2\nW 4\nW 6\nW 8\nW 10\nW 12\nW 14\nW 16\nS\nW 4\nS\nW 3\nS\nW 4\nS\nW 39\nW 40\nW 41\nW 42\nW 43\nW 44\nW 45\nW 46\nW 47\nW 48\nW 49\nW 50\nW 51\nW 52\nW 53\nW 54\nW 55\nW 56\nW 57\nW 58\nW 59\nW 60\nW 61\nW 62\nW 63\nW 64\nW 65\nW 66\nW 67\nW 68\nW 69\nW 70\nW 71\nW 72\nW 73\nW 17\nW 18\nW 19\nW 20\nW 21\nW 22\nW 23\nW 24\nW 25\nW 26\nW 27\nS\nW 6\nS\nW 5\nS\nW 6\nS\nW 0\nS\n";
+    assert!(rt; sink.written() == shown.as_slice());
+    assert_eq!(rt; head(&mut store, &keys, &mut Blind).ok(), Some(p));
+}
+
+// What a format of a store where this call fails answers.
+fn format_with(rt: &impl Abort, alloc: Global, fail: Fail) -> Result<(), Fault> {
+    let fails = [fail].to_vec(alloc).expect(rt, "memory");
+    let mut store = MemStore::new(alloc, 109, fails).expect(rt, "memory");
+    let mut tape = ListTape::new(alloc, &[]).expect(rt, "memory");
+    let keys = Keys::from_bytes(&key_bytes());
+    format(
+        alloc,
+        &mut store,
+        &mut tape,
+        &keys,
+        &small_store(rt),
+        &mut Blind,
+    )
+}
+
+// It has 62 writes and 10 syncs.
+#[test]
+fn each_refused_call_is_the_stores(rt: HostRuntime) {
+    let alloc = rt.alloc();
+    let fault = Err(Fault::StoreFault { unsure: None });
+    for write in 0..62 {
+        assert!(rt; format_with(&rt, alloc, Fail::Write(write)) == fault);
+    }
+    for sync in 0..10 {
+        assert!(rt; format_with(&rt, alloc, Fail::Sync(sync)) == fault);
+    }
+    assert!(rt; format_with(&rt, alloc, Fail::Write(62)).is_ok());
+    assert!(rt; format_with(&rt, alloc, Fail::Sync(10)).is_ok());
+}
