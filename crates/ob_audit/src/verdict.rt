@@ -1,0 +1,16 @@
+//! What an audit answers.
+
+use ob_follow::{Line, Wanted};
+
+/// What an audit answers.
+#[derive(Clone, Copy, Debug, PartialEq, Eq)]
+pub enum Audit {
+    /// Each line may stand where it stands.
+    Fits,
+    /// The first line that may not, counted from 1, what was wanted there, and what stands there.
+    Breaks {
+        line: u64,
+        wanted: Wanted,
+        found: Line,
+    },
+}

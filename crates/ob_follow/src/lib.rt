@@ -1,0 +1,11 @@
+//! What may stand next in a trace: what is known behind some lines, and what each further line does
+//! to it. It speaks of the public schedule, and of no key, no word and no store.
+#![tactic(auto)]
+
+mod laws;
+mod line;
+mod want;
+
+pub use laws::{line_determines, notes_are_scheduled, wanted_is_exact};
+pub use line::{Line, Wanted};
+pub use want::{Change, Gate, Register, SeenLabel, SeenSlot, Side, Spot, Want};
