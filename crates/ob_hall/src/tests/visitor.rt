@@ -43,6 +43,8 @@ impl Runner for Visitor {
 
     ghost fits = { λ v said. Visits v.client v.gone said };
 
+    ghost turn = { λ plan client said steps. IsOneCall said steps };
+
     fn step(&mut self, desk: &mut Desk) -> (Step, Made) {
         if self.gone {
             return (Step::Done, Made::NONE);
