@@ -5,15 +5,9 @@
 # It needs rt, and writes only to a temporary folder. Times are of the processor.
 set -euo pipefail
 top=$(cd "$(dirname "$0")/.." && pwd)
-work=$(mktemp -d)
-trap 'rm -rf "$work"' EXIT
-below='ob_base ob_io ob_store ob_mem ob_seal ob_cells ob_bucket ob_tables ob_content ob_check ob_batch'
-mkdir -p "$work/crates/check_bench/src"
-tar -C "$top/crates" --exclude=out --exclude=must-fail -cf - $below | tar -C "$work/crates" -xf -
-for name in $below; do grep "^$name:" "$top/crates.txt"; done >"$work/crates.txt"
-echo "check_bench: ${below/ob_io /}" >>"$work/crates.txt"
-git -C "$work" init -q
-cat >"$work/crates/check_bench/src/main.rt" <<'PROGRAM'
+source "$top/bench/common.sh"
+bench_crate check_bench ob_base ob_io ob_store ob_mem ob_seal ob_cells ob_bucket ob_tables ob_content \
+    ob_check ob_batch <<'PROGRAM'
 //! Writes a checkpoint (w), reads it (r), seals (s) or opens (o) as many cells, runs batches (b) or
 //! opens as many cells as they have (c): the first byte of the input says what, any other nothing.
 //! Each is done several times, behind the same preparations.
@@ -240,32 +234,11 @@ fn main(rt: HostRuntime) -> io::Result<()> {
     Ok(())
 }
 PROGRAM
-cd "$work/crates/check_bench"
-mkdir -p proofs/{write_all,read_all,seal_all,open_all,run_all}
-invariant() {
-    cat >"proofs/$1/Invariants.antt" <<PROOF
-use Rattle.std.proofs.Common.{◌≡◌, ◌≤◌, length}
-use Rattle.check_bench.proofs.$1.Given as goal
-
-abbrev pub invariant-loop-n : goal.invariant-loop-n
-invariant-loop-n l = $2
-PROOF
-}
-invariant write_all 'record { few : l.done ≤ l.n; room : length l.sheet ≡ length l.initial.sheet }'
-invariant read_all 'record { few : l.done ≤ l.n; room : length l.sheet ≡ length l.initial.sheet }'
-for name in seal_all open_all run_all; do invariant $name 'l.done ≤ l.n'; done
-rt run </dev/null >"$work/log" 2>&1 || { tail -30 "$work/log"; exit 1; }
-TIMEFORMAT=%U
-# The fewest seconds of seven runs of each kind, in turns, each of which has to tell its count.
-declare -A best
-for _ in 1 2 3 4 5 6 7; do
-    for run in n:0 w:20 r:20 s:663260 o:663260 b:500 c:500000; do
-        kind=${run%%:*}
-        t=$({ time ./out/check_bench <<<"$kind" >"$work/count"; } 2>&1)
-        [[ $(<"$work/count") == "${run#*:}" ]]
-        best[$kind]=$(awk -v a="${best[$kind]:-$t}" -v b="$t" 'BEGIN { print a < b ? a : b }')
-    done
-done
+invariant write_all '◌≡◌, ◌≤◌, length' 'record { few : l.done ≤ l.n; room : length l.sheet ≡ length l.initial.sheet }'
+invariant read_all '◌≡◌, ◌≤◌, length' 'record { few : l.done ≤ l.n; room : length l.sheet ≡ length l.initial.sheet }'
+for name in seal_all open_all run_all; do invariant $name '◌≤◌' 'l.done ≤ l.n'; done
+build_bench
+time_kinds n:0 w:20 r:20 s:663260 o:663260 b:500 c:500000
 awk -v n="${best[n]}" -v w="${best[w]}" -v r="${best[r]}" -v s="${best[s]}" -v o="${best[o]}" -v b="${best[b]}" -v c="${best[c]}" 'BEGIN {
     printf "write %6.1f ms a checkpoint, %.2f of its seals\n", (w - n) * 50, (w - n) / (s - n)
     printf "read  %6.1f ms a checkpoint, %.2f of its opens\n", (r - n) * 50, (r - n) / (o - n)

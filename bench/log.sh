@@ -5,15 +5,8 @@
 # It needs rt, and writes only to a temporary folder. Times are of the processor.
 set -euo pipefail
 top=$(cd "$(dirname "$0")/.." && pwd)
-work=$(mktemp -d)
-trap 'rm -rf "$work"' EXIT
-below='ob_base ob_io ob_store ob_mem ob_seal ob_twin ob_cells ob_log'
-mkdir -p "$work/crates/log_bench/src"
-tar -C "$top/crates" --exclude=out --exclude=must-fail -cf - $below | tar -C "$work/crates" -xf -
-for name in $below; do grep "^$name:" "$top/crates.txt"; done >"$work/crates.txt"
-echo "log_bench: ${below/ob_io /}" >>"$work/crates.txt"
-git -C "$work" init -q
-cat >"$work/crates/log_bench/src/main.rt" <<'PROGRAM'
+source "$top/bench/common.sh"
+bench_crate log_bench ob_base ob_io ob_store ob_mem ob_seal ob_twin ob_cells ob_log <<'PROGRAM'
 //! Appends 16 records (a), reads them (r), or seals (s) or opens (o) as many cells as their bodies
 //! have: the first byte of the input says what, any other nothing. Each is done many times, behind
 //! the same preparations.
@@ -149,8 +142,7 @@ fn main(rt: HostRuntime) -> io::Result<()> {
     Ok(())
 }
 PROGRAM
-cd "$work/crates/log_bench"
-mkdir -p proofs/{all_keys,fill_all,read_all,seal_all,open_all}
+mkdir -p proofs/all_keys
 cat >proofs/all_keys/Invariants.antt <<'PROOF'
 use Rattle.std.proofs.Common.{◌≡◌, ◌<◌, ℕ, Some, None, length, slice_index_or}
 use Rattle.log_bench.proofs.all_keys.Given as goal
@@ -195,27 +187,9 @@ loop-i-preserved c =
 pub returns : goal.returns
 returns c = λ j k e. let was = c.loop-i.invariant.asks j k e in (was.0, omega (arith, was.0, was.1))
 PROOF
-for name in fill_all read_all seal_all open_all; do
-    cat >"proofs/$name/Invariants.antt" <<PROOF
-use Rattle.std.proofs.Common.{◌≤◌}
-use Rattle.log_bench.proofs.$name.Given as goal
-
-abbrev pub invariant-loop-n : goal.invariant-loop-n
-invariant-loop-n l = l.done ≤ l.n
-PROOF
-done
-rt run </dev/null >"$work/log" 2>&1 || { tail -30 "$work/log"; exit 1; }
-TIMEFORMAT=%U
-# The fewest seconds of seven runs of each kind, in turns, each of which has to tell its count.
-declare -A best
-for _ in 1 2 3 4 5 6 7; do
-    for run in n:0 a:2000 r:2000 s:288000 o:288000; do
-        kind=${run%%:*}
-        t=$({ time ./out/log_bench <<<"$kind" >"$work/count"; } 2>&1)
-        [[ $(<"$work/count") == "${run#*:}" ]]
-        best[$kind]=$(awk -v a="${best[$kind]:-$t}" -v b="$t" 'BEGIN { print a < b ? a : b }')
-    done
-done
+for name in fill_all read_all seal_all open_all; do invariant $name '◌≤◌' 'l.done ≤ l.n'; done
+build_bench
+time_kinds n:0 a:2000 r:2000 s:288000 o:288000
 awk -v n="${best[n]}" -v a="${best[a]}" -v r="${best[r]}" -v s="${best[s]}" -v o="${best[o]}" 'BEGIN {
     printf "append %6.2f us a record, %.2f of its seals\n", (a - n) * 31.25, (a - n) / (s - n)
     printf "read   %6.2f us for 16 records, %.2f of their opens\n", (r - n) * 500, (r - n) / (o - n)

@@ -1,7 +1,11 @@
+pub mod Begun
 pub mod Cuts
+pub mod Judging
 pub mod Lettered
 pub mod Nine
 pub mod Numerals
 pub mod Puts
 pub mod Ranges
+pub mod Steps
+pub mod Sources
 pub mod Written

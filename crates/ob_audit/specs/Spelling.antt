@@ -1,5 +1,5 @@
 -- How the lines of a trace are spelled, without the line feed.
-use Rattle.std.specs.Prelude.{◌≡◌, ◌<◌, ◌^◌, ℕ, List, [], ◌∷◌, ◌++◌, decimal}
+use Rattle.std.specs.Prelude.{◌≡◌, ◌<◌, ◌≤◌, ◌^◌, ◌⊎◌, ℕ, List, [], ◌∷◌, ◌++◌, length, decimal}
 use Rattle.ob_base.specs.declared.params.Params.{Params}
 use Rattle.ob_store.specs.declared.watch.Note.{Note}
 use Rattle.ob_store.specs.declared.watch.Note.TheVariants as N
@@ -39,12 +39,15 @@ IsLineInRange L.Open = Unit {0}
 IsLineInRange (L.Note note) = IsNoteInRange note
 IsLineInRange L.Bad = Unit {0}
 
--- What was read: a line that the bytes spell, or a bad one.
-abbrev pub IsLineRead : Line → List ℕ → Type 0
-IsLineRead (L.Start p) bytes = IsLineSpelled (L.Start p) bytes
-IsLineRead L.Open bytes = IsLineSpelled L.Open bytes
-IsLineRead (L.Note note) bytes = IsLineSpelled (L.Note note) bytes
-IsLineRead L.Bad bytes = Unit {0}
+-- the line is spelled by these bytes, which are no more than a line may have
+pub record SpellsLine (bytes : List ℕ) (line : Line) : Type 0 where
+  pub spelled : IsLineSpelled line bytes
+  pub in_range : IsLineInRange line
+  pub short : length bytes ≤ 96
+
+-- The line that the bytes are: the one that they spell; a bad one just where they spell none.
+abbrev pub IsLineOf : List ℕ → Line → Type 0
+IsLineOf bytes line = SpellsLine bytes line ⊎ ((line ≡ L.Bad) × ((l : Line) → SpellsLine bytes l → ⊥))
 
 -- The bytes of a line and a line feed are what whoever writes a trace writes.
 pub record LinesAreTheWriters : Type 0 where

@@ -2,7 +2,7 @@
 
 ghost use Rattle.std.specs.Prelude.{◌≡◌, ◌<◌, ◌≤◌, ◌∷◌, ◌++◌, List, ℕ, length, ◌^◌, IfSome, Some, None, option_map, decimal};
 ghost use Rattle.ob_base.specs.declared.params.Params.{Params};
-ghost use Rattle.ob_audit.specs.Spelling.{IsLineSpelled, IsLineInRange, IsLineRead, numbers_text};
+ghost use Rattle.ob_audit.specs.Spelling.{IsLineSpelled, IsLineInRange, IsLineOf, numbers_text};
 
 use crate::numbers::{first_small, number_of, small_of};
 use ob_base::Params;
@@ -92,11 +92,7 @@ fn line_in(bytes: &[u8]) -> Option<Line>
 /// The line that the bytes spell, which have no line feed; Bad where none is spelled, or where there
 /// are more than 96.
 pub fn line_of(bytes: &[u8]) -> Line
-    ensures read { IsLineRead result bytes.now }
-    ensures only { (line : Line) → IsLineInRange line → IsLineSpelled line bytes.now
-        → length bytes.now ≤ 96
-        → result ≡ line }
-    ensures long { 96 < length bytes.now → result ≡ Line.Bad }
+    ensures { IsLineOf bytes.now result }
 {
     if bytes.len() > LONGEST {
         return Line::Bad;

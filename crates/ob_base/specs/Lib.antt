@@ -1,4 +1,5 @@
 pub mod Causes
+pub mod Clients
 pub mod Fields
 pub mod Layout
 pub mod LittleEndian

@@ -1,6 +1,7 @@
 //! What every crate speaks of: parameters, keys, values, operations, numbers in bytes, and refusals.
 #![tactic(auto)]
 
+mod clients;
 mod fault;
 mod job;
 mod jobs;
@@ -12,6 +13,7 @@ mod refusals;
 mod tree;
 mod value;
 
+pub use clients::MOST_CLIENTS;
 pub use fault::{Check, Damaged, Failed, Fault, Field, Memory, NUMBER_LIMIT, StashFull, Worn};
 pub use job::{Job, Place};
 pub use jobs::Jobs;

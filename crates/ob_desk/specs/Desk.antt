@@ -14,6 +14,7 @@ use Rattle.ob_desk.specs.Replay.{EachReplays}
 use Rattle.ob_order.specs.Order.{OrderState, new_order, after_begin, answer, read_reply, after_read, again_reply, after_again, write_reply, after_write, after_abort, after_stop, batch_of, after_take, after_deliver}
 use Rattle.ob_order.specs.declared.fate.Fate.{Fate}
 use Rattle.ob_order.specs.declared.fate.Fate.TheVariants.{Going, Ended, Fell}
+use Rattle.ob_base.specs.Clients.{IsClientNumber}
 use Rattle.ob_base.specs.declared.params.Params.{Params}
 use Rattle.ob_order.specs.declared.answers.Read.TheVariants.{Value as Found, Queued, Full as ReadsAreFull}
 use Rattle.ob_order.specs.declared.answers.Wrote.{Wrote}
@@ -420,7 +421,7 @@ DeskStep d _ _ new = ⊥
 pub record MayOpen (setup : Setup) (epoch left : ℕ) (clients : List ℕ) : Type 0 where
   pub few_left : left ≤ setup.params.batches
   pub low_epoch : epoch ≤ 2 ^ 62
-  pub named : All (λ c. (1 ≤ c) × (c ≤ 64)) clients
+  pub named : All IsClientNumber clients
   pub rising : IsStrictlyIncreasing clients
 
 -- the client is one of the desk's and hasn't signed off

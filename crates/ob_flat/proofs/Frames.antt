@@ -1,9 +1,14 @@
 -- What the end of an epoch may change.
-use Rattle.std.proofs.Common.{inl, inr, ℕ, ◌∙◌, Result, Ok, Err, refl, arith}
+use Rattle.std.proofs.Common.{◌≡◌, inl, inr, ℕ, ◌+◌, ◌∙◌, List, length, Option, Result, Ok, Err, refl, subst, arith}
 use Rattle.std.specs.Prelude.{IfErr}
+use Rattle.ob_base.specs.declared.fault.Failed.{Failed}
+use Rattle.ob_seal.specs.Sealing.{Sealing}
 use Rattle.ob_store.specs.Disk.{Disk, Image}
-use Rattle.ob_store.specs.Images.{SameOff, Passes}
-use Rattle.ob_store.proofs.Moments.{passed_none, passed_then, passes_so}
+use Rattle.ob_store.specs.Images.{SameOff, Passes, Shrinks, Elapses}
+use Rattle.ob_store.specs.Calls.{Serves, IsFailed, Keeps}
+use Rattle.ob_store.proofs.Moments.{passed_none, passed_then, passed_still, passes_so}
+use Rattle.ob_store.proofs.Serving.{serves_then, if_ok}
+use Rattle.ob_flat_rows.specs.Writes.{RowsWritten}
 use Rattle.ob_twin.specs.Register.{SameOutside}
 use Rattle.ob_twin.specs.declared.set_err.SetErr.{SetErr}
 use Rattle.ob_twin.specs.declared.set_err.SetErr.TheVariants.{Before, Unsure}
@@ -44,3 +49,24 @@ pub if_unsure : (A : Type 0) (r : Result (Unit {0}) SetErr) → A → IfErr r (I
 if_unsure A (Ok done) is = tt
 if_unsure A (Err (Before fault)) is = tt
 if_unsure A (Err (Unsure fault)) is = is
+
+-- ---- rows that were written
+
+module _ {base : ℕ} {values : List (Option (List ℕ))} {sealer later : Sealing} where
+  -- in their area
+  pub rows_at : {place : ℕ} {old new : Disk} {r : Result (Unit {0}) Failed} → base ≡ place → RowsWritten base values sealer later old new r → RowsWritten place values sealer later old new r
+  rows_at {old = old} {new = new} {r = r} is rows = subst (λ b. RowsWritten b values sealer later old new r) is rows
+
+  -- and so behind a sync, whatever it answered
+  pub rows_synced : {place : ℕ} {old mid new : Disk} {r : Result (Unit {0}) Failed} → base ≡ place → RowsWritten base values sealer later old mid (Ok tt)
+      → Serves IsFailed mid new r → Keeps mid new → Shrinks mid new → Elapses mid new → RowsWritten place values sealer later old new r
+  rows_synced {old = old} {mid = mid} {new = new} {r = r} is rows serves keeps shrinks time = rows_at is (record {
+    serves = serves_then IsFailed old mid new r rows.serves.goes rows.serves.out rows.serves.tells serves;
+    written = λ tells. if_ok _ r (λ i lt. keeps.cells (rows.serves.tells tells) (base + i) ∙ rows.written tells i lt);
+    short = if_ok _ r rows.short;
+    seals = record { all = if_ok _ r rows.seals.all; some = rows.seals.some };
+    within = record {
+      rest = λ tells k off. keeps.cells (rows.serves.tells tells) k ∙ rows.within.rest tells k off;
+      passes = passed_still (SameOff base (length values)) old mid new rows.within.passes serves.goes.later time shrinks;
+    };
+  })

@@ -15,10 +15,11 @@ use Rattle.ob_twin.specs.Keyed.{tagging}
 use Rattle.ob_twin.specs.Register.{StandsAt, OldOrNew}
 use Rattle.ob_store.proofs.Lanes.{first_none}
 use Rattle.ob_serial.specs.Vaults.{Standing}
+use Rattle.ob_start.specs.Orders.{registers_notes}
 use Rattle.ob_start.specs.Beginning.{BeginsFrom, BeginLeaves, IsBeginFault, IsWornFault}
 use Rattle.ob_flat.specs.Orders.{found_notes}
 use Rattle.ob_flat.specs.declared.opening.Opening.{Opening}
-use Rattle.ob_flat.specs.Openings.{OpensFrom, BeginsNext, ReadsAlone}
+use Rattle.ob_flat.specs.Openings.{OpensFrom, BeginsNext, ReadsAlone, IsOpening}
 use Rattle.ob_flat.specs.Standing.{StandsFlat, Stands, AllStand, StandsAsBefore}
 use Rattle.ob_flat.proofs.Moved.{stands_same, generation_set}
 
@@ -156,6 +157,21 @@ none_alone n d t = record {
   keeps = record { tells = λ told. told; cells = λ told k. refl };
   passes = passed_none d Same (λ c. refl);
 }
+
+-- nothing, since memory was wanting
+pub none_opened : {S : Type 0} (disk : S → Disk) (keys : Keys) (p : Params) (s : S) (t : Trace) → ((c : Image) → (disk s).left_since (disk s).moment c → (disk s).may_leave c) → IsOpening disk keys p s s t t (Err Memory)
+none_opened disk keys p s t only =
+    let d = disk s in
+    record {
+      value = λ tells. tt;
+      begins = tt;
+      opened = λ at tells stands. tt;
+      crash = λ at tells stands all. none_before keys p d all only;
+      since = inl (passed_none d Same (λ c. refl));
+      register = inl (passed_none d Same (λ c. refl));
+      order = inl (first_none registers_notes d.seen d.seen t (none_noted d.seen));
+      unwritten = λ own. none_alone p.keys d t;
+    }
 
 -- nothing more
 pub alone_still : {S W : Type 0} (disk : S → Disk) (trace : W → Trace) (n : ℕ) (old : Disk) (shown : Trace) (s t : S) (v w : W) → (t ≡ s) × (w ≡ v) → ReadsAlone n old (disk s) shown (trace v) → ReadsAlone n old (disk t) shown (trace w)

@@ -1,12 +1,12 @@
 -- What opening a store finds, and what it answers.
-use Rattle.std.specs.Prelude.{◌≡◌, ◌⊎◌, ◌<◌, ◌-◌, ◌^◌, ℕ, suc, List, length, Option, None, Result, Ok, Err}
+use Rattle.std.specs.Prelude.{◌≡◌, ◌⊎◌, ◌<◌, ◌-◌, ◌^◌, ℕ, suc, List, length, Option, None, Result, Ok, Err, IfOk, IfErr}
 use Rattle.ob_base.specs.declared.params.Params.{Params}
 use Rattle.ob_base.specs.declared.fault.Damaged.{Damaged}
 use Rattle.ob_base.specs.declared.fault.Fault.{Fault}
 use Rattle.ob_base.specs.declared.fault.Fault.TheVariants as fault
 use Rattle.ob_store.specs.Disk.{Disk, Image}
 use Rattle.ob_store.specs.Images.{Same, IsSynced, Passes, LeavesOnly}
-use Rattle.ob_store.specs.Calls.{Keeps}
+use Rattle.ob_store.specs.Calls.{Keeps, IsStoreFault}
 use Rattle.ob_store.specs.Lines.{Trace}
 use Rattle.ob_store.specs.Told.{Tells, TellsFirst}
 use Rattle.ob_seal.specs.declared.keys.Keys.{Keys}
@@ -24,7 +24,7 @@ use Rattle.ob_flat.specs.Places.{area_of}
 use Rattle.ob_start.specs.Registers.{Found, IsRegisterDamage}
 use Rattle.ob_start.specs.Beginning.{BeginsFrom}
 use Rattle.ob_start.specs.Orders.{registers_notes}
-use Rattle.ob_flat.specs.Standing.{IsMapOf, StandsFlat}
+use Rattle.ob_flat.specs.Standing.{IsMapOf, StandsFlat, Stands, AllStand, StandsAsBefore}
 use Rattle.ob_flat.specs.Orders.{found_notes, open_notes}
 
 -- both registers are found, and this is the first row that breaks a rule
@@ -148,3 +148,25 @@ pub record ReadsAlone (n : ℕ) (old new : Disk) (shown_old shown_new : Trace) :
   pub told : TellsFirst (found_notes n epoch) old.seen new.seen shown_old shown_new
   pub keeps : Keeps old new
   pub passes : Passes Same old new
+
+-- The order of an opening: the whole where it went well, else some of it, the first steps.
+abbrev pub OpeningTells : Keys → ℕ → Disk → Disk → Trace → Trace → Result Opening Fault → Type 0
+OpeningTells keys n old new shown_old shown_new (Ok opening) = OpensIn n old new shown_old shown_new opening
+OpeningTells keys n old new shown_old shown_new (Err refused) = OpensFirst keys n old new shown_old shown_new
+
+-- What an opening answers, and what it leaves.
+pub record IsOpening {S : Type 0} (disk : S → Disk) (keys : Keys) (p : Params) (old new : S) (shown_old shown_new : Trace) (result : Result Opening Fault) : Type 0 where
+  pub value : (disk old).tells → IsOpeningOf keys p.keys (disk old).cells result
+  pub begins : IfOk result (Begins keys p (disk old) (disk new))
+  -- Where the store stood for an epoch, the opening has that epoch and its map,
+  pub opened : (at : Standing) → (disk old).tells → Stands keys p (disk old).cells at → IfOk result (λ opening. IsOpenedAt keys p at opening (disk new))
+  -- and a crash at any moment leaves what the store, or one of its images, stood for.
+  pub crash : (at : Standing) → (disk old).tells → Stands keys p (disk old).cells at → AllStand keys p (disk old)
+      → LeavesOnly (disk old) (disk new) (StandsAsBefore keys p (disk old))
+  -- From its first sync on each stands for what the store stood for.
+  pub since : OpeningLeaves disk keys p old new result
+  -- Its register of generations alone, whatever else the store stands for.
+  pub register : OpeningBegins disk keys old new result
+  pub order : OpeningTells keys p.keys (disk old) (disk new) shown_old shown_new result
+  -- Refused, unless its store failed, it has read and done nothing else.
+  pub unwritten : IfErr result (λ refused. (IsStoreFault refused → ⊥) → ReadsAlone p.keys (disk old) (disk new) shown_old shown_new)

@@ -1,21 +1,17 @@
 //! The rows of an epoch, written.
 
-ghost use Rattle.std.specs.Prelude.{◌≡◌, ◌<◌, ◌≤◌, ◌+◌, ◌^◌, ◌⊎◌, ℕ, suc, length, not, is_ok, OnOk, OnErr, IfErr, IsTrue, false, if◌then◌else◌, List, Option};
-ghost use Rattle.ob_base.specs.Causes.{Rose};
+ghost use Rattle.std.specs.Prelude.{◌≡◌, ◌<◌, ◌≤◌, ◌+◌, ◌^◌, ℕ, length, OnOk, OnErr, IfErr};
 ghost use Rattle.ob_base.specs.declared.params.Params.{Params};
-ghost use Rattle.ob_store.specs.Disk.{Image};
-ghost use Rattle.ob_store.specs.Images.{IsSynced, SameOff, LeavesOnly, Passes};
-ghost use Rattle.ob_store.specs.Calls.{Serves, IsFailed, Holds};
-ghost use Rattle.ob_store.specs.Told.{Does};
+ghost use Rattle.ob_store.specs.Images.{IsSynced, LeavesOnly, Passes};
+ghost use Rattle.ob_store.specs.Calls.{Serves, Holds};
 ghost use Rattle.ob_cells.specs.Runs.{IsFurther};
-ghost use Rattle.ob_flat_rows.specs.Rows.{row_cells, AreShort};
+ghost use Rattle.ob_flat_rows.specs.Rows.{row_cells};
 ghost use Rattle.ob_twin.specs.declared.twin.Twin.TheVariants.{EPOCH};
 ghost use Rattle.ob_twin.specs.Register.{place_of};
-ghost use Rattle.ob_twin.specs.Opening.{GatesAre, is_closed_first, with_mark};
+ghost use Rattle.ob_twin.specs.Opening.{GatesAre, with_mark};
 ghost use Rattle.ob_twin.specs.Refused.{IsSetFault, IsBefore};
 ghost use Rattle.ob_serial.specs.Vaults.{Standing};
 ghost use Rattle.ob_flat.specs.Places.{area_of};
-ghost use Rattle.ob_flat.specs.Orders.{rows_notes};
 ghost use Rattle.ob_flat.specs.Ends.{EndsFrom, StandsAtOne, EndTells, IfUnsure};
 ghost use Rattle.ob_flat.specs.Standing.{StandsFlat};
 ghost use Rattle.ob_flat.specs.Calls.{SameOffEpoch};
@@ -26,38 +22,6 @@ use ob_flat_rows::write_rows;
 use ob_seal::Sealer;
 use ob_store::{Store, Watch, sync_noted};
 use ob_twin::{Gates, SetErr, Twin};
-
-// Writes the rows of these values from a cell on, and makes sure of them.
-pub fn fill<S: Store, W: Watch>(
-    store: &mut S,
-    sealer: &mut Sealer,
-    base: u64,
-    values: &[Option<Value>],
-    watch: &mut W,
-) -> Result<(), Failed>
-    requires none_out { (S.disk store.old).out ≡ 0 }
-    requires fits { base + length values.now < 2 ^ 64 }
-    requires room { sealer.old.next + length values.now ≤ 2 ^ 62 }
-    ensures serves { Serves IsFailed (S.disk store.old) (S.disk store.new) result }
-    ensures written { (S.disk store.old).tells
-        → OnOk result (Holds base
-        (row_cells sealer.old.keys base sealer.old.generation sealer.old.next values.now)
-        (S.disk store.new).cells) }
-    ensures sealed { OnOk result (sealer.new
-        ≡ record sealer.old { next = sealer.old.next + length values.now }) }
-    ensures some_sealed { IsFurther (length values.now) sealer.old sealer.new }
-    ensures short { OnOk result (AreShort values.now) }
-    ensures rest { (S.disk store.old).tells
-        → SameOff base (length values.now) (S.disk store.new).cells (S.disk store.old).cells }
-    ensures durable { (S.disk store.old).tells → OnOk result (IsSynced (S.disk store.new)) }
-    ensures passes { Passes (SameOff base (length values.now)) (S.disk store.old)
-        (S.disk store.new) }
-    ensures does { Does (rows_notes base (length values.now)) (S.disk store.old).seen
-        (S.disk store.new).seen (W.trace watch.old) (W.trace watch.new) result }
-{
-    write_rows(store, sealer, base, values, watch)?;
-    sync_noted(store, watch)
-}
 
 // Writes the rows of an epoch, makes sure of them, and sets the epoch's number.
 pub fn write_epoch<S: Store, W: Watch>(
@@ -121,7 +85,11 @@ pub fn write_epoch<S: Store, W: Watch>(
         (S.disk store.new).seen (W.trace watch.old) (W.trace watch.new) result }
 {
     let base = area_of(values.len() as u64, epoch);
-    match fill(store, sealer, base, values, watch) {
+    match write_rows(store, sealer, base, values, watch) {
+        Ok(()) => {}
+        Err(Failed) => return Err(SetErr::Before(Fault::StoreFault { unsure: None })),
+    }
+    match sync_noted(store, watch) {
         Ok(()) => {}
         Err(Failed) => return Err(SetErr::Before(Fault::StoreFault { unsure: None })),
     }

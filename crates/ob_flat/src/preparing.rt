@@ -1,13 +1,10 @@
 //! Opening a plain store.
 
-ghost use Rattle.std.specs.Prelude.{◌≡◌, ◌≢◌, ◌+◌, [], Err, IfOk, OnErr, IfErr, length, replicate, None};
+ghost use Rattle.std.specs.Prelude.{◌≡◌, ◌≢◌, [], Err, IfOk, IfErr, length, replicate, None};
 ghost use Rattle.ob_base.specs.declared.fault.Fault.TheVariants as fault;
-ghost use Rattle.ob_store.specs.Images.{LeavesOnly};
 ghost use Rattle.ob_store.specs.Calls.{Serves, IsStoreFault};
 ghost use Rattle.ob_store.specs.Lines.{Shows};
-ghost use Rattle.ob_serial.specs.Vaults.{Standing};
-ghost use Rattle.ob_flat.specs.Standing.{Stands, AllStand, StandsAsBefore};
-ghost use Rattle.ob_flat.specs.Openings.{IsOpeningOf, IsOpenFault, IsOpenedAt, Begins, OpeningLeaves, OpeningBegins, OpensIn, OpensFirst, ReadsAlone};
+ghost use Rattle.ob_flat.specs.Openings.{IsOpenFault, IsOpening};
 
 use crate::opening::Opening;
 use crate::places::area_of;
@@ -46,35 +43,8 @@ fn open_into<S: Store, W: Watch>(
     requires none_out { (S.disk store.old).out ≡ 0 }
     ensures serves { Serves IsStoreFault (S.disk store.old) (S.disk store.new) result }
     ensures faults { IfErr result IsOpenFault }
-    ensures value { (S.disk store.old).tells
-        → IsOpeningOf sealer.now.keys params.now.keys (S.disk store.old).cells result }
-    ensures begins { IfOk result
-        (Begins sealer.now.keys params.now (S.disk store.old) (S.disk store.new)) }
-    // Where the store stood for an epoch, the opening has that epoch and its map,
-    ensures opened { (at : Standing) → (S.disk store.old).tells
-        → Stands sealer.now.keys params.now (S.disk store.old).cells at
-        → IfOk result (λ opening. IsOpenedAt sealer.now.keys params.now at opening
-        (S.disk store.new)) }
-    // and a crash at any moment leaves what the store, or one of its images, stood for.
-    ensures crash { (at : Standing) → (S.disk store.old).tells
-        → Stands sealer.now.keys params.now (S.disk store.old).cells at
-        → AllStand sealer.now.keys params.now (S.disk store.old)
-        → LeavesOnly (S.disk store.old) (S.disk store.new)
-        (StandsAsBefore sealer.now.keys params.now (S.disk store.old)) }
-    // From its first sync on each stands for what the store stood for.
-    ensures since { OpeningLeaves S.disk sealer.now.keys params.now store.old store.new result }
-    // Its register of generations alone, whatever else the store stands for.
-    ensures register { OpeningBegins S.disk sealer.now.keys store.old store.new result }
-    ensures order { IfOk result
-        (λ opening. OpensIn params.now.keys (S.disk store.old) (S.disk store.new)
-        (W.trace watch.old) (W.trace watch.new) opening) }
-    ensures order_err { OnErr result
-        (OpensFirst sealer.now.keys params.now.keys (S.disk store.old) (S.disk store.new)
-        (W.trace watch.old) (W.trace watch.new)) }
-    // Refused, unless its store failed, it has read and done nothing else.
-    ensures unwritten { IfErr result (λ refused. (IsStoreFault refused → ⊥)
-        → ReadsAlone params.now.keys (S.disk store.old) (S.disk store.new) (W.trace watch.old)
-        (W.trace watch.new)) }
+    ensures opening { IsOpening S.disk sealer.now.keys params.now store.old store.new
+        (W.trace watch.old) (W.trace watch.new) result }
     ensures no_memory { IfErr result (λ refused. refused ≢ fault.Memory) }
 {
     let mut gates = Gates::new();
@@ -122,34 +92,8 @@ pub fn prepare<S: Store, W: Watch>(
     requires none_out { (S.disk store.old).out ≡ 0 }
     ensures serves { Serves IsStoreFault (S.disk store.old) (S.disk store.new) result }
     ensures faults { IfErr result IsOpenFault }
-    ensures value { (S.disk store.old).tells
-        → IsOpeningOf keys.now params.now.keys (S.disk store.old).cells result }
-    ensures begins { IfOk result
-        (Begins keys.now params.now (S.disk store.old) (S.disk store.new)) }
-    // Where the store stood for an epoch, the opening has that epoch and its map,
-    ensures opened { (at : Standing) → (S.disk store.old).tells
-        → Stands keys.now params.now (S.disk store.old).cells at
-        → IfOk result (λ opening. IsOpenedAt keys.now params.now at opening (S.disk store.new)) }
-    // and a crash at any moment leaves what the store, or one of its images, stood for.
-    ensures crash { (at : Standing) → (S.disk store.old).tells
-        → Stands keys.now params.now (S.disk store.old).cells at
-        → AllStand keys.now params.now (S.disk store.old)
-        → LeavesOnly (S.disk store.old) (S.disk store.new)
-        (StandsAsBefore keys.now params.now (S.disk store.old)) }
-    // From its first sync on each stands for what the store stood for.
-    ensures since { OpeningLeaves S.disk keys.now params.now store.old store.new result }
-    // Its register of generations alone, whatever else the store stands for.
-    ensures register { OpeningBegins S.disk keys.now store.old store.new result }
-    ensures order { IfOk result
-        (λ opening. OpensIn params.now.keys (S.disk store.old) (S.disk store.new)
-        (W.trace watch.old) (W.trace watch.new) opening) }
-    ensures order_err { OnErr result
-        (OpensFirst keys.now params.now.keys (S.disk store.old) (S.disk store.new)
-        (W.trace watch.old) (W.trace watch.new)) }
-    // Refused, unless its store failed, it has read and done nothing else.
-    ensures unwritten { IfErr result (λ refused. (IsStoreFault refused → ⊥)
-        → ReadsAlone params.now.keys (S.disk store.old) (S.disk store.new) (W.trace watch.old)
-        (W.trace watch.new)) }
+    ensures opening { IsOpening S.disk keys.now params.now store.old store.new (W.trace watch.old)
+        (W.trace watch.new) result }
     ensures memory { result ≡ Err fault.Memory → (store.new ≡ store.old)
         × Shows [] (W.trace watch.old) (W.trace watch.new) }
 {

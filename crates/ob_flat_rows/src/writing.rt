@@ -1,12 +1,10 @@
 //! Writing the rows of a plain store.
 
-ghost use Rattle.std.specs.Prelude.{◌≡◌, ◌<◌, ◌≤◌, ◌+◌, ◌^◌, length, replicate, slice_index_or, OnOk, Option, None};
-ghost use Rattle.ob_store.specs.Images.{SameOff, Passes};
-ghost use Rattle.ob_store.specs.Calls.{Serves, IsFailed, Holds};
+ghost use Rattle.std.specs.Prelude.{◌≡◌, ◌<◌, ◌≤◌, ◌+◌, ◌^◌, length, replicate, slice_index_or, None};
 ghost use Rattle.ob_store.specs.Runs.{write_notes};
 ghost use Rattle.ob_store.specs.Told.{Does};
-ghost use Rattle.ob_cells.specs.Runs.{IsFurther};
-ghost use Rattle.ob_flat_rows.specs.Rows.{plain_of, row_bytes, row_cells, AreShort};
+ghost use Rattle.ob_flat_rows.specs.Rows.{plain_of, row_bytes};
+ghost use Rattle.ob_flat_rows.specs.Writes.{RowsWritten};
 
 use crate::row::row_bytes;
 use ob_base::{Failed, Value};
@@ -58,19 +56,8 @@ pub fn write_rows<S: Store, W: Watch>(
     requires none_out { (S.disk store.old).out ≡ 0 }
     requires fits { base + length values.now < 2 ^ 64 }
     requires room { sealer.old.next + length values.now ≤ 2 ^ 62 }
-    ensures serves { Serves IsFailed (S.disk store.old) (S.disk store.new) result }
-    ensures written { (S.disk store.old).tells
-        → OnOk result (Holds base
-        (row_cells sealer.old.keys base sealer.old.generation sealer.old.next values.now)
-        (S.disk store.new).cells) }
-    ensures sealed { OnOk result (sealer.new
-        ≡ record sealer.old { next = sealer.old.next + length values.now }) }
-    ensures some_sealed { IsFurther (length values.now) sealer.old sealer.new }
-    ensures short { OnOk result (AreShort values.now) }
-    ensures rest { (S.disk store.old).tells
-        → SameOff base (length values.now) (S.disk store.new).cells (S.disk store.old).cells }
-    ensures passes { Passes (SameOff base (length values.now)) (S.disk store.old)
-        (S.disk store.new) }
+    ensures rows { RowsWritten base values.now sealer.old sealer.new (S.disk store.old)
+        (S.disk store.new) result }
     ensures does { Does (write_notes base (length values.now)) (S.disk store.old).seen
         (S.disk store.new).seen (W.trace watch.old) (W.trace watch.new) result }
 {
@@ -98,17 +85,8 @@ pub fn write_blanks<S: Store, W: Watch>(
     requires none_out { (S.disk store.old).out ≡ 0 }
     requires fits { base + keys < 2 ^ 64 }
     requires room { sealer.old.next + keys ≤ 2 ^ 62 }
-    ensures serves { Serves IsFailed (S.disk store.old) (S.disk store.new) result }
-    ensures written { (S.disk store.old).tells
-        → OnOk result (Holds base
-        (row_cells sealer.old.keys base sealer.old.generation sealer.old.next (replicate keys None))
-        (S.disk store.new).cells) }
-    ensures sealed { OnOk result (sealer.new
-        ≡ record sealer.old { next = sealer.old.next + keys }) }
-    ensures some_sealed { IsFurther keys sealer.old sealer.new }
-    ensures rest { (S.disk store.old).tells
-        → SameOff base keys (S.disk store.new).cells (S.disk store.old).cells }
-    ensures passes { Passes (SameOff base keys) (S.disk store.old) (S.disk store.new) }
+    ensures rows { RowsWritten base (replicate keys None) sealer.old sealer.new (S.disk store.old)
+        (S.disk store.new) result }
     ensures does { Does (write_notes base keys) (S.disk store.old).seen (S.disk store.new).seen
         (W.trace watch.old) (W.trace watch.new) result }
 {

@@ -14,13 +14,13 @@ use Rattle.ob_follow.specs.declared.want.Side.TheVariants.{Even, Odd}
 use Rattle.ob_follow.specs.declared.want.Want.{Want}
 use Rattle.ob_follow.specs.declared.want.Want.TheVariants.{Fixed, Place, Record, Setting, Checkpoint}
 use Rattle.ob_follow.specs.Sides.{other, side_number, register_region}
-use Rattle.ob_follow.specs.Standing.{home_at, with_slot}
+use Rattle.ob_follow.specs.Standing.{with_slot}
 use Rattle.ob_follow.specs.Follow.{Follow, TakesWant, TakesNote, TakesLine, taken_up, shows_label, repeated_batch, next_side}
 
 some_parts : (x : ℕ) → 0 < x → 0 < div_ceil x 96
 some_parts x some = omega arith
 
-some_checks : (p : Params) → 0 < checkpoint_cells p
+pub some_checks : (p : Params) → 0 < checkpoint_cells p
 unfolding checkpoint_cells checkpoint_len
 some_checks p = some_parts (checkpoint_len p) (omega arith)
 
@@ -61,7 +61,7 @@ want_determined f Checkpoint ws n g h (inr a) (inr b) = a.then ∙ sym b.then
 
 note_determined : (f : Follow) (hs : List Hole) (ws : List Want) (n : Note) (g h : Follow) → TakesNote f hs ws n g → TakesNote f hs ws n h → g ≡ h
 note_determined f (hole ∷ hs) ws n g h (s, a) (t, b) =
-    let home : ℕ = side_number (home_at f.stands hole.bucket) in
+    let home : ℕ = side_number (f.stands.homes hole.bucket) in
     let same : s ≡ t = slots_apart f.params home hole.bucket s t (same_read _ _ n a.0.is b.0.is) in
     a.1 ∙ ap (λ (slot : ℕ). taken_up (record f { stands = with_slot f.stands hole slot; holes = hs })) same ∙ sym b.1
 note_determined f [] (w ∷ ws) n g h a b = want_determined f w ws n g h a b

@@ -12,14 +12,13 @@ use Rattle.ob_follow.specs.declared.line.Wanted.TheVariants as W
 use Rattle.ob_follow.specs.declared.want.Want.{Want}
 use Rattle.ob_follow.specs.declared.want.Want.TheVariants.{Fixed, Place, Record, Setting, Checkpoint}
 use Rattle.ob_follow.specs.Sides.{side_number}
-use Rattle.ob_follow.specs.Standing.{home_at, label_shown, slot_shown}
 use Rattle.ob_follow.specs.Follow.{Follow, MayShow, MayLabel, TakesWant, TakesNote, Admits, started, opened}
 use Rattle.ob_follow.specs.Names.{Names, IsStop, RefusesLine, wanted_slot, wanted_label, wanted_want, wanted_at, wanted_next}
 
 -- ---- what is taken is named
 
-slot_named : (f : Follow) (h : Hole) (o : Option ℕ) (n : Note) (slot : ℕ) → n ≡ N.Read (slot_cell f.params (side_number (home_at f.stands h.bucket)) h.bucket slot) → MayShow f h o slot → Names f (wanted_slot f h o) (L.Note n)
-slot_named f h (Some x) n slot is may = ap L.Note (is ∙ ap (λ (s : ℕ). N.Read (slot_cell f.params (side_number (home_at f.stands h.bucket)) h.bucket s)) may)
+slot_named : (f : Follow) (h : Hole) (o : Option ℕ) (n : Note) (slot : ℕ) → n ≡ N.Read (slot_cell f.params (side_number (f.stands.homes h.bucket)) h.bucket slot) → MayShow f h o slot → Names f (wanted_slot f h o) (L.Note n)
+slot_named f h (Some x) n slot is may = ap L.Note (is ∙ ap (λ (s : ℕ). N.Read (slot_cell f.params (side_number (f.stands.homes h.bucket)) h.bucket s)) may)
 slot_named f h None n slot is may = (slot, record { within = may.0; fresh = may.1; is = ap L.Note is })
 
 label_named : (f : Follow) (o : Option ℕ) (n : Note) (leaf : ℕ) → n ≡ N.Label leaf → MayLabel f o leaf → Names f (wanted_label o) (L.Note n)
@@ -28,7 +27,7 @@ label_named f None n leaf is may = (leaf, may, ap L.Note is)
 
 want_named : (f : Follow) (w : Want) (ws : List Want) (n : Note) (next : Follow) → TakesWant f w ws n next → Names f (wanted_want f w) (L.Note n)
 want_named f (Fixed note change) ws n next t = ap L.Note t.0
-want_named f (Place b i) ws n next (leaf, t) = label_named f (label_shown f.stands.labels b i) n leaf t.0.is t.0.may
+want_named f (Place b i) ws n next (leaf, t) = label_named f (f.stands.labels b i) n leaf t.0.is t.0.may
 want_named f (Record b) ws n next (inl (leaf, t)) = inl (leaf, t.within, ap L.Note t.is)
 want_named f (Record b) ws n next (inr t) = inr (ap L.Note t.is)
 want_named f (Setting r) ws n next (inl t) = inl (ap L.Note t.is)
@@ -37,7 +36,7 @@ want_named f Checkpoint ws n next (inl t) = inl (ap L.Note t.is)
 want_named f Checkpoint ws n next (inr t) = inr (ap L.Note t.is)
 
 pub note_named : (f : Follow) (hs : List Hole) (ws : List Want) (n : Note) (next : Follow) → TakesNote f hs ws n next → Names f (wanted_at f hs ws) (L.Note n)
-note_named f (h ∷ hs) ws n next (slot, t) = slot_named f h (slot_shown f.stands.slots h) n slot t.0.is t.0.may
+note_named f (h ∷ hs) ws n next (slot, t) = slot_named f h (f.stands.slots h) n slot t.0.is t.0.may
 note_named f [] (w ∷ ws) n next t = want_named f w ws n next t
 note_named f [] [] n next t = t
 
@@ -46,7 +45,7 @@ note_named f [] [] n next t = t
 same_note : (a b : Note) → L.Note a ≡ L.Note b → a ≡ b
 same_note a b e = cc
 
-slot_taken : (f : Follow) (h : Hole) (o : Option ℕ) (n : Note) → Names f (wanted_slot f h o) (L.Note n) → (slot : ℕ) × ((n ≡ N.Read (slot_cell f.params (side_number (home_at f.stands h.bucket)) h.bucket slot)) × MayShow f h o slot)
+slot_taken : (f : Follow) (h : Hole) (o : Option ℕ) (n : Note) → Names f (wanted_slot f h o) (L.Note n) → (slot : ℕ) × ((n ≡ N.Read (slot_cell f.params (side_number (f.stands.homes h.bucket)) h.bucket slot)) × MayShow f h o slot)
 slot_taken f h (Some x) n named = (x, (same_note _ _ named, refl))
 slot_taken f h None n (slot, named) = (slot, (same_note _ _ named.is, (named.within, named.fresh)))
 
@@ -56,7 +55,7 @@ label_taken f None n (leaf, within, named) = (leaf, (same_note _ _ named, within
 
 want_taken : (f : Follow) (w : Want) (ws : List Want) (n : Note) → Names f (wanted_want f w) (L.Note n) → (next : Follow) × TakesWant f w ws n next
 want_taken f (Fixed note change) ws n named = (_, (same_note _ _ named, refl))
-want_taken f (Place b i) ws n named = let t = label_taken f (label_shown f.stands.labels b i) n named in (_, (t.0, (record { is = t.1.0; may = t.1.1 }, refl)))
+want_taken f (Place b i) ws n named = let t = label_taken f (f.stands.labels b i) n named in (_, (t.0, (record { is = t.1.0; may = t.1.1 }, refl)))
 want_taken f (Record b) ws n (inl (leaf, within, named)) = (_, inl (leaf, record { within = within; is = same_note _ _ named; then = refl }))
 want_taken f (Record b) ws n (inr named) = (_, inr (record { is = same_note _ _ named; then = refl }))
 want_taken f (Setting r) ws n (inl named) = (_, inl (record { is = same_note _ _ named; then = refl }))
@@ -65,7 +64,7 @@ want_taken f Checkpoint ws n (inl named) = (_, inl (record { is = same_note _ _ 
 want_taken f Checkpoint ws n (inr named) = (_, inr (record { is = same_note _ _ named; then = refl }))
 
 pub note_taken : (f : Follow) (hs : List Hole) (ws : List Want) (n : Note) → Names f (wanted_at f hs ws) (L.Note n) → (next : Follow) × TakesNote f hs ws n next
-note_taken f (h ∷ hs) ws n named = let t = slot_taken f h (slot_shown f.stands.slots h) n named in (_, (t.0, (record { is = t.1.0; may = t.1.1 }, refl)))
+note_taken f (h ∷ hs) ws n named = let t = slot_taken f h (f.stands.slots h) n named in (_, (t.0, (record { is = t.1.0; may = t.1.1 }, refl)))
 note_taken f [] (w ∷ ws) n named = want_taken f w ws n named
 note_taken f [] [] n named = absurd named
 

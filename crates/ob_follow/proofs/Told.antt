@@ -17,7 +17,7 @@ use Rattle.ob_follow.specs.declared.want.Change.TheVariants.{Keeps, Settles, May
 use Rattle.ob_follow.specs.declared.want.Want.{Want}
 use Rattle.ob_follow.specs.declared.want.Want.TheVariants.{Fixed, Place, Record, Setting, Checkpoint}
 use Rattle.ob_follow.specs.Sides.{side_number, register_region, other}
-use Rattle.ob_follow.specs.Standing.{StandingKnown, home_at, public_known}
+use Rattle.ob_follow.specs.Standing.{StandingKnown, public_known}
 use Rattle.ob_follow.specs.Wants.{kept, sets, record_wants, found_wants, register_wants, writes_anew, end_holes, end_wants}
 use Rattle.ob_follow.specs.Follow.{format_wants}
 use Rattle.ob_follow.specs.Laws.{fixed_notes, IsGateKnown}
@@ -107,8 +107,8 @@ notes_end p s leaves f found known =
     let c : List Note = writes_of (check_cells p (side_number (other s.epoch))) in
     let g : List Note = writes_of (log_gates p (side_number s.epoch)) in
     let t : List Note = set_twin p EpochTwin (side_number (other s.epoch)) is_open in
-    let homes : w ≡ bucket_writes p (λ u. 1 - side_number (home_at s u)) us = ap (λ (home : ℕ → ℕ). bucket_writes p home us) (λ i u. other_home (home_at s u) i) in
+    let homes : w ≡ bucket_writes p (λ u. 1 - side_number (s.homes u)) us = ap (λ (home : ℕ → ℕ). bucket_writes p home us) (λ i u. other_home (s.homes u) i) in
     ap (λ (ns : List Note). h ++ ns) (notes_behind (((w ++ c) ++ g) ++ (Sync ∷ [])) (sets p Epoch (other s.epoch) s.epoch_gate) ∙ ap (λ (ns : List Note). (((w ++ c) ++ g) ++ (Sync ∷ [])) ++ ns) (notes_set p Epoch (other s.epoch) s.epoch_gate is_open known))
     ∙ regroup h w c g (Sync ∷ []) t
     ∙ ap (λ (ns : List Note). ((((h ++ ns) ++ c) ++ g) ++ (Sync ∷ [])) ++ t) homes
-    ∙ by_epoch p (h ++ bucket_writes p (λ u. 1 - side_number (home_at s u)) us) s.epoch is_open
+    ∙ by_epoch p (h ++ bucket_writes p (λ u. 1 - side_number (s.homes u)) us) s.epoch is_open

@@ -19,7 +19,7 @@ use Rattle.ob_follow.specs.declared.want.Change.TheVariants.{Keeps, Formats, Set
 use Rattle.ob_follow.specs.declared.want.Want.{Want}
 use Rattle.ob_follow.specs.declared.want.Want.TheVariants.{Fixed, Place, Record, Setting, Checkpoint}
 use Rattle.ob_follow.specs.Sides.{other, side_number, register_region}
-use Rattle.ob_follow.specs.Standing.{StandingKnown, standing_formatted, home_at, public_known, label_shown, slot_shown, is_used, with_label, with_slot, standing_ended}
+use Rattle.ob_follow.specs.Standing.{StandingKnown, standing_formatted, public_known, with_label, with_slot, standing_ended}
 use Rattle.ob_follow.specs.Wants.{kept, setting, record_wants, places, found_wants, register_wants, end_wants, end_holes}
 
 pub record Follow : Type 0 where
@@ -127,11 +127,11 @@ next_side s Epoch = other s.epoch
 -- what was shown is shown again; else any slot that the version hasn't shown
 abbrev pub MayShow : Follow → Hole → Option ℕ → ℕ → Type 0
 MayShow f h (Some shown) slot = slot ≡ shown
-MayShow f h None slot = (slot < width f.params) × (is_used f.stands h.bucket slot ≡ false)
+MayShow f h None slot = (slot < width f.params) × (f.stands.used h.bucket slot ≡ false)
 
 pub record ShowsSlot (f : Follow) (h : Hole) (note : Note) (slot : ℕ) : Type 0 where
-  pub is : note ≡ Read (slot_cell f.params (side_number (home_at f.stands h.bucket)) h.bucket slot)
-  pub may : MayShow f h (slot_shown f.stands.slots h) slot
+  pub is : note ≡ Read (slot_cell f.params (side_number (f.stands.homes h.bucket)) h.bucket slot)
+  pub may : MayShow f h (f.stands.slots h) slot
 
 abbrev pub TakesSlot : Follow → Hole → List Hole → Note → Follow → ℕ → Type 0
 TakesSlot f h holes note next slot = ShowsSlot f h note slot × (next ≡ taken_up (record f { stands = with_slot f.stands h slot; holes = holes }))
@@ -143,7 +143,7 @@ MayLabel f None leaf = leaf < 2 ^ f.params.levels
 
 pub record ShowsLabel (f : Follow) (batch place : ℕ) (note : Note) (leaf : ℕ) : Type 0 where
   pub is : note ≡ Label leaf
-  pub may : MayLabel f (label_shown f.stands.labels batch place) leaf
+  pub may : MayLabel f (f.stands.labels batch place) leaf
 
 abbrev pub TakesLabel : Follow → ℕ → ℕ → List Want → Note → Follow → ℕ → Type 0
 TakesLabel f batch place wants note next leaf = ShowsLabel f batch place note leaf × (next ≡ taken_up (shows_label (record f { wants = wants }) batch place leaf))

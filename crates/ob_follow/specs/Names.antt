@@ -12,7 +12,6 @@ use Rattle.ob_follow.specs.declared.line.Wanted.TheVariants as W
 use Rattle.ob_follow.specs.declared.want.Want.{Want}
 use Rattle.ob_follow.specs.declared.want.Want.TheVariants.{Fixed, Place, Record, Setting, Checkpoint}
 use Rattle.ob_follow.specs.Sides.{other, side_number, register_region}
-use Rattle.ob_follow.specs.Standing.{home_at, is_used, label_shown, slot_shown}
 use Rattle.ob_follow.specs.Follow.{Follow, next_side, Admits}
 
 abbrev pub NamesLabel : Follow → Line → Type 0
@@ -20,8 +19,8 @@ NamesLabel f line = (leaf : ℕ) × (leaf < 2 ^ f.params.levels) × (line ≡ L.
 
 pub record NamesSlot (f : Follow) (bucket : ℕ) (line : Line) (slot : ℕ) : Type 0 where
   pub within : slot < width f.params
-  pub fresh : is_used f.stands bucket slot ≡ false
-  pub is : line ≡ L.Note (N.Read (slot_cell f.params (side_number (home_at f.stands bucket)) bucket slot))
+  pub fresh : f.stands.used bucket slot ≡ false
+  pub is : line ≡ L.Note (N.Read (slot_cell f.params (side_number (f.stands.homes bucket)) bucket slot))
 
 -- the lines that are named
 abbrev pub Names : Follow → Wanted → Line → Type 0
@@ -49,7 +48,7 @@ pub record RefusesLine (f : Follow) (line : Line) (wanted : Wanted) : Type 0 whe
 -- ---- what is said
 
 abbrev pub wanted_slot : Follow → Hole → Option ℕ → Wanted
-wanted_slot f h (Some slot) = W.Line (N.Read (slot_cell f.params (side_number (home_at f.stands h.bucket)) h.bucket slot))
+wanted_slot f h (Some slot) = W.Line (N.Read (slot_cell f.params (side_number (f.stands.homes h.bucket)) h.bucket slot))
 wanted_slot f h None = W.Slot h.bucket
 
 abbrev pub wanted_label : Option ℕ → Wanted
@@ -58,13 +57,13 @@ wanted_label None = W.Label
 
 abbrev pub wanted_want : Follow → Want → Wanted
 wanted_want f (Fixed note change) = W.Line note
-wanted_want f (Place batch place) = wanted_label (label_shown f.stands.labels batch place)
+wanted_want f (Place batch place) = wanted_label (f.stands.labels batch place)
 wanted_want f (Record batch) = W.LabelOr (log_cell f.params (side_number (other f.stands.epoch)) batch 0)
 wanted_want f (Setting r) = W.EitherWrite (gate_cell f.params (register_region r) (side_number (next_side f.stands r))) (body_cell f.params (register_region r) (side_number (next_side f.stands r)))
 wanted_want f Checkpoint = W.Either (check_cell f.params (side_number f.stands.epoch) 0) (check_cell f.params (side_number (other f.stands.epoch)) 0)
 
 abbrev pub wanted_at : Follow → List Hole → List Want → Wanted
-wanted_at f (h ∷ holes) wants = wanted_slot f h (slot_shown f.stands.slots h)
+wanted_at f (h ∷ holes) wants = wanted_slot f h (f.stands.slots h)
 wanted_at f [] (want ∷ wants) = wanted_want f want
 wanted_at f [] [] = W.Start
 

@@ -18,7 +18,7 @@ use Rattle.ob_follow.specs.declared.want.Change.TheVariants.{Keeps, Settles, Dou
 use Rattle.ob_follow.specs.declared.want.Want.{Want}
 use Rattle.ob_follow.specs.declared.want.Want.TheVariants.{Fixed, Place, Setting}
 use Rattle.ob_follow.specs.Sides.{other, side_number, register_region}
-use Rattle.ob_follow.specs.Standing.{StandingKnown, home_at, public_known}
+use Rattle.ob_follow.specs.Standing.{StandingKnown, public_known}
 
 abbrev pub kept : List Note → List Want
 kept notes = map (λ note. Fixed note Keeps) notes
@@ -64,7 +64,7 @@ register_wants p = kept (head_notes ++ reads_of (region_cells p GenerationTwin +
 
 -- the lifted ones of these buckets are written in their other home
 abbrev pub writes_anew : Params → StandingKnown → List ℕ → List ℕ → List Note
-writes_anew p s leaves us = bucket_writes p (λ u. side_number (other (home_at s u))) (filter (is_lifted_by_end p (public_known p s leaves)) us)
+writes_anew p s leaves us = bucket_writes p (λ u. side_number (other (s.homes u))) (filter (is_lifted_by_end p (public_known p s leaves)) us)
 
 -- what an end writes behind its lifts
 abbrev pub end_wants : Params → StandingKnown → List ℕ → List Want

@@ -8,4 +8,4 @@ mod want;
 
 pub use laws::{line_determines, notes_are_scheduled, wanted_is_exact};
 pub use line::{Line, Wanted};
-pub use want::{Change, Gate, Register, SeenLabel, SeenSlot, Side, Spot, Want};
+pub use want::{Change, Gate, Register, Side, Want};

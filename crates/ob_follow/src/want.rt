@@ -87,26 +87,3 @@ pub enum Want {
     /// The first cell of the checkpoint of one of two epochs.
     Checkpoint,
 }
-
-/// A slot of a bucket that its version has shown before the epoch.
-#[derive(Clone, Copy, Debug, PartialEq, Eq)]
-pub struct Spot {
-    pub bucket: u32,
-    pub slot: u8,
-}
-
-/// What a place of a batch has shown in this epoch.
-#[derive(Clone, Copy, Debug, PartialEq, Eq)]
-pub struct SeenLabel {
-    pub batch: u32,
-    pub place: u32,
-    pub leaf: u16,
-}
-
-/// What the n-th read of a bucket's version has shown in this epoch.
-#[derive(Clone, Copy, Debug, PartialEq, Eq)]
-pub struct SeenSlot {
-    pub bucket: u32,
-    pub number: u64,
-    pub slot: u8,
-}

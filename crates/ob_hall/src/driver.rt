@@ -15,6 +15,10 @@ use ob_session::Made;
 use std::snapshot::Snapshot;
 use std::sync::Wait;
 use std::sync::atomic::Ordering::SeqCst;
+use std::time::Duration;
+
+// The driver looks again after at most so many milliseconds.
+const REST: u64 = 10;
 
 impl Hall {
     /// Waits for the pass's turn, and takes the desk out. The pass has then seen the whole history,
@@ -86,6 +90,16 @@ impl Hall {
         ensures own { IsPassOf self.now pass.new }
     {
         self.bell.raise(&mut pass.ear, epoch)
+    }
+
+    /// How often a client whose call waits, or that is done, has asked for the driver.
+    pub fn asked(&self) -> u64 {
+        self.asks.load(SeqCst)
+    }
+
+    /// The driver sleeps until a client asks that hadn't yet when it read `asked`, or a while.
+    pub fn rest<R: Wait>(&self, rt: &R, asked: u64) {
+        self.asks.park_timeout(rt, (asked % (1 << 32)) as u32, Duration::from_millis(REST));
     }
 
     /// Wakes the callers that sleep until there is news. The driver calls it where a call that

@@ -5,7 +5,7 @@ ghost use Rattle.ob_session.specs.Clients.{stands_after};
 ghost use Rattle.ob_session.specs.declared.runner.Step.TheVariants as steps;
 ghost use Rattle.ob_hall.specs.Passes.{opening_of, said_of};
 ghost use Rattle.ob_hall.specs.Calling.{IsReady, TellsCalls};
-ghost use Rattle.ob_hall.specs.Driving.{TurnSays, DriveSays};
+ghost use Rattle.ob_hall.specs.Driving.{TurnSays, DriveSays, MakesStep, MakesSteps};
 
 use crate::hall::{Hall, Pass};
 use ob_session::{Runner, Step};
@@ -20,6 +20,7 @@ pub fn take_turn<R: Wait, U: Runner>(rt: &R, hall: &Hall, pass: &mut Pass, runne
     requires fits { U.fits runner.old (said_of pass.old) }
     ensures one_history { TellsCalls hall.now pass.old pass.new
         (TurnSays pass.old.client (said_of pass.old)) }
+    ensures turn { MakesStep (U.turn (U.plan runner.old)) pass.old pass.new }
     ensures fits { U.fits runner.new (said_of pass.new) }
     ensures step { result ≡ stands_after (said_of pass.new) }
     ensures client { U.client runner.new ≡ U.client runner.old }
@@ -41,6 +42,7 @@ pub fn drive<R: Wait, U: Runner>(rt: &R, hall: &Hall, pass: &mut Pass, runner: &
     requires bound { U.bound runner.old ≤ (opening_of hall.now).setup.params.keys }
     requires fits { U.fits runner.old (said_of pass.old) }
     ensures one_history { TellsCalls hall.now pass.old pass.new (DriveSays pass.old.client) }
+    ensures turns { MakesSteps (U.turn (U.plan runner.old)) pass.old pass.new }
     ensures fits { U.fits runner.new (said_of pass.new) }
     ensures signed_off { stands_after (said_of pass.new) ≡ steps.Done }
     ensures client { U.client runner.new ≡ U.client runner.old }
@@ -52,7 +54,10 @@ pub fn drive<R: Wait, U: Runner>(rt: &R, hall: &Hall, pass: &mut Pass, runner: &
     let mut step = take_turn(rt, hall, pass, runner);
     for _ in rt.forever() {
         match step {
-            Step::Done => return,
+            Step::Done => {
+                hall.ask_driver();
+                return;
+            }
             Step::Waits => hall.nap(rt, seen),
             Step::Ran => {}
         }

@@ -1,5 +1,7 @@
 //! A hall and its passes.
 
+ghost use Rattle.std.specs.Prelude.{◌≡◌};
+
 use crate::turned::Turned;
 use ob_desk::{Desk, Txn};
 use ob_turn::{Bell, BellSeat, Turn, TurnSeat};
@@ -34,3 +36,12 @@ pub struct Held<A, B> {
 
 /// A caller's right to call at a hall. The driver's has number 0, a client's has its number.
 pub type Pass = Held<TurnSeat<Desk, Turned>, BellSeat>;
+
+impl<A, B> Held<A, B> {
+    /// Its client's number, 0 of the driver's.
+    pub fn number(&self) -> u32
+        ensures { result ≡ self.now.client }
+    {
+        self.client
+    }
+}

@@ -91,10 +91,15 @@ impl Hall {
         outcome
     }
 
-    // Sleeps until the driver has news that weren't there yet when it was last asked, or a while.
-    pub(crate) fn nap<R: Wait>(&self, rt: &R, seen: u64) {
+    // Wakes the driver, where it sleeps: a call waits, or a client is done.
+    pub(crate) fn ask_driver(&self) {
         self.asks.fetch_add(1, SeqCst);
         self.asks.wake_all();
+    }
+
+    // Sleeps until the driver has news that weren't there yet when it was last asked, or a while.
+    pub(crate) fn nap<R: Wait>(&self, rt: &R, seen: u64) {
+        self.ask_driver();
         self.news
             .park_timeout(rt, (seen % (1 << 32)) as u32, Duration::from_millis(NAP));
     }

@@ -3,6 +3,7 @@ use Rattle.std.specs.Prelude.{◌≡◌, ◌<◌, ◌+◌, ℕ, false, Option, S
 use Rattle.std.proofs.Common.{sym, ap, ◌∙◌, subst, inl, inr, arith}
 use Rattle.std.proofs.lemmas.Bool.{cases_lt}
 use Rattle.ob_base.specs.Tree.{width}
+use Rattle.ob_base.proofs.Bounds.{width_le}
 use Rattle.ob_base.specs.Layout.{slot_cell}
 use Rattle.ob_store.specs.declared.watch.Note.{Note}
 use Rattle.ob_store.specs.declared.watch.Note.TheVariants as N
@@ -11,10 +12,9 @@ use Rattle.ob_follow.specs.declared.line.Line.{Line}
 use Rattle.ob_follow.specs.declared.line.Line.TheVariants as L
 use Rattle.ob_follow.specs.declared.line.Wanted.{Wanted}
 use Rattle.ob_follow.specs.Sides.{side_number}
-use Rattle.ob_follow.specs.Standing.{home_at, slot_shown}
 use Rattle.ob_follow.specs.Follow.{Follow, Admits, MayShow, ShowsSlot}
 use Rattle.ob_follow.specs.Names.{RefusesLine, wanted_next}
-use Rattle.ob_follow.proofs.Exact.{exact}
+use Rattle.ob_follow.proofs.Exact.{refuses}
 use Rattle.ob_plain_follow.specs.Plain.{Took}
 
 -- what isn't so of the numbers below n, nor of n, isn't so of one below n + 1
@@ -30,14 +30,17 @@ none_some x e = cc
 same_cell : (a b : ℕ) → N.Read a ≡ N.Read b → a ≡ b
 same_cell a b e = cc
 
-pub not_in : (f : Follow) (h : Hole) (cell : ℕ) → slot_shown f.stands.slots h ≡ None → ((slot : ℕ) → slot < width f.params → cell ≡ slot_cell f.params (side_number (home_at f.stands h.bucket)) h.bucket slot → ⊥)
+pub not_in : (f : Follow) (h : Hole) (cell : ℕ) → f.stands.slots h ≡ None → ((slot : ℕ) → slot < width f.params → cell ≡ slot_cell f.params (side_number (f.stands.homes h.bucket)) h.bucket slot → ⊥)
     → (slot : ℕ) → ShowsSlot f h (N.Read cell) slot → ⊥
 not_in f h cell none never slot shown =
     let may : MayShow f h None slot = subst (λ (o : Option ℕ). MayShow f h o slot) none shown.may in
-    never slot may.0 (same_cell cell (slot_cell f.params (side_number (home_at f.stands h.bucket)) h.bucket slot) shown.is)
+    never slot may.0 (same_cell cell (slot_cell f.params (side_number (f.stands.homes h.bucket)) h.bucket slot) shown.is)
 
-refuses : (f : Follow) (line : Line) (wanted : Wanted) → (Admits f line → ⊥) → wanted ≡ wanted_next f → RefusesLine f line wanted
-refuses f line wanted never is = subst (λ (w : Wanted). RefusesLine f line w) (sym is) (record { never = never; exact = exact f })
+-- a slot that a read shows for the first time is one of the bucket's
+pub few_slots : (f : Follow) (h : Hole) (note : Note) (slot : ℕ) → ShowsSlot f h note slot → f.stands.slots h ≡ None → slot < 64
+few_slots f h note slot shown none =
+    let may : MayShow f h None slot = subst (λ (o : Option ℕ). MayShow f h o slot) none shown.may in
+    omega (arith, may.0, width_le f.params)
 
 pub refuses_bad : (f : Follow) (wanted : Wanted) → wanted ≡ wanted_next f → RefusesLine f L.Bad wanted
 refuses_bad f wanted is = refuses f L.Bad wanted (λ a. a.1) is

@@ -8,28 +8,25 @@ ghost use Rattle.ob_follow.specs.declared.want.Want.TheVariants.{Fixed, Place, R
 ghost use Rattle.ob_follow.specs.Sides.{side_number, other};
 ghost use Rattle.ob_follow.specs.declared.want.Change.TheVariants.{Settles, EndsEpoch};
 ghost use Rattle.ob_store.specs.declared.watch.Note.TheVariants.{Label};
-ghost use Rattle.ob_follow.specs.Standing.{home_at, slot_shown, with_slot};
-ghost use Rattle.ob_plain_follow.specs.Visits.{hole_of_visit};
-ghost use Rattle.ob_plain_follow.specs.Shown.{standing_of};
+ghost use Rattle.ob_follow.specs.Standing.{with_slot};
+ghost use Rattle.ob_plain_wants.specs.Visits.{hole_of_visit};
+ghost use Rattle.ob_plain_wants.specs.Shown.{standing_of};
 ghost use Rattle.ob_follow.specs.Wants.{places, record_wants, setting, found_wants};
 ghost use Rattle.ob_follow.specs.Follow.{Follow, TakesLine, started, opened, taken_up, next_step, changed, shows_label, repeated_batch, newer_or_same, next_side, opened_wants};
 ghost use Rattle.ob_follow.specs.Names.{RefusesLine, wanted_next, wanted_slot, wanted_want};
 
-use crate::notes::{body_of, check_at, format_but_last, record_at, register_reads};
-use crate::standing::{StandingPlain, cell_at, shown_label, shown_slot};
-use crate::visit::Visit;
-use crate::wants::{
-    end_wants, final_visits, found_wants, kept_all, place_visits, places, push_wants, record_wants,
-    set_wants,
-};
 use ob_base::Params;
 use ob_follow::{Change, Gate, Line, Register, Side, Want, Wanted};
+use ob_plain_wants::{
+    StandingPlain, Visit, body_of, cell_at, check_at, end_wants, final_visits, format_wants,
+    found_wants, place_visits, places, push_wants, record_at, record_wants, register_wants,
+    set_wants, shown_label,
+};
 use ob_store::Note;
 use std::alloc::{AllocError, Global};
 use std::collections::VecDeque;
 
-/// What is known behind some lines of a trace, in lists. Its memory grows with what an epoch shows
-/// and with the store, not with the trace.
+/// What is known behind some lines of a trace. Its memory grows with the store, not with the trace.
 #[derive(Debug, Drop)]
 pub struct FollowPlain {
     /// The store's.
@@ -61,21 +58,6 @@ fn first_check(p: &Params, side: Side) -> u64
     check_at(p, side, 0)
 }
 
-// A format's notes, each with what it changes.
-#[tactic(auto, using(crate::proofs::Formats::wants_made))]
-fn format_wants(alloc: Global, p: &Params) -> Result<VecDeque<Want>, AllocError>
-    ensures { IfOk result (λ wants. wants.items ≡ (started p.now).wants) }
-{
-    let mut wants = VecDeque::new(alloc);
-    let notes = format_but_last(alloc, p)?;
-    push_wants(&kept_all(alloc, &notes)?, &mut wants)?;
-    wants.push_back(Want::Fixed {
-        note: Note::Sync,
-        change: Change::Formats,
-    })?;
-    Ok(wants)
-}
-
 impl FollowPlain {
     ghost use Rattle.ob_plain_follow.specs.Plain.{follow_of, Took, TookWant, SlotTaken, LabelTaken};
 
@@ -100,9 +82,9 @@ impl FollowPlain {
     fn wanted_visit(&self, visit: Visit) -> Wanted
         ensures { result
             ≡ wanted_slot (follow_of self.now) (hole_of_visit visit)
-            (slot_shown self.now.stands.slots.items (hole_of_visit visit)) }
+            ((standing_of self.now.stands).slots (hole_of_visit visit)) }
     {
-        match shown_slot(&self.stands.slots, visit) {
+        match self.stands.shown_slot(visit) {
             Some(slot) => Wanted::Line(Note::Read(cell_at(
                 &self.params,
                 self.stands.home(visit.bucket),
@@ -163,7 +145,7 @@ impl FollowPlain {
     }
 
     // What an opening shows, into an empty list.
-    #[tactic(auto, using(crate::proofs::Formats::heads_read))]
+    #[tactic(auto, using(ob_plain_wants::proofs::Formats::heads_read))]
     fn push_opening(&mut self, alloc: Global) -> Result<(), AllocError>
         ensures { OnOk result ((follow_of self.old).wants ≡ []
             → follow_of self.new
@@ -172,8 +154,7 @@ impl FollowPlain {
                   (standing_of self.old.stands) (follow_of self.old).newer;
             }) }
     {
-        let notes = register_reads(alloc)?;
-        push_wants(&kept_all(alloc, &notes)?, &mut self.wants)?;
+        push_wants(&register_wants(alloc)?, &mut self.wants)?;
         match self.newer {
             None => {
                 let found = found_wants(alloc, &self.params, &self.stands)?;
@@ -209,10 +190,10 @@ impl FollowPlain {
     fn slot_in(&self, bucket: u32, cell: u64) -> Option<u8>
         ensures found { IfSome result (λ slot. (slot < width self.now.params)
             × (cell ≡ slot_cell self.now.params
-            (side_number (home_at (standing_of self.now.stands) bucket)) bucket slot)) }
+            (side_number ((standing_of self.now.stands).homes bucket)) bucket slot)) }
         ensures only { (slot : ℕ) → slot < width self.now.params
             → cell ≡ slot_cell self.now.params
-            (side_number (home_at (standing_of self.now.stands) bucket)) bucket slot
+            (side_number ((standing_of self.now.stands).homes bucket)) bucket slot
             → result ≡ Some slot }
     {
         let home = self.stands.home(bucket);
@@ -226,6 +207,7 @@ impl FollowPlain {
 
     // Takes a read that shows a slot.
     fn take_slot(&mut self, visit: Visit, slot: u8) -> Result<(), AllocError>
+        requires { (standing_of self.old.stands).slots (hole_of_visit visit) ≡ None → slot < 64 }
         ensures { OnOk result (follow_of self.new
             ≡ record (follow_of self.old) {
               stands = with_slot (standing_of self.old.stands)
@@ -240,7 +222,7 @@ impl FollowPlain {
 
     // The slot of a read that was shown before, if the cell holds it.
     fn slot_again(&self, visit: Visit, shown: u8, cell: u64) -> Option<u8>
-        ensures { slot_shown self.now.stands.slots.items (hole_of_visit visit) ≡ Some shown
+        ensures { (standing_of self.now.stands).slots (hole_of_visit visit) ≡ Some shown
             → SlotTaken (follow_of self.now) (hole_of_visit visit) (Note.Read cell) result }
     {
         let home = self.stands.home(visit.bucket);
@@ -254,7 +236,7 @@ impl FollowPlain {
     // The slot that the cell holds, if the bucket's version hasn't shown it.
     #[tactic(auto, using(crate::proofs::Slots::not_in))]
     fn slot_fresh(&self, visit: Visit, cell: u64) -> Option<u8>
-        ensures { slot_shown self.now.stands.slots.items (hole_of_visit visit) ≡ None
+        ensures { (standing_of self.now.stands).slots (hole_of_visit visit) ≡ None
             → SlotTaken (follow_of self.now) (hole_of_visit visit) (Note.Read cell) result }
     {
         match self.slot_in(visit.bucket, cell) {
@@ -276,7 +258,7 @@ impl FollowPlain {
         let Note::Read(cell) = note else {
             return None;
         };
-        match shown_slot(&self.stands.slots, visit) {
+        match self.stands.shown_slot(visit) {
             Some(shown) => self.slot_again(visit, shown, cell),
             None => self.slot_fresh(visit, cell),
         }
@@ -391,6 +373,7 @@ impl FollowPlain {
         Ok(())
     }
 
+    #[tactic(auto, using(crate::proofs::Slots::few_slots))]
     fn take_visit(&mut self, visit: Visit, note: Note) -> Result<bool, AllocError>
         ensures { IfOk result (λ took. (holes : List Hole)
             → (follow_of self.old).holes ≡ hole_of_visit visit ∷ holes

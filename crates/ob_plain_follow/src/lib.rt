@@ -1,15 +1,11 @@
-//! What may stand next in a trace, by a plain program in lists. Its memory grows with what an epoch
-//! shows and with the store, not with the trace.
+//! What may stand next in a trace, by a plain program. Its memory grows with the store, not with the
+//! trace: what an epoch shows lies in rows by bucket.
 #![tactic(auto)]
 
-mod evicted;
 mod follow;
-mod notes;
-mod standing;
-mod tree;
-mod visit;
-mod wants;
 
 pub use follow::FollowPlain;
-pub use standing::StandingPlain;
-pub use visit::Visit;
+pub use ob_plain_wants::{StandingPlain, Visit};
+
+#[cfg(test)]
+mod tests;

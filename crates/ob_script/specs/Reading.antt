@@ -3,6 +3,7 @@ use Rattle.std.specs.Prelude.{ℕ, ◌^◌, Bool, false, ◌&&◌, ◌||◌, not
 use Rattle.std.specs.List.{list_all}
 use Rattle.std.specs.Str.{bytes_eq, all_ascii_digits}
 use Rattle.std.specs.Str.Parse.{digits_value}
+use Rattle.ob_base.specs.Clients.{most_clients}
 use Rattle.ob_script.specs.declared.line.Ask.{Ask}
 use Rattle.ob_script.specs.declared.line.Ask.TheVariants.{Get, Put, Del, Add}
 use Rattle.ob_script.specs.declared.line.Ending.TheVariants.{Commit, Abort}
@@ -25,7 +26,7 @@ abbrev pub numeral_value : List ℕ → Option ℕ
 numeral_value bytes = if is_numeral bytes && nat_lt (digits_value 10 bytes) (2 ^ 32) then Some (digits_value 10 bytes) else None
 
 abbrev pub client_numeral : List ℕ → Option Line
-client_numeral bytes = option_and_then (λ client. if nat_le 1 client && nat_le client 64 then Some (Client client) else None) (numeral_value bytes)
+client_numeral bytes = option_and_then (λ client. if nat_le 1 client && nat_le client most_clients then Some (Client client) else None) (numeral_value bytes)
 
 abbrev pub key_numeral : ℕ → List ℕ → Option ℕ
 key_numeral n bytes = option_and_then (λ key. if nat_lt key n then Some key else None) (numeral_value bytes)

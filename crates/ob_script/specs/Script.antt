@@ -4,6 +4,7 @@ use Rattle.std.specs.List.{slice_split, list_all}
 use Rattle.std.specs.Int.{w64}
 use Rattle.std.specs.List.Sorted.{IsStrictlyIncreasing}
 use Rattle.std.specs.Fmt.{decimal, signed_decimal}
+use Rattle.ob_base.specs.Clients.{IsClientNumber}
 use Rattle.ob_script.specs.declared.line.Ask.{Ask}
 use Rattle.ob_script.specs.declared.line.Ask.TheVariants.{Get, Put, Del, Add}
 use Rattle.ob_script.specs.declared.line.Ending.{Ending}
@@ -55,7 +56,7 @@ IsAskInRange n (Add key amount) = (key < n) × FitsSigned w64 amount
 
 -- those of a line are
 abbrev pub IsInRange : ℕ → Line → Type 0
-IsInRange n (Client client) = (1 ≤ client) × (client ≤ 64)
+IsInRange n (Client client) = IsClientNumber client
 IsInRange n (Asks ask) = IsAskInRange n ask
 IsInRange n _ = Unit {0}
 
@@ -179,7 +180,7 @@ AreOpsBelow n txns = All (λ t. All (λ ask. key_of ask < n) t.asks) txns
 -- A script's keys are below its bound. Its clients are from 1 to 64 and rise, and each transaction is of one of them.
 pub record AreSound (scripts : Scripts) : Type 0 where
   pub below : AreOpsBelow scripts.keys scripts.txns
-  pub named : All (λ c. (1 ≤ c) × (c ≤ 64)) scripts.clients
+  pub named : All IsClientNumber scripts.clients
   pub rising : IsStrictlyIncreasing scripts.clients
   pub owned : All (λ t. Contains scripts.clients t.client) scripts.txns
 

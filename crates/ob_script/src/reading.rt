@@ -10,7 +10,7 @@ ghost use Rattle.ob_script.specs.Reading.{cut, is_numeral, numeral_value, client
 
 use crate::integers::integer_of;
 use crate::line::{Ask, Ending, Line};
-use ob_base::{Key, Value};
+use ob_base::{Key, MOST_CLIENTS, Value};
 
 // What stands before the first such byte, and what behind it.
 pub fn cut(bytes: &[u8], at: u8) -> Option<(&[u8], &[u8])>
@@ -74,7 +74,7 @@ fn client_at(bytes: &[u8]) -> Option<Line>
     ensures { result ≡ client_numeral bytes.now }
 {
     let client = number_at(bytes)?;
-    if 1 <= client && client <= 64 {
+    if 1 <= client && client <= MOST_CLIENTS {
         Some(Line::Client { client })
     } else {
         None

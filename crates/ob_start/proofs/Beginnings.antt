@@ -1,15 +1,14 @@
 -- How a generation is begun.
-use Rattle.std.proofs.Common.{◌≡◌, ℕ, suc, ◌+◌, ◌^◌, ◌<◌, List, [], ◌∷◌, ◌++◌, Option, Result, refl, ◌∙◌, subst, add-one}
+use Rattle.std.proofs.Common.{◌≡◌, ℕ, suc, ◌+◌, ◌^◌, ◌<◌, List, [], ◌∷◌, Option, Result, refl, ◌∙◌, subst, add-one}
 use Rattle.ob_store.specs.declared.event.Event.{Event}
-use Rattle.ob_store.specs.declared.watch.Note.{Note}
 use Rattle.ob_store.specs.declared.watch.Note.TheVariants.{Sync}
 use Rattle.ob_store.specs.Disk.{Disk, Image, NotAfter}
 use Rattle.ob_store.specs.Images.{Same, Shrinks, Elapses, Passes, IsSynced, LeavesOnly}
 use Rattle.ob_store.specs.Calls.{Keeps}
 use Rattle.ob_store.specs.Lines.{Trace}
-use Rattle.ob_store.specs.Told.{Tells, TellsFirst, Does}
+use Rattle.ob_store.specs.Told.{Tells, Does}
 use Rattle.ob_store.proofs.Moments.{passed_none, passed_still}
-use Rattle.ob_store.proofs.Doing.{cut_sync, cut_more, does_then}
+use Rattle.ob_store.proofs.Doing.{does_then}
 use Rattle.ob_seal.specs.declared.keys.Keys.{Keys}
 use Rattle.ob_twin.specs.declared.gates.Open.{Open}
 use Rattle.ob_twin.specs.declared.set_err.SetErr.{SetErr}

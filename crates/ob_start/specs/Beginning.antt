@@ -8,6 +8,9 @@ use Rattle.ob_store.specs.Calls.{Keeps}
 use Rattle.ob_seal.specs.declared.keys.Keys.{Keys}
 use Rattle.ob_twin.specs.Keyed.{tagging}
 use Rattle.ob_twin.specs.Register.{StandsAt, OldOrNew}
+use Rattle.ob_twin.specs.Opening.{gates_set}
+use Rattle.ob_twin.specs.declared.gates.Gates.{Gates}
+use Rattle.ob_twin.specs.declared.twin.Twin.TheVariants.{GENERATION}
 
 -- its refusals
 abbrev pub IsBeginFault : ℕ → Fault → Type 0
@@ -18,6 +21,11 @@ IsBeginFault generation _ = ⊥
 abbrev pub IsWornFault : Fault → Type 0
 IsWornFault (fault.Worn number) = Unit {0}
 IsWornFault _ = ⊥
+
+-- once the next generation has begun, its gate is known to be open; refused, the gates are known as before
+abbrev pub gates_begun : ℕ → Gates → Result ℕ Fault → Gates
+gates_begun generation gates (Ok next) = gates_set GENERATION (suc generation) gates (Ok tt)
+gates_begun generation gates (Err refused) = gates
 
 -- Its sync succeeded, and the store was this one then: no write waited. Until then a crash leaves what it might have left before; from
 -- then on, where the register stood, the old generation or the new one.

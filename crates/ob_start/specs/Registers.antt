@@ -11,7 +11,7 @@ use Rattle.ob_twin.specs.declared.gates.Open.{Open}
 use Rattle.ob_twin.specs.Keyed.{tagging}
 use Rattle.ob_twin.specs.Register.{first_of}
 use Rattle.ob_twin.specs.Reading.{NoneOpen, AllWhole, Counts, IsFirstTwinDamage}
-use Rattle.ob_twin.specs.Opening.{with_known, GatesAre}
+use Rattle.ob_twin.specs.Opening.{with_known, GatesAre, HasOpen}
 use Rattle.ob_start.specs.declared.registers.Register.{Register}
 use Rattle.ob_start.specs.declared.registers.Register.TheVariants.{Closed, Number, Broken}
 use Rattle.ob_start.specs.declared.registers.Numbers.{Numbers}
@@ -34,6 +34,12 @@ abbrev pub IsRegister : Keys → ℕ → Image → Register → Type 0
 IsRegister keys first image Closed = NoneOpen first image
 IsRegister keys first image (Number n) = AllWhole (tagging keys) first image × Counts first image n
 IsRegister keys first image (Broken damaged) = IsFirstTwinDamage (tagging keys) first image damaged
+
+-- it has a number
+abbrev pub IsNumber : Register → Type 0
+IsNumber Closed = ⊥
+IsNumber (Number n) = Unit {0}
+IsNumber (Broken damaged) = ⊥
 
 -- its number is small
 abbrev pub IsBelow : Register → Type 0
@@ -60,3 +66,7 @@ pub record KnowsGates (twin : Twin) (old new : Gates) (image : Image) : Type 0 w
   pub known : Open
   pub kept : new ≡ with_known twin old known
   pub are : GatesAre known (first_of twin) image
+
+-- each register has a gate that is known to be open
+abbrev pub HaveOpen : Gates → Type 0
+HaveOpen gates = HasOpen gates.generation × HasOpen gates.epoch

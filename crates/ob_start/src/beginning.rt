@@ -8,7 +8,7 @@ ghost use Rattle.ob_twin.specs.Keyed.{tagging};
 ghost use Rattle.ob_twin.specs.Register.{StandsAt, KeepsAt, SameOutside};
 ghost use Rattle.ob_twin.specs.Opening.{GatesAre};
 ghost use Rattle.ob_start.specs.Orders.{begin_notes};
-ghost use Rattle.ob_start.specs.Beginning.{IsBeginFault, IsWornFault, BeginLeaves};
+ghost use Rattle.ob_start.specs.Beginning.{IsBeginFault, IsWornFault, BeginLeaves, gates_begun};
 
 use ob_base::{Failed, Fault, NUMBER_LIMIT};
 use ob_seal::Sealer;
@@ -38,6 +38,7 @@ pub fn begin<S: Store, W: Watch>(
         × (watch.new ≡ watch.old)) }
     ensures next { IfOk result (λ next. (next ≡ suc generation) × (next < 2 ^ 62)) }
     ensures epoch { gates.new.epoch ≡ gates.old.epoch }
+    ensures gates { gates.new ≡ gates_begun generation gates.old result }
     ensures known { (S.disk store.old).tells
         → OnOk result (GatesAre gates.new.generation 1 (S.disk store.new).cells) }
     ensures rest { (S.disk store.old).tells

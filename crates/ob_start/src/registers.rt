@@ -8,11 +8,11 @@ ghost use Rattle.ob_store.specs.Calls.{Serves, IsStoreFault, Keeps};
 ghost use Rattle.ob_store.specs.Told.{Does};
 ghost use Rattle.ob_seal.specs.declared.keys.Keys.{Keys};
 ghost use Rattle.ob_twin.specs.Register.{first_of};
-ghost use Rattle.ob_twin.specs.Opening.{known_of, with_known, GatesAre};
+ghost use Rattle.ob_twin.specs.Opening.{known_of, with_known, GatesAre, HasOpen};
 ghost use Rattle.ob_twin.specs.Orders.{get_notes};
 ghost use Rattle.ob_twin.specs.Got.{DoesReads};
 ghost use Rattle.ob_start.specs.Orders.{registers_notes};
-ghost use Rattle.ob_start.specs.Registers.{IsRegister, IsBelow, AreRegisters, IsRegistersFault, KnowsGates};
+ghost use Rattle.ob_start.specs.Registers.{IsRegister, IsNumber, IsBelow, AreRegisters, IsRegistersFault, KnowsGates, HaveOpen};
 
 use ob_base::{Damaged, Fault};
 use ob_seal::Sealer;
@@ -51,6 +51,8 @@ fn read_register<S: Store, W: Watch>(
     ensures below { IfOk result IsBelow }
     ensures gates { (S.disk store.old).tells
         → OnOk result (KnowsGates twin gates.old gates.new (S.disk store.old).cells) }
+    ensures some { IfOk result (λ register. IsNumber register → HasOpen (known_of twin gates.new)) }
+    ensures other { gates.new ≡ with_known twin gates.old (known_of twin gates.new) }
     ensures keeps { Keeps (S.disk store.old) (S.disk store.new) }
     ensures passes { Passes Same (S.disk store.old) (S.disk store.new) }
     ensures does { Does (get_notes (first_of twin)) (S.disk store.old).seen (S.disk store.new).seen
@@ -82,6 +84,7 @@ fn judge(generation: Register, epoch: Register) -> Result<Numbers, Fault>
         → IsRegister keys 5 image epoch → AreRegisters keys image result }
     ensures faults { IfErr result IsRegistersFault }
     ensures own { IfErr result (λ refused. IsStoreFault refused → ⊥) }
+    ensures numbers { IfOk result (λ numbers. IsNumber generation × IsNumber epoch) }
     ensures below { IsBelow generation → IsBelow epoch
         → IfOk result (λ numbers. (numbers.generation < 2 ^ 62) × (numbers.epoch < 2 ^ 62)) }
 {
@@ -121,6 +124,8 @@ pub fn read_registers<S: Store, W: Watch>(
         → OnOk result (GatesAre gates.new.generation 1 (S.disk store.old).cells) }
     ensures epoch { (S.disk store.old).tells
         → OnOk result (GatesAre gates.new.epoch 5 (S.disk store.old).cells) }
+    // Whatever the store tells, each register has a gate that is known to be open.
+    ensures some { OnOk result (HaveOpen gates.new) }
     ensures keeps { Keeps (S.disk store.old) (S.disk store.new) }
     ensures passes { Passes Same (S.disk store.old) (S.disk store.new) }
     ensures does { DoesReads registers_notes (S.disk store.old).seen (S.disk store.new).seen

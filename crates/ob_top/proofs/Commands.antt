@@ -11,7 +11,7 @@ use Rattle.ob_report.specs.Printed.{IsPrinted}
 use Rattle.ob_report.specs.Faults.{fault_line, status_of}
 use Rattle.ob_store.specs.Disk.{Disk}
 use Rattle.ob_desk.specs.Beats.{BeatKind}
-use Rattle.ob_words.specs.Reading.{Asked, asked_by, format_asked, run_asked}
+use Rattle.ob_words.specs.Reading.{Asked, asked_by, format_asked, run_asked, audit_asked}
 use Rattle.ob_top.specs.declared.words.Command.{Command}
 use Rattle.ob_top.specs.declared.words.Command.TheVariants.{Format, Run}
 use Rattle.ob_top.specs.Words.{AreParams, IsBadNumber, AreLanes, AreBadLanes, IsCommandOf, IsOutOfRange, IsRefusedFor, HasKeys, IsKeysRefused}
@@ -19,7 +19,7 @@ use Rattle.ob_top.specs.Outside.{Outside, IsFinished, IsOnlyTold}
 use Rattle.ob_top.specs.Formats.{FormatDone}
 use Rattle.ob_top.specs.Flat.{flat_kind}
 use Rattle.ob_top.specs.Runs.{RunDone}
-use Rattle.ob_top.specs.Top.{CommandDoes, IsRefusedWithout}
+use Rattle.ob_top.specs.Top.{AskForSomething, CommandDoes, IsRefusedWithout}
 use Rattle.ob_top.proofs.Finishing.{run_done, format_done}
 
 -- ---- words ask for one thing at most
@@ -27,7 +27,7 @@ use Rattle.ob_top.proofs.Finishing.{run_done, format_done}
 pub one_asked : (words : List (List ℕ)) (a b : Asked) → asked_by words ≡ Some a → asked_by words ≡ Some b → a ≡ b
 one_asked words a b first second = let same : Some a ≡ Some b = sym first ∙ second in cc same
 
-nothing_asked : (words : List (List ℕ)) (a : Asked) → asked_by words ≡ None → asked_by words ≡ Some a → ⊥
+pub nothing_asked : (words : List (List ℕ)) (a : Asked) → asked_by words ≡ None → asked_by words ≡ Some a → ⊥
 nothing_asked words a none some = let same : None ≡ Some a = sym none ∙ some in cc same
 
 params_at : (store keys : List ℕ) (numbers : List (List ℕ)) (command : Command) → IsCommandOf (format_asked store keys numbers) command → (p : Params) × AreParams numbers p
@@ -37,6 +37,14 @@ params_at store keys numbers (Run k) fits = absurd fits
 lanes_at : (store keys : List ℕ) (lanes : Option (List ℕ)) (turns : Bool) (command : Command) → IsCommandOf (run_asked store keys lanes turns) command → (k : ℕ) × AreLanes lanes k
 lanes_at store keys lanes turns (Format p) fits = absurd fits
 lanes_at store keys lanes turns (Run k) fits = (k, fits)
+
+none_over : (command : Command) → IsCommandOf audit_asked command → ⊥
+none_over (Format p) fits = fits
+none_over (Run k) fits = fits
+
+-- an audit is nothing over a store
+audit_alone : (words : List (List ℕ)) → AskForSomething words → asked_by words ≡ Some audit_asked → ⊥
+audit_alone words (command, (asked, by, fits)) asks = none_over command (subst (λ (a : Asked). IsCommandOf a command) (one_asked words asked audit_asked by asks) fits)
 
 -- the three refusals of words
 abbrev WordsRefused : List (List ℕ) → Fault → Type 0
@@ -116,6 +124,14 @@ module _ (before mid after : Outside) (status : ℕ) (input : after.input ≡ mi
         by_refusal (inr (inl (usage, none))) = inl (usage_told usage)
         by_refusal (inr (inr (field, bad, (asked, by, out)))) = absurd (nothing_asked words asked nothing by)
 
+    audit_tells : IsRefusedFor words f → asked_by words ≡ Some audit_asked → Tells Memory
+    audit_tells refused asks = by_refusal (refusals words f refused)
+      where
+        by_refusal : WordsRefused words f → Tells Memory
+        by_refusal (inl memory) = memory_told memory
+        by_refusal (inr (inl (usage, none))) = absurd (nothing_asked words audit_asked none asks)
+        by_refusal (inr (inr (field, bad, (asked, by, out)))) = absurd (subst (λ (a : Asked). IsOutOfRange a field) (one_asked words asked audit_asked by asks) out)
+
     format_tells : (store keys : List ℕ) (numbers : List (List ℕ)) → IsRefusedFor words f → asked_by words ≡ Some (format_asked store keys numbers)
         → Tells Memory ⊎ ((field : Field) × IsBadNumber numbers field × Tells (BadParams field))
     format_tells store keys numbers refused asks = by_refusal (refusals words f refused)
@@ -169,6 +185,12 @@ module _ (before mid after : Outside) (status : ℕ) (input : after.input ≡ mi
     usage_done fault (inr (keys, has, inl (p, (asked, by, fits), ends, leaves, same))) done nothing = absurd (nothing_asked words asked nothing by)
     usage_done fault (inr (keys, has, inr (k, (asked, by, fits), on))) done nothing = absurd (nothing_asked words asked nothing by)
 
+    pub audit_told : (fault : Option Fault) → CommandDoes disk beat words text old new before mid fault → IsFinished mid.output after.output fault status → asked_by words ≡ Some audit_asked → Tell Memory
+    audit_told fault (inl (f, is, inl refused, kept, same)) done asks = audit_tells (new ≡ old) kept same words text fault f is done refused asks
+    audit_told fault (inl (f, is, inr (some, bad), kept, same)) done asks = absurd (audit_alone words some asks)
+    audit_told fault (inr (keys, has, inl (p, fits, ends, leaves, same))) done asks = absurd (audit_alone words (Format p, fits) asks)
+    audit_told fault (inr (keys, has, inr (k, fits, on))) done asks = absurd (audit_alone words (Run k, fits) asks)
+
     pub format_does : (fault : Option Fault) → CommandDoes disk beat words text old new before mid fault → IsFinished mid.output after.output fault status
         → (store keys : List ℕ) (numbers : List (List ℕ)) → asked_by words ≡ Some (format_asked store keys numbers) → FormatTells numbers
     format_does fault (inl (f, is, inl refused, kept, same)) done store keys numbers asks = early (format_tells (new ≡ old) kept same words text fault f is done store keys numbers refused asks)
@@ -211,6 +233,11 @@ module _ (before mid after : Outside) (status : ℕ) (input : after.input ≡ mi
     no_store_usage (inl (inl refused)) nothing = usage_tells (Unit {0}) tt same words text (Some fault) fault refl done refused nothing
     no_store_usage (inl (inr ((command, (asked, by, fits)), bad))) nothing = absurd (nothing_asked words asked nothing by)
     no_store_usage (inr ((command, (asked, by, fits)), has, is)) nothing = absurd (nothing_asked words asked nothing by)
+
+    pub no_store_audit : IsRefusedWithout words text fault → asked_by words ≡ Some audit_asked → Alone Memory
+    no_store_audit (inl (inl refused)) asks = audit_tells (Unit {0}) tt same words text (Some fault) fault refl done refused asks
+    no_store_audit (inl (inr (some, bad))) asks = absurd (audit_alone words some asks)
+    no_store_audit (inr (some, has, is)) asks = absurd (audit_alone words some asks)
 
     pub no_store_format : IsRefusedWithout words text fault → (store keys : List ℕ) (numbers : List (List ℕ)) → asked_by words ≡ Some (format_asked store keys numbers)
         → Alone Memory ⊎ (((field : Field) × IsBadNumber numbers field × Alone (BadParams field)) ⊎ ((p : Params) × AreParams numbers p × NoneAlone))

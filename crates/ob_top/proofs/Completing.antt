@@ -183,18 +183,18 @@ module _ {S : Type 0} (disk : S → Disk) (words : List (List ℕ)) (text : Opti
 -- ---- both
 
 module _ {S : Type 0} (disk : S → Disk) (beat : BeatKind) (words : List (List ℕ)) (text : Option (Bor (List ℕ))) (old new : S) (before after : Outside) (status : ℕ) where
-  abbrev Tell : Fault → Type 0
+  abbrev pub Tell : Fault → Type 0
   Tell f = (new ≡ old) × IsOnlyTold f before after status
 
   -- what is told of keys
-  abbrev KeysTell : Type 0
+  abbrev pub KeysTell : Type 0
   KeysTell = (f : Fault) × IsKeysRefused text f × Tell f
 
-  abbrev FormatTells : List (List ℕ) → Type 0
+  abbrev pub FormatTells : List (List ℕ) → Type 0
   FormatTells numbers = Tell fault.Memory ⊎ (((field : Field) × IsBadNumber numbers field × Tell (fault.BadParams field))
       ⊎ ((p : Params) × AreParams numbers p × (KeysTell ⊎ ((keys : Keys) × HasKeys text keys × FormatDone disk keys p old new before after status))))
 
-  abbrev RunTells : Option (List ℕ) → Type 0
+  abbrev pub RunTells : Option (List ℕ) → Type 0
   RunTells lanes = Tell fault.Memory ⊎ ((AreBadLanes lanes × Tell (fault.BadParams LANES))
       ⊎ ((k : ℕ) × AreLanes lanes k × (KeysTell ⊎ ((keys : Keys) × HasKeys text keys × RunDone flat_kind disk beat keys old new before after status))))
 

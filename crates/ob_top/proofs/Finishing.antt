@@ -41,7 +41,7 @@ behind before mid after text more bytes later p = record {
   whole = ⊎_elim (λ e. inl (ap (λ n. length text + n) e ∙ sym (length-append text more))) (λ r. inr (rose_later before.faults mid.faults after.faults later r)) p.whole;
 }
 
-whole : (before after : Flow) (text : List ℕ) → after.bytes ≡ appended before.bytes text → IsPrinted before after text
+pub whole : (before after : Flow) (text : List ℕ) → after.bytes ≡ appended before.bytes text → IsPrinted before after text
 whole before after text bytes = record { count = length text; within = omega arith; written = bytes ∙ ap (λ (l : List ℕ). appended before.bytes l) (sym (take_all (length text) text (omega arith))); whole = inl refl }
 
 -- a front of a text is a front of a longer one, where the output failed

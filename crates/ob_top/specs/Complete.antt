@@ -8,7 +8,7 @@ use Rattle.ob_store.specs.Disk.{Disk}
 use Rattle.ob_serial.specs.Vaults.{Standing}
 use Rattle.ob_script.specs.Script.{Scripts, IsScript, limit}
 use Rattle.ob_kinds.specs.Kinds.{StoreKind}
-use Rattle.ob_words.specs.Reading.{asked_by, format_asked, run_asked}
+use Rattle.ob_words.specs.Reading.{asked_by, format_asked, run_asked, audit_asked}
 use Rattle.ob_top.specs.Words.{AreParams, AreLanes, HasKeys}
 use Rattle.ob_top.specs.Outside.{Outside, Left, OfStore}
 use Rattle.ob_top.specs.Flat.{flat_kind}
@@ -63,3 +63,8 @@ module _ {S : Type 0} (disk : S → Disk) (words : List (List ℕ)) (text : Opti
 
   abbrev pub Completes : Option (MutBor S) → Left S → Type 0
   Completes entry exit = OfStore entry exit (Unit {0}) DoesWhatItCan
+
+-- An audit answers, but for want of memory, where no count of faults rose.
+abbrev pub AuditCompletes : List (List ℕ) → Outside → Outside → ℕ → Type 0
+AuditCompletes words before after status = asked_by words ≡ Some audit_asked → (Rose before.input.faults after.input.faults → ⊥) → (Rose before.output.faults after.output.faults → ⊥)
+    → (status ≡ 0) ⊎ ((status ≡ 1) ⊎ (status ≡ 9))

@@ -12,16 +12,17 @@ use Rattle.ob_store.specs.Disk.{Disk}
 use Rattle.ob_store.specs.Images.{LeavesOnly}
 use Rattle.ob_desk.specs.Beats.{BeatKind}
 use Rattle.ob_flat.specs.Formats.{FormatLeaves}
-use Rattle.ob_words.specs.Reading.{asked_by, format_asked, run_asked}
+use Rattle.ob_words.specs.Reading.{asked_by, format_asked, run_asked, audit_asked}
 use Rattle.ob_top.specs.declared.words.Command.{Command}
 use Rattle.ob_top.specs.declared.words.Command.TheVariants.{Format, Run}
 use Rattle.ob_top.specs.Words.{AreParams, IsBadNumber, AreLanes, AreBadLanes, Asks, IsRefusedFor, HasKeys, IsKeysRefused}
 use Rattle.ob_top.specs.Outside.{Outside, Left, OfStore, IsOnlyTold}
+use Rattle.ob_top.specs.Audits.{AuditDone}
 use Rattle.ob_top.specs.Formats.{FormatEnds, FormatDone}
 use Rattle.ob_top.specs.Flat.{flat_kind}
 use Rattle.ob_top.specs.Runs.{RunOn, RunDone}
 
--- The words ask for something, and the numbers are in range.
+-- The words ask for something over a store, and the numbers are in range.
 abbrev pub AskForSomething : List (List ℕ) → Type 0
 AskForSomething words = (command : Command) × Asks words command
 
@@ -53,6 +54,11 @@ module _ {S : Type 0} (disk : S → Disk) (beat : BeatKind) (words : List (List 
   -- Words that the parse refuses: Usage, unless memory was wanting.
   abbrev pub UsageDoes : Type 0
   UsageDoes = asked_by words ≡ None → Refuses Usage ⊎ Refuses Memory
+
+  -- `audit`: want of memory for the words is told; else the trace that comes in is answered, and nothing but the input and the output is
+  -- touched.
+  abbrev pub AuditDoes : Type 0
+  AuditDoes = asked_by words ≡ Some audit_asked → Refuses Memory ⊎ (StoreKept × AuditDone before after status)
 
   -- The keys were not read, or are none: that is told before anything is touched.
   abbrev pub KeysDo : Type 0

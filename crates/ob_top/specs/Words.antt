@@ -12,9 +12,11 @@ use Rattle.ob_seal.specs.declared.keys.Keys.{Keys}
 use Rattle.ob_seal.specs.KeyText.{IsKeyText, digits_of}
 use Rattle.hex.specs.Hex.{decode_of}
 use Rattle.ob_start.specs.Heads.{numbers_of}
-use Rattle.ob_words.specs.Reading.{Asked, asked_by, format_asked, run_asked}
+use Rattle.ob_words.specs.Reading.{Asked, asked_by, format_asked, run_asked, audit_asked}
 use Rattle.ob_top.specs.declared.words.Command.{Command}
 use Rattle.ob_top.specs.declared.words.Command.TheVariants.{Format, Run}
+use Rattle.ob_top.specs.declared.words.Work.{Work}
+use Rattle.ob_top.specs.declared.words.Work.TheVariants.{Audit, OnStore}
 
 -- The number that a word is: 0, which is in no range, for a word that isn't the canonical decimal of a number below 2^32.
 abbrev pub Denotes : List ℕ → ℕ → Type 0
@@ -51,20 +53,30 @@ abbrev pub AreBadLanes : Option (List ℕ) → Type 0
 AreBadLanes None = ⊥
 AreBadLanes (Some word) = (k : ℕ) → 1 ≤ k → k ≤ 16 → word ≢ decimal k
 
--- the command of a request, whose numbers are in range
+-- the command over a store of a request, whose numbers are in range
 abbrev pub IsCommandOf : Asked → Command → Type 0
 IsCommandOf (format_asked store keys numbers) (Format p) = AreParams numbers p
 IsCommandOf (run_asked store keys lanes turns) (Run k) = AreLanes lanes k
 IsCommandOf _ _ = ⊥
 
+-- what a request asks for
+abbrev pub IsWorkOf : Asked → Work → Type 0
+IsWorkOf asked Audit = asked ≡ audit_asked
+IsWorkOf asked (OnStore command) = IsCommandOf asked command
+
 -- the first number of a request that is out of its range
 abbrev pub IsOutOfRange : Asked → Field → Type 0
 IsOutOfRange (format_asked store keys numbers) field = IsBadNumber numbers field
 IsOutOfRange (run_asked store keys lanes turns) field = (field ≡ LANES) × AreBadLanes lanes
+IsOutOfRange audit_asked field = ⊥
 
--- the words ask for this
+-- the words ask for this over a store
 abbrev pub Asks : List (List ℕ) → Command → Type 0
 Asks words command = (asked : Asked) × (asked_by words ≡ Some asked) × IsCommandOf asked command
+
+-- the words ask for this
+abbrev pub AskFor : List (List ℕ) → Work → Type 0
+AskFor words work = (asked : Asked) × (asked_by words ≡ Some asked) × IsWorkOf asked work
 
 -- They ask for nothing, since they are no command with its operands and options, or since a number is out of its range; or memory was
 -- wanting.
@@ -75,20 +87,22 @@ IsRefusedFor words Memory = Unit {0}
 IsRefusedFor words _ = ⊥
 
 -- a request's store: its path, and whether it may be made
-abbrev pub store_file : Asked → List ℕ × Bool
-store_file (format_asked store keys numbers) = (store, true)
-store_file (run_asked store keys lanes turns) = (store, false)
+abbrev pub store_file : Asked → Option (List ℕ × Bool)
+store_file (format_asked store keys numbers) = Some (store, true)
+store_file (run_asked store keys lanes turns) = Some (store, false)
+store_file audit_asked = None
 
 -- the path of its keys
-abbrev pub keys_file : Asked → List ℕ
-keys_file (format_asked store keys numbers) = keys
-keys_file (run_asked store keys lanes turns) = keys
+abbrev pub keys_file : Asked → Option (List ℕ)
+keys_file (format_asked store keys numbers) = Some keys
+keys_file (run_asked store keys lanes turns) = Some keys
+keys_file audit_asked = None
 
--- The files that a request calls for: none, where a number is out of its range.
+-- The files that a request calls for: none, where a number is out of its range, or for an audit.
 abbrev pub AreFilesOf : Asked → Option (List ℕ × Bool) → Option (List ℕ) → Type 0
 AreFilesOf asked store keys =
     ((field : Field) × IsOutOfRange asked field × (store ≡ None) × (keys ≡ None))
-    ⊎ ((command : Command) × IsCommandOf asked command × (store ≡ Some (store_file asked)) × (keys ≡ Some (keys_file asked)))
+    ⊎ ((work : Work) × IsWorkOf asked work × (store ≡ store_file asked) × (keys ≡ keys_file asked))
 
 -- The files that the words call for: none, where they are no command with its operands and options.
 abbrev pub AreWanted : List (List ℕ) → Option (List ℕ × Bool) → Option (List ℕ) → Type 0

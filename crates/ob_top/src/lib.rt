@@ -1,13 +1,18 @@
 //! The top call: what the program does with its words, its store, its input and its output.
 #![tactic(auto)]
 
+mod audit;
+mod endings;
 mod format;
 mod run;
 mod top;
 mod words;
 
-pub use top::{finish, obladi};
+pub use endings::finish;
+pub use top::obladi;
 pub use words::{Paths, store_wanted};
 
 #[cfg(test)]
 mod tests;
+#[cfg(test)]
+mod tests_audit;

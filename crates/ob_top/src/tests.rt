@@ -30,7 +30,7 @@ const REFUSED: [(&str, bool, &str); 16] = [
     ("run S -k", true, "fault: usage/"),
     ("run S K --turns --turns", true, "fault: usage/"),
     ("run S K --trace F", true, "fault: usage/"),
-    ("audit", true, "fault: usage/"),
+    ("audit x", true, "fault: usage/"),
     ("--help", true, "fault: usage/"),
     ("format S K 8 2 2 3 2 2 2 2", true, "fault: usage/"),
     ("format S K 9 2 2 3 2 2 2 2 8", false, "fault: parameter N/"),
@@ -62,7 +62,8 @@ const RUNS: [&str; 7] = [
 ];
 
 // Words, and the files that they call for: a `+` stands before the path of a store that may be made.
-const WANTED: [(&str, &str); 7] = [
+const WANTED: [(&str, &str); 8] = [
+    ("audit", ""),
     ("run S K", "S K"),
     ("run --lanes 2 S K --turns", "S K"),
     ("run S --lanes 17 K", ""),

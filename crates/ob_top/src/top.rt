@@ -1,46 +1,33 @@
 //! The one call that the program makes.
 
-ghost use Rattle.std.specs.Prelude.{◌≡◌, map};
+ghost use Rattle.std.specs.Prelude.{◌≡◌, map, ℕ, List};
 ghost use Rattle.ob_io.specs.Streams.{inflow, outflow};
 ghost use Rattle.ob_store.specs.Calls.{GoesOn};
-ghost use Rattle.ob_top.specs.Outside.{outside, IsFinished, NoneOut, StoreGoesOn};
+ghost use Rattle.ob_top.specs.Outside.{outside, NoneOut, StoreGoesOn};
 ghost use Rattle.ob_top.specs.Runs.{fault_of};
-ghost use Rattle.ob_top.specs.Top.{CommandDoes, IsRefusedWithout, UsageDoes, FormatDoes, RunDoes};
-ghost use Rattle.ob_top.specs.Complete.{Completes};
+ghost use Rattle.ob_top.specs.Words.{Asks};
+ghost use Rattle.ob_top.specs.Top.{AskForSomething, CommandDoes, IsRefusedWithout, UsageDoes, AuditDoes, FormatDoes, RunDoes};
+ghost use Rattle.ob_top.specs.Over.{OverStore, WithoutStore};
+ghost use Rattle.ob_top.specs.Complete.{Completes, AuditCompletes};
 ghost use Rattle.ob_desk.specs.Beats.{beat_kind};
 
+use crate::audit::audit_on;
+use crate::endings::finish;
 use crate::format::format_on;
 use crate::run::run_on;
-use crate::words::{Command, command_of, keys_of};
+use crate::words::{Command, Work, keys_of, work_of};
 use ob_base::Fault;
 use ob_desk::Beat;
 use ob_io::{Sink, Source};
-use ob_report::{fault_status, fault_text};
 use ob_store::Store;
 use std::alloc::Global;
 use std::sync::Wait;
 
-/// Writes the line of a fault behind what stands in the output, if there is one, and answers its
-/// status. Where the output itself has failed nothing more is written.
-pub fn finish<O: Sink>(output: &mut O, ended: Result<(), Fault>) -> u8
-    ensures { IsFinished (outflow O.Sink output.old) (outflow O.Sink output.new) (fault_of ended)
-        result }
-{
-    match ended {
-        Ok(()) => 0,
-        Err(Fault::SinkFault) => fault_status(&Fault::SinkFault),
-        Err(fault) => {
-            let _ = fault_text(&fault, output);
-            fault_status(&fault)
-        }
-    }
-}
-
-// Does what the words ask for over a store.
+// Does this over a store.
 fn do_on<R: Wait, S: Store, I: Source, O: Sink, B: Beat>(
     rt: &R,
     alloc: Global,
-    words: &[&str],
+    command: Command,
     keys: Option<&[u8]>,
     store: &mut S,
     input: &mut I,
@@ -50,16 +37,12 @@ fn do_on<R: Wait, S: Store, I: Source, O: Sink, B: Beat>(
     requires none_out { (S.disk store.old).out ≡ 0 }
     ensures goes { GoesOn (S.disk store.old) (S.disk store.new) }
     ensures none_out { (S.disk store.new).out ≡ 0 }
-    ensures does { CommandDoes S.disk (beat_kind B.passes B.exact)
-        (map (λ w. w.now) words.entry.now) keys.entry
+    ensures does { (words : List (List ℕ)) → Asks words command
+        → CommandDoes S.disk (beat_kind B.passes B.exact) words keys.entry
         store.old store.new
         (outside (inflow I.Source input.old) (outflow O.Sink output.old))
         (outside (inflow I.Source input.new) (outflow O.Sink output.new)) (fault_of result) }
 {
-    let command = match command_of(alloc, words) {
-        Ok(command) => command,
-        Err(fault) => return Err(fault),
-    };
     let keys = match keys_of(keys) {
         Ok(keys) => keys,
         Err(fault) => return Err(fault),
@@ -70,18 +53,68 @@ fn do_on<R: Wait, S: Store, I: Source, O: Sink, B: Beat>(
     }
 }
 
-// Why nothing is done without a store: what the words or the keys are refused for, or that there is
-// none.
-fn refusal_of(alloc: Global, words: &[&str], keys: Option<&[u8]>) -> Fault
-    ensures { IsRefusedWithout (map (λ w. w.now) words.entry.now) keys.entry result }
+// Does what the words ask for, with a store.
+fn do_with<R: AllocGlobal + Wait, S: Store, I: Source, O: Sink, B: Beat>(
+    rt: &R,
+    words: &[&str],
+    keys: Option<&[u8]>,
+    store: &mut S,
+    input: &mut I,
+    output: &mut O,
+    beat: &mut B,
+) -> u8
+    requires none_out { (S.disk store.old).out ≡ 0 }
+    ensures goes { GoesOn (S.disk store.old) (S.disk store.new) }
+    ensures none_out { (S.disk store.new).out ≡ 0 }
+    ensures does { OverStore S.disk (beat_kind B.passes B.exact)
+        (map (λ w. w.now) words.entry.now) keys.entry
+        store.old store.new
+        (outside (inflow I.Source input.old) (outflow O.Sink output.old))
+        (outside (inflow I.Source input.new) (outflow O.Sink output.new)) result }
 {
-    match command_of(alloc, words) {
-        Ok(_) => {}
-        Err(fault) => return fault,
+    let work = match work_of(rt.alloc(), words) {
+        Ok(work) => work,
+        Err(fault) => return finish(output, Err(fault)),
+    };
+    match work {
+        Work::OnStore(command) => {
+            let ended = do_on(rt, rt.alloc(), command, keys, store, input, output, beat);
+            finish(output, ended)
+        }
+        Work::Audit => audit_on(rt.alloc(), input, output),
     }
+}
+
+// Why nothing is done over a store without one: what the keys are refused for, or that there is none.
+fn refusal_of(keys: Option<&[u8]>) -> Fault
+    ensures { (words : List (List ℕ)) → AskForSomething words
+        → IsRefusedWithout words keys.entry result }
+{
     match keys_of(keys) {
         Ok(_) => Fault::StoreFault { unsure: None },
         Err(fault) => fault,
+    }
+}
+
+// Does what the words ask for, without a store.
+fn do_without<I: Source, O: Sink>(
+    alloc: Global,
+    words: &[&str],
+    keys: Option<&[u8]>,
+    input: &mut I,
+    output: &mut O,
+) -> u8
+    ensures { WithoutStore (map (λ w. w.now) words.entry.now) keys.entry
+        (outside (inflow I.Source input.old) (outflow O.Sink output.old))
+        (outside (inflow I.Source input.new) (outflow O.Sink output.new)) result }
+{
+    let work = match work_of(alloc, words) {
+        Ok(work) => work,
+        Err(fault) => return finish(output, Err(fault)),
+    };
+    match work {
+        Work::OnStore(_) => finish(output, Err(refusal_of(keys))),
+        Work::Audit => audit_on(alloc, input, output),
     }
 }
 
@@ -94,11 +127,14 @@ fn refusal_of(alloc: Global, words: &[&str], keys: Option<&[u8]>) -> Fault
 /// opened; `keys` is the text of the key file that they name, or none where it wasn't read; `beat`
 /// says at which looks the driver of epochs acts.
 ///
-/// The status is 0 where all was done and written, and else that of the fault whose line stands
-/// behind the report: 2 for words that are no command, for a number or lanes out of range, for keys that
-/// are none and for a script that breaks the grammar; 3 for what is no store; 4 for damage; 5 where
-/// the store failed or none was handed in; 7 where the key file, the input or the output failed; 8
-/// where a number is worn out; 9 for want of memory.
+/// `audit` reads a trace, and prints whether each line may stand there, or the first that may not. It
+/// touches no store and no keys.
+///
+/// The status is 0 where all was done and written, 1 where a line of a trace may not stand there, and
+/// else that of the fault whose line stands behind the report: 2 for words that are no command, for a
+/// number or lanes out of range, for keys that are none and for a script that breaks the grammar; 3
+/// for what is no store; 4 for damage; 5 where the store failed or none was handed in; 7 where the
+/// key file, the input or the output failed; 8 where a number is worn out; 9 for want of memory.
 pub fn obladi<R: AllocGlobal + Wait, S: Store, I: Source, O: Sink, B: Beat>(
     rt: &R,
     words: &[&str],
@@ -113,6 +149,11 @@ pub fn obladi<R: AllocGlobal + Wait, S: Store, I: Source, O: Sink, B: Beat>(
     ensures goes { StoreGoesOn S.disk store.entry store.exit }
     // Words that are no command leave everything but the output untouched.
     ensures usage { UsageDoes S.disk (beat_kind B.passes B.exact) (map (λ w. w.now) words.entry.now)
+        keys.entry
+        store.entry store.exit
+        (outside (inflow I.Source input.old) (outflow O.Sink output.old))
+        (outside (inflow I.Source input.new) (outflow O.Sink output.new)) result }
+    ensures audit { AuditDoes S.disk (beat_kind B.passes B.exact) (map (λ w. w.now) words.entry.now)
         keys.entry
         store.entry store.exit
         (outside (inflow I.Source input.old) (outflow O.Sink output.old))
@@ -132,12 +173,12 @@ pub fn obladi<R: AllocGlobal + Wait, S: Store, I: Source, O: Sink, B: Beat>(
         (outside (inflow I.Source input.old) (outflow O.Sink output.old))
         (outside (inflow I.Source input.new) (outflow O.Sink output.new)) result store.entry
         store.exit }
+    ensures audit_complete { AuditCompletes (map (λ w. w.now) words.entry.now)
+        (outside (inflow I.Source input.old) (outflow O.Sink output.old))
+        (outside (inflow I.Source input.new) (outflow O.Sink output.new)) result }
 {
     match store {
-        Some(store) => {
-            let ended = do_on(rt, rt.alloc(), words, keys, store, input, output, beat);
-            finish(output, ended)
-        }
-        None => finish(output, Err(refusal_of(rt.alloc(), words, keys))),
+        Some(store) => do_with(rt, words, keys, store, input, output, beat),
+        None => do_without(rt.alloc(), words, keys, input, output),
     }
 }

@@ -2,7 +2,7 @@
 
 ghost use Rattle.std.specs.Prelude.{◌≡◌, ◌∷◌, [], map, option_map, MatchResult, IfOk, IfErr};
 ghost use Rattle.ob_words.specs.Reading.{asked_of};
-ghost use Rattle.ob_top.specs.Words.{Denotes, AreParams, IsBadNumber, AreLanes, AreBadLanes, IsCommandOf, IsOutOfRange, Asks, IsRefusedFor, AreFilesOf, AreWanted, HasKeys, IsKeysRefused};
+ghost use Rattle.ob_top.specs.Words.{Denotes, AreParams, IsBadNumber, AreLanes, AreBadLanes, IsWorkOf, IsOutOfRange, AskFor, IsRefusedFor, AreFilesOf, AreWanted, HasKeys, IsKeysRefused};
 
 use ob_base::{Fault, Field, Memory, Params};
 use ob_script::number_of;
@@ -11,6 +11,15 @@ use ob_words::{Request, WordsErr, read_words};
 use std::alloc::Global;
 
 /// What the words ask for.
+#[derive(Clone, Copy, Debug, PartialEq, Eq)]
+pub enum Work {
+    /// The trace that comes in is audited.
+    Audit,
+    /// Something over a store.
+    OnStore(Command),
+}
+
+/// What the words ask for over a store.
 #[derive(Clone, Copy, Debug, PartialEq, Eq)]
 pub enum Command {
     /// An empty store is made, of these parameters.
@@ -89,9 +98,9 @@ fn lanes_in(word: Option<&str>) -> Result<u32, Field>
     }
 }
 
-// The command of a request, or the first field that is out of its range.
-fn command_in(request: &Request<'_>) -> Result<Command, Field>
-    ensures { MatchResult result (λ command. IsCommandOf (asked_of request.now) command)
+// What a request asks for, or the first field that is out of its range.
+fn work_in(request: &Request<'_>) -> Result<Work, Field>
+    ensures { MatchResult result (λ work. IsWorkOf (asked_of request.now) work)
         (λ field. IsOutOfRange (asked_of request.now) field) }
 {
     match request {
@@ -107,13 +116,14 @@ fn command_in(request: &Request<'_>) -> Result<Command, Field>
             t,
             ..
         } => match params_in(n, l, z, s, r, br, bw, e, t) {
-            Ok(params) => Ok(Command::Format { params }),
+            Ok(params) => Ok(Work::OnStore(Command::Format { params })),
             Err(field) => Err(field),
         },
         Request::Run { lanes, .. } => match lanes_in(*lanes) {
-            Ok(lanes) => Ok(Command::Run { lanes }),
+            Ok(lanes) => Ok(Work::OnStore(Command::Run { lanes })),
             Err(field) => Err(field),
         },
+        Request::Audit => Ok(Work::Audit),
     }
 }
 
@@ -122,14 +132,14 @@ fn command_in(request: &Request<'_>) -> Result<Command, Field>
 /// # Errors
 /// `Usage` for words that are no command with its operands and options; `BadParams` for a number out
 /// of its range, the first one; and `Memory`.
-pub fn command_of(alloc: Global, words: &[&str]) -> Result<Command, Fault>
-    ensures command { IfOk result (λ command. Asks (map (λ w. w.now) words.entry.now) command) }
+pub fn work_of(alloc: Global, words: &[&str]) -> Result<Work, Fault>
+    ensures work { IfOk result (λ work. AskFor (map (λ w. w.now) words.entry.now) work) }
     ensures refused { IfErr result
         (λ fault. IsRefusedFor (map (λ w. w.now) words.entry.now) fault) }
 {
     let request = read_words(alloc, words)?;
-    match command_in(&request) {
-        Ok(command) => Ok(command),
+    match work_in(&request) {
+        Ok(work) => Ok(work),
         Err(field) => Err(Fault::BadParams { field }),
     }
 }
@@ -151,12 +161,12 @@ pub fn keys_of(text: Option<&[u8]>) -> Result<Keys, Fault>
     }
 }
 
-// The files of a request: none where a number is out of its range.
+// The files of a request: none where a number is out of its range, or for an audit.
 fn paths_of<'a>(request: &Request<'a>) -> Paths<'a>
     ensures { AreFilesOf (asked_of request.now) (option_map (λ s. (s.0.now, s.1)) result.store)
         (option_map (λ k. k.now) result.keys) }
 {
-    if command_in(request).is_err() {
+    if work_in(request).is_err() {
         return Paths {
             store: None,
             keys: None,
@@ -171,11 +181,15 @@ fn paths_of<'a>(request: &Request<'a>) -> Paths<'a>
             store: Some((*store, false)),
             keys: Some(*keys),
         },
+        Request::Audit => Paths {
+            store: None,
+            keys: None,
+        },
     }
 }
 
 /// The files that the words call for, so that nothing else is opened or made: none where they are
-/// refused, or where a number is out of its range.
+/// refused, where a number is out of its range, or for an audit.
 ///
 /// # Errors
 /// Memory was wanting.

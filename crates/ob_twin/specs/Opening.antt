@@ -29,6 +29,10 @@ pub record GatesAre (known : Open) (first : ℕ) (image : Image) : Type 0 where
   pub zero : IsTrue known.zero ↔ IsOpen first image 0
   pub one : IsTrue known.one ↔ IsOpen first image 1
 
+-- one of them is known to be open
+abbrev pub HasOpen : Open → Type 0
+HasOpen known = IsTrue (known.zero || known.one)
+
 -- The gate of a place is closed first where it may be open, and where no gate of the register is.
 abbrev pub is_closed_first : Open → ℕ → Bool
 is_closed_first known place = is_marked known place || not (known.zero || known.one)

@@ -1,6 +1,6 @@
 //! Reading a register.
 
-ghost use Rattle.std.specs.Prelude.{◌≡◌, ◌<◌, ◌≤◌, ◌+◌, ◌^◌, ◌++◌, ℕ, [], ◌∷◌, Some, Ok, Err, take, replicate, IfOk, IfSome, OnOk, OnErr, IfErr, is_ok};
+ghost use Rattle.std.specs.Prelude.{◌≡◌, ◌⊎◌, ◌<◌, ◌≤◌, ◌+◌, ◌^◌, ◌++◌, ℕ, [], ◌∷◌, Some, Ok, Err, take, replicate, IfOk, IfSome, OnOk, OnErr, IfErr, is_ok};
 ghost use Rattle.ob_base.specs.Causes.{HasCause};
 ghost use Rattle.ob_base.specs.declared.fault.Check.TheVariants as check;
 ghost use Rattle.ob_store.specs.Disk.{Image};
@@ -10,7 +10,7 @@ ghost use Rattle.ob_store.specs.Told.{Does};
 ghost use Rattle.ob_twin.specs.Bodies.{open_gate, number_of, IsWholeBody};
 ghost use Rattle.ob_twin.specs.Register.{first_of, body_at, gate_at, StandsAt};
 ghost use Rattle.ob_twin.specs.Reading.{IsTwinDamage, IsPlace, IsRead, IsGot, IsGetFault, greater};
-ghost use Rattle.ob_twin.specs.Opening.{known_of, with_known, GatesAre};
+ghost use Rattle.ob_twin.specs.Opening.{known_of, with_known, GatesAre, HasOpen};
 ghost use Rattle.ob_twin.specs.Orders.{get_notes};
 ghost use Rattle.ob_twin.specs.Got.{IsOkOr, IsGates, DoesReads};
 
@@ -144,6 +144,8 @@ fn judge<T: Stamper>(stamper: &T, first: u64, cells: &Cells) -> Result<Option<u6
         → cells.now.gate_one ≡ image (gate_at first 1)
         → IsRead (T.tag stamper.now) first image result }
     ensures below { IfOk result (λ number. IfSome number (λ n. n < 2 ^ 62)) }
+    ensures some { IfOk result (λ number. IfSome number (λ n. (cells.now.gate_zero ≡ open_gate)
+        ⊎ (cells.now.gate_one ≡ open_gate))) }
 {
     let zero = match number_in(stamper, first, &cells.gate_zero, &cells.body_zero) {
         Ok(zero) => zero,
@@ -181,6 +183,10 @@ impl Twin {
             → IsOkOr (Some n) IsStoreFault result }
         ensures gates { (S.disk store.old).tells
             → IsGates self gates.old gates.new (S.disk store.old).cells result }
+        // Whatever the store tells, a number stands under a gate that is known to be open, and of the
+        // other register's gates nothing is told.
+        ensures some { IfOk result (λ number. IfSome number (λ n. HasOpen (known_of self gates.new))) }
+        ensures other { gates.new ≡ with_known self gates.old (known_of self gates.new) }
         ensures keeps { Keeps (S.disk store.old) (S.disk store.new) }
         ensures crash { Shrinks (S.disk store.old) (S.disk store.new) }
         // A crash at any moment leaves what it might have left before.

@@ -48,7 +48,7 @@ fn close<S: Store, W: Watch>(
 }
 
 // Writes the body behind a closed gate.
-fn prepare<S: Store, T: Stamper, W: Watch>(
+fn lay_body<S: Store, T: Stamper, W: Watch>(
     store: &mut S,
     stamper: &T,
     closes: bool,
@@ -102,51 +102,6 @@ fn open<S: Store, W: Watch>(store: &mut S, gate: u64, watch: &mut W) -> Result<(
 {
     write_noted(store, gate, &open_gate(), watch)?;
     sync_noted(store, watch)
-}
-
-// The body, then the gate over it.
-fn put<S: Store, T: Stamper, W: Watch>(
-    twin: Twin,
-    store: &mut S,
-    stamper: &T,
-    closes: bool,
-    n: u64,
-    watch: &mut W,
-) -> Result<(), SetErr>
-    requires none_out { (S.disk store.old).out ≡ 0 }
-    requires small { n < 2 ^ 62 }
-    requires told { (S.disk store.old).tells → (IsTrue closes → ⊥)
-        → IsOpen (first_of twin) (S.disk store.old).cells (place_of n) → ⊥ }
-    ensures serves { Serves (IsSetFault twin n) (S.disk store.old) (S.disk store.new) result }
-    ensures faults { IfErr result (IsSetFault twin n) }
-    ensures done { (S.disk store.old).tells
-        → OnOk result (IsPut (T.tag stamper.now) (first_of twin) (S.disk store.old).cells n
-        (S.disk store.new).cells) }
-    ensures rest { (S.disk store.old).tells
-        → SameTwo (body_at (first_of twin) (place_of n)) (gate_at (first_of twin) (place_of n))
-        (S.disk store.new).cells (S.disk store.old).cells }
-    ensures passes { Passes (SameOutside (first_of twin)) (S.disk store.old) (S.disk store.new) }
-    ensures durable { (S.disk store.old).tells → OnOk result (IsSynced (S.disk store.new)) }
-    ensures any_moment { (m : ℕ) → n ≡ m + 1 → (S.disk store.old).tells
-        → (IsTrue closes → IsOpen (first_of twin) (S.disk store.old).cells (place_of n))
-        → IsSynced (S.disk store.old)
-        → StandsAt (T.tag stamper.now) (first_of twin) (S.disk store.old).cells m
-        → LeavesOnly (S.disk store.old) (S.disk store.new)
-        (SetLeaves (T.tag stamper.now) (first_of twin) (S.disk store.old).cells m n result) }
-    ensures does { SetDoes closes (first_of twin) n (S.disk store.old).seen (S.disk store.new).seen
-        (W.trace watch.old) (W.trace watch.new) result }
-{
-    let first = twin.first();
-    match prepare(store, stamper, closes, first, n, watch) {
-        Ok(()) => {}
-        Err(Failed) => return Err(SetErr::Before(Fault::StoreFault { unsure: None })),
-    }
-    match open(store, first + 2 * (n % 2) + 1, watch) {
-        Ok(()) => Ok(()),
-        Err(Failed) => Err(SetErr::Unsure(Fault::StoreFault {
-            unsure: unsure_of(twin, n),
-        })),
-    }
 }
 
 // The epoch of which a refused opening of its gate leaves open whether it ended.
@@ -217,9 +172,18 @@ impl Twin {
         let known = known_of(self, gates);
         let place = n % 2;
         let closes = is_closed_first(known, place);
-        match put(self, store, stamper, closes, n, watch) {
+        let first = self.first();
+        match lay_body(store, stamper, closes, first, n, watch) {
             Ok(()) => {}
-            Err(refused) => return Err(refused),
+            Err(Failed) => return Err(SetErr::Before(Fault::StoreFault { unsure: None })),
+        }
+        match open(store, first + 2 * place + 1, watch) {
+            Ok(()) => {}
+            Err(Failed) => {
+                return Err(SetErr::Unsure(Fault::StoreFault {
+                    unsure: unsure_of(self, n),
+                }));
+            }
         }
         set_known(self, gates, with_mark(known, place));
         Ok(())

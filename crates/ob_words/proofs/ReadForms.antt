@@ -3,18 +3,21 @@ use Rattle.std.proofs.Common.{◌≡◌, ◌≢◌, ◌<◌, Bool, true, false, 
 use Rattle.std.specs.Prelude.{option_and_then, unwrap_or}
 use Rattle.std.specs.Str.{bytes_eq}
 use Rattle.std.proofs.lemmas.Slice.Eq.{bytes_eq-Decides}
-use Rattle.clap.specs.Walk.{Row, Text, first_of}
+use Rattle.clap.specs.Walk.{Row, Text, Walk, first_of, nothing_held, walk_from}
 use Rattle.clap.specs.Kinds.{Kinds, or_else}
-use Rattle.clap.specs.Faults.{fault_of}
+use Rattle.clap.specs.Faults.{fault_of, level_fault, stray_fault, turn_fault, walk_fault}
+use Rattle.clap.specs.Simple.{Shape}
+use Rattle.clap.proofs.OnLiterals.{clap_on_literals}
 use Rattle.ob_words.specs.Commands.{program}
 use Rattle.ob_words.specs.Forms.{Choice, AreChoices, ArePlain, IsPlain, IsNoName, lanes_in, turns_in}
-use Rattle.ob_words.specs.Reading.{Asked, asked_command, asked_by, text_at, run_asked, format_asked, unless_refused}
-use Rattle.ob_words.proofs.Built.{run_built, format_built}
+use Rattle.ob_words.specs.Reading.{Asked, asked_command, asked_by, text_at, run_asked, format_asked, audit_asked, unless_refused}
+use Rattle.ob_words.proofs.Built.{run_built, format_built, audit_built}
 use Rattle.ob_words.proofs.Few.{few_fail}
+use Rattle.ob_words.proofs.PlainWords.{plain_turn-idle}
 use Rattle.ob_words.proofs.Run.{choice_row, flag_text, run_end, run_keys, run_lanes_read, run_passes, run_reads, run_store, run_turns_text, run_words}
 use Rattle.ob_words.proofs.Format.{format_passes, format_reads, format_words}
 use Rattle.ob_words.proofs.Asks.{asked_at_all}
-use Rattle.ob_words.proofs.Top.{IsNoCommand, no_command_fails, no_words_fail, format_fault, format_subcommand, run_fault, run_subcommand}
+use Rattle.ob_words.proofs.Top.{IsNoCommand, no_command_fails, no_words_fail, format_fault, format_subcommand, run_fault, run_subcommand, audit_fault, audit_subcommand}
 
 abbrev reads_by : Option (Text × List Row) → Option Asked
 reads_by o = option_and_then (λ p. asked_command p.0 p.1) o
@@ -61,6 +64,16 @@ format_law store keys n l z s r br bw e t plain =
     (format_fault rest ∙ ap (λ k. or_else k []) (format_passes store keys n l z s r br bw e t plain))
     (ap reads_by (format_subcommand rest) ∙ ap (λ x. asked_command (codes "format") x) (format_reads store keys n l z s r br bw e t plain))
 
+-- nothing is wanted behind `audit`
+audit_passes : level_fault audit_built [] nothing_held [] false [] ≡ []
+unfolding clap_on_literals
+audit_passes = refl
+
+pub audit_law : asked_by (codes "audit" ∷ []) ≡ Some audit_asked
+audit_law = read_is (codes "audit" ∷ []) _
+    (audit_fault [] ∙ ap (λ k. or_else k []) audit_passes)
+    (ap reads_by (audit_subcommand []))
+
 empty_left : (a b : Kinds) → or_else a b ≡ [] → a ≡ []
 empty_left [] b e = refl
 empty_left (k ∷ ks) b e = cc
@@ -85,7 +98,8 @@ name_fails : (word : Text) (rest : List Text) → IsNoName word → fault_of pro
 name_fails word rest other e =
     let f = other_name (codes "format") word other.0 in
     let r = other_name (codes "run") word other.1 in
-    let no : IsNoCommand word = simp (f, r) in no_command_fails word rest no e
+    let a = other_name (codes "audit") word other.2 in
+    let no : IsNoCommand word = simp (f, r, a) in no_command_fails word rest no e
 
 pub no_words : asked_by [] ≡ None
 no_words = refused_is [] no_words_fail
@@ -98,3 +112,20 @@ run_short rest few = refused_is (codes "run" ∷ rest) (run_fails rest few)
 
 pub format_short : (rest : List Text) → length rest < 11 → asked_by (codes "format" ∷ rest) ≡ None
 format_short rest few = refused_is (codes "format" ∷ rest) (format_fails rest few)
+
+walk_first : (s : Shape) (w : Walk) (word : Text) (rest : List Text) → walk_fault s [] w (word ∷ rest) ≡ [] → turn_fault s [] w word ≡ []
+unfolding walk_fault
+walk_first s w word rest e = empty_left _ _ e
+
+stray_fails : stray_fault audit_built ≡ [] → ⊥
+stray_fails e = cc
+
+-- a word behind `audit` is one too many
+audit_fails : (word : Text) (rest : List Text) → IsPlain word → fault_of program (codes "audit" ∷ word ∷ rest) ≡ [] → ⊥
+audit_fails word rest plain e =
+    let level = empty_left _ [] (sym (audit_fault (word ∷ rest)) ∙ e) in
+    let turn = walk_first audit_built (walk_from nothing_held) word rest (empty_left _ _ level) in
+    stray_fails (sym (plain_turn-idle audit_built 1 word nothing_held plain) ∙ turn)
+
+pub audit_more : (word : Text) (rest : List Text) → IsPlain word → asked_by (codes "audit" ∷ word ∷ rest) ≡ None
+audit_more word rest plain = refused_is (codes "audit" ∷ word ∷ rest) (audit_fails word rest plain)

@@ -13,7 +13,7 @@ use Rattle.clap.specs.Faults.{built_fault, check_fault, defaults_fault, entered_
 use Rattle.clap.proofs.FaultLemmas.{stopped_fault}
 use Rattle.clap.proofs.OnLiterals.{clap_on_literals}
 use Rattle.ob_words.specs.Commands.{program}
-use Rattle.ob_words.proofs.Built.{format_built, is_built, program_built, run_built, top_built}
+use Rattle.ob_words.proofs.Built.{audit_built, format_built, is_built, program_built, run_built, top_built}
 
 -- the words after the command's name are kept for it
 stays : (c : List Rule) (names : Names) (w : Walk) (name : Text) (had words : List Text)
@@ -43,6 +43,14 @@ run_stops rest = stays [] (names_of program_built) (walk_from nothing_held) (cod
 run_turn : (rest : List Text) → walk_fault top_built (names_of program_built) (walk_from nothing_held) (codes "run" ∷ rest) ≡ []
 unfolding clap_on_literals
 run_turn rest = stopped_fault top_built (names_of program_built) (walk_from nothing_held) (codes "run", []) rest
+
+audit_stops : (rest : List Text) → walk [] (names_of program_built) nothing_held (codes "audit" ∷ rest) ≡ stopped_at (codes "audit") rest
+unfolding clap_on_literals
+audit_stops rest = stays [] (names_of program_built) (walk_from nothing_held) (codes "audit") [] rest
+
+audit_turn : (rest : List Text) → walk_fault top_built (names_of program_built) (walk_from nothing_held) (codes "audit" ∷ rest) ≡ []
+unfolding clap_on_literals
+audit_turn rest = stopped_fault top_built (names_of program_built) (walk_from nothing_held) (codes "audit", []) rest
 
 -- the top level, from its walk
 abbrev top_fault : Kinds → Walk → Kinds
@@ -76,6 +84,18 @@ pub run_subcommand : (rest : List Text) → subcommand_of program (codes "run" �
 run_subcommand rest =
     ap (λ (a : App). entered a (stop_after a.top.rules (names_of a) (codes "run" ∷ rest))) is_built
     ∙ ap (λ (w : Walk). entered program_built w.stopped) (run_stops rest)
+
+audit_after : (rest : List Text) → top_fault [] (stopped_at (codes "audit") rest) ≡ or_else (level_fault audit_built [] nothing_held rest false []) []
+unfolding clap_on_literals
+audit_after rest = refl
+
+pub audit_fault : (rest : List Text) → fault_of program (codes "audit" ∷ rest) ≡ or_else (level_fault audit_built [] nothing_held rest false []) []
+audit_fault rest = top_is (codes "audit" ∷ rest) ∙ ap₂ top_fault (audit_turn rest) (audit_stops rest) ∙ audit_after rest
+
+pub audit_subcommand : (rest : List Text) → subcommand_of program (codes "audit" ∷ rest) ≡ Some (codes "audit", rows_after audit_built.rules [] rest)
+audit_subcommand rest =
+    ap (λ (a : App). entered a (stop_after a.top.rules (names_of a) (codes "audit" ∷ rest))) is_built
+    ∙ ap (λ (w : Walk). entered program_built w.stopped) (audit_stops rest)
 
 -- ---- words that name no command
 

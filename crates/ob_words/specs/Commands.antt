@@ -28,12 +28,19 @@ run_shape = record (new_shape (codes "run")) {
   rules = operand (codes "STORE") ∷ operand (codes "KEYS") ∷ option (codes "lanes") ∷ flag (codes "turns") ∷ [];
 }
 
+-- `audit`
+abbrev pub audit_shape : Shape
+audit_shape = new_shape (codes "audit")
+
 -- each command alone
 abbrev pub format_app : App
 format_app = record { top = format_shape; subs = [] }
 
 abbrev pub run_app : App
 run_app = record { top = run_shape; subs = [] }
+
+abbrev pub audit_app : App
+audit_app = record { top = audit_shape; subs = [] }
 
 -- the program: the first word names a command, and no word asks for help
 abbrev pub program : App
@@ -45,5 +52,5 @@ program = record {
     disable_help_subcommand = true;
     subcommand_required = true;
   };
-  subs = format_shape ∷ run_shape ∷ [];
+  subs = format_shape ∷ run_shape ∷ audit_shape ∷ [];
 }

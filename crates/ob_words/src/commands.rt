@@ -3,7 +3,7 @@
 ghost use Rattle.std.specs.Prelude.{◌≡◌, IfOk, false};
 ghost use Rattle.clap.specs.Words.{app_of, with_rule};
 ghost use Rattle.clap.specs.declared.Command.TheViews.{out-Command};
-ghost use Rattle.ob_words.specs.Commands.{operand, option, flag, format_app, run_app, program};
+ghost use Rattle.ob_words.specs.Commands.{operand, option, flag, format_app, run_app, audit_app, program};
 
 use clap::{Arg, ArgAction, Command};
 use std::alloc::{AllocError, Global};
@@ -79,6 +79,13 @@ fn format_command<'a>(alloc: Global) -> Result<Command<'a>, AllocError>
     with_operand(alloc, command, "T")
 }
 
+fn audit_command<'a>(alloc: Global) -> Command<'a>
+    ensures app { app_of result ≡ audit_app }
+    ensures local { (out-Command result).has_globals ≡ false }
+{
+    Command::new(alloc, "audit")
+}
+
 /// The program, whose first word names a command. No word asks for help.
 ///
 /// # Errors
@@ -92,5 +99,6 @@ pub fn program_command<'a>(alloc: Global) -> Result<Command<'a>, AllocError>
         .disable_help_subcommand(true)
         .subcommand_required(true);
     let command = command.subcommand(format_command(alloc)?)?;
-    command.subcommand(run_command(alloc)?)
+    let command = command.subcommand(run_command(alloc)?)?;
+    command.subcommand(audit_command(alloc))
 }

@@ -2,7 +2,7 @@
 
 ghost use Rattle.std.specs.Prelude.{ℕ, List, [], ◌∷◌, ◌≡◌, ◌<◌, length, Some, None, codes};
 ghost use Rattle.ob_words.specs.Forms.{Choice, AreChoices, ArePlain, IsPlain, IsNoName, lanes_in, turns_in, words_of};
-ghost use Rattle.ob_words.specs.Reading.{asked_by, format_asked, run_asked};
+ghost use Rattle.ob_words.specs.Reading.{asked_by, format_asked, run_asked, audit_asked};
 
 /// Each form is read, as what it says: a command's name, its operands, and behind them any of its
 /// options, in any order, each once. (At the call it may be refused for want of memory alone.)
@@ -15,10 +15,11 @@ pub fn forms_are_read()
         → AreChoices options
         → asked_by (codes "run" ∷ store ∷ keys ∷ words_of options)
         ≡ Some (run_asked store keys (lanes_in options) (turns_in options)) }
+    ensures audit { asked_by (codes "audit" ∷ []) ≡ Some audit_asked }
 {}
 
 /// Words that name no command, or that are fewer than a command's name and its operands, are refused,
-/// whatever they are.
+/// whatever they are; so is a plain word behind `audit`.
 pub fn others_are_refused()
     ensures none { asked_by [] ≡ None }
     ensures name { (word : List ℕ) (rest : List (List ℕ)) → IsNoName word
@@ -26,4 +27,6 @@ pub fn others_are_refused()
     ensures format { (rest : List (List ℕ)) → length rest < 11
         → asked_by (codes "format" ∷ rest) ≡ None }
     ensures run { (rest : List (List ℕ)) → length rest < 2 → asked_by (codes "run" ∷ rest) ≡ None }
+    ensures audit { (word : List ℕ) (rest : List (List ℕ)) → IsPlain word
+        → asked_by (codes "audit" ∷ word ∷ rest) ≡ None }
 {}

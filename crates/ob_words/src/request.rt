@@ -36,6 +36,8 @@ pub enum Request<'a> {
         lanes: Option<&'a str>,
         turns: bool,
     },
+    /// An audit of the trace that comes in.
+    Audit,
 }
 
 /// Why the words weren't read.
@@ -112,6 +114,8 @@ fn request_of<'a>(matches: &ArgMatches<'a>) -> Option<Request<'a>>
         Some(format_request(found))
     } else if name == "run" {
         Some(run_request(found))
+    } else if name == "audit" {
+        Some(Request::Audit)
     } else {
         None
     }

@@ -5,7 +5,8 @@ use std::process::Abort;
 use std::test::Fail;
 
 // Words, each behind a blank, and what they ask for.
-const READ: [(&str, &str); 14] = [
+const READ: [(&str, &str); 15] = [
+    ("audit", "audit"),
     ("run S K", "run [S] [K]"),
     ("run S K --turns", "run [S] [K] turns"),
     ("run S K --lanes 1", "run [S] [K] lanes [1]"),
@@ -28,7 +29,7 @@ const READ: [(&str, &str); 14] = [
 ];
 
 // Words that are refused.
-const REFUSED: [&str; 28] = [
+const REFUSED: [&str; 29] = [
     "",
     "run",
     "run S",
@@ -41,7 +42,8 @@ const REFUSED: [&str; 28] = [
     "format S K 8 2 2 3 2 2 2 2 8 9",
     "format S K 8 2 2 3 2 2 2 -2 8",
     "format S K 8 2 2 3 2 2 2 2 8 --turns",
-    "audit",
+    "audit x",
+    "audit --turns",
     "drill 1",
     "run S K --trace F",
     "--help",
@@ -106,6 +108,7 @@ fn spell<R: AllocGlobal>(rt: &R, request: &Request<'_>) -> Result<String, Fail> 
             }
             Ok(text)
         }
+        Request::Audit => Ok(format!(in alloc; "audit")?),
     }
 }
 

@@ -14,19 +14,19 @@ use Rattle.ob_flat.proofs.formatting.lay_rows.Goals as goal
 pub returns-clause-rows : goal.returns-clause-rows
 returns-clause-rows g c = λ tells.
     let a = c.in_ok-write_blanks.ensures in
-    let told = a.serves.tells tells in
+    let told = a.rows.serves.tells tells in
     let keeps = c.sync_noted.ensures.keeps in
-    if_ok _ c.set_first.result (λ i lt. c.set_first.ensures.rest (keeps.tells told) (9 + i) (inr (omega arith)) ∙ keeps.cells told (9 + i) ∙ a.written tells i lt)
+    if_ok _ c.set_first.result (λ i lt. c.set_first.ensures.rest (keeps.tells told) (9 + i) (inr (omega arith)) ∙ keeps.cells told (9 + i) ∙ a.rows.written tells i lt)
 
 pub returns-in_err-write_blanks-clause-passes : goal.returns-in_err-write_blanks-clause-passes
 returns-in_err-write_blanks-clause-passes g c =
-    off_head 9 c.args.keys (g.S.Store.disk c.args.store.now) (g.S.Store.disk c.write_blanks.new.store) (omega arith) c.write_blanks.ensures.passes
+    off_head 9 _ (g.S.Store.disk c.args.store.now) (g.S.Store.disk c.write_blanks.new.store) (omega arith) c.write_blanks.ensures.rows.within.passes
 
 pub returns-in_err-sync_noted-clause-passes : goal.returns-in_err-sync_noted-clause-passes
 returns-in_err-sync_noted-clause-passes g c =
     let old = g.S.Store.disk c.args.store.now in
     let mid = g.S.Store.disk c.write_blanks.new.store in
-    passed_still SameHead old mid (g.S.Store.disk c.sync_noted.new.store) (off_head 9 c.args.keys old mid (omega arith) c.write_blanks.ensures.passes)
+    passed_still SameHead old mid (g.S.Store.disk c.sync_noted.new.store) (off_head 9 _ old mid (omega arith) c.write_blanks.ensures.rows.within.passes)
     c.sync_noted.ensures.serves.goes.later c.sync_noted.ensures.time c.sync_noted.ensures.crash
 
 pub returns-clause-passes : goal.returns-clause-passes
@@ -36,7 +36,7 @@ returns-clause-passes g c =
     let sure = g.S.Store.disk c.sync_noted.new.store in
     let new = g.S.Store.disk c.set_first.new.store in
     head_then old sure new
-    (passed_still SameHead old mid sure (off_head 9 c.args.keys old mid (omega arith) c.write_blanks.ensures.passes) c.sync_noted.ensures.serves.goes.later c.sync_noted.ensures.time c.sync_noted.ensures.crash)
+    (passed_still SameHead old mid sure (off_head 9 _ old mid (omega arith) c.write_blanks.ensures.rows.within.passes) c.sync_noted.ensures.serves.goes.later c.sync_noted.ensures.time c.sync_noted.ensures.crash)
     (outside_head 5 sure new (omega arith) c.set_first.ensures.passes)
 
 pub returns-in_err-write_blanks-clause-does : goal.returns-in_err-write_blanks-clause-does

@@ -7,7 +7,7 @@ use Rattle.ob_session.specs.Agreeing.{Agrees}
 use Rattle.ob_hall.specs.Passes.{Steps, said_of}
 use Rattle.ob_hall.specs.Driving.{TurnSays}
 use Rattle.ob_hall.proofs.Turning as turning
-use Rattle.ob_hall.proofs.Stepping.{said_after}
+use Rattle.ob_hall.proofs.Stepping.{said_after, makes_step}
 use Rattle.ob_hall.proofs.driving.take_turn.Goals as goal
 
 pub step-step-requires-clause-bound : goal.step-step-requires-clause-bound
@@ -47,3 +47,7 @@ returns-clause-step g c =
     ∙ ap stands_after
     (ap (λ (n : ℕ). said_of c.args.pass.now ++ said_by n (steps_of c.step-step.result.1)) c.requires.client
     ∙ sym (said_after c.args.hall.now c.args.pass.now c.enter-desk.new.pass c.leave_client.new.pass c.enter-desk.result c.step-step.new.desk (steps_of c.step-step.result.1) c.requires.ready c.enter-desk.ensures.entered c.step-step.ensures.made own c.leave_client.ensures.left))
+
+pub returns-clause-turn : goal.returns-clause-turn
+returns-clause-turn g c = makes_step (g.U.Runner.turn (g.U.Runner.plan c.args.runner.now)) c.args.hall.now c.args.pass.now c.enter-desk.new.pass c.leave_client.new.pass c.enter-desk.result (steps_of c.step-step.result.1) c.enter-desk.ensures.entered c.leave_client.ensures.left
+    (subst (λ (n : ℕ). g.U.Runner.turn (g.U.Runner.plan c.args.runner.now) n (said_of c.args.pass.now) (steps_of c.step-step.result.1)) c.requires.client (c.step-step.ensures.turn (said_of c.args.pass.now) c.requires.fits))

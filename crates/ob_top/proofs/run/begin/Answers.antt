@@ -44,32 +44,32 @@ returns-in-Ok-prepare-clause-begun g c =
     let head = c.in-Ok.ensures in
     let e = c.in-Ok-prepare.ensures in
     opened c.args.keys.now (g.S.Store.disk c.args.store.now) (g.S.Store.disk c.head.new.store) (g.S.Store.disk c.prepare.new.store) _ c.in-Ok.params c.in-Ok-read_script.scripts _ _
-    c.in-Ok-prepare.opening head.value head.keeps head.does.seen c.in-Ok-read_script.ensures.came e.value e.begins.gates e.order
+    c.in-Ok-prepare.opening head.value head.keeps head.does.seen c.in-Ok-read_script.ensures.came e.opening.value e.opening.begins.gates e.opening.order
 
 pub returns-in-Err-prepare-clause-refused : goal.returns-in-Err-prepare-clause-refused
 returns-in-Err-prepare-clause-refused g c =
     let head = c.in-Ok.ensures in
     let e = c.in-Err-prepare.ensures in
     unopened c.args.keys.now (g.S.Store.disk c.args.store.now) (g.S.Store.disk c.head.new.store) (g.S.Store.disk c.prepare.new.store) _ c.in-Ok.params c.in-Ok-read_script.scripts _ _
-    g.S.Store.disk _ c.in-Err-prepare.fault head.value head.keeps head.serves.goes.faults head.does.seen c.in-Ok-read_script.ensures.came e.faults e.value e.serves.cause e.order_err head.passes e.unwritten
-    (λ at tells stands all. left_opening c.args.keys.now c.in-Ok.params (g.S.Store.disk c.args.store.now) (g.S.Store.disk c.head.new.store) (g.S.Store.disk c.prepare.new.store) head.passes head.keeps (g.met.S.Store.only_now c.args.store.now) tells at e.crash stands all)
-    (opens_or_not g.S.Store.disk c.args.keys.now c.in-Ok.params c.args.store.now c.head.new.store c.prepare.new.store head.passes head.keeps e.since)
+    g.S.Store.disk _ c.in-Err-prepare.fault head.value head.keeps head.serves.goes.faults head.does.seen c.in-Ok-read_script.ensures.came e.faults e.opening.value e.serves.cause e.opening.order head.passes e.opening.unwritten
+    (λ at tells stands all. left_opening c.args.keys.now c.in-Ok.params (g.S.Store.disk c.args.store.now) (g.S.Store.disk c.head.new.store) (g.S.Store.disk c.prepare.new.store) head.passes head.keeps (g.met.S.Store.only_now c.args.store.now) tells at e.opening.crash stands all)
+    (opens_or_not g.S.Store.disk c.args.keys.now c.in-Ok.params c.args.store.now c.head.new.store c.prepare.new.store head.passes head.keeps e.opening.since)
 
 pub returns-in-Ok-prepare-clause-opened : goal.returns-in-Ok-prepare-clause-opened
 returns-in-Ok-prepare-clause-opened g c = λ at tells stands.
     let head = c.in-Ok.ensures in
     opened_kind c.args.keys.now c.in-Ok.params at c.in-Ok-prepare.opening (g.S.Store.disk c.prepare.new.store)
-    (c.in-Ok-prepare.ensures.opened at (head.keeps.tells tells) (kept c.args.keys.now c.in-Ok.params (g.S.Store.disk c.args.store.now) (g.S.Store.disk c.head.new.store) (g.S.Store.disk c.prepare.new.store) head.passes head.keeps (g.met.S.Store.only_now c.args.store.now) tells at stands))
+    (c.in-Ok-prepare.ensures.opening.opened at (head.keeps.tells tells) (kept c.args.keys.now c.in-Ok.params (g.S.Store.disk c.args.store.now) (g.S.Store.disk c.head.new.store) (g.S.Store.disk c.prepare.new.store) head.passes head.keeps (g.met.S.Store.only_now c.args.store.now) tells at stands))
 
 pub returns-in-Ok-prepare-clause-left : goal.returns-in-Ok-prepare-clause-left
 returns-in-Ok-prepare-clause-left g c = λ at tells stands all.
     let head = c.in-Ok.ensures in
-    left_opening c.args.keys.now c.in-Ok.params (g.S.Store.disk c.args.store.now) (g.S.Store.disk c.head.new.store) (g.S.Store.disk c.prepare.new.store) head.passes head.keeps (g.met.S.Store.only_now c.args.store.now) tells at c.in-Ok-prepare.ensures.crash stands all
+    left_opening c.args.keys.now c.in-Ok.params (g.S.Store.disk c.args.store.now) (g.S.Store.disk c.head.new.store) (g.S.Store.disk c.prepare.new.store) head.passes head.keeps (g.met.S.Store.only_now c.args.store.now) tells at c.in-Ok-prepare.ensures.opening.crash stands all
 
 pub returns-in-Ok-prepare-clause-since : goal.returns-in-Ok-prepare-clause-since
 returns-in-Ok-prepare-clause-since g c =
     let head = c.in-Ok.ensures in
-    opens_from g.S.Store.disk c.args.keys.now c.in-Ok.params c.args.store.now c.head.new.store c.prepare.new.store head.passes head.keeps c.in-Ok-prepare.ensures.since
+    opens_from g.S.Store.disk c.args.keys.now c.in-Ok.params c.args.store.now c.head.new.store c.prepare.new.store head.passes head.keeps c.in-Ok-prepare.ensures.opening.since
 
 -- ---- the life of the store
 
@@ -86,10 +86,10 @@ pub returns-in-Err-prepare-clause-lives : goal.returns-in-Err-prepare-clause-liv
 returns-in-Err-prepare-clause-lives g c =
     let head = c.in-Ok.ensures in
     let e = c.in-Err-prepare.ensures in
-    refused_lives g.S.Store.disk g.met.S.Store.only_now c.args.keys.now c.args.store.now c.head.new.store head.serves.goes head.passes c.prepare.new.store e.serves.goes c.in-Err-prepare.fault e.register
+    refused_lives g.S.Store.disk g.met.S.Store.only_now c.args.keys.now c.args.store.now c.head.new.store head.serves.goes head.passes c.prepare.new.store e.serves.goes c.in-Err-prepare.fault e.opening.register
 
 pub returns-in-Ok-prepare-clause-opens : goal.returns-in-Ok-prepare-clause-opens
 returns-in-Ok-prepare-clause-opens g c =
     let head = c.in-Ok.ensures in
     let e = c.in-Ok-prepare.ensures in
-    read_opened g.S.Store.disk g.met.S.Store.only_now c.args.keys.now c.args.store.now c.head.new.store head.serves.goes head.passes c.prepare.new.store e.serves.goes c.in-Ok-prepare.opening e.begins.sealer e.begins.durable e.register
+    read_opened g.S.Store.disk g.met.S.Store.only_now c.args.keys.now c.args.store.now c.head.new.store head.serves.goes head.passes c.prepare.new.store e.serves.goes c.in-Ok-prepare.opening e.opening.begins.sealer e.opening.begins.durable e.opening.register

@@ -1,35 +1,46 @@
-use Rattle.std.proofs.Common.{refl}
-use Rattle.ob_top.proofs.Commands.{usage_done, format_does, run_does, no_store_usage, no_store_format, no_store_run}
 use Rattle.ob_top.proofs.Completing.{completes}
+use Rattle.ob_top.proofs.Over.{audit_low, usage_over, audit_over, format_over, run_over, usage_alone, audit_without, format_alone, run_alone}
 use Rattle.ob_top.proofs.top.obladi.Goals as goal
 
 pub returns-in-Some-clause-usage : goal.returns-in-Some-clause-usage
-returns-in-Some-clause-usage g c = rw c.in-Some.is (usage_done _ _ _ _ refl g.S.Store.disk _ _ _ _ _ _ c.do_on-ended.ensures.does c.finish.ensures)
+returns-in-Some-clause-usage g c = rw c.in-Some.is (usage_over g.S.Store.disk _ _ _ _ _ _ _ _ c.do_with.ensures.does)
+
+pub returns-in-Some-clause-audit : goal.returns-in-Some-clause-audit
+returns-in-Some-clause-audit g c = rw c.in-Some.is (audit_over g.S.Store.disk _ _ _ _ _ _ _ _ c.do_with.ensures.does)
 
 pub returns-in-Some-clause-format : goal.returns-in-Some-clause-format
-returns-in-Some-clause-format g c = rw c.in-Some.is (format_does _ _ _ _ refl g.S.Store.disk _ _ _ _ _ _ c.do_on-ended.ensures.does c.finish.ensures)
+returns-in-Some-clause-format g c = rw c.in-Some.is (format_over g.S.Store.disk _ _ _ _ _ _ _ _ c.do_with.ensures.does)
 
 pub returns-in-Some-clause-run : goal.returns-in-Some-clause-run
-returns-in-Some-clause-run g c = rw c.in-Some.is (run_does _ _ _ _ refl g.S.Store.disk _ _ _ _ _ _ c.do_on-ended.ensures.does c.finish.ensures)
+returns-in-Some-clause-run g c = rw c.in-Some.is (run_over g.S.Store.disk _ _ _ _ _ _ _ _ c.do_with.ensures.does)
 
 pub returns-in-None-clause-usage : goal.returns-in-None-clause-usage
-returns-in-None-clause-usage g c = rw c.in-None.is (no_store_usage _ _ _ _ refl _ _ _ refl c.finish-in-None.ensures c.refusal_of.ensures)
+returns-in-None-clause-usage g c = rw c.in-None.is (usage_alone _ _ _ _ _ c.do_without.ensures)
+
+pub returns-in-None-clause-audit : goal.returns-in-None-clause-audit
+returns-in-None-clause-audit g c = rw c.in-None.is (audit_without _ _ _ _ _ c.do_without.ensures)
 
 pub returns-in-None-clause-format : goal.returns-in-None-clause-format
-returns-in-None-clause-format g c = rw c.in-None.is (no_store_format _ _ _ _ refl _ _ _ refl c.finish-in-None.ensures c.refusal_of.ensures)
+returns-in-None-clause-format g c = rw c.in-None.is (format_alone _ _ _ _ _ c.do_without.ensures)
 
 pub returns-in-None-clause-run : goal.returns-in-None-clause-run
-returns-in-None-clause-run g c = rw c.in-None.is (no_store_run _ _ _ _ refl _ _ _ refl c.finish-in-None.ensures c.refusal_of.ensures)
+returns-in-None-clause-run g c = rw c.in-None.is (run_alone _ _ _ _ _ c.do_without.ensures)
 
 pub returns-in-Some-clause-complete : goal.returns-in-Some-clause-complete
 returns-in-Some-clause-complete g c = rw c.in-Some.is (completes g.S.Store.disk _ _ _ _ _ _ _ _
-    (format_does _ _ _ _ refl g.S.Store.disk _ _ _ _ _ _ c.do_on-ended.ensures.does c.finish.ensures) (run_does _ _ _ _ refl g.S.Store.disk _ _ _ _ _ _ c.do_on-ended.ensures.does c.finish.ensures))
+    (format_over g.S.Store.disk _ _ _ _ _ _ _ _ c.do_with.ensures.does) (run_over g.S.Store.disk _ _ _ _ _ _ _ _ c.do_with.ensures.does))
 
 pub returns-in-None-clause-complete : goal.returns-in-None-clause-complete
 returns-in-None-clause-complete g c = rw c.in-None.is tt
 
+pub returns-in-Some-clause-audit_complete : goal.returns-in-Some-clause-audit_complete
+returns-in-Some-clause-audit_complete g c = λ asks. audit_low _ _ _ _ (audit_over g.S.Store.disk _ _ _ _ _ _ _ _ c.do_with.ensures.does asks)
+
+pub returns-in-None-clause-audit_complete : goal.returns-in-None-clause-audit_complete
+returns-in-None-clause-audit_complete g c = λ asks. audit_low _ _ _ _ (audit_without _ _ _ _ _ c.do_without.ensures asks)
+
 pub returns-in-Some-clause-goes : goal.returns-in-Some-clause-goes
-returns-in-Some-clause-goes g c = rw c.in-Some.is (c.do_on-ended.ensures.goes, c.do_on-ended.ensures.none_out)
+returns-in-Some-clause-goes g c = rw c.in-Some.is (c.do_with.ensures.goes, c.do_with.ensures.none_out)
 
 pub returns-in-None-clause-goes : goal.returns-in-None-clause-goes
 returns-in-None-clause-goes g c = rw c.in-None.is tt

@@ -15,7 +15,9 @@ returns c =
     settings ∙ ap (λ (a : App). on_top set a) c.new.ensures.app in
     let e1 = c.in_ok-command.ensures.shape c.in_ok-format_command.ensures.local
     ∙ ap₂ with_subcommand start (ap (λ (a : App). a.top) c.in_ok-format_command.ensures.app) in
+    let e2 = c.in_ok-command-2.ensures.shape c.in_ok-run_command.ensures.local
+    ∙ ap₂ with_subcommand e1 (ap (λ (a : App). a.top) c.in_ok-run_command.ensures.app) in
     record {
-      app = IfOk-weaker c.subcommand-2.result _ _ (λ r h. h.shape c.in_ok-run_command.ensures.local
-          ∙ ap₂ with_subcommand e1 (ap (λ (a : App). a.top) c.in_ok-run_command.ensures.app)) c.subcommand-2.ensures;
+      app = IfOk-weaker c.subcommand-3.result _ _ (λ r h. h.shape c.audit_command.ensures.local
+          ∙ ap₂ with_subcommand e2 (ap (λ (a : App). a.top) c.audit_command.ensures.app)) c.subcommand-3.ensures;
     }

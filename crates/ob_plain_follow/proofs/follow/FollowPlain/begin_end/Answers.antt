@@ -1,7 +1,7 @@
 use Rattle.std.proofs.Common.{◌++◌, ◌∙◌}
 use Rattle.ob_follow.specs.Wants.{end_wants, end_holes}
 use Rattle.ob_plain_follow.specs.Plain.{follow_of}
-use Rattle.ob_plain_follow.specs.Shown.{standing_of}
+use Rattle.ob_plain_wants.specs.Shown.{standing_of}
 use Rattle.ob_plain_follow.proofs.Steps.{step_end}
 use Rattle.ob_plain_follow.proofs.follow.FollowPlain.begin_end.Goals as goal
 

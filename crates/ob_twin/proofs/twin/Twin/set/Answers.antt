@@ -1,30 +1,178 @@
-use Rattle.std.proofs.Common.{◌∙◌, ap, subst, sym, arith}
-use Rattle.ob_twin.proofs.Moves.{two_within}
-use Rattle.ob_twin.proofs.Sets.{put_everywhere}
+use Rattle.std.proofs.Common.{◌≡◌, ℕ, None, Ok, Err, Bool, IsTrue, ◌∙◌, ap, subst, sym, arith}
+use Rattle.ob_base.specs.declared.fault.Fault.TheVariants.{StoreFault}
+use Rattle.ob_store.specs.Images.{LeavesOnly, Passes}
+use Rattle.ob_store.specs.Told.{TellsFirst}
 use Rattle.ob_twin.specs.declared.gates.Gates.{Gates}
 use Rattle.ob_twin.specs.declared.gates.Open.{Open}
-use Rattle.ob_twin.specs.Register.{first_of, place_of}
-use Rattle.ob_twin.specs.Opening.{known_of, with_mark, GatesAre}
-use Rattle.ob_twin.proofs.Gating.{are_marked, known_again}
+use Rattle.ob_twin.specs.declared.twin.Twin.{Twin}
+use Rattle.ob_twin.specs.declared.set_err.SetErr.TheVariants.{Before, Unsure}
+use Rattle.ob_twin.specs.Register.{first_of, body_at, gate_at, place_of, IsOpen, StandsAt, IsPut, OldOrNew, SameOutside, SameTwo}
+use Rattle.ob_twin.specs.Opening.{known_of, with_mark, is_closed_first, GatesAre}
+use Rattle.ob_twin.specs.Orders.{prepare_notes, SetDoes}
+use Rattle.ob_twin.specs.Refused.{SetLeaves}
+use Rattle.ob_twin.proofs.Moves.{two_within, opening, passes_within, passes_both}
+use Rattle.ob_twin.proofs.Sets.{set_done, set_unsure, put_at, put_everywhere, leaves_old, leaves_unsure, leaves_done}
+use Rattle.ob_twin.proofs.Gating.{are_marked, known_again, closed_of, open_of}
 use Rattle.ob_twin.proofs.twin.Twin.set.Goals as goal
 
-pub returns-clause-tell : goal.returns-clause-tell
-returns-clause-tell g c = λ tells.
-    let old = g.S.Store.disk c.args.store.now in
-    let new = g.S.Store.disk c.put.new.store in
-    subst (λ (k : Open). GatesAre k (first_of c.args.self) new.cells)
-    (sym (ap (λ (x : Gates). known_of c.args.self x) c.set_known.ensures ∙ known_again c.args.self c.args.gates.now c.with_mark.result ∙ c.with_mark.ensures ∙ ap (λ (k : Open). with_mark k (place_of c.args.n)) c.known_of-known.ensures))
-    (are_marked (known_of c.args.self c.args.gates.now) (first_of c.args.self) c.args.n old.cells new.cells (c.requires.told tells) (c.put.ensures.rest tells) (c.in-Ok.ensures.done tells).opened)
+-- whether the gate is closed first, from what is known of the register
+closed_by : (twin : Twin) (gates : Gates) (known : Open) (closes : Bool) (n : ℕ) → known ≡ known_of twin gates → closes ≡ is_closed_first known (place_of n) → closes ≡ is_closed_first (known_of twin gates) (place_of n)
+closed_by twin gates known closes n is so = so ∙ ap (λ (k : Open). is_closed_first k (place_of n)) is
+
+pub lay_body-requires-clause-told : goal.lay_body-requires-clause-told
+lay_body-requires-clause-told g c = λ tells refuses opened.
+    let known = known_of c.args.self c.args.gates.now in
+    let cells = (g.S.Store.disk c.args.store.now).cells in
+    let closes_is = closed_by c.args.self c.args.gates.now c.known_of-known.result c.is_closed_first-closes.result c.args.n c.known_of-known.ensures c.is_closed_first-closes.ensures in
+    closed_of known (first_of c.args.self) c.args.n cells (c.requires.told tells) (λ closes. refuses (subst (λ b. IsTrue b) (sym closes_is) closes))
+    (subst (λ f. IsOpen f cells (place_of c.args.n)) c.first-first.ensures opened)
+
+-- ---- refused before the gate
 
 pub returns-in-Err-clause-rest : goal.returns-in-Err-clause-rest
 returns-in-Err-clause-rest g c = λ tells.
-    two_within (first_of c.args.self) (place_of c.args.n) (g.S.Store.disk c.put.new.store).cells (g.S.Store.disk c.args.store.now).cells (omega arith) (c.put.ensures.rest tells)
+    let old = (g.S.Store.disk c.args.store.now).cells in
+    let new = (g.S.Store.disk c.lay_body.new.store).cells in
+    subst (λ f. SameOutside f new old) c.first-first.ensures (two_within c.first-first.result (place_of c.args.n) new old (omega arith) (c.lay_body.ensures.rest tells))
+
+pub returns-in-Err-clause-old_or_new : goal.returns-in-Err-clause-old_or_new
+returns-in-Err-clause-old_or_new g c = λ m next tells settled stands.
+    let tag = g.T.Stamper.tag c.args.stamper.now in
+    let known = known_of c.args.self c.args.gates.now in
+    let old = g.S.Store.disk c.args.store.now in
+    let new = g.S.Store.disk c.lay_body.new.store in
+    let closes_is = closed_by c.args.self c.args.gates.now c.known_of-known.result c.is_closed_first-closes.result c.args.n c.known_of-known.ensures c.is_closed_first-closes.ensures in
+    let opened = λ (closes : IsTrue c.is_closed_first-closes.result). subst (λ f. IsOpen f old.cells (place_of c.args.n)) (sym c.first-first.ensures)
+    (open_of tag known (first_of c.args.self) m c.args.n old.cells next (c.requires.told tells) stands (subst (λ b. IsTrue b) closes_is closes)) in
+    let stands_there = subst (λ f. StandsAt tag f old.cells m) (sym c.first-first.ensures) stands in
+    subst (λ f. LeavesOnly old new (SetLeaves tag f old.cells m c.args.n (Err (Before (StoreFault None))))) c.first-first.ensures
+    (leaves_old tag c.first-first.result m c.args.n old.cells old new (StoreFault None)
+    (c.lay_body.ensures.any_moment m next tells opened settled stands_there))
+
+pub returns-in-Err-clause-does : goal.returns-in-Err-clause-does
+returns-in-Err-clause-does g c =
+    let old = (g.S.Store.disk c.args.store.now).seen in
+    let new = (g.S.Store.disk c.lay_body.new.store).seen in
+    let before = g.W.Watch.trace c.args.watch.now in
+    let after = g.W.Watch.trace c.lay_body.new.watch in
+    let closes_is = closed_by c.args.self c.args.gates.now c.known_of-known.result c.is_closed_first-closes.result c.args.n c.known_of-known.ensures c.is_closed_first-closes.ensures in
+    subst (λ b. TellsFirst (prepare_notes b (first_of c.args.self) c.args.n) old new before after) closes_is
+    (subst (λ f. TellsFirst (prepare_notes c.is_closed_first-closes.result f c.args.n) old new before after) c.first-first.ensures c.in-Err.ensures.does.first)
+
+-- ---- refused at the gate
+
+pub returns-in-Err-open-clause-rest : goal.returns-in-Err-open-clause-rest
+returns-in-Err-open-clause-rest g c = λ tells.
+    let old = (g.S.Store.disk c.args.store.now).cells in
+    let new = (g.S.Store.disk c.open.new.store).cells in
+    let first = c.first-first.result in
+    let two : SameTwo (body_at first (place_of c.args.n)) (gate_at first (place_of c.args.n)) new old =
+    λ k body gate. c.open.ensures.rest (c.in-Ok.ensures.serves.tells tells) k gate ∙ c.lay_body.ensures.rest tells k body gate in
+    subst (λ f. SameOutside f new old) c.first-first.ensures (two_within first (place_of c.args.n) new old (omega arith) two)
+
+pub returns-in-Err-open-clause-passes : goal.returns-in-Err-open-clause-passes
+returns-in-Err-open-clause-passes g c =
+    let old = g.S.Store.disk c.args.store.now in
+    let mid = g.S.Store.disk c.lay_body.new.store in
+    let new = g.S.Store.disk c.open.new.store in
+    let first = c.first-first.result in
+    subst (λ f. Passes (SameOutside f) old new) c.first-first.ensures
+    (passes_both first old mid new c.lay_body.ensures.passes (passes_within first (gate_at first (place_of c.args.n)) mid new (omega arith) (omega arith) c.open.ensures.passes))
+
+pub returns-in-Err-open-clause-old_or_new : goal.returns-in-Err-open-clause-old_or_new
+returns-in-Err-open-clause-old_or_new g c = λ m next tells settled stands.
+    let tag = g.T.Stamper.tag c.args.stamper.now in
+    let known = known_of c.args.self c.args.gates.now in
+    let old = g.S.Store.disk c.args.store.now in
+    let new = g.S.Store.disk c.open.new.store in
+    let closes_is = closed_by c.args.self c.args.gates.now c.known_of-known.result c.is_closed_first-closes.result c.args.n c.known_of-known.ensures c.is_closed_first-closes.ensures in
+    let opened = λ (closes : IsTrue c.is_closed_first-closes.result). subst (λ f. IsOpen f old.cells (place_of c.args.n)) (sym c.first-first.ensures)
+    (open_of tag known (first_of c.args.self) m c.args.n old.cells next (c.requires.told tells) stands (subst (λ b. IsTrue b) closes_is closes)) in
+    let stands_there = subst (λ f. StandsAt tag f old.cells m) (sym c.first-first.ensures) stands in
+    leaves_unsure tag _ m c.args.n old.cells old new (StoreFault c.unsure_of.result)
+    (subst (λ f. LeavesOnly old new (OldOrNew tag f old.cells m c.args.n)) c.first-first.ensures
+    (opening tag c.first-first.result m c.args.n old (g.S.Store.disk c.lay_body.new.store) new next c.requires.small stands_there
+    (c.lay_body.ensures.any_moment m next tells opened settled stands_there)
+    (c.in-Ok.ensures.done tells)
+    (c.open.ensures.any_moment (c.in-Ok.ensures.durable tells))))
+
+pub returns-in-Err-open-clause-does : goal.returns-in-Err-open-clause-does
+returns-in-Err-open-clause-does g c =
+    let old = (g.S.Store.disk c.args.store.now).seen in
+    let new = (g.S.Store.disk c.open.new.store).seen in
+    let before = g.W.Watch.trace c.args.watch.now in
+    let after = g.W.Watch.trace c.open.new.watch in
+    let fault = StoreFault c.unsure_of.result in
+    let closes_is = closed_by c.args.self c.args.gates.now c.known_of-known.result c.is_closed_first-closes.result c.args.n c.known_of-known.ensures c.is_closed_first-closes.ensures in
+    subst (λ b. SetDoes b (first_of c.args.self) c.args.n old new before after (Err (Unsure fault))) closes_is
+    (subst (λ f. SetDoes c.is_closed_first-closes.result f c.args.n old new before after (Err (Unsure fault))) c.first-first.ensures
+    (set_unsure _ _ _ _ _ _ c.is_closed_first-closes.result c.first-first.result c.args.n c.in-Ok.ensures.does.all _ fault c.in-Err-open.ensures.does))
+
+-- ---- done
+
+pub returns-clause-done : goal.returns-clause-done
+returns-clause-done g c = λ tells.
+    let tag = g.T.Stamper.tag c.args.stamper.now in
+    let old = (g.S.Store.disk c.args.store.now).cells in
+    let new = (g.S.Store.disk c.open.new.store).cells in
+    let there = c.in-Ok.ensures.serves.tells tells in
+    subst (λ f. IsPut tag f old c.args.n new) c.first-first.ensures
+    (put_at tag c.first-first.result c.args.n old (g.S.Store.disk c.lay_body.new.store).cells new
+    (c.in-Ok.ensures.done tells) (c.in-Ok-open.ensures.opened there) (c.open.ensures.rest there))
 
 pub returns-clause-rest : goal.returns-clause-rest
 returns-clause-rest g c = λ tells.
-    two_within (first_of c.args.self) (place_of c.args.n) (g.S.Store.disk c.put.new.store).cells (g.S.Store.disk c.args.store.now).cells (omega arith) (c.put.ensures.rest tells)
+    let put = returns-clause-done g c tells in
+    two_within (first_of c.args.self) (place_of c.args.n) (g.S.Store.disk c.open.new.store).cells (g.S.Store.disk c.args.store.now).cells (omega arith) put.rest
+
+pub returns-clause-passes : goal.returns-clause-passes
+returns-clause-passes g c =
+    let old = g.S.Store.disk c.args.store.now in
+    let mid = g.S.Store.disk c.lay_body.new.store in
+    let new = g.S.Store.disk c.open.new.store in
+    let first = c.first-first.result in
+    subst (λ f. Passes (SameOutside f) old new) c.first-first.ensures
+    (passes_both first old mid new c.lay_body.ensures.passes (passes_within first (gate_at first (place_of c.args.n)) mid new (omega arith) (omega arith) c.open.ensures.passes))
 
 pub returns-clause-reads_new : goal.returns-clause-reads_new
 returns-clause-reads_new g c = λ tells under.
-    let new = g.S.Store.disk c.put.new.store in
-    put_everywhere (g.T.Stamper.tag c.args.stamper.now) (first_of c.args.self) c.args.n (g.S.Store.disk c.args.store.now).cells new c.requires.small under (c.in-Ok.ensures.done tells) (c.in-Ok.ensures.durable tells)
+    put_everywhere (g.T.Stamper.tag c.args.stamper.now) (first_of c.args.self) c.args.n (g.S.Store.disk c.args.store.now).cells (g.S.Store.disk c.open.new.store) c.requires.small under
+    (returns-clause-done g c tells) (c.in-Ok-open.ensures.durable (c.in-Ok.ensures.serves.tells tells))
+
+pub returns-clause-old_or_new : goal.returns-clause-old_or_new
+returns-clause-old_or_new g c = λ m next tells settled stands.
+    let tag = g.T.Stamper.tag c.args.stamper.now in
+    let known = known_of c.args.self c.args.gates.now in
+    let old = g.S.Store.disk c.args.store.now in
+    let new = g.S.Store.disk c.open.new.store in
+    let closes_is = closed_by c.args.self c.args.gates.now c.known_of-known.result c.is_closed_first-closes.result c.args.n c.known_of-known.ensures c.is_closed_first-closes.ensures in
+    let opened = λ (closes : IsTrue c.is_closed_first-closes.result). subst (λ f. IsOpen f old.cells (place_of c.args.n)) (sym c.first-first.ensures)
+    (open_of tag known (first_of c.args.self) m c.args.n old.cells next (c.requires.told tells) stands (subst (λ b. IsTrue b) closes_is closes)) in
+    let stands_there = subst (λ f. StandsAt tag f old.cells m) (sym c.first-first.ensures) stands in
+    leaves_done tag _ m c.args.n old.cells old new
+    (subst (λ f. LeavesOnly old new (OldOrNew tag f old.cells m c.args.n)) c.first-first.ensures
+    (opening tag c.first-first.result m c.args.n old (g.S.Store.disk c.lay_body.new.store) new next c.requires.small stands_there
+    (c.lay_body.ensures.any_moment m next tells opened settled stands_there)
+    (c.in-Ok.ensures.done tells)
+    (c.open.ensures.any_moment (c.in-Ok.ensures.durable tells))))
+
+pub returns-clause-tell : goal.returns-clause-tell
+returns-clause-tell g c = λ tells.
+    let known = known_of c.args.self c.args.gates.now in
+    let put = returns-clause-done g c tells in
+    let old = (g.S.Store.disk c.args.store.now).cells in
+    let new = (g.S.Store.disk c.open.new.store).cells in
+    subst (λ (k : Open). GatesAre k (first_of c.args.self) new)
+    (sym (ap (λ (x : Gates). known_of c.args.self x) c.set_known.ensures ∙ known_again c.args.self c.args.gates.now c.with_mark.result ∙ c.with_mark.ensures ∙ ap (λ (k : Open). with_mark k (place_of c.args.n)) c.known_of-known.ensures))
+    (are_marked known (first_of c.args.self) c.args.n old new (c.requires.told tells) put.rest put.opened)
+
+pub returns-clause-does : goal.returns-clause-does
+returns-clause-does g c =
+    let old = (g.S.Store.disk c.args.store.now).seen in
+    let new = (g.S.Store.disk c.open.new.store).seen in
+    let before = g.W.Watch.trace c.args.watch.now in
+    let after = g.W.Watch.trace c.open.new.watch in
+    let closes_is = closed_by c.args.self c.args.gates.now c.known_of-known.result c.is_closed_first-closes.result c.args.n c.known_of-known.ensures c.is_closed_first-closes.ensures in
+    subst (λ b. SetDoes b (first_of c.args.self) c.args.n old new before after (Ok tt)) closes_is
+    (subst (λ f. SetDoes c.is_closed_first-closes.result f c.args.n old new before after (Ok tt)) c.first-first.ensures
+    (set_done _ _ _ _ _ _ c.is_closed_first-closes.result c.first-first.result c.args.n c.in-Ok.ensures.does.all c.in-Ok-open.ensures.does))

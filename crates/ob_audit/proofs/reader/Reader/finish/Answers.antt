@@ -1,0 +1,15 @@
+use Rattle.std.proofs.Common.{arith}
+use Rattle.ob_audit.specs.Reader.{known_behind}
+use Rattle.ob_audit.proofs.Steps.{ends_whole, last_taken, last_refused}
+use Rattle.ob_audit.proofs.reader.Reader.finish.Goals as goal
+
+pub returns-then-self-eq0 : goal.returns-then-self-eq0
+returns-then-self-eq0 c = λ limit bytes h few. ends_whole c.args.self.now limit bytes h c.if-self-eq0.true few
+
+pub returns-in-Some : goal.returns-in-Some
+returns-in-Some c = λ limit bytes h few.
+    last_refused c.args.self.now limit bytes c.in-Some.audit h (omega (arith, c.if-self-eq0.false)) c.requires.within few (rw c.in-Some.is at (c.in_ok-audit.ensures h.begun h.kept))
+
+pub returns-in-None : goal.returns-in-None
+returns-in-None c = λ limit bytes h few.
+    last_taken c.args.self.now limit bytes (known_behind c.judge.new.known) h (omega (arith, c.if-self-eq0.false)) c.requires.within few (rw c.in-None.is at (c.in_ok-audit.ensures h.begun h.kept))

@@ -1,0 +1,13 @@
+use Rattle.std.proofs.Common.{◌++◌, ◌∷◌, [], ◌∙◌}
+use Rattle.ob_store.specs.declared.watch.Note.TheVariants.{Write, Sync}
+use Rattle.ob_plain_wants.proofs.Formats.{format_made}
+use Rattle.ob_plain_wants.proofs.notes.format_but_last.Goals as goal
+
+pub returns : goal.returns
+returns c =
+    let one = c.in_ok-extend_from_slice.ensures.items ∙ (λ j. c.in_ok-notes.ensures j ++ (c.deref.ensures.value ∙ c.in_ok-homes.ensures) j) in
+    let two = c.in_ok-extend_from_slice-2.ensures.items ∙ (λ j. one j ++ (c.deref-2.ensures.value ∙ c.in_ok-checks.ensures) j) in
+    let three = c.in_ok-push.ensures.items ∙ (λ j. two j ++ Sync ∷ []) in
+    let four = c.in_ok-extend_from_slice-3.ensures.items ∙ (λ j. three j ++ c.set_notes-set.ensures c.args.p.now j) in
+    let five = c.in_ok-push-2.ensures.items ∙ (λ j. four j ++ Write 0 ∷ []) in
+    (λ j. five j ++ Sync ∷ []) ∙ format_made c.args.p.now

@@ -1,0 +1,19 @@
+use Rattle.std.proofs.Common.{◌-◌, ◌++◌, ◌∷◌, [], ◌+◌, ◌∙◌, List, ap, sym, append_assoc}
+use Rattle.std.specs.List.{range_with_len}
+use Rattle.ob_store.specs.declared.watch.Note.{Note}
+use Rattle.ob_plain_wants.specs.Marked.{writes_marked}
+use Rattle.ob_plain_wants.specs.Shown.{standing_of}
+use Rattle.ob_plain_wants.proofs.Lists.{anew_more}
+use Rattle.ob_plain_wants.proofs.wants.push_level.Goals as goal
+
+pub loop-i-preserved : goal.loop-i-preserved
+loop-i-preserved c =
+    let p = c.args.p.now in
+    let s = standing_of c.args.standing.now in
+    let marks = c.args.lifted.now in
+    let first = c.args.many - 1 in
+    let before = c.args.notes.now.items in
+    c.in_ok-extend_from_slice.ensures.items
+    ∙ (λ j. c.loop-i.invariant j ++ (c.deref.ensures.value ∙ c.in_ok-writes.ensures) j)
+    ∙ append_assoc before (writes_marked p s marks (range_with_len first c.loop-i.i)) (writes_marked p s marks ((first + c.loop-i.i) ∷ []))
+    ∙ ap (λ (ns : List Note). before ++ ns) (sym (anew_more p s marks first c.loop-i.i))

@@ -1,0 +1,25 @@
+//! What is wanted of a run, in lists: what a stop finds, the notes of each step with what they
+//! change, and the reads of a place and of an end.
+#![tactic(auto)]
+
+mod evicted;
+mod notes;
+mod occasion;
+mod rows;
+mod seen;
+mod standing;
+mod totals;
+mod tree;
+mod visit;
+mod visits;
+mod wants;
+
+pub use notes::{body_of, check_at, record_at};
+pub use seen::SeenLabel;
+pub use standing::{StandingPlain, cell_at, shown_label};
+pub use visit::Visit;
+pub use visits::{final_visits, place_visits};
+pub use wants::{
+    end_wants, format_wants, found_wants, places, push_wants, record_wants, register_wants,
+    set_wants,
+};

@@ -1,0 +1,8 @@
+//! When a bucket's slots are read.
+
+/// When a bucket's slots are read: as a path passes it, or as it is lifted at an end.
+#[derive(Clone, Copy, Debug, PartialEq, Eq)]
+pub(crate) enum Occasion {
+    Passed,
+    Lifted,
+}

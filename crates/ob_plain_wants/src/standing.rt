@@ -1,0 +1,332 @@
+//! What a stop finds.
+
+ghost use Rattle.std.specs.Prelude.{◌≡◌, ◌+◌, ◌*◌, ◌/◌, ◌<◌, ℕ, IfOk, OnOk, None, false, slice_index, slice_index_or, map, ◌^◌, cond, not, ◌&&◌};
+ghost use Rattle.ob_base.specs.Tree.{below, buckets};
+ghost use Rattle.ob_base.specs.Layout.{slot_cell};
+ghost use Rattle.ob_schedule.specs.Schedule.{counts_now, after_end};
+ghost use Rattle.ob_follow.specs.declared.want.Side.TheVariants.{Even};
+ghost use Rattle.ob_follow.specs.Sides.{side_number, other};
+ghost use Rattle.ob_plain_wants.specs.Visits.{hole_of_visit};
+ghost use Rattle.ob_plain_wants.specs.Seen.{label_shown};
+ghost use Rattle.ob_follow.specs.Standing.{standing_formatted, public_known, is_lifted, with_slot, with_label, standing_ended};
+ghost use Rattle.ob_follow.specs.Follow.{with_gate, next_side};
+
+use crate::evicted::{evicted_buckets, next_counter};
+use crate::rows::{ROW, at_or, in_rows, put_in_rows};
+use crate::seen::SeenLabel;
+use crate::totals::{counts_left, either_marks, marks_of, totals};
+use crate::tree::passing;
+use crate::visit::Visit;
+use ob_base::{Params, buckets, slot_cell};
+use ob_follow::{Gate, Register, Side};
+use std::alloc::{AllocError, Global};
+
+/// What a stop finds: what the last end left, and what was shown and logged since.
+#[derive(Debug, Drop)]
+pub struct StandingPlain {
+    /// Where the epoch that stands lies.
+    pub epoch: Side,
+    /// Where each bucket lies.
+    pub homes: Vec<Side>,
+    /// How often each bucket's version was read before the running epoch.
+    pub counts: Vec<u32>,
+    /// How many paths were evicted, modulo the number of leaves.
+    pub counter: u32,
+    /// Where the generation that stands lies.
+    pub generation: Side,
+    /// The gate at the other place.
+    pub generation_gate: Gate,
+    /// The epoch's gate at the other place.
+    pub epoch_gate: Gate,
+    /// The first batches of the running epoch are logged, so many.
+    pub logged: u32,
+    /// One more may be.
+    pub maybe: bool,
+    /// Whether the buckets' versions have shown their slots, in rows of 64.
+    pub used: Vec<bool>,
+    /// What the places of the running epoch have shown.
+    pub labels: Vec<SeenLabel>,
+    /// What the buckets' reads have shown in the running epoch, in rows of 64.
+    pub slots: Vec<Option<u8>>,
+}
+
+/// The cell of a bucket's slot, wherever it would lie.
+#[tactic(auto, using(ob_base::proofs::Bounds::cells_le, crate::proofs::Cells::slot_far, crate::proofs::Cells::some_buckets, crate::proofs::Cells::some_width))]
+pub fn cell_at(p: &Params, home: Side, bucket: u32, slot: u8) -> u64
+    ensures cell { result ≡ slot_cell p.now (side_number home) bucket slot }
+    ensures few { result < 2 ^ 40 }
+{
+    let width = (p.real + p.dummies) as u64;
+    slot_cell(p, home.number(), 0, 0) + (bucket as u64 * width + slot as u64)
+}
+
+/// The label that a place of a batch has shown.
+pub fn shown_label(labels: &[SeenLabel], batch: u32, place: u32) -> Option<u16>
+    ensures { result ≡ label_shown labels.now batch place }
+{
+    match labels
+        .iter()
+        .find(|seen| seen.batch == batch && seen.place == place)
+    {
+        Some(seen) => Some(seen.leaf),
+        None => None,
+    }
+}
+
+fn count_at(counts: &[u32], bucket: u32) -> u32
+    ensures { result ≡ slice_index counts.now bucket }
+{
+    if (bucket as usize) < counts.len() {
+        counts[bucket as usize]
+    } else {
+        0
+    }
+}
+
+fn home_in(homes: &[Side], bucket: u32) -> Side
+    ensures { result ≡ slice_index_or homes.now bucket Even }
+{
+    if (bucket as usize) < homes.len() {
+        homes[bucket as usize]
+    } else {
+        Side::Even
+    }
+}
+
+impl StandingPlain {
+    ghost use Rattle.ob_plain_wants.specs.Shown.{standing_of};
+
+    /// What a whole format leaves.
+    pub fn formatted(alloc: Global) -> StandingPlain
+        ensures { standing_of result ≡ standing_formatted }
+    {
+        StandingPlain {
+            epoch: Side::Even,
+            homes: Vec::new(alloc),
+            counts: Vec::new(alloc),
+            counter: 0,
+            generation: Side::Odd,
+            generation_gate: Gate::Closed,
+            epoch_gate: Gate::Closed,
+            logged: 0,
+            maybe: false,
+            used: Vec::new(alloc),
+            labels: Vec::new(alloc),
+            slots: Vec::new(alloc),
+        }
+    }
+
+    /// Where a bucket lies.
+    pub fn home(&self, bucket: u32) -> Side
+        ensures { result ≡ (standing_of self.now).homes bucket }
+    {
+        home_in(&self.homes, bucket)
+    }
+
+    /// How often the bucket's version was read, these labels among it.
+    pub(crate) fn count(&self, p: &Params, leaves: &[u16], bucket: u32) -> u64
+        ensures { result
+            ≡ counts_now p.now (public_known p.now (standing_of self.now) leaves.now) bucket }
+    {
+        count_at(&self.counts, bucket) as u64 + passing(p, bucket, leaves)
+    }
+
+    /// Whether the bucket's version has shown the slot.
+    pub fn is_used(&self, bucket: u32, slot: u8) -> bool
+        ensures { result ≡ (standing_of self.now).used bucket slot }
+    {
+        in_rows(&self.used, false, bucket, slot as u64)
+    }
+
+    /// The slot that a read has shown in the running epoch.
+    pub fn shown_slot(&self, visit: Visit) -> Option<u8>
+        ensures { result ≡ (standing_of self.now).slots (hole_of_visit visit) }
+    {
+        in_rows(&self.slots, None, visit.bucket, visit.number)
+    }
+
+    /// The buckets that an end after these labels writes anew.
+    pub(crate) fn lifted(
+        &self,
+        alloc: Global,
+        p: &Params,
+        leaves: &[u16],
+    ) -> Result<Vec<bool>, AllocError>
+        ensures { IfOk result (λ lifted. lifted.items
+            ≡ map (is_lifted p.now (standing_of self.now) leaves.now) (below (buckets p.now))) }
+    {
+        let totals = totals(alloc, p, &self.counts, leaves)?;
+        let paths = evicted_buckets(alloc, p, self.counter)?;
+        let evicted = marks_of(alloc, p, &paths)?;
+        let lifted = either_marks(alloc, p, &evicted, &totals)?;
+        Ok(lifted)
+    }
+
+    fn home_after(&self, lifted: &[bool], bucket: u32) -> Side
+        ensures { result ≡ cond (slice_index_or lifted.now bucket false)
+            (other ((standing_of self.now).homes bucket)) ((standing_of self.now).homes bucket) }
+    {
+        if at_or(lifted, bucket as usize, false) {
+            self.home(bucket).other()
+        } else {
+            self.home(bucket)
+        }
+    }
+
+    fn homes_after(
+        &self,
+        alloc: Global,
+        p: &Params,
+        lifted: &[bool],
+    ) -> Result<Vec<Side>, AllocError>
+        ensures { IfOk result (λ homes. homes.items
+            ≡ map (λ u. cond (slice_index_or lifted.now u false)
+            (other ((standing_of self.now).homes u)) ((standing_of self.now).homes u))
+            (below (buckets p.now))) }
+    {
+        (0..buckets(p))
+            .map(|bucket| self.home_after(lifted, bucket))
+            .collect(alloc)
+    }
+
+    fn counts_after(
+        &self,
+        alloc: Global,
+        p: &Params,
+        leaves: &[u16],
+        lifted: &[bool],
+    ) -> Result<Vec<u32>, AllocError>
+        requires { lifted.now
+            ≡ map (is_lifted p.now (standing_of self.now) leaves.now) (below (buckets p.now)) }
+        ensures { IfOk result (λ counts. counts.items
+            ≡ map (after_end p.now (public_known p.now (standing_of self.now) leaves.now)).counts
+            (below (buckets p.now))) }
+    {
+        let totals = totals(alloc, p, &self.counts, leaves)?;
+        let counts = counts_left(alloc, p, lifted, &totals)?;
+        Ok(counts)
+    }
+
+    // Whether the slot at an index of the rows is known as shown after an end too.
+    fn stays_used(&self, lifted: &[bool], index: u32) -> bool
+        ensures { result ≡ (not (slice_index_or lifted.now (index / 64) false)
+            && slice_index_or self.now.used.items index false) }
+    {
+        if at_or(lifted, (index / ROW as u32) as usize, false) {
+            return false;
+        }
+        at_or(&self.used, index as usize, false)
+    }
+
+    fn used_after(
+        &self,
+        alloc: Global,
+        p: &Params,
+        lifted: &[bool],
+    ) -> Result<Vec<bool>, AllocError>
+        ensures { IfOk result (λ used. used.items
+            ≡ map (λ i. not (slice_index_or lifted.now (i / 64) false)
+            && slice_index_or self.now.used.items i false) (below (buckets p.now * 64))) }
+    {
+        (0..buckets(p) * ROW as u32)
+            .map(|index| self.stays_used(lifted, index))
+            .collect(alloc)
+    }
+
+    /// What stands after the running epoch's end.
+    pub fn ended(
+        &self,
+        alloc: Global,
+        p: &Params,
+        leaves: &[u16],
+    ) -> Result<StandingPlain, AllocError>
+        ensures { IfOk result (λ s. standing_of s
+            ≡ standing_ended p.now (standing_of self.now) leaves.now) }
+    {
+        let lifted = self.lifted(alloc, p, leaves)?;
+        let homes = self.homes_after(alloc, p, &lifted)?;
+        let counts = self.counts_after(alloc, p, leaves, &lifted)?;
+        let used = self.used_after(alloc, p, &lifted)?;
+        let labels = Vec::new(alloc);
+        let slots = Vec::new(alloc);
+        Ok(StandingPlain {
+            epoch: self.epoch.other(),
+            homes,
+            counts,
+            counter: next_counter(p, self.counter),
+            generation: self.generation,
+            generation_gate: self.generation_gate,
+            epoch_gate: Gate::Open,
+            logged: 0,
+            maybe: false,
+            used,
+            labels,
+            slots,
+        })
+    }
+
+    // Keeps what a read shows for the first time in the epoch.
+    #[tactic(auto, using(crate::proofs::RowLaws::rows_put))]
+    fn put_slot(&mut self, visit: Visit, slot: u8) -> Result<(), AllocError>
+        requires { slot < 64 }
+        ensures { OnOk result ((standing_of self.old).slots (hole_of_visit visit) ≡ None
+            → standing_of self.new ≡ with_slot (standing_of self.old) (hole_of_visit visit) slot) }
+    {
+        put_in_rows(&mut self.used, false, visit.bucket, slot as u64, true)?;
+        put_in_rows(
+            &mut self.slots,
+            None,
+            visit.bucket,
+            visit.number,
+            Some(slot),
+        )?;
+        Ok(())
+    }
+
+    /// Keeps what a read has shown.
+    pub fn keep_slot(&mut self, visit: Visit, slot: u8) -> Result<(), AllocError>
+        requires { (standing_of self.old).slots (hole_of_visit visit) ≡ None → slot < 64 }
+        ensures { OnOk result (standing_of self.new
+            ≡ with_slot (standing_of self.old) (hole_of_visit visit) slot) }
+    {
+        match self.shown_slot(visit) {
+            Some(_) => Ok(()),
+            None => self.put_slot(visit, slot),
+        }
+    }
+
+    /// Keeps what a place has shown.
+    #[tactic(auto, using(crate::proofs::LabelLaws::labels_more))]
+    pub fn keep_label(&mut self, batch: u32, place: u32, leaf: u16) -> Result<(), AllocError>
+        ensures { OnOk result (standing_of self.new
+            ≡ with_label (standing_of self.old) batch place leaf) }
+    {
+        match shown_label(&self.labels, batch, place) {
+            Some(_) => Ok(()),
+            None => {
+                self.labels.push(SeenLabel { batch, place, leaf })?;
+                Ok(())
+            }
+        }
+    }
+
+    /// The gate at a register's next place is known to be so.
+    pub fn set_gate(&mut self, register: Register, gate: Gate)
+        ensures { standing_of self.new ≡ with_gate register gate (standing_of self.old) }
+    {
+        match register {
+            Register::Generation => self.generation_gate = gate,
+            Register::Epoch => self.epoch_gate = gate,
+        }
+    }
+
+    /// Where the register's next number goes.
+    pub fn next_side(&self, register: Register) -> Side
+        ensures { result ≡ next_side (standing_of self.now) register }
+    {
+        match register {
+            Register::Generation => self.generation.other(),
+            Register::Epoch => self.epoch.other(),
+        }
+    }
+}

@@ -1,0 +1,12 @@
+//! A read that is wanted.
+
+ghost use Rattle.std.specs.Prelude.{◌<◌};
+
+/// The n-th read of a bucket's version.
+#[derive(Clone, Copy, Debug, PartialEq, Eq)]
+pub struct Visit {
+    pub bucket: u32,
+    /// Fewer than 64: a version is read at most once for each of its slots.
+    pub number: u64,
+    pub ghost few: { number < 64 },
+}

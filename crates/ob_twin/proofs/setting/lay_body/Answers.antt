@@ -1,0 +1,38 @@
+use Rattle.std.proofs.Common.{[], ◌%◌, arith, if◌then◌else◌}
+use Rattle.ob_store.proofs.Doing.{does_refused, first_more, does_then}
+use Rattle.ob_twin.specs.Register.{body_at, gate_at}
+use Rattle.ob_twin.specs.Orders.{through_notes, prepare_notes}
+use Rattle.ob_twin.proofs.Moves.{preparing, closing, passes_within, passes_both}
+use Rattle.ob_twin.proofs.setting.lay_body.Goals as goal
+
+pub returns-in_err-close-clause-any_moment : goal.returns-in_err-close-clause-any_moment
+returns-in_err-close-clause-any_moment g c = λ m next tells opened settled stands.
+    closing (g.T.Stamper.tag c.args.stamper.now) c.args.first m c.args.n c.args.closes _ _ next stands opened (c.close.ensures.any_moment settled)
+
+pub returns-clause-any_moment : goal.returns-clause-any_moment
+returns-clause-any_moment g c = λ m next tells opened settled stands.
+    preparing (g.T.Stamper.tag c.args.stamper.now) c.args.first m c.args.n c.args.closes _ (g.S.Store.disk c.close.new.store) _ next stands opened
+    (c.close.ensures.any_moment settled)
+    (c.close.ensures.rest tells)
+    (c.in_ok-close.ensures.shut tells)
+    (c.write_through.ensures.any_moment (c.in_ok-close.ensures.durable tells settled))
+
+pub returns-in_err-close-clause-passes : goal.returns-in_err-close-clause-passes
+returns-in_err-close-clause-passes g c = passes_within c.args.first (gate_at c.args.first (c.args.n % 2)) _ _ (omega arith) (omega arith) c.close.ensures.passes
+
+pub returns-clause-passes : goal.returns-clause-passes
+returns-clause-passes g c =
+    let first = c.args.first in
+    let mid = g.S.Store.disk c.close.new.store in
+    passes_both first _ mid _ (passes_within first (gate_at first (c.args.n % 2)) _ mid (omega arith) (omega arith) c.close.ensures.passes)
+    (passes_within first (body_at first (c.args.n % 2)) mid _ (omega arith) (omega arith) c.write_through.ensures.passes)
+
+pub returns-in_err-close-clause-does : goal.returns-in_err-close-clause-does
+returns-in_err-close-clause-does g c =
+    does_refused _ _ _ _ (prepare_notes c.args.closes c.args.first c.args.n) c.from_residual.result c.from_residual.ensures.0
+    (first_more _ _ _ _ (if c.args.closes then through_notes (gate_at c.args.first (c.args.n % 2)) else []) (through_notes (body_at c.args.first (c.args.n % 2))) c.in_err-close.ensures.does.first)
+
+pub returns-clause-does : goal.returns-clause-does
+returns-clause-does g c =
+    does_then _ _ _ _ _ _ (if c.args.closes then through_notes (gate_at c.args.first (c.args.n % 2)) else []) (through_notes (body_at c.args.first (c.args.n % 2))) c.write_through.result
+    c.in_ok-close.ensures.does.all c.write_through.ensures.does
