@@ -1,5 +1,5 @@
 -- One batch of a record: what its call answers and tells.
-use Rattle.std.proofs.Common.{◌≡◌, ◌⊎◌, inl, inr, ⊎_elim, ℕ, zero, suc, ◌+◌, ◌<◌, ◌≤◌, List, [], ◌∷◌, Option, Some, None, Result, Ok, Err, map, length, get_or, refl, sym, ◌∙◌, ap, subst, arith}
+use Rattle.std.proofs.Common.{◌≡◌, inl, inr, ℕ, zero, suc, ◌+◌, ◌<◌, ◌≤◌, List, [], ◌∷◌, Option, Some, None, Result, Ok, Err, map, length, refl, sym, ◌∙◌, ap, subst, arith}
 use Rattle.std.proofs.lemmas.Bool.{cases_lt}
 use Rattle.std.specs.Prelude.{IfSome}
 use Rattle.std.specs.List.{range_with_len}
@@ -20,17 +20,16 @@ use Rattle.ob_bucket.specs.Version.{Version}
 use Rattle.ob_content.specs.Content.{Rows}
 use Rattle.ob_ring.specs.FlatTable.{FlatTable}
 use Rattle.ob_ring.specs.Picked.{SameSeals, job_of, batch_picked}
-use Rattle.ob_ring.specs.Ring.{IsBatch, Kept}
+use Rattle.ob_ring.specs.Ring.{IsBatch, Kept, StandsFor}
+use Rattle.ob_tables.specs.Kept.{Held}
 use Rattle.ob_ring.specs.Settling.{first_fault, rows_after}
 use Rattle.ob_log.specs.Logs.{BatchRecord}
 use Rattle.ob_batch.specs.Jobs as jobs
 use Rattle.ob_batch.specs.Jobs.{AreFilled, AreJobsRead, AreKept, AreSeen, IsFirstFailing, cells_of}
-use Rattle.ob_batch.specs.Lanes.{ReadByLanes}
 use Rattle.ob_batch.specs.declared.error.JobsErr.{JobsErr}
-use Rattle.ob_batch.specs.declared.error.JobsErr.TheVariants as error
 use Rattle.ob_epoch.proofs.Calling.{plans_are_read}
 use Rattle.ob_stand.specs.Reads.{plains_in}
-use Rattle.ob_recover.specs.Repeats.{record_places, asked_of_record, batch_cells, batch_jobs, repeated_notes, BatchAnswers, BatchIsShown, BatchTells, HaveKeysOf, IsRepeatFault, JobsAnswer}
+use Rattle.ob_recover.specs.Repeats.{record_of, record_places, asked_of_record, batch_cells, batch_jobs, repeated_notes, BatchAnswers, BatchIsShown, BatchTells, HaveKeysOf, IsRepeatFault, JobsAnswer}
 use Rattle.ob_recover.specs.Shows.{placed_notes}
 use Rattle.ob_recover.proofs.FewLaws.{jobs_few}
 use Rattle.ob_recover.proofs.ShowLaws.{batch_shows}
@@ -181,3 +180,16 @@ module _ (most : ℕ) (old mid : Kept) (r : BatchRecord) (now : Planned) (start 
   batch_tells result told =
       subst (λ (ns : List Note). BatchTells most (batch_cells old.p start.versions t (asked_of_record old.p r)) ns a b k l result) (batch_shows old.p start.versions t (asked_of_record old.p r) now planned_jobs planned.places)
       (subst (λ (js : List Job). BatchTells most (cells_of js) (placed_notes now (length now.places)) a b k l result) planned_jobs told)
+
+-- ---- the same planner, and the same record
+
+-- another stash changes no table
+pub stands_kept : (r r' : Kept) (stash : Held) → r' ≡ record r { stash = stash } → (t : FlatTable) → StandsFor r t → StandsFor r' t
+stands_kept r r' stash is t stands = subst (λ (x : Kept). StandsFor x t) (sym is) (record { orderly = stands.orderly; arrays = stands.arrays })
+
+-- a record is that of its parts
+pub record_is : (r : BatchRecord) (generation first : ℕ) (asks : List (Option ℕ)) (words : List ℕ) → generation ≡ r.generation → first ≡ r.first → asks ≡ r.asks → words ≡ r.words
+    → record_of r.batch r.number generation first asks words ≡ r
+record_is r generation first asks words gs fs is ws =
+    ap (λ (g : ℕ). record_of r.batch r.number g first asks words) gs ∙ ap (λ (f : ℕ). record_of r.batch r.number r.generation f asks words) fs
+    ∙ ap (λ (xs : List (Option ℕ)). record_of r.batch r.number r.generation r.first xs words) is ∙ ap (λ (xs : List ℕ). record_of r.batch r.number r.generation r.first r.asks xs) ws

@@ -1,27 +1,19 @@
 -- The planner of the tables that are found, before any batch is repeated.
-use Rattle.std.proofs.Common.{◌≡◌, ◌≢◌, inl, inr, Bool, ℕ, zero, suc, ◌<◌, ◌≤◌, ◌^◌, false, List, [], ◌∷◌, Option, Some, None, replicate, length, get_or, refl, sym, ◌∙◌, ap, arith}
+use Rattle.std.proofs.Common.{◌≡◌, ◌≢◌, inl, inr, Bool, ℕ, zero, suc, ◌<◌, false, List, Option, None, replicate, length, get_or, refl, ◌∙◌, ap, arith}
 use Rattle.std.proofs.lemmas.List.{length-replicate}
 use Rattle.std.proofs.lemmas.Bool.{cases_lt}
-use Rattle.std.specs.FinMap as finite
 use Rattle.ob_base.specs.declared.params.Params.{Params}
 use Rattle.ob_base.specs.Tree.{buckets}
-use Rattle.ob_store.specs.declared.event.Event.{Event}
-use Rattle.ob_store.specs.Disk.{Disk}
-use Rattle.ob_store.specs.Lines.{Trace}
-use Rattle.ob_seal.specs.declared.keys.Keys.{Keys}
-use Rattle.ob_bucket.specs.Buckets.{Buckets, is_lifted}
+use Rattle.ob_bucket.specs.Buckets.{Buckets}
 use Rattle.ob_tables.specs.declared.entry.Entry.{Entry}
 use Rattle.ob_tables.specs.declared.tables.Tables.{Tables}
 use Rattle.ob_tables.specs.Kept.{entry_at}
 use Rattle.ob_content.specs.Content.{Obeys, content_of}
-use Rattle.ob_ring.specs.Ring.{IsRing, Kept, StandsFor}
+use Rattle.ob_ring.specs.Ring.{IsRing, StandsFor}
 use Rattle.ob_check.specs.Fresh.{AreIdle}
 use Rattle.ob_epoch.specs.Table.{flat_of, ring_of}
 use Rattle.ob_epoch.proofs.Reading.{rings_stand}
-use Rattle.ob_recover.specs.declared.found.Found.{Found}
-use Rattle.ob_recover.specs.Finds.{ObeysFound}
-use Rattle.ob_recover.proofs.RepeatLaws.{past, told_none, repeated_none}
-use Rattle.ob_recover.proofs.ReplayLaws.{Repeating}
+use Rattle.ob_recover.proofs.RepeatLaws.{past}
 
 low_present : (book : List (Option Entry)) (n k : ℕ) → length book ≡ n → entry_at book k ≢ None → k < n
 low_present book n k many present = elim (cases_lt k n) [

@@ -1,11 +1,9 @@
 -- How the batches of records follow one another.
-use Rattle.std.proofs.Common.{◌≡◌, ◌⊎◌, inl, inr, ⊎_elim, ℕ, zero, suc, ◌+◌, ◌<◌, ◌≤◌, ◌^◌, ◌%◌, List, [], ◌∷◌, ◌++◌, Option, Some, None, map, take, drop, length, get_or, refl, sym, ◌∙◌, ap, subst, arith, length-append, append_assoc}
-use Rattle.std.proofs.lemmas.List.{map-append, append-nil, take_more, take_all}
-use Rattle.std.specs.Prelude.{IfSome}
-use mathlib.Core.Path.{fun_ext}
+use Rattle.std.proofs.Common.{◌≡◌, ℕ, zero, suc, ◌<◌, ◌≤◌, List, [], ◌∷◌, ◌++◌, Option, Some, None, map, drop, length, get_or, refl, sym, ◌∙◌, ap, subst, arith, append_assoc}
+use Rattle.std.proofs.lemmas.List.{map-append, append-nil}
 use Rattle.ob_base.specs.declared.params.Params.{Params}
 use Rattle.ob_base.specs.declared.job.Job.{Job}
-use Rattle.ob_base.specs.Planned.{Planned, job_at}
+use Rattle.ob_base.specs.Planned.{job_at}
 use Rattle.ob_store.specs.declared.event.Event.{Event}
 use Rattle.ob_store.specs.declared.watch.Note.{Note}
 use Rattle.ob_store.specs.Disk.{Image}
@@ -23,16 +21,15 @@ use Rattle.ob_ring.specs.FlatTable.{FlatTable, Batch, after}
 use Rattle.ob_ring.specs.Picked.{Picked, SameSeals, job_of, batch_picked}
 use Rattle.ob_ring.specs.Settling.{first_fault, rows_after}
 use Rattle.ob_log.specs.Logs.{BatchRecord}
-use Rattle.ob_batch.specs.Jobs.{IsPlainOf, AreFilled, AreJobsRead, cells_of}
+use Rattle.ob_batch.specs.Jobs.{AreJobsRead}
 use Rattle.ob_batch.specs.Lanes.{ReadByLanes}
 use Rattle.ob_values.specs.Carries.{Slots, AreRead}
 use Rattle.ob_values.specs.Epochs.{Read, after_batches, rows_of_batches, AreAllRead, AreFaultless}
-use Rattle.ob_values.specs.Runs.{AreRun, Plains, slots_of}
-use Rattle.ob_values.proofs.Running.{jobs_are_read}
+use Rattle.ob_values.specs.Runs.{AreRun, Plains}
 use Rattle.ob_epoch.specs.Table.{flat_of}
 use Rattle.ob_stand.specs.Reads.{plains_in}
 use Rattle.ob_stand.proofs.ReadLaws.{sealed_are_opened}
-use Rattle.ob_recover.specs.Repeats.{record_places, asked_of_record, table_after_records, entries_after_records, repeated_notes, batch_jobs, batch_cells, repeat_notes, repeat_cells, ReadInTurn, BatchIsRead, AreRepeated, RepeatsTold, BatchIsShown}
+use Rattle.ob_recover.specs.Repeats.{record_places, asked_of_record, table_after_records, entries_after_records, repeated_notes, batch_cells, repeat_notes, repeat_cells, ReadInTurn, BatchIsRead, AreRepeated, RepeatsTold, BatchIsShown}
 
 -- ---- jobs that were read
 

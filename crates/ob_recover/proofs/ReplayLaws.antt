@@ -1,6 +1,6 @@
 -- The repeats so far, and one more.
-use Rattle.std.proofs.Common.{◌≡◌, ◌⊎◌, inl, inr, ⊎_elim, ℕ, zero, suc, ◌+◌, ◌<◌, ◌≤◌, List, [], ◌∷◌, ◌++◌, Option, Some, None, Result, Ok, Err, map, take, drop, length, get_or, refl, sym, ◌∙◌, ap, subst, arith}
-use Rattle.std.proofs.lemmas.List.{take_more, take_all}
+use Rattle.std.proofs.Common.{◌≡◌, ⊎_elim, ℕ, zero, suc, ◌+◌, ◌<◌, List, [], ◌∷◌, ◌++◌, Option, Result, Ok, Err, take, drop, length, refl, sym, ◌∙◌, ap, subst, arith}
+use Rattle.std.proofs.lemmas.List.{take_more}
 use mathlib.Core.Path.{fun_ext}
 use Rattle.ob_base.specs.declared.params.Params.{Params}
 use Rattle.ob_base.specs.declared.fault.Damaged.{Damaged as Damage}
@@ -9,10 +9,8 @@ use Rattle.ob_base.specs.declared.fault.Fault.TheVariants.{Memory, Usage, BadScr
 use Rattle.ob_store.specs.declared.event.Event.{Event}
 use Rattle.ob_store.specs.declared.watch.Note.{Note}
 use Rattle.ob_store.specs.Disk.{Disk, Image}
-use Rattle.ob_store.specs.Images.{Same, Passes}
-use Rattle.ob_store.specs.Calls.{GoesOn, Keeps, Serves, IsStoreFault}
+use Rattle.ob_store.specs.Calls.{Keeps}
 use Rattle.ob_store.specs.Lines.{Trace}
-use Rattle.ob_store.proofs.Serving.{goes_then}
 use Rattle.ob_seal.specs.declared.keys.Keys.{Keys}
 use Rattle.ob_bucket.specs.Buckets.{Buckets}
 use Rattle.ob_tables.specs.declared.entry.Entry.{Entry}
@@ -26,7 +24,6 @@ use Rattle.ob_log.specs.Logs.{BatchRecord, record_at, nothing}
 use Rattle.ob_epoch.specs.Table.{flat_of}
 use Rattle.ob_stand.specs.Reads.{slots_in}
 use Rattle.ob_recover.specs.Repeats.{record_places, asked_of_record, table_after_records, entries_after_records, repeated_notes, batch_cells, BatchAnswers, BatchTells, AreRepeated, IsRepeatDamage, IsRepeatFault, RepeatsTold, RepeatsFirst, RepeatDoes, RepeatsAnswer, content_of_ring}
-use Rattle.ob_recover.proofs.FindLaws.{keeps_both, reads_both}
 use Rattle.ob_recover.proofs.RepeatLaws.{table_more, entries_more, told_more, told_still, repeated_more}
 
 -- ---- one batch, as its call tells it
@@ -160,7 +157,8 @@ module _ (keys : Keys) (o : Kept) (most : ℕ) (rs : List BatchRecord) (n : ℕ)
   refused_value rows (BadScript line) fault last tells = absurd fault
   refused_value rows (BadParams field) fault last tells = absurd fault
   refused_value rows NotStore fault last tells = absurd fault
-  refused_value rows (Damaged cell check kept computed) fault last tells = damage_is (record { cell = cell; check = check; kept = kept; computed = computed }) tells (subst (λ (q : Params). OneRepeat keys q most mid new shown later ring ring' r (Err (Damaged cell check kept computed))) so.params last)
+  refused_value rows (Damaged cell check kept computed) fault last tells = damage_is (record { cell = cell; check = check; kept = kept; computed = computed }) tells
+      (subst (λ (q : Params). OneRepeat keys q most mid new shown later ring ring' r (Err (Damaged cell check kept computed))) so.params last)
   refused_value rows (StoreFault unsure) fault last tells = tt
   refused_value rows (StashFull full) fault last tells = absurd fault
   refused_value rows (Worn number) fault last tells = absurd fault

@@ -1,6 +1,6 @@
 -- What is shown of a planned batch is what the flat table's batch shows.
 use Rattle.std.proofs.Common.{◌≡◌, ℕ, zero, suc, ◌+◌, ◌-◌, ◌<◌, ◌≤◌, List, [], ◌∷◌, ◌++◌, Option, None, map, take, drop, length, get_or, refl, sym, ◌∙◌, ap, subst, arith, length-append, append_assoc, add-one, inl, inr}
-use Rattle.std.proofs.lemmas.List.{map-append, take_more, take_all, append-nil, take-append-le}
+use Rattle.std.proofs.lemmas.List.{map-append, take_more, take_all, append-nil}
 use Rattle.std.proofs.lemmas.Bool.{cases_lt}
 use Rattle.ob_base.specs.declared.params.Params.{Params}
 use Rattle.ob_base.specs.declared.job.Job.{Job}
@@ -14,7 +14,7 @@ use Rattle.ob_store.specs.declared.watch.Note.TheVariants as note
 use Rattle.ob_bucket.specs.Version.{Version}
 use Rattle.ob_ring.specs.FlatTable.{FlatTable, after_batch, after_place, leaf_shown}
 use Rattle.ob_ring.specs.Picked.{Picked, job_of, place_picked, batch_picked, places_from}
-use Rattle.ob_ring.proofs.FetchLaws.{after_both, picked_both}
+use Rattle.ob_ring.proofs.FetchLaws.{picked_both}
 use Rattle.ob_recover.specs.Shows.{shown_place_at, place_end, ArePlaced, notes_of_place, placed_notes}
 use Rattle.ob_recover.specs.Repeats.{place_notes, repeated_notes, batch_jobs}
 

@@ -1,32 +1,29 @@
 -- Of a store that stands each batch is read, and the planner keeps its map.
-use Rattle.std.proofs.Common.{◌≡◌, ◌≢◌, ◌⊎◌, inl, inr, ⊎_elim, ℕ, zero, suc, ◌+◌, ◌-◌, ◌<◌, ◌≤◌, ◌^◌, ◌%◌, ◌==◌, ◌&&◌, ◌||◌, Bool, true, false, List, [], ◌∷◌, Option, Some, None, Result, Ok, Err, map, length, get_or, refl, sym, ◌∙◌, ap, subst, arith}
-use Rattle.std.specs.List.{range_with_len, list_any}
+use Rattle.std.proofs.Common.{◌≡◌, ⊎_elim, ℕ, zero, suc, ◌+◌, ◌-◌, ◌<◌, ◌≤◌, ◌^◌, ◌%◌, ◌==◌, ◌&&◌, ◌||◌, Bool, true, false, List, [], ◌∷◌, Option, Some, None, Ok, Err, map, length, get_or, refl, sym, ◌∙◌, ap, subst, arith}
+use Rattle.std.specs.List.{range_with_len}
 use Rattle.std.specs.Prelude.{cond, ◌++◌}
-use Rattle.std.proofs.lemmas.Bool.{true≢false, false≢true}
+use Rattle.std.proofs.lemmas.Bool.{true≢false}
 use Rattle.ob_base.specs.declared.params.Params.{Params}
 use Rattle.ob_base.specs.declared.job.Job.{Job}
 use Rattle.ob_base.specs.declared.fault.Damaged.{Damaged as Damage}
 use Rattle.ob_base.specs.declared.fault.Fault.{Fault}
 use Rattle.ob_base.specs.declared.fault.Fault.TheVariants.{Memory, Usage, BadScript, BadParams, NotStore, Damaged, StoreFault, StashFull, Worn, SourceFault, SinkFault}
 use Rattle.ob_base.specs.Planned.{job_at}
-use Rattle.ob_base.specs.Tree.{buckets, width, bucket_of, path, below}
+use Rattle.ob_base.specs.Tree.{buckets, bucket_of, path}
 use Rattle.ob_store.specs.Disk.{Image}
 use Rattle.ob_seal.specs.declared.keys.Keys.{Keys}
 use Rattle.ob_seal.specs.Damage.{IsDamage}
 use Rattle.ob_seal.specs.Seals.{sealed}
 use Rattle.ob_seal.proofs.Spelling.{sealed_parts}
-use Rattle.ob_bucket.specs.Version.{used_at, rank_at}
-use Rattle.ob_bucket.specs.Buckets.{version_at}
 use Rattle.ob_tables.specs.declared.entry.Entry.{Entry}
 use Rattle.ob_tables.specs.Kept.{entry_at}
 use Rattle.ob_content.specs.Content.{Content, Rows, Obeys}
-use Rattle.ob_schedule.specs.Paths.{is_one_of}
-use Rattle.ob_ring.specs.FlatTable.{FlatTable, Row, Spot, Shown, Batch, after, batch_shown, picks, leaf_of, leaf_shown, after_place, fetch, spot_of, asked_row, index_in, index_shown, mark_index, lift_order, reads, visit}
+use Rattle.ob_ring.specs.FlatTable.{FlatTable, Row, Spot, Shown, Batch, after, batch_shown, leaf_of, leaf_shown, after_place, fetch, spot_of, asked_row, index_in, index_shown, mark_index, lift_order, reads, visit}
 use Rattle.ob_ring.specs.Laws.{IsOrderly, seen_in}
 use Rattle.ob_ring.specs.News.{Seen, with_shown, AreNew}
 use Rattle.ob_ring.specs.Picked.{Picked, holder, key_shown, job_of, batch_picked, place_picked, lift_picked, visit_picked, visits_picked}
 use Rattle.ob_ring.specs.Jobs.{place_picked_at, place_shown_at}
-use Rattle.ob_ring.specs.Settling.{first_fault, rows_after}
+use Rattle.ob_ring.specs.Settling.{rows_after}
 use Rattle.ob_ring.proofs.TableLaws.{shown_once, steps_keep_order}
 use Rattle.ob_ring.proofs.JobLaws.{jobs_read_picks}
 use Rattle.ob_ring.proofs.Lows.{IsLow, AreLow, low_batch, bucket_within}
@@ -38,14 +35,14 @@ use Rattle.ob_taken.specs.Takes.{AreKeysLow}
 use Rattle.ob_taken.specs.Values.{Values}
 use Rattle.ob_taken.proofs.TheLaws.{steps_only_take}
 use Rattle.ob_taken.proofs.Taking.{batch_present}
-use Rattle.ob_values.specs.Carries.{Slots, Carries, AreRead}
-use Rattle.ob_values.specs.Epochs.{Read, AreAllRead, AreFaultless, after_batches, rows_of_batches}
+use Rattle.ob_values.specs.Carries.{Slots, Carries}
+use Rattle.ob_values.specs.Epochs.{Read, AreAllRead, after_batches, rows_of_batches}
 use Rattle.ob_values.proofs.Steps.{batch_carries}
 use Rattle.ob_epoch.specs.Table.{flat_of, lying_place, ring_of, row_for}
 use Rattle.ob_epoch.proofs.Reading.{tables_are_read}
 use Rattle.ob_epoch.proofs.Standing.{contents_carry}
 use Rattle.ob_stand.specs.Reads.{slots_in}
-use Rattle.ob_stand.specs.Stands.{RingStanding, Stands, cell_at}
+use Rattle.ob_stand.specs.Stands.{RingStanding, Stands}
 use Rattle.ob_stand.proofs.ReadLaws.{stands_valued}
 use Rattle.ob_recover.specs.Repeats.{asked_of_record, table_after_records, batch_jobs, AreRepeated, IsRepeatDamage, IsRepeatFault, RepeatsAnswer, ReplaysStanding}
 use Rattle.ob_recover.specs.declared.found.Found.{Found}

@@ -14,7 +14,6 @@ use Rattle.ob_store.specs.declared.watch.Note.{Note}
 use Rattle.ob_store.specs.declared.watch.Note.TheVariants as note
 use Rattle.ob_seal.specs.declared.keys.Keys.{Keys}
 use Rattle.ob_bucket.specs.Version.{Version}
-use Rattle.ob_bucket.specs.Buckets.{Buckets}
 use Rattle.ob_tables.specs.declared.entry.Entry.{Entry}
 use Rattle.ob_tables.specs.Kept.{entry_at}
 use Rattle.ob_content.specs.Content.{Content, Rows, content_of}
@@ -29,12 +28,16 @@ use Rattle.ob_batch.specs.Lanes.{ReadByLanes}
 use Rattle.ob_values.specs.Carries.{Slots, AreRead, Carries}
 use Rattle.ob_values.specs.Epochs.{Read, AreAllRead, AreFaultless, rows_of_batches}
 use Rattle.ob_values.specs.Runs.{slots_of}
-use Rattle.ob_epoch.specs.Table.{flat_of, ring_of}
+use Rattle.ob_epoch.specs.Table.{buckets_of, flat_of, ring_of}
 use Rattle.ob_stand.specs.Reads.{plains_in, slots_in}
 use Rattle.ob_stand.specs.Stands.{RingStanding}
 use Rattle.ob_recover.specs.declared.found.Found.{Found}
 
 -- ---- what the records ask for
+
+-- the record of a batch with these words, the first of which has this place in that generation's tape
+abbrev pub record_of : (batch number generation first : ℕ) → List (Option ℕ) → List ℕ → BatchRecord
+record_of batch number generation first asks words = record { batch = batch; generation = generation; number = number; first = first; asks = asks; words = words }
 
 -- the places of a record's batch: what each asks for, and the entry that it gives, by the record's words and their ids
 abbrev pub record_places : Params → BatchRecord → List (Option ℕ × Entry)
@@ -190,6 +193,16 @@ pub record HasRepeated (o : Kept) (rs : List BatchRecord) (ring : Kept) : Type 0
   pub seals : SameSeals o.metas ring.metas
   pub counter : ring.counter ≡ o.counter
   pub room : (ring.stash).room ≡ (o.stash).room
+
+-- The planner behind the batches of these records, from a checkpoint's content on: its buckets lie as they were sealed, and none is
+-- listed.
+pub record IsPlannerOf (p : Params) (c : Content) (records : List BatchRecord) (ring : Kept) : Type 0 where
+  pub params : ring.p ≡ p
+  pub table : StandsFor ring (table_after_records p (flat_of p c) records)
+  pub entries : (k : ℕ) → entry_at ring.book k ≡ entries_after_records p (λ i. entry_at c.book i) records k
+  pub seals : SameSeals (buckets_of p c) ring.metas
+  pub counter : ring.counter ≡ c.counter
+  pub room : (ring.stash).room ≡ p.keys
 
 -- what is answered of them where the store tells its cells
 abbrev pub RepeatsAnswer : Keys → Kept → Image → List BatchRecord → Rows → Result (Unit {0}) Fault → Type 0

@@ -1,5 +1,5 @@
 -- Private: what is shown of a batch's jobs, place by place.
-use Rattle.std.specs.Prelude.{◌≡◌, ◌<◌, ◌≤◌, ℕ, zero, suc, ◌+◌, ◌-◌, List, [], ◌∷◌, ◌++◌, length, map, take, drop, slice_index_or}
+use Rattle.std.specs.Prelude.{◌<◌, ◌≤◌, ℕ, zero, suc, ◌+◌, ◌-◌, List, [], ◌∷◌, ◌++◌, length, map, take, drop, slice_index_or}
 use Rattle.ob_base.specs.declared.job.Place.{Place}
 use Rattle.ob_base.specs.Planned.{Planned}
 use Rattle.ob_store.specs.declared.watch.Note.{Note}

@@ -3,6 +3,7 @@
 ghost use Rattle.std.specs.Prelude.{◌≡◌, ◌*◌, length, IfOk, IfErr};
 ghost use Rattle.ob_base.specs.Layout.{checkpoint_cells};
 ghost use Rattle.ob_store.specs.Images.{Same, Passes};
+ghost use Rattle.ob_start.specs.Registers.{HaveOpen};
 ghost use Rattle.ob_store.specs.Calls.{Serves, IsStoreFault, Keeps};
 ghost use Rattle.ob_stand.specs.Stands.{RingStanding, Stands};
 ghost use Rattle.ob_recover.specs.Finds.{IsFindOf, IsFindFault, ObeysFound, FindsStanding, FindDoes};
@@ -31,6 +32,8 @@ fn find_with<S: Store, W: Watch>(
         → IsFindOf sealer.now.keys p.now (S.disk store.old).cells result }
     ensures faults { IfErr result IsFindFault }
     ensures obeys { IfOk result (ObeysFound p.now) }
+    // Whatever the store tells, each register has a gate that is known to be open.
+    ensures some { IfOk result (λ found. HaveOpen found.gates) }
     // Where the store stands, this is what it stands for.
     ensures stands { (s : RingStanding) → (S.disk store.old).tells
         → Stands sealer.now.keys p.now s (S.disk store.old).cells → FindsStanding s result }
@@ -85,6 +88,8 @@ pub fn find<S: Store, W: Watch>(
         → IsFindOf keys.now p.now (S.disk store.old).cells result }
     ensures faults { IfErr result IsFindFault }
     ensures obeys { IfOk result (ObeysFound p.now) }
+    // Whatever the store tells, each register has a gate that is known to be open.
+    ensures some { IfOk result (λ found. HaveOpen found.gates) }
     // Where the store stands, this is what it stands for.
     ensures stands { (s : RingStanding) → (S.disk store.old).tells
         → Stands keys.now p.now s (S.disk store.old).cells → FindsStanding s result }

@@ -5,6 +5,7 @@
 mod finding;
 mod found;
 mod heads;
+mod reading;
 mod repeating;
 mod replaying;
 mod showing;
@@ -12,7 +13,9 @@ mod showing;
 pub use finding::find;
 pub use found::Found;
 pub use heads::{VERSION, head};
+pub use reading::read_batch;
 pub use replaying::replay;
+pub use showing::show_reads;
 
 #[cfg(test)]
 mod tests;

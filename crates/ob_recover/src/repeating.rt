@@ -1,83 +1,25 @@
 //! Repeating the read batches of the log.
 
-ghost use Rattle.std.specs.Prelude.{◌≡◌, ◌<◌, ◌≤◌, ℕ, [], length, IfErr, IfSome};
-ghost use Rattle.ob_base.specs.Planned.{most_jobs, job_at};
+ghost use Rattle.std.specs.Prelude.{◌≡◌, ◌≤◌, ℕ, [], IfErr};
+ghost use Rattle.ob_base.specs.Planned.{most_jobs};
 ghost use Rattle.ob_store.specs.Images.{Same, Passes};
 ghost use Rattle.ob_store.specs.Calls.{Serves, IsStoreFault, Keeps};
 ghost use Rattle.ob_tables.specs.Kept.{entry_at};
 ghost use Rattle.ob_log.specs.Logs.{RecordFits};
-ghost use Rattle.ob_batch.specs.Jobs.{cells_of};
 ghost use Rattle.ob_bucket.specs.Buckets.{Buckets};
 ghost use Rattle.ob_ring.specs.Fetching.{after_labels};
 ghost use Rattle.ob_ring.specs.FlatTable.{FlatTable, Batch, after};
 ghost use Rattle.ob_ring.specs.Picked.{SameSeals};
-ghost use Rattle.ob_ring.specs.Ring.{IsBatch, StandsFor};
-ghost use Rattle.ob_recover.specs.Shows.{ArePlaced, placed_notes};
-ghost use Rattle.ob_recover.specs.Repeats.{record_places, asked_of_record, repeated_notes, batch_cells, BatchAnswers, BatchTells, IsRepeatFault, JobsAnswer, HaveKeysOf};
+ghost use Rattle.ob_ring.specs.Ring.{StandsFor};
+ghost use Rattle.ob_recover.specs.Repeats.{record_places, asked_of_record, repeated_notes, batch_cells, BatchAnswers, BatchTells, IsRepeatFault};
 
-use crate::showing::show_batch;
+use crate::reading::read_batch;
 use ob_base::{Fault, Jobs};
-use ob_batch::{Crew, JobsErr, run_jobs};
+use ob_batch::Crew;
 use ob_log::Record;
 use ob_ring::Ring;
 use ob_seal::Sealer;
 use ob_store::{Store, Watch};
-
-// Reads the jobs of a planned batch, and shows them once they were read, also where one failed.
-fn read_batch<S: Store, W: Watch>(
-    store: &mut S,
-    crew: &mut Crew<S::Lane>,
-    sealer: &Sealer,
-    jobs: &mut Jobs,
-    watch: &mut W,
-) -> Result<(), Fault>
-    requires few { length jobs.old.jobs ≤ crew.old.jobs }
-    requires placed { ArePlaced jobs.old }
-    ensures serves { Serves IsStoreFault (S.disk store.old) (S.disk store.new) result }
-    ensures value { (S.disk store.old).tells
-        → JobsAnswer sealer.now.keys (S.disk store.old).cells jobs.old.jobs jobs.new.jobs result }
-    ensures faults { IfErr result IsRepeatFault }
-    ensures rest { jobs.new ≡ record jobs.old { jobs = jobs.new.jobs } }
-    ensures keys { HaveKeysOf jobs.old.jobs jobs.new.jobs }
-    ensures crew { crew.new ≡ crew.old }
-    ensures keeps { Keeps (S.disk store.old) (S.disk store.new) }
-    ensures passes { Passes Same (S.disk store.old) (S.disk store.new) }
-    ensures told { BatchTells crew.old.lanes (cells_of jobs.old.jobs)
-        (placed_notes jobs.old (length jobs.old.places)) (S.disk store.old).seen
-        (S.disk store.new).seen (W.trace watch.old) (W.trace watch.new) result }
-{
-    match run_jobs(store, crew, sealer, jobs) {
-        Ok(()) => {
-            show_batch(jobs, watch);
-            Ok(())
-        }
-        Err(JobsErr::NotBegun(fault)) => Err(fault),
-        Err(JobsErr::Job(fault)) => {
-            show_batch(jobs, watch);
-            Err(fault)
-        }
-    }
-}
-
-// Plans the batch of a record, with the record's words under their own ids.
-fn plan_record(ring: &mut Ring, logged: &Record, jobs: &mut Jobs)
-    requires fits { (b : ℕ) × RecordFits ring.old.p b logged.now }
-    requires jobs { (jobs.old.room ≡ most_jobs ring.old.p)
-        × (jobs.old.place_room ≡ ring.old.p.places) }
-    ensures kept { ring.new ≡ record ring.old { book = ring.new.book; metas = ring.new.metas } }
-    ensures rooms { (jobs.new.room ≡ jobs.old.room) × (jobs.new.place_room ≡ jobs.old.place_room) }
-    ensures entries { (k : ℕ)
-        → entry_at ring.new.book k
-        ≡ after_labels (λ i. entry_at ring.old.book i) (record_places ring.old.p logged.now) k }
-    ensures seals { SameSeals (record ring.old.metas { order = [] }) ring.new.metas }
-    ensures keys { (t : FlatTable) → StandsFor ring.old t → (i : ℕ)
-        → IfSome (job_at jobs.new.jobs i).key (λ k. k < ring.old.p.keys) }
-    ensures planned { (t : FlatTable) → StandsFor ring.old t
-        → IsBatch ring.old ring.new jobs.new (record_places ring.old.p logged.now) t }
-{
-    let first = (logged.generation(), logged.first());
-    ring.plan_fetch(logged.asks(), logged.words(), first, jobs);
-}
 
 // Repeats the batch of a record: plans it with the record's words under their ids, reads it, shows
 // it, and settles what was read.
@@ -123,13 +65,10 @@ pub fn repeat_batch<S: Store, W: Watch>(
         (S.disk store.old).seen (S.disk store.new).seen (W.trace watch.old) (W.trace watch.new)
         result }
 {
-    plan_record(ring, logged, jobs);
-    match read_batch(store, crew, sealer, jobs, watch) {
-        Ok(()) => {}
-        Err(fault) => return Err(fault),
-    }
-    match ring.settle(jobs) {
-        Ok(()) => Ok(()),
-        Err(damaged) => Err(Fault::from(damaged)),
-    }
+    let asks = logged.asks();
+    let words = logged.words();
+    let (generation, first) = (logged.generation(), logged.first());
+    read_batch(
+        store, crew, sealer, jobs, ring, asks, words, generation, first, watch,
+    )
 }

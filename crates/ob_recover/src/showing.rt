@@ -8,8 +8,8 @@ ghost use Rattle.ob_recover.specs.Shows.{ArePlaced, placed_notes, shown_place_at
 use ob_base::{Job, Jobs, Place};
 use ob_store::{Note, Watch};
 
-// Shows a read of each of these jobs' cells.
-fn show_reads<W: Watch>(jobs: &[Job], watch: &mut W)
+/// Shows a read of each of these jobs' cells.
+pub fn show_reads<W: Watch>(jobs: &[Job], watch: &mut W)
     ensures { Shows (map (λ j. note.Read j.cell) jobs.now) (W.trace watch.old) (W.trace watch.new) }
 {
     for i in 0..jobs.len() {

@@ -1,4 +1,4 @@
-use Rattle.std.proofs.Common.{◌≡◌, ◌≤◌, ◌+◌, [], Ok, Err, ◌∙◌, ap, arith, subst, sym}
+use Rattle.std.proofs.Common.{Ok, Err, ◌∙◌, ap, arith}
 use Rattle.ob_batch.specs.Jobs.{Manned}
 use Rattle.ob_store.specs.Calls.{IsStoreFault}
 use Rattle.ob_store.proofs.Serving.{goes_then, serves_then}

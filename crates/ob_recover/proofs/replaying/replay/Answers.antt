@@ -1,7 +1,5 @@
-use Rattle.std.proofs.Common.{◌≡◌, List, Err, Ok, ◌∙◌, ap, subst, sym}
-use Rattle.ob_content.specs.Content.{Content}
+use Rattle.std.proofs.Common.{subst, sym}
 use Rattle.ob_epoch.specs.Table.{flat_of}
-use Rattle.ob_log.specs.Logs.{BatchRecord}
 use Rattle.ob_ring.specs.Ring.{Kept, StandsFor}
 use Rattle.ob_recover.specs.Repeats.{content_of_ring}
 use Rattle.ob_recover.proofs.BeginLaws.{ring_rules, ring_stands}

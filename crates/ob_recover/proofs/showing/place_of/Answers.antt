@@ -1,4 +1,3 @@
-use Rattle.std.proofs.Common.{◌<◌, ◌∙◌, ap, get_or, length, subst, sym}
 use Rattle.ob_recover.proofs.ShowLaws.{place_got}
 use Rattle.ob_recover.proofs.showing.place_of.Goals as goal
 

@@ -1,5 +1,5 @@
 use Rattle.ob_recover.proofs.ShowLaws.{filled_batch}
-use Rattle.ob_recover.proofs.repeating.read_batch.Goals as goal
+use Rattle.ob_recover.proofs.reading.read_jobs.Goals as goal
 
 pub returns-in-Ok-clause-told : goal.returns-in-Ok-clause-told
 returns-in-Ok-clause-told g c = (

@@ -1,0 +1,94 @@
+use Rattle.std.proofs.Common.{◌<◌, Ok, Err, ◌∙◌, ap, arith, subst, sym}
+use Rattle.std.specs.Prelude.{IfSome}
+use Rattle.ob_base.specs.declared.fault.Fault.{Fault}
+use Rattle.ob_base.specs.Planned.{job_at}
+use Rattle.ob_ring.specs.Ring.{Kept}
+use Rattle.ob_tables.specs.Kept.{entry_at}
+use Rattle.ob_ring.specs.Settling.{rows_after}
+use Rattle.ob_recover.specs.Repeats.{BatchAnswers, BatchTells, asked_of_record, batch_cells, repeated_notes}
+use Rattle.ob_recover.proofs.ShowLaws.{are_placed}
+use Rattle.ob_recover.proofs.BatchLaws.{batch_few, batch_tells, keys_low, not_settled, settled_badly, settled_well, stands_kept}
+use Rattle.ob_recover.specs.Repeats.{record_of}
+use Rattle.ob_recover.proofs.reading.read_batch.Goals as goal
+
+pub read_jobs-requires-clause-few : goal.read_jobs-requires-clause-few
+read_jobs-requires-clause-few g c =
+    let ring = c.args.ring.now in
+    let r = record_of 0 0 c.args.generation c.args.first c.args.asks.now c.args.words.now in
+    let planned = c.plan.ensures.planned 0 0 c.requires.stands.0 c.requires.stands.1 in
+    let few = batch_few ring.p c.requires.stands.0 r ring.metas.versions c.plan.new.jobs.jobs c.requires.asks planned.jobs in
+    let most = c.requires.crew in
+    omega arith
+
+pub read_jobs-requires-clause-placed : goal.read_jobs-requires-clause-placed
+read_jobs-requires-clause-placed g c =
+    let ring = c.args.ring.now in
+    let r = record_of 0 0 c.args.generation c.args.first c.args.asks.now c.args.words.now in
+    let planned = c.plan.ensures.planned 0 0 c.requires.stands.0 c.requires.stands.1 in
+    are_placed ring.p ring.metas.versions c.requires.stands.0 (asked_of_record ring.p r) c.plan.new.jobs planned.jobs planned.places
+
+pub returns-in-Err-clause-value : goal.returns-in-Err-clause-value
+returns-in-Err-clause-value g c = λ batch number start t seals stands tells.
+    let r = record_of batch number c.args.generation c.args.first c.args.asks.now c.args.words.now in
+    not_settled c.args.sealer.now.keys (g.S.Store.disk c.args.store.now).cells c.args.ring.now c.plan.new.ring r c.plan.new.jobs c.read_jobs.new.jobs.jobs start t seals
+    (c.plan.ensures.planned batch number t stands) c.args.ring.now.stash.rows c.plan.new.ring.stash.rows c.in-Err.fault c.in-Err.ensures.faults (c.in-Err.ensures.value tells)
+
+pub returns-in-Err-clause-told : goal.returns-in-Err-clause-told
+returns-in-Err-clause-told g c = λ batch number start t seals stands.
+    let r = record_of batch number c.args.generation c.args.first c.args.asks.now c.args.words.now in
+    batch_tells c.args.crew.now.lanes c.args.ring.now c.plan.new.ring r c.plan.new.jobs start t seals (c.plan.ensures.planned batch number t stands) _ _ _ _ (Err c.in-Err.fault) c.in-Err.ensures.told
+
+pub settle-requires : goal.settle-requires
+settle-requires g c = record {
+  keys = λ i.
+      let p_same = ap (λ (r : Kept). r.p) c.plan.ensures.kept in
+      subst (λ p. IfSome (job_at c.read_jobs.new.jobs.jobs i).key (λ k. k < p.keys)) (sym p_same)
+      (keys_low c.args.ring.now.p.keys c.plan.new.jobs.jobs c.read_jobs.new.jobs.jobs c.in-Ok.ensures.keys (c.plan.ensures.keys c.requires.stands.0 c.requires.stands.1) i);
+}
+
+pub returns-in-Ok-settle-clause-value : goal.returns-in-Ok-settle-clause-value
+returns-in-Ok-settle-clause-value g c = λ batch number start t seals stands tells.
+    let r = record_of batch number c.args.generation c.args.first c.args.asks.now c.args.words.now in
+    let jobs = c.read_jobs.new.jobs.jobs in
+    let settled = c.in-Ok-settle.ensures.settled in
+    settled_well c.args.sealer.now.keys (g.S.Store.disk c.args.store.now).cells c.args.ring.now c.plan.new.ring r c.plan.new.jobs jobs start t seals
+    (c.plan.ensures.planned batch number t stands) c.args.ring.now.stash.rows c.settle.new.self.stash.rows (c.in-Ok.ensures.value tells) settled.0
+    (settled.1 ∙ ap (λ (r : Kept). rows_after (r.stash).rows jobs) c.plan.ensures.kept)
+
+pub returns-in-Ok-settle-clause-told : goal.returns-in-Ok-settle-clause-told
+returns-in-Ok-settle-clause-told g c = λ batch number start t seals stands.
+    let r = record_of batch number c.args.generation c.args.first c.args.asks.now c.args.words.now in
+    batch_tells c.args.crew.now.lanes c.args.ring.now c.plan.new.ring r c.plan.new.jobs start t seals (c.plan.ensures.planned batch number t stands) _ _ _ _ (Ok tt) c.in-Ok.ensures.told
+
+pub returns-in-Err-settle-clause-value : goal.returns-in-Err-settle-clause-value
+returns-in-Err-settle-clause-value g c = λ batch number start t seals stands tells.
+    let r = record_of batch number c.args.generation c.args.first c.args.asks.now c.args.words.now in
+    let keys = c.args.sealer.now.keys in
+    let image = (g.S.Store.disk c.args.store.now).cells in
+    subst (λ (f : Fault). BatchAnswers keys c.args.ring.now.p start.versions image t r c.args.ring.now.stash.rows c.settle.new.self.stash.rows (Err f)) (sym c.from.ensures)
+    (settled_badly keys image c.args.ring.now c.plan.new.ring r c.plan.new.jobs c.read_jobs.new.jobs.jobs start t seals
+    (c.plan.ensures.planned batch number t stands) c.args.ring.now.stash.rows c.settle.new.self.stash.rows c.in-Err-settle.damaged (c.in-Ok.ensures.value tells) c.in-Err-settle.ensures.settled)
+
+pub returns-in-Err-settle-clause-told : goal.returns-in-Err-settle-clause-told
+returns-in-Err-settle-clause-told g c = λ batch number start t seals stands.
+    let p = c.args.ring.now.p in
+    let r = record_of batch number c.args.generation c.args.first c.args.asks.now c.args.words.now in
+    let asked = asked_of_record p r in
+    subst (λ (f : Fault). BatchTells c.args.crew.now.lanes (batch_cells p start.versions t asked) (repeated_notes p start.versions t asked) (g.S.Store.disk c.args.store.now).seen (g.S.Store.disk c.read_jobs.new.store).seen
+    (g.W.Watch.trace c.args.watch.now) (g.W.Watch.trace c.read_jobs.new.watch) (Err f)) (sym c.from.ensures)
+    (batch_tells c.args.crew.now.lanes c.args.ring.now c.plan.new.ring r c.plan.new.jobs start t seals (c.plan.ensures.planned batch number t stands) _ _ _ _ (Ok tt) c.in-Ok.ensures.told)
+
+pub returns-in-Err-clause-table : goal.returns-in-Err-clause-table
+returns-in-Err-clause-table g c = λ batch number t stands. (c.plan.ensures.planned batch number t stands).table
+
+pub returns-in-Ok-settle-clause-entries : goal.returns-in-Ok-settle-clause-entries
+returns-in-Ok-settle-clause-entries g c = λ batch number k. ap (λ (r : Kept). entry_at r.book k) c.in-Ok-settle.ensures.kept ∙ c.plan.ensures.entries batch number k
+
+pub returns-in-Ok-settle-clause-table : goal.returns-in-Ok-settle-clause-table
+returns-in-Ok-settle-clause-table g c = λ batch number t stands. stands_kept c.plan.new.ring c.settle.new.self c.settle.new.self.stash c.in-Ok-settle.ensures.kept _ (c.plan.ensures.planned batch number t stands).table
+
+pub returns-in-Err-settle-clause-entries : goal.returns-in-Err-settle-clause-entries
+returns-in-Err-settle-clause-entries g c = λ batch number k. ap (λ (r : Kept). entry_at r.book k) c.in-Err-settle.ensures.kept ∙ c.plan.ensures.entries batch number k
+
+pub returns-in-Err-settle-clause-table : goal.returns-in-Err-settle-clause-table
+returns-in-Err-settle-clause-table g c = λ batch number t stands. stands_kept c.plan.new.ring c.settle.new.self c.settle.new.self.stash c.in-Err-settle.ensures.kept _ (c.plan.ensures.planned batch number t stands).table
