@@ -1,0 +1,10 @@
+pub mod Orders
+pub mod Phases
+pub mod Fills
+pub mod Formats
+pub mod Opening
+pub mod Batch
+pub mod Ending
+pub mod Telling
+pub mod Living
+pub mod Sampling
