@@ -133,7 +133,7 @@ module _ (keys : Keys) (p : Params) (drawn : List ℕ) (many : length drawn ≡ 
   laid a b generation low log gates epoch slots checkpoint c same = record {
     generation = register_moved (tagging keys) 1 1 c a (λ k from to. same k (omega arith) ∙ low k (omega arith)) generation;
     epoch = register_moved (tagging keys) 5 0 c b (λ k from to. same k (omega arith)) epoch;
-    checkpoint = checkpoint_of keys p (fresh_content p (drawn_ranks p drawn)) c (λ i lt. same (area_of p 0 + i) (omega arith) ∙ checkpoint i lt);
+    checkpoint = λ i lt. same (area_of p 0 + i) (omega arith) ∙ checkpoint i lt;
     slots = λ u slot lu ls. same (slot_cell p 0 u slot) (omega arith) ∙ slots u slot lu ls;
     shut = λ n lt opened. gates_shut p a gates n lt (sym (same (log_gate p 1 n) (omega arith) ∙ log (log_gate p 1 n) (omega arith) (gate_low n lt)) ∙ opened);
   }
@@ -147,7 +147,7 @@ module _ (keys : Keys) (p : Params) (drawn : List ℕ) (many : length drawn ≡ 
     head = subst (λ (l : List ℕ). IsHead keys 1 p l) (sym head) (head_is keys 1 p);
     generation = laid_so.generation;
     epoch = laid_so.epoch;
-    checkpoint = laid_so.checkpoint;
+    checkpoint = checkpoint_of keys p (fresh_content p (drawn_ranks p drawn)) c laid_so.checkpoint;
     slots = laid_so.slots;
     shut = laid_so.shut;
   })

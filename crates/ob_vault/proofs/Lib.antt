@@ -2,3 +2,8 @@ pub mod OrderLaws
 pub mod EpochLaws
 pub mod DrawLaws
 pub mod FirstLaws
+pub mod Movings
+pub mod OpenedLaws
+pub mod FaultLaws
+pub mod StoodLaws
+pub mod WholeLaws

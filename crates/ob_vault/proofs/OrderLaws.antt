@@ -18,7 +18,7 @@ use Rattle.ob_twin.specs.Orders.{set_notes, through_notes}
 use Rattle.ob_vault.specs.Formats.{all_gates, epoch_notes}
 
 -- a run of cells, as numbers from its first one on
-run_is : (b n : ℕ) → from_on b n ≡ map (λ i. b + i) (below n)
+pub run_is : (b n : ℕ) → from_on b n ≡ map (λ i. b + i) (below n)
 run_is b zero = refl
 run_is b (suc n) =
     ap (λ (cs : List ℕ). cs ++ (b + n) ∷ []) (run_is b n)

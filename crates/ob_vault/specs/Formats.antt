@@ -17,6 +17,7 @@ use Rattle.ob_seal.specs.Seals.{sealed}
 use Rattle.ob_twin.specs.Bodies.{open_gate}
 use Rattle.ob_twin.specs.Keyed.{tagging}
 use Rattle.ob_twin.specs.Orders.{set_notes}
+use Rattle.ob_check.specs.Written as check
 use Rattle.ob_check.specs.Written.{area_of}
 use Rattle.ob_twin.specs.Register.{StandsAt}
 use Rattle.ob_start.specs.Laying.{HasNoHead, IsTornHead}
@@ -28,7 +29,7 @@ use Rattle.ob_tables.specs.declared.tables.Tables.{Tables}
 use Rattle.ob_content.specs.Spelling.{slot_bytes}
 use Rattle.ob_schedule.specs.Schedule.{log_gates}
 use Rattle.ob_stand.specs.Fresh.{Ranks, fresh_content, fresh_standing, fresh_version}
-use Rattle.ob_stand.specs.Stands.{RingStanding, HoldsCheckpoint}
+use Rattle.ob_stand.specs.Stands.{RingStanding}
 
 -- ---- the words drawn
 
@@ -54,11 +55,12 @@ formatted_standing p drawn = fresh_standing p (drawn_ranks p drawn)
 
 -- ---- what a crash leaves
 
--- a new store, but for its head, which may hold anything
+-- A new store, but for its head, which may hold anything. Its seals are the first ones of generation 1: the slots', then the
+-- checkpoint's.
 pub record IsRingLaid (keys : Keys) (p : Params) (drawn : List ℕ) (image : Image) : Type 0 where
   pub generation : StandsAt (tagging keys) 1 image 1
   pub epoch : StandsAt (tagging keys) 5 image 0
-  pub checkpoint : HoldsCheckpoint keys p 0 1 (fresh_content p (drawn_ranks p drawn)) image
+  pub checkpoint : check.HoldsCheckpointFrom keys p 0 (fresh_content p (drawn_ranks p drawn)) 1 (buckets p * width p) image
   pub slots : (u slot : ℕ) → u < buckets p → slot < width p → image (slot_cell p 0 u slot) ≡ sealed keys (slot_cell p 0 u slot) 1 (u * width p + slot) (slot_bytes EMPTY [])
   pub shut : (b : ℕ) → b < p.batches → image (log_gate p 1 b) ≢ open_gate
 

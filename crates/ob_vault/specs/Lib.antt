@@ -1,1 +1,4 @@
 pub mod Formats
+pub mod OpeningParts
+pub mod OpeningRuns
+pub mod Openings

@@ -16,7 +16,7 @@ ghost use Rattle.ob_stand.specs.Stands.{Stands};
 ghost use Rattle.ob_twin.specs.Keyed.{tagging};
 ghost use Rattle.ob_twin.specs.Reading.{NoneOpen};
 ghost use Rattle.ob_twin.specs.Register.{StandsAt};
-ghost use Rattle.ob_vault.specs.Formats.{BeginsFirst, IsBlankTables, HasBlankSlots, FormatBegins, RingFormatLeaves, IsFormatFault, all_gates, epoch_notes, format_words, formatted_standing};
+ghost use Rattle.ob_vault.specs.Formats.{BeginsFirst, IsBlankTables, HasBlankSlots, IsRingLaid, FormatBegins, RingFormatLeaves, IsFormatFault, all_gates, epoch_notes, format_words, formatted_standing};
 
 use crate::drawing::fill_all;
 use crate::gates::log_gates;
@@ -132,6 +132,9 @@ fn lay<S: Store, T: Tape, W: Watch>(
     ensures stands { (S.disk store.old).tells
         → OnOk result (Stands sealer.old.keys p.now (formatted_standing p.now (T.drawn tape.new))
         (S.disk store.new).cells) }
+    ensures laid { (S.disk store.old).tells
+        → OnOk result (IsRingLaid sealer.old.keys p.now (T.drawn tape.new)
+        (S.disk store.new).cells) }
     ensures durable { (S.disk store.old).tells → OnOk result (IsSynced (S.disk store.new)) }
     ensures crash { (S.disk store.old).tells
         → LeavesOnly (S.disk store.old) (S.disk store.new)
@@ -182,6 +185,10 @@ pub fn format<S: Store, T: Tape, W: Watch>(
         → (S.disk store.new).may_leave c
         → Stands keys.now p.now (formatted_standing p.now (T.drawn tape.new)) c) }
     ensures durable { (S.disk store.old).tells → OnOk result (IsSynced (S.disk store.new)) }
+    // Its seals are the first ones of generation 1: the slots' in rising number, then the
+    // checkpoint's.
+    ensures laid { (S.disk store.old).tells
+        → OnOk result (IsRingLaid keys.now p.now (T.drawn tape.new) (S.disk store.new).cells) }
     // A crash at any moment leaves a torn head, no store, or all but the head.
     ensures crash { (S.disk store.old).tells
         → LeavesOnly (S.disk store.old) (S.disk store.new) (RingFormatLeaves keys.now p.now

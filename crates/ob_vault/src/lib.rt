@@ -1,11 +1,18 @@
-//! A vault over Ring ORAM: a new store.
+//! A vault over Ring ORAM: a new store, and opening one again after any crash.
 #![tactic(auto)]
 
 mod drawing;
 mod formatting;
 mod gates;
+mod opening;
+mod preparing;
+mod rooms;
 
 pub use formatting::format;
+pub use opening::Opening;
+pub use preparing::prepare;
 
+#[cfg(test)]
+mod opened_tests;
 #[cfg(test)]
 mod tests;

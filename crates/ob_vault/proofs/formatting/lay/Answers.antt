@@ -95,6 +95,26 @@ returns-clause-stands g c = λ tells.
     let head : c.head_cell.result ≡ head_cell keys 1 p = c.head_cell.ensures ∙ ap (λ (k : Keys). head_cell k 1 p) c.in_ok-lay_epoch.ensures.same_keys in
     on_ok _ _ c.write_through.result (λ written. formatted keys p drawn c.fill_all.ensures.many new (made new (c.write_through.ensures.rest two)) (written ∙ head)) (c.write_through.ensures.written two)
 
+pub returns-clause-laid : goal.returns-clause-laid
+returns-clause-laid g c = λ tells.
+    let p = c.args.p.now in
+    let keys = c.args.sealer.now.keys in
+    let drawn = g.T.Tape.drawn c.fill_all.new.tape in
+    let new = (g.S.Store.disk c.write_through.new.store).cells in
+    let a = c.in_ok-lay_registers.ensures in
+    let b = c.in_ok-lay_epoch.ensures in
+    let one = a.serves.tells tells in
+    let two = b.serves.tells one in
+    let regs = (g.S.Store.disk c.lay_registers.new.store).cells in
+    let cells = (g.S.Store.disk c.lay_epoch.new.store).cells in
+    let content = content_is p drawn c.args.tables.now (record c.args.tables.now { metas = c.fill_all.new.metas }) c.requires.blank (ap (λ (x : Buckets). record c.args.tables.now { metas = x }) c.fill_all.ensures.versions) in
+    let shut = subst (λ (l : List ℕ). AreShut l regs) c.requires.gates (a.shut tells) in
+    let slots = subst (λ (n : ℕ). HasBlankSlots keys p n cells) c.requires.generation (b.slots one) in
+    let checked = subst (λ (n : ℕ). check.HoldsCheckpointFrom keys p 0 (fresh_content p (drawn_ranks p drawn)) n (buckets p * width p) cells) c.requires.generation
+    (subst (λ (x : Content). check.HoldsCheckpointFrom keys p 0 x c.args.sealer.now.generation (buckets p * width p) cells) content (b.checkpoint one)) in
+    let made : (image : Image) → SameBut 0 image cells → IsRingLaid keys p drawn image = laid keys p drawn c.fill_all.ensures.many regs cells (a.generation tells) (b.low one) (b.log one) shut (b.epoch one) slots checked in
+    if_ok _ c.write_through.result (made new (c.write_through.ensures.rest two))
+
 pub returns-in_err-lay_registers-clause-crash : goal.returns-in_err-lay_registers-clause-crash
 returns-in_err-lay_registers-clause-crash g c = λ tells.
     as_cleared c.args.sealer.now.keys c.args.p.now (g.T.Tape.drawn c.args.tape.now) (g.S.Store.disk c.args.store.now) (g.S.Store.disk c.lay_registers.new.store) (c.lay_registers.ensures.crash tells)

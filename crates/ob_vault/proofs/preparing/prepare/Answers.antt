@@ -1,0 +1,129 @@
+use Rattle.std.proofs.Common.{inl, refl, sym, ap, subst}
+use Rattle.std.specs.Prelude.{IfErr, IfOk}
+use mathlib.Core.Path.{fun_ext}
+use Rattle.ob_store.specs.Disk.{Image}
+use Rattle.ob_store.specs.Images.{Same}
+use Rattle.ob_store.specs.Calls.{IsStoreFault}
+use Rattle.ob_store.proofs.Events.{none_noted}
+use Rattle.ob_store.proofs.Lanes.{first_none}
+use Rattle.ob_store.proofs.Moments.{passed_none}
+use Rattle.ob_store.proofs.Serving.{serves_then}
+use Rattle.ob_batch.specs.Jobs.{Manned}
+use Rattle.ob_start.specs.Orders.{registers_notes}
+use Rattle.ob_stand.proofs.Frames.{stands_all}
+use Rattle.ob_twin.specs.Keyed.{tagging}
+use Rattle.ob_twin.specs.Register.{StandsAt}
+use Rattle.ob_vault.specs.OpeningParts.{IsFoundRefusal}
+use Rattle.ob_vault.specs.OpeningRuns.{IsRingOpened, RefusedDoes}
+use Rattle.ob_vault.proofs.FaultLaws.{all_does, all_faults, all_refusals, find_does, find_fault, find_refusal, find_standing, not_memory}
+use Rattle.ob_vault.proofs.OpenedLaws.{found_same}
+use Rattle.ob_vault.proofs.StoodLaws.{all_standing}
+use Rattle.ob_vault.proofs.WholeLaws.{all_leaves, all_opened, all_tapes, tape_of}
+use Rattle.ob_vault.proofs.preparing.prepare.Goals as goal
+
+-- ---- no memory for the rooms
+
+pub returns-in-Err-clause-leaves : goal.returns-in-Err-clause-leaves
+returns-in-Err-clause-leaves g c = inl (passed_none (g.S.Store.disk c.args.store.now) Same (λ image. refl))
+
+pub returns-in-Err-clause-memory : goal.returns-in-Err-clause-memory
+returns-in-Err-clause-memory g c = λ is. (refl, record { tells = λ tells. tells; cells = λ tells k. refl }, passed_none (g.S.Store.disk c.args.store.now) Same (λ image. refl))
+
+pub returns-in-Err-clause-does_err : goal.returns-in-Err-clause-does_err
+returns-in-Err-clause-does_err g c = inl (first_none registers_notes _ _ _ (none_noted (g.S.Store.disk c.args.store.now).seen))
+
+-- ---- not all was found
+
+pub returns-in-Err-find-clause-faults : goal.returns-in-Err-find-clause-faults
+returns-in-Err-find-clause-faults g c = find_fault c.in-Err-find.fault c.in-Err-find.ensures.faults
+
+pub returns-in-Err-find-clause-refused : goal.returns-in-Err-find-clause-refused
+returns-in-Err-find-clause-refused g c = λ tells.
+    find_refusal c.args.keys.now c.args.p.now (g.S.Store.disk c.args.store.now).cells c.in-Err-find.fault c.in-Err-find.ensures.faults (c.in-Err-find.ensures.value tells)
+
+pub returns-in-Err-find-clause-stands : goal.returns-in-Err-find-clause-stands
+returns-in-Err-find-clause-stands g c = λ s tells stands.
+    find_standing s c.in-Err-find.fault (c.in-Err-find.ensures.stands s tells stands)
+
+pub returns-in-Err-find-clause-leaves : goal.returns-in-Err-find-clause-leaves
+returns-in-Err-find-clause-leaves g c = inl c.in-Err-find.ensures.passes
+
+pub returns-in-Err-find-clause-memory : goal.returns-in-Err-find-clause-memory
+returns-in-Err-find-clause-memory g c = λ is. (refl, c.in-Err-find.ensures.keeps, c.in-Err-find.ensures.passes)
+
+pub returns-in-Err-find-clause-does_err : goal.returns-in-Err-find-clause-does_err
+returns-in-Err-find-clause-does_err g c =
+    find_does c.args.keys.now c.args.lanes c.args.p.now (g.S.Store.disk c.args.store.now) (g.S.Store.disk c.find.new.store) (g.W.Watch.trace c.args.watch.now) (g.W.Watch.trace c.find.new.watch) c.in-Err-find.fault
+    c.in-Err-find.ensures.faults c.in-Err-find.ensures.does
+
+-- ---- all was found
+
+pub open_found-requires-clause-gates : goal.open_found-requires-clause-gates
+open_found-requires-clause-gates g c = λ told.
+    let keeps = c.in-Ok-find.ensures.keeps in
+    let tells = c.in-Ok-find.ensures.serves.goes.told told in
+    found_same c.args.keys.now c.args.p.now c.in-Ok-find.found (g.S.Store.disk c.args.store.now).cells (g.S.Store.disk c.find.new.store).cells (keeps.cells tells) (c.in-Ok-find.ensures.value tells)
+
+pub returns-clause-serves : goal.returns-clause-serves
+returns-clause-serves g c =
+    let first = c.in-Ok-find.ensures.serves in
+    serves_then IsStoreFault (g.S.Store.disk c.args.store.now) (g.S.Store.disk c.find.new.store) (g.S.Store.disk c.open_found.new.store) c.open_found.result first.goes first.out first.tells c.open_found.ensures.serves
+
+pub returns-clause-faults : goal.returns-clause-faults
+returns-clause-faults g c = all_faults c.in-Ok-find.found.generation c.open_found.result c.open_found.ensures.faults
+
+pub returns-clause-refused : goal.returns-clause-refused
+returns-clause-refused g c = λ tells.
+    let keys = c.args.keys.now in
+    let p = c.args.p.now in
+    let found = c.in-Ok-find.found in
+    let keeps = c.in-Ok-find.ensures.keeps in
+    all_refusals keys p (g.S.Store.disk c.args.store.now).cells found c.open_found.result (c.in-Ok-find.ensures.value tells) c.open_found.ensures.faults
+    (subst (λ (image : Image). IfErr c.open_found.result (IsFoundRefusal keys p image found)) (fun_ext (λ k. keeps.cells tells k)) (c.open_found.ensures.refused (keeps.tells tells)))
+
+pub returns-clause-opened : goal.returns-clause-opened
+returns-clause-opened g c =
+    let e = c.open_found.ensures in
+    let before = g.W.Watch.trace c.args.watch.now in
+    let after = g.W.Watch.trace c.open_found.new.watch in
+    subst (λ n. IfOk c.open_found.result (IsRingOpened g.S.Store.disk c.args.keys.now n c.args.p.now c.args.store.now c.open_found.new.store before after)) (ap (λ (m : Manned). m.lanes) c.in-Ok.ensures.crew)
+    (all_opened g.S.Store.disk c.args.keys.now c.args.p.now c.args.store.now c.find.new.store c.open_found.new.store c.in-Ok-find.ensures.keeps c.in-Ok-find.ensures.passes c.in-Ok.rooms.crew.lanes c.in-Ok-find.found
+    before (g.W.Watch.trace c.find.new.watch) after c.in-Ok-find.ensures.does c.in-Ok-find.ensures.value c.open_found.result e.is e.lanes e.told e.stood e.begins e.does c.in-Ok-find.ensures.some)
+
+pub returns-clause-stands : goal.returns-clause-stands
+returns-clause-stands g c = λ s tells stands.
+    let keys = c.args.keys.now in
+    let p = c.args.p.now in
+    let found = c.in-Ok-find.found in
+    let old = (g.S.Store.disk c.args.store.now).cells in
+    let mid = (g.S.Store.disk c.find.new.store).cells in
+    let keeps = c.in-Ok-find.ensures.keeps in
+    let told = keeps.tells tells in
+    let here = stands_all keys p s mid old (keeps.cells tells) stands in
+    let e = c.open_found.ensures in
+    let is = c.in-Ok-find.ensures.stands s tells stands in
+    all_standing keys p s mid (g.S.Store.disk c.open_found.new.store) found here is c.open_found.result e.is (e.told told)
+    (e.stood told (subst (λ n. StandsAt (tagging keys) 1 mid n) (sym is.generation) here.generation)) e.faults (e.refused told)
+
+pub returns-clause-leaves : goal.returns-clause-leaves
+returns-clause-leaves g c = all_leaves g.S.Store.disk c.args.keys.now c.args.p.now c.args.store.now c.find.new.store c.open_found.new.store c.in-Ok-find.ensures.keeps c.in-Ok-find.ensures.passes c.open_found.result c.open_found.ensures.leaves
+
+pub returns-clause-tape : goal.returns-clause-tape
+returns-clause-tape g c =
+    tape_of c.args.keys.now c.args.p.now c.in-Ok-find.found (g.T.Tape.present c.open_found.new.tape) (g.T.Tape.drawn c.open_found.new.tape) c.open_found.result c.open_found.ensures.is c.open_found.ensures.tape
+
+pub returns-clause-tape_err : goal.returns-clause-tape_err
+returns-clause-tape_err g c =
+    all_tapes g.S.Store.disk c.args.keys.now c.args.p.now c.args.store.now c.find.new.store c.open_found.new.store c.in-Ok-find.ensures.keeps c.in-Ok-find.ensures.passes c.args.lanes c.in-Ok-find.found
+    (g.W.Watch.trace c.args.watch.now) (g.W.Watch.trace c.find.new.watch) (g.W.Watch.trace c.open_found.new.watch) c.in-Ok-find.ensures.does c.in-Ok-find.ensures.value
+    (g.T.Tape.present c.open_found.new.tape) (g.T.Tape.drawn c.open_found.new.tape) c.args.tape.now c.open_found.new.tape c.open_found.result c.open_found.ensures.begins_err
+
+pub returns-clause-memory : goal.returns-clause-memory
+returns-clause-memory g c = λ is. not_memory c.in-Ok-find.found.generation c.open_found.result _ c.open_found.ensures.faults is
+
+pub returns-clause-does_err : goal.returns-clause-does_err
+returns-clause-does_err g c =
+    subst (λ n. IfErr c.open_found.result (RefusedDoes c.args.keys.now n c.args.p.now (g.S.Store.disk c.args.store.now) (g.S.Store.disk c.open_found.new.store) (g.W.Watch.trace c.args.watch.now) (g.W.Watch.trace c.open_found.new.watch)))
+    (ap (λ (m : Manned). m.lanes) c.in-Ok.ensures.crew)
+    (all_does g.S.Store.disk g.W.Watch.trace c.args.keys.now c.in-Ok.rooms.crew.lanes c.args.p.now c.in-Ok-find.found c.args.store.now c.find.new.store c.open_found.new.store c.args.watch.now c.find.new.watch c.open_found.new.watch c.open_found.result
+    c.in-Ok-find.ensures.value c.in-Ok-find.ensures.keeps c.in-Ok-find.ensures.passes c.in-Ok-find.ensures.does c.open_found.ensures.faults c.open_found.ensures.does c.open_found.ensures.untouched)

@@ -1,0 +1,45 @@
+-- Private: the parts of an opening.
+use Rattle.std.specs.Prelude.{◌≡◌, ◌<◌, ℕ, suc, ◌*◌, ◌^◌, List, length, Option, None, Result, Ok, Err}
+use Rattle.ob_base.specs.declared.params.Params.{Params}
+use Rattle.ob_base.specs.declared.fault.Fault.{Fault}
+use Rattle.ob_base.specs.declared.fault.Fault.TheVariants as fault
+use Rattle.ob_base.specs.Layout.{checkpoint_cells}
+use Rattle.ob_base.specs.Planned.{most_jobs}
+use Rattle.ob_store.specs.declared.event.Event.{Event}
+use Rattle.ob_store.specs.Disk.{Image}
+use Rattle.ob_store.specs.Lines.{Trace}
+use Rattle.ob_seal.specs.declared.keys.Keys.{Keys}
+use Rattle.ob_content.specs.Content.{content_of}
+use Rattle.ob_recover.specs.declared.found.Found.{Found}
+use Rattle.ob_recover.specs.Repeats.{IsRepeatDamage}
+use Rattle.ob_vault.specs.declared.opening.Opening.{Opening}
+use Rattle.ob_vault.specs.declared.rooms.Rooms.{Rooms}
+use Rattle.ob_vault.specs.OpeningRuns.{BeginsFirst, RepeatsBehind, next_notes}
+use Rattle.ob_vault.specs.Openings.{words_room}
+
+-- there is room for all that an opened vault works in
+pub record AreRooms {L : Type 0} (p : Params) (lanes : ℕ) (r : Rooms L) : Type 0 where
+  pub planned : (r.jobs).room ≡ most_jobs p
+  pub placed : (r.jobs).place_room ≡ p.places
+  pub crew : r.crew ≡ record { lanes = lanes; jobs = most_jobs p }
+  pub sheet : length r.sheet ≡ 96 * checkpoint_cells p
+  pub words : length (r.words).items ≡ words_room p
+
+-- the refusals behind what was found
+abbrev pub IsFoundFault : ℕ → Fault → Type 0
+IsFoundFault generation (fault.Damaged cell check kept computed) = suc generation < 2 ^ 62
+IsFoundFault generation (fault.Worn number) = (number ≡ 2 ^ 62) × (suc generation ≡ 2 ^ 62)
+IsFoundFault generation (fault.StoreFault unsure) = unsure ≡ None
+IsFoundFault generation _ = ⊥
+
+abbrev pub IsFoundRefusal : Keys → Params → Image → Found → Fault → Type 0
+IsFoundRefusal keys p image found (fault.Damaged cell check kept computed) =
+    IsRepeatDamage keys p image (content_of found.tables) found.records (record { cell = cell; check = check; kept = kept; computed = computed })
+IsFoundRefusal keys p image found (fault.Worn number) = Unit {0}
+IsFoundRefusal keys p image found (fault.StoreFault unsure) = Unit {0}
+IsFoundRefusal keys p image found _ = ⊥
+
+-- what is done behind what was found
+abbrev pub FoundDoes : {L : Type 0} → ℕ → Params → Found → Option (List Event) → Option (List Event) → Trace → Trace → Result (Opening L) Fault → Type 0
+FoundDoes most p found old new before after (Ok o) = RepeatsBehind {T = Unit {0}} (next_notes found) most p found old new before after (Ok tt)
+FoundDoes most p found old new before after (Err fault) = BeginsFirst (next_notes found) most p found old new before after fault
