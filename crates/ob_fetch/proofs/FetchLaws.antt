@@ -1,0 +1,242 @@
+-- What a fetch tells, leaves and answers, by its parts.
+use Rattle.std.proofs.Common.{◌≡◌, inl, inr, ℕ, suc, ◌+◌, ◌%◌, List, [], ◌∷◌, ◌++◌, Option, None, Result, Err, length, length-append, refl, sym, ap, ◌∙◌, subst, arith}
+use mathlib.Core.Path.{fun_ext}
+use Rattle.ob_base.specs.Layout.{log_cell, record_cells}
+use Rattle.ob_base.specs.declared.fault.Fault.{Fault}
+use Rattle.ob_base.specs.declared.fault.Fault.TheVariants.{Memory, Usage, BadScript, BadParams, NotStore, Damaged, StoreFault, StashFull, Worn, SourceFault, SinkFault}
+use Rattle.ob_base.specs.declared.params.Params.{Params}
+use Rattle.ob_bucket.specs.Version.{Version}
+use Rattle.ob_cells.specs.Writes.{WritesWithin}
+use Rattle.ob_content.specs.Content.{Rows}
+use Rattle.ob_log.specs.Appends.{HoldsOneOf, IsAppendFault, IsWornOut, append_notes}
+use Rattle.ob_log.specs.Logs.{BatchRecord, OpenRecords}
+use Rattle.ob_recover.specs.Repeats.{BatchAnswers, BatchTells, IsRepeatFault, asked_of_record, batch_cells, record_of, repeated_notes}
+use Rattle.ob_ring.specs.FlatTable.{FlatTable}
+use Rattle.ob_ring.specs.Ring.{Kept}
+use Rattle.ob_seal.specs.declared.keys.Keys.{Keys}
+use Rattle.ob_stand.proofs.AppendLaws.{appends_leave}
+use Rattle.ob_stand.proofs.Frames.{stands_all}
+use Rattle.ob_stand.specs.Stands.{OneOf, RingStanding, Stands, with_record}
+use Rattle.ob_store.proofs.Moments.{leaves_of, passed_then, passes_so, started, then_on}
+use Rattle.ob_store.specs.Calls.{Keeps}
+use Rattle.ob_store.specs.Disk.{Clock, Disk, Image, NotAfter}
+use Rattle.ob_store.specs.Images.{IsSynced, LeavesOnly, Passes, Same, SameOff}
+use Rattle.ob_store.specs.Lines.{Trace}
+use Rattle.ob_store.specs.Told.{TellsFirst}
+use Rattle.ob_store.specs.declared.event.Event.{Event}
+use Rattle.ob_store.specs.declared.watch.Note.{Note}
+use Rattle.ob_fetch.proofs.NextLaws.{Begun, at_batch, batch_is, may}
+use Rattle.ob_fetch.specs.Fetches.{DrawsWords, FetchAnswers, FetchDoes, FetchDraws, RunIsAt, IsFetchRefusal, IsLoggedFirst, MovesPlanner, next_batch, words_since}
+use Rattle.ob_fetch.specs.declared.run.Run.{Run}
+
+-- ---- refusals, by their kind
+
+pub fetch_fault : (f : Fault) → IsRepeatFault f → IsFetchRefusal f
+fetch_fault Memory fault = absurd fault
+fetch_fault Usage fault = absurd fault
+fetch_fault (BadScript line) fault = absurd fault
+fetch_fault (BadParams field) fault = absurd fault
+fetch_fault NotStore fault = absurd fault
+fetch_fault (Damaged cell check kept computed) fault = tt
+fetch_fault (StoreFault unsure) fault = fault
+fetch_fault (StashFull rows) fault = absurd fault
+fetch_fault (Worn number) fault = absurd fault
+fetch_fault SourceFault fault = absurd fault
+fetch_fault SinkFault fault = absurd fault
+
+pub store_fault : (f : Fault) → f ≡ StoreFault None → IsRepeatFault f
+store_fault f is = subst IsRepeatFault (sym is) refl
+
+-- a batch that was begun isn't worn
+pub not_worn : (f : Fault) → IsRepeatFault f → IsWornOut (Err f) → ⊥
+not_worn Memory fault worn = worn
+not_worn Usage fault worn = worn
+not_worn (BadScript line) fault worn = worn
+not_worn (BadParams field) fault worn = worn
+not_worn NotStore fault worn = worn
+not_worn (Damaged cell check kept computed) fault worn = worn
+not_worn (StoreFault unsure) fault worn = worn
+not_worn (StashFull rows) fault worn = worn
+not_worn (Worn number) fault worn = fault
+not_worn SourceFault fault worn = worn
+not_worn SinkFault fault worn = worn
+
+-- an append for which there are seals
+pub append_fault : (f : Fault) → IsAppendFault f → (IsWornOut (Err f) → ⊥) → f ≡ StoreFault None
+append_fault Memory fault none = absurd fault
+append_fault Usage fault none = absurd fault
+append_fault (BadScript line) fault none = absurd fault
+append_fault (BadParams field) fault none = absurd fault
+append_fault NotStore fault none = absurd fault
+append_fault (Damaged cell check kept computed) fault none = absurd fault
+append_fault (StoreFault unsure) fault none = ap StoreFault fault
+append_fault (StashFull rows) fault none = absurd fault
+append_fault (Worn number) fault none = absurd (none tt)
+append_fault SourceFault fault none = absurd fault
+append_fault SinkFault fault none = absurd fault
+
+pub draws_refused : (places : ℕ) (old new : List ℕ) (f : Fault) → IsRepeatFault f → DrawsWords places old new → FetchDraws places old new (Err f)
+draws_refused places old new Memory fault draws = draws
+draws_refused places old new Usage fault draws = draws
+draws_refused places old new (BadScript line) fault draws = draws
+draws_refused places old new (BadParams field) fault draws = draws
+draws_refused places old new NotStore fault draws = draws
+draws_refused places old new (Damaged cell check kept computed) fault draws = draws
+draws_refused places old new (StoreFault unsure) fault draws = draws
+draws_refused places old new (StashFull rows) fault draws = draws
+draws_refused places old new (Worn number) fault draws = absurd fault
+draws_refused places old new SourceFault fault draws = draws
+draws_refused places old new SinkFault fault draws = draws
+
+module _ (keys : Keys) (p : Params) (versions : List Version) (image : Image) (t : FlatTable) (r : BatchRecord) (rows rows' : Rows) where
+  pub answers_refused : (f : Fault) → IsRepeatFault f → BatchAnswers keys p versions image t r rows rows' (Err f) → FetchAnswers keys p versions image t r rows rows' (Err f)
+  answers_refused Memory fault answer = absurd fault
+  answers_refused Usage fault answer = absurd fault
+  answers_refused (BadScript line) fault answer = absurd fault
+  answers_refused (BadParams field) fault answer = absurd fault
+  answers_refused NotStore fault answer = absurd fault
+  answers_refused (Damaged cell check kept computed) fault answer = answer
+  answers_refused (StoreFault unsure) fault answer = tt
+  answers_refused (StashFull full) fault answer = absurd fault
+  answers_refused (Worn number) fault answer = absurd fault
+  answers_refused SourceFault fault answer = absurd fault
+  answers_refused SinkFault fault answer = absurd fault
+
+  pub answers_begun : (f : Fault) → f ≡ StoreFault None → FetchAnswers keys p versions image t r rows rows' (Err f)
+  answers_begun f is = subst (λ (e : Fault). FetchAnswers keys p versions image t r rows rows' (Err e)) (sym is) tt
+
+module _ {S : Type 0} (disk : S → Disk) (most : ℕ) (keys : Keys) (p : Params) (epoch : ℕ) (r : BatchRecord) (cells : List ℕ) (notes : List Note) (old new : S) (before later : Trace) where
+  pub does_refused : (f : Fault) → IsRepeatFault f → IsLoggedFirst disk most keys p epoch r cells notes old new before later (Err f) → FetchDoes disk most keys p epoch r cells notes old new before later (Err f)
+  does_refused Memory fault first = absurd fault
+  does_refused Usage fault first = absurd fault
+  does_refused (BadScript line) fault first = absurd fault
+  does_refused (BadParams field) fault first = absurd fault
+  does_refused NotStore fault first = absurd fault
+  does_refused (Damaged cell check kept computed) fault first = first
+  does_refused (StoreFault unsure) fault first = inr first
+  does_refused (StashFull rows) fault first = absurd fault
+  does_refused (Worn number) fault first = absurd fault
+  does_refused SourceFault fault first = absurd fault
+  does_refused SinkFault fault first = absurd fault
+
+  pub does_begun : (f : Fault) → f ≡ StoreFault None → TellsFirst (append_notes p epoch r.batch) (disk old).seen (disk new).seen before later → FetchDoes disk most keys p epoch r cells notes old new before later (Err f)
+  does_begun f is first = subst (λ (e : Fault). FetchDoes disk most keys p epoch r cells notes old new before later (Err e)) (sym is) (inl first)
+
+-- ---- what a crash leaves
+
+pub stood : (run : Run) (s : RingStanding) (d : Disk) → RunIsAt run s d → (c : Image) → d.may_leave c → Stands (run.sealer).keys run.params s c
+stood run s d was c left = stands_all (run.sealer).keys run.params s c d.cells (was.settled c left) was.stands
+
+-- where nothing was done
+pub leaves_none : (run : Run) (s s' : RingStanding) (d : Disk) → ((c : Image) → d.left_since d.moment c → d.may_leave c) → RunIsAt run s d → LeavesOnly d d (OneOf (run.sealer).keys run.params s s')
+leaves_none run s s' d only was = started d (OneOf (run.sealer).keys run.params s s') (λ c left. inl (stood run s d was c (only c left)))
+
+-- while the batch was begun
+pub leaves_begun : (run : Run) (s : RingStanding) (r : BatchRecord) (old mid : Disk) → ((c : Image) → old.left_since old.moment c → old.may_leave c) → RunIsAt run s old → Begun run r old mid
+    → Passes (SameOff (log_cell run.params (suc run.epoch % 2) (next_batch run) 0) (record_cells run.params + 1)) old mid
+    → LeavesOnly old mid (HoldsOneOf (run.sealer).keys run.params (suc run.epoch) s.records r)
+    → LeavesOnly old mid (OneOf (run.sealer).keys run.params s (with_record s r))
+leaves_begun run s r old mid only was begun passes images =
+    appends_leave (run.sealer).keys run.params s r old mid only (record {
+      may = may run s r old mid was begun;
+      images = λ c left. stood run s old was c left;
+      passes = at_batch run s r old mid was begun (λ e b. Passes (SameOff (log_cell run.params (e % 2) b 0) (record_cells run.params + 1)) old mid) passes;
+      records = at_batch run s r old mid was begun (λ e b. LeavesOnly old mid (HoldsOneOf (run.sealer).keys run.params e s.records r)) images;
+    })
+
+-- and while it was read
+pub leaves_read : (P : Image → Type 0) (old mid new : Disk) → ((c : Image) → mid.left_since mid.moment c → mid.may_leave c)
+    → ((t : Clock) (c : Image) → NotAfter t mid.moment → mid.may_leave c → mid.left_since t c) → LeavesOnly old mid P → Passes Same mid new → LeavesOnly old new P
+leaves_read P old mid new only counts first passes =
+    then_on old mid new P first
+    (leaves_of Same P P mid new passes only (λ c left. first.each c (counts old.moment c first.later left)) (λ c d was step. subst P (sym step) was) (λ c was. was))
+
+-- ---- what is in the cells
+
+pub settled_then : (mid new : Disk) → mid.tells → IsSynced mid → Keeps mid new → Passes Same mid new → IsSynced new
+settled_then mid new tells settled keeps passes c left k =
+    let back = passes.now c left in
+    ap (λ (i : Image). i k) back.2 ∙ settled back.0 back.1 k ∙ sym (keeps.cells tells k)
+
+pub within_then : (base many : ℕ) (old mid new : Disk) → (old.tells → mid.tells) → WritesWithin base many old mid → Keeps mid new → Passes Same mid new → WritesWithin base many old new
+within_then base many old mid new told within keeps passes = record {
+  rest = λ tells k off. keeps.cells (told tells) k ∙ within.rest tells k off;
+  passes = passed_then (SameOff base many) old mid new (λ c d e a b k off. a k off ∙ b k off) within.passes
+      (passes_so Same (SameOff base many) mid new (λ c d same k off. ap (λ (i : Image). i k) same) passes);
+}
+
+pub cells_same : (mid new : Disk) → mid.tells → Keeps mid new → new.cells ≡ mid.cells
+cells_same mid new tells keeps = fun_ext (λ k. keeps.cells tells k)
+
+-- ---- the words
+
+pub drawn_since : (old words : List ℕ) → words_since old (old ++ words) ≡ words
+drawn_since [] words = refl
+drawn_since (x ∷ old) words = drawn_since old words
+
+pub draws_are : (places : ℕ) (old new words : List ℕ) → new ≡ old ++ words → length words ≡ places → DrawsWords places old new
+draws_are places old new words is many =
+    let since : words_since old new ≡ words = ap (λ (l : List ℕ). words_since old l) is ∙ drawn_since old words in
+    record { words = is ∙ ap (λ (l : List ℕ). old ++ l) (sym since); many_are = ap length since ∙ many }
+
+pub drawn_many : (places : ℕ) (old new : List ℕ) → DrawsWords places old new → length new ≡ length old + places
+drawn_many places old new draws = ap length draws.words ∙ length-append old (words_since old new) ∙ ap (λ (n : ℕ). length old + n) draws.many_are
+
+-- ---- a batch that was begun, as its call tells it
+
+pub next_is : (epoch : ℕ) → epoch + 1 ≡ suc epoch
+next_is epoch = omega arith
+
+-- the cells of its record
+abbrev pub RecordStep : Run → ℕ → Image → Image → Type 0
+RecordStep run epoch = SameOff (log_cell run.params (epoch % 2) (next_batch run) 0) (record_cells run.params + 1)
+
+pub within_next : (run : Run) (old new : Disk) → WritesWithin (log_cell run.params ((run.epoch + 1) % 2) (next_batch run) 0) (record_cells run.params + 1) old new
+    → WritesWithin (log_cell run.params (suc run.epoch % 2) (next_batch run) 0) (record_cells run.params + 1) old new
+within_next run old new within = subst (λ (e : ℕ). WritesWithin (log_cell run.params (e % 2) (next_batch run) 0) (record_cells run.params + 1) old new) (next_is run.epoch) within
+
+module _ (run : Run) (s : RingStanding) (r : BatchRecord) (old mid : Disk) (was : RunIsAt run s old) (begun : Begun run r old mid) where
+  -- the open records, as the call was told of them
+  pub logged_at : OpenRecords (run.sealer).keys run.params (run.epoch + 1) s.records old.cells
+  logged_at = subst (λ (e : ℕ). OpenRecords (run.sealer).keys run.params e s.records old.cells) (sym (next_is run.epoch ∙ ap suc was.runs.epoch_is)) was.stands.holds.log
+
+  pub many_at : length s.records ≡ next_batch run
+  many_at = sym (batch_is run s r old mid was begun)
+
+  pub begun_leaves : ((c : Image) → old.left_since old.moment c → old.may_leave c)
+      → WritesWithin (log_cell run.params ((run.epoch + 1) % 2) (next_batch run) 0) (record_cells run.params + 1) old mid
+      → ((records : List BatchRecord) → old.tells → IsSynced old → length records ≡ next_batch run → OpenRecords (run.sealer).keys run.params (run.epoch + 1) records old.cells
+      → LeavesOnly old mid (HoldsOneOf (run.sealer).keys run.params (run.epoch + 1) records r))
+      → LeavesOnly old mid (OneOf (run.sealer).keys run.params s (with_record s r))
+  begun_leaves only within images =
+      leaves_begun run s r old mid only was begun (within_next run old mid within).passes
+      (subst (λ (e : ℕ). LeavesOnly old mid (HoldsOneOf (run.sealer).keys run.params e s.records r)) (next_is run.epoch) (images s.records was.tells was.settled many_at logged_at))
+
+-- ---- a batch that was read, by the names that a run has for its parts
+
+module _ {keys K : Keys} (ks : K ≡ keys) {p q : Params} (ps : q ≡ p) {g G : ℕ} (gs : G ≡ g) {words W : List ℕ} (ws : W ≡ words) (batch number first : ℕ) (asks : List (Option ℕ)) where
+  abbrev r : BatchRecord
+  r = record_of batch number g first asks words
+
+  abbrev r' : BatchRecord
+  r' = record_of batch number G first asks W
+
+  r_is : r' ≡ r
+  r_is = ap (λ (x : ℕ). record_of batch number x first asks W) gs ∙ ap (λ (x : List ℕ). record_of batch number g first asks x) ws
+
+  pub answers_as : (versions : List Version) (image : Image) (t : FlatTable) (rows rows' : Rows) (result : Result (Unit {0}) Fault)
+      → BatchAnswers K q versions image t (record_of batch number G first asks W) rows rows' result → BatchAnswers keys p versions image t (record_of batch number g first asks words) rows rows' result
+  answers_as versions image t rows rows' result answer =
+      subst (λ (k : Keys). BatchAnswers k p versions image t r rows rows' result) ks
+      (subst (λ (x : Params). BatchAnswers K x versions image t r rows rows' result) ps
+      (subst (λ (x : BatchRecord). BatchAnswers K q versions image t x rows rows' result) r_is answer))
+
+  pub tells_as : (most : ℕ) (versions : List Version) (t : FlatTable) (a b : Option (List Event)) (k l : Trace) (result : Result (Unit {0}) Fault)
+      → BatchTells most (batch_cells q versions t (asked_of_record q (record_of batch number G first asks W))) (repeated_notes q versions t (asked_of_record q (record_of batch number G first asks W))) a b k l result
+      → BatchTells most (batch_cells p versions t (asked_of_record p (record_of batch number g first asks words))) (repeated_notes p versions t (asked_of_record p (record_of batch number g first asks words))) a b k l result
+  tells_as most versions t a b k l result told =
+      subst (λ (x : Params). BatchTells most (batch_cells x versions t (asked_of_record x r)) (repeated_notes x versions t (asked_of_record x r)) a b k l result) ps
+      (subst (λ (x : BatchRecord). BatchTells most (batch_cells q versions t (asked_of_record q x)) (repeated_notes q versions t (asked_of_record q x)) a b k l result) r_is told)
+
+  pub moves_as : (old new : Kept) → MovesPlanner q (record_of batch number G first asks W) old new → MovesPlanner p (record_of batch number g first asks words) old new
+  moves_as old new moves = subst (λ (x : Params). MovesPlanner x r old new) ps (subst (λ (x : BatchRecord). MovesPlanner q x old new) r_is moves)

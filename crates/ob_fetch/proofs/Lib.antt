@@ -1,0 +1,4 @@
+pub mod NextLaws
+pub mod AnswerLaws
+pub mod LogLaws
+pub mod FetchLaws

@@ -1,0 +1,161 @@
+//! Fetching a read batch.
+
+ghost use Rattle.std.specs.Prelude.{◌≡◌, ◌↔◌, ◌<◌, ◌≤◌, ◌+◌, ◌%◌, ◌^◌, ℕ, suc, false, true, length, OnOk, OnErr, IfErr};
+ghost use Rattle.ob_base.specs.Layout.{log_cell, record_cells};
+ghost use Rattle.ob_base.specs.Planned.{most_jobs};
+ghost use Rattle.ob_bucket.specs.Buckets.{Buckets};
+ghost use Rattle.ob_cells.specs.Writes.{Seals, WritesWithin};
+ghost use Rattle.ob_log.specs.Appends.{IsWornOut};
+ghost use Rattle.ob_recover.specs.Repeats.{asked_of_record, batch_cells, repeated_notes};
+ghost use Rattle.ob_ring.specs.FlatTable.{FlatTable};
+ghost use Rattle.ob_ring.specs.Picked.{SameSeals};
+ghost use Rattle.ob_ring.specs.Ring.{StandsFor};
+ghost use Rattle.ob_serial.specs.Vaults.{AreBelow, AreDistinct};
+ghost use Rattle.ob_stand.specs.Stands.{OneOf, RingStanding, with_record};
+ghost use Rattle.ob_store.specs.Calls.{IsStoreFault, Serves};
+ghost use Rattle.ob_store.specs.Images.{IsSynced, LeavesOnly};
+ghost use Rattle.ob_fetch.specs.Fetches.{FetchAnswers, FetchDoes, FetchDraws, FetchStands, RunIsAt, IsFetchRefusal, IsRunReady, IsWornForBatch, MovesPlanner, values_asked, next_batch, record_next, words_since};
+
+use crate::answering::answer_all;
+use crate::beginning::{begin_batch, is_worn};
+use crate::drawing::front;
+use crate::run::Run;
+use ob_base::{Fault, Key, NUMBER_LIMIT, Value};
+use ob_batch::Crew;
+use ob_recover::read_batch;
+use ob_store::{Store, Watch};
+use ob_tape::Tape;
+
+/// Fetches the next batch of the epoch that runs: draws a word for each place, keeps the batch's
+/// record in the log, plans the batch, reads its slots and shows them, and gives each place the
+/// value of its key, or none for a pad and for a key that is absent. One batch less is left. It
+/// takes no memory.
+///
+/// While it runs a crash leaves what stood, or that with the batch's record.
+///
+/// # Errors
+/// Worn with `2^62` exactly where fewer words than the batch has places, or fewer seals than its
+/// record has cells, are left below that: then nothing was done. Else the store failed, and its
+/// count of faults rose; or what is damaged first of the batch: in the order planned, the first
+/// slot whose tag or seal is wrong, or, where none is, the first row that holds another key, or a
+/// length above 64. After any of them the run is spent.
+pub fn fetch<S: Store, T: Tape, W: Watch>(
+    store: &mut S,
+    tape: &mut T,
+    crew: &mut Crew<S::Lane>,
+    run: &mut Run,
+    asks: &[Option<Key>],
+    out: &mut [Option<Value>],
+    watch: &mut W,
+) -> Result<(), Fault>
+    requires none_out { (S.disk store.old).out ≡ 0 }
+    requires ready { IsRunReady run.old }
+    requires serves { run.old.spent ≡ false }
+    requires some_left { 0 < run.old.left }
+    requires crew { most_jobs run.old.params ≤ crew.old.jobs }
+    requires generation { T.present tape.old ≡ run.old.sealer.generation }
+    requires drawn { run.old.drawn ≡ length (T.drawn tape.old) }
+    requires few { run.old.drawn ≤ 2 ^ 62 }
+    requires whole { length asks.now ≡ run.old.params.places }
+    requires room { length out.old ≡ run.old.params.places }
+    requires keys { AreBelow run.old.params.keys asks.now }
+    requires distinct { AreDistinct asks.now }
+    ensures serves { Serves IsStoreFault (S.disk store.old) (S.disk store.new) result }
+    ensures faults { IfErr result IsFetchRefusal }
+    ensures worn { IsWornOut result ↔ IsWornForBatch run.old }
+    ensures idle { IsWornOut result → (store.new ≡ store.old) × (tape.new ≡ tape.old)
+        × (watch.new ≡ watch.old) × (run.new ≡ record run.old { spent = true }) }
+    // It draws a word for each place, and no other, unless numbers are worn.
+    ensures draws { FetchDraws run.old.params.places (T.drawn tape.old) (T.drawn tape.new) result }
+    ensures generation { T.present tape.new ≡ T.present tape.old }
+    ensures drawn { run.new.drawn ≡ length (T.drawn tape.new) }
+    // Of the run nothing else changes than these.
+    ensures kept { run.new
+        ≡ record run.old {
+          sealer = run.new.sealer;
+          drawn = run.new.drawn;
+          left = run.new.left;
+          spent = run.new.spent;
+          ring = run.new.ring;
+          jobs = run.new.jobs;
+          words = run.new.words;
+        } }
+    ensures seals { Seals (record_cells run.old.params) run.old.sealer run.new.sealer result }
+    ensures served { OnOk result ((run.new.left + 1 ≡ run.old.left) × (run.new.spent ≡ false)) }
+    ensures refused { OnErr result ((run.new.left ≡ run.old.left) × (run.new.spent ≡ true)
+        × (out.new ≡ out.old)) }
+    ensures ready { OnOk result (IsRunReady run.new) }
+    ensures crew { crew.new ≡ crew.old }
+    ensures moves { OnOk result (MovesPlanner run.old.params (record_next run.old asks.now
+        (words_since (T.drawn tape.old) (T.drawn tape.new))) run.old.ring run.new.ring) }
+    ensures answers { OnOk result (out.new ≡ values_asked run.new.ring.stash.rows asks.now) }
+    ensures within { WritesWithin (log_cell run.old.params (suc run.old.epoch % 2)
+        (next_batch run.old) 0) (record_cells run.old.params + 1) (S.disk store.old)
+        (S.disk store.new) }
+    ensures durable { (S.disk store.old).tells → OnOk result (IsSynced (S.disk store.new)) }
+    // Where the buckets lie as these were sealed, it reads the slots of the table's batch.
+    ensures value { (start : Buckets) (t : FlatTable) → SameSeals start run.old.ring.metas
+        → StandsFor run.old.ring t → (S.disk store.old).tells
+        → FetchAnswers run.old.sealer.keys run.old.params start.versions (S.disk store.new).cells t
+        (record_next run.old asks.now (words_since (T.drawn tape.old) (T.drawn tape.new)))
+        run.old.ring.stash.rows run.new.ring.stash.rows result }
+    ensures does { (start : Buckets) (t : FlatTable) → SameSeals start run.old.ring.metas
+        → StandsFor run.old.ring t
+        → FetchDoes S.disk crew.old.lanes run.old.sealer.keys run.old.params (suc run.old.epoch)
+        (record_next run.old asks.now (words_since (T.drawn tape.old) (T.drawn tape.new)))
+        (batch_cells run.old.params start.versions t (asked_of_record run.old.params
+        (record_next run.old asks.now (words_since (T.drawn tape.old) (T.drawn tape.new)))))
+        (repeated_notes run.old.params start.versions t (asked_of_record run.old.params
+        (record_next run.old asks.now (words_since (T.drawn tape.old) (T.drawn tape.new)))))
+        store.old store.new (W.trace watch.old) (W.trace watch.new) result }
+    // Where the store stood, the answers are the map's, and it stands with the record.
+    ensures stands { (s : RingStanding) → RunIsAt run.old s (S.disk store.old)
+        → FetchStands s (record_next run.old asks.now
+        (words_since (T.drawn tape.old) (T.drawn tape.new))) asks.now (S.disk store.new) run.new
+        out.new result }
+    // A crash at any moment of it leaves what stood, or that with the record.
+    ensures images { (s : RingStanding) → RunIsAt run.old s (S.disk store.old)
+        → LeavesOnly (S.disk store.old) (S.disk store.new)
+        (OneOf run.old.sealer.keys run.old.params s (with_record s (record_next run.old asks.now
+        (words_since (T.drawn tape.old) (T.drawn tape.new))))) }
+{
+    run.spent = true;
+    if is_worn(run) {
+        return Err(Fault::Worn {
+            number: NUMBER_LIMIT,
+        });
+    }
+    let first = run.drawn;
+    run.drawn += run.params.places as u64;
+    begin_batch(
+        store,
+        tape,
+        &mut run.sealer,
+        &mut run.words,
+        &run.params,
+        run.epoch + 1,
+        run.params.batches - run.left,
+        first,
+        asks,
+        watch,
+    )?;
+    match read_batch(
+        store,
+        crew,
+        &run.sealer,
+        &mut run.jobs,
+        &mut run.ring,
+        asks,
+        front(&run.words, run.params.places as usize),
+        run.sealer.next().0,
+        first,
+        watch,
+    ) {
+        Ok(()) => {}
+        Err(fault) => return Err(fault),
+    }
+    answer_all(&run.ring.tables().stash, asks, out);
+    run.left -= 1;
+    run.spent = false;
+    Ok(())
+}
