@@ -1,0 +1,3 @@
+pub mod LiftsFew
+pub mod LiftReads
+pub mod RenewLaws
