@@ -23,6 +23,3 @@ pub use laws::reads_back;
 pub use reading::read;
 pub use sheet::Sheet;
 pub use writing::write;
-
-#[cfg(test)]
-mod tests;

@@ -1,17 +1,18 @@
 //! Checkpoints against cells that were made elsewhere, and each rule broken once.
 
-ghost use Rattle.std.specs.Prelude.{◌≡◌, ◌<◌, IfOk};
+ghost use Rattle.std.specs.Prelude.{◌≡◌, ◌<◌, ◌+◌, ◌^◌, IfOk};
+ghost use Rattle.ob_base.specs.Layout.{checkpoint_cells};
 ghost use Rattle.ob_base.specs.Tree.{buckets};
 ghost use Rattle.ob_content.specs.Content.{Obeys, content_of};
 
-use crate::writing::area_of;
-use crate::{Sheet, read, write};
 use hex::FromHex;
 use ob_base::{
-    Check, Fault, Params, bucket_of, buckets, checkpoint_cells, checkpoint_len, ring_cells,
+    Check, Fault, Params, bucket_of, buckets, check_cell, checkpoint_cells, checkpoint_len,
+    ring_cells,
 };
 use ob_bucket::{Meta, Metas};
 use ob_cells::{Cut, read_sealed, write_sealed};
+use ob_check::{Sheet, read, write};
 use ob_mem::{Fail, MemSink, MemStore};
 use ob_seal::{Keys, Sealer};
 use ob_store::{Blind, SinkWatch, Store, write_run};
@@ -49,6 +50,15 @@ const WRITTEN: [&str; 11] = [
     "02000000000000002400000000000000c54130aceb92b14af94b0905aa8a396928e2ab3771772f080fee7a2529155288cf2c7e8403aa557b6ae88070070da087ae096ce6d09da9f089ae5882c709c49c14b09999f065e3bac573c70746c476017583de9fcb8b6255e650dfc079adc12233fe87cde96f32fa5abc4f044c17c0ba",
     "0200000000000000250000000000000031ee88739bbc9db1312aa48ecb02bada2ddf9709beda4f70888293d13ca18307b45bf73dd4ce105e7a0a3033e941463627cf2ade402cbf9d03315ee8bbad9251315006470ae551f58003860a77c5f99d43926104c98813c6118f1ee2d4fff18857ecdeabf26dc7c73bbfadb4d7f7d13d",
 ];
+
+// The first cell of the area of an epoch.
+fn area_of(p: &Params, epoch: u64) -> u64
+    requires { 0 < checkpoint_cells p.now }
+    ensures few { result + checkpoint_cells p.now < 2 ^ 64 }
+    ensures low { result < 2 ^ 24 }
+{
+    check_cell(p, (epoch % 2) as u8, 0)
+}
 
 fn test_keys() -> Keys {
     let mut bytes = [0; 96];
@@ -108,6 +118,7 @@ fn sealed(rt: &impl Abort, alloc: Global, p: &Params, epoch: u64, plain: &[u8]) 
         rt, "memory",
     );
     let mut sealer = Sealer::new(&test_keys(), 2);
+    assert!(rt; checkpoint_cells(p) > 0);
     let base = area_of(p, epoch);
     let cut = Cut { bytes: plain };
     let many = checkpoint_cells(p);
@@ -164,6 +175,7 @@ fn copied(
 ) -> Tables<Metas>
     ensures { Obeys p.now (content_of result) }
 {
+    assert!(rt; checkpoint_cells(p) > 0);
     let base = area_of(p, epoch);
     let mut store = store_with(rt, alloc, base, cells, &[]);
     let tables = read_of(rt, alloc, p, epoch, &mut store).expect(rt, "tables");
@@ -593,6 +605,7 @@ fn tables_are_read_as_they_were_written(rt: HostRuntime) {
         let room = 96 * checkpoint_cells(&p) as usize;
         let mut plain = vec![in alloc; 0; room].expect(&rt, "memory");
         let sealer = Sealer::new(&test_keys(), 9);
+        assert!(rt; checkpoint_cells(&p) > 0);
         let base = area_of(&p, 6);
         assert!(rt; room >= 96 && room % 96 == 0);
         assert!(rt;
