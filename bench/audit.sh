@@ -5,9 +5,9 @@
 # doesn't fit. What is aimed at: 250 ns a line, the three within a tenth of one another, 8 MiB, the same for
 # all four.
 #
-# Figures of the plain program, on a busy machine of four processors (November 2026): 690 to 1,120 ns a line
-# for the three, 209 ns for the 1 GiB (234 million lines); 1.5 to 2.1 MiB. So the memory is as aimed at, and
-# the time of the larger store is four times that.
+# Figures, on a busy machine of four processors (November 2026): 75 to 81 ns a line for each of the four (234
+# million lines in the last), 1.1 to 1.4 MiB. A format and two epochs under the greatest parameters (7.4
+# million lines) take 82 ns a line and 15.4 MiB.
 #
 # It needs rt, python3 and GNU time, and writes only to a temporary folder. With the word `short` the 1 GiB
 # is left out.

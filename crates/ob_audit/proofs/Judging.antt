@@ -1,5 +1,6 @@
 -- A line of which the first 97 bytes are kept, and whether it may stand next.
 use Rattle.std.proofs.Common.{◌≡◌, ◌≤◌, ℕ, List, length, take, Option, Some, None, refl, sym, ap, subst, inl, inr, arith}
+use Rattle.std.specs.Global.{Box}
 use Rattle.std.specs.Prelude.{MatchOption}
 use Rattle.std.proofs.lemmas.List.{length-take, take_all}
 use Rattle.ob_follow.specs.declared.line.Line.{Line}
@@ -30,15 +31,15 @@ line_behind text kept line is (inr (bad, none)) =
 
 -- ---- which line may stand next
 
-pub next_told : (old : Option FollowPlain) (present new : FollowPlain) (line : Line) (answer : Option Wanted) → old ≡ Some present
-    → MatchOption answer (TakesLine (follow_of present) line (follow_of new)) (λ wanted. (follow_of new ≡ follow_of present) × RefusesLine (follow_of present) line wanted)
+pub next_told : (old : Option (Box FollowPlain)) (present : Box FollowPlain) (before new : FollowPlain) (line : Line) (answer : Option Wanted) → old ≡ Some present → before ≡ present.value
+    → MatchOption answer (TakesLine (follow_of before) line (follow_of new)) (λ wanted. (follow_of new ≡ follow_of before) × RefusesLine (follow_of before) line wanted)
     → MatchOption answer ((next : Follow) × TakesNext (known_behind old) line next × (◌≡◌ {A = Option Follow} (Some (follow_of new)) (Some next))) (λ wanted. RefusesNext (known_behind old) line wanted)
-next_told old present new line None is takes = (follow_of new, subst (λ (o : Option FollowPlain). TakesNext (known_behind o) line (follow_of new)) (sym is) takes, refl)
-next_told old present new line (Some wanted) is refuses = subst (λ (o : Option FollowPlain). RefusesNext (known_behind o) line wanted) (sym is) refuses.1
+next_told old present before new line None is same takes = (follow_of new, rw is (subst (λ (f : FollowPlain). TakesLine (follow_of f) line (follow_of new)) same takes), refl)
+next_told old present before new line (Some wanted) is same refuses = rw is (subst (λ (f : FollowPlain). RefusesLine (follow_of f) line wanted) same refuses.1)
 
-pub first_told : (old : Option FollowPlain) (begun : FollowPlain) (line : Line) → old ≡ None → TakesFirst line (follow_of begun)
-    → (next : Follow) × TakesNext (known_behind old) line next × (◌≡◌ {A = Option Follow} (Some (follow_of begun)) (Some next))
-first_told old begun line is takes = (follow_of begun, subst (λ (o : Option FollowPlain). TakesNext (known_behind o) line (follow_of begun)) (sym is) takes, refl)
+pub first_told : (old : Option (Box FollowPlain)) (begun : Box FollowPlain) (line : Line) → old ≡ None → TakesFirst line (follow_of begun.value)
+    → (next : Follow) × TakesNext (known_behind old) line next × (◌≡◌ {A = Option Follow} (Some (follow_of begun.value)) (Some next))
+first_told old begun line is takes = (follow_of begun.value, subst (λ (o : Option (Box FollowPlain)). TakesNext (known_behind o) line (follow_of begun.value)) (sym is) takes, refl)
 
-pub first_refused : (old : Option FollowPlain) (line : Line) → old ≡ None → ((next : Follow) → TakesFirst line next → ⊥) → RefusesNext (known_behind old) line W.Start
-first_refused old line is never = subst (λ (o : Option FollowPlain). RefusesNext (known_behind o) line W.Start) (sym is) (refl, never)
+pub first_refused : (old : Option (Box FollowPlain)) (line : Line) → old ≡ None → ((next : Follow) → TakesFirst line next → ⊥) → RefusesNext (known_behind old) line W.Start
+first_refused old line is never = subst (λ (o : Option (Box FollowPlain)). RefusesNext (known_behind o) line W.Start) (sym is) (refl, never)

@@ -1,5 +1,6 @@
 -- What a reader has read, step by step.
 use Rattle.std.proofs.Common.{◌≡◌, ◌≢◌, ◌≤◌, ◌<◌, ◌+◌, ◌-◌, ℕ, List, [], ◌∷◌, ◌++◌, length, take, Option, None, slice_set, refl, sym, ap, ◌∙◌, subst, inl, inr, arith, append_assoc, length-append}
+use Rattle.std.specs.Global.{Box}
 use Rattle.std.proofs.lemmas.List.{append-nil, length-take-le, take_more_set, length-set}
 use Rattle.ob_plain_follow.specs.declared.follow.FollowPlain.{FollowPlain}
 use Rattle.ob_follow.specs.declared.line.Line.TheVariants as L
@@ -12,37 +13,32 @@ use Rattle.ob_audit.specs.Traces.{lines_in, Admitted, FitsWhole, IsVerdict}
 use Rattle.ob_audit.specs.Reader.{prefixed, known_behind, HasReadLines, TakesText, RefusesText, IsSettled}
 use Rattle.ob_audit.proofs.Begun.{prefixed_more, prefixed_line, prefixed_last, lines_other, some_lines, one_line, taken_behind, kept_more, kept_same, none_begun, some_begun, admitted_more}
 
+-- one byte more of the line that is begun, however much of that is kept
+byte_more : (r next : Reader) (bytes : List ℕ) (b : ℕ) → b ≢ 10 → (h : HasReadLines r bytes) → next.lines ≡ r.lines → next.seen ≡ r.seen + 1 → next.known ≡ r.known → length next.begun ≡ 97 → take next.len next.begun ≡ take 97 (h.begun ++ b ∷ [])
+    → HasReadLines next (bytes ++ b ∷ [])
+byte_more r next bytes b other h lines seen known array kept = record {
+  before = h.before;
+  begun = h.begun ++ b ∷ [];
+  splits = λ more. ap (λ (t : List ℕ). lines_in t) (append_assoc bytes (b ∷ []) more) ∙ h.splits (b ∷ more)
+      ∙ ap (λ (t : List (List ℕ)). h.before ++ prefixed h.begun t) (lines_other b more other)
+      ∙ ap (λ (t : List (List ℕ)). h.before ++ t) (sym (prefixed_more h.begun b (lines_in more)));
+  counts = lines ∙ h.counts;
+  seen = omega (arith, seen, h.seen, length-append bytes (b ∷ []));
+  admitted = subst (λ (k : Option (Box FollowPlain)). Admitted None h.before (known_behind k)) (sym known) h.admitted;
+  kept = kept;
+  array = array;
+}
+
 pub pushed : (r : Reader) (bytes : List ℕ) (b : ℕ) → b ≢ 10 → r.len < 97 → HasReadLines r bytes → HasReadLines (record r { seen = r.seen + 1; begun = slice_set r.begun r.len b; len = r.len + 1 }) (bytes ++ b ∷ [])
 pushed r bytes b other few h =
     let full : length (take r.len r.begun) ≡ r.len = length-take-le r.len r.begun (omega (arith, few, h.array)) in
-    record {
-      before = h.before;
-      begun = h.begun ++ b ∷ [];
-      splits = λ more. ap (λ (t : List ℕ). lines_in t) (append_assoc bytes (b ∷ []) more) ∙ h.splits (b ∷ more)
-          ∙ ap (λ (t : List (List ℕ)). h.before ++ prefixed h.begun t) (lines_other b more other)
-          ∙ ap (λ (t : List (List ℕ)). h.before ++ t) (sym (prefixed_more h.begun b (lines_in more)));
-      counts = h.counts;
-      seen = omega (arith, h.seen, length-append bytes (b ∷ []));
-      admitted = h.admitted;
-      kept = take_more_set r.begun r.len b (omega (arith, few, h.array)) ∙ kept_more (take r.len r.begun) h.begun b (omega (arith, full, few)) h.kept;
-      array = length-set r.begun r.len b ∙ h.array;
-    }
+    byte_more r (record r { seen = r.seen + 1; begun = slice_set r.begun r.len b; len = r.len + 1 }) bytes b other h refl refl refl (length-set r.begun r.len b ∙ h.array)
+    (take_more_set r.begun r.len b (omega (arith, few, h.array)) ∙ kept_more (take r.len r.begun) h.begun b (omega (arith, full, few)) h.kept)
 
 pub passed_over : (r : Reader) (bytes : List ℕ) (b : ℕ) → b ≢ 10 → r.len ≡ 97 → HasReadLines r bytes → HasReadLines (record r { seen = r.seen + 1 }) (bytes ++ b ∷ [])
 passed_over r bytes b other long h =
     let full : length (take r.len r.begun) ≡ r.len = length-take-le r.len r.begun (omega (arith, long, h.array)) in
-    record {
-      before = h.before;
-      begun = h.begun ++ b ∷ [];
-      splits = λ more. ap (λ (t : List ℕ). lines_in t) (append_assoc bytes (b ∷ []) more) ∙ h.splits (b ∷ more)
-          ∙ ap (λ (t : List (List ℕ)). h.before ++ prefixed h.begun t) (lines_other b more other)
-          ∙ ap (λ (t : List (List ℕ)). h.before ++ t) (sym (prefixed_more h.begun b (lines_in more)));
-      counts = h.counts;
-      seen = omega (arith, h.seen, length-append bytes (b ∷ []));
-      admitted = h.admitted;
-      kept = kept_same (take r.len r.begun) h.begun b (full ∙ long) h.kept;
-      array = h.array;
-    }
+    byte_more r (record r { seen = r.seen + 1 }) bytes b other h refl refl refl h.array (kept_same (take r.len r.begun) h.begun b (full ∙ long) h.kept)
 
 -- a line feed, and what was read before it
 fed : (r : Reader) (bytes : List ℕ) (h : HasReadLines r bytes) (more : List ℕ) → lines_in ((bytes ++ 10 ∷ []) ++ more) ≡ h.before ++ h.begun ∷ lines_in more
@@ -50,7 +46,7 @@ fed r bytes h more =
     ap (λ (t : List ℕ). lines_in t) (append_assoc bytes (10 ∷ []) more) ∙ h.splits (10 ∷ more)
     ∙ ap (λ (t : List (List ℕ)). h.before ++ t) (prefixed_line h.begun (lines_in more))
 
-pub line_taken : (r : Reader) (bytes : List ℕ) (known : Option FollowPlain) (h : HasReadLines r bytes) → TakesText (known_behind r.known) h.begun (known_behind known)
+pub line_taken : (r : Reader) (bytes : List ℕ) (known : Option (Box FollowPlain)) (h : HasReadLines r bytes) → TakesText (known_behind r.known) h.begun (known_behind known)
     → HasReadLines (record r { lines = r.lines + 1; seen = r.seen + 1; known = known; len = 0 }) (bytes ++ 10 ∷ [])
 line_taken r bytes known h took = record {
   before = h.before ++ h.begun ∷ [];

@@ -1,4 +1,5 @@
 -- Private: what has been read of a trace.
+use Rattle.std.specs.Global.{Box}
 use Rattle.std.specs.Prelude.{◌≡◌, ◌+◌, ℕ, List, [], ◌∷◌, ◌++◌, length, take, Option, Some, None, option_map}
 use Rattle.ob_plain_follow.specs.declared.follow.FollowPlain.{FollowPlain}
 use Rattle.ob_plain_follow.specs.Plain.{follow_of}
@@ -16,8 +17,8 @@ abbrev pub prefixed : List ℕ → List (List ℕ) → List (List ℕ)
 prefixed [] texts = texts
 prefixed (byte ∷ bytes) texts = with_first byte (prefixed bytes texts)
 
-abbrev pub known_behind : Option FollowPlain → Option Follow
-known_behind known = option_map follow_of known
+abbrev pub known_behind : Option (Box FollowPlain) → Option Follow
+known_behind known = option_map (λ (present : Box FollowPlain). follow_of present.value) known
 
 -- These bytes were read: whole lines, each admitted, and the beginning of one, of which 97 bytes are kept.
 pub record HasReadLines (r : Reader) (bytes : List ℕ) : Type 0 where

@@ -11,7 +11,8 @@ pub(crate) const KEPT: usize = 97;
 pub(crate) struct Reader {
     pub(crate) lines: u64,
     pub(crate) seen: u64,
-    pub(crate) known: Option<FollowPlain>,
+    // In a box of its own, so that a line moves only where it lies.
+    pub(crate) known: Option<Box<FollowPlain>>,
     pub(crate) begun: [u8; 97],
     pub(crate) len: usize,
 }

@@ -20,13 +20,13 @@ use std::alloc::{AllocError, Global};
 const MOST: u64 = 1 << 32;
 
 // What is known behind a first line, which has to begin a format.
-fn first(alloc: Global, line: &Line) -> Result<Option<FollowPlain>, AllocError>
+fn first(alloc: Global, line: &Line) -> Result<Option<Box<FollowPlain>>, AllocError>
     ensures { IfOk result (λ first. MatchOption first
         ((next : Follow) → TakesFirst line.now next → ⊥)
-        (λ known. TakesFirst line.now (follow_of known))) }
+        (λ known. TakesFirst line.now (follow_of known.value))) }
 {
     match line {
-        Line::Start(p) => Ok(Some(FollowPlain::new(alloc, p)?)),
+        Line::Start(p) => Ok(Some(Box::new(alloc, FollowPlain::new(alloc, p)?)?)),
         _ => Ok(None),
     }
 }
@@ -34,7 +34,7 @@ fn first(alloc: Global, line: &Line) -> Result<Option<FollowPlain>, AllocError>
 // Takes a line, if it may stand next; else answers what may.
 fn follow(
     alloc: Global,
-    known: &mut Option<FollowPlain>,
+    known: &mut Option<Box<FollowPlain>>,
     line: &Line,
 ) -> Result<Option<Wanted>, AllocError>
     ensures { IfOk result (λ answer. MatchOption answer
@@ -61,7 +61,7 @@ fn follow(
 // Judges a line, of which these bytes are kept, behind so many lines.
 fn judge(
     alloc: Global,
-    known: &mut Option<FollowPlain>,
+    known: &mut Option<Box<FollowPlain>>,
     kept: &[u8],
     lines: u64,
 ) -> Result<Option<Audit>, AllocError>

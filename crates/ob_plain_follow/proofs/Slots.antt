@@ -1,28 +1,19 @@
 -- A slot that no read shows, and lines that are refused.
-use Rattle.std.specs.Prelude.{◌≡◌, ◌<◌, ◌+◌, ℕ, false, Option, Some, None}
-use Rattle.std.proofs.Common.{sym, ap, ◌∙◌, subst, inl, inr, arith}
-use Rattle.std.proofs.lemmas.Bool.{cases_lt}
+use Rattle.std.specs.Prelude.{◌≡◌, ◌<◌, ℕ, false, Option, Some, None}
+use Rattle.std.proofs.Common.{ap, ◌∙◌, subst, arith}
 use Rattle.ob_base.specs.Tree.{width}
 use Rattle.ob_base.proofs.Bounds.{width_le}
 use Rattle.ob_base.specs.Layout.{slot_cell}
 use Rattle.ob_store.specs.declared.watch.Note.{Note}
 use Rattle.ob_store.specs.declared.watch.Note.TheVariants as N
 use Rattle.ob_schedule.specs.Holes.{Hole}
-use Rattle.ob_follow.specs.declared.line.Line.{Line}
 use Rattle.ob_follow.specs.declared.line.Line.TheVariants as L
 use Rattle.ob_follow.specs.declared.line.Wanted.{Wanted}
 use Rattle.ob_follow.specs.Sides.{side_number}
-use Rattle.ob_follow.specs.Follow.{Follow, Admits, MayShow, ShowsSlot}
+use Rattle.ob_follow.specs.Follow.{Follow, MayShow, ShowsSlot}
 use Rattle.ob_follow.specs.Names.{RefusesLine, wanted_next}
 use Rattle.ob_follow.proofs.Exact.{refuses}
 use Rattle.ob_plain_follow.specs.Plain.{Took}
-
--- what isn't so of the numbers below n, nor of n, isn't so of one below n + 1
-pub none_up : (P : ℕ → Type 0) (n : ℕ) → ((s : ℕ) → s < n → P s → ⊥) → (P n → ⊥) → (s : ℕ) → s < n + 1 → P s → ⊥
-none_up P n before now s lt is = elim (cases_lt s n) [
-  | inl low ↦ before s low is
-  | inr high ↦ now (let same : s ≡ n = omega arith in subst P same is)
-]
 
 pub none_some : (x : ℕ) → None ≡ Some x → ⊥
 none_some x e = cc

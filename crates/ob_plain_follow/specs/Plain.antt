@@ -18,9 +18,9 @@ follow_of f =
       newer = option_map standing_of f.newer;
       chosen = f.chosen;
       batch = f.batch;
-      leaves = f.leaves.items;
+      leaves = f.leaves;
       holes = map hole_of_visit f.visits.items;
-      wants = f.wants.items;
+      wants = f.wants;
     }
 
 -- A note was taken, but for the step that may come behind it; or it can't be, and nothing changed.

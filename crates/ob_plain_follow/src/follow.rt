@@ -12,16 +12,17 @@ ghost use Rattle.ob_follow.specs.Standing.{with_slot};
 ghost use Rattle.ob_plain_wants.specs.Visits.{hole_of_visit};
 ghost use Rattle.ob_plain_wants.specs.Shown.{standing_of};
 ghost use Rattle.ob_follow.specs.Wants.{places, record_wants, setting, found_wants};
-ghost use Rattle.ob_follow.specs.Follow.{Follow, TakesLine, started, opened, taken_up, next_step, changed, shows_label, repeated_batch, newer_or_same, next_side, opened_wants};
+ghost use Rattle.ob_follow.specs.Follow.{TakesLine, started, opened, taken_up, next_step, changed, shows_label, repeated_batch, newer_or_same, next_side, opened_wants};
 ghost use Rattle.ob_follow.specs.Names.{RefusesLine, wanted_next, wanted_slot, wanted_want};
 
 use ob_base::Params;
 use ob_follow::{Change, Gate, Line, Register, Side, Want, Wanted};
 use ob_plain_wants::{
-    StandingPlain, Visit, body_of, cell_at, check_at, end_wants, final_visits, format_wants,
-    found_wants, place_visits, places, push_wants, record_at, record_wants, register_wants,
-    set_wants, shown_label,
+    Leaves, StandingPlain, Visit, body_of, cell_at, check_at, final_visits, format_wants,
+    place_visits, places, push_end, push_found, push_record, push_registers, record_at, set_wants,
+    shown_label,
 };
+use ob_runs::Runs;
 use ob_store::Note;
 use std::alloc::{AllocError, Global};
 use std::collections::VecDeque;
@@ -44,11 +45,11 @@ pub struct FollowPlain {
     /// Batches that this attempt has begun.
     pub batch: u32,
     /// Labels that this attempt has shown.
-    pub leaves: Vec<u16>,
+    pub leaves: Leaves,
     /// Slots that are wanted, before the rest.
     pub visits: VecDeque<Visit>,
     /// The rest of the present step.
-    pub wants: VecDeque<Want>,
+    pub wants: Runs,
 }
 
 // The first cell of a checkpoint.
@@ -73,7 +74,7 @@ impl FollowPlain {
             newer: None,
             chosen: false,
             batch: 0,
-            leaves: Vec::new(alloc),
+            leaves: Leaves::new(alloc),
             visits: VecDeque::new(alloc),
             wants: format_wants(alloc, p)?,
         })
@@ -138,15 +139,14 @@ impl FollowPlain {
         if let Some(visit) = self.visits.front() {
             return self.wanted_visit(*visit);
         }
-        match self.wants.front() {
+        match self.wants.first() {
             None => Wanted::Start,
-            Some(want) => self.wanted_want(*want),
+            Some(want) => self.wanted_want(want),
         }
     }
 
     // What an opening shows, into an empty list.
-    #[tactic(auto, using(ob_plain_wants::proofs::Formats::heads_read))]
-    fn push_opening(&mut self, alloc: Global) -> Result<(), AllocError>
+    fn push_opening(&mut self) -> Result<(), AllocError>
         ensures { OnOk result ((follow_of self.old).wants ≡ []
             → follow_of self.new
             ≡ record (follow_of self.old) {
@@ -154,36 +154,27 @@ impl FollowPlain {
                   (standing_of self.old.stands) (follow_of self.old).newer;
             }) }
     {
-        push_wants(&register_wants(alloc)?, &mut self.wants)?;
+        push_registers(&self.params, &mut self.wants)?;
         match self.newer {
-            None => {
-                let found = found_wants(alloc, &self.params, &self.stands)?;
-                push_wants(&found, &mut self.wants)
-            }
-            Some(_) => push_wants(&[Want::Checkpoint], &mut self.wants),
+            None => push_found(&self.params, &self.stands, &mut self.wants),
+            Some(_) => self.wants.push(Want::Checkpoint),
         }
     }
 
     // Behind a stop a run begins.
-    fn open(&mut self, alloc: Global) -> Result<(), AllocError>
+    fn open(&mut self) -> Result<(), AllocError>
         ensures { OnOk result (follow_of self.new ≡ opened (follow_of self.old)) }
     {
         self.visits.clear();
         self.wants.clear();
         self.runs = self.formatted;
         if !self.formatted {
-            return push_wants(
-                &[Want::Fixed {
-                    note: Note::Read(0),
-                    change: Change::Keeps,
-                }],
-                &mut self.wants,
-            );
+            return self.wants.push_reads(0, 1);
         }
         self.chosen = false;
         self.batch = 0;
         self.leaves.clear();
-        self.push_opening(alloc)
+        self.push_opening()
     }
 
     // The slot of the bucket's home that the cell holds.
@@ -196,13 +187,16 @@ impl FollowPlain {
             (side_number ((standing_of self.now.stands).homes bucket)) bucket slot
             → result ≡ Some slot }
     {
-        let home = self.stands.home(bucket);
-        for slot in 0..(self.params.real + self.params.dummies) as u8 {
-            if cell == cell_at(&self.params, home, bucket, slot) {
-                return Some(slot);
-            }
+        let first = cell_at(&self.params, self.stands.home(bucket), bucket, 0);
+        let width = (self.params.real + self.params.dummies) as u64;
+        if cell < first {
+            return None;
         }
-        None
+        if cell - first < width {
+            Some((cell - first) as u8)
+        } else {
+            None
+        }
     }
 
     // Takes a read that shows a slot.
@@ -311,8 +305,7 @@ impl FollowPlain {
         let visits = place_visits(alloc, &self.params, &self.stands, &self.leaves, leaf)?;
         self.stands.keep_label(batch, place, leaf)?;
         self.visits = visits;
-        self.leaves.push(leaf)?;
-        Ok(())
+        self.leaves.push(alloc, &self.params, leaf)
     }
 
     // What stands for sure after a sync.
@@ -401,7 +394,7 @@ impl FollowPlain {
         if !is_same(note, wanted) {
             return Ok(false);
         }
-        let _ = self.wants.pop_front();
+        self.wants.pop();
         self.change(alloc, change)?;
         Ok(true)
     }
@@ -419,7 +412,7 @@ impl FollowPlain {
         match self.label_taken(batch, place, note) {
             None => Ok(false),
             Some(leaf) => {
-                let _ = self.wants.pop_front();
+                self.wants.pop();
                 self.show_label(alloc, batch, place, leaf)?;
                 Ok(true)
             }
@@ -429,13 +422,13 @@ impl FollowPlain {
     // A batch that may be logged is.
     fn repeat(&mut self, alloc: Global, batch: u32, leaf: u16) -> Result<(), AllocError>
         ensures { OnOk result (follow_of self.new
-            ≡ repeated_batch (follow_of self.old) batch (drop 1 self.old.wants.items) leaf) }
+            ≡ repeated_batch (follow_of self.old) batch (drop 1 self.old.wants) leaf) }
     {
-        let _ = self.wants.pop_front();
+        self.wants.pop();
         self.stands.logged = self.batch;
         self.stands.maybe = false;
         let all = places(alloc, &self.params, batch)?;
-        push_wants(&all[1..], &mut self.wants)?;
+        self.wants.push_all(&all[1..])?;
         self.show_label(alloc, batch, 0, leaf)
     }
 
@@ -445,16 +438,18 @@ impl FollowPlain {
             ≡ record (follow_of self.old) {
               stands = record
                   (standing_of self.old.stands) { maybe = false };
-              wants = drop 1 self.old.wants.items ++
+              wants = drop 1 self.old.wants ++
                   drop 1 (record_wants self.old.params (other self.old.stands.epoch) batch ++ places
                   self.old.params batch);
             }) }
     {
-        let _ = self.wants.pop_front();
+        self.wants.pop();
         self.stands.maybe = false;
-        let mut all = record_wants(alloc, &self.params, self.stands.epoch.other(), batch)?;
-        all.extend_from_slice(&places(alloc, &self.params, batch)?)?;
-        push_wants(&all[1..], &mut self.wants)
+        let mut all = Runs::new(alloc);
+        push_record(&self.params, self.stands.epoch.other(), batch, &mut all)?;
+        all.push_all(&places(alloc, &self.params, batch)?)?;
+        all.pop();
+        self.wants.append(all)
     }
 
     fn take_record(&mut self, alloc: Global, batch: u32, note: Note) -> Result<bool, AllocError>
@@ -486,14 +481,14 @@ impl FollowPlain {
         requires { from ≤ 6 }
         ensures { OnOk result (follow_of self.new
             ≡ record (follow_of self.old) {
-              wants = drop 1 self.old.wants.items ++ drop from
+              wants = drop 1 self.old.wants ++ drop from
                   (setting self.old.params register
                   (next_side (standing_of self.old.stands) register));
             }) }
     {
-        let _ = self.wants.pop_front();
+        self.wants.pop();
         let all = self.setting(register);
-        push_wants(&all[from..], &mut self.wants)
+        self.wants.push_all(&all[from..])
     }
 
     fn take_setting(&mut self, register: Register, note: Note) -> Result<bool, AllocError>
@@ -516,31 +511,44 @@ impl FollowPlain {
     fn find_older(&mut self, alloc: Global) -> Result<(), AllocError>
         ensures { OnOk result (follow_of self.new
             ≡ record (follow_of self.old) {
-              wants = drop 1 self.old.wants.items ++ drop 1
+              wants = drop 1 self.old.wants ++ drop 1
                   (found_wants self.old.params (standing_of self.old.stands));
             }) }
     {
-        let _ = self.wants.pop_front();
-        let found = found_wants(alloc, &self.params, &self.stands)?;
-        push_wants(&found[1..], &mut self.wants)
+        self.wants.pop();
+        let mut found = Runs::new(alloc);
+        push_found(&self.params, &self.stands, &mut found)?;
+        found.pop();
+        self.wants.append(found)
+    }
+
+    // What an opening shows that finds the newer epoch.
+    fn push_newer(&self, wants: &mut Runs) -> Result<(), AllocError>
+        ensures { OnOk result (wants.new
+            ≡ wants.old ++ found_wants self.now.params
+            (newer_or_same (standing_of self.now.stands) (follow_of self.now).newer)) }
+    {
+        match &self.newer {
+            Some(newer) => push_found(&self.params, newer, wants),
+            None => push_found(&self.params, &self.stands, wants),
+        }
     }
 
     fn find_newer(&mut self, alloc: Global) -> Result<(), AllocError>
         ensures { OnOk result (follow_of self.new
             ≡ record (follow_of self.old) {
               chosen = true;
-              wants = drop 1 self.old.wants.items ++
+              wants = drop 1 self.old.wants ++
                   drop 1 (found_wants self.old.params
                   (newer_or_same (standing_of self.old.stands) (follow_of self.old).newer));
             }) }
     {
-        let _ = self.wants.pop_front();
+        self.wants.pop();
         self.chosen = true;
-        let found = match &self.newer {
-            Some(newer) => found_wants(alloc, &self.params, newer)?,
-            None => found_wants(alloc, &self.params, &self.stands)?,
-        };
-        push_wants(&found[1..], &mut self.wants)
+        let mut found = Runs::new(alloc);
+        self.push_newer(&mut found)?;
+        found.pop();
+        self.wants.append(found)
     }
 
     fn take_checkpoint(&mut self, alloc: Global, note: Note) -> Result<bool, AllocError>
@@ -584,10 +592,10 @@ impl FollowPlain {
     }
 
     fn next_want(&self) -> Option<Want>
-        ensures { MatchOption result (self.now.wants.items ≡ []) (λ w. self.now.wants.items
-            ≡ w ∷ drop 1 self.now.wants.items) }
+        ensures { MatchOption result (self.now.wants ≡ []) (λ w. self.now.wants
+            ≡ w ∷ drop 1 self.now.wants) }
     {
-        self.wants.front().copied()
+        self.wants.first()
     }
 
     // Takes a note, if it may stand next, but for the step that may come behind it.
@@ -612,17 +620,14 @@ impl FollowPlain {
         let batch = self.batch;
         self.batch = batch + 1;
         if batch < self.stands.logged {
-            return push_wants(&places(alloc, &self.params, batch)?, &mut self.wants);
+            return self.wants.push_all(&places(alloc, &self.params, batch)?);
         }
         if batch == self.stands.logged && self.stands.maybe {
-            return push_wants(&[Want::Record { batch }], &mut self.wants);
+            return self.wants.push(Want::Record { batch });
         }
         let side = self.stands.epoch.other();
-        push_wants(
-            &record_wants(alloc, &self.params, side, batch)?,
-            &mut self.wants,
-        )?;
-        push_wants(&places(alloc, &self.params, batch)?, &mut self.wants)
+        push_record(&self.params, side, batch, &mut self.wants)?;
+        self.wants.push_all(&places(alloc, &self.params, batch)?)
     }
 
     #[tactic(auto, using(crate::proofs::Steps::step_end))]
@@ -632,9 +637,14 @@ impl FollowPlain {
             → follow_of self.new ≡ next_step (follow_of self.old)) }
     {
         let visits = final_visits(alloc, &self.params, &self.stands, &self.leaves)?;
-        let wants = end_wants(alloc, &self.params, &self.stands, &self.leaves)?;
+        push_end(
+            alloc,
+            &self.params,
+            &self.stands,
+            &self.leaves,
+            &mut self.wants,
+        )?;
         self.visits = visits;
-        push_wants(&wants, &mut self.wants)?;
         Ok(())
     }
 
@@ -690,7 +700,7 @@ impl FollowPlain {
                 Ok(None)
             }
             Line::Open => {
-                self.open(alloc)?;
+                self.open()?;
                 Ok(None)
             }
             Line::Note(note) => self.next_note(alloc, *note),

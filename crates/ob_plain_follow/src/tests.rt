@@ -201,25 +201,34 @@ fn first_break(
     Ok(None)
 }
 
-fn break_of(
-    alloc: Global,
-    p: &Params,
-    recipe: &str,
-) -> Result<Option<(usize, Wanted)>, AllocError> {
+/// The lines of a recipe.
+pub(crate) fn trace_of(alloc: Global, p: &Params, recipe: &str) -> Result<Vec<Line>, AllocError> {
     let whole = lines_of(alloc, p, WHOLE)?;
     let opens = lines_of(alloc, p, OPENS)?;
     let mut lines = Vec::new(alloc);
     for part in recipe.split(';') {
         push_part(p, &whole, &opens, part, &mut lines)?;
     }
+    Ok(lines)
+}
+
+/// The parameters of the traces.
+pub(crate) fn small() -> Option<Params> {
+    Params::new(8, 2, 2, 3, 2, 2, 2, 2, 8).ok()
+}
+
+fn break_of(
+    alloc: Global,
+    p: &Params,
+    recipe: &str,
+) -> Result<Option<(usize, Wanted)>, AllocError> {
+    let lines = trace_of(alloc, p, recipe)?;
     first_break(alloc, p, &lines)
 }
 
 #[test]
 fn traces_are_followed(rt: HostRuntime) {
-    let p = Params::new(8, 2, 2, 3, 2, 2, 2, 2, 8)
-        .ok()
-        .expect(&rt, "parameters in range");
+    let p = small().expect(&rt, "parameters in range");
     for (recipe, wanted) in ROWS {
         let found = break_of(rt.alloc(), &p, recipe).expect(&rt, "memory");
         assert!(rt; found == wanted, "{recipe}");

@@ -20,7 +20,7 @@ writes_joined : (xs ys : List ℕ) → writes_of (xs ++ ys) ≡ writes_of xs ++ 
 writes_joined [] ys = refl
 writes_joined (x ∷ xs) ys = ap (λ (ns : List Note). Write x ∷ ns) (writes_joined xs ys)
 
-abbrev first_notes : List Note
+abbrev pub first_notes : List Note
 first_notes = Write 0 ∷ Sync ∷ Write 2 ∷ Write 4 ∷ Write 6 ∷ Write 8 ∷ []
 
 pub front_made : (p : Params) → (((first_notes ++ writes_of (log_gates p 0)) ++ writes_of (log_gates p 1)) ++ Sync ∷ []) ++ set_twin p GenerationTwin 1 true ≡ format_front p

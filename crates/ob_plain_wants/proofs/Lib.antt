@@ -1,8 +1,10 @@
 pub mod Cells
+pub mod CountLaws
 pub mod Firsts
 pub mod Formats
 pub mod LabelLaws
 pub mod Lists
+pub mod Pushed
 pub mod RowLaws
 pub mod TotalLaws
 pub mod Within

@@ -3,7 +3,7 @@ use Rattle.std.proofs.Common.{◌≡◌, ◌<◌, ◌+◌, ◌-◌, ◌^◌, ℕ
 use Rattle.std.specs.List.{range_with_len, flat_map}
 use Rattle.std.proofs.lemmas.List.{take_more, map-append}
 use Rattle.std.proofs.lemmas.List.Concat.{flat_map-append}
-use Rattle.std.specs.Prelude.{cond, nat_lt, ◌==◌, slice_index_or}
+use Rattle.std.specs.Prelude.{nat_lt, ◌==◌, slice_index_or}
 use Rattle.std.proofs.lemmas.Bool.{lt-ltb, eq-eqb}
 use Rattle.std.proofs.lemmas.List.Elements.{filter-append}
 use Rattle.ob_base.specs.declared.params.Params.{Params}
@@ -18,6 +18,10 @@ use Rattle.ob_plain_wants.specs.Visits.{hole_of_visit}
 use Rattle.ob_plain_wants.specs.declared.occasion.Occasion.{Occasion}
 use Rattle.ob_plain_wants.specs.Occasions.{holes_on}
 use Rattle.ob_follow.specs.Sides.{other, side_number}
+use Rattle.ob_follow.specs.declared.want.Change.TheVariants.{Keeps}
+use Rattle.ob_follow.specs.declared.want.Want.{Want}
+use Rattle.ob_follow.specs.declared.want.Want.TheVariants.{Fixed}
+use Rattle.ob_follow.specs.Wants.{kept}
 use Rattle.ob_follow.specs.Standing.{StandingKnown}
 use Rattle.ob_plain_wants.specs.Marked.{writes_marked}
 
@@ -31,16 +35,8 @@ range_up a n = rw add-one (range_more a n (a + n) refl)
 pub below_up : (n : ℕ) → below (n + 1) ≡ below n ++ n ∷ []
 below_up n = rw add-one (range_more 0 n n (omega arith))
 
--- one part more of a list of parts
-pub flat_more : {A : Type 0} (f : ℕ → List A) (a n : ℕ) → flat_map f (range_with_len a (n + 1)) ≡ flat_map f (range_with_len a n) ++ f (a + n)
-flat_more {A} f a n = ap (flat_map f) (range_up a n) ∙ flat_map-append f (range_with_len a n) ((a + n) ∷ []) ∙ ap (λ (xs : List A). flat_map f (range_with_len a n) ++ xs) (append-nil (f (a + n)))
-
 pub flat_taken : {A : Type 0} (f : ℕ → List A) (us : List ℕ) (i : ℕ) → i < length us → flat_map f (take (i + 1) us) ≡ flat_map f (take i us) ++ f (get_or us i 0)
 flat_taken {A} f us i lt = ap (flat_map f) (take_more us i 0 lt) ∙ flat_map-append f (take i us) (get_or us i 0 ∷ []) ∙ ap (λ (xs : List A). flat_map f (take i us) ++ xs) (append-nil (f (get_or us i 0)))
-
--- functions that agree make the same list
-pub same_map : {A B : Type 0} (f g : A → B) (xs : List A) → ((x : A) → f x ≡ g x) → map f xs ≡ map g xs
-same_map {A} {B} f g xs same = ap (λ (h : A → B). map h xs) (λ i x. same x i)
 
 -- the reads of a lift, so many of them
 abbrev pub lifts : ℕ → ℕ → ℕ → List Hole
@@ -60,13 +56,16 @@ pub anew_more : (p : Params) (s : StandingKnown) (marks : List Bool) (a i : ℕ)
 anew_more p s marks a i = ap (writes_marked p s marks) (range_up a i) ∙ anew_append p s marks (range_with_len a i) ((a + i) ∷ [])
 
 -- one level more
-pub anew_level : (p : Params) (s : StandingKnown) (marks : List Bool) (done now : List Note) (rest many : ℕ) → many ≡ 2 ^ rest → now ≡ done ++ writes_marked p s marks (range_with_len (many - 1) many)
-    → now ++ writes_marked p s marks (by_falling_level rest) ≡ done ++ writes_marked p s marks (by_falling_level (suc rest))
+pub anew_level : (p : Params) (s : StandingKnown) (marks : List Bool) (done now : List Want) (rest many : ℕ) → many ≡ 2 ^ rest → now ≡ done ++ kept (writes_marked p s marks (range_with_len (many - 1) many))
+    → now ++ kept (writes_marked p s marks (by_falling_level rest)) ≡ done ++ kept (writes_marked p s marks (by_falling_level (suc rest)))
 anew_level p s marks done now rest many size is =
-    let step : now ≡ done ++ writes_marked p s marks (range_with_len (2 ^ rest - 1) (2 ^ rest)) = is ∙ ap (λ (m : ℕ). done ++ writes_marked p s marks (range_with_len (m - 1) m)) size in
-    ap (λ (ns : List Note). ns ++ writes_marked p s marks (by_falling_level rest)) step
-    ∙ append_assoc done (writes_marked p s marks (range_with_len (2 ^ rest - 1) (2 ^ rest))) (writes_marked p s marks (by_falling_level rest))
-    ∙ ap (λ (ns : List Note). done ++ ns) (sym (anew_append p s marks (range_with_len (2 ^ rest - 1) (2 ^ rest)) (by_falling_level rest)))
+    let level : List Note = writes_marked p s marks (range_with_len (2 ^ rest - 1) (2 ^ rest)) in
+    let others : List Note = writes_marked p s marks (by_falling_level rest) in
+    let step : now ≡ done ++ kept level = is ∙ ap (λ (m : ℕ). done ++ kept (writes_marked p s marks (range_with_len (m - 1) m))) size in
+    ap (λ (ws : List Want). ws ++ kept others) step
+    ∙ append_assoc done (kept level) (kept others)
+    ∙ ap (λ (ws : List Want). done ++ ws) (sym (map-append (λ note. Fixed note Keeps) level others))
+    ∙ ap (λ (ns : List Note). done ++ kept ns) (sym (anew_append p s marks (range_with_len (2 ^ rest - 1) (2 ^ rest)) (by_falling_level rest)))
 
 flat_below : {A : Type 0} (f : ℕ → List A) (n : ℕ) → flat_map f (below (n + 1)) ≡ flat_map f (below n) ++ f n
 flat_below {A} f n = ap (flat_map f) (below_up n) ∙ flat_map-append f (below n) (n ∷ []) ∙ ap (λ (xs : List A). flat_map f (below n) ++ xs) (append-nil (f n))

@@ -1,16 +1,16 @@
 -- Reads of the buckets of a path, one level more, and of the paths of leaves, one leaf more.
 use Rattle.std.specs.Prelude.{◌≡◌, ◌<◌, ◌≤◌, ℕ, ◌+◌, ◌-◌, ◌*◌, ◌/◌, ◌^◌, ◌==◌, Bool, true, false, ◌||◌, cond, List, [], ◌∷◌, ◌++◌, map, take, length, count_by}
 use Rattle.std.specs.List.{list_any}
-use Rattle.std.proofs.Common.{refl, sym, ap, ◌∙◌, arith, zero, suc, get_or, add-one, inl, inr}
+use Rattle.std.proofs.Common.{refl, sym, ap, ◌∙◌, arith, zero, suc, get_or, add-one}
 use Rattle.std.proofs.Math.Nat.{pow-suc}
 use Rattle.std.proofs.Math.Seq.{take-append_seam}
 use Rattle.std.proofs.lemmas.Nat.{pow_pos, div-add-mod', mul-le, le-div}
-use Rattle.std.proofs.lemmas.Bool.{cases_lt, ne_eqb, eqb-true}
+use Rattle.std.proofs.lemmas.Bool.{ne_eqb, eqb-true}
 use Rattle.std.proofs.lemmas.List.{take_more, map-append}
 use Rattle.std.proofs.lemmas.List.Folds.{list_any-append}
 use Rattle.std.proofs.lemmas.List.Sums.{sum_by-append}
 use Rattle.ob_base.specs.declared.params.Params.{Params}
-use Rattle.ob_base.specs.Tree.{below, bucket_of, path, passes}
+use Rattle.ob_base.specs.Tree.{below, bucket_of}
 use Rattle.ob_base.proofs.Bounds.{power_le}
 use Rattle.ob_schedule.specs.Paths.{is_one_of}
 use Rattle.ob_plain_wants.proofs.Lists.{below_up}
@@ -56,14 +56,8 @@ read_more p leaf n u bucket old mid new within on a more =
     let b : new ≡ mid + cond (bucket_of p n leaf == u) 1 0 = more ∙ ap (λ (v : ℕ). mid + cond (v == u) 1 0) on in
     one_more (on_levels p leaf n u) (bucket_of p n leaf == u) (on_levels p leaf (n + 1) u) old mid new (level_more p leaf n u) (λ is. ap (on_levels p leaf n) (sym (eqb-true (bucket_of p n leaf) u is)) ∙ not_yet p leaf n n (omega arith) within) a b
 
-count_behind : (f : ℕ → Bool) (xs : List ℕ) (x : ℕ) → count_by f (xs ++ x ∷ []) ≡ count_by f xs + cond (f x) 1 0
+pub count_behind : (f : ℕ → Bool) (xs : List ℕ) (x : ℕ) → count_by f (xs ++ x ∷ []) ≡ count_by f xs + cond (f x) 1 0
 count_behind f xs x = omega (arith, sum_by-append (λ y. cond (f y) 1 0) xs (x ∷ []))
-
--- one leaf more
-pub leaf_more : (f : ℕ → Bool) (leaves : List ℕ) (i old mid new : ℕ) → i < length leaves → mid ≡ old + count_by f (take i leaves) → new ≡ mid + cond (f (get_or leaves i 0)) 1 0 → new ≡ old + count_by f (take (i + 1) leaves)
-leaf_more f leaves i old mid new lt a b =
-    let told : count_by f (take (i + 1) leaves) ≡ count_by f (take i leaves) + cond (f (get_or leaves i 0)) 1 0 = ap (count_by f) (take_more leaves i 0 lt) ∙ count_behind f (take i leaves) (get_or leaves i 0) in
-    omega (arith, a, b, told)
 
 told_more : (before is after : Bool) → after ≡ (before || (is || false)) → cond is true before ≡ after
 told_more true true after told = sym told
@@ -76,17 +70,6 @@ pub mark_more : (list : List ℕ) (i u : ℕ) (mid new : Bool) → i < length li
 mark_more list i u mid new lt a b =
     let told : is_one_of (take (i + 1) list) u ≡ (is_one_of (take i list) u || ((get_or list i 0 == u) || false)) = ap (λ (us : List ℕ). is_one_of us u) (take_more list i 0 lt) ∙ list_any-append (λ v. v == u) (take i list) (get_or list i 0 ∷ []) in
     b ∙ ap (λ (m : Bool). cond (get_or list i 0 == u) true m) a ∙ told_more (is_one_of (take i list) u) (get_or list i 0 == u) (is_one_of (take (i + 1) list) u) told
-
--- ---- counts, by one bucket more
-
-pub map_up : (f : ℕ → ℕ) (i : ℕ) → map f (below (i + 1)) ≡ map f (below i) ++ f i ∷ []
-map_up f i = ap (map f) (below_up i) ∙ map-append f (below i) (i ∷ [])
-
-pub few_up : (f : ℕ → ℕ) (i count : ℕ) → ((u : ℕ) → u < i → f u < 4294967296) → count ≡ f i → count < 4294967296 → (u : ℕ) → u < i + 1 → f u < 4294967296
-few_up f i count before is few u lt = elim (cases_lt u i) [
-  | inl low ↦ before u low
-  | inr high ↦ (let same : u ≡ i = omega arith in rw same (omega (arith, is, few)))
-]
 
 -- a list whose values were changed in place
 pub in_place : {A : Type 0} (ys rest : List A) (len : ℕ) → length ys ≡ len → take len (ys ++ rest) ≡ ys

@@ -1,7 +1,7 @@
 -- Lists of the numbers below a bound, by functions that agree there.
-use Rattle.std.specs.Prelude.{◌≡◌, ◌<◌, ◌≤◌, ℕ, ◌+◌, ◌-◌, ◌*◌, ◌^◌, nat_lt, nat_le, Bool, true, false, ◌||◌, cond, List, ◌∷◌, ◌++◌, map, filter, length, slice_index, slice_index_or}
+use Rattle.std.specs.Prelude.{◌≡◌, ◌<◌, ℕ, ◌+◌, ◌-◌, ◌*◌, ◌^◌, nat_lt, nat_le, Bool, true, false, ◌||◌, cond, List, ◌∷◌, ◌++◌, map, filter, length, slice_index_or}
 use Rattle.std.specs.List.{range_with_len}
-use Rattle.std.proofs.Common.{refl, sym, ap, ◌∙◌, arith, zero, suc, add-one}
+use Rattle.std.proofs.Common.{refl, sym, ap, ◌∙◌, arith, zero, suc}
 use Rattle.std.proofs.Math.Nat.{pow-suc}
 use Rattle.std.proofs.lemmas.Nat.{pow_pos}
 use Rattle.std.proofs.lemmas.Bool.{lt-ltb}
@@ -9,11 +9,10 @@ use Rattle.std.proofs.lemmas.List.Elements.{filter-append}
 use Rattle.std.proofs.lemmas.List.FromFn.{length-map-range_with_len}
 use Rattle.ob_base.specs.declared.params.Params.{Params}
 use Rattle.ob_base.specs.Tree.{below, buckets}
-use Rattle.ob_store.specs.declared.watch.Note.{Note}
 use Rattle.ob_schedule.specs.Paths.{by_falling_level}
-use Rattle.ob_schedule.specs.Schedule.{bucket_writes, counts_now, after_end}
+use Rattle.ob_schedule.specs.Schedule.{bucket_writes, counts_now}
 use Rattle.ob_follow.specs.Sides.{other, side_number}
-use Rattle.ob_follow.specs.Standing.{StandingKnown, public_known, is_lifted}
+use Rattle.ob_follow.specs.Standing.{StandingKnown, public_known, is_lifted, count_after}
 use Rattle.ob_follow.specs.Wants.{writes_anew}
 use Rattle.ob_plain_wants.specs.Marked.{writes_marked}
 use Rattle.ob_plain_wants.proofs.RowLaws.{index_at}
@@ -60,9 +59,8 @@ left_over true b n = refl
 left_over false true n = refl
 left_over false false n = refl
 
--- what counts are left, as marks and totals tell it
-pub count_told : (p : Params) (s : StandingKnown) (leaves : List ℕ) (marks : List Bool) (total u : ℕ) → marks ≡ map (is_lifted p s leaves) (below (buckets p)) → u < buckets p → total ≡ counts_now p (public_known p s leaves) u
-    → cond (slice_index_or marks u false) 0 (cond (nat_le p.dummies total) 0 total) ≡ (after_end p (public_known p s leaves)).counts u
-count_told p s leaves marks total u is lt sum =
-    (λ j. cond (marked_at (is_lifted p s leaves) marks (buckets p) u is lt j) 0 (cond (nat_le p.dummies (sum j)) 0 (sum j)))
-    ∙ left_over _ (nat_le p.dummies (counts_now p (public_known p s leaves) u)) (counts_now p (public_known p s leaves) u)
+-- what counts are left, as those of now tell it
+pub counts_left : (p : Params) (s : StandingKnown) (leaves : List ℕ) (u : ℕ)
+    → cond (nat_lt u (buckets p)) (cond (is_lifted p s leaves u) 0 (cond (nat_le p.dummies (counts_now p (public_known p s leaves) u)) 0 (counts_now p (public_known p s leaves) u))) 0 ≡ count_after p s leaves u
+counts_left p s leaves u =
+    ap (λ (n : ℕ). cond (nat_lt u (buckets p)) n 0) (left_over _ (nat_le p.dummies (counts_now p (public_known p s leaves) u)) (counts_now p (public_known p s leaves) u))

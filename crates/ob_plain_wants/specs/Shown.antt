@@ -1,8 +1,8 @@
 -- What the lists of a stop's findings stand for.
-use Rattle.std.specs.Prelude.{None, false, slice_index, slice_index_or}
+use Rattle.std.specs.Prelude.{slice_index, slice_index_or}
 use Rattle.ob_follow.specs.declared.want.Side.TheVariants.{Even}
 use Rattle.ob_follow.specs.Standing.{StandingKnown}
-use Rattle.ob_plain_wants.specs.Rows.{in_rows}
+use Rattle.ob_plain_wants.specs.Rows.{in_rows, kept_number, has_bit}
 use Rattle.ob_plain_wants.specs.Seen.{label_shown}
 use Rattle.ob_plain_wants.specs.declared.standing.StandingPlain.{StandingPlain}
 
@@ -19,7 +19,7 @@ standing_of s =
       epoch_gate = s.epoch_gate;
       logged = s.logged;
       maybe = s.maybe;
-      used = in_rows s.used.items false;
+      used = λ u slot. has_bit (slice_index s.used.items u) slot;
       labels = label_shown s.labels.items;
-      slots = λ h. in_rows s.slots.items None h.bucket h.number;
+      slots = λ h. kept_number (in_rows s.slots.items 0 h.bucket h.number);
     }

@@ -3,23 +3,24 @@
 #![tactic(auto)]
 
 mod evicted;
+mod leaves;
+mod marks;
 mod notes;
 mod occasion;
 mod rows;
 mod seen;
 mod standing;
-mod totals;
 mod tree;
 mod visit;
 mod visits;
 mod wants;
 
+pub use leaves::Leaves;
 pub use notes::{body_of, check_at, record_at};
 pub use seen::SeenLabel;
 pub use standing::{StandingPlain, cell_at, shown_label};
 pub use visit::Visit;
 pub use visits::{final_visits, place_visits};
 pub use wants::{
-    end_wants, format_wants, found_wants, places, push_wants, record_wants, register_wants,
-    set_wants,
+    format_wants, places, push_end, push_found, push_record, push_registers, set_wants,
 };

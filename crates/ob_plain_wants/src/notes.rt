@@ -1,20 +1,22 @@
-//! What a run shows next, as notes.
+//! What a run shows next, as notes that change nothing.
 
-ghost use Rattle.std.specs.Prelude.{◌≡◌, ◌+◌, ◌<◌, ◌^◌, ◌++◌, ◌∷◌, [], true, map, IfOk};
+ghost use Rattle.std.specs.Prelude.{◌≡◌, ◌+◌, ◌<◌, ◌≤◌, ◌^◌, ◌++◌, ◌∷◌, [], List, true, map, IfOk, OnOk};
 ghost use Rattle.ob_base.specs.declared.params.Params.{Params};
 ghost use Rattle.ob_base.specs.Tree.{below, width, buckets};
-ghost use Rattle.ob_base.specs.Layout.{slot_cell, check_cell, log_cell, log_gate, record_cells, log_cells, start_of, LogArea};
-ghost use Rattle.ob_store.specs.declared.watch.Note.TheVariants.{Read, Write, Sync};
+ghost use Rattle.ob_base.specs.Layout.{slot_cell, check_cell, log_cell, log_gate, record_cells, log_cells, LogArea};
+ghost use Rattle.ob_store.specs.declared.watch.Note.{Note};
+ghost use Rattle.ob_store.specs.declared.watch.Note.TheVariants.{Sync};
 ghost use Rattle.ob_schedule.specs.Schedule.{writes_of, reads_of, check_cells, log_gates, bucket_writes, region_cells, set_twin, format_notes, gate_cell, body_cell};
 ghost use Rattle.ob_follow.specs.Sides.{side_number, register_region};
-ghost use Rattle.ob_follow.specs.Wants.{format_front};
+ghost use Rattle.ob_follow.specs.Wants.{kept, format_front};
 
 use crate::standing::cell_at;
 use ob_base::{
     EPOCH_CELL, GENERATION_CELL, Params, buckets, check_cell, checkpoint_cells, log_cell,
     record_cells,
 };
-use ob_follow::{Register, Side};
+use ob_follow::{Change, Register, Side, Want};
+use ob_runs::Runs;
 use ob_store::Note;
 use std::alloc::{AllocError, Global};
 
@@ -43,115 +45,124 @@ pub(crate) fn gate_at(p: &Params, side: Side, batch: u32) -> u64
     record_at(p, side, batch, record_cells(p) as u32)
 }
 
-/// The reads of so many cells of a checkpoint.
-pub(crate) fn check_reads(alloc: Global, p: &Params, side: Side) -> Result<Vec<Note>, AllocError>
-    ensures { IfOk result (λ notes. notes.items ≡ reads_of (check_cells p.now (side_number side))) }
+/// The want of a note that changes nothing.
+pub(crate) fn kept(note: Note) -> Want
+    ensures { result ≡ Want.Fixed note Change.Keeps }
 {
-    (0..checkpoint_cells(p) as u32)
-        .map(|i| check_at(p, side, i))
-        .map(|cell| Note::Read(cell))
-        .collect(alloc)
+    Want::Fixed {
+        note,
+        change: Change::Keeps,
+    }
 }
 
-/// The writes of a checkpoint's cells.
-pub(crate) fn check_writes(alloc: Global, p: &Params, side: Side) -> Result<Vec<Note>, AllocError>
-    ensures { IfOk result (λ notes. notes.items
-        ≡ writes_of (check_cells p.now (side_number side))) }
+/// Puts the reads of a checkpoint's cells behind the list.
+#[tactic(auto, using(ob_base::proofs::Bounds::cells_le))]
+pub(crate) fn push_check_reads(p: &Params, side: Side, wants: &mut Runs) -> Result<(), AllocError>
+    ensures { OnOk result (wants.new
+        ≡ wants.old ++ kept (reads_of (check_cells p.now (side_number side)))) }
 {
-    (0..checkpoint_cells(p) as u32)
-        .map(|i| check_at(p, side, i))
-        .map(|cell| Note::Write(cell))
-        .collect(alloc)
+    wants.push_reads(check_at(p, side, 0), checkpoint_cells(p))
 }
 
-/// The writes of a log area's gates.
-pub(crate) fn gate_writes(alloc: Global, p: &Params, side: Side) -> Result<Vec<Note>, AllocError>
-    ensures { IfOk result (λ notes. notes.items ≡ writes_of (log_gates p.now (side_number side))) }
+/// Puts the writes of a checkpoint's cells behind the list.
+#[tactic(auto, using(ob_base::proofs::Bounds::cells_le))]
+pub(crate) fn push_check_writes(p: &Params, side: Side, wants: &mut Runs) -> Result<(), AllocError>
+    ensures { OnOk result (wants.new
+        ≡ wants.old ++ kept (writes_of (check_cells p.now (side_number side)))) }
+{
+    wants.push_writes(check_at(p, side, 0), checkpoint_cells(p))
+}
+
+// The writes of a log area's gates.
+fn gate_wants(alloc: Global, p: &Params, side: Side) -> Result<Vec<Want>, AllocError>
+    ensures { IfOk result (λ wants. wants.items
+        ≡ kept (writes_of (log_gates p.now (side_number side)))) }
 {
     (0..p.batches)
         .map(|batch| gate_at(p, side, batch))
         .map(|cell| Note::Write(cell))
+        .map(|note| kept(note))
         .collect(alloc)
 }
 
-/// The writes of a record's body.
-pub(crate) fn body_writes(
+/// Puts the writes of a log area's gates behind the list.
+pub(crate) fn push_gates(
     alloc: Global,
     p: &Params,
     side: Side,
-    batch: u32,
-) -> Result<Vec<Note>, AllocError>
-    ensures { IfOk result (λ notes. notes.items
-        ≡ writes_of (map (log_cell p.now (side_number side) batch) (below (record_cells p.now)))) }
+    wants: &mut Runs,
+) -> Result<(), AllocError>
+    ensures { OnOk result (wants.new
+        ≡ wants.old ++ kept (writes_of (log_gates p.now (side_number side)))) }
 {
-    (0..record_cells(p) as u32)
-        .map(|part| record_at(p, side, batch, part))
-        .map(|cell| Note::Write(cell))
-        .collect(alloc)
+    let gates = gate_wants(alloc, p, side)?;
+    wants.push_all(&gates)
+}
+
+/// Puts the writes of a record's body behind the list.
+#[tactic(auto, using(ob_base::proofs::Bounds::record_cells_le))]
+pub(crate) fn push_body(
+    p: &Params,
+    side: Side,
+    batch: u32,
+    wants: &mut Runs,
+) -> Result<(), AllocError>
+    ensures { OnOk result (wants.new
+        ≡ wants.old ++ kept (writes_of
+        (map (log_cell p.now (side_number side) batch) (below (record_cells p.now))))) }
+{
+    wants.push_writes(record_at(p, side, batch, 0), record_cells(p))
 }
 
 // The cells of a log area.
 #[tactic(auto, unfolding(ob_base::specs::Layout::log_cells), using(ob_base::proofs::Bounds::log_cells_le))]
-fn area_len(p: &Params) -> u32
-    ensures { result ≡ log_cells p.now }
+fn area_len(p: &Params) -> u64
+    ensures cells { result ≡ log_cells p.now }
+    ensures few { result ≤ 160 }
 {
-    p.batches * (record_cells(p) as u32 + 1)
+    p.batches as u64 * (record_cells(p) + 1)
 }
 
-// A cell of a log area, by its number there.
-#[tactic(auto, using(ob_base::proofs::Bounds::cells_le))]
-fn area_at(p: &Params, side: Side, i: u32) -> u64
-    ensures { result ≡ start_of p.now (LogArea (side_number side)) + i }
+/// Puts the reads of a log area behind the list.
+pub(crate) fn push_log_reads(p: &Params, side: Side, wants: &mut Runs) -> Result<(), AllocError>
+    ensures { OnOk result (wants.new
+        ≡ wants.old ++ kept (reads_of (region_cells p.now (LogArea (side_number side))))) }
 {
-    log_cell(p, side.number(), 0, 0) + i as u64
+    wants.push_reads(record_at(p, side, 0, 0), area_len(p))
 }
 
-/// The reads of a log area.
-pub(crate) fn log_reads(alloc: Global, p: &Params, side: Side) -> Result<Vec<Note>, AllocError>
-    ensures { IfOk result (λ notes. notes.items
-        ≡ reads_of (region_cells p.now (LogArea (side_number side)))) }
-{
-    (0..area_len(p))
-        .map(|i| area_at(p, side, i))
-        .map(|cell| Note::Read(cell))
-        .collect(alloc)
-}
-
-/// The writes of a bucket's slots in a home.
-pub(crate) fn bucket_writes(
-    alloc: Global,
+/// Puts the writes of a bucket's slots in a home behind the list.
+pub(crate) fn push_bucket(
     p: &Params,
     home: Side,
     bucket: u32,
-) -> Result<Vec<Note>, AllocError>
-    ensures { IfOk result (λ notes. notes.items
-        ≡ writes_of (map (slot_cell p.now (side_number home) bucket) (below (width p.now)))) }
+    wants: &mut Runs,
+) -> Result<(), AllocError>
+    ensures { OnOk result (wants.new
+        ≡ wants.old ++ kept (writes_of
+        (map (slot_cell p.now (side_number home) bucket) (below (width p.now))))) }
 {
-    (0..(p.real + p.dummies) as u8)
-        .map(|slot| cell_at(p, home, bucket, slot))
-        .map(|cell| Note::Write(cell))
-        .collect(alloc)
+    let width = (p.real + p.dummies) as u64;
+    wants.push_writes(cell_at(p, home, bucket, 0), width)
 }
 
-// The writes of the first home's buckets.
-#[tactic(auto, using(crate::proofs::Lists::homes_more))]
-fn home_writes(alloc: Global, p: &Params) -> Result<Vec<Note>, AllocError>
-    ensures { IfOk result (λ notes. notes.items
-        ≡ bucket_writes p.now (λ u. 0) (below (buckets p.now))) }
+/// Puts the writes of the first home's buckets behind the list.
+pub(crate) fn push_homes(p: &Params, wants: &mut Runs) -> Result<(), AllocError>
+    ensures { OnOk result (wants.new
+        ≡ wants.old ++ kept (bucket_writes p.now (λ u. 0) (below (buckets p.now)))) }
 {
-    let mut notes = Vec::new(alloc);
-    for bucket in 0..buckets(p) {
-        let writes = bucket_writes(alloc, p, Side::Even, bucket)?;
-        notes.extend_from_slice(&writes)?;
+    let width = (p.real + p.dummies) as u64;
+    wants.push_writes(cell_at(p, Side::Even, 0, 0), buckets(p) as u64 * width)
+}
+
+/// Puts these notes behind the list, each of which changes nothing.
+pub(crate) fn push_kept(notes: &[Note], wants: &mut Runs) -> Result<(), AllocError>
+    ensures { OnOk result (wants.new ≡ wants.old ++ kept notes.now) }
+{
+    for note in notes {
+        wants.push(kept(*note))?;
     }
-    Ok(notes)
-}
-
-/// The reads of the head and of the registers.
-pub(crate) fn register_reads(alloc: Global) -> Result<Vec<Note>, AllocError>
-    ensures { IfOk result (λ notes. notes.items ≡ reads_of (below 9)) }
-{
-    (0..9u64).map(|cell| Note::Read(cell)).collect(alloc)
+    Ok(())
 }
 
 /// The body of a register's place; its gate is the cell behind.
@@ -185,20 +196,17 @@ pub(crate) fn set_notes(register: Register, side: Side) -> [Note; 6]
     ]
 }
 
-// The first notes of a format.
+// Puts the first notes of a format behind the list.
 #[tactic(auto, using(crate::proofs::Formats::front_made))]
-fn format_front(alloc: Global, p: &Params) -> Result<Vec<Note>, AllocError>
-    ensures { IfOk result (λ notes. notes.items ≡ format_front p.now) }
+fn push_front(alloc: Global, p: &Params, wants: &mut Runs) -> Result<(), AllocError>
+    ensures { OnOk result (wants.new ≡ wants.old ++ kept (format_front p.now)) }
 {
-    let even = gate_writes(alloc, p, Side::Even)?;
-    let odd = gate_writes(alloc, p, Side::Odd)?;
-    let set = set_notes(Register::Generation, Side::Odd);
-    let mut notes = Vec::from_slice(alloc, &FIRST_NOTES)?;
-    notes.extend_from_slice(&even)?;
-    notes.extend_from_slice(&odd)?;
-    notes.push(Note::Sync)?;
-    notes.extend_from_slice(&set)?;
-    Ok(notes)
+    push_kept(&FIRST_NOTES, wants)?;
+    push_gates(alloc, p, Side::Even, wants)?;
+    push_gates(alloc, p, Side::Odd, wants)?;
+    push_kept(&[Note::Sync], wants)?;
+    push_kept(&set_notes(Register::Generation, Side::Odd), wants)?;
+    Ok(())
 }
 
 // The first writes of a format: the head, and the registers' gates.
@@ -211,19 +219,17 @@ const FIRST_NOTES: [Note; 6] = [
     Note::Write(8),
 ];
 
-/// The notes of a format, but for the last sync.
+/// Puts the notes of a format behind the list, but for the last sync.
 #[tactic(auto, using(crate::proofs::Formats::format_made))]
-pub(crate) fn format_but_last(alloc: Global, p: &Params) -> Result<Vec<Note>, AllocError>
-    ensures { IfOk result (λ notes. notes.items ++ Sync ∷ [] ≡ format_notes p.now) }
+pub(crate) fn push_format(alloc: Global, p: &Params, wants: &mut Runs) -> Result<(), AllocError>
+    ensures { OnOk result ((notes : List Note) × (notes ++ Sync ∷ [] ≡ format_notes p.now)
+        × (wants.new ≡ wants.old ++ kept notes)) }
 {
-    let homes = home_writes(alloc, p)?;
-    let checks = check_writes(alloc, p, Side::Even)?;
-    let set = set_notes(Register::Epoch, Side::Even);
-    let mut notes = format_front(alloc, p)?;
-    notes.extend_from_slice(&homes)?;
-    notes.extend_from_slice(&checks)?;
-    notes.push(Note::Sync)?;
-    notes.extend_from_slice(&set)?;
-    notes.push(Note::Write(0))?;
-    Ok(notes)
+    push_front(alloc, p, wants)?;
+    push_homes(p, wants)?;
+    push_check_writes(p, Side::Even, wants)?;
+    push_kept(&[Note::Sync], wants)?;
+    push_kept(&set_notes(Register::Epoch, Side::Even), wants)?;
+    push_kept(&[Note::Write(0)], wants)?;
+    Ok(())
 }

@@ -1,17 +1,17 @@
-//! Lists in rows of 64 places, which are as long as they have to be.
+//! Lists in rows of 48 places, and rows of bits, which are as long as they have to be.
 
-ghost use Rattle.std.specs.Prelude.{◌≡◌, ◌+◌, ◌*◌, ◌<◌, ◌≤◌, ◌==◌, ℕ, cond, length, OnOk, slice_index_or};
-ghost use Rattle.ob_plain_wants.specs.Rows.{in_rows};
+ghost use Rattle.std.specs.Prelude.{◌≡◌, ◌+◌, ◌*◌, ◌^◌, ◌<◌, ◌≤◌, ◌==◌, ◌&&◌, ℕ, true, cond, length, OnOk, slice_index, slice_index_or};
+ghost use Rattle.ob_plain_wants.specs.Rows.{in_rows, has_bit};
 
 use std::alloc::AllocError;
 
 /// The places of a row.
-pub(crate) const ROW: u64 = 64;
+pub(crate) const ROW: u64 = 48;
 
 // Where a place of a row lies.
 fn index_of(row: u32, place: u64) -> usize
-    requires { place < 64 }
-    ensures { result ≡ row * 64 + place }
+    requires { place < 48 }
+    ensures { result ≡ row * 48 + place }
 {
     (row as u64 * ROW + place) as usize
 }
@@ -50,6 +50,17 @@ fn lengthen<T: Copy>(list: &mut Vec<T>, len: usize, none: T) -> Result<(), Alloc
     Ok(())
 }
 
+// Puts a value at an index.
+fn put_at<T: Copy>(list: &mut Vec<T>, none: T, index: usize, value: T) -> Result<(), AllocError>
+    requires { index < 2 ^ 62 }
+    ensures { OnOk result ((j : ℕ) → slice_index_or list.new.items j none
+        ≡ cond (j == index) value (slice_index_or list.old.items j none)) }
+{
+    lengthen(list, index + 1, none)?;
+    list[index] = value;
+    Ok(())
+}
+
 /// Puts a value at a place of a row.
 pub(crate) fn put_in_rows<T: Copy>(
     list: &mut Vec<T>,
@@ -58,12 +69,39 @@ pub(crate) fn put_in_rows<T: Copy>(
     place: u64,
     value: T,
 ) -> Result<(), AllocError>
-    requires { place < 64 }
+    requires { place < 48 }
     ensures { OnOk result ((j : ℕ) → slice_index_or list.new.items j none
-        ≡ cond (j == row * 64 + place) value (slice_index_or list.old.items j none)) }
+        ≡ cond (j == row * 48 + place) value (slice_index_or list.old.items j none)) }
 {
-    let index = index_of(row, place);
-    lengthen(list, index + 1, none)?;
-    list[index] = value;
-    Ok(())
+    put_at(list, none, index_of(row, place), value)
+}
+
+/// Whether a bit of a word is set.
+pub(crate) fn has_bit(word: u64, bit: u8) -> bool
+    ensures { result ≡ has_bit word bit }
+{
+    if bit < 64 {
+        word >> bit & 1 == 1
+    } else {
+        false
+    }
+}
+
+// The word with one more bit set.
+fn with_bit(word: u64, bit: u8) -> u64
+    requires { bit < 64 }
+    ensures { (x : ℕ) → has_bit result x ≡ cond (bit == x) true (has_bit word x) }
+{
+    word | 1 << bit
+}
+
+/// Sets a bit of a row.
+pub(crate) fn set_bit(rows: &mut Vec<u64>, row: u32, bit: u8) -> Result<(), AllocError>
+    requires { bit < 64 }
+    ensures { OnOk result ((u x : ℕ) → has_bit (slice_index rows.new.items u) x
+        ≡ cond ((row == u) && (bit == x)) true (has_bit (slice_index rows.old.items u) x)) }
+{
+    let index = row as usize;
+    let word = at_or(rows, index, 0);
+    put_at(rows, 0, index, with_bit(word, bit))
 }

@@ -1,9 +1,9 @@
 //! What a stop finds.
 
-ghost use Rattle.std.specs.Prelude.{◌≡◌, ◌+◌, ◌*◌, ◌/◌, ◌<◌, ℕ, IfOk, OnOk, None, false, slice_index, slice_index_or, map, ◌^◌, cond, not, ◌&&◌};
+ghost use Rattle.std.specs.Prelude.{◌≡◌, ◌<◌, IfOk, OnOk, None, false, nat_le, slice_index, slice_index_or, map, ◌^◌, cond, ◌||◌};
 ghost use Rattle.ob_base.specs.Tree.{below, buckets};
 ghost use Rattle.ob_base.specs.Layout.{slot_cell};
-ghost use Rattle.ob_schedule.specs.Schedule.{counts_now, after_end};
+ghost use Rattle.ob_schedule.specs.Schedule.{counts_now};
 ghost use Rattle.ob_follow.specs.declared.want.Side.TheVariants.{Even};
 ghost use Rattle.ob_follow.specs.Sides.{side_number, other};
 ghost use Rattle.ob_plain_wants.specs.Visits.{hole_of_visit};
@@ -12,10 +12,10 @@ ghost use Rattle.ob_follow.specs.Standing.{standing_formatted, public_known, is_
 ghost use Rattle.ob_follow.specs.Follow.{with_gate, next_side};
 
 use crate::evicted::{evicted_buckets, next_counter};
-use crate::rows::{ROW, at_or, in_rows, put_in_rows};
+use crate::leaves::Leaves;
+use crate::marks::marks_of;
+use crate::rows::{at_or, has_bit, in_rows, put_in_rows, set_bit};
 use crate::seen::SeenLabel;
-use crate::totals::{counts_left, either_marks, marks_of, totals};
-use crate::tree::passing;
 use crate::visit::Visit;
 use ob_base::{Params, buckets, slot_cell};
 use ob_follow::{Gate, Register, Side};
@@ -42,12 +42,13 @@ pub struct StandingPlain {
     pub logged: u32,
     /// One more may be.
     pub maybe: bool,
-    /// Whether the buckets' versions have shown their slots, in rows of 64.
-    pub used: Vec<bool>,
+    /// Which slots the buckets' versions have shown: a word each, a bit for each slot.
+    pub used: Vec<u64>,
     /// What the places of the running epoch have shown.
     pub labels: Vec<SeenLabel>,
-    /// What the buckets' reads have shown in the running epoch, in rows of 64.
-    pub slots: Vec<Option<u8>>,
+    /// What the buckets' reads have shown in the running epoch, in rows of 48: a number one greater,
+    /// or 0 for nothing.
+    pub slots: Vec<u8>,
 }
 
 /// The cell of a bucket's slot, wherever it would lie.
@@ -124,25 +125,26 @@ impl StandingPlain {
     }
 
     /// How often the bucket's version was read, these labels among it.
-    pub(crate) fn count(&self, p: &Params, leaves: &[u16], bucket: u32) -> u64
+    pub(crate) fn count(&self, p: &Params, leaves: &Leaves, bucket: u32) -> u64
         ensures { result
             ≡ counts_now p.now (public_known p.now (standing_of self.now) leaves.now) bucket }
     {
-        count_at(&self.counts, bucket) as u64 + passing(p, bucket, leaves)
+        count_at(&self.counts, bucket) as u64 + leaves.passing(p, bucket)
     }
 
     /// Whether the bucket's version has shown the slot.
     pub fn is_used(&self, bucket: u32, slot: u8) -> bool
         ensures { result ≡ (standing_of self.now).used bucket slot }
     {
-        in_rows(&self.used, false, bucket, slot as u64)
+        has_bit(at_or(&self.used, bucket as usize, 0), slot)
     }
 
     /// The slot that a read has shown in the running epoch.
     pub fn shown_slot(&self, visit: Visit) -> Option<u8>
         ensures { result ≡ (standing_of self.now).slots (hole_of_visit visit) }
     {
-        in_rows(&self.slots, None, visit.bucket, visit.number)
+        let kept = in_rows(&self.slots, 0, visit.bucket, visit.number);
+        if kept == 0 { None } else { Some(kept - 1) }
     }
 
     /// The buckets that an end after these labels writes anew.
@@ -150,16 +152,43 @@ impl StandingPlain {
         &self,
         alloc: Global,
         p: &Params,
-        leaves: &[u16],
+        leaves: &Leaves,
     ) -> Result<Vec<bool>, AllocError>
         ensures { IfOk result (λ lifted. lifted.items
             ≡ map (is_lifted p.now (standing_of self.now) leaves.now) (below (buckets p.now))) }
     {
-        let totals = totals(alloc, p, &self.counts, leaves)?;
         let paths = evicted_buckets(alloc, p, self.counter)?;
         let evicted = marks_of(alloc, p, &paths)?;
-        let lifted = either_marks(alloc, p, &evicted, &totals)?;
+        let lifted = self.evicted_or_read(alloc, p, leaves, &evicted)?;
         Ok(lifted)
+    }
+
+    // Whether a bucket is evicted, or was read as often as there are dummies.
+    fn is_lifted(&self, p: &Params, leaves: &Leaves, evicted: &[bool], bucket: u32) -> bool
+        ensures { result ≡ (slice_index_or evicted.now bucket false || nat_le p.now.dummies
+            (counts_now p.now (public_known p.now (standing_of self.now) leaves.now) bucket)) }
+    {
+        if at_or(evicted, bucket as usize, false) {
+            return true;
+        }
+        p.dummies as u64 <= self.count(p, leaves, bucket)
+    }
+
+    fn evicted_or_read(
+        &self,
+        alloc: Global,
+        p: &Params,
+        leaves: &Leaves,
+        evicted: &[bool],
+    ) -> Result<Vec<bool>, AllocError>
+        ensures { IfOk result (λ lifted. lifted.items
+            ≡ map (λ u. slice_index_or evicted.now u false || nat_le p.now.dummies
+            (counts_now p.now (public_known p.now (standing_of self.now) leaves.now) u))
+            (below (buckets p.now))) }
+    {
+        (0..buckets(p))
+            .map(|bucket| self.is_lifted(p, leaves, evicted, bucket))
+            .collect(alloc)
     }
 
     fn home_after(&self, lifted: &[bool], bucket: u32) -> Side
@@ -189,47 +218,61 @@ impl StandingPlain {
             .collect(alloc)
     }
 
+    // How often a bucket's version was read after an end.
+    fn count_left(&self, p: &Params, leaves: &Leaves, lifted: &[bool], bucket: u32) -> u32
+        ensures { result ≡ cond (slice_index_or lifted.now bucket false) 0
+            (cond (nat_le p.now.dummies (counts_now p.now
+            (public_known p.now (standing_of self.now) leaves.now) bucket)) 0
+            (counts_now p.now (public_known p.now (standing_of self.now) leaves.now) bucket)) }
+    {
+        if at_or(lifted, bucket as usize, false) {
+            return 0;
+        }
+        let count = self.count(p, leaves, bucket);
+        if p.dummies as u64 <= count {
+            0
+        } else {
+            count as u32
+        }
+    }
+
     fn counts_after(
         &self,
         alloc: Global,
         p: &Params,
-        leaves: &[u16],
+        leaves: &Leaves,
         lifted: &[bool],
     ) -> Result<Vec<u32>, AllocError>
-        requires { lifted.now
-            ≡ map (is_lifted p.now (standing_of self.now) leaves.now) (below (buckets p.now)) }
         ensures { IfOk result (λ counts. counts.items
-            ≡ map (after_end p.now (public_known p.now (standing_of self.now) leaves.now)).counts
+            ≡ map (λ u. cond (slice_index_or lifted.now u false) 0
+            (cond (nat_le p.now.dummies (counts_now p.now
+            (public_known p.now (standing_of self.now) leaves.now) u)) 0
+            (counts_now p.now (public_known p.now (standing_of self.now) leaves.now) u)))
             (below (buckets p.now))) }
     {
-        let totals = totals(alloc, p, &self.counts, leaves)?;
-        let counts = counts_left(alloc, p, lifted, &totals)?;
-        Ok(counts)
+        (0..buckets(p))
+            .map(|bucket| self.count_left(p, leaves, lifted, bucket))
+            .collect(alloc)
     }
 
-    // Whether the slot at an index of the rows is known as shown after an end too.
-    fn stays_used(&self, lifted: &[bool], index: u32) -> bool
-        ensures { result ≡ (not (slice_index_or lifted.now (index / 64) false)
-            && slice_index_or self.now.used.items index false) }
+    // The slots that a bucket's version is known to have shown after an end too.
+    fn used_left(&self, lifted: &[bool], bucket: u32) -> u64
+        ensures { result ≡ cond (slice_index_or lifted.now bucket false) 0
+            (slice_index self.now.used.items bucket) }
     {
-        if at_or(lifted, (index / ROW as u32) as usize, false) {
-            return false;
+        if at_or(lifted, bucket as usize, false) {
+            return 0;
         }
-        at_or(&self.used, index as usize, false)
+        at_or(&self.used, bucket as usize, 0)
     }
 
-    fn used_after(
-        &self,
-        alloc: Global,
-        p: &Params,
-        lifted: &[bool],
-    ) -> Result<Vec<bool>, AllocError>
+    fn used_after(&self, alloc: Global, p: &Params, lifted: &[bool]) -> Result<Vec<u64>, AllocError>
         ensures { IfOk result (λ used. used.items
-            ≡ map (λ i. not (slice_index_or lifted.now (i / 64) false)
-            && slice_index_or self.now.used.items i false) (below (buckets p.now * 64))) }
+            ≡ map (λ u. cond (slice_index_or lifted.now u false) 0
+            (slice_index self.now.used.items u)) (below (buckets p.now))) }
     {
-        (0..buckets(p) * ROW as u32)
-            .map(|index| self.stays_used(lifted, index))
+        (0..buckets(p))
+            .map(|bucket| self.used_left(lifted, bucket))
             .collect(alloc)
     }
 
@@ -238,7 +281,7 @@ impl StandingPlain {
         &self,
         alloc: Global,
         p: &Params,
-        leaves: &[u16],
+        leaves: &Leaves,
     ) -> Result<StandingPlain, AllocError>
         ensures { IfOk result (λ s. standing_of s
             ≡ standing_ended p.now (standing_of self.now) leaves.now) }
@@ -272,14 +315,8 @@ impl StandingPlain {
         ensures { OnOk result ((standing_of self.old).slots (hole_of_visit visit) ≡ None
             → standing_of self.new ≡ with_slot (standing_of self.old) (hole_of_visit visit) slot) }
     {
-        put_in_rows(&mut self.used, false, visit.bucket, slot as u64, true)?;
-        put_in_rows(
-            &mut self.slots,
-            None,
-            visit.bucket,
-            visit.number,
-            Some(slot),
-        )?;
+        set_bit(&mut self.used, visit.bucket, slot)?;
+        put_in_rows(&mut self.slots, 0, visit.bucket, visit.number, slot + 1)?;
         Ok(())
     }
 

@@ -6,7 +6,7 @@ ghost use Rattle.std.specs.Prelude.{◌<◌};
 #[derive(Clone, Copy, Debug, PartialEq, Eq)]
 pub struct Visit {
     pub bucket: u32,
-    /// Fewer than 64: a version is read at most once for each of its slots.
+    /// Fewer than 48: a version is read at most once for each of its slots.
     pub number: u64,
-    pub ghost few: { number < 64 },
+    pub ghost few: { number < 48 },
 }

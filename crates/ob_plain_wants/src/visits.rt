@@ -11,6 +11,7 @@ ghost use Rattle.ob_follow.specs.Standing.{public_known};
 ghost use Rattle.ob_follow.specs.Wants.{end_holes};
 
 use crate::evicted::{evicted_buckets, firsts_of};
+use crate::leaves::Leaves;
 use crate::occasion::Occasion;
 use crate::standing::StandingPlain;
 use crate::tree::path_of;
@@ -90,7 +91,7 @@ fn push_all(
     p: &Params,
     occasion: Occasion,
     standing: &StandingPlain,
-    leaves: &[u16],
+    leaves: &Leaves,
     buckets: &[u32],
     visits: &mut VecDeque<Visit>,
 ) -> Result<(), AllocError>
@@ -117,7 +118,7 @@ pub fn place_visits(
     alloc: Global,
     p: &Params,
     standing: &StandingPlain,
-    leaves: &[u16],
+    leaves: &Leaves,
     leaf: u16,
 ) -> Result<VecDeque<Visit>, AllocError>
     ensures { IfOk result (λ visits. map hole_of_visit visits.items
@@ -135,7 +136,7 @@ pub fn final_visits(
     alloc: Global,
     p: &Params,
     standing: &StandingPlain,
-    leaves: &[u16],
+    leaves: &Leaves,
 ) -> Result<VecDeque<Visit>, AllocError>
     ensures { IfOk result (λ visits. map hole_of_visit visits.items
         ≡ end_holes p.now (standing_of standing.now) leaves.now) }

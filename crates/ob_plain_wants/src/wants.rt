@@ -3,51 +3,24 @@
 ghost use Rattle.std.specs.Prelude.{◌≡◌, ◌+◌, ◌-◌, ◌≤◌, ◌<◌, ◌^◌, ◌++◌, ◌∷◌, [], OnOk, IfOk};
 ghost use Rattle.std.specs.List.{range_with_len};
 ghost use Rattle.ob_base.specs.declared.params.Params.{Params};
-ghost use Rattle.ob_base.specs.Tree.{below};
-ghost use Rattle.ob_schedule.specs.Schedule.{reads_of};
 ghost use Rattle.ob_schedule.specs.Paths.{by_falling_level};
 ghost use Rattle.ob_plain_wants.specs.Marked.{writes_marked};
 ghost use Rattle.ob_plain_wants.specs.Shown.{standing_of};
 ghost use Rattle.ob_follow.specs.Follow.{started};
-ghost use Rattle.ob_follow.specs.Wants.{kept, setting, sets, record_wants, places, found_wants, writes_anew, end_wants};
+ghost use Rattle.ob_follow.specs.Wants.{kept, setting, sets, record_wants, register_wants, places, found_wants, writes_anew, end_wants};
 
+use crate::leaves::Leaves;
 use crate::notes::{
-    body_writes, bucket_writes, check_reads, check_writes, format_but_last, gate_at, gate_writes,
-    log_reads, register_reads, set_notes,
+    gate_at, kept, push_body, push_bucket, push_check_reads, push_check_writes, push_format,
+    push_gates, push_kept, push_log_reads, set_notes,
 };
 use crate::rows::at_or;
 use crate::standing::StandingPlain;
 use ob_base::Params;
 use ob_follow::{Change, Gate, Register, Side, Want};
+use ob_runs::Runs;
 use ob_store::Note;
 use std::alloc::{AllocError, Global};
-use std::collections::VecDeque;
-
-fn kept(note: Note) -> Want
-    ensures { result ≡ Want.Fixed note Change.Keeps }
-{
-    Want::Fixed {
-        note,
-        change: Change::Keeps,
-    }
-}
-
-/// Puts these behind the list.
-pub fn push_wants(list: &[Want], wants: &mut VecDeque<Want>) -> Result<(), AllocError>
-    ensures { OnOk result (wants.new.items ≡ wants.old.items ++ list.now) }
-{
-    for want in list {
-        wants.push_back(*want)?;
-    }
-    Ok(())
-}
-
-// These notes, each of which changes nothing.
-fn kept_all(alloc: Global, notes: &[Note]) -> Result<Vec<Want>, AllocError>
-    ensures { IfOk result (λ wants. wants.items ≡ kept notes.now) }
-{
-    notes.iter().map(|note| kept(*note)).collect(alloc)
-}
 
 /// What sets a register, whose gate is closed first.
 pub fn set_wants(register: Register, side: Side) -> [Want; 6]
@@ -86,68 +59,55 @@ pub fn set_wants(register: Register, side: Side) -> [Want; 6]
     ]
 }
 
-// What sets a register, by what is known of its gate.
-fn sets(alloc: Global, register: Register, side: Side, gate: Gate) -> Result<Vec<Want>, AllocError>
-    ensures { IfOk result (λ wants. (p : Params) → wants.items ≡ sets p register side gate) }
+// Puts what sets a register behind the list, by what is known of its gate.
+fn push_sets(register: Register, side: Side, gate: Gate, wants: &mut Runs) -> Result<(), AllocError>
+    ensures { OnOk result ((p : Params) → wants.new ≡ wants.old ++ sets p register side gate) }
 {
     let all = set_wants(register, side);
     match gate {
-        Gate::Open => {
-            let list = Vec::from_slice(alloc, &all)?;
-            Ok(list)
-        }
-        Gate::Closed => {
-            let list = Vec::from_slice(alloc, &all[2..])?;
-            Ok(list)
-        }
-        Gate::Unsure => Vec::from_slice(alloc, &[Want::Setting { register }]),
+        Gate::Open => wants.push_all(&all),
+        Gate::Closed => wants.push_all(&all[2..]),
+        Gate::Unsure => wants.push(Want::Setting { register }),
     }
 }
 
-/// What an opening shows first: the reads of the head and of the registers.
-pub fn register_wants(alloc: Global) -> Result<Vec<Want>, AllocError>
-    ensures { IfOk result (λ wants. wants.items ≡ kept (reads_of (below 9))) }
+/// Puts what an opening shows first behind the list: the reads of the head and of the registers.
+#[tactic(auto, using(crate::proofs::Formats::heads_read))]
+pub fn push_registers(p: &Params, wants: &mut Runs) -> Result<(), AllocError>
+    ensures { OnOk result (wants.new ≡ wants.old ++ register_wants p.now) }
 {
-    let notes = register_reads(alloc)?;
-    let wants = kept_all(alloc, &notes)?;
-    Ok(wants)
+    wants.push_reads(0, 9)
 }
 
 /// A format's notes, each with what it changes.
-#[tactic(auto, using(crate::proofs::Formats::wants_made))]
-pub fn format_wants(alloc: Global, p: &Params) -> Result<VecDeque<Want>, AllocError>
-    ensures { IfOk result (λ wants. wants.items ≡ (started p.now).wants) }
+pub fn format_wants(alloc: Global, p: &Params) -> Result<Runs, AllocError>
+    ensures { IfOk result (λ wants. wants ≡ (started p.now).wants) }
 {
-    let mut wants = VecDeque::new(alloc);
-    let notes = format_but_last(alloc, p)?;
-    push_wants(&kept_all(alloc, &notes)?, &mut wants)?;
-    wants.push_back(Want::Fixed {
+    let mut wants = Runs::new(alloc);
+    push_format(alloc, p, &mut wants)?;
+    wants.push(Want::Fixed {
         note: Note::Sync,
         change: Change::Formats,
     })?;
     Ok(wants)
 }
 
-/// What logs a batch.
-pub fn record_wants(
-    alloc: Global,
-    p: &Params,
-    side: Side,
-    batch: u32,
-) -> Result<Vec<Want>, AllocError>
-    ensures { IfOk result (λ wants. wants.items ≡ record_wants p.now side batch) }
+/// Puts what logs a batch behind the list.
+pub fn push_record(p: &Params, side: Side, batch: u32, wants: &mut Runs) -> Result<(), AllocError>
+    ensures { OnOk result (wants.new ≡ wants.old ++ record_wants p.now side batch) }
 {
-    let mut wants = kept_all(alloc, &body_writes(alloc, p, side, batch)?)?;
-    wants.push(kept(Note::Sync))?;
-    wants.push(Want::Fixed {
-        note: Note::Write(gate_at(p, side, batch)),
-        change: Change::MayLog,
-    })?;
-    wants.push(Want::Fixed {
-        note: Note::Sync,
-        change: Change::Logs,
-    })?;
-    Ok(wants)
+    push_body(p, side, batch, wants)?;
+    wants.push_all(&[
+        kept(Note::Sync),
+        Want::Fixed {
+            note: Note::Write(gate_at(p, side, batch)),
+            change: Change::MayLog,
+        },
+        Want::Fixed {
+            note: Note::Sync,
+            change: Change::Logs,
+        },
+    ])
 }
 
 /// The places of a batch.
@@ -159,66 +119,59 @@ pub fn places(alloc: Global, p: &Params, batch: u32) -> Result<Vec<Want>, AllocE
         .collect(alloc)
 }
 
-/// What an opening shows behind the registers.
-pub fn found_wants(
-    alloc: Global,
-    p: &Params,
-    found: &StandingPlain,
-) -> Result<Vec<Want>, AllocError>
-    ensures { IfOk result (λ wants. wants.items ≡ found_wants p.now (standing_of found.now)) }
+/// Puts what an opening shows behind the registers behind the list.
+pub fn push_found(p: &Params, found: &StandingPlain, wants: &mut Runs) -> Result<(), AllocError>
+    ensures { OnOk result (wants.new ≡ wants.old ++ found_wants p.now (standing_of found.now)) }
 {
-    let mut notes = check_reads(alloc, p, found.epoch)?;
-    notes.extend_from_slice(&log_reads(alloc, p, found.epoch.other())?)?;
-    let mut wants = kept_all(alloc, &notes)?;
+    push_check_reads(p, found.epoch, wants)?;
+    push_log_reads(p, found.epoch.other(), wants)?;
     wants.push(Want::Fixed {
         note: Note::Sync,
         change: Change::Settles,
     })?;
-    wants.extend_from_slice(&sets(
-        alloc,
+    push_sets(
         Register::Generation,
         found.generation.other(),
         found.generation_gate,
-    )?)?;
-    Ok(wants)
+        wants,
+    )
 }
 
-// The writes of a bucket in its other home, if it is marked.
-fn anew(
-    alloc: Global,
+// Puts the writes of a bucket in its other home behind the list, if it is marked.
+fn push_anew(
     p: &Params,
     standing: &StandingPlain,
     lifted: &[bool],
     bucket: u32,
-) -> Result<Vec<Note>, AllocError>
-    ensures { IfOk result (λ notes. notes.items
-        ≡ writes_marked p.now (standing_of standing.now) lifted.now (bucket ∷ [])) }
+    wants: &mut Runs,
+) -> Result<(), AllocError>
+    ensures { OnOk result (wants.new
+        ≡ wants.old ++ kept (writes_marked p.now (standing_of standing.now) lifted.now
+        (bucket ∷ []))) }
 {
     if at_or(lifted, bucket as usize, false) {
-        return bucket_writes(alloc, p, standing.home(bucket).other(), bucket);
+        return push_bucket(p, standing.home(bucket).other(), bucket, wants);
     }
-    Ok(Vec::new(alloc))
+    Ok(())
 }
 
 // Puts the writes of the marked ones of a level's buckets behind the list.
 #[tactic(auto, using(crate::proofs::Lists::anew_more))]
 fn push_level(
-    alloc: Global,
     p: &Params,
     standing: &StandingPlain,
     lifted: &[bool],
     many: u32,
-    notes: &mut Vec<Note>,
+    wants: &mut Runs,
 ) -> Result<(), AllocError>
     requires some { 0 < many }
     requires few { many ≤ 65536 }
-    ensures { OnOk result (notes.new.items
-        ≡ notes.old.items ++ writes_marked p.now (standing_of standing.now) lifted.now
-        (range_with_len (many - 1) many)) }
+    ensures { OnOk result (wants.new
+        ≡ wants.old ++ kept (writes_marked p.now (standing_of standing.now) lifted.now
+        (range_with_len (many - 1) many))) }
 {
     for i in 0..many {
-        let writes = anew(alloc, p, standing, lifted, many - 1 + i)?;
-        notes.extend_from_slice(&writes)?;
+        push_anew(p, standing, lifted, many - 1 + i, wants)?;
     }
     Ok(())
 }
@@ -234,57 +187,55 @@ fn many_on(p: &Params, level: u32) -> u32
     1 << level
 }
 
-// The writes of the marked buckets, by falling level.
-fn level_writes(
-    alloc: Global,
+// Puts the writes of the marked buckets behind the list, by falling level.
+fn push_levels(
     p: &Params,
     standing: &StandingPlain,
     lifted: &[bool],
-) -> Result<Vec<Note>, AllocError>
-    ensures { IfOk result (λ notes. notes.items
-        ≡ writes_marked p.now (standing_of standing.now) lifted.now
-        (by_falling_level (p.now.levels + 1))) }
+    wants: &mut Runs,
+) -> Result<(), AllocError>
+    ensures { OnOk result (wants.new
+        ≡ wants.old ++ kept (writes_marked p.now (standing_of standing.now) lifted.now
+        (by_falling_level (p.now.levels + 1)))) }
 {
-    let mut notes = Vec::new(alloc);
     for i in 0..p.levels + 1 {
         let many = many_on(p, p.levels - i);
-        push_level(alloc, p, standing, lifted, many, &mut notes)?;
+        push_level(p, standing, lifted, many, wants)?;
     }
-    Ok(notes)
+    Ok(())
 }
 
-// The writes of the buckets that an end after these labels writes anew.
-fn writes_anew(
+// Puts the writes of the buckets that an end after these labels writes anew behind the list.
+fn push_writes_anew(
     alloc: Global,
     p: &Params,
     standing: &StandingPlain,
-    leaves: &[u16],
-) -> Result<Vec<Note>, AllocError>
-    ensures { IfOk result (λ notes. notes.items
-        ≡ writes_anew p.now (standing_of standing.now) leaves.now
-        (by_falling_level (p.now.levels + 1))) }
+    leaves: &Leaves,
+    wants: &mut Runs,
+) -> Result<(), AllocError>
+    ensures { OnOk result (wants.new
+        ≡ wants.old ++ kept (writes_anew p.now (standing_of standing.now) leaves.now
+        (by_falling_level (p.now.levels + 1)))) }
 {
     let lifted = standing.lifted(alloc, p, leaves)?;
-    let notes = level_writes(alloc, p, standing, &lifted)?;
-    Ok(notes)
+    push_levels(p, standing, &lifted, wants)
 }
 
-/// What an end writes.
-pub fn end_wants(
+/// Puts what an end writes behind the list.
+pub fn push_end(
     alloc: Global,
     p: &Params,
     standing: &StandingPlain,
-    leaves: &[u16],
-) -> Result<Vec<Want>, AllocError>
-    ensures { IfOk result (λ wants. wants.items
-        ≡ end_wants p.now (standing_of standing.now) leaves.now) }
+    leaves: &Leaves,
+    wants: &mut Runs,
+) -> Result<(), AllocError>
+    ensures { OnOk result (wants.new
+        ≡ wants.old ++ end_wants p.now (standing_of standing.now) leaves.now) }
 {
     let next = standing.epoch.other();
-    let mut notes = writes_anew(alloc, p, standing, leaves)?;
-    notes.extend_from_slice(&check_writes(alloc, p, next)?)?;
-    notes.extend_from_slice(&gate_writes(alloc, p, standing.epoch)?)?;
-    notes.push(Note::Sync)?;
-    let mut wants = kept_all(alloc, &notes)?;
-    wants.extend_from_slice(&sets(alloc, Register::Epoch, next, standing.epoch_gate)?)?;
-    Ok(wants)
+    push_writes_anew(alloc, p, standing, leaves, wants)?;
+    push_check_writes(p, next, wants)?;
+    push_gates(alloc, p, standing.epoch, wants)?;
+    push_kept(&[Note::Sync], wants)?;
+    push_sets(Register::Epoch, next, standing.epoch_gate, wants)
 }

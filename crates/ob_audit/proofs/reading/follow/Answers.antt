@@ -4,7 +4,7 @@ use Rattle.ob_audit.proofs.reading.follow.Goals as goal
 
 pub returns-in_ok-answer-in-Some : goal.returns-in_ok-answer-in-Some
 returns-in_ok-answer-in-Some c =
-    next_told c.args.known.now c.in-Some.present c.next.new.self c.args.line.now c.in_ok-answer-in-Some.answer (sym c.take.ensures.value ∙ c.in-Some.is) c.in_ok-answer-in-Some.ensures
+    next_told c.args.known.now c.in-Some.present _ c.next.new.self c.args.line.now c.in_ok-answer-in-Some.answer (sym c.take.ensures.value ∙ c.in-Some.is) c.deref_mut.ensures.value c.in_ok-answer-in-Some.ensures
 
 pub returns-in-Some-2 : goal.returns-in-Some-2
 returns-in-Some-2 c =
