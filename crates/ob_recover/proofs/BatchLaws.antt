@@ -19,7 +19,7 @@ use Rattle.ob_bucket.specs.Buckets.{Buckets}
 use Rattle.ob_bucket.specs.Version.{Version}
 use Rattle.ob_content.specs.Content.{Rows}
 use Rattle.ob_ring.specs.FlatTable.{FlatTable}
-use Rattle.ob_ring.specs.Picked.{SameSeals, job_of, batch_picked}
+use Rattle.ob_ring.specs.Picked.{Picked, SameSeals, job_of, batch_picked}
 use Rattle.ob_ring.specs.Ring.{IsBatch, Kept, StandsFor}
 use Rattle.ob_tables.specs.Kept.{Held}
 use Rattle.ob_ring.specs.Settling.{first_fault, rows_after}
@@ -29,7 +29,7 @@ use Rattle.ob_batch.specs.Jobs.{AreFilled, AreJobsRead, AreKept, AreSeen, IsFirs
 use Rattle.ob_batch.specs.declared.error.JobsErr.{JobsErr}
 use Rattle.ob_epoch.proofs.Calling.{plans_are_read}
 use Rattle.ob_stand.specs.Reads.{plains_in}
-use Rattle.ob_recover.specs.Repeats.{record_of, record_places, asked_of_record, batch_cells, batch_jobs, repeated_notes, BatchAnswers, BatchIsShown, BatchTells, HaveKeysOf, IsRepeatFault, JobsAnswer}
+use Rattle.ob_recover.specs.Repeats.{record_of, record_places, asked_of_record, batch_cells, batch_jobs, repeated_notes, BatchAnswers, BatchIsShown, BatchTells, HaveKeysOf, IsRepeatFault, JobsAnswer, RowsJoin}
 use Rattle.ob_recover.specs.Shows.{placed_notes}
 use Rattle.ob_recover.proofs.FewLaws.{jobs_few}
 use Rattle.ob_recover.proofs.ShowLaws.{batch_shows}
@@ -50,6 +50,33 @@ filled_keys old new plain filled i = elim (cases_lt i (length old)) [
 pub kept_keys : (old new : List Job) (r : Result (Unit {0}) JobsErr) → AreKept old new r → HaveKeysOf old new
 kept_keys old new (Ok done) kept = filled_keys old new kept.0 kept.1
 kept_keys old new (Err e) kept = λ i. ap (λ (js : List Job). (job_at js i).key) kept
+
+-- the same keys, one behind the other
+filled_in_order : (old new : List Job) (plain : ℕ → List ℕ) → AreFilled old new plain → map (λ j. j.key) new ≡ map (λ j. j.key) old
+filled_in_order [] [] plain filled = refl
+filled_in_order [] (n ∷ new) plain filled = absurd (let many = filled.many in omega arith)
+filled_in_order (o ∷ old) [] plain filled = absurd (let many = filled.many in omega arith)
+filled_in_order (o ∷ old) (n ∷ new) plain filled =
+    let first : n ≡ record o { result = Some (plain 0) } = filled.each 0 (omega arith) in
+    let rest : AreFilled old new (λ i. plain (suc i)) = record { many = (let many = filled.many in omega arith); each = λ i lt. filled.each (suc i) (omega arith) } in
+    λ i. (first i).key ∷ filled_in_order old new (λ j. plain (suc j)) rest i
+
+picked_keys : (p : Params) (versions : List Version) (qs : List Picked) → map (λ j. j.key) (map (job_of p versions) qs) ≡ map (λ q. q.key) qs
+picked_keys p versions [] = refl
+picked_keys p versions (q ∷ qs) = ap (λ (ks : List (Option ℕ)). q.key ∷ ks) (picked_keys p versions qs)
+
+-- what was read of planned jobs joined the rows
+pub rows_join : (p : Params) (versions : List Version) (picked : List Picked) (now js : List Job) (plain : ℕ → List ℕ) (rows rows' : Rows) → now ≡ map (job_of p versions) picked → AreFilled now js plain → first_fault js ≡ None → rows' ≡ rows_after rows js → RowsJoin picked rows rows'
+rows_join p versions picked now js plain rows rows' planned filled faultless rows_are = record {
+  jobs = js;
+  keys = filled_in_order now js plain filled ∙ ap (λ (xs : List Job). map (λ j. j.key) xs) planned ∙ picked_keys p versions picked;
+  read = λ i lt none.
+      let low : i < length now = (let many = filled.many in omega arith) in
+      let some : Some (plain i) ≡ None = sym (ap (λ (j : Job). j.result) (filled.each i low)) ∙ none in
+      cc;
+  faultless = faultless;
+  rows_are = rows_are;
+}
 
 -- keys below a number stay so
 pub keys_low : (n : ℕ) (old new : List Job) → HaveKeysOf old new → ((i : ℕ) → IfSome (job_at old i).key (λ k. k < n)) → (i : ℕ) → IfSome (job_at new i).key (λ k. k < n)

@@ -1,5 +1,5 @@
 -- The repeats so far, and one more.
-use Rattle.std.proofs.Common.{◌≡◌, ⊎_elim, ℕ, zero, suc, ◌+◌, ◌<◌, List, [], ◌∷◌, ◌++◌, Option, Result, Ok, Err, take, drop, length, refl, sym, ◌∙◌, ap, subst, arith}
+use Rattle.std.proofs.Common.{◌≡◌, ⊎_elim, ℕ, zero, suc, ◌+◌, ◌<◌, List, [], ◌∷◌, ◌++◌, Option, Result, Ok, Err, OnOk, take, drop, length, refl, sym, ◌∙◌, ap, subst, arith}
 use Rattle.std.proofs.lemmas.List.{take_more}
 use mathlib.Core.Path.{fun_ext}
 use Rattle.ob_base.specs.declared.params.Params.{Params}
@@ -18,12 +18,12 @@ use Rattle.ob_tables.specs.Kept.{entry_at}
 use Rattle.ob_content.specs.Content.{Content, Rows}
 use Rattle.ob_ring.specs.Fetching.{after_labels}
 use Rattle.ob_ring.specs.FlatTable.{FlatTable, Batch, after}
-use Rattle.ob_ring.specs.Picked.{SameSeals}
+use Rattle.ob_ring.specs.Picked.{SameSeals, batch_picked}
 use Rattle.ob_ring.specs.Ring.{Kept, StandsFor}
 use Rattle.ob_log.specs.Logs.{BatchRecord, record_at, nothing}
 use Rattle.ob_epoch.specs.Table.{flat_of}
 use Rattle.ob_stand.specs.Reads.{slots_in}
-use Rattle.ob_recover.specs.Repeats.{record_places, asked_of_record, table_after_records, entries_after_records, repeated_notes, batch_cells, BatchAnswers, BatchTells, AreRepeated, IsRepeatDamage, IsRepeatFault, RepeatsTold, RepeatsFirst, RepeatDoes, RepeatsAnswer, content_of_ring}
+use Rattle.ob_recover.specs.Repeats.{record_places, asked_of_record, table_after_records, entries_after_records, repeated_notes, batch_cells, BatchAnswers, BatchTells, AllRowsJoin, AreRepeated, IsRepeatDamage, IsRepeatFault, RepeatsTold, RowsJoin, RepeatsFirst, RepeatDoes, RepeatsAnswer, content_of_ring}
 use Rattle.ob_recover.proofs.RepeatLaws.{table_more, entries_more, told_more, told_still, repeated_more}
 
 -- ---- one batch, as its call tells it
@@ -36,6 +36,7 @@ pub record OneRepeat (keys : Keys) (q : Params) (most : ℕ) (old new : Disk) (b
   pub seals : SameSeals (record ring.metas { order = [] }) ring'.metas
   pub table : (t : FlatTable) → StandsFor ring t → StandsFor ring' (after q t (Batch (asked_of_record q r)))
   pub value : (start : Buckets) (t : FlatTable) → SameSeals start ring.metas → StandsFor ring t → old.tells → BatchAnswers keys q start.versions old.cells t r (ring.stash).rows (ring'.stash).rows result
+  pub joins : (t : FlatTable) → StandsFor ring t → OnOk result (RowsJoin (batch_picked q t (asked_of_record q r)) (ring.stash).rows (ring'.stash).rows)
   pub told : (start : Buckets) (t : FlatTable) → SameSeals start ring.metas → StandsFor ring t
       → BatchTells most (batch_cells q start.versions t (asked_of_record q r)) (repeated_notes q start.versions t (asked_of_record q r)) old.seen new.seen before after_ result
 
@@ -58,7 +59,13 @@ pub record Repeating (keys : Keys) (o : Kept) (most : ℕ) (rs : List BatchRecor
   pub counter : ring.counter ≡ o.counter
   pub room : (ring.stash).room ≡ (o.stash).room
   pub read : old.tells → AreRepeated o.p (slots_in keys o.p (content_of_ring o) old.cells) (flat_of o.p (content_of_ring o)) (content_of_ring o).rows (ring.stash).rows (take n rs)
+  pub joins : AllRowsJoin o.p (flat_of o.p (content_of_ring o)) (take n rs) (o.stash).rows (ring.stash).rows
   pub told : RepeatsTold most o.p (content_of_ring o) (take n rs) old.seen now.seen before shown
+
+-- and one batch more
+joins_more : (p : Params) (t : FlatTable) (rs : List BatchRecord) (r : BatchRecord) (rows mid rows' : Rows) → AllRowsJoin p t rs rows mid → RowsJoin (batch_picked p (table_after_records p t rs) (asked_of_record p r)) mid rows' → AllRowsJoin p t (rs ++ r ∷ []) rows rows'
+joins_more p t [] r rows mid rows' none join = (rows', subst (λ (x : Rows). RowsJoin (batch_picked p t (asked_of_record p r)) x rows') none join, refl)
+joins_more p t (x ∷ rs) r rows mid rows' (first, one, all) join = (first, one, joins_more p (after p t (Batch (asked_of_record p x))) rs r first mid rows' all join)
 
 -- buckets that are sealed as these, behind those
 seals_join : (a b c : Buckets) → SameSeals a b → b.order ≡ [] → SameSeals (record b { order = [] }) c → SameSeals a c
@@ -120,6 +127,8 @@ module _ (keys : Keys) (o : Kept) (most : ℕ) (rs : List BatchRecord) (n : ℕ)
             let last = subst (λ (image : Image). BatchAnswers keys p o.metas.versions image t r (ring.stash).rows (ring'.stash).rows (Ok tt)) same (one.value o.metas t so.seals so.table (keeps.tells tells)) in
             subst (λ (l : List BatchRecord). AreRepeated p (slots_in keys p c old.cells) (flat_of p c) c.rows (ring'.stash).rows l) (sym more)
             (repeated_more p (slots_in keys p c old.cells) (flat_of p c) c.rows (ring.stash).rows (ring'.stash).rows (take n rs) r (so.read tells) last);
+        joins = subst (λ (l : List BatchRecord). AllRowsJoin p (flat_of p c) l (o.stash).rows (ring'.stash).rows) (sym more)
+            (joins_more p (flat_of p c) (take n rs) r (o.stash).rows (ring.stash).rows (ring'.stash).rows so.joins (one.joins t so.table));
         told = subst (λ (l : List BatchRecord). RepeatsTold most p c l old.seen new.seen before later) (sym more)
             (told_more most p c (take n rs) r old.seen mid.seen new.seen before shown later so.told (one.told o.metas t so.seals so.table));
       }

@@ -46,7 +46,7 @@ use Rattle.ob_stand.specs.Stands.{RingStanding, Stands}
 use Rattle.ob_stand.proofs.ReadLaws.{stands_valued}
 use Rattle.ob_recover.specs.Repeats.{asked_of_record, table_after_records, batch_jobs, AreRepeated, IsRepeatDamage, IsRepeatFault, RepeatsAnswer, ReplaysStanding}
 use Rattle.ob_recover.specs.declared.found.Found.{Found}
-use Rattle.ob_recover.specs.Finds.{IsFoundOf}
+use Rattle.ob_recover.specs.Finds.{KeepsWhatStood}
 use Rattle.ob_ring.specs.Ring.{Kept}
 use Rattle.ob_recover.proofs.RepeatLaws.{tables_are}
 
@@ -269,7 +269,7 @@ module _ (keys : Keys) (p : Params) (s : RingStanding) (image : Image) (stands :
 
 -- ---- the answers of a replay
 
-module _ (keys : Keys) (p : Params) (s : RingStanding) (image : Image) (stands : Stands keys p s image) (found : Found) (is : IsFoundOf s found) (o : Kept) (rs : List BatchRecord)
+module _ (keys : Keys) (p : Params) (s : RingStanding) (image : Image) (stands : Stands keys p s image) (found : Found) (is : KeepsWhatStood s found) (o : Kept) (rs : List BatchRecord)
     (made : o ≡ ring_of p found.tables) (logged : rs ≡ found.records) (rows : Rows) where
   pub replayed_well : RepeatsAnswer keys o image rs rows (Ok tt) → Carries p (table_after_records p (flat_of p s.content) s.records) rows (slots_in keys p s.content image) s.map
   replayed_well all =

@@ -91,6 +91,11 @@ pub record IsFoundOf (s : RingStanding) (found : Found) : Type 0 where
   pub content : content_of found.tables ≡ s.content
   pub records : found.records ≡ s.records
 
+-- the content and the records of what stands, in this generation or another
+pub record KeepsWhatStood (s : RingStanding) (found : Found) : Type 0 where
+  pub content : content_of found.tables ≡ s.content
+  pub records : found.records ≡ s.records
+
 -- these are found, unless memory was wanting or the store failed
 abbrev pub FindsStanding : RingStanding → Result Found Fault → Type 0
 FindsStanding s (Ok found) = IsFoundOf s found

@@ -1,5 +1,5 @@
 -- What is shown again of the read batches that were begun before a crash, and what the planner then keeps.
-use Rattle.std.specs.Prelude.{◌≡◌, ◌⊎◌, ◌≤◌, ℕ, ◌+◌, List, [], ◌∷◌, ◌++◌, length, map, take, Option, Some, None, Result, Ok, Err}
+use Rattle.std.specs.Prelude.{◌≡◌, ◌≢◌, ◌⊎◌, ◌<◌, ◌≤◌, ℕ, ◌+◌, List, [], ◌∷◌, ◌++◌, length, map, take, Option, Some, None, Result, Ok, Err}
 use Rattle.ob_base.specs.declared.params.Params.{Params}
 use Rattle.ob_base.specs.declared.job.Job.{Job}
 use Rattle.ob_base.specs.Planned.{job_at}
@@ -19,7 +19,7 @@ use Rattle.ob_tables.specs.Kept.{entry_at}
 use Rattle.ob_content.specs.Content.{Content, Rows, content_of}
 use Rattle.ob_ring.specs.Fetching.{places_of, leaf_places, after_labels}
 use Rattle.ob_ring.specs.FlatTable.{FlatTable, Batch, after, leaf_shown, after_place}
-use Rattle.ob_ring.specs.Picked.{SameSeals, job_of, place_picked, batch_picked}
+use Rattle.ob_ring.specs.Picked.{Picked, SameSeals, job_of, place_picked, batch_picked}
 use Rattle.ob_ring.specs.Ring.{Kept, StandsFor}
 use Rattle.ob_ring.specs.Settling.{first_fault, rows_after}
 use Rattle.ob_log.specs.Logs.{BatchRecord}
@@ -100,6 +100,20 @@ pub record IsRepeatRowDamage (p : Params) (slots : Slots) (t : FlatTable) (r : B
   pub jobs : List Job
   pub read : AreRead slots (batch_picked p t (asked_of_record p r)) jobs
   pub first : first_fault jobs ≡ Some damaged
+
+-- Whatever the store tells of its cells, jobs of these picks were read: each has the key of its pick and some plain bytes, none breaks a
+-- rule, and their rows joined the stash.
+pub record RowsJoin (picked : List Picked) (rows rows' : Rows) : Type 0 where
+  pub jobs : List Job
+  pub keys : map (λ j. j.key) jobs ≡ map (λ q. q.key) picked
+  pub read : (i : ℕ) → i < length jobs → (job_at jobs i).result ≢ None
+  pub faultless : first_fault jobs ≡ None
+  pub rows_are : rows' ≡ rows_after rows jobs
+
+-- the batches of these records did, one behind the other
+abbrev pub AllRowsJoin : Params → FlatTable → List BatchRecord → Rows → Rows → Type 0
+AllRowsJoin p t [] rows rows' = rows' ≡ rows
+AllRowsJoin p t (r ∷ rs) rows rows' = (mid : Rows) × RowsJoin (batch_picked p t (asked_of_record p r)) rows mid × AllRowsJoin p (after p t (Batch (asked_of_record p r))) rs mid rows'
 
 -- what is damaged of a batch: the first job that fails, by its cell's tag or seal, or else the first row
 abbrev pub IsBatchDamage : Keys → Params → List Version → Image → FlatTable → BatchRecord → Damaged → Type 0
@@ -184,12 +198,13 @@ RepeatDoes most p c rs old new before after (Err _) = RepeatsFirst most p c rs o
 abbrev pub content_of_ring : Kept → Content
 content_of_ring r = record { counter = r.counter; book = r.book; versions = (r.metas).versions; rows = (r.stash).rows }
 
--- After the batches of these records the planner stands for the table after them, its entries are those that they leave, and its
--- buckets lie as they were sealed.
+-- After the batches of these records the planner stands for the table after them, its entries are those that they leave, its stash has
+-- the rows that they read, and its buckets lie as they were sealed.
 pub record HasRepeated (o : Kept) (rs : List BatchRecord) (ring : Kept) : Type 0 where
   pub params : ring.p ≡ o.p
   pub table : StandsFor ring (table_after_records o.p (flat_of o.p (content_of_ring o)) rs)
   pub entries : (k : ℕ) → entry_at ring.book k ≡ entries_after_records o.p (λ i. entry_at o.book i) rs k
+  pub joins : AllRowsJoin o.p (flat_of o.p (content_of_ring o)) rs (o.stash).rows (ring.stash).rows
   pub seals : SameSeals o.metas ring.metas
   pub counter : ring.counter ≡ o.counter
   pub room : (ring.stash).room ≡ (o.stash).room

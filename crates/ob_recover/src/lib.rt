@@ -18,4 +18,8 @@ pub use replaying::replay;
 pub use showing::show_reads;
 
 #[cfg(test)]
+mod replay_tests;
+#[cfg(test)]
 mod tests;
+#[cfg(test)]
+mod two_epochs;

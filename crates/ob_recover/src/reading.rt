@@ -1,18 +1,18 @@
 //! Reading a read batch.
 
-ghost use Rattle.std.specs.Prelude.{◌≡◌, ◌<◌, ◌≤◌, ℕ, [], length, IfErr, IfSome, Some, None, slice_index_or};
+ghost use Rattle.std.specs.Prelude.{◌≡◌, ◌<◌, ◌≤◌, ℕ, List, [], length, IfErr, IfSome, OnOk, Some, None, slice_index_or};
 ghost use Rattle.ob_base.specs.Planned.{most_jobs, job_at};
 ghost use Rattle.ob_store.specs.Images.{Same, Passes};
 ghost use Rattle.ob_store.specs.Calls.{Serves, IsStoreFault, Keeps};
 ghost use Rattle.ob_tables.specs.Kept.{entry_at};
-ghost use Rattle.ob_batch.specs.Jobs.{cells_of};
+ghost use Rattle.ob_batch.specs.Jobs.{AreFilled, cells_of};
 ghost use Rattle.ob_bucket.specs.Buckets.{Buckets};
 ghost use Rattle.ob_ring.specs.Fetching.{after_labels};
 ghost use Rattle.ob_ring.specs.FlatTable.{FlatTable, Batch, after};
-ghost use Rattle.ob_ring.specs.Picked.{SameSeals};
+ghost use Rattle.ob_ring.specs.Picked.{SameSeals, batch_picked};
 ghost use Rattle.ob_ring.specs.Ring.{IsBatch, StandsFor};
 ghost use Rattle.ob_recover.specs.Shows.{ArePlaced, placed_notes};
-ghost use Rattle.ob_recover.specs.Repeats.{record_places, asked_of_record, record_of, repeated_notes, batch_cells, BatchAnswers, BatchTells, IsRepeatFault, JobsAnswer, HaveKeysOf};
+ghost use Rattle.ob_recover.specs.Repeats.{record_places, asked_of_record, record_of, repeated_notes, batch_cells, BatchAnswers, BatchTells, IsRepeatFault, JobsAnswer, HaveKeysOf, RowsJoin};
 
 use crate::showing::show_batch;
 use ob_base::{Fault, Jobs, Key};
@@ -37,6 +37,8 @@ fn read_jobs<S: Store, W: Watch>(
     ensures faults { IfErr result IsRepeatFault }
     ensures rest { jobs.new ≡ record jobs.old { jobs = jobs.new.jobs } }
     ensures keys { HaveKeysOf jobs.old.jobs jobs.new.jobs }
+    ensures filled { OnOk result ((plain : ℕ → List ℕ)
+        × AreFilled jobs.old.jobs jobs.new.jobs plain) }
     ensures crew { crew.new ≡ crew.old }
     ensures keeps { Keeps (S.disk store.old) (S.disk store.new) }
     ensures passes { Passes Same (S.disk store.old) (S.disk store.new) }
@@ -136,6 +138,11 @@ pub fn read_batch<S: Store, W: Watch>(
         → BatchAnswers sealer.now.keys ring.old.p start.versions (S.disk store.old).cells t
         (record_of batch number generation first asks.now words.now) ring.old.stash.rows
         ring.new.stash.rows result }
+    // Whatever the store tells, the stash has the rows of jobs that were read.
+    ensures joins { (batch number : ℕ) (t : FlatTable) → StandsFor ring.old t
+        → OnOk result (RowsJoin (batch_picked ring.old.p t (asked_of_record ring.old.p
+        (record_of batch number generation first asks.now words.now))) ring.old.stash.rows
+        ring.new.stash.rows) }
     ensures told { (batch number : ℕ) (start : Buckets) (t : FlatTable)
         → SameSeals start ring.old.metas → StandsFor ring.old t
         → BatchTells crew.old.lanes (batch_cells ring.old.p start.versions t

@@ -1,6 +1,6 @@
 //! Repeating the read batches of the log.
 
-ghost use Rattle.std.specs.Prelude.{◌≡◌, ◌≤◌, ℕ, [], IfErr};
+ghost use Rattle.std.specs.Prelude.{◌≡◌, ◌≤◌, ℕ, [], IfErr, OnOk};
 ghost use Rattle.ob_base.specs.Planned.{most_jobs};
 ghost use Rattle.ob_store.specs.Images.{Same, Passes};
 ghost use Rattle.ob_store.specs.Calls.{Serves, IsStoreFault, Keeps};
@@ -9,9 +9,9 @@ ghost use Rattle.ob_log.specs.Logs.{RecordFits};
 ghost use Rattle.ob_bucket.specs.Buckets.{Buckets};
 ghost use Rattle.ob_ring.specs.Fetching.{after_labels};
 ghost use Rattle.ob_ring.specs.FlatTable.{FlatTable, Batch, after};
-ghost use Rattle.ob_ring.specs.Picked.{SameSeals};
+ghost use Rattle.ob_ring.specs.Picked.{SameSeals, batch_picked};
 ghost use Rattle.ob_ring.specs.Ring.{StandsFor};
-ghost use Rattle.ob_recover.specs.Repeats.{record_places, asked_of_record, repeated_notes, batch_cells, BatchAnswers, BatchTells, IsRepeatFault};
+ghost use Rattle.ob_recover.specs.Repeats.{record_places, asked_of_record, repeated_notes, batch_cells, BatchAnswers, BatchTells, IsRepeatFault, RowsJoin};
 
 use crate::reading::read_batch;
 use ob_base::{Fault, Jobs};
@@ -57,6 +57,10 @@ pub fn repeat_batch<S: Store, W: Watch>(
         → StandsFor ring.old t → (S.disk store.old).tells
         → BatchAnswers sealer.now.keys ring.old.p start.versions (S.disk store.old).cells t
         logged.now ring.old.stash.rows ring.new.stash.rows result }
+    // Whatever the store tells, the stash has the rows of jobs that were read.
+    ensures joins { (t : FlatTable) → StandsFor ring.old t
+        → OnOk result (RowsJoin (batch_picked ring.old.p t (asked_of_record ring.old.p logged.now))
+        ring.old.stash.rows ring.new.stash.rows) }
     ensures told { (start : Buckets) (t : FlatTable) → SameSeals start ring.old.metas
         → StandsFor ring.old t
         → BatchTells crew.old.lanes

@@ -9,7 +9,7 @@ ghost use Rattle.ob_epoch.specs.Table.{flat_of};
 ghost use Rattle.ob_log.specs.Logs.{RecordsFit};
 ghost use Rattle.ob_ring.specs.Ring.{StandsFor};
 ghost use Rattle.ob_stand.specs.Stands.{RingStanding, Stands};
-ghost use Rattle.ob_recover.specs.Finds.{ObeysFound, IsFoundOf};
+ghost use Rattle.ob_recover.specs.Finds.{KeepsWhatStood, ObeysFound};
 ghost use Rattle.ob_recover.specs.Repeats.{HasRepeated, IsReplayed, IsReplayOf, IsRepeatFault, RepeatDoes, RepeatsAnswer, ReplaysStanding, content_of_ring};
 
 use crate::found::Found;
@@ -86,9 +86,10 @@ pub fn replay<S: Store, W: Watch>(
         → IsReplayOf sealer.now.keys p.now (S.disk store.old).cells found result }
     ensures faults { IfErr result IsRepeatFault }
     ensures replayed { IfOk result (λ r. IsReplayed p.now found r.0 r.1) }
-    // Where the store stands, the planner has its map, and nothing is damaged.
+    // Where the store stands for what was found, at whatever generation, the planner has its map, and
+    // nothing is damaged.
     ensures stands { (s : RingStanding) → (S.disk store.old).tells
-        → Stands sealer.now.keys p.now s (S.disk store.old).cells → IsFoundOf s found
+        → Stands sealer.now.keys p.now s (S.disk store.old).cells → KeepsWhatStood s found
         → ReplaysStanding sealer.now.keys p.now (S.disk store.old).cells s result }
     ensures keeps { Keeps (S.disk store.old) (S.disk store.new) }
     ensures passes { Passes Same (S.disk store.old) (S.disk store.new) }

@@ -6,5 +6,6 @@ pub mod Opening
 pub mod Batch
 pub mod Ending
 pub mod Telling
+pub mod Tree
 pub mod Living
 pub mod Sampling

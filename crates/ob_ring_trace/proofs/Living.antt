@@ -20,6 +20,7 @@ use Rattle.ob_tables.specs.Kept.{entry_at}
 use Rattle.ob_tables.specs.declared.entry.Entry.{Entry}
 use Rattle.ob_ring_trace.specs.Known.{AreSlotsOf, fills_of, fills_with_lifts, leaves_of_records, picks_of_records, slot_kept}
 use Rattle.ob_ring_trace.specs.Lives.{AreWordsOf, LivesShowFills, life_batch, word_kept}
+use Rattle.ob_ring_trace.proofs.Tree.{lifts_in_tree, records_in_tree}
 use Rattle.ob_ring_trace.proofs.Fills.{fills_own, items_of, lifts_own}
 use Rattle.ob_ring_trace.proofs.Opening.{AreWide, asked_long, leaves_long, wide_of}
 
@@ -100,11 +101,11 @@ filled_leaves p c rs b wide lt =
 -- ---- slots
 
 -- what a list of picks shows has the slots that fill its holes
-filled_slots : (e : ℕ) (c : LifeContent) (k : Content) (shown : List Shown) (fills : Fills) → ((u j : ℕ) → c.slot u j ≡ slot_kept k u j) → AreSlotsOf k shown fills → (f : SlotFill) → Has (slots_of e c shown) f → f.slot ≡ fills.slot (record { bucket = f.bucket; number = f.number })
+filled_slots : (e : ℕ) (c : LifeContent) (k : Content) (shown : List Shown) (fills : Fills) → ((s : Shown) → Has shown s → c.slot s.bucket s.index ≡ slot_kept k s.bucket s.index) → AreSlotsOf k shown fills → (f : SlotFill) → Has (slots_of e c shown) f → f.slot ≡ fills.slot (record { bucket = f.bucket; number = f.number })
 filled_slots e c k [] fills slots own f has = absurd has
 filled_slots e c k (s ∷ ss) fills slots own f (inl is) =
-    subst (λ (x : SlotFill). x.slot ≡ fills.slot (record { bucket = x.bucket; number = x.number })) is (slots s.bucket s.index ∙ sym (own s (inl refl)))
-filled_slots e c k (s ∷ ss) fills slots own f (inr has) = filled_slots e c k ss fills slots (λ x h. own x (inr h)) f has
+    subst (λ (x : SlotFill). x.slot ≡ fills.slot (record { bucket = x.bucket; number = x.number })) is (slots s (inl refl) ∙ sym (own s (inl refl)))
+filled_slots e c k (s ∷ ss) fills slots own f (inr has) = filled_slots e c k ss fills (λ x h. slots x (inr h)) (λ x h. own x (inr h)) f has
 
 -- ---- a content's book
 
@@ -122,8 +123,8 @@ lives_show_fills p word_of c rs s obeys fit life =
       table = table;
       labels = λ b lt. ap (λ log. map (λ l. leaf_of_word p word_of l.word) (phase_labels p word_of e 0 (s.content).book log b)) life.log
           ∙ labels_agree p word_of e 0 (flat_of p c) (s.content).book rs b life.words book ∙ sym (filled_leaves p c rs b (wide_of p rs fit) lt);
-      slots = λ f has. filled_slots e s.content c (picks_of_records p (flat_of p c) rs) (fills_of p c rs) life.slots (fills_own p c rs obeys).slots f
+      slots = λ f has. filled_slots e s.content c (picks_of_records p (flat_of p c) rs) (fills_of p c rs) (λ x h. (let low = records_in_tree p c rs obeys x h in life.slots x.bucket x.index low.0 low.1)) (fills_own p c rs obeys).slots f
           (subst (λ (fs : List SlotFill). Has fs f) ((λ i. log_slots p word_of e s.content (life.table i) (life.log i)) ∙ slots_agree p word_of e s.content (flat_of p c) rs life.words) has);
-      lifts = λ f has. filled_slots e s.content c (picks p (table_after_records p (flat_of p c) rs) FinalLifts) (fills_with_lifts p c rs) life.slots (lifts_own p c rs obeys) f
+      lifts = λ f has. filled_slots e s.content c (picks p (table_after_records p (flat_of p c) rs) FinalLifts) (fills_with_lifts p c rs) (λ x h. (let low = lifts_in_tree p c rs obeys x h in life.slots x.bucket x.index low.0 low.1)) (lifts_own p c rs obeys) f
           (subst (λ (fs : List SlotFill). Has fs f) (ap (λ (t : FlatTable). lift_slots p word_of e s.content t) table) has);
     }

@@ -2,6 +2,7 @@
 use Rattle.std.specs.Prelude.{◌≡◌, ℕ, ◌+◌, ◌<◌, List, map, length, slice_index, Option, Some, None}
 use Rattle.ob_base.specs.Repeats.{Has}
 use Rattle.ob_base.specs.declared.params.Params.{Params}
+use Rattle.ob_base.specs.Tree.{buckets, width}
 use Rattle.ob_content.specs.Content.{Content, Obeys}
 use Rattle.ob_epoch.specs.Table.{flat_of}
 use Rattle.ob_life.specs.Life.{LifeBatch, LifeState, SlotFill, WordId, leaf_of_word, lift_slots, log_slots, phase_labels, table_now}
@@ -31,7 +32,7 @@ AreWordsOf word_of r = (i : ℕ) → i < length r.asks → word_of (record { gen
 -- content keeps.
 pub record IsLifeAt (p : Params) (word_of : WordId → ℕ) (c : Content) (rs : List BatchRecord) (s : LifeState) : Type 0 where
   pub table : (s.content).table ≡ flat_of p c
-  pub slots : (u j : ℕ) → (s.content).slot u j ≡ slot_kept c u j
+  pub slots : (u j : ℕ) → u < buckets p → j < width p → (s.content).slot u j ≡ slot_kept c u j
   pub book : (k : ℕ) → (s.content).book k ≡ word_kept (entry_at c.book k)
   pub kept : (k : ℕ) (e : Entry) → entry_at c.book k ≡ Some e → e.leaf ≡ leaf_of_word p word_of (record { generation = e.generation; place = e.index })
   pub log : s.log ≡ map life_batch rs

@@ -2,8 +2,10 @@ pub mod OrderLaws
 pub mod EpochLaws
 pub mod DrawLaws
 pub mod FirstLaws
+pub mod FirstLives
 pub mod Movings
 pub mod OpenedLaws
+pub mod ActLaws
 pub mod FaultLaws
 pub mod StoodLaws
 pub mod WholeLaws

@@ -1,5 +1,5 @@
 -- A whole opening, by what is known behind what was found.
-use Rattle.std.proofs.Common.{◌≡◌, ◌⊎◌, inl, inr, ⊎_elim, ℕ, suc, List, Result, Ok, Err, OnOk, OnErr, IfOk, sym, ◌∙◌, ap, subst}
+use Rattle.std.proofs.Common.{◌≡◌, ◌⊎◌, inl, inr, ⊎_elim, ℕ, suc, List, Result, Ok, Err, OnOk, OnErr, IfErr, IfOk, sym, ◌∙◌, ap, subst}
 use mathlib.Core.Path.{fun_ext}
 use Rattle.ob_base.specs.declared.params.Params.{Params}
 use Rattle.ob_base.specs.declared.fault.Fault.{Fault}
@@ -21,7 +21,7 @@ use Rattle.ob_start.specs.Registers.{HaveOpen}
 use Rattle.ob_ring_trace.proofs.Opening.{openings_are_scheduled}
 use Rattle.ob_twin.specs.declared.gates.Gates.{Gates}
 use Rattle.ob_vault.specs.declared.opening.Opening.{Opening}
-use Rattle.ob_vault.specs.OpeningParts.{FoundDoes}
+use Rattle.ob_vault.specs.OpeningParts.{FoundDoes, FoundRefused}
 use Rattle.ob_vault.specs.OpeningRuns.{BeginsAt, FollowsSchedule, IsAtStart, IsRingOpened, OpeningLeaves, RepeatsBehind, StartsTape, begun_notes, next_notes}
 use Rattle.ob_vault.specs.Openings.{IsOpeningOf, IsToldOpening}
 use Rattle.ob_vault.proofs.OpenedLaws.{begins_behind, opens_behind, register_same, repeats_behind}
@@ -74,10 +74,10 @@ module _ {S : Type 0} (disk : S → Disk) (keys : Keys) (p : Params) (old mid ne
     all_opened (Err f) opening lanes told stood begins does gates = tt
 
     pub all_tapes : {T L : Type 0} (present : ℕ) (drawn : List ℕ) (tape new_tape : T) (r : Result (Opening L) Fault)
-        → OnErr r ((new_tape ≡ tape) ⊎ (BeginsAt disk keys (next_notes found) found.generation mid new × IsAtStart present drawn (suc found.generation)))
+        → IfErr r (FoundRefused disk keys most p found mid new tape new_tape present drawn between after)
         → OnErr r ((new_tape ≡ tape) ⊎ StartsTape disk keys p old new present drawn)
     all_tapes present drawn tape new_tape (Ok o) either = tt
-    all_tapes present drawn tape new_tape (Err f) either = ⊎_elim (λ same. inl same) (λ both. inr (record { found = found; found_in = is; begins = behind both.0; tape = both.1 })) either
+    all_tapes present drawn tape new_tape (Err f) either = ⊎_elim (λ same. inl same.0) (λ begun. inr (record { found = found; found_in = is; begins = behind begun.begins; tape = begun.tape })) either
 
 -- the tape of an opening
 pub tape_of : {L : Type 0} (keys : Keys) (p : Params) (found : Found) (present : ℕ) (drawn : List ℕ) (r : Result (Opening L) Fault) → IfOk r (IsOpeningOf keys p found) → OnOk r (IsAtStart present drawn (suc found.generation))

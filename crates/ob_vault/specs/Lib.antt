@@ -1,4 +1,5 @@
 pub mod Formats
+pub mod OpeningActs
 pub mod OpeningParts
 pub mod OpeningRuns
 pub mod Openings

@@ -1,20 +1,21 @@
 -- Private: the parts of an opening.
-use Rattle.std.specs.Prelude.{◌≡◌, ◌<◌, ℕ, suc, ◌*◌, ◌^◌, List, length, Option, None, Result, Ok, Err}
+use Rattle.std.specs.Prelude.{◌≡◌, ◌⊎◌, ◌<◌, ℕ, suc, ◌*◌, ◌^◌, List, length, Option, None, Result, Ok, Err}
 use Rattle.ob_base.specs.declared.params.Params.{Params}
 use Rattle.ob_base.specs.declared.fault.Fault.{Fault}
 use Rattle.ob_base.specs.declared.fault.Fault.TheVariants as fault
 use Rattle.ob_base.specs.Layout.{checkpoint_cells}
 use Rattle.ob_base.specs.Planned.{most_jobs}
 use Rattle.ob_store.specs.declared.event.Event.{Event}
-use Rattle.ob_store.specs.Disk.{Image}
+use Rattle.ob_store.specs.Disk.{Disk, Image}
 use Rattle.ob_store.specs.Lines.{Trace}
+use Rattle.ob_store.specs.Told.{TellsFirst}
 use Rattle.ob_seal.specs.declared.keys.Keys.{Keys}
 use Rattle.ob_content.specs.Content.{content_of}
 use Rattle.ob_recover.specs.declared.found.Found.{Found}
 use Rattle.ob_recover.specs.Repeats.{IsRepeatDamage}
 use Rattle.ob_vault.specs.declared.opening.Opening.{Opening}
 use Rattle.ob_vault.specs.declared.rooms.Rooms.{Rooms}
-use Rattle.ob_vault.specs.OpeningRuns.{BeginsFirst, RepeatsBehind, next_notes}
+use Rattle.ob_vault.specs.OpeningRuns.{BeginsAt, BeginsFirst, IsAtStart, OpensFrom, RepeatsBehind, next_notes}
 use Rattle.ob_vault.specs.Openings.{words_room}
 
 -- there is room for all that an opened vault works in
@@ -43,3 +44,15 @@ IsFoundRefusal keys p image found _ = ⊥
 abbrev pub FoundDoes : {L : Type 0} → ℕ → Params → Found → Option (List Event) → Option (List Event) → Trace → Trace → Result (Opening L) Fault → Type 0
 FoundDoes most p found old new before after (Ok o) = RepeatsBehind {T = Unit {0}} (next_notes found) most p found old new before after (Ok tt)
 FoundDoes most p found old new before after (Err fault) = BeginsFirst (next_notes found) most p found old new before after fault
+
+-- the next generation began, whatever of the batches was repeated behind it
+pub record HasBegunAnew {S : Type 0} (disk : S → Disk) (keys : Keys) (most : ℕ) (p : Params) (found : Found) (old new : S) (present : ℕ) (drawn : List ℕ) (before after : Trace) (refused : Fault) : Type 0 where
+  pub begins : BeginsAt disk keys (next_notes found) found.generation old new
+  pub opens : OpensFrom disk keys p old new
+  pub tape : IsAtStart present drawn (suc found.generation)
+  pub repeats : RepeatsBehind {T = Unit {0}} (next_notes found) most p found (disk old).seen (disk new).seen before after (Err refused)
+
+-- what was refused behind what was found didn't begin the generation, or did
+abbrev pub FoundRefused : {S T : Type 0} → (S → Disk) → Keys → ℕ → Params → Found → S → S → T → T → ℕ → List ℕ → Trace → Trace → Fault → Type 0
+FoundRefused disk keys most p found old new tape_old tape_new present drawn before after refused =
+    ((tape_new ≡ tape_old) × TellsFirst (next_notes found) (disk old).seen (disk new).seen before after) ⊎ HasBegunAnew disk keys most p found old new present drawn before after refused

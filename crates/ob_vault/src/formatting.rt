@@ -11,12 +11,15 @@ ghost use Rattle.ob_store.specs.Told.{Does};
 ghost use Rattle.ob_check.specs.Written as check;
 ghost use Rattle.ob_content.specs.Content.{Obeys, content_of};
 ghost use Rattle.ob_schedule.specs.Schedule.{format_notes};
+ghost use Rattle.ob_life.specs.Life.{WordId, formatted_life};
+ghost use Rattle.ob_stand.specs.Fresh.{fresh_content};
+ghost use Rattle.ob_vault.specs.OpeningActs.{AreSlotsIn, StandsInLife};
 ghost use Rattle.ob_start.specs.Laying.{SameHead};
 ghost use Rattle.ob_stand.specs.Stands.{Stands};
 ghost use Rattle.ob_twin.specs.Keyed.{tagging};
 ghost use Rattle.ob_twin.specs.Reading.{NoneOpen};
 ghost use Rattle.ob_twin.specs.Register.{StandsAt};
-ghost use Rattle.ob_vault.specs.Formats.{BeginsFirst, IsBlankTables, HasBlankSlots, IsRingLaid, FormatBegins, RingFormatLeaves, IsFormatFault, all_gates, epoch_notes, format_words, formatted_standing};
+ghost use Rattle.ob_vault.specs.Formats.{BeginsFirst, IsBlankTables, HasBlankSlots, IsRingLaid, FormatBegins, RingFormatLeaves, IsFormatFault, all_gates, drawn_ranks, epoch_notes, format_words, formatted_standing};
 
 use crate::drawing::fill_all;
 use crate::gates::log_gates;
@@ -184,6 +187,12 @@ pub fn format<S: Store, T: Tape, W: Watch>(
     ensures images { (S.disk store.old).tells → OnOk result ((c : Image)
         → (S.disk store.new).may_leave c
         → Stands keys.now p.now (formatted_standing p.now (T.drawn tape.new)) c) }
+    // So each image stands for the life that begins.
+    ensures life { (S.disk store.old).tells
+        → OnOk result ((word_of : WordId → ℕ) (slot : ℕ → ℕ → ℕ) (c : Image)
+        → AreSlotsIn p.now (fresh_content p.now (drawn_ranks p.now (T.drawn tape.new))) slot
+        → (S.disk store.new).may_leave c
+        → StandsInLife keys.now p.now word_of (formatted_life slot) c) }
     ensures durable { (S.disk store.old).tells → OnOk result (IsSynced (S.disk store.new)) }
     // Its seals are the first ones of generation 1: the slots' in rising number, then the
     // checkpoint's.

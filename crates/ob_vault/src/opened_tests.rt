@@ -30,7 +30,7 @@ fn test_keys() -> Keys {
 
 // How an opening is answered.
 #[derive(Clone, Copy, Debug, PartialEq, Eq)]
-enum Told {
+pub enum Told {
     Open {
         generation: u64,
         epoch: u64,
@@ -44,7 +44,7 @@ enum Told {
 }
 
 // Opens a store with a tape of zeros.
-fn open<W: Watch>(rt: &impl Abort, alloc: Global, store: &mut MemStore, watch: &mut W) -> Told
+pub fn open<W: Watch>(rt: &impl Abort, alloc: Global, store: &mut MemStore, watch: &mut W) -> Told
     requires { (disk_of_store store.old).out ≡ 0 }
 {
     let mut tape = ListTape::new(alloc, &[]).expect(rt, "memory");
@@ -64,7 +64,7 @@ fn open<W: Watch>(rt: &impl Abort, alloc: Global, store: &mut MemStore, watch: &
 }
 
 // A new store, where these calls fail: 62 writes and 10 syncs.
-fn new_store(rt: &impl Abort, alloc: Global, fails: &[Fail]) -> MemStore
+pub fn new_store(rt: &impl Abort, alloc: Global, fails: &[Fail]) -> MemStore
     ensures { (disk_of_store result).out ≡ 0 }
 {
     let fails = fails.to_vec(alloc).expect(rt, "memory");
@@ -127,7 +127,7 @@ fn begin_batches(rt: &impl Abort, alloc: Global, store: &mut MemStore, batches: 
 }
 
 // What a crash leaves where the cells that aren't sure hold these bytes, or what they got last.
-fn left_after(
+pub fn left_after(
     rt: &impl Abort,
     store: &MemStore,
     moment: usize,
@@ -181,7 +181,7 @@ fn open_shown(rt: &impl Abort, alloc: Global, store: &mut MemStore, told: Told, 
     compare(rt, alloc, sink.written(), parts);
 }
 
-fn opened(generation: u64, left: u32) -> Told {
+pub fn opened(generation: u64, left: u32) -> Told {
     Told::Open {
         generation,
         epoch: 0,

@@ -1,6 +1,6 @@
 //! Opening a ring store.
 
-ghost use Rattle.std.specs.Prelude.{◌≡◌, ◌⊎◌, ◌≤◌, suc, Err, IfOk, IfErr, OnOk, OnErr};
+ghost use Rattle.std.specs.Prelude.{◌≡◌, ◌⊎◌, ◌≤◌, ℕ, suc, Err, IfOk, IfErr, OnOk, OnErr, Option, is_ok};
 ghost use Rattle.ob_base.specs.declared.fault.Fault.TheVariants as fault;
 ghost use Rattle.ob_store.specs.Calls.{Serves, IsStoreFault, Keeps};
 ghost use Rattle.ob_stand.specs.Stands.{RingStanding, Stands};
@@ -9,8 +9,10 @@ ghost use Rattle.ob_start.specs.Beginning.{IsWornFault};
 ghost use Rattle.ob_store.specs.Images.{Passes, Same};
 ghost use Rattle.ob_twin.specs.Keyed.{tagging};
 ghost use Rattle.ob_twin.specs.Register.{StandsAt};
+ghost use Rattle.ob_life.specs.Life.{LifeAct, LifeState, WordId};
+ghost use Rattle.ob_vault.specs.OpeningActs.{IsLeftAt, OpensInLife};
 ghost use Rattle.ob_vault.specs.Openings.{IsOpeningOf, IsToldOpening, IsOpenFault, IsOpenRefusal, OpensWhatStood};
-ghost use Rattle.ob_vault.specs.OpeningParts.{AreRooms, FoundDoes, IsFoundFault, IsFoundRefusal};
+ghost use Rattle.ob_vault.specs.OpeningParts.{AreRooms, FoundDoes, FoundRefused, IsFoundFault, IsFoundRefusal};
 ghost use Rattle.ob_vault.specs.OpeningRuns.{BeginsAt, IsAtStart, IsRingOpened, OpeningLeaves, RefusedDoes, StartsTape, next_notes};
 
 use crate::opening::Opening;
@@ -57,9 +59,9 @@ fn open_found<S: Store, T: Tape, W: Watch>(
         store.old store.new) }
     ensures tape { OnOk result (IsAtStart (T.present tape.new) (T.drawn tape.new)
         (suc found.generation)) }
-    ensures begins_err { OnErr result ((tape.new ≡ tape.old)
-        ⊎ (BeginsAt S.disk keys.now (next_notes found) found.generation store.old store.new
-        × IsAtStart (T.present tape.new) (T.drawn tape.new) (suc found.generation))) }
+    ensures begins_err { IfErr result (FoundRefused S.disk keys.now rooms.crew.lanes p.now found
+        store.old store.new tape.old tape.new (T.present tape.new) (T.drawn tape.new)
+        (W.trace watch.old) (W.trace watch.new)) }
     ensures untouched { IfErr result (λ refused. IsWornFault refused → (store.new ≡ store.old)
         × (watch.new ≡ watch.old)) }
     ensures does { FoundDoes rooms.crew.lanes p.now found (S.disk store.old).seen
@@ -153,6 +155,14 @@ pub fn prepare<S: Store, T: Tape, W: Watch>(
         × Passes Same (S.disk store.old) (S.disk store.new) }
     ensures does_err { IfErr result (RefusedDoes keys.now lanes p.now (S.disk store.old)
         (S.disk store.new) (W.trace watch.old) (W.trace watch.new)) }
+    // Of a store whose life has reached this state, perhaps with an act in flight, the acts are what
+    // was found of that, the next generation, and a repeat of each batch of the log; the first of
+    // them where it was refused.
+    ensures acts { (word_of : WordId → ℕ) (s : LifeState) (pending : Option LifeAct)
+        → (S.disk store.old).tells
+        → IsLeftAt keys.now p.now word_of s pending (S.disk store.old).cells
+        → OpensInLife keys.now lanes p.now word_of s pending (S.disk store.old)
+        (S.disk store.new) (W.trace watch.old) (W.trace watch.new) (is_ok result) }
 {
     let mut rooms: Rooms<S::Lane> = match rooms_for(alloc, p, lanes) {
         Ok(rooms) => rooms,

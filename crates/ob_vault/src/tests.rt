@@ -3,6 +3,7 @@
 ghost use Rattle.std.specs.Prelude.{◌≡◌};
 
 use crate::format;
+use crate::opened_tests::{left_after, new_store, open, opened};
 use ob_base::{Fault, Params, ring_cells};
 use ob_cells::read_cells;
 use ob_mem::{Fail, MemSink, MemStore};
@@ -100,4 +101,35 @@ fn each_refused_call_is_the_stores(rt: HostRuntime) {
     }
     assert!(rt; format_with(&rt, alloc, Fail::Write(62)).is_ok());
     assert!(rt; format_with(&rt, alloc, Fail::Sync(10)).is_ok());
+}
+
+// The moments of two formats, one behind the other, after which a store stands, where the cells that
+// aren't sure hold these bytes, or what they got last. Each has 72 writes and syncs: the first makes
+// the head zeros, and the last but one writes it.
+const STANDING: [(Option<[u8; 128]>, &[usize]); 3] = [
+    (None, &[71, 72, 143, 144]),
+    (Some([0; 128]), &[72, 144]),
+    (Some([0xA5; 128]), &[72, 144]),
+];
+
+#[test]
+fn a_format_may_crash_at_any_moment(rt: HostRuntime) {
+    let alloc = rt.alloc();
+    let keys = Keys::from_bytes(&key_bytes());
+    let p = small_store(&rt);
+    let mut store = new_store(&rt, alloc, &[]);
+    let mut tape = ListTape::new(alloc, &[]).expect(&rt, "memory");
+    assert!(rt; format(alloc, &mut store, &mut tape, &keys, &p, &mut Blind).is_ok());
+    for (filling, standing) in STANDING {
+        for moment in 0..145 {
+            let mut left = left_after(&rt, &store, moment, filling);
+            let told = head(&mut left, &keys, &mut Blind);
+            if standing.contains(&moment) {
+                assert_eq!(rt; told.ok(), Some(p));
+                assert_eq!(rt; open(&rt, alloc, &mut left, &mut Blind), opened(2, 2));
+            } else {
+                assert_eq!(rt; told.err(), Some(Fault::NotStore));
+            }
+        }
+    }
 }

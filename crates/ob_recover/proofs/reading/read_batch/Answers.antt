@@ -2,12 +2,13 @@ use Rattle.std.proofs.Common.{◌<◌, Ok, Err, ◌∙◌, ap, arith, subst, sym
 use Rattle.std.specs.Prelude.{IfSome}
 use Rattle.ob_base.specs.declared.fault.Fault.{Fault}
 use Rattle.ob_base.specs.Planned.{job_at}
+use Rattle.ob_ring.specs.Picked.{batch_picked}
 use Rattle.ob_ring.specs.Ring.{Kept}
 use Rattle.ob_tables.specs.Kept.{entry_at}
 use Rattle.ob_ring.specs.Settling.{rows_after}
 use Rattle.ob_recover.specs.Repeats.{BatchAnswers, BatchTells, asked_of_record, batch_cells, repeated_notes}
 use Rattle.ob_recover.proofs.ShowLaws.{are_placed}
-use Rattle.ob_recover.proofs.BatchLaws.{batch_few, batch_tells, keys_low, not_settled, settled_badly, settled_well, stands_kept}
+use Rattle.ob_recover.proofs.BatchLaws.{batch_few, batch_tells, keys_low, not_settled, rows_join, settled_badly, settled_well, stands_kept}
 use Rattle.ob_recover.specs.Repeats.{record_of}
 use Rattle.ob_recover.proofs.reading.read_batch.Goals as goal
 
@@ -53,6 +54,16 @@ returns-in-Ok-settle-clause-value g c = λ batch number start t seals stands tel
     let settled = c.in-Ok-settle.ensures.settled in
     settled_well c.args.sealer.now.keys (g.S.Store.disk c.args.store.now).cells c.args.ring.now c.plan.new.ring r c.plan.new.jobs jobs start t seals
     (c.plan.ensures.planned batch number t stands) c.args.ring.now.stash.rows c.settle.new.self.stash.rows (c.in-Ok.ensures.value tells) settled.0
+    (settled.1 ∙ ap (λ (r : Kept). rows_after (r.stash).rows jobs) c.plan.ensures.kept)
+
+pub returns-in-Ok-settle-clause-joins : goal.returns-in-Ok-settle-clause-joins
+returns-in-Ok-settle-clause-joins g c = λ batch number t stands.
+    let ring = c.args.ring.now in
+    let r = record_of batch number c.args.generation c.args.first c.args.asks.now c.args.words.now in
+    let jobs = c.read_jobs.new.jobs.jobs in
+    let filled = c.in-Ok.ensures.filled in
+    let settled = c.in-Ok-settle.ensures.settled in
+    rows_join ring.p ring.metas.versions (batch_picked ring.p t (asked_of_record ring.p r)) c.plan.new.jobs.jobs jobs filled.0 ring.stash.rows c.settle.new.self.stash.rows (c.plan.ensures.planned batch number t stands).jobs filled.1 settled.0
     (settled.1 ∙ ap (λ (r : Kept). rows_after (r.stash).rows jobs) c.plan.ensures.kept)
 
 pub returns-in-Ok-settle-clause-told : goal.returns-in-Ok-settle-clause-told

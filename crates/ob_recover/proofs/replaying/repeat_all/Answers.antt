@@ -32,6 +32,7 @@ returns-in-Err-clause-value g c = λ tells.
       seals = e.seals;
       table = e.table;
       value = e.value;
+      joins = e.joins;
       told = λ start t seals stands. told_by (ap (λ (m : Manned). m.lanes) inv.crew) _ _ _ _ _ _ (Err c.in-Err.fault) (e.told start t seals stands);
     } in
     refused_value c.args.sealer.now.keys o c.args.crew.now.lanes c.args.records.now c.loop-i.i c.loop-i-test.true (g.S.Store.disk c.args.store.now) (g.S.Store.disk c.loop-i.store) (g.S.Store.disk c.repeat_batch.new.store)
@@ -52,6 +53,7 @@ returns-in-Err-clause-does g c =
       seals = e.seals;
       table = e.table;
       value = e.value;
+      joins = e.joins;
       told = λ start t seals stands. told_by (ap (λ (m : Manned). m.lanes) inv.crew) _ _ _ _ _ _ (Err c.in-Err.fault) (e.told start t seals stands);
     } in
     refused_does c.args.sealer.now.keys o c.args.crew.now.lanes c.args.records.now c.loop-i.i c.loop-i-test.true (g.S.Store.disk c.args.store.now) (g.S.Store.disk c.loop-i.store) (g.S.Store.disk c.repeat_batch.new.store)
@@ -75,6 +77,7 @@ loop-i-preserved g c =
       seals = e.seals;
       table = e.table;
       value = e.value;
+      joins = e.joins;
       told = λ start t seals stands. told_by (ap (λ (m : Manned). m.lanes) inv.crew) _ _ _ _ _ _ (Ok tt) (e.told start t seals stands);
     } in
     record {

@@ -39,6 +39,9 @@ returns-in-Err-clause-leaves g c =
 pub returns-in-Err-clause-does : goal.returns-in-Err-clause-does
 returns-in-Err-clause-does g c = inl c.in-Err.ensures.does.first
 
+pub returns-in-Err-clause-begins_err : goal.returns-in-Err-clause-begins_err
+returns-in-Err-clause-begins_err g c = inl (refl, c.in-Err.ensures.does.first)
+
 -- ---- a batch wasn't repeated
 
 pub returns-in-Err-replay-clause-faults : goal.returns-in-Err-replay-clause-faults
@@ -85,10 +88,22 @@ returns-in-Err-replay-clause-begins_err g c =
     let kept : (g.S.Store.disk old).tells → StandsAt (tagging keys) 1 (g.S.Store.disk old).cells found.generation → KeepsAt (tagging keys) 1 (g.S.Store.disk old).cells (suc found.generation) (g.S.Store.disk mid).cells =
     λ tells stands. subst (λ (s : Sealing). KeepsAt (tagging s.keys) 1 (g.S.Store.disk old).cells (suc found.generation) (g.S.Store.disk mid).cells) c.new-known.ensures
     (c.in-Ok.ensures.stands tells (subst (λ (s : Sealing). StandsAt (tagging s.keys) 1 (g.S.Store.disk old).cells found.generation) (sym c.new-known.ensures) stands)) in
-    inr (
-      begins_then g.S.Store.disk keys p (next_notes found) found.generation old mid new c.in-Ok.ensures.durable kept c.in-Ok.ensures.does.all.seen c.in-Err-replay.ensures.serves.goes c.in-Err-replay.ensures.keeps c.in-Err-replay.ensures.passes,
-      record { present_is = c.start.ensures.in_force ∙ c.in-Ok.ensures.next.0; none_drawn = c.start.ensures.none_drawn },
-    )
+    let number : (h : ℕ) → (g.S.Store.disk old).tells → StandsAt (tagging keys) 1 (g.S.Store.disk old).cells h → found.generation ≡ h = λ h tells stands. generation_is keys p (g.S.Store.disk old).cells found h (c.requires.gates tells) stands in
+    let begun = subst (λ (s : Sealing). BeginsFrom g.S.Store.disk s.keys found.generation old mid) c.new-known.ensures c.in-Ok.ensures.leaves in
+    inr (record {
+      begins = begins_then g.S.Store.disk keys p (next_notes found) found.generation old mid new c.in-Ok.ensures.durable kept c.in-Ok.ensures.does.all.seen c.in-Err-replay.ensures.serves.goes c.in-Err-replay.ensures.keeps c.in-Err-replay.ensures.passes;
+      opens = opens_then g.S.Store.disk keys p old mid new (begun_opens g.S.Store.disk keys p found.generation old mid number begun) (g.met.S.Store.only_now mid) c.in-Err-replay.ensures.passes c.in-Ok.ensures.durable
+          (λ h tells stands.
+          let at = number h tells stands in
+          subst (λ n. KeepsAt (tagging keys) 1 (g.S.Store.disk old).cells (suc n) (g.S.Store.disk mid).cells) at (kept tells (subst (λ n. StandsAt (tagging keys) 1 (g.S.Store.disk old).cells n) (sym at) stands)));
+      tape = record { present_is = c.start.ensures.in_force ∙ c.in-Ok.ensures.next.0; none_drawn = c.start.ensures.none_drawn };
+      repeats = record {
+        seen = (g.S.Store.disk mid).seen;
+        shown = g.W.Watch.trace c.begin.new.watch;
+        begun = c.in-Ok.ensures.does.all;
+        repeats = c.in-Err-replay.ensures.does;
+      };
+    })
 
 pub returns-in-Err-replay-clause-serves : goal.returns-in-Err-replay-clause-serves
 returns-in-Err-replay-clause-serves g c =
@@ -168,6 +183,7 @@ returns-clause-is g c =
       epoch = refl;
       left = replayed.left_are;
       planner = planner_of c.args.p.now c.args.found c.in-Ok-replay.replayed.0 c.in-Ok-replay.replayed.1 c.requires.obeys replayed;
+      joins = replayed.repeated.joins;
     }
 
 pub returns-clause-told : goal.returns-clause-told

@@ -1,5 +1,5 @@
 use Rattle.std.proofs.Common.{inl, refl, sym, ap, subst}
-use Rattle.std.specs.Prelude.{IfErr, IfOk}
+use Rattle.std.specs.Prelude.{IfErr, IfOk, is_ok}
 use mathlib.Core.Path.{fun_ext}
 use Rattle.ob_store.specs.Disk.{Image}
 use Rattle.ob_store.specs.Images.{Same}
@@ -10,11 +10,15 @@ use Rattle.ob_store.proofs.Moments.{passed_none}
 use Rattle.ob_store.proofs.Serving.{serves_then}
 use Rattle.ob_batch.specs.Jobs.{Manned}
 use Rattle.ob_start.specs.Orders.{registers_notes}
+use Rattle.ob_recover.specs.Finds.{IsFoundOf}
+use Rattle.ob_stand.specs.Stands.{RingStanding, Stands}
 use Rattle.ob_stand.proofs.Frames.{stands_all}
 use Rattle.ob_twin.specs.Keyed.{tagging}
 use Rattle.ob_twin.specs.Register.{StandsAt}
 use Rattle.ob_vault.specs.OpeningParts.{IsFoundRefusal}
 use Rattle.ob_vault.specs.OpeningRuns.{IsRingOpened, RefusedDoes}
+use Rattle.ob_vault.specs.OpeningActs.{OpensInLife}
+use Rattle.ob_vault.proofs.ActLaws.{all_acts, found_acts, opens_nothing, reads_told}
 use Rattle.ob_vault.proofs.FaultLaws.{all_does, all_faults, all_refusals, find_does, find_fault, find_refusal, find_standing, not_memory}
 use Rattle.ob_vault.proofs.OpenedLaws.{found_same}
 use Rattle.ob_vault.proofs.StoodLaws.{all_standing}
@@ -31,6 +35,13 @@ returns-in-Err-clause-memory g c = λ is. (refl, record { tells = λ tells. tell
 
 pub returns-in-Err-clause-does_err : goal.returns-in-Err-clause-does_err
 returns-in-Err-clause-does_err g c = inl (first_none registers_notes _ _ _ (none_noted (g.S.Store.disk c.args.store.now).seen))
+
+pub returns-in-Err-clause-acts : goal.returns-in-Err-clause-acts
+returns-in-Err-clause-acts g c = λ word_of s pending tells left.
+    let disk = g.S.Store.disk c.args.store.now in
+    let trace = g.W.Watch.trace c.args.watch.now in
+    opens_nothing c.args.keys.now c.args.lanes c.args.p.now word_of s pending disk disk trace trace left.allowed (found_acts c.args.keys.now c.args.p.now word_of s pending disk.cells left) (passed_none disk Same (λ image. refl))
+    (λ gates are shown known. first_none _ disk.seen disk.seen trace (none_noted disk.seen))
 
 -- ---- not all was found
 
@@ -55,6 +66,18 @@ pub returns-in-Err-find-clause-does_err : goal.returns-in-Err-find-clause-does_e
 returns-in-Err-find-clause-does_err g c =
     find_does c.args.keys.now c.args.lanes c.args.p.now (g.S.Store.disk c.args.store.now) (g.S.Store.disk c.find.new.store) (g.W.Watch.trace c.args.watch.now) (g.W.Watch.trace c.find.new.watch) c.in-Err-find.fault
     c.in-Err-find.ensures.faults c.in-Err-find.ensures.does
+
+pub returns-in-Err-find-clause-acts : goal.returns-in-Err-find-clause-acts
+returns-in-Err-find-clause-acts g c = λ word_of s pending tells left.
+    let keys = c.args.keys.now in
+    let p = c.args.p.now in
+    let old = g.S.Store.disk c.args.store.now in
+    let new = g.S.Store.disk c.find.new.store in
+    let before = g.W.Watch.trace c.args.watch.now in
+    let after = g.W.Watch.trace c.find.new.watch in
+    let f = found_acts keys p word_of s pending old.cells left in
+    opens_nothing keys c.args.lanes p word_of s pending old new before after left.allowed f c.in-Err-find.ensures.passes
+    (λ gates are shown known. reads_told keys p f.here.standing old new before after c.in-Err-find.fault tells f.here.stands c.in-Err-find.ensures.does gates _ shown known)
 
 -- ---- all was found
 
@@ -114,7 +137,7 @@ returns-clause-tape g c =
 
 pub returns-clause-tape_err : goal.returns-clause-tape_err
 returns-clause-tape_err g c =
-    all_tapes g.S.Store.disk c.args.keys.now c.args.p.now c.args.store.now c.find.new.store c.open_found.new.store c.in-Ok-find.ensures.keeps c.in-Ok-find.ensures.passes c.args.lanes c.in-Ok-find.found
+    all_tapes g.S.Store.disk c.args.keys.now c.args.p.now c.args.store.now c.find.new.store c.open_found.new.store c.in-Ok-find.ensures.keeps c.in-Ok-find.ensures.passes c.in-Ok.rooms.crew.lanes c.in-Ok-find.found
     (g.W.Watch.trace c.args.watch.now) (g.W.Watch.trace c.find.new.watch) (g.W.Watch.trace c.open_found.new.watch) c.in-Ok-find.ensures.does c.in-Ok-find.ensures.value
     (g.T.Tape.present c.open_found.new.tape) (g.T.Tape.drawn c.open_found.new.tape) c.args.tape.now c.open_found.new.tape c.open_found.result c.open_found.ensures.begins_err
 
@@ -127,3 +150,29 @@ returns-clause-does_err g c =
     (ap (λ (m : Manned). m.lanes) c.in-Ok.ensures.crew)
     (all_does g.S.Store.disk g.W.Watch.trace c.args.keys.now c.in-Ok.rooms.crew.lanes c.args.p.now c.in-Ok-find.found c.args.store.now c.find.new.store c.open_found.new.store c.args.watch.now c.find.new.watch c.open_found.new.watch c.open_found.result
     c.in-Ok-find.ensures.value c.in-Ok-find.ensures.keeps c.in-Ok-find.ensures.passes c.in-Ok-find.ensures.does c.open_found.ensures.faults c.open_found.ensures.does c.open_found.ensures.untouched)
+
+pub returns-clause-acts : goal.returns-clause-acts
+returns-clause-acts g c = λ word_of s pending tells left.
+    let keys = c.args.keys.now in
+    let p = c.args.p.now in
+    let found = c.in-Ok-find.found in
+    let disk = g.S.Store.disk in
+    let old = c.args.store.now in
+    let mid = c.find.new.store in
+    let new = c.open_found.new.store in
+    let before = g.W.Watch.trace c.args.watch.now in
+    let between = g.W.Watch.trace c.find.new.watch in
+    let after = g.W.Watch.trace c.open_found.new.watch in
+    let found_in = c.in-Ok-find.ensures in
+    let e = c.open_found.ensures in
+    let told = found_in.keeps.tells tells in
+    let is : (st : RingStanding) → Stands keys p st (disk old).cells → IsFoundOf st found = λ st stands. found_in.stands st tells stands in
+    let st = (found_acts keys p word_of s pending (disk old).cells left).here in
+    let here = stands_all keys p st.standing (disk mid).cells (disk old).cells (found_in.keeps.cells tells) st.stands in
+    let same = is st.standing st.stands in
+    let stood = all_standing keys p st.standing (disk mid).cells (disk new) found here same c.open_found.result e.is (e.told told)
+    (e.stood told (subst (λ n. StandsAt (tagging keys) 1 (disk mid).cells n) (sym same.generation) here.generation)) e.faults (e.refused told) in
+    let leaves = all_leaves disk keys p old mid new found_in.keeps found_in.passes c.open_found.result e.leaves in
+    subst (λ n. OpensInLife keys n p word_of s pending (disk old) (disk new) before after (is_ok c.open_found.result)) (ap (λ (m : Manned). m.lanes) c.in-Ok.ensures.crew)
+    (all_acts disk g.met.S.Store.counts_now keys c.in-Ok.rooms.crew.lanes p found old mid new before between after found_in.keeps found_in.passes found_in.does found_in.obeys found_in.some tells (found_in.value tells)
+    word_of s pending left is c.args.tape.now c.open_found.new.tape (g.T.Tape.present c.open_found.new.tape) (g.T.Tape.drawn c.open_found.new.tape) c.open_found.result stood leaves e.does e.begins_err)
