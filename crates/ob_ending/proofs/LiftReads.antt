@@ -1,18 +1,18 @@
 -- The final lifts: what their call answers and tells.
-use Rattle.std.proofs.Common.{◌≡◌, inl, inr, ℕ, suc, ◌≤◌, List, [], ◌∷◌, Option, Some, None, Result, Ok, Err, map, length, refl, ◌∙◌, ap, subst, arith}
+use Rattle.std.proofs.Common.{◌≡◌, ◌≢◌, inl, inr, ℕ, suc, ◌≤◌, List, [], ◌∷◌, Option, Some, None, Result, Ok, Err, map, length, refl, sym, ◌∙◌, ap, subst, arith}
 use Rattle.ob_base.specs.declared.params.Params.{Params}
 use Rattle.ob_base.specs.declared.job.Job.{Job}
 use Rattle.ob_base.specs.declared.fault.Damaged.{Damaged as Damage}
 use Rattle.ob_base.specs.declared.fault.Fault.{Fault}
 use Rattle.ob_base.specs.declared.fault.Fault.TheVariants.{Memory, Usage, BadScript, BadParams, NotStore, Damaged, StoreFault, StashFull, Worn, SourceFault, SinkFault}
-use Rattle.ob_base.specs.Planned.{Planned, most_jobs}
+use Rattle.ob_base.specs.Planned.{Planned, job_at, most_jobs}
 use Rattle.ob_batch.specs.Jobs.{AreFilled, AreJobsRead, IsFirstFailing, cells_of}
 use Rattle.ob_bucket.specs.Buckets.{Buckets}
 use Rattle.ob_bucket.specs.Version.{Version}
 use Rattle.ob_content.specs.Content.{Rows}
 use Rattle.ob_epoch.proofs.Calling.{plans_are_read}
 use Rattle.ob_recover.proofs.RepeatLaws.{jobs_run, jobs_same}
-use Rattle.ob_recover.specs.Repeats.{BatchTells, IsRepeatFault, JobsAnswer}
+use Rattle.ob_recover.specs.Repeats.{BatchTells, IsRepeatFault, JobsAnswer, RowsJoin}
 use Rattle.ob_ring.specs.FlatTable.{FlatTable}
 use Rattle.ob_ring.specs.Picked.{SameSeals, final_picked, job_of}
 use Rattle.ob_ring.specs.Ring.{IsLifting, Kept}
@@ -26,6 +26,7 @@ use Rattle.ob_store.specs.declared.event.Event.{Event}
 use Rattle.ob_store.specs.declared.watch.Note.{Note}
 use Rattle.ob_store.specs.declared.watch.Note.TheVariants as note
 use Rattle.ob_ending.proofs.LiftsFew.{lifts_few}
+use Rattle.ob_ring.specs.Picked.{Picked}
 use Rattle.ob_ending.specs.Lifts.{LiftsAnswer, lift_cells, lift_jobs, lift_notes, lifts_picked}
 
 length-map : {X Y : Type 0} (f : X → Y) (xs : List X) → length (map f xs) ≡ length xs
@@ -41,6 +42,29 @@ filled_notes (o ∷ os) (n ∷ ns) plain filled =
     let many = filled.many in
     let rest : AreFilled os ns (λ i. plain (suc i)) = record { many = omega arith; each = λ i lt. filled.each (suc i) (omega arith) } in
     ap (λ (j : Job). note.Read j.cell ∷ map (λ (j : Job). note.Read j.cell) ns) (filled.each 0 (omega arith)) ∙ ap (λ (l : List Note). note.Read o.cell ∷ l) (filled_notes os ns (λ i. plain (suc i)) rest)
+
+-- so are their keys
+filled_keys : (p : Params) (versions : List Version) (qs : List Picked) (new : List Job) (plain : ℕ → List ℕ) → AreFilled (map (job_of p versions) qs) new plain → map (λ j. j.key) new ≡ map (λ q. q.key) qs
+filled_keys p versions [] [] plain filled = refl
+filled_keys p versions [] (n ∷ ns) plain filled = (let many = filled.many in absurd (omega arith))
+filled_keys p versions (q ∷ qs) [] plain filled = (let many = filled.many in absurd (omega arith))
+filled_keys p versions (q ∷ qs) (n ∷ ns) plain filled =
+    let many = filled.many in
+    let rest : AreFilled (map (job_of p versions) qs) ns (λ i. plain (suc i)) = record { many = omega arith; each = λ i lt. filled.each (suc i) (omega arith) } in
+    ap (λ (j : Job). j.key ∷ map (λ (j : Job). j.key) ns) (filled.each 0 (omega arith)) ∙ ap (λ (l : List (Option ℕ)). q.key ∷ l) (filled_keys p versions qs ns (λ i. plain (suc i)) rest)
+
+none_some : (x : List ℕ) (o : Option (List ℕ)) → o ≡ Some x → o ≢ None
+none_some x o e f = let both : None ≡ Some x = sym f ∙ e in absurd (cc)
+
+pub rows_join : (old mid : Kept) (now : Planned) (js : List Job) (t : FlatTable) (rows rows' : Rows) (plain : ℕ → List ℕ) → IsLifting old mid now t → AreFilled now.jobs js plain → first_fault js ≡ None → rows' ≡ rows_after rows js
+    → RowsJoin (lifts_picked old.p t) rows rows'
+rows_join old mid now js t rows rows' plain planned filled faultless rows_are = record {
+  jobs = js;
+  keys = filled_keys old.p (old.metas).versions (lifts_picked old.p t) js plain (subst (λ (xs : List Job). AreFilled xs js plain) planned.jobs filled);
+  read = λ i lt. none_some (plain i) (job_at js i).result (ap (λ (j : Job). j.result) (filled.each i (let many = filled.many in omega arith)));
+  faultless = faultless;
+  rows_are = rows_are;
+}
 
 -- there is room for them
 pub planned_few : (p : Params) (t : FlatTable) (versions : List Version) (js : List Job) → js ≡ map (job_of p versions) (final_picked p t (eviction_path p t.counter)) → length js ≤ most_jobs p

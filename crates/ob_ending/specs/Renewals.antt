@@ -9,7 +9,7 @@ use Rattle.ob_fetch.specs.Fetches.{words_since}
 use Rattle.ob_ring.specs.Filling.{AreSealedAnew}
 use Rattle.ob_ring.specs.FlatTable.{FlatTable, Refill, Writes, after}
 use Rattle.ob_ring.specs.Picked.{SameSeals}
-use Rattle.ob_ring.specs.Ring.{AreListedWithin, IsListed, Kept, StandsFor}
+use Rattle.ob_ring.specs.Ring.{AreListedWithin, IsListed, IsRing, Kept, StandsFor}
 use Rattle.ob_ring.specs.Writing.{entries_after, leaf_writes, values_after, writes_of}
 use Rattle.ob_tables.specs.Kept.{entry_at}
 use Rattle.ob_tables.specs.declared.entry.Entry.{Entry}
@@ -49,6 +49,7 @@ pub record AreMade (ws : List (Write × Entry)) (old new : Kept) : Type 0 where
   pub values : (new.stash).rows ≡ values_after (old.stash).rows ws
   pub seals : SameSeals old.metas new.metas
   pub listed : IsListed new
+  pub rules : IsRing new
   pub table : (t : FlatTable) → StandsFor old t → StandsFor new (table_behind_writes old ws t)
 
 -- The listed buckets were filled anew, their slots the ranks of these words, sealed from this number on.
@@ -56,6 +57,7 @@ pub record AreRefilled (words : List ℕ) (generation next : ℕ) (old new : Kep
   pub kept : new ≡ record old { metas = new.metas }
   pub order : (new.metas).order ≡ (old.metas).order
   pub within : AreListedWithin new
+  pub rules : IsRing new
   pub anew : AreSealedAnew old.p old.metas new.metas words (generation, next) (length (old.metas).order)
   pub table : (t : FlatTable) → StandsFor old t → StandsFor new (after old.p t Refill)
 

@@ -1,17 +1,17 @@
 //! The final lifts of an epoch.
 
-ghost use Rattle.std.specs.Prelude.{◌≡◌, ◌<◌, ◌≤◌, ◌+◌, ◌%◌, ◌^◌, ℕ, [], length, map, IfErr, IfSome};
+ghost use Rattle.std.specs.Prelude.{◌≡◌, ◌<◌, ◌≤◌, ◌+◌, ◌%◌, ◌^◌, ℕ, List, [], length, map, IfErr, IfSome, OnOk};
 ghost use Rattle.ob_base.specs.Planned.{most_jobs, job_at};
 ghost use Rattle.ob_store.specs.Images.{Same, Passes};
 ghost use Rattle.ob_store.specs.Calls.{Serves, IsStoreFault, Keeps};
 ghost use Rattle.ob_store.specs.declared.watch.Note.TheVariants as note;
-ghost use Rattle.ob_batch.specs.Jobs.{cells_of};
+ghost use Rattle.ob_batch.specs.Jobs.{AreFilled, cells_of};
 ghost use Rattle.ob_bucket.specs.Buckets.{Buckets};
 ghost use Rattle.ob_ring.specs.FlatTable.{FlatTable, FinalLifts, after};
 ghost use Rattle.ob_ring.specs.Picked.{SameSeals};
 ghost use Rattle.ob_ring.specs.Ring.{IsListed, StandsFor};
-ghost use Rattle.ob_recover.specs.Repeats.{BatchTells, IsRepeatFault, JobsAnswer, HaveKeysOf};
-ghost use Rattle.ob_ending.specs.Lifts.{LiftsAnswer, lift_cells, lift_notes};
+ghost use Rattle.ob_recover.specs.Repeats.{BatchTells, IsRepeatFault, JobsAnswer, HaveKeysOf, RowsJoin};
+ghost use Rattle.ob_ending.specs.Lifts.{LiftsAnswer, lift_cells, lift_notes, lifts_picked};
 
 use ob_base::{Fault, Jobs};
 use ob_batch::{Crew, JobsErr, run_jobs};
@@ -35,6 +35,8 @@ fn read_jobs<S: Store, W: Watch>(
     ensures faults { IfErr result IsRepeatFault }
     ensures rest { jobs.new ≡ record jobs.old { jobs = jobs.new.jobs } }
     ensures keys { HaveKeysOf jobs.old.jobs jobs.new.jobs }
+    ensures filled { OnOk result ((plain : ℕ → List ℕ)
+        × AreFilled jobs.old.jobs jobs.new.jobs plain) }
     ensures crew { crew.new ≡ crew.old }
     ensures keeps { Keeps (S.disk store.old) (S.disk store.new) }
     ensures passes { Passes Same (S.disk store.old) (S.disk store.new) }
@@ -93,6 +95,10 @@ pub fn read_lifts<S: Store, W: Watch>(
     ensures listed { IsListed ring.new }
     ensures table { (t : FlatTable) → StandsFor ring.old t
         → StandsFor ring.new (after ring.old.p t FinalLifts) }
+    // Whatever the store tells, the rows are of the keys that the table's lifts pick.
+    ensures joins { (t : FlatTable) → StandsFor ring.old t
+        → OnOk result (RowsJoin (lifts_picked ring.old.p t) ring.old.stash.rows
+        ring.new.stash.rows) }
     // Where the buckets lie as these were sealed, the jobs are those of their slots.
     ensures value { (start : Buckets) (t : FlatTable) → SameSeals start ring.old.metas
         → StandsFor ring.old t → (S.disk store.old).tells

@@ -16,8 +16,8 @@ use ob_tape::Tape;
 
 /// Makes an epoch's writes and fills the lifted buckets anew, after the final lifts were read. It
 /// draws a word for each place that a write may have, of which the i-th write takes the i-th, and
-/// then a word for each slot of the listed buckets, in their order. It touches no store, and takes
-/// no memory.
+/// then a word for each slot of the listed buckets, in their order; `drawn` counts them. It touches
+/// no store, and takes no memory.
 ///
 /// # Errors
 /// Worn with `2^62` where fewer words than these are left below that: then nothing was done. Else,
@@ -30,50 +30,58 @@ pub fn renew<T: Tape>(
     words: &mut Vec<u64>,
     p: &Params,
     sealer: &Sealer,
-    drawn: u64,
+    drawn: &mut u64,
     writes: &[Write],
 ) -> Result<(), Fault>
     requires params { p.now ≡ ring.old.p }
     requires listed { IsListed ring.old }
-    requires drawn { drawn ≡ length (T.drawn tape.old) }
-    requires small { drawn ≤ 2 ^ 62 }
+    requires drawn { drawn.old ≡ length (T.drawn tape.old) }
+    requires small { drawn.old ≤ 2 ^ 62 }
     requires own_room { ring.old.p.writes ≤ length words.old.items }
     requires room { refill_words ring.old ≤ length words.old.items }
     requires few { length writes.now ≤ ring.old.p.writes }
     requires keys { (i : ℕ) → i < length writes.now
         → (write_at writes.now i).key < ring.old.p.keys }
     ensures same { T.present tape.new ≡ T.present tape.old }
+    ensures counted { drawn.new ≡ length (T.drawn tape.new) }
     ensures words { length words.new.items ≡ length words.old.items }
-    ensures worn { 2 ^ 62 < drawn + end_words ring.old → (result ≡ Err (fault.Worn (2 ^ 62)))
+    ensures worn { 2 ^ 62 < drawn.old + end_words ring.old → (result ≡ Err (fault.Worn (2 ^ 62)))
         × (tape.new ≡ tape.old) × (ring.new ≡ ring.old) }
-    ensures draws { drawn + end_words ring.old ≤ 2 ^ 62
+    ensures draws { drawn.old + end_words ring.old ≤ 2 ^ 62
         → DrawsWords (end_words ring.old) (T.drawn tape.old) (T.drawn tape.new) }
     // The words are the tape's own, in the order in which they are taken.
-    ensures renews { drawn + end_words ring.old ≤ 2 ^ 62
+    ensures renews { drawn.old + end_words ring.old ≤ 2 ^ 62
         → Renews writes.now (words_since (T.drawn tape.old) (T.drawn tape.new))
-        sealer.now.generation drawn sealer.now.next ring.old ring.new }
-    ensures answers { drawn + end_words ring.old ≤ 2 ^ 62 → (t : FlatTable)
+        sealer.now.generation drawn.old sealer.now.next ring.old ring.new }
+    ensures answers { drawn.old + end_words ring.old ≤ 2 ^ 62 → (t : FlatTable)
         → StandsFor ring.old t
         → RenewAnswers (stash_size ring.old.p (after ring.old.p (table_behind_writes ring.old
         (renewed_writes ring.old writes.now (own_words ring.old (T.drawn tape.old)
-        (T.drawn tape.new)) sealer.now.generation drawn) t) Refill)) ring.old.p.room
+        (T.drawn tape.new)) sealer.now.generation drawn.old) t) Refill)) ring.old.p.room
         sealer.now.next (end_seals ring.old) result }
 {
     let (generation, next) = sealer.next();
     let many = ring.to_refill().len() * (p.real + p.dummies) as usize;
     let own = p.writes as usize;
-    if NUMBER_LIMIT - drawn < (own + many) as u64 {
+    let first = *drawn;
+    if NUMBER_LIMIT - first < (own + many) as u64 {
         return Err(Fault::Worn {
             number: NUMBER_LIMIT,
         });
     }
     draw_front(tape, words, own);
-    ring.apply_writes(writes, front(words, own), (generation, drawn));
+    ring.apply_writes(writes, front(words, own), (generation, first));
+    ring.tables();
     draw_front(tape, words, many);
+    *drawn = first + (own + many) as u64;
     match ring.refill(front(words, many), (generation, next)) {
         Ok(()) => {}
-        Err(full) => return Err(Fault::from(full)),
+        Err(full) => {
+            ring.tables();
+            return Err(Fault::from(full));
+        }
     }
+    ring.tables();
     if NUMBER_LIMIT - next < many as u64 + checkpoint_cells(p) {
         return Err(Fault::Worn {
             number: NUMBER_LIMIT,

@@ -13,9 +13,9 @@ use Rattle.ob_log.specs.Appends.{HoldsRecord}
 use Rattle.ob_log.specs.Logs.{BatchRecord, RecordObeys}
 use Rattle.ob_recover.proofs.RepeatLaws.{entries_more, repeated_more, table_more}
 use Rattle.ob_recover.proofs.StandingReads.{map_kept, none_damaged}
-use Rattle.ob_recover.specs.Repeats.{AreRepeated, BatchIsRead, IsBatchDamage, IsPlannerOf, IsRepeatFault, record_places, table_after_records}
+use Rattle.ob_recover.specs.Repeats.{AreRepeated, BatchIsRead, IsBatchDamage, IsPlannerOf, IsRepeatFault, asked_of_record, record_places, table_after_records}
 use Rattle.ob_ring.specs.Fetching.{after_labels}
-use Rattle.ob_ring.specs.FlatTable.{FlatTable}
+use Rattle.ob_ring.specs.FlatTable.{Batch, FlatTable, after}
 use Rattle.ob_ring.specs.Laws.{IsOrderly}
 use Rattle.ob_ring.specs.Picked.{SameSeals}
 use Rattle.ob_ring.specs.Ring.{Kept, StandsFor}
@@ -31,7 +31,7 @@ use Rattle.ob_tables.specs.declared.entry.Entry.{Entry}
 use Rattle.ob_values.specs.Carries.{Carries, Slots}
 use Rattle.ob_fetch.proofs.AnswerLaws.{answered}
 use Rattle.ob_fetch.proofs.LogLaws.{open_more, slots_kept}
-use Rattle.ob_fetch.specs.Fetches.{AreMapValues, FetchAnswers, FetchStands, RunIsAt, MovesPlanner, RunsAt, values_asked, next_batch}
+use Rattle.ob_fetch.specs.Fetches.{AreMapValues, FetchAnswers, FetchStands, RunIsAt, MovesPlanner, RunsAt, values_asked, next_batch, unlisted}
 use Rattle.ob_fetch.specs.declared.run.Run.{Run}
 
 -- buckets that are sealed as these, behind those
@@ -55,6 +55,26 @@ follows_more p c rs r ring ring' was moves = record {
   seals = seals_join (buckets_of p c) ring.metas ring'.metas was.seals was.seals.order moves.seals;
   counter = ap (λ (k : Kept). k.counter) moves.kept ∙ was.counter;
   room = moves.room ∙ was.room;
+}
+
+-- ---- with no bucket listed
+
+pub seals_listed : (start : Buckets) (ring : Kept) → SameSeals start (unlisted ring).metas → SameSeals (record start { order = (ring.metas).order }) ring.metas
+seals_listed start ring s = record { homes = s.homes; generations = s.generations; bases = s.bases; ranks = s.ranks; order = refl }
+
+pub stands_listed : (ring : Kept) (t : FlatTable) → StandsFor (unlisted ring) t → StandsFor ring t
+stands_listed ring t s = record { orderly = s.orderly; arrays = s.arrays }
+
+pub stands_unlisted : (ring : Kept) (t : FlatTable) → StandsFor ring t → StandsFor (unlisted ring) t
+stands_unlisted ring t s = record { orderly = s.orderly; arrays = s.arrays }
+
+pub moves_unlisted : (p : Params) (r : BatchRecord) (ring ring' : Kept) → MovesPlanner p r ring ring' → MovesPlanner p r (unlisted ring) (unlisted ring')
+moves_unlisted p r ring ring' moves = record {
+  kept = ap unlisted moves.kept;
+  room = moves.room;
+  entries = moves.entries;
+  seals = record { homes = (moves.seals).homes; generations = (moves.seals).generations; bases = (moves.seals).bases; ranks = (moves.seals).ranks; order = refl };
+  table = λ t stands. stands_unlisted ring' (after p t (Batch (asked_of_record p r))) (moves.table t (stands_listed ring t stands));
 }
 
 -- ---- what stands
@@ -140,7 +160,7 @@ module _ (run : Run) (s : RingStanding) (r : BatchRecord) (old new : Disk) (was 
       epoch_is = was.runs.epoch_is;
       generation_is = was.runs.generation_is;
       left_are = (let left = was.runs.left_are in let more = length-append s.records (r ∷ []) in omega arith);
-      planner = follows_more p s.content s.records r run.ring ring' was.runs.planner moves;
+      planner = follows_more p s.content s.records r (unlisted run.ring) (unlisted ring') was.runs.planner (moves_unlisted p r run.ring ring' moves);
       read = read_next keys p s r old.cells new.cells was.stands may.room may.known obeys same holds ((run.ring).stash).rows was.runs.read (ring'.stash).rows read;
     }
 

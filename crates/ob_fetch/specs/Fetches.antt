@@ -82,13 +82,17 @@ pub record IsRunReady (run : Run) : Type 0 where
   pub generation : (run.sealer).generation < 2 ^ 62
   pub table : (t : FlatTable) × StandsFor run.ring t
 
+-- the planner, with no bucket listed: right after an end it still lists those that were filled
+abbrev pub unlisted : Kept → Kept
+unlisted ring = record ring { metas = record ring.metas { order = [] } }
+
 -- A planner that runs in the epoch behind the one that stands, in its generation, with so many batches left: it has shown the batches of
 -- the open records, whose slots it read as the image holds them.
 pub record RunsAt (keys : Keys) (p : Params) (epoch generation left : ℕ) (ring : Kept) (s : RingStanding) (image : Image) : Type 0 where
   pub epoch_is : epoch ≡ s.epoch
   pub generation_is : generation ≡ s.generation
   pub left_are : left + length s.records ≡ p.batches
-  pub planner : IsPlannerOf p s.content s.records ring
+  pub planner : IsPlannerOf p s.content s.records (unlisted ring)
   pub read : AreRepeated p (slots_in keys p s.content image) (flat_of p s.content) (s.content).rows (ring.stash).rows s.records
 
 -- The store stands for this, with no write that waits for a sync, and the run is at it.

@@ -85,6 +85,7 @@ pub fn fetch<S: Store, T: Tape, W: Watch>(
     ensures refused { OnErr result ((run.new.left ≡ run.old.left) × (run.new.spent ≡ true)
         × (out.new ≡ out.old)) }
     ensures ready { OnOk result (IsRunReady run.new) }
+    ensures words { length run.new.words.items ≡ length run.old.words.items }
     ensures crew { crew.new ≡ crew.old }
     ensures moves { OnOk result (MovesPlanner run.old.params (record_next run.old asks.now
         (words_since (T.drawn tape.old) (T.drawn tape.new))) run.old.ring run.new.ring) }

@@ -6,7 +6,7 @@ use Rattle.ob_ring.specs.Ring.{Kept}
 use Rattle.ob_ring.specs.Settling.{rows_after}
 use Rattle.ob_recover.proofs.BatchLaws.{keys_low}
 use Rattle.ob_recover.specs.Repeats.{BatchTells}
-use Rattle.ob_ending.proofs.LiftReads.{lifted_badly, lifted_well, lifts_tell, not_lifted, planned_few}
+use Rattle.ob_ending.proofs.LiftReads.{lifted_badly, lifted_well, lifts_tell, not_lifted, planned_few, rows_join}
 use Rattle.ob_ending.specs.Lifts.{LiftsAnswer, lift_cells, lift_notes}
 use Rattle.ob_ending.proofs.lifting.read_lifts.Goals as goal
 
@@ -42,6 +42,14 @@ returns-in-Ok-settle-clause-value g c = λ start t seals stands tells.
     lifted_well c.args.sealer.now.keys (g.S.Store.disk c.args.store.now).cells c.args.ring.now c.plan_lifts.new.self c.plan_lifts.new.jobs jobs start t seals
     (c.plan_lifts.ensures.planned t stands) c.args.ring.now.stash.rows c.settle.new.self.stash.rows (c.in-Ok.ensures.value tells) settled.0
     (settled.1 ∙ ap (λ (r : Kept). rows_after (r.stash).rows jobs) c.plan_lifts.ensures.kept)
+
+pub returns-in-Ok-settle-clause-joins : goal.returns-in-Ok-settle-clause-joins
+returns-in-Ok-settle-clause-joins g c = λ t stands.
+    let jobs = c.read_jobs.new.jobs.jobs in
+    let settled = c.in-Ok-settle.ensures.settled in
+    let filled = c.in-Ok.ensures.filled in
+    rows_join c.args.ring.now c.plan_lifts.new.self c.plan_lifts.new.jobs jobs t c.args.ring.now.stash.rows c.settle.new.self.stash.rows filled.0 (c.plan_lifts.ensures.planned t stands) filled.1
+    settled.0 (settled.1 ∙ ap (λ (r : Kept). rows_after (r.stash).rows jobs) c.plan_lifts.ensures.kept)
 
 pub returns-in-Ok-settle-clause-told : goal.returns-in-Ok-settle-clause-told
 returns-in-Ok-settle-clause-told g c = λ start t seals stands.

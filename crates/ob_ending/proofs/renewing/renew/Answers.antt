@@ -24,9 +24,9 @@ returns-in-Err-clause-renews g c =
     let f = c.refill.ensures in
     λ enough. record {
       between = c.apply_writes.new.self;
-      made = made_as ring c.apply_writes.new.self c.args.writes.now own generation c.args.drawn
-          (record { kept = e.kept; room = e.room; entries = e.entries; values = e.values; seals = e.seals; listed = e.listed c.requires.listed; table = e.applied });
-      filled = filled_as c.apply_writes.new.self c.refill.new.self rest generation next (record { kept = f.kept; order = f.order; within = f.within; anew = f.anew; table = f.refilled });
+      made = made_as ring c.apply_writes.new.self c.args.writes.now own generation c.args.drawn.now
+          (record { kept = e.kept; room = e.room; entries = e.entries; values = e.values; seals = e.seals; listed = e.listed c.requires.listed; rules = c.tables.ensures.rules; table = e.applied });
+      filled = filled_as c.apply_writes.new.self c.refill.new.self rest generation next (record { kept = f.kept; order = f.order; within = f.within; rules = c.tables-in-Err.ensures.rules; anew = f.anew; table = f.refilled });
     }
 
 pub returns-then-next-many-clause-renews : goal.returns-then-next-many-clause-renews
@@ -42,9 +42,9 @@ returns-then-next-many-clause-renews g c =
     let f = c.refill.ensures in
     λ enough. record {
       between = c.apply_writes.new.self;
-      made = made_as ring c.apply_writes.new.self c.args.writes.now own generation c.args.drawn
-          (record { kept = e.kept; room = e.room; entries = e.entries; values = e.values; seals = e.seals; listed = e.listed c.requires.listed; table = e.applied });
-      filled = filled_as c.apply_writes.new.self c.refill.new.self rest generation next (record { kept = f.kept; order = f.order; within = f.within; anew = f.anew; table = f.refilled });
+      made = made_as ring c.apply_writes.new.self c.args.writes.now own generation c.args.drawn.now
+          (record { kept = e.kept; room = e.room; entries = e.entries; values = e.values; seals = e.seals; listed = e.listed c.requires.listed; rules = c.tables.ensures.rules; table = e.applied });
+      filled = filled_as c.apply_writes.new.self c.refill.new.self rest generation next (record { kept = f.kept; order = f.order; within = f.within; rules = c.tables-2.ensures.rules; anew = f.anew; table = f.refilled });
     }
 
 pub returns-clause-renews : goal.returns-clause-renews
@@ -60,9 +60,9 @@ returns-clause-renews g c =
     let f = c.refill.ensures in
     λ enough. record {
       between = c.apply_writes.new.self;
-      made = made_as ring c.apply_writes.new.self c.args.writes.now own generation c.args.drawn
-          (record { kept = e.kept; room = e.room; entries = e.entries; values = e.values; seals = e.seals; listed = e.listed c.requires.listed; table = e.applied });
-      filled = filled_as c.apply_writes.new.self c.refill.new.self rest generation next (record { kept = f.kept; order = f.order; within = f.within; anew = f.anew; table = f.refilled });
+      made = made_as ring c.apply_writes.new.self c.args.writes.now own generation c.args.drawn.now
+          (record { kept = e.kept; room = e.room; entries = e.entries; values = e.values; seals = e.seals; listed = e.listed c.requires.listed; rules = c.tables.ensures.rules; table = e.applied });
+      filled = filled_as c.apply_writes.new.self c.refill.new.self rest generation next (record { kept = f.kept; order = f.order; within = f.within; rules = c.tables-2.ensures.rules; anew = f.anew; table = f.refilled });
     }
 
 pub returns-in-Err-clause-answers : goal.returns-in-Err-clause-answers
@@ -79,9 +79,9 @@ returns-in-Err-clause-answers g c =
     let room = ap (λ (q : Params). q.room) ps in
     let many = ap (λ (l : List ℕ). length l * width c.args.p.now) c.to_refill.ensures ∙ ap (λ (q : Params). length ring.metas.order * width q) c.requires.params in
     λ enough t stands.
-    let size = size_as ring c.apply_writes.new.self c.args.writes.now own generation c.args.drawn ps t in
+    let size = size_as ring c.apply_writes.new.self c.args.writes.now own generation c.args.drawn.now ps t in
     let rows = c.in-Err.ensures.rows _ (e.applied t stands) in
-    subst (λ (f : Fault). RenewAnswers (stash_size ring.p (after ring.p (table_behind_writes ring (renewed_writes ring c.args.writes.now (take ring.p.writes since) c.args.sealer.now.generation c.args.drawn) t) Refill)) ring.p.room c.args.sealer.now.next
+    subst (λ (f : Fault). RenewAnswers (stash_size ring.p (after ring.p (table_behind_writes ring (renewed_writes ring c.args.writes.now (take ring.p.writes since) c.args.sealer.now.generation c.args.drawn.now) t) Refill)) ring.p.room c.args.sealer.now.next
     (end_seals ring) (Err f)) (sym c.from.ensures)
     (rows.0 ∙ size, (let above = rows.1 in let is = rows.0 ∙ size in omega arith))
 
@@ -99,7 +99,7 @@ returns-then-next-many-clause-answers g c =
     let room = ap (λ (q : Params). q.room) ps in
     let many = ap (λ (l : List ℕ). length l * width c.args.p.now) c.to_refill.ensures ∙ ap (λ (q : Params). length ring.metas.order * width q) c.requires.params in
     λ enough t stands.
-    let size = size_as ring c.apply_writes.new.self c.args.writes.now own generation c.args.drawn ps t in
+    let size = size_as ring c.apply_writes.new.self c.args.writes.now own generation c.args.drawn.now ps t in
     let few = c.in-Ok.ensures.rows _ (e.applied t stands) in
     let cells = c.checkpoint_cells.ensures.cells ∙ ap checkpoint_cells c.requires.params in
     (refl, omega arith, (let worn = c.if-next-many.true in omega arith))
@@ -118,7 +118,7 @@ returns-clause-answers g c =
     let room = ap (λ (q : Params). q.room) ps in
     let many = ap (λ (l : List ℕ). length l * width c.args.p.now) c.to_refill.ensures ∙ ap (λ (q : Params). length ring.metas.order * width q) c.requires.params in
     λ enough t stands.
-    let size = size_as ring c.apply_writes.new.self c.args.writes.now own generation c.args.drawn ps t in
+    let size = size_as ring c.apply_writes.new.self c.args.writes.now own generation c.args.drawn.now ps t in
     let few = c.in-Ok.ensures.rows _ (e.applied t stands) in
     let cells = c.checkpoint_cells.ensures.cells ∙ ap checkpoint_cells c.requires.params in
     (omega arith, (let enough_seals = c.if-next-many.false in omega arith))

@@ -12,7 +12,7 @@ use Rattle.ob_store.specs.Told.{Tells}
 use Rattle.ob_tables.specs.Kept.{Held}
 use Rattle.ob_fetch.proofs.AnswerLaws.{item_got}
 use Rattle.ob_fetch.proofs.FetchLaws.{answers_as, answers_refused, begun_leaves, cells_same, does_refused, leaves_none, leaves_read, moves_as, next_is, settled_then, tells_as, within_next, within_then}
-use Rattle.ob_fetch.proofs.NextLaws.{Begun, answers_then, refused_then, runs_as, runs_next, stands_as, stands_then}
+use Rattle.ob_fetch.proofs.NextLaws.{Begun, answers_then, refused_then, runs_as, runs_next, seals_listed, stands_as, stands_listed, stands_then}
 use Rattle.ob_fetch.specs.Fetches.{AreMapValues, FetchAnswers, values_asked, next_batch, record_next, words_since}
 use Rattle.ob_fetch.specs.declared.run.Run.{Run}
 use Rattle.ob_fetch.proofs.fetching.fetch.Goals as goal
@@ -112,10 +112,10 @@ returns-in-Err-clause-stands g c =
     let told = c.in_ok-begin_batch.ensures.serves.tells was.tells in
     let written = subst (λ (image : Image). HoldsRecord keys p (suc run.epoch) (next_batch run) r image) (sym (cells_same mid new told c.read_batch.ensures.keeps))
     (subst (λ (e : ℕ). HoldsRecord keys p e (next_batch run) r mid.cells) (next_is run.epoch) (c.in_ok-begin_batch.ensures.written was.tells)) in
-    let start = buckets_of p s.content in
+    let start = record (buckets_of p s.content) { order = run.ring.metas.order } in
     let t = table_after_records p (flat_of p s.content) s.records in
-    let seals = was.runs.planner.seals in
-    let stands = was.runs.planner.table in
+    let seals = seals_listed (buckets_of p s.content) run.ring was.runs.planner.seals in
+    let stands = stands_listed run.ring t was.runs.planner.table in
     let begun : Begun run r old new = (record {
       some = c.requires.some_left;
       few = c.requires.ready.few;
@@ -234,10 +234,10 @@ returns-clause-stands g c =
     let told = c.in_ok-begin_batch.ensures.serves.tells was.tells in
     let written = subst (λ (image : Image). HoldsRecord keys p (suc run.epoch) (next_batch run) r image) (sym (cells_same mid new told c.read_batch.ensures.keeps))
     (subst (λ (e : ℕ). HoldsRecord keys p e (next_batch run) r mid.cells) (next_is run.epoch) (c.in_ok-begin_batch.ensures.written was.tells)) in
-    let start = buckets_of p s.content in
+    let start = record (buckets_of p s.content) { order = run.ring.metas.order } in
     let t = table_after_records p (flat_of p s.content) s.records in
-    let seals = was.runs.planner.seals in
-    let stands = was.runs.planner.table in
+    let seals = seals_listed (buckets_of p s.content) run.ring was.runs.planner.seals in
+    let stands = stands_listed run.ring t was.runs.planner.table in
     let begun : Begun run r old new = (record {
       some = c.requires.some_left;
       few = c.requires.ready.few;

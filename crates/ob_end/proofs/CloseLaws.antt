@@ -1,0 +1,107 @@
+-- An end that was written, and the register's set behind it.
+use Rattle.std.specs.Prelude.{◌≡◌, ◌<◌, ℕ, suc, ◌^◌, Bool, List, Option, Result, Ok, Err, OnOk}
+use Rattle.std.specs.declared.option.Option.TheVariants.{None}
+use Rattle.std.proofs.Common.{arith, sym, ap, ◌∙◌, subst, inl, inr, ⊎_elim}
+use Rattle.ob_base.specs.declared.fault.Fault.{Fault}
+use Rattle.ob_base.specs.declared.fault.Fault.TheVariants as fault
+use Rattle.ob_base.specs.declared.params.Params.{Params}
+use Rattle.ob_cells.specs.Writes.{Seals}
+use Rattle.ob_end_writes.specs.EndWrites.{IsOfStore, WritesSpare}
+use Rattle.ob_seal.specs.declared.keys.Keys.{Keys}
+use Rattle.ob_seal.specs.Sealing.{Sealing}
+use Rattle.ob_stand.specs.Ends.{Ending, EndLeaves, IsEndOf, IsEndWritten, RingEnd}
+use Rattle.ob_stand.specs.Stands.{RingStanding, Stands}
+use Rattle.ob_stand.proofs.EndLaws.{end_leaves, end_spares}
+use Rattle.ob_store.specs.Disk.{Disk, Image}
+use Rattle.ob_store.specs.Images.{IsSynced, LeavesOnly}
+use Rattle.ob_store.specs.Lines.{Trace}
+use Rattle.ob_store.specs.Told.{Tells}
+use Rattle.ob_store.specs.declared.event.Event.{Event}
+use Rattle.ob_store.specs.declared.watch.Note.{Note}
+use Rattle.ob_store.proofs.Doing.{first_behind, tells_then}
+use Rattle.ob_twin.specs.Keyed.{tagging}
+use Rattle.ob_twin.specs.Opening.{GatesAre}
+use Rattle.ob_twin.specs.declared.gates.Open.{Open}
+use Rattle.ob_twin.specs.Orders.{SetDoes, gate_notes, prepare_notes, set_notes}
+use Rattle.ob_twin.specs.Refused.{SetLeaves}
+use Rattle.ob_twin.specs.Register.{IsPut}
+use Rattle.ob_twin.specs.declared.set_err.SetErr.{SetErr}
+use Rattle.ob_twin.specs.declared.set_err.SetErr.TheVariants as set
+use Rattle.ob_twin.proofs.Moves.{under_next}
+use Rattle.ob_twin.proofs.Sets.{leaves_before, leaves_either, put_stands}
+use Rattle.ob_end.specs.Closings.{ClosesEnd, CloseDoes, IfWritten}
+
+-- a refusal of the store alone is one of a set that wrote no gate
+pub set_fault : (f : Fault) → IsOfStore f → f ≡ fault.StoreFault None
+set_fault fault.Memory is = absurd is
+set_fault fault.Usage is = absurd is
+set_fault (fault.BadScript line) is = absurd is
+set_fault (fault.BadParams what) is = absurd is
+set_fault fault.NotStore is = absurd is
+set_fault (fault.Damaged cell what kept computed) is = absurd is
+set_fault (fault.StoreFault unsure) is = ap fault.StoreFault is
+set_fault (fault.StashFull rows) is = absurd is
+set_fault (fault.Worn number) is = absurd is
+set_fault fault.SourceFault is = absurd is
+set_fault fault.SinkFault is = absurd is
+
+pub if_written : (A : Type 0) (r : Result (Unit {0}) SetErr) → A → IfWritten A r
+if_written A (Ok done) a = a
+if_written A (Err (set.Before f)) a = tt
+if_written A (Err (set.Unsure f)) a = a
+
+-- what is known of a register's gates stays so where its cells stay
+pub gates_kept : (known : Open) (a b : Image) → ((k : ℕ) → k < 9 → b k ≡ a k) → GatesAre known 5 a → GatesAre known 5 b
+gates_kept known a b same gates = record {
+  zero = (λ marked. same 6 (omega arith) ∙ (gates.zero).0 marked, λ opened. (gates.zero).1 (sym (same 6 (omega arith)) ∙ opened));
+  one = (λ marked. same 8 (omega arith) ∙ (gates.one).0 marked, λ opened. (gates.one).1 (sym (same 8 (omega arith)) ∙ opened));
+}
+
+-- as many seals were made, whatever comes of the register
+pub seals_all : {T U E F : Type 0} (n : ℕ) (a b : Sealing) (v : T) (r : Result U F) → Seals {T = T} {E = E} n a b (Ok v) → Seals n a b r
+seals_all n a b v (Ok w) seals = record { all = seals.all; some = seals.some }
+seals_all n a b v (Err e) seals = record { all = tt; some = seals.some }
+
+-- ---- what a crash leaves
+
+module _ (keys : Keys) (p : Params) (s : RingStanding) (end : RingEnd) (old mid : Disk) where
+  pub is_ending : IsEndOf p s end → old.tells → IsSynced old → Stands keys p s old.cells → WritesSpare p s old mid → Ending keys p s end old mid
+  is_ending follows tells synced stands spare = record {
+    follows = follows;
+    stands = stands;
+    images = λ c left. end_spares keys p s c old.cells (λ k off. synced c left k) stands;
+    elsewhere = spare.rest tells;
+    passes = spare.passes;
+  }
+
+  pub written_leaves : ((c : Image) → old.left_since old.moment c → old.may_leave c) → Ending keys p s end old mid → LeavesOnly old mid (Stands keys p s)
+  written_leaves only ending = (end_leaves keys p s end old mid mid only ending).filling
+
+  pub mid_stands : Ending keys p s end old mid → Stands keys p s mid.cells
+  mid_stands ending = end_spares keys p s mid.cells old.cells ending.elsewhere ending.stands
+
+  pub closed : (new : Disk) (epoch : ℕ) → ((c : Image) → old.left_since old.moment c → old.may_leave c) → epoch ≡ suc s.epoch → epoch < 2 ^ 62 → Ending keys p s end old mid → IsEndWritten keys p s end mid.cells → (r : Result (Unit {0}) SetErr)
+      → LeavesOnly mid new (SetLeaves (tagging keys) 5 mid.cells s.epoch epoch r) → OnOk r (IsPut (tagging keys) 5 mid.cells epoch new.cells) → ClosesEnd keys p s end old new r
+  closed new epoch only at small ending written r last put = by_answer r (subst (λ e. LeavesOnly mid new (SetLeaves (tagging keys) 5 mid.cells s.epoch e r)) at last) (subst (λ e. OnOk r (IsPut (tagging keys) 5 mid.cells e new.cells)) at put)
+    where
+      leaves : EndLeaves keys p s end old mid new
+      leaves = end_leaves keys p s end old mid new only ending
+
+      by_answer : (x : Result (Unit {0}) SetErr) → LeavesOnly mid new (SetLeaves (tagging keys) 5 mid.cells s.epoch (suc s.epoch) x) → OnOk x (IsPut (tagging keys) 5 mid.cells (suc s.epoch) new.cells) → ClosesEnd keys p s end old new x
+      by_answer (Ok done) left is = (
+        leaves.any_moment written (leaves_either (tagging keys) 5 s.epoch (suc s.epoch) mid.cells mid new (Ok done) left),
+        leaves.done written (put_stands (tagging keys) 5 (suc s.epoch) mid.cells new.cells (omega (arith, at, small)) (under_next (tagging keys) 5 s.epoch (suc s.epoch) mid.cells (omega arith) (mid_stands ending).epoch) is),
+      )
+      by_answer (Err (set.Before f)) left is = leaves.before (leaves_before (tagging keys) 5 s.epoch (suc s.epoch) mid.cells mid new (Err (set.Before f)) tt left)
+      by_answer (Err (set.Unsure f)) left is = leaves.any_moment written (leaves_either (tagging keys) 5 s.epoch (suc s.epoch) mid.cells mid new (Err (set.Unsure f)) left)
+
+-- ---- what it shows
+
+pub close_tells : (writes : List Note) (closes : Bool) (epoch : ℕ) (a b c : Option (List Event)) (k l m : Trace) (r : Result (Unit {0}) SetErr) → Tells writes writes a b k l → SetDoes closes 5 epoch b c l m r
+    → CloseDoes writes closes epoch a c k m r
+close_tells writes closes epoch a b c k l m (Ok done) before set = tells_then writes writes (set_notes closes 5 epoch) (set_notes closes 5 epoch) a b c k l m before set
+close_tells writes closes epoch a b c k l m (Err (set.Before f)) before set = first_behind a b c k l m writes (prepare_notes closes 5 epoch) before set
+close_tells writes closes epoch a b c k l m (Err (set.Unsure f)) before set = ⊎_elim
+    (λ gate. inl (tells_then writes writes (gate_notes closes 5 epoch) (gate_notes closes 5 epoch) a b c k l m before gate))
+    (λ all. inr (tells_then writes writes (set_notes closes 5 epoch) (gate_notes closes 5 epoch) a b c k l m before all))
+    set

@@ -1,0 +1,10 @@
+pub mod CloseLaws
+pub mod EndCases
+pub mod EndLaws
+pub mod EndStage
+pub mod EndTables
+pub mod JoinLaws
+pub mod KnownEntries
+pub mod MadeLaws
+pub mod MakeLaws
+pub mod StandEnds

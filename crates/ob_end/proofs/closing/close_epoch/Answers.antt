@@ -1,0 +1,67 @@
+use Rattle.std.proofs.Common.{◌≡◌, ◌+◌, arith, subst, sym}
+use Rattle.ob_end_writes.specs.EndWrites.{all_seals, end_write_notes}
+use Rattle.ob_seal.specs.declared.keys.Keys.{Keys}
+use Rattle.ob_store.specs.Calls.{IsStoreFault}
+use Rattle.ob_store.specs.Images.{LeavesOnly}
+use Rattle.ob_store.proofs.Doing.{first_more}
+use Rattle.ob_store.proofs.Serving.{on_ok, serves_err}
+use Rattle.ob_twin.specs.Keyed.{tagging}
+use Rattle.ob_twin.specs.Opening.{is_closed_first}
+use Rattle.ob_twin.specs.Orders.{prepare_notes}
+use Rattle.ob_twin.specs.Refused.{IsSetFault, SetLeaves}
+use Rattle.ob_twin.specs.Register.{IsPut, StandsAt, place_of}
+use Rattle.ob_twin.specs.declared.set_err.SetErr.TheVariants.{Before}
+use Rattle.ob_twin.specs.declared.twin.Twin.TheVariants.{EPOCH}
+use Rattle.ob_end.proofs.CloseLaws.{close_tells, closed, gates_kept, if_written, is_ending, mid_stands, seals_all, set_fault, written_leaves}
+use Rattle.ob_end.proofs.closing.close_epoch.Goals as goal
+
+pub returns-in-Err-clause-faults : goal.returns-in-Err-clause-faults
+returns-in-Err-clause-faults g c = set_fault c.in-Err.fault c.in-Err.ensures.faults
+
+pub returns-in-Err-clause-serves : goal.returns-in-Err-clause-serves
+returns-in-Err-clause-serves g c =
+    serves_err IsStoreFault (IsSetFault EPOCH c.args.epoch) (g.S.Store.disk c.args.store.now) (g.S.Store.disk c.write_end.new.store) c.in-Err.fault (Before c.in-Err.fault)
+    (λ is. subst IsStoreFault (sym is) tt) c.in-Err.ensures.serves
+
+pub returns-in-Err-clause-closes : goal.returns-in-Err-clause-closes
+returns-in-Err-clause-closes g c = λ s end at tells synced stands is.
+    let old = g.S.Store.disk c.args.store.now in
+    let mid = g.S.Store.disk c.write_end.new.store in
+    let keys = c.args.sealer.now.keys in
+    let p = c.args.ring.now.p in
+    written_leaves keys p s end old mid (g.met.S.Store.only_now c.args.store.now) (is_ending keys p s end old mid is.follows tells synced stands (c.in-Err.ensures.writes s end at is).spare)
+
+pub returns-in-Err-clause-does : goal.returns-in-Err-clause-does
+returns-in-Err-clause-does g c =
+    first_more _ _ _ _ (end_write_notes c.args.ring.now c.args.epoch) (prepare_notes (is_closed_first c.args.gates.now.epoch (place_of c.args.epoch)) 5 c.args.epoch) c.in-Err.ensures.does.first
+
+pub returns-clause-seals : goal.returns-clause-seals
+returns-clause-seals g c = seals_all (all_seals c.args.ring.now) c.args.sealer.now c.write_end.new.sealer _ c.set.result c.in-Ok.ensures.seals
+
+pub returns-clause-closes : goal.returns-clause-closes
+returns-clause-closes g c = λ s end at tells synced stands is.
+    let old = g.S.Store.disk c.args.store.now in
+    let mid = g.S.Store.disk c.write_end.new.store in
+    let new = g.S.Store.disk c.set.new.store in
+    let keys = c.args.sealer.now.keys in
+    let p = c.args.ring.now.p in
+    let writes = c.in-Ok.ensures.writes s end at is in
+    let ending = is_ending keys p s end old mid is.follows tells synced stands writes.spare in
+    let same : c.write_end.new.sealer.keys ≡ keys = c.in-Ok.ensures.seals.some.keys in
+    let one : c.args.epoch ≡ s.epoch + 1 = omega (arith, at) in
+    let told = c.in-Ok.ensures.serves.tells tells in
+    closed keys p s end old mid new c.args.epoch (g.met.S.Store.only_now c.args.store.now) at c.requires.epoch ending (writes.written tells) c.set.result
+    (subst (λ (x : Keys). LeavesOnly mid new (SetLeaves (tagging x) 5 mid.cells s.epoch c.args.epoch c.set.result)) same
+    (c.set.ensures.old_or_new s.epoch one told (c.in-Ok.ensures.durable tells) (subst (λ (x : Keys). StandsAt (tagging x) 5 mid.cells s.epoch) (sym same) (mid_stands keys p s end old mid ending).epoch)))
+    (on_ok _ _ c.set.result (λ put. subst (λ (x : Keys). IsPut (tagging x) 5 mid.cells c.args.epoch new.cells) same put) (c.set.ensures.done told))
+
+pub returns-clause-does : goal.returns-clause-does
+returns-clause-does g c =
+    close_tells (end_write_notes c.args.ring.now c.args.epoch) (is_closed_first c.args.gates.now.epoch (place_of c.args.epoch)) c.args.epoch _ _ _ _ _ _ c.set.result c.in-Ok.ensures.does.all c.set.ensures.does
+
+pub set-requires-clause-told : goal.set-requires-clause-told
+set-requires-clause-told g c = λ told.
+    gates_kept c.args.gates.now.epoch (g.S.Store.disk c.args.store.now).cells (g.S.Store.disk c.write_end.new.store).cells (c.in-Ok.ensures.first (c.in-Ok.ensures.serves.goes.told told)) (c.requires.told (c.in-Ok.ensures.serves.goes.told told))
+
+pub returns-clause-rows : goal.returns-clause-rows
+returns-clause-rows g c = if_written _ c.set.result c.in-Ok.ensures.rows

@@ -1,0 +1,407 @@
+use Rattle.std.proofs.Common.{◌≡◌, ◌+◌, ◌∙◌, suc, true, Ok, Err, ap, arith, refl, subst, sym}
+use Rattle.ob_ending.specs.Lifts.{lift_cells, lift_notes}
+use Rattle.ob_end_writes.specs.EndWrites.{all_seals, end_write_notes, rows_left}
+use Rattle.ob_fetch.specs.declared.run.Run.{Run}
+use Rattle.ob_fetch.specs.Fetches.{words_since}
+use Rattle.ob_serial.specs.declared.vault.EndErr.{EndErr}
+use Rattle.ob_serial.specs.VaultViews.{IsStoreEnd}
+use Rattle.ob_store.specs.Calls.{Serves}
+use Rattle.ob_store.specs.Images.{LeavesOnly}
+use Rattle.ob_twin.specs.Opening.{GatesAre, is_closed_first}
+use Rattle.ob_twin.specs.Register.{place_of}
+use Rattle.ob_twin.specs.declared.gates.Gates.{Gates}
+use Rattle.ob_end.specs.EndRuns.{EndAnswers, EndDoes, EndImages, end_writes, seals_for_end, EndDraws}
+use Rattle.ob_end.proofs.CloseLaws.{gates_kept}
+use Rattle.ob_end.proofs.EndCases.{answers_closed, at_spent, one_more, read_leaves, does_as, does_closed, does_made, images_closed, images_ended, images_refused, ready_spent, seals_closed, seals_ended, serves_closed, serves_ended, draws_closed, draws_made}
+use Rattle.ob_end.proofs.EndStage as stage
+use Rattle.ob_end.proofs.ending.end.Goals as goal
+
+pub close_epoch-requires-clause-epoch : goal.close_epoch-requires-clause-epoch
+close_epoch-requires-clause-epoch g c =
+    let run = c.args.run.now in
+    let run1 : Run = record run { spent = true } in
+    let mid = c.make_end.new.run in
+    let old = g.S.Store.disk c.args.store.now in
+    let mids = g.S.Store.disk c.make_end.new.store in
+    let words = words_since (g.T.Tape.drawn c.args.tape.now) (g.T.Tape.drawn c.make_end.new.tape) in
+    let kept = c.make_end.ensures.kept in
+    let writes = c.args.writes.now in
+    let ready = ready_spent run c.requires.ready in
+    let made = c.in-Ok.ensures.made in
+    let low = c.requires.keys in
+    let short = c.requires.short in
+    let may = c.in-Ok.ensures.answers in
+    let few = stage.epoch_low run1 mid old writes words kept ready made low short may in
+    let same : mid.epoch ≡ run.epoch = ap (λ (m : Run). m.epoch) kept in
+    omega (arith, few, same)
+
+pub close_epoch-requires-clause-room : goal.close_epoch-requires-clause-room
+close_epoch-requires-clause-room g c =
+    let run = c.args.run.now in
+    let run1 : Run = record run { spent = true } in
+    let mid = c.make_end.new.run in
+    let old = g.S.Store.disk c.args.store.now in
+    let mids = g.S.Store.disk c.make_end.new.store in
+    let words = words_since (g.T.Tape.drawn c.args.tape.now) (g.T.Tape.drawn c.make_end.new.tape) in
+    let kept = c.make_end.ensures.kept in
+    let writes = c.args.writes.now in
+    let ready = ready_spent run c.requires.ready in
+    let made = c.in-Ok.ensures.made in
+    let low = c.requires.keys in
+    let short = c.requires.short in
+    let may = c.in-Ok.ensures.answers in
+    stage.room_left run1 mid old writes words kept ready made low short may
+
+pub close_epoch-requires-clause-sealed : goal.close_epoch-requires-clause-sealed
+close_epoch-requires-clause-sealed g c =
+    let run = c.args.run.now in
+    let run1 : Run = record run { spent = true } in
+    let mid = c.make_end.new.run in
+    let old = g.S.Store.disk c.args.store.now in
+    let mids = g.S.Store.disk c.make_end.new.store in
+    let words = words_since (g.T.Tape.drawn c.args.tape.now) (g.T.Tape.drawn c.make_end.new.tape) in
+    let kept = c.make_end.ensures.kept in
+    let writes = c.args.writes.now in
+    let ready = ready_spent run c.requires.ready in
+    let made = c.in-Ok.ensures.made in
+    let low = c.requires.keys in
+    let short = c.requires.short in
+    let may = c.in-Ok.ensures.answers in
+    stage.sealed_from run1 mid old writes words kept ready made low short may
+
+pub close_epoch-requires-clause-obeys : goal.close_epoch-requires-clause-obeys
+close_epoch-requires-clause-obeys g c =
+    let run = c.args.run.now in
+    let run1 : Run = record run { spent = true } in
+    let mid = c.make_end.new.run in
+    let old = g.S.Store.disk c.args.store.now in
+    let mids = g.S.Store.disk c.make_end.new.store in
+    let words = words_since (g.T.Tape.drawn c.args.tape.now) (g.T.Tape.drawn c.make_end.new.tape) in
+    let kept = c.make_end.ensures.kept in
+    let writes = c.args.writes.now in
+    let ready = ready_spent run c.requires.ready in
+    let made = c.in-Ok.ensures.made in
+    let low = c.requires.keys in
+    let short = c.requires.short in
+    let may = c.in-Ok.ensures.answers in
+    stage.obeys_left run1 mid old writes words kept ready made low short may
+
+pub close_epoch-requires-clause-told : goal.close_epoch-requires-clause-told
+close_epoch-requires-clause-told g c =
+    let run = c.args.run.now in
+    let run1 : Run = record run { spent = true } in
+    let mid = c.make_end.new.run in
+    let old = g.S.Store.disk c.args.store.now in
+    let mids = g.S.Store.disk c.make_end.new.store in
+    let words = words_since (g.T.Tape.drawn c.args.tape.now) (g.T.Tape.drawn c.make_end.new.tape) in
+    let kept = c.make_end.ensures.kept in
+    λ told.
+    let before = c.in-Ok.ensures.serves.goes.told told in
+    gates_kept mid.gates.epoch old.cells mids.cells (λ k low. c.make_end.ensures.keeps.cells before k) (subst (λ (x : Gates). GatesAre x.epoch 5 old.cells) (sym (ap (λ (m : Run). m.gates) kept)) (c.requires.told before))
+
+pub returns-in-Err-clause-does : goal.returns-in-Err-clause-does
+returns-in-Err-clause-does g c = λ start t seals stands.
+    let run = c.args.run.now in
+    let run1 : Run = record run { spent = true } in
+    let mid = c.make_end.new.run in
+    let old = g.S.Store.disk c.args.store.now in
+    let mids = g.S.Store.disk c.make_end.new.store in
+    let words = words_since (g.T.Tape.drawn c.args.tape.now) (g.T.Tape.drawn c.make_end.new.tape) in
+    let kept = c.make_end.ensures.kept in
+    let notes = end_write_notes mid.ring (suc run.epoch) in
+    does_made c.args.crew.now.lanes (lift_cells run.params start.versions t) (lift_notes run.params start.versions t) notes (is_closed_first run.gates.epoch (place_of (suc run.epoch))) (suc run.epoch) _ _ _ _ c.in-Err.fault
+    (c.in-Err.ensures.told start t seals stands)
+
+pub returns-in-Err-clause-stands : goal.returns-in-Err-clause-stands
+returns-in-Err-clause-stands g c = λ s was. tt
+
+pub returns-in-Err-clause-images : goal.returns-in-Err-clause-images
+returns-in-Err-clause-images g c = λ s was.
+    let run = c.args.run.now in
+    let run1 : Run = record run { spent = true } in
+    let mid = c.make_end.new.run in
+    let old = g.S.Store.disk c.args.store.now in
+    let mids = g.S.Store.disk c.make_end.new.store in
+    let words = words_since (g.T.Tape.drawn c.args.tape.now) (g.T.Tape.drawn c.make_end.new.tape) in
+    let kept = c.make_end.ensures.kept in
+    images_refused run.sealer.keys run.params s (end_writes run.params c.args.writes.now words run.sealer.generation run.drawn) mid old mids c.in-Err.fault
+    (read_leaves run.sealer.keys run.params s old mids (g.met.S.Store.only_now c.args.store.now) was.settled was.stands c.make_end.ensures.passes)
+
+pub returns-in-Err-close_epoch-clause-serves : goal.returns-in-Err-close_epoch-clause-serves
+returns-in-Err-close_epoch-clause-serves g c =
+    let run = c.args.run.now in
+    let run1 : Run = record run { spent = true } in
+    let mid = c.make_end.new.run in
+    let old = g.S.Store.disk c.args.store.now in
+    let mids = g.S.Store.disk c.make_end.new.store in
+    let words = words_since (g.T.Tape.drawn c.args.tape.now) (g.T.Tape.drawn c.make_end.new.tape) in
+    let kept = c.make_end.ensures.kept in
+    let new = g.S.Store.disk c.close_epoch.new.store in
+    subst (λ (e : EndErr). Serves {T = Unit {0}} {E = EndErr} IsStoreEnd old new (Err e)) (sym c.end_err.ensures)
+    (serves_closed old mids new (mid.epoch + 1) c.in-Err-close_epoch.refused c.in-Ok.ensures.serves c.in-Err-close_epoch.ensures.serves c.in-Err-close_epoch.ensures.faults)
+
+pub returns-in-Err-close_epoch-clause-answers : goal.returns-in-Err-close_epoch-clause-answers
+returns-in-Err-close_epoch-clause-answers g c = λ t stands.
+    let run = c.args.run.now in
+    let run1 : Run = record run { spent = true } in
+    let mid = c.make_end.new.run in
+    let old = g.S.Store.disk c.args.store.now in
+    let mids = g.S.Store.disk c.make_end.new.store in
+    let words = words_since (g.T.Tape.drawn c.args.tape.now) (g.T.Tape.drawn c.make_end.new.tape) in
+    let kept = c.make_end.ensures.kept in
+    let ws = end_writes run.params c.args.writes.now words run.sealer.generation run.drawn in
+    subst (λ (e : EndErr). EndAnswers run.params t run.epoch run.drawn run.sealer.next ws (Err e)) (sym c.end_err.ensures)
+    (answers_closed run.params t run.epoch run.drawn run.sealer.next (mid.epoch + 1) ws c.in-Err-close_epoch.refused (c.in-Ok.ensures.answers t stands) c.in-Err-close_epoch.ensures.faults)
+
+pub returns-in-Err-close_epoch-clause-seals : goal.returns-in-Err-close_epoch-clause-seals
+returns-in-Err-close_epoch-clause-seals g c = λ t stands.
+    let run = c.args.run.now in
+    let run1 : Run = record run { spent = true } in
+    let mid = c.make_end.new.run in
+    let old = g.S.Store.disk c.args.store.now in
+    let mids = g.S.Store.disk c.make_end.new.store in
+    let words = words_since (g.T.Tape.drawn c.args.tape.now) (g.T.Tape.drawn c.make_end.new.tape) in
+    let kept = c.make_end.ensures.kept in
+    let writes = c.args.writes.now in
+    let ready = ready_spent run c.requires.ready in
+    let made = c.in-Ok.ensures.made in
+    let low = c.requires.keys in
+    let short = c.requires.short in
+    let may = c.in-Ok.ensures.answers in
+    seals_closed (all_seals mid.ring) (seals_for_end run.params t) run.sealer mid.sealer c.close_epoch.new.sealer c.in-Err-close_epoch.refused c.end_err.result
+    (stage.seals_are run1 mid old writes words kept ready made low short may t stands) (stage.same_sealer run1 mid old writes words kept ready made low short may)
+    c.in-Err-close_epoch.ensures.seals
+
+pub returns-in-Err-close_epoch-clause-does : goal.returns-in-Err-close_epoch-clause-does
+returns-in-Err-close_epoch-clause-does g c = λ start t seals stands.
+    let run = c.args.run.now in
+    let run1 : Run = record run { spent = true } in
+    let mid = c.make_end.new.run in
+    let old = g.S.Store.disk c.args.store.now in
+    let mids = g.S.Store.disk c.make_end.new.store in
+    let words = words_since (g.T.Tape.drawn c.args.tape.now) (g.T.Tape.drawn c.make_end.new.tape) in
+    let kept = c.make_end.ensures.kept in
+    let new = g.S.Store.disk c.close_epoch.new.store in
+    let last = c.close_epoch.new.ring in
+    let stash = c.close_epoch.ensures.kept in
+    let cells = lift_cells run.params start.versions t in
+    let notes = lift_notes run.params start.versions t in
+    let closes = is_closed_first run.gates.epoch (place_of (suc run.epoch)) in
+    let one : mid.epoch + 1 ≡ suc run.epoch = (let same : mid.epoch ≡ run.epoch = ap (λ (m : Run). m.epoch) kept in omega (arith, same)) in
+    let same_closes : is_closed_first mid.gates.epoch (place_of (mid.epoch + 1)) ≡ closes = ap (λ (m : Run). is_closed_first m.gates.epoch (place_of (m.epoch + 1))) kept ∙ ap (λ n. is_closed_first run.gates.epoch (place_of n)) (one_more run.epoch) in
+    subst (λ (e : EndErr). EndDoes c.args.crew.now.lanes cells notes (end_write_notes last (suc run.epoch)) closes (suc run.epoch) old.seen new.seen (g.W.Watch.trace c.args.watch.now) (g.W.Watch.trace c.close_epoch.new.watch) (Err e))
+    (sym c.end_err.ensures)
+    (does_closed c.args.crew.now.lanes cells notes (end_write_notes last (suc run.epoch)) closes (suc run.epoch) _ _ _ _ _ _ (mid.epoch + 1) c.in-Err-close_epoch.refused c.in-Err-close_epoch.ensures.faults (c.in-Ok.ensures.told start t seals stands)
+    (does_as mid.ring last (mid.epoch + 1) (suc run.epoch) _ closes _ _ _ _ (Err c.in-Err-close_epoch.refused) stash one same_closes c.in-Err-close_epoch.ensures.does))
+
+pub returns-in-Err-close_epoch-clause-stands : goal.returns-in-Err-close_epoch-clause-stands
+returns-in-Err-close_epoch-clause-stands g c = λ s was. tt
+
+pub returns-in-Err-close_epoch-clause-images : goal.returns-in-Err-close_epoch-clause-images
+returns-in-Err-close_epoch-clause-images g c = λ s was.
+    let run = c.args.run.now in
+    let run1 : Run = record run { spent = true } in
+    let mid = c.make_end.new.run in
+    let old = g.S.Store.disk c.args.store.now in
+    let mids = g.S.Store.disk c.make_end.new.store in
+    let words = words_since (g.T.Tape.drawn c.args.tape.now) (g.T.Tape.drawn c.make_end.new.tape) in
+    let kept = c.make_end.ensures.kept in
+    let writes = c.args.writes.now in
+    let ready = ready_spent run c.requires.ready in
+    let made = c.in-Ok.ensures.made in
+    let low = c.requires.keys in
+    let short = c.requires.short in
+    let may = c.in-Ok.ensures.answers in
+    let at = at_spent run s old was in
+    let keeps = c.make_end.ensures.keeps in
+    let passes = c.make_end.ensures.passes in
+    let new = g.S.Store.disk c.close_epoch.new.store in
+    let last = c.close_epoch.new.ring in
+    let stash = c.close_epoch.ensures.kept in
+    let ws = end_writes run.params c.args.writes.now words run.sealer.generation run.drawn in
+    let then : Run = record mid { gates = c.close_epoch.new.gates; sealer = c.close_epoch.new.sealer; ring = last; sheet = c.close_epoch.new.sheet } in
+    let only = g.met.S.Store.only_now c.args.store.now in
+    let ending = stage.end run1 mid old writes words kept ready made low short may s at mids keeps passes in
+    let closes = c.in-Err-close_epoch.ensures.closes s ending
+    (stage.mid_epoch_at run1 mid old writes words kept ready made low short may s at mids keeps passes)
+    (stage.tells_mid run1 mid old writes words kept ready made low short may s at mids keeps passes)
+    (stage.synced_mid run1 mid old writes words kept ready made low short may s at mids keeps passes)
+    (stage.stands_mid run1 mid old writes words kept ready made low short may s at mids keeps passes)
+    (stage.is_end run1 mid old writes words kept ready made low short may s at mids keeps passes) in
+    subst (λ (e : EndErr). LeavesOnly old new (EndImages run.sealer.keys run.params s ws then (Err e))) (sym c.end_err.ensures)
+    (images_closed run.sealer.keys run.params s ws then old new mid.sealer.keys mid.ring.p ending mids (last.stash.rows ≡ rows_left mid.ring) c.in-Err-close_epoch.refused closes c.in-Err-close_epoch.ensures.rows
+    (stage.refused_leaves run1 mid old writes words kept ready made low short may s at mids keeps passes new only) (λ rows. stage.either_leaves run1 mid old writes words kept ready made low short may s at mids keeps passes new only last stash rows))
+
+pub returns-clause-serves : goal.returns-clause-serves
+returns-clause-serves g c =
+    let run = c.args.run.now in
+    let run1 : Run = record run { spent = true } in
+    let mid = c.make_end.new.run in
+    let old = g.S.Store.disk c.args.store.now in
+    let mids = g.S.Store.disk c.make_end.new.store in
+    let words = words_since (g.T.Tape.drawn c.args.tape.now) (g.T.Tape.drawn c.make_end.new.tape) in
+    let kept = c.make_end.ensures.kept in
+    let new = g.S.Store.disk c.close_epoch.new.store in
+    serves_ended old mids new (mid.epoch + 1) c.in-Ok.ensures.serves c.in-Ok-close_epoch.ensures.serves
+
+pub returns-clause-seals : goal.returns-clause-seals
+returns-clause-seals g c = λ t stands.
+    let run = c.args.run.now in
+    let run1 : Run = record run { spent = true } in
+    let mid = c.make_end.new.run in
+    let old = g.S.Store.disk c.args.store.now in
+    let mids = g.S.Store.disk c.make_end.new.store in
+    let words = words_since (g.T.Tape.drawn c.args.tape.now) (g.T.Tape.drawn c.make_end.new.tape) in
+    let kept = c.make_end.ensures.kept in
+    let writes = c.args.writes.now in
+    let ready = ready_spent run c.requires.ready in
+    let made = c.in-Ok.ensures.made in
+    let low = c.requires.keys in
+    let short = c.requires.short in
+    let may = c.in-Ok.ensures.answers in
+    seals_ended (all_seals mid.ring) (seals_for_end run.params t) run.sealer mid.sealer c.close_epoch.new.sealer (stage.seals_are run1 mid old writes words kept ready made low short may t stands) (stage.same_sealer run1 mid old writes words kept ready made low short may)
+    c.in-Ok-close_epoch.ensures.seals
+
+pub returns-clause-durable : goal.returns-clause-durable
+returns-clause-durable g c =
+    let run = c.args.run.now in
+    let run1 : Run = record run { spent = true } in
+    let mid = c.make_end.new.run in
+    let old = g.S.Store.disk c.args.store.now in
+    let mids = g.S.Store.disk c.make_end.new.store in
+    let words = words_since (g.T.Tape.drawn c.args.tape.now) (g.T.Tape.drawn c.make_end.new.tape) in
+    let kept = c.make_end.ensures.kept in
+    λ tells. c.in-Ok-close_epoch.ensures.durable (c.make_end.ensures.keeps.tells tells)
+
+pub returns-clause-does : goal.returns-clause-does
+returns-clause-does g c = λ start t seals stands.
+    let run = c.args.run.now in
+    let run1 : Run = record run { spent = true } in
+    let mid = c.make_end.new.run in
+    let old = g.S.Store.disk c.args.store.now in
+    let mids = g.S.Store.disk c.make_end.new.store in
+    let words = words_since (g.T.Tape.drawn c.args.tape.now) (g.T.Tape.drawn c.make_end.new.tape) in
+    let kept = c.make_end.ensures.kept in
+    let new = g.S.Store.disk c.close_epoch.new.store in
+    let last = c.close_epoch.new.ring in
+    let stash = c.close_epoch.ensures.kept in
+    let cells = lift_cells run.params start.versions t in
+    let notes = lift_notes run.params start.versions t in
+    let closes = is_closed_first run.gates.epoch (place_of (suc run.epoch)) in
+    let one : mid.epoch + 1 ≡ suc run.epoch = (let same : mid.epoch ≡ run.epoch = ap (λ (m : Run). m.epoch) kept in omega (arith, same)) in
+    let same_closes : is_closed_first mid.gates.epoch (place_of (mid.epoch + 1)) ≡ closes = ap (λ (m : Run). is_closed_first m.gates.epoch (place_of (m.epoch + 1))) kept ∙ ap (λ n. is_closed_first run.gates.epoch (place_of n)) (one_more run.epoch) in
+    record {
+      mid = mids.seen;
+      shown = g.W.Watch.trace c.make_end.new.watch;
+      lifts = c.in-Ok.ensures.told start t seals stands;
+      rest = does_as mid.ring last (mid.epoch + 1) (suc run.epoch) _ closes _ _ _ _ (Ok tt) stash one same_closes c.in-Ok-close_epoch.ensures.does;
+    }
+
+pub returns-clause-ready : goal.returns-clause-ready
+returns-clause-ready g c =
+    let run = c.args.run.now in
+    let run1 : Run = record run { spent = true } in
+    let mid = c.make_end.new.run in
+    let old = g.S.Store.disk c.args.store.now in
+    let mids = g.S.Store.disk c.make_end.new.store in
+    let words = words_since (g.T.Tape.drawn c.args.tape.now) (g.T.Tape.drawn c.make_end.new.tape) in
+    let kept = c.make_end.ensures.kept in
+    let writes = c.args.writes.now in
+    let ready = ready_spent run c.requires.ready in
+    let made = c.in-Ok.ensures.made in
+    let low = c.requires.keys in
+    let short = c.requires.short in
+    let may = c.in-Ok.ensures.answers in
+    let last = c.close_epoch.new.ring in
+    let stash = c.close_epoch.ensures.kept in
+    let some = c.in-Ok-close_epoch.ensures.seals.some in
+    stage.ready_then run1 mid old writes words kept ready made low short may last stash c.in-Ok-close_epoch.ensures.rows c.close_epoch.new.gates c.close_epoch.new.sealer c.close_epoch.new.sheet some.generation
+    c.in-Ok-close_epoch.ensures.sheet c.make_end.ensures.rooms c.make_end.ensures.words
+
+pub returns-clause-stands : goal.returns-clause-stands
+returns-clause-stands g c = λ s was.
+    let run = c.args.run.now in
+    let run1 : Run = record run { spent = true } in
+    let mid = c.make_end.new.run in
+    let old = g.S.Store.disk c.args.store.now in
+    let mids = g.S.Store.disk c.make_end.new.store in
+    let words = words_since (g.T.Tape.drawn c.args.tape.now) (g.T.Tape.drawn c.make_end.new.tape) in
+    let kept = c.make_end.ensures.kept in
+    let writes = c.args.writes.now in
+    let ready = ready_spent run c.requires.ready in
+    let made = c.in-Ok.ensures.made in
+    let low = c.requires.keys in
+    let short = c.requires.short in
+    let may = c.in-Ok.ensures.answers in
+    let at = at_spent run s old was in
+    let keeps = c.make_end.ensures.keeps in
+    let passes = c.make_end.ensures.passes in
+    let new = g.S.Store.disk c.close_epoch.new.store in
+    let last = c.close_epoch.new.ring in
+    let stash = c.close_epoch.ensures.kept in
+    let only = g.met.S.Store.only_now c.args.store.now in
+    let ending = stage.end run1 mid old writes words kept ready made low short may s at mids keeps passes in
+    let rows = c.in-Ok-close_epoch.ensures.rows in
+    let some = c.in-Ok-close_epoch.ensures.seals.some in
+    let closes = c.in-Ok-close_epoch.ensures.closes s ending
+    (stage.mid_epoch_at run1 mid old writes words kept ready made low short may s at mids keeps passes)
+    (stage.tells_mid run1 mid old writes words kept ready made low short may s at mids keeps passes)
+    (stage.synced_mid run1 mid old writes words kept ready made low short may s at mids keeps passes)
+    (stage.stands_mid run1 mid old writes words kept ready made low short may s at mids keeps passes)
+    (stage.is_end run1 mid old writes words kept ready made low short may s at mids keeps passes) in
+    record {
+      tells = c.in-Ok-close_epoch.ensures.serves.tells (stage.tells_mid run1 mid old writes words kept ready made low short may s at mids keeps passes);
+      settled = c.in-Ok-close_epoch.ensures.durable (stage.tells_mid run1 mid old writes words kept ready made low short may s at mids keeps passes);
+      stands = stage.stands_then run1 mid old writes words kept ready made low short may s at mids keeps passes new only last stash rows c.close_epoch.new.sealer some.keys closes.1;
+      runs = stage.runs_last run1 mid old writes words kept ready made low short may s at mids keeps passes new only last stash rows c.close_epoch.new.sealer (mid.epoch + 1) mid.params.batches some.generation (ap (λ (m : Run). m.epoch + 1) kept) refl c.in-Ok-close_epoch.ensures.room;
+    }
+
+pub returns-clause-images : goal.returns-clause-images
+returns-clause-images g c = λ s was.
+    let run = c.args.run.now in
+    let run1 : Run = record run { spent = true } in
+    let mid = c.make_end.new.run in
+    let old = g.S.Store.disk c.args.store.now in
+    let mids = g.S.Store.disk c.make_end.new.store in
+    let words = words_since (g.T.Tape.drawn c.args.tape.now) (g.T.Tape.drawn c.make_end.new.tape) in
+    let kept = c.make_end.ensures.kept in
+    let writes = c.args.writes.now in
+    let ready = ready_spent run c.requires.ready in
+    let made = c.in-Ok.ensures.made in
+    let low = c.requires.keys in
+    let short = c.requires.short in
+    let may = c.in-Ok.ensures.answers in
+    let at = at_spent run s old was in
+    let keeps = c.make_end.ensures.keeps in
+    let passes = c.make_end.ensures.passes in
+    let new = g.S.Store.disk c.close_epoch.new.store in
+    let last = c.close_epoch.new.ring in
+    let stash = c.close_epoch.ensures.kept in
+    let ws = end_writes run.params c.args.writes.now words run.sealer.generation run.drawn in
+    let only = g.met.S.Store.only_now c.args.store.now in
+    let ending = stage.end run1 mid old writes words kept ready made low short may s at mids keeps passes in
+    let rows = c.in-Ok-close_epoch.ensures.rows in
+    let closes = c.in-Ok-close_epoch.ensures.closes s ending
+    (stage.mid_epoch_at run1 mid old writes words kept ready made low short may s at mids keeps passes)
+    (stage.tells_mid run1 mid old writes words kept ready made low short may s at mids keeps passes)
+    (stage.synced_mid run1 mid old writes words kept ready made low short may s at mids keeps passes)
+    (stage.stands_mid run1 mid old writes words kept ready made low short may s at mids keeps passes)
+    (stage.is_end run1 mid old writes words kept ready made low short may s at mids keeps passes) in
+    let then : Run = record mid { gates = c.close_epoch.new.gates; sealer = c.close_epoch.new.sealer; ring = last; sheet = c.close_epoch.new.sheet } in
+    images_ended run.sealer.keys run.params s ws then old new (stage.either_leaves run1 mid old writes words kept ready made low short may s at mids keeps passes new only last stash rows closes.0)
+
+pub returns-in-Err-clause-draws : goal.returns-in-Err-clause-draws
+returns-in-Err-clause-draws g c = λ t stands.
+    draws_made c.args.run.now.params t c.args.run.now.epoch c.args.run.now.drawn (g.T.Tape.drawn c.args.tape.now) (g.T.Tape.drawn c.make_end.new.tape) c.in-Err.fault (c.in-Err.ensures.draws t stands)
+
+pub returns-in-Err-close_epoch-clause-draws : goal.returns-in-Err-close_epoch-clause-draws
+returns-in-Err-close_epoch-clause-draws g c = λ t stands.
+    let run = c.args.run.now in
+    let mid = c.make_end.new.run in
+    let old = g.T.Tape.drawn c.args.tape.now in
+    let new = g.T.Tape.drawn c.make_end.new.tape in
+    subst (λ (e : EndErr). EndDraws run.params t run.epoch run.drawn old new (Err e)) (sym c.end_err.ensures)
+    (draws_closed run.params t run.epoch run.drawn old new (mid.epoch + 1) c.in-Err-close_epoch.refused c.in-Err-close_epoch.ensures.faults (c.in-Ok.ensures.draws t stands))
+
+pub returns-clause-draws : goal.returns-clause-draws
+returns-clause-draws g c = λ t stands. c.in-Ok.ensures.draws t stands

@@ -1,0 +1,218 @@
+-- What the end of an epoch needs of a run, answers, draws and leaves.
+use Rattle.std.specs.Prelude.{◌≡◌, ◌⊎◌, ℕ, suc, ◌+◌, ◌*◌, ◌<◌, ◌≤◌, ◌^◌, Bool, List, [], take, length, Option, Result, Ok, Err}
+use Rattle.std.specs.declared.option.Option.TheVariants.{None}
+use Rattle.ob_base.specs.declared.fault.Fault.{Fault}
+use Rattle.ob_base.specs.declared.fault.Fault.TheVariants as fault
+use Rattle.ob_base.specs.declared.params.Params.{Params}
+use Rattle.ob_base.specs.declared.value.Write.{Write}
+use Rattle.ob_base.specs.Layout.{checkpoint_cells}
+use Rattle.ob_base.specs.Tree.{buckets, width}
+use Rattle.ob_bucket.specs.Buckets.{Buckets, version_at}
+use Rattle.ob_bucket.specs.Version.{Version}
+use Rattle.ob_content.specs.Content.{FitsBook, FitsSeals}
+use Rattle.ob_ending.specs.Lifts.{IsLiftDamage, LiftsAreRead, lifts_picked}
+use Rattle.ob_ending.specs.Renewals.{Renews}
+use Rattle.ob_epoch.specs.Plans.{AreAllWhole}
+use Rattle.ob_fetch.specs.declared.run.Run.{Run}
+use Rattle.ob_fetch.specs.Fetches.{DrawsWords, IsRunReady, RunIsAt}
+use Rattle.ob_recover.specs.Repeats.{BatchIsShown, NoneIsShown, RowsJoin, content_of_ring}
+use Rattle.ob_ring.specs.FlatTable.{FlatTable, FinalLifts, Refill, Writes, after, refill_order, stash_size}
+use Rattle.ob_ring.specs.Picked.{SameSeals}
+use Rattle.ob_ring.specs.Ring.{IsListed, IsRing, Kept, StandsFor}
+use Rattle.ob_ring.specs.Writing.{leaf_writes, writes_of}
+use Rattle.ob_seal.specs.declared.keys.Keys.{Keys}
+use Rattle.ob_serial.specs.declared.vault.EndErr.{EndErr}
+use Rattle.ob_serial.specs.declared.vault.EndErr.TheVariants as end
+use Rattle.ob_stand.specs.Reads.{plains_in}
+use Rattle.ob_stand.specs.Stands.{OneOf, RingStanding, Stands}
+use Rattle.ob_store.specs.Disk.{Disk, Image}
+use Rattle.ob_store.specs.Lines.{Trace}
+use Rattle.ob_store.specs.declared.event.Event.{Event}
+use Rattle.ob_store.specs.declared.watch.Note.{Note}
+use Rattle.ob_tables.specs.declared.entry.Entry.{Entry}
+use Rattle.ob_taken.specs.Values.{Values, with_writes}
+use Rattle.ob_twin.specs.declared.set_err.SetErr.{SetErr}
+use Rattle.ob_twin.specs.declared.set_err.SetErr.TheVariants as set
+use Rattle.ob_values.specs.Carries.{Carries, Slots}
+use Rattle.ob_values.specs.Runs.{slots_of}
+use Rattle.ob_end.specs.Closings.{CloseDoes}
+
+-- ---- what a run keeps at all times, whatever its store tells
+
+-- The planner's numbers are in range, and the rows of its stash are those of some map, with some bytes in the slots.
+pub record IsPlannerFit (ring : Kept) : Type 0 where
+  pub table : FlatTable
+  pub stands : StandsFor ring table
+  pub slots : Slots
+  pub map : Values
+  pub carries : Carries ring.p table (ring.stash).rows slots map
+  pub book : FitsBook ring.p ring.book
+  pub seals : (u : ℕ) → u < buckets ring.p → FitsSeals (version_at (ring.metas).versions u)
+  pub whole : AreAllWhole ring.p ring.metas
+
+-- it has room for what an end needs
+pub record IsEndReady (run : Run) : Type 0 where
+  pub ready : IsRunReady run
+  pub own_words : (run.params).writes ≤ length (run.words).items
+  pub all_words : buckets run.params * width run.params ≤ length (run.words).items
+  pub sheet : length run.sheet ≡ 96 * checkpoint_cells run.params
+  pub planner : IsPlannerFit run.ring
+
+-- ---- an end of a table
+
+-- how many buckets are lifted behind the final lifts
+abbrev pub lifted_many : Params → FlatTable → ℕ
+lifted_many p t = length (refill_order p (after p t FinalLifts))
+
+-- the words that are drawn: for each place of a write, and for each slot of the lifted buckets
+abbrev pub words_for_end : Params → FlatTable → ℕ
+words_for_end p t = p.writes + lifted_many p t * width p
+
+-- the seals that are made: of each slot of the lifted buckets, and of the checkpoint
+abbrev pub seals_for_end : Params → FlatTable → ℕ
+seals_for_end p t = lifted_many p t * width p + checkpoint_cells p
+
+-- the i-th write has the entry that the i-th word gives, whose id is the generation and how many words were drawn before
+abbrev pub end_writes : Params → List Write → List ℕ → (generation drawn : ℕ) → List (Write × Entry)
+end_writes p writes words generation drawn = writes_of p writes (take p.writes words) (generation, drawn) (length writes)
+
+-- the lifts, then the writes, then the refill
+abbrev pub table_ended : Params → FlatTable → List (Write × Entry) → FlatTable
+table_ended p t ws = after p (after p (after p t FinalLifts) (Writes (leaf_writes ws))) Refill
+
+abbrev pub rows_ended : Params → FlatTable → List (Write × Entry) → ℕ
+rows_ended p t ws = stash_size p (table_ended p t ws)
+
+-- ---- what is answered
+
+-- there is such an epoch, and its words are left
+pub record HasWords (p : Params) (t : FlatTable) (epoch drawn : ℕ) : Type 0 where
+  pub epochs : suc epoch < 2 ^ 62
+  pub words : drawn + words_for_end p t ≤ 2 ^ 62
+
+module _ (p : Params) (t : FlatTable) (epoch drawn next : ℕ) (ws : List (Write × Entry)) where
+  -- so it can be written: the stash isn't too full then, and the seals are left
+  pub record MayEndEpoch : Type 0 where
+    pub has : HasWords p t epoch drawn
+    pub rows : rows_ended p t ws ≤ p.room
+    pub seals : next + seals_for_end p t ≤ 2 ^ 62
+
+  -- too few of something are left: epochs; or else words; or else, where the stash isn't too full, seals
+  abbrev pub IsWornForEnd : Type 0
+  IsWornForEnd =
+      (suc epoch ≡ 2 ^ 62)
+      ⊎ (((suc epoch < 2 ^ 62) × (2 ^ 62 < drawn + words_for_end p t))
+      ⊎ (HasWords p t epoch drawn × (rows_ended p t ws ≤ p.room) × (2 ^ 62 < next + seals_for_end p t)))
+
+  -- what is answered before anything is written
+  abbrev pub MakeAnswers : Result (Unit {0}) Fault → Type 0
+  MakeAnswers (Ok done) = MayEndEpoch
+  MakeAnswers (Err (fault.StoreFault unsure)) = (unsure ≡ None) × (suc epoch < 2 ^ 62)
+  MakeAnswers (Err (fault.Damaged cell check kept computed)) = suc epoch < 2 ^ 62
+  MakeAnswers (Err (fault.StashFull rows)) = HasWords p t epoch drawn × (rows ≡ rows_ended p t ws) × (p.room < rows_ended p t ws)
+  MakeAnswers (Err (fault.Worn number)) = (number ≡ 2 ^ 62) × IsWornForEnd
+  MakeAnswers (Err _) = ⊥
+
+  abbrev pub EndAnswers : Result (Unit {0}) EndErr → Type 0
+  EndAnswers (Ok done) = MayEndEpoch
+  EndAnswers (Err (end.Before refused)) = MakeAnswers (Err refused)
+  EndAnswers (Err (end.Unsure refused)) = MayEndEpoch
+
+-- ---- what is drawn
+
+module _ (p : Params) (t : FlatTable) (epoch drawn : ℕ) (old new : List ℕ) where
+  -- its words
+  abbrev pub DrawsForEnd : Type 0
+  DrawsForEnd = DrawsWords (words_for_end p t) old new
+
+  -- Its words, or none where the lifts were refused, or where there is no such epoch, or not its words.
+  abbrev pub MakeDraws : Result (Unit {0}) Fault → Type 0
+  MakeDraws (Ok done) = DrawsForEnd
+  MakeDraws (Err (fault.StashFull rows)) = DrawsForEnd
+  MakeDraws (Err (fault.Worn number)) = (HasWords p t epoch drawn × DrawsForEnd) ⊎ ((HasWords p t epoch drawn → ⊥) × (new ≡ old))
+  MakeDraws (Err _) = new ≡ old
+
+  -- behind them the store may be refused too
+  abbrev pub EndDraws : Result (Unit {0}) EndErr → Type 0
+  EndDraws (Ok done) = DrawsForEnd
+  EndDraws (Err (end.Unsure refused)) = DrawsForEnd
+  EndDraws (Err (end.Before (fault.StoreFault unsure))) = DrawsForEnd ⊎ (new ≡ old)
+  EndDraws (Err (end.Before refused)) = MakeDraws (Err refused)
+
+-- ---- what stands
+
+-- behind an end of it: the run's planner has the content
+abbrev pub standing_at_end : RingStanding → Run → List (Write × Entry) → RingStanding
+standing_at_end s run ws = record { epoch = suc s.epoch; generation = s.generation; map = with_writes s.map ws; content = content_of_ring run.ring; records = [] }
+
+-- where the store stood, it stands for the next epoch, with the writes
+abbrev pub EndStands : RingStanding → List (Write × Entry) → Disk → Run → Result (Unit {0}) EndErr → Type 0
+EndStands s ws disk run (Ok done) = RunIsAt run (standing_at_end s run ws) disk
+EndStands s ws disk run (Err _) = Unit {0}
+
+-- what a crash leaves: the epoch that stood where it was refused before the register's gate was written, else that or the next one
+abbrev pub EndImages : Keys → Params → RingStanding → List (Write × Entry) → Run → Result (Unit {0}) EndErr → Image → Type 0
+EndImages keys p s ws run (Err (end.Before refused)) image = Stands keys p s image
+EndImages keys p s ws run _ image = OneOf keys p s (standing_at_end s run ws) image
+
+-- a refused set refuses the end as it was refused
+abbrev pub end_err_of : SetErr → EndErr
+end_err_of (set.Before refused) = end.Before refused
+end_err_of (set.Unsure refused) = end.Unsure refused
+
+-- ---- what is made before anything is written
+
+-- The planner behind the final lifts is one of these, whatever the store tells; then the writes were made and the buckets filled anew.
+pub record IsEndMade (keys : Keys) (disk : Disk) (writes : List Write) (words : List ℕ) (generation drawn next : ℕ) (old new : Kept) : Type 0 where
+  pub lifted : Kept
+  pub rules : IsRing lifted
+  pub kept : lifted ≡ record old { metas = lifted.metas; stash = lifted.stash; counter = lifted.counter }
+  pub room : (lifted.stash).room ≡ (old.stash).room
+  pub seals : SameSeals (record old.metas { order = (lifted.metas).order }) lifted.metas
+  pub listed : IsListed lifted
+  pub table : (t : FlatTable) → StandsFor old t → StandsFor lifted (after old.p t FinalLifts)
+  pub joins : (t : FlatTable) → StandsFor old t → RowsJoin (lifts_picked old.p t) (old.stash).rows (lifted.stash).rows
+  -- where the store tells its cells, they were read as these hold them
+  pub read : (start : Buckets) (t : FlatTable) → SameSeals start old.metas → StandsFor old t → disk.tells
+      → LiftsAreRead old.p (slots_of old.p start.versions (plains_in keys disk.cells)) t (old.stash).rows (lifted.stash).rows
+  pub renews : Renews writes words generation drawn next lifted new
+
+-- what is damaged, where the store tells its cells: of the lifts what comes first
+abbrev pub MakeDamage : Keys → Params → List Version → Image → FlatTable → Result (Unit {0}) Fault → Type 0
+MakeDamage keys p versions image t (Err (fault.Damaged cell check kept computed)) =
+    IsLiftDamage keys p versions image t (record { cell = cell; check = check; kept = kept; computed = computed })
+MakeDamage keys p versions image t _ = Unit {0}
+
+-- the lifts were read and shown, or, of a store that failed or where numbers are worn, nothing was
+abbrev pub MakeTells : ℕ → List ℕ → List Note → Option (List Event) → Option (List Event) → Trace → Trace → Result (Unit {0}) Fault → Type 0
+MakeTells most cells notes old new before later (Err (fault.StoreFault unsure)) = BatchIsShown most cells notes old new before later ⊎ NoneIsShown old new before later
+MakeTells most cells notes old new before later (Err (fault.Worn number)) = BatchIsShown most cells notes old new before later ⊎ NoneIsShown old new before later
+MakeTells most cells notes old new before later _ = BatchIsShown most cells notes old new before later
+
+-- the refusals
+abbrev pub IsMakeFault : Fault → Type 0
+IsMakeFault (fault.StoreFault unsure) = unsure ≡ None
+IsMakeFault (fault.Damaged cell check kept computed) = Unit {0}
+IsMakeFault (fault.StashFull rows) = Unit {0}
+IsMakeFault (fault.Worn number) = number ≡ 2 ^ 62
+IsMakeFault _ = ⊥
+
+-- ---- what the end shows
+
+-- the lifts were read and shown, and then this was done
+pub record LiftsThen (most : ℕ) (cells : List ℕ) (notes : List Note) (old new : Option (List Event)) (before later : Trace) (Rest : Option (List Event) → Option (List Event) → Trace → Trace → Type 0) : Type 0 where
+  pub mid : Option (List Event)
+  pub shown : Trace
+  pub lifts : BatchIsShown most cells notes old mid before shown
+  pub rest : Rest mid new shown later
+
+-- All of it: the lifts, the end's writes and the register. Refused before the register's gate it may be the first of that alone.
+abbrev pub EndDoes : ℕ → List ℕ → List Note → List Note → Bool → ℕ → Option (List Event) → Option (List Event) → Trace → Trace → Result (Unit {0}) EndErr → Type 0
+EndDoes most cells notes writes closes epoch old new before later (Ok done) =
+    LiftsThen most cells notes old new before later (λ a b k l. CloseDoes writes closes epoch a b k l (Ok tt))
+EndDoes most cells notes writes closes epoch old new before later (Err (end.Unsure refused)) =
+    LiftsThen most cells notes old new before later (λ a b k l. CloseDoes writes closes epoch a b k l (Err (set.Unsure refused)))
+EndDoes most cells notes writes closes epoch old new before later (Err (end.Before (fault.StoreFault unsure))) =
+    MakeTells most cells notes old new before later (Err (fault.StoreFault unsure))
+    ⊎ LiftsThen most cells notes old new before later (λ a b k l. CloseDoes writes closes epoch a b k l (Err (set.Before (fault.StoreFault unsure))))
+EndDoes most cells notes writes closes epoch old new before later (Err (end.Before refused)) = MakeTells most cells notes old new before later (Err refused)

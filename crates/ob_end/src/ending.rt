@@ -1,0 +1,150 @@
+//! The end of an epoch.
+
+ghost use Rattle.std.specs.Prelude.{◌≡◌, ◌<◌, ◌≤◌, ◌+◌, ◌^◌, ℕ, List, Some, suc, false, true, length, IfErr, OnErr, OnOk};
+ghost use Rattle.ob_base.specs.Planned.{most_jobs};
+ghost use Rattle.ob_bucket.specs.Buckets.{Buckets};
+ghost use Rattle.ob_cells.specs.Writes.{Seals};
+ghost use Rattle.ob_end_writes.specs.EndWrites.{end_write_notes};
+ghost use Rattle.ob_ending.specs.Lifts.{lift_cells, lift_notes};
+ghost use Rattle.ob_fetch.specs.Fetches.{RunIsAt, words_since};
+ghost use Rattle.ob_ring.specs.FlatTable.{FlatTable};
+ghost use Rattle.ob_ring.specs.Picked.{SameSeals};
+ghost use Rattle.ob_ring.specs.Ring.{StandsFor};
+ghost use Rattle.ob_ring.specs.Writing.{write_at};
+ghost use Rattle.ob_serial.specs.VaultViews.{IsEndFault, IsStoreEnd};
+ghost use Rattle.ob_stand.specs.Stands.{RingStanding};
+ghost use Rattle.ob_store.specs.Calls.{Serves};
+ghost use Rattle.ob_store.specs.Images.{IsSynced, LeavesOnly};
+ghost use Rattle.ob_twin.specs.Opening.{GatesAre, is_closed_first};
+ghost use Rattle.ob_twin.specs.Register.{place_of};
+ghost use Rattle.ob_end.specs.EndRuns.{EndAnswers, EndDoes, EndDraws, EndImages, EndStands, IsEndReady, end_err_of, end_writes, seals_for_end, table_ended};
+
+use crate::closing::close_epoch;
+use crate::making::make_end;
+use ob_base::Write;
+use ob_batch::Crew;
+use ob_fetch::Run;
+use ob_serial::EndErr;
+use ob_store::{Store, Watch};
+use ob_tape::Tape;
+use ob_twin::SetErr;
+
+fn end_err(refused: SetErr) -> EndErr
+    ensures { result ≡ end_err_of refused }
+{
+    match refused {
+        SetErr::Before(fault) => EndErr::Before(fault),
+        SetErr::Unsure(fault) => EndErr::Unsure(fault),
+    }
+}
+
+/// Ends the epoch that runs: reads the final lifts, makes the epoch's writes, of which the i-th
+/// takes the i-th word drawn, fills the lifted buckets anew, writes them where they then lie, writes
+/// the checkpoint and closed gates for the log of the epoch behind, and sets the epoch's register.
+/// All batches are left then. It takes no memory.
+///
+/// While it runs a crash leaves the epoch that stood; from the write on that opens the register's
+/// gate it leaves that or the one that ends, and once it is done the one that ends.
+///
+/// # Errors
+/// Before anything is written: Worn with `2^62` where there is no such epoch; then a store that
+/// failed, and its count of faults rose, or what is damaged first of the lifts; then Worn with
+/// `2^62` where fewer words are left below that than the writes and the lifted buckets take;
+/// then `StashFull` exactly where more rows would be left in the stash than it may keep; then Worn
+/// with `2^62` where fewer seals are left than are made. Behind that the store alone: Before it
+/// wrote the gate, or Unsure. After any of them the run is spent.
+pub fn end<S: Store, T: Tape, W: Watch>(
+    store: &mut S,
+    tape: &mut T,
+    crew: &mut Crew<S::Lane>,
+    run: &mut Run,
+    writes: &[Write],
+    watch: &mut W,
+) -> Result<(), EndErr>
+    requires none_out { (S.disk store.old).out ≡ 0 }
+    requires ready { IsEndReady run.old }
+    requires serves { run.old.spent ≡ false }
+    requires none_left { run.old.left ≡ 0 }
+    requires crew { most_jobs run.old.params ≤ crew.old.jobs }
+    requires generation { T.present tape.old ≡ run.old.sealer.generation }
+    requires drawn { run.old.drawn ≡ length (T.drawn tape.old) }
+    requires small { run.old.drawn ≤ 2 ^ 62 }
+    requires told { (S.disk store.old).tells
+        → GatesAre run.old.gates.epoch 5 (S.disk store.old).cells }
+    requires few { length writes.now ≤ run.old.params.writes }
+    requires keys { (i : ℕ) → i < length writes.now
+        → (write_at writes.now i).key < run.old.params.keys }
+    requires short { (i : ℕ) (value : List ℕ) → i < length writes.now
+        → (write_at writes.now i).value ≡ Some value → length value ≤ 64 }
+    ensures serves { Serves IsStoreEnd (S.disk store.old) (S.disk store.new) result }
+    ensures faults { IfErr result (IsEndFault (run.old.epoch + 1)) }
+    ensures answers { (t : FlatTable) → StandsFor run.old.ring t
+        → EndAnswers run.old.params t run.old.epoch run.old.drawn run.old.sealer.next
+        (end_writes run.old.params writes.now (words_since (T.drawn tape.old) (T.drawn tape.new))
+        run.old.sealer.generation run.old.drawn) result }
+    ensures draws { (t : FlatTable) → StandsFor run.old.ring t
+        → EndDraws run.old.params t run.old.epoch run.old.drawn (T.drawn tape.old)
+        (T.drawn tape.new) result }
+    ensures generation { T.present tape.new ≡ T.present tape.old }
+    ensures drawn { run.new.drawn ≡ length (T.drawn tape.new) }
+    ensures params { run.new.params ≡ run.old.params }
+    ensures served { OnOk result ((run.new.epoch ≡ suc run.old.epoch)
+        × (run.new.left ≡ run.old.params.batches) × (run.new.spent ≡ false)) }
+    ensures refused { OnErr result ((run.new.epoch ≡ run.old.epoch)
+        × (run.new.left ≡ run.old.left) × (run.new.spent ≡ true)) }
+    ensures ready { OnOk result (IsEndReady run.new) }
+    ensures crew { crew.new ≡ crew.old }
+    ensures seals { (t : FlatTable) → StandsFor run.old.ring t
+        → Seals (seals_for_end run.old.params t) run.old.sealer run.new.sealer result }
+    ensures told { (S.disk store.old).tells
+        → OnOk result (GatesAre run.new.gates.epoch 5 (S.disk store.new).cells) }
+    ensures durable { (S.disk store.old).tells → OnOk result (IsSynced (S.disk store.new)) }
+    ensures table { (t : FlatTable) → StandsFor run.old.ring t
+        → OnOk result (StandsFor run.new.ring (table_ended run.old.params t
+        (end_writes run.old.params writes.now (words_since (T.drawn tape.old) (T.drawn tape.new))
+        run.old.sealer.generation run.old.drawn))) }
+    // The lifts of the table, the buckets as these lie then, the checkpoint, the gates, and the register.
+    ensures does { (start : Buckets) (t : FlatTable) → SameSeals start run.old.ring.metas
+        → StandsFor run.old.ring t
+        → EndDoes crew.old.lanes (lift_cells run.old.params start.versions t)
+        (lift_notes run.old.params start.versions t)
+        (end_write_notes run.new.ring (suc run.old.epoch))
+        (is_closed_first run.old.gates.epoch (place_of (suc run.old.epoch))) (suc run.old.epoch)
+        (S.disk store.old).seen (S.disk store.new).seen (W.trace watch.old) (W.trace watch.new)
+        result }
+    // Where the store stood, it stands for the next epoch, with the writes.
+    ensures stands { (s : RingStanding) → RunIsAt run.old s (S.disk store.old)
+        → EndStands s (end_writes run.old.params writes.now (words_since (T.drawn tape.old)
+        (T.drawn tape.new)) run.old.sealer.generation run.old.drawn) (S.disk store.new) run.new
+        result }
+    // A crash at any moment of it leaves what stood, or that or what then stands.
+    ensures images { (s : RingStanding) → RunIsAt run.old s (S.disk store.old)
+        → LeavesOnly (S.disk store.old) (S.disk store.new)
+        (EndImages run.old.sealer.keys run.old.params s (end_writes run.old.params writes.now
+        (words_since (T.drawn tape.old) (T.drawn tape.new)) run.old.sealer.generation
+        run.old.drawn) run.new result) }
+{
+    run.spent = true;
+    match make_end(store, tape, crew, run, writes, watch) {
+        Ok(()) => {}
+        Err(fault) => return Err(EndErr::Before(fault)),
+    }
+    let epoch = run.epoch + 1;
+    match close_epoch(
+        store,
+        &mut run.sealer,
+        &mut run.gates,
+        &run.params,
+        epoch,
+        &mut run.ring,
+        &mut run.sheet,
+        watch,
+    ) {
+        Ok(()) => {}
+        Err(refused) => return Err(end_err(refused)),
+    }
+    run.epoch = epoch;
+    run.left = run.params.batches;
+    run.spent = false;
+    Ok(())
+}

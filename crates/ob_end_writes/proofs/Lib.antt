@@ -1,0 +1,4 @@
+pub mod Parts
+pub mod Shuts
+pub mod FillsAll
+pub mod Whole

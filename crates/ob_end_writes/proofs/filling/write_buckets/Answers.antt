@@ -1,0 +1,58 @@
+use Rattle.std.proofs.Common.{◌≡◌, ◌<◌, ℕ, List, ap, arith, length, slice_index, subst}
+use Rattle.ob_base.specs.Layout.{slot_cell}
+use Rattle.ob_base.specs.Tree.{width}
+use Rattle.ob_bucket.specs.Buckets.{version_at}
+use Rattle.ob_ring_trace.specs.Ends.{refill_notes}
+use Rattle.ob_store.specs.Runs.{write_notes}
+use Rattle.ob_store.proofs.Doing.{does_refused}
+use Rattle.ob_end_writes.proofs.FillsAll.{fill_all, fill_one, fill_refused, first_more}
+use Rattle.ob_end_writes.proofs.Parts.{told_cut, told_next}
+use Rattle.ob_end_writes.proofs.filling.write_buckets.Goals as goal
+
+pub returns-in_err-write_bucket-clause-fills : goal.returns-in_err-write_bucket-clause-fills
+returns-in_err-write_bucket-clause-fills g c =
+    let r = c.args.ring.now in
+    let low : c.loop-i.i < length r.metas.order = subst (λ (us : List ℕ). c.loop-i.i < length us) c.to_refill-i-end.ensures c.loop-i-test.true in
+    let at = ap (λ (us : List ℕ). slice_index us c.loop-i.i) c.to_refill.ensures in
+    fill_refused r c.loop-i.i (slice_index c.to_refill.result.now c.loop-i.i) c.args.sealer.now c.loop-i.sealer c.write_bucket.new.sealer
+    (g.S.Store.disk c.args.store.now) (g.S.Store.disk c.loop-i.store) (g.S.Store.disk c.write_bucket.new.store) low at c.loop-i.invariant.filling
+    c.write_bucket.result c.write_bucket.ensures.run c.from_residual.result c.from_residual.ensures.0
+
+pub returns-in_err-write_bucket-clause-does : goal.returns-in_err-write_bucket-clause-does
+returns-in_err-write_bucket-clause-does g c =
+    let r = c.args.ring.now in
+    let low : c.loop-i.i < length r.metas.order = subst (λ (us : List ℕ). c.loop-i.i < length us) c.to_refill-i-end.ensures c.loop-i-test.true in
+    let at = ap (λ (us : List ℕ). slice_index us c.loop-i.i) c.to_refill.ensures in
+    does_refused _ _ _ _ (refill_notes r.p r.metas.versions r.metas.order) c.from_residual.result c.from_residual.ensures.0
+    (told_cut (λ u. write_notes (slot_cell r.p (version_at r.metas.versions u).home u 0) (width r.p)) r.metas.order c.loop-i.i (slice_index c.to_refill.result.now c.loop-i.i) low at
+    _ _ _ _ _ _ c.loop-i.invariant.told c.in_err-write_bucket.ensures.does.first)
+
+pub returns-in_err-write_bucket-clause-first : goal.returns-in_err-write_bucket-clause-first
+returns-in_err-write_bucket-clause-first g c =
+    let r = c.args.ring.now in
+    let low : c.loop-i.i < length r.metas.order = subst (λ (us : List ℕ). c.loop-i.i < length us) c.to_refill-i-end.ensures c.loop-i-test.true in
+    let at = ap (λ (us : List ℕ). slice_index us c.loop-i.i) c.to_refill.ensures in
+    first_more r c.loop-i.i (slice_index c.to_refill.result.now c.loop-i.i) c.args.sealer.now c.loop-i.sealer c.write_bucket.new.sealer
+    (g.S.Store.disk c.args.store.now) (g.S.Store.disk c.loop-i.store) (g.S.Store.disk c.write_bucket.new.store) low at c.loop-i.invariant.filling
+    c.write_bucket.result c.write_bucket.ensures.run
+
+pub loop-i-preserved : goal.loop-i-preserved
+loop-i-preserved g c =
+    let r = c.args.ring.now in
+    let low : c.loop-i.i < length r.metas.order = subst (λ (us : List ℕ). c.loop-i.i < length us) c.to_refill-i-end.ensures c.loop-i-test.true in
+    let at = ap (λ (us : List ℕ). slice_index us c.loop-i.i) c.to_refill.ensures in
+    let e = c.in_ok-write_bucket.ensures in
+    record {
+      filling = fill_one r c.loop-i.i (slice_index c.to_refill.result.now c.loop-i.i) c.args.sealer.now c.loop-i.sealer c.write_bucket.new.sealer
+          (g.S.Store.disk c.args.store.now) (g.S.Store.disk c.loop-i.store) (g.S.Store.disk c.write_bucket.new.store) low at c.loop-i.invariant.filling
+          _ e.run c.requires.sealed c.requires.room e.serves;
+      told = told_next (λ u. write_notes (slot_cell r.p (version_at r.metas.versions u).home u 0) (width r.p)) r.metas.order c.loop-i.i (slice_index c.to_refill.result.now c.loop-i.i) low at
+          _ _ _ _ _ _ c.loop-i.invariant.told e.does.all;
+    }
+
+pub returns-clause-fills : goal.returns-clause-fills
+returns-clause-fills g c =
+    let r = c.args.ring.now in
+    let many : length c.to_refill-i-end.result.now ≡ length r.metas.order = ap (λ (us : List ℕ). length us) c.to_refill-i-end.ensures in
+    let whole : c.loop-i.i ≡ length r.metas.order = omega (arith, c.loop-i-test.false, c.loop-i.auto.i-end, many) in
+    fill_all r c.loop-i.i c.args.sealer.now c.loop-i.sealer (g.S.Store.disk c.args.store.now) (g.S.Store.disk c.loop-i.store) whole c.loop-i.invariant.filling

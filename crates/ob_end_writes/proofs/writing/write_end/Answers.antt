@@ -1,0 +1,163 @@
+use Rattle.std.proofs.Common.{◌≡◌, ◌+◌, ◌%◌, ℕ, suc, [], ◌∷◌, ◌++◌, arith, subst, sym, Ok, Err, None}
+use Rattle.ob_base.specs.declared.fault.Failed.{Failed}
+use Rattle.ob_base.specs.declared.fault.Fault.TheVariants.{StoreFault}
+use Rattle.ob_base.specs.declared.params.Params.{Params}
+use Rattle.ob_base.specs.Layout.{checkpoint_cells}
+use Rattle.ob_cells.specs.Writes.{WritesWithin}
+use Rattle.ob_check.specs.Written.{area_of}
+use Rattle.ob_content.specs.Content.{content_of}
+use Rattle.ob_ring_trace.specs.Ends.{refill_notes}
+use Rattle.ob_schedule.specs.Schedule.{log_gates, writes_of}
+use Rattle.ob_stand.specs.Ends.{IsEndOf}
+use Rattle.ob_store.specs.Runs.{write_notes}
+use Rattle.ob_store.specs.Told.{Tells, TellsFirst}
+use Rattle.ob_store.specs.declared.watch.Note.TheVariants as note
+use Rattle.ob_store.proofs.Doing.{does_err, does_refused, does_sync, does_then, first_behind, first_more}
+use Rattle.ob_end_writes.specs.EndWrites.{ShutsGates, bucket_seals, end_write_notes}
+use Rattle.ob_end_writes.proofs.Whole.{as_written, check_refused, content_is, end_written, first_checked, first_then, gates_refused, sync_refused}
+use Rattle.ob_end_writes.proofs.writing.write_end.Goals as goal
+
+pub returns-in_err-write-clause-writes : goal.returns-in_err-write-clause-writes
+returns-in_err-write-clause-writes g c s end at is =
+    let r = c.args.ring.now in
+    let within : WritesWithin (area_of r.p c.args.epoch) (checkpoint_cells r.p) (g.S.Store.disk c.write_buckets.new.store) (g.S.Store.disk c.write.new.store) =
+    subst (λ (q : Params). WritesWithin (area_of q c.args.epoch) (checkpoint_cells q) (g.S.Store.disk c.write_buckets.new.store) (g.S.Store.disk c.write.new.store)) c.requires.params
+    (record { rest = c.write.ensures.rest; passes = c.write.ensures.passes }) in
+    check_refused c.args.sealer.now.keys r c.args.sealer.now.generation s end is c.args.epoch at
+    (g.S.Store.disk c.args.store.now) (g.S.Store.disk c.write_buckets.new.store) (g.S.Store.disk c.write.new.store) c.in-Ok.ensures.serves.tells (c.in-Ok.ensures.fills s end is) within
+    c.from_residual.result c.from_residual.ensures.0
+
+pub returns-in-Err-shut_gates-clause-writes : goal.returns-in-Err-shut_gates-clause-writes
+returns-in-Err-shut_gates-clause-writes g c s end at is =
+    let r = c.args.ring.now in
+    let within : WritesWithin (area_of r.p c.args.epoch) (checkpoint_cells r.p) (g.S.Store.disk c.write_buckets.new.store) (g.S.Store.disk c.write.new.store) =
+    subst (λ (q : Params). WritesWithin (area_of q c.args.epoch) (checkpoint_cells q) (g.S.Store.disk c.write_buckets.new.store) (g.S.Store.disk c.write.new.store)) c.requires.params
+    (record { rest = c.write.ensures.rest; passes = c.write.ensures.passes }) in
+    let area : (c.args.epoch + 1) % 2 ≡ suc (suc s.epoch) % 2 = omega (arith, at) in
+    let shuts : ShutsGates {T = Unit {0}} {E = Failed} c.args.sealer.now.keys r.p s end (g.S.Store.disk c.write.new.store) (g.S.Store.disk c.shut_gates.new.store) (Err c.in-Err-shut_gates.field-0) =
+    subst (λ (q : Params). ShutsGates {T = Unit {0}} {E = Failed} c.args.sealer.now.keys q s end (g.S.Store.disk c.write.new.store) (g.S.Store.disk c.shut_gates.new.store) (Err c.in-Err-shut_gates.field-0)) c.requires.params
+    (c.in-Err-shut_gates.ensures.shuts c.args.sealer.now.keys s end (subst (λ (q : Params). IsEndOf q s end) (sym c.requires.params) is.follows) area) in
+    gates_refused c.args.sealer.now.keys r c.args.sealer.now.generation s end is c.args.epoch at
+    (g.S.Store.disk c.args.store.now) (g.S.Store.disk c.write_buckets.new.store) (g.S.Store.disk c.write.new.store) c.in-Ok.ensures.serves.tells (c.in-Ok.ensures.fills s end is) within
+    (λ t. c.in_ok-write.ensures.serves.tells (c.in-Ok.ensures.serves.tells t)) (g.S.Store.disk c.shut_gates.new.store) c.in-Err-shut_gates.field-0 (StoreFault None) shuts
+
+pub returns-in-Err-sync_noted-clause-writes : goal.returns-in-Err-sync_noted-clause-writes
+returns-in-Err-sync_noted-clause-writes g c s end at is =
+    let r = c.args.ring.now in
+    let within : WritesWithin (area_of r.p c.args.epoch) (checkpoint_cells r.p) (g.S.Store.disk c.write_buckets.new.store) (g.S.Store.disk c.write.new.store) =
+    subst (λ (q : Params). WritesWithin (area_of q c.args.epoch) (checkpoint_cells q) (g.S.Store.disk c.write_buckets.new.store) (g.S.Store.disk c.write.new.store)) c.requires.params
+    (record { rest = c.write.ensures.rest; passes = c.write.ensures.passes }) in
+    let area : (c.args.epoch + 1) % 2 ≡ suc (suc s.epoch) % 2 = omega (arith, at) in
+    let shuts : ShutsGates {T = Unit {0}} {E = Failed} c.args.sealer.now.keys r.p s end (g.S.Store.disk c.write.new.store) (g.S.Store.disk c.shut_gates.new.store) (Ok tt) =
+    subst (λ (q : Params). ShutsGates {T = Unit {0}} {E = Failed} c.args.sealer.now.keys q s end (g.S.Store.disk c.write.new.store) (g.S.Store.disk c.shut_gates.new.store) (Ok tt)) c.requires.params
+    (c.in-Ok-shut_gates.ensures.shuts c.args.sealer.now.keys s end (subst (λ (q : Params). IsEndOf q s end) (sym c.requires.params) is.follows) area) in
+    sync_refused c.args.sealer.now.keys r c.args.sealer.now.generation s end is c.args.epoch at
+    (g.S.Store.disk c.args.store.now) (g.S.Store.disk c.write_buckets.new.store) (g.S.Store.disk c.write.new.store) c.in-Ok.ensures.serves.tells (c.in-Ok.ensures.fills s end is) within
+    (λ t. c.in_ok-write.ensures.serves.tells (c.in-Ok.ensures.serves.tells t)) (g.S.Store.disk c.shut_gates.new.store) shuts (λ t. c.in-Ok-shut_gates.ensures.serves.tells (c.in_ok-write.ensures.serves.tells (c.in-Ok.ensures.serves.tells t)))
+    (g.S.Store.disk c.sync_noted.new.store) c.sync_noted.ensures.keeps c.sync_noted.ensures.serves.goes.later c.sync_noted.ensures.time c.sync_noted.ensures.crash (StoreFault None)
+
+pub returns-in-Ok-sync_noted-clause-writes : goal.returns-in-Ok-sync_noted-clause-writes
+returns-in-Ok-sync_noted-clause-writes g c s end at is =
+    let r = c.args.ring.now in
+    let within : WritesWithin (area_of r.p c.args.epoch) (checkpoint_cells r.p) (g.S.Store.disk c.write_buckets.new.store) (g.S.Store.disk c.write.new.store) =
+    subst (λ (q : Params). WritesWithin (area_of q c.args.epoch) (checkpoint_cells q) (g.S.Store.disk c.write_buckets.new.store) (g.S.Store.disk c.write.new.store)) c.requires.params
+    (record { rest = c.write.ensures.rest; passes = c.write.ensures.passes }) in
+    let area : (c.args.epoch + 1) % 2 ≡ suc (suc s.epoch) % 2 = omega (arith, at) in
+    let shuts : ShutsGates {T = Unit {0}} {E = Failed} c.args.sealer.now.keys r.p s end (g.S.Store.disk c.write.new.store) (g.S.Store.disk c.shut_gates.new.store) (Ok tt) =
+    subst (λ (q : Params). ShutsGates {T = Unit {0}} {E = Failed} c.args.sealer.now.keys q s end (g.S.Store.disk c.write.new.store) (g.S.Store.disk c.shut_gates.new.store) (Ok tt)) c.requires.params
+    (c.in-Ok-shut_gates.ensures.shuts c.args.sealer.now.keys s end (subst (λ (q : Params). IsEndOf q s end) (sym c.requires.params) is.follows) area) in
+    let kept = content_is c.tables.result.now r c.forget_written.new.self c.forget_written.ensures.kept c.forget_written.ensures.rows c.tables.ensures.book c.tables.ensures.metas c.tables.ensures.stash c.tables.ensures.counter in
+    end_written c.args.sealer.now.keys r c.args.sealer.now.generation s end is c.args.epoch at
+    (g.S.Store.disk c.args.store.now) (g.S.Store.disk c.write_buckets.new.store) (g.S.Store.disk c.write.new.store) c.in-Ok.ensures.serves.tells (c.in-Ok.ensures.fills s end is) within
+    (λ t. c.in_ok-write.ensures.serves.tells (c.in-Ok.ensures.serves.tells t)) (g.S.Store.disk c.shut_gates.new.store) shuts (λ t. c.in-Ok-shut_gates.ensures.serves.tells (c.in_ok-write.ensures.serves.tells (c.in-Ok.ensures.serves.tells t)))
+    (g.S.Store.disk c.sync_noted.new.store) c.sync_noted.ensures.keeps c.sync_noted.ensures.serves.goes.later c.sync_noted.ensures.time c.sync_noted.ensures.crash
+    (c.args.sealer.now.next + bucket_seals r) (omega (arith, c.requires.generation)) (omega (arith, c.requires.room))
+    (λ t. as_written r c.args.p.now c.args.sealer.now c.write_buckets.new.sealer (content_of c.tables.result.now) c.args.epoch (g.S.Store.disk c.write.new.store).cells c.requires.params
+    c.in-Ok.ensures.seals.all kept (c.in_ok-write.ensures.written (c.in-Ok.ensures.serves.tells t)))
+
+pub returns-in_err-write-clause-does : goal.returns-in_err-write-clause-does
+returns-in_err-write-clause-does g c =
+    let r = c.args.ring.now in
+    let xs = refill_notes r.p r.metas.versions r.metas.order in
+    let ys = write_notes (area_of r.p c.args.epoch) (checkpoint_cells r.p) in
+    let zs = writes_of (log_gates r.p (suc c.args.epoch % 2)) in
+    let first : TellsFirst ys (g.S.Store.disk c.write_buckets.new.store).seen (g.S.Store.disk c.write.new.store).seen (g.W.Watch.trace c.write_buckets.new.watch) (g.W.Watch.trace c.write.new.watch) =
+    subst (λ (q : Params). TellsFirst (write_notes (area_of q c.args.epoch) (checkpoint_cells q)) (g.S.Store.disk c.write_buckets.new.store).seen
+    (g.S.Store.disk c.write.new.store).seen (g.W.Watch.trace c.write_buckets.new.watch) (g.W.Watch.trace c.write.new.watch)) c.requires.params c.in_err-write.ensures.does.first in
+    does_refused _ _ _ _ (end_write_notes r c.args.epoch) c.from_residual.result c.from_residual.ensures.0
+    (first_behind _ _ _ _ _ _ xs (ys ++ (zs ++ (note.Sync ∷ []))) c.in-Ok.ensures.does.all (first_more _ _ _ _ ys (zs ++ (note.Sync ∷ [])) first))
+
+pub returns-in-Err-shut_gates-clause-does : goal.returns-in-Err-shut_gates-clause-does
+returns-in-Err-shut_gates-clause-does g c =
+    let r = c.args.ring.now in
+    let xs = refill_notes r.p r.metas.versions r.metas.order in
+    let ys = write_notes (area_of r.p c.args.epoch) (checkpoint_cells r.p) in
+    let zs = writes_of (log_gates r.p (suc c.args.epoch % 2)) in
+    let told : Tells ys ys (g.S.Store.disk c.write_buckets.new.store).seen (g.S.Store.disk c.write.new.store).seen (g.W.Watch.trace c.write_buckets.new.watch) (g.W.Watch.trace c.write.new.watch) =
+    subst (λ (q : Params). Tells (write_notes (area_of q c.args.epoch) (checkpoint_cells q)) (write_notes (area_of q c.args.epoch) (checkpoint_cells q)) (g.S.Store.disk c.write_buckets.new.store).seen
+    (g.S.Store.disk c.write.new.store).seen (g.W.Watch.trace c.write_buckets.new.watch) (g.W.Watch.trace c.write.new.watch)) c.requires.params c.in_ok-write.ensures.does.all in
+    let area : (c.args.epoch + 1) % 2 ≡ suc c.args.epoch % 2 = omega arith in
+    let gates : TellsFirst zs (g.S.Store.disk c.write.new.store).seen (g.S.Store.disk c.shut_gates.new.store).seen (g.W.Watch.trace c.write.new.watch) (g.W.Watch.trace c.shut_gates.new.watch) =
+    subst (λ (a : ℕ). TellsFirst (writes_of (log_gates r.p a)) (g.S.Store.disk c.write.new.store).seen (g.S.Store.disk c.shut_gates.new.store).seen (g.W.Watch.trace c.write.new.watch) (g.W.Watch.trace c.shut_gates.new.watch)) area
+    (subst (λ (q : Params). TellsFirst (writes_of (log_gates q ((c.args.epoch + 1) % 2))) (g.S.Store.disk c.write.new.store).seen (g.S.Store.disk c.shut_gates.new.store).seen (g.W.Watch.trace c.write.new.watch)
+    (g.W.Watch.trace c.shut_gates.new.watch)) c.requires.params c.in-Err-shut_gates.ensures.does.first) in
+    does_err _ _ _ _ (end_write_notes r c.args.epoch) (StoreFault None)
+    (first_behind _ _ _ _ _ _ xs (ys ++ (zs ++ (note.Sync ∷ []))) c.in-Ok.ensures.does.all (first_behind _ _ _ _ _ _ ys (zs ++ (note.Sync ∷ [])) told (first_more _ _ _ _ zs (note.Sync ∷ []) gates)))
+
+pub returns-in-Ok-sync_noted-clause-does : goal.returns-in-Ok-sync_noted-clause-does
+returns-in-Ok-sync_noted-clause-does g c =
+    let r = c.args.ring.now in
+    let xs = refill_notes r.p r.metas.versions r.metas.order in
+    let ys = write_notes (area_of r.p c.args.epoch) (checkpoint_cells r.p) in
+    let zs = writes_of (log_gates r.p (suc c.args.epoch % 2)) in
+    let told : Tells ys ys (g.S.Store.disk c.write_buckets.new.store).seen (g.S.Store.disk c.write.new.store).seen (g.W.Watch.trace c.write_buckets.new.watch) (g.W.Watch.trace c.write.new.watch) =
+    subst (λ (q : Params). Tells (write_notes (area_of q c.args.epoch) (checkpoint_cells q)) (write_notes (area_of q c.args.epoch) (checkpoint_cells q)) (g.S.Store.disk c.write_buckets.new.store).seen
+    (g.S.Store.disk c.write.new.store).seen (g.W.Watch.trace c.write_buckets.new.watch) (g.W.Watch.trace c.write.new.watch)) c.requires.params c.in_ok-write.ensures.does.all in
+    let area : (c.args.epoch + 1) % 2 ≡ suc c.args.epoch % 2 = omega arith in
+    let gates : Tells zs zs (g.S.Store.disk c.write.new.store).seen (g.S.Store.disk c.shut_gates.new.store).seen (g.W.Watch.trace c.write.new.watch) (g.W.Watch.trace c.shut_gates.new.watch) =
+    subst (λ (a : ℕ). Tells (writes_of (log_gates r.p a)) (writes_of (log_gates r.p a)) (g.S.Store.disk c.write.new.store).seen (g.S.Store.disk c.shut_gates.new.store).seen (g.W.Watch.trace c.write.new.watch) (g.W.Watch.trace c.shut_gates.new.watch)) area
+    (subst (λ (q : Params). Tells (writes_of (log_gates q ((c.args.epoch + 1) % 2))) (writes_of (log_gates q ((c.args.epoch + 1) % 2))) (g.S.Store.disk c.write.new.store).seen (g.S.Store.disk c.shut_gates.new.store).seen (g.W.Watch.trace c.write.new.watch)
+    (g.W.Watch.trace c.shut_gates.new.watch)) c.requires.params c.in-Ok-shut_gates.ensures.does.all) in
+    does_then _ _ _ _ _ _ xs (ys ++ (zs ++ (note.Sync ∷ []))) (Ok tt) c.in-Ok.ensures.does.all
+    (does_then _ _ _ _ _ _ ys (zs ++ (note.Sync ∷ [])) (Ok tt) told (does_sync _ _ _ _ _ _ zs (Ok tt) gates c.in-Ok-sync_noted.ensures.told))
+
+pub returns-in-Err-sync_noted-clause-does : goal.returns-in-Err-sync_noted-clause-does
+returns-in-Err-sync_noted-clause-does g c =
+    let r = c.args.ring.now in
+    let xs = refill_notes r.p r.metas.versions r.metas.order in
+    let ys = write_notes (area_of r.p c.args.epoch) (checkpoint_cells r.p) in
+    let zs = writes_of (log_gates r.p (suc c.args.epoch % 2)) in
+    let told : Tells ys ys (g.S.Store.disk c.write_buckets.new.store).seen (g.S.Store.disk c.write.new.store).seen (g.W.Watch.trace c.write_buckets.new.watch) (g.W.Watch.trace c.write.new.watch) =
+    subst (λ (q : Params). Tells (write_notes (area_of q c.args.epoch) (checkpoint_cells q)) (write_notes (area_of q c.args.epoch) (checkpoint_cells q)) (g.S.Store.disk c.write_buckets.new.store).seen
+    (g.S.Store.disk c.write.new.store).seen (g.W.Watch.trace c.write_buckets.new.watch) (g.W.Watch.trace c.write.new.watch)) c.requires.params c.in_ok-write.ensures.does.all in
+    let area : (c.args.epoch + 1) % 2 ≡ suc c.args.epoch % 2 = omega arith in
+    let gates : Tells zs zs (g.S.Store.disk c.write.new.store).seen (g.S.Store.disk c.shut_gates.new.store).seen (g.W.Watch.trace c.write.new.watch) (g.W.Watch.trace c.shut_gates.new.watch) =
+    subst (λ (a : ℕ). Tells (writes_of (log_gates r.p a)) (writes_of (log_gates r.p a)) (g.S.Store.disk c.write.new.store).seen (g.S.Store.disk c.shut_gates.new.store).seen (g.W.Watch.trace c.write.new.watch) (g.W.Watch.trace c.shut_gates.new.watch)) area
+    (subst (λ (q : Params). Tells (writes_of (log_gates q ((c.args.epoch + 1) % 2))) (writes_of (log_gates q ((c.args.epoch + 1) % 2))) (g.S.Store.disk c.write.new.store).seen (g.S.Store.disk c.shut_gates.new.store).seen (g.W.Watch.trace c.write.new.watch)
+    (g.W.Watch.trace c.shut_gates.new.watch)) c.requires.params c.in-Ok-shut_gates.ensures.does.all) in
+    does_then _ _ _ _ _ _ xs (ys ++ (zs ++ (note.Sync ∷ []))) (Err (StoreFault None)) c.in-Ok.ensures.does.all
+    (does_then _ _ _ _ _ _ ys (zs ++ (note.Sync ∷ [])) (Err (StoreFault None)) told (does_sync _ _ _ _ _ _ zs (Err (StoreFault None)) gates c.in-Err-sync_noted.ensures.told))
+
+pub returns-in_err-write-clause-first : goal.returns-in_err-write-clause-first
+returns-in_err-write-clause-first g c = λ t.
+    first_then _ _ _ (c.in-Ok.ensures.first t) (first_checked c.args.p.now c.args.epoch (g.S.Store.disk c.write_buckets.new.store) (g.S.Store.disk c.write.new.store) c.write.ensures.rest (c.in-Ok.ensures.serves.tells t))
+
+pub returns-in-Err-shut_gates-clause-first : goal.returns-in-Err-shut_gates-clause-first
+returns-in-Err-shut_gates-clause-first g c = λ t.
+    let checked = c.in-Ok.ensures.serves.tells t in
+    first_then _ _ _ (first_then _ _ _ (c.in-Ok.ensures.first t) (first_checked c.args.p.now c.args.epoch (g.S.Store.disk c.write_buckets.new.store) (g.S.Store.disk c.write.new.store) c.write.ensures.rest checked))
+    (c.shut_gates.ensures.first (c.in_ok-write.ensures.serves.tells checked))
+
+pub returns-in-Err-sync_noted-clause-first : goal.returns-in-Err-sync_noted-clause-first
+returns-in-Err-sync_noted-clause-first g c = λ t.
+    let checked = c.in-Ok.ensures.serves.tells t in
+    let gates = c.in_ok-write.ensures.serves.tells checked in
+    first_then _ _ _ (first_then _ _ _ (first_then _ _ _ (c.in-Ok.ensures.first t) (first_checked c.args.p.now c.args.epoch (g.S.Store.disk c.write_buckets.new.store) (g.S.Store.disk c.write.new.store) c.write.ensures.rest checked))
+    (c.shut_gates.ensures.first gates)) (λ k lt. c.sync_noted.ensures.keeps.cells (c.in-Ok-shut_gates.ensures.serves.tells gates) k)
+
+pub returns-in-Ok-sync_noted-clause-first : goal.returns-in-Ok-sync_noted-clause-first
+returns-in-Ok-sync_noted-clause-first g c = λ t.
+    let checked = c.in-Ok.ensures.serves.tells t in
+    let gates = c.in_ok-write.ensures.serves.tells checked in
+    first_then _ _ _ (first_then _ _ _ (first_then _ _ _ (c.in-Ok.ensures.first t) (first_checked c.args.p.now c.args.epoch (g.S.Store.disk c.write_buckets.new.store) (g.S.Store.disk c.write.new.store) c.write.ensures.rest checked))
+    (c.shut_gates.ensures.first gates)) (λ k lt. c.sync_noted.ensures.keeps.cells (c.in-Ok-shut_gates.ensures.serves.tells gates) k)
