@@ -1,0 +1,23 @@
+-- What holds of each answer, by what holds of its parts.
+use Rattle.std.proofs.Common.{Result, Ok, Err, IfOk, IfErr, OnOk, OnErr}
+
+module _ {T E : Type 0} where
+  pub if_ok_all : (result : Result T E) (P S : T → Type 0) (Q R : Type 0) → ((x : T) → P x → Q → R → S x) → IfOk result P → OnOk result Q → OnOk result R → IfOk result S
+  if_ok_all (Ok x) P S Q R so p q r = so x p q r
+  if_ok_all (Err e) P S Q R so p q r = tt
+
+  pub on_ok_all : (result : Result T E) (P : T → Type 0) (Q R S : Type 0) → ((x : T) → P x → Q → R → S) → IfOk result P → OnOk result Q → OnOk result R → OnOk result S
+  on_ok_all (Ok x) P Q R S so p q r = so x p q r
+  on_ok_all (Err e) P Q R S so p q r = tt
+
+  pub if_err_both : (result : Result T E) (P S : E → Type 0) (Q : Type 0) → ((e : E) → P e → Q → S e) → IfErr result P → OnErr result Q → IfErr result S
+  if_err_both (Ok x) P S Q so p q = tt
+  if_err_both (Err e) P S Q so p q = so e p q
+
+  pub on_ok : (result : Result T E) (P S : Type 0) → (P → S) → OnOk result P → OnOk result S
+  on_ok (Ok x) P S so p = so p
+  on_ok (Err e) P S so p = tt
+
+  pub if_err : (result : Result T E) (P S : E → Type 0) → ((e : E) → P e → S e) → IfErr result P → IfErr result S
+  if_err (Ok x) P S so p = tt
+  if_err (Err e) P S so p = so e p

@@ -1,0 +1,255 @@
+-- An epoch that is ended in one turn, and one whose end, or a batch before it, was refused.
+use Rattle.std.proofs.Common.{◌≡◌, ◌∙◌, ◌≤◌, ◌-◌, ℕ, suc, true, false, All, List, [], ◌∷◌, ◌++◌, Option, Some, Err, refl, sym, ap, subst, append-nil, append_assoc, arith, decimal}
+use Rattle.std.proofs.lemmas.List.Elements.{All-nil, All-cons}
+use Rattle.ob_base.specs.declared.fault.Fault.{Fault}
+use Rattle.ob_io.specs.Streams.{Flow}
+use Rattle.ob_report.specs.Report.{report, record_text}
+use Rattle.ob_serial.specs.Serial.{EpochRecord}
+use Rattle.ob_serial.specs.Vaults.{VaultCall, VaultAnswer, Fetch, End, Ended, RefusedBy, VaultCounts}
+use Rattle.ob_serial.specs.VaultViews.{end_answer, IsEndFault}
+use Rattle.ob_serial.specs.VaultKinds.{Kind, ended_of}
+use Rattle.ob_desk.specs.Desk as desk
+use Rattle.ob_desk.specs.Desk.{DeskState, Call, Reply, published}
+use Rattle.ob_desk.specs.declared.calls.Look.{Look}
+use Rattle.ob_desk.specs.Beats.{BeatKind}
+use Rattle.ob_turn.specs.declared.bell.Heard.{Heard}
+use Rattle.ob_turn.specs.BellCalls.{Raises}
+use Rattle.ob_turn.specs.BellHistory.{latest}
+use Rattle.ob_turn.proofs.BellSteps.{latest-snoc}
+use Rattle.atomic_table.specs.declared.shared.Seat.{Seat}
+use Rattle.ob_hall.specs.Passes.{Steps, Hall, Pass, raised_by, may_raise, told_by, IsPassOf, IsOutOfTurn}
+use Rattle.ob_hall.specs.Rounds.{Rounds, rounds_behind}
+use Rattle.ob_conduct.specs.Acts.{Act, Closes, Publishes, Refuses, FetchFails, Batch, calls, records, look_calls, rest_calls, rest_fetches, close_calls, publish_calls, stop_calls, stop_for, MayAct, IsToEnd, IsAllowed}
+use Rattle.ob_conduct.specs.Scenes.{Scene, AllNoted}
+use Rattle.ob_conduct.specs.Records.{IsWritten}
+use Rattle.ob_conduct.specs.Ready.{IsDueRecord, TellsEpochs}
+use Rattle.ob_conduct.proofs.Acting.{tells_none, written_none, published_rest, answered_rest, ended_rest, refused_ends}
+use Rattle.ob_driver.specs.Resting.{params_of, IsMild, rounds_by, resting, noted_by, IsBetweenTurns}
+use Rattle.ob_driver.specs.Turning.{MakesTurn}
+use Rattle.ob_driver.specs.Inside.{counts_ended, IsLooking, AsksAll, ReadsInside, RefusesInside, Ends, EndRefused}
+use Rattle.ob_driver.specs.Driven.{side, epochs_of, EndedOnce, FailsOnce}
+use Rattle.ob_driver.proofs.Sound.{mild_one, mild_more, mild_look}
+use Rattle.ob_driver.proofs.Turning.{turn_from, acts_one}
+use Rattle.ob_driver.proofs.Insides.{asks_join, asks_later}
+use Rattle.ob_driver.proofs.Batching.{rounds_later, driver_later}
+
+-- ---- how far the epochs are behind batches, a close and a publish
+
+rounds_end : (n : ℕ) (r : Rounds) (batches : List Batch) (writes : List (ℕ × Option (List ℕ))) (left : ℕ) (told : EpochRecord ℕ)
+    → rounds_behind n r (rest_calls batches ++ (close_calls writes ++ publish_calls left told)) ≡ record { epoch = suc r.epoch; has_closed = false; left = n; flying = [] }
+rounds_end n r [] writes left told = refl
+rounds_end n r (batch ∷ batches) writes left told = rounds_end n (record r { left = r.left - 1; flying = [] }) batches writes left told
+
+rest_mild : (batches : List Batch) (more : Steps) → All IsMild more → All IsMild (rest_calls batches ++ more)
+rest_mild [] more mild = mild
+rest_mild (batch ∷ batches) more mild = mild_more desk.TakeBatch (desk.Batch batch.keys) ((desk.Deliver batch.keys batch.values, desk.Done) ∷ (rest_calls batches ++ more)) tt (mild_more (desk.Deliver batch.keys batch.values) desk.Done (rest_calls batches ++ more) tt (rest_mild batches more mild))
+
+one_text : (told : EpochRecord ℕ) → record_text decimal told ≡ report decimal (told ∷ [])
+one_text told = sym (append-nil (record_text decimal told))
+
+-- ---- an epoch that was ended in one turn, behind the batches that were left
+
+-- ---- what is so within the turn
+
+module _ {V : Type 0} (k : Kind V) (hall : Hall) (before mid : Pass) (a b : Scene V) (c cm : VaultCounts) (batches : List Batch) (l : IsLooking hall before a.desk c) (r : ReadsInside k hall before a batches mid b cm) where
+  still_epoch : cm.epoch ≡ c.epoch
+  still_epoch = let x = r.ready.epoch in let y : b.desk.running.epoch ≡ suc c.epoch = r.same_epoch ∙ l.ready.epoch in omega (arith, x, y)
+
+  pub still_raises : may_raise mid ≡ true
+  still_raises = ap (λ (s : Seat (Unit {0}) Heard). s.me.0.raises) r.notes.ear ∙ l.at.driver.raises
+
+  pub still_told : told_by mid ≤ cm.epoch
+  still_told = subst (λ (n : ℕ). told_by mid ≤ n) (sym still_epoch) (subst (λ (s : Seat (Unit {0}) Heard). latest 0 s.me.0.seen ≤ c.epoch) (sym r.notes.ear) l.at.told)
+
+module _ {V : Type 0} (k : Kind V) (hall : Hall) (before mid after : Pass) (a b e : Scene V) (c cm : VaultCounts) (look : Look) (batches : List Batch) (l : IsLooking hall before a.desk c) (noted : noted_by before ≡ look_calls look)
+    (r : ReadsInside k hall before a batches mid b cm) where
+  epoch_is : b.desk.running.epoch ≡ suc c.epoch
+  epoch_is = r.same_epoch ∙ l.ready.epoch
+
+  same_epoch : cm.epoch ≡ c.epoch
+  same_epoch = let x = r.ready.epoch in let y = epoch_is in omega (arith, x, y)
+
+  -- the turn, from its look on
+  turn_is : (calls : Steps) → MakesTurn mid after (noted_by mid ++ calls) → MakesTurn before after (look_calls look ++ (rest_calls batches ++ calls))
+  turn_is calls m = subst (λ (s : Steps). MakesTurn before after s) (ap (λ (s : Steps). s ++ calls) (r.notes.noted ∙ ap (λ (s : Steps). s ++ rest_calls batches) noted) ∙ append_assoc (look_calls look) (rest_calls batches) calls)
+      (turn_from before mid after (rest_calls batches) (noted_by mid ++ calls) r.notes m)
+
+  asks_so : (more : List (VaultCall × VaultAnswer)) → AsksAll k b more e → AsksAll k a (rest_fetches batches ++ more) e
+  asks_so more asks = asks_join k a b e (rest_fetches batches) more r.asks asks
+
+  module _ (next : VaultCounts) (told : EpochRecord ℕ) (ends : Ends k b.desk.running.epoch mid b told after e) (counts : next ≡ counts_ended (params_of hall).batches cm) (raised : Raises mid.ear after.ear (suc cm.epoch)) (own : IsPassOf hall after)
+      (idle : IsOutOfTurn after) where
+    abbrev ending_calls : Steps
+    ending_calls = look_calls look ++ (rest_calls batches ++ (close_calls ends.writes ++ publish_calls ends.left told))
+
+    turn : MakesTurn before after (look_calls look ++ (rest_calls batches ++ (close_calls ends.writes ++ publish_calls ends.left told)))
+    turn = turn_is (close_calls ends.writes ++ publish_calls ends.left told) ends.made
+
+    asked : AsksAll k a (rest_fetches batches ++ (End ends.writes, Ended) ∷ []) e
+    asked = asks_so ((End ends.writes, Ended) ∷ []) ends.asks
+
+    tells : records (Closes look batches ends.writes ∷ Publishes ends.writes ends.left told ∷ []) ≡ told ∷ []
+    tells = published_rest batches (close_calls ends.writes) (publish_calls ends.left told)
+
+    due_now : IsDueRecord (suc c.epoch) ends.writes told
+    due_now = subst (λ (n : ℕ). IsDueRecord n ends.writes told) epoch_is ends.due
+
+    next_epoch : next.epoch ≡ suc c.epoch
+    next_epoch = ap (λ (x : VaultCounts). x.epoch) counts ∙ ap suc same_epoch
+
+    seen_is : raised_by after ≡ raised_by before ++ suc c.epoch ∷ []
+    seen_is = (λ i. (raised.knows i).seen) ∙ (ap (λ (s : Seat (Unit {0}) Heard). s.me.0.seen ++ suc cm.epoch ∷ []) r.notes.ear ∙ ap (λ (n : ℕ). raised_by before ++ suc n ∷ []) same_epoch)
+
+    ended_rounds : ℕ → Rounds
+    ended_rounds n = record { epoch = suc (suc n); has_closed = false; left = (params_of hall).batches; flying = [] }
+
+    raises : may_raise after ≡ may_raise before
+    raises = (λ i. (raised.knows i).raises) ∙ ap (λ (s : Seat (Unit {0}) Heard). s.me.0.raises) r.notes.ear
+
+    rounds_now : rounds_by hall after ≡ resting next
+    unfolding ended_rounds
+    rounds_now = rounds_later hall before after ending_calls turn (resting c) l.at.rounds
+        ∙ (rounds_end (params_of hall).batches (resting c) batches ends.writes ends.left told ∙ (ap (λ (n : ℕ). ended_rounds n) (sym same_epoch) ∙ ap resting (sym counts)))
+
+    -- it is at rest again
+    pub ended_rests : IsBetweenTurns hall after next
+    ended_rests = record {
+      at = record {
+        driver = driver_later hall before after ending_calls turn l.at.driver own raises (mild_look look (rest_calls batches ++ (close_calls ends.writes ++ publish_calls ends.left told)) (rest_mild batches (close_calls ends.writes ++ publish_calls ends.left told) (mild_more desk.Close (desk.Writes ends.writes) (publish_calls ends.left told) tt (mild_one (desk.Publish (suc told.epoch) ends.left) (desk.Published told) tt))));
+        rounds = rounds_now;
+        serves = ap (λ (x : VaultCounts). x.spent) counts ∙ r.ready.serves;
+        told = subst (λ (n : ℕ). n ≤ next.epoch) (sym (ap (latest 0) seen_is ∙ latest-snoc 0 (suc c.epoch) (raised_by before))) (let x = next_epoch in omega (arith, x));
+      };
+      idle = idle;
+    }
+
+    -- behind a look at which that may be done
+    pub ended_once : (beat : BeatKind) (flow : Flow) → MayAct beat look → IsToEnd look → EndedOnce k beat hall (side before a.vault a.trace flow) c (side after e.vault e.trace flow) next told
+    ended_once beat flow may end = record {
+      look = look;
+      batches = batches;
+      writes = ends.writes;
+      left = ends.left;
+      acts_are = record {
+        allowed = All-cons (IsAllowed beat) (Closes look batches ends.writes) (Publishes ends.writes ends.left told ∷ []) (may, end) (All-cons (IsAllowed beat) (Publishes ends.writes ends.left told) [] tt (All-nil _));
+        turns = turn.turn ∷ [];
+        made = turn.made;
+        are = acts_one turn.turn (Closes look batches ends.writes ∷ Publishes ends.writes ends.left told ∷ []) refl
+            (turn.calls_are ∙ (ap (λ (s : Steps). look_calls look ++ s) (sym (append_assoc (rest_calls batches) (close_calls ends.writes) (publish_calls ends.left told))) ∙ sym (append_assoc (look_calls look) (rest_calls batches ++ close_calls ends.writes) (publish_calls ends.left told))));
+        notes = asked.notes;
+        chain = asked.chain;
+        shown = asked.shown;
+        rung = seen_is ∙ (ap (λ (n : ℕ). raised_by before ++ n ∷ []) (sym due_now.epoch_is) ∙ ap (λ (rs : List (EpochRecord ℕ)). raised_by before ++ epochs_of rs) (sym tells));
+        place = turn.place;
+      };
+      due = due_now;
+      epoch = next_epoch;
+      rests = ended_rests;
+    }
+
+  -- ---- and what was refused
+
+  none_told : (acts : List Act) (from : Flow) → records acts ≡ [] → IsWritten (report decimal (records acts)) from from
+  none_told acts from none = subst (λ (rs : List (EpochRecord ℕ)). IsWritten (report decimal rs) from from) (sym none) (written_none from)
+
+  tells_nothing : (acts : List Act) → ended_of (calls acts) ≡ [] → records acts ≡ [] → TellsEpochs (suc c.epoch) (suc c.epoch) (ended_of (calls acts)) (records acts)
+  tells_nothing acts ended none = subst (λ (ws : List (List (ℕ × Option (List ℕ)))). TellsEpochs (suc c.epoch) (suc c.epoch) ws (records acts)) (sym ended)
+      (subst (λ (rs : List (EpochRecord ℕ)). TellsEpochs (suc c.epoch) (suc c.epoch) [] rs) (sym none) (tells_none (suc c.epoch) (suc c.epoch) refl))
+
+  none_rung : (acts : List Act) → after.ear ≡ mid.ear → records acts ≡ [] → raised_by after ≡ raised_by before ++ epochs_of (records acts)
+  none_rung acts ear none = ap (λ (s : Seat (Unit {0}) Heard). s.me.0.seen) (ear ∙ r.notes.ear) ∙ (sym (append-nil (raised_by before)) ∙ ap (λ (rs : List (EpochRecord ℕ)). raised_by before ++ epochs_of rs) (sym none))
+
+  module _ (fault : Fault) (f : EndRefused k b.desk.running.epoch mid b fault after e) where
+    refused_turn : MakesTurn before after (look_calls look ++ (rest_calls batches ++ (close_calls f.writes ++ (stop_for f.refused, desk.Done) ∷ [])))
+    refused_turn = turn_is (close_calls f.writes ++ (stop_for f.refused, desk.Done) ∷ []) f.made
+
+    refused_asks : AsksAll k a (rest_fetches batches ++ (End f.writes, end_answer (Err f.refused)) ∷ []) e
+    refused_asks = asks_so ((End f.writes, end_answer (Err f.refused)) ∷ []) f.asks
+
+    none : records (Closes look batches f.writes ∷ Refuses f.writes f.refused ∷ []) ≡ []
+    none = published_rest batches (close_calls f.writes) ((stop_for f.refused, desk.Done) ∷ [])
+
+    -- the end was, or is in doubt
+    pub end_refused_once : (beat : BeatKind) (flow : Flow) → MayAct beat look → IsToEnd look → after.ear ≡ mid.ear → IsPassOf hall after → IsOutOfTurn after → FailsOnce k beat hall (side before a.vault a.trace flow) c (side after e.vault e.trace flow) fault
+    end_refused_once beat flow may end ear own idle = record {
+      acts = Closes look batches f.writes ∷ Refuses f.writes f.refused ∷ [];
+      one = refl;
+      fails = record {
+        acts_are = record {
+          allowed = All-cons (IsAllowed beat) (Closes look batches f.writes) (Refuses f.writes f.refused ∷ []) (may, end) (All-cons (IsAllowed beat) (Refuses f.writes f.refused) [] tt (All-nil _));
+          turns = refused_turn.turn ∷ [];
+          made = refused_turn.made;
+          are = acts_one refused_turn.turn (Closes look batches f.writes ∷ Refuses f.writes f.refused ∷ []) refl
+              (refused_turn.calls_are ∙ (ap (λ (s : Steps). look_calls look ++ s) (sym (append_assoc (rest_calls batches) (close_calls f.writes) ((stop_for f.refused, desk.Done) ∷ []))) ∙ sym (append_assoc (look_calls look) (rest_calls batches ++ close_calls f.writes) ((stop_for f.refused, desk.Done) ∷ []))));
+          notes = refused_asks.notes;
+          chain = refused_asks.chain;
+          shown = refused_asks.shown;
+          rung = none_rung (Closes look batches f.writes ∷ Refuses f.writes f.refused ∷ []) ear none;
+          place = refused_turn.place;
+        };
+        own = own;
+        idle = idle;
+        front = Closes look batches f.writes ∷ [];
+        last = Refuses f.writes f.refused;
+        ends = refl;
+        answered = answered_rest batches [] tt;
+        fault_is = ap Some (sym f.fault_is);
+        next = suc c.epoch;
+        told = tells_nothing (Closes look batches f.writes ∷ Refuses f.writes f.refused ∷ []) (ended_rest batches ((End f.writes, end_answer (Err f.refused)) ∷ []) ∙ refused_ends f.writes f.refused) none;
+        reason = (subst (λ (n : ℕ). IsEndFault n f.refused) epoch_is f.is_fault, (f.due, subst (λ (n : ℕ). IsDueRecord n f.writes f.due) epoch_is f.is_due));
+        cause = λ store. asks_later k a b (rest_fetches batches) (k.disk e.vault).faults r.asks (f.cause store);
+        lines = none_told (Closes look batches f.writes ∷ Refuses f.writes f.refused ∷ []) flow none;
+      };
+    }
+
+-- a batch before the end was refused
+module _ {V : Type 0} (k : Kind V) (beat : BeatKind) (hall : Hall) (before mid after : Pass) (a b : Scene V) (c : VaultCounts) (look : Look) (batches : List Batch) (flow : Flow) (noted : noted_by before ≡ look_calls look) (may : MayAct beat look)
+    (end : IsToEnd look) where
+  pub batch_refused_once : (fault : Fault) → RefusesInside k hall before a batches fault mid b → MakesTurn mid after (noted_by mid ++ (desk.Stop fault, desk.Done) ∷ []) → after.ear ≡ mid.ear → IsPassOf hall after → IsOutOfTurn after
+      → FailsOnce k beat hall (side before a.vault a.trace flow) c (side after b.vault b.trace flow) fault
+  batch_refused_once fault f made ear own idle = record {
+    acts = act ∷ [];
+    one = tt;
+    fails = record {
+      acts_are = record {
+        allowed = All-cons (IsAllowed beat) act [] (may, end) (All-nil _);
+        turns = turn.turn ∷ [];
+        made = turn.made;
+        are = (act ∷ [], [], refl, tt, turn.calls_are ∙ sym (append-nil (look_calls look ++ (rest_calls batches ++ (desk.TakeBatch, desk.Batch f.keys) ∷ stop_calls fault))), refl);
+        notes = f.asks.notes;
+        chain = subst (λ (asked : List (VaultCall × VaultAnswer)). AllNoted k a.vault asked f.asks.notes b.vault) (sym (append-nil (rest_fetches batches ++ (Fetch f.keys, RefusedBy fault) ∷ []))) f.asks.chain;
+        shown = f.asks.shown;
+        rung = ap (λ (s : Seat (Unit {0}) Heard). s.me.0.seen) (ear ∙ f.notes.ear) ∙ (sym (append-nil (raised_by before)) ∙ ap (λ (rs : List (EpochRecord ℕ)). raised_by before ++ epochs_of rs) (sym none));
+        place = turn.place;
+      };
+      own = own;
+      idle = idle;
+      front = [];
+      last = act;
+      ends = refl;
+      answered = tt;
+      fault_is = refl;
+      next = suc c.epoch;
+      told = subst (λ (ws : List (List (ℕ × Option (List ℕ)))). TellsEpochs (suc c.epoch) (suc c.epoch) ws (records (act ∷ []))) (sym none_ended)
+          (subst (λ (rs : List (EpochRecord ℕ)). TellsEpochs (suc c.epoch) (suc c.epoch) [] rs) (sym none) (tells_none (suc c.epoch) (suc c.epoch) refl));
+      reason = f.is_fault;
+      cause = f.cause;
+      lines = subst (λ (rs : List (EpochRecord ℕ)). IsWritten (report decimal rs) flow flow) (sym none) (written_none flow);
+    };
+  }
+    where
+      act : Act
+      act = FetchFails look batches f.keys fault
+
+      turn : MakesTurn before after (look_calls look ++ (rest_calls batches ++ (desk.TakeBatch, desk.Batch f.keys) ∷ stop_calls fault))
+      turn = subst (λ (s : Steps). MakesTurn before after s)
+          (ap (λ (s : Steps). s ++ stop_calls fault) (f.notes.noted ∙ ap (λ (s : Steps). s ++ (rest_calls batches ++ (desk.TakeBatch, desk.Batch f.keys) ∷ [])) noted)
+          ∙ (append_assoc (look_calls look) (rest_calls batches ++ (desk.TakeBatch, desk.Batch f.keys) ∷ []) (stop_calls fault)
+          ∙ ap (λ (s : Steps). look_calls look ++ s) (append_assoc (rest_calls batches) ((desk.TakeBatch, desk.Batch f.keys) ∷ []) (stop_calls fault))))
+          (turn_from before mid after (rest_calls batches ++ (desk.TakeBatch, desk.Batch f.keys) ∷ []) (noted_by mid ++ stop_calls fault) f.notes made)
+
+      none : records (FetchFails look batches f.keys fault ∷ []) ≡ []
+      none = published_rest batches ((desk.TakeBatch, desk.Batch f.keys) ∷ stop_calls fault) []
+
+      none_ended : ended_of (calls (FetchFails look batches f.keys fault ∷ [])) ≡ []
+      none_ended = ap ended_of (append-nil (rest_fetches batches ++ (Fetch f.keys, RefusedBy fault) ∷ [])) ∙ ended_rest batches ((Fetch f.keys, RefusedBy fault) ∷ [])

@@ -1,0 +1,14 @@
+pub mod Sound
+pub mod Resting
+pub mod Turning
+pub mod Insides
+pub mod Whole
+pub mod Shutting
+pub mod Batching
+pub mod Closing
+pub mod Seeing
+pub mod Lines
+pub mod Beginning
+pub mod Answering
+pub mod Joining
+pub mod Trying

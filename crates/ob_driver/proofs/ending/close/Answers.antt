@@ -1,0 +1,75 @@
+use Rattle.std.proofs.Common.{◌∙◌, ℕ, suc, map, refl, ap, subst}
+use Rattle.ob_base.specs.declared.params.Params.{Params}
+use Rattle.ob_base.specs.Writes.{pair_of}
+use Rattle.ob_serial.specs.Views.{record_of}
+use Rattle.ob_serial.specs.Vaults.{VaultCounts}
+use Rattle.ob_serial.specs.VaultKinds.{kind_of}
+use Rattle.ob_serial.specs.declared.vault.EndErr.TheVariants.{Before, Unsure}
+use Rattle.ob_desk.specs.Desk as desk
+use Rattle.atomic_table.specs.declared.shared.Seat.{Seat}
+use Rattle.ob_turn.specs.declared.bell.Heard.{Heard}
+use Rattle.ob_turn.specs.BellCalls.{Raises}
+use Rattle.ob_conduct.proofs.Closing.{close_few, close_rising, close_below}
+use Rattle.ob_driver.specs.Resting.{params_of}
+use Rattle.ob_driver.proofs.Turning.{call_leads, turn_made}
+use Rattle.ob_driver.proofs.Shutting.{may_close, may_publish, some_closed, shut_turn, ends, gives_up}
+use Rattle.ob_driver.proofs.ending.close.Goals as goal
+
+pub close-requires-clause-may : goal.close-requires-clause-may
+close-requires-clause-may g c = may_close (params_of c.args.hall.now) c.args.desk (g.V.Vault.counts c.args.vault.now) c.requires.ready c.requires.goes_on c.requires.none_left
+
+pub end-requires-clause-few : goal.end-requires-clause-few
+end-requires-clause-few g c = rw c.requires.params.0 (close_few (params_of c.args.hall.now) c.args.desk c.close.new.self _ c.close.new.out.items c.requires.ready c.close.ensures.step)
+
+pub end-requires-clause-rising : goal.end-requires-clause-rising
+end-requires-clause-rising g c = close_rising c.args.desk c.close.new.self c.close.new.out.items c.close.ensures.step
+
+pub end-requires-clause-keys : goal.end-requires-clause-keys
+end-requires-clause-keys g c = rw c.requires.params.0 (close_below (params_of c.args.hall.now) c.args.desk c.close.new.self _ c.close.new.out.items c.requires.ready c.close.ensures.step)
+
+pub publish-requires-clause-turn : goal.publish-requires-clause-turn
+publish-requires-clause-turn g c =
+    shut_turn (kind_of g.V.Vault) c.args.hall.now c.args.pass.now c.note.new.pass c.note.new.pass c.args.desk c.close.new.self c.args.vault.now c.args.vault.now (g.W.Watch.trace c.args.watch.now) (g.W.Watch.trace c.args.watch.now) (g.V.Vault.counts c.args.vault.now)
+    (map pair_of c.close.new.out.items) c.requires.ready c.close.ensures.step (rw c.of-made.ensures at c.note.ensures.noted) c.requires.turn c.note.ensures.own c.requires.goes_on c.requires.none_left
+
+pub publish-requires-clause-may : goal.publish-requires-clause-may
+publish-requires-clause-may g c =
+    may_publish (params_of c.args.hall.now) c.args.desk c.close.new.self (g.V.Vault.counts c.args.vault.now) (map pair_of c.close.new.out.items) c.epoch-ended.result c.args.params.now.batches c.requires.ready c.close.ensures.step
+    (c.epoch-ended.ensures.epoch ∙ ap (λ (x : VaultCounts). x.epoch) c.in-Ok.ensures.counts) c.epoch-ended.ensures.few (ap (λ (p : Params). p.batches) c.requires.params.1)
+
+pub stop_inside-requires : goal.stop_inside-requires
+stop_inside-requires g c = record {
+  turn =
+      shut_turn (kind_of g.V.Vault) c.args.hall.now c.args.pass.now c.note.new.pass c.note.new.pass c.args.desk c.close.new.self c.args.vault.now c.args.vault.now (g.W.Watch.trace c.args.watch.now) (g.W.Watch.trace c.args.watch.now) (g.V.Vault.counts c.args.vault.now)
+      (map pair_of c.close.new.out.items) c.requires.ready c.close.ensures.step (rw c.of-made.ensures at c.note.ensures.noted) c.requires.turn c.note.ensures.own c.requires.goes_on c.requires.none_left;
+}
+
+pub returns-in-Ok-clause-ended : goal.returns-in-Ok-clause-ended
+returns-in-Ok-clause-ended g c =
+    ends (kind_of g.V.Vault) c.args.hall.now c.args.pass.now c.note.new.pass c.publish.new.pass c.args.desk c.close.new.self c.args.vault.now c.end.new.vault (g.W.Watch.trace c.args.watch.now) (g.W.Watch.trace c.end.new.watch) (g.V.Vault.counts c.args.vault.now)
+    (map pair_of c.close.new.out.items) c.requires.ready c.close.ensures.step (rw c.of-made.ensures at c.note.ensures.noted) c.args.params.now.batches c.epoch-ended.result (record_of c.publish.result) c.publish.ensures.published.0 c.in-Ok.ensures.called
+    (c.epoch-ended.ensures.epoch ∙ ap (λ (x : VaultCounts). x.epoch) c.in-Ok.ensures.counts) c.publish.ensures.published.1 c.publish.ensures.made
+
+pub returns-in-Ok-clause-raised : goal.returns-in-Ok-clause-raised
+returns-in-Ok-clause-raised g c =
+    subst (λ (e : Seat (Unit {0}) Heard). Raises e c.publish.new.pass.ear (suc (g.V.Vault.counts c.args.vault.now).epoch)) c.note.ensures.noted.beside.ear
+    (subst (λ (n : ℕ). Raises c.note.new.pass.ear c.publish.new.pass.ear n) (c.epoch-ended.ensures.epoch ∙ ap (λ (x : VaultCounts). x.epoch) c.in-Ok.ensures.counts) c.publish.ensures.raised)
+
+pub returns-in-Err-Before-clause-refused : goal.returns-in-Err-Before-clause-refused
+returns-in-Err-Before-clause-refused g c =
+    gives_up (kind_of g.V.Vault) c.args.hall.now c.args.pass.now c.note.new.pass c.stop_inside.new.pass c.args.desk c.close.new.self c.args.vault.now c.end.new.vault (g.W.Watch.trace c.args.watch.now) (g.W.Watch.trace c.end.new.watch) (g.V.Vault.counts c.args.vault.now)
+    (map pair_of c.close.new.out.items) c.requires.ready c.close.ensures.step (rw c.of-made.ensures at c.note.ensures.noted) (Before c.in-Err-Before.fault) (rw c.in-Err-Before.field-0-is at c.in-Err-Before.ensures.called) (rw c.in-Err-Before.field-0-is at c.in-Err-Before.ensures.faults)
+    (rw c.in-Err-Before.field-0-is at c.in-Err-Before.ensures.cause) c.stop_inside.ensures.made
+
+pub returns-in-Err-Unsure-clause-refused : goal.returns-in-Err-Unsure-clause-refused
+returns-in-Err-Unsure-clause-refused g c =
+    gives_up (kind_of g.V.Vault) c.args.hall.now c.args.pass.now c.note.new.pass c.leave.new.pass c.args.desk c.close.new.self c.args.vault.now c.end.new.vault (g.W.Watch.trace c.args.watch.now) (g.W.Watch.trace c.end.new.watch) (g.V.Vault.counts c.args.vault.now)
+    (map pair_of c.close.new.out.items) c.requires.ready c.close.ensures.step (rw c.of-made.ensures at c.note.ensures.noted) (Unsure c.in-Err-Unsure.fault) (rw c.in-Err-Unsure.field-0-is at c.in-Err-Unsure.ensures.called) (rw c.in-Err-Unsure.field-0-is at c.in-Err-Unsure.ensures.faults)
+    (rw c.in-Err-Unsure.field-0-is at c.in-Err-Unsure.ensures.cause) (turn_made c.note.new.pass c.leave.new.pass (desk.Unsure c.in-Err-Unsure.fault, desk.Done) c.leave.ensures.left)
+
+pub leave-requires-clause-desk : goal.leave-requires-clause-desk
+leave-requires-clause-desk g c =
+    call_leads c.args.hall.now c.note.new.pass c.close.new.self c.unsure.new.self (desk.Unsure c.in-Err-Unsure.fault, desk.Done)
+    (shut_turn (kind_of g.V.Vault) c.args.hall.now c.args.pass.now c.note.new.pass c.note.new.pass c.args.desk c.close.new.self c.args.vault.now c.args.vault.now (g.W.Watch.trace c.args.watch.now) (g.W.Watch.trace c.args.watch.now) (g.V.Vault.counts c.args.vault.now)
+    (map pair_of c.close.new.out.items) c.requires.ready c.close.ensures.step (rw c.of-made.ensures at c.note.ensures.noted) c.requires.turn c.note.ensures.own c.requires.goes_on c.requires.none_left)
+    (some_closed c.args.desk c.close.new.self (map pair_of c.close.new.out.items) c.close.ensures.step) c.unsure.ensures refl

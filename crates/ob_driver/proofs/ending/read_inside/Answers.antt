@@ -1,0 +1,43 @@
+use Rattle.std.proofs.Common.{◌∙◌, sym, ap}
+use Rattle.ob_base.specs.declared.params.Params.{Params}
+use Rattle.ob_serial.specs.Vaults.{Fetch, Values, counts_next}
+use Rattle.ob_serial.specs.VaultKinds.{kind_of}
+use Rattle.ob_conduct.proofs.Batches.{batch_below, batch_distinct}
+use Rattle.ob_driver.specs.Resting.{params_of}
+use Rattle.ob_driver.proofs.Insides.{may_take, may_deliver, inside_one, refuses_one}
+use Rattle.ob_driver.proofs.ending.read_inside.Goals as goal
+
+pub take_batch-requires-clause-may : goal.take_batch-requires-clause-may
+take_batch-requires-clause-may g c = may_take (params_of c.args.hall.now) c.args.desk.now (g.V.Vault.counts c.args.vault.now) c.requires.ready c.requires.some_left
+
+pub take_batch-requires-clause-places : goal.take_batch-requires-clause-places
+take_batch-requires-clause-places g c = c.requires.places ∙ sym (ap (λ (p : Params). p.places) c.requires.ready.params)
+
+pub read_batch-requires-clause-keys : goal.read_batch-requires-clause-keys
+read_batch-requires-clause-keys g c = rw c.requires.params (batch_below (params_of c.args.hall.now) c.args.desk.now c.take_batch.new.desk (g.V.Vault.counts c.args.vault.now) c.take_batch.new.asks.items c.requires.ready c.take_batch.ensures.taken)
+
+pub read_batch-requires-clause-distinct : goal.read_batch-requires-clause-distinct
+read_batch-requires-clause-distinct g c = batch_distinct (params_of c.args.hall.now) c.args.desk.now c.take_batch.new.desk (g.V.Vault.counts c.args.vault.now) c.take_batch.new.asks.items c.requires.ready c.take_batch.ensures.taken
+
+pub read_batch-requires-clause-whole : goal.read_batch-requires-clause-whole
+read_batch-requires-clause-whole g c = c.take_batch.ensures.places ∙ (c.requires.places ∙ sym (ap (λ (p : Params). p.places) c.requires.params))
+
+pub read_batch-requires-clause-room : goal.read_batch-requires-clause-room
+read_batch-requires-clause-room g c = c.requires.room ∙ sym (ap (λ (p : Params). p.places) c.requires.params)
+
+pub deliver_batch-requires : goal.deliver_batch-requires
+deliver_batch-requires g c = record { may = may_deliver (params_of c.args.hall.now) c.args.desk.now c.take_batch.new.desk (g.V.Vault.counts c.args.vault.now) c.take_batch.new.asks.items c.read_batch.new.found.items c.requires.ready c.take_batch.ensures.taken (c.read_batch.ensures.room ∙ (c.requires.room ∙ sym (c.take_batch.ensures.places ∙ c.requires.places))) }
+
+pub returns-in-Err-clause-refused : goal.returns-in-Err-clause-refused
+returns-in-Err-clause-refused g c =
+    refuses_one (kind_of g.V.Vault) c.args.hall.now c.args.pass.now c.note.new.pass c.note.new.pass c.args.desk.now c.take_batch.new.desk c.take_batch.new.desk c.args.vault.now c.read_batch.new.vault (g.W.Watch.trace c.args.watch.now) (g.W.Watch.trace c.read_batch.new.watch)
+    (g.V.Vault.counts c.args.vault.now) c.take_batch.new.asks.items c.requires.turn c.requires.ready c.requires.some_left c.take_batch.ensures.taken (rw c.of-batch.ensures at c.note.ensures.noted) c.note.ensures.own c.in-Err.fault c.in-Err.ensures.called c.in-Err.ensures.faults c.in-Err.ensures.cause
+
+pub returns-clause-read : goal.returns-clause-read
+returns-clause-read g c = (
+  record { keys = c.take_batch.new.asks.items; values = c.read_batch.new.found.items },
+  inside_one (kind_of g.V.Vault) c.args.hall.now c.args.pass.now c.note.new.pass c.note-2.new.pass c.args.desk.now c.take_batch.new.desk c.deliver_batch.new.desk c.args.vault.now c.read_batch.new.vault (g.W.Watch.trace c.args.watch.now) (g.W.Watch.trace c.read_batch.new.watch)
+      (g.V.Vault.counts c.args.vault.now) c.take_batch.new.asks.items c.requires.turn c.requires.ready c.requires.some_left c.take_batch.ensures.taken (rw c.of-batch.ensures at c.note.ensures.noted) c.note.ensures.own (g.V.Vault.counts c.read_batch.new.vault) c.read_batch.new.found.items
+      (c.read_batch.ensures.room ∙ (c.requires.room ∙ sym (c.take_batch.ensures.places ∙ c.requires.places))) c.deliver_batch.ensures.delivered (rw (c.of-keys.ensures, c.of-values.ensures) at c.note-2.ensures.noted) c.note-2.ensures.own c.in-Ok.ensures.called
+      (c.in-Ok.ensures.counts ∙ ap (λ (p : Params). counts_next p.batches (g.V.Vault.counts c.args.vault.now) (Fetch c.take_batch.new.asks.items) (Values c.read_batch.new.found.items)) c.requires.params),
+)

@@ -1,0 +1,10 @@
+use Rattle.std.proofs.Common.{refl}
+use Rattle.ob_desk.specs.Desk as desk
+use Rattle.ob_driver.proofs.Turning.{call_leads, turn_made}
+use Rattle.ob_driver.proofs.ending.stop_inside.Goals as goal
+
+pub leave-requires-clause-desk : goal.leave-requires-clause-desk
+leave-requires-clause-desk c = call_leads c.args.hall.now c.args.pass.now c.args.desk c.stop.new.self (desk.Stop c.args.fault, desk.Done) c.requires.turn tt c.stop.ensures refl
+
+pub returns-clause-made : goal.returns-clause-made
+returns-clause-made c = turn_made c.args.pass.now c.leave.new.pass (desk.Stop c.args.fault, desk.Done) c.leave.ensures.left

@@ -1,0 +1,62 @@
+use Rattle.std.proofs.Common.{◌∙◌, sym, ap}
+use Rattle.ob_base.specs.declared.params.Params.{Params}
+use Rattle.ob_serial.specs.Vaults.{Fetch, Values, counts_next}
+use Rattle.ob_serial.specs.VaultKinds.{kind_of}
+use Rattle.ob_conduct.proofs.Batches.{batch_below, batch_distinct}
+use Rattle.ob_driver.specs.Resting.{params_of}
+use Rattle.ob_driver.proofs.Insides.{may_take}
+use Rattle.ob_driver.proofs.Batching.{batch_is_out, taken_driver, fetched_once, refused_once}
+use Rattle.ob_driver.proofs.fetching.fetch.Goals as goal
+
+pub take-requires-clause-may : goal.take-requires-clause-may
+take-requires-clause-may g c = may_take (params_of c.args.hall.now) c.args.desk (g.V.Vault.counts c.args.vault.now) c.requires.looking.ready c.requires.some_left
+
+pub take-requires-clause-places : goal.take-requires-clause-places
+take-requires-clause-places g c = c.requires.places ∙ sym (ap (λ (p : Params). p.places) c.requires.looking.ready.params)
+
+pub read_batch-requires-clause-whole : goal.read_batch-requires-clause-whole
+read_batch-requires-clause-whole g c = c.take.ensures.places ∙ (c.requires.places ∙ sym (ap (λ (p : Params). p.places) c.requires.params))
+
+pub read_batch-requires-clause-room : goal.read_batch-requires-clause-room
+read_batch-requires-clause-room g c = c.requires.room ∙ sym (ap (λ (p : Params). p.places) c.requires.params)
+
+pub read_batch-requires-clause-keys : goal.read_batch-requires-clause-keys
+read_batch-requires-clause-keys g c =
+    let (mid, taken) = c.take.ensures.taken in
+    rw c.requires.params (batch_below (params_of c.args.hall.now) c.args.desk mid (g.V.Vault.counts c.args.vault.now) c.take.new.asks.items c.requires.looking.ready taken)
+
+pub read_batch-requires-clause-distinct : goal.read_batch-requires-clause-distinct
+read_batch-requires-clause-distinct g c =
+    let (mid, taken) = c.take.ensures.taken in
+    batch_distinct (params_of c.args.hall.now) c.args.desk mid (g.V.Vault.counts c.args.vault.now) c.take.new.asks.items c.requires.looking.ready taken
+
+pub deliver-requires-clause-out : goal.deliver-requires-clause-out
+deliver-requires-clause-out g c =
+    let (mid, taken) = c.take.ensures.taken in
+    let l = c.requires.looking in (
+      g.V.Vault.counts c.args.vault.now,
+      batch_is_out c.args.hall.now c.args.pass.now c.take.new.pass c.args.desk mid (g.V.Vault.counts c.args.vault.now) l.look c.take.new.asks.items l l.noted taken c.take.ensures.made c.take.ensures.own c.take.ensures.idle c.take.ensures.ear,
+    )
+
+pub deliver-requires-clause-whole : goal.deliver-requires-clause-whole
+deliver-requires-clause-whole g c = c.read_batch.ensures.room ∙ (c.requires.room ∙ sym (c.take.ensures.places ∙ c.requires.places))
+
+pub stop-requires-clause-driver : goal.stop-requires-clause-driver
+stop-requires-clause-driver g c =
+    let (mid, taken) = c.take.ensures.taken in
+    let l = c.requires.looking in
+    taken_driver c.args.hall.now c.args.pass.now c.take.new.pass c.args.desk mid (g.V.Vault.counts c.args.vault.now) l.look c.take.new.asks.items l l.noted taken c.take.ensures.made c.take.ensures.own c.take.ensures.ear
+
+pub returns-in-Ok-clause-fetched : goal.returns-in-Ok-clause-fetched
+returns-in-Ok-clause-fetched g c = λ beat look flow noted may fetch.
+    let (mid, taken) = c.take.ensures.taken in
+    fetched_once (kind_of g.V.Vault) beat c.args.hall.now c.args.pass.now c.take.new.pass c.deliver.new.pass c.args.desk mid (g.V.Vault.counts c.args.vault.now) look flow c.take.new.asks.items c.requires.looking noted may fetch taken c.take.ensures.made c.take.ensures.own
+    c.take.ensures.ear c.args.vault.now c.read_batch.new.vault (g.W.Watch.trace c.args.watch.now) (g.W.Watch.trace c.read_batch.new.watch) (g.V.Vault.counts c.read_batch.new.vault) c.read_batch.new.found.items c.in-Ok.ensures.called
+    (c.in-Ok.ensures.counts ∙ ap (λ (p : Params). counts_next p.batches (g.V.Vault.counts c.args.vault.now) (Fetch c.take.new.asks.items) (Values c.read_batch.new.found.items)) c.requires.params) c.deliver.ensures.made c.deliver.ensures.ear c.deliver.ensures.own c.deliver.ensures.idle
+
+pub returns-in-Err-clause-refused : goal.returns-in-Err-clause-refused
+returns-in-Err-clause-refused g c = λ beat look flow noted may fetch.
+    let (mid, taken) = c.take.ensures.taken in
+    refused_once (kind_of g.V.Vault) beat c.args.hall.now c.args.pass.now c.take.new.pass c.stop.new.pass c.args.desk mid (g.V.Vault.counts c.args.vault.now) look flow c.take.new.asks.items c.requires.looking noted may fetch taken c.take.ensures.made c.take.ensures.own
+    c.take.ensures.ear c.args.vault.now c.read_batch.new.vault (g.W.Watch.trace c.args.watch.now) (g.W.Watch.trace c.read_batch.new.watch) c.in-Err.fault c.in-Err.ensures.called c.in-Err.ensures.faults c.in-Err.ensures.cause c.stop.ensures.made c.stop.ensures.ear c.stop.ensures.own
+    c.stop.ensures.idle

@@ -1,0 +1,19 @@
+use Rattle.std.proofs.Common.{◌∙◌, [], ◌∷◌, refl}
+use Rattle.ob_desk.specs.Desk as desk
+use Rattle.ob_driver.proofs.Turning.{call_leads, turn_made}
+use Rattle.ob_driver.proofs.Resting.{in_turn}
+use Rattle.ob_driver.proofs.Whole.{whole_turn}
+use Rattle.ob_driver.proofs.fetching.stop.Goals as goal
+
+pub leave-requires-clause-desk : goal.leave-requires-clause-desk
+leave-requires-clause-desk g c =
+    call_leads c.args.hall.now c.enter-desk.new.pass c.enter-desk.result c.stop.new.self (desk.Stop c.args.fault, desk.Done)
+    (in_turn c.args.hall.now c.args.pass.now c.enter-desk.new.pass c.enter-desk.result c.requires.driver c.enter-desk.ensures.entered c.enter-desk.ensures.own) tt c.stop.ensures refl
+
+pub returns-clause-made : goal.returns-clause-made
+returns-clause-made g c =
+    whole_turn c.args.hall.now c.args.pass.now c.enter-desk.new.pass c.leave.new.pass c.enter-desk.result ((desk.Stop c.args.fault, desk.Done) ∷ []) c.requires.driver c.enter-desk.ensures.entered
+    (turn_made c.enter-desk.new.pass c.leave.new.pass (desk.Stop c.args.fault, desk.Done) c.leave.ensures.left)
+
+pub returns-clause-ear : goal.returns-clause-ear
+returns-clause-ear g c = c.leave.ensures.left.beside.ear ∙ c.enter-desk.ensures.entered.beside.ear

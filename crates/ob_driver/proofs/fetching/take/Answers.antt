@@ -1,0 +1,11 @@
+use Rattle.std.proofs.Common.{refl}
+use Rattle.ob_desk.specs.Desk as desk
+use Rattle.ob_driver.proofs.Turning.{call_leads, turn_made}
+use Rattle.ob_driver.proofs.fetching.take.Goals as goal
+
+pub leave-requires-clause-desk : goal.leave-requires-clause-desk
+leave-requires-clause-desk c =
+    rw c.of-batch.ensures (call_leads c.args.hall.now c.args.pass.now c.args.desk c.take_batch.new.desk (desk.TakeBatch, desk.Batch c.take_batch.new.asks.items) c.requires.turn c.requires.may c.take_batch.ensures.taken refl)
+
+pub returns-clause-made : goal.returns-clause-made
+returns-clause-made c = rw c.of-batch.ensures at (turn_made c.args.pass.now c.leave.new.pass (desk.TakeBatch, desk.Batch c.of-batch.result.value.items) c.leave.ensures.left)

@@ -1,0 +1,82 @@
+-- Private: parts of the driver's turns: a batch read within one, and an epoch closed, ended and published.
+use Rattle.std.specs.Prelude.{◌≡◌, ℕ, suc, List, [], ◌∷◌, ◌++◌, Option, Err}
+use Rattle.ob_base.specs.Causes.{Rose}
+use Rattle.ob_base.specs.declared.fault.Fault.{Fault}
+use Rattle.ob_store.specs.declared.watch.Note.{Note}
+use Rattle.ob_store.specs.Calls.{IsStoreFault}
+use Rattle.ob_store.specs.Lines.{Trace, Shows}
+use Rattle.ob_serial.specs.Serial.{EpochRecord}
+use Rattle.ob_serial.specs.Vaults.{VaultCounts, VaultCall, VaultAnswer, Fetch, End, Ended, RefusedBy}
+use Rattle.ob_serial.specs.VaultViews.{IsFetchFault, IsEndFault, end_answer}
+use Rattle.ob_serial.specs.VaultKinds.{Kind, Called}
+use Rattle.ob_serial.specs.declared.vault.EndErr.{EndErr}
+use Rattle.ob_desk.specs.Desk as desk
+use Rattle.ob_desk.specs.Desk.{DeskState}
+use Rattle.ob_desk.specs.declared.calls.Look.{Look}
+use Rattle.ob_hall.specs.Passes.{Hall, Pass}
+use Rattle.ob_conduct.specs.Acts.{Batch, look_calls, rest_calls, rest_fetches, close_calls, publish_calls, stop_for, fault_in}
+use Rattle.ob_conduct.specs.Scenes.{Scene, AllNoted}
+use Rattle.ob_conduct.specs.Ready.{IsBetweenActs, IsDueRecord}
+use Rattle.ob_driver.specs.Resting.{params_of, IsInTurn, IsWhere, noted_by}
+use Rattle.ob_driver.specs.Turning.{NotesMore, MakesTurn}
+
+-- The driver's pass is in its turn at a desk that is where the vault is, and has noted a look.
+pub record IsLooking (hall : Hall) (pass : Pass) (d : DeskState) (c : VaultCounts) : Type 0 where
+  pub look : Look
+  pub noted : noted_by pass ≡ look_calls look
+  pub turn : IsInTurn hall pass d
+  pub at : IsWhere hall pass c
+  pub ready : IsBetweenActs (params_of hall) d c
+
+-- how far the vault has come behind an end
+abbrev pub counts_ended : ℕ → VaultCounts → VaultCounts
+counts_ended batches c = record c { epoch = suc c.epoch; left = batches }
+
+-- a call of the vault with its answer, whose notes were shown
+pub record AsksOnce {V : Type 0} (k : Kind V) (old : V) (call : VaultCall) (answer : VaultAnswer) (new : V) (before after : Trace) : Type 0 where
+  pub one : Called k old call answer new
+  pub shown : Shows one.notes before after
+
+-- calls of the vault with their answers, whose notes were shown
+pub record AsksAll {V : Type 0} (k : Kind V) (old : Scene V) (asked : List (VaultCall × VaultAnswer)) (new : Scene V) : Type 0 where
+  pub notes : List Note
+  pub chain : AllNoted k old.vault asked notes new.vault
+  pub shown : Shows notes old.trace new.trace
+
+-- Within the turn batches were taken, read and delivered.
+pub record ReadsInside {V : Type 0} (k : Kind V) (hall : Hall) (before : Pass) (old : Scene V) (batches : List Batch) (after : Pass) (new : Scene V) (c : VaultCounts) : Type 0 where
+  pub notes : NotesMore before after (rest_calls batches)
+  pub turn : IsInTurn hall after new.desk
+  pub asks : AsksAll k old (rest_fetches batches) new
+  pub ready : IsBetweenActs (params_of hall) new.desk c
+  pub same_epoch : new.desk.running.epoch ≡ old.desk.running.epoch
+  pub same_stop : new.desk.stop ≡ old.desk.stop
+
+-- And one more was taken, which the vault refused.
+pub record RefusesInside {V : Type 0} (k : Kind V) (hall : Hall) (before : Pass) (old : Scene V) (batches : List Batch) (fault : Fault) (after : Pass) (new : Scene V) : Type 0 where
+  pub keys : List (Option ℕ)
+  pub notes : NotesMore before after (rest_calls batches ++ (desk.TakeBatch, desk.Batch keys) ∷ [])
+  pub turn : IsInTurn hall after new.desk
+  pub asks : AsksAll k old (rest_fetches batches ++ (Fetch keys, RefusedBy fault) ∷ []) new
+  pub is_fault : IsFetchFault fault
+  pub cause : IsStoreFault fault → Rose (k.disk old.vault).faults (k.disk new.vault).faults
+
+-- The turn ended with the close of the epoch and its publish, between which the vault ended it with its writes.
+pub record Ends {V : Type 0} (k : Kind V) (epoch : ℕ) (before : Pass) (old : Scene V) (told : EpochRecord ℕ) (after : Pass) (new : Scene V) : Type 0 where
+  pub writes : List (ℕ × Option (List ℕ))
+  pub left : ℕ
+  pub made : MakesTurn before after (noted_by before ++ (close_calls writes ++ publish_calls left told))
+  pub asks : AsksAll k old ((End writes, Ended) ∷ []) new
+  pub due : IsDueRecord epoch writes told
+
+-- The turn ended with the close and what the desk is told of an end that was refused, or is in doubt.
+pub record EndRefused {V : Type 0} (k : Kind V) (epoch : ℕ) (before : Pass) (old : Scene V) (fault : Fault) (after : Pass) (new : Scene V) : Type 0 where
+  pub writes : List (ℕ × Option (List ℕ))
+  pub refused : EndErr
+  pub made : MakesTurn before after (noted_by before ++ (close_calls writes ++ (stop_for refused, desk.Done) ∷ []))
+  pub asks : AsksAll k old ((End writes, end_answer (Err refused)) ∷ []) new
+  pub fault_is : fault ≡ fault_in refused
+  pub is_fault : IsEndFault epoch refused
+  pub due : EpochRecord ℕ
+  pub is_due : IsDueRecord epoch writes due
+  pub cause : IsStoreFault fault → Rose (k.disk old.vault).faults (k.disk new.vault).faults

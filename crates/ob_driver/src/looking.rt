@@ -1,0 +1,142 @@
+//! The driver's look, and what it does at it.
+
+ghost use Rattle.std.specs.Prelude.{◌≡◌, None, OnOk, IfOk, IfErr};
+ghost use Rattle.ob_io.specs.Streams.{outflow};
+ghost use Rattle.ob_serial.specs.VaultKinds.{kind_of};
+ghost use Rattle.ob_desk.specs.Beats.{BeatKind, beat_kind};
+ghost use Rattle.ob_desk.specs.declared.calls.Look.{Look as Seen};
+ghost use Rattle.ob_conduct.specs.Acts.{look_calls, MayAct, IsToEnd};
+ghost use Rattle.ob_driver.specs.Inside.{IsLooking};
+ghost use Rattle.ob_driver.specs.Resting.{params_of, noted_by, IsBetweenTurns};
+ghost use Rattle.ob_driver.specs.Rooms.{HasRoom};
+ghost use Rattle.ob_driver.specs.declared.round.Round.TheVariants as rounds;
+ghost use Rattle.ob_driver.specs.Driven.{side, DoneOnce, FailsOnce};
+ghost use Rattle.ob_driver.specs.Drives.{IsOverAt};
+
+use crate::ending::end_epoch;
+use crate::fetching::{fetch, stop};
+use crate::noting::{leave, note};
+use crate::plan::{Plan, decide};
+use crate::room::Room;
+use crate::round::Round;
+use ob_base::{Failed, Fault, Params};
+use ob_desk::{Beat, Desk};
+use ob_hall::{Driven, Hall, Pass};
+use ob_io::Sink;
+use ob_report::text;
+use ob_serial::Vault;
+use ob_store::Watch;
+use std::sync::Wait;
+
+// Ends the epoch within the turn, and then writes its lines.
+fn end_and_tell<R: Wait, V: Vault, W: Watch, O: Sink>(
+    rt: &R,
+    params: &Params,
+    hall: &Hall,
+    pass: &mut Pass,
+    desk: Desk,
+    vault: &mut V,
+    watch: &mut W,
+    output: &mut O,
+    room: &mut Room,
+) -> Result<(), Fault>
+    requires params { (V.params vault.old ≡ params_of hall.now) × (params.now ≡ params_of hall.now) }
+    requires looking { IsLooking hall.now pass.old desk (V.counts vault.old) }
+    requires goes_on { desk.stop ≡ None }
+    requires room { HasRoom (params_of hall.now) room.old }
+    ensures params { V.params vault.new ≡ params_of hall.now }
+    ensures room { HasRoom (params_of hall.now) room.new }
+    ensures ended { (beat : BeatKind) (look : Seen) → noted_by pass.old ≡ look_calls look
+        → MayAct beat look → IsToEnd look → OnOk result (DoneOnce (kind_of V.Vault) beat hall.now
+        (side pass.old vault.old (W.trace watch.old) (outflow O.Sink output.old))
+        (V.counts vault.old)
+        (side pass.new vault.new (W.trace watch.new) (outflow O.Sink output.new))
+        (V.counts vault.new) rounds.Acted) }
+    ensures refused { (beat : BeatKind) (look : Seen) → noted_by pass.old ≡ look_calls look
+        → MayAct beat look → IsToEnd look
+        → IfErr result (λ fault. FailsOnce (kind_of V.Vault) beat hall.now
+        (side pass.old vault.old (W.trace watch.old) (outflow O.Sink output.old))
+        (V.counts vault.old)
+        (side pass.new vault.new (W.trace watch.new) (outflow O.Sink output.new)) fault) }
+{
+    let told = match end_epoch(params, hall, pass, desk, vault, watch, room) {
+        Ok(told) => told,
+        Err(fault) => return Err(fault),
+    };
+    match text(&told, output) {
+        Ok(()) => Ok(()),
+        Err(Failed) => {
+            stop(rt, hall, pass, Fault::SinkFault);
+            Err(Fault::SinkFault)
+        }
+    }
+}
+
+/// The driver looks once, in a turn, and acts at most once.
+///
+/// # Errors
+/// The desk was found stopped; or the vault refused, or the output failed, and the desk is stopped.
+pub fn look_once<R: Wait, V: Vault, W: Watch, B: Beat, O: Sink>(
+    rt: &R,
+    params: &Params,
+    hall: &Hall,
+    pass: &mut Pass,
+    vault: &mut V,
+    watch: &mut W,
+    beat: &mut B,
+    output: &mut O,
+    room: &mut Room,
+) -> Result<Round, Fault>
+    requires params { (V.params vault.old ≡ params_of hall.now) × (params.now ≡ params_of hall.now) }
+    requires rests { IsBetweenTurns hall.now pass.old (V.counts vault.old) }
+    requires room { HasRoom (params_of hall.now) room.old }
+    ensures params { V.params vault.new ≡ params_of hall.now }
+    ensures room { HasRoom (params_of hall.now) room.new }
+    ensures anchors { B.anchors beat.new ≡ B.anchors beat.old }
+    ensures acted { IfOk result (λ round. DoneOnce (kind_of V.Vault)
+        (beat_kind B.passes B.exact) hall.now
+        (side pass.old vault.old (W.trace watch.old) (outflow O.Sink output.old))
+        (V.counts vault.old)
+        (side pass.new vault.new (W.trace watch.new) (outflow O.Sink output.new))
+        (V.counts vault.new) round) }
+    ensures over { IfOk result (λ round. round ≡ rounds.Over → IsOverAt hall.now pass.new) }
+    ensures failed { IfErr result (λ fault. FailsOnce (kind_of V.Vault)
+        (beat_kind B.passes B.exact) hall.now
+        (side pass.old vault.old (W.trace watch.old) (outflow O.Sink output.old))
+        (V.counts vault.old)
+        (side pass.new vault.new (W.trace watch.new) (outflow O.Sink output.new)) fault) }
+{
+    let desk = hall.enter(rt, pass);
+    let fault = desk.stopped();
+    if let Some(found) = fault {
+        leave(hall, pass, desk, Driven::IsStopped { fault });
+        return Err(found);
+    }
+    note(hall, pass, Driven::IsStopped { fault });
+    let look = desk.look();
+    match decide(beat, &look) {
+        Plan::Over => {
+            leave(hall, pass, desk, Driven::Looks { look });
+            Ok(Round::Over)
+        }
+        Plan::Rest => {
+            leave(hall, pass, desk, Driven::Looks { look });
+            Ok(Round::Rested)
+        }
+        Plan::Fetch => {
+            note(hall, pass, Driven::Looks { look });
+            let (asks, found) = (&mut room.asks, &mut room.found);
+            match fetch(rt, hall, pass, desk, vault, watch, asks, found) {
+                Ok(()) => Ok(Round::Acted),
+                Err(fault) => Err(fault),
+            }
+        }
+        Plan::End => {
+            note(hall, pass, Driven::Looks { look });
+            match end_and_tell(rt, params, hall, pass, desk, vault, watch, output, room) {
+                Ok(()) => Ok(Round::Acted),
+                Err(fault) => Err(fault),
+            }
+        }
+    }
+}

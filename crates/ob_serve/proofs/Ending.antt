@@ -1,0 +1,15 @@
+-- How the driver's run ended.
+use Rattle.std.specs.Prelude.{◌⊎◌, OnOk, IfErr, Result, Ok, Err}
+use Rattle.ob_base.specs.declared.fault.Fault.{Fault}
+use Rattle.ob_serial.specs.Vaults.{VaultCounts}
+use Rattle.ob_serial.specs.VaultKinds.{Kind}
+use Rattle.ob_desk.specs.Beats.{BeatKind}
+use Rattle.ob_hall.specs.Passes.{Hall}
+use Rattle.ob_driver.specs.Driven.{Side}
+use Rattle.ob_driver.specs.Drives.{RunsOut, RunFails, IsNotBegun}
+use Rattle.ob_serve.specs.Serving.{DriverEnds}
+
+pub ends_is : {V : Type 0} (k : Kind V) (beat : BeatKind) (hall : Hall) (old : Side V) (c : VaultCounts) (new : Side V) (next : VaultCounts) (result : Result (Unit {0}) Fault)
+    → OnOk result (RunsOut k beat hall old c new next) → IfErr result (λ fault. IsNotBegun old new fault ⊎ RunFails k beat hall old c new fault) → DriverEnds k beat hall old c new next result
+ends_is k beat hall old c new next (Ok done) out fails = out
+ends_is k beat hall old c new next (Err fault) out fails = fails

@@ -1,0 +1,32 @@
+-- How the driver's run beside the clients ended, and how the clients came back.
+use Rattle.std.specs.Prelude.{◌≡◌, ◌⊎◌, ℕ, Bool, true, false, List, drop, map, Result, Ok, Err}
+use Rattle.ob_base.specs.declared.fault.Fault.{Fault}
+use Rattle.ob_serial.specs.Vaults.{VaultCounts}
+use Rattle.ob_serial.specs.VaultKinds.{Kind}
+use Rattle.ob_desk.specs.Beats.{BeatKind}
+use Rattle.ob_hall.specs.Passes.{Hall, Pass}
+use Rattle.ob_driver.specs.Driven.{Side}
+use Rattle.ob_driver.specs.Drives.{RunsOut, RunFails, IsNotBegun}
+use Rattle.ob_starts.specs.declared.starting.Started.{Started}
+use Rattle.ob_starts.specs.Served.{Words}
+use Rattle.ob_starts.specs.Starts.{Each, HasItsPlace, IsJoined, stays}
+use Rattle.ob_serve.specs.Crews.{AreCrewRounds}
+
+-- where the run was answered so
+abbrev pub DriverEnds : {V : Type 0} → Kind V → BeatKind → Hall → Side V → VaultCounts → Side V → VaultCounts → Result (Unit {0}) Fault → Type 0
+DriverEnds k beat hall old c new next (Ok done) = RunsOut k beat hall old c new next
+DriverEnds k beat hall old c new next (Err fault) = IsNotBegun old new fault ⊎ RunFails k beat hall old c new fault
+
+-- Each client was started, where it had one of the flags, or stayed; those that were here made whole rounds of steps; and all are back in their places, those that were away served.
+pub record AreBack {U Plan : Type 0} (w : Words U Plan) (hall : Hall) (flags : ℕ) (clients back : List (Pass × U)) : Type 0 where
+  pub first : List (Started U)
+  pub placed : Each (HasItsPlace w hall) clients first
+  pub stayed : drop flags first ≡ map stays (drop flags clients)
+  pub last : List (Started U)
+  pub rounds : AreCrewRounds w hall first last
+  pub joined : Each (IsJoined w hall) last back
+
+-- how many of them may go to threads
+abbrev pub flags_of : Bool → ℕ → ℕ
+flags_of true clients = clients
+flags_of false clients = 0

@@ -1,0 +1,145 @@
+//! The driver and the clients of a hall, from before the first call to the end.
+
+ghost use Rattle.std.specs.Prelude.{◌≡◌, ◌≤◌, All, [], length, vec_capacity, IfOk};
+ghost use Rattle.ob_io.specs.Streams.{outflow};
+ghost use Rattle.ob_serial.specs.VaultKinds.{kind_of};
+ghost use Rattle.ob_desk.specs.Beats.{beat_kind};
+ghost use Rattle.ob_driver.specs.Driven.{side};
+ghost use Rattle.ob_driver.specs.Drives.{IsFirstPass};
+ghost use Rattle.ob_starts.specs.Served.{words, IsClient};
+ghost use Rattle.ob_serve.specs.Serving.{DriverEnds, AreBack, flags_of};
+
+use crate::beside::in_scope;
+use crate::lending::Lent;
+use ob_base::{Fault, Memory, Params};
+use ob_desk::Beat;
+use ob_hall::{Hall, Pass};
+use ob_io::Sink;
+use ob_serial::Vault;
+use ob_session::Runner;
+use ob_starts::{Client, Started};
+use ob_store::Watch;
+use std::alloc::Global;
+use std::mem;
+use std::sync::Wait;
+use std::sync::atomic::AtomicBool;
+use std::thread::Threads;
+
+// Flags, none of which is set, and room for the clients.
+#[derive(Drop)]
+struct Places<U: Runner> {
+    flags: Vec<AtomicBool>,
+    started: Vec<Started<U>>,
+    back: Vec<Client<U>>,
+}
+
+// How many of them may go to threads.
+fn flag_count(threads: bool, clients: usize) -> usize
+    ensures { result ≡ flags_of threads clients }
+{
+    if threads { clients } else { 0 }
+}
+
+// As many flags.
+fn unset(alloc: Global, count: usize) -> Result<Vec<AtomicBool>, Memory>
+    ensures { IfOk result (λ v. length v.items ≡ count) }
+{
+    let mut flags = Vec::new(alloc);
+    for _ in 0..count {
+        flags.push(AtomicBool::new(false))?;
+    }
+    Ok(flags)
+}
+
+// So many flags, and room for so many clients.
+fn make_places<U: Runner>(alloc: Global, clients: usize, flags: usize) -> Result<Places<U>, Memory>
+    ensures flags { IfOk result (λ p. length p.flags.items ≡ flags) }
+    ensures none { IfOk result (λ p. (p.started.items ≡ []) × (p.back.items ≡ [])) }
+    ensures room { IfOk result (λ p. (clients ≤ vec_capacity p.started)
+        × (clients ≤ vec_capacity p.back)) }
+{
+    let flags = unset(alloc, flags)?;
+    let started = Vec::with_capacity(alloc, clients)?;
+    let back = Vec::with_capacity(alloc, clients)?;
+    Ok(Places {
+        flags,
+        started,
+        back,
+    })
+}
+
+// Ends a loan.
+fn finish<T>(_last: &mut T)
+    ensures { _last.new ≡ _last.old }
+{}
+
+/// Drives the epochs of a hall beside its clients, up to the end: each client in a thread of its
+/// own, or, without `threads` or where the system refuses a thread, by hand. All clients come back.
+///
+/// # Errors
+/// Those of the driver; and memory was wanting, before anything was done.
+#[tactic(auto, using(crate::proofs::Meeting::none_started))]
+pub fn serve<U: Runner + Send, R: Threads + Wait + Sync, V: Vault, W: Watch, B: Beat, O: Sink>(
+    rt: &R,
+    alloc: Global,
+    params: &Params,
+    hall: &Hall,
+    pass: &mut Pass,
+    clients: &mut Vec<Client<U>>,
+    vault: &mut V,
+    watch: &mut W,
+    beat: &mut B,
+    output: &mut O,
+    threads: bool,
+) -> Result<(), Fault>
+    requires params { V.params vault.old ≡ params.now }
+    requires first { IsFirstPass hall.now pass.old params.now (V.counts vault.old) }
+    requires clients { All (IsClient (words U.client U.bound U.plan U.fits U.turn) hall.now)
+        clients.old.items }
+    ensures params { V.params vault.new ≡ params.now }
+    ensures anchors { B.anchors beat.new ≡ B.anchors beat.old }
+    ensures back { AreBack (words U.client U.bound U.plan U.fits U.turn) hall.now
+        (flags_of threads (length clients.old.items)) clients.old.items clients.new.items }
+    ensures ends { DriverEnds (kind_of V.Vault) (beat_kind B.passes B.exact) hall.now
+        (side pass.old vault.old (W.trace watch.old) (outflow O.Sink output.old))
+        (V.counts vault.old)
+        (side pass.new vault.new (W.trace watch.new) (outflow O.Sink output.new))
+        (V.counts vault.new) result }
+{
+    let count = flag_count(threads, clients.len());
+    let Ok(places) = make_places(alloc, clients.len(), count) else {
+        return Err(Fault::Memory);
+    };
+    let Places {
+        flags,
+        started,
+        back,
+    } = places;
+    let taken = mem::replace(clients, Vec::new(alloc));
+    let lent = Lent {
+        pass,
+        vault,
+        watch,
+        beat,
+        output,
+    };
+    let (lent, back, result) = in_scope(
+        rt,
+        alloc,
+        params,
+        hall,
+        lent,
+        flags.as_slice(),
+        taken,
+        started,
+        back,
+    );
+    *clients = back;
+    let (pass, vault, watch, beat, output) = lent.into_parts();
+    finish(output);
+    finish(beat);
+    finish(watch);
+    finish(vault);
+    finish(pass);
+    result
+}

@@ -1,0 +1,5 @@
+pub mod Eaching
+pub mod Joining
+pub mod Placing
+pub mod Sent
+pub mod Visiting
