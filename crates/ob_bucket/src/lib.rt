@@ -10,6 +10,3 @@ mod rank;
 pub use meta::{Meta, spelled_once};
 pub use metas::Metas;
 pub use rank::ranks;
-
-#[cfg(test)]
-mod tests;

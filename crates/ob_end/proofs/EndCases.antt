@@ -1,6 +1,6 @@
 -- How the refusals of a close, and of what is made before it, are told as an end's.
 use Rattle.std.specs.Prelude.{◌≡◌, ℕ, suc, ◌+◌, Bool, true, List, Option, Result, Ok, Err}
-use Rattle.std.proofs.Common.{arith, inl, inr, refl, sym, subst}
+use Rattle.std.proofs.Common.{◌∙◌, ap, arith, inl, inr, refl, sym, subst}
 use Rattle.ob_base.specs.declared.fault.Fault.{Fault}
 use Rattle.ob_base.specs.declared.fault.Fault.TheVariants as fault
 use Rattle.ob_base.specs.declared.params.Params.{Params}
@@ -12,6 +12,7 @@ use Rattle.ob_fetch.specs.Fetches.{RunIsAt}
 use Rattle.ob_recover.specs.Repeats.{BatchIsShown}
 use Rattle.ob_ring.specs.FlatTable.{FlatTable}
 use Rattle.ob_ring.specs.Ring.{Kept}
+use Rattle.ob_ring_trace.specs.Ends.{gates_ended}
 use Rattle.ob_seal.specs.Sealing.{Sealing}
 use Rattle.ob_seal.specs.declared.keys.Keys.{Keys}
 use Rattle.ob_serial.specs.VaultViews.{IsStoreEnd}
@@ -29,6 +30,7 @@ use Rattle.ob_store.specs.declared.watch.Note.{Note}
 use Rattle.ob_store.proofs.Moments.{leaves_of, weakened}
 use Rattle.ob_store.proofs.Serving.{serves_then}
 use Rattle.ob_tables.specs.declared.entry.Entry.{Entry}
+use Rattle.ob_twin.specs.Opening.{gates_set}
 use Rattle.ob_twin.specs.Refused.{IsSetFault}
 use Rattle.ob_twin.specs.declared.set_err.SetErr.{SetErr}
 use Rattle.ob_twin.specs.declared.set_err.SetErr.TheVariants as set
@@ -147,3 +149,7 @@ one_more n = omega arith
 pub read_leaves : (keys : Keys) (p : Params) (s : RingStanding) (old new : Disk) → ((c : Image) → old.left_since old.moment c → old.may_leave c) → IsSynced old → Stands keys p s old.cells → Passes Same old new → LeavesOnly old new (Stands keys p s)
 read_leaves keys p s old new only synced stands passes =
     leaves_of Same (Stands keys p s) (Stands keys p s) old new passes only (λ c left. end_spares keys p s c old.cells (λ k off. synced c left k) stands) (λ c d before same. subst (Stands keys p s) (sym same) before) (λ c before. before)
+
+-- the register's gates then, from those of the run's beginning
+pub gates_at : (run mid : Run) → mid ≡ record run { drawn = mid.drawn; ring = mid.ring; jobs = mid.jobs; words = mid.words } → gates_set EPOCH (mid.epoch + 1) mid.gates (Ok tt) ≡ gates_ended run.gates run.epoch
+gates_at run mid kept = ap (λ (m : Run). gates_set EPOCH (m.epoch + 1) m.gates (Ok tt)) kept ∙ ap (λ n. gates_set EPOCH n run.gates (Ok tt)) (one_more run.epoch)

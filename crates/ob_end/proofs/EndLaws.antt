@@ -25,7 +25,8 @@ use Rattle.ob_tables.specs.declared.entry.Entry.{Entry}
 use Rattle.ob_tables.specs.declared.tables.Tables.{Tables}
 use Rattle.ob_taken.specs.Values.{Values, with_writes}
 use Rattle.ob_values.specs.Runs.{slots_of}
-use Rattle.ob_end.specs.EndRuns.{IsEndMade, IsPlannerFit, end_writes, rows_ended}
+use Rattle.ob_end.specs.EndRuns.{IsEndMade, end_writes, rows_ended}
+use Rattle.ob_recover.specs.Fits.{IsPlannerFit}
 use Rattle.ob_end.proofs.EndTables as tables
 use Rattle.ob_end.proofs.MadeLaws as made_laws
 use Rattle.ob_end.proofs.MakeLaws.{writes_are}
@@ -86,13 +87,11 @@ module _ (keys : Keys) (disk : Disk) (writes : List Write) (words : List ℕ) (g
 
   pub end_with : IsEndWith s g new (end_writes p writes words g drawn)
   end_with =
-      let fits = made_laws.book1 keys disk writes words g drawn next ring new made low short fit small few_fit in
-      let sealed = made_laws.seals1 keys disk writes words g drawn next ring new made low short fit small few_fit in
       let whole = made_laws.whole1 keys disk writes words g drawn next ring new made low short fit small few_fit in
       let fit_ws = made_laws.fit_writes keys disk writes words g drawn next ring new made low short in
       record {
-        end = the_end keys s disk.cells ring lifted new writes words g drawn next made.renews stands_at planner_at read_at lifts book made.seals table fits sealed whole fit_ws under small few_at;
-        is = is_end keys s disk.cells ring lifted new writes words g drawn next made.renews stands_at planner_at read_at lifts book made.seals table fits sealed whole fit_ws under small few_at (tables.renewed_p lifted new writes words g drawn next made.renews);
+        end = the_end keys s disk.cells ring lifted new writes words g drawn next made.renews stands_at planner_at read_at lifts book made.seals table fit_ws under few_at whole;
+        is = is_end keys s disk.cells ring lifted new writes words g drawn next made.renews stands_at planner_at read_at lifts book made.seals table fit_ws under few_at whole (tables.renewed_p lifted new writes words g drawn next made.renews);
         map = ap (with_writes s.map) (sym writes_at);
       }
 

@@ -1,5 +1,5 @@
 -- Between what an end makes and what it writes: what the writing asks for, and what the run is at behind it.
-use Rattle.std.specs.Prelude.{◌≡◌, ℕ, suc, ◌+◌, ◌*◌, ◌<◌, ◌≤◌, ◌^◌, false, List, [], Some, length}
+use Rattle.std.specs.Prelude.{◌≡◌, ℕ, suc, ◌+◌, ◌*◌, ◌<◌, ◌≤◌, ◌^◌, false, List, [], ◌++◌, Some, length}
 use Rattle.std.proofs.Common.{arith, inl, sym, ap, ◌∙◌, subst}
 use Rattle.ob_base.specs.declared.params.Params.{Params}
 use Rattle.ob_base.specs.declared.value.Write.{Write}
@@ -7,16 +7,21 @@ use Rattle.ob_base.specs.Layout.{checkpoint_cells}
 use Rattle.ob_base.specs.Planned.{most_jobs}
 use Rattle.ob_base.specs.Tree.{buckets, width}
 use Rattle.ob_content.specs.Content.{Content, Obeys}
-use Rattle.ob_end_writes.specs.EndWrites.{AreSealedFrom, IsEndOfRing, all_seals, content_left, rows_left}
+use Rattle.ob_end_writes.specs.EndWrites.{AreSealedFrom, IsEndOfRing, all_seals, content_left, end_write_notes, rows_left}
+use Rattle.ob_ending.specs.Lifts.{lift_notes}
 use Rattle.ob_epoch.specs.Table.{flat_of}
 use Rattle.ob_fetch.specs.declared.run.Run.{Run}
 use Rattle.ob_fetch.specs.Fetches.{RunIsAt, RunsAt}
 use Rattle.ob_fetch.proofs.FetchLaws.{cells_same, settled_then}
 use Rattle.ob_fetch.proofs.NextLaws.{stands_listed}
+use Rattle.ob_log.specs.Logs.{BatchRecord}
 use Rattle.ob_recover.specs.Repeats.{content_of_ring, table_after_records}
 use Rattle.ob_ring.specs.FlatTable.{FlatTable}
 use Rattle.ob_ring.specs.Ring.{Kept, StandsFor}
 use Rattle.ob_ring.specs.Writing.{write_at}
+use Rattle.ob_ring_trace.specs.Ends.{gates_ended}
+use Rattle.ob_ring_trace.specs.Known.{PlansFrom, fills_with_lifts, public_of_kept}
+use Rattle.ob_schedule.specs.Schedule.{end_notes}
 use Rattle.ob_seal.specs.Sealing.{Sealing}
 use Rattle.ob_seal.specs.declared.keys.Keys.{Keys}
 use Rattle.ob_stand.specs.Ends.{RingEnd, standing_after}
@@ -28,10 +33,15 @@ use Rattle.ob_store.specs.Images.{IsSynced, LeavesOnly, Passes, Same}
 use Rattle.ob_store.proofs.Moments.{leaves_of, then_on}
 use Rattle.ob_tables.specs.declared.entry.Entry.{Entry}
 use Rattle.ob_taken.specs.Values.{Values, with_writes}
+use Rattle.ob_twin.specs.Opening.{is_closed_first}
+use Rattle.ob_twin.specs.Orders.{set_notes}
+use Rattle.ob_twin.specs.Register.{place_of}
 use Rattle.ob_twin.specs.declared.gates.Gates.{Gates}
-use Rattle.ob_end.specs.EndRuns.{IsEndMade, IsEndReady, IsPlannerFit, MayEndEpoch, end_writes, rows_ended, seals_for_end}
+use Rattle.ob_end.specs.EndRuns.{IsEndMade, IsEndReady, LeadsOn, MayEndEpoch, end_writes, rows_ended, seals_for_end}
+use Rattle.ob_recover.specs.Fits.{IsPlannerFit}
 use Rattle.ob_end.proofs.EndLaws.{IsEndWith, content_is, end_with, runs_then}
 use Rattle.ob_end.proofs.MadeLaws as made_laws
+use Rattle.ob_end.proofs.ScheduledEnds as scheduled
 
 module _ (run mid : Run) (disk : Disk) (writes : List Write) (words : List ℕ) (kept : mid ≡ record run { drawn = mid.drawn; ring = mid.ring; jobs = mid.jobs; words = mid.words }) (ready : IsEndReady run)
     (made : IsEndMade (run.sealer).keys disk writes words (run.sealer).generation run.drawn (run.sealer).next run.ring mid.ring)
@@ -91,6 +101,24 @@ module _ (run mid : Run) (disk : Disk) (writes : List Write) (words : List ℕ) 
 
   pub sheet_long : length mid.sheet ≡ 96 * checkpoint_cells (mid.ring).p
   sheet_long = ap (λ (m : Run). length m.sheet) kept ∙ ready.sheet ∙ ap (λ (q : Params). 96 * checkpoint_cells q) (sym mid_p)
+
+  -- ---- as the store knows it
+
+  module _ (c : Content) (rs : List BatchRecord) (from : PlansFrom run.params g run.gates run.ring c rs) where
+    abbrev t1 : FlatTable
+    t1 = table_after_records run.params (flat_of run.params c) rs
+
+    few1 : rows_ended run.params t1 (end_writes run.params writes words g run.drawn) ≤ (run.params).room
+    few1 = (may t1 (stands_listed run.ring t1 (from.planner).table)).rows
+
+    -- the lifts of the planner's table, the writes and the register
+    pub whole_notes : lift_notes run.params (run.ring.metas).versions fit.table ++ (end_write_notes mid.ring (suc run.epoch) ++ set_notes (is_closed_first (run.gates).epoch (place_of (suc run.epoch))) 5 (suc run.epoch))
+        ≡ end_notes run.params (public_of_kept run.params c rs run.epoch run.gates) (fills_with_lifts run.params c rs)
+    whole_notes = scheduled.whole_at (run.sealer).keys disk writes words g run.drawn (run.sealer).next run.ring mid.ring made low_at short fit small few_fit run.params ring_p run.epoch run.gates c rs from few1 fit.table fit.stands
+
+    pub leads_then : (last : Kept) → last ≡ record mid.ring { stash = last.stash } → (last.stash).rows ≡ rows_left mid.ring → (last.stash).room ≡ (mid.ring.stash).room
+        → LeadsOn run.params g c rs run.epoch run.gates last (gates_ended run.gates run.epoch)
+    leads_then last stash rows room = scheduled.leads_on (run.sealer).keys disk writes words g run.drawn (run.sealer).next run.ring mid.ring made low_at short fit small few_fit run.params ring_p run.epoch run.gates c rs from few1 last stash rows room
 
   -- ---- behind it
 

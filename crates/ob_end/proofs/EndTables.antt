@@ -1,7 +1,7 @@
 -- The tables that an end makes: they obey, and have the map's values with the writes.
 use Rattle.std.specs.Prelude.{◌≡◌, ℕ, ◌<◌, ◌≤◌, ◌^◌, Bool, true, false, cond, List, length, take, drop}
 use Rattle.std.specs.FinMap as finite
-use Rattle.std.proofs.Common.{arith, sym, ap, ◌∙◌, subst}
+use Rattle.std.proofs.Common.{arith, inl, sym, ap, ◌∙◌, subst}
 use Rattle.ob_base.specs.declared.params.Params.{Params}
 use Rattle.ob_base.specs.declared.value.Write.{Write}
 use Rattle.ob_base.specs.Tree.{buckets}
@@ -150,7 +150,7 @@ module _ (lifted renewed : Kept) (writes : List Write) (words : List ℕ) (g dra
           where
             filled : AreTablesFilled p renewed.metas renewed.book (rows_left renewed) renewed.counter t3
             filled = record {
-              book_fits = renewed_fit.book p g lifted.book renewed.book small book_many fits books;
+              book_fits = renewed_fit.book p g lifted.book renewed.book small book_many fits (steps_renew.knows p g lifted.book lifted.book renewed.book (λ k e at. inl at) books);
               whole = whole_renewed;
               versions = all_whole;
               seals = renewed_fit.seals p g (lifted.metas).versions (renewed.metas).versions small seals sealed;

@@ -3,8 +3,11 @@ pub mod EndCases
 pub mod EndLaws
 pub mod EndStage
 pub mod EndTables
-pub mod JoinLaws
 pub mod KnownEntries
 pub mod MadeLaws
 pub mod MakeLaws
+pub mod RunLaws
+pub mod ScheduledEnds
 pub mod StandEnds
+pub mod StashLaws
+pub mod ToldEnds

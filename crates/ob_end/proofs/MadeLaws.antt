@@ -26,9 +26,10 @@ use Rattle.ob_taken.proofs.TheLaws.{picked_are_taken}
 use Rattle.ob_taken.specs.Values.{Values, with_writes}
 use Rattle.ob_values.specs.Carries.{Carries}
 use Rattle.ob_values.specs.Laws.{AreFit}
-use Rattle.ob_end.specs.EndRuns.{IsEndMade, IsPlannerFit, end_writes, rows_ended, seals_for_end, table_ended}
+use Rattle.ob_end.specs.EndRuns.{IsEndMade, end_writes, rows_ended, seals_for_end, table_ended}
+use Rattle.ob_recover.specs.Fits.{IsPlannerFit}
 use Rattle.ob_end.proofs.EndTables as tables
-use Rattle.ob_end.proofs.JoinLaws.{carries_then, joined, map_then}
+use Rattle.ob_recover.proofs.JoinLaws.{carries_then, joined, map_then}
 use Rattle.ob_end.proofs.MakeLaws.{rows_are, seals_are, writes_are}
 
 module _ (keys : Keys) (disk : Disk) (writes : List Write) (words : List ℕ) (g drawn next : ℕ) (ring new : Kept) (made : IsEndMade keys disk writes words g drawn next ring new)

@@ -9,17 +9,21 @@ use Rattle.ob_base.specs.Layout.{checkpoint_cells}
 use Rattle.ob_base.specs.Tree.{buckets, width}
 use Rattle.ob_bucket.specs.Buckets.{Buckets, version_at}
 use Rattle.ob_bucket.specs.Version.{Version}
-use Rattle.ob_content.specs.Content.{FitsBook, FitsSeals}
+use Rattle.ob_content.specs.Content.{Content, FitsBook, FitsSeals}
 use Rattle.ob_ending.specs.Lifts.{IsLiftDamage, LiftsAreRead, lifts_picked}
 use Rattle.ob_ending.specs.Renewals.{Renews}
 use Rattle.ob_epoch.specs.Plans.{AreAllWhole}
 use Rattle.ob_fetch.specs.declared.run.Run.{Run}
 use Rattle.ob_fetch.specs.Fetches.{DrawsWords, IsRunReady, RunIsAt}
+use Rattle.ob_log.specs.Logs.{BatchRecord}
+use Rattle.ob_recover.specs.Fits.{IsPlannerFit}
 use Rattle.ob_recover.specs.Repeats.{BatchIsShown, NoneIsShown, RowsJoin, content_of_ring}
 use Rattle.ob_ring.specs.FlatTable.{FlatTable, FinalLifts, Refill, Writes, after, refill_order, stash_size}
 use Rattle.ob_ring.specs.Picked.{SameSeals}
 use Rattle.ob_ring.specs.Ring.{IsListed, IsRing, Kept, StandsFor}
 use Rattle.ob_ring.specs.Writing.{leaf_writes, writes_of}
+use Rattle.ob_ring_trace.specs.Known.{PlansFrom, public_of_kept}
+use Rattle.ob_schedule.specs.Schedule.{after_end}
 use Rattle.ob_seal.specs.declared.keys.Keys.{Keys}
 use Rattle.ob_serial.specs.declared.vault.EndErr.{EndErr}
 use Rattle.ob_serial.specs.declared.vault.EndErr.TheVariants as end
@@ -31,6 +35,7 @@ use Rattle.ob_store.specs.declared.event.Event.{Event}
 use Rattle.ob_store.specs.declared.watch.Note.{Note}
 use Rattle.ob_tables.specs.declared.entry.Entry.{Entry}
 use Rattle.ob_taken.specs.Values.{Values, with_writes}
+use Rattle.ob_twin.specs.declared.gates.Gates.{Gates}
 use Rattle.ob_twin.specs.declared.set_err.SetErr.{SetErr}
 use Rattle.ob_twin.specs.declared.set_err.SetErr.TheVariants as set
 use Rattle.ob_values.specs.Carries.{Carries, Slots}
@@ -39,18 +44,7 @@ use Rattle.ob_end.specs.Closings.{CloseDoes}
 
 -- ---- what a run keeps at all times, whatever its store tells
 
--- The planner's numbers are in range, and the rows of its stash are those of some map, with some bytes in the slots.
-pub record IsPlannerFit (ring : Kept) : Type 0 where
-  pub table : FlatTable
-  pub stands : StandsFor ring table
-  pub slots : Slots
-  pub map : Values
-  pub carries : Carries ring.p table (ring.stash).rows slots map
-  pub book : FitsBook ring.p ring.book
-  pub seals : (u : ℕ) → u < buckets ring.p → FitsSeals (version_at (ring.metas).versions u)
-  pub whole : AreAllWhole ring.p ring.metas
-
--- it has room for what an end needs
+-- Its planner fits, and it has room for what an end needs
 pub record IsEndReady (run : Run) : Type 0 where
   pub ready : IsRunReady run
   pub own_words : (run.params).writes ≤ length (run.words).items
@@ -159,6 +153,13 @@ EndImages keys p s ws run _ image = OneOf keys p s (standing_at_end s run ws) im
 abbrev pub end_err_of : SetErr → EndErr
 end_err_of (set.Before refused) = end.Before refused
 end_err_of (set.Unsure refused) = end.Unsure refused
+
+-- ---- what the store knows of it
+
+-- Behind an end the planner is at the beginning of the next epoch, and what the store then knows of it is what the schedule's end leaves.
+pub record LeadsOn (p : Params) (g : ℕ) (c : Content) (rs : List BatchRecord) (epoch : ℕ) (gates : Gates) (ring : Kept) (gates' : Gates) : Type 0 where
+  pub plans : PlansFrom p g gates' ring (content_of_ring ring) []
+  pub public : after_end p (public_of_kept p c rs epoch gates) ≡ public_of_kept p (content_of_ring ring) [] (suc epoch) gates'
 
 -- ---- what is made before anything is written
 

@@ -5,19 +5,27 @@ ghost use Rattle.ob_base.specs.Planned.{most_jobs};
 ghost use Rattle.ob_bucket.specs.Buckets.{Buckets};
 ghost use Rattle.ob_cells.specs.Writes.{Seals};
 ghost use Rattle.ob_end_writes.specs.EndWrites.{end_write_notes};
+ghost use Rattle.ob_content.specs.Content.{Content};
 ghost use Rattle.ob_ending.specs.Lifts.{lift_cells, lift_notes};
 ghost use Rattle.ob_fetch.specs.Fetches.{RunIsAt, words_since};
+ghost use Rattle.ob_log.specs.Logs.{BatchRecord};
 ghost use Rattle.ob_ring.specs.FlatTable.{FlatTable};
 ghost use Rattle.ob_ring.specs.Picked.{SameSeals};
 ghost use Rattle.ob_ring.specs.Ring.{StandsFor};
 ghost use Rattle.ob_ring.specs.Writing.{write_at};
+ghost use Rattle.ob_ring_trace.specs.Ends.{gates_ended};
+ghost use Rattle.ob_ring_trace.specs.Known.{PlansFrom, fills_with_lifts, public_of_kept};
+ghost use Rattle.ob_ring_trace.specs.Telling.{IsShownAs};
+ghost use Rattle.ob_schedule.specs.Schedule.{end_notes};
 ghost use Rattle.ob_serial.specs.VaultViews.{IsEndFault, IsStoreEnd};
 ghost use Rattle.ob_stand.specs.Stands.{RingStanding};
 ghost use Rattle.ob_store.specs.Calls.{Serves};
 ghost use Rattle.ob_store.specs.Images.{IsSynced, LeavesOnly};
+ghost use Rattle.ob_store.specs.Lines.{Shows};
+ghost use Rattle.ob_store.specs.declared.watch.Note.{Note};
 ghost use Rattle.ob_twin.specs.Opening.{GatesAre, is_closed_first};
 ghost use Rattle.ob_twin.specs.Register.{place_of};
-ghost use Rattle.ob_end.specs.EndRuns.{EndAnswers, EndDoes, EndDraws, EndImages, EndStands, IsEndReady, end_err_of, end_writes, seals_for_end, table_ended};
+ghost use Rattle.ob_end.specs.EndRuns.{EndAnswers, EndDoes, EndDraws, EndImages, EndStands, IsEndReady, LeadsOn, end_err_of, end_writes, seals_for_end, table_ended};
 
 use crate::closing::close_epoch;
 use crate::making::make_end;
@@ -112,6 +120,20 @@ pub fn end<S: Store, T: Tape, W: Watch>(
         (is_closed_first run.old.gates.epoch (place_of (suc run.old.epoch))) (suc run.old.epoch)
         (S.disk store.old).seen (S.disk store.new).seen (W.trace watch.old) (W.trace watch.new)
         result }
+    ensures gates { OnOk result (run.new.gates ≡ gates_ended run.old.gates run.old.epoch) }
+    // It shows the schedule's end of what the store knows of the epoch, and refused a front of it.
+    ensures scheduled { (notes : List Note) × Shows notes (W.trace watch.old) (W.trace watch.new)
+        × ((c : Content) (rs : List BatchRecord)
+        → PlansFrom run.old.params run.old.sealer.generation run.old.gates run.old.ring c rs
+        → IsShownAs crew.old.lanes (end_notes run.old.params
+        (public_of_kept run.old.params c rs run.old.epoch run.old.gates)
+        (fills_with_lifts run.old.params c rs)) notes (S.disk store.old).seen
+        (S.disk store.new).seen result) }
+    // Behind it the store knows of the next epoch what the schedule's end leaves.
+    ensures onward { (c : Content) (rs : List BatchRecord)
+        → PlansFrom run.old.params run.old.sealer.generation run.old.gates run.old.ring c rs
+        → OnOk result (LeadsOn run.old.params run.old.sealer.generation c rs run.old.epoch
+        run.old.gates run.new.ring run.new.gates) }
     // Where the store stood, it stands for the next epoch, with the writes.
     ensures stands { (s : RingStanding) → RunIsAt run.old s (S.disk store.old)
         → EndStands s (end_writes run.old.params writes.now (words_since (T.drawn tape.old)

@@ -18,9 +18,11 @@ use Rattle.ob_schedule.specs.Paths.{is_one_of}
 use Rattle.ob_seal.specs.declared.keys.Keys.{Keys}
 use Rattle.ob_seal.specs.Sealing.{Sealing}
 use Rattle.ob_store.specs.Disk.{Disk, Image}
-use Rattle.ob_store.specs.Images.{SameOff}
+use Rattle.ob_store.specs.Images.{Passes, SameOff}
 use Rattle.ob_store.specs.Calls.{GoesOn, Serves}
-use Rattle.ob_store.proofs.Moments.{passes_so}
+use Rattle.ob_store.proofs.Moments.{passed_none, passed_then, passes_so}
+use Rattle.ob_pads.specs.Seals.{CellsAreSealed, SealerGoesOn}
+use Rattle.ob_pads.proofs.Sealing.{none_sealed, run_sealed, sealed_join}
 use Rattle.ob_store.proofs.Serving.{goes_same, goes_then}
 use Rattle.ob_stand.specs.Ends.{RingEnd, HoldsBucket}
 use Rattle.ob_stand.specs.Fills.{SameButBucket}
@@ -29,7 +31,7 @@ use Rattle.ob_stand.specs.Stands.{RingStanding}
 use Rattle.ob_stand.proofs.EndLaws.{end_fills_spare}
 use Rattle.ob_stand.proofs.FillLaws.{end_writes_stay}
 use Rattle.ob_end_writes.specs.EndWrites.{AreSealedFrom, FillsBuckets, IsEndOfRing, SameFirst, WritesSpare, bucket_seals, listed_at, slot_plain, version_of}
-use Rattle.ob_end_writes.proofs.Parts.{spare_none, spare_then}
+use Rattle.ob_end_writes.proofs.Parts.{first_joins, spare_none, spare_then}
 
 -- what an end of the ring has of its first buckets
 pub record FilledTo (keys : Keys) (r : Kept) (s : RingStanding) (end : RingEnd) (n : ℕ) (old now : Disk) : Type 0 where
@@ -45,6 +47,8 @@ pub record Filling (r : Kept) (n : ℕ) (before sealer : Sealing) (old now : Dis
   pub generation : sealer.generation ≡ before.generation
   pub next : sealer.next ≡ before.next + n * width r.p
   pub first : old.tells → SameFirst now.cells old.cells
+  pub moments : Passes SameFirst old now
+  pub sealed : old.tells → CellsAreSealed before sealer old.cells now.cells
   pub fills : (s : RingStanding) (end : RingEnd) → IsEndOfRing s end before.generation r → FilledTo before.keys r s end n old now
 
 pub filling_none : (r : Kept) (before : Sealing) (d : Disk) → d.out ≡ 0 → Filling r 0 before before d d
@@ -56,6 +60,8 @@ filling_none r before d none = record {
   generation = refl;
   next = omega arith;
   first = λ t k low. refl;
+  moments = passed_none d SameFirst (λ c k low. refl);
+  sealed = λ t. none_sealed before before d.cells d.cells (λ cell low. inl refl);
   fills = λ s end is. record { spare = spare_none r.p s d; written = λ t i low. absurd (omega arith) };
 }
 
@@ -138,6 +144,10 @@ module _ (r : Kept) (n v : ℕ) (before sealer later : Sealing) (old mid new : D
     pub first_more : old.tells → SameFirst new.cells old.cells
     first_more t k lt = here.within.rest (so_far.tells t) k (inl (omega (arith, lt))) ∙ so_far.first t k lt
 
+    pub moments_more : Passes SameFirst old new
+    moments_more = passed_then SameFirst old mid new first_joins so_far.moments
+        (passes_so (SameOff (slot_cell r.p (version_of r (listed_at r n)).home (listed_at r n) 0) (width r.p)) SameFirst mid new (λ c d same k lt. same k (inl (omega (arith, lt)))) here.within.passes)
+
     pub fill_refused : {U F : Type 0} (x : Result U F) → IsErr x → (s : RingStanding) (end : RingEnd) → IsEndOfRing s end before.generation r → FillsBuckets {T = U} {E = F} before.keys r.p s end old new x
     fill_refused (Ok w) err s end is = absurd (grind (arith, err))
     fill_refused (Err w) err s end is = record { spare = more_spare s end is; written = λ t. tt }
@@ -169,6 +179,21 @@ module _ (r : Kept) (n v : ℕ) (before sealer later : Sealing) (old mid new : D
     run_before : mid.tells → AreSealed before.keys (slot_cell r.p (version_of r (listed_at r n)).home (listed_at r n) 0) (width r.p) before.generation (before.next + n * width r.p) (byte_plain r (listed_at r n)) (run_at (slot_cell r.p (version_of r (listed_at r n)).home (listed_at r n) 0) new.cells)
     run_before t = let w = run_here.written t in rw (sym so_far.keys, sym so_far.generation, sym so_far.next) w
 
+    width_now : later.next ≡ sealer.next + width r.p
+    width_now = ap (λ (x : Sealing). x.next) run.seals.all
+
+    goes_before : SealerGoesOn before sealer
+    goes_before = record { keys = so_far.keys; generation = so_far.generation; on = (let then = so_far.next in omega (arith, then)) }
+
+    goes_now : SealerGoesOn sealer later
+    goes_now = record { keys = ap (λ (x : Sealing). x.keys) run.seals.all; generation = ap (λ (x : Sealing). x.generation) run.seals.all; on = omega (arith, width_now) }
+
+    sealed_one : mid.tells → CellsAreSealed sealer later mid.cells new.cells
+    sealed_one t = run_sealed (slot_cell r.p (version_of r (listed_at r n)).home (listed_at r n) 0) (width r.p) (byte_plain r (listed_at r n)) sealer later mid.cells new.cells width_now few (run_here.written t) (λ k off. inl (run_here.within.rest t k off))
+      where
+        few : sealer.next + width r.p ≤ 2 ^ 62
+        few = let then = so_far.next in let part : (n + 1) * width r.p ≤ bucket_seals r = mul-le-mul_right (width r.p) (omega (arith, low)) in omega (arith, then, part, fits)
+
     pub fill_one : Serves {T = Unit {0}} {E = E} blames mid new (Ok tt) → Filling r (n + 1) before later old new
     fill_one serves = record {
       goes = goes_then old mid new so_far.goes serves.goes;
@@ -178,6 +203,8 @@ module _ (r : Kept) (n v : ℕ) (before sealer later : Sealing) (old mid new : D
       generation = ap (λ (x : Sealing). x.generation) run.seals.all ∙ so_far.generation;
       next = (let now : later.next ≡ sealer.next + width r.p = ap (λ (x : Sealing). x.next) run.seals.all in let then = so_far.next in omega (arith, now, then));
       first = first_more {T = Unit {0}} {E = E} (Ok tt) run;
+      moments = moments_more {T = Unit {0}} {E = E} (Ok tt) run;
+      sealed = λ t. sealed_join before sealer later old.cells mid.cells new.cells goes_before goes_now (so_far.sealed t) (sealed_one (so_far.tells t));
       fills = λ s end is. record {
         spare = more_spare {T = Unit {0}} {E = E} (Ok tt) run s end is;
         written = λ t. below_more (λ i. HoldsBucket before.keys r.p end (listed_at r i) new.cells) n

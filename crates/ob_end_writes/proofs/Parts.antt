@@ -21,7 +21,10 @@ use Rattle.ob_stand.specs.Spare.{Spare, SameButIn}
 use Rattle.ob_stand.specs.Stands.{RingStanding}
 use Rattle.ob_stand.proofs.EndLaws.{end_writes_spare}
 use Rattle.ob_stand.proofs.FillLaws.{end_writes_stay}
-use Rattle.ob_end_writes.specs.EndWrites.{KeepsStanding, WritesSpare}
+use Rattle.ob_end_writes.specs.EndWrites.{KeepsStanding, SameFirst, WritesSpare}
+
+pub first_joins : (c d e : Image) → SameFirst c d → SameFirst d e → SameFirst c e
+first_joins c d e one two k low = one k low ∙ two k low
 
 pub in_join : (kind : ℕ → Type 0) (c d e : Image) → SameButIn kind c d → SameButIn kind d e → SameButIn kind c e
 in_join kind c d e one two k off = one k off ∙ two k off

@@ -1,7 +1,8 @@
 -- Gates as far as they are closed.
 use Rattle.std.specs.Prelude.{◌≡◌, ◌<◌, ℕ, suc, ◌+◌, ◌%◌, length, get_or, Result, Ok, Err}
 use Rattle.std.specs.Result.{IsErr}
-use Rattle.std.proofs.Common.{arith, refl, sym, ap, ◌∙◌, subst, below_more}
+use Rattle.std.proofs.Common.{arith, inl, inr, ⊎_elim, refl, sym, ap, ◌∙◌, subst, below_more}
+use Rattle.std.proofs.lemmas.Bool.{cases_eq}
 use Rattle.std.proofs.lemmas.List.FromFn.{length-map-range_with_len, get_or-map-range_with_len}
 use Rattle.ob_base.specs.declared.params.Params.{Params}
 use Rattle.ob_base.specs.Layout.{log_gate, record_cells}
@@ -9,14 +10,16 @@ use Rattle.ob_base.proofs.LayoutLaws.{parts_apart}
 use Rattle.ob_schedule.specs.Schedule.{log_gates}
 use Rattle.ob_seal.specs.declared.keys.Keys.{Keys}
 use Rattle.ob_store.specs.Disk.{Disk}
-use Rattle.ob_store.specs.Images.{Elapses, SameBut, Tears}
+use Rattle.ob_store.specs.Images.{Elapses, Passes, SameBut, Tears}
+use Rattle.ob_store.proofs.Moments.{passed_none, passed_then, passes_so, torn_once}
+use Rattle.ob_pads.specs.Seals.{IsGate, IsUnsealed}
 use Rattle.ob_store.specs.Calls.{GoesOn, IsFailed, Serves}
 use Rattle.ob_store.proofs.Serving.{goes_same, goes_then}
 use Rattle.ob_twin.specs.Bodies.{closed_gate}
 use Rattle.ob_stand.specs.Ends.{RingEnd, IsEndOf}
 use Rattle.ob_stand.specs.Stands.{RingStanding}
 use Rattle.ob_end_writes.specs.EndWrites.{SameFirst, ShutsGates, KeepsStanding}
-use Rattle.ob_end_writes.proofs.Parts.{gate_stays, stays_none, stays_then}
+use Rattle.ob_end_writes.proofs.Parts.{first_joins, gate_stays, stays_none, stays_then}
 
 -- so many gates are closed
 pub record Shutting (p : Params) (area n : ℕ) (old now : Disk) : Type 0 where
@@ -26,6 +29,8 @@ pub record Shutting (p : Params) (area n : ℕ) (old now : Disk) : Type 0 where
   pub stays : (keys : Keys) (s : RingStanding) (end : RingEnd) → IsEndOf p s end → area ≡ suc (suc s.epoch) % 2 → KeepsStanding keys p s end old now
   pub shut : old.tells → (b : ℕ) → b < n → now.cells (log_gate p area b) ≡ closed_gate
   pub first : old.tells → SameFirst now.cells old.cells
+  pub moments : Passes SameFirst old now
+  pub unsealed : old.tells → (cell : ℕ) → IsUnsealed old.cells now.cells cell
 
 pub shutting_none : (p : Params) (area : ℕ) (d : Disk) → d.out ≡ 0 → Shutting p area 0 d d
 shutting_none p area d none = record {
@@ -35,6 +40,8 @@ shutting_none p area d none = record {
   stays = λ keys s end follows is. stays_none keys p s end d;
   shut = λ t b low. absurd (omega arith);
   first = λ t k low. refl;
+  moments = passed_none d SameFirst (λ c k low. refl);
+  unsealed = λ t cell. inl refl;
 }
 
 module _ (p : Params) (area n cell : ℕ) (old mid new : Disk) (low : n < p.batches) (is : cell ≡ log_gate p area n) (so_far : Shutting p area n old mid)
@@ -45,6 +52,10 @@ module _ (p : Params) (area n cell : ℕ) (old mid new : Disk) (low : n < p.batc
 
   pub first_one : old.tells → SameFirst new.cells old.cells
   first_one t k lt = rest (so_far.tells t) k (λ e. absurd (omega (arith, e, is, lt))) ∙ so_far.first t k lt
+
+  pub moments_one : Passes SameFirst old new
+  moments_one = passed_then SameFirst old mid new first_joins so_far.moments
+      (passes_so (SameBut cell) SameFirst mid new (λ c d same k lt. same k (λ e. absurd (omega (arith, e, is, lt)))) (torn_once cell mid new goes.later time tears))
 
   -- the call was refused
   pub shut_refused : {T E : Type 0} (r : Result T E) → IsErr r → (keys : Keys) (s : RingStanding) (end : RingEnd) → IsEndOf p s end → area ≡ suc (suc s.epoch) % 2 → ShutsGates keys p s end old new r
@@ -61,8 +72,16 @@ module _ (p : Params) (area n cell : ℕ) (old mid new : Disk) (low : n < p.batc
         (λ b below. rest (so_far.tells t) (log_gate p area b) (λ e. other b below (e ∙ is)) ∙ so_far.shut t b below)
         (subst (λ k. new.cells k ≡ closed_gate) is (put (so_far.tells t)));
     first = first_one;
+    moments = moments_one;
+    unsealed = λ t k. ⊎_elim
+        (λ (at : k ≡ cell). inr (inr (ap new.cells at ∙ put (so_far.tells t))))
+        (λ (apart : k ≡ cell → ⊥). still k (rest (so_far.tells t) k apart) (so_far.unsealed t k))
+        (cases_eq k cell);
   }
     where
+      still : (k : ℕ) → new.cells k ≡ mid.cells k → IsUnsealed old.cells mid.cells k → IsUnsealed old.cells new.cells k
+      still k same unsealed = ⊎_elim (λ (e : mid.cells k ≡ old.cells k). inl (same ∙ e)) (λ (gate : IsGate (mid.cells k)). inr (subst IsGate (sym same) gate)) unsealed
+
       other : (b : ℕ) → b < n → log_gate p area b ≡ log_gate p area n → ⊥
       other b below e = let same : b ≡ n = (parts_apart p area b n (record_cells p) (record_cells p) (omega arith) (omega arith) e).0 in omega arith
 

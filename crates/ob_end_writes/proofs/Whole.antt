@@ -1,6 +1,6 @@
 -- All that an end writes, from its parts.
 use Rattle.std.specs.Prelude.{◌≡◌, ◌<◌, ◌≤◌, ℕ, suc, ◌+◌, ◌%◌, ◌^◌, Result, Ok, Err, OnOk}
-use Rattle.std.proofs.Common.{arith, inl, refl, sym, ap, ◌∙◌, subst}
+use Rattle.std.proofs.Common.{arith, inl, inr, ⊎_elim, refl, sym, ap, ◌∙◌, subst}
 use Rattle.std.specs.Result.{IsErr}
 use Rattle.ob_base.specs.declared.fault.Failed.{Failed}
 use Rattle.ob_base.specs.declared.fault.Fault.{Fault}
@@ -20,7 +20,11 @@ use Rattle.ob_twin.proofs.Moves.{closed-isnt-open}
 use Rattle.ob_store.specs.Disk.{Disk, Image, NotAfter}
 use Rattle.ob_store.specs.Images.{Elapses, Passes, SameOff, Shrinks}
 use Rattle.ob_store.specs.Calls.{Keeps}
-use Rattle.ob_store.proofs.Moments.{passes_so}
+use Rattle.ob_store.proofs.Moments.{passed_then, passes_so}
+use Rattle.ob_pads.specs.Seals.{CellsAreSealed, IsGate, IsUnsealed, SealerGoesOn}
+use Rattle.ob_pads.proofs.Sealing.{none_sealed, run_sealed, sealed_join}
+use Rattle.ob_seal.specs.Pieces.{piece}
+use Rattle.ob_content.specs.Spelling.{checkpoint_bytes}
 use Rattle.ob_stand.specs.Ends.{RingEnd, IsEndOf, HoldsNextCheckpoint, IsEndWritten}
 use Rattle.ob_stand.specs.Fills.{next_gate}
 use Rattle.ob_stand.specs.Spare.{Spare, SameButIn}
@@ -30,7 +34,7 @@ use Rattle.ob_stand.proofs.FillLaws.{end_writes_stay}
 use Rattle.ob_tables.specs.declared.tables.Tables.{Tables}
 use Rattle.ob_twin.specs.Bodies.{closed_gate}
 use Rattle.ob_end_writes.specs.EndWrites.{FillsBuckets, HoldsBuckets, IsEndOfRing, IsOfStore, SameFirst, ShutsGates, WritesEnd, WritesSpare, all_seals, bucket_seals, content_left, rows_left}
-use Rattle.ob_end_writes.proofs.Parts.{spare_then, spare_synced}
+use Rattle.ob_end_writes.proofs.Parts.{first_joins, spare_then, spare_synced}
 
 -- a write of a checkpoint for which there are seals is refused by the store alone
 pub of_store : (p : Params) (next : ℕ) (e : Fault) → next + checkpoint_cells p ≤ 2 ^ 62 → AreWriteFaults p next (Err e) → IsOfStore e
@@ -87,6 +91,42 @@ first_checked p epoch old new rest t k lt = rest t k (inl (omega (arith, lt)))
 
 pub first_then : (a b c : Image) → SameFirst b a → SameFirst c b → SameFirst c a
 first_then a b c one two k lt = two k lt ∙ one k lt
+
+pub moments_checked : (p : Params) (epoch : ℕ) (old mid new : Disk) → Passes SameFirst old mid → Passes (SameOff (area_of p epoch) (checkpoint_cells p)) mid new → Passes SameFirst old new
+moments_checked p epoch old mid new before passes = passed_then SameFirst old mid new first_joins before (passes_so (SameOff (area_of p epoch) (checkpoint_cells p)) SameFirst mid new (λ c d same k lt. same k (inl (omega (arith, lt)))) passes)
+
+pub moments_then : (old mid new : Disk) → Passes SameFirst old mid → Passes SameFirst mid new → Passes SameFirst old new
+moments_then old mid new one two = passed_then SameFirst old mid new first_joins one two
+
+-- ---- the seals of its cells
+
+further_on : (many : ℕ) (a b : Sealing) → IsFurther many a b → SealerGoesOn a b
+further_on many a b f = record { keys = f.keys; generation = f.generation; on = f.on }
+
+module _ (r : Kept) (p : Params) (epoch : ℕ) (a b c : Sealing) (v w x y z : Image) (further : IsFurther (bucket_seals r) a b) (one : b ≡ record a { next = a.next + bucket_seals r }) (room : a.next + all_seals r ≤ 2 ^ 62) (is : p ≡ r.p)
+    (two : c ≡ record b { next = b.next + checkpoint_cells p }) (more : IsFurther (checkpoint_cells p) b c) (content : Content) (written : HoldsCheckpointFrom b.keys p epoch content b.generation b.next x)
+    (rest : SameOff (area_of p epoch) (checkpoint_cells p) x w) (filled : CellsAreSealed a b v w) (shut : (cell : ℕ) → IsUnsealed x y cell) (same : (cell : ℕ) → z cell ≡ y cell) where
+  few : b.next + checkpoint_cells p ≤ 2 ^ 62
+  few = (let then : b.next ≡ a.next + bucket_seals r = ap (λ (s : Sealing). s.next) one in let cells : checkpoint_cells p ≡ checkpoint_cells r.p = ap checkpoint_cells is in omega (arith, then, cells, room))
+
+  checked : CellsAreSealed b c w x
+  checked = run_sealed (area_of p epoch) (checkpoint_cells p) (λ i. piece i (checkpoint_bytes p epoch content)) b c w x (ap (λ (s : Sealing). s.next) two) few written (λ k off. inl (rest k off))
+
+  stays : (cell : ℕ) → IsUnsealed x z cell
+  stays cell = ⊎_elim (λ (e : y cell ≡ x cell). inl (same cell ∙ e)) (λ (gate : IsGate (y cell)). inr (subst IsGate (sym (same cell)) gate)) (shut cell)
+
+  pub end_sealed : CellsAreSealed a c v z
+  end_sealed = sealed_join a c c v x z (further_on (bucket_seals r + checkpoint_cells p) a c further_all) (record { keys = refl; generation = refl; on = omega arith })
+      (sealed_join a b c v w x (further_on (bucket_seals r) a b further) (further_on (checkpoint_cells p) b c more) filled checked)
+      (none_sealed c c x z (λ cell low. stays cell))
+    where
+      further_all : IsFurther (bucket_seals r + checkpoint_cells p) a c
+      further_all = record {
+        keys = more.keys ∙ further.keys;
+        generation = more.generation ∙ further.generation;
+        on = (let x = further.on in let y = more.on in omega (arith, x, y));
+        within = (let x = further.within in let y = more.within in omega (arith, x, y));
+      }
 
 -- ---- all of it
 

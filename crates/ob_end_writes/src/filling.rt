@@ -1,14 +1,16 @@
 //! Buckets that were filled anew, written where they then lie.
 
-ghost use Rattle.std.specs.Prelude.{◌≡◌, ◌<◌, ◌≤◌, ◌+◌, ◌%◌, ◌^◌, ℕ, length};
+ghost use Rattle.std.specs.Prelude.{◌≡◌, ◌<◌, ◌≤◌, ◌+◌, ◌%◌, ◌^◌, ℕ, length, OnOk};
 ghost use Rattle.ob_base.specs.Layout.{slot_cell};
 ghost use Rattle.ob_base.specs.Tree.{buckets, width};
 ghost use Rattle.ob_cells.specs.Writes.{Seals, WritesRun};
+ghost use Rattle.ob_pads.specs.Seals.{CellsAreSealed};
 ghost use Rattle.ob_ring.specs.Ring.{AreListedWithin};
 ghost use Rattle.ob_ring_trace.specs.Ends.{refill_notes};
 ghost use Rattle.ob_stand.specs.Ends.{RingEnd};
 ghost use Rattle.ob_stand.specs.Stands.{RingStanding};
 ghost use Rattle.ob_store.specs.Calls.{IsFailed, Serves};
+ghost use Rattle.ob_store.specs.Images.{Passes};
 ghost use Rattle.ob_store.specs.Runs.{write_notes};
 ghost use Rattle.ob_store.specs.Told.{Does};
 ghost use Rattle.ob_end_writes.specs.EndWrites.{AreSealedFrom, FillsBuckets, IsEndOfRing, SameFirst, bucket_seals, slot_plain, version_of};
@@ -101,6 +103,10 @@ pub fn write_buckets<S: Store, W: Watch>(
         → FillsBuckets sealer.old.keys ring.now.p s end (S.disk store.old) (S.disk store.new) result }
     ensures first { (S.disk store.old).tells
         → SameFirst (S.disk store.new).cells (S.disk store.old).cells }
+    ensures moments { Passes SameFirst (S.disk store.old) (S.disk store.new) }
+    // Each cell that has changed is sealed with a number of its own, taken meanwhile.
+    ensures sealed { (S.disk store.old).tells → OnOk result (CellsAreSealed sealer.old sealer.new
+        (S.disk store.old).cells (S.disk store.new).cells) }
     ensures does { Does (refill_notes ring.now.p ring.now.metas.versions ring.now.metas.order)
         (S.disk store.old).seen (S.disk store.new).seen (W.trace watch.old) (W.trace watch.new)
         result }

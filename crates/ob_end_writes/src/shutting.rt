@@ -1,11 +1,13 @@
 //! Closed gates for the log of the epoch behind one that ends.
 
-ghost use Rattle.std.specs.Prelude.{◌≡◌, ◌<◌, ◌%◌, ℕ, suc};
+ghost use Rattle.std.specs.Prelude.{◌≡◌, ◌<◌, ◌%◌, ℕ, suc, OnOk};
+ghost use Rattle.ob_pads.specs.Seals.{IsUnsealed};
 ghost use Rattle.ob_schedule.specs.Schedule.{log_gates, writes_of};
 ghost use Rattle.ob_seal.specs.declared.keys.Keys.{Keys};
 ghost use Rattle.ob_stand.specs.Ends.{IsEndOf, RingEnd};
 ghost use Rattle.ob_stand.specs.Stands.{RingStanding};
 ghost use Rattle.ob_store.specs.Calls.{IsFailed, Serves};
+ghost use Rattle.ob_store.specs.Images.{Passes};
 ghost use Rattle.ob_store.specs.Told.{Does};
 ghost use Rattle.ob_end_writes.specs.EndWrites.{SameFirst, ShutsGates};
 
@@ -28,6 +30,10 @@ pub fn shut_gates<S: Store, W: Watch>(
         → ShutsGates keys p.now s end (S.disk store.old) (S.disk store.new) result }
     ensures first { (S.disk store.old).tells
         → SameFirst (S.disk store.new).cells (S.disk store.old).cells }
+    ensures moments { Passes SameFirst (S.disk store.old) (S.disk store.new) }
+    // Each cell is as it was, or a gate.
+    ensures unsealed { (S.disk store.old).tells → OnOk result ((cell : ℕ)
+        → IsUnsealed (S.disk store.old).cells (S.disk store.new).cells cell) }
     ensures does { Does (writes_of (log_gates p.now area)) (S.disk store.old).seen
         (S.disk store.new).seen (W.trace watch.old) (W.trace watch.new) result }
 {

@@ -4,11 +4,12 @@ ghost use Rattle.std.specs.Prelude.{◌≡◌, ◌<◌, ◌≤◌, ◌+◌, ◌*
 ghost use Rattle.ob_base.specs.Layout.{checkpoint_cells};
 ghost use Rattle.ob_cells.specs.Writes.{Seals};
 ghost use Rattle.ob_content.specs.Content.{Obeys};
+ghost use Rattle.ob_pads.specs.Seals.{CellsAreSealed};
 ghost use Rattle.ob_ring.specs.Ring.{AreListedWithin};
 ghost use Rattle.ob_stand.specs.Ends.{RingEnd};
 ghost use Rattle.ob_stand.specs.Stands.{RingStanding};
 ghost use Rattle.ob_store.specs.Calls.{IsStoreFault, Serves};
-ghost use Rattle.ob_store.specs.Images.{IsSynced};
+ghost use Rattle.ob_store.specs.Images.{IsSynced, Passes};
 ghost use Rattle.ob_store.specs.Told.{Does};
 ghost use Rattle.ob_end_writes.specs.EndWrites.{AreSealedFrom, IsEndOfRing, IsOfStore, SameFirst, WritesEnd, all_seals, content_left, end_write_notes, rows_left};
 
@@ -61,6 +62,10 @@ pub fn write_end<S: Store, W: Watch>(
     // Neither the head nor a register is written.
     ensures first { (S.disk store.old).tells
         → SameFirst (S.disk store.new).cells (S.disk store.old).cells }
+    ensures moments { Passes SameFirst (S.disk store.old) (S.disk store.new) }
+    // Each cell that has changed is a gate, or is sealed with a number of its own, taken meanwhile.
+    ensures sealed { (S.disk store.old).tells → OnOk result (CellsAreSealed sealer.old sealer.new
+        (S.disk store.old).cells (S.disk store.new).cells) }
     ensures durable { (S.disk store.old).tells → OnOk result (IsSynced (S.disk store.new)) }
     ensures does { Does (end_write_notes ring.old epoch) (S.disk store.old).seen
         (S.disk store.new).seen (W.trace watch.old) (W.trace watch.new) result }

@@ -1,3 +1,4 @@
 pub mod LiftsFew
 pub mod LiftReads
+pub mod LiftsStand
 pub mod RenewLaws

@@ -59,3 +59,8 @@ LiftsAnswer keys p versions image t rows rows' (Err (fault.Damaged cell check ke
     IsLiftDamage keys p versions image t (record { cell = cell; check = check; kept = kept; computed = computed })
 LiftsAnswer keys p versions image t rows rows' (Err (fault.StoreFault unsure)) = Unit {0}
 LiftsAnswer keys p versions image t rows rows' (Err _) = ⊥
+
+-- nothing is told damaged
+abbrev pub IsUndamaged : Result (Unit {0}) Fault → Type 0
+IsUndamaged (Err (fault.Damaged cell check kept computed)) = ⊥
+IsUndamaged _ = Unit {0}

@@ -11,7 +11,9 @@ ghost use Rattle.ob_ring.specs.FlatTable.{FlatTable, FinalLifts, after};
 ghost use Rattle.ob_ring.specs.Picked.{SameSeals};
 ghost use Rattle.ob_ring.specs.Ring.{IsListed, StandsFor};
 ghost use Rattle.ob_recover.specs.Repeats.{BatchTells, IsRepeatFault, JobsAnswer, HaveKeysOf, RowsJoin};
-ghost use Rattle.ob_ending.specs.Lifts.{LiftsAnswer, lift_cells, lift_notes, lifts_picked};
+ghost use Rattle.ob_fetch.specs.Fetches.{RunsAt};
+ghost use Rattle.ob_stand.specs.Stands.{RingStanding, Stands};
+ghost use Rattle.ob_ending.specs.Lifts.{IsUndamaged, LiftsAnswer, lift_cells, lift_notes, lifts_picked};
 
 use ob_base::{Fault, Jobs};
 use ob_batch::{Crew, JobsErr, run_jobs};
@@ -104,6 +106,11 @@ pub fn read_lifts<S: Store, W: Watch>(
         → StandsFor ring.old t → (S.disk store.old).tells
         → LiftsAnswer sealer.now.keys ring.old.p start.versions (S.disk store.old).cells t
         ring.old.stash.rows ring.new.stash.rows result }
+    // Where the store stands, and the planner is behind its records' batches, nothing is damaged.
+    ensures sound { (s : RingStanding) (epoch generation left : ℕ) → (S.disk store.old).tells
+        → Stands sealer.now.keys ring.old.p s (S.disk store.old).cells
+        → RunsAt sealer.now.keys ring.old.p epoch generation left ring.old s
+        (S.disk store.old).cells → IsUndamaged result }
     ensures told { (start : Buckets) (t : FlatTable) → SameSeals start ring.old.metas
         → StandsFor ring.old t
         → BatchTells crew.old.lanes (lift_cells ring.old.p start.versions t)

@@ -6,7 +6,7 @@ ghost use Rattle.ob_fetch.specs.Fetches.{DrawsWords, words_since};
 ghost use Rattle.ob_ring.specs.FlatTable.{FlatTable, Refill, after, stash_size};
 ghost use Rattle.ob_ring.specs.Ring.{IsListed, StandsFor};
 ghost use Rattle.ob_ring.specs.Writing.{write_at};
-ghost use Rattle.ob_ending.specs.Renewals.{RenewAnswers, Renews, end_seals, end_words, own_words, refill_words, renewed_writes, table_behind_writes};
+ghost use Rattle.ob_ending.specs.Renewals.{HasItsRows, RenewAnswers, Renews, end_seals, end_words, own_words, refill_words, renewed_writes, table_behind_writes};
 
 use ob_base::{Fault, NUMBER_LIMIT, Params, Write, checkpoint_cells};
 use ob_fetch::{draw_front, front};
@@ -35,6 +35,7 @@ pub fn renew<T: Tape>(
 ) -> Result<(), Fault>
     requires params { p.now ≡ ring.old.p }
     requires listed { IsListed ring.old }
+    requires stash { HasItsRows ring.old }
     requires drawn { drawn.old ≡ length (T.drawn tape.old) }
     requires small { drawn.old ≤ 2 ^ 62 }
     requires own_room { ring.old.p.writes ≤ length words.old.items }

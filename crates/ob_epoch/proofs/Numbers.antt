@@ -17,7 +17,7 @@ use Rattle.ob_ring.specs.Fetching.{after_labels, own_entry, places_of}
 use Rattle.ob_ring.specs.Filling.{AreSealedAnew, base_of}
 use Rattle.ob_ring.specs.Writing.{entries_after, entry_of, with_entry, write_at, writes_of}
 use Rattle.ob_ring.proofs.Members.{one_of-take}
-use Rattle.ob_epoch.specs.Numbers.{IsOwnEntry, IsSealedAs, IsSealedIn, StepsRenew, RenewedFit}
+use Rattle.ob_epoch.specs.Numbers.{IsKnownEntry, IsOwnEntry, IsSealedAs, IsSealedIn, StepsRenew, RenewedFit}
 use Rattle.ob_epoch.proofs.Plans.{listed_at}
 
 -- ---- entries
@@ -88,6 +88,9 @@ refill_seals p old new words first u true on s =
     inr (subst (λ (v : ℕ). IsSealedIn first.0 (version_at new.versions v)) at.2
     (record { under = (s.anew at.0 at.1).under; base = subst (λ (x : ℕ). x < 2 ^ 64) (sym (s.anew at.0 at.1).from) low }))
 
+own_known : (p : Params) (g : ℕ) (e : Entry) → IsOwnEntry p g e → IsKnownEntry p g e
+own_known p g e own = record { under = (let same : e.generation ≡ g = own.under in omega arith); index = own.index; leaf = own.leaf }
+
 pub steps_renew : StepsRenew
 steps_renew = record {
   batch = λ p old new asks words first n is k e at. labels_from p first.0 (λ i. entry_at old i) (places_of p asks words first n) k e (places_own p asks words first (below n)) (sym (is k) ∙ at);
@@ -99,6 +102,10 @@ steps_renew = record {
     | inr now ↦ inr now
   ];
   versions = λ g a b c first then u. sealed_then g (version_at a u) (version_at b u) (version_at c u) (first u) (then u);
+  knows = λ p g a b c first then k e at. elim (then k e at) [
+    | inl before ↦ first k e before
+    | inr now ↦ inr (own_known p g e now)
+  ];
 }
 
 -- ---- what follows
@@ -109,7 +116,7 @@ renewed_fit = record {
     many = many;
     entries = λ k e at. elim (renews k e at) [
       | inl before ↦ fits.entries k e before
-      | inr now ↦ record { generation = subst (λ (x : ℕ). x < 2 ^ 64) (sym now.under) low; index = now.index; leaf = now.leaf }
+      | inr now ↦ record { generation = (let few : e.generation ≤ g = now.under in omega arith); index = now.index; leaf = now.leaf }
     ];
   };
   seals = λ p g old new low renews fits u within. elim (renews u) [
@@ -119,7 +126,7 @@ renewed_fit = record {
   known = λ p g old new book seals known. record {
     entries = λ k e at. elim (book k e at) [
       | inl before ↦ known.entries k e before
-      | inr now ↦ (let same : e.generation ≡ g = now.under in omega arith)
+      | inr now ↦ now.under
     ];
     seals = λ u. elim (seals u) [
       | inl same ↦ subst (λ (x : ℕ). x ≤ g) (sym same.generation) (known.seals u)

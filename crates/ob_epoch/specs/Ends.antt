@@ -16,7 +16,7 @@ use Rattle.ob_taken.specs.Goes.{Goes}
 use Rattle.ob_taken.specs.Values.{Values, with_writes}
 use Rattle.ob_values.specs.Carries.{Slots}
 use Rattle.ob_values.specs.Epochs.{Read, IsEpoch, after_epoch, before_refill}
-use Rattle.ob_epoch.specs.Numbers.{IsKnown, RenewsBook}
+use Rattle.ob_epoch.specs.Numbers.{IsKnown, KnowsBook}
 use Rattle.ob_epoch.specs.Table.{flat_of}
 use Rattle.ob_epoch.specs.Valued.{IsValued, content_with}
 
@@ -40,7 +40,8 @@ pub record IsRunFrom (p : Params) (r : RefillRun) (c : Content) (book : List (Op
   pub table : IsTableOf p (arrays_of r.filled (rest_of book counter)) (after_epoch p (flat_of p c) bs ws)
   pub whole_before : AreWhole p r.before
   pub whole : AreWhole p r.filled
-  pub entries : RenewsBook p (r.first).0 c.book book
+  -- an entry of this generation or of an earlier one may be that of a batch that was begun before a crash
+  pub entries : KnowsBook p (r.first).0 c.book book
   pub many : length book ≡ p.keys
   pub low : counter < 2 ^ p.levels
   pub room : stash_size p (after_epoch p (flat_of p c) bs ws) ≤ p.room

@@ -29,6 +29,16 @@ pub record IsOwnEntry (p : Params) (g : ℕ) (e : Entry) : Type 0 where
 abbrev pub RenewsBook : Params → ℕ → List (Option Entry) → List (Option Entry) → Type 0
 RenewsBook p g old new = (k : ℕ) (e : Entry) → entry_at new k ≡ Some e → (entry_at old k ≡ Some e) ⊎ IsOwnEntry p g e
 
+-- an entry that this generation gives, or an earlier one
+pub record IsKnownEntry (p : Params) (g : ℕ) (e : Entry) : Type 0 where
+  pub under : e.generation ≤ g
+  pub index : e.index < 2 ^ 64
+  pub leaf : e.leaf < 2 ^ p.levels
+
+-- each entry is the key's of before, or one of this generation or of an earlier one: that of a batch that was begun before a crash
+abbrev pub KnowsBook : Params → ℕ → List (Option Entry) → List (Option Entry) → Type 0
+KnowsBook p g old new = (k : ℕ) (e : Entry) → entry_at new k ≡ Some e → (entry_at old k ≡ Some e) ⊎ IsKnownEntry p g e
+
 pub record IsSealedAs (old new : Version) : Type 0 where
   pub generation : new.generation ≡ old.generation
   pub base : new.base ≡ old.base
@@ -53,11 +63,13 @@ pub record StepsRenew : Type 0 where
   -- and of one call behind another
   pub books : (p : Params) (g : ℕ) (a b c : List (Option Entry)) → RenewsBook p g a b → RenewsBook p g b c → RenewsBook p g a c
   pub versions : (g : ℕ) (a b c : List Version) → RenewsSeals g a b → RenewsSeals g b c → RenewsSeals g a c
+  -- what this generation gives is known in it
+  pub knows : (p : Params) (g : ℕ) (a b c : List (Option Entry)) → KnowsBook p g a b → RenewsBook p g b c → KnowsBook p g a c
 
 -- So they stay in their fields, and known.
 pub record RenewedFit : Type 0 where
-  pub book : (p : Params) (g : ℕ) (old new : List (Option Entry)) → g < 2 ^ 64 → length new ≡ p.keys → FitsBook p old → RenewsBook p g old new → FitsBook p new
+  pub book : (p : Params) (g : ℕ) (old new : List (Option Entry)) → g < 2 ^ 64 → length new ≡ p.keys → FitsBook p old → KnowsBook p g old new → FitsBook p new
   pub seals : (p : Params) (g : ℕ) (old new : List Version) → g < 2 ^ 64 → RenewsSeals g old new
       → ((u : ℕ) → u < buckets p → FitsSeals (version_at old u)) → (u : ℕ) → u < buckets p → FitsSeals (version_at new u)
-  pub known : (p : Params) (g : ℕ) (old new : Content) → RenewsBook p g old.book new.book → RenewsSeals g old.versions new.versions → IsKnown old g → IsKnown new g
+  pub known : (p : Params) (g : ℕ) (old new : Content) → KnowsBook p g old.book new.book → RenewsSeals g old.versions new.versions → IsKnown old g → IsKnown new g
   pub later : (c : Content) (g h : ℕ) → g ≤ h → IsKnown c g → IsKnown c h

@@ -13,9 +13,6 @@ ghost use Rattle.ob_epoch.specs.Samples.{Sampled};
 ghost use Rattle.ob_epoch.specs.Table.{RingsStand, TablesAreRead};
 ghost use Rattle.ob_epoch.specs.Valued.{ContentsCarry, ContentsFollow, TablesObey};
 
-#[cfg(test)]
-mod tests;
-
 /// Content that obeys stands for an orderly table, that of the arrays which an opening makes of it.
 pub fn tables_are_read()
     ensures { TablesAreRead }

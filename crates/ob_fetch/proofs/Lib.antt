@@ -2,3 +2,5 @@ pub mod NextLaws
 pub mod AnswerLaws
 pub mod LogLaws
 pub mod FetchLaws
+pub mod ScheduleLaws
+pub mod SealLaws

@@ -33,38 +33,40 @@ module _ (p : Params) (a n : ℕ) where
       one_more : (m w : ℕ) → (m + 1) * w ≡ m * w + w
       one_more m w = omega arith
 
-module _ (keys : Keys) (p : Params) (epoch : ℕ) (rs : List BatchRecord) (r : BatchRecord) (room : length rs < p.batches) (obeys : RecordObeys p (length rs) r) where
-  abbrev area : ℕ
-  area = epoch % 2
-
+-- one record more in a list
+module _ (rs : List BatchRecord) (r : BatchRecord) where
   abbrev many : ℕ
   many = length rs
 
   abbrev more : List BatchRecord
   more = rs ++ r ∷ []
 
-  more_many : length more ≡ many + 1
+  pub more_many : length more ≡ many + 1
   more_many = omega (arith, length-append rs (r ∷ []))
 
-  more_at : (P : BatchRecord → ℕ → Type 0) → ((b : ℕ) → b < many → P (record_at rs b) b) → P r many → (b : ℕ) → b < length more → P (record_at more b) b
+  pub more_at : (P : BatchRecord → ℕ → Type 0) → ((b : ℕ) → b < many → P (record_at rs b) b) → P r many → (b : ℕ) → b < length more → P (record_at more b) b
   more_at P before here b lt = ⊎_elim
       (λ (at : b < many). subst (λ x. P x b) (sym (get_or-append rs (r ∷ []) nothing b at)) (before b at))
       (λ (ge : many ≤ b). (let is : many ≡ b = omega (arith, more_many) in subst (λ x. P (record_at more x) x) is (subst (λ x. P x many) (sym (get_or-append_seam rs r [] nothing)) here)))
       (cases_lt b many)
 
+module _ (keys : Keys) (p : Params) (epoch : ℕ) (rs : List BatchRecord) (r : BatchRecord) (room : length rs < p.batches) (obeys : RecordObeys p (length rs) r) where
+  abbrev area : ℕ
+  area = epoch % 2
+
   -- where its cells alone have changed, and spell the record behind an open gate
   pub open_more : (now was : Image) → SameOff (log_cell p (epoch % 2) (length rs) 0) (record_cells p + 1) now was → HoldsRecord keys p epoch (length rs) r now → OpenRecords keys p epoch rs was
       → OpenRecords keys p epoch (rs ++ r ∷ []) now
   open_more now was same holds log = record {
-    few = omega (arith, more_many);
-    opened = more_at (λ x b. now (log_gate p area b) ≡ open_gate)
-        (λ b lt. same _ (inl (earlier_off p area many b (record_cells p) lt (omega arith))) ∙ log.opened b lt)
+    few = omega (arith, more_many rs r);
+    opened = more_at rs r (λ x b. now (log_gate p area b) ≡ open_gate)
+        (λ b lt. same _ (inl (earlier_off p area (length rs) b (record_cells p) lt (omega arith))) ∙ log.opened b lt)
         holds.gate;
-    shut = λ b le lt o. log.shut b (omega (arith, more_many)) lt (sym (same _ (inr (later_off p area many b (omega (arith, more_many))))) ∙ o);
-    bodies = more_at (λ x b. SpellsRecord keys p epoch b x now)
-        (λ b lt i li. same _ (inl (earlier_off p area many b i lt (omega arith))) ∙ log.bodies b lt i li)
+    shut = λ b le lt o. log.shut b (omega (arith, more_many rs r)) lt (sym (same _ (inr (later_off p area (length rs) b (omega (arith, more_many rs r))))) ∙ o);
+    bodies = more_at rs r (λ x b. SpellsRecord keys p epoch b x now)
+        (λ b lt i li. same _ (inl (earlier_off p area (length rs) b i lt (omega arith))) ∙ log.bodies b lt i li)
         holds.body;
-    obey = more_at (λ x b. RecordObeys p b x) log.obey obeys;
+    obey = more_at rs r (λ x b. RecordObeys p b x) log.obey obeys;
   }
 
 -- a batch's cells of a log hold no slot

@@ -6,6 +6,7 @@ ghost use Rattle.ob_base.specs.declared.fault.Fault.TheVariants as fault;
 ghost use Rattle.ob_cells.specs.Writes.{Seals, WritesWithin};
 ghost use Rattle.ob_log.specs.Appends.{HoldsOneOf, HoldsRecord, append_notes, record_for};
 ghost use Rattle.ob_log.specs.Logs.{BatchRecord, OpenRecords, RecordObeys};
+ghost use Rattle.ob_pads.specs.Seals.{CellsAreSealed};
 ghost use Rattle.ob_store.specs.Calls.{IsStoreFault, Serves};
 ghost use Rattle.ob_store.specs.Disk.{Image};
 ghost use Rattle.ob_store.specs.Images.{IsSynced, LeavesOnly};
@@ -74,6 +75,8 @@ pub fn begin_batch<S: Store, T: Tape, W: Watch>(
     ensures within { WritesWithin (log_cell p.now (epoch % 2) batch 0) (record_cells p.now + 1)
         (S.disk store.old) (S.disk store.new) }
     ensures durable { (S.disk store.old).tells → OnOk result (IsSynced (S.disk store.new)) }
+    ensures sealed { (S.disk store.old).tells → OnOk result (CellsAreSealed sealer.old sealer.new
+        (S.disk store.old).cells (S.disk store.new).cells) }
     ensures open { (rs : List BatchRecord) → (S.disk store.old).tells → length rs ≡ batch
         → OpenRecords sealer.old.keys p.now epoch rs (S.disk store.old).cells
         → OnOk result ((c : Image) → (S.disk store.new).may_leave c

@@ -1,19 +1,28 @@
 //! Fetching a read batch.
 
-ghost use Rattle.std.specs.Prelude.{◌≡◌, ◌↔◌, ◌<◌, ◌≤◌, ◌+◌, ◌%◌, ◌^◌, ℕ, suc, false, true, length, OnOk, OnErr, IfErr};
+ghost use Rattle.std.specs.Prelude.{◌≡◌, ◌↔◌, ◌<◌, ◌≤◌, ◌+◌, ◌%◌, ◌^◌, ℕ, suc, false, true, List, [], ◌∷◌, ◌++◌, length, OnOk, OnErr, IfErr};
 ghost use Rattle.ob_base.specs.Layout.{log_cell, record_cells};
 ghost use Rattle.ob_base.specs.Planned.{most_jobs};
 ghost use Rattle.ob_bucket.specs.Buckets.{Buckets};
 ghost use Rattle.ob_cells.specs.Writes.{Seals, WritesWithin};
+ghost use Rattle.ob_content.specs.Content.{Content};
 ghost use Rattle.ob_log.specs.Appends.{IsWornOut};
+ghost use Rattle.ob_log.specs.Logs.{BatchRecord};
+ghost use Rattle.ob_pads.specs.Seals.{CellsAreSealed};
+ghost use Rattle.ob_recover.specs.Fits.{IsPlannerFit};
 ghost use Rattle.ob_recover.specs.Repeats.{asked_of_record, batch_cells, repeated_notes};
 ghost use Rattle.ob_ring.specs.FlatTable.{FlatTable};
 ghost use Rattle.ob_ring.specs.Picked.{SameSeals};
 ghost use Rattle.ob_ring.specs.Ring.{StandsFor};
+ghost use Rattle.ob_ring_trace.specs.Known.{PlansFrom, fills_of, public_of_kept};
+ghost use Rattle.ob_ring_trace.specs.Telling.{IsShownAs};
+ghost use Rattle.ob_schedule.specs.Schedule.{batch_notes};
 ghost use Rattle.ob_serial.specs.Vaults.{AreBelow, AreDistinct};
 ghost use Rattle.ob_stand.specs.Stands.{OneOf, RingStanding, with_record};
 ghost use Rattle.ob_store.specs.Calls.{IsStoreFault, Serves};
 ghost use Rattle.ob_store.specs.Images.{IsSynced, LeavesOnly};
+ghost use Rattle.ob_store.specs.Lines.{Shows};
+ghost use Rattle.ob_store.specs.declared.watch.Note.{Note};
 ghost use Rattle.ob_fetch.specs.Fetches.{FetchAnswers, FetchDoes, FetchDraws, FetchStands, RunIsAt, IsFetchRefusal, IsRunReady, IsWornForBatch, MovesPlanner, values_asked, next_batch, record_next, words_since};
 
 use crate::answering::answer_all;
@@ -81,10 +90,16 @@ pub fn fetch<S: Store, T: Tape, W: Watch>(
           words = run.new.words;
         } }
     ensures seals { Seals (record_cells run.old.params) run.old.sealer run.new.sealer result }
+    // Each cell that has changed is a gate, or is sealed with a number of its own, taken meanwhile.
+    ensures sealed { (S.disk store.old).tells
+        → OnOk result (CellsAreSealed run.old.sealer run.new.sealer (S.disk store.old).cells
+        (S.disk store.new).cells) }
     ensures served { OnOk result ((run.new.left + 1 ≡ run.old.left) × (run.new.spent ≡ false)) }
     ensures refused { OnErr result ((run.new.left ≡ run.old.left) × (run.new.spent ≡ true)
         × (out.new ≡ out.old)) }
     ensures ready { OnOk result (IsRunReady run.new) }
+    // Whatever the store tells, a planner that fits goes on fitting.
+    ensures fit { IsPlannerFit run.old.ring → OnOk result (IsPlannerFit run.new.ring) }
     ensures words { length run.new.words.items ≡ length run.old.words.items }
     ensures crew { crew.new ≡ crew.old }
     ensures moves { OnOk result (MovesPlanner run.old.params (record_next run.old asks.now
@@ -109,6 +124,23 @@ pub fn fetch<S: Store, T: Tape, W: Watch>(
         (repeated_notes run.old.params start.versions t (asked_of_record run.old.params
         (record_next run.old asks.now (words_since (T.drawn tape.old) (T.drawn tape.new)))))
         store.old store.new (W.trace watch.old) (W.trace watch.new) result }
+    // It shows the schedule's batch of what the store knows of the epoch, and refused a front of it.
+    ensures scheduled { (notes : List Note) × Shows notes (W.trace watch.old) (W.trace watch.new)
+        × ((c : Content) (rs : List BatchRecord)
+        → PlansFrom run.old.params run.old.sealer.generation run.old.gates run.old.ring c rs
+        → length rs ≡ next_batch run.old
+        → IsShownAs crew.old.lanes (batch_notes run.old.params
+        (public_of_kept run.old.params c rs run.old.epoch run.old.gates)
+        (fills_of run.old.params c (rs ++ record_next run.old asks.now
+        (words_since (T.drawn tape.old) (T.drawn tape.new)) ∷ [])) (length rs)) notes
+        (S.disk store.old).seen (S.disk store.new).seen result) }
+    // Behind it the planner is one record further.
+    ensures onward { (c : Content) (rs : List BatchRecord)
+        → PlansFrom run.old.params run.old.sealer.generation run.old.gates run.old.ring c rs
+        → length rs ≡ next_batch run.old
+        → OnOk result (PlansFrom run.new.params run.new.sealer.generation run.new.gates
+        run.new.ring c (rs ++ record_next run.old asks.now
+        (words_since (T.drawn tape.old) (T.drawn tape.new)) ∷ [])) }
     // Where the store stood, the answers are the map's, and it stands with the record.
     ensures stands { (s : RingStanding) → RunIsAt run.old s (S.disk store.old)
         → FetchStands s (record_next run.old asks.now

@@ -30,6 +30,3 @@ pub fn runs_join<S: Store>()
 pub fn chains_are_runs<V: Vault, S: Store>()
     ensures { ChainsLive (kind_of V.Vault) (λ store. S.disk store) }
 {}
-
-#[cfg(test)]
-mod tests;

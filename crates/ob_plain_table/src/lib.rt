@@ -10,6 +10,3 @@ mod table;
 mod visits;
 
 pub use table::{PlaceShown, PlainTable, Read, Row, Shown, Spot};
-
-#[cfg(test)]
-mod tests;

@@ -6,3 +6,5 @@ pub mod BatchLaws
 pub mod ReplayLaws
 pub mod BeginLaws
 pub mod StandingReads
+pub mod JoinLaws
+pub mod FitLaws

@@ -2,7 +2,7 @@
 use Rattle.std.proofs.Common.{◌≡◌, ⊎_elim, ℕ, zero, suc, ◌+◌, ◌-◌, ◌<◌, ◌≤◌, ◌^◌, ◌%◌, ◌==◌, ◌&&◌, ◌||◌, Bool, true, false, List, [], ◌∷◌, Option, Some, None, Ok, Err, map, length, get_or, refl, sym, ◌∙◌, ap, subst, arith}
 use Rattle.std.specs.List.{range_with_len}
 use Rattle.std.specs.Prelude.{cond, ◌++◌}
-use Rattle.std.proofs.lemmas.Bool.{true≢false}
+use Rattle.std.proofs.lemmas.Bool.{eq-eqb, or_left, or_right, true≢false}
 use Rattle.ob_base.specs.declared.params.Params.{Params}
 use Rattle.ob_base.specs.declared.job.Job.{Job}
 use Rattle.ob_base.specs.declared.fault.Damaged.{Damaged as Damage}
@@ -18,15 +18,16 @@ use Rattle.ob_seal.proofs.Spelling.{sealed_parts}
 use Rattle.ob_tables.specs.declared.entry.Entry.{Entry}
 use Rattle.ob_tables.specs.Kept.{entry_at}
 use Rattle.ob_content.specs.Content.{Content, Rows, Obeys}
-use Rattle.ob_ring.specs.FlatTable.{FlatTable, Row, Spot, Shown, Batch, after, batch_shown, leaf_of, leaf_shown, after_place, fetch, spot_of, asked_row, index_in, index_shown, mark_index, lift_order, reads, visit}
+use Rattle.ob_ring.specs.FlatTable.{FlatTable, Row, Spot, Shown, Batch, FinalLifts, after, batch_shown, final_shown, lift, leaf_of, leaf_shown, after_place, fetch, spot_of, asked_row, index_in, index_shown, mark_index, lift_order, reads, visit}
 use Rattle.ob_ring.specs.Laws.{IsOrderly, seen_in}
 use Rattle.ob_ring.specs.News.{Seen, with_shown, AreNew}
-use Rattle.ob_ring.specs.Picked.{Picked, holder, key_shown, job_of, batch_picked, place_picked, lift_picked, visit_picked, visits_picked}
+use Rattle.ob_ring.specs.Picked.{Picked, holder, key_shown, job_of, batch_picked, final_picked, place_picked, lift_picked, visit_picked, visits_picked}
 use Rattle.ob_ring.specs.Jobs.{place_picked_at, place_shown_at}
-use Rattle.ob_ring.specs.Settling.{rows_after}
+use Rattle.ob_ring.specs.Settling.{first_fault, rows_after}
 use Rattle.ob_ring.proofs.TableLaws.{shown_once, steps_keep_order}
 use Rattle.ob_ring.proofs.JobLaws.{jobs_read_picks}
-use Rattle.ob_ring.proofs.Lows.{IsLow, AreLow, low_batch, bucket_within}
+use Rattle.ob_ring.proofs.Lows.{IsLow, AreLow, low_batch, bucket_within, eviction_within}
+use Rattle.ob_schedule.specs.Paths.{eviction_path, is_one_of}
 use Rattle.ob_ring.specs.Fetching.{leaf_places, own_entry}
 use Rattle.std.proofs.lemmas.Nat.{mod_below, pow_pos}
 use Rattle.ob_log.specs.Logs.{BatchRecord}
@@ -35,9 +36,9 @@ use Rattle.ob_taken.specs.Takes.{AreKeysLow}
 use Rattle.ob_taken.specs.Values.{Values}
 use Rattle.ob_taken.proofs.TheLaws.{steps_only_take}
 use Rattle.ob_taken.proofs.Taking.{batch_present}
-use Rattle.ob_values.specs.Carries.{Slots, Carries}
+use Rattle.ob_values.specs.Carries.{AreRead, Slots, Carries}
 use Rattle.ob_values.specs.Epochs.{Read, AreAllRead, after_batches, rows_of_batches}
-use Rattle.ob_values.proofs.Steps.{batch_carries}
+use Rattle.ob_values.proofs.Steps.{batch_carries, lifts_carry}
 use Rattle.ob_epoch.specs.Table.{flat_of, lying_place, ring_of, row_for}
 use Rattle.ob_epoch.proofs.Reading.{tables_are_read}
 use Rattle.ob_epoch.proofs.Standing.{contents_carry}
@@ -161,21 +162,38 @@ get_or-map f (x ∷ xs) (suc i) d e lt = get_or-map f xs i d e (omega arith)
 abbrev no_show : Shown
 no_show = record { bucket = 0; number = 0; index = 0 }
 
--- a picked index is one of its bucket's, and wasn't shown
-picked_new : (p : Params) (t : FlatTable) (asked : List (Option ℕ × ℕ)) (i : ℕ) → IsOrderly p t → i < length (batch_picked p t asked)
-    → ((get_or (batch_picked p t asked) i no_pick).index < p.real + p.dummies) × (t.used (get_or (batch_picked p t asked) i no_pick).bucket (get_or (batch_picked p t asked) i no_pick).index ≡ false)
-picked_new p t asked i orderly lt =
-    let qs : List Picked = batch_picked p t asked in
-    let ss : List Shown = batch_shown p t asked in
-    let same : map place_picked_at qs ≡ map place_shown_at ss = jobs_read_picks.batch p t asked in
+-- picked indexes are one of their bucket's each, and weren't shown
+abbrev ArePicksNew : Params → FlatTable → List Picked → Type 0
+ArePicksNew p t qs = (i : ℕ) → i < length qs → ((get_or qs i no_pick).index < p.real + p.dummies) × (t.used (get_or qs i no_pick).bucket (get_or qs i no_pick).index ≡ false)
+
+picks_new : (p : Params) (t : FlatTable) (qs : List Picked) (ss : List Shown) → map place_picked_at qs ≡ map place_shown_at ss → AreNew p (seen_in p t) ss → ArePicksNew p t qs
+picks_new p t qs ss same once i lt =
     let many : length qs ≡ length ss = sym (length-map place_picked_at qs) ∙ ap length same ∙ length-map place_shown_at ss in
     let low : i < length ss = omega arith in
     let here : place_picked_at (get_or qs i no_pick) ≡ place_shown_at (get_or ss i no_show) =
     sym (get_or-map place_picked_at qs i no_pick (0, 0) lt) ∙ ap (λ (l : List (ℕ × ℕ)). get_or l i (0, 0)) same ∙ get_or-map place_shown_at ss i no_show (0, 0) low in
-    let new = new_at p (seen_in p t) ss no_show i (shown_once p t (Batch asked) orderly) low in
+    let new = new_at p (seen_in p t) ss no_show i once low in
     let bucket : (get_or qs i no_pick).bucket ≡ (get_or ss i no_show).bucket = ap (λ (x : ℕ × ℕ). x.0) here in
     let index : (get_or qs i no_pick).index ≡ (get_or ss i no_show).index = ap (λ (x : ℕ × ℕ). x.1) here in
     (subst (λ n. n < p.real + p.dummies) (sym index) new.0, ap (λ n. t.used n (get_or qs i no_pick).index) bucket ∙ ap (λ n. t.used (get_or ss i no_show).bucket n) index ∙ new.1)
+
+-- those of a batch, and of the final lifts
+batch_new : (p : Params) (t : FlatTable) (asked : List (Option ℕ × ℕ)) → IsOrderly p t → ArePicksNew p t (batch_picked p t asked)
+batch_new p t asked orderly = picks_new p t (batch_picked p t asked) (batch_shown p t asked) (jobs_read_picks.batch p t asked) (shown_once p t (Batch asked) orderly)
+
+lifts_new : (p : Params) (t : FlatTable) → IsOrderly p t → ArePicksNew p t (final_picked p t (eviction_path p t.counter))
+lifts_new p t orderly = picks_new p t (final_picked p t (eviction_path p t.counter)) (final_shown p t (eviction_path p t.counter)) (jobs_read_picks.lifts p t) (shown_once p t FinalLifts orderly)
+
+unless_within : (n : ℕ) (b : Bool) (xs : List Picked) → AreWithin n xs → AreWithin n (cond b [] xs)
+unless_within n true xs within = tt
+unless_within n false xs within = within
+
+final_within : (n : ℕ) (p : Params) (t : FlatTable) (us : List ℕ) → ((u : ℕ) → is_one_of us u ≡ true → u < n) → AreWithin n (final_picked p t us)
+final_within n p t [] low = tt
+final_within n p t (u ∷ us) low =
+    both_within n (cond (t.lifted u) [] (lift_picked p t u)) (final_picked p (cond (t.lifted u) t (lift t u)) us)
+    (unless_within n (t.lifted u) (lift_picked p t u) (lift_within n p t u (lift_order p t u) (low u (or_left (u == u) (is_one_of us u) (eq-eqb u u refl)))))
+    (final_within n p (cond (t.lifted u) t (lift t u)) us (λ v on. low v (or_right (u == v) (is_one_of us v) on)))
 
 -- ---- over the batches
 
@@ -230,24 +248,27 @@ module _ (keys : Keys) (p : Params) (s : RingStanding) (image : Image) (stands :
       present = (contents_carry p c slots s.map obeys (stands_valued keys p s image stands)).low
 
   -- a job that is picked is read
-  job_read : (t : FlatTable) (r : BatchRecord) (i : ℕ) → Goes p t0 t → i < length (batch_picked p t (asked_of_record p r)) → (plain : List ℕ) × IsPlainOf keys image (job_of p c.versions (get_or (batch_picked p t (asked_of_record p r)) i no_pick)) plain
-  job_read t r i goes lt =
-      let q : Picked = get_or (batch_picked p t (asked_of_record p r)) i no_pick in
-      let new = picked_new p t (asked_of_record p r) i goes.orderly lt in
-      let low : q.bucket < buckets p = in_tree p q.bucket (within_at (2 ^ (p.levels + 1) - 1) (batch_picked p t (asked_of_record p r)) i (batch_within p t (asked_of_record p r) (asked_low p r) goes.low) lt) in
+  job_read : (t : FlatTable) (qs : List Picked) (i : ℕ) → Goes p t0 t → AreWithin (2 ^ (p.levels + 1) - 1) qs → ArePicksNew p t qs → i < length qs → (plain : List ℕ) × IsPlainOf keys image (job_of p c.versions (get_or qs i no_pick)) plain
+  job_read t qs i goes within are_new lt =
+      let q : Picked = get_or qs i no_pick in
+      let new = are_new i lt in
+      let low : q.bucket < buckets p = in_tree p q.bucket (within_at (2 ^ (p.levels + 1) - 1) qs i within lt) in
       let was = stands.holds.slots.spelled q.bucket q.index low new.0 (goes.unshown q.bucket q.index new.1) in
       (stands.holds.slots.slots q.bucket q.index, record { whole = was.long; spelled = was.spelled })
 
-  none_fails : (t : FlatTable) (r : BatchRecord) (d : Damage) → Goes p t0 t → IsFirstFailing keys image (batch_jobs p c.versions t (asked_of_record p r)) (Damaged d.cell d.check d.kept d.computed) → ⊥
-  none_fails t r d goes failing =
-      let qs : List Picked = batch_picked p t (asked_of_record p r) in
+  no_pick_fails : (t : FlatTable) (qs : List Picked) (d : Damage) → Goes p t0 t → AreWithin (2 ^ (p.levels + 1) - 1) qs → ArePicksNew p t qs → IsFirstFailing keys image (map (job_of p c.versions) qs) (Damaged d.cell d.check d.kept d.computed) → ⊥
+  no_pick_fails t qs d goes within are_new failing =
       let i : ℕ = failing.job in
       let lt : i < length qs = (let w = failing.within in let m : length (map (job_of p c.versions) qs) ≡ length qs = length-map (job_of p c.versions) qs in omega arith) in
-      let read = job_read t r i goes lt in
+      let read = job_read t qs i goes within are_new lt in
       let job : Job = job_of p c.versions (get_or qs i no_pick) in
-      let same : job_at (batch_jobs p c.versions t (asked_of_record p r)) i ≡ job = get_or-map (job_of p c.versions) qs i no_pick (record { cell = 0; generation = 0; number = 0; key = None; result = None }) lt in
+      let same : job_at (map (job_of p c.versions) qs) i ≡ job = get_or-map (job_of p c.versions) qs i no_pick (record { cell = 0; generation = 0; number = 0; key = None; result = None }) lt in
       let damage : IsDamage keys job.cell (Some (job.generation, job.number)) (image job.cell) d = subst (λ (j : Job). IsDamage keys j.cell (Some (j.generation, j.number)) (image j.cell) d) same failing.fails in
       not_damaged keys job.cell job.generation job.number (image job.cell) read.0 d read.1.whole read.1.spelled damage
+
+  none_fails : (t : FlatTable) (r : BatchRecord) (d : Damage) → Goes p t0 t → IsFirstFailing keys image (batch_jobs p c.versions t (asked_of_record p r)) (Damaged d.cell d.check d.kept d.computed) → ⊥
+  none_fails t r d goes failing =
+      no_pick_fails t (batch_picked p t (asked_of_record p r)) d goes (batch_within p t (asked_of_record p r) (asked_low p r) goes.low) (batch_new p t (asked_of_record p r) goes.orderly) failing
 
   carries_to : (rs : List BatchRecord) (rows : Rows) → AreRepeated p slots t0 c.rows rows rs → Carries p (table_after_records p t0 rs) rows slots s.map
   carries_to rs rows all =
@@ -266,6 +287,18 @@ module _ (keys : Keys) (p : Params) (s : RingStanding) (image : Image) (stands :
       ⊎_elim (λ failing. none_fails (table_after_records p t0 was.before) was.broken d goes failing)
       (λ row. (let settles = batch_carries p (table_after_records p t0 was.before) (asked_of_record p was.broken) was.rows slots s.map row.jobs goes.orderly (carries_to was.before was.rows was.read) row.read in
       let none : None ≡ Some d = sym settles.fault ∙ row.first in cc)) was.damage
+
+  -- nor is anything of the final lifts behind the records' batches
+  abbrev t_then : FlatTable
+  t_then = table_after_records p t0 s.records
+
+  pub no_lift_fails : (d : Damage) → IsFirstFailing keys image (map (job_of p c.versions) (final_picked p t_then (eviction_path p t_then.counter))) (Damaged d.cell d.check d.kept d.computed) → ⊥
+  no_lift_fails d failing =
+      let goes = goes_all p t0 t0 s.records begins in
+      no_pick_fails t_then (final_picked p t_then (eviction_path p t_then.counter)) d goes (final_within (2 ^ (p.levels + 1) - 1) p t_then (eviction_path p t_then.counter) (eviction_within p t_then.counter)) (lifts_new p t_then goes.orderly) failing
+
+  pub no_lift_breaks : (rows : Rows) (js : List Job) → AreRepeated p slots t0 c.rows rows s.records → AreRead slots (final_picked p t_then (eviction_path p t_then.counter)) js → first_fault js ≡ None
+  no_lift_breaks rows js all read = (lifts_carry p t_then rows slots s.map js (goes_all p t0 t0 s.records begins).orderly (map_kept rows all) read).fault
 
 -- ---- the answers of a replay
 

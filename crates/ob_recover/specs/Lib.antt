@@ -1,3 +1,4 @@
 pub mod Finds
+pub mod Fits
 pub mod Repeats
 pub mod Shows

@@ -11,6 +11,7 @@ ghost use Rattle.ob_ring.specs.Fetching.{after_labels};
 ghost use Rattle.ob_ring.specs.FlatTable.{FlatTable, Batch, after};
 ghost use Rattle.ob_ring.specs.Picked.{SameSeals, batch_picked};
 ghost use Rattle.ob_ring.specs.Ring.{IsBatch, StandsFor};
+ghost use Rattle.ob_recover.specs.Fits.{IsPlannerFit};
 ghost use Rattle.ob_recover.specs.Shows.{ArePlaced, placed_notes};
 ghost use Rattle.ob_recover.specs.Repeats.{record_places, asked_of_record, record_of, repeated_notes, batch_cells, BatchAnswers, BatchTells, IsRepeatFault, JobsAnswer, HaveKeysOf, RowsJoin};
 
@@ -143,6 +144,8 @@ pub fn read_batch<S: Store, W: Watch>(
         → OnOk result (RowsJoin (batch_picked ring.old.p t (asked_of_record ring.old.p
         (record_of batch number generation first asks.now words.now))) ring.old.stash.rows
         ring.new.stash.rows) }
+    // So a planner that fits goes on fitting.
+    ensures fit { IsPlannerFit ring.old → OnOk result (IsPlannerFit ring.new) }
     ensures told { (batch number : ℕ) (start : Buckets) (t : FlatTable)
         → SameSeals start ring.old.metas → StandsFor ring.old t
         → BatchTells crew.old.lanes (batch_cells ring.old.p start.versions t
@@ -158,7 +161,10 @@ pub fn read_batch<S: Store, W: Watch>(
         Err(fault) => return Err(fault),
     }
     match ring.settle(jobs) {
-        Ok(()) => Ok(()),
+        Ok(()) => {
+            ring.tables();
+            Ok(())
+        }
         Err(damaged) => Err(Fault::from(damaged)),
     }
 }

@@ -11,6 +11,7 @@ ghost use Rattle.ob_ring.specs.Fetching.{after_labels};
 ghost use Rattle.ob_ring.specs.FlatTable.{FlatTable, Batch, after};
 ghost use Rattle.ob_ring.specs.Picked.{SameSeals, batch_picked};
 ghost use Rattle.ob_ring.specs.Ring.{StandsFor};
+ghost use Rattle.ob_recover.specs.Fits.{IsPlannerFit};
 ghost use Rattle.ob_recover.specs.Repeats.{record_places, asked_of_record, repeated_notes, batch_cells, BatchAnswers, BatchTells, IsRepeatFault, RowsJoin};
 
 use crate::reading::read_batch;
@@ -61,6 +62,7 @@ pub fn repeat_batch<S: Store, W: Watch>(
     ensures joins { (t : FlatTable) → StandsFor ring.old t
         → OnOk result (RowsJoin (batch_picked ring.old.p t (asked_of_record ring.old.p logged.now))
         ring.old.stash.rows ring.new.stash.rows) }
+    ensures fit { IsPlannerFit ring.old → OnOk result (IsPlannerFit ring.new) }
     ensures told { (start : Buckets) (t : FlatTable) → SameSeals start ring.old.metas
         → StandsFor ring.old t
         → BatchTells crew.old.lanes

@@ -10,6 +10,7 @@ ghost use Rattle.ob_log.specs.Logs.{RecordsFit};
 ghost use Rattle.ob_ring.specs.Ring.{StandsFor};
 ghost use Rattle.ob_stand.specs.Stands.{RingStanding, Stands};
 ghost use Rattle.ob_recover.specs.Finds.{KeepsWhatStood, ObeysFound};
+ghost use Rattle.ob_recover.specs.Fits.{IsPlannerFit};
 ghost use Rattle.ob_recover.specs.Repeats.{HasRepeated, IsReplayed, IsReplayOf, IsRepeatFault, RepeatDoes, RepeatsAnswer, ReplaysStanding, content_of_ring};
 
 use crate::found::Found;
@@ -44,6 +45,7 @@ fn repeat_all<S: Store, W: Watch>(
     ensures crew { crew.new ≡ crew.old }
     ensures rooms { (jobs.new.room ≡ jobs.old.room) × (jobs.new.place_room ≡ jobs.old.place_room) }
     ensures repeated { OnOk result (HasRepeated ring.old records.now ring.new) }
+    ensures fit { IsPlannerFit ring.old → OnOk result (IsPlannerFit ring.new) }
     ensures value { (S.disk store.old).tells
         → RepeatsAnswer sealer.now.keys ring.old (S.disk store.old).cells records.now
         ring.new.stash.rows result }
@@ -86,6 +88,8 @@ pub fn replay<S: Store, W: Watch>(
         → IsReplayOf sealer.now.keys p.now (S.disk store.old).cells found result }
     ensures faults { IfErr result IsRepeatFault }
     ensures replayed { IfOk result (λ r. IsReplayed p.now found r.0 r.1) }
+    // Whatever the store tells, the planner's numbers are in range, and it carries some map.
+    ensures fit { IfOk result (λ r. IsPlannerFit r.0) }
     // Where the store stands for what was found, at whatever generation, the planner has its map, and
     // nothing is damaged.
     ensures stands { (s : RingStanding) → (S.disk store.old).tells

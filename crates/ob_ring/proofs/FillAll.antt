@@ -1,5 +1,6 @@
 -- Buckets that are filled one after another.
 use Rattle.std.specs.Prelude.{◌≡◌, ◌≢◌, ℕ, ◌+◌, ◌<◌, ◌==◌, Bool, true, false, not, ◌&&◌, ◌||◌, List, [], ◌∷◌, ◌++◌, take, filter, length, replicate, Option, slice_index, slice_index_or}
+use Rattle.std.specs.declared.option.Option.TheVariants.{None, Some}
 use Rattle.std.proofs.Common.{zero, suc, arith, refl, sym, ap, subst, ◌∙◌, inl, inr, get_or}
 use Rattle.std.proofs.lemmas.Bool.{true≢false, false≢true, cases_Bool, cases_eq, eqb-true, eq-eqb, ne_eqb}
 use Rattle.std.proofs.lemmas.List.{take_more, take_all}
@@ -9,14 +10,15 @@ use Rattle.ob_bucket.specs.Version.{Version}
 use Rattle.ob_bucket.specs.Buckets.{Buckets, version_at, is_lifted}
 use Rattle.ob_tables.specs.declared.entry.Entry.{Entry}
 use Rattle.ob_schedule.specs.Paths.{is_one_of, by_falling_level}
-use Rattle.ob_ring.specs.FlatTable.{FlatTable, fill, fills, refill_order}
+use Rattle.ob_ring.specs.FlatTable.{FlatTable, Row, in_stash, placed, fill, fills, refill_order}
 use Rattle.ob_ring.specs.Sound.{IsSound}
 use Rattle.ob_ring.specs.Arrays.{IsTableOf, AreWhole, arrays_of, rest_of}
-use Rattle.ob_ring.specs.Filling.{arrays_in, still_lifted, IsSealedAnew, FillsOne, FillsTo, base_of, words_of}
+use Rattle.ob_ring.specs.Filling.{arrays_in, still_lifted, HasStashRows, IsSealedAnew, FillsOne, FillsTo, base_of, words_of}
 use Rattle.ob_ring.proofs.Members.{IsDistinct, off_unless, one_of-append, one_of-take, one_of-filter, one_of-filter_from, distinct-take, distinct-filter}
 use Rattle.ob_ring.proofs.Refills.{FillsLaw, fills_law, distinct_levels, of_levels, in_levels}
 use Rattle.ob_ring.proofs.TableOf.{table_like}
 use Rattle.ob_ring.proofs.FillLaws.{at_member, distinct_at}
+use Rattle.ob_ring.specs.Settling.{Rows}
 
 abbrev IsListed : Params → Buckets → Type 0
 IsListed p s = s.order ≡ filter (λ u. is_lifted s u) (by_falling_level (p.levels + 1))
@@ -59,7 +61,17 @@ or_off true b e = absurd (true≢false e)
 or_off false true e = absurd (true≢false e)
 or_off false false e = (refl, refl)
 
-module _ (p : Params) (book : List (Option Entry)) (old mid new : Buckets) (words : List ℕ) (first : ℕ × ℕ) (n u : ℕ) (listed : IsListed p old) (h : n < length old.order) (at : u ≡ get_or old.order n 0) (a : FillsTo p book old mid words first n)
+-- What lies in the stash after a fill lay there before.
+was_placed : (u i : ℕ) (b : Bool) (r : Option Row) → in_stash (placed u b i r) ≡ true → in_stash r ≡ true
+was_placed u i b None e = e
+was_placed u i true (Some r) e = absurd (false≢true e)
+was_placed u i false (Some r) e = e
+
+pub rows_after : (p : Params) (t : FlatTable) (us : List ℕ) (rows : Rows) → HasStashRows t rows → HasStashRows (fills p t us) rows
+rows_after p t [] rows at = at
+rows_after p t (u ∷ us) rows at = rows_after p (fill p t u) us rows (λ k e. at k (was_placed u _ _ (t.rows k) e))
+
+module _ (p : Params) (book : List (Option Entry)) (rows : Rows) (old mid new : Buckets) (words : List ℕ) (first : ℕ × ℕ) (n u : ℕ) (listed : IsListed p old) (h : n < length old.order) (at : u ≡ get_or old.order n 0) (a : FillsTo p book rows old mid words first n)
     (b : FillsOne p mid new u (words_of p words n) first.0 (base_of p first n)) where
   more : take (n + 1) old.order ≡ take n old.order ++ u ∷ []
   more = take_more old.order n 0 h ∙ ap (λ (x : ℕ). take n old.order ++ x ∷ []) (sym at)
@@ -85,8 +97,8 @@ module _ (p : Params) (book : List (Option Entry)) (old mid new : Buckets) (word
         subst (λ (v : Version). IsSealedAnew (version_at old.versions (slice_index old.order i)) v first.0 (base_of p first i) (words_of p words i)) (sym (b.others (slice_index old.order i) there)) ((a.anew).anew i (omega arith)))
   ]
 
-  pub fills_more : ((lifted : ℕ → Bool) (counter : ℕ) (t : FlatTable) → IsSound p t → t.lifted u ≡ true → IsTableOf p (arrays_in mid lifted (rest_of book counter)) t → IsTableOf p (arrays_in new (λ w. not (w == u) && lifted w) (rest_of book counter))
-      (fill p t u)) → FillsTo p book old new words first (n + 1)
+  pub fills_more : ((lifted : ℕ → Bool) (counter : ℕ) (t : FlatTable) → IsSound p t → t.lifted u ≡ true → HasStashRows t rows → IsTableOf p (arrays_in mid lifted (rest_of book counter)) t → IsTableOf p (arrays_in new (λ w. not (w == u) && lifted w) (rest_of book counter))
+      (fill p t u)) → FillsTo p book rows old new words first (n + 1)
   fills_more next = record {
     whole = b.whole;
     anew = record {
@@ -96,10 +108,10 @@ module _ (p : Params) (book : List (Option Entry)) (old mid new : Buckets) (word
     };
     lifted = b.lifted ∙ a.lifted;
     order = b.order ∙ a.order;
-    follows = λ c t sound is.
+    follows = λ c t sound at is.
         (let law : FillsLaw p t (take n old.order) = fills_law p t (take n old.order) (distinct-take n old.order distinct) (λ v on. is.lifted_is v ∙ listed_lifted p old v listed (one_of-take n old.order v on)) sound in
         let up : (fills p t (take n old.order)).lifted u ≡ true = law.lifted_is u ∙ (λ i. not (fresh i) && (is.lifted_is u ∙ mine) i) in
-        let r : IsTableOf p (arrays_in new (λ w. not (w == u) && still_lifted old n w) (rest_of book c)) (fill p (fills p t (take n old.order)) u) = next (still_lifted old n) c (fills p t (take n old.order)) law.sound up (a.follows c t sound is) in
+        let r : IsTableOf p (arrays_in new (λ w. not (w == u) && still_lifted old n w) (rest_of book c)) (fill p (fills p t (take n old.order)) u) = next (still_lifted old n) c (fills p t (take n old.order)) law.sound up (rows_after p t (take n old.order) rows at) (a.follows c t sound at is) in
         subst (λ (x : FlatTable). IsTableOf p (arrays_in new (still_lifted old (n + 1)) (rest_of book c)) x) (sym (ap (fills p t) more ∙ fills_push p t (take n old.order) u))
         (table_like p (arrays_in new (λ w. not (w == u) && still_lifted old n w) (rest_of book c)) (arrays_in new (still_lifted old (n + 1)) (rest_of book c)) (fill p (fills p t (take n old.order)) u) r
         (λ v j. refl) (λ v j. refl)
@@ -107,8 +119,8 @@ module _ (p : Params) (book : List (Option Entry)) (old mid new : Buckets) (word
         (λ k. refl) refl));
   }
 
-pub fills_end : (p : Params) (book : List (Option Entry)) (old new : Buckets) (words : List ℕ) (first : ℕ × ℕ) (n : ℕ) → n ≡ length old.order → FillsTo p book old new words first n → FillsTo p book old new words first (length old.order)
-fills_end p book old new words first n e f = subst (λ (m : ℕ). FillsTo p book old new words first m) e f
+pub fills_end : (p : Params) (book : List (Option Entry)) (rows : Rows) (old new : Buckets) (words : List ℕ) (first : ℕ × ℕ) (n : ℕ) → n ≡ length old.order → FillsTo p book rows old new words first n → FillsTo p book rows old new words first (length old.order)
+fills_end p book rows old new words first n e f = subst (λ (m : ℕ). FillsTo p book rows old new words first m) e f
 
 -- ---- all of them
 
@@ -137,11 +149,11 @@ none_lifted p s u whole listed = elim (cases_Bool (is_lifted s u)) [
     and_no true = refl
     and_no false = refl
 
-pub refilled_is : (p : Params) (book : List (Option Entry)) (metas mid cleared : Buckets) (counter : ℕ) (words : List ℕ) (first : ℕ × ℕ) → AreWhole p metas → IsListed p metas → FillsTo p book metas mid words first (length metas.order) → cleared ≡ record mid
-    { lifted = replicate (length mid.lifted) false } → (t : FlatTable) → IsSound p t → IsTableOf p (arrays_of metas (rest_of book counter)) t → IsTableOf p (arrays_of cleared (rest_of book counter)) (fills p t (refill_order p t))
-refilled_is p book metas mid cleared counter words first whole listed f changed t sound is =
+pub refilled_is : (p : Params) (book : List (Option Entry)) (rows : Rows) (metas mid cleared : Buckets) (counter : ℕ) (words : List ℕ) (first : ℕ × ℕ) → AreWhole p metas → IsListed p metas → FillsTo p book rows metas mid words first (length metas.order) → cleared ≡ record mid
+    { lifted = replicate (length mid.lifted) false } → (t : FlatTable) → IsSound p t → HasStashRows t rows → IsTableOf p (arrays_of metas (rest_of book counter)) t → IsTableOf p (arrays_of cleared (rest_of book counter)) (fills p t (refill_order p t))
+refilled_is p book rows metas mid cleared counter words first whole listed f changed t sound at is =
     let order : take (length metas.order) metas.order ≡ refill_order p t = take_all (length metas.order) metas.order (omega arith) ∙ listed ∙ (λ i. filter (λ u. sym (is.lifted_is u) i) (by_falling_level (p.levels + 1))) in
     subst (λ (s : Buckets). IsTableOf p (arrays_of s (rest_of book counter)) (fills p t (refill_order p t))) (sym changed)
     (subst (λ (us : List ℕ). IsTableOf p (arrays_of (record mid { lifted = replicate (length mid.lifted) false }) (rest_of book counter)) (fills p t us)) order
-    (table_like p (arrays_in mid (still_lifted metas (length metas.order)) (rest_of book counter)) (arrays_of (record mid { lifted = replicate (length mid.lifted) false }) (rest_of book counter)) (fills p t (take (length metas.order) metas.order)) (f.follows counter t sound is)
+    (table_like p (arrays_in mid (still_lifted metas (length metas.order)) (rest_of book counter)) (arrays_of (record mid { lifted = replicate (length mid.lifted) false }) (rest_of book counter)) (fills p t (take (length metas.order) metas.order)) (f.follows counter t sound at is)
     (λ u j. refl) (λ u j. refl) (λ u. none_lifted p metas u whole listed ∙ sym (no_mark (length mid.lifted) u)) (λ k. refl) refl))

@@ -1,13 +1,12 @@
 -- Which keys a bucket takes.
-use Rattle.std.specs.Prelude.{◌≡◌, ℕ, ◌+◌, ◌<◌, ◌≤◌, ◌==◌, Bool, true, false, cond, ◌&&◌, ◌||◌, List, [], ◌∷◌, map, Option}
+use Rattle.std.specs.Prelude.{◌≡◌, ℕ, ◌+◌, ◌<◌, ◌≤◌, ◌==◌, Bool, true, false, ◌&&◌, ◌||◌, List, [], ◌∷◌, map, Option}
 use Rattle.std.specs.declared.option.Option.TheVariants.{None, Some}
-use Rattle.std.specs.List.{range_with_len, count_by}
+use Rattle.std.specs.List.{range_with_len}
 use Rattle.std.proofs.Common.{zero, suc, arith, refl, sym, ap, ◌∙◌, inl, inr}
-use Rattle.std.proofs.lemmas.Bool.{cases_eq, eq-eqb, or_left, or_right}
+use Rattle.std.proofs.lemmas.Bool.{cases_eq, eq-eqb, or_left, or_right, and_parts}
 use Rattle.ob_base.specs.declared.params.Params.{Params}
 use Rattle.ob_base.specs.Tree.{bucket_of, passes}
 use Rattle.ob_bucket.specs.Buckets.{Buckets}
-use Rattle.ob_bucket.proofs.Counting.{count_by-range_more}
 use Rattle.ob_tables.specs.declared.entry.Entry.{Entry}
 use Rattle.ob_tables.specs.Kept.{entry_at}
 use Rattle.ob_schedule.specs.Paths.{is_one_of}
@@ -65,5 +64,7 @@ pub go_is : (p : Params) (book : List (Option Entry)) (s : Buckets) (lifted : �
     (arrays_in s lifted (rest_of book c)) t → b ≡ can_go p u (t.rows key)
 go_is p book s lifted c t u key e b at on out is = out ∙ go_case p u (t.rows key) e.leaf (is.leaves_are key ∙ ap leaf_of_entry at) on
 
-pub one_more_out : (q : ℕ → Bool) (k many next : ℕ) (b : Bool) → many ≡ count_by q (range_with_len 0 k) → q k ≡ b → next ≡ many + cond b 1 0 → next ≡ count_by q (range_with_len 0 (k + 1))
-one_more_out q k many next b before is e = e ∙ (λ i. before i + cond (sym is i) 1 0) ∙ sym (count_by-range_more q k)
+-- What may go into a bucket lies in none.
+pub goes_out : (p : Params) (u : ℕ) (r : Option Row) → can_go p u r ≡ true → in_stash r ≡ true
+goes_out p u None e = e
+goes_out p u (Some r) e = (and_parts (is_stash r.spot) _ e).0

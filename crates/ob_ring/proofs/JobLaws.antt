@@ -4,8 +4,8 @@ use Rattle.std.proofs.Common.{refl, sym, ap, ◌∙◌}
 use Rattle.ob_base.specs.declared.params.Params.{Params}
 use Rattle.ob_base.specs.Tree.{path}
 use Rattle.ob_schedule.specs.Paths.{eviction_path}
-use Rattle.ob_ring.specs.FlatTable.{FlatTable, Spot, Shown, spot_of, index_in, asked_row, fetch, leaf_shown, index_shown, mark_index, lift, lift_order, lift_shown, shown_numbered, reads, visit, visit_shown, visits_shown, place_shown, after_place, batch_shown, final_shown}
-use Rattle.ob_ring.specs.Picked.{Picked, holder, key_shown, lift_picked, visit_picked, visits_picked, place_picked, batch_picked, final_picked}
+use Rattle.ob_ring.specs.FlatTable.{FlatTable, Spot, spot_of, index_in, asked_row, fetch, leaf_shown, index_shown, mark_index, lift, lift_order, lift_shown, shown_numbered, reads, visit, visit_shown, visits_shown, place_shown, after_place, batch_shown, final_shown}
+use Rattle.ob_ring.specs.Picked.{holder, key_shown, lift_picked, visit_picked, visits_picked, place_picked, batch_picked, final_picked}
 use Rattle.ob_ring.specs.Jobs.{place_shown_at, place_picked_at, JobsReadPicks}
 use Rattle.ob_ring.proofs.Appends.{map-both}
 

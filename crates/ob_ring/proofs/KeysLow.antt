@@ -3,14 +3,12 @@ use Rattle.std.specs.Prelude.{◌≡◌, ℕ, ◌+◌, ◌<◌, ◌==◌, Bool, 
 use Rattle.std.specs.declared.option.Option.TheVariants.{None, Some}
 use Rattle.std.specs.Option.{IfSome}
 use Rattle.std.specs.List.{range_with_len, find}
-use Rattle.std.proofs.Common.{zero, suc, arith, sym, ap, subst}
+use Rattle.std.proofs.Common.{zero, suc, arith, sym, subst}
 use Rattle.ob_base.specs.declared.params.Params.{Params}
 use Rattle.ob_base.specs.declared.job.Job.{Job}
-use Rattle.ob_base.specs.Tree.{path, below}
+use Rattle.ob_base.specs.Tree.{path}
 use Rattle.ob_base.specs.Planned.{job_at}
 use Rattle.ob_bucket.specs.Version.{Version}
-use Rattle.ob_tables.specs.declared.entry.Entry.{Entry}
-use Rattle.ob_schedule.specs.Paths.{eviction_path}
 use Rattle.ob_ring.specs.FlatTable.{FlatTable, Spot, is_at, spot_of, index_in, index_shown, mark_index, lift, lift_order, reads, visit, fetch, asked_row, leaf_shown, after_place}
 use Rattle.ob_ring.specs.Picked.{Picked, holder, key_shown, lift_picked, visit_picked, visits_picked, place_picked, batch_picked, final_picked, job_of}
 use Rattle.ob_ring.specs.Fetching.{own_entry, places_of, leaf_places}

@@ -25,9 +25,10 @@ pub mod RingLaws
 pub mod Rooms
 pub mod Rows
 pub mod Sounds
+pub mod StashRows
+pub mod StashWalks
 pub mod Stashes
 pub mod TableLaws
 pub mod TableOf
-pub mod TestRows
 pub mod Visits
 pub mod WriteLaws

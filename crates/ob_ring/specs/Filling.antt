@@ -10,7 +10,9 @@ use Rattle.std.specs.declared.option.Option.TheVariants.{None, Some}
 use Rattle.ob_ring.specs.declared.found.Found.{Found}
 use Rattle.ob_ring.specs.Arrays.{Arrays, Rest, AreWhole, IsTableOf, arrays_of, rest_of}
 use Rattle.ob_tables.specs.declared.entry.Entry.{Entry}
-use Rattle.ob_ring.specs.FlatTable.{FlatTable, fills}
+use Rattle.std.specs.FinMap as finite
+use Rattle.ob_ring.specs.FlatTable.{FlatTable, in_stash, fills}
+use Rattle.ob_ring.specs.Settling.{Rows}
 use Rattle.ob_ring.specs.Sound.{IsSound}
 
 -- the arrays, where these buckets count as lifted
@@ -46,6 +48,10 @@ abbrev pub is_nowhere : Option Found → Bool
 is_nowhere None = true
 is_nowhere (Some f) = false
 
+-- each key that lies in no bucket has a row here
+abbrev pub HasStashRows : FlatTable → Rows → Type 0
+HasStashRows t rows = (k : ℕ) → in_stash (t.rows k) ≡ true → finite.get rows k ≢ None
+
 -- one bucket is filled, the others are as before
 pub record FillsOne (p : Params) (old new : Buckets) (u : ℕ) (words : List ℕ) (seal first : ℕ) : Type 0 where
   pub whole : AreWhole p new
@@ -54,10 +60,10 @@ pub record FillsOne (p : Params) (old new : Buckets) (u : ℕ) (words : List ℕ
   pub lifted : new.lifted ≡ old.lifted
   pub order : new.order ≡ old.order
 
--- the first n buckets of the list are filled
-pub record FillsTo (p : Params) (book : List (Option Entry)) (old new : Buckets) (words : List ℕ) (first : ℕ × ℕ) (n : ℕ) : Type 0 where
+-- the first n buckets of the list are filled, from the rows of the stash
+pub record FillsTo (p : Params) (book : List (Option Entry)) (rows : Rows) (old new : Buckets) (words : List ℕ) (first : ℕ × ℕ) (n : ℕ) : Type 0 where
   pub whole : AreWhole p new
   pub anew : AreSealedAnew p old new words first n
   pub lifted : new.lifted ≡ old.lifted
   pub order : new.order ≡ old.order
-  pub follows : (counter : ℕ) (t : FlatTable) → IsSound p t → IsTableOf p (arrays_of old (rest_of book counter)) t → IsTableOf p (arrays_in new (still_lifted old n) (rest_of book counter)) (fills p t (take n old.order))
+  pub follows : (counter : ℕ) (t : FlatTable) → IsSound p t → HasStashRows t rows → IsTableOf p (arrays_of old (rest_of book counter)) t → IsTableOf p (arrays_in new (still_lifted old n) (rest_of book counter)) (fills p t (take n old.order))

@@ -16,6 +16,3 @@ mod writes;
 
 pub use laws::{jobs_read_picks, lifts_take_all, shown_once, steps_keep_order};
 pub use ring::Ring;
-
-#[cfg(test)]
-mod tests;

@@ -1,6 +1,7 @@
 //! Filling lifted buckets.
 
-ghost use Rattle.std.specs.Prelude.{◌≡◌, ℕ, ◌<◌, ◌≤◌, ◌+◌, ◌*◌, ◌^◌, ◌==◌, ◌&&◌, not, true, ◌++◌, ◌∷◌, [], Bool, List, length, take, filter};
+ghost use Rattle.std.specs.Prelude.{◌≡◌, ◌≢◌, ℕ, ◌<◌, ◌≤◌, ◌+◌, ◌*◌, ◌^◌, ◌==◌, ◌&&◌, not, true, ◌++◌, ◌∷◌, [], Bool, List, None, length, take, filter};
+ghost use Rattle.std.specs.FinMap as finite;
 ghost use Rattle.ob_base.specs.Tree.{buckets, passes, width};
 ghost use Rattle.ob_ring.specs.FlatTable.{FlatTable, in_stash, can_go, chosen, fill, stash_size};
 ghost use Rattle.ob_bucket.specs.Buckets.{is_lifted};
@@ -9,13 +10,13 @@ ghost use Rattle.ob_ring.specs.Sound.{IsSound};
 ghost use Rattle.ob_ring.specs.Order.{HoldsFirst};
 ghost use Rattle.ob_ring.specs.Arrays.{IsTableOf, AreWhole, rest_of};
 ghost use Rattle.ob_ring.specs.Fetching.{IsBook};
-ghost use Rattle.ob_ring.specs.Filling.{arrays_in, is_nowhere, FillsOne, FillsTo};
+ghost use Rattle.ob_ring.specs.Filling.{arrays_in, is_nowhere, HasStashRows, FillsOne, FillsTo};
 
 use crate::found::Found;
 use crate::path::find_key;
 use ob_base::{Key, Params, bucket_of};
 use ob_bucket::Metas;
-use ob_tables::Book;
+use ob_tables::{Book, Stash};
 
 // Whether the path of a leaf goes through a bucket.
 fn passes(p: &Params, bucket: u32, leaf: u32) -> bool
@@ -86,20 +87,30 @@ fn push_key(out: &mut [Key], n: usize, limit: usize, key: Key) -> usize
     }
 }
 
-// Writes the keys that a bucket takes: the first ones that lie in no bucket and whose path goes
-// through this one, as many as there are real indexes. Answers how many it wrote.
-fn choose(p: &Params, book: &Book, metas: &Metas, bucket: u32, out: &mut [Key]) -> usize
+// Writes the keys that a bucket takes: the first ones of the stash that lie in no bucket and whose
+// path goes through this one, as many as there are real indexes. Answers how many it wrote.
+fn choose(
+    p: &Params,
+    book: &Book,
+    metas: &Metas,
+    stash: &Stash,
+    bucket: u32,
+    out: &mut [Key],
+) -> usize
     requires book { IsBook p.now book.now }
     requires whole { AreWhole p.now metas.now }
+    requires low { (k : ℕ) → finite.get stash.now.rows k ≢ None → k < p.now.keys }
     requires room { p.now.real ≤ length out.old }
     ensures long { length out.new ≡ length out.old }
     ensures few { result ≤ p.now.real }
     ensures chosen { (lifted : ℕ → Bool) (counter : ℕ) (t : FlatTable) → IsSound p.now t
+        → HasStashRows t stash.now.rows
         → IsTableOf p.now (arrays_in metas.now lifted (rest_of book.now counter)) t
         → take result out.new ≡ chosen p.now t bucket }
 {
     let mut n: usize = 0;
-    for key in 0..p.keys {
+    for i in 0..stash.len() {
+        let (key, _) = stash.row(i);
         if can_go(p, book, metas, bucket, key) {
             n = push_key(out, n, p.real as usize, key);
         }
@@ -107,16 +118,19 @@ fn choose(p: &Params, book: &Book, metas: &Metas, bucket: u32, out: &mut [Key]) 
     n
 }
 
-// How many present keys lie in no bucket.
-pub(crate) fn count_out(p: &Params, book: &Book, metas: &Metas) -> u32
+// How many keys of the stash lie in no bucket.
+pub(crate) fn count_out(p: &Params, book: &Book, metas: &Metas, stash: &Stash) -> u64
     requires book { IsBook p.now book.now }
     requires whole { AreWhole p.now metas.now }
+    requires low { (k : ℕ) → finite.get stash.now.rows k ≢ None → k < p.now.keys }
     ensures { (lifted : ℕ → Bool) (counter : ℕ) (t : FlatTable) → IsSound p.now t
+        → HasStashRows t stash.now.rows
         → IsTableOf p.now (arrays_in metas.now lifted (rest_of book.now counter)) t
         → result ≡ stash_size p.now t }
 {
-    let mut many: u32 = 0;
-    for key in 0..p.keys {
+    let mut many: u64 = 0;
+    for i in 0..stash.len() {
+        let (key, _) = stash.row(i);
         if is_out(p, book, metas, key) {
             many += 1;
         }
@@ -129,6 +143,7 @@ fn fill_one(
     p: &Params,
     book: &Book,
     metas: &mut Metas,
+    stash: &Stash,
     bucket: u32,
     words: &[u64],
     generation: u64,
@@ -136,31 +151,41 @@ fn fill_one(
 )
     requires book { IsBook p.now book.now }
     requires whole { AreWhole p.now metas.old }
+    requires low { (k : ℕ) → finite.get stash.now.rows k ≢ None → k < p.now.keys }
     requires bucket { bucket < buckets p.now }
     requires words { length words.now ≡ width p.now }
     ensures fills { FillsOne p.now metas.old metas.new bucket words.now generation base }
     ensures follows { (lifted : ℕ → Bool) (counter : ℕ) (t : FlatTable) → IsSound p.now t
         → t.lifted bucket ≡ true
+        → HasStashRows t stash.now.rows
         → IsTableOf p.now (arrays_in metas.old lifted (rest_of book.now counter)) t
         → IsTableOf p.now (arrays_in metas.new (λ w. not (w == bucket) && lifted w)
         (rest_of book.now counter)) (fill p.now t bucket) }
 {
     let mut keys = [0; 16];
-    let n = choose(p, book, metas, bucket, &mut keys);
+    let n = choose(p, book, metas, stash, bucket, &mut keys);
     let home = 1 - metas.get(bucket).home();
     metas
         .get_mut(bucket)
         .fill(home, generation, base, &keys[..n], words);
 }
 
-/// Fills the listed buckets, one after another.
-pub(crate) fn fill_all(p: &Params, book: &Book, metas: &mut Metas, words: &[u64], first: (u64, u64))
+/// Fills the listed buckets from the stash, one after another.
+pub(crate) fn fill_all(
+    p: &Params,
+    book: &Book,
+    metas: &mut Metas,
+    stash: &Stash,
+    words: &[u64],
+    first: (u64, u64),
+)
     requires book { IsBook p.now book.now }
     requires whole { AreWhole p.now metas.old }
+    requires low { (k : ℕ) → finite.get stash.now.rows k ≢ None → k < p.now.keys }
     requires listed { metas.old.order
         ≡ filter (λ u. is_lifted metas.old u) (by_falling_level (p.now.levels + 1)) }
     requires words { length words.now ≡ length metas.old.order * width p.now }
-    ensures fills { FillsTo p.now book.now metas.old metas.new words.now first
+    ensures fills { FillsTo p.now book.now stash.now.rows metas.old metas.new words.now first
         (length metas.old.order) }
 {
     let width = (p.real + p.dummies) as usize;
@@ -172,6 +197,7 @@ pub(crate) fn fill_all(p: &Params, book: &Book, metas: &mut Metas, words: &[u64]
             p,
             book,
             metas,
+            stash,
             bucket,
             &words[from..from + width],
             first.0,

@@ -10,7 +10,7 @@ ghost use Rattle.ob_ring.specs.Picked.{SameSeals};
 ghost use Rattle.ob_ring.specs.Fetching.{places_of, after_labels};
 ghost use Rattle.ob_ring.specs.Ring.{IsRing, StandsFor, IsBatch, IsLifting, IsListed, AreListedWithin, empty_table};
 ghost use Rattle.ob_base.specs.Tree.{buckets, width};
-ghost use Rattle.ob_ring.specs.Filling.{AreSealedAnew};
+ghost use Rattle.ob_ring.specs.Filling.{AreSealedAnew, HasStashRows};
 ghost use Rattle.ob_ring.specs.Plain.{key_of_index, index_with, plain_for, without_buckets};
 ghost use Rattle.ob_ring.specs.Settling.{first_fault, rows_after};
 ghost use Rattle.ob_ring.specs.Writing.{write_at, writes_of, leaf_writes, entries_after, values_after};
@@ -246,7 +246,8 @@ impl Ring {
     /// Fills the listed buckets anew: each takes the first keys of the stash, in rising order, whose
     /// paths go through it, as many as it has real indexes. Each bucket takes as many words as it
     /// has slots; its slots are sealed with the numbers from `first` on, those of the buckets before
-    /// it first. The rows' values stay at hand until `forget_written`.
+    /// it first. The stash has a row of each key that lies in no bucket, and these rows stay at hand
+    /// until `forget_written`.
     ///
     /// # Errors
     /// More rows are left than the stash may keep. Then the ring serves no more.
@@ -259,8 +260,10 @@ impl Ring {
         ensures anew { AreSealedAnew self.old.p self.old.metas self.new.metas words.now first
             (length self.old.metas.order) }
         ensures refilled { (t : FlatTable) → StandsFor self.old t
+            → HasStashRows t self.old.stash.rows
             → StandsFor self.new (after self.old.p t Refill) }
         ensures rows { (t : FlatTable) → StandsFor self.old t
+            → HasStashRows t self.old.stash.rows
             → MatchResult result (λ _. stash_size self.old.p (after self.old.p t Refill)
             ≤ self.old.p.room) (λ full. (full.rows
             ≡ stash_size self.old.p (after self.old.p t Refill)) × (self.old.p.room < full.rows)) }
@@ -269,13 +272,15 @@ impl Ring {
             &self.params,
             &self.tables.book,
             &mut self.tables.metas,
+            &self.tables.stash,
             words,
             first,
         );
         self.tables.metas.clear_lifted();
-        let rows = count_out(&self.params, &self.tables.book, &self.tables.metas);
-        if rows > self.params.room {
-            return Err(StashFull { rows: rows as u64 });
+        let tables = &self.tables;
+        let rows = count_out(&self.params, &tables.book, &tables.metas, &tables.stash);
+        if rows > self.params.room as u64 {
+            return Err(StashFull { rows });
         }
         Ok(())
     }

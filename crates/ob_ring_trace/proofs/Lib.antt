@@ -9,3 +9,4 @@ pub mod Telling
 pub mod Tree
 pub mod Living
 pub mod Sampling
+pub mod Once

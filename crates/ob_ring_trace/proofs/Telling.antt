@@ -18,19 +18,19 @@ use Rattle.ob_ring.specs.Picked.{Picked, batch_picked, final_picked, job_of, pla
 use Rattle.ob_schedule.specs.Paths.{eviction_path}
 use Rattle.ob_store.specs.Calls.{Notes}
 use Rattle.ob_store.specs.Lines.{Shows, Trace}
-use Rattle.ob_store.specs.Told.{Tells, events_of}
+use Rattle.ob_store.specs.Told.{IsCut, Tells, TellsFirst, events_of}
 use Rattle.ob_store.specs.declared.event.Event.{Event}
 use Rattle.ob_store.specs.declared.event.Event.TheVariants as event
 use Rattle.ob_store.specs.declared.watch.Note.{Note}
 use Rattle.ob_store.specs.declared.watch.Note.TheVariants as note
-use Rattle.ob_store.proofs.Doing.{events_join}
+use Rattle.ob_store.proofs.Doing.{cut_behind, cut_more, cut_none, events_join}
 use Rattle.ob_store.proofs.Events.{joined}
 use Rattle.ob_store.proofs.Showing.{shows_then}
 use Rattle.ob_twin.specs.declared.gates.Gates.{Gates}
 use Rattle.ob_ring_trace.specs.Batches.{BatchesAreTold, read_notes_of}
 use Rattle.ob_ring_trace.specs.Ends.{EndsAreTold, closing_notes, lifts_cells, lifts_notes, refill_notes}
 use Rattle.ob_ring_trace.specs.Openings.{OpeningsAreCut, OpeningsAreTold, began_notes, opening_notes}
-use Rattle.ob_ring_trace.specs.Telling.{AreTold, OneLaneInOrder}
+use Rattle.ob_ring_trace.specs.Telling.{AreTold, IsFrontShown, IsRowShown, OneLaneInOrder}
 use Rattle.ob_ring_trace.proofs.Batch.{batches_are_scheduled}
 use Rattle.ob_ring_trace.proofs.Fills.{items_of}
 use Rattle.ob_ring_trace.proofs.Opening.{openings_are_scheduled}
@@ -76,7 +76,7 @@ in_turn most (cells ∷ rest) old new few read =
 abbrev cells_of_picked : Params → List Version → List Picked → List ℕ
 cells_of_picked p versions qs = map (λ j. j.cell) (map (job_of p versions) qs)
 
-jobs_read : (p : Params) (versions : List Version) (qs : List Picked) → events_of (map (λ q. note.Read (job_of p versions q).cell) qs) ≡ reads_made (map (λ q. (job_of p versions q).cell) qs)
+pub jobs_read : (p : Params) (versions : List Version) (qs : List Picked) → events_of (map (λ q. note.Read (job_of p versions q).cell) qs) ≡ reads_made (map (λ q. (job_of p versions q).cell) qs)
 jobs_read p versions [] = refl
 jobs_read p versions (q ∷ qs) = ap (λ (es : List Event). event.Read (job_of p versions q).cell ∷ es) (jobs_read p versions qs)
 
@@ -88,7 +88,7 @@ picked_append : (p : Params) (versions : List Version) (xs ys : List Picked) →
 picked_append p versions [] ys = refl
 picked_append p versions (x ∷ xs) ys = ap (λ (cs : List ℕ). (job_of p versions x).cell ∷ cs) (picked_append p versions xs ys)
 
-batch_read : (p : Params) (versions : List Version) (t : FlatTable) (asked : List (Option ℕ × ℕ)) → events_of (repeated_notes p versions t asked) ≡ reads_made (batch_cells p versions t asked)
+pub batch_read : (p : Params) (versions : List Version) (t : FlatTable) (asked : List (Option ℕ × ℕ)) → events_of (repeated_notes p versions t asked) ≡ reads_made (batch_cells p versions t asked)
 batch_read p versions t [] = refl
 batch_read p versions t (a ∷ rest) =
     let t1 : FlatTable = after_place p t a.0 a.1 in
@@ -106,6 +106,47 @@ repeats_read p versions t (r ∷ rs) =
     events_join (repeated_notes p versions t asked) (repeat_notes p versions t1 rs)
     ∙ (λ i. batch_read p versions t asked i ++ repeats_read p versions t1 rs i)
     ∙ sym (map-append (λ cell. event.Read cell) (batch_cells p versions t asked) (flat_map (λ cells. cells) (repeat_cells p versions t1 rs)))
+
+-- ---- the notes of a call, as a row of steps
+
+module _ (most : ℕ) where
+  pub row_step : (xs : List Note) (a b : Option (List Event)) → Notes (events_of xs) a b → IsRowShown most xs xs a b
+  row_step xs a b seen = record { all = refl; in_order = λ few. seen }
+
+  pub row_read : (cells : List ℕ) (xs : List Note) (a b : Option (List Event)) → events_of xs ≡ reads_made cells → ReadByLanes most cells a b → IsRowShown most xs xs a b
+  row_read cells xs a b same read = record { all = refl; in_order = λ few. subst (λ (es : List Event). Notes es a b) (sym same) (one_lane_in_order most cells a b few read) }
+
+  pub row_then : (xs ss ys ts : List Note) (a b c : Option (List Event)) → IsRowShown most xs ss a b → IsRowShown most ys ts b c → IsRowShown most (xs ++ ys) (ss ++ ts) a c
+  row_then xs ss ys ts a b c first second = record {
+    all = λ i. first.all i ++ second.all i;
+    in_order = λ few. subst (λ (es : List Event). Notes es a c) (sym (events_join xs ys)) (joined (events_of xs) (events_of ys) a b c (first.in_order few) (second.in_order few));
+  }
+
+  pub row_as : (xs ys ss : List Note) (a b : Option (List Event)) → xs ≡ ys → IsRowShown most xs ss a b → IsRowShown most ys ss a b
+  row_as xs ys ss a b same shown = subst (λ (ns : List Note). IsRowShown most ns ss a b) same shown
+
+  pub front_all : (xs ss : List Note) (a b : Option (List Event)) → IsRowShown most xs ss a b → IsFrontShown most xs ss a b
+  front_all xs ss a b shown = record { made = xs; cut = subst (λ (ns : List Note). IsCut xs xs ns) (sym shown.all) (cut_none xs); in_order = shown.in_order }
+
+  -- nothing of it
+  pub front_none : (xs : List Note) (a b : Option (List Event)) → Notes [] a b → IsFrontShown most xs [] a b
+  front_none xs a b seen = record { made = []; cut = cut_more [] xs [] [] (cut_none []); in_order = λ few. seen }
+
+  pub front_step : (xs : List Note) (a b : Option (List Event)) (k l : Trace) (first : TellsFirst xs a b k l) → IsFrontShown most xs first.shown a b
+  front_step xs a b k l first = record { made = first.made; cut = first.cut; in_order = λ few. (first.tells).seen }
+
+  pub front_more : (xs ys ss : List Note) (a b : Option (List Event)) → IsFrontShown most xs ss a b → IsFrontShown most (xs ++ ys) ss a b
+  front_more xs ys ss a b front = record { made = front.made; cut = cut_more xs ys front.made ss front.cut; in_order = front.in_order }
+
+  pub front_then : (xs ss ys ts : List Note) (a b c : Option (List Event)) → IsRowShown most xs ss a b → IsFrontShown most ys ts b c → IsFrontShown most (xs ++ ys) (ss ++ ts) a c
+  front_then xs ss ys ts a b c before front = record {
+    made = xs ++ front.made;
+    cut = subst (λ (ns : List Note). IsCut (xs ++ ys) (xs ++ front.made) (ns ++ ts)) (sym before.all) (cut_behind xs ys front.made ts front.cut);
+    in_order = λ few. subst (λ (es : List Event). Notes es a c) (sym (events_join xs front.made)) (joined (events_of xs) (events_of front.made) a b c (before.in_order few) (front.in_order few));
+  }
+
+  pub front_as : (xs ys ss : List Note) (a b : Option (List Event)) → xs ≡ ys → IsFrontShown most xs ss a b → IsFrontShown most ys ss a b
+  front_as xs ys ss a b same front = subst (λ (ns : List Note). IsFrontShown most ns ss a b) same front
 
 -- ---- two rows, one behind the other
 

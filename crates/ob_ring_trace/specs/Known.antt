@@ -9,12 +9,15 @@ use Rattle.ob_content.specs.Content.{Content, Obeys}
 use Rattle.ob_epoch.specs.Counts.{public_of}
 use Rattle.ob_epoch.specs.Table.{flat_of}
 use Rattle.ob_life.specs.Bridge.{slot_read_off}
-use Rattle.ob_log.specs.Logs.{BatchRecord}
-use Rattle.ob_recover.specs.Repeats.{asked_of_record, table_after_records}
+use Rattle.ob_log.specs.Logs.{BatchRecord, RecordsFit}
+use Rattle.ob_recover.specs.Repeats.{IsPlannerOf, asked_of_record, table_after_records}
 use Rattle.ob_ring.specs.FlatTable.{Batch, FinalLifts, FlatTable, Shown, after, leaves_shown, picks}
+use Rattle.ob_ring.specs.Ring.{Kept}
 use Rattle.ob_ring.specs.Sound.{hole_of}
 use Rattle.ob_schedule.specs.Schedule.{Fills, Public, public_formatted}
 use Rattle.ob_stand.specs.Fresh.{Ranks, fresh_content}
+use Rattle.ob_stand.specs.Stands.{AreKnown}
+use Rattle.ob_twin.specs.Opening.{HasOpen}
 use Rattle.ob_twin.specs.Register.{gate_at}
 use Rattle.ob_twin.specs.declared.gates.Gates.{Gates}
 use Rattle.ob_twin.specs.declared.gates.Open.{Open}
@@ -71,6 +74,17 @@ fills_with_lifts p c rs = record {
   label = label_among (leaves_of_records p (flat_of p c) rs);
   slot = slot_read_off (slot_kept c) (picks_of_records p (flat_of p c) rs ++ picks p (table_after_records p (flat_of p c) rs) FinalLifts);
 }
+
+-- ---- the planner that they are of
+
+-- This planner has shown the batches of these records, from this content on, in this generation, and one gate of the epoch's register is
+-- known to be open: so the public state of the epoch that runs is that of the content and the records.
+pub record PlansFrom (p : Params) (g : ℕ) (gates : Gates) (ring : Kept) (c : Content) (rs : List BatchRecord) : Type 0 where
+  pub obeys : Obeys p c
+  pub fit : RecordsFit p rs
+  pub known : AreKnown rs g
+  pub planner : IsPlannerOf p c rs (record ring { metas = record ring.metas { order = [] } })
+  pub gate : HasOpen gates.epoch
 
 -- ---- other fills of the same holes
 

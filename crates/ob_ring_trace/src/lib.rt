@@ -11,9 +11,6 @@ ghost use Rattle.ob_ring_trace.specs.Openings.{OpeningsAreCut, OpeningsAreSchedu
 ghost use Rattle.ob_ring_trace.specs.Samples.{Sampled};
 ghost use Rattle.ob_ring_trace.specs.Telling.{OneLaneInOrder};
 
-#[cfg(test)]
-mod tests;
-
 /// What the store knows of a new store is the schedule's public state of one.
 pub fn format_is_public()
     ensures { FormatIsPublic }

@@ -17,9 +17,6 @@ ghost use Rattle.ob_stand.specs.Vaults.{RingStands, WritesAgree};
 
 use ob_store::Store;
 
-#[cfg(test)]
-mod tests;
-
 /// No spare cell is read of an image that stands for an epoch.
 pub fn agree_off_spare()
     ensures { AgreeOffSpare }

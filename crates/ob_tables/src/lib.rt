@@ -13,6 +13,3 @@ pub use entry::Entry;
 pub use laws::books_are_maps;
 pub use stash::Stash;
 pub use tables::Tables;
-
-#[cfg(test)]
-mod tests;

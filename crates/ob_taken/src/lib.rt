@@ -5,9 +5,6 @@
 ghost use Rattle.ob_taken.specs.Goes.{GoesFurther, RefillsMove, StepsOnlyTake, VersionsGo};
 ghost use Rattle.ob_taken.specs.Takes.{PickedAreTaken};
 
-#[cfg(test)]
-mod tests;
-
 /// Of a batch and of the final lifts: a key leaves its bucket for the stash just where an index is
 /// picked with it, and that index is its own. No key comes or goes.
 pub fn picked_are_taken()

@@ -8,9 +8,6 @@ ghost use Rattle.ob_values.specs.Refilled.{PlainIsSpelled, RefillCarries, Refill
 ghost use Rattle.ob_values.specs.Runs.{JobsAreRead};
 ghost use Rattle.ob_values.specs.Samples.{Sampled};
 
-#[cfg(test)]
-mod tests;
-
 /// Where each job of a batch was read, none breaks a rule, and the stash and the buckets have the
 /// map's values as before.
 pub fn batch_carries()

@@ -20,6 +20,7 @@ use Rattle.ob_stand.specs.Reads.{slots_in}
 use Rattle.ob_stand.specs.Stands.{RingStanding, Stands, with_generation}
 use Rattle.ob_recover.specs.declared.found.Found.{Found}
 use Rattle.ob_recover.specs.Finds.{IsFindDamage, IsFoundInRing, ObeysFound}
+use Rattle.ob_recover.specs.Fits.{IsPlannerFit}
 use Rattle.ob_recover.specs.Repeats.{AllRowsJoin, AreRepeated, IsPlannerOf, IsRepeatDamage, table_after_records}
 use Rattle.ob_vault.specs.declared.opening.Opening.{Opening}
 
@@ -36,7 +37,8 @@ abbrev pub fresh_sealer : Keys → ℕ → Sealing
 fresh_sealer keys generation = record { keys = keys; generation = generation; next = 0 }
 
 -- Of what was found: its parameters and epoch, the next generation's sealer and gate, the planner behind the records' batches with the
--- rows that they read, and so many batches fewer. What was found obeys the rules.
+-- rows that they read, and so many batches fewer. What was found obeys the rules, and the planner's numbers are in range, whatever the
+-- store tells.
 pub record IsOpeningOf {L : Type 0} (keys : Keys) (p : Params) (found : Found) (o : Opening L) : Type 0 where
   pub obeys : ObeysFound p found
   pub params : o.params ≡ p
@@ -46,6 +48,7 @@ pub record IsOpeningOf {L : Type 0} (keys : Keys) (p : Params) (found : Found) (
   pub left : o.left + length found.records ≡ p.batches
   pub planner : IsPlannerOf p (content_of found.tables) found.records o.ring
   pub joins : AllRowsJoin p (flat_of p (content_of found.tables)) found.records (content_of found.tables).rows ((o.ring).stash).rows
+  pub fit : IsPlannerFit o.ring
 
 -- The store told it so: it was found in the cells, the records' batches were read there, no cell differs but those of the generation's
 -- register, no write waits for a sync, and the gates are told as they are.

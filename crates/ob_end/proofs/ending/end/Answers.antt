@@ -1,19 +1,25 @@
 use Rattle.std.proofs.Common.{◌≡◌, ◌+◌, ◌∙◌, suc, true, Ok, Err, ap, arith, refl, subst, sym}
-use Rattle.ob_ending.specs.Lifts.{lift_cells, lift_notes}
+use Rattle.ob_ending.specs.Lifts.{lift_cells, lift_jobs, lift_notes}
+use Rattle.ob_ring.proofs.PlanLaws.{seals_none}
+use Rattle.ob_ring_trace.specs.Known.{fills_with_lifts, public_of_kept}
+use Rattle.ob_schedule.specs.Schedule.{end_notes}
 use Rattle.ob_end_writes.specs.EndWrites.{all_seals, end_write_notes, rows_left}
 use Rattle.ob_fetch.specs.declared.run.Run.{Run}
 use Rattle.ob_fetch.specs.Fetches.{words_since}
 use Rattle.ob_serial.specs.declared.vault.EndErr.{EndErr}
+use Rattle.ob_serial.specs.declared.vault.EndErr.TheVariants as end
 use Rattle.ob_serial.specs.VaultViews.{IsStoreEnd}
 use Rattle.ob_store.specs.Calls.{Serves}
 use Rattle.ob_store.specs.Images.{LeavesOnly}
 use Rattle.ob_twin.specs.Opening.{GatesAre, is_closed_first}
 use Rattle.ob_twin.specs.Register.{place_of}
 use Rattle.ob_twin.specs.declared.gates.Gates.{Gates}
-use Rattle.ob_end.specs.EndRuns.{EndAnswers, EndDoes, EndImages, end_writes, seals_for_end, EndDraws}
+use Rattle.ob_end.specs.EndRuns.{EndAnswers, EndDoes, EndImages, LeadsOn, end_writes, seals_for_end, EndDraws}
 use Rattle.ob_end.proofs.CloseLaws.{gates_kept}
-use Rattle.ob_end.proofs.EndCases.{answers_closed, at_spent, one_more, read_leaves, does_as, does_closed, does_made, images_closed, images_ended, images_refused, ready_spent, seals_closed, seals_ended, serves_closed, serves_ended, draws_closed, draws_made}
+use Rattle.ob_end.proofs.EndCases.{answers_closed, at_spent, gates_at, one_more, read_leaves, does_as, does_closed, does_made, images_closed, images_ended, images_refused, ready_spent, seals_closed, seals_ended, serves_closed, serves_ended, draws_closed, draws_made}
 use Rattle.ob_end.proofs.EndStage as stage
+use Rattle.ob_end.proofs.ScheduledEnds.{front_at}
+use Rattle.ob_end.proofs.ToldEnds.{closed_told, cut_short, made_told, reads_are}
 use Rattle.ob_end.proofs.ending.end.Goals as goal
 
 pub close_epoch-requires-clause-epoch : goal.close_epoch-requires-clause-epoch
@@ -405,3 +411,100 @@ returns-in-Err-close_epoch-clause-draws g c = λ t stands.
 
 pub returns-clause-draws : goal.returns-clause-draws
 returns-clause-draws g c = λ t stands. c.in-Ok.ensures.draws t stands
+
+pub returns-in-Err-clause-scheduled : goal.returns-in-Err-clause-scheduled
+returns-in-Err-clause-scheduled g c =
+    let run = c.args.run.now in
+    let run1 : Run = record run { spent = true } in
+    let mid = c.make_end.new.run in
+    let old = g.S.Store.disk c.args.store.now in
+    let mids = g.S.Store.disk c.make_end.new.store in
+    let words = words_since (g.T.Tape.drawn c.args.tape.now) (g.T.Tape.drawn c.make_end.new.tape) in
+    let kept = c.make_end.ensures.kept in
+    let fit = c.requires.ready.planner in
+    let jobs = lift_jobs run.params run.ring.metas.versions fit.table in
+    let cells = lift_cells run.params run.ring.metas.versions fit.table in
+    let notes = lift_notes run.params run.ring.metas.versions fit.table in
+    let told = made_told c.args.crew.now.lanes cells notes (reads_are jobs) old.seen mids.seen (g.W.Watch.trace c.args.watch.now) (g.W.Watch.trace c.make_end.new.watch) (end.Before c.in-Err.fault) c.in-Err.fault
+    (c.in-Err.ensures.told run.ring.metas fit.table (seals_none run.ring.metas) fit.stands) in
+    (told.0, told.1, λ content rs from. told.2 (end_notes run.params (public_of_kept run.params content rs run.epoch run.gates) (fills_with_lifts run.params content rs)) (front_at run.params run.sealer.generation run.ring fit.table content rs run.epoch run.gates fit.stands from))
+
+pub returns-in-Err-close_epoch-clause-scheduled : goal.returns-in-Err-close_epoch-clause-scheduled
+returns-in-Err-close_epoch-clause-scheduled g c =
+    let run = c.args.run.now in
+    let run1 : Run = record run { spent = true } in
+    let mid = c.make_end.new.run in
+    let old = g.S.Store.disk c.args.store.now in
+    let mids = g.S.Store.disk c.make_end.new.store in
+    let words = words_since (g.T.Tape.drawn c.args.tape.now) (g.T.Tape.drawn c.make_end.new.tape) in
+    let kept = c.make_end.ensures.kept in
+    let writes = c.args.writes.now in
+    let ready = ready_spent run c.requires.ready in
+    let made = c.in-Ok.ensures.made in
+    let low = c.requires.keys in
+    let short = c.requires.short in
+    let may = c.in-Ok.ensures.answers in
+    let fit = ready.planner in
+    let jobs = lift_jobs run.params run.ring.metas.versions fit.table in
+    let cells = lift_cells run.params run.ring.metas.versions fit.table in
+    let notes = lift_notes run.params run.ring.metas.versions fit.table in
+    let new = g.S.Store.disk c.close_epoch.new.store in
+    let closes = is_closed_first run.gates.epoch (place_of (suc run.epoch)) in
+    let one : mid.epoch + 1 ≡ suc run.epoch = (let same : mid.epoch ≡ run.epoch = ap (λ (m : Run). m.epoch) kept in omega (arith, same)) in
+    let same_closes : is_closed_first mid.gates.epoch (place_of (mid.epoch + 1)) ≡ closes = ap (λ (m : Run). is_closed_first m.gates.epoch (place_of (m.epoch + 1))) kept ∙ ap (λ n. is_closed_first run.gates.epoch (place_of n)) (one_more run.epoch) in
+    let told = cut_short c.args.crew.now.lanes cells notes (reads_are jobs) (end_write_notes mid.ring (suc run.epoch)) closes (suc run.epoch) old.seen mids.seen new.seen
+    (g.W.Watch.trace c.args.watch.now) (g.W.Watch.trace c.make_end.new.watch) (g.W.Watch.trace c.close_epoch.new.watch) (c.in-Ok.ensures.told run.ring.metas fit.table (seals_none run.ring.metas) fit.stands) c.end_err.result c.in-Err-close_epoch.refused
+    (does_as mid.ring mid.ring (mid.epoch + 1) (suc run.epoch) _ closes _ _ _ _ (Err c.in-Err-close_epoch.refused) refl one same_closes c.in-Err-close_epoch.ensures.does) in
+    (told.0, told.1, λ content rs from. told.2 (end_notes run.params (public_of_kept run.params content rs run.epoch run.gates) (fills_with_lifts run.params content rs)) (stage.whole_notes run1 mid old writes words kept ready made low short may content rs from))
+
+pub returns-clause-scheduled : goal.returns-clause-scheduled
+returns-clause-scheduled g c =
+    let run = c.args.run.now in
+    let run1 : Run = record run { spent = true } in
+    let mid = c.make_end.new.run in
+    let old = g.S.Store.disk c.args.store.now in
+    let mids = g.S.Store.disk c.make_end.new.store in
+    let words = words_since (g.T.Tape.drawn c.args.tape.now) (g.T.Tape.drawn c.make_end.new.tape) in
+    let kept = c.make_end.ensures.kept in
+    let writes = c.args.writes.now in
+    let ready = ready_spent run c.requires.ready in
+    let made = c.in-Ok.ensures.made in
+    let low = c.requires.keys in
+    let short = c.requires.short in
+    let may = c.in-Ok.ensures.answers in
+    let fit = ready.planner in
+    let jobs = lift_jobs run.params run.ring.metas.versions fit.table in
+    let cells = lift_cells run.params run.ring.metas.versions fit.table in
+    let notes = lift_notes run.params run.ring.metas.versions fit.table in
+    let new = g.S.Store.disk c.close_epoch.new.store in
+    let closes = is_closed_first run.gates.epoch (place_of (suc run.epoch)) in
+    let one : mid.epoch + 1 ≡ suc run.epoch = (let same : mid.epoch ≡ run.epoch = ap (λ (m : Run). m.epoch) kept in omega (arith, same)) in
+    let same_closes : is_closed_first mid.gates.epoch (place_of (mid.epoch + 1)) ≡ closes = ap (λ (m : Run). is_closed_first m.gates.epoch (place_of (m.epoch + 1))) kept ∙ ap (λ n. is_closed_first run.gates.epoch (place_of n)) (one_more run.epoch) in
+    let told = closed_told c.args.crew.now.lanes cells notes (reads_are jobs) (end_write_notes mid.ring (suc run.epoch)) closes (suc run.epoch) old.seen mids.seen new.seen
+    (g.W.Watch.trace c.args.watch.now) (g.W.Watch.trace c.make_end.new.watch) (g.W.Watch.trace c.close_epoch.new.watch) (c.in-Ok.ensures.told run.ring.metas fit.table (seals_none run.ring.metas) fit.stands)
+    (does_as mid.ring mid.ring (mid.epoch + 1) (suc run.epoch) _ closes _ _ _ _ (Ok tt) refl one same_closes c.in-Ok-close_epoch.ensures.does) in
+    (told.0, told.1, λ content rs from. told.2 (end_notes run.params (public_of_kept run.params content rs run.epoch run.gates) (fills_with_lifts run.params content rs)) (stage.whole_notes run1 mid old writes words kept ready made low short may content rs from))
+
+pub returns-clause-gates : goal.returns-clause-gates
+returns-clause-gates g c =
+    let run = c.args.run.now in
+    c.in-Ok-close_epoch.ensures.gates ∙ gates_at (record run { spent = true }) c.make_end.new.run c.make_end.ensures.kept
+
+pub returns-clause-onward : goal.returns-clause-onward
+returns-clause-onward g c = λ kept_content rs from.
+    let run = c.args.run.now in
+    let run1 : Run = record run { spent = true } in
+    let mid = c.make_end.new.run in
+    let old = g.S.Store.disk c.args.store.now in
+    let mids = g.S.Store.disk c.make_end.new.store in
+    let words = words_since (g.T.Tape.drawn c.args.tape.now) (g.T.Tape.drawn c.make_end.new.tape) in
+    let kept = c.make_end.ensures.kept in
+    let writes = c.args.writes.now in
+    let ready = ready_spent run c.requires.ready in
+    let made = c.in-Ok.ensures.made in
+    let low = c.requires.keys in
+    let short = c.requires.short in
+    let may = c.in-Ok.ensures.answers in
+    let last = c.close_epoch.new.ring in
+    subst (λ (gates : Gates). LeadsOn run.params run.sealer.generation kept_content rs run.epoch run.gates last gates) (sym (c.in-Ok-close_epoch.ensures.gates ∙ gates_at run1 mid kept))
+    (stage.leads_then run1 mid old writes words kept ready made low short may kept_content rs from last c.close_epoch.ensures.kept c.in-Ok-close_epoch.ensures.rows c.close_epoch.ensures.room)

@@ -9,6 +9,7 @@ use Rattle.ob_ring.specs.FlatTable.{FinalLifts, after}
 use Rattle.ob_ring.specs.Ring.{Kept}
 use Rattle.ob_end.specs.EndRuns.{HasWords, MakeAnswers, MakeDraws, end_writes, rows_ended}
 use Rattle.ob_end.proofs.MakeLaws.{is_renewed, lifts_damage, lifts_draw, lifts_told, made_kept, refill_room, renew_answers, renew_draws, renewal, rows_are, seals_are, served_then, when_renewed, words_are, writes_are}
+use Rattle.ob_end.proofs.StashLaws.{has_its_rows}
 use Rattle.ob_end.proofs.making.make_end.Goals as goal
 
 pub returns-in-Err-clause-damage : goal.returns-in-Err-clause-damage
@@ -23,6 +24,11 @@ returns-in-Err-clause-told g c = λ start t seals stands.
     lifts_told c.args.crew.now.lanes (lift_cells c.args.run.now.params start.versions t) (lift_notes c.args.run.now.params start.versions t) _ _ _ _ c.in-Err.fault c.in-Err.ensures.faults
     (subst (λ (q : Params). BatchTells c.args.crew.now.lanes (lift_cells q start.versions t) (lift_notes q start.versions t) (g.S.Store.disk c.args.store.now).seen (g.S.Store.disk c.read_lifts.new.store).seen
     (g.W.Watch.trace c.args.watch.now) (g.W.Watch.trace c.read_lifts.new.watch) (Err c.in-Err.fault)) c.requires.ready.ready.params (c.in-Err.ensures.told start t seals stands))
+
+pub renew-requires-clause-stash : goal.renew-requires-clause-stash
+renew-requires-clause-stash g c =
+    let fit = c.requires.ready.planner in
+    has_its_rows c.args.run.now.ring c.read_lifts.new.ring fit (c.in-Ok.ensures.table fit.table fit.stands) (c.in-Ok.ensures.joins fit.table fit.stands)
 
 pub renew-requires-clause-room : goal.renew-requires-clause-room
 renew-requires-clause-room g c =

@@ -4,10 +4,16 @@ use Rattle.ob_base.specs.Tree.{width}
 use Rattle.ob_bucket.specs.Buckets.{version_at}
 use Rattle.ob_ring_trace.specs.Ends.{refill_notes}
 use Rattle.ob_store.specs.Runs.{write_notes}
-use Rattle.ob_store.proofs.Doing.{does_refused}
-use Rattle.ob_end_writes.proofs.FillsAll.{fill_all, fill_one, fill_refused, first_more}
+use Rattle.ob_store.proofs.Doing.{does_refused, tells_none}
+use Rattle.ob_end_writes.proofs.FillsAll.{fill_all, fill_one, fill_refused, filling_none, first_more, moments_more}
 use Rattle.ob_end_writes.proofs.Parts.{told_cut, told_next}
 use Rattle.ob_end_writes.proofs.filling.write_buckets.Goals as goal
+
+pub loop-i-init : goal.loop-i-init
+loop-i-init g c = record {
+  filling = filling_none c.args.ring.now c.args.sealer.now (g.S.Store.disk c.args.store.now) c.requires.none_out;
+  told = tells_none (g.S.Store.disk c.args.store.now).seen (g.W.Watch.trace c.args.watch.now);
+}
 
 pub returns-in_err-write_bucket-clause-fills : goal.returns-in_err-write_bucket-clause-fills
 returns-in_err-write_bucket-clause-fills g c =
@@ -33,6 +39,15 @@ returns-in_err-write_bucket-clause-first g c =
     let low : c.loop-i.i < length r.metas.order = subst (λ (us : List ℕ). c.loop-i.i < length us) c.to_refill-i-end.ensures c.loop-i-test.true in
     let at = ap (λ (us : List ℕ). slice_index us c.loop-i.i) c.to_refill.ensures in
     first_more r c.loop-i.i (slice_index c.to_refill.result.now c.loop-i.i) c.args.sealer.now c.loop-i.sealer c.write_bucket.new.sealer
+    (g.S.Store.disk c.args.store.now) (g.S.Store.disk c.loop-i.store) (g.S.Store.disk c.write_bucket.new.store) low at c.loop-i.invariant.filling
+    c.write_bucket.result c.write_bucket.ensures.run
+
+pub returns-in_err-write_bucket-clause-moments : goal.returns-in_err-write_bucket-clause-moments
+returns-in_err-write_bucket-clause-moments g c =
+    let r = c.args.ring.now in
+    let low : c.loop-i.i < length r.metas.order = subst (λ (us : List ℕ). c.loop-i.i < length us) c.to_refill-i-end.ensures c.loop-i-test.true in
+    let at = ap (λ (us : List ℕ). slice_index us c.loop-i.i) c.to_refill.ensures in
+    moments_more r c.loop-i.i (slice_index c.to_refill.result.now c.loop-i.i) c.args.sealer.now c.loop-i.sealer c.write_bucket.new.sealer
     (g.S.Store.disk c.args.store.now) (g.S.Store.disk c.loop-i.store) (g.S.Store.disk c.write_bucket.new.store) low at c.loop-i.invariant.filling
     c.write_bucket.result c.write_bucket.ensures.run
 

@@ -5,7 +5,7 @@ use Rattle.ob_start.specs.Orders.{writes_of}
 use Rattle.ob_start.proofs.Shutting.{told_one, told_first}
 use Rattle.ob_store.specs.Told.{Tells}
 use Rattle.ob_store.proofs.Doing.{tells_none, does_all, does_refused}
-use Rattle.ob_end_writes.proofs.Shuts.{first_one, gate_at, gates_many, shut_all, shut_one, shut_refused, shutting_none}
+use Rattle.ob_end_writes.proofs.Shuts.{first_one, gate_at, gates_many, moments_one, shut_all, shut_one, shut_refused, shutting_none}
 use Rattle.ob_end_writes.proofs.shutting.shut_gates.Goals as goal
 
 pub loop-batch-init : goal.loop-batch-init
@@ -36,6 +36,12 @@ pub returns-in_err-write_noted-clause-first : goal.returns-in_err-write_noted-cl
 returns-in_err-write_noted-clause-first g c =
     let e = c.write_noted.ensures in
     first_one c.args.p.now c.args.area c.loop-batch.batch c.log_gate.result (g.S.Store.disk c.args.store.now) (g.S.Store.disk c.loop-batch.store) (g.S.Store.disk c.write_noted.new.store) c.loop-batch-test.true c.log_gate.ensures.cell
+    c.loop-batch.invariant.shutting e.serves.goes e.rest e.crash e.time
+
+pub returns-in_err-write_noted-clause-moments : goal.returns-in_err-write_noted-clause-moments
+returns-in_err-write_noted-clause-moments g c =
+    let e = c.write_noted.ensures in
+    moments_one c.args.p.now c.args.area c.loop-batch.batch c.log_gate.result (g.S.Store.disk c.args.store.now) (g.S.Store.disk c.loop-batch.store) (g.S.Store.disk c.write_noted.new.store) c.loop-batch-test.true c.log_gate.ensures.cell
     c.loop-batch.invariant.shutting e.serves.goes e.rest e.crash e.time
 
 pub returns-in_err-write_noted-clause-does : goal.returns-in_err-write_noted-clause-does

@@ -13,8 +13,9 @@ use Rattle.ob_store.specs.Runs.{write_notes}
 use Rattle.ob_store.specs.Told.{Tells, TellsFirst}
 use Rattle.ob_store.specs.declared.watch.Note.TheVariants as note
 use Rattle.ob_store.proofs.Doing.{does_err, does_refused, does_sync, does_then, first_behind, first_more}
-use Rattle.ob_end_writes.specs.EndWrites.{ShutsGates, bucket_seals, end_write_notes}
-use Rattle.ob_end_writes.proofs.Whole.{as_written, check_refused, content_is, end_written, first_checked, first_then, gates_refused, sync_refused}
+use Rattle.ob_store.proofs.Moments.{passed_still}
+use Rattle.ob_end_writes.specs.EndWrites.{SameFirst, ShutsGates, bucket_seals, end_write_notes}
+use Rattle.ob_end_writes.proofs.Whole.{as_written, check_refused, content_is, end_sealed, end_written, first_checked, first_then, gates_refused, moments_checked, moments_then, sync_refused}
 use Rattle.ob_end_writes.proofs.writing.write_end.Goals as goal
 
 pub returns-in_err-write-clause-writes : goal.returns-in_err-write-clause-writes
@@ -161,3 +162,35 @@ returns-in-Ok-sync_noted-clause-first g c = λ t.
     let gates = c.in_ok-write.ensures.serves.tells checked in
     first_then _ _ _ (first_then _ _ _ (first_then _ _ _ (c.in-Ok.ensures.first t) (first_checked c.args.p.now c.args.epoch (g.S.Store.disk c.write_buckets.new.store) (g.S.Store.disk c.write.new.store) c.write.ensures.rest checked))
     (c.shut_gates.ensures.first gates)) (λ k lt. c.sync_noted.ensures.keeps.cells (c.in-Ok-shut_gates.ensures.serves.tells gates) k)
+
+pub returns-in_err-write-clause-moments : goal.returns-in_err-write-clause-moments
+returns-in_err-write-clause-moments g c =
+    moments_checked c.args.p.now c.args.epoch (g.S.Store.disk c.args.store.now) (g.S.Store.disk c.write_buckets.new.store) (g.S.Store.disk c.write.new.store) c.in-Ok.ensures.moments c.write.ensures.passes
+
+pub returns-in-Err-shut_gates-clause-moments : goal.returns-in-Err-shut_gates-clause-moments
+returns-in-Err-shut_gates-clause-moments g c =
+    moments_then (g.S.Store.disk c.args.store.now) (g.S.Store.disk c.write.new.store) (g.S.Store.disk c.shut_gates.new.store)
+    (moments_checked c.args.p.now c.args.epoch (g.S.Store.disk c.args.store.now) (g.S.Store.disk c.write_buckets.new.store) (g.S.Store.disk c.write.new.store) c.in-Ok.ensures.moments c.write.ensures.passes) c.shut_gates.ensures.moments
+
+pub returns-in-Err-sync_noted-clause-moments : goal.returns-in-Err-sync_noted-clause-moments
+returns-in-Err-sync_noted-clause-moments g c =
+    passed_still SameFirst (g.S.Store.disk c.args.store.now) (g.S.Store.disk c.shut_gates.new.store) (g.S.Store.disk c.sync_noted.new.store)
+    (moments_then (g.S.Store.disk c.args.store.now) (g.S.Store.disk c.write.new.store) (g.S.Store.disk c.shut_gates.new.store)
+    (moments_checked c.args.p.now c.args.epoch (g.S.Store.disk c.args.store.now) (g.S.Store.disk c.write_buckets.new.store) (g.S.Store.disk c.write.new.store) c.in-Ok.ensures.moments c.write.ensures.passes) c.shut_gates.ensures.moments)
+    c.sync_noted.ensures.serves.goes.later c.sync_noted.ensures.time c.sync_noted.ensures.crash
+
+pub returns-in-Ok-sync_noted-clause-moments : goal.returns-in-Ok-sync_noted-clause-moments
+returns-in-Ok-sync_noted-clause-moments g c =
+    passed_still SameFirst (g.S.Store.disk c.args.store.now) (g.S.Store.disk c.shut_gates.new.store) (g.S.Store.disk c.sync_noted.new.store)
+    (moments_then (g.S.Store.disk c.args.store.now) (g.S.Store.disk c.write.new.store) (g.S.Store.disk c.shut_gates.new.store)
+    (moments_checked c.args.p.now c.args.epoch (g.S.Store.disk c.args.store.now) (g.S.Store.disk c.write_buckets.new.store) (g.S.Store.disk c.write.new.store) c.in-Ok.ensures.moments c.write.ensures.passes) c.shut_gates.ensures.moments)
+    c.sync_noted.ensures.serves.goes.later c.sync_noted.ensures.time c.sync_noted.ensures.crash
+
+pub returns-in-Ok-sync_noted-clause-sealed : goal.returns-in-Ok-sync_noted-clause-sealed
+returns-in-Ok-sync_noted-clause-sealed g c = λ t.
+    let checked = c.in-Ok.ensures.serves.tells t in
+    let gates = c.in_ok-write.ensures.serves.tells checked in
+    end_sealed c.args.ring.now c.args.p.now c.args.epoch c.args.sealer.now c.write_buckets.new.sealer c.write.new.sealer
+    (g.S.Store.disk c.args.store.now).cells (g.S.Store.disk c.write_buckets.new.store).cells (g.S.Store.disk c.write.new.store).cells (g.S.Store.disk c.shut_gates.new.store).cells (g.S.Store.disk c.sync_noted.new.store).cells
+    c.in-Ok.ensures.seals.some c.in-Ok.ensures.seals.all c.requires.room c.requires.params c.in_ok-write.ensures.sealed c.write.ensures.some_sealed (content_of c.tables.result.now) (c.in_ok-write.ensures.written checked)
+    (c.write.ensures.rest checked) (c.in-Ok.ensures.sealed t) (c.in-Ok-shut_gates.ensures.unsealed gates) (c.sync_noted.ensures.keeps.cells (c.in-Ok-shut_gates.ensures.serves.tells gates))

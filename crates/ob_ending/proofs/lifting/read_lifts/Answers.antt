@@ -7,6 +7,7 @@ use Rattle.ob_ring.specs.Settling.{rows_after}
 use Rattle.ob_recover.proofs.BatchLaws.{keys_low}
 use Rattle.ob_recover.specs.Repeats.{BatchTells}
 use Rattle.ob_ending.proofs.LiftReads.{lifted_badly, lifted_well, lifts_tell, not_lifted, planned_few, rows_join}
+use Rattle.ob_ending.proofs.LiftsStand.{undamaged}
 use Rattle.ob_ending.specs.Lifts.{LiftsAnswer, lift_cells, lift_notes}
 use Rattle.ob_ending.proofs.lifting.read_lifts.Goals as goal
 
@@ -26,6 +27,11 @@ returns-in-Err-clause-value g c = λ start t seals stands tells.
 pub returns-in-Err-clause-told : goal.returns-in-Err-clause-told
 returns-in-Err-clause-told g c = λ start t seals stands.
     lifts_tell c.args.crew.now.lanes c.args.ring.now c.plan_lifts.new.self c.plan_lifts.new.jobs start t seals (c.plan_lifts.ensures.planned t stands) _ _ _ _ (Err c.in-Err.fault) c.in-Err.ensures.told
+
+pub returns-in-Err-clause-sound : goal.returns-in-Err-clause-sound
+returns-in-Err-clause-sound g c = λ s epoch generation left tells stands runs.
+    undamaged c.args.sealer.now.keys c.args.ring.now.p c.args.ring.now s epoch generation left (g.S.Store.disk c.args.store.now).cells stands runs c.plan_lifts.new.self.stash.rows c.in-Err.fault
+    (λ start t seals stood. returns-in-Err-clause-value g c start t seals stood tells)
 
 pub settle-requires : goal.settle-requires
 settle-requires g c = record {
@@ -62,6 +68,11 @@ returns-in-Err-settle-clause-value g c = λ start t seals stands tells.
     subst (λ (f : Fault). LiftsAnswer keys c.args.ring.now.p start.versions image t c.args.ring.now.stash.rows c.settle.new.self.stash.rows (Err f)) (sym c.from.ensures)
     (lifted_badly keys image c.args.ring.now c.plan_lifts.new.self c.plan_lifts.new.jobs c.read_jobs.new.jobs.jobs start t seals
     (c.plan_lifts.ensures.planned t stands) c.args.ring.now.stash.rows c.settle.new.self.stash.rows c.in-Err-settle.damaged (c.in-Ok.ensures.value tells) c.in-Err-settle.ensures.settled)
+
+pub returns-in-Err-settle-clause-sound : goal.returns-in-Err-settle-clause-sound
+returns-in-Err-settle-clause-sound g c = λ s epoch generation left tells stands runs.
+    undamaged c.args.sealer.now.keys c.args.ring.now.p c.args.ring.now s epoch generation left (g.S.Store.disk c.args.store.now).cells stands runs c.settle.new.self.stash.rows c.from.result
+    (λ start t seals stood. returns-in-Err-settle-clause-value g c start t seals stood tells)
 
 pub returns-in-Err-settle-clause-told : goal.returns-in-Err-settle-clause-told
 returns-in-Err-settle-clause-told g c = λ start t seals stands.

@@ -4,14 +4,19 @@ use Rattle.ob_epoch.specs.Table.{buckets_of, flat_of}
 use Rattle.ob_log.specs.Appends.{HoldsRecord, append_notes}
 use Rattle.ob_log.specs.Logs.{OpenRecords}
 use Rattle.ob_recover.specs.Repeats.{asked_of_record, batch_cells, repeated_notes, table_after_records}
+use Rattle.ob_pads.specs.Seals.{CellsAreSealed}
 use Rattle.ob_ring.specs.Ring.{Kept}
 use Rattle.ob_seal.specs.Sealing.{Sealing}
 use Rattle.ob_stand.specs.Stands.{OneOf, with_record}
 use Rattle.ob_store.specs.Disk.{Image}
-use Rattle.ob_store.specs.Told.{Tells}
+use Rattle.ob_ring_trace.proofs.Telling.{front_none}
+use Rattle.ob_store.proofs.Events.{none_noted}
+use Rattle.ob_store.proofs.Showing.{shows_none}
+use Rattle.ob_store.specs.Told.{Tells, TellsFirst}
 use Rattle.ob_tables.specs.Kept.{Held}
 use Rattle.ob_fetch.proofs.AnswerLaws.{item_got}
 use Rattle.ob_fetch.proofs.FetchLaws.{answers_as, answers_refused, begun_leaves, cells_same, does_refused, leaves_none, leaves_read, moves_as, next_is, settled_then, tells_as, within_next, within_then}
+use Rattle.ob_fetch.proofs.ScheduleLaws.{batch_room, plans_as, plans_more, shown_begun, shown_cut, shown_err, shown_well}
 use Rattle.ob_fetch.proofs.NextLaws.{Begun, answers_then, refused_then, runs_as, runs_next, seals_listed, stands_as, stands_listed, stands_then}
 use Rattle.ob_fetch.specs.Fetches.{AreMapValues, FetchAnswers, values_asked, next_batch, record_next, words_since}
 use Rattle.ob_fetch.specs.declared.run.Run.{Run}
@@ -20,6 +25,10 @@ use Rattle.ob_fetch.proofs.fetching.fetch.Goals as goal
 pub returns-then-is_worn-clause-images : goal.returns-then-is_worn-clause-images
 returns-then-is_worn-clause-images g c =
     λ s was. leaves_none c.args.run.now s _ (g.S.Store.disk c.args.store.now) (g.met.S.Store.only_now c.args.store.now) was
+
+pub returns-then-is_worn-clause-scheduled : goal.returns-then-is_worn-clause-scheduled
+returns-then-is_worn-clause-scheduled g c =
+    ([], shows_none (g.W.Watch.trace c.args.watch.now), λ content rs was many. front_none c.args.crew.now.lanes _ (g.S.Store.disk c.args.store.now).seen (g.S.Store.disk c.args.store.now).seen (none_noted (g.S.Store.disk c.args.store.now).seen))
 
 pub begin_batch-requires-clause-keys_low : goal.begin_batch-requires-clause-keys_low
 begin_batch-requires-clause-keys_low g c =
@@ -42,6 +51,18 @@ returns-in_err-begin_batch-clause-images g c =
     λ s was.
     begun_leaves run s r old mid was (record { some = c.requires.some_left; few = c.requires.ready.few; is = refl; obeys = c.begin_batch.ensures.obeys; within = (within_next run old mid c.begin_batch.ensures.within).rest was.tells })
     (g.met.S.Store.only_now c.args.store.now) c.begin_batch.ensures.within c.begin_batch.ensures.images
+
+pub returns-in_err-begin_batch-clause-scheduled : goal.returns-in_err-begin_batch-clause-scheduled
+returns-in_err-begin_batch-clause-scheduled g c =
+    let run = c.args.run.now in
+    let p = c.args.run.now.params in
+    let old = g.S.Store.disk c.args.store.now in
+    let mid = g.S.Store.disk c.begin_batch.new.store in
+    let r = record_next c.args.run.now c.args.asks.now (words_since (g.T.Tape.drawn c.args.tape.now) (g.T.Tape.drawn c.begin_batch.new.tape)) in
+    let shown = shown_begun c.args.crew.now.lanes p run.sealer.generation run.gates run.ring (next_batch run) run.epoch r c.requires.ready.table.0 c.requires.ready.table.1 (batch_room run c.requires.some_left c.requires.ready.few) c.begin_batch.ensures.obeys
+    old.seen mid.seen (g.W.Watch.trace c.args.watch.now) (g.W.Watch.trace c.begin_batch.new.watch)
+    (subst (λ (e : ℕ). TellsFirst (append_notes p e (next_batch run)) old.seen mid.seen (g.W.Watch.trace c.args.watch.now) (g.W.Watch.trace c.begin_batch.new.watch)) (next_is run.epoch) c.in_err-begin_batch.ensures.does.first) in
+    (shown.notes, shown.shows, λ content rs was many. shown_err c.from_residual.result c.from_residual.ensures.0 c.args.crew.now.lanes _ shown.notes old.seen mid.seen (shown.reads_as content rs was many))
 
 pub returns-in-Err-clause-within : goal.returns-in-Err-clause-within
 returns-in-Err-clause-within g c =
@@ -92,6 +113,14 @@ returns-in-Err-clause-does g c =
       read = tells_as ks c.requires.ready.params gs ws (next_batch run) run.sealer.next run.drawn c.args.asks.now c.args.crew.now.lanes start.versions t mid.seen new.seen (g.W.Watch.trace c.begin_batch.new.watch)
           (g.W.Watch.trace c.read_batch.new.watch) (Err c.in-Err.fault) (c.in-Err.ensures.told (next_batch run) run.sealer.next start t seals stands);
     })
+
+pub returns-in-Err-clause-scheduled : goal.returns-in-Err-clause-scheduled
+returns-in-Err-clause-scheduled g c =
+    let run = c.args.run.now in
+    let r = record_next c.args.run.now c.args.asks.now (words_since (g.T.Tape.drawn c.args.tape.now) (g.T.Tape.drawn c.begin_batch.new.tape)) in
+    let shown = shown_cut c.args.crew.now.lanes run.params run.sealer.generation run.gates run.ring (next_batch run) run.epoch r c.requires.ready.table.0 c.requires.ready.table.1 (batch_room run c.requires.some_left c.requires.ready.few) c.begin_batch.ensures.obeys
+    g.S.Store.disk run.sealer.keys c.args.store.now c.read_batch.new.store (g.W.Watch.trace c.args.watch.now) (g.W.Watch.trace c.read_batch.new.watch) c.in-Err.fault (returns-in-Err-clause-does g c) in
+    (shown.notes, shown.shows, shown.reads_as)
 
 pub returns-in-Err-clause-stands : goal.returns-in-Err-clause-stands
 returns-in-Err-clause-stands g c =
@@ -214,6 +243,30 @@ returns-clause-does g c =
       read = tells_as ks c.requires.ready.params gs ws (next_batch run) run.sealer.next run.drawn c.args.asks.now c.args.crew.now.lanes start.versions t mid.seen new.seen (g.W.Watch.trace c.begin_batch.new.watch)
           (g.W.Watch.trace c.read_batch.new.watch) (Ok tt) (c.in-Ok.ensures.told (next_batch run) run.sealer.next start t seals stands);
     }
+
+pub returns-clause-sealed : goal.returns-clause-sealed
+returns-clause-sealed g c = λ tells.
+    let old = g.S.Store.disk c.args.store.now in
+    let mid = g.S.Store.disk c.begin_batch.new.store in
+    let new = g.S.Store.disk c.read_batch.new.store in
+    let told = c.in_ok-begin_batch.ensures.serves.tells tells in
+    subst (λ (image : Image). CellsAreSealed c.args.run.now.sealer c.begin_batch.new.sealer old.cells image) (sym (cells_same mid new told c.read_batch.ensures.keeps)) (c.in_ok-begin_batch.ensures.sealed tells)
+
+pub returns-clause-scheduled : goal.returns-clause-scheduled
+returns-clause-scheduled g c =
+    let run = c.args.run.now in
+    let r = record_next c.args.run.now c.args.asks.now (words_since (g.T.Tape.drawn c.args.tape.now) (g.T.Tape.drawn c.begin_batch.new.tape)) in
+    let shown = shown_well c.args.crew.now.lanes run.params run.sealer.generation run.gates run.ring (next_batch run) run.epoch r c.requires.ready.table.0 c.requires.ready.table.1 (batch_room run c.requires.some_left c.requires.ready.few) c.begin_batch.ensures.obeys
+    g.S.Store.disk run.sealer.keys c.args.store.now c.read_batch.new.store (g.W.Watch.trace c.args.watch.now) (g.W.Watch.trace c.read_batch.new.watch) (returns-clause-does g c) in
+    (shown.notes, shown.shows, shown.reads_as)
+
+pub returns-clause-onward : goal.returns-clause-onward
+returns-clause-onward g c = λ content rs was many.
+    let run = c.args.run.now in
+    let p = c.args.run.now.params in
+    let r = record_next c.args.run.now c.args.asks.now (words_since (g.T.Tape.drawn c.args.tape.now) (g.T.Tape.drawn c.begin_batch.new.tape)) in
+    plans_as (ap (λ (x : Sealing). x.generation) c.in_ok-begin_batch.ensures.seals.all) p run.gates c.read_batch.new.ring content (rs ++ r ∷ [])
+    (plans_more p run.sealer.generation run.gates run.ring content rs r (next_batch run) was many (batch_room run c.requires.some_left c.requires.ready.few) c.begin_batch.ensures.obeys c.read_batch.new.ring (omega arith) (returns-clause-moves g c))
 
 pub returns-clause-stands : goal.returns-clause-stands
 returns-clause-stands g c =

@@ -7,6 +7,7 @@ use Rattle.ob_ring.specs.Ring.{Kept}
 use Rattle.ob_tables.specs.Kept.{entry_at}
 use Rattle.ob_ring.specs.Settling.{rows_after}
 use Rattle.ob_recover.specs.Repeats.{BatchAnswers, BatchTells, asked_of_record, batch_cells, repeated_notes}
+use Rattle.ob_recover.proofs.FitLaws.{fit_settled}
 use Rattle.ob_recover.proofs.ShowLaws.{are_placed}
 use Rattle.ob_recover.proofs.BatchLaws.{batch_few, batch_tells, keys_low, not_settled, rows_join, settled_badly, settled_well, stands_kept}
 use Rattle.ob_recover.specs.Repeats.{record_of}
@@ -65,6 +66,11 @@ returns-in-Ok-settle-clause-joins g c = λ batch number t stands.
     let settled = c.in-Ok-settle.ensures.settled in
     rows_join ring.p ring.metas.versions (batch_picked ring.p t (asked_of_record ring.p r)) c.plan.new.jobs.jobs jobs filled.0 ring.stash.rows c.settle.new.self.stash.rows (c.plan.ensures.planned batch number t stands).jobs filled.1 settled.0
     (settled.1 ∙ ap (λ (r : Kept). rows_after (r.stash).rows jobs) c.plan.ensures.kept)
+
+pub returns-in-Ok-settle-clause-fit : goal.returns-in-Ok-settle-clause-fit
+returns-in-Ok-settle-clause-fit g c = λ fit.
+    fit_settled c.args.ring.now c.plan.new.ring c.settle.new.self fit c.args.generation c.args.first c.args.asks.now c.args.words.now c.ranges.generation.fits c.plan.ensures.kept c.in-Ok-settle.ensures.kept c.tables.ensures.rules
+    (λ k. c.plan.ensures.entries 0 0 k) c.plan.ensures.seals (c.plan.ensures.planned 0 0 fit.table fit.stands).table (returns-in-Ok-settle-clause-joins g c 0 0 fit.table fit.stands)
 
 pub returns-in-Ok-settle-clause-told : goal.returns-in-Ok-settle-clause-told
 returns-in-Ok-settle-clause-told g c = λ batch number start t seals stands.

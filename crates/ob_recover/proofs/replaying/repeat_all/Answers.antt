@@ -1,13 +1,20 @@
-use Rattle.std.proofs.Common.{Ok, Err, ◌∙◌, ap, arith}
+use Rattle.std.proofs.Common.{Ok, Err, ◌∙◌, ap, arith, subst, sym}
+use Rattle.ob_base.specs.declared.params.Params.{Params}
 use Rattle.ob_batch.specs.Jobs.{Manned}
 use Rattle.ob_store.specs.Calls.{IsStoreFault}
 use Rattle.ob_store.proofs.Serving.{goes_then, serves_then}
 use Rattle.ob_ring.specs.Ring.{Kept}
 use Rattle.ob_recover.proofs.FindLaws.{keeps_both, reads_both}
-use Rattle.ob_log.specs.Logs.{nothing}
+use Rattle.ob_log.specs.Logs.{BatchRecord, RecordFits, nothing}
 use Rattle.ob_recover.proofs.ShowLaws.{get_same}
 use Rattle.ob_recover.proofs.ReplayLaws.{OneRepeat, at_record, told_by, refused_does, refused_value, repeated}
 use Rattle.ob_recover.proofs.replaying.repeat_all.Goals as goal
+
+pub repeat_batch-requires-clause-fits : goal.repeat_batch-requires-clause-fits
+repeat_batch-requires-clause-fits g c =
+    let o = c.args.ring.now in
+    let at = c.index-records-i.is ∙ get_same c.args.records.now c.loop-i.i c.index-records-i.result nothing c.loop-i-test.true in
+    (c.loop-i.i, subst (λ (q : Params). RecordFits q c.loop-i.i c.index-records-i.result) (sym c.loop-i.invariant.so_far.params) (subst (λ (r : BatchRecord). RecordFits o.p c.loop-i.i r) (sym at) (c.requires.fits.each c.loop-i.i c.loop-i-test.true)))
 
 pub returns-in-Err-clause-serves : goal.returns-in-Err-clause-serves
 returns-in-Err-clause-serves g c =
@@ -88,6 +95,7 @@ loop-i-preserved g c =
       crew = e.crew ∙ inv.crew;
       room = e.rooms.0 ∙ inv.room;
       place_room = e.rooms.1 ∙ inv.place_room;
+      fit = λ was. e.fit (inv.fit was);
       so_far = repeated c.args.sealer.now.keys o c.args.crew.now.lanes c.args.records.now c.loop-i.i c.loop-i-test.true old mid new
           (g.W.Watch.trace c.args.watch.now) (g.W.Watch.trace c.loop-i.watch) (g.W.Watch.trace c.repeat_batch.new.watch) c.loop-i.ring c.repeat_batch.new.ring inv.so_far (inv.so_far.seals.order ∙ c.requires.unlisted) inv.keeps
           (at_record (c.index-records-i.is ∙ get_same c.args.records.now c.loop-i.i c.index-records-i.result nothing c.loop-i-test.true) one);

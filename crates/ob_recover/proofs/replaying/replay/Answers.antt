@@ -2,7 +2,9 @@ use Rattle.std.proofs.Common.{subst, sym}
 use Rattle.ob_epoch.specs.Table.{flat_of}
 use Rattle.ob_ring.specs.Ring.{Kept, StandsFor}
 use Rattle.ob_recover.specs.Repeats.{content_of_ring}
+use Rattle.ob_recover.specs.Fits.{IsPlannerFit}
 use Rattle.ob_recover.proofs.BeginLaws.{ring_rules, ring_stands}
+use Rattle.ob_recover.proofs.FitLaws.{fit_content}
 use Rattle.ob_recover.proofs.StandingReads.{replayed_well, replayed_badly}
 use Rattle.ob_recover.proofs.replaying.replay.Goals as goal
 
@@ -12,6 +14,10 @@ of_tables-ring-requires g c = ring_rules c.args.p.now c.args.found.tables c.requ
 pub repeat_all-requires-clause-stands : goal.repeat_all-requires-clause-stands
 repeat_all-requires-clause-stands g c =
     subst (λ (r : Kept). StandsFor r (flat_of r.p (content_of_ring r))) (sym c.of_tables-ring.ensures) (ring_stands c.args.p.now c.args.found.tables c.requires.found.content c.requires.found.idle)
+
+pub returns-in-Ok-clause-fit : goal.returns-in-Ok-clause-fit
+returns-in-Ok-clause-fit g c =
+    c.in-Ok.ensures.fit (subst IsPlannerFit (sym c.of_tables-ring.ensures) (fit_content c.args.p.now c.args.found.tables c.requires.found.content c.requires.found.idle))
 
 pub returns-in-Ok-clause-stands : goal.returns-in-Ok-clause-stands
 returns-in-Ok-clause-stands g c = λ s tells stands is.

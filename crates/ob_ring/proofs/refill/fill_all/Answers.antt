@@ -13,8 +13,8 @@ loop-i-preserved c =
     let many : (c.loop-i.i * w + w) - c.loop-i.i * w ≡ w = omega arith in
     let fills : FillsOne c.args.p.now c.loop-i.metas c.fill_one.new.metas (get_or c.order.result.now c.loop-i.i 0) (words_of c.args.p.now c.args.words.now c.loop-i.i) c.args.first.0 (base_of c.args.p.now c.args.first c.loop-i.i) =
     subst (λ (m : ℕ). FillsOne c.args.p.now c.loop-i.metas c.fill_one.new.metas (get_or c.order.result.now c.loop-i.i 0) (take m (drop (c.loop-i.i * w) c.args.words.now)) c.args.first.0 (base_of c.args.p.now c.args.first c.loop-i.i)) many c.fill_one.ensures.fills in
-    fills_more c.args.p.now c.args.book.now c.args.metas.now c.loop-i.metas c.fill_one.new.metas c.args.words.now c.args.first c.loop-i.i (get_or c.order.result.now c.loop-i.i 0) c.requires.listed (omega (arith, c.loop-i-test.true, ap length c.order-i-end.ensures))
+    fills_more c.args.p.now c.args.book.now (c.args.stash.now).rows c.args.metas.now c.loop-i.metas c.fill_one.new.metas c.args.words.now c.args.first c.loop-i.i (get_or c.order.result.now c.loop-i.i 0) c.requires.listed (omega (arith, c.loop-i-test.true, ap length c.order-i-end.ensures))
     (ap (λ xs. get_or xs c.loop-i.i 0) (c.order.ensures ∙ c.loop-i.invariant.order)) c.loop-i.invariant fills c.fill_one.ensures.follows
 
 pub returns : goal.returns
-returns c = record { fills = fills_end c.args.p.now c.args.book.now c.args.metas.now c.loop-i.metas c.args.words.now c.args.first c.loop-i.i (omega (arith, c.loop-i-test.false, c.loop-i.auto.i-end, ap length c.order-i-end.ensures)) c.loop-i.invariant }
+returns c = record { fills = fills_end c.args.p.now c.args.book.now (c.args.stash.now).rows c.args.metas.now c.loop-i.metas c.args.words.now c.args.first c.loop-i.i (omega (arith, c.loop-i-test.false, c.loop-i.auto.i-end, ap length c.order-i-end.ensures)) c.loop-i.invariant }

@@ -10,6 +10,6 @@ returns-clause-fills c =
     (ap (λ (h : ℕ). 1 - h) (c.home-home.ensures.home ∙ ap (λ v. v.home) c.get.ensures))
 
 pub returns-clause-follows : goal.returns-clause-follows
-returns-clause-follows c = λ lifted counter t sound up is.
+returns-clause-follows c = λ lifted counter t sound up at is.
     filled_follows c.args.p.now c.args.metas.now c.args.bucket c.get_mut.result.now c.fill.new.self (1 - c.home-home.result) c.args.generation c.args.base (take c.choose-n.result c.choose-n.new.out) c.args.words.now lifted _ t
-    c.requires.whole c.requires.bucket c.fill.ensures (c.choose-n.ensures.chosen lifted counter t sound is) sound up is
+    c.requires.whole c.requires.bucket c.fill.ensures (c.choose-n.ensures.chosen lifted counter t sound at is) sound up is

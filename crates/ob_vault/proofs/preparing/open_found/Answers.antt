@@ -184,6 +184,7 @@ returns-clause-is g c =
       left = replayed.left_are;
       planner = planner_of c.args.p.now c.args.found c.in-Ok-replay.replayed.0 c.in-Ok-replay.replayed.1 c.requires.obeys replayed;
       joins = replayed.repeated.joins;
+      fit = c.in-Ok-replay.ensures.fit;
     }
 
 pub returns-clause-told : goal.returns-clause-told

@@ -1,0 +1,50 @@
+-- Behind the final lifts the stash has a row of each key that lies in no bucket.
+use Rattle.std.specs.Prelude.{◌≡◌, ◌≢◌, ℕ, Bool, true, List, Option}
+use Rattle.std.specs.declared.option.Option.TheVariants.{None, Some}
+use Rattle.std.proofs.Common.{refl, sym, ap, subst, ◌∙◌}
+use Rattle.std.proofs.lemmas.Bool.{false≢true}
+use Rattle.ob_base.specs.declared.params.Params.{Params}
+use Rattle.ob_ending.specs.Lifts.{lifts_picked}
+use Rattle.ob_ending.specs.Renewals.{HasItsRows}
+use Rattle.ob_recover.specs.Repeats.{RowsJoin}
+use Rattle.ob_ring.specs.Filling.{HasStashRows}
+use Rattle.ob_ring.specs.FlatTable.{FlatTable, FinalLifts, Row, Spot, InStash, In, after, in_stash, is_stash, spot_of}
+use Rattle.ob_ring.specs.Ring.{Kept, StandsFor}
+use Rattle.ob_ring.specs.Settling.{Rows}
+use Rattle.ob_taken.proofs.TheLaws.{picked_are_taken}
+use Rattle.ob_taken.specs.Takes.{is_present}
+use Rattle.ob_taken.specs.Values.{Values}
+use Rattle.ob_values.specs.Carries.{Carries, Slots}
+use Rattle.ob_recover.specs.Fits.{IsPlannerFit}
+use Rattle.ob_recover.proofs.JoinLaws.{carries_then, joined, map_then}
+
+stash_is : (s : Spot) → is_stash s ≡ true → s ≡ InStash
+stash_is InStash on = refl
+stash_is (In u j) on = absurd (false≢true on)
+
+lies_there : (r : Option Row) → in_stash r ≡ true → (is_present r ≡ true) × (spot_of r ≡ InStash)
+lies_there None on = absurd (false≢true on)
+lies_there (Some r) on = (refl, stash_is r.spot on)
+
+there : (v : Option (List ℕ)) → is_present v ≡ true → v ≢ None
+there None on e = absurd (false≢true on)
+there (Some x) on e = absurd (cc)
+
+-- a planner that carries a map has the rows of its stash
+pub carried_rows : (p : Params) (t : FlatTable) (rows : Rows) (slots : Slots) (m : Values) → Carries p t rows slots m → HasStashRows t rows
+carried_rows p t rows slots m c k on e =
+    let at : (is_present (t.rows k) ≡ true) × (spot_of (t.rows k) ≡ InStash) = lies_there (t.rows k) on in
+    there (m k) (sym (c.keys k) ∙ at.0) (sym (c.held k at.1) ∙ e)
+
+pub has_its_rows : (ring lifted : Kept) (fit : IsPlannerFit ring) → StandsFor lifted (after ring.p fit.table FinalLifts) → RowsJoin (lifts_picked ring.p fit.table) (ring.stash).rows (lifted.stash).rows → HasItsRows lifted
+has_its_rows ring lifted fit stands join =
+    let t1 : FlatTable = after ring.p fit.table FinalLifts in
+    let takes = picked_are_taken.lifts ring.p fit.table (fit.stands).orderly (fit.carries).low in
+    let keeps = picked_are_taken.lifts_keys ring.p fit.table in
+    let rows = joined _ (ring.stash).rows (lifted.stash).rows join in
+    record {
+      table = t1;
+      stands = stands;
+      rows = carried_rows ring.p t1 (lifted.stash).rows fit.slots (map_then ring.p fit.table t1 (ring.stash).rows (lifted.stash).rows fit.slots fit.map _ takes keeps fit.carries rows)
+          (carries_then ring.p fit.table t1 (ring.stash).rows (lifted.stash).rows fit.slots fit.map _ takes keeps fit.carries rows);
+    }

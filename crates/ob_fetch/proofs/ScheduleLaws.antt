@@ -1,0 +1,193 @@
+-- What a fetch shows is the schedule's batch, and its planner goes on from there.
+use Rattle.std.specs.Prelude.{◌≡◌, ◌⊎◌, ℕ, suc, ◌+◌, ◌<◌, ◌≤◌, List, [], ◌∷◌, ◌++◌, map, length, Option, Result, Ok, Err}
+use Rattle.std.specs.Result.{IsErr}
+use Rattle.std.proofs.Common.{arith, ⊎_elim, refl, sym, ap, ◌∙◌, subst}
+use Rattle.ob_base.specs.declared.fault.Fault.{Fault}
+use Rattle.ob_base.specs.declared.fault.Fault.TheVariants.{Memory, Usage, BadScript, BadParams, NotStore, Damaged, StoreFault, StashFull, Worn, SourceFault, SinkFault}
+use Rattle.ob_base.specs.declared.params.Params.{Params}
+use Rattle.ob_bucket.specs.Buckets.{Buckets}
+use Rattle.ob_content.specs.Content.{Content}
+use Rattle.ob_epoch.specs.Table.{buckets_of, flat_of}
+use Rattle.ob_log.specs.Appends.{append_notes}
+use Rattle.ob_log.specs.Logs.{BatchRecord, RecordFits, RecordObeys, RecordsFit}
+use Rattle.ob_recover.specs.Repeats.{BatchIsShown, NoneIsShown, asked_of_record, batch_cells, place_notes, repeated_notes, table_after_records}
+use Rattle.ob_ring.specs.FlatTable.{FlatTable, after_place, leaf_shown}
+use Rattle.ob_ring.specs.Picked.{SameSeals, place_picked}
+use Rattle.ob_ring.specs.Ring.{Kept, StandsFor}
+use Rattle.ob_ring.proofs.PlanLaws.{job_same}
+use Rattle.ob_ring_trace.specs.Known.{PlansFrom, fills_of, public_of_kept}
+use Rattle.ob_ring_trace.specs.Telling.{IsFrontShown, IsRowShown, IsShownAs}
+use Rattle.ob_ring_trace.proofs.Batch.{batches_are_scheduled}
+use Rattle.ob_ring_trace.proofs.Once.{table_once}
+use Rattle.ob_ring_trace.proofs.Telling.{batch_read, front_all, front_as, front_more, front_none, front_step, front_then, row_as, row_read, row_step, row_then}
+use Rattle.ob_schedule.specs.Schedule.{batch_notes}
+use Rattle.ob_seal.specs.declared.keys.Keys.{Keys}
+use Rattle.ob_store.specs.Disk.{Disk}
+use Rattle.ob_store.specs.Lines.{Shows, Trace}
+use Rattle.ob_store.specs.Told.{Tells, TellsFirst}
+use Rattle.ob_store.specs.declared.event.Event.{Event}
+use Rattle.ob_store.specs.declared.watch.Note.{Note}
+use Rattle.ob_store.specs.declared.watch.Note.TheVariants as note
+use Rattle.ob_store.proofs.Showing.{shows_then}
+use Rattle.ob_twin.specs.declared.gates.Gates.{Gates}
+use Rattle.ob_fetch.proofs.LogLaws.{more_at, more_many}
+use Rattle.ob_fetch.proofs.NextLaws.{follows_more, moves_unlisted, seals_listed, stands_listed}
+use Rattle.ob_fetch.specs.Fetches.{FetchDoes, IsLoggedFirst, MovesPlanner, next_batch, unlisted}
+use Rattle.ob_fetch.specs.declared.run.Run.{Run}
+
+-- there is room for the batch that comes next
+pub batch_room : (run : Run) → 0 < run.left → run.left ≤ (run.params).batches → next_batch run < (run.params).batches
+batch_room run some few = omega (arith, some, few)
+
+-- another name for the same generation
+pub plans_as : {g g' : ℕ} → g' ≡ g → (p : Params) (gates : Gates) (ring : Kept) (c : Content) (rs : List BatchRecord) → PlansFrom p g gates ring c rs → PlansFrom p g' gates ring c rs
+plans_as {g} {g'} same p gates ring c rs was = subst (λ (n : ℕ). PlansFrom p n gates ring c rs) (sym same) was
+
+module _ (p : Params) (g : ℕ) (gates : Gates) (ring : Kept) (c : Content) (rs : List BatchRecord) (r : BatchRecord) (batch : ℕ) (was : PlansFrom p g gates ring c rs) (many : length rs ≡ batch) (room : batch < p.batches) (obeys : RecordObeys p batch r) where
+  fits : RecordFits p (length rs) r
+  fits = subst (λ (b : ℕ). RecordFits p b r) (sym many)
+      (record { batch_is = obeys.batch_is; asks_many = obeys.asks_many; words_many = obeys.words_many; keys_low = obeys.keys_low; keys_apart = obeys.keys_apart })
+
+  pub fit_more : RecordsFit p (rs ++ r ∷ [])
+  fit_more = record {
+    few = omega (arith, more_many rs r, many, room);
+    each = more_at rs r (λ x b. RecordFits p b x) (was.fit).each fits;
+  }
+
+  -- the planner behind it
+  pub plans_more : (ring' : Kept) → r.generation ≤ g → MovesPlanner p r ring ring' → PlansFrom p g gates ring' c (rs ++ r ∷ [])
+  plans_more ring' low moves = record {
+    obeys = was.obeys;
+    fit = fit_more;
+    known = more_at rs r (λ x b. x.generation ≤ g) was.known low;
+    planner = follows_more p c rs r (unlisted ring) (unlisted ring') was.planner (moves_unlisted p r ring ring' moves);
+    gate = was.gate;
+  }
+
+-- ---- what is shown
+
+-- the notes of a batch are those of the buckets as they were sealed
+place_same : (p : Params) (start now : Buckets) (t : FlatTable) (a : Option ℕ × ℕ) → SameSeals start now → place_notes p now.versions t a ≡ place_notes p start.versions t a
+place_same p start now t a seals = λ i. note.Label (leaf_shown t a.0 a.1) ∷ map (λ q. note.Read (job_same p start now seals i q).cell) (place_picked p t a.0 a.1)
+
+repeated_same : (p : Params) (start now : Buckets) (t : FlatTable) (asked : List (Option ℕ × ℕ)) → SameSeals start now → repeated_notes p now.versions t asked ≡ repeated_notes p start.versions t asked
+repeated_same p start now t [] seals = refl
+repeated_same p start now t (a ∷ rest) seals = λ i. place_same p start now t a seals i ++ repeated_same p start now (after_place p t a.0 a.1) rest seals i
+
+same_seals : (b : Buckets) → SameSeals b b
+same_seals b = record { homes = λ u. refl; generations = λ u. refl; bases = λ u. refl; ranks = λ u. refl; order = refl }
+
+-- what a call showed, and how it reads whatever the planner is told to be behind
+pub record IsShownOf (most : ℕ) (p : Params) (g : ℕ) (gates : Gates) (ring : Kept) (batch epoch : ℕ) (r : BatchRecord) (IsShown : ℕ → List Note → List Note → Option (List Event) → Option (List Event) → Type 0) (old new : Option (List Event)) (before later : Trace) : Type 0 where
+  pub notes : List Note
+  pub shows : Shows notes before later
+  pub reads_as : (c : Content) (rs : List BatchRecord) → PlansFrom p g gates ring c rs → length rs ≡ batch → IsShown most (batch_notes p (public_of_kept p c rs epoch gates) (fills_of p c (rs ++ r ∷ [])) (length rs)) notes old new
+
+-- a front is what a refused call showed
+pub shown_err : {T E : Type 0} (x : Result T E) → IsErr x → (most : ℕ) (row shown : List Note) (old new : Option (List Event)) → IsFrontShown most row shown old new → IsShownAs most row shown old new x
+shown_err (Ok value) err most row shown old new front = absurd (grind (arith, err))
+shown_err (Err e) err most row shown old new front = front
+
+module _ (most : ℕ) (p : Params) (g : ℕ) (gates : Gates) (ring : Kept) (batch epoch : ℕ) (r : BatchRecord) (t : FlatTable) (stands : StandsFor ring t) where
+  abbrev cells : List ℕ
+  cells = batch_cells p (ring.metas).versions t (asked_of_record p r)
+
+  abbrev read_notes : List Note
+  read_notes = repeated_notes p (ring.metas).versions t (asked_of_record p r)
+
+  abbrev written : List Note
+  written = append_notes p (suc epoch) r.batch
+
+  abbrev Shown : (IsShown : ℕ → List Note → List Note → Option (List Event) → Option (List Event) → Type 0) (old new : Option (List Event)) (before later : Trace) → Type 0
+  Shown IsShown old new before later = IsShownOf most p g gates ring batch epoch r IsShown old new before later
+
+  -- nothing was
+  pub shown_none : (old new : Option (List Event)) (before later : Trace) → Tells [] [] old new before later → Shown IsFrontShown old new before later
+  shown_none old new before later none = record { notes = []; shows = none.shows; reads_as = λ c rs was many. front_none most _ old new none.seen }
+
+  module _ (room : batch < p.batches) (obeys : RecordObeys p batch r) where
+    abbrev all_notes : Content → List BatchRecord → List Note
+    all_notes c rs = batch_notes p (public_of_kept p c rs epoch gates) (fills_of p c (rs ++ r ∷ [])) (length rs)
+
+    -- the record's notes and then the batch's are the schedule's
+    as_scheduled : (c : Content) (rs : List BatchRecord) → PlansFrom p g gates ring c rs → length rs ≡ batch → written ++ read_notes ≡ all_notes c rs
+    as_scheduled c rs was many =
+        let table : FlatTable = table_after_records p (flat_of p c) rs in
+        let same : t ≡ table = table_once ring t table stands (stands_listed ring table (was.planner).table) in
+        let seals : SameSeals (record (buckets_of p c) { order = (ring.metas).order }) ring.metas = seals_listed (buckets_of p c) ring (was.planner).seals in
+        ap (λ (ns : List Note). written ++ ns) (ap (λ (u : FlatTable). repeated_notes p (ring.metas).versions u (asked_of_record p r)) same ∙ repeated_same p (record (buckets_of p c) { order = (ring.metas).order }) ring.metas table (asked_of_record p r) seals)
+        ∙ (batches_are_scheduled.own p c rs r epoch gates was.obeys (fit_more p g gates ring c rs r batch was many room obeys)).notes
+
+    rest_of : (c : Content) (rs : List BatchRecord) → PlansFrom p g gates ring c rs → length rs ≡ batch → (rest : List Note) × (all_notes c rs ≡ written ++ rest)
+    rest_of c rs was many = (batches_are_scheduled.own p c rs r epoch gates was.obeys (fit_more p g gates ring c rs r batch was many room obeys)).begins
+
+    module _ (old new : Option (List Event)) (before later : Trace) where
+      -- the record's writes were cut short
+      pub shown_begun : TellsFirst written old new before later → Shown IsFrontShown old new before later
+      shown_begun first = record {
+        notes = first.shown;
+        shows = (first.tells).shows;
+        reads_as = λ c rs was many. (let rest = rest_of c rs was many in front_as most (written ++ rest.0) (all_notes c rs) first.shown old new (sym rest.1) (front_more most written rest.0 first.shown old new (front_step most written old new before later first)));
+      }
+
+    module _ (old mid new : Option (List Event)) (before between later : Trace) (made : Tells written written old mid before between) where
+      -- the slots were read
+      shown_row : BatchIsShown most cells read_notes mid new between later → (c : Content) (rs : List BatchRecord) → PlansFrom p g gates ring c rs → length rs ≡ batch → IsRowShown most (all_notes c rs) (written ++ read_notes) old new
+      shown_row read c rs was many = row_as most (written ++ read_notes) (all_notes c rs) (written ++ read_notes) old new (as_scheduled c rs was many)
+          (row_then most written written read_notes read_notes old mid new (row_step most written old mid made.seen) (row_read most cells read_notes mid new (batch_read p (ring.metas).versions t (asked_of_record p r)) read.0))
+
+      shown_all : BatchIsShown most cells read_notes mid new between later → Shown IsRowShown old new before later
+      shown_all read = record { notes = written ++ read_notes; shows = shows_then written read_notes before between later made.shows read.1; reads_as = shown_row read }
+
+      shown_whole : BatchIsShown most cells read_notes mid new between later → Shown IsFrontShown old new before later
+      shown_whole read = record {
+        notes = written ++ read_notes;
+        shows = shows_then written read_notes before between later made.shows read.1;
+        reads_as = λ c rs was many. front_all most (all_notes c rs) (written ++ read_notes) old new (shown_row read c rs was many);
+      }
+
+      -- or none was
+      shown_log : NoneIsShown mid new between later → Shown IsFrontShown old new before later
+      shown_log none = record {
+        notes = written ++ [];
+        shows = shows_then written [] before between later made.shows none.1;
+        reads_as = λ c rs was many. (let rest = rest_of c rs was many in front_as most (written ++ rest.0) (all_notes c rs) (written ++ []) old new (sym rest.1)
+            (front_then most written written rest.0 [] old mid new (row_step most written old mid made.seen) (front_none most rest.0 mid new none.0)));
+      }
+
+    module _ {S : Type 0} (disk : S → Disk) (keys : Keys) (old new : S) (before later : Trace) where
+      -- as a fetch does it, of any buckets and any table
+      abbrev DoesSo : Result (Unit {0}) Fault → Type 0
+      DoesSo result = (start : Buckets) (u : FlatTable) → SameSeals start ring.metas → StandsFor ring u
+          → FetchDoes disk most keys p (suc epoch) r (batch_cells p start.versions u (asked_of_record p r)) (repeated_notes p start.versions u (asked_of_record p r)) old new before later result
+
+      -- it went well
+      pub shown_well : DoesSo (Ok tt) → Shown IsRowShown (disk old).seen (disk new).seen before later
+      shown_well does = (let d = does ring.metas t (same_seals ring.metas) stands in shown_all (disk old).seen (disk d.between).seen (disk new).seen before d.shown later d.appended d.read)
+
+      abbrev Logged : Fault → Type 0
+      Logged f = IsLoggedFirst disk most keys p (suc epoch) r cells read_notes old new before later (Err f)
+
+      whole : (f : Fault) (d : Logged f) → BatchIsShown most cells read_notes (disk d.between).seen (disk new).seen d.shown later → Shown IsFrontShown (disk old).seen (disk new).seen before later
+      whole f d read = shown_whole (disk old).seen (disk d.between).seen (disk new).seen before d.shown later d.appended read
+
+      maybe : (unsure : Option ℕ) (d : Logged (StoreFault unsure)) → BatchIsShown most cells read_notes (disk d.between).seen (disk new).seen d.shown later ⊎ NoneIsShown (disk d.between).seen (disk new).seen d.shown later
+          → Shown IsFrontShown (disk old).seen (disk new).seen before later
+      maybe unsure d either = ⊎_elim (λ read. whole (StoreFault unsure) d read) (λ none. shown_log (disk old).seen (disk d.between).seen (disk new).seen before d.shown later d.appended none) either
+
+      by_fault : (f : Fault) → FetchDoes disk most keys p (suc epoch) r cells read_notes old new before later (Err f) → Shown IsFrontShown (disk old).seen (disk new).seen before later
+      by_fault Memory d = whole Memory d d.read
+      by_fault Usage d = whole Usage d d.read
+      by_fault (BadScript line) d = whole (BadScript line) d d.read
+      by_fault (BadParams field) d = whole (BadParams field) d d.read
+      by_fault NotStore d = whole NotStore d d.read
+      by_fault (Damaged cell check kept computed) d = whole (Damaged cell check kept computed) d d.read
+      by_fault (StoreFault unsure) d = ⊎_elim (λ first. shown_begun (disk old).seen (disk new).seen before later first) (λ (logged : Logged (StoreFault unsure)). maybe unsure logged logged.read) d
+      by_fault (StashFull rows) d = whole (StashFull rows) d d.read
+      by_fault (Worn number) d = shown_none (disk old).seen (disk new).seen before later d
+      by_fault SourceFault d = whole SourceFault d d.read
+      by_fault SinkFault d = whole SinkFault d d.read
+
+      -- it was refused
+      pub shown_cut : (f : Fault) → DoesSo (Err f) → Shown IsFrontShown (disk old).seen (disk new).seen before later
+      shown_cut f does = by_fault f (does ring.metas t (same_seals ring.metas) stands)

@@ -1,0 +1,77 @@
+-- Openings of a ring store as acts.
+use Rattle.std.proofs.Common.{◌≡◌, ◌⊎◌, inl, inr, ⊎_elim, ℕ, suc, Result, Ok, Err, OnOk, OnErr, sym, ap, ◌∙◌, subst}
+use Rattle.std.specs.Prelude.{IfOk}
+use mathlib.Core.Path.{fun_ext}
+use Rattle.ob_base.specs.declared.params.Params.{Params}
+use Rattle.ob_base.specs.declared.fault.Fault.{Fault}
+use Rattle.ob_store.specs.Disk.{Disk, Image}
+use Rattle.ob_store.specs.Images.{Same, Passes, LeavesOnly}
+use Rattle.ob_store.specs.Calls.{GoesOn}
+use Rattle.ob_store.specs.Lines.{Trace}
+use Rattle.ob_store.proofs.Moments.{leaves_of, then_on, weakened}
+use Rattle.ob_seal.specs.Sealing.{Sealing}
+use Rattle.ob_seal.specs.declared.keys.Keys.{Keys}
+use Rattle.ob_twin.specs.Keyed.{tagging}
+use Rattle.ob_twin.specs.Register.{OldOrNew}
+use Rattle.ob_pads.specs.Lives.{IsAtGeneration, IsFormattedStore, LeavesUnopened, Opens}
+use Rattle.ob_recover.proofs.FindLaws.{number_found}
+use Rattle.ob_stand.specs.Stands.{RingStanding, Stands}
+use Rattle.ob_vault.specs.OpeningRuns.{IsRingOpened, OpeningLeaves, OpensFrom}
+use Rattle.ob_vault.specs.declared.opening.Opening.{Opening}
+
+module _ {S : Type 0} (disk : S → Disk) (keys : Keys) (p : Params) (old new : S) (only : (c : Image) → (disk old).left_since (disk old).moment c → (disk old).may_leave c) where
+  -- what an act that gives out no sealer leaves, from a generation on
+  abbrev Left : ℕ → Image → Type 0
+  Left g c = (disk old).may_leave c ⊎ (IsAtGeneration keys g c ⊎ IsAtGeneration keys (suc g) c)
+
+  -- reads
+  reads_leave : (g : ℕ) (mid : Disk) → Passes Same (disk old) mid → LeavesOnly (disk old) mid (Left g)
+  reads_leave g mid passes = leaves_of Same (disk old).may_leave (Left g) (disk old) mid passes only (λ c left. left)
+      (λ c d left same. inl (subst (λ (i : Image). (disk old).may_leave i) (sym same) left))
+      (λ c left. inl left)
+
+  -- a generation that was begun
+  begun_leaves : (g : ℕ) → (disk old).tells → IsAtGeneration keys g (disk old).cells → OpensFrom disk keys p old new → LeavesOnly (disk old) (disk new) (Left g)
+  begun_leaves g tells stands b =
+      then_on (disk old) (disk b.synced) (disk new) (Left g) (reads_leave g (disk b.synced) b.until)
+      (weakened (disk b.synced) (disk new) (OldOrNew (tagging keys) 1 (disk b.synced).cells g (suc g)) (Left g)
+      (λ c either. ⊎_elim (λ kept. inr (inl kept.stands)) (λ kept. inr (inr kept.stands)) either)
+      (b.register g tells stands))
+
+  module _ (goes : GoesOn (disk old) (disk new)) (tells : (disk new).tells) where
+    told : (disk old).tells
+    told = goes.told tells
+
+    opened_of : {L : Type 0} (most : ℕ) (before later : Trace) (o : Opening L) → IsRingOpened disk keys most p old new before later o → OpensFrom disk keys p old new → Opens keys (disk old) (disk new) o.sealer
+    opened_of most before later o is begins =
+        let found_in = (is.told told).found_in in
+        let here : (g : ℕ) → IsAtGeneration keys g (disk old).cells → (is.found).generation ≡ g =
+        λ g stands. number_found keys 1 (disk old).cells g (is.found).generation stands (found_in.registers).generation_whole (found_in.registers).generation_counts in
+        record {
+          goes = goes;
+          tells = tells;
+          keys_are = ap (λ (s : Sealing). s.keys) (is.is).sealer;
+          none_sealed = ap (λ (s : Sealing). s.next) (is.is).sealer;
+          next = λ g stands. ap (λ (s : Sealing). s.generation) (is.is).sealer ∙ ap suc (here g stands);
+          images = λ g stands c left. subst (λ (i : Image). IsAtGeneration keys (suc g) i) (sym (fun_ext (λ k. (is.told told).settled c left k)))
+              (subst (λ n. IsAtGeneration keys (suc n) (disk new).cells) (here g stands) (is.stood told (subst (λ n. IsAtGeneration keys n (disk old).cells) (sym (here g stands)) stands)));
+          crash = λ g stands. begun_leaves g told stands begins;
+        }
+
+    pub opens_of : {L : Type 0} (most : ℕ) (before later : Trace) (r : Result (Opening L) Fault) → IfOk r (IsRingOpened disk keys most p old new before later) → OpeningLeaves disk keys p old new r → IfOk r (λ o. Opens keys (disk old) (disk new) o.sealer)
+    opens_of most before later (Ok o) is begins = opened_of most before later o is begins
+    opens_of most before later (Err f) is begins = tt
+
+    pub unopened_of : {L : Type 0} (r : Result (Opening L) Fault) → OpeningLeaves disk keys p old new r → OnErr r (LeavesUnopened keys (disk old) (disk new))
+    unopened_of (Ok o) begins = tt
+    unopened_of (Err f) begins = record {
+      goes = goes;
+      tells = tells;
+      crash = λ g stands. ⊎_elim (λ passes. reads_leave g (disk new) passes) (λ begun. begun_leaves g told stands begun) begins;
+    }
+
+-- a store that was formatted stands at generation 1
+module _ {S : Type 0} (disk : S → Disk) (keys : Keys) (p : Params) (old new : S) (goes : GoesOn (disk old) (disk new)) (told : (disk old).tells) (leaves : (disk old).leaves) (s : RingStanding) (one : s.generation ≡ 1) where
+  pub formatted_of : (r : Result (Unit {0}) Fault) → OnOk r ((disk old).tells → (disk new).tells) → OnOk r ((c : Image) → (disk new).may_leave c → Stands keys p s c) → OnOk r (IsFormattedStore disk keys new)
+  formatted_of (Ok done) tells images = record { tells = tells told; leaves = goes.leaves.0 leaves; images = λ c left. subst (λ n. IsAtGeneration keys n c) one (images c left).generation }
+  formatted_of (Err f) tells images = tt

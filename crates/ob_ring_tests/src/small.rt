@@ -1,0 +1,94 @@
+//! The small ring store and its images.
+
+ghost use Rattle.std.specs.Prelude.{◌≡◌};
+ghost use Rattle.ob_mem.specs.Memory.{disk_of_store};
+
+use crate::serving::{Outcome, Step, run_steps};
+use ob_base::Params;
+use ob_mem::{Fail, MemStore};
+use ob_seal::Keys;
+use ob_store::{Blind, Watch};
+use ob_tape::ListTape;
+use ob_vault::format;
+use std::alloc::Global;
+use std::process::Abort;
+
+// The bytes 0 to 95.
+pub fn key_bytes() -> [u8; 96] {
+    let mut bytes = [0; 96];
+    for i in 0..96 {
+        bytes[i] = i as u8;
+    }
+    bytes
+}
+
+pub fn test_keys() -> Keys {
+    Keys::from_bytes(&key_bytes())
+}
+
+pub fn small_store(rt: &impl Abort) -> Params {
+    Params::new(8, 2, 2, 3, 2, 2, 2, 2, 8).expect(rt, "parameters")
+}
+
+// A new store of these parameters, of so many cells, where these calls fail.
+pub fn store_of(
+    rt: &impl Abort,
+    alloc: Global,
+    p: &Params,
+    cells: usize,
+    fails: &[Fail],
+) -> MemStore
+    ensures { (disk_of_store result).out ≡ 0 }
+{
+    let fails = fails.to_vec(alloc).expect(rt, "memory");
+    let mut store = MemStore::new(alloc, cells, fails).expect(rt, "memory");
+    let mut tape = ListTape::new(alloc, &[]).expect(rt, "memory");
+    assert!(rt; format(alloc, &mut store, &mut tape, &test_keys(), p, &mut Blind).is_ok());
+    store
+}
+
+// A new small store, where these calls fail: its format has 62 writes and 10 syncs.
+pub fn new_store(rt: &impl Abort, alloc: Global, fails: &[Fail]) -> MemStore
+    ensures { (disk_of_store result).out ≡ 0 }
+{
+    store_of(rt, alloc, &small_store(rt), 109, fails)
+}
+
+// A run of the small store on a tape of these words, and of zeros behind them.
+pub fn run_on<W: Watch>(
+    rt: &impl Abort,
+    alloc: Global,
+    store: &mut MemStore,
+    words: &[u64],
+    steps: &[Step],
+    watch: &mut W,
+) -> Outcome
+    requires { (disk_of_store store.old).out ≡ 0 }
+    ensures { (disk_of_store store.new).out ≡ 0 }
+{
+    let mut tape = ListTape::new(alloc, words).expect(rt, "memory");
+    let p = small_store(rt);
+    run_steps(alloc, store, &mut tape, &test_keys(), &p, steps, watch)
+}
+
+// What a crash leaves where the cells that aren't sure hold these bytes, or what they got last.
+pub fn left_after(
+    rt: &impl Abort,
+    store: &MemStore,
+    moment: usize,
+    filling: Option<[u8; 128]>,
+) -> MemStore
+    ensures { (disk_of_store result).out ≡ 0 }
+{
+    let left = match filling {
+        None => store.crash(moment, &[]),
+        Some(bytes) => {
+            let mut fillings = [(0, bytes); 109];
+            for i in 0..109 {
+                fillings[i] = (i as u64, bytes);
+            }
+            store.crash(moment, &fillings)
+        }
+    };
+    left.expect(rt, "memory")
+}

@@ -1,0 +1,112 @@
+use Rattle.std.proofs.Common.{◌≡◌, ◌<◌, ◌≤◌, ◌^◌, ap, sym, subst}
+use Rattle.ob_base.specs.declared.params.Params.{Params}
+use Rattle.ob_base.specs.Planned.{most_jobs}
+use Rattle.ob_batch.specs.Jobs.{Manned}
+use Rattle.ob_fetch.specs.declared.run.Run.{Run}
+use Rattle.ob_fetch.specs.Fetches.{record_next, words_since}
+use Rattle.ob_ring.proofs.PlanLaws.{seals_none}
+use Rattle.ob_ring_vault.specs.RingVaults.{running}
+use Rattle.ob_ring_vault.proofs.Callings.{fetch_called, open_first}
+use Rattle.ob_ring_vault.proofs.Holding.{alike_kept, fetch_answered, fetch_holds, fetch_images, fetch_sound, lent_leaves, s, serves}
+use Rattle.ob_ring_vault.proofs.Lending.{fetch_ready}
+use Rattle.ob_ring_vault.proofs.Ready.{ready_of}
+use Rattle.ob_ring_vault.proofs.vault.RingVaultVault.fetch.Goals as goal
+
+pub returns-clause-answered : goal.returns-clause-answered
+returns-clause-answered g c = λ v holds.
+    let run = c.args.self.now.run in
+    let old = g.S.Store.disk c.args.self.now.lent.store.now in
+    let new = g.S.Store.disk c.fetch-result.new.store in
+    let asks = c.args.asks.now in
+    let words = words_since (g.T.Tape.drawn c.args.self.now.lent.tape.now) (g.T.Tape.drawn c.fetch-result.new.tape) in
+    let r = record_next run asks words in
+    fetch_answered run old v holds c.requires.serves r asks c.fetch-result.new.run new c.fetch-result.new.out c.fetch-result.result (c.fetch-result.ensures.stands (s run old v holds c.requires.serves) (serves run old v holds c.requires.serves).at)
+
+pub returns-clause-holds : goal.returns-clause-holds
+returns-clause-holds g c = λ v holds.
+    let run = c.args.self.now.run in
+    let old = g.S.Store.disk c.args.self.now.lent.store.now in
+    let new = g.S.Store.disk c.fetch-result.new.store in
+    let asks = c.args.asks.now in
+    let words = words_since (g.T.Tape.drawn c.args.self.now.lent.tape.now) (g.T.Tape.drawn c.fetch-result.new.tape) in
+    let r = record_next run asks words in
+    let params = ap (λ (x : Run). x.params) c.fetch-result.ensures.kept in
+    let epoch = ap (λ (x : Run). x.epoch) c.fetch-result.ensures.kept in
+    let stands = c.fetch-result.ensures.stands (s run old v holds c.requires.serves) (serves run old v holds c.requires.serves).at in
+    fetch_holds run old v holds c.requires.serves r asks c.fetch-result.new.run new c.fetch-result.new.out params epoch c.args.out.now c.fetch-result.result c.fetch-result.ensures.served c.fetch-result.ensures.refused stands
+
+pub returns-clause-sound : goal.returns-clause-sound
+returns-clause-sound g c = λ v sound.
+    let run = c.args.self.now.run in
+    let old = g.S.Store.disk c.args.self.now.lent.store.now in
+    let new = g.S.Store.disk c.fetch-result.new.store in
+    let asks = c.args.asks.now in
+    let words = words_since (g.T.Tape.drawn c.args.self.now.lent.tape.now) (g.T.Tape.drawn c.fetch-result.new.tape) in
+    let r = record_next run asks words in
+    let holds = sound.holds in
+    let params = ap (λ (x : Run). x.params) c.fetch-result.ensures.kept in
+    let epoch = ap (λ (x : Run). x.epoch) c.fetch-result.ensures.kept in
+    let at = (serves run old v holds c.requires.serves).at in
+    let stands = c.fetch-result.ensures.stands (s run old v holds c.requires.serves) at in
+    let some = c.fetch-result.ensures.seals.some in
+    fetch_sound run old v holds c.requires.serves r asks c.fetch-result.new.run new c.fetch-result.new.out params epoch some.keys some.generation (g.met.S.Store.counts_now c.fetch-result.new.store) (c.fetch-result.ensures.images (s run old v holds c.requires.serves) at) c.fetch-result.result
+    (fetch_holds run old v holds c.requires.serves r asks c.fetch-result.new.run new c.fetch-result.new.out params epoch c.args.out.now c.fetch-result.result c.fetch-result.ensures.served c.fetch-result.ensures.refused stands)
+
+pub returns-clause-images : goal.returns-clause-images
+returns-clause-images g c = λ v sound.
+    let run = c.args.self.now.run in
+    let old = g.S.Store.disk c.args.self.now.lent.store.now in
+    let new = g.S.Store.disk c.fetch-result.new.store in
+    let asks = c.args.asks.now in
+    let words = words_since (g.T.Tape.drawn c.args.self.now.lent.tape.now) (g.T.Tape.drawn c.fetch-result.new.tape) in
+    let r = record_next run asks words in
+    let holds = sound.holds in
+    lent_leaves _ _ _ _ old new _ (fetch_images run old v holds c.requires.serves r asks new (c.fetch-result.ensures.images (s run old v holds c.requires.serves) (serves run old v holds c.requires.serves).at))
+
+pub returns-clause-alike : goal.returns-clause-alike
+returns-clause-alike g c =
+    let some = c.fetch-result.ensures.seals.some in
+    alike_kept c.args.self.now.run c.fetch-result.new.run some.keys (ap (λ (x : Run). x.params) c.fetch-result.ensures.kept) some.generation
+
+pub returns-clause-called : goal.returns-clause-called
+returns-clause-called g c =
+    let run = c.args.self.now.run in
+    let old = g.S.Store.disk c.args.self.now.lent.store.now in
+    let new = g.S.Store.disk c.fetch-result.new.store in
+    let asks = c.args.asks.now in
+    let words = words_since (g.T.Tape.drawn c.args.self.now.lent.tape.now) (g.T.Tape.drawn c.fetch-result.new.tape) in
+    let r = record_next run asks words in
+    let told = c.fetch-result.ensures.scheduled in (
+      told.0,
+      told.1,
+      fetch_called g.S.Store.disk (running c.args.self.now.lent.store.now (g.T.Tape.drawn c.args.self.now.lent.tape.now) c.args.self.now.crew.lanes run) (running c.fetch-result.new.store (g.T.Tape.drawn c.fetch-result.new.tape) c.fetch-result.new.crew.lanes c.fetch-result.new.run) told.0 asks c.fetch-result.new.out c.fetch-result.result
+          (record {
+            params = ap (λ (x : Run). x.params) c.fetch-result.ensures.kept;
+            draws = c.fetch-result.ensures.draws;
+            seals = c.fetch-result.ensures.seals;
+            scheduled = told.2;
+            onward = c.fetch-result.ensures.onward;
+            logged = λ t stands. open_first g.S.Store.disk _ _ _ _ r _ _ _ _ _ _ c.fetch-result.result (c.fetch-result.ensures.does run.ring.metas t (seals_none run.ring.metas) stands);
+            moves = c.fetch-result.ensures.moves;
+          }),
+    )
+
+pub fetch-result-requires-clause-ready : goal.fetch-result-requires-clause-ready
+fetch-result-requires-clause-ready g c = (ready_of c.args.self.now.run (c.args.self.now.ready c.requires.serves)).ready
+
+pub invariant_of-self-clause-small : goal.invariant_of-self-clause-small
+invariant_of-self-clause-small g c = subst (λ n. n < 2 ^ 62) (sym (ap (λ (x : Run). x.epoch) c.fetch-result.ensures.kept)) c.args.self.now.small
+
+pub invariant_of-self-clause-generation : goal.invariant_of-self-clause-generation
+invariant_of-self-clause-generation g c = subst (λ n. n < 2 ^ 62) (sym c.fetch-result.ensures.seals.some.generation) c.args.self.now.generation
+
+pub invariant_of-self-clause-manned : goal.invariant_of-self-clause-manned
+invariant_of-self-clause-manned g c =
+    subst (λ (m : Manned). most_jobs c.fetch-result.new.run.params ≤ m.jobs) (sym c.fetch-result.ensures.crew)
+    (subst (λ (q : Params). most_jobs q ≤ c.args.self.now.crew.jobs) (sym (ap (λ (x : Run). x.params) c.fetch-result.ensures.kept)) c.args.self.now.manned)
+
+pub invariant_of-self-clause-ready : goal.invariant_of-self-clause-ready
+invariant_of-self-clause-ready g c =
+    let run = c.args.self.now.run in
+    let kept = ready_of run (c.args.self.now.ready c.requires.serves) in
+    fetch_ready run c.fetch-result.new.run c.fetch-result.ensures.kept (c.fetch-result.new.run.left ≡ run.left) (c.fetch-result.new.out ≡ c.args.out.now) c.fetch-result.result kept c.fetch-result.ensures.ready c.fetch-result.ensures.words (c.fetch-result.ensures.fit kept.planner) c.fetch-result.ensures.refused

@@ -1,0 +1,2 @@
+pub mod Knowns
+pub mod RingVaults

@@ -1,0 +1,160 @@
+-- What a ring vault holds, and what its calls do.
+use Rattle.std.specs.Prelude.{◌≡◌, ℕ, suc, false, List, [], ◌∷◌, ◌++◌, map, length, Option, None, Result, Ok, Err, OnOk}
+use Rattle.std.specs.Borrow.{GName}
+use Rattle.std.specs.FinMap as finite
+use Rattle.std.specs.Ordering.{nat_cmp}
+use Rattle.ob_base.specs.Layout.{record_cells}
+use Rattle.ob_base.specs.declared.fault.Fault.{Fault}
+use Rattle.ob_base.specs.declared.fault.Fault.TheVariants as fault
+use Rattle.ob_base.specs.declared.params.Params.{Params}
+use Rattle.ob_base.specs.declared.value.Write.{Write}
+use Rattle.ob_batch.specs.Lanes.{ReadByLanes}
+use Rattle.ob_cells.specs.Writes.{Seals}
+use Rattle.ob_content.specs.Content.{Content}
+use Rattle.ob_end.specs.EndRuns.{EndDraws, LeadsOn, end_writes, seals_for_end, table_ended}
+use Rattle.ob_fetch.specs.declared.run.Run.{Run}
+use Rattle.ob_fetch.specs.Fetches.{FetchDraws, MovesPlanner, RunIsAt, next_batch, record_next, words_since}
+use Rattle.ob_log.specs.Appends.{append_notes}
+use Rattle.ob_log.specs.Logs.{BatchRecord, OpenRecords}
+use Rattle.ob_recover.specs.Repeats.{asked_of_record, batch_cells}
+use Rattle.ob_ring.specs.FlatTable.{FlatTable}
+use Rattle.ob_ring.specs.Ring.{StandsFor}
+use Rattle.ob_ring_trace.specs.Known.{PlansFrom, fills_of, fills_with_lifts, public_of_kept}
+use Rattle.ob_ring_trace.specs.Telling.{IsShownAs}
+use Rattle.ob_schedule.specs.Schedule.{batch_notes, end_notes}
+use Rattle.ob_seal.specs.declared.keys.Keys.{Keys}
+use Rattle.ob_serial.specs.Serial.{Map}
+use Rattle.ob_serial.specs.declared.vault.EndErr.{EndErr}
+use Rattle.ob_serial.specs.declared.vault.EndErr.TheVariants.{Before, Unsure}
+use Rattle.ob_serial.specs.Vaults.{DoubtBy, End, Ended, Fetch, MayStand, RefusedBy, StandsIn, Values, VaultAnswer, VaultCall, VaultCounts, VaultState, counts_of}
+use Rattle.ob_stand.specs.Stands.{RingStanding, StandsRing}
+use Rattle.ob_store.specs.Calls.{Notes}
+use Rattle.ob_store.specs.Disk.{Disk, Image}
+use Rattle.ob_store.specs.Images.{Passes, Same}
+use Rattle.ob_store.specs.Told.{events_of}
+use Rattle.ob_store.specs.declared.watch.Note.{Note}
+use Rattle.ob_tables.specs.declared.entry.Entry.{Entry}
+use Rattle.ob_vault.specs.declared.opening.Opening.{Opening}
+
+-- a disk with two references more
+abbrev pub lent_both : GName → GName → Disk → Disk
+lent_both store tape disk = record disk { anchors = store ∷ tape ∷ disk.anchors }
+
+-- what a vault runs with that is made of an opening
+abbrev pub run_over : {L : Type 0} → Opening L → Run
+run_over o = record { params = o.params; gates = o.gates; sealer = o.sealer; drawn = 0; epoch = o.epoch; left = o.left; spent = false; ring = o.ring; jobs = o.jobs; sheet = o.sheet; words = o.words }
+
+abbrev pub counts_of_run : Run → VaultCounts
+counts_of_run run = record { epoch = run.epoch; left = run.left; spent = run.spent }
+
+-- what a vault holds that was opened where this stood, with its map
+abbrev pub opened_ring : {L : Type 0} → Opening L → RingStanding → Map nat_cmp → VaultState
+opened_ring o s content = record { batches = (o.params).batches; epoch = s.epoch; content = content; left = o.left; spent = false; doubt = None }
+
+-- ---- what it holds
+
+-- While it serves, the store stands for an epoch that the run is at, with the map that is held, and no end is in doubt.
+pub record RingServes (run : Run) (disk : Disk) (v : VaultState) : Type 0 where
+  pub standing : RingStanding
+  pub at : RunIsAt run standing disk
+  pub map : (k : ℕ) → standing.map k ≡ finite.get v.content k
+  pub no_doubt : v.doubt ≡ None
+
+pub record RingHolds (run : Run) (disk : Disk) (v : VaultState) : Type 0 where
+  pub counts_are : counts_of v ≡ counts_of_run run
+  pub batches : v.batches ≡ (run.params).batches
+  pub serves : v.spent ≡ false → RingServes run disk v
+
+-- And each image that a crash may leave stands for what that allows.
+pub record RingSound (run : Run) (disk : Disk) (v : VaultState) : Type 0 where
+  pub holds : RingHolds run disk v
+  pub images : (c : Image) → disk.may_leave c → StandsIn (StandsRing (run.sealer).keys run.params (run.sealer).generation) (MayStand v) c
+
+-- ---- what its calls do
+
+-- what a call goes from, and what it leads to: the store, the words of the generation drawn so far, how many lanes may read at once,
+-- and the run
+pub record Running (S : Type 0) : Type 0 where
+  pub store : S
+  pub drawn : List ℕ
+  pub lanes : ℕ
+  pub run : Run
+
+abbrev pub running : {S : Type 0} → S → List ℕ → ℕ → Run → Running S
+running store drawn lanes run = record { store = store; drawn = drawn; lanes = lanes; run = run }
+
+-- the planner has shown the batches of these records, from this content on
+abbrev pub HasPlanned : Run → Content → List BatchRecord → Type 0
+HasPlanned run c rs = PlansFrom run.params (run.sealer).generation run.gates run.ring c rs
+
+-- a write, of the pair that it is
+abbrev pub write_from : ℕ × Option (List ℕ) → Write
+write_from w = record { key = w.0; value = w.1 }
+
+-- Before a slot of the batch was read, its record was open in every image that a crash may leave: the store was this one then. What the
+-- batch reads changes no image.
+pub record IsOpenFirst {S : Type 0} (disk : S → Disk) (most : ℕ) (keys : Keys) (p : Params) (epoch : ℕ) (r : BatchRecord) (cells : List ℕ) (old new : S) : Type 0 where
+  pub between : S
+  pub appended : Notes (events_of (append_notes p epoch r.batch)) (disk old).seen (disk between).seen
+  pub logged : (records : List BatchRecord) (c : Image) → (disk old).tells → length records ≡ r.batch → OpenRecords keys p epoch records (disk old).cells → (disk between).may_leave c
+      → OpenRecords keys p epoch (records ++ r ∷ []) c
+  pub behind : Passes Same (disk between) (disk new)
+  pub read : ReadByLanes most cells (disk between).seen (disk new).seen
+
+-- where all of its slots were read
+abbrev pub IfRead : Type 0 → Result (Unit {0}) Fault → Type 0
+IfRead A (Ok done) = A
+IfRead A (Err (fault.Damaged cell check kept computed)) = A
+IfRead A (Err _) = Unit {0}
+
+module _ {S : Type 0} (disk : S → Disk) (old new : Running S) (notes : List Note) where
+  -- the words that were drawn
+  abbrev pub words_of_call : List ℕ
+  words_of_call = words_since old.drawn new.drawn
+
+  -- A fetch: its record has the words that were drawn, with the id of the first.
+  module _ (asks : List (Option ℕ)) where
+    abbrev pub record_of_fetch : BatchRecord
+    record_of_fetch = record_next old.run asks words_of_call
+
+    pub record FetchCalled (result : Result (Unit {0}) Fault) : Type 0 where
+      pub params : (new.run).params ≡ (old.run).params
+      -- a word for each place, or none where numbers are worn
+      pub draws : FetchDraws ((old.run).params).places old.drawn new.drawn result
+      pub seals : Seals (record_cells (old.run).params) (old.run).sealer (new.run).sealer result
+      -- its notes are the schedule's batch of what the store knows, filled by the labels and slots of the table's picks
+      pub scheduled : (c : Content) (rs : List BatchRecord) → HasPlanned old.run c rs → length rs ≡ next_batch old.run
+          → IsShownAs old.lanes (batch_notes (old.run).params (public_of_kept (old.run).params c rs (old.run).epoch (old.run).gates) (fills_of (old.run).params c (rs ++ record_of_fetch ∷ [])) (length rs)) notes (disk old.store).seen (disk new.store).seen result
+      -- behind it the store knows the record's batch too
+      pub onward : (c : Content) (rs : List BatchRecord) → HasPlanned old.run c rs → length rs ≡ next_batch old.run → OnOk result (HasPlanned new.run c (rs ++ record_of_fetch ∷ []))
+      -- its record was open before its slots were read
+      pub logged : (t : FlatTable) → StandsFor (old.run).ring t
+          → IfRead (IsOpenFirst disk old.lanes ((old.run).sealer).keys (old.run).params (suc (old.run).epoch) record_of_fetch
+          (batch_cells (old.run).params (((old.run).ring).metas).versions t (asked_of_record (old.run).params record_of_fetch)) old.store new.store) result
+      -- each key that was asked for has the id and the leaf of its place's word
+      pub moves : OnOk result (MovesPlanner (old.run).params record_of_fetch (old.run).ring (new.run).ring)
+
+  -- An end: the i-th write takes the i-th word, and the buckets the words behind.
+  module _ (writes : List Write) where
+    abbrev pub writes_of_end : List (Write × Entry)
+    writes_of_end = end_writes (old.run).params writes words_of_call ((old.run).sealer).generation (old.run).drawn
+
+    pub record EndCalled (result : Result (Unit {0}) EndErr) : Type 0 where
+      pub params : (new.run).params ≡ (old.run).params
+      pub draws : (t : FlatTable) → StandsFor (old.run).ring t → EndDraws (old.run).params t (old.run).epoch (old.run).drawn old.drawn new.drawn result
+      pub seals : (t : FlatTable) → StandsFor (old.run).ring t → Seals (seals_for_end (old.run).params t) (old.run).sealer (new.run).sealer result
+      -- its notes are the schedule's end of what the store knows
+      pub scheduled : (c : Content) (rs : List BatchRecord) → HasPlanned old.run c rs
+          → IsShownAs old.lanes (end_notes (old.run).params (public_of_kept (old.run).params c rs (old.run).epoch (old.run).gates) (fills_with_lifts (old.run).params c rs)) notes (disk old.store).seen (disk new.store).seen result
+      -- behind it the store knows what the schedule's end leaves
+      pub onward : (c : Content) (rs : List BatchRecord) → HasPlanned old.run c rs → OnOk result (LeadsOn (old.run).params ((old.run).sealer).generation c rs (old.run).epoch (old.run).gates (new.run).ring (new.run).gates)
+      -- the table then: lifted, written, and filled anew
+      pub table : (t : FlatTable) → StandsFor (old.run).ring t → OnOk result (StandsFor (new.run).ring (table_ended (old.run).params t writes_of_end))
+
+  abbrev pub RingCalled : VaultCall → VaultAnswer → Type 0
+  RingCalled (Fetch asks) (Values out) = FetchCalled asks (Ok tt)
+  RingCalled (Fetch asks) (RefusedBy fault) = FetchCalled asks (Err fault)
+  RingCalled (End writes) Ended = EndCalled (map write_from writes) (Ok tt)
+  RingCalled (End writes) (RefusedBy fault) = EndCalled (map write_from writes) (Err (Before fault))
+  RingCalled (End writes) (DoubtBy fault) = EndCalled (map write_from writes) (Err (Unsure fault))
+  RingCalled _ _ = ⊥
