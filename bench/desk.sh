@@ -2,12 +2,15 @@
 # Measures what a call on the transaction manager takes in an epoch of 64 clients with 1,024 gets and
 # puts in 128 transactions, and in one with twice as many of both.
 # Each client makes eight calls and then aborts, so that it may begin again in the same epoch.
+# Then what a look takes in an epoch of 64 aborted transactions, and in one of 64,000. It fails where
+# the latter takes more than twice as long.
 # It needs rt, and writes only to a temporary folder. Times are of the processor.
 set -euo pipefail
 top=$(cd "$(dirname "$0")/.." && pwd)
 work=$(mktemp -d)
 trap 'rm -rf "$work"' EXIT
 epochs=200
+looks=2000000
 mkdir -p "$work/crates/desk_bench/src"
 for crate in ob_base ob_io ob_store ob_serial ob_order ob_queue ob_chains ob_versions ob_desk; do
     cp -r "$top/crates/$crate" "$work/crates/"
@@ -18,16 +21,20 @@ git -C "$work" init -q
 # The questions whether a call may be made, which tests ask, are asked here too.
 sed -i 's/^#\[cfg(test)\]$/ /' "$work/crates/ob_desk/src/desk.rt"
 cat >"$work/crates/desk_bench/src/main.rt" <<'PROGRAM'
-//! Epochs of gets and puts; the first byte of the input is how many times eight calls each client makes.
+//! Epochs of gets and puts: the first byte of the input, 1 or 2, says how many times sixteen calls each
+//! client makes. Or looks in an epoch of 64 aborted transactions (f) or of 64,000 (m); or the latter
+//! epoch with no look (n).
 #![tactic(auto)]
 
 use ob_base::{Memory, Params, Value};
 use ob_desk::{Begun, Desk, Got, Txn};
 use std::alloc::Global;
+use std::hint;
 use std::io;
 use std::io::Read;
 
 const EPOCHS: u32 = 200;
+const LOOKS: u32 = 2000000;
 
 // 1,024 keys, 16 read batches of 64 places, 256 write places, 64 clients.
 fn open(alloc: Global) -> Result<Option<Desk>, Memory> {
@@ -141,11 +148,49 @@ fn all(alloc: Global, times: u32) -> Result<u64, Memory> {
     Ok(made)
 }
 
+// Each client begins a transaction and aborts it.
+fn abort_each(desk: &mut Desk) -> Result<(), Memory> {
+    for client in 1..65 {
+        if let Some(txn) = begin(desk, client)? {
+            leave(desk, &txn);
+        }
+    }
+    Ok(())
+}
+
+fn look_often(desk: &Desk, times: u32) -> u64 {
+    let mut made: u64 = 0;
+    for _ in 0..times {
+        if desk.may_look() {
+            let look = hint::black_box(desk.look());
+            made = made.wrapping_add(look.clients / 64);
+        }
+    }
+    made
+}
+
+// So many looks in an epoch of so many times 64 aborted transactions: how many were made.
+fn look_behind(alloc: Global, times: u32, looks: u32) -> Result<u64, Memory> {
+    let Some(mut desk) = open(alloc)? else {
+        return Ok(0);
+    };
+    for _ in 0..times {
+        abort_each(&mut desk)?;
+    }
+    Ok(look_often(&desk, looks))
+}
+
 fn main(rt: HostRuntime) -> io::Result<()> {
     let mut line = [0; 1];
     let _ = rt.stdin().read(&mut line)?;
-    let times = if line[0] == b'2' { 4 } else { 2 };
-    match all(rt.alloc(), times) {
+    let made = match line[0] {
+        b'f' => look_behind(rt.alloc(), 1, LOOKS),
+        b'm' => look_behind(rt.alloc(), 1000, LOOKS),
+        b'n' => look_behind(rt.alloc(), 1000, 0),
+        b'2' => all(rt.alloc(), 4),
+        _ => all(rt.alloc(), 2),
+    };
+    match made {
         Ok(made) => println!(rt; "{made}"),
         Err(_) => println!(rt; "no memory"),
     }
@@ -191,3 +236,21 @@ fastest() {
 }
 echo "once:  $(fastest 1)"
 echo "twice: $(fastest 2)"
+# The fewest seconds of five runs of this kind, which has to tell so many looks.
+fewest() {
+    local best= t
+    for _ in 1 2 3 4 5; do
+        t=$({ time ./out/desk_bench <<<"$1" >"$work/count"; } 2>&1)
+        [[ $(<"$work/count") == "$2" ]]
+        best=$(awk -v a="${best:-$t}" -v b="$t" 'BEGIN { print a < b ? a : b }')
+    done
+    echo "$best"
+}
+few=$(fewest f $looks)
+many=$(fewest m $looks)
+none=$(fewest n 0)
+awk -v f="$few" -v m="$many" -v n="$none" -v k=$looks 'BEGIN {
+    printf "a look:  %.0f ns behind 64 aborted transactions, %.0f ns behind 64,000 (%.2f of it; at most 2)\n",
+        f * 1e9 / k, (m - n) * 1e9 / k, (m - n) / f
+    exit !(m - n <= 2 * f)
+}'

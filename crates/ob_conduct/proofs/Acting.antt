@@ -29,7 +29,7 @@ use Rattle.ob_conduct.specs.Acts.{look_calls, rest_calls, rest_fetches, close_ca
 use Rattle.ob_conduct.specs.Scenes.{Scene}
 use Rattle.ob_conduct.specs.Records.{AreAnswered, IsWritten}
 use Rattle.ob_conduct.specs.Ready.{IsBetweenActs, IsOrdered, TellsEpochs, IsDueRecord}
-use Rattle.ob_conduct.specs.Moves.{Moves, ReadsBatches, ReadFails, IsClosed, IsEnded, EndFails, Acted, ActFails}
+use Rattle.ob_conduct.specs.Moves.{Moves, ReadsBatches, ReadFails, IsClosed, IsEnded, EndFails, Acted, IsSaid, ActFails}
 use Rattle.ob_conduct.proofs.Moving.{moves_join, moves_one, looked, later}
 
 -- ---- nothing told, and one record
@@ -65,7 +65,7 @@ written_none f = record { bytes = append_none f.bytes; later = omega arith }
 pub printed_whole : (text : List ℕ) (before after : Flow) → IsWritten text before after → IsPrinted before after text
 printed_whole text before after w = record { count = length text; within = omega arith; written = w.bytes ∙ ap (appended before.bytes) (sym (take_all (length text) text (omega arith))); whole = inl refl }
 
-one_text : (told : EpochRecord ℕ) → record_text decimal told ≡ report decimal (told ∷ [])
+pub one_text : (told : EpochRecord ℕ) → record_text decimal told ≡ report decimal (told ∷ [])
 one_text told = sym (append-nil (record_text decimal told))
 
 -- no records, no lines
@@ -204,12 +204,14 @@ module _ {V : Type 0} (k : Kind V) (p : Params) (beat : BeatKind) (a : Scene V) 
     failure = record {
       front = Takes look f.keys ∷ [];
       act = DeliverFails f.keys fault;
+      behind = [];
       acts_are = refl;
+      says = All-nil IsSaid;
       answered = tt;
       told = refl;
       reason = f.is_fault;
       cause = f.cause;
-      stopped = f.stopped;
+      stopped = inl f.stopped;
       lines = written_none before;
     };
   }
@@ -229,12 +231,14 @@ module _ {V : Type 0} (k : Kind V) (p : Params) (beat : BeatKind) (a : Scene V) 
     failure = record {
       front = [];
       act = act;
+      behind = [];
       acts_are = refl;
+      says = All-nil IsSaid;
       answered = tt;
       told = refl;
       reason = f.is_fault;
       cause = f.cause;
-      stopped = f.stopped;
+      stopped = inl f.stopped;
       lines = silent_written (records (act ∷ [])) before tells;
     };
   }
@@ -292,7 +296,9 @@ module _ {V : Type 0} (k : Kind V) (p : Params) (beat : BeatKind) (a : Scene V) 
       failure = record {
         front = Closes look batches e.writes ∷ [];
         act = Refuses e.writes e.refused;
+        behind = [];
         acts_are = refl;
+        says = All-nil IsSaid;
         answered = answered_rest batches [] tt;
         told = ap Some (sym e.fault_is);
         reason = record {
@@ -304,7 +310,7 @@ module _ {V : Type 0} (k : Kind V) (p : Params) (beat : BeatKind) (a : Scene V) 
           is_fault = subst (λ n. IsEndFault n e.refused) here e.is_fault;
         };
         cause = λ store. rose_later (k.disk a.vault).faults (k.disk mid.vault).faults (k.disk new.vault).faults (later k a mid (rest_calls batches) (rest_fetches batches) read.moves) (e.cause store);
-        stopped = e.stopped;
+        stopped = inl e.stopped;
         lines = silent_written (records thing) before tells;
       };
     }
@@ -341,12 +347,14 @@ module _ {V : Type 0} (k : Kind V) (p : Params) (beat : BeatKind) (a : Scene V) 
       failure = record {
         front = Closes look batches e.writes ∷ Publishes e.writes e.left told ∷ [];
         act = Unprinted;
+        behind = [];
         acts_are = refl;
+        says = All-nil IsSaid;
         answered = answered_rest batches ((End e.writes, Ended) ∷ []) tt;
         told = refl;
         reason = tt;
         cause = λ store. absurd store;
-        stopped = stopped;
+        stopped = inl stopped;
         lines = record { whole = []; last = told; told_are = tells; mid = before; written = written_none before; printed = printed; rose = rose };
       };
     }
@@ -376,12 +384,14 @@ halted k p beat a c before fault r is = let memory : fault ≡ Memory = stop_mem
   failure = record {
     front = [];
     act = Halts fault;
+    behind = [];
     acts_are = refl;
+    says = All-nil IsSaid;
     answered = tt;
     told = refl;
     reason = memory;
     cause = λ store. absurd (subst (λ (f : Fault). IsStoreFault f) memory store);
-    stopped = is;
+    stopped = inl is;
     lines = written_none before;
   };
 }

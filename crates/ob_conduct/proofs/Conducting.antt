@@ -1,8 +1,7 @@
 -- A run goes on by a round, and ends.
-use Rattle.std.proofs.Common.{◌≡◌, ◌∙◌, ◌≤◌, ◌+◌, ℕ, suc, false, All, List, [], ◌∷◌, ◌++◌, length, map, filter, Option, Ok, Err, Result, refl, sym, ap, ap₂, subst, inl, inr, arith, nat_cmp, decimal}
+use Rattle.std.proofs.Common.{◌≡◌, ◌∙◌, ◌≤◌, ◌+◌, ℕ, suc, false, All, List, [], ◌∷◌, ◌++◌, length, map, filter, Option, Ok, Err, Result, refl, sym, ap, subst, inl, inr, arith, nat_cmp, decimal}
 use Rattle.std.proofs.lemmas.List.{append-nil, append_assoc, length-append}
 use Rattle.std.proofs.lemmas.List.Elements.{All-nil, All-cons, All-map, All-append, All-weaker, All-head, All-tail}
-use Rattle.std.specs.FinMap.{empty}
 use Rattle.ob_base.specs.declared.fault.Fault.{Fault}
 use Rattle.ob_base.specs.declared.fault.Fault.TheVariants.{Memory}
 use Rattle.ob_base.specs.declared.params.Params.{Params}
@@ -26,28 +25,24 @@ use Rattle.ob_desk.proofs.Sees.{replays_from_reads}
 use Rattle.ob_desk.proofs.Published.{one_by_one_from}
 use Rattle.ob_session.specs.Steps.{Leads}
 use Rattle.ob_session.specs.Clients.{said_by}
-use Rattle.ob_conduct.specs.Acts.{Act, Says, Halts, Rests, Takes, Delivers, DeliverFails, FetchFails, Closes, Publishes, Refuses, Unprinted, history, calls, records, desk_calls, vault_calls, IsAllowed}
+use Rattle.ob_conduct.specs.Acts.{Act, Says, Halts, Rests, Takes, Delivers, DeliverFails, FetchFails, Closes, Publishes, Refuses, Unprinted, history, calls, records, IsAllowed}
 use Rattle.ob_conduct.specs.Rounds.{TurnRule, plan_rule, KeepRule, AreTurns, InRounds, InTurns}
 use Rattle.ob_conduct.specs.Scenes.{Scene, scene, RunState, run_state, RunnerKind, seat_of, AllNoted}
 use Rattle.ob_conduct.specs.Records.{contents, HoldsMap, AreAnswered, IsOver, IsWritten}
 use Rattle.ob_conduct.specs.Ready.{IsBetweenActs, TellsEpochs, IsDueRecord}
-use Rattle.ob_conduct.specs.Moves.{Moves, Acted, ActFails, IsUnended, IsReason, AreLines, Failure, IsSaid, Stepped, Heard}
+use Rattle.ob_conduct.specs.Moves.{Moves, Acted, ActFails, IsUnended, IsReason, AreLines, IsForestalled, IsStoppedFor, Failure, IsSaid, Stepped, Heard}
 use Rattle.ob_conduct.specs.Conducted.{RunEnds, Conducted, ByHand}
 use Rattle.ob_conduct.proofs.Fit.{fit_new}
 use Rattle.ob_conduct.proofs.Writes.{left_by}
-use Rattle.ob_conduct.proofs.Ready.{own_run}
-use Rattle.ob_conduct.proofs.Moving.{run_join, later, moves_none, moves_join}
+use Rattle.ob_conduct.proofs.Moving.{later, moves_none, moves_join}
 use Rattle.ob_conduct.proofs.Acting.{tells_none, tells_one, written_none, printed_whole}
 use Rattle.ob_conduct.proofs.Turning.{in_rounds_none, in_turns, round_ends, keeps_append, keeps_driven}
 use Rattle.ob_conduct.proofs.Stepping.{same_seats}
 use Rattle.ob_session.proofs.Saying.{said_append}
-use Rattle.ob_conduct.proofs.Going.{history_append, calls_append, records_append, published_append, ended_append, answered_join, own_tells, tells_join, in_order, written_then, printed_then, cut_then}
+use Rattle.ob_conduct.proofs.Behind.{said_run, empty_map, tells_before}
+use Rattle.ob_conduct.proofs.Going.{history_append, calls_append, records_append, ended_append, answered_join, tells_join, in_order, written_then, printed_then, cut_then}
 
 -- ---- steps of clients
-
-leads_split : (a : DeskState) (xs ys : List (Call × Reply)) (c : DeskState) → Leads a (xs ++ ys) c → (b : DeskState) × Leads a xs b × Leads b ys c
-leads_split a [] ys c leads = (a, refl, leads)
-leads_split a (x ∷ xs) ys c (mid, may, one, rest) = let (b, first, last) = leads_split mid xs ys c rest in (b, (mid, may, one, first), last)
 
 said_allowed : (beat : BeatKind) (act : Act) → IsSaid act → IsAllowed beat act
 said_allowed beat (Says client steps) said = said
@@ -61,34 +56,6 @@ said_allowed beat (Closes look batches writes) said = absurd said
 said_allowed beat (Publishes writes left told) said = absurd said
 said_allowed beat (Refuses writes refused) said = absurd said
 said_allowed beat Unprinted said = absurd said
-
--- one client's calls ask the vault nothing, publish nothing, and leave its map
-one_run : (m : Map nat_cmp) (act : Act) (d new : DeskState) → IsSaid act → Leads d (desk_calls act) new → Run m d (desk_calls act) m new × (vault_calls act ≡ []) × (published (desk_calls act) ≡ [])
-one_run m (Says client steps) d new said leads = (own_run m client d steps new said leads, refl, own_tells client steps d new said leads)
-one_run m (Halts fault) d new said leads = absurd said
-one_run m (Rests look) d new said leads = absurd said
-one_run m (Takes look keys) d new said leads = absurd said
-one_run m (Delivers batch) d new said leads = absurd said
-one_run m (DeliverFails keys fault) d new said leads = absurd said
-one_run m (FetchFails look batches keys fault) d new said leads = absurd said
-one_run m (Closes look batches writes) d new said leads = absurd said
-one_run m (Publishes writes left told) d new said leads = absurd said
-one_run m (Refuses writes refused) d new said leads = absurd said
-one_run m Unprinted d new said leads = absurd said
-
-said_run : (m : Map nat_cmp) (acts : List Act) (d new : DeskState) → All IsSaid acts → Leads d (history acts) new → Run m d (history acts) m new × (calls acts ≡ []) × (records acts ≡ [])
-said_run m [] d new said leads = ((refl, leads), refl, refl)
-said_run m (act ∷ acts) d new said leads =
-    let (mid, first, rest) = leads_split d (desk_calls act) (history acts) new leads in
-    let (run, asks, tells) = one_run m act d mid (All-head IsSaid act acts said) first in
-    let (runs, ask, tell) = said_run m acts mid new (All-tail IsSaid act acts said) rest in (
-      run_join m d (desk_calls act) m mid (history acts) m new run runs,
-      ap₂ (λ (x y : List (VaultCall × VaultAnswer)). x ++ y) asks ask,
-      published_append (desk_calls act) (history acts) ∙ ap₂ (λ (x y : List (EpochRecord ℕ)). x ++ y) tells tell,
-    )
-
-empty_map : Map nat_cmp
-empty_map = empty
 
 module _ {V : Type 0} (k : Kind V) where
   said_moves : (acts : List Act) (d new : DeskState) (v : V) (t : Trace) → All IsSaid acts → Leads d (history acts) new → Moves k (scene d v t) (history acts) (calls acts) (scene new v t)
@@ -301,16 +268,33 @@ module _ {V U Plan : Type 0} (k : Kind V) (kind : RunnerKind U Plan) (p : Params
     lines_on after (Closes look batches writes) told lines = written_then (records g.acts) told old.output now.output after g.written lines
     lines_on after (Publishes writes left published) told lines = written_then (records g.acts) told old.output now.output after g.written lines
 
+    forestalled_on : (front : List Act) → IsForestalled front → IsForestalled (g.acts ++ front)
+    forestalled_on front by = record {
+      before = g.acts ++ by.before;
+      client = by.client;
+      steps = by.steps;
+      behind = by.behind;
+      front_is = ap (λ (x : List Act). g.acts ++ x) by.front_is ∙ sym (append_assoc g.acts by.before (Says by.client by.steps ∷ by.behind));
+      stops = by.stops;
+      says = by.says;
+    }
+
+    stopped_on : (stop : Option Fault) (fault : Fault) (front : List Act) → IsStoppedFor stop fault front → IsStoppedFor stop fault (g.acts ++ front)
+    stopped_on stop fault front (inl is) = inl is
+    stopped_on stop fault front (inr (is, by)) = inr (is, forestalled_on front by)
+
     failure_on : (new : Scene V) (thing : List Act) (after : Flow) (fault : Fault) → Failure k now.scene new thing now.output after fault → Failure k old.scene new (g.acts ++ thing) old.output after fault
     failure_on new thing after fault f = record {
       front = g.acts ++ f.front;
       act = f.act;
-      acts_are = ap (λ (x : List Act). g.acts ++ x) f.acts_are ∙ sym (append_assoc g.acts f.front (f.act ∷ []));
+      behind = f.behind;
+      acts_are = ap (λ (x : List Act). g.acts ++ x) f.acts_are ∙ sym (append_assoc g.acts f.front (f.act ∷ f.behind));
+      says = f.says;
       answered = answered_on g.acts f.front g.answered f.answered;
       told = f.told;
       reason = reason_on f.front f.act f.reason;
       cause = λ store. rose_later (k.disk old.scene.vault).faults (k.disk now.scene.vault).faults (k.disk new.vault).faults (later k old.scene now.scene (history g.acts) (calls g.acts) g.moves) (f.cause store);
-      stopped = f.stopped;
+      stopped = stopped_on new.desk.stop fault f.front f.stopped;
       lines = subst (λ (rs : List (EpochRecord ℕ)). AreLines f.act rs old.output after) (sym (records_append g.acts thing)) (lines_on after f.act (records thing) f.lines);
     }
 
@@ -324,7 +308,8 @@ module _ {V U Plan : Type 0} (k : Kind V) (kind : RunnerKind U Plan) (p : Params
     ran_to : (m : Map nat_cmp) (steps : List (Call × Reply)) (last : Map nat_cmp) (d : DeskState) → Run m old.scene.desk steps last d → last ≡ contents m (published steps)
     ran_to m steps last d run = left_by m (committed_of (published steps)) last (ran m steps last d run)
 
-    finish : (acts : List Act) (new : RunState V U) (next : ℕ) (result : Result (Unit {0}) Fault) → All (IsAllowed beat) acts → Moves k old.scene (history acts) (calls acts) new.scene
+    -- acts that are allowed and lead to the end, with what is told of them, are a run
+    pub finish : (acts : List Act) (new : RunState V U) (next : ℕ) (result : Result (Unit {0}) Fault) → All (IsAllowed beat) acts → Moves k old.scene (history acts) (calls acts) new.scene
         → TellsEpochs begun next (ended_of (calls acts)) (records acts) → IsPrinted old.output new.output (report decimal (records acts)) → All (λ u. kind.fits u (said_by (kind.client u) (history acts))) new.runners → KeepRule rule [] acts
         → map kind.client new.runners ≡ map kind.client old.runners → map kind.bound new.runners ≡ map kind.bound old.runners → map kind.plan new.runners ≡ map kind.plan old.runners → RunEnds k old new acts result
         → Conducted k kind beat old new acts result
@@ -383,13 +368,13 @@ module _ {V U Plan : Type 0} (k : Kind V) (kind : RunnerKind U Plan) (p : Params
 
     -- ---- the epoch whose end was refused, or left in doubt, behind the others
 
-    module _ (acts : List Act) (new : RunState V U) (result : Result (Unit {0}) Fault) (d : Conducted k kind beat old new acts result) (front : List Act) (writes : List (ℕ × Option (List ℕ))) (refused : EndErr) (is : acts ≡ front ++ Refuses writes refused ∷ [])
-        (u : IsUnended k old.scene front writes refused) where
+    module _ (acts : List Act) (new : RunState V U) (result : Result (Unit {0}) Fault) (d : Conducted k kind beat old new acts result) (front : List Act) (writes : List (ℕ × Option (List ℕ))) (refused : EndErr) (behind : List Act)
+        (is : acts ≡ front ++ Refuses writes refused ∷ behind) (says : All IsSaid behind) (u : IsUnended k old.scene front writes refused) where
       abbrev due : EpochRecord ℕ
       due = record_of u.closed
 
       pub same_records : records acts ≡ records front
-      same_records = ap records is ∙ records_append front (Refuses writes refused ∷ []) ∙ append-nil (records front)
+      same_records = tells_before acts front (Refuses writes refused) behind is says old.scene.desk new.scene.desk d.leads ∙ append-nil (records front)
 
       pub due_epoch : due.epoch ≡ begun + length (records acts)
       due_epoch = u.due.epoch_is ∙ ap (λ (rs : List (EpochRecord ℕ)). begun + length rs) (sym same_records)

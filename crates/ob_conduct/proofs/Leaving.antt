@@ -23,7 +23,8 @@ use Rattle.ob_conduct.specs.Conducted.{RunEnds, Conducted}
 use Rattle.ob_conduct.specs.Left.{Rests, OnlyNow, standing_behind, IsFront, IsLeftStanding, TellsDoubt, IsLeftNow, next_at, IsThisOrNext, Stages, LeftByRun}
 use Rattle.ob_conduct.proofs.Acting.{answered_rest}
 use Rattle.ob_conduct.proofs.Moving.{called}
-use Rattle.ob_conduct.proofs.Going.{calls_more, records_append, ended_append, answered_join}
+use Rattle.ob_conduct.proofs.Behind.{asks_before, tells_before}
+use Rattle.ob_conduct.proofs.Going.{ended_append, answered_join}
 
 -- ---- maps behind records
 
@@ -279,10 +280,6 @@ module _ {V : Type 0} (k : Kind V) (only : OnlyNow k) (rests : Rests k) where
 
 -- ---- a run
 
--- the calls up to one that was refused
-calls_before : (acts front : List Act) (act : Act) → acts ≡ front ++ act ∷ [] → calls acts ≡ calls front ++ vault_calls act
-calls_before acts front act is = ap calls is ∙ calls_more front act
-
 wrote_before : (acts : List Act) (front : List (VaultCall × VaultAnswer)) (call : VaultCall) (answer : VaultAnswer) → calls acts ≡ front ++ (call, answer) ∷ [] → ended_by (call, answer) ≡ [] → AreWritten (ended_of (calls acts)) (records acts) → AreWritten (ended_of front) (records acts)
 wrote_before acts front call answer is none wrote = subst (λ (ws : List (List (ℕ × Option (List ℕ)))). AreWritten ws (records acts))
     (ap ended_of is ∙ ended_append front ((call, answer) ∷ []) ∙ ap (λ x. ended_of front ++ x) (append-nil (ended_by (call, answer)) ∙ none) ∙ append-nil (ended_of front)) wrote
@@ -347,14 +344,14 @@ module _ {V U Plan : Type 0} (k : Kind V) (only : OnlyNow k) (rests : Rests k) (
     by_end writes refused act_is r =
         let due : EpochRecord ℕ = record_of r.closed in
         let answer : VaultAnswer = end_answer (Err refused) in
-        let acts_are : acts ≡ f.front ++ Refuses writes refused ∷ [] = f.acts_are ∙ ap (λ (x : Act). f.front ++ x ∷ []) act_is in
+        let acts_are : acts ≡ f.front ++ Refuses writes refused ∷ f.behind = f.acts_are ∙ ap (λ (x : Act). f.front ++ x ∷ f.behind) act_is in
         let front : List (VaultCall × VaultAnswer) = calls f.front in
-        let is : calls acts ≡ front ++ (End writes, answer) ∷ [] = calls_before acts f.front (Refuses writes refused) acts_are in
+        let is : calls acts ≡ front ++ (End writes, answer) ∷ [] = asks_before acts f.front (Refuses writes refused) f.behind acts_are f.says in
         let wrote : AreWritten (ended_of front) told = wrote_before acts front (End writes) answer is (refused_ends writes refused) d.wrote in
         let u : VaultState = after_calls v front in
         let b : IsBehind v told u = is_behind v front told f.answered wrote none in
         let fault_is : fault ≡ fault_in refused = same_Some fault (fault_in refused) (sym f.told ∙ ap fault_told act_is) in
-        let same_records : records acts ≡ records f.front = ap records acts_are ∙ records_append f.front (Refuses writes refused ∷ []) ∙ append-nil (records f.front) in
+        let same_records : records acts ≡ records f.front = tells_before acts f.front (Refuses writes refused) f.behind acts_are f.says old.scene.desk new.scene.desk d.leads ∙ append-nil (records f.front) in
         let is_fault : IsEndFault epoch refused = subst (λ (rs : List (EpochRecord ℕ)). IsEndFault (old.scene.desk.running.epoch + length rs) refused) (sym same_records) r.is_fault in
         let whole : AllCalled k first (calls acts) last = chain (Err fault) d in
         let (mid, before, one) = chain_last k first front (End writes) answer last (subst (λ (s : List (VaultCall × VaultAnswer)). AllCalled k first s last) is whole) in
@@ -370,7 +367,7 @@ module _ {V U Plan : Type 0} (k : Kind V) (only : OnlyNow k) (rests : Rests k) (
 
     -- the calls that stand before the last act
     before_it : (act : Act) → f.act ≡ act → calls acts ≡ calls f.front ++ vault_calls act
-    before_it act is = calls_before acts f.front f.act f.acts_are ∙ ap (λ (x : Act). calls f.front ++ vault_calls x) is
+    before_it act is = asks_before acts f.front f.act f.behind f.acts_are f.says ∙ ap (λ (x : Act). calls f.front ++ vault_calls x) is
 
     no_calls : (act : Act) → f.act ≡ act → vault_calls act ≡ [] → LeftByRun k old new acts (Err fault) v
     no_calls act is asks = all_answered (Err fault) d (subst AreAnswered (sym (before_it act is ∙ ap (λ (x : List (VaultCall × VaultAnswer)). calls f.front ++ x) asks ∙ append-nil (calls f.front))) f.answered)

@@ -8,6 +8,7 @@ pub mod Acting
 pub mod Turning
 pub mod Stepping
 pub mod Going
+pub mod Behind
 pub mod Conducting
 pub mod Leaving
 pub mod Quitting

@@ -1,5 +1,5 @@
 -- What each part of an act does, and each act.
-use Rattle.std.specs.Prelude.{ℕ, suc, ◌≡◌, ◌+◌, All, List, [], ◌∷◌, ◌++◌, length, map, Option, Some, Err, decimal}
+use Rattle.std.specs.Prelude.{ℕ, suc, ◌≡◌, ◌+◌, ◌⊎◌, All, Contains, List, [], ◌∷◌, ◌++◌, length, map, Option, Some, Err, decimal}
 use Rattle.std.specs.Ordering.{nat_cmp}
 use Rattle.ob_base.specs.declared.params.Params.{Params}
 use Rattle.ob_base.specs.Causes.{Rose}
@@ -118,17 +118,38 @@ abbrev pub AreLines : Act → List (EpochRecord ℕ) → Flow → Flow → Type 
 AreLines Unprinted told before after = IsCutShort told before after
 AreLines _ told before after = IsWritten (report decimal told) before after
 
--- Acts of which the last one tells of a fault: nobody refused those before it, and the desk is stopped with that fault. The vault refused
--- by its store only where its count of faults rose.
+-- a client's own calls
+abbrev pub IsSaid : Act → Type 0
+IsSaid (Says client steps) = All (IsOwn client) steps
+IsSaid _ = ⊥
+
+-- Behind all that the driver did before, a client stopped the desk for want of memory.
+pub record IsForestalled (front : List Act) : Type 0 where
+  pub before : List Act
+  pub client : ℕ
+  pub steps : List (Call × Reply)
+  pub behind : List Act
+  pub front_is : front ≡ before ++ Says client steps ∷ behind
+  pub stops : Contains steps (desk.Stop Memory, desk.Done)
+  pub says : All IsSaid behind
+
+-- The desk is stopped with this fault, unless a client had stopped it just before. By hand no client's turn comes between, so there it is.
+abbrev pub IsStoppedFor : Option Fault → Fault → List Act → Type 0
+IsStoppedFor stop fault front = (stop ≡ Some fault) ⊎ ((stop ≡ Some Memory) × IsForestalled front)
+
+-- Acts of which the driver's last one tells of a fault, and only clients' turns stand behind it: nobody refused those before it, and the
+-- desk is stopped for that fault. The vault refused by its store only where its count of faults rose.
 pub record Failure {V : Type 0} (k : Kind V) (old new : Scene V) (acts : List Act) (before after : Flow) (fault : Fault) : Type 0 where
   pub front : List Act
   pub act : Act
-  pub acts_are : acts ≡ front ++ act ∷ []
+  pub behind : List Act
+  pub acts_are : acts ≡ front ++ act ∷ behind
+  pub says : All IsSaid behind
   pub answered : AreAnswered (calls front)
   pub told : fault_told act ≡ Some fault
   pub reason : IsReason k old front act
   pub cause : IsStoreFault fault → Rose (k.disk old.vault).faults (k.disk new.vault).faults
-  pub stopped : new.desk.stop ≡ Some fault
+  pub stopped : IsStoppedFor new.desk.stop fault front
   pub lines : AreLines act (records acts) before after
 
 -- The last thing that the driver did in a run that fails.
@@ -143,11 +164,6 @@ pub record ActFails {V : Type 0} (k : Kind V) (beat : BeatKind) (old : Scene V) 
   pub told : TellsEpochs old.desk.running.epoch next (ended_of (calls thing)) (records thing)
   pub printed : IsPrinted before after (report decimal (records thing))
   pub failure : Failure k old new thing before after fault
-
--- a client's own calls
-abbrev pub IsSaid : Act → Type 0
-IsSaid (Says client steps) = All (IsOwn client) steps
-IsSaid _ = ⊥
 
 -- A step of each runner: their clients' calls, one behind the other. So these clients had their turns.
 pub record Stepped {U Plan : Type 0} (kind : RunnerKind U Plan) (numbers : List ℕ) (old : DeskState) (was : List U) (new : DeskState) (are : List U) : Type 0 where

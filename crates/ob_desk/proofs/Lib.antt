@@ -4,6 +4,7 @@ pub mod Answered
 pub mod Counted
 pub mod Ends
 pub mod Fine
+pub mod Going
 pub mod Maps
 pub mod Published
 pub mod Rooms

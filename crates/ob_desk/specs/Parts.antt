@@ -1,11 +1,11 @@
 -- What the desk's two epochs are seen as, and the room that is kept for them.
-use Rattle.std.specs.Prelude.{ℕ, ◌≡◌, ◌≤◌, ◌+◌, ◌^◌, Bool, false, if◌then◌else◌, List, [], length, slice_get, vec_capacity}
+use Rattle.std.specs.Prelude.{ℕ, ◌≡◌, ◌≤◌, ◌+◌, ◌^◌, Bool, false, if◌then◌else◌, List, [], filter, length, slice_get, vec_capacity}
 use Rattle.std.specs.Option.{option_map, unwrap_or}
-use Rattle.std.specs.List.{cons_option}
+use Rattle.std.specs.List.{cons_option, range_with_len}
 use Rattle.std.specs.declared.option.Option.{Option}
 use Rattle.std.specs.declared.option.Option.TheVariants.{None, Some}
 use Rattle.ob_serial.specs.Serial.{TxnRecord}
-use Rattle.ob_order.specs.Works.{Work}
+use Rattle.ob_order.specs.Works.{Work, goes_on}
 use Rattle.ob_desk.specs.declared.part.Part.{Part as CodePart}
 use Rattle.ob_desk.specs.Desk.{Part, DeskState, Holder, Client, Fault, Committed, AbortedBy, why_of}
 
@@ -17,17 +17,27 @@ pub record HasRecordRoom (p : CodePart) : Type 0 where
   pub none_yet : p.told.items ≡ []
   pub fits : length p.holders.items ≤ vec_capacity p.told
 
--- the same parameters and the same room, for as many transactions
+-- each ticket that goes on is on the list, once and in order, beside some that don't
+pub record HasGoing (ws : List Work) (tickets : List ℕ) : Type 0 where
+  pub listed : filter (goes_on ws) tickets ≡ filter (goes_on ws) (range_with_len 1 (length ws))
+
+-- the list of a part
+abbrev pub ListsGoing : CodePart → Type 0
+ListsGoing p = HasGoing p.order.state.works p.going.items
+
+-- the same parameters and the same room, for as many transactions, and the list still has those that go on
 pub record KeepsRoom (old new : CodePart) : Type 0 where
   pub params : new.order.params ≡ old.order.params
   pub told : new.told ≡ old.told
   pub holders : length new.holders.items ≡ length old.holders.items
+  pub going : ListsGoing old → ListsGoing new
 
--- two epochs with the same parameters and room for both, and an epoch that may still be closed has a number to count on from
+-- two epochs with the same parameters and room for both, the list of those that go on, and an epoch that may still be closed has a number to count on from
 pub record ArePartsKept (running other : CodePart) (is_closed : Bool) (stop : Option Fault) : Type 0 where
   pub alike : other.order.params ≡ running.order.params
   pub running_room : HasRecordRoom running
   pub other_room : HasRecordRoom other
+  pub going : ListsGoing running
   pub low : is_closed ≡ false → stop ≡ None → running.epoch ≤ 2 ^ 62
 
 -- what is seen of a desk

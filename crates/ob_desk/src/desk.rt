@@ -320,7 +320,7 @@ impl Desk {
     {
         Look {
             waiting: count_waiting(&self.running),
-            live: count_live(&self.running.order),
+            live: count_live(&self.running),
             queued: self.running.order.queued(),
             left: self.running.order.left(),
             txns: self.running.order.txns(),

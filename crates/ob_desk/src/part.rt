@@ -1,13 +1,13 @@
 //! One epoch of the desk, running or closed.
 
-ghost use Rattle.std.specs.Prelude.{◌≡◌, ℕ, ◌+◌, ◌-◌, ◌<◌, ◌≤◌, length, map, slice_get, take, true, false, if◌then◌else◌, Some, None, [], ◌∷◌, ◌++◌, vec_len, vec_capacity, is_some, IfOk, OnOk, OnErr};
+ghost use Rattle.std.specs.Prelude.{◌≡◌, ℕ, ◌+◌, ◌-◌, ◌<◌, ◌≤◌, length, map, slice_get, take, true, false, if◌then◌else◌, Some, None, [], ◌∷◌, ◌++◌, filter, vec_len, vec_capacity, is_some, IfOk, OnOk, OnErr};
 ghost use Rattle.std.specs.Option.{option_and_then, option_map, unwrap_or, is_none};
 ghost use Rattle.std.specs.List.{count_by, range_with_len};
 ghost use Rattle.ob_order.specs.Works as works;
 ghost use Rattle.ob_order.specs.Order as rules;
 ghost use Rattle.ob_serial.specs.Views.{txn_of, record_of};
 ghost use Rattle.ob_desk.specs.Desk as desks;
-ghost use Rattle.ob_desk.specs.Parts.{part_of, HasRecordRoom, KeepsRoom, told_at};
+ghost use Rattle.ob_desk.specs.Parts.{part_of, HasRecordRoom, HasGoing, ListsGoing, KeepsRoom, told_at};
 
 use crate::clients::Holder;
 use ob_base::{Fault, Key, Memory, Op, Params, Value};
@@ -17,13 +17,15 @@ use ob_versions::Order;
 use std::alloc::Global;
 use std::mem;
 
-/// One epoch: the order of its transactions and, by ticket, who holds each. `told` is empty, with
+/// One epoch: the order of its transactions and, by ticket, who holds each. `going` lists the
+/// tickets that go on, beside some that were aborted since the last begin. `told` is empty, with
 /// room for the record of each.
 #[derive(Drop)]
 pub struct Part {
     pub epoch: u64,
     pub order: Order,
     pub holders: Vec<Holder>,
+    pub going: Vec<u64>,
     pub told: Vec<TxnRecord<Key>>,
 }
 
@@ -105,7 +107,7 @@ pub fn has_asked(holders: &[Holder], t: u64) -> bool
 
 // Whether the ticket has an unanswered get that can't be answered now.
 fn is_stuck(order: &Order, t: u64) -> bool
-    requires { (0 < t) × (t ≤ length order.now.state.works) }
+    requires { works.goes_on order.now.state.works t ≡ true }
     ensures { result
         ≡ unwrap_or (option_map (λ k. is_none (rules.answer order.now.state t k))
         (works.waiting_at order.now.state.works t)) false }
@@ -118,7 +120,6 @@ fn is_stuck(order: &Order, t: u64) -> bool
 
 // Whether the ticket isn't aborted, and asked to commit or is stuck.
 fn waits(part: &Part, t: u64) -> bool
-    requires { (0 < t) × (t ≤ length part.now.order.state.works) }
     ensures { result ≡ desks.waits (part_of part.now) t }
 {
     goes_on(&part.order, t) && (has_asked(&part.holders, t) || is_stuck(&part.order, t))
@@ -126,15 +127,16 @@ fn waits(part: &Part, t: u64) -> bool
 
 /// How many of the part's transactions wait: they asked to commit, or have a get that can't be
 /// answered yet.
-#[tactic(auto, using(crate::proofs::Counted::count_ticket))]
+#[tactic(auto, using(crate::proofs::Counted::count_item))]
 pub fn count_waiting(part: &Part) -> u64
+    requires { ListsGoing part.now }
     ensures { result
         ≡ count_by (desks.waits (part_of part.now))
         (range_with_len 1 (length part.now.order.state.works)) }
 {
     let mut count = 0;
-    for n in 0..part.order.txns() {
-        if waits(part, n + 1) {
+    for t in &part.going {
+        if waits(part, *t) {
             count += 1;
         }
     }
@@ -142,19 +144,27 @@ pub fn count_waiting(part: &Part) -> u64
 }
 
 /// How many transactions aren't aborted.
-#[tactic(auto, using(crate::proofs::Counted::count_ticket))]
-pub fn count_live(order: &Order) -> u64
+#[tactic(auto, using(crate::proofs::Counted::count_item))]
+pub fn count_live(part: &Part) -> u64
+    requires { ListsGoing part.now }
     ensures { result
-        ≡ count_by (works.goes_on order.now.state.works)
-        (range_with_len 1 (length order.now.state.works)) }
+        ≡ count_by (works.goes_on part.now.order.state.works)
+        (range_with_len 1 (length part.now.order.state.works)) }
 {
     let mut count = 0;
-    for n in 0..order.txns() {
-        if goes_on(order, n + 1) {
+    for t in &part.going {
+        if goes_on(&part.order, *t) {
             count += 1;
         }
     }
     count
+}
+
+// Leaves those that go on.
+fn prune(going: &mut Vec<u64>, order: &Order)
+    ensures { going.new.items ≡ filter (works.goes_on order.now.state.works) going.old.items }
+{
+    going.retain(|t| goes_on(order, *t));
 }
 
 /// The ticket asked to commit.
@@ -228,6 +238,7 @@ pub fn new_part(alloc: Global, epoch: u64, order: Order) -> Part
     ensures order { result.order ≡ order }
     ensures epoch { result.epoch ≡ epoch }
     ensures none { result.holders.items ≡ [] }
+    ensures none_going { result.going.items ≡ [] }
     ensures room { HasRecordRoom result }
 {
     // The prover has to see this type named here.
@@ -236,6 +247,7 @@ pub fn new_part(alloc: Global, epoch: u64, order: Order) -> Part
         epoch,
         order,
         holders: Vec::new(alloc),
+        going: Vec::new(alloc),
         told: Vec::new(alloc),
     }
 }
@@ -245,7 +257,8 @@ pub fn new_part(alloc: Global, epoch: u64, order: Order) -> Part
 /// # Errors
 /// Memory was wanting. All is as before.
 pub fn draw(part: &mut Part, client: u32) -> Result<u64, Memory>
-    requires { HasRecordRoom part.old }
+    requires room { HasRecordRoom part.old }
+    requires going { ListsGoing part.old }
     ensures ticket { IfOk result (λ t. t ≡ length part.old.order.state.works + 1) }
     ensures ok { OnOk result (part_of part.new
         ≡ record (part_of part.old) {
@@ -256,12 +269,16 @@ pub fn draw(part: &mut Part, client: u32) -> Result<u64, Memory>
     ensures err { OnErr result (part_of part.new ≡ part_of part.old) }
     ensures params { part.new.order.params ≡ part.old.order.params }
     ensures room { HasRecordRoom part.new }
+    ensures going { ListsGoing part.new }
 {
     // The prover has to see this type named here.
     let _told: Option<Value> = None;
+    prune(&mut part.going, &part.order);
+    part.going.reserve(1)?;
     part.holders.reserve(1)?;
     part.told.reserve(part.holders.len() + 1)?;
     let ticket = part.order.begin()?;
+    part.going.push_reserved(ticket);
     let _ = part.holders.push(Holder {
         client,
         asked: false,
@@ -275,11 +292,13 @@ pub fn restart(part: &mut Part, epoch: u64)
     ensures part { part_of part.new ≡ desks.new_part epoch part.old.order.params.batches }
     ensures params { part.new.order.params ≡ part.old.order.params }
     ensures told { part.new.told ≡ part.old.told }
+    ensures going { ListsGoing part.new }
 {
     let batches = part.order.params().batches;
     part.epoch = epoch;
     part.order.clear(batches);
     part.holders.clear();
+    part.going.clear();
 }
 
 // How a transaction of a part that is published ended.

@@ -1,6 +1,6 @@
 //! The driver's run: its looks, up to the end.
 
-ghost use Rattle.std.specs.Prelude.{◌≡◌, ◌⊎◌, ◌∷◌, [], true, MatchBool, OnOk, IfErr};
+ghost use Rattle.std.specs.Prelude.{◌≡◌, ◌∷◌, [], true, MatchBool, OnOk, IfErr};
 ghost use Rattle.ob_io.specs.Streams.{outflow};
 ghost use Rattle.ob_serial.specs.VaultKinds.{kind_of};
 ghost use Rattle.ob_desk.specs.Beats.{beat_kind};
@@ -8,7 +8,7 @@ ghost use Rattle.ob_hall.specs.Passes.{IsRaised};
 ghost use Rattle.ob_driver.specs.Resting.{params_of, IsBetweenTurns};
 ghost use Rattle.ob_driver.specs.Rooms.{HasRoom};
 ghost use Rattle.ob_driver.specs.Driven.{side};
-ghost use Rattle.ob_driver.specs.Drives.{DoneThings, FailsThings, IsOverAt, IsFirstPass, RunsOut, RunFails, IsNotBegun};
+ghost use Rattle.ob_driver.specs.Drives.{DoneThings, FailsThings, IsOverAt, IsFirstPass, RunsOut, RunFails};
 ghost use Rattle.ob_driver.specs.declared.round.Round.TheVariants as rounds;
 
 use crate::hands::Hands;
@@ -21,7 +21,6 @@ use ob_hall::{Hall, Pass};
 use ob_io::Sink;
 use ob_serial::Vault;
 use ob_store::Watch;
-use std::alloc::Global;
 use std::sync::Wait;
 
 // Whether the run is over.
@@ -113,11 +112,10 @@ pub fn announce<V: Vault>(params: &Params, hall: &Hall, pass: &mut Pass, vault: 
 /// hand make their steps. Each epoch's lines are written once it is durable.
 ///
 /// # Errors
-/// Memory was wanting before anything was done; or the desk was found stopped, for want of memory;
-/// or the vault refused, or the output failed, and the desk is stopped.
+/// The desk was found stopped, for want of memory; or the vault refused, or the output failed, and
+/// the desk is stopped. It takes no memory: the room is made before.
 pub fn drive_epochs<R: Wait, V: Vault, W: Watch, B: Beat, O: Sink, H: Hands>(
     rt: &R,
-    alloc: Global,
     params: &Params,
     hall: &Hall,
     pass: &mut Pass,
@@ -126,11 +124,14 @@ pub fn drive_epochs<R: Wait, V: Vault, W: Watch, B: Beat, O: Sink, H: Hands>(
     watch: &mut W,
     beat: &mut B,
     output: &mut O,
+    room: &mut Room,
 ) -> Result<(), Fault>
     requires params { V.params vault.old ≡ params.now }
     requires first { IsFirstPass hall.now pass.old params.now (V.counts vault.old) }
+    requires room { HasRoom params.now room.old }
     requires hands { H.ready hall.now hands.old }
     ensures params { V.params vault.new ≡ params.now }
+    ensures room { HasRoom params.now room.new }
     ensures anchors { B.anchors beat.new ≡ B.anchors beat.old }
     ensures hands { H.ready hall.now hands.new }
     ensures stepped { H.stepped hall.now hands.old hands.new }
@@ -140,21 +141,14 @@ pub fn drive_epochs<R: Wait, V: Vault, W: Watch, B: Beat, O: Sink, H: Hands>(
         (V.counts vault.old)
         (side pass.new vault.new (W.trace watch.new) (outflow O.Sink output.new))
         (V.counts vault.new)) }
-    ensures failed { IfErr result (λ fault. IsNotBegun
-        (side pass.old vault.old (W.trace watch.old) (outflow O.Sink output.old))
-        (side pass.new vault.new (W.trace watch.new) (outflow O.Sink output.new)) fault
-        ⊎ RunFails (kind_of V.Vault)
+    ensures failed { IfErr result (λ fault. RunFails (kind_of V.Vault)
         (beat_kind B.passes B.exact) hall.now
         (side pass.old vault.old (W.trace watch.old) (outflow O.Sink output.old))
         (V.counts vault.old)
         (side pass.new vault.new (W.trace watch.new) (outflow O.Sink output.new)) fault) }
 {
-    let mut room = match Room::new(alloc, params) {
-        Ok(room) => room,
-        Err(_) => return Err(Fault::Memory),
-    };
     announce(params, hall, pass, vault);
     drive_on(
-        rt, params, hall, pass, hands, vault, watch, beat, output, &mut room,
+        rt, params, hall, pass, hands, vault, watch, beat, output, room,
     )
 }

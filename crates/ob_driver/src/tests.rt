@@ -5,7 +5,7 @@ ghost use Rattle.ob_mem.specs.Memory.{disk_of_store};
 
 mod by_hand;
 
-use crate::drive_epochs;
+use crate::{Room, drive_epochs};
 use by_hand::{Both, Seated, opened};
 use ob_base::{Fault, Params};
 use ob_desk::{Beat, Eager, Hasty};
@@ -62,9 +62,9 @@ fn run<R: Wait, B: Beat>(
         first: Seated::new(alloc, &hall, first, 1, &scripts)?,
         second: Seated::new(alloc, &hall, second, 2, &scripts)?,
     };
+    let mut room = Room::new(alloc, &params)?;
     drive_epochs(
         rt,
-        alloc,
         &params,
         &hall,
         &mut driver,
@@ -73,6 +73,7 @@ fn run<R: Wait, B: Beat>(
         &mut Blind,
         beat,
         output,
+        &mut room,
     )
 }
 

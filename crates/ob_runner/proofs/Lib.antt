@@ -7,4 +7,3 @@ pub mod Allowed
 pub mod Steps
 pub mod Turns
 pub mod Scripted
-pub mod Serving

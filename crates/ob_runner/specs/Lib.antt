@@ -2,5 +2,4 @@ pub mod Meaning
 pub mod Turns
 pub mod Places
 pub mod RunnerViews
-pub mod Served
 pub mod Runners

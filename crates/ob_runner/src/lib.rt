@@ -10,6 +10,4 @@ mod sums;
 pub use laws::runner_is_its_script;
 pub use runner::ScriptRunner;
 pub use starting::runners;
-
-#[cfg(test)]
-mod tests;
+pub use sums::sum_of;

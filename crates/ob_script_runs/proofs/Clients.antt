@@ -22,6 +22,16 @@ none_is c [] none (k, low, is) = omega (arith, low)
 none_is c (n ∷ numbers) none (zero, low, is) = All-head (λ n. n ≡ c → ⊥) n numbers none is
 none_is c (n ∷ numbers) none (suc k, low, is) = none_is c numbers (All-tail (λ n. n ≡ c → ⊥) n numbers none) (k, omega (arith, low), is)
 
+-- a number is among them, or none is it
+pub is_among : (numbers : List ℕ) (c : ℕ) → Contains numbers c ⊎ NoneIs c numbers
+is_among [] c = inr (All-nil (λ n. n ≡ c → ⊥))
+is_among (n ∷ numbers) c = by (n == c) refl (is_among numbers c)
+  where
+    by : (b : Bool) → (n == c) ≡ b → Contains numbers c ⊎ NoneIs c numbers → Contains (n ∷ numbers) c ⊎ NoneIs c (n ∷ numbers)
+    by true same more = inl (0, omega arith, (Decides-eqb n c).0 same)
+    by false other (inl (k, low, is)) = inl (suc k, omega (arith, low), is)
+    by false other (inr none) = inr (All-cons (λ m. m ≡ c → ⊥) n numbers (λ e. false≢true (sym other ∙ (Decides-eqb n c).1 e)) none)
+
 -- a script's runner: what it has made, and what it is to do
 pub record IsRunner {U : Type 0} (client : U → ℕ) (fits : U → List (Call × Reply) → Type 0) (plan : U → List ScriptTxn) (asks : List ScriptTxn) (steps : List (Call × Reply)) (u : U) : Type 0 where
   pub fitting : fits u (said_by (client u) steps)
@@ -74,7 +84,7 @@ module _ {U : Type 0} (client : U → ℕ) (fits : U → List (Call × Reply) �
       (asks : List ScriptTxn) (steps : List (Call × Reply)) (us : List U) (are : All (IsRunner client fits plan asks steps) us)
       (only : (c : ℕ) → (Contains (map client us) c → ⊥) → said_by c steps ≡ []) where
     -- what each client was told is what its script means
-    meant : (c : ℕ) → MeantFirst (asks_by c asks) (told_of (said_by c steps))
+    pub meant : (c : ℕ) → MeantFirst (asks_by c asks) (told_of (said_by c steps))
     meant c = by (find asks steps us c are)
       where
         by : Found asks steps us c → MeantFirst (asks_by c asks) (told_of (said_by c steps))

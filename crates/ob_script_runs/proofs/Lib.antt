@@ -5,5 +5,6 @@ pub mod Walk
 pub mod EndsWell
 pub mod AllWell
 pub mod Told
+pub mod Later
 pub mod Counting
 pub mod Whole

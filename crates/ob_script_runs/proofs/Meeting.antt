@@ -145,7 +145,7 @@ meets_no_sum asks ops m =
 
 -- ---- one transaction, and those of a client
 
-ends_as : (ask : ScriptTxn) (ops : List (Op ℕ)) (outcome : Outcome ℕ) (told : Told) → all_unsourced ops ≡ told.ops → IsToldEnd outcome told → IsMeant ask told → EndsAs ask ops outcome
+pub ends_as : (ask : ScriptTxn) (ops : List (Op ℕ)) (outcome : Outcome ℕ) (told : Told) → all_unsourced ops ≡ told.ops → IsToldEnd outcome told → IsMeant ask told → EndsAs ask ops outcome
 ends_as ask ops outcome told same is m = by outcome is
   where
     front : MeetsFront ask.asks ops

@@ -1,8 +1,8 @@
 -- A run of the runners of a script serves the script.
-use Rattle.std.proofs.Common.{◌≡◌, ◌∙◌, ◌<◌, ◌++◌, ◌==◌, ℕ, suc, Bool, true, false, if◌then◌else◌, List, [], ◌∷◌, length, map, Option, Some, None, Result, sym, subst, refl, ap, arith}
+use Rattle.std.proofs.Common.{◌≡◌, ◌∙◌, ◌⊎◌, inl, inr, ◌<◌, ◌++◌, ◌==◌, ℕ, suc, Bool, true, false, if◌then◌else◌, List, [], ◌∷◌, length, map, Option, Some, None, Result, sym, subst, refl, ap, arith}
 use Rattle.std.specs.List.{All, Contains}
 use Rattle.std.proofs.lemmas.Bool.Decides.{Decides-eqb}
-use Rattle.std.proofs.lemmas.List.{append-nil}
+use Rattle.std.proofs.lemmas.List.{append-nil, append_assoc}
 use Rattle.std.proofs.lemmas.List.Elements.{All-head, All-tail, All-map}
 use Rattle.std.proofs.lemmas.Grind.{flat_map-append}
 use Rattle.ob_base.specs.declared.params.Params.{Params}
@@ -34,19 +34,22 @@ use Rattle.ob_outcomes.proofs.Alone.{one_client}
 use Rattle.ob_script.specs.Script.{ScriptTxn, Scripts, AreSound, asks_by}
 use Rattle.ob_runner.specs.Meaning.{MeantFirst, MeantAll}
 use Rattle.ob_runner.specs.Turns.{IsScriptTurn}
-use Rattle.ob_conduct.specs.Rounds.{KeepRule, plan_rule, InRounds}
+use Rattle.ob_conduct.specs.Rounds.{KeepRule, plan_rule}
 use Rattle.ob_conduct.specs.Acts.{Act, Says, Halts, Rests, Takes, Delivers, DeliverFails, FetchFails, Closes, Publishes, Refuses, Unprinted, desk_calls, stop_for, history, records}
 use Rattle.ob_conduct.specs.Scenes.{scene, RunState, run_state, RunnerKind, seat_of}
 use Rattle.ob_conduct.specs.Records.{IsOver}
-use Rattle.ob_conduct.specs.Moves.{IsUnended}
+use Rattle.ob_conduct.specs.Moves.{IsSaid, IsUnended}
 use Rattle.ob_conduct.specs.Conducted.{Conducted}
 use Rattle.ob_conduct.proofs.Turning.{keeps_weaker}
+use Rattle.ob_conduct.proofs.Behind.{tells_before}
 use Rattle.ob_script_runs.specs.Served.{IsServed, script_rule, AreDue, IsPatient, IsLonely, ClientsServed, ClientsServedAll}
-use Rattle.ob_script_runs.proofs.Clients.{IsRunner, still, clients_first, clients_all}
+use Rattle.ob_script_runs.proofs.Clients.{IsRunner, NoneIs, none_is, is_among, still as runners_still, meant, clients_first, clients_all}
 use Rattle.ob_script_runs.proofs.Stops.{not_refused}
+use Rattle.ob_script_runs.proofs.Walk.{leads_split}
+use Rattle.ob_script_runs.proofs.Later.{IsStill, AreToldOn, refused_still, anyones, told_on, served_later}
 use Rattle.ob_script_runs.proofs.EndsWell.{EndsWell, AreWell}
 use Rattle.ob_script_runs.proofs.AllWell.{all_well}
-use Rattle.ob_script_runs.proofs.Told.{records_tell_all, published_append}
+use Rattle.ob_script_runs.proofs.Told.{records_tell_all}
 
 -- ---- lists
 
@@ -108,8 +111,8 @@ stop_told : (e : EndErr) → published ((stop_for e, desk.Done) ∷ []) ≡ []
 stop_told (refused.Before fault) = refl
 stop_told (refused.Unsure fault) = refl
 
-in_front : (front : List Act) (writes : List (ℕ × Option (List ℕ))) (e : EndErr) → history (front ++ Refuses writes e ∷ []) ≡ history front ++ (stop_for e, desk.Done) ∷ []
-in_front front writes e = flat_map-append desk_calls front (Refuses writes e ∷ [])
+in_front : (front : List Act) (writes : List (ℕ × Option (List ℕ))) (e : EndErr) (behind : List Act) → history (front ++ Refuses writes e ∷ behind) ≡ history front ++ ((stop_for e, desk.Done) ∷ [] ++ history behind)
+in_front front writes e behind = flat_map-append desk_calls front (Refuses writes e ∷ behind)
 
 -- ---- a run
 
@@ -144,7 +147,7 @@ module _ {V U : Type 0} (k : Kind V) (beat : BeatKind) (kind : RunnerKind U (Lis
     after_runners = end.runners
 
     runners : All (IsRunner kind.client kind.fits kind.plan script.txns (history acts)) after_runners
-    runners = still kind.client kind.fits kind.plan script.txns (history acts) after_runners before_runners d.clients d.plans planned d.fitting
+    runners = runners_still kind.client kind.fits kind.plan script.txns (history acts) after_runners before_runners d.clients d.plans planned d.fitting
 
     clients_are : map kind.client after_runners ≡ script.clients
     clients_are = d.clients ∙ named
@@ -159,13 +162,13 @@ module _ {V U : Type 0} (k : Kind V) (beat : BeatKind) (kind : RunnerKind U (Lis
     well : AreWell beat None acts
     well = all_well p (suc epoch) left script.clients may beat acts d.allowed new d.leads
 
-    pub is_served : InRounds (map kind.client before_runners) acts → IsServed beat p epoch left script (records acts)
-    is_served rounds = record {
+    pub is_served : (Shape : List Act → Type 0) → Shape acts → IsServed Shape beat p epoch left script (records acts)
+    is_served Shape rounds = record {
       acts = acts;
       told_are = refl;
       allowed = d.allowed;
       turns = keeps_script kind means script before_runners acts planned d.keeps;
-      rounds = subst (λ numbers. InRounds numbers acts) named rounds;
+      rounds = rounds;
       desk = new;
       leads = d.leads;
       first = first_served;
@@ -180,14 +183,14 @@ module _ {V U : Type 0} (k : Kind V) (beat : BeatKind) (kind : RunnerKind U (Lis
     }
 
     -- the acts are those of the run
-    pub its_acts : (rounds : InRounds (map kind.client before_runners) acts) → (is_served rounds).acts ≡ acts
+    pub its_acts : (Shape : List Act → Type 0) (rounds : Shape acts) → (is_served Shape rounds).acts ≡ acts
     unfolding is_served
-    its_acts rounds = refl
+    its_acts Shape rounds = refl
 
     -- and the desk is the run's
-    pub its_desk : (rounds : InRounds (map kind.client before_runners) acts) → (is_served rounds).desk ≡ new
+    pub its_desk : (Shape : List Act → Type 0) (rounds : Shape acts) → (is_served Shape rounds).desk ≡ new
     unfolding is_served
-    its_desk rounds = refl
+    its_desk Shape rounds = refl
 
     -- where each client has signed off, all of it
     pub all_served : IsOver new → ClientsServedAll script (records acts)
@@ -203,18 +206,38 @@ module _ {V U : Type 0} (k : Kind V) (beat : BeatKind) (kind : RunnerKind U (Lis
             sym a.signed_off ∙ all_signed_off new.clients n a.client over.signed_off a.found
 
     -- where an epoch's end was refused, or left in doubt, also with the record of that epoch
-    module _ (front : List Act) (writes : List (ℕ × Option (List ℕ))) (refusal : EndErr) (is : acts ≡ front ++ Refuses writes refusal ∷ []) (r : IsUnended k (scene base first trace) front writes refusal) where
-      history_is : history acts ≡ history front ++ (stop_for refusal, desk.Done) ∷ []
-      history_is = ap history is ∙ in_front front writes refusal
+    module _ (front : List Act) (writes : List (ℕ × Option (List ℕ))) (refusal : EndErr) (behind : List Act) (is : acts ≡ front ++ Refuses writes refusal ∷ behind) (says : All IsSaid behind) (r : IsUnended k (scene base first trace) front writes refusal) where
+      abbrev halt : List (Call × Reply)
+      halt = (stop_for refusal, desk.Done) ∷ []
 
-      said_same : (c : ℕ) → said_by c (history acts) ≡ said_by c (history front)
-      said_same c = ap (said_by c) history_is ∙ said_append c (history front) ((stop_for refusal, desk.Done) ∷ []) ∙ ap (λ l. said_by c (history front) ++ l) (stop_said c refusal) ∙ append-nil (said_by c (history front))
+      history_is : history acts ≡ history front ++ (halt ++ history behind)
+      history_is = ap history is ∙ in_front front writes refusal behind
+
+      -- what it was told before the end was refused
+      said_same : (c : ℕ) → said_by c (history front ++ halt) ≡ said_by c (history front)
+      said_same c = said_append c (history front) halt ∙ ap (λ l. said_by c (history front) ++ l) (stop_said c refusal) ∙ append-nil (said_by c (history front))
 
       told_same : records acts ≡ records front
-      told_same = ap published history_is ∙ published_append (history front) ((stop_for refusal, desk.Done) ∷ []) ∙ ap (λ l. records front ++ l) (stop_told refusal) ∙ append-nil (records front)
+      told_same = tells_before acts front (Refuses writes refusal) behind is says base new d.leads ∙ (ap (λ l. records front ++ l) (stop_told refusal) ∙ append-nil (records front))
+
+      still : (c : ℕ) → Contains script.clients c → AreToldOn (told_of (said_by c (history front))) (told_of (said_by c (history acts)))
+      still c among =
+          let (halted, led, after) = leads_split base (history front ++ halt) (history behind) new (subst (λ l. Leads base l new) (history_is ∙ sym (append_assoc (history front) halt (history behind))) d.leads) in
+          let (closed, before, (mid, may_call, made, is_mid)) = leads_split base (history front) halt halted led in
+          subst (λ l. AreToldOn (told_of l) (told_of (said_by c (history acts)))) (said_same c)
+          (subst (λ l. AreToldOn (told_of (said_by c (history front ++ halt))) (told_of (said_by c l))) (append_assoc (history front) halt (history behind) ∙ sym history_is)
+          (told_on (record { params = p }) (suc epoch) left script.clients may c among (history front ++ halt) (history behind) halted new led after (anyones behind says) (subst IsStill (sym is_mid) (refused_still refusal closed mid made))))
+
+      on : (c : ℕ) → AreToldOn (told_of (said_by c (history front))) (told_of (said_by c (history acts)))
+      on c = by (is_among script.clients c)
+        where
+          by : Contains script.clients c ⊎ NoneIs c script.clients → AreToldOn (told_of (said_by c (history front))) (told_of (said_by c (history acts)))
+          by (inl among) = still c among
+          by (inr none) = subst (λ l. AreToldOn (told_of l) (told_of (said_by c (history acts))))
+              (sym (only_clients_call (record { params = p }) (suc epoch) left script.clients (history front) r.mid.desk c r.moves.leads (none_is c script.clients none))) tt
 
       pub next_served : ClientsServed script (records acts ++ record_of r.closed ∷ [])
-      next_served c = clients_first kind.client kind.fits kind.plan means.means script.txns (history acts) after_runners runners only c (records acts ++ record_of r.closed ∷ [])
-          (subst (λ l. TellFirst c (txns_by c (records acts ++ record_of r.closed ∷ [])) (told_of l)) (sym (said_same c))
+      next_served c = served_later c (asks_by c script.txns) (txns_by c (records acts ++ record_of r.closed ∷ [])) (told_of (said_by c (history front))) (told_of (said_by c (history acts)))
           (subst (λ l. TellFirst c (txns_by c (l ++ record_of r.closed ∷ [])) (told_of (said_by c (history front)))) (sym told_same)
-          (records_tell.closed (record { params = p }) (suc epoch) left script.clients (history front) r.mid.desk r.closed c may r.moves.leads r.is_closed)))
+          (records_tell.closed (record { params = p }) (suc epoch) left script.clients (history front) r.mid.desk r.closed c may r.moves.leads r.is_closed))
+          (on c) (meant kind.client kind.fits kind.plan means.means script.txns (history acts) after_runners runners only c)

@@ -16,7 +16,7 @@ use Rattle.ob_script.specs.Script.{ScriptTxn, Scripts, asks_by}
 use Rattle.ob_runner.specs.Meaning.{Meets, MeetsFront, MeetsNoSum}
 use Rattle.ob_script.specs.declared.line.Ending.TheVariants.{Commit, Abort}
 use Rattle.ob_runner.specs.Turns.{IsScriptTurn}
-use Rattle.ob_conduct.specs.Rounds.{TurnRule, KeepRule, InRounds}
+use Rattle.ob_conduct.specs.Rounds.{TurnRule, KeepRule}
 use Rattle.ob_conduct.specs.Acts.{Act, Closes, Publishes, history, records, PassesTest, IsAllowed}
 
 -- How a transaction of a script ended, and what it did. A committed one did all that it asks for, and its last line asks for that. One
@@ -75,16 +75,16 @@ IsLonely _ = ⊥
 abbrev pub script_rule : Scripts → TurnRule
 script_rule script client said steps = IsScriptTurn (asks_by client script.txns) client said steps
 
--- A run of a script, whatever the vault: from a new desk on, whose first epoch is the one behind this, with so many batches left.
-pub record IsServed (beat : BeatKind) (p : Params) (epoch left : ℕ) (script : Scripts) (told : List (EpochRecord ℕ)) : Type 0 where
+-- A run of a script, whatever the vault: from a new desk on, whose first epoch is the one behind this, with so many batches left; its acts have
+-- this shape.
+pub record IsServed (Shape : List Act → Type 0) (beat : BeatKind) (p : Params) (epoch left : ℕ) (script : Scripts) (told : List (EpochRecord ℕ)) : Type 0 where
   -- what was done, in order: calls of the desk, each of them allowed where it is made, of which the records are told
   pub acts : List Act
   pub told_are : told ≡ records acts
   pub allowed : All (IsAllowed beat) acts
   -- In its acts each client makes its script's next call, by what it was told.
   pub turns : KeepRule (script_rule script) [] acts
-  -- They are whole rounds: an act of each client, in ascending number, and then one thing that the driver does.
-  pub rounds : InRounds script.clients acts
+  pub rounds : Shape acts
   pub desk : DeskState
   pub leads : Leads (new_desk (record { params = p }) (suc epoch) left script.clients) (history acts) desk
   -- Each client's transactions are a front of its script's, in order, each once, with the operations that it means.

@@ -12,10 +12,15 @@ use Rattle.ob_starts.specs.Served.{Words}
 use Rattle.ob_starts.specs.Starts.{Each, HasItsPlace, IsJoined, stays}
 use Rattle.ob_serve.specs.Crews.{AreCrewRounds}
 
--- where the run was answered so
+-- where the driver's run was answered so
 abbrev pub DriverEnds : {V : Type 0} → Kind V → BeatKind → Hall → Side V → VaultCounts → Side V → VaultCounts → Result (Unit {0}) Fault → Type 0
 DriverEnds k beat hall old c new next (Ok done) = RunsOut k beat hall old c new next
-DriverEnds k beat hall old c new next (Err fault) = IsNotBegun old new fault ⊎ RunFails k beat hall old c new fault
+DriverEnds k beat hall old c new next (Err fault) = RunFails k beat hall old c new fault
+
+-- Where all was: the driver's run ended so; or memory was wanting before anything was done, and no client made a call.
+abbrev pub ServeEnds : {V U : Type 0} → Kind V → BeatKind → Hall → Side V → VaultCounts → List (Pass × U) → Side V → VaultCounts → List (Pass × U) → Result (Unit {0}) Fault → Type 0
+ServeEnds k beat hall old c before new next after (Ok done) = RunsOut k beat hall old c new next
+ServeEnds k beat hall old c before new next after (Err fault) = (IsNotBegun old new fault × (after ≡ before)) ⊎ RunFails k beat hall old c new fault
 
 -- Each client was started, where it had one of the flags, or stayed; those that were here made whole rounds of steps; and all are back in their places, those that were away served.
 pub record AreBack {U Plan : Type 0} (w : Words U Plan) (hall : Hall) (flags : ℕ) (clients back : List (Pass × U)) : Type 0 where

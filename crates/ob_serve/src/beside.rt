@@ -5,6 +5,7 @@ ghost use Rattle.ob_io.specs.Streams.{outflow};
 ghost use Rattle.ob_serial.specs.VaultKinds.{kind_of};
 ghost use Rattle.ob_desk.specs.Beats.{beat_kind};
 ghost use Rattle.ob_driver.specs.Driven.{side};
+ghost use Rattle.ob_driver.specs.Rooms.{HasRoom};
 ghost use Rattle.ob_driver.specs.Drives.{IsFirstPass};
 ghost use Rattle.ob_starts.specs.Served.{words, IsClient};
 ghost use Rattle.ob_serve.specs.Serving.{DriverEnds, AreBack};
@@ -14,13 +15,13 @@ use crate::crew::Crew;
 use crate::lending::{Lent, drive_lent};
 use ob_base::{Fault, Params};
 use ob_desk::Beat;
+use ob_driver::Room;
 use ob_hall::Hall;
 use ob_io::Sink;
 use ob_serial::Vault;
 use ob_session::Runner;
 use ob_starts::{Client, Started, join_all, start_all};
 use ob_store::Watch;
-use std::alloc::Global;
 use std::sync::Wait;
 use std::sync::atomic::AtomicBool;
 use std::thread;
@@ -42,10 +43,10 @@ pub(crate) fn in_scope<
     O: Sink,
 >(
     rt: &R,
-    alloc: Global,
     params: &Params,
     hall: &Hall,
     lent: Lent<'p, 'v, 'w, 'b, 'o, V, W, B, O>,
+    room: Room,
     flags: &[AtomicBool],
     clients: Vec<Client<U>>,
     started: Vec<Started<U>>,
@@ -57,6 +58,7 @@ pub(crate) fn in_scope<
 )
     requires params { V.params lent.vault.now ≡ params.now }
     requires first { IsFirstPass hall.now lent.pass.now params.now (V.counts lent.vault.now) }
+    requires driver { HasRoom params.now room }
     requires clients { All (IsClient (words U.client U.bound U.plan U.fits U.turn) hall.now)
         clients.items }
     requires none { (started.items ≡ []) × (back.items ≡ []) }
@@ -90,6 +92,7 @@ pub(crate) fn in_scope<
                 × ((started.items ≡ []) × (back.items ≡ []))
                 × ((length clients.items ≤ vec_capacity started)
                 × (length clients.items ≤ vec_capacity back))
+                × (HasRoom params.now room)
                 × IsSend U.row × IsSync R.row }
             ensures { (result.0.pass.ghost_name ≡ lent.entry.pass.ghost_name)
                 × (result.0.vault.ghost_name ≡ lent.entry.vault.ghost_name)
@@ -109,9 +112,9 @@ pub(crate) fn in_scope<
                 (V.counts result.0.vault.now) result.2) }
         {
             let mut crew = Crew { started };
-            let mut back = back;
+            let (mut back, mut room) = (back, room);
             start_all(scope, rt, hall, flags, clients, &mut crew.started);
-            let (lent, result) = drive_lent(rt, alloc, params, hall, lent, &mut crew);
+            let (lent, result) = drive_lent(rt, params, hall, lent, &mut crew, &mut room);
             let Crew { started } = crew;
             join_all(rt, hall, started, &mut back);
             (lent, back, result)

@@ -5,17 +5,17 @@ ghost use Rattle.ob_io.specs.Streams.{outflow};
 ghost use Rattle.ob_serial.specs.VaultKinds.{kind_of};
 ghost use Rattle.ob_desk.specs.Beats.{beat_kind};
 ghost use Rattle.ob_driver.specs.Driven.{side};
+ghost use Rattle.ob_driver.specs.Rooms.{HasRoom};
 ghost use Rattle.ob_driver.specs.Drives.{IsFirstPass};
 ghost use Rattle.ob_serve.specs.Serving.{DriverEnds};
 
 use ob_base::{Fault, Params};
 use ob_desk::Beat;
-use ob_driver::{Hands, drive_epochs};
+use ob_driver::{Hands, Room, drive_epochs};
 use ob_hall::{Hall, Pass};
 use ob_io::Sink;
 use ob_serial::Vault;
 use ob_store::Watch;
-use std::alloc::Global;
 use std::sync::Wait;
 
 /// What the driver works on.
@@ -78,15 +78,16 @@ pub(crate) fn drive_lent<
     H: Hands,
 >(
     rt: &R,
-    alloc: Global,
     params: &Params,
     hall: &Hall,
     lent: Lent<'p, 'v, 'w, 'b, 'o, V, W, B, O>,
     hands: &mut H,
+    room: &mut Room,
 ) -> (Lent<'p, 'v, 'w, 'b, 'o, V, W, B, O>, Result<(), Fault>)
     requires params { V.params lent.vault.now ≡ params.now }
     requires first { IsFirstPass hall.now lent.pass.now params.now
         (V.counts lent.vault.now) }
+    requires room { HasRoom params.now room.old }
     requires hands { H.ready hall.now hands.old }
     ensures hands { H.ready hall.now hands.new }
     ensures stepped { H.stepped hall.now hands.old hands.new }
@@ -113,7 +114,7 @@ pub(crate) fn drive_lent<
         output,
     } = lent;
     let result = drive_epochs(
-        rt, alloc, params, hall, pass, hands, vault, watch, beat, output,
+        rt, params, hall, pass, hands, vault, watch, beat, output, room,
     );
     let lent = Lent {
         pass,

@@ -5,14 +5,16 @@ ghost use Rattle.ob_io.specs.Streams.{outflow};
 ghost use Rattle.ob_serial.specs.VaultKinds.{kind_of};
 ghost use Rattle.ob_desk.specs.Beats.{beat_kind};
 ghost use Rattle.ob_driver.specs.Driven.{side};
+ghost use Rattle.ob_driver.specs.Rooms.{HasRoom};
 ghost use Rattle.ob_driver.specs.Drives.{IsFirstPass};
 ghost use Rattle.ob_starts.specs.Served.{words, IsClient};
-ghost use Rattle.ob_serve.specs.Serving.{DriverEnds, AreBack, flags_of};
+ghost use Rattle.ob_serve.specs.Serving.{ServeEnds, AreBack, flags_of};
 
 use crate::beside::in_scope;
 use crate::lending::Lent;
 use ob_base::{Fault, Memory, Params};
 use ob_desk::Beat;
+use ob_driver::Room;
 use ob_hall::{Hall, Pass};
 use ob_io::Sink;
 use ob_serial::Vault;
@@ -25,9 +27,10 @@ use std::sync::Wait;
 use std::sync::atomic::AtomicBool;
 use std::thread::Threads;
 
-// Flags, none of which is set, and room for the clients.
+// Room for the driver, flags, none of which is set, and room for the clients.
 #[derive(Drop)]
 struct Places<U: Runner> {
+    room: Room,
     flags: Vec<AtomicBool>,
     started: Vec<Started<U>>,
     back: Vec<Client<U>>,
@@ -51,17 +54,25 @@ fn unset(alloc: Global, count: usize) -> Result<Vec<AtomicBool>, Memory>
     Ok(flags)
 }
 
-// So many flags, and room for so many clients.
-fn make_places<U: Runner>(alloc: Global, clients: usize, flags: usize) -> Result<Places<U>, Memory>
+// Room for a driver of these parameters, so many flags, and room for so many clients.
+fn make_places<U: Runner>(
+    alloc: Global,
+    params: &Params,
+    clients: usize,
+    flags: usize,
+) -> Result<Places<U>, Memory>
+    ensures driver { IfOk result (λ p. HasRoom params.now p.room) }
     ensures flags { IfOk result (λ p. length p.flags.items ≡ flags) }
     ensures none { IfOk result (λ p. (p.started.items ≡ []) × (p.back.items ≡ [])) }
     ensures room { IfOk result (λ p. (clients ≤ vec_capacity p.started)
         × (clients ≤ vec_capacity p.back)) }
 {
+    let room = Room::new(alloc, params)?;
     let flags = unset(alloc, flags)?;
     let started = Vec::with_capacity(alloc, clients)?;
     let back = Vec::with_capacity(alloc, clients)?;
     Ok(Places {
+        room,
         flags,
         started,
         back,
@@ -77,8 +88,9 @@ fn finish<T>(_last: &mut T)
 /// own, or, without `threads` or where the system refuses a thread, by hand. All clients come back.
 ///
 /// # Errors
-/// Those of the driver; and memory was wanting, before anything was done.
-#[tactic(auto, using(crate::proofs::Meeting::none_started))]
+/// Those of the driver; and memory was wanting, before anything was done: then no client made a
+/// call.
+#[tactic(auto, using(crate::proofs::Meeting::none_started, crate::proofs::Ending::all_ends))]
 pub fn serve<U: Runner + Send, R: Threads + Wait + Sync, V: Vault, W: Watch, B: Beat, O: Sink>(
     rt: &R,
     alloc: Global,
@@ -100,17 +112,18 @@ pub fn serve<U: Runner + Send, R: Threads + Wait + Sync, V: Vault, W: Watch, B: 
     ensures anchors { B.anchors beat.new ≡ B.anchors beat.old }
     ensures back { AreBack (words U.client U.bound U.plan U.fits U.turn) hall.now
         (flags_of threads (length clients.old.items)) clients.old.items clients.new.items }
-    ensures ends { DriverEnds (kind_of V.Vault) (beat_kind B.passes B.exact) hall.now
+    ensures ends { ServeEnds (kind_of V.Vault) (beat_kind B.passes B.exact) hall.now
         (side pass.old vault.old (W.trace watch.old) (outflow O.Sink output.old))
-        (V.counts vault.old)
+        (V.counts vault.old) clients.old.items
         (side pass.new vault.new (W.trace watch.new) (outflow O.Sink output.new))
-        (V.counts vault.new) result }
+        (V.counts vault.new) clients.new.items result }
 {
     let count = flag_count(threads, clients.len());
-    let Ok(places) = make_places(alloc, clients.len(), count) else {
+    let Ok(places) = make_places(alloc, params, clients.len(), count) else {
         return Err(Fault::Memory);
     };
     let Places {
+        room,
         flags,
         started,
         back,
@@ -125,10 +138,10 @@ pub fn serve<U: Runner + Send, R: Threads + Wait + Sync, V: Vault, W: Watch, B: 
     };
     let (lent, back, result) = in_scope(
         rt,
-        alloc,
         params,
         hall,
         lent,
+        room,
         flags.as_slice(),
         taken,
         started,

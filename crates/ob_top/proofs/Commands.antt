@@ -1,5 +1,5 @@
 -- What came of the words, command by command.
-use Rattle.std.proofs.Common.{◌≡◌, ◌⊎◌, ℕ, List, Bool, Option, Some, None, refl, sym, ap, subst, inl, inr, ◌∙◌}
+use Rattle.std.proofs.Common.{◌≡◌, ◌⊎◌, ℕ, List, Bool, not, Option, Some, None, refl, sym, ap, subst, inl, inr, ◌∙◌}
 use Rattle.std.specs.Borrow.{Bor}
 use Rattle.ob_base.specs.declared.params.Params.{Params}
 use Rattle.ob_base.specs.declared.fault.Field.{Field}
@@ -18,7 +18,7 @@ use Rattle.ob_top.specs.Words.{AreParams, IsBadNumber, AreLanes, AreBadLanes, Is
 use Rattle.ob_top.specs.Outside.{Outside, IsFinished, IsOnlyTold}
 use Rattle.ob_top.specs.Formats.{FormatDone}
 use Rattle.ob_top.specs.Flat.{flat_kind}
-use Rattle.ob_top.specs.Runs.{RunDone}
+use Rattle.ob_top.specs.Runs.{manner, RunOn, RunDone}
 use Rattle.ob_top.specs.Top.{AskForSomething, CommandDoes, IsRefusedWithout}
 use Rattle.ob_top.proofs.Finishing.{run_done, format_done}
 
@@ -32,15 +32,15 @@ nothing_asked words a none some = let same : None ≡ Some a = sym none ∙ some
 
 params_at : (store keys : List ℕ) (numbers : List (List ℕ)) (command : Command) → IsCommandOf (format_asked store keys numbers) command → (p : Params) × AreParams numbers p
 params_at store keys numbers (Format p) fits = (p, fits)
-params_at store keys numbers (Run k) fits = absurd fits
+params_at store keys numbers (Run k by_hand) fits = absurd fits
 
 lanes_at : (store keys : List ℕ) (lanes : Option (List ℕ)) (turns : Bool) (command : Command) → IsCommandOf (run_asked store keys lanes turns) command → (k : ℕ) × AreLanes lanes k
 lanes_at store keys lanes turns (Format p) fits = absurd fits
-lanes_at store keys lanes turns (Run k) fits = (k, fits)
+lanes_at store keys lanes turns (Run k by_hand) fits = (k, fits.0)
 
 none_over : (command : Command) → IsCommandOf audit_asked command → ⊥
 none_over (Format p) fits = fits
-none_over (Run k) fits = fits
+none_over (Run k by_hand) fits = fits
 
 -- an audit is nothing over a store
 audit_alone : (words : List (List ℕ)) → AskForSomething words → asked_by words ≡ Some audit_asked → ⊥
@@ -175,21 +175,21 @@ module _ (before mid after : Outside) (status : ℕ) (input : after.input ≡ mi
     FormatTells numbers = Tell Memory ⊎ (((field : Field) × IsBadNumber numbers field × Tell (BadParams field))
         ⊎ ((p : Params) × AreParams numbers p × (KeysTell ⊎ ((keys : Keys) × HasKeys text keys × FormatDone disk keys p old new before after status))))
 
-    abbrev RunTells : Option (List ℕ) → Type 0
-    RunTells lanes = Tell Memory ⊎ ((AreBadLanes lanes × Tell (BadParams LANES))
-        ⊎ ((k : ℕ) × AreLanes lanes k × (KeysTell ⊎ ((keys : Keys) × HasKeys text keys × RunDone flat_kind disk beat keys old new before after status))))
+    abbrev RunTells : Option (List ℕ) → Bool → Type 0
+    RunTells lanes turns = Tell Memory ⊎ ((AreBadLanes lanes × Tell (BadParams LANES))
+        ⊎ ((k : ℕ) × AreLanes lanes k × (KeysTell ⊎ ((keys : Keys) × HasKeys text keys × RunDone flat_kind disk (manner beat (not turns)) keys old new before after status))))
 
     pub usage_done : (fault : Option Fault) → CommandDoes disk beat words text old new before mid fault → IsFinished mid.output after.output fault status → asked_by words ≡ None → Tell Usage ⊎ Tell Memory
     usage_done fault (inl (f, is, inl refused, kept, same)) done nothing = usage_tells (new ≡ old) kept same words text fault f is done refused nothing
     usage_done fault (inl (f, is, inr ((command, (asked, by, fits)), bad), kept, same)) done nothing = absurd (nothing_asked words asked nothing by)
     usage_done fault (inr (keys, has, inl (p, (asked, by, fits), ends, leaves, same))) done nothing = absurd (nothing_asked words asked nothing by)
-    usage_done fault (inr (keys, has, inr (k, (asked, by, fits), on))) done nothing = absurd (nothing_asked words asked nothing by)
+    usage_done fault (inr (keys, has, inr (k, by_hand, (asked, by, fits), on))) done nothing = absurd (nothing_asked words asked nothing by)
 
     pub audit_told : (fault : Option Fault) → CommandDoes disk beat words text old new before mid fault → IsFinished mid.output after.output fault status → asked_by words ≡ Some audit_asked → Tell Memory
     audit_told fault (inl (f, is, inl refused, kept, same)) done asks = audit_tells (new ≡ old) kept same words text fault f is done refused asks
     audit_told fault (inl (f, is, inr (some, bad), kept, same)) done asks = absurd (audit_alone words some asks)
     audit_told fault (inr (keys, has, inl (p, fits, ends, leaves, same))) done asks = absurd (audit_alone words (Format p, fits) asks)
-    audit_told fault (inr (keys, has, inr (k, fits, on))) done asks = absurd (audit_alone words (Run k, fits) asks)
+    audit_told fault (inr (keys, has, inr (k, by_hand, fits, on))) done asks = absurd (audit_alone words (Run k by_hand, fits) asks)
 
     pub format_does : (fault : Option Fault) → CommandDoes disk beat words text old new before mid fault → IsFinished mid.output after.output fault status
         → (store keys : List ℕ) (numbers : List (List ℕ)) → asked_by words ≡ Some (format_asked store keys numbers) → FormatTells numbers
@@ -199,17 +199,19 @@ module _ (before mid after : Outside) (status : ℕ) (input : after.input ≡ mi
         inr (inr (p, are, inl (keys_tell (new ≡ old) kept same words text fault f is done bad)))
     format_does fault (inr (found, has, inl (p, (asked, by, fits), ends, leaves, same))) done store keys numbers asks =
         inr (inr (p, params_asked words asked (Format p) store keys numbers by fits asks, inr (found, has, format_done disk found p old new before mid after status fault ends leaves same input done)))
-    format_does fault (inr (found, has, inr (k, (asked, by, fits), on))) done store keys numbers asks = absurd (params_asked words asked (Run k) store keys numbers by fits asks)
+    format_does fault (inr (found, has, inr (k, by_hand, (asked, by, fits), on))) done store keys numbers asks = absurd (params_asked words asked (Run k by_hand) store keys numbers by fits asks)
 
     pub run_does : (fault : Option Fault) → CommandDoes disk beat words text old new before mid fault → IsFinished mid.output after.output fault status
-        → (store keys : List ℕ) (lanes : Option (List ℕ)) (turns : Bool) → asked_by words ≡ Some (run_asked store keys lanes turns) → RunTells lanes
+        → (store keys : List ℕ) (lanes : Option (List ℕ)) (turns : Bool) → asked_by words ≡ Some (run_asked store keys lanes turns) → RunTells lanes turns
     run_does fault (inl (f, is, inl refused, kept, same)) done store keys lanes turns asks = early (run_tells (new ≡ old) kept same words text fault f is done store keys lanes turns refused asks)
     run_does fault (inl (f, is, inr ((command, (asked, by, fits)), bad), kept, same)) done store keys lanes turns asks =
         let (k, are) = lanes_at store keys lanes turns command (lanes_asked words asked command store keys lanes turns by fits asks) in
         inr (inr (k, are, inl (keys_tell (new ≡ old) kept same words text fault f is done bad)))
     run_does fault (inr (found, has, inl (p, (asked, by, fits), ends, leaves, same))) done store keys lanes turns asks = absurd (lanes_asked words asked (Format p) store keys lanes turns by fits asks)
-    run_does fault (inr (found, has, inr (k, (asked, by, fits), on))) done store keys lanes turns asks =
-        inr (inr (k, lanes_asked words asked (Run k) store keys lanes turns by fits asks, inr (found, has, run_done disk beat found old new before mid after input status fault on done)))
+    run_does fault (inr (found, has, inr (k, by_hand, (asked, by, fits), on))) done store keys lanes turns asks =
+        let (are, same) = lanes_asked words asked (Run k by_hand) store keys lanes turns by fits asks in
+        let its = subst (λ (b : Bool). RunOn flat_kind disk (manner beat (not b)) found old new before mid fault) same on in
+        inr (inr (k, are, inr (found, has, run_done disk (manner beat (not turns)) found old new before mid after input status fault its done)))
 
   -- ---- without one
 

@@ -1,5 +1,5 @@
 -- What can be done is done.
-use Rattle.std.proofs.Common.{◌≡◌, ◌⊎◌, ◌<◌, ◌≤◌, ◌+◌, ◌*◌, ◌-◌, ◌^◌, ℕ, Bool, suc, List, length, take, Option, Some, None, Err, refl, subst, inl, inr, arith, ◌∙◌, ⊎_elim}
+use Rattle.std.proofs.Common.{◌≡◌, ◌⊎◌, ◌<◌, ◌≤◌, ◌+◌, ◌*◌, ◌-◌, ◌^◌, ℕ, Bool, not, suc, List, length, take, Option, Some, None, Err, refl, subst, inl, inr, arith, ◌∙◌, ⊎_elim}
 use Rattle.std.proofs.Math.Nat.{mul-le-mul_left}
 use Rattle.std.specs.Borrow.{Bor}
 use Rattle.ob_base.specs.declared.params.Params.{Params}
@@ -37,7 +37,7 @@ use Rattle.ob_kinds.specs.Phases.{Shape, shapes}
 use Rattle.ob_conduct.specs.Acts.{calls}
 use Rattle.ob_desk.specs.Beats.{BeatKind}
 use Rattle.ob_flat.specs.declared.opening.Opening.{Opening}
-use Rattle.ob_top.specs.Runs.{CameIn, IsInputRefused, EndsEarly, EndsFor, Ran, Went, RunDone}
+use Rattle.ob_top.specs.Runs.{Manner, manner, CameIn, IsInputRefused, EndsEarly, EndsFor, Ran, Went, RunDone}
 use Rattle.ob_top.specs.Complete.{CanFormat, CanRun, DoesWhatItCan}
 use Rattle.ob_top.proofs.Judged.{head_told, keys_same, not_closed, not_broken, rows_obey}
 use Rattle.ob_top.proofs.Counted.{one_script}
@@ -139,19 +139,19 @@ module _ {S : Type 0} (disk : S → Disk) (words : List (List ℕ)) (text : Opti
       let left = can.lasts.2 in
       omega arith
 
-  module _ (beat : BeatKind) (records : List (EpochRecord ℕ)) where
-    ran_keys : (f : Option Fault) (r : Ran flat_kind disk beat can.keys old new before after records f) → r.p.keys ≡ can.p.keys
+  module _ (by : Manner) (records : List (EpochRecord ℕ)) where
+    ran_keys : (f : Option Fault) (r : Ran flat_kind disk by can.keys old new before after records f) → r.p.keys ≡ can.p.keys
     ran_keys f r = one_p r.p r.opened.head
 
-    ran_epoch : (f : Option Fault) (r : Ran flat_kind disk beat can.keys old new before after records f) → r.found.epoch ≡ can.at.epoch
+    ran_epoch : (f : Option Fault) (r : Ran flat_kind disk by can.keys old new before after records f) → r.found.epoch ≡ can.at.epoch
     ran_epoch f r =
         let found = (r.opened.finds can.tells).0.found in
         number_found can.keys 5 (disk old).cells can.at.epoch r.found.epoch can.stands.epoch found.epoch_whole found.epoch_counts
 
-    ran_script : (f : Option Fault) (r : Ran flat_kind disk beat can.keys old new before after records f) → r.script ≡ script
+    ran_script : (f : Option Fault) (r : Ran flat_kind disk by can.keys old new before after records f) → r.script ≡ script
     ran_script f r = came_one r.p.keys r.script (ran_keys f r) r.opened.came
 
-    ran_few : (f : Option Fault) (r : Ran flat_kind disk beat can.keys old new before after records f) → length records ≤ length script.txns
+    ran_few : (f : Option Fault) (r : Ran flat_kind disk by can.keys old new before after records f) → length records ≤ length script.txns
     ran_few f r =
         let served = r.is_served.served in
         let epochs = few_epochs records served.some in
@@ -172,13 +172,13 @@ module _ {S : Type 0} (disk : S → Disk) (words : List (List ℕ)) (text : Opti
     ran_fault (fault.StashFull rows) q found so_far keys is few cause = absurd cause
     ran_fault fault.SourceFault q found so_far keys is few cause = absurd cause
 
-    answers : (status : ℕ) (f : Option Fault) → status ≡ status_of f → Went flat_kind disk beat can.keys old new before after records f → (status ≡ 0) ⊎ (status ≡ 9)
+    answers : (status : ℕ) (f : Option Fault) → status ≡ status_of f → Went flat_kind disk by can.keys old new before after records f → (status ≡ 0) ⊎ (status ≡ 9)
     answers status None is ran = inl is
     answers status (Some f) is (inl (none, ended, lives)) = inr (is ∙ early f ended)
     answers status (Some f) is (inr ran) = inr (is ∙ ran_fault f ran.p ran.found (shapes (calls ran.is_served.served.acts)) (ran_keys (Some f) ran) (ran_epoch (Some f) ran) (ran_few (Some f) ran) ran.cause)
 
-  pub run_answers : (beat : BeatKind) (status : ℕ) → RunDone flat_kind disk beat can.keys old new before after status → (status ≡ 0) ⊎ (status ≡ 9)
-  run_answers beat status d = answers beat d.records status d.fault d.status_is d.went
+  pub run_answers : (by : Manner) (status : ℕ) → RunDone flat_kind disk by can.keys old new before after status → (status ≡ 0) ⊎ (status ≡ 9)
+  run_answers by status d = answers by d.records status d.fault d.status_is d.went
 
 -- ---- both
 
@@ -194,9 +194,9 @@ module _ {S : Type 0} (disk : S → Disk) (beat : BeatKind) (words : List (List 
   FormatTells numbers = Tell fault.Memory ⊎ (((field : Field) × IsBadNumber numbers field × Tell (fault.BadParams field))
       ⊎ ((p : Params) × AreParams numbers p × (KeysTell ⊎ ((keys : Keys) × HasKeys text keys × FormatDone disk keys p old new before after status))))
 
-  abbrev pub RunTells : Option (List ℕ) → Type 0
-  RunTells lanes = Tell fault.Memory ⊎ ((AreBadLanes lanes × Tell (fault.BadParams LANES))
-      ⊎ ((k : ℕ) × AreLanes lanes k × (KeysTell ⊎ ((keys : Keys) × HasKeys text keys × RunDone flat_kind disk beat keys old new before after status))))
+  abbrev pub RunTells : Option (List ℕ) → Bool → Type 0
+  RunTells lanes turns = Tell fault.Memory ⊎ ((AreBadLanes lanes × Tell (fault.BadParams LANES))
+      ⊎ ((k : ℕ) × AreLanes lanes k × (KeysTell ⊎ ((keys : Keys) × HasKeys text keys × RunDone flat_kind disk (manner beat (not turns)) keys old new before after status))))
 
   format_whole : (can : CanFormat words text (disk old) (disk new) before after) → FormatTells can.numbers → (status ≡ 0) ⊎ (status ≡ 9)
   format_whole can (inl (kept, told)) = inr told.status_is
@@ -204,15 +204,15 @@ module _ {S : Type 0} (disk : S → Disk) (beat : BeatKind) (words : List (List 
   format_whole can (inr (inr (p, are, inl (f, refused, (kept, told))))) = absurd (keys_stand text can.keys f can.has refused)
   format_whole can (inr (inr (p, are, inr (keys, has, d)))) = inl (d.status_is ∙ format_fault disk keys p old new before after d.fault d.told can.store_holds can.output_holds)
 
-  run_whole : (script : Scripts) (can : CanRun words text (disk old) (disk new) before after flat_kind script) → RunTells can.lanes → (status ≡ 0) ⊎ (status ≡ 9)
+  run_whole : (script : Scripts) (can : CanRun words text (disk old) (disk new) before after flat_kind script) → RunTells can.lanes can.turns → (status ≡ 0) ⊎ (status ≡ 9)
   run_whole script can (inl (kept, told)) = inr told.status_is
   run_whole script can (inr (inl (bad, (kept, told)))) = absurd (no_bad_lanes can.lanes can.k can.in_range bad)
   run_whole script can (inr (inr (k, are, inl (f, refused, (kept, told))))) = absurd (keys_stand text can.keys f can.has refused)
   run_whole script can (inr (inr (k, are, inr (keys, has, d)))) =
-      run_answers disk words text old new before after script can beat status (subst (λ (k : Keys). RunDone flat_kind disk beat k old new before after status) (one_keys text keys can.keys has can.has) d)
+      run_answers disk words text old new before after script can (manner beat (not can.turns)) status (subst (λ (k : Keys). RunDone flat_kind disk (manner beat (not can.turns)) k old new before after status) (one_keys text keys can.keys has can.has) d)
 
   pub completes : ((store keys : List ℕ) (numbers : List (List ℕ)) → asked_by words ≡ Some (format_asked store keys numbers) → FormatTells numbers)
-      → ((store keys : List ℕ) (lanes : Option (List ℕ)) (turns : Bool) → asked_by words ≡ Some (run_asked store keys lanes turns) → RunTells lanes)
+      → ((store keys : List ℕ) (lanes : Option (List ℕ)) (turns : Bool) → asked_by words ≡ Some (run_asked store keys lanes turns) → RunTells lanes turns)
       → DoesWhatItCan disk words text before after status old new
   completes format run =
       ⊎_elim (λ can. format_whole can (format can.store_path can.keys_path can.numbers can.asked)) (λ (script, can). run_whole script can (run can.store_path can.keys_path can.lanes can.turns can.asked))

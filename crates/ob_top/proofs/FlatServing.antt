@@ -1,6 +1,6 @@
 -- What serving a script does to the store that a plain vault was lent.
 use Rattle.std.specs.List.{All}
-use Rattle.std.proofs.Common.{◌≡◌, ℕ, suc, List, map, Option, Result, sym, subst}
+use Rattle.std.proofs.Common.{◌≡◌, ℕ, suc, Bool, List, map, Option, Result, sym, subst}
 use Rattle.ob_base.specs.declared.params.Params.{Params}
 use Rattle.ob_base.specs.declared.fault.Fault.{Fault}
 use Rattle.ob_io.specs.Streams.{Flow}
@@ -20,11 +20,11 @@ use Rattle.ob_flat_life.proofs.Calls.{is_act}
 use Rattle.ob_script.specs.Script.{ScriptTxn, Scripts, AreSound, asks_by}
 use Rattle.ob_desk.specs.Desk.{MayOpen, new_desk}
 use Rattle.ob_conduct.specs.Scenes.{scene, RunState, run_state, RunnerKind}
-use Rattle.ob_conduct.specs.Conducted.{ByHand}
+use Rattle.ob_run.specs.Threaded.{RunsBy}
 use Rattle.ob_script_runs.proofs.Whole.{RunsScripts}
 use Rattle.ob_desk.specs.Beats.{BeatKind}
 use Rattle.ob_top.specs.Flat.{flat_kind}
-use Rattle.ob_top.specs.Runs.{ServedOver, LivesBehind, fault_of}
+use Rattle.ob_top.specs.Runs.{manner, ServedOver, LivesBehind, fault_of}
 use Rattle.ob_top.proofs.FlatSteps.{FlatAt, flat_does, flat_begun}
 use Rattle.ob_top.proofs.Serving.{IsLender, serves_on}
 
@@ -44,14 +44,14 @@ module _ {V S : Type 0} (k : Kind V) (disk : S → Disk) (store_of : V → S) (s
       (p_of w) (known_of w) (epoch_of w) (flat v call answer notes w does) told)
       keys old first last steps tells (λ told. subst (λ (s : Sealing). Opens keys (disk old) (disk (store_of first)) s) (sym same) (opens told)) called
 
-  pub flat_serves : {U : Type 0} (beat : BeatKind) (kind : RunnerKind U (List ScriptTxn))
+  pub flat_serves : {U : Type 0} (beat : BeatKind) (threads : Bool) (kind : RunnerKind U (List ScriptTxn))
       (means : RunsScripts kind)
       (keys : Keys) (script : Scripts) (sound : AreSound script) (may : MayOpen (record { params = p }) (suc found.epoch) p.batches script.clients)
       (first : V) (trace : Trace) (runners : List U) (before : Flow) (end : RunState V U) (result : Result (Unit {0}) Fault) (epoch left : ℕ)
       → map kind.client runners ≡ script.clients → All (λ u. kind.plan u ≡ asks_by (kind.client u) script.txns) runners → epoch ≡ found.epoch → left ≡ p.batches
-      → ByHand k kind beat (run_state (scene (new_desk (record { params = p }) (suc epoch) left script.clients) first trace) runners before) end result
+      → RunsBy threads k kind beat (run_state (scene (new_desk (record { params = p }) (suc epoch) left script.clients) first trace) runners before) end result
       → IsFlatLender keys first → p_of first ≡ p → known_of first ≡ found.gates.epoch → epoch_of first ≡ found.epoch → (sealing_of first).next ≡ 0
-      → ServedOver flat_kind disk beat keys p found found.sealer script (store_of first) (store_of end.scene.vault) before end.output (fault_of result)
-  flat_serves beat kind means keys script sound may first trace runners before end result epoch left named planned epoch_is left_is run l params known at fresh =
+      → ServedOver flat_kind disk (manner beat threads) keys p found found.sealer script (store_of first) (store_of end.scene.vault) before end.output (fault_of result)
+  flat_serves beat threads kind means keys script sound may first trace runners before end result epoch left named planned epoch_is left_is run l params known at fresh =
       serves_on k flat_kind disk store_of p found (FlatAt k.called disk store_of sealing_of p_of known_of epoch_of values_of flat p found) (flat_does k.called disk store_of sealing_of p_of known_of epoch_of values_of flat p found)
-      beat kind means keys found.sealer script sound may first trace runners before end result epoch left named planned epoch_is left_is run l (flat_begun k.called disk store_of sealing_of p_of known_of epoch_of values_of flat p found first params known at fresh)
+      beat threads kind means keys found.sealer script sound may first trace runners before end result epoch left named planned epoch_is left_is run l (flat_begun k.called disk store_of sealing_of p_of known_of epoch_of values_of flat p found first params known at fresh)

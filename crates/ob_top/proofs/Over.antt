@@ -20,7 +20,7 @@ use Rattle.ob_audit.specs.Traces.{IsAuditFault}
 use Rattle.ob_top.specs.declared.words.Work.TheVariants.{Audit}
 use Rattle.ob_top.specs.Words.{AskFor, AreParams, IsBadNumber, AreLanes, AreBadLanes, HasKeys, IsKeysRefused}
 use Rattle.ob_top.specs.Outside.{Outside, IsFinished, IsOnlyTold}
-use Rattle.ob_top.specs.Audits.{IsAuditTold, IsAuditRefused, AuditDone, verdict_status}
+use Rattle.ob_top.specs.Audits.{AuditDone, verdict_status}
 use Rattle.ob_top.specs.Over.{OverStore, WithoutStore}
 use Rattle.ob_top.proofs.Commands.{one_asked, nothing_asked, usage_done, audit_told, format_does, run_does, no_store_usage, no_store_audit, no_store_format, no_store_run}
 use Rattle.ob_top.proofs.Completing.{Tell, FormatTells, RunTells}
@@ -94,7 +94,7 @@ module _ {S : Type 0} (disk : S → Disk) (beat : BeatKind) (words : List (List 
   format_over (inr (mid, fault, does, input, done)) store keys numbers asks = format_does before mid after status input disk beat words text old new fault does done store keys numbers asks
 
   pub run_over : OverStore disk beat words text old new before after status → (store keys : List ℕ) (lanes : Option (List ℕ)) (turns : Bool) → asked_by words ≡ Some (run_asked store keys lanes turns)
-      → RunTells disk beat words text old new before after status lanes
+      → RunTells disk beat words text old new before after status lanes turns
   run_over (inl (asked, kept, done)) store keys lanes turns asks = absurd (not_run words store keys lanes turns asked asks)
   run_over (inr (mid, fault, does, input, done)) store keys lanes turns asks = run_does before mid after status input disk beat words text old new fault does done store keys lanes turns asks
 

@@ -22,11 +22,10 @@ use Rattle.ob_store.proofs.Events.{joined}
 use Rattle.ob_store.proofs.Serving.{rose_later}
 use Rattle.ob_twin.specs.declared.gates.Open.{Open}
 use Rattle.ob_serial.specs.Serial.{EpochRecord}
-use Rattle.ob_desk.specs.Beats.{BeatKind}
 use Rattle.ob_script.specs.Script.{Scripts}
 use Rattle.ob_flat.specs.declared.opening.Opening.{Opening}
 use Rattle.ob_top.specs.Outside.{Outside, outside}
-use Rattle.ob_top.specs.Runs.{EndsEarly, OpensStanding, IsOpened, EndsFor, IsReported, IsLeftOnDisk, LeftByWholeRun, IsReadAndOpened, ServedOver, Ran, Went, RunOn, begin_events}
+use Rattle.ob_top.specs.Runs.{Manner, EndsEarly, OpensStanding, IsOpened, EndsFor, IsReported, IsLeftOnDisk, LeftByWholeRun, IsReadAndOpened, ServedOver, Ran, Went, RunOn, begin_events}
 use Rattle.ob_top.proofs.Living.{whole_lives}
 
 -- an early end has printed nothing, which is the report of no records
@@ -45,10 +44,10 @@ early_reported disk keys old new before after output (StashFull rows) early = re
 early_reported disk keys old new before after output (Worn number) early = record { bytes = appended-none output.bytes; later = omega arith }
 early_reported disk keys old new before after output SourceFault early = record { bytes = appended-none output.bytes; later = omega arith }
 
-pub ended_early : {S : Type 0} (disk : S → Disk) (beat : BeatKind) (keys : Keys) (old new : S) (before after output : Flow) (fault : Fault) → EndsEarly flat_kind keys (disk old) (disk new) disk before after fault → ((disk new).tells → LivesOn disk keys old new [])
-    → RunOn flat_kind disk beat keys old new
+pub ended_early : {S : Type 0} (disk : S → Disk) (by : Manner) (keys : Keys) (old new : S) (before after output : Flow) (fault : Fault) → EndsEarly flat_kind keys (disk old) (disk new) disk before after fault → ((disk new).tells → LivesOn disk keys old new [])
+    → RunOn flat_kind disk by keys old new
     (outside before output) (outside after output) (Some fault)
-ended_early disk beat keys old new before after output fault early lives = record {
+ended_early disk by keys old new before after output fault early lives = record {
   records = [];
   reported = early_reported disk keys (disk old) (disk new) before after output fault early;
   went = inl (refl, early, lives);
@@ -70,10 +69,10 @@ module _ (p : Params) (found : Opening) (so_far : List Shape) (n : ℕ) (old mid
   cause_since (Some (StashFull rows)) cause = cause
   cause_since (Some SourceFault) cause = cause
 
-pub went_of : {S : Type 0} (disk : S → Disk) (beat : BeatKind) (keys : Keys) (old new : S) (before after : Outside) (records : List (EpochRecord ℕ)) (fault : Option Fault) → Ran flat_kind disk beat keys old new before after records fault → Went flat_kind
-    disk beat keys old new before after records fault
-went_of disk beat keys old new before after records None ran = ran
-went_of disk beat keys old new before after records (Some fault) ran = inr ran
+pub went_of : {S : Type 0} (disk : S → Disk) (by : Manner) (keys : Keys) (old new : S) (before after : Outside) (records : List (EpochRecord ℕ)) (fault : Option Fault) → Ran flat_kind disk by keys old new before after records fault → Went flat_kind
+    disk by keys old new before after records fault
+went_of disk by keys old new before after records None ran = ran
+went_of disk by keys old new before after records (Some fault) ran = inr ran
 
 -- What a crash leaves of the opening and of the serving.
 left_both : {S : Type 0} (disk : S → Disk) (keys : Keys) (old mid new : Disk) (p : Params) (found : Opening) (at : Standing) (script : Scripts) (records : List (EpochRecord ℕ)) (fault : Option Fault)
@@ -91,19 +90,19 @@ left_both disk keys old mid new p found at script records fault first l = record
 }
 
 -- The script was run over the store that was opened.
-pub ran : {S : Type 0} (disk : S → Disk) (beat : BeatKind) (keys : Keys) (old between new : S) (input input_new output output_new : Flow) (p : Params) (script : Scripts) (found : Opening) (start : Open) (fault : Option Fault) → (disk old).faults ≤ (disk between).faults
+pub ran : {S : Type 0} (disk : S → Disk) (by : Manner) (keys : Keys) (old between new : S) (input input_new output output_new : Flow) (p : Params) (script : Scripts) (found : Opening) (start : Open) (fault : Option Fault) → (disk old).faults ≤ (disk between).faults
     → IsOpened flat_kind keys (disk old) input p script found start → Notes (begin_events flat_kind p found start) (disk old).seen (disk between).seen
     → ((disk old).tells → (disk between).tells × IsSynced (disk between))
     → ((at : Standing) → (disk old).tells → Stands flat_kind keys p (disk old).cells at → IsOpenedAt flat_kind keys p at found (disk between))
     → ((at : Standing) → (disk old).tells → Stands flat_kind keys p (disk old).cells at → AllStand flat_kind keys p (disk old) → LeavesOnly (disk old) (disk between) (StandsAsBefore flat_kind keys p (disk old)))
     → OpensStanding flat_kind disk keys p (disk old) (disk between)
     → IsReadAndOpened disk keys old between found.sealer
-    → ServedOver flat_kind disk beat keys p found found.sealer script between new output output_new fault
-    → RunOn flat_kind disk beat keys old new (outside input output) (outside input_new output_new) fault
-ran disk beat keys old between new input input_new output output_new p script found start fault later opened seen durable stood before opens begun s = record {
+    → ServedOver flat_kind disk by keys p found found.sealer script between new output output_new fault
+    → RunOn flat_kind disk by keys old new (outside input output) (outside input_new output_new) fault
+ran disk by keys old between new input input_new output output_new p script found start fault later opened seen durable stood before opens begun s = record {
   records = s.records;
   reported = s.reported;
-  went = went_of disk beat keys old new (outside input output) (outside input_new output_new) s.records fault (record {
+  went = went_of disk by keys old new (outside input output) (outside input_new output_new) s.records fault (record {
     p = p;
     script = script;
     found = found;

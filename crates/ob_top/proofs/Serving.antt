@@ -1,9 +1,8 @@
 -- What serving a script does to the store that the vault was lent, whatever the kind of store.
 use Rattle.std.specs.List.{All}
-use Rattle.std.proofs.Common.{◌≡◌, ◌+◌, ◌∙◌, ◌⊎◌, ℕ, suc, List, [], ◌∷◌, ◌++◌, length, map, Option, Some, None, Result, Ok, Err, refl, sym, ap, subst, inl, inr, arith, ⊎_elim}
+use Rattle.std.proofs.Common.{◌≡◌, ◌+◌, ◌∙◌, ◌⊎◌, ℕ, suc, Bool, List, [], ◌∷◌, ◌++◌, length, map, Option, Some, None, Result, Ok, Err, refl, sym, ap, subst, inl, inr, arith, ⊎_elim}
 use Rattle.std.proofs.lemmas.List.{append-nil, append_assoc}
 use Rattle.std.proofs.lemmas.Option.{same_Some}
-use Rattle.std.proofs.lemmas.Grind.{flat_map-append}
 use Rattle.std.specs.Ordering.{nat_cmp}
 use Rattle.std.specs.Prelude.{decimal}
 use Rattle.ob_base.specs.declared.params.Params.{Params}
@@ -38,21 +37,23 @@ use Rattle.ob_kinds.proofs.Shapes.{events_join, shapes_join, answered_not_refuse
 use Rattle.ob_script.specs.Script.{ScriptTxn, Scripts, AreSound, asks_by}
 use Rattle.ob_desk.specs.Desk.{DeskState, MayOpen, Run, new_desk}
 use Rattle.ob_conduct.specs.Acts.{Act, Says, Halts, Rests as Looked, Takes, Delivers, DeliverFails, FetchFails, Closes, Publishes, Refuses, Unprinted, calls, history, vault_calls, rest_fetches, fault_in, fault_told, records as records_of_acts}
-use Rattle.ob_conduct.specs.Rounds.{InRounds}
 use Rattle.ob_conduct.specs.Scenes.{scene, RunState, run_state, RunnerKind}
 use Rattle.ob_conduct.specs.Records.{IsWritten, AreAnswered, AreWritten, HoldsMap, contents}
 use Rattle.ob_conduct.specs.Moves.{Failure, IsReason, AreLines}
-use Rattle.ob_conduct.specs.Conducted.{Conducted, ByHand, RunEnds}
+use Rattle.ob_conduct.specs.Conducted.{Conducted, RunEnds}
+use Rattle.ob_run.specs.Threaded.{RunsBy, AreShaped}
+use Rattle.ob_run.proofs.Shapes.{runs_shaped}
 use Rattle.ob_conduct.specs.Left.{Rests, OnlyNow, IsLeftStanding, TellsDoubt, IsNextOf, IsThisOrNext, Stages, next_at}
 use Rattle.ob_conduct.proofs.Leaving.{run_leaves}
 use Rattle.ob_conduct.proofs.Moving.{goes_all, called}
 use Rattle.ob_conduct.proofs.Acting.{written_none, answered_rest}
 use Rattle.ob_conduct.proofs.Going.{answered_join}
+use Rattle.ob_conduct.proofs.Behind.{asks_before}
 use Rattle.ob_conduct.proofs.Conducting.{due_epoch, due_in_order, due_one_by_one}
 use Rattle.ob_script_runs.specs.Served.{IsServed, ClientsServedAll}
 use Rattle.ob_script_runs.proofs.Whole.{RunsScripts, is_served, its_acts, its_desk, all_served, next_served}
 use Rattle.ob_desk.specs.Beats.{BeatKind}
-use Rattle.ob_top.specs.Runs.{EndsWith, EndsFor, IsTraced, IsReported, IsLeftOnDisk, StagedFrom, IsNextEpoch, ComesNext, ServedOver, LivesBehind, fault_of}
+use Rattle.ob_top.specs.Runs.{Manner, manner, EndsWith, EndsFor, IsTraced, IsReported, IsLeftOnDisk, StagedFrom, IsNextEpoch, ComesNext, ServedOver, LivesBehind, fault_of}
 use Rattle.ob_top.proofs.Steps.{Goes, Stops, CallDoes}
 
 -- an end that was refused ended nothing
@@ -77,10 +78,6 @@ all_answered ((Fetch keys, DoubtBy fault) ∷ steps) are = absurd are
 all_answered ((End writes, Values values) ∷ steps) are = absurd are
 all_answered ((End writes, RefusedBy fault) ∷ steps) are = absurd are
 all_answered ((End writes, DoubtBy fault) ∷ steps) are = absurd are
-
--- the calls before a last act, and its own
-last_calls : (acts front : List Act) (act : Act) → acts ≡ front ++ act ∷ [] → calls acts ≡ calls front ++ vault_calls act
-last_calls acts front act is = ap calls is ∙ flat_map-append vault_calls front (act ∷ []) ∙ ap (λ l. calls front ++ l) (append-nil (vault_calls act))
 
 module _ {V S : Type 0} (k : Kind V) (store : StoreKind) (disk : S → Disk) (store_of : V → S) (p : Params) (found : store.Found) (At : store.Public → List Shape → ℕ → V → Type 0)
     (does : (q : store.Public) (so_far : List Shape) (n : ℕ) (v : V) (call : VaultCall) (answer : VaultAnswer) (notes : List Note) (w : V) → At q so_far n v → k.called v call answer notes w
@@ -254,7 +251,7 @@ module _ {V S : Type 0} (k : Kind V) (store : StoreKind) (disk : S → Disk) (st
       module _ (acts : List Act) (same : records_of_acts acts ≡ records) (chain : AllCalled k first (calls acts) last) (wrote : AreWritten (ended_of (calls acts)) records) (printed : IsPrinted before after (report decimal records)) where
         module _ (d e : DeskState) (t u : Trace) (fault : Fault) (f : Failure k (scene d first t) (scene e last u) acts before after fault) where
           its_calls : (act : Act) → f.act ≡ act → calls acts ≡ calls f.front ++ vault_calls act
-          its_calls act is = last_calls acts f.front act (f.acts_are ∙ ap (λ (x : Act). f.front ++ x ∷ []) is)
+          its_calls act is = asks_before acts f.front act f.behind (f.acts_are ∙ ap (λ (x : Act). f.front ++ x ∷ f.behind) is) f.says
 
           its_fault : (act : Act) (other : Fault) → f.act ≡ act → fault_told act ≡ Some other → Ending (calls acts) (Some other) → Ending (calls acts) (Some fault)
           its_fault act other is tells = subst (λ (x : Option Fault). Ending (calls acts) x) (sym (sym f.told ∙ ap fault_told is ∙ tells))
@@ -310,7 +307,7 @@ module _ {V S : Type 0} (k : Kind V) (store : StoreKind) (disk : S → Disk) (st
     pub sound : (at : Standing) → (disk (store_of first)).tells → IsSynced (disk (store_of first)) → IsOpenedAt store keys p at found (disk (store_of first)) → k.sound first (opened_with p (store.left p found) at)
     pub lives : (w : V) (steps : List (VaultCall × VaultAnswer)) → AllCalled k first steps w → LivesBehind disk keys sealing (store_of first) (store_of w) (map (λ s. s.1) steps)
 
-  module _ {U : Type 0} (beat : BeatKind) (kind : RunnerKind U (List ScriptTxn))
+  module _ {U : Type 0} (beat : BeatKind) (threads : Bool) (kind : RunnerKind U (List ScriptTxn))
       (means : RunsScripts kind)
       (keys : Keys) (sealing : Sealing) (script : Scripts) (sound : AreSound script) (may : MayOpen (record { params = p }) (suc (store.epoch found)) (store.left p found) script.clients)
       (first : V) (trace : Trace) (runners : List U) (before : Flow) (end : RunState V U) (result : Result (Unit {0}) Fault)
@@ -321,7 +318,7 @@ module _ {V S : Type 0} (k : Kind V) (store : StoreKind) (disk : S → Disk) (st
     abbrev begin : RunState V U
     begin = run_state (scene base first trace) runners before
 
-    module _ (acts : List Act) (d : Conducted k kind beat begin end acts result) (rounds : InRounds (map kind.client runners) acts) (l : IsLender keys sealing first) where
+    module _ (acts : List Act) (d : Conducted k kind beat begin end acts result) (rounds : AreShaped threads script.clients acts) (l : IsLender keys sealing first) where
       abbrev last : V
       last = end.scene.vault
 
@@ -334,12 +331,12 @@ module _ {V S : Type 0} (k : Kind V) (store : StoreKind) (disk : S → Disk) (st
       comes_next : (epoch : ℕ) → epoch ≡ store.epoch found → (next : Option (EpochRecord ℕ)) → IsNextOf k begin end acts result next → IsNextEpoch store found (suc epoch + length records) script records next
       comes_next epoch same None is = tt
       comes_next epoch same (Some r) (fault, told, f, (writes, refused, act_is, u, the)) =
-          let is = f.acts_are ∙ ap (λ (x : Act). f.front ++ x ∷ []) act_is in
+          let is = f.acts_are ∙ ap (λ (x : Act). f.front ++ x ∷ f.behind) act_is in
           subst (ComesNext store found (suc epoch + length records) script records) the (record {
-            epoch_is = due_epoch k kind p beat begin (record { params = p }) (suc (store.epoch found)) (store.left p found) script.clients refl acts end result d f.front writes refused is u ∙ ap (λ e. suc e + length records) (sym same);
-            served = next_served k beat kind means p (store.epoch found) (store.left p found) script sound may first trace runners before end acts result named planned d f.front writes refused is u;
-            in_order = due_in_order k kind p beat begin (record { params = p }) (suc (store.epoch found)) (store.left p found) script.clients refl acts end result d f.front writes refused is u;
-            one_by_one = λ m of. due_one_by_one k kind p beat begin (record { params = p }) (suc (store.epoch found)) (store.left p found) script.clients refl acts end result d f.front writes refused is u m (l.holds m of);
+            epoch_is = due_epoch k kind p beat begin (record { params = p }) (suc (store.epoch found)) (store.left p found) script.clients refl acts end result d f.front writes refused f.behind is f.says u ∙ ap (λ e. suc e + length records) (sym same);
+            served = next_served k beat kind means p (store.epoch found) (store.left p found) script sound may first trace runners before end acts result named planned d f.front writes refused f.behind is f.says u;
+            in_order = due_in_order k kind p beat begin (record { params = p }) (suc (store.epoch found)) (store.left p found) script.clients refl acts end result d f.front writes refused f.behind is f.says u;
+            one_by_one = λ m of. due_one_by_one k kind p beat begin (record { params = p }) (suc (store.epoch found)) (store.left p found) script.clients refl acts end result d f.front writes refused f.behind is f.says u m (l.holds m of);
           })
 
       doubt_told : (epoch n : ℕ) → epoch ≡ n → TellsDoubt epoch result → fault_of result ≡ Some (StoreFault (Some n))
@@ -382,22 +379,22 @@ module _ {V S : Type 0} (k : Kind V) (store : StoreKind) (disk : S → Disk) (st
       chain : AllCalled k first (calls acts) last
       chain = called k first (calls acts) d.notes last d.chain
 
-      abbrev is_run : IsServed beat p (store.epoch found) (store.left p found) script records
-      is_run = is_served k beat kind means p (store.epoch found) (store.left p found) script sound may first trace runners before end acts result named planned d rounds
+      abbrev is_run : IsServed (AreShaped threads script.clients) beat p (store.epoch found) (store.left p found) script records
+      is_run = is_served k beat kind means p (store.epoch found) (store.left p found) script sound may first trace runners before end acts result named planned d (AreShaped threads script.clients) rounds
 
-      acts_are : acts ≡ (is_served k beat kind means p (store.epoch found) (store.left p found) script sound may first trace runners before end acts result named planned d rounds).acts
-      acts_are = sym (its_acts k beat kind means p (store.epoch found) (store.left p found) script sound may first trace runners before end acts result named planned d rounds)
+      acts_are : acts ≡ (is_served k beat kind means p (store.epoch found) (store.left p found) script sound may first trace runners before end acts result named planned d (AreShaped threads script.clients) rounds).acts
+      acts_are = sym (its_acts k beat kind means p (store.epoch found) (store.left p found) script sound may first trace runners before end acts result named planned d (AreShaped threads script.clients) rounds)
 
-      desk_is : end.scene.desk ≡ (is_served k beat kind means p (store.epoch found) (store.left p found) script sound may first trace runners before end acts result named planned d rounds).desk
-      desk_is = sym (its_desk k beat kind means p (store.epoch found) (store.left p found) script sound may first trace runners before end acts result named planned d rounds)
+      desk_is : end.scene.desk ≡ (is_served k beat kind means p (store.epoch found) (store.left p found) script sound may first trace runners before end acts result named planned d (AreShaped threads script.clients) rounds).desk
+      desk_is = sym (its_desk k beat kind means p (store.epoch found) (store.left p found) script sound may first trace runners before end acts result named planned d (AreShaped threads script.clients) rounds)
 
       ends_with : (r : Result (Unit {0}) Fault) → RunEnds k begin end acts r → EndsWith (fault_of r) acts end.scene.desk
       ends_with (Ok done) (answered, over, written) = over
       ends_with (Err fault) (inl short) = inl (short.fault_is, short.none)
-      ends_with (Err fault) (inr f) = inr (f.front, f.act, f.acts_are, f.told)
+      ends_with (Err fault) (inr f) = inr (f.front, f.act, f.behind, f.acts_are, f.says, f.told)
 
       -- what serving does
-      pub serves : At (store.public found) [] 0 first → ServedOver store disk beat keys p found sealing script (store_of first) (store_of last) before after (fault_of result)
+      pub serves : At (store.public found) [] 0 first → ServedOver store disk (manner beat threads) keys p found sealing script (store_of first) (store_of last) before after (fault_of result)
       serves begun =
           let e = ending first last before after records begun l.faults acts refl chain d.wrote d.printed base end.scene.desk trace end.scene.trace runners end.runners result d.ends in
           record {
@@ -422,20 +419,21 @@ module _ {V S : Type 0} (k : Kind V) (store : StoreKind) (disk : S → Disk) (st
           }
 
   -- the same, from the epoch and the batches left that the vault tells
-  pub serves_on : {U : Type 0} (beat : BeatKind) (kind : RunnerKind U (List ScriptTxn))
+  pub serves_on : {U : Type 0} (beat : BeatKind) (threads : Bool) (kind : RunnerKind U (List ScriptTxn))
       (means : RunsScripts kind)
       (keys : Keys) (sealing : Sealing) (script : Scripts) (sound : AreSound script) (may : MayOpen (record { params = p }) (suc (store.epoch found)) (store.left p found) script.clients)
       (first : V) (trace : Trace) (runners : List U) (before : Flow) (end : RunState V U) (result : Result (Unit {0}) Fault) (epoch left : ℕ)
       → map kind.client runners ≡ script.clients → All (λ u. kind.plan u ≡ asks_by (kind.client u) script.txns) runners → epoch ≡ store.epoch found → left ≡ store.left p found
-      → ByHand k kind beat (run_state (scene (new_desk (record { params = p }) (suc epoch) left script.clients) first trace) runners before) end result
+      → RunsBy threads k kind beat (run_state (scene (new_desk (record { params = p }) (suc epoch) left script.clients) first trace) runners before) end result
       → IsLender keys sealing first → At (store.public found) [] 0 first
-      → ServedOver store disk beat keys p found sealing script (store_of first) (store_of end.scene.vault) before end.output (fault_of result)
-  serves_on beat kind means keys sealing script sound may first trace runners before end result epoch left named planned epoch_is left_is run l begun =
-      let (acts, d, rounds) = subst (λ n. ByHand k kind beat (run_state (scene (new_desk (record { params = p }) (suc (store.epoch found)) n script.clients) first trace) runners before) end result) left_is
-      (subst (λ e. ByHand k kind beat (run_state (scene (new_desk (record { params = p }) (suc e) left script.clients) first trace) runners before) end result) epoch_is run) in
-      serves beat kind means keys sealing script sound may first trace runners before end result named planned acts d rounds l begun
+      → ServedOver store disk (manner beat threads) keys p found sealing script (store_of first) (store_of end.scene.vault) before end.output (fault_of result)
+  serves_on beat threads kind means keys sealing script sound may first trace runners before end result epoch left named planned epoch_is left_is run l begun =
+      let run_is = subst (λ n. RunsBy threads k kind beat (run_state (scene (new_desk (record { params = p }) (suc (store.epoch found)) n script.clients) first trace) runners before) end result) left_is
+      (subst (λ e. RunsBy threads k kind beat (run_state (scene (new_desk (record { params = p }) (suc e) left script.clients) first trace) runners before) end result) epoch_is run) in
+      let (acts, d, shaped) = runs_shaped threads k kind beat _ end result run_is in
+      serves beat threads kind means keys sealing script sound may first trace runners before end result named planned acts d (subst (λ numbers. AreShaped threads numbers acts) named shaped) l begun
 
 -- the same by other names
-pub renamed : (store : StoreKind) {S : Type 0} (disk : S → Disk) (beat : BeatKind) (keys : Keys) (p : Params) (found : store.Found) (sealing : Sealing) (script : Scripts) (a old b new : S) (before after : Flow) (fault : Option Fault)
-    → a ≡ old → new ≡ b → ServedOver store disk beat keys p found sealing script a b before after fault → ServedOver store disk beat keys p found sealing script old new before after fault
-renamed store disk beat keys p found sealing script a old b new before after fault old_is new_is s = rw (← old_is, new_is) s
+pub renamed : (store : StoreKind) {S : Type 0} (disk : S → Disk) (by : Manner) (keys : Keys) (p : Params) (found : store.Found) (sealing : Sealing) (script : Scripts) (a old b new : S) (before after : Flow) (fault : Option Fault)
+    → a ≡ old → new ≡ b → ServedOver store disk by keys p found sealing script a b before after fault → ServedOver store disk by keys p found sealing script old new before after fault
+renamed store disk by keys p found sealing script a old b new before after fault old_is new_is s = rw (← old_is, new_is) s

@@ -1,5 +1,5 @@
 -- What `run` does.
-use Rattle.std.specs.Prelude.{ℕ, suc, ◌≡◌, ◌⊎◌, ◌+◌, ◌≤◌, List, [], ◌∷◌, ◌++◌, length, map, Option, Some, None, Result, Ok, Err, decimal}
+use Rattle.std.specs.Prelude.{ℕ, suc, Bool, ◌≡◌, ◌⊎◌, ◌+◌, ◌≤◌, All, List, [], ◌∷◌, ◌++◌, length, map, Option, Some, None, Result, Ok, Err, decimal}
 use Rattle.std.specs.Ordering.{nat_cmp}
 use Rattle.ob_base.specs.declared.params.Params.{Params}
 use Rattle.ob_seal.specs.declared.keys.Keys.{Keys}
@@ -28,8 +28,10 @@ use Rattle.ob_desk.specs.Beats.{BeatKind}
 use Rattle.ob_script.specs.Script.{Scripts, IsScript, IsFirstBad, limit}
 use Rattle.ob_flat.specs.Noting.{NotesReads}
 use Rattle.ob_conduct.specs.Acts.{Act, calls, history, fault_told}
+use Rattle.ob_conduct.specs.Moves.{IsSaid}
 use Rattle.ob_conduct.specs.Records.{IsWritten, IsOver, contents}
 use Rattle.ob_conduct.specs.Left.{IsLeftStanding, IsLeftNow, IsThisOrNext, next_at}
+use Rattle.ob_run.specs.Threaded.{AreShaped}
 use Rattle.ob_script_runs.specs.Served.{IsServed, ClientsServed, ClientsServedAll}
 use Rattle.ob_top.specs.Outside.{Outside}
 
@@ -129,16 +131,25 @@ EndsFor store p found behind n old new before after (Some SinkFault) = Rose befo
 EndsFor store p found behind n old new before after (Some (StoreFault unsure)) = Rose old.faults new.faults × ((unsure ≡ None) ⊎ (unsure ≡ Some (suc (store.epoch found + n))))
 EndsFor store p found behind n old new before after (Some fault) = store.causes p found behind n fault
 
--- How serving ended. Without a fault each client has signed off, nothing waits, and the desk isn't stopped; else the last act tells of the
--- fault, or nothing was done for want of memory.
+-- How serving ended. Without a fault each client has signed off, nothing waits, and the desk isn't stopped; else the driver's last act,
+-- behind which there are clients' turns alone, tells of the fault, or nothing was done for want of memory.
 abbrev pub EndsWith : Option Fault → List Act → DeskState → Type 0
 EndsWith None acts desk = IsOver desk
-EndsWith (Some fault) acts desk = ((fault ≡ Memory) × (acts ≡ [])) ⊎ ((front : List Act) × (act : Act) × (acts ≡ front ++ act ∷ []) × (fault_told act ≡ Some fault))
+EndsWith (Some fault) acts desk = ((fault ≡ Memory) × (acts ≡ [])) ⊎ ((front : List Act) × (act : Act) × (behind : List Act) × (acts ≡ front ++ act ∷ behind) × All IsSaid behind × (fault_told act ≡ Some fault))
+
+-- How a run goes: at which looks its driver may act, and whether its clients have threads of their own.
+pub record Manner : Type 0 where
+  pub beat : BeatKind
+  pub threads : Bool
+
+abbrev pub manner : BeatKind → Bool → Manner
+manner beat threads = record { beat = beat; threads = threads }
 
 -- A script was served from a map on, all of each client's part where there was no fault. The committed transactions ran one by one from
 -- that map, in the order of their epochs and tickets.
-pub record ScriptServed (store : StoreKind) (beat : BeatKind) (p : Params) (found : store.Found) (script : Scripts) (records : List (EpochRecord ℕ)) (fault : Option Fault) : Type 0 where
-  pub served : IsServed beat p (store.epoch found) (store.left p found) script records
+pub record ScriptServed (store : StoreKind) (by : Manner) (p : Params) (found : store.Found) (script : Scripts) (records : List (EpochRecord ℕ)) (fault : Option Fault) : Type 0 where
+  -- By hand the acts are whole rounds; by threads they are, without the clients' turns, things that the driver does.
+  pub served : IsServed (AreShaped by.threads script.clients) by.beat p (store.epoch found) (store.left p found) script records
   pub all : fault ≡ None → ClientsServedAll script records
   pub ends : EndsWith fault served.acts served.desk
   -- what batches delivered is the map's, so the acts are a run from that map
@@ -217,9 +228,9 @@ abbrev pub LivesBehind : {S : Type 0} → (S → Disk) → Keys → Sealing → 
 LivesBehind {S} disk keys sealing opened new answers = (old : S) → ((disk opened).tells → Opens keys (disk old) (disk opened) sealing) → (disk new).tells → LivesOn disk keys old new answers
 
 -- What serving does to the store and the output.
-pub record ServedOver (store : StoreKind) {S : Type 0} (disk : S → Disk) (beat : BeatKind) (keys : Keys) (p : Params) (found : store.Found) (sealing : Sealing) (script : Scripts) (old new : S) (before after : Flow) (fault : Option Fault) : Type 0 where
+pub record ServedOver (store : StoreKind) {S : Type 0} (disk : S → Disk) (by : Manner) (keys : Keys) (p : Params) (found : store.Found) (sealing : Sealing) (script : Scripts) (old new : S) (before after : Flow) (fault : Option Fault) : Type 0 where
   pub records : List (EpochRecord ℕ)
-  pub is_served : ScriptServed store beat p found script records fault
+  pub is_served : ScriptServed store by p found script records fault
   pub cause : EndsFor store p found (shapes (calls is_served.served.acts)) (length records) (disk old) (disk new) before after fault
   pub reported : IsReported before after records fault
   pub events : List Event
@@ -229,7 +240,7 @@ pub record ServedOver (store : StoreKind) {S : Type 0} (disk : S → Disk) (beat
   pub left : (at : Standing) → (disk old).tells → IsSynced (disk old) → IsOpenedAt store keys p at found (disk old) → IsLeftOnDisk store keys p found at script records fault disk (disk old) (disk new)
   pub lives : LivesBehind disk keys sealing old new (map (λ s. s.1) (calls is_served.served.acts))
 
-module _ (store : StoreKind) {S : Type 0} (disk : S → Disk) (beat : BeatKind) where
+module _ (store : StoreKind) {S : Type 0} (disk : S → Disk) (by : Manner) where
   -- The script was run, whole or up to a fault.
   pub record Ran (keys : Keys) (old new : S) (before after : Outside) (records : List (EpochRecord ℕ)) (fault : Option Fault) : Type 0 where
     pub p : Params
@@ -237,7 +248,7 @@ module _ (store : StoreKind) {S : Type 0} (disk : S → Disk) (beat : BeatKind) 
     pub found : store.Found
     pub start : store.Start
     pub opened : IsOpened store keys (disk old) before.input p script found start
-    pub is_served : ScriptServed store beat p found script records fault
+    pub is_served : ScriptServed store by p found script records fault
     pub cause : EndsFor store p found (shapes (calls is_served.served.acts)) (length records) (disk old) (disk new) before.output after.output fault
     -- the trace is that of the opening, and then that of the vault's calls
     pub events : List Event

@@ -1,5 +1,5 @@
 -- What the top call promises, command by command.
-use Rattle.std.specs.Prelude.{ℕ, ◌≡◌, ◌⊎◌, Bool, List, Option, Some, None}
+use Rattle.std.specs.Prelude.{ℕ, ◌≡◌, ◌⊎◌, Bool, not, List, Option, Some, None}
 use Rattle.std.specs.Borrow.{MutBor}
 use Rattle.ob_base.specs.declared.params.Params.{Params}
 use Rattle.ob_base.specs.declared.fault.Field.{Field}
@@ -20,7 +20,7 @@ use Rattle.ob_top.specs.Outside.{Outside, Left, OfStore, IsOnlyTold}
 use Rattle.ob_top.specs.Audits.{AuditDone}
 use Rattle.ob_top.specs.Formats.{FormatEnds, FormatDone}
 use Rattle.ob_top.specs.Flat.{flat_kind}
-use Rattle.ob_top.specs.Runs.{RunOn, RunDone}
+use Rattle.ob_top.specs.Runs.{manner, RunOn, RunDone}
 
 -- The words ask for something over a store, and the numbers are in range.
 abbrev pub AskForSomething : List (List ℕ) → Type 0
@@ -40,7 +40,7 @@ CommandDoes disk beat words text old new before after fault =
     ((f : Fault) × (fault ≡ Some f) × IsRefusedBefore words text f × (new ≡ old) × (after ≡ before))
     ⊎ ((keys : Keys) × HasKeys text keys × (((p : Params) × Asks words (Format p) × FormatEnds disk keys p old new before.output after.output fault
     × ((disk old).tells → LeavesOnly (disk old) (disk new) (FormatLeaves keys p.keys (disk old))) × (after.input ≡ before.input))
-    ⊎ ((k : ℕ) × Asks words (Run k) × RunOn flat_kind disk beat keys old new before after fault)))
+    ⊎ ((k : ℕ) × (turns : Bool) × Asks words (Run k turns) × RunOn flat_kind disk (manner beat (not turns)) keys old new before after fault)))
 
 module _ {S : Type 0} (disk : S → Disk) (beat : BeatKind) (words : List (List ℕ)) (text : Option (Bor (List ℕ))) (entry : Option (MutBor S)) (exit : Left S) (before after : Outside) (status : ℕ) where
   -- a store that was handed in is as it was
@@ -74,10 +74,10 @@ module _ {S : Type 0} (disk : S → Disk) (beat : BeatKind) (words : List (List 
       ⊎ ((keys : Keys) × HasKeys text keys × OfStore entry exit (IsOnlyTold (StoreFault None) before after status) (λ old new. FormatDone disk keys p old new before after status)))))
 
   -- `run`: want of memory for the words is told, then lanes out of their range, then what is wrong with the keys, then that there is no
-  -- store, before anything is touched.
+  -- store, before anything is touched. With `--turns` all clients are made by hand.
   abbrev pub RunDoes : Type 0
   RunDoes = (store_path keys_path : List ℕ) (lanes : Option (List ℕ)) (turns : Bool) → asked_by words ≡ Some (run_asked store_path keys_path lanes turns) →
       Refuses Memory
       ⊎ ((AreBadLanes lanes × Refuses (BadParams LANES))
       ⊎ ((k : ℕ) × AreLanes lanes k × (KeysDo
-      ⊎ ((keys : Keys) × HasKeys text keys × OfStore entry exit (IsOnlyTold (StoreFault None) before after status) (λ old new. RunDone flat_kind disk beat keys old new before after status)))))
+      ⊎ ((keys : Keys) × HasKeys text keys × OfStore entry exit (IsOnlyTold (StoreFault None) before after status) (λ old new. RunDone flat_kind disk (manner beat (not turns)) keys old new before after status)))))

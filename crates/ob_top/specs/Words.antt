@@ -56,7 +56,7 @@ AreBadLanes (Some word) = (k : ℕ) → 1 ≤ k → k ≤ 16 → word ≢ decima
 -- the command over a store of a request, whose numbers are in range
 abbrev pub IsCommandOf : Asked → Command → Type 0
 IsCommandOf (format_asked store keys numbers) (Format p) = AreParams numbers p
-IsCommandOf (run_asked store keys lanes turns) (Run k) = AreLanes lanes k
+IsCommandOf (run_asked store keys lanes turns) (Run k by_hand) = AreLanes lanes k × (by_hand ≡ turns)
 IsCommandOf _ _ = ⊥
 
 -- what a request asks for

@@ -11,8 +11,3 @@ mod words;
 pub use endings::finish;
 pub use top::obladi;
 pub use words::{Paths, store_wanted};
-
-#[cfg(test)]
-mod tests;
-#[cfg(test)]
-mod tests_audit;

@@ -19,16 +19,16 @@ ghost use Rattle.ob_runner.specs.Runners.{AreRunners};
 ghost use Rattle.ob_runner.specs.RunnerViews.{client_of, bound_of, plan_of, MayHaveMade};
 ghost use Rattle.ob_runner.specs.Turns.{IsScriptTurn};
 ghost use Rattle.ob_conduct.specs.Scenes.{scene, run_state, runner_kind};
-ghost use Rattle.ob_conduct.specs.Conducted.{ByHand};
+ghost use Rattle.ob_run.specs.Threaded.{RunsBy};
 ghost use Rattle.ob_serial.specs.VaultKinds.{kind_of};
-ghost use Rattle.ob_top.specs.Runs.{CameIn, IsInputRefused, EndsEarly, OpensStanding, IsOpened, IsReadAndOpened, ServedOver, RunOn, begin_events, fault_of};
+ghost use Rattle.ob_top.specs.Runs.{manner, CameIn, IsInputRefused, EndsEarly, OpensStanding, IsOpened, IsReadAndOpened, ServedOver, RunOn, begin_events, fault_of};
 ghost use Rattle.ob_top.specs.Outside.{outside};
 
 use ob_base::{Fault, Memory, Params};
-use ob_conduct::serve;
 use ob_desk::{Beat, Desk};
 use ob_flat::{FlatVault, Opening, head, prepare};
 use ob_io::{ReadErr, Sink, Source, read_all};
+use ob_run::run;
 use ob_runner::{ScriptRunner, runners};
 use ob_script::{LIMIT, Scripts, parse};
 use ob_seal::Keys;
@@ -36,6 +36,7 @@ use ob_serial::Vault;
 use ob_store::{Blind, Store, Watch};
 use std::alloc::Global;
 use std::sync::Wait;
+use std::thread::Threads;
 
 // A run of which all is ready: the store's parameters, the script, what makes its clients' calls,
 // and what opening found.
@@ -129,41 +130,8 @@ fn begin<S: Store, I: Source>(
     }
 }
 
-// Runs these clients over a vault and a desk that none has called.
-fn serve_all<R: Wait, V: Vault, W: Watch, O: Sink, B: Beat>(
-    rt: &R,
-    alloc: Global,
-    params: &Params,
-    desk: &mut Desk,
-    runners: &mut Vec<ScriptRunner>,
-    vault: &mut V,
-    watch: &mut W,
-    beat: &mut B,
-    output: &mut O,
-) -> Result<(), Fault>
-    requires params { V.params vault.old ≡ params.now }
-    requires serves { (V.counts vault.old).spent ≡ false }
-    requires fresh { desk.old
-        ≡ new_desk (record { params = params.now }) (suc (V.counts vault.old).epoch)
-        (V.counts vault.old).left (map client_of runners.old.items) }
-    requires opens { MayOpen (record { params = params.now }) (suc (V.counts vault.old).epoch)
-        (V.counts vault.old).left (map client_of runners.old.items) }
-    requires below { All (λ u. bound_of u ≤ params.now.keys) runners.old.items }
-    requires none_made { All (λ u. MayHaveMade u []) runners.old.items }
-    ensures anchors { (V.disk vault.new).anchors ≡ (V.disk vault.old).anchors }
-    ensures done { ByHand (kind_of V.Vault)
-        (runner_kind client_of bound_of plan_of MayHaveMade IsScriptTurn)
-        (beat_kind B.passes B.exact)
-        (run_state (scene desk.old vault.old (W.trace watch.old)) runners.old.items
-        (outflow O.Sink output.old))
-        (run_state (scene desk.new vault.new (W.trace watch.new)) runners.new.items
-        (outflow O.Sink output.new)) result }
-{
-    serve(rt, alloc, params, desk, runners, vault, watch, beat, output)
-}
-
 // Runs the script's clients over a vault, from a new desk on.
-fn conduct<R: Wait, V: Vault, W: Watch, O: Sink, B: Beat>(
+fn conduct<R: Threads + Wait + Sync, V: Vault, W: Watch, O: Sink, B: Beat>(
     rt: &R,
     alloc: Global,
     params: &Params,
@@ -173,6 +141,7 @@ fn conduct<R: Wait, V: Vault, W: Watch, O: Sink, B: Beat>(
     watch: &mut W,
     output: &mut O,
     beat: &mut B,
+    threads: bool,
 ) -> Result<(), Fault>
     requires params { V.params vault.old ≡ params.now }
     requires serves { (V.counts vault.old).spent ≡ false }
@@ -182,7 +151,8 @@ fn conduct<R: Wait, V: Vault, W: Watch, O: Sink, B: Beat>(
     requires runners { AreRunners scripts.now runners.old.items }
     ensures anchors { (V.disk vault.new).anchors ≡ (V.disk vault.old).anchors }
     ensures done { (new : DeskState)
-        × ByHand (kind_of V.Vault) (runner_kind client_of bound_of plan_of MayHaveMade IsScriptTurn)
+        × RunsBy threads (kind_of V.Vault)
+        (runner_kind client_of bound_of plan_of MayHaveMade IsScriptTurn)
         (beat_kind B.passes B.exact)
         (run_state (scene (new_desk (record { params = params.now })
         (suc (V.counts vault.old).epoch) (V.counts vault.old).left scripts.now.clients) vault.old
@@ -190,7 +160,7 @@ fn conduct<R: Wait, V: Vault, W: Watch, O: Sink, B: Beat>(
         (run_state (scene new vault.new (W.trace watch.new)) runners.new.items
         (outflow O.Sink output.new)) result }
 {
-    let mut desk = match Desk::new(
+    let desk = match Desk::new(
         alloc,
         params,
         vault.epoch() + 1,
@@ -200,13 +170,23 @@ fn conduct<R: Wait, V: Vault, W: Watch, O: Sink, B: Beat>(
         Ok(desk) => desk,
         Err(Memory) => return Err(Fault::Memory),
     };
-    serve_all(
-        rt, alloc, params, &mut desk, runners, vault, watch, beat, output,
+    run(
+        rt,
+        alloc,
+        params,
+        desk,
+        scripts.clients(),
+        runners,
+        vault,
+        watch,
+        beat,
+        output,
+        threads,
     )
 }
 
 // Runs the script over the store that was opened.
-fn serve_on<R: Wait, S: Store, O: Sink, B: Beat>(
+fn serve_on<R: Threads + Wait + Sync, S: Store, O: Sink, B: Beat>(
     rt: &R,
     alloc: Global,
     store: &mut S,
@@ -214,6 +194,7 @@ fn serve_on<R: Wait, S: Store, O: Sink, B: Beat>(
     begun: Begun,
     output: &mut O,
     beat: &mut B,
+    threads: bool,
 ) -> Result<(), Fault>
     requires none_out { (S.disk store.old).out ≡ 0 }
     requires params { begun.opening.params ≡ begun.params }
@@ -224,8 +205,8 @@ fn serve_on<R: Wait, S: Store, O: Sink, B: Beat>(
     requires runners { AreRunners begun.scripts begun.runners.items }
     requires keys { begun.scripts.keys ≡ begun.params.keys }
     ensures none_out { (S.disk store.new).out ≡ 0 }
-    ensures serves { ServedOver flat_kind S.disk (beat_kind B.passes B.exact) keys.now begun.params
-        begun.opening begun.opening.sealer
+    ensures serves { ServedOver flat_kind S.disk (manner (beat_kind B.passes B.exact) threads) keys.now
+        begun.params begun.opening begun.opening.sealer
         begun.scripts store.old store.new
         (outflow O.Sink output.old) (outflow O.Sink output.new) (fault_of result) }
 {
@@ -246,16 +227,18 @@ fn serve_on<R: Wait, S: Store, O: Sink, B: Beat>(
         &mut Blind,
         output,
         beat,
+        threads,
     );
     let _store = vault.into_store();
     ended
 }
 
-/// Runs the script that comes in over a store, and reports each epoch once it has ended.
+/// Runs the script that comes in over a store, and reports each epoch once it has ended. Without
+/// `threads` its clients' calls are made by hand, and else in threads of their own.
 ///
 /// # Errors
 /// In this order: the head, the input, the opening; then what the run met.
-pub fn run_on<R: Wait, S: Store, I: Source, O: Sink, B: Beat>(
+pub fn run_on<R: Threads + Wait + Sync, S: Store, I: Source, O: Sink, B: Beat>(
     rt: &R,
     alloc: Global,
     store: &mut S,
@@ -263,11 +246,13 @@ pub fn run_on<R: Wait, S: Store, I: Source, O: Sink, B: Beat>(
     input: &mut I,
     output: &mut O,
     beat: &mut B,
+    threads: bool,
 ) -> Result<(), Fault>
     requires none_out { (S.disk store.old).out ≡ 0 }
     ensures goes { GoesOn (S.disk store.old) (S.disk store.new) }
     ensures none_out { (S.disk store.new).out ≡ 0 }
-    ensures done { RunOn flat_kind S.disk (beat_kind B.passes B.exact) keys.now store.old store.new
+    ensures done { RunOn flat_kind S.disk (manner (beat_kind B.passes B.exact) threads) keys.now
+        store.old store.new
         (outside (inflow I.Source input.old) (outflow O.Sink output.old))
         (outside (inflow I.Source input.new) (outflow O.Sink output.new))
         (fault_of result) }
@@ -276,7 +261,7 @@ pub fn run_on<R: Wait, S: Store, I: Source, O: Sink, B: Beat>(
         Ok(begun) => begun,
         Err(fault) => return Err(fault),
     };
-    match serve_on(rt, alloc, store, keys, begun, output, beat) {
+    match serve_on(rt, alloc, store, keys, begun, output, beat, threads) {
         Ok(()) => Ok(()),
         Err(fault) => Err(fault),
     }

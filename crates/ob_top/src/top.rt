@@ -22,9 +22,10 @@ use ob_io::{Sink, Source};
 use ob_store::Store;
 use std::alloc::Global;
 use std::sync::Wait;
+use std::thread::Threads;
 
 // Does this over a store.
-fn do_on<R: Wait, S: Store, I: Source, O: Sink, B: Beat>(
+fn do_on<R: Threads + Wait + Sync, S: Store, I: Source, O: Sink, B: Beat>(
     rt: &R,
     alloc: Global,
     command: Command,
@@ -49,12 +50,12 @@ fn do_on<R: Wait, S: Store, I: Source, O: Sink, B: Beat>(
     };
     match command {
         Command::Format { params } => format_on(store, &keys, &params, output),
-        Command::Run { .. } => run_on(rt, alloc, store, &keys, input, output, beat),
+        Command::Run { turns, .. } => run_on(rt, alloc, store, &keys, input, output, beat, !turns),
     }
 }
 
 // Does what the words ask for, with a store.
-fn do_with<R: AllocGlobal + Wait, S: Store, I: Source, O: Sink, B: Beat>(
+fn do_with<R: AllocGlobal + Threads + Wait + Sync, S: Store, I: Source, O: Sink, B: Beat>(
     rt: &R,
     words: &[&str],
     keys: Option<&[u8]>,
@@ -122,10 +123,11 @@ fn do_without<I: Source, O: Sink>(
 ///
 /// `format STORE KEYS N L Z S R BR BW E T` makes an empty store and prints how many cells it has.
 /// `run STORE KEYS [--lanes K] [--turns]` reads a script, runs its clients' transactions over the
-/// store, and reports them, each epoch once it is durable. The clients' calls are made by hand, in
-/// rounds, with `--turns` or without. `store` is the store that the words name, or none where it wasn't
-/// opened; `keys` is the text of the key file that they name, or none where it wasn't read; `beat`
-/// says at which looks the driver of epochs acts.
+/// store, and reports them, each epoch once it is durable. Each client's calls are made in a thread of
+/// its own, or by hand where the system refuses it; with `--turns` all are made by hand, in rounds.
+/// `store` is the store that the words name, or none where it wasn't opened; `keys` is the text of the
+/// key file that they name, or none where it wasn't read; `beat` says at which looks the driver of
+/// epochs acts.
 ///
 /// `audit` reads a trace, and prints whether each line may stand there, or the first that may not. It
 /// touches no store and no keys.
@@ -135,7 +137,7 @@ fn do_without<I: Source, O: Sink>(
 /// number or lanes out of range, for keys that are none and for a script that breaks the grammar; 3
 /// for what is no store; 4 for damage; 5 where the store failed or none was handed in; 7 where the
 /// key file, the input or the output failed; 8 where a number is worn out; 9 for want of memory.
-pub fn obladi<R: AllocGlobal + Wait, S: Store, I: Source, O: Sink, B: Beat>(
+pub fn obladi<R: AllocGlobal + Threads + Wait + Sync, S: Store, I: Source, O: Sink, B: Beat>(
     rt: &R,
     words: &[&str],
     keys: Option<&[u8]>,

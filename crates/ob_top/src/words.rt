@@ -24,8 +24,9 @@ pub enum Work {
 pub enum Command {
     /// An empty store is made, of these parameters.
     Format { params: Params },
-    /// The script that comes in is run. The vault's batches may have so many lanes, from 1 to 16.
-    Run { lanes: u32 },
+    /// The script that comes in is run. The vault's batches may have so many lanes, from 1 to 16;
+    /// and with `turns` all clients' calls are made by hand.
+    Run { lanes: u32, turns: bool },
 }
 
 /// The files that the words call for.
@@ -119,8 +120,11 @@ fn work_in(request: &Request<'_>) -> Result<Work, Field>
             Ok(params) => Ok(Work::OnStore(Command::Format { params })),
             Err(field) => Err(field),
         },
-        Request::Run { lanes, .. } => match lanes_in(*lanes) {
-            Ok(lanes) => Ok(Work::OnStore(Command::Run { lanes })),
+        Request::Run { lanes, turns, .. } => match lanes_in(*lanes) {
+            Ok(lanes) => Ok(Work::OnStore(Command::Run {
+                lanes,
+                turns: *turns,
+            })),
             Err(field) => Err(field),
         },
         Request::Audit => Ok(Work::Audit),

@@ -7,6 +7,5 @@ pub mod Joining
 pub mod LongTurn
 pub mod Opening
 pub mod Prefixes
-pub mod Seats
 pub mod Totals
 pub mod TurnSteps

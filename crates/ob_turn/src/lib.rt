@@ -11,8 +11,6 @@ mod bell;
 mod bell_calls;
 mod guard;
 mod sleepers;
-#[cfg(test)]
-mod tests;
 mod turn;
 mod turn_calls;
 mod turn_end;

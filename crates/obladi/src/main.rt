@@ -11,6 +11,7 @@ use std::fs::File;
 use std::io::ErrorKind;
 use std::process::ExitCode;
 use std::sync::Wait;
+use std::thread::Threads;
 use std::{env, io};
 
 // The most bytes that a key file may have: the digits of 96 bytes, and a line feed.
@@ -88,8 +89,8 @@ fn hold_standard(rt: &HostRuntime) -> Result<[File; 3], Fault> {
 }
 
 // Does what the words ask for, and gives the status. A run goes on as long as its clients do, so it
-// takes the runtime as one that may wait too.
-fn run<R: AllocGlobal + Wait, O: Sink>(
+// takes the runtime as one that may start threads and wait too.
+fn run<R: AllocGlobal + Threads + Wait + Sync, O: Sink>(
     rt: &HostRuntime,
     waits: &R,
     output: &mut O,

@@ -1,8 +1,8 @@
-use Rattle.std.proofs.Common.{◌≡◌, ◌≤◌}
-use Rattle.std.specs.List.{count_by, range_with_len}
+use Rattle.std.proofs.Common.{◌≡◌, ◌≤◌, take}
+use Rattle.std.specs.List.{count_by}
 use Rattle.ob_order.specs.Works as works
 use Rattle.ob_desk.proofs.part.count_live.Given as goal
 
 -- the tickets so far are counted
-abbrev pub invariant-loop-n : goal.invariant-loop-n
-invariant-loop-n l = (l.count ≡ count_by (works.goes_on l.order.state.works) (range_with_len 1 l.n)) × (l.count ≤ l.n)
+abbrev pub invariant-loop-t : goal.invariant-loop-t
+invariant-loop-t l = (l.count ≡ count_by (works.goes_on l.part.order.state.works) (take l.t-index l.part.going.items)) × (l.count ≤ l.t-index)

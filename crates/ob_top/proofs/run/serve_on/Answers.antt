@@ -55,7 +55,7 @@ returns-clause-serves g c =
     } in
     let s = flat_serves _ g.S.Store.disk (λ v. v.held.store.now) (λ v. v.held.sealer) (λ v. v.params) (λ v. v.held.gates.epoch) (λ v. v.held.epoch) (λ v. v.values.items) (λ v call answer notes w does. does)
     c.args.begun.params c.args.begun.opening
-    _ (runner_kind client_of bound_of plan_of MayHaveMade IsScriptTurn) (record { means = λ r said fit. is_its_script (runner_state r) said fit; turns = λ script client said steps turn. turn })
+    _ c.args.threads (runner_kind client_of bound_of plan_of MayHaveMade IsScriptTurn) (record { means = λ r said fit. is_its_script (runner_state r) said fit; turns = λ script client said steps turn. turn })
     c.args.keys.now c.args.begun.scripts c.requires.sound (may_open c.args.begun.params c.args.begun.opening.epoch _ c.args.begun.scripts c.args.begun.opening.small (omega arith) c.requires.sound)
     c.over-vault.result _ c.args.begun.runners.items _ _ c.conduct-ended.result _ _
     c.requires.runners.clients_are (All-weaker (IsNewOf c.args.begun.scripts) (λ r. plan_of r ≡ asks_by (client_of r) c.args.begun.scripts.txns) (λ r n. n.plan) c.args.begun.runners.items c.requires.runners.new) c.over-vault.ensures.epoch

@@ -10,4 +10,4 @@ pub returns-in-Format-clause-does : goal.returns-in-Format-clause-does
 returns-in-Format-clause-does g c = λ words asks. inr (_, c.in-Ok.ensures, inl (c.in-Format.params, subst (λ (command : Command). Asks words command) c.in-Format.is asks, c.format_on.ensures.ends, c.format_on.ensures.left, refl))
 
 pub returns-in-Run-clause-does : goal.returns-in-Run-clause-does
-returns-in-Run-clause-does g c = λ words asks. inr (_, c.in-Ok.ensures, inr (c.in-Run.lanes, subst (λ (command : Command). Asks words command) c.in-Run.is asks, c.run_on.ensures.done))
+returns-in-Run-clause-does g c = λ words asks. inr (_, c.in-Ok.ensures, inr (c.in-Run.lanes, c.in-Run.turns, subst (λ (command : Command). Asks words command) c.in-Run.is asks, c.run_on.ensures.done))

@@ -10,6 +10,7 @@ pub drive_lent-lent-requires : goal.drive_lent-lent-requires
 drive_lent-lent-requires g c = record {
   params = c.requires.0;
   first = c.requires.1;
+  room = c.requires.5;
   hands = all_met (words g.U.Runner.client g.U.Runner.bound g.U.Runner.plan g.U.Runner.fits g.U.Runner.turn) c.captures.hall.now c.captures.clients.items c.start_all.new.started.items c.requires.2 c.start_all.ensures.placed;
 }
 

@@ -1,0 +1,11 @@
+use Rattle.std.proofs.Common.{sym, ap, subst}
+use Rattle.ob_order.specs.OrderModel.{OrderModel}
+use Rattle.ob_desk.specs.Parts.{HasGoing}
+use Rattle.ob_desk.proofs.Going.{kept_order, write_listed}
+use Rattle.ob_desk.proofs.desk.Desk.write.Goals as goal
+
+pub invariant_of-self-in-Yes : goal.invariant_of-self-in-Yes
+invariant_of-self-in-Yes c =
+    let a = c.self.inside in
+    kept_order a.running a.other a.is_closed a.stopped c.write.new.self c.self.invariant (ap (λ (o : OrderModel). o.params) c.in_ok-write.ensures.ok)
+    (subst (λ (o : OrderModel). HasGoing o.state.works a.running.going.items) (sym c.in_ok-write.ensures.ok) (write_listed a.running.order.state _ _ _ _ a.running.going.items c.self.invariant.going))

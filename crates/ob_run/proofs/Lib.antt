@@ -1,0 +1,10 @@
+pub mod Listing
+pub mod Weaving
+pub mod Keeping
+pub mod Seats
+pub mod Opening
+pub mod Whole
+pub mod Shapes
+pub mod Laws
+pub mod Serving
+pub mod Scripts

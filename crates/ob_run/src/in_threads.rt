@@ -1,0 +1,161 @@
+//! A run by threads.
+
+ghost use Rattle.std.specs.Prelude.{◌≡◌, ◌≤◌, ◌+◌, ℕ, suc, All, length, map, [], ◌∷◌, false, vec_capacity, IfOk};
+ghost use Rattle.ob_io.specs.Streams.{outflow};
+ghost use Rattle.ob_serial.specs.VaultKinds.{kind_of};
+ghost use Rattle.ob_desk.specs.Desk.{DeskState, Setup, MayOpen, new_desk};
+ghost use Rattle.ob_desk.specs.Beats.{beat_kind};
+ghost use Rattle.ob_hall.specs.Passes.{opening_of};
+ghost use Rattle.ob_hall.specs.Opening.{ArePasses};
+ghost use Rattle.ob_conduct.specs.Scenes.{scene, run_state, runner_kind};
+ghost use Rattle.ob_woven_ends.specs.Ends.{IsQuiet};
+ghost use Rattle.ob_run.specs.Threaded.{InThreads};
+
+use crate::seating::{Room, make_room, seat_all, take_apart};
+use ob_base::{Fault, Memory, Params};
+use ob_desk::{Beat, Desk};
+use ob_hall::{Hall, Pass};
+use ob_io::Sink;
+use ob_serial::Vault;
+use ob_serve::serve;
+use ob_session::Runner;
+use ob_store::Watch;
+use std::alloc::Global;
+use std::mem;
+use std::sync::Wait;
+use std::thread::Threads;
+
+// A hall round the desk, the driver's pass, and those of the clients, in their order.
+fn open_hall(alloc: Global, desk: Desk, clients: &[u32]) -> Result<(Hall, Pass, Vec<Pass>), Memory>
+    requires opens { (setup : Setup) × (epoch : ℕ) × (left : ℕ)
+        × MayOpen setup epoch left clients.now
+        × (desk ≡ new_desk setup epoch left clients.now) }
+    ensures desk { IfOk result (λ r. opening_of r.0 ≡ desk) }
+    ensures passes { IfOk result (λ r. ArePasses r.0 clients.now (r.1 ∷ r.2.items)) }
+{
+    let (hall, mut passes) = Hall::new(alloc, desk, clients)?;
+    let driver = passes.remove(0);
+    Ok((hall, driver, passes))
+}
+
+// Serves the clients of a hall that none has called, with their passes, and closes it.
+fn serve_hall<U: Runner + Send, R: Threads + Wait + Sync, V: Vault, W: Watch, B: Beat, O: Sink>(
+    rt: &R,
+    alloc: Global,
+    params: &Params,
+    hall: Hall,
+    mut driver: Pass,
+    passes: Vec<Pass>,
+    room: Room<U>,
+    runners: &mut Vec<U>,
+    vault: &mut V,
+    watch: &mut W,
+    beat: &mut B,
+    output: &mut O,
+) -> Result<(), Fault>
+    requires params { V.params vault.old ≡ params.now }
+    requires serves { (V.counts vault.old).spent ≡ false }
+    requires fresh { opening_of hall
+        ≡ new_desk (record { params = params.now }) (suc (V.counts vault.old).epoch)
+        (V.counts vault.old).left (map U.client runners.old.items) }
+    requires opens { MayOpen (record { params = params.now }) (suc (V.counts vault.old).epoch)
+        (V.counts vault.old).left (map U.client runners.old.items) }
+    requires passes { ArePasses hall (map U.client runners.old.items) (driver ∷ passes.items) }
+    requires none { (room.clients.items ≡ []) × (room.runners.items ≡ [])
+        × (room.passes.items ≡ []) }
+    requires room { (length runners.old.items ≤ vec_capacity room.clients)
+        × (length runners.old.items ≤ vec_capacity room.runners)
+        × (length runners.old.items + 1 ≤ vec_capacity room.passes) }
+    requires below { All (λ u. U.bound u ≤ params.now.keys) runners.old.items }
+    requires none_made { All (λ u. U.fits u []) runners.old.items }
+    requires quiet { IsQuiet U.turn }
+    ensures params { V.params vault.new ≡ params.now }
+    ensures beat { B.anchors beat.new ≡ B.anchors beat.old }
+    ensures done { (d : DeskState)
+        × InThreads (kind_of V.Vault) (runner_kind U.client U.bound U.plan U.fits U.turn)
+        (beat_kind B.passes B.exact)
+        (run_state (scene (opening_of hall) vault.old (W.trace watch.old)) runners.old.items
+        (outflow O.Sink output.old))
+        (run_state (scene d vault.new (W.trace watch.new)) runners.new.items
+        (outflow O.Sink output.new)) result }
+{
+    let Room {
+        clients: mut seated,
+        runners: mut back,
+        passes: mut all,
+    } = room;
+    let taken = mem::replace(runners, Vec::new(alloc));
+    seat_all(taken, passes, &mut seated);
+    let result = serve(
+        rt,
+        alloc,
+        params,
+        &hall,
+        &mut driver,
+        &mut seated,
+        vault,
+        watch,
+        beat,
+        output,
+        true,
+    );
+    all.push_reserved(driver);
+    take_apart(seated, &mut back, &mut all);
+    *runners = back;
+    let _desk = hall.close(all);
+    result
+}
+
+/// Runs the clients over the vault, in threads, from the desk as it was made: a hall is made round
+/// it, and closed at the end.
+pub(crate) fn run_in_threads<
+    U: Runner + Send,
+    R: Threads + Wait + Sync,
+    V: Vault,
+    W: Watch,
+    B: Beat,
+    O: Sink,
+>(
+    rt: &R,
+    alloc: Global,
+    params: &Params,
+    desk: Desk,
+    clients: &[u32],
+    runners: &mut Vec<U>,
+    vault: &mut V,
+    watch: &mut W,
+    beat: &mut B,
+    output: &mut O,
+) -> Result<(), Fault>
+    requires params { V.params vault.old ≡ params.now }
+    requires serves { (V.counts vault.old).spent ≡ false }
+    requires clients { clients.now ≡ map U.client runners.old.items }
+    requires fresh { desk
+        ≡ new_desk (record { params = params.now }) (suc (V.counts vault.old).epoch)
+        (V.counts vault.old).left (map U.client runners.old.items) }
+    requires opens { MayOpen (record { params = params.now }) (suc (V.counts vault.old).epoch)
+        (V.counts vault.old).left (map U.client runners.old.items) }
+    requires below { All (λ u. U.bound u ≤ params.now.keys) runners.old.items }
+    requires none_made { All (λ u. U.fits u []) runners.old.items }
+    requires quiet { IsQuiet U.turn }
+    ensures params { V.params vault.new ≡ params.now }
+    ensures anchors { (V.disk vault.new).anchors ≡ (V.disk vault.old).anchors }
+    ensures beat { B.anchors beat.new ≡ B.anchors beat.old }
+    ensures done { (d : DeskState)
+        × InThreads (kind_of V.Vault) (runner_kind U.client U.bound U.plan U.fits U.turn)
+        (beat_kind B.passes B.exact)
+        (run_state (scene desk vault.old (W.trace watch.old)) runners.old.items
+        (outflow O.Sink output.old))
+        (run_state (scene d vault.new (W.trace watch.new)) runners.new.items
+        (outflow O.Sink output.new)) result }
+{
+    let Ok(room) = make_room(alloc, clients.len()) else {
+        return Err(Fault::Memory);
+    };
+    let Ok((hall, driver, passes)) = open_hall(alloc, desk, clients) else {
+        return Err(Fault::Memory);
+    };
+    serve_hall(
+        rt, alloc, params, hall, driver, passes, room, runners, vault, watch, beat, output,
+    )
+}

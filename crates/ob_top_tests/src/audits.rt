@@ -1,0 +1,89 @@
+//! Tests of `audit` by the top call.
+
+use ob_desk::Eager;
+use ob_mem::{MemSink, MemSource, MemStore};
+use ob_top::obladi;
+use std::alloc::Global;
+use std::process::Abort;
+use std::sync::Wait;
+use std::test::Fail as Broken;
+use std::thread::Threads;
+
+// The trace of a format and of a run of one epoch, with a `/` for each line end.
+const TRACE: &str = "\
+    P 8 2 2 3 2 2 2 2 8/W 0/S/W 2/W 4/W 6/W 8/W 10/W 12/W 14/W 16/S/W 4/S/W 3/S/W 4/S/W 39/\
+    W 40/W 41/W 42/W 43/W 44/W 45/W 46/W 47/W 48/W 49/W 50/W 51/W 52/W 53/W 54/W 55/W 56/\
+    W 57/W 58/W 59/W 60/W 61/W 62/W 63/W 64/W 65/W 66/W 67/W 68/W 69/W 70/W 71/W 72/W 73/\
+    W 17/W 18/W 19/W 20/W 21/W 22/W 23/W 24/W 25/W 26/W 27/S/W 6/S/W 5/S/W 6/S/W 0/S/O/R 0/\
+    R 1/R 2/R 3/R 4/R 5/R 6/R 7/R 8/R 17/R 18/R 19/R 20/R 21/R 22/R 23/R 24/R 25/R 26/R 27/\
+    R 13/R 14/R 15/R 16/S/W 1/S/W 2/S/W 13/S/W 14/S/L 0/R 41/R 46/R 56/L 0/R 42/R 47/R 57/\
+    W 15/S/W 16/S/L 0/R 43/R 39/R 40/R 48/R 44/R 45/R 58/R 54/R 55/L 0/R 49/R 50/R 64/R 65/\
+    W 89/W 90/W 91/W 92/W 93/W 99/W 100/W 101/W 102/W 103/W 79/W 80/W 81/W 82/W 83/W 84/\
+    W 85/W 86/W 87/W 88/W 74/W 75/W 76/W 77/W 78/W 28/W 29/W 30/W 31/W 32/W 33/W 34/W 35/\
+    W 36/W 37/W 38/W 10/W 12/S/W 7/S/W 8/S/";
+
+// What of it is replaced, by what, and the status and the output then.
+const ROWS: [(&str, &str, u8, &str); 4] = [
+    ("P 8", "P 8", 0, "fits\n"),
+    (
+        "/R 42/",
+        "/R 41/",
+        1,
+        "breaks line 113 wanted slot of bucket 0\n",
+    ),
+    ("/O/", "/o/", 1, "breaks line 74 wanted start\n"),
+    ("P 8", "P 9", 1, "breaks line 1 wanted start\n"),
+];
+
+// Audits a trace without a store and keys, of whose input this read fails and of whose output this write.
+fn audited<R: AllocGlobal + Threads + Wait + Sync>(
+    rt: &R,
+    trace: &str,
+    read: u64,
+    write: u64,
+) -> Result<(u8, MemSink), Broken> {
+    let alloc = rt.alloc();
+    let lines = trace.replace(alloc, "/", "\n")?;
+    let (mut reads, mut writes) = (Vec::new(alloc), Vec::new(alloc));
+    reads.push(read)?;
+    writes.push(write)?;
+    let mut input = MemSource::new(lines.as_bytes().to_vec(alloc)?, reads);
+    let mut sink = MemSink::new(alloc, 1000, writes)?;
+    let none: Option<&mut MemStore> = None;
+    let status = obladi(
+        rt,
+        &["audit"],
+        None,
+        none,
+        &mut input,
+        &mut sink,
+        &mut Eager,
+    );
+    Ok((status, sink))
+}
+
+#[test]
+fn traces_are_audited(rt: HostRuntime) -> Result<(), Broken> {
+    let alloc = rt.alloc();
+    for (old, new, status, output) in ROWS {
+        let trace = TRACE.replace(alloc, old, new)?;
+        let (told, sink) = audited(&rt, trace.as_str(), 9, 99)?;
+        assert_eq!(&rt; told, status, "{old}");
+        assert!(&rt; sink.written() == output.as_bytes(), "{old}");
+    }
+    Ok(())
+}
+
+// An input that fails, and an output that fails at its first write, its second, and so on.
+#[test]
+fn an_audit_tells_what_failed(rt: HostRuntime) -> Result<(), Broken> {
+    let (status, sink) = audited(&rt, TRACE, 1, 99)?;
+    assert_eq!(&rt; status, 7);
+    assert!(&rt; sink.written() == b"fault: source\n".as_slice());
+    for (write, front) in [(0, ""), (1, "breaks line "), (3, "breaks line 1 wanted ")] {
+        let (status, sink) = audited(&rt, "O/", 9, write)?;
+        assert_eq!(&rt; status, 7);
+        assert!(&rt; sink.written() == front.as_bytes(), "{write}");
+    }
+    Ok(())
+}

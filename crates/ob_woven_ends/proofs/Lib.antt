@@ -1,0 +1,9 @@
+pub mod Shapes
+pub mod Stops
+pub mod Cutting
+pub mod Forestalling
+pub mod Unended
+pub mod Failing
+pub mod Quiet
+pub mod Over
+pub mod Idle
