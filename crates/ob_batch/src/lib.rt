@@ -9,6 +9,3 @@ mod run;
 pub use crew::Crew;
 pub use error::JobsErr;
 pub use run::run_jobs;
-
-#[cfg(test)]
-mod tests;

@@ -19,6 +19,3 @@ pub use raw::read_cells;
 pub use reading::{read_next, read_sealed};
 pub use run::{Identity, reads_back};
 pub use writing::write_sealed;
-
-#[cfg(test)]
-mod tests;

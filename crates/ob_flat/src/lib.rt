@@ -18,6 +18,3 @@ pub use opening::Opening;
 pub use places::cells;
 pub use preparing::prepare;
 pub use vault::FlatVault;
-
-#[cfg(test)]
-mod tests;

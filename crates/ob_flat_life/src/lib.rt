@@ -4,6 +4,3 @@
 mod acts;
 
 pub use acts::{begin_life, calls_are_acts, flat_chains_are_runs, head_in_life, open_in_life};
-
-#[cfg(test)]
-mod tests;

@@ -7,6 +7,3 @@ mod writing;
 
 pub use reading::read_values;
 pub use writing::{write_blanks, write_rows};
-
-#[cfg(test)]
-mod tests;

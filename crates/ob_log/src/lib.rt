@@ -14,6 +14,3 @@ pub use appending::append;
 pub use laws::{record_same, records_same};
 pub use reading::read_open;
 pub use record::{Record, Records};
-
-#[cfg(test)]
-mod tests;

@@ -19,6 +19,3 @@ pub use mem_store::MemStore;
 pub use sink::MemSink;
 pub use source::MemSource;
 pub use void::Void;
-
-#[cfg(test)]
-mod tests;

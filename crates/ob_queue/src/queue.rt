@@ -54,12 +54,14 @@ impl Queue {
         // The prover has to see this type named here.
         let _told: Option<Value> = None;
         let values = params.places as usize * params.batches as usize;
+        // Made first: a want of memory then leaves nothing to drop.
+        let bases = IndexMap::with_capacity(alloc, values)?;
         Ok(Queue {
             params: *params,
             left,
             asked: IndexSet::new(alloc),
             flying: 0,
-            bases: IndexMap::with_capacity(alloc, values)?,
+            bases,
         })
     }
 

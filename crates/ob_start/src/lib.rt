@@ -12,6 +12,3 @@ pub use beginning::begin;
 pub use heads::{head_cell, read_head};
 pub use laying::{lay_registers, set_first};
 pub use registers::{Numbers, read_registers};
-
-#[cfg(test)]
-mod tests;

@@ -18,6 +18,3 @@ pub use set_err::SetErr;
 pub use stamp::Stamper;
 pub use twin::Twin;
 pub use zero_tag::ZeroTag;
-
-#[cfg(test)]
-mod tests;

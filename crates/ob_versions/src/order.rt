@@ -110,10 +110,12 @@ impl EpochOrder for Order {
 
     #[tactic(auto, using(ob_order::proofs::Keeps::kept_none))]
     fn new(alloc: Global, params: &Params, left: u32) -> Result<Self, Memory> {
+        // Made first: a want of memory then leaves nothing to drop.
+        let queue = Queue::new(alloc, params, left)?;
         Ok(Order {
             alloc,
             ledger: Ledger::new(alloc, params.keys),
-            queue: Queue::new(alloc, params, left)?,
+            queue,
         })
     }
 

@@ -1,6 +1,6 @@
 use Rattle.std.proofs.Common.{◌≡◌, ◌<◌, ℕ, List, Option, Some, None, length, take, refl}
 use Rattle.ob_log.proofs.OneAsk.{one_low, one_apart}
-use Rattle.ob_log.proofs.tests.append_one.Goals as goal
+use Rattle.ob_cell_tests.proofs.logs.append_one.Goals as goal
 
 pub append-requires-clause-keys_low : goal.append-requires-clause-keys_low
 append-requires-clause-keys_low g c =

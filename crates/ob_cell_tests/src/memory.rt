@@ -1,7 +1,7 @@
 //! Planned failures, and what a crash may leave.
 
-use crate::{BareStore, Fail, MemSink, MemSource, MemStore, Void};
 use ob_io::{ReadErr, Sink, Source, put_all, read_all};
+use ob_mem::{BareStore, Fail, MemSink, MemSource, MemStore, Void};
 use ob_store::{SinkWatch, Store, write_run};
 use std::process::Abort;
 use std::test::Fail as Broken;

@@ -2,10 +2,10 @@
 
 ghost use Rattle.std.specs.Prelude.{◌≡◌, ◌<◌, ◌≤◌, ◌^◌, ◌∷◌, IfSome, Some, replicate, None, true};
 
-use crate::{append, read_open};
 use hex::FromHex;
 use ob_base::{Check, Failed, Fault, Key, Params};
 use ob_cells::read_cells;
+use ob_log::{append, read_open};
 use ob_mem::{Fail, MemSink, MemStore};
 use ob_seal::{Keys, Sealer};
 use ob_store::{Blind, SinkWatch, Store, Watch, write_through};

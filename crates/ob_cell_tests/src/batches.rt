@@ -3,9 +3,9 @@
 ghost use Rattle.std.specs.Prelude.{◌≡◌};
 ghost use Rattle.ob_mem.specs.Memory.{disk_of_store};
 
-use crate::{Crew, JobsErr, run_jobs};
 use hex::FromHex;
 use ob_base::{Check, Fault, Job, Jobs, Params};
+use ob_batch::{Crew, JobsErr, run_jobs};
 use ob_mem::{Fail, MemStore};
 use ob_seal::{Keys, Sealer};
 use ob_store::Store;

@@ -3,8 +3,8 @@
 ghost use Rattle.std.specs.Prelude.{◌≡◌};
 ghost use Rattle.ob_mem.specs.Memory.{disk_of_store};
 
-use crate::{Cut, Identity, open_sealed, read_cells, read_sealed, write_sealed};
 use ob_base::{Check, Fault};
+use ob_cells::{Cut, Identity, open_sealed, read_cells, read_sealed, write_sealed};
 use ob_mem::{Fail, MemSink, MemStore};
 use ob_seal::{Keys, Sealer};
 use ob_store::{Blind, SinkWatch, Store, write_through};

@@ -3,9 +3,9 @@
 ghost use Rattle.std.specs.Prelude.{◌≡◌};
 ghost use Rattle.ob_mem.specs.Memory.{disk_of_store};
 
-use crate::{begin_life, calls_are_acts, flat_chains_are_runs, head_in_life, open_in_life};
 use ob_base::Params;
 use ob_flat::{FlatVault, Opening};
+use ob_flat_life::{begin_life, calls_are_acts, flat_chains_are_runs, head_in_life, open_in_life};
 use ob_mem::MemStore;
 use ob_pads::{pads_are_fresh, runs_join};
 use ob_seal::Keys;

@@ -4,10 +4,10 @@ ghost use Rattle.std.specs.Prelude.{◌≡◌, ℕ};
 ghost use Rattle.ob_mem.specs.Replay.{zeros};
 ghost use Rattle.ob_mem.specs.Memory.{disk_of_store};
 
-use crate::{Gates, SetErr, Twin, ZeroTag};
 use ob_base::{Check, Fault};
 use ob_mem::{Fail, MemSink, MemStore};
 use ob_store::{Blind, SinkWatch, Store};
+use ob_twin::{Gates, SetErr, Twin, ZeroTag};
 use std::process::Abort;
 use std::test::Fail as Broken;
 

@@ -1,5 +1,5 @@
 use Rattle.std.proofs.Common.{◌≡◌}
-use Rattle.ob_batch.proofs.tests.store_of.Given as goal
+use Rattle.ob_cell_tests.proofs.batches.store_of.Given as goal
 
 abbrev pub invariant-loop-cell : goal.invariant-loop-cell
 invariant-loop-cell g l = l.store.log.out ≡ 0

@@ -1,9 +1,9 @@
 //! A store of another version, begun.
 
-use crate::{begin, lay_registers, read_head, read_registers, set_first};
 use ob_base::Fault;
 use ob_mem::{MemSink, MemStore};
 use ob_seal::{Keys, Sealer};
+use ob_start::{begin, lay_registers, read_head, read_registers, set_first};
 use ob_store::{Blind, SinkWatch};
 use ob_twin::{Gates, Twin};
 use std::test::Fail as Broken;

@@ -4,8 +4,8 @@ ghost use Rattle.std.specs.Prelude.{◌≡◌, ◌<◌, ◌≤◌, ℕ, false, l
 ghost use Rattle.std.specs.List.Sorted.{IsStrictlyIncreasing};
 ghost use Rattle.ob_mem.specs.Memory.{disk_of_store};
 
-use crate::{FlatVault, cells, format, head, prepare};
 use ob_base::{Check, Fault, Key, Params, Value, Write};
+use ob_flat::{FlatVault, cells, format, head, prepare};
 use ob_mem::{Fail, MemSink, MemStore};
 use ob_seal::{Keys, Sealer};
 use ob_serial::{EndErr, Reply, Request, Vault, serve_all};

@@ -1,0 +1,15 @@
+//! Tests of cells: memory, registers, sealed runs, batches, a store's beginning, its log.
+#![tactic(auto)]
+
+#[cfg(test)]
+mod batches;
+#[cfg(test)]
+mod logs;
+#[cfg(test)]
+mod memory;
+#[cfg(test)]
+mod registers;
+#[cfg(test)]
+mod sealed;
+#[cfg(test)]
+mod starts;
