@@ -15,8 +15,3 @@ pub use reading::{audit, audit_up_to};
 pub use spelling::lines_are_the_writers;
 pub use text::verdict_text;
 pub use verdict::Audit;
-
-#[cfg(test)]
-mod tests;
-#[cfg(test)]
-mod tests_traces;

@@ -7,7 +7,7 @@ pub(crate) const KEPT: usize = 97;
 
 /// What has been read: how many lines and bytes, what is known behind the lines, and the front of
 /// the line that is begun.
-#[derive(Debug, Drop)]
+#[derive(Drop)]
 pub(crate) struct Reader {
     pub(crate) lines: u64,
     pub(crate) seen: u64,

@@ -1,8 +1,10 @@
-//! Tests of cells: memory, registers, sealed runs, batches, a store's beginning, its log.
+//! Tests of cells: memory, files, registers, sealed runs, batches, a store's beginning, its log.
 #![tactic(auto)]
 
 #[cfg(test)]
 mod batches;
+#[cfg(test)]
+mod files;
 #[cfg(test)]
 mod logs;
 #[cfg(test)]

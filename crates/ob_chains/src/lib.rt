@@ -5,6 +5,4 @@ pub mod agenda;
 pub mod chain;
 pub mod readers;
 pub mod table;
-#[cfg(test)]
-mod tests;
 pub mod unlink;

@@ -8,6 +8,3 @@ mod rounds;
 mod serving;
 
 pub use serving::serve;
-
-#[cfg(test)]
-mod tests;

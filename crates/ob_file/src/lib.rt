@@ -7,6 +7,3 @@ mod store;
 
 pub use opening::open_locked;
 pub use store::{FileLane, FileStore, OpenErr};
-
-#[cfg(test)]
-mod tests;

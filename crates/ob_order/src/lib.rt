@@ -12,6 +12,3 @@ pub use batch::{fill, push_write};
 pub use fate::Fate;
 pub use order::EpochOrder;
 pub use work::{Work, add_awaited, add_to, end_in, fall_in, fell_on, make_wait, set_waiting};
-
-#[cfg(test)]
-mod tests;

@@ -28,7 +28,7 @@ use std::alloc::{AllocError, Global};
 use std::collections::VecDeque;
 
 /// What is known behind some lines of a trace. Its memory grows with the store, not with the trace.
-#[derive(Debug, Drop)]
+#[derive(Drop)]
 pub struct FollowPlain {
     /// The store's.
     pub params: Params,

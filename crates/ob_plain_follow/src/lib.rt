@@ -6,8 +6,3 @@ mod follow;
 
 pub use follow::FollowPlain;
 pub use ob_plain_wants::{Leaves, StandingPlain, Visit};
-
-#[cfg(test)]
-mod tests;
-#[cfg(test)]
-mod tests_random;

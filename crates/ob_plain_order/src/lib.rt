@@ -6,6 +6,3 @@ mod order;
 mod read_off;
 
 pub use order::Order;
-
-#[cfg(test)]
-mod tests;

@@ -11,7 +11,7 @@ use std::marker::Model;
 
 /// Labels that an attempt has shown, and how often their paths pass each bucket of the tree that it
 /// is for. Contracts see the labels.
-#[derive(Debug, Drop)]
+#[derive(Drop)]
 pub struct Leaves {
     labels: Vec<u16>,
     // The levels of the tree.

@@ -1,7 +1,7 @@
 //! When a bucket's slots are read.
 
 /// When a bucket's slots are read: as a path passes it, or as it is lifted at an end.
-#[derive(Clone, Copy, Debug, PartialEq, Eq)]
+#[derive(Clone, Copy)]
 pub(crate) enum Occasion {
     Passed,
     Lifted,

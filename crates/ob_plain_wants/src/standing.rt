@@ -22,7 +22,7 @@ use ob_follow::{Gate, Register, Side};
 use std::alloc::{AllocError, Global};
 
 /// What a stop finds: what the last end left, and what was shown and logged since.
-#[derive(Debug, Drop)]
+#[derive(Drop)]
 pub struct StandingPlain {
     /// Where the epoch that stands lies.
     pub epoch: Side,

@@ -10,6 +10,3 @@ mod size;
 pub use fault::{fault_status, fault_text};
 pub use report::text;
 pub use size::size_text;
-
-#[cfg(test)]
-mod tests;

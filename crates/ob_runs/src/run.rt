@@ -7,7 +7,7 @@ use ob_follow::{Change, Want};
 use ob_store::Note;
 
 /// Wants that follow each other. Of cells there is at least the first.
-#[derive(Clone, Copy, Debug, PartialEq, Eq)]
+#[derive(Clone, Copy)]
 pub(crate) enum Run {
     One(Want),
     /// Reads of the cells from the first to the last.

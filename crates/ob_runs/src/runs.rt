@@ -14,7 +14,7 @@ use std::marker::Model;
 
 /// Wants in a queue. Reads or writes of cells that follow each other take one place in it, as far as
 /// they are put there at once. Contracts see the list of the wants.
-#[derive(Debug, Drop)]
+#[derive(Drop)]
 pub struct Runs {
     list: VecDeque<Run>,
 }

@@ -3,5 +3,4 @@ pub mod Serial
 pub mod Views
 pub mod Vaults
 pub mod VaultViews
-pub mod VaultRuns
 pub mod VaultKinds

@@ -7,6 +7,3 @@ mod order;
 
 pub use ledger::Ledger;
 pub use order::Order;
-
-#[cfg(test)]
-mod tests;

@@ -1,12 +1,6 @@
 pub mod Locals
 pub mod Built
-pub mod PlainWords
-pub mod Rows
-pub mod Steps
-pub mod Levels
-pub mod Few
-pub mod Run
-pub mod Format
 pub mod Top
 pub mod Asks
-pub mod ReadForms
+pub mod Passed
+pub mod Operands

@@ -1,7 +1,7 @@
 -- The commands of the program, as a parse of their words has them.
-use Rattle.std.specs.Prelude.{true, false, [], ◌∷◌, Some, codes}
+use Rattle.std.specs.Prelude.{true, false, List, [], ◌∷◌, ◌++◌, Some, codes}
 use Rattle.clap.specs.Walk.{Rule, Text}
-use Rattle.clap.specs.Simple.{App, Shape, new_rule, new_shape}
+use Rattle.clap.specs.Simple.{App, Shape, new_rule, new_shape, on_top}
 use Rattle.clap.specs.declared.builder.ArgAction.TheVariants.{SetTrue}
 
 -- a word that has to be there, a value behind `--id`, and `--id` alone
@@ -13,6 +13,10 @@ option id = record (new_rule id) { long = Some id }
 
 abbrev pub flag : Text → Rule
 flag id = record (new_rule id) { long = Some id; action = Some SetTrue }
+
+-- a command with more words, in their order
+abbrev pub with_rules : App → List Rule → App
+with_rules app rules = on_top (λ s. record s { rules = s.rules ++ rules }) app
 
 -- `format STORE KEYS N L Z S R BR BW E T`
 abbrev pub format_shape : Shape
@@ -42,15 +46,18 @@ run_app = record { top = run_shape; subs = [] }
 abbrev pub audit_app : App
 audit_app = record { top = audit_shape; subs = [] }
 
--- the program: the first word names a command, and no word asks for help
-abbrev pub program : App
-program = record {
-  top = record (new_shape (codes "obladi")) {
-    is_leaf = false;
-    no_binary_name = true;
-    disable_help_flag = true;
-    disable_help_subcommand = true;
-    subcommand_required = true;
-  };
-  subs = format_shape ∷ run_shape ∷ audit_shape ∷ [];
+-- the first word names a command, and no word asks for help
+abbrev pub bare_shape : Shape
+bare_shape = record (new_shape (codes "obladi")) {
+  no_binary_name = true;
+  disable_help_flag = true;
+  disable_help_subcommand = true;
+  subcommand_required = true;
 }
+
+abbrev pub bare_app : App
+bare_app = record { top = bare_shape; subs = [] }
+
+-- the program
+abbrev pub program : App
+program = record { top = record bare_shape { is_leaf = false }; subs = format_shape ∷ run_shape ∷ audit_shape ∷ [] }

@@ -1,9 +1,9 @@
 //! The command line, as its parser is told.
 
-ghost use Rattle.std.specs.Prelude.{◌≡◌, IfOk, false};
+ghost use Rattle.std.specs.Prelude.{◌≡◌, IfOk, false, map};
 ghost use Rattle.clap.specs.Words.{app_of, with_rule};
 ghost use Rattle.clap.specs.declared.Command.TheViews.{out-Command};
-ghost use Rattle.ob_words.specs.Commands.{operand, option, flag, format_app, run_app, audit_app, program};
+ghost use Rattle.ob_words.specs.Commands.{operand, option, flag, with_rules, format_app, run_app, audit_app, bare_app, program};
 
 use clap::{Arg, ArgAction, Command};
 use std::alloc::{AllocError, Global};
@@ -20,6 +20,23 @@ fn with_operand<'a>(
         ≡ (out-Command command.entry).has_globals) }
 {
     command.arg(Arg::new(alloc, id).required(true))
+}
+
+// The command with such words, one behind the other.
+fn with_operands<'a>(
+    alloc: Global,
+    mut command: Command<'a>,
+    ids: &[&'a str],
+) -> Result<Command<'a>, AllocError>
+    ensures app { IfOk result (λ c. app_of c
+        ≡ with_rules (app_of command.entry) (map (λ id. operand id.now) ids.entry.now)) }
+    ensures local { IfOk result (λ c. (out-Command c).has_globals
+        ≡ (out-Command command.entry).has_globals) }
+{
+    for id in ids {
+        command = with_operand(alloc, command, id)?;
+    }
+    Ok(command)
 }
 
 // The command with an option: a value behind the word `--id`.
@@ -55,8 +72,7 @@ fn run_command<'a>(alloc: Global) -> Result<Command<'a>, AllocError>
     ensures local { IfOk result (λ c. (out-Command c).has_globals ≡ false) }
 {
     let command = Command::new(alloc, "run");
-    let command = with_operand(alloc, command, "STORE")?;
-    let command = with_operand(alloc, command, "KEYS")?;
+    let command = with_operands(alloc, command, &["STORE", "KEYS"])?;
     let command = with_option(alloc, command, "lanes")?;
     with_flag(alloc, command, "turns")
 }
@@ -66,17 +82,13 @@ fn format_command<'a>(alloc: Global) -> Result<Command<'a>, AllocError>
     ensures local { IfOk result (λ c. (out-Command c).has_globals ≡ false) }
 {
     let command = Command::new(alloc, "format");
-    let command = with_operand(alloc, command, "STORE")?;
-    let command = with_operand(alloc, command, "KEYS")?;
-    let command = with_operand(alloc, command, "N")?;
-    let command = with_operand(alloc, command, "L")?;
-    let command = with_operand(alloc, command, "Z")?;
-    let command = with_operand(alloc, command, "S")?;
-    let command = with_operand(alloc, command, "R")?;
-    let command = with_operand(alloc, command, "BR")?;
-    let command = with_operand(alloc, command, "BW")?;
-    let command = with_operand(alloc, command, "E")?;
-    with_operand(alloc, command, "T")
+    with_operands(
+        alloc,
+        command,
+        &[
+            "STORE", "KEYS", "N", "L", "Z", "S", "R", "BR", "BW", "E", "T",
+        ],
+    )
 }
 
 fn audit_command<'a>(alloc: Global) -> Command<'a>
@@ -86,6 +98,17 @@ fn audit_command<'a>(alloc: Global) -> Command<'a>
     Command::new(alloc, "audit")
 }
 
+// The program with no command yet.
+fn bare_program<'a>(alloc: Global) -> Command<'a>
+    ensures { app_of result ≡ bare_app }
+{
+    Command::new(alloc, "obladi")
+        .no_binary_name(true)
+        .disable_help_flag(true)
+        .disable_help_subcommand(true)
+        .subcommand_required(true)
+}
+
 /// The program, whose first word names a command. No word asks for help.
 ///
 /// # Errors
@@ -93,11 +116,7 @@ fn audit_command<'a>(alloc: Global) -> Command<'a>
 pub fn program_command<'a>(alloc: Global) -> Result<Command<'a>, AllocError>
     ensures app { IfOk result (λ c. app_of c ≡ program) }
 {
-    let command = Command::new(alloc, "obladi")
-        .no_binary_name(true)
-        .disable_help_flag(true)
-        .disable_help_subcommand(true)
-        .subcommand_required(true);
+    let command = bare_program(alloc);
     let command = command.subcommand(format_command(alloc)?)?;
     let command = command.subcommand(run_command(alloc)?)?;
     command.subcommand(audit_command(alloc))

@@ -5,11 +5,6 @@
 #![tactic(auto)]
 
 mod commands;
-mod laws;
 mod request;
 
-pub use laws::{forms_are_read, others_are_refused};
 pub use request::{Request, WordsErr, read_words};
-
-#[cfg(test)]
-mod tests;

@@ -12,7 +12,7 @@ use ob_base::Fault;
 use std::alloc::Global;
 
 /// What the words ask for: each operand as it stands, and each option's value where it was given.
-#[derive(Clone, Copy, Debug, PartialEq, Eq)]
+#[derive(Clone, Copy, PartialEq, Eq)]
 pub enum Request<'a> {
     /// An empty store in the file `store`, under the keys in the file `keys`, of nine numbers.
     Format {

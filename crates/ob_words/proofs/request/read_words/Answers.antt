@@ -5,7 +5,7 @@ use Rattle.ob_words.specs.Commands.{program}
 use Rattle.ob_words.specs.Reading.{Asked, asked_command}
 use Rattle.ob_words.proofs.Built.{is_simple_program}
 use Rattle.ob_words.proofs.Asks.{among_some, is_simple_alone, passes_asks}
-use Rattle.ob_words.proofs.ReadForms.{read_is, refused_is}
+use Rattle.ob_words.proofs.Passed.{read_is, refused_is}
 use Rattle.ob_words.proofs.request.read_words.Goals as goal
 
 abbrev reads_by : Option (Text × List Row) → Option Asked

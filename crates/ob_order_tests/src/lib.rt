@@ -1,0 +1,13 @@
+//! Tests of ordering: works, keys in a queue, chains, versions, and the plain order.
+#![tactic(auto)]
+
+#[cfg(test)]
+mod chains;
+#[cfg(test)]
+mod plain;
+#[cfg(test)]
+mod queues;
+#[cfg(test)]
+mod versions;
+#[cfg(test)]
+mod works;

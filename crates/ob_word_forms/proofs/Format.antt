@@ -1,0 +1,172 @@
+-- Each form of `format` passes, and is read as it says.
+use Rattle.std.proofs.Common.{◌≡◌, false, ℕ, List, [], ◌∷◌, refl, ap, ◌∙◌, codes}
+use Rattle.std.specs.List.{fold}
+use Rattle.clap.specs.Walk.{Held, Row, Text, Walk, idle, nothing_held, rows_after, walk_from, with_default}
+use Rattle.clap.specs.Kinds.{or_else}
+use Rattle.clap.specs.Faults.{check_fault, defaults_fault, level_fault}
+use Rattle.clap.proofs.OnLiterals.{clap_on_literals}
+use Rattle.ob_word_forms.specs.Forms.{ArePlain}
+use Rattle.ob_words.proofs.Built.{format_built, format_rules, operand_at}
+use Rattle.ob_word_forms.proofs.Rows.{given_row}
+use Rattle.ob_word_forms.proofs.Levels.{level_is, rows_are}
+use Rattle.ob_word_forms.proofs.PlainWords.{at}
+use Rattle.ob_word_forms.proofs.Steps.{Goes, IsOperand, Ready, goes_none, operand_goes, operand_ready, pending_held}
+
+abbrev operand_row : ℕ → Text → Text → Row
+operand_row i id word = given_row (operand_at i id) (word ∷ [])
+
+place_1 : IsOperand format_built (codes "STORE") 1 2
+place_1 = record { again = refl; at_place = refl; found = refl; next = refl }
+
+place_2 : IsOperand format_built (codes "KEYS") 2 3
+place_2 = record { again = refl; at_place = refl; found = refl; next = refl }
+
+place_3 : IsOperand format_built (codes "N") 3 4
+place_3 = record { again = refl; at_place = refl; found = refl; next = refl }
+
+place_4 : IsOperand format_built (codes "L") 4 5
+place_4 = record { again = refl; at_place = refl; found = refl; next = refl }
+
+place_5 : IsOperand format_built (codes "Z") 5 6
+place_5 = record { again = refl; at_place = refl; found = refl; next = refl }
+
+place_6 : IsOperand format_built (codes "S") 6 7
+place_6 = record { again = refl; at_place = refl; found = refl; next = refl }
+
+place_7 : IsOperand format_built (codes "R") 7 8
+place_7 = record { again = refl; at_place = refl; found = refl; next = refl }
+
+place_8 : IsOperand format_built (codes "BR") 8 9
+place_8 = record { again = refl; at_place = refl; found = refl; next = refl }
+
+place_9 : IsOperand format_built (codes "BW") 9 10
+place_9 = record { again = refl; at_place = refl; found = refl; next = refl }
+
+place_10 : IsOperand format_built (codes "E") 10 11
+place_10 = record { again = refl; at_place = refl; found = refl; next = refl }
+
+place_11 : IsOperand format_built (codes "T") 11 12
+place_11 = record { again = refl; at_place = refl; found = refl; next = refl }
+
+abbrev rows_0 : List Row
+rows_0 = []
+
+abbrev rows_1 : Text → List Row
+rows_1 store = operand_row 1 (codes "STORE") store ∷ []
+
+abbrev rows_2 : Text → Text → List Row
+rows_2 store keys = operand_row 1 (codes "STORE") store ∷ operand_row 2 (codes "KEYS") keys ∷ []
+
+abbrev rows_3 : Text → Text → Text → List Row
+rows_3 store keys n = operand_row 1 (codes "STORE") store ∷ operand_row 2 (codes "KEYS") keys ∷ operand_row 3 (codes "N") n ∷ []
+
+abbrev rows_4 : Text → Text → Text → Text → List Row
+rows_4 store keys n l = operand_row 1 (codes "STORE") store ∷ operand_row 2 (codes "KEYS") keys ∷ operand_row 3 (codes "N") n ∷ operand_row 4 (codes "L") l ∷ []
+
+abbrev rows_5 : Text → Text → Text → Text → Text → List Row
+rows_5 store keys n l z = operand_row 1 (codes "STORE") store ∷ operand_row 2 (codes "KEYS") keys ∷ operand_row 3 (codes "N") n ∷ operand_row 4 (codes "L") l ∷ operand_row 5 (codes "Z") z ∷ []
+
+abbrev rows_6 : Text → Text → Text → Text → Text → Text → List Row
+rows_6 store keys n l z s = operand_row 1 (codes "STORE") store ∷ operand_row 2 (codes "KEYS") keys ∷ operand_row 3 (codes "N") n ∷ operand_row 4 (codes "L") l ∷ operand_row 5 (codes "Z") z ∷ operand_row 6 (codes "S") s ∷ []
+
+abbrev rows_7 : Text → Text → Text → Text → Text → Text → Text → List Row
+rows_7 store keys n l z s r = operand_row 1 (codes "STORE") store ∷ operand_row 2 (codes "KEYS") keys ∷ operand_row 3 (codes "N") n ∷ operand_row 4 (codes "L") l ∷ operand_row 5 (codes "Z") z ∷ operand_row 6 (codes "S") s ∷ operand_row 7 (codes "R") r ∷ []
+
+abbrev rows_8 : Text → Text → Text → Text → Text → Text → Text → Text → List Row
+rows_8 store keys n l z s r br = operand_row 1 (codes "STORE") store ∷ operand_row 2 (codes "KEYS") keys ∷ operand_row 3 (codes "N") n ∷ operand_row 4 (codes "L") l ∷ operand_row 5 (codes "Z") z ∷ operand_row 6 (codes "S") s ∷ operand_row 7 (codes "R") r ∷ operand_row 8 (codes "BR") br ∷ []
+
+abbrev rows_9 : Text → Text → Text → Text → Text → Text → Text → Text → Text → List Row
+rows_9 store keys n l z s r br bw = operand_row 1 (codes "STORE") store ∷ operand_row 2 (codes "KEYS") keys ∷ operand_row 3 (codes "N") n ∷ operand_row 4 (codes "L") l ∷ operand_row 5 (codes "Z") z ∷ operand_row 6 (codes "S") s ∷ operand_row 7 (codes "R") r ∷
+    operand_row 8 (codes "BR") br ∷ operand_row 9 (codes "BW") bw ∷ []
+
+abbrev rows_10 : Text → Text → Text → Text → Text → Text → Text → Text → Text → Text → List Row
+rows_10 store keys n l z s r br bw e = operand_row 1 (codes "STORE") store ∷ operand_row 2 (codes "KEYS") keys ∷ operand_row 3 (codes "N") n ∷ operand_row 4 (codes "L") l ∷ operand_row 5 (codes "Z") z ∷ operand_row 6 (codes "S") s ∷ operand_row 7 (codes "R") r
+    ∷ operand_row 8 (codes "BR") br ∷ operand_row 9 (codes "BW") bw ∷ operand_row 10 (codes "E") e ∷ []
+
+abbrev pub rows_11 : Text → Text → Text → Text → Text → Text → Text → Text → Text → Text → Text → List Row
+rows_11 store keys n l z s r br bw e t = operand_row 1 (codes "STORE") store ∷ operand_row 2 (codes "KEYS") keys ∷ operand_row 3 (codes "N") n ∷ operand_row 4 (codes "L") l ∷ operand_row 5 (codes "Z") z ∷ operand_row 6 (codes "S") s ∷ operand_row 7 (codes "R")
+    r ∷ operand_row 8 (codes "BR") br ∷ operand_row 9 (codes "BW") bw ∷ operand_row 10 (codes "E") e ∷ operand_row 11 (codes "T") t ∷ []
+
+ready_1 : (store : Text) → Ready format_built (pending_held rows_0 (codes "STORE") store) (rows_1 store)
+ready_1 store = operand_ready format_built (codes "STORE") store 1 2 rows_0 place_1 refl
+
+ready_2 : (store keys : Text) → Ready format_built (pending_held (rows_1 store) (codes "KEYS") keys) (rows_2 store keys)
+ready_2 store keys = operand_ready format_built (codes "KEYS") keys 2 3 (rows_1 store) place_2 refl
+
+ready_3 : (store keys n : Text) → Ready format_built (pending_held (rows_2 store keys) (codes "N") n) (rows_3 store keys n)
+ready_3 store keys n = operand_ready format_built (codes "N") n 3 4 (rows_2 store keys) place_3 refl
+
+ready_4 : (store keys n l : Text) → Ready format_built (pending_held (rows_3 store keys n) (codes "L") l) (rows_4 store keys n l)
+ready_4 store keys n l = operand_ready format_built (codes "L") l 4 5 (rows_3 store keys n) place_4 refl
+
+ready_5 : (store keys n l z : Text) → Ready format_built (pending_held (rows_4 store keys n l) (codes "Z") z) (rows_5 store keys n l z)
+ready_5 store keys n l z = operand_ready format_built (codes "Z") z 5 6 (rows_4 store keys n l) place_5 refl
+
+ready_6 : (store keys n l z s : Text) → Ready format_built (pending_held (rows_5 store keys n l z) (codes "S") s) (rows_6 store keys n l z s)
+ready_6 store keys n l z s = operand_ready format_built (codes "S") s 6 7 (rows_5 store keys n l z) place_6 refl
+
+ready_7 : (store keys n l z s r : Text) → Ready format_built (pending_held (rows_6 store keys n l z s) (codes "R") r) (rows_7 store keys n l z s r)
+ready_7 store keys n l z s r = operand_ready format_built (codes "R") r 7 8 (rows_6 store keys n l z s) place_7 refl
+
+ready_8 : (store keys n l z s r br : Text) → Ready format_built (pending_held (rows_7 store keys n l z s r) (codes "BR") br) (rows_8 store keys n l z s r br)
+ready_8 store keys n l z s r br = operand_ready format_built (codes "BR") br 8 9 (rows_7 store keys n l z s r) place_8 refl
+
+ready_9 : (store keys n l z s r br bw : Text) → Ready format_built (pending_held (rows_8 store keys n l z s r br) (codes "BW") bw) (rows_9 store keys n l z s r br bw)
+ready_9 store keys n l z s r br bw = operand_ready format_built (codes "BW") bw 9 10 (rows_8 store keys n l z s r br) place_9 refl
+
+ready_10 : (store keys n l z s r br bw e : Text) → Ready format_built (pending_held (rows_9 store keys n l z s r br bw) (codes "E") e) (rows_10 store keys n l z s r br bw e)
+ready_10 store keys n l z s r br bw e = operand_ready format_built (codes "E") e 10 11 (rows_9 store keys n l z s r br bw) place_10 refl
+
+ready_11 : (store keys n l z s r br bw e t : Text) → Ready format_built (pending_held (rows_10 store keys n l z s r br bw e) (codes "T") t) (rows_11 store keys n l z s r br bw e t)
+ready_11 store keys n l z s r br bw e t = operand_ready format_built (codes "T") t 11 12 (rows_10 store keys n l z s r br bw e) place_11 refl
+
+ready_0 : Ready format_built nothing_held rows_0
+ready_0 = record { settles = refl; passes = refl }
+
+operands_go : (store keys n l z s r br bw e t : Text) (rest : List Text) (end : Walk) → ArePlain (store ∷ keys ∷ n ∷ l ∷ z ∷ s ∷ r ∷ br ∷ bw ∷ e ∷ t ∷ [])
+    → Goes format_built (at (pending_held (rows_10 store keys n l z s r br bw e) (codes "T") t) idle 12) rest end → Goes format_built (walk_from nothing_held) (store ∷ keys ∷ n ∷ l ∷ z ∷ s ∷ r ∷ br ∷ bw ∷ e ∷ t ∷ rest) end
+operands_go store keys n l z s r br bw e t rest end plain goes =
+    let g11 = operand_goes format_built (codes "T") t (pending_held (rows_9 store keys n l z s r br bw) (codes "E") e) 11 12 (rows_10 store keys n l z s r br bw e) (rest) end place_11 (ready_10 store keys n l z s r br bw e) refl plain.1.1.1.1.1.1.1.1.1.1.0 goes in
+    let g10 = operand_goes format_built (codes "E") e (pending_held (rows_8 store keys n l z s r br) (codes "BW") bw) 10 11 (rows_9 store keys n l z s r br bw) (t ∷ rest) end place_10 (ready_9 store keys n l z s r br bw) refl plain.1.1.1.1.1.1.1.1.1.0 g11 in
+    let g9 = operand_goes format_built (codes "BW") bw (pending_held (rows_7 store keys n l z s r) (codes "BR") br) 9 10 (rows_8 store keys n l z s r br) (e ∷ t ∷ rest) end place_9 (ready_8 store keys n l z s r br) refl plain.1.1.1.1.1.1.1.1.0 g10 in
+    let g8 = operand_goes format_built (codes "BR") br (pending_held (rows_6 store keys n l z s) (codes "R") r) 8 9 (rows_7 store keys n l z s r) (bw ∷ e ∷ t ∷ rest) end place_8 (ready_7 store keys n l z s r) refl plain.1.1.1.1.1.1.1.0 g9 in
+    let g7 = operand_goes format_built (codes "R") r (pending_held (rows_5 store keys n l z) (codes "S") s) 7 8 (rows_6 store keys n l z s) (br ∷ bw ∷ e ∷ t ∷ rest) end place_7 (ready_6 store keys n l z s) refl plain.1.1.1.1.1.1.0 g8 in
+    let g6 = operand_goes format_built (codes "S") s (pending_held (rows_4 store keys n l) (codes "Z") z) 6 7 (rows_5 store keys n l z) (r ∷ br ∷ bw ∷ e ∷ t ∷ rest) end place_6 (ready_5 store keys n l z) refl plain.1.1.1.1.1.0 g7 in
+    let g5 = operand_goes format_built (codes "Z") z (pending_held (rows_3 store keys n) (codes "L") l) 5 6 (rows_4 store keys n l) (s ∷ r ∷ br ∷ bw ∷ e ∷ t ∷ rest) end place_5 (ready_4 store keys n l) refl plain.1.1.1.1.0 g6 in
+    let g4 = operand_goes format_built (codes "L") l (pending_held (rows_2 store keys) (codes "N") n) 4 5 (rows_3 store keys n) (z ∷ s ∷ r ∷ br ∷ bw ∷ e ∷ t ∷ rest) end place_4 (ready_3 store keys n) refl plain.1.1.1.0 g5 in
+    let g3 = operand_goes format_built (codes "N") n (pending_held (rows_1 store) (codes "KEYS") keys) 3 4 (rows_2 store keys) (l ∷ z ∷ s ∷ r ∷ br ∷ bw ∷ e ∷ t ∷ rest) end place_3 (ready_2 store keys) refl plain.1.1.0 g4 in
+    let g2 = operand_goes format_built (codes "KEYS") keys (pending_held rows_0 (codes "STORE") store) 2 3 (rows_1 store) (n ∷ l ∷ z ∷ s ∷ r ∷ br ∷ bw ∷ e ∷ t ∷ rest) end place_2 (ready_1 store) refl plain.1.0 g3 in
+    operand_goes format_built (codes "STORE") store nothing_held 1 2 rows_0 (keys ∷ n ∷ l ∷ z ∷ s ∷ r ∷ br ∷ bw ∷ e ∷ t ∷ rest) end place_1 (ready_0) refl plain.0 g2
+
+abbrev pub format_words : Text → Text → Text → Text → Text → Text → Text → Text → Text → Text → Text → List Text
+format_words store keys n l z s r br bw e t = store ∷ keys ∷ n ∷ l ∷ z ∷ s ∷ r ∷ br ∷ bw ∷ e ∷ t ∷ []
+
+format_defaults : (store keys n l z s r br bw e t : Text) → defaults_fault (rows_11 store keys n l z s r br bw e t) format_rules ≡ []
+unfolding clap_on_literals
+format_defaults store keys n l z s r br bw e t = refl
+
+format_checked : (store keys n l z s r br bw e t : Text) → check_fault format_built (fold with_default (rows_11 store keys n l z s r br bw e t) format_rules) false ≡ []
+format_checked store keys n l z s r br bw e t = refl
+
+format_finished : (store keys n l z s r br bw e t : Text) → fold with_default (rows_11 store keys n l z s r br bw e t) format_rules ≡ rows_11 store keys n l z s r br bw e t
+format_finished store keys n l z s r br bw e t = refl
+
+abbrev last_held : Text → Text → Text → Text → Text → Text → Text → Text → Text → Text → Text → Held
+last_held store keys n l z s r br bw e t = pending_held (rows_10 store keys n l z s r br bw e) (codes "T") t
+
+format_goes : (store keys n l z s r br bw e t : Text) → ArePlain (format_words store keys n l z s r br bw e t)
+    → Goes format_built (walk_from nothing_held) (format_words store keys n l z s r br bw e t) (at (last_held store keys n l z s r br bw e t) idle 12)
+format_goes store keys n l z s r br bw e t plain = operands_go store keys n l z s r br bw e t [] (at (last_held store keys n l z s r br bw e t) idle 12) plain (goes_none format_built (at (last_held store keys n l z s r br bw e t) idle 12))
+
+pub format_passes : (store keys n l z s r br bw e t : Text) → ArePlain (format_words store keys n l z s r br bw e t)
+    → level_fault format_built [] nothing_held (format_words store keys n l z s r br bw e t) false [] ≡ []
+format_passes store keys n l z s r br bw e t plain =
+    level_is format_built (format_words store keys n l z s r br bw e t) (last_held store keys n l z s r br bw e t) (rows_11 store keys n l z s r br bw e t) 12 refl (format_goes store keys n l z s r br bw e t plain) (ready_11 store keys n l z s r br bw e t)
+    ∙ ap (λ k. or_else k (check_fault format_built (fold with_default (rows_11 store keys n l z s r br bw e t) format_rules) false)) (format_defaults store keys n l z s r br bw e t)
+    ∙ format_checked store keys n l z s r br bw e t
+
+pub format_reads : (store keys n l z s r br bw e t : Text) → ArePlain (format_words store keys n l z s r br bw e t)
+    → rows_after format_rules [] (format_words store keys n l z s r br bw e t) ≡ rows_11 store keys n l z s r br bw e t
+format_reads store keys n l z s r br bw e t plain =
+    rows_are format_built (format_words store keys n l z s r br bw e t) (last_held store keys n l z s r br bw e t) (rows_11 store keys n l z s r br bw e t) 12 (format_goes store keys n l z s r br bw e t plain) (ready_11 store keys n l z s r br bw e t)
+    ∙ format_finished store keys n l z s r br bw e t

@@ -1,5 +1,0 @@
-use Rattle.ob_words.proofs.ReadForms.{format_law, run_law, audit_law}
-use Rattle.ob_words.proofs.laws.forms_are_read.Goals as goal
-
-pub returns : goal.returns
-returns c = record { format = format_law; run = run_law; audit = audit_law }

@@ -1,0 +1,9 @@
+//! Tests of words: the program's words, scripts, what is printed.
+#![tactic(auto)]
+
+#[cfg(test)]
+mod forms;
+#[cfg(test)]
+mod reports;
+#[cfg(test)]
+mod scripts;
