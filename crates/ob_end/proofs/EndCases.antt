@@ -36,7 +36,7 @@ use Rattle.ob_twin.specs.declared.set_err.SetErr.{SetErr}
 use Rattle.ob_twin.specs.declared.set_err.SetErr.TheVariants as set
 use Rattle.ob_twin.specs.declared.twin.Twin.TheVariants.{EPOCH}
 use Rattle.ob_end.specs.Closings.{CloseDoes, ClosesEnd, IfWritten}
-use Rattle.ob_end.specs.EndRuns.{DrawsForEnd, EndAnswers, EndDoes, EndDraws, EndImages, IsEndReady, MakeAnswers, MakeDraws, MakeTells, MayEndEpoch, end_err_of, standing_at_end}
+use Rattle.ob_end.specs.EndRuns.{DrawsForEnd, EndAnswers, EndDoes, EndDraws, EndImages, IfEnded, IsEndReady, MakeAnswers, MakeDraws, MakeTells, MayEndEpoch, end_err_of, standing_at_end}
 
 -- ---- a run that counts as spent while it is at work
 
@@ -141,6 +141,11 @@ module _ (keys : Keys) (p : Params) (s : RingStanding) (ws : List (Write × Entr
   images_closed ks q ending mids rows (set.Before f) closes left refused either = images_refused f (refused closes)
   images_closed ks q ending mids rows (set.Unsure f) closes left refused either =
       weakened old new (OneOf keys p s (standing_at_end s run ws)) (EndImages keys p s ws run (Err (end.Unsure f))) (λ c is. is) (either left closes)
+
+-- once all was written, whatever came of the register
+pub if_ended : (A : Type 0) (x : SetErr) → A → IfEnded A (Err (end_err_of x))
+if_ended A (set.Before f) a = tt
+if_ended A (set.Unsure f) a = a
 
 pub one_more : (n : ℕ) → n + 1 ≡ suc n
 one_more n = omega arith

@@ -9,6 +9,8 @@ use Rattle.ob_base.specs.Tree.{buckets, width}
 use Rattle.ob_content.specs.Content.{Content, Obeys}
 use Rattle.ob_end_writes.specs.EndWrites.{AreSealedFrom, IsEndOfRing, all_seals, content_left, end_write_notes, rows_left}
 use Rattle.ob_ending.specs.Lifts.{lift_notes}
+use Rattle.ob_bucket.specs.Buckets.{Buckets, is_lifted}
+use Rattle.ob_epoch.proofs.Reading.{rings_stand}
 use Rattle.ob_epoch.specs.Table.{flat_of}
 use Rattle.ob_fetch.specs.declared.run.Run.{Run}
 use Rattle.ob_fetch.specs.Fetches.{RunIsAt, RunsAt}
@@ -18,7 +20,7 @@ use Rattle.ob_log.specs.Logs.{BatchRecord}
 use Rattle.ob_recover.specs.Repeats.{content_of_ring, table_after_records}
 use Rattle.ob_ring.specs.FlatTable.{FlatTable}
 use Rattle.ob_ring.specs.Ring.{Kept, StandsFor}
-use Rattle.ob_ring.specs.Writing.{write_at}
+use Rattle.ob_ring.specs.Writing.{entries_after, write_at}
 use Rattle.ob_ring_trace.specs.Ends.{gates_ended}
 use Rattle.ob_ring_trace.specs.Known.{PlansFrom, fills_with_lifts, public_of_kept}
 use Rattle.ob_schedule.specs.Schedule.{end_notes}
@@ -31,13 +33,15 @@ use Rattle.ob_store.specs.Calls.{Keeps}
 use Rattle.ob_store.specs.Disk.{Disk, Image}
 use Rattle.ob_store.specs.Images.{IsSynced, LeavesOnly, Passes, Same}
 use Rattle.ob_store.proofs.Moments.{leaves_of, then_on}
+use Rattle.ob_tables.specs.Kept.{Held, entry_at}
 use Rattle.ob_tables.specs.declared.entry.Entry.{Entry}
+use Rattle.ob_tables.specs.declared.tables.Tables.{Tables}
 use Rattle.ob_taken.specs.Values.{Values, with_writes}
 use Rattle.ob_twin.specs.Opening.{is_closed_first}
 use Rattle.ob_twin.specs.Orders.{set_notes}
 use Rattle.ob_twin.specs.Register.{place_of}
 use Rattle.ob_twin.specs.declared.gates.Gates.{Gates}
-use Rattle.ob_end.specs.EndRuns.{IsEndMade, IsEndReady, LeadsOn, MayEndEpoch, end_writes, rows_ended, seals_for_end}
+use Rattle.ob_end.specs.EndRuns.{AreEntriesWritten, IsAtContent, IsEndMade, IsEndReady, LeadsOn, MayEndEpoch, TakeBucketWords, end_writes, rows_ended, seals_for_end, table_ended}
 use Rattle.ob_recover.specs.Fits.{IsPlannerFit}
 use Rattle.ob_end.proofs.EndLaws.{IsEndWith, content_is, end_with, runs_then}
 use Rattle.ob_end.proofs.MadeLaws as made_laws
@@ -129,6 +133,21 @@ module _ (run mid : Run) (disk : Disk) (writes : List Write) (words : List ℕ) 
     pub last_p : last.p ≡ run.params
     last_p = ap (λ (r : Kept). r.p) stash ∙ mid_p
 
+    obeys_here : Obeys run.params (content_left mid.ring)
+    obeys_here = subst (λ (q : Params). Obeys q (content_left mid.ring)) mid_p obeys_left
+
+    -- its tables are a content that obeys, and stand for that
+    pub content_last : IsAtContent run.params last
+    content_last =
+        let obeys : Obeys run.params (content_of_ring last) = subst (λ (c : Content). Obeys run.params c) (sym (content_is run.params mid.ring last stash rows mid_p)) obeys_here in
+        let none = made_laws.none_lifted (run.sealer).keys disk writes words g run.drawn (run.sealer).next run.ring mid.ring made low_at short fit small few_fit in
+        let tables : Tables Buckets = record { book = last.book; metas = last.metas; stash = last.stash; counter = last.counter } in
+        record {
+          obeys = obeys;
+          stands = subst (λ (q : Params). StandsFor (record last { p = q }) (flat_of run.params (content_of_ring last))) (sym last_p)
+              (rings_stand run.params tables obeys (λ u. ap (λ (r : Kept). is_lifted r.metas u) stash ∙ none u));
+        }
+
     -- so the run is ready again
     pub ready_then : (gates : Gates) (later : Sealing) (sheet : List ℕ) → later.generation ≡ (mid.sealer).generation → length sheet ≡ length mid.sheet
         → ((mid.jobs).room ≡ (run.jobs).room) × ((mid.jobs).place_room ≡ (run.jobs).place_room) → length (mid.words).items ≡ length (run.words).items
@@ -148,6 +167,30 @@ module _ (run mid : Run) (disk : Disk) (writes : List Write) (words : List ℕ) 
       sheet = long ∙ sheet_long ∙ ap (λ (q : Params). 96 * checkpoint_cells q) (sym params_are);
       planner = fit_last;
     }
+
+  -- ---- the tables then
+
+  module _ (last : Kept) (stash : last ≡ record mid.ring { stash = last.stash }) where
+    pub table_last : (t : FlatTable) → StandsFor run.ring t → StandsFor last (table_ended run.params t (end_writes run.params writes words g run.drawn))
+    table_last t stands =
+        subst (λ (q : Params). StandsFor last (table_ended q t (end_writes q writes words g run.drawn))) ring_p
+        (made_laws.table_then (run.sealer).keys disk writes words g run.drawn (run.sealer).next run.ring mid.ring made low_at short t stands last stash)
+
+    pub entries_last : AreEntriesWritten (end_writes run.params writes words g run.drawn) run.ring last
+    entries_last k =
+        ap (λ (r : Kept). entry_at r.book k) stash
+        ∙ made_laws.entries_then (run.sealer).keys disk writes words g run.drawn (run.sealer).next run.ring mid.ring made low_at short k
+        ∙ ap (λ (q : Params). entries_after (λ i. entry_at (run.ring).book i) (end_writes q writes words g run.drawn) k) ring_p
+
+    pub filled_last : (t : FlatTable) → StandsFor run.ring t → TakeBucketWords run.params t words g (run.sealer).next run.ring last
+    filled_last t stands =
+        subst (λ (r : Kept). TakeBucketWords run.params t words g (run.sealer).next run.ring r) (sym stash)
+        (subst (λ (q : Params). TakeBucketWords q t words g (run.sealer).next run.ring (record mid.ring { stash = last.stash })) ring_p (at_mid last.stash))
+      where
+        at_mid : (held : Held) → TakeBucketWords (run.ring).p t words g (run.sealer).next run.ring (record mid.ring { stash = held })
+        at_mid held =
+            let f = made_laws.filled_then (run.sealer).keys disk writes words g run.drawn (run.sealer).next run.ring mid.ring made low_at short t stands in
+            record { within = f.within; filled = f.filled }
 
   -- ---- where the store stood
 

@@ -1,3 +1,4 @@
+pub mod ActLaws
 pub mod CloseLaws
 pub mod EndCases
 pub mod EndLaws

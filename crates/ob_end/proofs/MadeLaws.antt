@@ -1,32 +1,36 @@
 -- What an end made obeys, and is one of the epoch that stands.
-use Rattle.std.specs.Prelude.{◌≡◌, ℕ, ◌+◌, ◌*◌, ◌<◌, ◌≤◌, ◌^◌, false, List, Some, take, length, slice_index}
+use Rattle.std.specs.Prelude.{◌≡◌, ℕ, zero, suc, ◌+◌, ◌-◌, ◌*◌, ◌<◌, ◌≤◌, ◌^◌, Bool, true, false, List, [], ◌∷◌, Some, take, drop, length, slice_index, slice_index_or}
+use Rattle.std.proofs.lemmas.Bool.{true≢false}
+use Rattle.std.proofs.Math.Seq.{take-length}
 use Rattle.std.proofs.Common.{arith, sym, ap, ◌∙◌, subst}
 use Rattle.ob_base.specs.declared.params.Params.{Params}
 use Rattle.ob_base.specs.declared.value.Write.{Write}
 use Rattle.ob_base.specs.Layout.{checkpoint_cells}
 use Rattle.ob_base.specs.Tree.{buckets, width}
 use Rattle.ob_bucket.specs.Buckets.{is_lifted, version_at}
+use Rattle.ob_bucket.specs.Version.{Version}
 use Rattle.ob_content.specs.Content.{FitsBook, FitsSeals, Obeys}
 use Rattle.ob_end_writes.specs.EndWrites.{AreSealedFrom, all_seals, content_left, rows_left}
 use Rattle.ob_epoch.specs.Plans.{AreAllWhole}
 use Rattle.ob_epoch.specs.Valued.{IsEnd}
-use Rattle.ob_epoch.proofs.Calling.{writes_are_fit}
+use Rattle.ob_epoch.proofs.Calling.{calls_join, writes_are_fit}
 use Rattle.ob_epoch.proofs.Plans.{refill_plans}
 use Rattle.ob_ring.specs.Arrays.{IsTableOf, arrays_of, rest_of}
 use Rattle.ob_ring.specs.Filling.{base_of}
 use Rattle.ob_ring.specs.Laws.{IsOrderly}
-use Rattle.ob_ring.specs.FlatTable.{FlatTable, FinalLifts, Refill, Writes, after, stash_size}
+use Rattle.ob_ring.specs.FlatTable.{FlatTable, FinalLifts, Refill, Writes, after, refill_order, stash_size}
 use Rattle.ob_ring.specs.Ring.{Kept, StandsFor}
-use Rattle.ob_ring.specs.Writing.{leaf_writes, write_at}
+use Rattle.ob_ring.specs.Writing.{entries_after, leaf_writes, write_at, writes_of}
+use Rattle.ob_schedule.specs.Paths.{is_one_of}
 use Rattle.ob_seal.specs.declared.keys.Keys.{Keys}
 use Rattle.ob_store.specs.Disk.{Disk}
-use Rattle.ob_tables.specs.Kept.{Held}
+use Rattle.ob_tables.specs.Kept.{Held, entry_at}
 use Rattle.ob_tables.specs.declared.entry.Entry.{Entry}
 use Rattle.ob_taken.proofs.TheLaws.{picked_are_taken}
 use Rattle.ob_taken.specs.Values.{Values, with_writes}
 use Rattle.ob_values.specs.Carries.{Carries}
 use Rattle.ob_values.specs.Laws.{AreFit}
-use Rattle.ob_end.specs.EndRuns.{IsEndMade, end_writes, rows_ended, seals_for_end, table_ended}
+use Rattle.ob_end.specs.EndRuns.{AreFilledAnew, IsEndMade, TakeBucketWords, end_writes, rows_ended, seals_for_end, table_ended}
 use Rattle.ob_recover.specs.Fits.{IsPlannerFit}
 use Rattle.ob_end.proofs.EndTables as tables
 use Rattle.ob_recover.proofs.JoinLaws.{carries_then, joined, map_then}
@@ -92,6 +96,53 @@ module _ (keys : Keys) (disk : Disk) (writes : List Write) (words : List ℕ) (g
       arrays : IsTableOf ring.p (arrays_of new.metas (rest_of new.book new.counter)) (table_ended ring.p t ws)
       arrays = subst (λ (q : Params). IsTableOf q (arrays_of new.metas (rest_of new.book new.counter)) (after q (after q (after ring.p t FinalLifts) (Writes (leaf_writes ws))) Refill)) same
           (tables.table3 lifted new writes words g drawn next made.renews (after ring.p t FinalLifts) at)
+
+  -- ---- what becomes of the tables
+
+  abbrev between : Kept
+  between = (made.renews).between
+
+  pub entries_then : (k : ℕ) → entry_at new.book k ≡ entries_after (λ i. entry_at ring.book i) (end_writes ring.p writes words g drawn) k
+  entries_then k =
+      ap (λ (r : Kept). entry_at r.book k) ((made.renews).filled).kept
+      ∙ ((made.renews).made).entries k
+      ∙ ap (λ (r : Kept). entries_after (λ i. entry_at r.book i) ws k) made.kept
+      ∙ ap (λ (q : Params). entries_after (λ i. entry_at ring.book i) (writes_of q writes (take q.writes words) (g, drawn) (length writes)) k) same
+
+  homes_since : (u : ℕ) → (version_at (between.metas).versions u).home ≡ (version_at (ring.metas).versions u).home
+  homes_since u = (((made.renews).made).seals).homes u ∙ (made.seals).homes u
+
+  -- a bucket off the list stays as it was
+  kept_at : (u : ℕ) → is_one_of (between.metas).order u ≡ false → version_at (new.metas).versions u ≡ version_at (between.metas).versions u
+  kept_at u off = (((made.renews).filled).anew).others u (ap (λ (us : List ℕ). is_one_of us u) (take-length (between.metas).order) ∙ off)
+
+  filled_between : AreFilledAnew between.p (between.metas).order ring.metas new.metas (drop (lifted.p).writes words) (g, next)
+  filled_between = record {
+    anew = λ i lt. (let a = (((made.renews).filled).anew).anew i lt in record { home = a.home ∙ ap (λ h. 1 - h) (homes_since (slice_index (between.metas).order i)); under = a.under; from = a.from; ranks = a.ranks });
+    homes = λ u off. ap (λ (v : Version). v.home) (kept_at u off) ∙ homes_since u;
+    generations = λ u off. ap (λ (v : Version). v.generation) (kept_at u off) ∙ (((made.renews).made).seals).generations u ∙ (made.seals).generations u;
+    bases = λ u off. ap (λ (v : Version). v.base) (kept_at u off) ∙ (((made.renews).made).seals).bases u ∙ (made.seals).bases u;
+    ranks = λ u off. ap (λ (v : Version). v.ranks) (kept_at u off) ∙ (((made.renews).made).seals).ranks u ∙ (made.seals).ranks u;
+  }
+
+  -- a bucket that is marked lifted has a mark
+  marked : (marks : List Bool) (u : ℕ) → slice_index_or marks u false ≡ true → u < length marks
+  marked [] u on = absurd (true≢false (sym on))
+  marked (b ∷ marks) zero on = omega arith
+  marked (b ∷ marks) (suc u) on = let low = marked marks u on in omega (arith, low)
+
+  pub filled_then : (t : FlatTable) → StandsFor ring t → TakeBucketWords ring.p t words g next ring new
+  filled_then t stands =
+      let at : StandsFor lifted (after ring.p t FinalLifts) = made.table t stands in
+      let order : (between.metas).order ≡ refill_order ring.p (after ring.p t FinalLifts) =
+      (((made.renews).made).seals).order ∙ calls_join.listed lifted (after ring.p t FinalLifts) at made.listed ∙ ap (λ (q : Params). refill_order q (after ring.p t FinalLifts)) same in
+      record {
+        within = λ u up. (let low = marked (lifted.metas).lifted u (sym ((at.arrays).lifted_is u) ∙ up) in let many = ((made.rules).metas).marks ∙ ap buckets same in omega (arith, low, many));
+        filled =
+            subst (λ (us : List ℕ). AreFilledAnew ring.p us ring.metas new.metas (drop (ring.p).writes words) (g, next)) order
+            (subst (λ (q : Params). AreFilledAnew ring.p (between.metas).order ring.metas new.metas (drop q.writes words) (g, next)) same
+            (subst (λ (q : Params). AreFilledAnew q (between.metas).order ring.metas new.metas (drop (lifted.p).writes words) (g, next)) (between_p ∙ new_p) filled_between));
+      }
 
   -- ---- from a planner that fits
 

@@ -14,7 +14,7 @@ use Rattle.ob_base.specs.Layout.{checkpoint_cells}
 use Rattle.ob_base.specs.Tree.{buckets, width}
 use Rattle.ob_bucket.specs.Buckets.{is_lifted}
 use Rattle.ob_bucket.specs.Version.{Version}
-use Rattle.ob_ending.specs.Lifts.{LiftsAnswer}
+use Rattle.ob_ending.specs.Lifts.{IsUndamaged, LiftsAnswer}
 use Rattle.ob_ending.specs.Renewals.{RenewAnswers, end_seals, end_words, refill_words, renewed_writes, table_behind_writes}
 use Rattle.ob_epoch.proofs.Calling.{calls_join}
 use Rattle.ob_fetch.specs.Fetches.{DrawsWords}
@@ -147,17 +147,18 @@ lifts_faults fault.SinkFault is = absurd is
 pub record IsRenewal (r : Result (Unit {0}) Fault) : Type 0 where
   pub faults : IfErr r IsMakeFault
   pub damage : (keys : Keys) (p : Params) (versions : List Version) (image : Image) (t : FlatTable) → MakeDamage keys p versions image t r
+  pub undamaged : IsUndamaged r
   pub blames : IfErr r (λ f. IsStoreFault f → ⊥)
   pub told : (most : ℕ) (cells : List ℕ) (notes : List Note) (a b : Option (List Event)) (k l : Trace) → BatchIsShown most cells notes a b k l → MakeTells most cells notes a b k l r
 
 pub renewal : (words size room next seals : ℕ) (r : Result (Unit {0}) Fault) → IsRenewed words size room next seals r → IsRenewal r
 renewal words size room next seals r is = ⊎_elim
-    (λ (worn : (2 ^ 62 < words) × (r ≡ Err (fault.Worn (2 ^ 62)))). subst IsRenewal (sym worn.1) (record { faults = refl; damage = λ keys p versions image t. tt; blames = λ is. is; told = λ most cells notes a b k l shown. inl shown }))
+    (λ (worn : (2 ^ 62 < words) × (r ≡ Err (fault.Worn (2 ^ 62)))). subst IsRenewal (sym worn.1) (record { faults = refl; damage = λ keys p versions image t. tt; undamaged = tt; blames = λ is. is; told = λ most cells notes a b k l shown. inl shown }))
     (λ (rest : (words ≤ 2 ^ 62) × RenewAnswers size room next seals r). by_answer r rest.1)
     is
   where
     by_answer : (x : Result (Unit {0}) Fault) → RenewAnswers size room next seals x → IsRenewal x
-    by_answer (Ok done) a = record { faults = tt; damage = λ keys p versions image t. tt; blames = tt; told = λ most cells notes a b k l shown. shown }
+    by_answer (Ok done) a = record { faults = tt; damage = λ keys p versions image t. tt; undamaged = tt; blames = tt; told = λ most cells notes a b k l shown. shown }
     by_answer (Err fault.Memory) a = absurd a
     by_answer (Err fault.Usage) a = absurd a
     by_answer (Err (fault.BadScript line)) a = absurd a
@@ -165,8 +166,8 @@ renewal words size room next seals r is = ⊎_elim
     by_answer (Err fault.NotStore) a = absurd a
     by_answer (Err (fault.Damaged cell what kept computed)) a = absurd a
     by_answer (Err (fault.StoreFault unsure)) a = absurd a
-    by_answer (Err (fault.StashFull rows)) a = record { faults = tt; damage = λ keys p versions image t. tt; blames = λ is. is; told = λ most cells notes a b k l shown. shown }
-    by_answer (Err (fault.Worn number)) a = record { faults = a.0; damage = λ keys p versions image t. tt; blames = λ is. is; told = λ most cells notes a b k l shown. inl shown }
+    by_answer (Err (fault.StashFull rows)) a = record { faults = tt; damage = λ keys p versions image t. tt; undamaged = tt; blames = λ is. is; told = λ most cells notes a b k l shown. shown }
+    by_answer (Err (fault.Worn number)) a = record { faults = a.0; damage = λ keys p versions image t. tt; undamaged = tt; blames = λ is. is; told = λ most cells notes a b k l shown. inl shown }
     by_answer (Err fault.SourceFault) a = absurd a
     by_answer (Err fault.SinkFault) a = absurd a
 

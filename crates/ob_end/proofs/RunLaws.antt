@@ -20,6 +20,7 @@ use Rattle.ob_ring.specs.FlatTable.{FlatTable, FinalLifts, Refill, Writes, after
 use Rattle.ob_ring.specs.Picked.{SameSeals}
 use Rattle.ob_ring.specs.Ring.{Kept, StandsFor}
 use Rattle.ob_ring.specs.Writing.{leaf_writes}
+use Rattle.ob_ring_trace.specs.Ends.{RefillsFrom}
 use Rattle.ob_stand.specs.Stands.{AreKnown}
 use Rattle.ob_tables.specs.Kept.{entry_at}
 use Rattle.ob_tables.specs.declared.entry.Entry.{Entry}
@@ -28,7 +29,7 @@ use Rattle.ob_end.proofs.EndTables as made
 use Rattle.ob_end.proofs.KnownEntries.{entries_known}
 
 module _ (c : Content) (rs : List BatchRecord) (ring lifted renewed : Kept) (writes : List Write) (words : List ℕ) (g drawn next : ℕ) (renews : Renews writes words g drawn next lifted renewed)
-    (planner : IsPlannerOf lifted.p c rs (unlisted ring)) (known : AreKnown rs g) (book : lifted.book ≡ ring.book) (seals : SameSeals (record ring.metas { order = (lifted.metas).order }) lifted.metas)
+    (planner : IsPlannerOf lifted.p c rs (unlisted ring)) (book : lifted.book ≡ ring.book) (seals : SameSeals (record ring.metas { order = (lifted.metas).order }) lifted.metas)
     (table : StandsFor lifted (after lifted.p (table_after_records lifted.p (flat_of lifted.p c) rs) FinalLifts)) where
   abbrev p : Params
   p = lifted.p
@@ -57,11 +58,11 @@ module _ (c : Content) (rs : List BatchRecord) (ring lifted renewed : Kept) (wri
       (calls_join.further (buckets_of p c) ring.metas lifted.metas (seals_listed (buckets_of p c) ring planner.seals) seals)
       (calls_join.seals lifted.metas between.metas (renews.made).seals)
 
-  known_book : KnowsBook p g c.book lifted.book
-  known_book = λ k e at. entries_known p g (λ i. entry_at c.book i) rs k e known (sym (planner.entries k) ∙ sym (ap (λ (b : List (Option Entry)). entry_at b k) book) ∙ at)
+  known_book : AreKnown rs g → KnowsBook p g c.book lifted.book
+  known_book known = λ k e at. entries_known p g (λ i. entry_at c.book i) rs k e known (sym (planner.entries k) ∙ sym (ap (λ (b : List (Option Entry)). entry_at b k) book) ∙ at)
 
-  entries : KnowsBook p g c.book renewed.book
-  entries = steps_renew.knows p g c.book lifted.book renewed.book known_book (made.books lifted renewed writes words g drawn next renews)
+  entries : AreKnown rs g → KnowsBook p g c.book renewed.book
+  entries known = steps_renew.knows p g c.book lifted.book renewed.book (known_book known) (made.books lifted renewed writes words g drawn next renews)
 
   table_kept : IsTableOf p (arrays_of between.metas (rest_of renewed.book renewed.counter)) t2
   table_kept =
@@ -76,17 +77,34 @@ module _ (c : Content) (rs : List BatchRecord) (ring lifted renewed : Kept) (wri
     pub after_is : after_epoch p (flat_of p c) bs ws ≡ t3
     after_is = ap (λ (t : FlatTable). after p t Refill) before_is
 
-    pub run_from : stash_size p t3 ≤ p.room → IsRunFrom p run c renewed.book renewed.counter bs ws
-    run_from few = record {
+    listed : (between.metas).order ≡ refill_order p (before_refill p (flat_of p c) bs ws)
+    listed = made.listed2 lifted renewed writes words g drawn next renews t1 table ∙ ap (λ (t : FlatTable). refill_order p t) (sym before_is)
+
+    table_then : IsTableOf p (arrays_of renewed.metas (rest_of renewed.book renewed.counter)) (after_epoch p (flat_of p c) bs ws)
+    table_then = subst (λ (t : FlatTable). IsTableOf p (arrays_of renewed.metas (rest_of renewed.book renewed.counter)) t) (sym after_is) (made.table3 lifted renewed writes words g drawn next renews t1 table)
+
+    -- what its schedule needs of it
+    pub refills_from : RefillsFrom p run c renewed.book renewed.counter bs ws
+    refills_from = record {
+      began = refl;
+      seals = since;
+      listed = listed;
+      anew = made.anew lifted renewed writes words g drawn next renews;
+      table = table_then;
+      whole = made.whole_renewed lifted renewed writes words g drawn next renews;
+    }
+
+    pub run_from : AreKnown rs g → stash_size p t3 ≤ p.room → IsRunFrom p run c renewed.book renewed.counter bs ws
+    run_from known few = record {
       began = refl;
       seals = since;
       table_before = subst (λ (t : FlatTable). IsTableOf p (arrays_of between.metas (rest_of renewed.book renewed.counter)) t) (sym before_is) table_kept;
-      listed = made.listed2 lifted renewed writes words g drawn next renews t1 table ∙ ap (λ (t : FlatTable). refill_order p t) (sym before_is);
+      listed = listed;
       anew = made.anew lifted renewed writes words g drawn next renews;
-      table = subst (λ (t : FlatTable). IsTableOf p (arrays_of renewed.metas (rest_of renewed.book renewed.counter)) t) (sym after_is) (made.table3 lifted renewed writes words g drawn next renews t1 table);
+      table = table_then;
       whole_before = made.whole_between lifted renewed writes words g drawn next renews;
       whole = made.whole_renewed lifted renewed writes words g drawn next renews;
-      entries = entries;
+      entries = entries known;
       many = made.book_many lifted renewed writes words g drawn next renews;
       low = subst (λ (q : Params). renewed.counter < 2 ^ q.levels) (made.renewed_p lifted renewed writes words g drawn next renews) ((renews.filled).rules).counter;
       room = subst (λ (t : FlatTable). stash_size p t ≤ p.room) (sym after_is) few;

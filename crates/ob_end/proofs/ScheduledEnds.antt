@@ -122,12 +122,12 @@ module _ (keys : Keys) (disk : Disk) (writes : List Write) (words : List ℕ) (g
   obeys_left = subst (λ (q : Params). Obeys q (content_left new)) (tables.renewed_p lifted new writes words g drawn next made.renews) (made_laws.obeys keys disk writes words g drawn next ring new made low short fit small few_fit)
 
   abbrev run : RefillRun
-  run = runs.run c rs ring lifted new writes words g drawn next made.renews planner_at from.known book made.seals table
+  run = runs.run c rs ring lifted new writes words g drawn next made.renews planner_at book made.seals table
 
   scheduled : EndIsScheduled lifted.p c rs epoch gates run (content_left new)
   scheduled = ends_are_scheduled lifted.p c rs epoch gates run new.book new.counter (reads_of lifted.p rs) (tables.ws lifted new writes words g drawn next made.renews) (rows_left new)
       (subst (λ (q : Params). Obeys q c) path from.obeys) (subst (λ (q : Params). RecordsFit q rs) path from.fit) from.gate (reads_asked lifted.p rs)
-      (runs.run_from c rs ring lifted new writes words g drawn next made.renews planner_at from.known book made.seals table (reads_of lifted.p rs) (reads_asked lifted.p rs) few_at) obeys_left
+      (runs.refills_from c rs ring lifted new writes words g drawn next made.renews planner_at book made.seals table (reads_of lifted.p rs) (reads_asked lifted.p rs)) obeys_left
 
   abbrev order : List ℕ
   order = ((made.renews).between.metas).order
@@ -175,7 +175,6 @@ module _ (keys : Keys) (disk : Disk) (writes : List Write) (words : List ℕ) (g
       plans = record {
         obeys = subst (Obeys p) (sym content_at) obeys_p;
         fit = record { few = omega arith; each = λ b lt. absurd (omega arith) };
-        known = λ b lt. absurd (omega arith);
         planner = planner_then p new last stash rows new_p obeys_p (made_laws.none_lifted keys disk writes words g drawn next ring new made low short fit small few_fit) room_at;
         gate = scheduled.gate;
       };

@@ -84,18 +84,18 @@ module _ (keys : Keys) (s : RingStanding) (image : Image) (ring lifted renewed :
     refilled =
         subst (λ (rows : Rows). IsRefilled (before_refill p (flat_of p c) read.batches ws) (after_epoch p (flat_of p c) read.batches ws) rows (rows_left renewed) slots slots') rows_are
         (subst (λ (t : FlatTable). IsRefilled t (after_epoch p (flat_of p c) read.batches ws) (renewed.stash).rows (rows_left renewed) slots slots')
-        (sym (runs.before_is c s.records ring lifted renewed writes words g drawn next renews planner known book seals table read.batches read.asked))
+        (sym (runs.before_is c s.records ring lifted renewed writes words g drawn next renews planner book seals table read.batches read.asked))
         (subst (λ (t : FlatTable). IsRefilled t2 t (renewed.stash).rows (rows_left renewed) slots slots')
-        (sym (runs.after_is c s.records ring lifted renewed writes words g drawn next renews planner known book seals table read.batches read.asked))
+        (sym (runs.after_is c s.records ring lifted renewed writes words g drawn next renews planner book seals table read.batches read.asked))
         (made.refilled lifted renewed writes words g drawn next renews t1 table whole slots)));
   }
 
   abbrev pub the_end : RingEnd
-  the_end = end_of_run s (runs.run c s.records ring lifted renewed writes words g drawn next renews planner known book seals table) renewed.book (rows_left renewed) renewed.counter slots' ws
+  the_end = end_of_run s (runs.run c s.records ring lifted renewed writes words g drawn next renews planner book seals table) renewed.book (rows_left renewed) renewed.counter slots' ws
 
   follows : IsEndOf p s the_end
-  follows = runs_end keys p s image (runs.run c s.records ring lifted renewed writes words g drawn next renews planner known book seals table) slots' read.batches lifts.jobs ws renewed.book (rows_left renewed) renewed.counter stands under epoch
-      (runs.run_from c s.records ring lifted renewed writes words g drawn next renews planner known book seals table read.batches read.asked few)
+  follows = runs_end keys p s image (runs.run c s.records ring lifted renewed writes words g drawn next renews planner book seals table) slots' read.batches lifts.jobs ws renewed.book (rows_left renewed) renewed.counter stands under epoch
+      (runs.run_from c s.records ring lifted renewed writes words g drawn next renews planner book seals table read.batches read.asked known few)
 
   order_is : (renewed.metas).order ≡ ((renews.between).metas).order
   order_is = (renews.filled).order

@@ -1,10 +1,10 @@
 -- What the end of an epoch leaves and shows, once its tables are made.
-use Rattle.std.specs.Prelude.{◌⊎◌, ℕ, Bool, List, ◌++◌, Option, Result, Ok, Err}
+use Rattle.std.specs.Prelude.{◌≡◌, ◌⊎◌, ◌<◌, ℕ, Bool, List, ◌++◌, Option, Result, Ok, Err}
 use Rattle.ob_base.specs.declared.params.Params.{Params}
 use Rattle.ob_seal.specs.declared.keys.Keys.{Keys}
 use Rattle.ob_stand.specs.Ends.{RingEnd, standing_after}
 use Rattle.ob_stand.specs.Stands.{OneOf, RingStanding, Stands}
-use Rattle.ob_store.specs.Disk.{Disk}
+use Rattle.ob_store.specs.Disk.{Disk, Image}
 use Rattle.ob_store.specs.Images.{LeavesOnly}
 use Rattle.ob_store.specs.Lines.{Trace}
 use Rattle.ob_store.specs.Told.{Tells, TellsFirst}
@@ -13,6 +13,10 @@ use Rattle.ob_store.specs.declared.watch.Note.{Note}
 use Rattle.ob_twin.specs.Orders.{gate_notes, prepare_notes, set_notes}
 use Rattle.ob_twin.specs.declared.set_err.SetErr.{SetErr}
 use Rattle.ob_twin.specs.declared.set_err.SetErr.TheVariants as set
+
+-- the head and the register of generations are the same
+abbrev pub SameGeneration : Image → Image → Type 0
+SameGeneration a b = (k : ℕ) → k < 5 → a k ≡ b k
 
 -- A crash leaves what stood, or that or what the end makes; and that stands once it went well.
 abbrev pub ClosesEnd : Keys → Params → RingStanding → RingEnd → Disk → Disk → Result (Unit {0}) SetErr → Type 0

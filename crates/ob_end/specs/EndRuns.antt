@@ -1,5 +1,5 @@
 -- What the end of an epoch needs of a run, answers, draws and leaves.
-use Rattle.std.specs.Prelude.{◌≡◌, ◌⊎◌, ℕ, suc, ◌+◌, ◌*◌, ◌<◌, ◌≤◌, ◌^◌, Bool, List, [], take, length, Option, Result, Ok, Err}
+use Rattle.std.specs.Prelude.{◌≡◌, ◌⊎◌, ℕ, suc, ◌+◌, ◌*◌, ◌<◌, ◌≤◌, ◌^◌, Bool, true, false, List, [], take, drop, length, slice_index, Option, Result, Ok, Err}
 use Rattle.std.specs.declared.option.Option.TheVariants.{None}
 use Rattle.ob_base.specs.declared.fault.Fault.{Fault}
 use Rattle.ob_base.specs.declared.fault.Fault.TheVariants as fault
@@ -9,20 +9,22 @@ use Rattle.ob_base.specs.Layout.{checkpoint_cells}
 use Rattle.ob_base.specs.Tree.{buckets, width}
 use Rattle.ob_bucket.specs.Buckets.{Buckets, version_at}
 use Rattle.ob_bucket.specs.Version.{Version}
-use Rattle.ob_content.specs.Content.{Content, FitsBook, FitsSeals}
-use Rattle.ob_ending.specs.Lifts.{IsLiftDamage, LiftsAreRead, lifts_picked}
+use Rattle.ob_content.specs.Content.{Content, Obeys}
+use Rattle.ob_ending.specs.Lifts.{IsLiftDamage, IsUndamaged, LiftsAreRead, lifts_picked}
 use Rattle.ob_ending.specs.Renewals.{Renews}
-use Rattle.ob_epoch.specs.Plans.{AreAllWhole}
+use Rattle.ob_epoch.specs.Table.{flat_of}
 use Rattle.ob_fetch.specs.declared.run.Run.{Run}
 use Rattle.ob_fetch.specs.Fetches.{DrawsWords, IsRunReady, RunIsAt}
 use Rattle.ob_log.specs.Logs.{BatchRecord}
 use Rattle.ob_recover.specs.Fits.{IsPlannerFit}
 use Rattle.ob_recover.specs.Repeats.{BatchIsShown, NoneIsShown, RowsJoin, content_of_ring}
+use Rattle.ob_ring.specs.Filling.{IsSealedAnew, base_of, words_of}
 use Rattle.ob_ring.specs.FlatTable.{FlatTable, FinalLifts, Refill, Writes, after, refill_order, stash_size}
 use Rattle.ob_ring.specs.Picked.{SameSeals}
 use Rattle.ob_ring.specs.Ring.{IsListed, IsRing, Kept, StandsFor}
-use Rattle.ob_ring.specs.Writing.{leaf_writes, writes_of}
+use Rattle.ob_ring.specs.Writing.{entries_after, leaf_writes, writes_of}
 use Rattle.ob_ring_trace.specs.Known.{PlansFrom, public_of_kept}
+use Rattle.ob_schedule.specs.Paths.{is_one_of}
 use Rattle.ob_schedule.specs.Schedule.{after_end}
 use Rattle.ob_seal.specs.declared.keys.Keys.{Keys}
 use Rattle.ob_serial.specs.declared.vault.EndErr.{EndErr}
@@ -33,12 +35,12 @@ use Rattle.ob_store.specs.Disk.{Disk, Image}
 use Rattle.ob_store.specs.Lines.{Trace}
 use Rattle.ob_store.specs.declared.event.Event.{Event}
 use Rattle.ob_store.specs.declared.watch.Note.{Note}
+use Rattle.ob_tables.specs.Kept.{entry_at}
 use Rattle.ob_tables.specs.declared.entry.Entry.{Entry}
-use Rattle.ob_taken.specs.Values.{Values, with_writes}
+use Rattle.ob_taken.specs.Values.{with_writes}
 use Rattle.ob_twin.specs.declared.gates.Gates.{Gates}
 use Rattle.ob_twin.specs.declared.set_err.SetErr.{SetErr}
 use Rattle.ob_twin.specs.declared.set_err.SetErr.TheVariants as set
-use Rattle.ob_values.specs.Carries.{Carries, Slots}
 use Rattle.ob_values.specs.Runs.{slots_of}
 use Rattle.ob_end.specs.Closings.{CloseDoes}
 
@@ -154,6 +156,36 @@ abbrev pub end_err_of : SetErr → EndErr
 end_err_of (set.Before refused) = end.Before refused
 end_err_of (set.Unsure refused) = end.Unsure refused
 
+-- what holds once all was written, but maybe for the register
+abbrev pub IfEnded : Type 0 → Result (Unit {0}) EndErr → Type 0
+IfEnded A (Ok done) = A
+IfEnded A (Err (end.Before refused)) = Unit {0}
+IfEnded A (Err (end.Unsure refused)) = A
+
+-- ---- the tables then
+
+-- The buckets of this order are sealed anew, the i-th with its words as its slots' ranks, and the others stay as they were sealed.
+pub record AreFilledAnew (p : Params) (order : List ℕ) (old new : Buckets) (words : List ℕ) (first : ℕ × ℕ) : Type 0 where
+  pub anew : (i : ℕ) → i < length order → IsSealedAnew (version_at old.versions (slice_index order i)) (version_at new.versions (slice_index order i)) first.0 (base_of p first i) (words_of p words i)
+  pub homes : (u : ℕ) → is_one_of order u ≡ false → (version_at new.versions u).home ≡ (version_at old.versions u).home
+  pub generations : (u : ℕ) → is_one_of order u ≡ false → (version_at new.versions u).generation ≡ (version_at old.versions u).generation
+  pub bases : (u : ℕ) → is_one_of order u ≡ false → (version_at new.versions u).base ≡ (version_at old.versions u).base
+  pub ranks : (u : ℕ) → is_one_of order u ≡ false → (version_at new.versions u).ranks ≡ (version_at old.versions u).ranks
+
+-- The planner's tables are a content that obeys, and stand for that content's table.
+pub record IsAtContent (p : Params) (ring : Kept) : Type 0 where
+  pub obeys : Obeys p (content_of_ring ring)
+  pub stands : StandsFor ring (flat_of p (content_of_ring ring))
+
+-- each put's key has its place's entry, each del's none, and the other keys what they had
+abbrev pub AreEntriesWritten : List (Write × Entry) → Kept → Kept → Type 0
+AreEntriesWritten ws old new = (k : ℕ) → entry_at new.book k ≡ entries_after (λ i. entry_at old.book i) ws k
+
+-- The lifted buckets, which are buckets of the tree, take the words behind those of the writes, in the order of the refill.
+pub record TakeBucketWords (p : Params) (t : FlatTable) (words : List ℕ) (generation next : ℕ) (old new : Kept) : Type 0 where
+  pub within : (u : ℕ) → (after p t FinalLifts).lifted u ≡ true → u < buckets p
+  pub filled : AreFilledAnew p (refill_order p (after p t FinalLifts)) old.metas new.metas (drop p.writes words) (generation, next)
+
 -- ---- what the store knows of it
 
 -- Behind an end the planner is at the beginning of the next epoch, and what the store then knows of it is what the schedule's end leaves.
@@ -183,6 +215,16 @@ abbrev pub MakeDamage : Keys → Params → List Version → Image → FlatTable
 MakeDamage keys p versions image t (Err (fault.Damaged cell check kept computed)) =
     IsLiftDamage keys p versions image t (record { cell = cell; check = check; kept = kept; computed = computed })
 MakeDamage keys p versions image t _ = Unit {0}
+
+-- Refused so, the end is too: before anything was written.
+abbrev pub EndDamage : Keys → Params → List Version → Image → FlatTable → Result (Unit {0}) EndErr → Type 0
+EndDamage keys p versions image t (Err (end.Before refused)) = MakeDamage keys p versions image t (Err refused)
+EndDamage keys p versions image t _ = Unit {0}
+
+-- it isn't refused for damage
+abbrev pub IsEndUndamaged : Result (Unit {0}) EndErr → Type 0
+IsEndUndamaged (Err (end.Before refused)) = IsUndamaged (Err refused)
+IsEndUndamaged _ = Unit {0}
 
 -- the lifts were read and shown, or, of a store that failed or where numbers are worn, nothing was
 abbrev pub MakeTells : ℕ → List ℕ → List Note → Option (List Event) → Option (List Event) → Trace → Trace → Result (Unit {0}) Fault → Type 0

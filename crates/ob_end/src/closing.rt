@@ -5,16 +5,17 @@ ghost use Rattle.ob_base.specs.Layout.{checkpoint_cells};
 ghost use Rattle.ob_cells.specs.Writes.{Seals};
 ghost use Rattle.ob_content.specs.Content.{Obeys};
 ghost use Rattle.ob_end_writes.specs.EndWrites.{AreSealedFrom, IsEndOfRing, all_seals, content_left, end_write_notes, rows_left};
+ghost use Rattle.ob_pads.specs.Seals.{CellsAreSealed};
 ghost use Rattle.ob_ring.specs.Ring.{AreListedWithin};
 ghost use Rattle.ob_stand.specs.Ends.{RingEnd};
 ghost use Rattle.ob_stand.specs.Stands.{RingStanding, Stands};
 ghost use Rattle.ob_store.specs.Calls.{Serves};
-ghost use Rattle.ob_store.specs.Images.{IsSynced};
+ghost use Rattle.ob_store.specs.Images.{IsSynced, Passes};
 ghost use Rattle.ob_twin.specs.declared.twin.Twin.TheVariants.{EPOCH};
 ghost use Rattle.ob_twin.specs.Opening.{GatesAre, gates_set, is_closed_first};
 ghost use Rattle.ob_twin.specs.Refused.{IsSetFault};
 ghost use Rattle.ob_twin.specs.Register.{place_of};
-ghost use Rattle.ob_end.specs.Closings.{ClosesEnd, CloseDoes, IfWritten};
+ghost use Rattle.ob_end.specs.Closings.{ClosesEnd, CloseDoes, IfWritten, SameGeneration};
 
 use ob_base::Params;
 use ob_check::Sheet;
@@ -64,6 +65,12 @@ pub fn close_epoch<S: Store, W: Watch>(
     ensures sheet { length sheet.new ≡ length sheet.old }
     ensures seals { Seals (all_seals ring.old) sealer.old sealer.new result }
     ensures durable { (S.disk store.old).tells → OnOk result (IsSynced (S.disk store.new)) }
+    // Each cell that has changed behind the registers is a gate, or is sealed with a number of its
+    // own, taken meanwhile.
+    ensures sealed { (S.disk store.old).tells → IfWritten (CellsAreSealed sealer.old sealer.new
+        (S.disk store.old).cells (S.disk store.new).cells) result }
+    // Neither the head nor the register of generations is written.
+    ensures moments { Passes SameGeneration (S.disk store.old) (S.disk store.new) }
     // Of each epoch that stands and each end of it that the ring makes.
     ensures closes { (s : RingStanding) (end : RingEnd) → epoch ≡ suc s.epoch
         → (S.disk store.old).tells → IsSynced (S.disk store.old)

@@ -9,6 +9,7 @@ ghost use Rattle.ob_content.specs.Content.{Content};
 ghost use Rattle.ob_ending.specs.Lifts.{lift_cells, lift_notes};
 ghost use Rattle.ob_fetch.specs.Fetches.{RunIsAt, words_since};
 ghost use Rattle.ob_log.specs.Logs.{BatchRecord};
+ghost use Rattle.ob_pads.specs.Seals.{CellsAreSealed};
 ghost use Rattle.ob_ring.specs.FlatTable.{FlatTable};
 ghost use Rattle.ob_ring.specs.Picked.{SameSeals};
 ghost use Rattle.ob_ring.specs.Ring.{StandsFor};
@@ -20,12 +21,13 @@ ghost use Rattle.ob_schedule.specs.Schedule.{end_notes};
 ghost use Rattle.ob_serial.specs.VaultViews.{IsEndFault, IsStoreEnd};
 ghost use Rattle.ob_stand.specs.Stands.{RingStanding};
 ghost use Rattle.ob_store.specs.Calls.{Serves};
-ghost use Rattle.ob_store.specs.Images.{IsSynced, LeavesOnly};
+ghost use Rattle.ob_store.specs.Images.{IsSynced, LeavesOnly, Passes};
 ghost use Rattle.ob_store.specs.Lines.{Shows};
 ghost use Rattle.ob_store.specs.declared.watch.Note.{Note};
 ghost use Rattle.ob_twin.specs.Opening.{GatesAre, is_closed_first};
 ghost use Rattle.ob_twin.specs.Register.{place_of};
-ghost use Rattle.ob_end.specs.EndRuns.{EndAnswers, EndDoes, EndDraws, EndImages, EndStands, IsEndReady, LeadsOn, end_err_of, end_writes, seals_for_end, table_ended};
+ghost use Rattle.ob_end.specs.Closings.{SameGeneration};
+ghost use Rattle.ob_end.specs.EndRuns.{AreEntriesWritten, EndAnswers, EndDamage, EndDoes, EndDraws, EndImages, EndStands, IfEnded, IsAtContent, IsEndReady, IsEndUndamaged, LeadsOn, TakeBucketWords, end_err_of, end_writes, seals_for_end, table_ended};
 
 use crate::closing::close_epoch;
 use crate::making::make_end;
@@ -90,6 +92,13 @@ pub fn end<S: Store, T: Tape, W: Watch>(
         → EndAnswers run.old.params t run.old.epoch run.old.drawn run.old.sealer.next
         (end_writes run.old.params writes.now (words_since (T.drawn tape.old) (T.drawn tape.new))
         run.old.sealer.generation run.old.drawn) result }
+    // Where the store tells its cells, what is damaged first of the lifts; where it stood, nothing is.
+    ensures damage { (start : Buckets) (t : FlatTable) → SameSeals start run.old.ring.metas
+        → StandsFor run.old.ring t → (S.disk store.old).tells
+        → EndDamage run.old.sealer.keys run.old.params start.versions (S.disk store.new).cells t
+        result }
+    ensures undamaged { (s : RingStanding) → RunIsAt run.old s (S.disk store.old)
+        → IsEndUndamaged result }
     ensures draws { (t : FlatTable) → StandsFor run.old.ring t
         → EndDraws run.old.params t run.old.epoch run.old.drawn (T.drawn tape.old)
         (T.drawn tape.new) result }
@@ -107,10 +116,26 @@ pub fn end<S: Store, T: Tape, W: Watch>(
     ensures told { (S.disk store.old).tells
         → OnOk result (GatesAre run.new.gates.epoch 5 (S.disk store.new).cells) }
     ensures durable { (S.disk store.old).tells → OnOk result (IsSynced (S.disk store.new)) }
+    // Each cell that has changed behind the registers is a gate, or is sealed with a number of its
+    // own, taken meanwhile.
+    ensures sealed { (S.disk store.old).tells → IfEnded (CellsAreSealed run.old.sealer
+        run.new.sealer (S.disk store.old).cells (S.disk store.new).cells) result }
+    // Neither the head nor the register of generations is written.
+    ensures moments { Passes SameGeneration (S.disk store.old) (S.disk store.new) }
     ensures table { (t : FlatTable) → StandsFor run.old.ring t
-        → OnOk result (StandsFor run.new.ring (table_ended run.old.params t
+        → IfEnded (StandsFor run.new.ring (table_ended run.old.params t
         (end_writes run.old.params writes.now (words_since (T.drawn tape.old) (T.drawn tape.new))
-        run.old.sealer.generation run.old.drawn))) }
+        run.old.sealer.generation run.old.drawn))) result }
+    // A put's key has its own place's word, and the lifted buckets have the words behind those.
+    ensures entries { IfEnded (AreEntriesWritten (end_writes run.old.params writes.now
+        (words_since (T.drawn tape.old) (T.drawn tape.new)) run.old.sealer.generation run.old.drawn)
+        run.old.ring run.new.ring) result }
+    ensures filled { (t : FlatTable) → StandsFor run.old.ring t
+        → IfEnded (TakeBucketWords run.old.params t
+        (words_since (T.drawn tape.old) (T.drawn tape.new)) run.old.sealer.generation
+        run.old.sealer.next run.old.ring run.new.ring) result }
+    // What the planner then keeps is a content that obeys the rules of a checkpoint.
+    ensures content { IfEnded (IsAtContent run.old.params run.new.ring) result }
     // The lifts of the table, the buckets as these lie then, the checkpoint, the gates, and the register.
     ensures does { (start : Buckets) (t : FlatTable) → SameSeals start run.old.ring.metas
         → StandsFor run.old.ring t

@@ -3,12 +3,13 @@
 ghost use Rattle.std.specs.Prelude.{◌≡◌, ◌<◌, ◌≤◌, ◌^◌, ℕ, List, length, IfErr, OnOk, Some};
 ghost use Rattle.ob_base.specs.Planned.{most_jobs};
 ghost use Rattle.ob_bucket.specs.Buckets.{Buckets};
-ghost use Rattle.ob_ending.specs.Lifts.{lift_cells, lift_notes};
-ghost use Rattle.ob_fetch.specs.Fetches.{words_since};
+ghost use Rattle.ob_ending.specs.Lifts.{IsUndamaged, lift_cells, lift_notes};
+ghost use Rattle.ob_fetch.specs.Fetches.{RunIsAt, words_since};
 ghost use Rattle.ob_ring.specs.FlatTable.{FlatTable};
 ghost use Rattle.ob_ring.specs.Picked.{SameSeals};
 ghost use Rattle.ob_ring.specs.Ring.{StandsFor};
 ghost use Rattle.ob_ring.specs.Writing.{write_at};
+ghost use Rattle.ob_stand.specs.Stands.{RingStanding};
 ghost use Rattle.ob_store.specs.Calls.{IsStoreFault, Keeps, Serves};
 ghost use Rattle.ob_store.specs.Images.{Passes, Same};
 ghost use Rattle.ob_end.specs.EndRuns.{IsEndMade, IsEndReady, IsMakeFault, MakeAnswers, MakeDamage, MakeDraws, MakeTells, end_writes};
@@ -69,6 +70,8 @@ pub fn make_end<S: Store, T: Tape, W: Watch>(
         → StandsFor run.old.ring t → (S.disk store.old).tells
         → MakeDamage run.old.sealer.keys run.old.params start.versions (S.disk store.old).cells t
         result }
+    ensures undamaged { (s : RingStanding) → RunIsAt run.old s (S.disk store.old)
+        → IsUndamaged result }
     ensures told { (start : Buckets) (t : FlatTable) → SameSeals start run.old.ring.metas
         → StandsFor run.old.ring t
         → MakeTells crew.old.lanes (lift_cells run.old.params start.versions t)

@@ -1,7 +1,7 @@
 -- What a fetch shows is the schedule's batch, and its planner goes on from there.
-use Rattle.std.specs.Prelude.{◌≡◌, ◌⊎◌, ℕ, suc, ◌+◌, ◌<◌, ◌≤◌, List, [], ◌∷◌, ◌++◌, map, length, Option, Result, Ok, Err}
+use Rattle.std.specs.Prelude.{◌≡◌, ◌⊎◌, ℕ, suc, ◌<◌, ◌≤◌, List, [], ◌∷◌, ◌++◌, map, length, Option, Result, Ok, Err}
 use Rattle.std.specs.Result.{IsErr}
-use Rattle.std.proofs.Common.{arith, ⊎_elim, refl, sym, ap, ◌∙◌, subst}
+use Rattle.std.proofs.Common.{arith, inl, inr, ⊎_elim, refl, sym, ap, ◌∙◌, subst}
 use Rattle.ob_base.specs.declared.fault.Fault.{Fault}
 use Rattle.ob_base.specs.declared.fault.Fault.TheVariants.{Memory, Usage, BadScript, BadParams, NotStore, Damaged, StoreFault, StashFull, Worn, SourceFault, SinkFault}
 use Rattle.ob_base.specs.declared.params.Params.{Params}
@@ -24,7 +24,7 @@ use Rattle.ob_schedule.specs.Schedule.{batch_notes}
 use Rattle.ob_seal.specs.declared.keys.Keys.{Keys}
 use Rattle.ob_store.specs.Disk.{Disk}
 use Rattle.ob_store.specs.Lines.{Shows, Trace}
-use Rattle.ob_store.specs.Told.{Tells, TellsFirst}
+use Rattle.ob_store.specs.Told.{IsCut, Tells, TellsFirst}
 use Rattle.ob_store.specs.declared.event.Event.{Event}
 use Rattle.ob_store.specs.declared.watch.Note.{Note}
 use Rattle.ob_store.specs.declared.watch.Note.TheVariants as note
@@ -32,7 +32,7 @@ use Rattle.ob_store.proofs.Showing.{shows_then}
 use Rattle.ob_twin.specs.declared.gates.Gates.{Gates}
 use Rattle.ob_fetch.proofs.LogLaws.{more_at, more_many}
 use Rattle.ob_fetch.proofs.NextLaws.{follows_more, moves_unlisted, seals_listed, stands_listed}
-use Rattle.ob_fetch.specs.Fetches.{FetchDoes, IsLoggedFirst, MovesPlanner, next_batch, unlisted}
+use Rattle.ob_fetch.specs.Fetches.{FetchDoes, IsLoggedFirst, IsOpenIfShown, MovesPlanner, next_batch, unlisted}
 use Rattle.ob_fetch.specs.declared.run.Run.{Run}
 
 -- there is room for the batch that comes next
@@ -59,7 +59,6 @@ module _ (p : Params) (g : ℕ) (gates : Gates) (ring : Kept) (c : Content) (rs 
   plans_more ring' low moves = record {
     obeys = was.obeys;
     fit = fit_more;
-    known = more_at rs r (λ x b. x.generation ≤ g) was.known low;
     planner = follows_more p c rs r (unlisted ring) (unlisted ring') was.planner (moves_unlisted p r ring ring' moves);
     gate = was.gate;
   }
@@ -82,6 +81,21 @@ pub record IsShownOf (most : ℕ) (p : Params) (g : ℕ) (gates : Gates) (ring :
   pub notes : List Note
   pub shows : Shows notes before later
   pub reads_as : (c : Content) (rs : List BatchRecord) → PlansFrom p g gates ring c rs → length rs ≡ batch → IsShown most (batch_notes p (public_of_kept p c rs epoch gates) (fills_of p c (rs ++ r ∷ [])) (length rs)) notes old new
+
+-- the record's own writes were cut short
+cut_short : {S : Type 0} (disk : S → Disk) (keys : Keys) (p : Params) (epoch : ℕ) (r : BatchRecord) (made notes : List Note) (old new : S) (x : Result (Unit {0}) Fault) → IsCut (append_notes p epoch r.batch) made notes → IsOpenIfShown disk keys p epoch r notes old new x
+cut_short disk keys p epoch r made notes old new (Ok done) cut = tt
+cut_short disk keys p epoch r made notes old new (Err Memory) cut = tt
+cut_short disk keys p epoch r made notes old new (Err Usage) cut = tt
+cut_short disk keys p epoch r made notes old new (Err (BadScript line)) cut = tt
+cut_short disk keys p epoch r made notes old new (Err (BadParams field)) cut = tt
+cut_short disk keys p epoch r made notes old new (Err NotStore) cut = tt
+cut_short disk keys p epoch r made notes old new (Err (Damaged cell check kept computed)) cut = tt
+cut_short disk keys p epoch r made notes old new (Err (StoreFault unsure)) cut = inl (made, cut)
+cut_short disk keys p epoch r made notes old new (Err (StashFull rows)) cut = tt
+cut_short disk keys p epoch r made notes old new (Err (Worn number)) cut = tt
+cut_short disk keys p epoch r made notes old new (Err SourceFault) cut = tt
+cut_short disk keys p epoch r made notes old new (Err SinkFault) cut = tt
 
 -- a front is what a refused call showed
 pub shown_err : {T E : Type 0} (x : Result T E) → IsErr x → (most : ℕ) (row shown : List Note) (old new : Option (List Event)) → IsFrontShown most row shown old new → IsShownAs most row shown old new x
@@ -129,6 +143,11 @@ module _ (most : ℕ) (p : Params) (g : ℕ) (gates : Gates) (ring : Kept) (batc
         shows = (first.tells).shows;
         reads_as = λ c rs was many. (let rest = rest_of c rs was many in front_as most (written ++ rest.0) (all_notes c rs) first.shown old new (sym rest.1) (front_more most written rest.0 first.shown old new (front_step most written old new before later first)));
       }
+
+      -- which is no more than these
+      pub open_begun : {S : Type 0} (disk : S → Disk) (keys : Keys) (a b : S) (first : TellsFirst written old new before later) (x : Result (Unit {0}) Fault) → IsOpenIfShown disk keys p (suc epoch) r (shown_begun first).notes a b x
+      unfolding shown_begun
+      open_begun disk keys a b first x = cut_short disk keys p (suc epoch) r first.made first.shown a b x first.cut
 
     module _ (old mid new : Option (List Event)) (before between later : Trace) (made : Tells written written old mid before between) where
       -- the slots were read
@@ -191,3 +210,23 @@ module _ (most : ℕ) (p : Params) (g : ℕ) (gates : Gates) (ring : Kept) (batc
       -- it was refused
       pub shown_cut : (f : Fault) → DoesSo (Err f) → Shown IsFrontShown (disk old).seen (disk new).seen before later
       shown_cut f does = by_fault f (does ring.metas t (same_seals ring.metas) stands)
+
+      -- what was shown behind the record's writes, was shown behind its opening
+      open_by : (f : Fault) (d : FetchDoes disk most keys p (suc epoch) r cells read_notes old new before later (Err f)) → IsOpenIfShown disk keys p (suc epoch) r (by_fault f d).notes old new (Err f)
+      unfolding by_fault shown_begun
+      open_by Memory d = tt
+      open_by Usage d = tt
+      open_by (BadScript line) d = tt
+      open_by (BadParams field) d = tt
+      open_by NotStore d = tt
+      open_by (Damaged cell check kept computed) d = tt
+      open_by (StoreFault unsure) (inl first) = inl (first.made, first.cut)
+      open_by (StoreFault unsure) (inr logged) = inr (record { between = logged.between; logged = logged.logged; behind = logged.behind })
+      open_by (StashFull rows) d = tt
+      open_by (Worn number) d = tt
+      open_by SourceFault d = tt
+      open_by SinkFault d = tt
+
+      pub open_cut : (f : Fault) (does : DoesSo (Err f)) → IsOpenIfShown disk keys p (suc epoch) r (shown_cut f does).notes old new (Err f)
+      unfolding shown_cut
+      open_cut f does = open_by f (does ring.metas t (same_seals ring.metas) stands)

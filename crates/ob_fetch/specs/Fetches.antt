@@ -22,7 +22,7 @@ use Rattle.ob_stand.specs.Stands.{RingStanding, Stands, with_record}
 use Rattle.ob_store.specs.Disk.{Disk, Image}
 use Rattle.ob_store.specs.Images.{IsSynced, Passes, Same}
 use Rattle.ob_store.specs.Lines.{Trace}
-use Rattle.ob_store.specs.Told.{Tells, TellsFirst}
+use Rattle.ob_store.specs.Told.{IsCut, Tells, TellsFirst}
 use Rattle.ob_store.specs.declared.watch.Note.{Note}
 use Rattle.ob_tables.specs.Kept.{entry_at}
 use Rattle.ob_taken.specs.Values.{Values}
@@ -145,6 +145,19 @@ module _ {S : Type 0} (disk : S → Disk) where
         → OpenRecords keys p epoch (records ++ r ∷ []) c
     pub behind : Passes Same (disk between) (disk new)
     pub read : BatchTells most cells notes (disk between).seen (disk new).seen shown later result
+
+  -- The batch's record was open, in every image that a crash may leave, while the store was one between these; and since then no image
+  -- has changed.
+  pub record IsOpenBetween (keys : Keys) (p : Params) (epoch : ℕ) (r : BatchRecord) (old new : S) : Type 0 where
+    pub between : S
+    pub logged : (records : List BatchRecord) (c : Image) → (disk old).tells → length records ≡ r.batch → OpenRecords keys p epoch records (disk old).cells → (disk between).may_leave c
+        → OpenRecords keys p epoch (records ++ r ∷ []) c
+    pub behind : Passes Same (disk between) (disk new)
+
+  -- Of a fetch that the store refused, these notes are the first of the record's own, or the record was open first.
+  abbrev pub IsOpenIfShown : Keys → Params → ℕ → BatchRecord → List Note → S → S → Result (Unit {0}) Fault → Type 0
+  IsOpenIfShown keys p epoch r notes old new (Err (fault.StoreFault unsure)) = ((made : List Note) × IsCut (append_notes p epoch r.batch) made notes) ⊎ IsOpenBetween keys p epoch r old new
+  IsOpenIfShown keys p epoch r notes old new _ = Unit {0}
 
   -- What a fetch does: the record's writes, and then the batch's reads. Of a store that failed it may be the first writes alone.
   abbrev pub FetchDoes : ℕ → Keys → Params → ℕ → BatchRecord → List ℕ → List Note → S → S → Trace → Trace → Result (Unit {0}) Fault → Type 0

@@ -23,7 +23,7 @@ ghost use Rattle.ob_store.specs.Calls.{IsStoreFault, Serves};
 ghost use Rattle.ob_store.specs.Images.{IsSynced, LeavesOnly};
 ghost use Rattle.ob_store.specs.Lines.{Shows};
 ghost use Rattle.ob_store.specs.declared.watch.Note.{Note};
-ghost use Rattle.ob_fetch.specs.Fetches.{FetchAnswers, FetchDoes, FetchDraws, FetchStands, RunIsAt, IsFetchRefusal, IsRunReady, IsWornForBatch, MovesPlanner, values_asked, next_batch, record_next, words_since};
+ghost use Rattle.ob_fetch.specs.Fetches.{FetchAnswers, FetchDoes, FetchDraws, FetchStands, RunIsAt, IsFetchRefusal, IsOpenIfShown, IsRunReady, IsWornForBatch, MovesPlanner, values_asked, next_batch, record_next, words_since};
 
 use crate::answering::answer_all;
 use crate::beginning::{begin_batch, is_worn};
@@ -124,8 +124,12 @@ pub fn fetch<S: Store, T: Tape, W: Watch>(
         (repeated_notes run.old.params start.versions t (asked_of_record run.old.params
         (record_next run.old asks.now (words_since (T.drawn tape.old) (T.drawn tape.new)))))
         store.old store.new (W.trace watch.old) (W.trace watch.new) result }
-    // It shows the schedule's batch of what the store knows of the epoch, and refused a front of it.
+    // It shows the schedule's batch of what the store knows of the epoch, and refused a front of it, of
+    // which no more than the record's notes come before that is open.
     ensures scheduled { (notes : List Note) × Shows notes (W.trace watch.old) (W.trace watch.new)
+        × IsOpenIfShown S.disk run.old.sealer.keys run.old.params (suc run.old.epoch)
+        (record_next run.old asks.now (words_since (T.drawn tape.old) (T.drawn tape.new))) notes
+        store.old store.new result
         × ((c : Content) (rs : List BatchRecord)
         → PlansFrom run.old.params run.old.sealer.generation run.old.gates run.old.ring c rs
         → length rs ≡ next_batch run.old

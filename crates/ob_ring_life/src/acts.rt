@@ -1,17 +1,24 @@
 //! What the calls on a ring store say of themselves, in the words of its life.
 
-ghost use Rattle.std.specs.Prelude.{◌≡◌, ◌<◌, ◌≤◌, ◌^◌, false, length, OnOk, OnErr, IfOk};
+ghost use Rattle.std.specs.Prelude.{◌≡◌, ◌<◌, ◌≤◌, ◌^◌, ℕ, List, Some, false, length, OnOk, OnErr, IfOk};
 ghost use Rattle.ob_base.specs.Planned.{most_jobs};
+ghost use Rattle.ob_end.specs.EndRuns.{IsEndReady};
 ghost use Rattle.ob_fetch.specs.Fetches.{IsRunReady};
 ghost use Rattle.ob_pads.specs.Lives.{Answers, IsFormattedStore, LeavesUnopened, Opens};
+ghost use Rattle.ob_ring.specs.Writing.{write_at};
+ghost use Rattle.ob_serial.specs.VaultKinds.{kind_of};
+ghost use Rattle.ob_serial.specs.VaultViews.{IsStoreEnd};
 ghost use Rattle.ob_serial.specs.Vaults.{AreBelow, AreDistinct};
 ghost use Rattle.ob_store.specs.Calls.{IsStoreFault, Serves};
-ghost use Rattle.ob_ring_life.specs.Acts.{answer_of_fetch};
+ghost use Rattle.ob_twin.specs.Opening.{GatesAre};
+ghost use Rattle.ob_ring_life.specs.Acts.{RingCallsAreActs, RingChainsLive, answer_of_end, answer_of_fetch};
 
-use ob_base::{Fault, Key, Params, Value};
+use ob_base::{Fault, Key, Params, Value, Write};
 use ob_batch::Crew;
+use ob_end::end;
 use ob_fetch::{Run, fetch};
 use ob_seal::Keys;
+use ob_serial::{EndErr, Vault};
 use ob_store::{Store, Watch};
 use ob_tape::Tape;
 use ob_vault::{Opening, format, prepare};
@@ -96,3 +103,50 @@ pub fn fetch_in_life<S: Store, T: Tape, W: Watch>(
 {
     fetch(store, tape, crew, run, asks, out, watch)
 }
+
+/// Ends an epoch: an act of the run that an opening gave a sealer, whatever it answers.
+///
+/// # Errors
+/// As `end`.
+pub fn end_in_life<S: Store, T: Tape, W: Watch>(
+    store: &mut S,
+    tape: &mut T,
+    crew: &mut Crew<S::Lane>,
+    run: &mut Run,
+    writes: &[Write],
+    watch: &mut W,
+) -> Result<(), EndErr>
+    requires none_out { (S.disk store.old).out ≡ 0 }
+    requires ready { IsEndReady run.old }
+    requires serves { run.old.spent ≡ false }
+    requires none_left { run.old.left ≡ 0 }
+    requires crew { most_jobs run.old.params ≤ crew.old.jobs }
+    requires generation { T.present tape.old ≡ run.old.sealer.generation }
+    requires drawn { run.old.drawn ≡ length (T.drawn tape.old) }
+    requires small { run.old.drawn ≤ 2 ^ 62 }
+    requires told { (S.disk store.old).tells
+        → GatesAre run.old.gates.epoch 5 (S.disk store.old).cells }
+    requires few { length writes.now ≤ run.old.params.writes }
+    requires keys { (i : ℕ) → i < length writes.now
+        → (write_at writes.now i).key < run.old.params.keys }
+    requires short { (i : ℕ) (value : List ℕ) → i < length writes.now
+        → (write_at writes.now i).value ≡ Some value → length value ≤ 64 }
+    ensures serves { Serves IsStoreEnd (S.disk store.old) (S.disk store.new) result }
+    ensures act { (S.disk store.new).tells
+        → Answers (S.disk store.old) (S.disk store.new) run.old.sealer run.new.sealer
+        (answer_of_end result) }
+{
+    end(store, tape, crew, run, writes, watch)
+}
+
+/// Each call of a ring vault, a fetch or an end, whatever it answers, is an act of its store's life,
+/// by what the call says of itself.
+pub fn calls_are_acts<S: Store>()
+    ensures { RingCallsAreActs (λ store. S.disk store) }
+{}
+
+/// An opening and the calls of a ring vault over it are a run in a life of the store: so no two seals
+/// of a store's life have the same generation and number, over all openings, calls and crashes.
+pub fn ring_chains_are_runs<V: Vault, S: Store>()
+    ensures { RingChainsLive (kind_of V.Vault) (λ store. S.disk store) }
+{}

@@ -4,4 +4,6 @@
 
 mod acts;
 
-pub use acts::{begin_life, fetch_in_life, open_in_life};
+pub use acts::{
+    begin_life, calls_are_acts, end_in_life, fetch_in_life, open_in_life, ring_chains_are_runs,
+};

@@ -4,6 +4,8 @@
 #[cfg(test)]
 mod crashes;
 #[cfg(test)]
+mod life;
+#[cfg(test)]
 mod rows;
 #[cfg(test)]
 mod serving;

@@ -48,7 +48,7 @@ pub struct Outcome {
 }
 
 // Opens a store for a run.
-fn open_run<S: Store, T: Tape, W: Watch>(
+pub fn open_run<S: Store, T: Tape, W: Watch>(
     alloc: Global,
     store: &mut S,
     tape: &mut T,
@@ -94,7 +94,7 @@ fn open_run<S: Store, T: Tape, W: Watch>(
 }
 
 // The asks of a batch of at most two places.
-fn asks_of(key: Option<Key>) -> [Option<Key>; 2]
+pub fn asks_of(key: Option<Key>) -> [Option<Key>; 2]
     ensures { result ≡ key ∷ None ∷ [] }
 {
     [key, None]
@@ -136,7 +136,7 @@ fn ask<S: Store, T: Tape, W: Watch>(
 }
 
 // The writes of at most four puts of keys below these.
-fn writes_of(puts: &[Put], keys: u32) -> Option<[Write; 4]>
+pub fn writes_of(puts: &[Put], keys: u32) -> Option<[Write; 4]>
     requires { 0 < keys }
     ensures few { IfSome result (λ writes. length puts.now ≤ 4) }
     ensures fit { IfSome result (AreFitWrites keys) }
@@ -163,7 +163,7 @@ fn writes_of(puts: &[Put], keys: u32) -> Option<[Write; 4]>
 }
 
 // Takes a step, where it may be taken.
-fn take_step<S: Store, T: Tape, W: Watch>(
+pub fn take_step<S: Store, T: Tape, W: Watch>(
     store: &mut S,
     tape: &mut T,
     crew: &mut Crew<S::Lane>,

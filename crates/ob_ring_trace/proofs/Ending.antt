@@ -9,7 +9,7 @@ use Rattle.ob_bucket.specs.Buckets.{version_at}
 use Rattle.ob_bucket.specs.Version.{Version}
 use Rattle.ob_content.specs.Content.{Content, Obeys, Rows}
 use Rattle.ob_epoch.specs.Counts.{IsEndPublic, lifted_and_written, public_of}
-use Rattle.ob_epoch.specs.Ends.{IsRunFrom, RefillRun}
+use Rattle.ob_epoch.specs.Ends.{RefillRun}
 use Rattle.ob_epoch.specs.Table.{flat_of}
 use Rattle.ob_epoch.specs.Valued.{content_with}
 use Rattle.ob_epoch.proofs.Counts.{end_counts}
@@ -37,7 +37,7 @@ use Rattle.ob_twin.specs.Register.{place_of}
 use Rattle.ob_twin.specs.declared.gates.Gates.{Gates}
 use Rattle.ob_twin.specs.declared.gates.Open.{Open}
 use Rattle.ob_values.specs.Epochs.{Read, after_batches, before_refill}
-use Rattle.ob_ring_trace.specs.Ends.{EndIsScheduled, EndsAreScheduled, LiftsComeFirst, closing_notes, gates_ended, lifts_notes, refill_notes}
+use Rattle.ob_ring_trace.specs.Ends.{RefillsFrom, EndIsScheduled, EndsAreScheduled, LiftsComeFirst, closing_notes, gates_ended, lifts_notes, refill_notes}
 use Rattle.ob_ring_trace.specs.Known.{AreSlotsOf, fills_with_lifts, gates_open, public_of_kept, slot_kept}
 use Rattle.ob_ring_trace.proofs.Fills.{RecordsLead, content_leads, lifts_own}
 use Rattle.ob_ring_trace.proofs.Orders.{buckets_written, check_written, epoch_known, epoch_set}
@@ -157,7 +157,7 @@ lifts_come_first p c rs epoch gates obeys fit = (behind_lifts p c rs epoch gates
 -- ---- the end
 
 module _ (p : Params) (c : Content) (rs : List BatchRecord) (epoch : ℕ) (gates : Gates) (run : RefillRun) (book : List (Option Entry)) (counter : ℕ) (bs : List Read) (ws : List (Write × Entry)) (rows : Rows)
-    (obeys : Obeys p c) (has : HasOpen gates.epoch) (same : map (λ (b : Read). b.0) bs ≡ map (asked_of_record p) rs) (is : IsRunFrom p run c book counter bs ws) (obeyed : Obeys p (content_with run.filled book rows counter)) where
+    (obeys : Obeys p c) (has : HasOpen gates.epoch) (same : map (λ (b : Read). b.0) bs ≡ map (asked_of_record p) rs) (is : RefillsFrom p run c book counter bs ws) (obeyed : Obeys p (content_with run.filled book rows counter)) where
   abbrev t' : FlatTable
   t' = table_after_records p (flat_of p c) rs
 

@@ -1,5 +1,5 @@
 -- An end's calls show the schedule's end, and leave its public state.
-use Rattle.std.specs.Prelude.{◌≡◌, ℕ, suc, ◌%◌, List, [], ◌∷◌, ◌++◌, map, Option, Ok}
+use Rattle.std.specs.Prelude.{◌≡◌, ℕ, suc, ◌%◌, List, [], ◌∷◌, ◌++◌, length, map, Option, Ok}
 use Rattle.std.specs.List.{flat_map}
 use Rattle.ob_base.specs.declared.params.Params.{Params}
 use Rattle.ob_base.specs.declared.value.Write.{Write}
@@ -9,12 +9,15 @@ use Rattle.ob_bucket.specs.Buckets.{version_at}
 use Rattle.ob_bucket.specs.Version.{Version}
 use Rattle.ob_check.specs.Written.{area_of}
 use Rattle.ob_content.specs.Content.{Content, Obeys, Rows}
-use Rattle.ob_epoch.specs.Ends.{IsRunFrom, RefillRun}
+use Rattle.ob_epoch.specs.Ends.{RefillRun}
 use Rattle.ob_epoch.specs.Table.{flat_of}
 use Rattle.ob_epoch.specs.Valued.{content_with}
 use Rattle.ob_log.specs.Logs.{BatchRecord, RecordsFit}
 use Rattle.ob_recover.specs.Repeats.{BatchIsShown, asked_of_record, table_after_records}
-use Rattle.ob_ring.specs.Picked.{final_picked, job_of}
+use Rattle.ob_ring.specs.Arrays.{AreWhole, IsTableOf, arrays_of, rest_of}
+use Rattle.ob_ring.specs.Filling.{AreSealedAnew}
+use Rattle.ob_ring.specs.FlatTable.{refill_order}
+use Rattle.ob_ring.specs.Picked.{SameSeals, final_picked, job_of}
 use Rattle.ob_schedule.specs.Paths.{eviction_path}
 use Rattle.ob_schedule.specs.Schedule.{after_end, end_notes, log_gates, writes_of}
 use Rattle.ob_store.specs.Lines.{Trace}
@@ -29,7 +32,7 @@ use Rattle.ob_twin.specs.Orders.{set_notes}
 use Rattle.ob_twin.specs.Register.{place_of}
 use Rattle.ob_twin.specs.declared.gates.Gates.{Gates}
 use Rattle.ob_twin.specs.declared.twin.Twin.TheVariants.{EPOCH}
-use Rattle.ob_values.specs.Epochs.{Read}
+use Rattle.ob_values.specs.Epochs.{Read, after_epoch, before_refill}
 use Rattle.ob_ring_trace.specs.Fronts.{AreFirstNotes}
 use Rattle.ob_ring_trace.specs.Known.{fills_with_lifts, public_of_kept}
 use Rattle.ob_ring_trace.specs.Telling.{AreTold}
@@ -76,10 +79,20 @@ pub record EndIsScheduled (p : Params) (c : Content) (rs : List BatchRecord) (ep
   -- and the epoch's register has a gate known to be open again
   pub gate : HasOpen (gates_ended gates epoch).epoch
 
--- so it is over a run of the planner's calls from the content on that showed the records' batches
+-- How a refill left the buckets, behind batches, writes and final lifts that began at this content: those that were lifted are sealed anew,
+-- in the order listed, and no other one moved.
+pub record RefillsFrom (p : Params) (run : RefillRun) (c : Content) (book : List (Option Entry)) (counter : ℕ) (bs : List Read) (ws : List (Write × Entry)) : Type 0 where
+  pub began : (run.start).versions ≡ c.versions
+  pub seals : SameSeals run.start run.before
+  pub listed : (run.before).order ≡ refill_order p (before_refill p (flat_of p c) bs ws)
+  pub anew : AreSealedAnew p run.before run.filled run.words run.first (length (run.before).order)
+  pub table : IsTableOf p (arrays_of run.filled (rest_of book counter)) (after_epoch p (flat_of p c) bs ws)
+  pub whole : AreWhole p run.filled
+
+-- so it is over a refill from the content on, behind the records' batches
 abbrev pub EndsAreScheduled : Type 0
 EndsAreScheduled = (p : Params) (c : Content) (rs : List BatchRecord) (epoch : ℕ) (gates : Gates) (run : RefillRun) (book : List (Option Entry)) (counter : ℕ) (bs : List Read) (ws : List (Write × Entry)) (rows : Rows)
-    → Obeys p c → RecordsFit p rs → HasOpen gates.epoch → map (λ b. b.0) bs ≡ map (asked_of_record p) rs → IsRunFrom p run c book counter bs ws
+    → Obeys p c → RecordsFit p rs → HasOpen gates.epoch → map (λ b. b.0) bs ≡ map (asked_of_record p) rs → RefillsFrom p run c book counter bs ws
     → Obeys p (content_with run.filled book rows counter) → EndIsScheduled p c rs epoch gates run (content_with run.filled book rows counter)
 
 -- and an end that was refused behind its lifts has shown the first of its notes

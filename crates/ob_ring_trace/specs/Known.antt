@@ -16,7 +16,6 @@ use Rattle.ob_ring.specs.Ring.{Kept}
 use Rattle.ob_ring.specs.Sound.{hole_of}
 use Rattle.ob_schedule.specs.Schedule.{Fills, Public, public_formatted}
 use Rattle.ob_stand.specs.Fresh.{Ranks, fresh_content}
-use Rattle.ob_stand.specs.Stands.{AreKnown}
 use Rattle.ob_twin.specs.Opening.{HasOpen}
 use Rattle.ob_twin.specs.Register.{gate_at}
 use Rattle.ob_twin.specs.declared.gates.Gates.{Gates}
@@ -82,7 +81,6 @@ fills_with_lifts p c rs = record {
 pub record PlansFrom (p : Params) (g : ℕ) (gates : Gates) (ring : Kept) (c : Content) (rs : List BatchRecord) : Type 0 where
   pub obeys : Obeys p c
   pub fit : RecordsFit p rs
-  pub known : AreKnown rs g
   pub planner : IsPlannerOf p c rs (record ring { metas = record ring.metas { order = [] } })
   pub gate : HasOpen gates.epoch
 

@@ -1,21 +1,25 @@
 -- What a vault's run knows of what it was lent goes on to hold, as long as it serves.
-use Rattle.std.specs.Prelude.{◌≡◌, ◌↔◌, ℕ, ◌+◌, ◌*◌, ◌<◌, ◌≤◌, ◌^◌, Bool, true, false, List, length, Result, Ok, Err, OnOk, OnErr}
-use Rattle.std.proofs.Common.{arith, length-append, sym, ap, ◌∙◌, subst, inl, inr}
+use Rattle.std.specs.Prelude.{◌≡◌, ◌↔◌, ℕ, ◌+◌, ◌*◌, ◌<◌, ◌≤◌, ◌^◌, Bool, true, false, List, ◌++◌, drop, length, Result, Ok, Err, OnOk, OnErr}
+use Rattle.std.proofs.Common.{arith, length-append, sym, ap, ◌∙◌, subst, inl, inr, ⊎_elim}
+use Rattle.std.proofs.Math.Seq.{drop-length}
+use Rattle.std.proofs.lemmas.List.{append-nil}
 use Rattle.std.proofs.lemmas.Bool.{cases_lt, true≢false}
 use Rattle.ob_base.specs.Layout.{checkpoint_cells}
 use Rattle.ob_base.specs.Tree.{buckets, width}
 use Rattle.ob_base.specs.declared.fault.Fault.{Fault}
+use Rattle.ob_base.specs.declared.fault.Fault.TheVariants as fault
 use Rattle.ob_base.specs.declared.params.Params.{Params}
 use Rattle.ob_base.specs.declared.value.Write.{Write}
 use Rattle.ob_cells.specs.Writes.{WritesWithin}
-use Rattle.ob_end.specs.EndRuns.{EndAnswers, EndDraws, IsEndReady}
+use Rattle.ob_end.specs.EndRuns.{DrawsForEnd, EndAnswers, EndDraws, HasWords, IsEndReady}
 use Rattle.ob_end.proofs.CloseLaws.{gates_kept}
 use Rattle.ob_fetch.specs.declared.run.Run.{Run}
-use Rattle.ob_fetch.specs.Fetches.{FetchDraws, IsRunReady, IsWornForBatch}
+use Rattle.ob_fetch.specs.Fetches.{FetchDraws, IsRunReady, IsWornForBatch, words_since}
 use Rattle.ob_log.specs.Appends.{IsWornOut}
 use Rattle.ob_recover.specs.Fits.{IsPlannerFit}
 use Rattle.ob_ring.specs.FlatTable.{FlatTable}
 use Rattle.ob_serial.specs.declared.vault.EndErr.{EndErr}
+use Rattle.ob_serial.specs.declared.vault.EndErr.TheVariants as end
 use Rattle.ob_store.specs.Disk.{Disk}
 use Rattle.ob_tables.specs.declared.entry.Entry.{Entry}
 use Rattle.ob_twin.specs.Opening.{GatesAre}
@@ -70,3 +74,44 @@ pub end_few : (A B : Type 0) (run new : Run) (t : FlatTable) (old now : List ℕ
 end_few A B run new t old now ws (Ok done) draws may was is refused serves =
     let words = ap (λ (l : List ℕ). length l) draws.words in let many = draws.many_are in let few = (may.has).words in omega (arith, few, was, is, words, many, length-append {A = ℕ})
 end_few A B run new t old now ws (Err e) draws may was is refused serves = absurd (true≢false (sym refused.2 ∙ serves))
+
+-- ---- the words drawn stand behind those before
+
+none_drawn : (old new : List ℕ) → new ≡ old → new ≡ old ++ words_since old new
+none_drawn old new same = same ∙ sym (append-nil old) ∙ ap (λ (l : List ℕ). old ++ l) (sym (ap (λ (l : List ℕ). drop (length old) l) same ∙ drop-length old))
+
+pub fetch_grows : (places : ℕ) (old new : List ℕ) (x : Result (Unit {0}) Fault) → FetchDraws places old new x → new ≡ old ++ words_since old new
+fetch_grows places old new (Ok done) draws = draws.words
+fetch_grows places old new (Err fault.Memory) draws = draws.words
+fetch_grows places old new (Err fault.Usage) draws = draws.words
+fetch_grows places old new (Err (fault.BadScript line)) draws = draws.words
+fetch_grows places old new (Err (fault.BadParams what)) draws = draws.words
+fetch_grows places old new (Err fault.NotStore) draws = draws.words
+fetch_grows places old new (Err (fault.Damaged cell what kept computed)) draws = draws.words
+fetch_grows places old new (Err (fault.StoreFault unsure)) draws = draws.words
+fetch_grows places old new (Err (fault.StashFull rows)) draws = draws.words
+fetch_grows places old new (Err (fault.Worn number)) draws = none_drawn old new draws
+fetch_grows places old new (Err fault.SourceFault) draws = draws.words
+fetch_grows places old new (Err fault.SinkFault) draws = draws.words
+
+module _ (p : Params) (t : FlatTable) (epoch drawn : ℕ) (old new : List ℕ) where
+  before_grows : (f : Fault) → EndDraws p t epoch drawn old new (Err (end.Before f)) → new ≡ old ++ words_since old new
+  before_grows fault.Memory draws = none_drawn old new draws
+  before_grows fault.Usage draws = none_drawn old new draws
+  before_grows (fault.BadScript line) draws = none_drawn old new draws
+  before_grows (fault.BadParams what) draws = none_drawn old new draws
+  before_grows fault.NotStore draws = none_drawn old new draws
+  before_grows (fault.Damaged cell what kept computed) draws = none_drawn old new draws
+  before_grows (fault.StoreFault unsure) draws = ⊎_elim (λ (some : DrawsForEnd p t epoch drawn old new). some.words) (λ (none : new ≡ old). none_drawn old new none) draws
+  before_grows (fault.StashFull rows) draws = draws.words
+  before_grows (fault.Worn number) draws = ⊎_elim
+      (λ (some : HasWords p t epoch drawn × DrawsForEnd p t epoch drawn old new). (some.1).words)
+      (λ (none : (HasWords p t epoch drawn → ⊥) × (new ≡ old)). none_drawn old new none.1)
+      draws
+  before_grows fault.SourceFault draws = none_drawn old new draws
+  before_grows fault.SinkFault draws = none_drawn old new draws
+
+  pub end_grows : (x : Result (Unit {0}) EndErr) → EndDraws p t epoch drawn old new x → new ≡ old ++ words_since old new
+  end_grows (Ok done) draws = draws.words
+  end_grows (Err (end.Before f)) draws = before_grows f draws
+  end_grows (Err (end.Unsure f)) draws = draws.words

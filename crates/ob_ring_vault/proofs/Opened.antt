@@ -18,7 +18,7 @@ use Rattle.ob_vault.specs.declared.opening.Opening.{Opening}
 use Rattle.ob_vault.specs.Openings.{IsOpenedAt}
 use Rattle.ob_ring_vault.specs.RingVaults.{RingSound, opened_ring, run_over}
 
-module _ {L : Type 0} (keys : Keys) (p : Params) (s : RingStanding) (disk : Disk) (o : Opening L) (content : Map nat_cmp) (tells : disk.tells) (opened : IsOpenedAt keys p s disk o) (map : (k : ℕ) → s.map k ≡ finite.get content k) where
+module _ {L : Type 0} (keys : Keys) (p : Params) (s : RingStanding) (disk : Disk) (o : Opening L) (tells : disk.tells) (opened : IsOpenedAt keys p s disk o) where
   abbrev then : RingStanding
   then = with_generation s (suc s.generation)
 
@@ -38,8 +38,8 @@ module _ {L : Type 0} (keys : Keys) (p : Params) (s : RingStanding) (disk : Disk
     room = (opened.planner).room;
   }
 
-  at : RunIsAt (run_over o) then disk
-  at = record {
+  pub opened_at : RunIsAt (run_over o) then disk
+  opened_at = record {
     tells = tells;
     settled = opened.settled;
     stands = subst (λ (k : Keys). Stands k o.params then disk.cells) (sym same_keys) (subst (λ (q : Params). Stands keys q then disk.cells) (sym opened.params) opened.stands);
@@ -49,19 +49,20 @@ module _ {L : Type 0} (keys : Keys) (p : Params) (s : RingStanding) (disk : Disk
         (record { epoch_is = opened.epoch; generation_is = same_generation; left_are = opened.left; planner = planner; read = opened.read }));
   }
 
-  stands_now : (c : Image) → disk.may_leave c → StandsRing (o.sealer).keys o.params (o.sealer).generation c (record { epoch = s.epoch; content = content })
-  stands_now c left =
-      subst (λ (k : Keys). StandsRing k o.params (o.sealer).generation c (record { epoch = s.epoch; content = content })) (sym same_keys)
-      (subst (λ (q : Params). StandsRing keys q (o.sealer).generation c (record { epoch = s.epoch; content = content })) (sym opened.params)
-      (subst (λ n. StandsRing keys p n c (record { epoch = s.epoch; content = content })) (sym same_generation)
-      (ring_stands keys p then c (record { epoch = s.epoch; content = content }) (record { epoch = refl; map = map }) (opened.images c left))))
+  module _ (content : Map nat_cmp) (map : (k : ℕ) → s.map k ≡ finite.get content k) where
+    stands_now : (c : Image) → disk.may_leave c → StandsRing (o.sealer).keys o.params (o.sealer).generation c (record { epoch = s.epoch; content = content })
+    stands_now c left =
+        subst (λ (k : Keys). StandsRing k o.params (o.sealer).generation c (record { epoch = s.epoch; content = content })) (sym same_keys)
+        (subst (λ (q : Params). StandsRing keys q (o.sealer).generation c (record { epoch = s.epoch; content = content })) (sym opened.params)
+        (subst (λ n. StandsRing keys p n c (record { epoch = s.epoch; content = content })) (sym same_generation)
+        (ring_stands keys p then c (record { epoch = s.epoch; content = content }) (record { epoch = refl; map = map }) (opened.images c left))))
 
-  pub opened_sound : RingSound (run_over o) disk (opened_ring o s content)
-  opened_sound = record {
-    holds = record {
-      counts_are = λ i. record { epoch = (sym opened.epoch) i; left = o.left; spent = false };
-      batches = refl;
-      serves = λ is_serving. record { standing = then; at = at; map = map; no_doubt = refl };
-    };
-    images = λ c left. (record { epoch = s.epoch; content = content }, stands_now c left, inl refl);
-  }
+    pub opened_sound : RingSound (run_over o) disk (opened_ring o s content)
+    opened_sound = record {
+      holds = record {
+        counts_are = λ i. record { epoch = (sym opened.epoch) i; left = o.left; spent = false };
+        batches = refl;
+        serves = λ is_serving. record { standing = then; at = opened_at; map = map; no_doubt = refl };
+      };
+      images = λ c left. (record { epoch = s.epoch; content = content }, stands_now c left, inl refl);
+    }

@@ -1,5 +1,5 @@
 -- What a ring vault holds, and what its calls do.
-use Rattle.std.specs.Prelude.{◌≡◌, ℕ, suc, false, List, [], ◌∷◌, ◌++◌, map, length, Option, None, Result, Ok, Err, OnOk}
+use Rattle.std.specs.Prelude.{◌≡◌, ◌↔◌, ℕ, suc, ◌+◌, ◌<◌, ◌≤◌, false, List, [], ◌∷◌, ◌++◌, map, length, Option, None, Result, Ok, Err, IfErr, OnOk}
 use Rattle.std.specs.Borrow.{GName}
 use Rattle.std.specs.FinMap as finite
 use Rattle.std.specs.Ordering.{nat_cmp}
@@ -9,16 +9,22 @@ use Rattle.ob_base.specs.declared.fault.Fault.TheVariants as fault
 use Rattle.ob_base.specs.declared.params.Params.{Params}
 use Rattle.ob_base.specs.declared.value.Write.{Write}
 use Rattle.ob_batch.specs.Lanes.{ReadByLanes}
+use Rattle.ob_bucket.specs.Buckets.{Buckets}
 use Rattle.ob_cells.specs.Writes.{Seals}
 use Rattle.ob_content.specs.Content.{Content}
-use Rattle.ob_end.specs.EndRuns.{EndDraws, LeadsOn, end_writes, seals_for_end, table_ended}
+use Rattle.ob_end.specs.Closings.{SameGeneration}
+use Rattle.ob_end.specs.EndRuns.{AreEntriesWritten, EndAnswers, EndDamage, EndDraws, EndImages, EndStands, IfEnded, IsAtContent, IsEndUndamaged, LeadsOn, TakeBucketWords, end_writes, seals_for_end, table_ended}
+use Rattle.ob_ending.specs.Lifts.{IsUndamaged}
 use Rattle.ob_fetch.specs.declared.run.Run.{Run}
-use Rattle.ob_fetch.specs.Fetches.{FetchDraws, MovesPlanner, RunIsAt, next_batch, record_next, words_since}
-use Rattle.ob_log.specs.Appends.{append_notes}
+use Rattle.ob_fetch.specs.Fetches.{FetchAnswers, FetchDraws, IsFetchRefusal, IsOpenIfShown, IsWornForBatch, MovesPlanner, RunIsAt, next_batch, record_next, words_since}
+use Rattle.ob_log.specs.Appends.{IsWornOut, append_notes}
 use Rattle.ob_log.specs.Logs.{BatchRecord, OpenRecords}
+use Rattle.ob_pads.specs.Seals.{CellsAreSealed}
 use Rattle.ob_recover.specs.Repeats.{asked_of_record, batch_cells}
 use Rattle.ob_ring.specs.FlatTable.{FlatTable}
+use Rattle.ob_ring.specs.Picked.{SameSeals}
 use Rattle.ob_ring.specs.Ring.{StandsFor}
+use Rattle.ob_ring_trace.specs.Ends.{gates_ended}
 use Rattle.ob_ring_trace.specs.Known.{PlansFrom, fills_of, fills_with_lifts, public_of_kept}
 use Rattle.ob_ring_trace.specs.Telling.{IsShownAs}
 use Rattle.ob_schedule.specs.Schedule.{batch_notes, end_notes}
@@ -26,11 +32,12 @@ use Rattle.ob_seal.specs.declared.keys.Keys.{Keys}
 use Rattle.ob_serial.specs.Serial.{Map}
 use Rattle.ob_serial.specs.declared.vault.EndErr.{EndErr}
 use Rattle.ob_serial.specs.declared.vault.EndErr.TheVariants.{Before, Unsure}
+use Rattle.ob_serial.specs.VaultViews.{IsEndFault}
 use Rattle.ob_serial.specs.Vaults.{DoubtBy, End, Ended, Fetch, MayStand, RefusedBy, StandsIn, Values, VaultAnswer, VaultCall, VaultCounts, VaultState, counts_of}
-use Rattle.ob_stand.specs.Stands.{RingStanding, StandsRing}
-use Rattle.ob_store.specs.Calls.{Notes}
+use Rattle.ob_stand.specs.Stands.{OneOf, RingStanding, StandsRing, with_record}
+use Rattle.ob_store.specs.Calls.{GoesOn, Notes}
 use Rattle.ob_store.specs.Disk.{Disk, Image}
-use Rattle.ob_store.specs.Images.{Passes, Same}
+use Rattle.ob_store.specs.Images.{LeavesOnly, Passes, Same}
 use Rattle.ob_store.specs.Told.{events_of}
 use Rattle.ob_store.specs.declared.watch.Note.{Note}
 use Rattle.ob_tables.specs.declared.entry.Entry.{Entry}
@@ -112,13 +119,44 @@ module _ {S : Type 0} (disk : S → Disk) (old new : Running S) (notes : List No
   abbrev pub words_of_call : List ℕ
   words_of_call = words_since old.drawn new.drawn
 
+  -- What every call leaves, whatever it answers: the parameters, the lanes, the keys and the generation that it seals with; the words drawn
+  -- stand behind those drawn before, and are counted; the store goes on, and neither its head nor its register of generations is written.
+  pub record KeepsRun : Type 0 where
+    pub params : (new.run).params ≡ (old.run).params
+    pub lanes : new.lanes ≡ old.lanes
+    pub keys : ((new.run).sealer).keys ≡ ((old.run).sealer).keys
+    pub generation : ((new.run).sealer).generation ≡ ((old.run).sealer).generation
+    pub on : ((old.run).sealer).next ≤ ((new.run).sealer).next
+    pub was_drawn : (old.run).drawn ≡ length old.drawn
+    pub drawn : (new.run).drawn ≡ length new.drawn
+    pub grows : new.drawn ≡ old.drawn ++ words_of_call
+    pub goes : GoesOn (disk old.store) (disk new.store)
+    pub moments : Passes SameGeneration (disk old.store) (disk new.store)
+
+  -- each cell that has changed behind the registers is a gate, or is sealed with a number of its own, taken meanwhile
+  abbrev pub SealsCells : Type 0
+  SealsCells = CellsAreSealed (old.run).sealer (new.run).sealer (disk old.store).cells (disk new.store).cells
+
   -- A fetch: its record has the words that were drawn, with the id of the first.
   module _ (asks : List (Option ℕ)) where
     abbrev pub record_of_fetch : BatchRecord
     record_of_fetch = record_next old.run asks words_of_call
 
     pub record FetchCalled (result : Result (Unit {0}) Fault) : Type 0 where
-      pub params : (new.run).params ≡ (old.run).params
+      pub run : KeepsRun
+      pub some_left : 0 < (old.run).left
+      pub whole : length asks ≡ ((old.run).params).places
+      pub epoch : (new.run).epoch ≡ (old.run).epoch
+      pub gates : (new.run).gates ≡ (old.run).gates
+      pub left : OnOk result ((new.run).left + 1 ≡ (old.run).left)
+      -- its refusals; worn exactly where numbers are; and where the store tells its cells, what is damaged first, none where it stood
+      pub refusal : IfErr result IsFetchRefusal
+      pub worn : IsWornOut result ↔ IsWornForBatch old.run
+      pub idle : IsWornOut result → new.store ≡ old.store
+      pub answers : (start : Buckets) (t : FlatTable) → SameSeals start ((old.run).ring).metas → StandsFor (old.run).ring t → (disk old.store).tells
+          → FetchAnswers ((old.run).sealer).keys (old.run).params start.versions (disk new.store).cells t record_of_fetch (((old.run).ring).stash).rows (((new.run).ring).stash).rows result
+      pub undamaged : (s : RingStanding) → RunIsAt old.run s (disk old.store) → IsUndamaged result
+      pub sealed : (disk old.store).tells → OnOk result SealsCells
       -- a word for each place, or none where numbers are worn
       pub draws : FetchDraws ((old.run).params).places old.drawn new.drawn result
       pub seals : Seals (record_cells (old.run).params) (old.run).sealer (new.run).sealer result
@@ -131,8 +169,13 @@ module _ {S : Type 0} (disk : S → Disk) (old new : Running S) (notes : List No
       pub logged : (t : FlatTable) → StandsFor (old.run).ring t
           → IfRead (IsOpenFirst disk old.lanes ((old.run).sealer).keys (old.run).params (suc (old.run).epoch) record_of_fetch
           (batch_cells (old.run).params (((old.run).ring).metas).versions t (asked_of_record (old.run).params record_of_fetch)) old.store new.store) result
+      -- and of one that the store refused no more was shown than the record's own writes, or its record was open before the rest
+      pub shown : IsOpenIfShown disk ((old.run).sealer).keys (old.run).params (suc (old.run).epoch) record_of_fetch notes old.store new.store result
       -- each key that was asked for has the id and the leaf of its place's word
       pub moves : OnOk result (MovesPlanner (old.run).params record_of_fetch (old.run).ring (new.run).ring)
+      -- where the store stood, it stands with the record behind it, and with it or without it at each moment
+      pub stands : (s : RingStanding) → RunIsAt old.run s (disk old.store) → OnOk result (RunIsAt new.run (with_record s record_of_fetch) (disk new.store))
+      pub images : (s : RingStanding) → RunIsAt old.run s (disk old.store) → LeavesOnly (disk old.store) (disk new.store) (OneOf ((old.run).sealer).keys (old.run).params s (with_record s record_of_fetch))
 
   -- An end: the i-th write takes the i-th word, and the buckets the words behind.
   module _ (writes : List Write) where
@@ -140,7 +183,19 @@ module _ {S : Type 0} (disk : S → Disk) (old new : Running S) (notes : List No
     writes_of_end = end_writes (old.run).params writes words_of_call ((old.run).sealer).generation (old.run).drawn
 
     pub record EndCalled (result : Result (Unit {0}) EndErr) : Type 0 where
-      pub params : (new.run).params ≡ (old.run).params
+      pub run : KeepsRun
+      pub none_left : (old.run).left ≡ 0
+      pub few : length writes ≤ ((old.run).params).writes
+      pub epoch : OnOk result ((new.run).epoch ≡ suc (old.run).epoch)
+      pub left : OnOk result ((new.run).left ≡ ((old.run).params).batches)
+      pub gates : OnOk result ((new.run).gates ≡ gates_ended (old.run).gates (old.run).epoch)
+      -- its refusals, and exactly when each comes; of damage, where the store tells its cells, what comes first, none where it stood
+      pub refusal : IfErr result (IsEndFault ((old.run).epoch + 1))
+      pub answers : (t : FlatTable) → StandsFor (old.run).ring t → EndAnswers (old.run).params t (old.run).epoch (old.run).drawn ((old.run).sealer).next writes_of_end result
+      pub damage : (start : Buckets) (t : FlatTable) → SameSeals start ((old.run).ring).metas → StandsFor (old.run).ring t → (disk old.store).tells
+          → EndDamage ((old.run).sealer).keys (old.run).params start.versions (disk new.store).cells t result
+      pub undamaged : (s : RingStanding) → RunIsAt old.run s (disk old.store) → IsEndUndamaged result
+      pub sealed : (disk old.store).tells → IfEnded SealsCells result
       pub draws : (t : FlatTable) → StandsFor (old.run).ring t → EndDraws (old.run).params t (old.run).epoch (old.run).drawn old.drawn new.drawn result
       pub seals : (t : FlatTable) → StandsFor (old.run).ring t → Seals (seals_for_end (old.run).params t) (old.run).sealer (new.run).sealer result
       -- its notes are the schedule's end of what the store knows
@@ -148,8 +203,14 @@ module _ {S : Type 0} (disk : S → Disk) (old new : Running S) (notes : List No
           → IsShownAs old.lanes (end_notes (old.run).params (public_of_kept (old.run).params c rs (old.run).epoch (old.run).gates) (fills_with_lifts (old.run).params c rs)) notes (disk old.store).seen (disk new.store).seen result
       -- behind it the store knows what the schedule's end leaves
       pub onward : (c : Content) (rs : List BatchRecord) → HasPlanned old.run c rs → OnOk result (LeadsOn (old.run).params ((old.run).sealer).generation c rs (old.run).epoch (old.run).gates (new.run).ring (new.run).gates)
-      -- the table then: lifted, written, and filled anew
-      pub table : (t : FlatTable) → StandsFor (old.run).ring t → OnOk result (StandsFor (new.run).ring (table_ended (old.run).params t writes_of_end))
+      -- the table then: lifted, written, and filled anew; the words of the writes' places are their keys', and those behind the buckets'
+      pub table : (t : FlatTable) → StandsFor (old.run).ring t → IfEnded (StandsFor (new.run).ring (table_ended (old.run).params t writes_of_end)) result
+      pub entries : IfEnded (AreEntriesWritten writes_of_end (old.run).ring (new.run).ring) result
+      pub filled : (t : FlatTable) → StandsFor (old.run).ring t → IfEnded (TakeBucketWords (old.run).params t words_of_call ((old.run).sealer).generation ((old.run).sealer).next (old.run).ring (new.run).ring) result
+      pub content : IfEnded (IsAtContent (old.run).params (new.run).ring) result
+      -- where the store stood, it stands for the next epoch behind it, and for either once the register's gate is written
+      pub stands : (s : RingStanding) → RunIsAt old.run s (disk old.store) → EndStands s writes_of_end (disk new.store) new.run result
+      pub images : (s : RingStanding) → RunIsAt old.run s (disk old.store) → LeavesOnly (disk old.store) (disk new.store) (EndImages ((old.run).sealer).keys (old.run).params s writes_of_end new.run result)
 
   abbrev pub RingCalled : VaultCall → VaultAnswer → Type 0
   RingCalled (Fetch asks) (Values out) = FetchCalled asks (Ok tt)

@@ -1,5 +1,5 @@
 -- What a refused opening tells, by its fault.
-use Rattle.std.proofs.Common.{◌≡◌, inl, inr, ℕ, suc, ◌<◌, ◌^◌, Result, Ok, Err, IfErr, sym, subst}
+use Rattle.std.proofs.Common.{◌≡◌, ◌⊎◌, ⊎_elim, inl, inr, ℕ, suc, ◌<◌, ◌^◌, List, Result, Ok, Err, IfErr, OnErr, refl, sym, ap, subst, ◌∙◌, arith}
 use Rattle.ob_base.specs.declared.params.Params.{Params}
 use Rattle.ob_base.specs.declared.fault.Fault.{Fault}
 use Rattle.ob_base.specs.declared.fault.Fault.TheVariants.{Memory, Usage, BadScript, BadParams, NotStore, Damaged, StoreFault, StashFull, Worn, SourceFault, SinkFault}
@@ -17,8 +17,8 @@ use Rattle.ob_recover.specs.declared.found.Found.{Found}
 use Rattle.ob_recover.specs.Finds.{FindDoes, FindsStanding, IsFindFault, IsFindOf, IsFoundInRing, finding_notes}
 use Rattle.ob_recover.specs.Repeats.{IsRepeatFault, IsReplayOf}
 use Rattle.ob_vault.specs.declared.opening.Opening.{Opening}
-use Rattle.ob_vault.specs.OpeningParts.{FoundDoes, IsFoundFault, IsFoundRefusal}
-use Rattle.ob_vault.specs.OpeningRuns.{BeginsFirst, ReadsAll, RefusedDoes, begun_notes, next_notes}
+use Rattle.ob_vault.specs.OpeningParts.{FoundDoes, FoundStays, IsFoundFault, IsFoundRefusal}
+use Rattle.ob_vault.specs.OpeningRuns.{BeginsFirst, IsReadAlone, ReadsAll, RefusedDoes, RefusedWrites, StartsTape, begun_notes, next_notes}
 use Rattle.ob_vault.specs.Openings.{IsOpenFault, IsOpenRefusal, IsStandingRefusal}
 use Rattle.ob_vault.proofs.Movings.{damage_off}
 use Rattle.ob_vault.proofs.OpenedLaws.{first_of_both}
@@ -51,6 +51,19 @@ begin_refusal keys p image found (Worn number) fault = tt
 begin_refusal keys p image found SourceFault fault = absurd fault
 begin_refusal keys p image found SinkFault fault = absurd fault
 
+pub begin_stays : {S T W : Type 0} (g present : ℕ) (old new : S) (tape : T) (before after : W) (f : Fault) → IsBeginFault g f → (IsWornFault f → (new ≡ old) × (after ≡ before)) → FoundStays old new tape tape before after present g f
+begin_stays g present old new tape before after Memory fault still = absurd fault
+begin_stays g present old new tape before after Usage fault still = absurd fault
+begin_stays g present old new tape before after (BadScript line) fault still = absurd fault
+begin_stays g present old new tape before after (BadParams field) fault still = absurd fault
+begin_stays g present old new tape before after NotStore fault still = absurd fault
+begin_stays g present old new tape before after (Damaged cell check kept computed) fault still = absurd fault
+begin_stays g present old new tape before after (StoreFault unsure) fault still = tt
+begin_stays g present old new tape before after (StashFull rows) fault still = absurd fault
+begin_stays g present old new tape before after (Worn number) fault still = ((still tt).0, (refl, (still tt).1))
+begin_stays g present old new tape before after SourceFault fault still = absurd fault
+begin_stays g present old new tape before after SinkFault fault still = absurd fault
+
 -- ---- batches that weren't repeated
 
 pub repeat_fault : (g : ℕ) (f : Fault) → suc g < 2 ^ 62 → IsRepeatFault f → IsFoundFault g f
@@ -79,18 +92,18 @@ repeat_refusal keys p a b found (Worn number) same fault was = absurd fault
 repeat_refusal keys p a b found SourceFault same fault was = absurd fault
 repeat_refusal keys p a b found SinkFault same fault was = absurd fault
 
-pub repeat_not_worn : (f : Fault) → IsRepeatFault f → IsWornFault f → ⊥
-repeat_not_worn Memory fault worn = worn
-repeat_not_worn Usage fault worn = worn
-repeat_not_worn (BadScript line) fault worn = worn
-repeat_not_worn (BadParams field) fault worn = worn
-repeat_not_worn NotStore fault worn = worn
-repeat_not_worn (Damaged cell check kept computed) fault worn = worn
-repeat_not_worn (StoreFault unsure) fault worn = worn
-repeat_not_worn (StashFull rows) fault worn = worn
-repeat_not_worn (Worn number) fault worn = fault
-repeat_not_worn SourceFault fault worn = worn
-repeat_not_worn SinkFault fault worn = worn
+pub repeat_stays : {S T W : Type 0} (g present : ℕ) (old new : S) (tape tape' : T) (before after : W) (f : Fault) → IsRepeatFault f → present ≡ suc g → FoundStays old new tape tape' before after present g f
+repeat_stays g present old new tape tape' before after Memory fault at = absurd fault
+repeat_stays g present old new tape tape' before after Usage fault at = absurd fault
+repeat_stays g present old new tape tape' before after (BadScript line) fault at = absurd fault
+repeat_stays g present old new tape tape' before after (BadParams field) fault at = absurd fault
+repeat_stays g present old new tape tape' before after NotStore fault at = absurd fault
+repeat_stays g present old new tape tape' before after (Damaged cell check kept computed) fault at = at
+repeat_stays g present old new tape tape' before after (StoreFault unsure) fault at = tt
+repeat_stays g present old new tape tape' before after (StashFull rows) fault at = absurd fault
+repeat_stays g present old new tape tape' before after (Worn number) fault at = absurd fault
+repeat_stays g present old new tape tape' before after SourceFault fault at = absurd fault
+repeat_stays g present old new tape tape' before after SinkFault fault at = absurd fault
 
 -- ---- what wasn't found
 
@@ -146,6 +159,19 @@ find_does keys most p old new k l (Worn number) fault does = absurd fault
 find_does keys most p old new k l SourceFault fault does = absurd fault
 find_does keys most p old new k l SinkFault fault does = absurd fault
 
+pub find_writes : {S T : Type 0} (disk : S → Disk) (keys : Keys) (p : Params) (old new : S) (tape tape' : T) (present : ℕ) (drawn : List ℕ) (f : Fault) → IsFindFault f → IsReadAlone disk old new tape tape' → RefusedWrites disk keys p old new tape tape' present drawn f
+find_writes disk keys p old new tape tape' present drawn Memory fault alone = alone
+find_writes disk keys p old new tape tape' present drawn Usage fault alone = absurd fault
+find_writes disk keys p old new tape tape' present drawn (BadScript line) fault alone = absurd fault
+find_writes disk keys p old new tape tape' present drawn (BadParams field) fault alone = absurd fault
+find_writes disk keys p old new tape tape' present drawn NotStore fault alone = alone
+find_writes disk keys p old new tape tape' present drawn (Damaged cell check kept computed) fault alone = inl alone
+find_writes disk keys p old new tape tape' present drawn (StoreFault unsure) fault alone = tt
+find_writes disk keys p old new tape tape' present drawn (StashFull rows) fault alone = absurd fault
+find_writes disk keys p old new tape tape' present drawn (Worn number) fault alone = absurd fault
+find_writes disk keys p old new tape tape' present drawn SourceFault fault alone = absurd fault
+find_writes disk keys p old new tape tape' present drawn SinkFault fault alone = absurd fault
+
 -- ---- what follows of the whole, once all was found
 
 found_fault : (g : ℕ) (f : Fault) → IsFoundFault g f → IsOpenFault f
@@ -188,6 +214,19 @@ found_does keys most p found old new k l (Worn number) is fault told worn = worn
 found_does keys most p found old new k l SourceFault is fault told worn = absurd fault
 found_does keys most p found old new k l SinkFault is fault told worn = absurd fault
 
+worn_still : {S T W : Type 0} (g present : ℕ) (old new : S) (tape tape' : T) (before after : W) (f : Fault) → FoundStays old new tape tape' before after present g f → IsWornFault f → (new ≡ old) × (after ≡ before)
+worn_still g present old new tape tape' before after Memory stays worn = absurd worn
+worn_still g present old new tape tape' before after Usage stays worn = absurd worn
+worn_still g present old new tape tape' before after (BadScript line) stays worn = absurd worn
+worn_still g present old new tape tape' before after (BadParams field) stays worn = absurd worn
+worn_still g present old new tape tape' before after NotStore stays worn = absurd worn
+worn_still g present old new tape tape' before after (Damaged cell check kept computed) stays worn = absurd worn
+worn_still g present old new tape tape' before after (StoreFault unsure) stays worn = absurd worn
+worn_still g present old new tape tape' before after (StashFull rows) stays worn = absurd worn
+worn_still g present old new tape tape' before after (Worn number) stays worn = (stays.0, stays.1.1)
+worn_still g present old new tape tape' before after SourceFault stays worn = absurd worn
+worn_still g present old new tape tape' before after SinkFault stays worn = absurd worn
+
 -- ---- by the answer of what is done behind it
 
 pub all_faults : {L : Type 0} (g : ℕ) (r : Result (Opening L) Fault) → IfErr r (IsFoundFault g) → IfErr r IsOpenFault
@@ -199,21 +238,48 @@ pub all_refusals : {L : Type 0} (keys : Keys) (p : Params) (image : Image) (foun
 all_refusals keys p image found (Ok o) is fault was = tt
 all_refusals keys p image found (Err f) is fault was = found_refusal keys p image found f is fault was
 
-pub not_memory : {L : Type 0} (g : ℕ) (r : Result (Opening L) Fault) (X : Type 0) → IfErr r (IsFoundFault g) → r ≡ Err Memory → X
-not_memory g (Ok o) X fault is = absurd (cc)
-not_memory g (Err f) X fault is = absurd (let same : f ≡ Memory = cc in subst (λ e. IsFoundFault g e) same fault)
-
 pub still_alone : {S W : Type 0} (disk : S → Disk) (trace : W → Trace) (keys : Keys) (p : Params) (old : Disk) (k : Trace) (s t : S) (v w : W) → (t ≡ s) × (w ≡ v) → ReadsAll keys p old (disk s) k (trace v) → ReadsAll keys p old (disk t) k (trace w)
 still_alone disk trace keys p old k s t v w same alone =
     subst (λ x. ReadsAll keys p old (disk x) k (trace w)) (sym same.0) (subst (λ x. ReadsAll keys p old (disk s) k (trace x)) (sym same.1) alone)
 
-pub all_does : {S W L : Type 0} (disk : S → Disk) (trace : W → Trace) (keys : Keys) (most : ℕ) (p : Params) (found : Found) (old mid new : S) (before between after : W) (r : Result (Opening L) Fault)
+pub all_does : {S T W L : Type 0} (disk : S → Disk) (trace : W → Trace) (keys : Keys) (most : ℕ) (p : Params) (found : Found) (old mid new : S) (tape tape' : T) (present : ℕ) (before between after : W) (r : Result (Opening L) Fault)
     → ((disk old).tells → IsFoundInRing keys p (disk old).cells found) → Keeps (disk old) (disk mid) → Passes Same (disk old) (disk mid)
     → Tells (finding_notes p found.epoch) (finding_notes p found.epoch) (disk old).seen (disk mid).seen (trace before) (trace between)
     → IfErr r (IsFoundFault found.generation) → FoundDoes most p found (disk mid).seen (disk new).seen (trace between) (trace after) r
-    → IfErr r (λ refused. IsWornFault refused → (new ≡ mid) × (after ≡ between)) → IfErr r (RefusedDoes keys most p (disk old) (disk new) (trace before) (trace after))
-all_does disk trace keys most p found old mid new before between after (Ok o) is keeps passes reads fault does still = tt
-all_does disk trace keys most p found old mid new before between after (Err f) is keeps passes reads fault does still =
+    → IfErr r (FoundStays mid new tape tape' between after present found.generation) → IfErr r (RefusedDoes keys most p (disk old) (disk new) (trace before) (trace after))
+all_does disk trace keys most p found old mid new tape tape' present before between after (Ok o) is keeps passes reads fault does stays = tt
+all_does disk trace keys most p found old mid new tape tape' present before between after (Err f) is keeps passes reads fault does stays =
     found_does keys most p found (disk old) (disk new) (trace before) (trace after) f is fault
     (first_of_both most p found (finding_notes p found.epoch) (next_notes found) (disk old).seen (disk mid).seen (disk new).seen (trace before) (trace between) (trace after) reads f does)
-    (λ worn. still_alone disk trace keys p (disk old) (trace before) mid new between after (still worn) (record { found = found; found_in = is; told = reads; keeps = keeps; passes = passes }))
+    (λ worn. still_alone disk trace keys p (disk old) (trace before) mid new between after (worn_still found.generation present mid new tape tape' between after f stays worn) (record { found = found; found_in = is; told = reads; keeps = keeps; passes = passes }))
+
+-- before it the store was only read
+module _ {S T W : Type 0} (disk : S → Disk) (keys : Keys) (p : Params) (g : ℕ) (old mid new : S) (tape tape' : T) (present : T → ℕ) (drawn : List ℕ) (before after : W) (keeps : Keeps (disk old) (disk mid)) (passes : Passes Same (disk old) (disk mid)) (none : present tape ≡ 0) where
+  still_reads : (new ≡ mid) × ((tape' ≡ tape) × (after ≡ before)) → IsReadAlone disk old new tape tape'
+  still_reads same = record {
+    tape = same.1.0;
+    keeps = subst (λ s. Keeps (disk old) (disk s)) (sym same.0) keeps;
+    passes = subst (λ s. Passes Same (disk old) (disk s)) (sym same.0) passes;
+  }
+
+  not_started : present tape' ≡ suc g → tape' ≡ tape → ⊥
+  not_started at same = let was : present tape' ≡ 0 = ap present same ∙ none in omega (arith, at, was)
+
+  found_writes : (f : Fault) → IsFoundFault g f → FoundStays mid new tape tape' before after (present tape') g f → (tape' ≡ tape) ⊎ StartsTape disk keys p old new (present tape') drawn
+      → RefusedWrites disk keys p old new tape tape' (present tape') drawn f
+  found_writes Memory fault stays tapes = absurd fault
+  found_writes Usage fault stays tapes = absurd fault
+  found_writes (BadScript line) fault stays tapes = absurd fault
+  found_writes (BadParams field) fault stays tapes = absurd fault
+  found_writes NotStore fault stays tapes = absurd fault
+  found_writes (Damaged cell check kept computed) fault stays tapes = inr (⊎_elim (λ same. absurd (not_started stays same)) (λ begun. begun) tapes)
+  found_writes (StoreFault unsure) fault stays tapes = tt
+  found_writes (StashFull rows) fault stays tapes = absurd fault
+  found_writes (Worn number) fault stays tapes = still_reads stays
+  found_writes SourceFault fault stays tapes = absurd fault
+  found_writes SinkFault fault stays tapes = absurd fault
+
+  pub all_writes : {L : Type 0} (r : Result (Opening L) Fault) → IfErr r (IsFoundFault g) → IfErr r (FoundStays mid new tape tape' before after (present tape') g) → OnErr r ((tape' ≡ tape) ⊎ StartsTape disk keys p old new (present tape') drawn)
+      → IfErr r (RefusedWrites disk keys p old new tape tape' (present tape') drawn)
+  all_writes (Ok o) fault stays tapes = tt
+  all_writes (Err f) fault stays tapes = found_writes f fault stays tapes

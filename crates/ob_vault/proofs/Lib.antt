@@ -9,3 +9,4 @@ pub mod ActLaws
 pub mod FaultLaws
 pub mod StoodLaws
 pub mod WholeLaws
+pub mod PlanLaws

@@ -40,6 +40,12 @@ IsFoundRefusal keys p image found (fault.Worn number) = Unit {0}
 IsFoundRefusal keys p image found (fault.StoreFault unsure) = Unit {0}
 IsFoundRefusal keys p image found _ = ⊥
 
+-- where generations are worn nothing was done; where a batch is damaged the tape is at the generation begun
+abbrev pub FoundStays : {S T W : Type 0} → S → S → T → T → W → W → (present generation : ℕ) → Fault → Type 0
+FoundStays old new tape_old tape_new before after present generation (fault.Worn number) = (new ≡ old) × ((tape_new ≡ tape_old) × (after ≡ before))
+FoundStays old new tape_old tape_new before after present generation (fault.Damaged cell check kept computed) = present ≡ suc generation
+FoundStays old new tape_old tape_new before after present generation _ = Unit {0}
+
 -- what is done behind what was found
 abbrev pub FoundDoes : {L : Type 0} → ℕ → Params → Found → Option (List Event) → Option (List Event) → Trace → Trace → Result (Opening L) Fault → Type 0
 FoundDoes most p found old new before after (Ok o) = RepeatsBehind {T = Unit {0}} (next_notes found) most p found old new before after (Ok tt)

@@ -101,6 +101,20 @@ pub record StartsTape {S : Type 0} (disk : S → Disk) (keys : Keys) (p : Params
   pub begins : BeginsAt disk keys (begun_notes p found) found.generation old new
   pub tape : IsAtStart present drawn (suc found.generation)
 
+-- ---- what is written
+
+-- nothing was written, and the tape is as before
+pub record IsReadAlone {S T : Type 0} (disk : S → Disk) (old new : S) (tape_old tape_new : T) : Type 0 where
+  pub tape : tape_new ≡ tape_old
+  pub keeps : Keeps (disk old) (disk new)
+  pub passes : Passes Same (disk old) (disk new)
+
+-- A refused opening wrote nothing, unless its store failed, or what is damaged is a batch that was read in the generation begun.
+abbrev pub RefusedWrites : {S T : Type 0} → (S → Disk) → Keys → Params → S → S → T → T → (present : ℕ) (drawn : List ℕ) → Fault → Type 0
+RefusedWrites disk keys p old new tape_old tape_new present drawn (fault.StoreFault unsure) = Unit {0}
+RefusedWrites disk keys p old new tape_old tape_new present drawn (fault.Damaged cell check kept computed) = IsReadAlone disk old new tape_old tape_new ⊎ StartsTape disk keys p old new present drawn
+RefusedWrites disk keys p old new tape_old tape_new present drawn _ = IsReadAlone disk old new tape_old tape_new
+
 -- ---- what a crash leaves
 
 -- The first sync succeeded, and the store was this one then: no write waited. Until then a crash leaves what it might have left before;

@@ -1,19 +1,16 @@
 //! Opening a ring store.
 
 ghost use Rattle.std.specs.Prelude.{◌≡◌, ◌⊎◌, ◌≤◌, ℕ, suc, Err, IfOk, IfErr, OnOk, OnErr, Option, is_ok};
-ghost use Rattle.ob_base.specs.declared.fault.Fault.TheVariants as fault;
-ghost use Rattle.ob_store.specs.Calls.{Serves, IsStoreFault, Keeps};
+ghost use Rattle.ob_store.specs.Calls.{Serves, IsStoreFault};
 ghost use Rattle.ob_stand.specs.Stands.{RingStanding, Stands};
 ghost use Rattle.ob_recover.specs.Finds.{IsFoundInRing, ObeysFound};
-ghost use Rattle.ob_start.specs.Beginning.{IsWornFault};
-ghost use Rattle.ob_store.specs.Images.{Passes, Same};
 ghost use Rattle.ob_twin.specs.Keyed.{tagging};
 ghost use Rattle.ob_twin.specs.Register.{StandsAt};
 ghost use Rattle.ob_life.specs.Life.{LifeAct, LifeState, WordId};
 ghost use Rattle.ob_vault.specs.OpeningActs.{IsLeftAt, OpensInLife};
 ghost use Rattle.ob_vault.specs.Openings.{IsOpeningOf, IsToldOpening, IsOpenFault, IsOpenRefusal, OpensWhatStood};
-ghost use Rattle.ob_vault.specs.OpeningParts.{AreRooms, FoundDoes, FoundRefused, IsFoundFault, IsFoundRefusal};
-ghost use Rattle.ob_vault.specs.OpeningRuns.{BeginsAt, IsAtStart, IsRingOpened, OpeningLeaves, RefusedDoes, StartsTape, next_notes};
+ghost use Rattle.ob_vault.specs.OpeningParts.{AreRooms, FoundDoes, FoundRefused, FoundStays, IsFoundFault, IsFoundRefusal};
+ghost use Rattle.ob_vault.specs.OpeningRuns.{BeginsAt, IsAtStart, IsRingOpened, OpeningLeaves, RefusedDoes, RefusedWrites, StartsTape, next_notes};
 
 use crate::opening::Opening;
 use crate::rooms::{Rooms, rooms_for};
@@ -62,8 +59,8 @@ fn open_found<S: Store, T: Tape, W: Watch>(
     ensures begins_err { IfErr result (FoundRefused S.disk keys.now rooms.crew.lanes p.now found
         store.old store.new tape.old tape.new (T.present tape.new) (T.drawn tape.new)
         (W.trace watch.old) (W.trace watch.new)) }
-    ensures untouched { IfErr result (λ refused. IsWornFault refused → (store.new ≡ store.old)
-        × (watch.new ≡ watch.old)) }
+    ensures stays { IfErr result (FoundStays store.old store.new tape.old tape.new watch.old
+        watch.new (T.present tape.new) found.generation) }
     ensures does { FoundDoes rooms.crew.lanes p.now found (S.disk store.old).seen
         (S.disk store.new).seen (W.trace watch.old) (W.trace watch.new) result }
 {
@@ -116,7 +113,7 @@ fn open_found<S: Store, T: Tape, W: Watch>(
 ///
 /// # Errors
 /// Memory was wanting, before anything was written; or the store failed, and its count of faults
-/// rose; or what `find` refuses; or, with nothing written yet, the next generation would be `2^62`;
+/// rose; or, with nothing written yet, what `find` refuses, or the next generation would be `2^62`;
 /// or, in the generation begun, what `replay` finds damaged.
 pub fn prepare<S: Store, T: Tape, W: Watch>(
     alloc: Global,
@@ -150,9 +147,10 @@ pub fn prepare<S: Store, T: Tape, W: Watch>(
     ensures tape_err { OnErr result ((tape.new ≡ tape.old)
         ⊎ StartsTape S.disk keys.now p.now store.old store.new (T.present tape.new)
         (T.drawn tape.new)) }
-    ensures memory { result ≡ Err fault.Memory → (tape.new ≡ tape.old)
-        × Keeps (S.disk store.old) (S.disk store.new)
-        × Passes Same (S.disk store.old) (S.disk store.new) }
+    // But for a store that failed and for a batch that is damaged in the generation begun, a refused
+    // opening wrote nothing.
+    ensures unwritten { IfErr result (RefusedWrites S.disk keys.now p.now store.old store.new
+        tape.old tape.new (T.present tape.new) (T.drawn tape.new)) }
     ensures does_err { IfErr result (RefusedDoes keys.now lanes p.now (S.disk store.old)
         (S.disk store.new) (W.trace watch.old) (W.trace watch.new)) }
     // Of a store whose life has reached this state, perhaps with an act in flight, the acts are what

@@ -12,6 +12,7 @@ use Rattle.ob_twin.specs.Refused.{IsSetFault, SetLeaves}
 use Rattle.ob_twin.specs.Register.{IsPut, StandsAt, place_of}
 use Rattle.ob_twin.specs.declared.set_err.SetErr.TheVariants.{Before}
 use Rattle.ob_twin.specs.declared.twin.Twin.TheVariants.{EPOCH}
+use Rattle.ob_end.proofs.ActLaws.{set_moments, set_sealed, written_moments}
 use Rattle.ob_end.proofs.CloseLaws.{close_tells, closed, gates_kept, if_written, is_ending, mid_stands, seals_all, set_fault, written_leaves}
 use Rattle.ob_end.proofs.closing.close_epoch.Goals as goal
 
@@ -65,3 +66,18 @@ set-requires-clause-told g c = λ told.
 
 pub returns-clause-rows : goal.returns-clause-rows
 returns-clause-rows g c = if_written _ c.set.result c.in-Ok.ensures.rows
+
+pub returns-in-Err-clause-sealed : goal.returns-in-Err-clause-sealed
+returns-in-Err-clause-sealed g c = λ told. tt
+
+pub returns-clause-sealed : goal.returns-clause-sealed
+returns-clause-sealed g c = λ told.
+    if_written _ c.set.result
+    (set_sealed _ c.args.sealer.now c.write_end.new.sealer (g.S.Store.disk c.args.store.now).cells (g.S.Store.disk c.write_end.new.store).cells (g.S.Store.disk c.set.new.store).cells
+    c.in-Ok.ensures.seals.some (c.in-Ok.ensures.sealed told) (c.set.ensures.rest (c.in-Ok.ensures.serves.tells told)))
+
+pub returns-in-Err-clause-moments : goal.returns-in-Err-clause-moments
+returns-in-Err-clause-moments g c = written_moments (g.S.Store.disk c.args.store.now) (g.S.Store.disk c.write_end.new.store) c.write_end.ensures.moments
+
+pub returns-clause-moments : goal.returns-clause-moments
+returns-clause-moments g c = set_moments (g.S.Store.disk c.args.store.now) (g.S.Store.disk c.write_end.new.store) (g.S.Store.disk c.set.new.store) c.write_end.ensures.moments c.set.ensures.passes

@@ -14,9 +14,12 @@ use Rattle.ob_store.specs.Images.{LeavesOnly}
 use Rattle.ob_twin.specs.Opening.{GatesAre, is_closed_first}
 use Rattle.ob_twin.specs.Register.{place_of}
 use Rattle.ob_twin.specs.declared.gates.Gates.{Gates}
-use Rattle.ob_end.specs.EndRuns.{EndAnswers, EndDoes, EndImages, LeadsOn, end_writes, seals_for_end, EndDraws}
+use Rattle.ob_ring.specs.Ring.{StandsFor}
+use Rattle.ob_end.specs.EndRuns.{AreEntriesWritten, EndAnswers, EndDamage, EndDoes, EndImages, IfEnded, IsAtContent, IsEndUndamaged, LeadsOn, TakeBucketWords, end_writes, seals_for_end, table_ended, EndDraws}
+use Rattle.ob_pads.specs.Seals.{CellsAreSealed}
+use Rattle.ob_end.proofs.ActLaws.{damage_closed, damage_made, end_moments, read_moments, sealed_closed, sealed_from, undamaged_closed}
 use Rattle.ob_end.proofs.CloseLaws.{gates_kept}
-use Rattle.ob_end.proofs.EndCases.{answers_closed, at_spent, gates_at, one_more, read_leaves, does_as, does_closed, does_made, images_closed, images_ended, images_refused, ready_spent, seals_closed, seals_ended, serves_closed, serves_ended, draws_closed, draws_made}
+use Rattle.ob_end.proofs.EndCases.{answers_closed, at_spent, gates_at, one_more, read_leaves, does_as, does_closed, does_made, images_closed, images_ended, if_ended, images_refused, ready_spent, seals_closed, seals_ended, serves_closed, serves_ended, draws_closed, draws_made}
 use Rattle.ob_end.proofs.EndStage as stage
 use Rattle.ob_end.proofs.ScheduledEnds.{front_at}
 use Rattle.ob_end.proofs.ToldEnds.{closed_told, cut_short, made_told, reads_are}
@@ -508,3 +511,202 @@ returns-clause-onward g c = λ kept_content rs from.
     let last = c.close_epoch.new.ring in
     subst (λ (gates : Gates). LeadsOn run.params run.sealer.generation kept_content rs run.epoch run.gates last gates) (sym (c.in-Ok-close_epoch.ensures.gates ∙ gates_at run1 mid kept))
     (stage.leads_then run1 mid old writes words kept ready made low short may kept_content rs from last c.close_epoch.ensures.kept c.in-Ok-close_epoch.ensures.rows c.close_epoch.ensures.room)
+
+pub returns-in-Err-clause-damage : goal.returns-in-Err-clause-damage
+returns-in-Err-clause-damage g c = λ start t seals stands tells.
+    let run = c.args.run.now in
+    damage_made run.sealer.keys run.params start.versions t (g.S.Store.disk c.args.store.now).cells (g.S.Store.disk c.make_end.new.store).cells c.in-Err.fault (c.make_end.ensures.keeps.cells tells) (c.in-Err.ensures.damage start t seals stands tells)
+
+pub returns-in-Err-close_epoch-clause-damage : goal.returns-in-Err-close_epoch-clause-damage
+returns-in-Err-close_epoch-clause-damage g c = λ start t seals stands tells.
+    let run = c.args.run.now in
+    let image = (g.S.Store.disk c.close_epoch.new.store).cells in
+    subst (λ (e : EndErr). EndDamage run.sealer.keys run.params start.versions image t (Err e)) (sym c.end_err.ensures)
+    (damage_closed run.sealer.keys run.params start.versions t image (c.make_end.new.run.epoch + 1) c.in-Err-close_epoch.refused c.in-Err-close_epoch.ensures.faults)
+
+pub returns-in-Err-clause-undamaged : goal.returns-in-Err-clause-undamaged
+returns-in-Err-clause-undamaged g c = λ s at. c.in-Err.ensures.undamaged s (at_spent c.args.run.now s (g.S.Store.disk c.args.store.now) at)
+
+pub returns-in-Err-close_epoch-clause-undamaged : goal.returns-in-Err-close_epoch-clause-undamaged
+returns-in-Err-close_epoch-clause-undamaged g c = λ s at.
+    subst (λ (e : EndErr). IsEndUndamaged (Err e)) (sym c.end_err.ensures) (undamaged_closed (c.make_end.new.run.epoch + 1) c.in-Err-close_epoch.refused c.in-Err-close_epoch.ensures.faults)
+
+pub returns-in-Err-clause-sealed : goal.returns-in-Err-clause-sealed
+returns-in-Err-clause-sealed g c = λ tells. tt
+
+pub returns-in-Err-close_epoch-clause-sealed : goal.returns-in-Err-close_epoch-clause-sealed
+returns-in-Err-close_epoch-clause-sealed g c = λ tells.
+    let run = c.args.run.now in
+    let mid = c.make_end.new.run in
+    let last = c.close_epoch.new.sealer in
+    let old = (g.S.Store.disk c.args.store.now).cells in
+    let mids = (g.S.Store.disk c.make_end.new.store).cells in
+    let new = (g.S.Store.disk c.close_epoch.new.store).cells in
+    subst (λ (e : EndErr). IfEnded (CellsAreSealed run.sealer last old new) (Err e)) (sym c.end_err.ensures)
+    (sealed_closed _ _ c.in-Err-close_epoch.refused (sealed_from run.sealer mid.sealer last old mids new (ap (λ (m : Run). m.sealer) c.make_end.ensures.kept) (c.make_end.ensures.keeps.cells tells))
+    (c.in-Err-close_epoch.ensures.sealed (c.make_end.ensures.keeps.tells tells)))
+
+pub returns-clause-sealed : goal.returns-clause-sealed
+returns-clause-sealed g c = λ tells.
+    let run = c.args.run.now in
+    let mid = c.make_end.new.run in
+    let old = (g.S.Store.disk c.args.store.now).cells in
+    let mids = (g.S.Store.disk c.make_end.new.store).cells in
+    let new = (g.S.Store.disk c.close_epoch.new.store).cells in
+    sealed_from run.sealer mid.sealer c.close_epoch.new.sealer old mids new (ap (λ (m : Run). m.sealer) c.make_end.ensures.kept) (c.make_end.ensures.keeps.cells tells)
+    (c.in-Ok-close_epoch.ensures.sealed (c.make_end.ensures.keeps.tells tells))
+
+pub returns-in-Err-clause-moments : goal.returns-in-Err-clause-moments
+returns-in-Err-clause-moments g c = read_moments (g.S.Store.disk c.args.store.now) (g.S.Store.disk c.make_end.new.store) c.make_end.ensures.passes
+
+pub returns-in-Err-close_epoch-clause-moments : goal.returns-in-Err-close_epoch-clause-moments
+returns-in-Err-close_epoch-clause-moments g c = end_moments (g.S.Store.disk c.args.store.now) (g.S.Store.disk c.make_end.new.store) (g.S.Store.disk c.close_epoch.new.store) c.make_end.ensures.passes c.close_epoch.ensures.moments
+
+pub returns-clause-moments : goal.returns-clause-moments
+returns-clause-moments g c = end_moments (g.S.Store.disk c.args.store.now) (g.S.Store.disk c.make_end.new.store) (g.S.Store.disk c.close_epoch.new.store) c.make_end.ensures.passes c.close_epoch.ensures.moments
+
+pub returns-in-Err-clause-table : goal.returns-in-Err-clause-table
+returns-in-Err-clause-table g c = λ t stands. tt
+
+pub returns-in-Err-close_epoch-clause-table : goal.returns-in-Err-close_epoch-clause-table
+returns-in-Err-close_epoch-clause-table g c = λ t stands.
+    let run = c.args.run.now in
+    let run1 : Run = record run { spent = true } in
+    let mid = c.make_end.new.run in
+    let old = g.S.Store.disk c.args.store.now in
+    let words = words_since (g.T.Tape.drawn c.args.tape.now) (g.T.Tape.drawn c.make_end.new.tape) in
+    let kept = c.make_end.ensures.kept in
+    let writes = c.args.writes.now in
+    let ready = ready_spent run c.requires.ready in
+    let made = c.in-Ok.ensures.made in
+    let low = c.requires.keys in
+    let short = c.requires.short in
+    let may = c.in-Ok.ensures.answers in
+    subst (λ (e : EndErr). IfEnded (StandsFor c.close_epoch.new.ring (table_ended run.params t (end_writes run.params writes words run.sealer.generation run.drawn))) (Err e)) (sym c.end_err.ensures)
+    (if_ended (StandsFor c.close_epoch.new.ring (table_ended run.params t (end_writes run.params writes words run.sealer.generation run.drawn))) c.in-Err-close_epoch.refused (stage.table_last run1 mid old writes words kept ready made low short may c.close_epoch.new.ring c.close_epoch.ensures.kept t stands))
+
+pub returns-clause-table : goal.returns-clause-table
+returns-clause-table g c = λ t stands.
+    let run = c.args.run.now in
+    let run1 : Run = record run { spent = true } in
+    let mid = c.make_end.new.run in
+    let old = g.S.Store.disk c.args.store.now in
+    let words = words_since (g.T.Tape.drawn c.args.tape.now) (g.T.Tape.drawn c.make_end.new.tape) in
+    let kept = c.make_end.ensures.kept in
+    let writes = c.args.writes.now in
+    let ready = ready_spent run c.requires.ready in
+    let made = c.in-Ok.ensures.made in
+    let low = c.requires.keys in
+    let short = c.requires.short in
+    let may = c.in-Ok.ensures.answers in
+    stage.table_last run1 mid old writes words kept ready made low short may c.close_epoch.new.ring c.close_epoch.ensures.kept t stands
+
+pub returns-in-Err-clause-entries : goal.returns-in-Err-clause-entries
+returns-in-Err-clause-entries g c = tt
+
+pub returns-in-Err-close_epoch-clause-entries : goal.returns-in-Err-close_epoch-clause-entries
+returns-in-Err-close_epoch-clause-entries g c =
+    let run = c.args.run.now in
+    let run1 : Run = record run { spent = true } in
+    let mid = c.make_end.new.run in
+    let old = g.S.Store.disk c.args.store.now in
+    let words = words_since (g.T.Tape.drawn c.args.tape.now) (g.T.Tape.drawn c.make_end.new.tape) in
+    let kept = c.make_end.ensures.kept in
+    let writes = c.args.writes.now in
+    let ready = ready_spent run c.requires.ready in
+    let made = c.in-Ok.ensures.made in
+    let low = c.requires.keys in
+    let short = c.requires.short in
+    let may = c.in-Ok.ensures.answers in
+    subst (λ (e : EndErr). IfEnded (AreEntriesWritten (end_writes run.params writes words run.sealer.generation run.drawn) run.ring c.close_epoch.new.ring) (Err e)) (sym c.end_err.ensures)
+    (if_ended (AreEntriesWritten (end_writes run.params writes words run.sealer.generation run.drawn) run.ring c.close_epoch.new.ring) c.in-Err-close_epoch.refused (stage.entries_last run1 mid old writes words kept ready made low short may c.close_epoch.new.ring c.close_epoch.ensures.kept))
+
+pub returns-clause-entries : goal.returns-clause-entries
+returns-clause-entries g c =
+    let run = c.args.run.now in
+    let run1 : Run = record run { spent = true } in
+    let mid = c.make_end.new.run in
+    let old = g.S.Store.disk c.args.store.now in
+    let words = words_since (g.T.Tape.drawn c.args.tape.now) (g.T.Tape.drawn c.make_end.new.tape) in
+    let kept = c.make_end.ensures.kept in
+    let writes = c.args.writes.now in
+    let ready = ready_spent run c.requires.ready in
+    let made = c.in-Ok.ensures.made in
+    let low = c.requires.keys in
+    let short = c.requires.short in
+    let may = c.in-Ok.ensures.answers in
+    stage.entries_last run1 mid old writes words kept ready made low short may c.close_epoch.new.ring c.close_epoch.ensures.kept
+
+pub returns-in-Err-clause-filled : goal.returns-in-Err-clause-filled
+returns-in-Err-clause-filled g c = λ t stands. tt
+
+pub returns-in-Err-close_epoch-clause-filled : goal.returns-in-Err-close_epoch-clause-filled
+returns-in-Err-close_epoch-clause-filled g c = λ t stands.
+    let run = c.args.run.now in
+    let run1 : Run = record run { spent = true } in
+    let mid = c.make_end.new.run in
+    let old = g.S.Store.disk c.args.store.now in
+    let words = words_since (g.T.Tape.drawn c.args.tape.now) (g.T.Tape.drawn c.make_end.new.tape) in
+    let kept = c.make_end.ensures.kept in
+    let writes = c.args.writes.now in
+    let ready = ready_spent run c.requires.ready in
+    let made = c.in-Ok.ensures.made in
+    let low = c.requires.keys in
+    let short = c.requires.short in
+    let may = c.in-Ok.ensures.answers in
+    subst (λ (e : EndErr). IfEnded (TakeBucketWords run.params t words run.sealer.generation run.sealer.next run.ring c.close_epoch.new.ring) (Err e)) (sym c.end_err.ensures)
+    (if_ended (TakeBucketWords run.params t words run.sealer.generation run.sealer.next run.ring c.close_epoch.new.ring) c.in-Err-close_epoch.refused (stage.filled_last run1 mid old writes words kept ready made low short may c.close_epoch.new.ring c.close_epoch.ensures.kept t stands))
+
+pub returns-clause-filled : goal.returns-clause-filled
+returns-clause-filled g c = λ t stands.
+    let run = c.args.run.now in
+    let run1 : Run = record run { spent = true } in
+    let mid = c.make_end.new.run in
+    let old = g.S.Store.disk c.args.store.now in
+    let words = words_since (g.T.Tape.drawn c.args.tape.now) (g.T.Tape.drawn c.make_end.new.tape) in
+    let kept = c.make_end.ensures.kept in
+    let writes = c.args.writes.now in
+    let ready = ready_spent run c.requires.ready in
+    let made = c.in-Ok.ensures.made in
+    let low = c.requires.keys in
+    let short = c.requires.short in
+    let may = c.in-Ok.ensures.answers in
+    stage.filled_last run1 mid old writes words kept ready made low short may c.close_epoch.new.ring c.close_epoch.ensures.kept t stands
+
+pub returns-in-Err-clause-content : goal.returns-in-Err-clause-content
+returns-in-Err-clause-content g c = tt
+
+pub returns-in-Err-close_epoch-clause-content : goal.returns-in-Err-close_epoch-clause-content
+returns-in-Err-close_epoch-clause-content g c =
+    let run = c.args.run.now in
+    let run1 : Run = record run { spent = true } in
+    let mid = c.make_end.new.run in
+    let old = g.S.Store.disk c.args.store.now in
+    let words = words_since (g.T.Tape.drawn c.args.tape.now) (g.T.Tape.drawn c.make_end.new.tape) in
+    let kept = c.make_end.ensures.kept in
+    let writes = c.args.writes.now in
+    let ready = ready_spent run c.requires.ready in
+    let made = c.in-Ok.ensures.made in
+    let low = c.requires.keys in
+    let short = c.requires.short in
+    let may = c.in-Ok.ensures.answers in
+    let last = c.close_epoch.new.ring in
+    subst (λ (e : EndErr). IfEnded (IsAtContent run.params last) (Err e)) (sym c.end_err.ensures)
+    (sealed_closed ((last.stash).rows ≡ rows_left mid.ring) (IsAtContent run.params last) c.in-Err-close_epoch.refused
+    (λ rows. stage.content_last run1 mid old writes words kept ready made low short may last c.close_epoch.ensures.kept rows) c.in-Err-close_epoch.ensures.rows)
+
+pub returns-clause-content : goal.returns-clause-content
+returns-clause-content g c =
+    let run = c.args.run.now in
+    let run1 : Run = record run { spent = true } in
+    let mid = c.make_end.new.run in
+    let old = g.S.Store.disk c.args.store.now in
+    let words = words_since (g.T.Tape.drawn c.args.tape.now) (g.T.Tape.drawn c.make_end.new.tape) in
+    let kept = c.make_end.ensures.kept in
+    let writes = c.args.writes.now in
+    let ready = ready_spent run c.requires.ready in
+    let made = c.in-Ok.ensures.made in
+    let low = c.requires.keys in
+    let short = c.requires.short in
+    let may = c.in-Ok.ensures.answers in
+    stage.content_last run1 mid old writes words kept ready made low short may c.close_epoch.new.ring c.close_epoch.ensures.kept c.in-Ok-close_epoch.ensures.rows

@@ -8,6 +8,7 @@ use Rattle.ob_recover.specs.Repeats.{BatchIsShown, BatchTells}
 use Rattle.ob_ring.specs.FlatTable.{FinalLifts, after}
 use Rattle.ob_ring.specs.Ring.{Kept}
 use Rattle.ob_end.specs.EndRuns.{HasWords, MakeAnswers, MakeDraws, end_writes, rows_ended}
+use Rattle.ob_end.proofs.ActLaws.{runs_of_ring, stands_of_ring}
 use Rattle.ob_end.proofs.MakeLaws.{is_renewed, lifts_damage, lifts_draw, lifts_told, made_kept, refill_room, renew_answers, renew_draws, renewal, rows_are, seals_are, served_then, when_renewed, words_are, writes_are}
 use Rattle.ob_end.proofs.StashLaws.{has_its_rows}
 use Rattle.ob_end.proofs.making.make_end.Goals as goal
@@ -123,3 +124,18 @@ returns-clause-told g c = λ start t seals stands.
 pub returns-then-run-ge-NUMBER_LIMIT-clause-draws : goal.returns-then-run-ge-NUMBER_LIMIT-clause-draws
 returns-then-run-ge-NUMBER_LIMIT-clause-draws g c = λ t stands.
     inr ((λ (has : HasWords c.args.run.now.params t c.args.run.now.epoch c.args.run.now.drawn). let low = has.epochs in let last = c.if-run-ge-NUMBER_LIMIT.true in absurd (omega (arith, low, last))), refl)
+
+pub returns-in-Err-clause-undamaged : goal.returns-in-Err-clause-undamaged
+returns-in-Err-clause-undamaged g c = λ s at.
+    let run = c.args.run.now in
+    let old = g.S.Store.disk c.args.store.now in
+    let same = c.requires.ready.ready.params in
+    c.in-Err.ensures.sound s run.epoch run.sealer.generation run.left at.tells (stands_of_ring run s old same at) (runs_of_ring run s old same at)
+
+pub returns-clause-undamaged : goal.returns-clause-undamaged
+returns-clause-undamaged g c = λ s at.
+    let run = c.args.run.now in
+    let lifted = c.read_lifts.new.ring in
+    let is = is_renewed (run.drawn + end_words lifted) _ lifted.p.room run.sealer.next (end_seals lifted) c.renew.result
+    (λ more. (c.renew.ensures.worn more).0) (λ few. c.renew.ensures.answers few (after run.ring.p c.requires.ready.planner.table FinalLifts) (c.in-Ok.ensures.table c.requires.ready.planner.table c.requires.ready.planner.stands)) in
+    (renewal _ _ _ _ _ c.renew.result is).undamaged

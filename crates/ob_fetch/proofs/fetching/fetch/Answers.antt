@@ -16,7 +16,7 @@ use Rattle.ob_store.specs.Told.{Tells, TellsFirst}
 use Rattle.ob_tables.specs.Kept.{Held}
 use Rattle.ob_fetch.proofs.AnswerLaws.{item_got}
 use Rattle.ob_fetch.proofs.FetchLaws.{answers_as, answers_refused, begun_leaves, cells_same, does_refused, leaves_none, leaves_read, moves_as, next_is, settled_then, tells_as, within_next, within_then}
-use Rattle.ob_fetch.proofs.ScheduleLaws.{batch_room, plans_as, plans_more, shown_begun, shown_cut, shown_err, shown_well}
+use Rattle.ob_fetch.proofs.ScheduleLaws.{open_begun, open_cut, batch_room, plans_as, plans_more, shown_begun, shown_cut, shown_err, shown_well}
 use Rattle.ob_fetch.proofs.NextLaws.{Begun, answers_then, refused_then, runs_as, runs_next, seals_listed, stands_as, stands_listed, stands_then}
 use Rattle.ob_fetch.specs.Fetches.{AreMapValues, FetchAnswers, values_asked, next_batch, record_next, words_since}
 use Rattle.ob_fetch.specs.declared.run.Run.{Run}
@@ -28,7 +28,7 @@ returns-then-is_worn-clause-images g c =
 
 pub returns-then-is_worn-clause-scheduled : goal.returns-then-is_worn-clause-scheduled
 returns-then-is_worn-clause-scheduled g c =
-    ([], shows_none (g.W.Watch.trace c.args.watch.now), λ content rs was many. front_none c.args.crew.now.lanes _ (g.S.Store.disk c.args.store.now).seen (g.S.Store.disk c.args.store.now).seen (none_noted (g.S.Store.disk c.args.store.now).seen))
+    ([], shows_none (g.W.Watch.trace c.args.watch.now), tt, λ content rs was many. front_none c.args.crew.now.lanes _ (g.S.Store.disk c.args.store.now).seen (g.S.Store.disk c.args.store.now).seen (none_noted (g.S.Store.disk c.args.store.now).seen))
 
 pub begin_batch-requires-clause-keys_low : goal.begin_batch-requires-clause-keys_low
 begin_batch-requires-clause-keys_low g c =
@@ -59,10 +59,15 @@ returns-in_err-begin_batch-clause-scheduled g c =
     let old = g.S.Store.disk c.args.store.now in
     let mid = g.S.Store.disk c.begin_batch.new.store in
     let r = record_next c.args.run.now c.args.asks.now (words_since (g.T.Tape.drawn c.args.tape.now) (g.T.Tape.drawn c.begin_batch.new.tape)) in
+    let first = subst (λ (e : ℕ). TellsFirst (append_notes p e (next_batch run)) old.seen mid.seen (g.W.Watch.trace c.args.watch.now) (g.W.Watch.trace c.begin_batch.new.watch)) (next_is run.epoch) c.in_err-begin_batch.ensures.does.first in
     let shown = shown_begun c.args.crew.now.lanes p run.sealer.generation run.gates run.ring (next_batch run) run.epoch r c.requires.ready.table.0 c.requires.ready.table.1 (batch_room run c.requires.some_left c.requires.ready.few) c.begin_batch.ensures.obeys
-    old.seen mid.seen (g.W.Watch.trace c.args.watch.now) (g.W.Watch.trace c.begin_batch.new.watch)
-    (subst (λ (e : ℕ). TellsFirst (append_notes p e (next_batch run)) old.seen mid.seen (g.W.Watch.trace c.args.watch.now) (g.W.Watch.trace c.begin_batch.new.watch)) (next_is run.epoch) c.in_err-begin_batch.ensures.does.first) in
-    (shown.notes, shown.shows, λ content rs was many. shown_err c.from_residual.result c.from_residual.ensures.0 c.args.crew.now.lanes _ shown.notes old.seen mid.seen (shown.reads_as content rs was many))
+    old.seen mid.seen (g.W.Watch.trace c.args.watch.now) (g.W.Watch.trace c.begin_batch.new.watch) first in (
+      shown.notes,
+      shown.shows,
+      open_begun c.args.crew.now.lanes p run.sealer.generation run.gates run.ring (next_batch run) run.epoch r c.requires.ready.table.0 c.requires.ready.table.1 (batch_room run c.requires.some_left c.requires.ready.few) c.begin_batch.ensures.obeys
+          old.seen mid.seen (g.W.Watch.trace c.args.watch.now) (g.W.Watch.trace c.begin_batch.new.watch) g.S.Store.disk run.sealer.keys c.args.store.now c.begin_batch.new.store first c.from_residual.result,
+      λ content rs was many. shown_err c.from_residual.result c.from_residual.ensures.0 c.args.crew.now.lanes _ shown.notes old.seen mid.seen (shown.reads_as content rs was many),
+    )
 
 pub returns-in-Err-clause-within : goal.returns-in-Err-clause-within
 returns-in-Err-clause-within g c =
@@ -120,7 +125,9 @@ returns-in-Err-clause-scheduled g c =
     let r = record_next c.args.run.now c.args.asks.now (words_since (g.T.Tape.drawn c.args.tape.now) (g.T.Tape.drawn c.begin_batch.new.tape)) in
     let shown = shown_cut c.args.crew.now.lanes run.params run.sealer.generation run.gates run.ring (next_batch run) run.epoch r c.requires.ready.table.0 c.requires.ready.table.1 (batch_room run c.requires.some_left c.requires.ready.few) c.begin_batch.ensures.obeys
     g.S.Store.disk run.sealer.keys c.args.store.now c.read_batch.new.store (g.W.Watch.trace c.args.watch.now) (g.W.Watch.trace c.read_batch.new.watch) c.in-Err.fault (returns-in-Err-clause-does g c) in
-    (shown.notes, shown.shows, shown.reads_as)
+    let opened = open_cut c.args.crew.now.lanes run.params run.sealer.generation run.gates run.ring (next_batch run) run.epoch r c.requires.ready.table.0 c.requires.ready.table.1 (batch_room run c.requires.some_left c.requires.ready.few) c.begin_batch.ensures.obeys
+    g.S.Store.disk run.sealer.keys c.args.store.now c.read_batch.new.store (g.W.Watch.trace c.args.watch.now) (g.W.Watch.trace c.read_batch.new.watch) c.in-Err.fault (returns-in-Err-clause-does g c) in
+    (shown.notes, shown.shows, opened, shown.reads_as)
 
 pub returns-in-Err-clause-stands : goal.returns-in-Err-clause-stands
 returns-in-Err-clause-stands g c =
@@ -258,7 +265,7 @@ returns-clause-scheduled g c =
     let r = record_next c.args.run.now c.args.asks.now (words_since (g.T.Tape.drawn c.args.tape.now) (g.T.Tape.drawn c.begin_batch.new.tape)) in
     let shown = shown_well c.args.crew.now.lanes run.params run.sealer.generation run.gates run.ring (next_batch run) run.epoch r c.requires.ready.table.0 c.requires.ready.table.1 (batch_room run c.requires.some_left c.requires.ready.few) c.begin_batch.ensures.obeys
     g.S.Store.disk run.sealer.keys c.args.store.now c.read_batch.new.store (g.W.Watch.trace c.args.watch.now) (g.W.Watch.trace c.read_batch.new.watch) (returns-clause-does g c) in
-    (shown.notes, shown.shows, shown.reads_as)
+    (shown.notes, shown.shows, tt, shown.reads_as)
 
 pub returns-clause-onward : goal.returns-clause-onward
 returns-clause-onward g c = λ content rs was many.

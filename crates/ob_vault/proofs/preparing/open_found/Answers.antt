@@ -12,7 +12,7 @@ use Rattle.ob_twin.proofs.Frames.{gates_moved}
 use Rattle.ob_recover.specs.Repeats.{IsReplayOf}
 use Rattle.ob_vault.specs.OpeningRuns.{next_notes}
 use Rattle.ob_vault.specs.Openings.{fresh_sealer}
-use Rattle.ob_vault.proofs.FaultLaws.{begin_fault, begin_refusal, repeat_fault, repeat_not_worn, repeat_refusal}
+use Rattle.ob_vault.proofs.FaultLaws.{begin_fault, begin_refusal, begin_stays, repeat_fault, repeat_refusal, repeat_stays}
 use Rattle.ob_vault.proofs.Movings.{repeated_off, synced_on}
 use Rattle.ob_vault.proofs.OpenedLaws.{begins_then, begun_opens, generation_is, opens_then, planner_of, register_same}
 use Rattle.ob_vault.proofs.preparing.open_found.Goals as goal
@@ -41,6 +41,10 @@ returns-in-Err-clause-does g c = inl c.in-Err.ensures.does.first
 
 pub returns-in-Err-clause-begins_err : goal.returns-in-Err-clause-begins_err
 returns-in-Err-clause-begins_err g c = inl (refl, c.in-Err.ensures.does.first)
+
+pub returns-in-Err-clause-stays : goal.returns-in-Err-clause-stays
+returns-in-Err-clause-stays g c =
+    begin_stays c.args.found.generation (g.T.Tape.present c.args.tape.now) c.args.store.now c.begin.new.store c.args.tape.now c.args.watch.now c.begin.new.watch c.in-Err.fault c.in-Err.ensures.faults c.in-Err.ensures.untouched
 
 -- ---- a batch wasn't repeated
 
@@ -114,8 +118,10 @@ returns-in-Err-replay-clause-serves g c =
     serves_err IsStoreFault IsStoreFault old new c.in-Err-replay.fault c.in-Err-replay.fault (λ blamed. blamed)
     (serves_then IsStoreFault old mid new (Err c.in-Err-replay.fault) a.goes a.out a.tells c.in-Err-replay.ensures.serves)
 
-pub returns-in-Err-replay-clause-untouched : goal.returns-in-Err-replay-clause-untouched
-returns-in-Err-replay-clause-untouched g c = λ worn. absurd (repeat_not_worn c.in-Err-replay.fault c.in-Err-replay.ensures.faults worn)
+pub returns-in-Err-replay-clause-stays : goal.returns-in-Err-replay-clause-stays
+returns-in-Err-replay-clause-stays g c =
+    repeat_stays c.args.found.generation (g.T.Tape.present c.start.new.self) c.args.store.now c.replay.new.store c.args.tape.now c.start.new.self c.args.watch.now c.replay.new.watch c.in-Err-replay.fault c.in-Err-replay.ensures.faults
+    (c.start.ensures.in_force ∙ c.in-Ok.ensures.next.0)
 
 pub returns-in-Err-replay-clause-does : goal.returns-in-Err-replay-clause-does
 returns-in-Err-replay-clause-does g c = inr (record {

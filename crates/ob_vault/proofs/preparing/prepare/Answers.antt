@@ -19,7 +19,7 @@ use Rattle.ob_vault.specs.OpeningParts.{IsFoundRefusal}
 use Rattle.ob_vault.specs.OpeningRuns.{IsRingOpened, RefusedDoes}
 use Rattle.ob_vault.specs.OpeningActs.{OpensInLife}
 use Rattle.ob_vault.proofs.ActLaws.{all_acts, found_acts, opens_nothing, reads_told}
-use Rattle.ob_vault.proofs.FaultLaws.{all_does, all_faults, all_refusals, find_does, find_fault, find_refusal, find_standing, not_memory}
+use Rattle.ob_vault.proofs.FaultLaws.{all_does, all_faults, all_refusals, all_writes, find_does, find_fault, find_refusal, find_standing, find_writes}
 use Rattle.ob_vault.proofs.OpenedLaws.{found_same}
 use Rattle.ob_vault.proofs.StoodLaws.{all_standing}
 use Rattle.ob_vault.proofs.WholeLaws.{all_leaves, all_opened, all_tapes, tape_of}
@@ -30,8 +30,8 @@ use Rattle.ob_vault.proofs.preparing.prepare.Goals as goal
 pub returns-in-Err-clause-leaves : goal.returns-in-Err-clause-leaves
 returns-in-Err-clause-leaves g c = inl (passed_none (g.S.Store.disk c.args.store.now) Same (λ image. refl))
 
-pub returns-in-Err-clause-memory : goal.returns-in-Err-clause-memory
-returns-in-Err-clause-memory g c = λ is. (refl, record { tells = λ tells. tells; cells = λ tells k. refl }, passed_none (g.S.Store.disk c.args.store.now) Same (λ image. refl))
+pub returns-in-Err-clause-unwritten : goal.returns-in-Err-clause-unwritten
+returns-in-Err-clause-unwritten g c = record { tape = refl; keeps = record { tells = λ tells. tells; cells = λ tells k. refl }; passes = passed_none (g.S.Store.disk c.args.store.now) Same (λ image. refl) }
 
 pub returns-in-Err-clause-does_err : goal.returns-in-Err-clause-does_err
 returns-in-Err-clause-does_err g c = inl (first_none registers_notes _ _ _ (none_noted (g.S.Store.disk c.args.store.now).seen))
@@ -59,8 +59,10 @@ returns-in-Err-find-clause-stands g c = λ s tells stands.
 pub returns-in-Err-find-clause-leaves : goal.returns-in-Err-find-clause-leaves
 returns-in-Err-find-clause-leaves g c = inl c.in-Err-find.ensures.passes
 
-pub returns-in-Err-find-clause-memory : goal.returns-in-Err-find-clause-memory
-returns-in-Err-find-clause-memory g c = λ is. (refl, c.in-Err-find.ensures.keeps, c.in-Err-find.ensures.passes)
+pub returns-in-Err-find-clause-unwritten : goal.returns-in-Err-find-clause-unwritten
+returns-in-Err-find-clause-unwritten g c =
+    find_writes g.S.Store.disk c.args.keys.now c.args.p.now c.args.store.now c.find.new.store c.args.tape.now c.args.tape.now (g.T.Tape.present c.args.tape.now) (g.T.Tape.drawn c.args.tape.now) c.in-Err-find.fault c.in-Err-find.ensures.faults
+    (record { tape = refl; keeps = c.in-Err-find.ensures.keeps; passes = c.in-Err-find.ensures.passes })
 
 pub returns-in-Err-find-clause-does_err : goal.returns-in-Err-find-clause-does_err
 returns-in-Err-find-clause-does_err g c =
@@ -141,15 +143,20 @@ returns-clause-tape_err g c =
     (g.W.Watch.trace c.args.watch.now) (g.W.Watch.trace c.find.new.watch) (g.W.Watch.trace c.open_found.new.watch) c.in-Ok-find.ensures.does c.in-Ok-find.ensures.value
     (g.T.Tape.present c.open_found.new.tape) (g.T.Tape.drawn c.open_found.new.tape) c.args.tape.now c.open_found.new.tape c.open_found.result c.open_found.ensures.begins_err
 
-pub returns-clause-memory : goal.returns-clause-memory
-returns-clause-memory g c = λ is. not_memory c.in-Ok-find.found.generation c.open_found.result _ c.open_found.ensures.faults is
+pub returns-clause-unwritten : goal.returns-clause-unwritten
+returns-clause-unwritten g c =
+    all_writes g.S.Store.disk c.args.keys.now c.args.p.now c.in-Ok-find.found.generation c.args.store.now c.find.new.store c.open_found.new.store c.args.tape.now c.open_found.new.tape g.T.Tape.present (g.T.Tape.drawn c.open_found.new.tape)
+    c.find.new.watch c.open_found.new.watch c.in-Ok-find.ensures.keeps c.in-Ok-find.ensures.passes c.requires.unstarted c.open_found.result c.open_found.ensures.faults c.open_found.ensures.stays
+    (all_tapes g.S.Store.disk c.args.keys.now c.args.p.now c.args.store.now c.find.new.store c.open_found.new.store c.in-Ok-find.ensures.keeps c.in-Ok-find.ensures.passes c.in-Ok.rooms.crew.lanes c.in-Ok-find.found
+    (g.W.Watch.trace c.args.watch.now) (g.W.Watch.trace c.find.new.watch) (g.W.Watch.trace c.open_found.new.watch) c.in-Ok-find.ensures.does c.in-Ok-find.ensures.value
+    (g.T.Tape.present c.open_found.new.tape) (g.T.Tape.drawn c.open_found.new.tape) c.args.tape.now c.open_found.new.tape c.open_found.result c.open_found.ensures.begins_err)
 
 pub returns-clause-does_err : goal.returns-clause-does_err
 returns-clause-does_err g c =
     subst (λ n. IfErr c.open_found.result (RefusedDoes c.args.keys.now n c.args.p.now (g.S.Store.disk c.args.store.now) (g.S.Store.disk c.open_found.new.store) (g.W.Watch.trace c.args.watch.now) (g.W.Watch.trace c.open_found.new.watch)))
     (ap (λ (m : Manned). m.lanes) c.in-Ok.ensures.crew)
-    (all_does g.S.Store.disk g.W.Watch.trace c.args.keys.now c.in-Ok.rooms.crew.lanes c.args.p.now c.in-Ok-find.found c.args.store.now c.find.new.store c.open_found.new.store c.args.watch.now c.find.new.watch c.open_found.new.watch c.open_found.result
-    c.in-Ok-find.ensures.value c.in-Ok-find.ensures.keeps c.in-Ok-find.ensures.passes c.in-Ok-find.ensures.does c.open_found.ensures.faults c.open_found.ensures.does c.open_found.ensures.untouched)
+    (all_does g.S.Store.disk g.W.Watch.trace c.args.keys.now c.in-Ok.rooms.crew.lanes c.args.p.now c.in-Ok-find.found c.args.store.now c.find.new.store c.open_found.new.store c.args.tape.now c.open_found.new.tape (g.T.Tape.present c.open_found.new.tape) c.args.watch.now c.find.new.watch c.open_found.new.watch c.open_found.result
+    c.in-Ok-find.ensures.value c.in-Ok-find.ensures.keeps c.in-Ok-find.ensures.passes c.in-Ok-find.ensures.does c.open_found.ensures.faults c.open_found.ensures.does c.open_found.ensures.stays)
 
 pub returns-clause-acts : goal.returns-clause-acts
 returns-clause-acts g c = λ word_of s pending tells left.

@@ -1,4 +1,4 @@
-use Rattle.std.proofs.Common.{◌≡◌, ◌<◌, ◌≤◌, ◌^◌, true, false, length, take, ap, sym, ◌∙◌, subst}
+use Rattle.std.proofs.Common.{suc, ◌≡◌, ◌<◌, ◌≤◌, ◌^◌, true, false, length, take, ap, sym, ◌∙◌, subst}
 use Rattle.ob_base.specs.declared.params.Params.{Params}
 use Rattle.ob_base.specs.declared.value.Write.{Write}
 use Rattle.ob_base.specs.Planned.{most_jobs}
@@ -10,9 +10,9 @@ use Rattle.ob_serial.specs.VaultViews.{writes_of}
 use Rattle.ob_twin.specs.Opening.{GatesAre}
 use Rattle.ob_ring_vault.specs.declared.known.Known.{Known}
 use Rattle.ob_ring_vault.specs.RingVaults.{running}
-use Rattle.ob_ring_vault.proofs.Callings.{end_called}
+use Rattle.ob_ring_vault.proofs.Callings.{end_called, first_of_three, second_of_three}
 use Rattle.ob_ring_vault.proofs.Holding.{alike_kept, end_holds, end_images, end_sound, lent_leaves, s, serves}
-use Rattle.ob_ring_vault.proofs.Lending.{end_few, end_ready, end_small, end_told}
+use Rattle.ob_ring_vault.proofs.Lending.{end_few, end_grows, end_ready, end_small, end_told}
 use Rattle.ob_ring_vault.proofs.Ready.{ready_of}
 use Rattle.ob_ring_vault.proofs.Written.{at_all, short_at, writes_plain}
 use Rattle.ob_ring_vault.proofs.vault.RingVaultVault.end.Goals as goal
@@ -74,17 +74,46 @@ returns-clause-called g c =
     let words = words_since (g.T.Tape.drawn c.args.self.now.lent.tape.now) (g.T.Tape.drawn c.end-result.new.tape) in
     let ws = end_writes run.params writes words run.sealer.generation run.drawn in
     let plain = writes_plain run.params writes (take run.params.writes words) (run.sealer.generation, run.drawn) in
+    let kept = ready_of run (c.args.self.now.ready c.requires.serves) in
+    let serving = ap (λ (k : Known). k.spent) c.args.self.now.known ∙ c.requires.serves in
+    let some = (c.end-result.ensures.seals kept.planner.table kept.planner.stands).some in
     let told = c.end-result.ensures.scheduled in (
       told.0,
       told.1,
       end_called g.S.Store.disk (running c.args.self.now.lent.store.now (g.T.Tape.drawn c.args.self.now.lent.tape.now) c.args.self.now.crew.lanes run) (running c.end-result.new.store (g.T.Tape.drawn c.end-result.new.tape) c.end-result.new.crew.lanes c.end-result.new.run) told.0 writes c.end-result.result
           (record {
-            params = c.end-result.ensures.params;
+            run = record {
+              params = c.end-result.ensures.params;
+              lanes = ap (λ (m : Manned). m.lanes) c.end-result.ensures.crew;
+              keys = some.keys;
+              generation = some.generation;
+              on = some.on;
+              was_drawn = sym (ap (λ (k : Known). k.drawn) c.args.self.now.known) ∙ c.args.self.now.lent.drawn serving;
+              drawn = c.end-result.ensures.drawn;
+              grows = end_grows run.params kept.planner.table run.epoch run.drawn (g.T.Tape.drawn c.args.self.now.lent.tape.now) (g.T.Tape.drawn c.end-result.new.tape) c.end-result.result (c.end-result.ensures.draws kept.planner.table kept.planner.stands);
+              goes = c.end-result.ensures.serves.goes;
+              moments = c.end-result.ensures.moments;
+            };
+            none_left = c.requires.none_left;
+            few = c.requires.few;
+            epoch = first_of_three (c.end-result.new.run.epoch ≡ suc run.epoch) (c.end-result.new.run.left ≡ run.params.batches) (c.end-result.new.run.spent ≡ false) c.end-result.result c.end-result.ensures.served;
+            left = second_of_three (c.end-result.new.run.epoch ≡ suc run.epoch) (c.end-result.new.run.left ≡ run.params.batches) (c.end-result.new.run.spent ≡ false) c.end-result.result c.end-result.ensures.served;
+            gates = c.end-result.ensures.gates;
+            refusal = c.end-result.ensures.faults;
+            answers = c.end-result.ensures.answers;
+            damage = c.end-result.ensures.damage;
+            undamaged = c.end-result.ensures.undamaged;
+            sealed = c.end-result.ensures.sealed;
             draws = c.end-result.ensures.draws;
             seals = c.end-result.ensures.seals;
             scheduled = told.2;
             onward = c.end-result.ensures.onward;
             table = c.end-result.ensures.table;
+            entries = c.end-result.ensures.entries;
+            filled = c.end-result.ensures.filled;
+            content = c.end-result.ensures.content;
+            stands = c.end-result.ensures.stands;
+            images = c.end-result.ensures.images;
           }),
     )
 

@@ -1,14 +1,15 @@
-use Rattle.std.proofs.Common.{◌≡◌, ◌<◌, ◌≤◌, ◌^◌, ap, sym, subst}
+use Rattle.std.proofs.Common.{◌+◌, ◌∙◌, ◌%◌, false, suc, ◌≡◌, ◌<◌, ◌≤◌, ◌^◌, ap, sym, subst}
 use Rattle.ob_base.specs.declared.params.Params.{Params}
 use Rattle.ob_base.specs.Planned.{most_jobs}
 use Rattle.ob_batch.specs.Jobs.{Manned}
 use Rattle.ob_fetch.specs.declared.run.Run.{Run}
-use Rattle.ob_fetch.specs.Fetches.{record_next, words_since}
+use Rattle.ob_fetch.specs.Fetches.{next_batch, record_next, words_since}
 use Rattle.ob_ring.proofs.PlanLaws.{seals_none}
+use Rattle.ob_ring_vault.specs.declared.known.Known.{Known}
 use Rattle.ob_ring_vault.specs.RingVaults.{running}
-use Rattle.ob_ring_vault.proofs.Callings.{fetch_called, open_first}
+use Rattle.ob_ring_vault.proofs.Callings.{fetch_called, fetch_moments, fetch_stood, fetch_undamaged, first_of, open_first}
 use Rattle.ob_ring_vault.proofs.Holding.{alike_kept, fetch_answered, fetch_holds, fetch_images, fetch_sound, lent_leaves, s, serves}
-use Rattle.ob_ring_vault.proofs.Lending.{fetch_ready}
+use Rattle.ob_ring_vault.proofs.Lending.{fetch_grows, fetch_ready}
 use Rattle.ob_ring_vault.proofs.Ready.{ready_of}
 use Rattle.ob_ring_vault.proofs.vault.RingVaultVault.fetch.Goals as goal
 
@@ -76,18 +77,45 @@ returns-clause-called g c =
     let asks = c.args.asks.now in
     let words = words_since (g.T.Tape.drawn c.args.self.now.lent.tape.now) (g.T.Tape.drawn c.fetch-result.new.tape) in
     let r = record_next run asks words in
+    let serving = ap (λ (k : Known). k.spent) c.args.self.now.known ∙ c.requires.serves in
+    let some = c.fetch-result.ensures.seals.some in
     let told = c.fetch-result.ensures.scheduled in (
       told.0,
       told.1,
       fetch_called g.S.Store.disk (running c.args.self.now.lent.store.now (g.T.Tape.drawn c.args.self.now.lent.tape.now) c.args.self.now.crew.lanes run) (running c.fetch-result.new.store (g.T.Tape.drawn c.fetch-result.new.tape) c.fetch-result.new.crew.lanes c.fetch-result.new.run) told.0 asks c.fetch-result.new.out c.fetch-result.result
           (record {
-            params = ap (λ (x : Run). x.params) c.fetch-result.ensures.kept;
+            run = record {
+              params = ap (λ (x : Run). x.params) c.fetch-result.ensures.kept;
+              lanes = ap (λ (m : Manned). m.lanes) c.fetch-result.ensures.crew;
+              keys = some.keys;
+              generation = some.generation;
+              on = some.on;
+              was_drawn = sym (ap (λ (k : Known). k.drawn) c.args.self.now.known) ∙ c.args.self.now.lent.drawn serving;
+              drawn = c.fetch-result.ensures.drawn;
+              grows = fetch_grows run.params.places (g.T.Tape.drawn c.args.self.now.lent.tape.now) (g.T.Tape.drawn c.fetch-result.new.tape) c.fetch-result.result c.fetch-result.ensures.draws;
+              goes = c.fetch-result.ensures.serves.goes;
+              moments = fetch_moments run.params (suc run.epoch % 2) (next_batch run) old new c.fetch-result.ensures.within;
+            };
+            some_left = c.requires.some_left;
+            whole = c.requires.whole;
+            epoch = ap (λ (x : Run). x.epoch) c.fetch-result.ensures.kept;
+            gates = ap (λ (x : Run). x.gates) c.fetch-result.ensures.kept;
+            left = first_of (c.fetch-result.new.run.left + 1 ≡ run.left) (c.fetch-result.new.run.spent ≡ false) c.fetch-result.result c.fetch-result.ensures.served;
+            refusal = c.fetch-result.ensures.faults;
+            worn = c.fetch-result.ensures.worn;
+            idle = λ out. (c.fetch-result.ensures.idle out).0;
+            answers = c.fetch-result.ensures.value;
+            undamaged = λ s at. fetch_undamaged s r asks new c.fetch-result.new.run c.fetch-result.new.out c.fetch-result.result (c.fetch-result.ensures.stands s at);
+            sealed = c.fetch-result.ensures.sealed;
             draws = c.fetch-result.ensures.draws;
             seals = c.fetch-result.ensures.seals;
-            scheduled = told.2;
+            scheduled = told.3;
+            shown = told.2;
             onward = c.fetch-result.ensures.onward;
             logged = λ t stands. open_first g.S.Store.disk _ _ _ _ r _ _ _ _ _ _ c.fetch-result.result (c.fetch-result.ensures.does run.ring.metas t (seals_none run.ring.metas) stands);
             moves = c.fetch-result.ensures.moves;
+            stands = λ s at. fetch_stood s r asks new c.fetch-result.new.run c.fetch-result.new.out c.fetch-result.result (c.fetch-result.ensures.stands s at);
+            images = c.fetch-result.ensures.images;
           }),
     )
 

@@ -1,0 +1,90 @@
+-- What an end seals, leaves of the register of generations, and tells damaged.
+use Rattle.std.specs.Prelude.{◌≡◌, ℕ, List, Err}
+use Rattle.std.proofs.Common.{◌∙◌, ap, arith, inl, inr, sym, subst}
+use mathlib.Core.Path.{fun_ext}
+use Rattle.ob_base.specs.declared.fault.Fault.{Fault}
+use Rattle.ob_base.specs.declared.params.Params.{Params}
+use Rattle.ob_bucket.specs.Version.{Version}
+use Rattle.ob_cells.specs.Runs.{IsFurther}
+use Rattle.ob_ending.specs.Lifts.{IsUndamaged}
+use Rattle.ob_end_writes.specs.EndWrites.{SameFirst}
+use Rattle.ob_fetch.specs.declared.run.Run.{Run}
+use Rattle.ob_fetch.specs.Fetches.{RunIsAt, RunsAt}
+use Rattle.ob_pads.specs.Seals.{CellsAreSealed}
+use Rattle.ob_pads.proofs.Sealing.{none_sealed, sealed_join}
+use Rattle.ob_ring.specs.FlatTable.{FlatTable}
+use Rattle.ob_seal.specs.Sealing.{Sealing}
+use Rattle.ob_seal.specs.declared.keys.Keys.{Keys}
+use Rattle.ob_stand.specs.Stands.{RingStanding, Stands}
+use Rattle.ob_store.specs.Disk.{Disk, Image}
+use Rattle.ob_store.specs.Images.{Passes, Same}
+use Rattle.ob_store.proofs.Moments.{passed_then, passes_so}
+use Rattle.ob_twin.specs.Refused.{IsSetFault}
+use Rattle.ob_twin.specs.Register.{SameOutside}
+use Rattle.ob_twin.specs.declared.set_err.SetErr.{SetErr}
+use Rattle.ob_twin.specs.declared.set_err.SetErr.TheVariants as set
+use Rattle.ob_twin.specs.declared.twin.Twin.TheVariants.{EPOCH}
+use Rattle.ob_end.specs.Closings.{IfWritten, SameGeneration}
+use Rattle.ob_end.specs.EndRuns.{EndDamage, IfEnded, IsEndUndamaged, MakeDamage, end_err_of}
+
+-- ---- what is sealed
+
+-- the epoch's register behind cells that were sealed
+pub set_sealed : (many : ℕ) (was now : Sealing) (old mid new : Image) → IsFurther many was now → CellsAreSealed was now old mid → SameOutside 5 new mid → CellsAreSealed was now old new
+set_sealed many was now old mid new on first rest =
+    sealed_join was now now old mid new
+    (record { keys = on.keys; generation = on.generation; on = on.on })
+    (record { keys = λ i. now.keys; generation = λ i. now.generation; on = omega arith })
+    first
+    (none_sealed now now mid new (λ cell low. inl (rest cell (inr low))))
+
+-- from the sealer and the image before the lifts, which seal nothing and write nothing
+pub sealed_from : (was mid now : Sealing) (old mids new : Image) → mid ≡ was → ((k : ℕ) → mids k ≡ old k) → CellsAreSealed mid now mids new → CellsAreSealed was now old new
+sealed_from was mid now old mids new same kept sealed =
+    subst (λ (s : Sealing). CellsAreSealed s now old new) same
+    (subst (λ (i : Image). CellsAreSealed mid now i new) (fun_ext kept) sealed)
+
+pub sealed_closed : (A B : Type 0) (x : SetErr) → (A → B) → IfWritten A (Err x) → IfEnded B (Err (end_err_of x))
+sealed_closed A B (set.Before f) so a = tt
+sealed_closed A B (set.Unsure f) so a = so a
+
+-- ---- the register of generations
+
+join : (c d e : Image) → SameGeneration c d → SameGeneration d e → SameGeneration c e
+join c d e one two k lt = one k lt ∙ two k lt
+
+pub written_moments : (old mid : Disk) → Passes SameFirst old mid → Passes SameGeneration old mid
+written_moments old mid passes = passes_so SameFirst SameGeneration old mid (λ c d same k lt. same k (omega arith)) passes
+
+pub set_moments : (old mid new : Disk) → Passes SameFirst old mid → Passes (SameOutside 5) mid new → Passes SameGeneration old new
+set_moments old mid new first last =
+    passed_then SameGeneration old mid new join (written_moments old mid first)
+    (passes_so (SameOutside 5) SameGeneration mid new (λ c d same k lt. same k (inl lt)) last)
+
+pub read_moments : (old mid : Disk) → Passes Same old mid → Passes SameGeneration old mid
+read_moments old mid passes = passes_so Same SameGeneration old mid (λ c d same k lt. ap (λ (i : Image). i k) same) passes
+
+pub end_moments : (old mid new : Disk) → Passes Same old mid → Passes SameGeneration mid new → Passes SameGeneration old new
+end_moments old mid new first last = passed_then SameGeneration old mid new join (read_moments old mid first) last
+
+-- ---- damage
+
+module _ (keys : Keys) (p : Params) (versions : List Version) (t : FlatTable) where
+  pub damage_made : (old mid : Image) (f : Fault) → ((k : ℕ) → mid k ≡ old k) → MakeDamage keys p versions old t (Err f) → MakeDamage keys p versions mid t (Err f)
+  damage_made old mid f kept damage = subst (λ (i : Image). MakeDamage keys p versions i t (Err f)) (sym (fun_ext kept)) damage
+
+  pub damage_closed : (image : Image) (n : ℕ) (x : SetErr) → IsSetFault EPOCH n x → EndDamage keys p versions image t (Err (end_err_of x))
+  damage_closed image n (set.Before f) is = subst (λ (y : Fault). MakeDamage keys p versions image t (Err y)) (sym is) tt
+  damage_closed image n (set.Unsure f) is = tt
+
+pub undamaged_closed : (n : ℕ) (x : SetErr) → IsSetFault EPOCH n x → IsEndUndamaged (Err (end_err_of x))
+undamaged_closed n (set.Before f) is = subst (λ (y : Fault). IsUndamaged (Err y)) (sym is) tt
+undamaged_closed n (set.Unsure f) is = tt
+
+-- the run's own parameters are its planner's
+module _ (run : Run) (s : RingStanding) (disk : Disk) (same : (run.ring).p ≡ run.params) (at : RunIsAt run s disk) where
+  pub stands_of_ring : Stands (run.sealer).keys (run.ring).p s disk.cells
+  stands_of_ring = subst (λ (q : Params). Stands (run.sealer).keys q s disk.cells) (sym same) at.stands
+
+  pub runs_of_ring : RunsAt (run.sealer).keys (run.ring).p run.epoch (run.sealer).generation run.left run.ring s disk.cells
+  runs_of_ring = subst (λ (q : Params). RunsAt (run.sealer).keys q run.epoch (run.sealer).generation run.left run.ring s disk.cells) (sym same) at.runs

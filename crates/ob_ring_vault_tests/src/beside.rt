@@ -1,0 +1,220 @@
+//! Random calls on a ring vault and on a plain vault, and crashes of the ring store between.
+
+ghost use Rattle.std.specs.Prelude.{◌≡◌};
+ghost use Rattle.ob_mem.specs.Memory.{disk_of_store};
+
+use crate::calls::may_serve_all;
+use crate::opening::{new_store, open_ring, params_of, serve_ring, serve_store, test_keys};
+use crate::random::{Random, calls_of};
+use ob_base::{Params, Value, ring_cells};
+use ob_flat::FlatVault;
+use ob_mem::MemStore;
+use ob_plain_serial::{Reply, Request, serve_all};
+use ob_serial::Vault;
+use ob_store::{Blind, Note, Watch};
+use ob_tape::ChaChaTape;
+use std::alloc::Global;
+use std::process::Abort;
+
+// Counts writes and syncs.
+#[derive(Drop)]
+struct Count {
+    made: usize,
+}
+
+impl Watch for Count {
+    ghost use Rattle.std.specs.Prelude.{None, false, []};
+
+    ghost trace = { λ _. record { written = None; broken = false; faults = 0; anchors = [] } };
+
+    fn note(&mut self, note: Note) {
+        match note {
+            Note::Write(_) | Note::Sync => self.made = self.made.saturating_add(1),
+            Note::Label(_) | Note::Read(_) => {}
+        }
+    }
+
+    fn broken(&self) -> bool {
+        false
+    }
+}
+
+// A tape of random words.
+fn new_tape() -> ChaChaTape
+    ensures { result.generation ≡ 0 }
+{
+    ChaChaTape::new(&[7; 32])
+}
+
+// What a new plain vault answers.
+fn plain_replies(rt: &impl Abort, alloc: Global, p: &Params, calls: &[Request]) -> Vec<Reply> {
+    let keys = test_keys();
+    let cells = ob_flat::cells(p) as usize;
+    let mut store = MemStore::new(alloc, cells, Vec::new(alloc)).expect(rt, "memory");
+    assert!(rt; ob_flat::format(&mut store, &keys, p, &mut Blind).is_ok());
+    let opened = ob_flat::prepare(alloc, &mut store, &keys, p, &mut Blind);
+    let mut vault = FlatVault::over(&mut store, opened.ok().expect(rt, "an opening"));
+    assert!(rt; !vault.spent());
+    assert!(rt; may_serve_all(&vault.params(), vault.left(), calls));
+    serve_all(alloc, &mut vault, calls, &mut Blind).expect(rt, "memory")
+}
+
+fn are_same_values(one: &[Option<Value>], other: &[Option<Value>]) -> bool {
+    if one.len() != other.len() {
+        return false;
+    }
+    for i in 0..one.len() {
+        if one[i] != other[i] {
+            return false;
+        }
+    }
+    true
+}
+
+// Whether both are the same, and no refusal.
+fn is_same_reply(one: &Reply, other: &Reply) -> bool {
+    match (one, other) {
+        (Reply::Values(one), Reply::Values(other)) => are_same_values(one, other),
+        (Reply::Ended, Reply::Ended) => true,
+        _ => false,
+    }
+}
+
+// Whether these are so many replies from this place on.
+fn are_from(replies: &[Reply], wanted: &[Reply], place: usize, many: usize) -> bool {
+    if replies.len() != many || wanted.len() < many || wanted.len() - many < place {
+        return false;
+    }
+    for i in 0..many {
+        if !is_same_reply(&replies[i], &wanted[place + i]) {
+            return false;
+        }
+    }
+    true
+}
+
+// What a crash leaves at this moment: in the cells that aren't sure what they got last, or other bytes.
+fn left_after(
+    rt: &impl Abort,
+    alloc: Global,
+    store: &MemStore,
+    moment: usize,
+    cells: u64,
+    random: &mut Random,
+) -> MemStore
+    ensures { (disk_of_store result).out ≡ 0 }
+{
+    let mut fillings = Vec::new(alloc);
+    let all = random.below(2) == 0;
+    for cell in 0..cells {
+        if all || random.below(2) == 0 {
+            let byte = if random.below(2) == 0 { 0xA5 } else { 0 };
+            fillings.push((cell, [byte; 128])).expect(rt, "memory");
+        }
+    }
+    store.crash(moment, &fillings).expect(rt, "memory")
+}
+
+// The calls that an opened vault has behind it, of so many batches an epoch.
+fn calls_behind(p: &Params, epoch: u64, left: u32) -> u64 {
+    let batches = u64::from(p.batches);
+    epoch
+        .saturating_mul(batches + 1)
+        .saturating_add(batches.saturating_sub(u64::from(left)))
+}
+
+// Opens what a crash left, and makes the calls of two epochs from where it stands on: they are answered
+// as without a crash.
+fn serve_on(
+    rt: &impl Abort,
+    alloc: Global,
+    left: &mut MemStore,
+    p: &Params,
+    calls: &[Request],
+    wanted: &[Reply],
+)
+    requires { (disk_of_store left.old).out ≡ 0 }
+{
+    let mut tape = new_tape();
+    let opened = open_ring(alloc, left, &mut tape, &test_keys(), p, &mut Blind);
+    let mut vault = opened.ok().expect(rt, "an opening");
+    let place = calls_behind(p, vault.epoch(), vault.left());
+    assert!(rt; place <= calls.len() as u64);
+    let place = place as usize;
+    let many = (calls.len() - place).min(2 * (p.batches as usize + 1));
+    let replies = serve_ring(
+        rt,
+        alloc,
+        &mut vault,
+        &calls[place..place + many],
+        &mut Blind,
+    )
+    .expect(rt, "memory");
+    assert!(rt; are_from(&replies, wanted, place, many));
+}
+
+const SETS: [[u32; 9]; 8] = [
+    [8, 2, 2, 3, 2, 2, 2, 2, 8],
+    [1, 1, 1, 1, 1, 1, 1, 1, 1],
+    [4, 1, 2, 1, 1, 1, 4, 1, 4],
+    [16, 3, 2, 2, 3, 3, 5, 1, 16],
+    [40, 3, 8, 1, 2, 4, 40, 2, 40],
+    [64, 4, 4, 6, 4, 4, 8, 8, 64],
+    [100, 5, 4, 5, 16, 2, 16, 4, 100],
+    [256, 8, 4, 6, 4, 4, 8, 8, 256],
+];
+
+const EPOCHS: u32 = 50;
+
+const CRASHES: usize = 20;
+
+// A ring store that crashes at so many moments of these calls; each time another opening of what is left
+// serves on.
+fn crash_often(
+    rt: &impl Abort,
+    alloc: Global,
+    p: &Params,
+    calls: &[Request],
+    wanted: &[Reply],
+    random: &mut Random,
+) {
+    let mut count = Count { made: 0 };
+    let mut store = new_store(rt, alloc, p, &[], &mut count);
+    let formatted = count.made;
+    let mut tape = new_tape();
+    let replies = serve_store(
+        rt,
+        alloc,
+        &mut store,
+        &mut tape,
+        &test_keys(),
+        p,
+        calls,
+        &mut count,
+    )
+    .ok()
+    .expect(rt, "an opening");
+    assert!(rt; are_from(&replies, wanted, 0, calls.len()));
+    let part = count.made.saturating_sub(formatted) / CRASHES;
+    for i in 0..CRASHES {
+        let within = random.below(part.min(1_000_000) as u32 + 1) as usize;
+        let moment = formatted
+            .saturating_add(part.saturating_mul(i))
+            .saturating_add(within);
+        let mut left = left_after(rt, alloc, &store, moment, ring_cells(p), random);
+        serve_on(rt, alloc, &mut left, p, calls, wanted);
+    }
+}
+
+#[test]
+fn a_ring_vault_answers_as_a_plain_one_and_after_each_crash(rt: HostRuntime) {
+    let alloc = rt.alloc();
+    let mut random = Random { state: 1 };
+    for numbers in SETS {
+        let p = params_of(&rt, numbers);
+        let calls = calls_of(&rt, alloc, &mut random, &p, EPOCHS);
+        let wanted = plain_replies(&rt, alloc, &p, &calls);
+        assert_eq!(rt; wanted.len(), calls.len());
+        crash_often(&rt, alloc, &p, &calls, &wanted, &mut random);
+    }
+}

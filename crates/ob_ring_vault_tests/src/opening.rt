@@ -1,0 +1,131 @@
+//! Ring stores, opened, and vaults over them.
+
+ghost use Rattle.std.specs.Prelude.{◌≡◌, ℕ, map, IfOk};
+ghost use Rattle.std.specs.FinMap as finite;
+ghost use Rattle.std.specs.Ordering.{nat_cmp};
+ghost use Rattle.ob_mem.specs.Memory.{disk_of_store};
+ghost use Rattle.ob_ring_vault.specs.RingVaults.{RingHolds, RingSound};
+ghost use Rattle.ob_ring_vault_tests.specs.Opened.{opened_ring_at};
+ghost use Rattle.ob_serial.specs.Serial.{Map};
+ghost use Rattle.ob_serial.specs.Vaults.{VaultState};
+ghost use Rattle.ob_plain_serial.specs.VaultRuns.{AnsweredBy, answer_of, call_of};
+ghost use Rattle.ob_stand.specs.Stands.{RingStanding, Stands};
+
+use crate::calls::may_serve_all;
+use ob_base::{Fault, Memory, Params, ring_cells};
+use ob_mem::{Fail, MemStore};
+use ob_plain_serial::{Reply, Request, serve_all};
+use ob_ring_vault::RingVault;
+use ob_seal::Keys;
+use ob_serial::Vault;
+use ob_store::{Store, Watch};
+use ob_tape::{ListTape, Tape};
+use ob_vault::{format, prepare};
+use std::alloc::Global;
+use std::process::Abort;
+
+// The bytes 0 to 95.
+pub fn test_keys() -> Keys {
+    let mut bytes = [0; 96];
+    for i in 0..96 {
+        bytes[i] = i as u8;
+    }
+    Keys::from_bytes(&bytes)
+}
+
+// The parameters with these numbers.
+pub fn params_of(rt: &impl Abort, numbers: [u32; 9]) -> Params {
+    let [n, l, z, s, r, br, bw, e, t] = numbers;
+    Params::new(n, l, z, s, r, br, bw, e, t).expect(rt, "parameters")
+}
+
+// A new ring store in memory, where these calls fail.
+pub fn new_store<W: Watch>(
+    rt: &impl Abort,
+    alloc: Global,
+    p: &Params,
+    fails: &[Fail],
+    watch: &mut W,
+) -> MemStore
+    ensures { (disk_of_store result).out ≡ 0 }
+{
+    let fails = fails.to_vec(alloc).expect(rt, "memory");
+    let mut store = MemStore::new(alloc, ring_cells(p) as usize, fails).expect(rt, "memory");
+    let mut tape = ListTape::new(alloc, &[]).expect(rt, "memory");
+    assert!(rt; format(alloc, &mut store, &mut tape, &test_keys(), p, watch).is_ok());
+    store
+}
+
+// A vault over a store that is opened. Where that stood it is sound, with what stood.
+pub fn open_ring<'a, S: Store, T: Tape, W: Watch>(
+    alloc: Global,
+    store: &'a mut S,
+    tape: &'a mut T,
+    keys: &Keys,
+    p: &Params,
+    watch: &mut W,
+) -> Result<RingVault<'a, S, T>, Fault>
+    requires none_out { (S.disk store.old).out ≡ 0 }
+    requires unstarted { T.present tape.old ≡ 0 }
+    ensures params { IfOk result (λ vault. vault.run.params ≡ p.now) }
+    ensures sound { IfOk result (λ vault. (s : RingStanding) (content : Map nat_cmp)
+        → (S.disk store.entry.now).tells → Stands keys.now p.now s (S.disk store.entry.now).cells
+        → ((k : ℕ) → s.map k ≡ finite.get content k)
+        → RingSound vault.run (S.disk vault.lent.store.now) (opened_ring_at p.now s content)) }
+{
+    match prepare(alloc, store, tape, keys, p, 1, watch) {
+        Ok(opening) => Ok(RingVault::over(store, tape, opening)),
+        Err(fault) => Err(fault),
+    }
+}
+
+// Makes calls on a ring vault, up to the first that it refuses: the answers are those of a map by
+// epochs, from the one that it held to the one that it holds.
+pub fn serve_ring<S: Store, T: Tape, W: Watch>(
+    rt: &impl Abort,
+    alloc: Global,
+    vault: &mut RingVault<'_, S, T>,
+    requests: &[Request],
+    watch: &mut W,
+) -> Result<Vec<Reply>, Memory>
+    ensures law { (v : VaultState)
+        → RingSound vault.old.run (S.disk vault.old.lent.store.now) v
+        → IfOk result (λ replies. (last : VaultState)
+        × AnsweredBy v (map call_of requests.now) (map answer_of replies.items) last
+        × RingHolds vault.new.run (S.disk vault.new.lent.store.now) last) }
+{
+    assert!(rt; !vault.spent());
+    assert!(rt; may_serve_all(&vault.params(), vault.left(), requests));
+    serve_all(alloc, vault, requests, watch)
+}
+
+// Opens a store, and makes calls on a ring vault over it. Where it stood, the answers are those of a
+// map by epochs, from the one that it stood for.
+pub fn serve_store<S: Store, T: Tape, W: Watch>(
+    rt: &impl Abort,
+    alloc: Global,
+    store: &mut S,
+    tape: &mut T,
+    keys: &Keys,
+    p: &Params,
+    requests: &[Request],
+    watch: &mut W,
+) -> Result<Vec<Reply>, Fault>
+    requires none_out { (S.disk store.old).out ≡ 0 }
+    requires unstarted { T.present tape.old ≡ 0 }
+    ensures law { (s : RingStanding) (content : Map nat_cmp)
+        → (S.disk store.old).tells → Stands keys.now p.now s (S.disk store.old).cells
+        → ((k : ℕ) → s.map k ≡ finite.get content k)
+        → IfOk result (λ replies. (last : VaultState)
+        × AnsweredBy (opened_ring_at p.now s content) (map call_of requests.now)
+        (map answer_of replies.items) last) }
+{
+    let mut vault = match open_ring(alloc, store, tape, keys, p, watch) {
+        Ok(vault) => vault,
+        Err(fault) => return Err(fault),
+    };
+    match serve_ring(rt, alloc, &mut vault, requests, watch) {
+        Ok(replies) => Ok(replies),
+        Err(Memory) => Err(Fault::Memory),
+    }
+}
