@@ -18,16 +18,25 @@ pub record StoreKind : Type 1 where
   pub head_fault : Fault → Type 0
   -- what an image stands for, at this generation
   pub stands : Keys → Params → ℕ → Image → Standing → Type 0
+  -- A format of a store without a key: how many cells it has, the order of its calls, what a crash leaves of it, and why it is refused,
+  -- besides its store, before anything is done.
+  pub cells : Params → ℕ
+  pub format_order : Params → List Event
+  pub format_leaves : Keys → Params → Disk → Image → Type 0
+  pub format_fault : Fault → Type 0
   -- What an opening finds: the last epoch that ended, the batches that the running one has left, the new generation, and a map.
   pub Found : Type 0
   pub epoch : Found → ℕ
   pub left : Params → Found → ℕ
   pub generation : Found → ℕ
-  pub is_map : Found → Map nat_cmp → Type 0
+  -- what is known of that map, of the store as it was opened
+  pub is_map : Keys → Params → Disk → Found → Map nat_cmp → Type 0
   -- it finds this in an image, or refuses it with this fault
   pub finds : Keys → Params → Image → Found → Type 0
   pub refuses : Keys → Params → Image → Fault → Type 0
   pub open_fault : Fault → Type 0
+  -- refused so, an opening may have begun the next generation
+  pub may_begin : Fault → Type 0
   -- What else the order of an opening depends on, how it stands in an image, and the order; and what is seen of one that was
   -- refused with a fault.
   pub Start : Type 0
@@ -37,16 +46,19 @@ pub record StoreKind : Type 1 where
   -- What else the trace depends on: what is public of a vault, as an opening leaves it; what a call draws; its phases, and what is
   -- public behind it.
   pub Public : Type 0
-  pub public : Found → Public
+  pub public : Params → Found → Public
   pub Drawn : Type 0
   pub phases : Params → Public → Shape → Drawn → List Phase
   pub next : Params → Public → Shape → Drawn → Public
   -- What may be seen of a call that was refused with this fault, or left in doubt by it.
   pub cut : Params → Public → Shape → Drawn → Fault → List Event → Type 0
-  -- why a vault refuses a call behind these, and so many epochs that ended, besides its store
-  pub causes : Params → Found → List Shape → ℕ → Fault → Type 0
+  -- Why a vault refuses a call behind these, and so many epochs that ended, besides its store: the disk was this one once it was opened,
+  -- and this one behind the call.
+  pub causes : Keys → Params → Found → (opened now : Disk) → List Shape → ℕ → Fault → Type 0
   -- from this generation and this epoch on so many more epochs can end without a number that comes to its end
   pub lasts : Params → ℕ → ℕ → ℕ → Type 0
+  -- what may refuse a call even so, where the store stood
+  pub may_stop : Params → Fault → Type 0
 
 module _ (kind : StoreKind) (keys : Keys) (p : Params) where
   -- the image stands for this, at some generation
@@ -69,7 +81,7 @@ module _ (kind : StoreKind) (keys : Keys) (p : Params) where
   -- An opening found what the store stood for, and the store stands for it still, at the new generation, whatever crashes.
   pub record IsOpenedAt (at : Standing) (found : kind.Found) (new : Disk) : Type 0 where
     pub epoch : kind.epoch found ≡ at.epoch
-    pub content : kind.is_map found at.content
+    pub content : kind.is_map keys p new found at.content
     pub stands : kind.stands keys p (kind.generation found) new.cells at
     pub images : (c : Image) → new.may_leave c → kind.stands keys p (kind.generation found) c at
 

@@ -29,10 +29,15 @@ use Rattle.ob_start.specs.Orders.{registers_notes}
 use Rattle.ob_flat.specs.Openings.{IsFoundIn, IsOpenedAt, IsOpeningOf, IsOpenFault, OpensIn, OpensFirst, ReadsAlone}
 use Rattle.ob_flat.specs.Openings.{OpensFrom as FlatOpensFrom}
 use Rattle.ob_flat.specs.Orders.{registers_events, found_notes, open_notes, open_events}
+use Rattle.ob_kinds.specs.Openings.{OpensStanding}
 use Rattle.ob_kinds.specs.Kinds as kinds
 use Rattle.ob_top.specs.Flat.{flat_kind, FlatOpensPartly}
-use Rattle.ob_top.specs.Runs.{CameIn, EndsEarly, OpensStanding, IsOpened, begin_events}
+use Rattle.ob_top.specs.Runs.{CameIn, EndsEarly, IsOpened, begin_events}
 use Rattle.ob_top.proofs.FlatSteps.{open_same}
+use Rattle.ob_top.proofs.Running.{IsQuiet}
+
+pub flat_quiet : IsQuiet flat_kind
+flat_quiet = record { head = λ is. is; opening = λ is. is }
 
 pub same_cells : (old mid : Disk) → Keeps old mid → old.tells → mid.cells ≡ old.cells
 same_cells old mid keeps tells = λ i k. keeps.cells tells k i

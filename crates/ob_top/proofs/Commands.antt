@@ -20,6 +20,7 @@ use Rattle.ob_top.specs.Formats.{FormatDone}
 use Rattle.ob_top.specs.Flat.{flat_kind}
 use Rattle.ob_top.specs.Runs.{manner, RunOn, RunDone}
 use Rattle.ob_top.specs.Top.{AskForSomething, CommandDoes, IsRefusedWithout}
+use Rattle.ob_top.proofs.Beginnings.{flat_quiet}
 use Rattle.ob_top.proofs.Finishing.{run_done, format_done}
 
 -- ---- words ask for one thing at most
@@ -173,7 +174,7 @@ module _ (before mid after : Outside) (status : ℕ) (input : after.input ≡ mi
 
     abbrev FormatTells : List (List ℕ) → Type 0
     FormatTells numbers = Tell Memory ⊎ (((field : Field) × IsBadNumber numbers field × Tell (BadParams field))
-        ⊎ ((p : Params) × AreParams numbers p × (KeysTell ⊎ ((keys : Keys) × HasKeys text keys × FormatDone disk keys p old new before after status))))
+        ⊎ ((p : Params) × AreParams numbers p × (KeysTell ⊎ ((keys : Keys) × HasKeys text keys × FormatDone flat_kind disk keys p old new before after status))))
 
     abbrev RunTells : Option (List ℕ) → Bool → Type 0
     RunTells lanes turns = Tell Memory ⊎ ((AreBadLanes lanes × Tell (BadParams LANES))
@@ -198,7 +199,7 @@ module _ (before mid after : Outside) (status : ℕ) (input : after.input ≡ mi
         let (p, are) = params_at store keys numbers command (params_asked words asked command store keys numbers by fits asks) in
         inr (inr (p, are, inl (keys_tell (new ≡ old) kept same words text fault f is done bad)))
     format_does fault (inr (found, has, inl (p, (asked, by, fits), ends, leaves, same))) done store keys numbers asks =
-        inr (inr (p, params_asked words asked (Format p) store keys numbers by fits asks, inr (found, has, format_done disk found p old new before mid after status fault ends leaves same input done)))
+        inr (inr (p, params_asked words asked (Format p) store keys numbers by fits asks, inr (found, has, format_done flat_kind flat_quiet disk found p old new before mid after status fault ends leaves same input done)))
     format_does fault (inr (found, has, inr (k, by_hand, (asked, by, fits), on))) done store keys numbers asks = absurd (params_asked words asked (Run k by_hand) store keys numbers by fits asks)
 
     pub run_does : (fault : Option Fault) → CommandDoes disk beat words text old new before mid fault → IsFinished mid.output after.output fault status
@@ -211,7 +212,7 @@ module _ (before mid after : Outside) (status : ℕ) (input : after.input ≡ mi
     run_does fault (inr (found, has, inr (k, by_hand, (asked, by, fits), on))) done store keys lanes turns asks =
         let (are, same) = lanes_asked words asked (Run k by_hand) store keys lanes turns by fits asks in
         let its = subst (λ (b : Bool). RunOn flat_kind disk (manner beat (not b)) found old new before mid fault) same on in
-        inr (inr (k, are, inr (found, has, run_done disk (manner beat (not turns)) found old new before mid after input status fault its done)))
+        inr (inr (k, are, inr (found, has, run_done flat_kind flat_quiet disk (manner beat (not turns)) found old new before mid after input status fault its done)))
 
   -- ---- without one
 

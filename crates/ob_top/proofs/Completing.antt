@@ -45,20 +45,20 @@ use Rattle.ob_top.proofs.Named.{no_bad_number, no_bad_lanes, one_keys, keys_stan
 
 -- ---- format
 
-format_fault : {S : Type 0} (disk : S → Disk) (keys : Keys) (p : Params) (old new : S) (before after : Outside) (f : Option Fault) → FormatTold disk keys p old new before.output after.output f
+format_fault : {S : Type 0} (disk : S → Disk) (keys : Keys) (p : Params) (old new : S) (before after : Outside) (f : Option Fault) → FormatTold flat_kind disk keys p old new before.output after.output f
     → (Rose (disk old).faults (disk new).faults → ⊥) → (Rose before.output.faults after.output.faults → ⊥) → status_of f ≡ 0
 format_fault disk keys p old new before after None told store output = refl
 format_fault disk keys p old new before after (Some fault.SinkFault) told store output = absurd (output told.1)
 format_fault disk keys p old new before after (Some (fault.StoreFault unsure)) told store output = absurd (store told.1)
-format_fault disk keys p old new before after (Some fault.Memory) told store output = absurd told
-format_fault disk keys p old new before after (Some fault.Usage) told store output = absurd told
-format_fault disk keys p old new before after (Some (fault.BadScript line)) told store output = absurd told
-format_fault disk keys p old new before after (Some (fault.BadParams field)) told store output = absurd told
-format_fault disk keys p old new before after (Some fault.NotStore) told store output = absurd told
-format_fault disk keys p old new before after (Some (fault.Damaged cell check kept computed)) told store output = absurd told
-format_fault disk keys p old new before after (Some (fault.StashFull rows)) told store output = absurd told
-format_fault disk keys p old new before after (Some (fault.Worn number)) told store output = absurd told
-format_fault disk keys p old new before after (Some fault.SourceFault) told store output = absurd told
+format_fault disk keys p old new before after (Some fault.Memory) told store output = absurd told.0
+format_fault disk keys p old new before after (Some fault.Usage) told store output = absurd told.0
+format_fault disk keys p old new before after (Some (fault.BadScript line)) told store output = absurd told.0
+format_fault disk keys p old new before after (Some (fault.BadParams field)) told store output = absurd told.0
+format_fault disk keys p old new before after (Some fault.NotStore) told store output = absurd told.0
+format_fault disk keys p old new before after (Some (fault.Damaged cell check kept computed)) told store output = absurd told.0
+format_fault disk keys p old new before after (Some (fault.StashFull rows)) told store output = absurd told.0
+format_fault disk keys p old new before after (Some (fault.Worn number)) told store output = absurd told.0
+format_fault disk keys p old new before after (Some fault.SourceFault) told store output = absurd told.0
 
 -- ---- run
 
@@ -158,24 +158,24 @@ module _ {S : Type 0} (disk : S → Disk) (words : List (List ℕ)) (text : Opti
         let txns = few_txns r.script.txns records served.first in
         subst (λ (s : Scripts). length records ≤ length s.txns) (ran_script f r) (omega (arith, epochs, txns))
 
-    ran_fault : (f : Fault) (q : Params) (found : Opening) (so_far : List Shape) → q.keys ≡ can.p.keys → found.epoch ≡ can.at.epoch → length records ≤ length script.txns
-        → EndsFor flat_kind q found so_far (length records) (disk old) (disk new) before.output after.output (Some f) → status_of (Some f) ≡ 9
-    ran_fault fault.Memory q found so_far keys is few cause = refl
-    ran_fault fault.SinkFault q found so_far keys is few cause = absurd (can.output_holds cause)
-    ran_fault (fault.StoreFault unsure) q found so_far keys is few cause = absurd (can.store_holds cause.0)
-    ran_fault (fault.Worn number) q found so_far keys is few cause = absurd (not_worn q.keys found.epoch (length records) keys is few cause.1)
-    ran_fault fault.Usage q found so_far keys is few cause = absurd cause
-    ran_fault (fault.BadScript line) q found so_far keys is few cause = absurd cause
-    ran_fault (fault.BadParams field) q found so_far keys is few cause = absurd cause
-    ran_fault fault.NotStore q found so_far keys is few cause = absurd cause
-    ran_fault (fault.Damaged cell check kept computed) q found so_far keys is few cause = absurd cause
-    ran_fault (fault.StashFull rows) q found so_far keys is few cause = absurd cause
-    ran_fault fault.SourceFault q found so_far keys is few cause = absurd cause
+    ran_fault : (f : Fault) (q : Params) (found : Opening) (opened : Disk) (so_far : List Shape) → q.keys ≡ can.p.keys → found.epoch ≡ can.at.epoch → length records ≤ length script.txns
+        → EndsFor flat_kind can.keys q found opened so_far (length records) (disk old) (disk new) before.output after.output (Some f) → status_of (Some f) ≡ 9
+    ran_fault fault.Memory q found opened so_far keys is few cause = refl
+    ran_fault fault.SinkFault q found opened so_far keys is few cause = absurd (can.output_holds cause)
+    ran_fault (fault.StoreFault unsure) q found opened so_far keys is few cause = absurd (can.store_holds cause.0)
+    ran_fault (fault.Worn number) q found opened so_far keys is few cause = absurd (not_worn q.keys found.epoch (length records) keys is few cause.1)
+    ran_fault fault.Usage q found opened so_far keys is few cause = absurd cause
+    ran_fault (fault.BadScript line) q found opened so_far keys is few cause = absurd cause
+    ran_fault (fault.BadParams field) q found opened so_far keys is few cause = absurd cause
+    ran_fault fault.NotStore q found opened so_far keys is few cause = absurd cause
+    ran_fault (fault.Damaged cell check kept computed) q found opened so_far keys is few cause = absurd cause
+    ran_fault (fault.StashFull rows) q found opened so_far keys is few cause = absurd cause
+    ran_fault fault.SourceFault q found opened so_far keys is few cause = absurd cause
 
     answers : (status : ℕ) (f : Option Fault) → status ≡ status_of f → Went flat_kind disk by can.keys old new before after records f → (status ≡ 0) ⊎ (status ≡ 9)
     answers status None is ran = inl is
     answers status (Some f) is (inl (none, ended, lives)) = inr (is ∙ early f ended)
-    answers status (Some f) is (inr ran) = inr (is ∙ ran_fault f ran.p ran.found (shapes (calls ran.is_served.served.acts)) (ran_keys (Some f) ran) (ran_epoch (Some f) ran) (ran_few (Some f) ran) ran.cause)
+    answers status (Some f) is (inr ran) = inr (is ∙ ran_fault f ran.p ran.found (disk ran.between) (shapes (calls ran.is_served.served.acts)) (ran_keys (Some f) ran) (ran_epoch (Some f) ran) (ran_few (Some f) ran) ran.cause)
 
   pub run_answers : (by : Manner) (status : ℕ) → RunDone flat_kind disk by can.keys old new before after status → (status ≡ 0) ⊎ (status ≡ 9)
   run_answers by status d = answers by d.records status d.fault d.status_is d.went
@@ -192,7 +192,7 @@ module _ {S : Type 0} (disk : S → Disk) (beat : BeatKind) (words : List (List 
 
   abbrev pub FormatTells : List (List ℕ) → Type 0
   FormatTells numbers = Tell fault.Memory ⊎ (((field : Field) × IsBadNumber numbers field × Tell (fault.BadParams field))
-      ⊎ ((p : Params) × AreParams numbers p × (KeysTell ⊎ ((keys : Keys) × HasKeys text keys × FormatDone disk keys p old new before after status))))
+      ⊎ ((p : Params) × AreParams numbers p × (KeysTell ⊎ ((keys : Keys) × HasKeys text keys × FormatDone flat_kind disk keys p old new before after status))))
 
   abbrev pub RunTells : Option (List ℕ) → Bool → Type 0
   RunTells lanes turns = Tell fault.Memory ⊎ ((AreBadLanes lanes × Tell (fault.BadParams LANES))

@@ -15,21 +15,18 @@ use Rattle.ob_report.specs.Printed.{IsPrinted}
 use Rattle.ob_report.specs.Report.{report}
 use Rattle.ob_report.specs.Faults.{fault_line, status_of}
 use Rattle.ob_report.specs.Sizes.{size_line}
-use Rattle.ob_flat.specs.Places.{cells}
 use Rattle.ob_store.specs.Disk.{Disk}
 use Rattle.ob_store.specs.Images.{LeavesOnly}
 use Rattle.ob_store.specs.Calls.{NotesFirst, IsStoreFault}
 use Rattle.ob_store.proofs.Serving.{rose_later}
-use Rattle.ob_flat.specs.Orders.{format_events}
-use Rattle.ob_flat.specs.Formats.{FormatLeaves}
 use Rattle.ob_serial.specs.Serial.{EpochRecord}
 use Rattle.ob_top.specs.Outside.{Outside, LineTold, IsFinished}
 use Rattle.ob_top.specs.Formats.{FormatEnds, FormatTold, FormatDone}
-use Rattle.ob_top.specs.Flat.{flat_kind}
+use Rattle.ob_kinds.specs.Kinds.{StoreKind}
 use Rattle.ob_kinds.specs.Phases.{Shape, shapes}
-use Rattle.ob_flat.specs.declared.opening.Opening.{Opening}
 use Rattle.ob_conduct.specs.Acts.{calls}
 use Rattle.ob_top.specs.Runs.{Manner, EndsEarly, EndsFor, Ran, Went, RunOn, RunDone}
+use Rattle.ob_top.proofs.Running.{IsQuiet}
 
 -- a text behind one that is whole
 behind : (before mid after : Flow) (text more : List ℕ) → mid.bytes ≡ appended before.bytes text → before.faults ≤ mid.faults → IsPrinted mid after more → IsPrinted before after (text ++ more)
@@ -52,136 +49,141 @@ front before after text more p rose = record {
   whole = inr rose;
 }
 
--- a store that failed while it was made
-pub format_failed : {S : Type 0} (disk : S → Disk) (keys : Keys) (p : Params) (old new : S) (before : Flow) (fault : Fault) → fault ≡ StoreFault None → (IsStoreFault fault → Rose (disk old).faults (disk new).faults) → NotesFirst (format_events p.keys) (disk old).seen (disk new).seen
-    → FormatEnds disk keys p old new before before (Some fault)
-format_failed disk keys p old new before fault is cause seen =
-    subst (λ (f : Fault). FormatEnds disk keys p old new before before (Some f)) (sym is) (refl, cause (subst IsStoreFault (sym is) tt), seen, refl)
+module _ (store : StoreKind) (quiet : IsQuiet store) where
+  -- a store that failed while it was made
+  pub format_failed : {S : Type 0} (disk : S → Disk) (keys : Keys) (p : Params) (old new : S) (before : Flow) (fault : Fault) → fault ≡ StoreFault None → (IsStoreFault fault → Rose (disk old).faults (disk new).faults) → NotesFirst (store.format_order p) (disk old).seen (disk new).seen
+      → FormatEnds store disk keys p old new before before (Some fault)
+  format_failed disk keys p old new before fault is cause seen =
+      subst (λ (f : Fault). FormatEnds store disk keys p old new before before (Some f)) (sym is) (refl, cause (subst IsStoreFault (sym is) tt), seen, refl)
 
-module _ {S : Type 0} (disk : S → Disk) (by : Manner) (keys : Keys) (old new : S) (before mid after : Outside) (input : after.input ≡ mid.input) where
-  early_on : (fault : Fault) → EndsEarly flat_kind keys (disk old) (disk new) disk before.input mid.input fault → EndsEarly flat_kind keys (disk old) (disk new) disk before.input after.input fault
-  early_on fault early = subst (λ (f : Flow). EndsEarly flat_kind keys (disk old) (disk new) disk before.input f fault) (sym input) early
+  module _ {S : Type 0} (disk : S → Disk) (by : Manner) (keys : Keys) (old new : S) (before mid after : Outside) (input : after.input ≡ mid.input) where
+    early_on : (fault : Fault) → EndsEarly store keys (disk old) (disk new) disk before.input mid.input fault → EndsEarly store keys (disk old) (disk new) disk before.input after.input fault
+    early_on fault early = subst (λ (f : Flow). EndsEarly store keys (disk old) (disk new) disk before.input f fault) (sym input) early
 
-  ran_on : (records : List (EpochRecord ℕ)) (fault : Option Fault) (r : Ran flat_kind disk by keys old new before mid records fault) → EndsFor flat_kind r.p r.found (shapes (calls r.is_served.served.acts)) (length records) (disk old) (disk new) before.output after.output
-      fault → Ran flat_kind disk by keys old new before after records fault
-  ran_on records fault r cause = record {
-    p = r.p;
-    script = r.script;
-    found = r.found;
-    start = r.start;
-    opened = r.opened;
-    is_served = r.is_served;
-    cause = cause;
-    events = r.events;
-    traced = r.traced;
-    seen = r.seen;
-    between = r.between;
-    opening_seen = r.opening_seen;
-    serving_seen = r.serving_seen;
-    opens = r.opens;
-    stood = r.stood;
-    left = r.left;
-    lives = r.lives;
+    ran_on : (records : List (EpochRecord ℕ)) (fault : Option Fault) (r : Ran store disk by keys old new before mid records fault) → EndsFor store keys r.p r.found (disk r.between) (shapes (calls r.is_served.served.acts)) (length records) (disk old) (disk new) before.output after.output
+        fault → Ran store disk by keys old new before after records fault
+    ran_on records fault r cause = record {
+      p = r.p;
+      script = r.script;
+      found = r.found;
+      start = r.start;
+      opened = r.opened;
+      between = r.between;
+      is_served = r.is_served;
+      cause = cause;
+      events = r.events;
+      traced = r.traced;
+      seen = r.seen;
+      opening_seen = r.opening_seen;
+      serving_seen = r.serving_seen;
+      opens = r.opens;
+      stood = r.stood;
+      left = r.left;
+      lives = r.lives;
+    }
+
+    module _ (status : ℕ) where
+      done_whole : (r : RunOn store disk by keys old new before mid None) → IsFinished mid.output after.output None status → RunDone store disk by keys old new before after status
+      done_whole r f =
+          let bytes : after.output.bytes ≡ appended before.output.bytes (report decimal r.records) = ap (λ (o : Flow). o.bytes) f.line ∙ r.reported.bytes in
+          record {
+            fault = None;
+            status_is = f.status_is;
+            records = r.records;
+            output_is = whole before.output after.output (report decimal r.records ++ []) (bytes ∙ ap (λ (l : List ℕ). appended before.output.bytes l) (sym (append-nil (report decimal r.records))));
+            all_written = λ is. bytes;
+            went = ran_on r.records None r.went r.went.cause;
+          }
+
+      sink_rose : (records : List (EpochRecord ℕ)) → Went store disk by keys old new before mid records (Some SinkFault) → Rose before.output.faults mid.output.faults
+      sink_rose records (inl (none, inl head, lives)) = absurd (quiet.head head.kind)
+      sink_rose records (inl (none, inr (inl input), lives)) = absurd input.refused
+      sink_rose records (inl (none, inr (inr opening), lives)) = absurd (quiet.opening opening.kind)
+      sink_rose records (inr ran) = ran.cause
+
+      sink_went : (records : List (EpochRecord ℕ)) → after.output ≡ mid.output → Went store disk by keys old new before mid records (Some SinkFault) → Went store disk by keys old new before after records (Some SinkFault)
+      sink_went records same (inl (none, early, lives)) = inl (none, early_on SinkFault early, lives)
+      sink_went records same (inr ran) = inr (ran_on records (Some SinkFault) ran (subst (λ (f : Flow). Rose before.output.faults f.faults) (sym same) ran.cause))
+
+      done_sink : (r : RunOn store disk by keys old new before mid (Some SinkFault)) → IsFinished mid.output after.output (Some SinkFault) status → RunDone store disk by keys old new before after status
+      done_sink r f = record {
+        fault = Some SinkFault;
+        status_is = f.status_is;
+        records = r.records;
+        output_is = subst (λ (o : Flow). IsPrinted before.output o (report decimal r.records ++ fault_line (Some SinkFault))) (sym f.line)
+            (front before.output mid.output (report decimal r.records) (fault_line (Some SinkFault)) r.reported (sink_rose r.records r.went));
+        all_written = λ is. absurd (no_fault is);
+        went = sink_went r.records f.line r.went;
+      }
+        where
+          no_fault : Some SinkFault ≡ None → ⊥
+          no_fault is = cc is
+
+      -- any other fault, behind the whole report
+      done_other : (fault : Fault) (records : List (EpochRecord ℕ)) → mid.output.bytes ≡ appended before.output.bytes (report decimal records) → before.output.faults ≤ mid.output.faults
+          → IsPrinted mid.output after.output (fault_line (Some fault)) → status ≡ status_of (Some fault) → Went store disk by keys old new before after records (Some fault) → RunDone store disk by keys old new before after status
+      done_other fault records bytes later line status_is went = record {
+        fault = Some fault;
+        status_is = status_is;
+        records = records;
+        output_is = behind before.output mid.output after.output (report decimal records) (fault_line (Some fault)) bytes later line;
+        all_written = λ is. absurd (no_fault is);
+        went = went;
+      }
+        where
+          no_fault : Some fault ≡ None → ⊥
+          no_fault is = cc is
+
+      went_other : (fault : Fault) (records : List (EpochRecord ℕ)) → ((p : Params) (found : store.Found) (opened : Disk) (so_far : List Shape) (n : ℕ) → EndsFor store keys p found opened so_far n (disk old) (disk new) before.output mid.output (Some fault)
+          → EndsFor store keys p found opened so_far n (disk old) (disk new) before.output after.output (Some fault))
+          → Went store disk by keys old new before mid records (Some fault) → Went store disk by keys old new before after records (Some fault)
+      went_other fault records same (inl (none, early, lives)) = inl (none, early_on fault early, lives)
+      went_other fault records same (inr ran) = inr (ran_on records (Some fault) ran (same ran.p ran.found (disk ran.between) (shapes (calls ran.is_served.served.acts)) (length records) ran.cause))
+
+      pub run_done : (fault : Option Fault) → RunOn store disk by keys old new before mid fault → IsFinished mid.output after.output fault status → RunDone store disk by keys old new before after status
+      run_done None r f = done_whole r f
+      run_done (Some SinkFault) r f = done_sink r f
+      run_done (Some Memory) r f = done_other Memory r.records r.reported.bytes r.reported.later f.line f.status_is (went_other Memory r.records (λ p found opened so_far n cause. cause) r.went)
+      run_done (Some Usage) r f = done_other Usage r.records r.reported.bytes r.reported.later f.line f.status_is (went_other Usage r.records (λ p found opened so_far n cause. cause) r.went)
+      run_done (Some (BadScript line)) r f = done_other (BadScript line) r.records r.reported.bytes r.reported.later f.line f.status_is (went_other (BadScript line) r.records (λ p found opened so_far n cause. cause) r.went)
+      run_done (Some (BadParams field)) r f = done_other (BadParams field) r.records r.reported.bytes r.reported.later f.line f.status_is (went_other (BadParams field) r.records (λ p found opened so_far n cause. cause) r.went)
+      run_done (Some NotStore) r f = done_other NotStore r.records r.reported.bytes r.reported.later f.line f.status_is (went_other NotStore r.records (λ p found opened so_far n cause. cause) r.went)
+      run_done (Some (Damaged cell check kept computed)) r f = done_other (Damaged cell check kept computed) r.records r.reported.bytes r.reported.later f.line f.status_is (went_other (Damaged cell check kept computed) r.records (λ p found opened so_far n cause. cause) r.went)
+      run_done (Some (StoreFault unsure)) r f = done_other (StoreFault unsure) r.records r.reported.bytes r.reported.later f.line f.status_is (went_other (StoreFault unsure) r.records (λ p found opened so_far n cause. cause) r.went)
+      run_done (Some (StashFull rows)) r f = done_other (StashFull rows) r.records r.reported.bytes r.reported.later f.line f.status_is (went_other (StashFull rows) r.records (λ p found opened so_far n cause. cause) r.went)
+      run_done (Some (Worn number)) r f = done_other (Worn number) r.records r.reported.bytes r.reported.later f.line f.status_is (went_other (Worn number) r.records (λ p found opened so_far n cause. cause) r.went)
+      run_done (Some SourceFault) r f = done_other SourceFault r.records r.reported.bytes r.reported.later f.line f.status_is (went_other SourceFault r.records (λ p found opened so_far n cause. cause) r.went)
+
+  module _ {S : Type 0} (disk : S → Disk) (keys : Keys) (p : Params) (old new : S) (before mid after : Flow) where
+    -- a format that did nothing
+    nothing_told : (refused : Fault) → store.format_fault refused × (new ≡ old) × (mid ≡ before) → IsPrinted mid after (fault_line (Some refused)) → store.format_fault refused × (new ≡ old) × IsPrinted before after (fault_line (Some refused))
+    nothing_told refused (kind, same, quiet) printed = (kind, same, subst (λ (o : Flow). IsPrinted o after (fault_line (Some refused))) quiet printed)
+
+    format_told : (fault : Option Fault) → FormatEnds store disk keys p old new before mid fault → LineTold mid after fault → FormatTold store disk keys p old new before after fault
+    format_told None (formatted, bytes) line = (formatted, ap (λ (o : Flow). o.bytes) line ∙ bytes)
+    format_told (Some SinkFault) (formatted, rose, printed) line = (
+      formatted,
+      subst (λ (o : Flow). Rose before.faults o.faults) (sym line) rose,
+      subst (λ (o : Flow). IsPrinted before o (size_line (store.cells p))) (sym line) printed,
+    )
+    format_told (Some (StoreFault unsure)) (which, rose, seen, same) line = (which, rose, seen, subst (λ (o : Flow). IsPrinted o after (fault_line (Some (StoreFault None)))) same (subst (λ (u : Option ℕ). IsPrinted mid after (fault_line (Some (StoreFault u)))) which line))
+    format_told (Some Memory) ends line = nothing_told Memory ends line
+    format_told (Some Usage) ends line = nothing_told Usage ends line
+    format_told (Some (BadScript bad)) ends line = nothing_told (BadScript bad) ends line
+    format_told (Some (BadParams field)) ends line = nothing_told (BadParams field) ends line
+    format_told (Some NotStore) ends line = nothing_told NotStore ends line
+    format_told (Some (Damaged cell check kept computed)) ends line = nothing_told (Damaged cell check kept computed) ends line
+    format_told (Some (StashFull rows)) ends line = nothing_told (StashFull rows) ends line
+    format_told (Some (Worn number)) ends line = nothing_told (Worn number) ends line
+    format_told (Some SourceFault) ends line = nothing_told SourceFault ends line
+
+  pub format_done : {S : Type 0} (disk : S → Disk) (keys : Keys) (p : Params) (old new : S) (before mid after : Outside) (status : ℕ) (fault : Option Fault) → FormatEnds store disk keys p old new before.output mid.output fault
+      → ((disk old).tells → LeavesOnly (disk old) (disk new) (store.format_leaves keys p (disk old))) → mid.input ≡ before.input → after.input ≡ mid.input
+      → IsFinished mid.output after.output fault status → FormatDone store disk keys p old new before after status
+  format_done disk keys p old new before mid after status fault ends leaves first second f = record {
+    fault = fault;
+    status_is = f.status_is;
+    untouched = second ∙ first;
+    told = format_told disk keys p old new before.output mid.output after.output fault ends f.line;
+    left = leaves;
   }
-
-  module _ (status : ℕ) where
-    done_whole : (r : RunOn flat_kind disk by keys old new before mid None) → IsFinished mid.output after.output None status → RunDone flat_kind disk by keys old new before after status
-    done_whole r f =
-        let bytes : after.output.bytes ≡ appended before.output.bytes (report decimal r.records) = ap (λ (o : Flow). o.bytes) f.line ∙ r.reported.bytes in
-        record {
-          fault = None;
-          status_is = f.status_is;
-          records = r.records;
-          output_is = whole before.output after.output (report decimal r.records ++ []) (bytes ∙ ap (λ (l : List ℕ). appended before.output.bytes l) (sym (append-nil (report decimal r.records))));
-          all_written = λ is. bytes;
-          went = ran_on r.records None r.went r.went.cause;
-        }
-
-    sink_rose : (records : List (EpochRecord ℕ)) → Went flat_kind disk by keys old new before mid records (Some SinkFault) → Rose before.output.faults mid.output.faults
-    sink_rose records (inl (none, inl head, lives)) = absurd head.kind
-    sink_rose records (inl (none, inr (inl input), lives)) = absurd input.refused
-    sink_rose records (inl (none, inr (inr opening), lives)) = absurd opening.kind
-    sink_rose records (inr ran) = ran.cause
-
-    sink_went : (records : List (EpochRecord ℕ)) → after.output ≡ mid.output → Went flat_kind disk by keys old new before mid records (Some SinkFault) → Went flat_kind disk by keys old new before after records (Some SinkFault)
-    sink_went records same (inl (none, early, lives)) = inl (none, early_on SinkFault early, lives)
-    sink_went records same (inr ran) = inr (ran_on records (Some SinkFault) ran (subst (λ (f : Flow). Rose before.output.faults f.faults) (sym same) ran.cause))
-
-    done_sink : (r : RunOn flat_kind disk by keys old new before mid (Some SinkFault)) → IsFinished mid.output after.output (Some SinkFault) status → RunDone flat_kind disk by keys old new before after status
-    done_sink r f = record {
-      fault = Some SinkFault;
-      status_is = f.status_is;
-      records = r.records;
-      output_is = subst (λ (o : Flow). IsPrinted before.output o (report decimal r.records ++ fault_line (Some SinkFault))) (sym f.line)
-          (front before.output mid.output (report decimal r.records) (fault_line (Some SinkFault)) r.reported (sink_rose r.records r.went));
-      all_written = λ is. absurd (no_fault is);
-      went = sink_went r.records f.line r.went;
-    }
-      where
-        no_fault : Some SinkFault ≡ None → ⊥
-        no_fault is = cc is
-
-    -- any other fault, behind the whole report
-    done_other : (fault : Fault) (records : List (EpochRecord ℕ)) → mid.output.bytes ≡ appended before.output.bytes (report decimal records) → before.output.faults ≤ mid.output.faults
-        → IsPrinted mid.output after.output (fault_line (Some fault)) → status ≡ status_of (Some fault) → Went flat_kind disk by keys old new before after records (Some fault) → RunDone flat_kind disk by keys old new before after status
-    done_other fault records bytes later line status_is went = record {
-      fault = Some fault;
-      status_is = status_is;
-      records = records;
-      output_is = behind before.output mid.output after.output (report decimal records) (fault_line (Some fault)) bytes later line;
-      all_written = λ is. absurd (no_fault is);
-      went = went;
-    }
-      where
-        no_fault : Some fault ≡ None → ⊥
-        no_fault is = cc is
-
-    went_other : (fault : Fault) (records : List (EpochRecord ℕ)) → ((p : Params) (found : Opening) (so_far : List Shape) (n : ℕ) → EndsFor flat_kind p found so_far n (disk old) (disk new) before.output mid.output (Some fault)
-        → EndsFor flat_kind p found so_far n (disk old) (disk new) before.output after.output (Some fault))
-        → Went flat_kind disk by keys old new before mid records (Some fault) → Went flat_kind disk by keys old new before after records (Some fault)
-    went_other fault records same (inl (none, early, lives)) = inl (none, early_on fault early, lives)
-    went_other fault records same (inr ran) = inr (ran_on records (Some fault) ran (same ran.p ran.found (shapes (calls ran.is_served.served.acts)) (length records) ran.cause))
-
-    pub run_done : (fault : Option Fault) → RunOn flat_kind disk by keys old new before mid fault → IsFinished mid.output after.output fault status → RunDone flat_kind disk by keys old new before after status
-    run_done None r f = done_whole r f
-    run_done (Some SinkFault) r f = done_sink r f
-    run_done (Some Memory) r f = done_other Memory r.records r.reported.bytes r.reported.later f.line f.status_is (went_other Memory r.records (λ p found so_far n cause. cause) r.went)
-    run_done (Some Usage) r f = done_other Usage r.records r.reported.bytes r.reported.later f.line f.status_is (went_other Usage r.records (λ p found so_far n cause. cause) r.went)
-    run_done (Some (BadScript line)) r f = done_other (BadScript line) r.records r.reported.bytes r.reported.later f.line f.status_is (went_other (BadScript line) r.records (λ p found so_far n cause. cause) r.went)
-    run_done (Some (BadParams field)) r f = done_other (BadParams field) r.records r.reported.bytes r.reported.later f.line f.status_is (went_other (BadParams field) r.records (λ p found so_far n cause. cause) r.went)
-    run_done (Some NotStore) r f = done_other NotStore r.records r.reported.bytes r.reported.later f.line f.status_is (went_other NotStore r.records (λ p found so_far n cause. cause) r.went)
-    run_done (Some (Damaged cell check kept computed)) r f = done_other (Damaged cell check kept computed) r.records r.reported.bytes r.reported.later f.line f.status_is (went_other (Damaged cell check kept computed) r.records (λ p found so_far n cause. cause) r.went)
-    run_done (Some (StoreFault unsure)) r f = done_other (StoreFault unsure) r.records r.reported.bytes r.reported.later f.line f.status_is (went_other (StoreFault unsure) r.records (λ p found so_far n cause. cause) r.went)
-    run_done (Some (StashFull rows)) r f = done_other (StashFull rows) r.records r.reported.bytes r.reported.later f.line f.status_is (went_other (StashFull rows) r.records (λ p found so_far n cause. cause) r.went)
-    run_done (Some (Worn number)) r f = done_other (Worn number) r.records r.reported.bytes r.reported.later f.line f.status_is (went_other (Worn number) r.records (λ p found so_far n cause. cause) r.went)
-    run_done (Some SourceFault) r f = done_other SourceFault r.records r.reported.bytes r.reported.later f.line f.status_is (went_other SourceFault r.records (λ p found so_far n cause. cause) r.went)
-
-module _ {S : Type 0} (disk : S → Disk) (keys : Keys) (p : Params) (old new : S) (before mid after : Flow) where
-  format_told : (fault : Option Fault) → FormatEnds disk keys p old new before mid fault → LineTold mid after fault → FormatTold disk keys p old new before after fault
-  format_told None (formatted, bytes) line = (formatted, ap (λ (o : Flow). o.bytes) line ∙ bytes)
-  format_told (Some SinkFault) (formatted, rose, printed) line = (
-    formatted,
-    subst (λ (o : Flow). Rose before.faults o.faults) (sym line) rose,
-    subst (λ (o : Flow). IsPrinted before o (size_line (cells p))) (sym line) printed,
-  )
-  format_told (Some (StoreFault unsure)) (which, rose, seen, same) line = (which, rose, seen, subst (λ (o : Flow). IsPrinted o after (fault_line (Some (StoreFault None)))) same (subst (λ (u : Option ℕ). IsPrinted mid after (fault_line (Some (StoreFault u)))) which line))
-  format_told (Some Memory) ends line = absurd ends
-  format_told (Some Usage) ends line = absurd ends
-  format_told (Some (BadScript bad)) ends line = absurd ends
-  format_told (Some (BadParams field)) ends line = absurd ends
-  format_told (Some NotStore) ends line = absurd ends
-  format_told (Some (Damaged cell check kept computed)) ends line = absurd ends
-  format_told (Some (StashFull rows)) ends line = absurd ends
-  format_told (Some (Worn number)) ends line = absurd ends
-  format_told (Some SourceFault) ends line = absurd ends
-
-pub format_done : {S : Type 0} (disk : S → Disk) (keys : Keys) (p : Params) (old new : S) (before mid after : Outside) (status : ℕ) (fault : Option Fault) → FormatEnds disk keys p old new before.output mid.output fault
-    → ((disk old).tells → LeavesOnly (disk old) (disk new) (FormatLeaves keys p.keys (disk old))) → mid.input ≡ before.input → after.input ≡ mid.input
-    → IsFinished mid.output after.output fault status → FormatDone disk keys p old new before after status
-format_done disk keys p old new before mid after status fault ends leaves first second f = record {
-  fault = fault;
-  status_is = f.status_is;
-  untouched = second ∙ first;
-  told = format_told disk keys p old new before.output mid.output after.output fault ends f.line;
-  left = leaves;
-}

@@ -11,7 +11,7 @@ use Rattle.ob_store.specs.Disk.{Disk, Image}
 use Rattle.ob_store.specs.Lines.{Trace}
 use Rattle.ob_twin.specs.declared.gates.Open.{Open}
 use Rattle.ob_serial.specs.Vaults.{VaultCall, VaultAnswer}
-use Rattle.ob_serial.specs.VaultKinds.{Kind, AllCalled}
+use Rattle.ob_serial.specs.VaultKinds.{Kind, Called, AllCalled}
 use Rattle.ob_pads.specs.Lives.{Opens}
 use Rattle.ob_pads.proofs.Chains.{chain_runs}
 use Rattle.ob_flat.specs.Calls.{FlatCalled}
@@ -23,7 +23,9 @@ use Rattle.ob_conduct.specs.Scenes.{scene, RunState, run_state, RunnerKind}
 use Rattle.ob_run.specs.Threaded.{RunsBy}
 use Rattle.ob_script_runs.proofs.Whole.{RunsScripts}
 use Rattle.ob_desk.specs.Beats.{BeatKind}
-use Rattle.ob_top.specs.Flat.{flat_kind}
+use Rattle.ob_kinds.specs.Phases.{Shape}
+use Rattle.ob_kinds.specs.Steps.{IsCallOfKind}
+use Rattle.ob_top.specs.Flat.{FlatPublic, flat_kind}
 use Rattle.ob_top.specs.Runs.{manner, ServedOver, LivesBehind, fault_of}
 use Rattle.ob_top.proofs.FlatSteps.{FlatAt, flat_does, flat_begun}
 use Rattle.ob_top.proofs.Serving.{IsLender, serves_on}
@@ -32,8 +34,14 @@ module _ {V S : Type 0} (k : Kind V) (disk : S → Disk) (store_of : V → S) (s
     (flat : (v : V) (call : VaultCall) (answer : VaultAnswer) (notes : List Note) (w : V) → k.called v call answer notes w
     → FlatCalled (p_of v) (known_of v) (epoch_of v) (values_of w) (record { store = store_of v; sealing = sealing_of v }) (record { store = store_of w; sealing = sealing_of w }) (disk (store_of v)) (disk (store_of w)) notes call answer (p_of w) (known_of w) (epoch_of w))
     (p : Params) (found : Opening) where
+  -- what a call does, of its own words
+  pub does : (keys : Keys) (first : V) (q : FlatPublic) (so_far : List Shape) (n : ℕ) (v : V) (call : VaultCall) (answer : VaultAnswer) (w : V) → FlatAt k.called disk store_of sealing_of p_of known_of epoch_of values_of flat p found q so_far n v → Called k v call answer w
+      → IsCallOfKind flat_kind keys p found (disk (store_of first)) (FlatAt k.called disk store_of sealing_of p_of known_of epoch_of values_of flat p found) (disk (store_of v)) (disk (store_of w)) w q so_far n call answer
+  does keys first q so_far n v call answer w at one =
+      flat_does k.called disk store_of sealing_of p_of known_of epoch_of values_of flat p found keys (disk (store_of first)) q so_far n v call answer one.notes w at one.called
+
   abbrev pub IsFlatLender : Keys → V → Type 1
-  IsFlatLender keys first = IsLender k flat_kind disk store_of p found (FlatAt k.called disk store_of sealing_of p_of known_of epoch_of values_of flat p found) (flat_does k.called disk store_of sealing_of p_of known_of epoch_of values_of flat p found) keys found.sealer first
+  IsFlatLender keys first = IsLender k flat_kind disk store_of keys p found first (FlatAt k.called disk store_of sealing_of p_of known_of epoch_of values_of flat p found) (does keys first) found.sealer
 
   -- behind an opening the calls are a run in the life of the store
   pub flat_lives : (only : (store : S) (c : Image) → (disk store).left_since (disk store).moment c → (disk store).may_leave c) (keys : Keys) (first last : V) (steps : List (VaultCall × VaultAnswer)) → sealing_of first ≡ found.sealer
@@ -53,5 +61,5 @@ module _ {V S : Type 0} (k : Kind V) (disk : S → Disk) (store_of : V → S) (s
       → IsFlatLender keys first → p_of first ≡ p → known_of first ≡ found.gates.epoch → epoch_of first ≡ found.epoch → (sealing_of first).next ≡ 0
       → ServedOver flat_kind disk (manner beat threads) keys p found found.sealer script (store_of first) (store_of end.scene.vault) before end.output (fault_of result)
   flat_serves beat threads kind means keys script sound may first trace runners before end result epoch left named planned epoch_is left_is run l params known at fresh =
-      serves_on k flat_kind disk store_of p found (FlatAt k.called disk store_of sealing_of p_of known_of epoch_of values_of flat p found) (flat_does k.called disk store_of sealing_of p_of known_of epoch_of values_of flat p found)
-      beat threads kind means keys found.sealer script sound may first trace runners before end result epoch left named planned epoch_is left_is run l (flat_begun k.called disk store_of sealing_of p_of known_of epoch_of values_of flat p found first params known at fresh)
+      serves_on k flat_kind disk store_of keys p found first (FlatAt k.called disk store_of sealing_of p_of known_of epoch_of values_of flat p found) (does keys first)
+      beat threads kind means found.sealer script sound may trace runners before end result epoch left named planned epoch_is left_is run l (flat_begun k.called disk store_of sealing_of p_of known_of epoch_of values_of flat p found first params known at fresh)

@@ -4,6 +4,7 @@ use Rattle.std.proofs.lemmas.List.{append-nil}
 use Rattle.ob_base.specs.declared.params.Params.{Params}
 use Rattle.ob_base.specs.declared.fault.Fault.{Fault}
 use Rattle.ob_base.specs.declared.fault.Fault.TheVariants.{Memory, Usage, BadScript, BadParams, NotStore, Damaged, StoreFault, StashFull, Worn, SourceFault, SinkFault}
+use Rattle.ob_seal.specs.declared.keys.Keys.{Keys}
 use Rattle.ob_seal.specs.Sealing.{Sealing}
 use Rattle.ob_store.specs.declared.event.Event.{Event}
 use Rattle.ob_store.specs.declared.event.Event.TheVariants as event
@@ -21,6 +22,7 @@ use Rattle.ob_twin.specs.Opening.{is_closed_first}
 use Rattle.ob_twin.specs.Orders.{set_notes, prepare_notes, gate_notes, through_notes}
 use Rattle.ob_serial.specs.Vaults.{VaultCall, Fetch, End, VaultAnswer, Values, Ended, RefusedBy, DoubtBy}
 use Rattle.ob_kinds.specs.Phases.{Phase, Reads, Writes, Syncs, Shape, Fetches, Ends, events_of_phases}
+use Rattle.ob_kinds.specs.Steps.{Stops, IsAnsweredCall, IsCallOfKind}
 use Rattle.ob_kinds.proofs.Shapes.{events_join}
 use Rattle.ob_flat.specs.declared.opening.Opening.{Opening}
 use Rattle.ob_flat.specs.Places.{area_of}
@@ -29,7 +31,6 @@ use Rattle.ob_flat.specs.Orders.{end_events, end_prepare_notes, end_gate_notes, 
 use Rattle.ob_start.specs.Orders.{registers_notes, begin_notes}
 use Rattle.ob_cells.specs.Orders.{read_notes}
 use Rattle.ob_top.specs.Flat.{FlatPublic, flat_kind, prepare_phases, set_phases, through_phases, end_phases, end_prepare_phases, end_gate_phases, open_phases}
-use Rattle.ob_top.proofs.Steps.{Stops, Goes, CallDoes}
 
 -- ---- phases and orders
 
@@ -98,12 +99,12 @@ module _ {V S : Type 0} (called : V → VaultCall → VaultAnswer → List Note 
     pub counted : q.epoch ≡ found.epoch + n
     pub sealed : (sealing_of v).next ≡ p.keys * n
 
-  module _ (q : FlatPublic) (so_far : List Shape) (n : ℕ) (v w : V) (notes : List Note) (at : FlatAt q so_far n v) where
+  module _ (under : Keys) (opened : Disk) (q : FlatPublic) (so_far : List Shape) (n : ℕ) (v w : V) (notes : List Note) (at : FlatAt q so_far n v) where
     -- the order of an end here
     its_end : events_of_phases (end_phases p.keys q.known (suc q.epoch)) ≡ end_events (p_of v).keys (known_of v) (suc (epoch_of v))
     its_end = end_same p.keys q.known (suc q.epoch) ∙ sym (rw (at.params, at.known, at.epoch) refl)
 
-    fetched : (keys : List (Option ℕ)) (values : List (Option (List ℕ))) → called v (Fetch keys) (Values values) notes w → Goes flat_kind p FlatAt (disk (store_of v)) (disk (store_of w)) w q so_far Fetches n
+    fetched : (keys : List (Option ℕ)) (values : List (Option (List ℕ))) → called v (Fetch keys) (Values values) notes w → IsAnsweredCall flat_kind p FlatAt (disk (store_of v)) (disk (store_of w)) w q so_far Fetches n
     fetched keys values one =
         let f = flat v (Fetch keys) (Values values) notes w one in
         let (same, none) = f.does in
@@ -114,7 +115,7 @@ module _ {V S : Type 0} (called : V → VaultCall → VaultAnswer → List Note 
           at = record { params = f.params ∙ at.params; known = known ∙ at.known; epoch = epoch ∙ at.epoch; counted = at.counted; sealed = ap (λ (h : Holding S). h.sealing.next) same ∙ at.sealed };
         }
 
-    ended : (writes : List (ℕ × Option (List ℕ))) → called v (End writes) Ended notes w → Goes flat_kind p FlatAt (disk (store_of v)) (disk (store_of w)) w q so_far Ends (suc n)
+    ended : (writes : List (ℕ × Option (List ℕ))) → called v (End writes) Ended notes w → IsAnsweredCall flat_kind p FlatAt (disk (store_of v)) (disk (store_of w)) w q so_far Ends (suc n)
     ended writes one =
         let f = flat v (End writes) Ended notes w one in
         let (known, epoch) = f.knows in
@@ -143,7 +144,7 @@ module _ {V S : Type 0} (called : V → VaultCall → VaultAnswer → List Note 
     its_gate = end_gate_same p.keys q.known (suc q.epoch) ∙ sym (rw (at.params, at.known, at.epoch) refl)
 
     -- some of the first of what comes before the gate
-    short : IsEndCutShort (p_of v).keys (known_of v) (epoch_of v) (sealing_of v) (sealing_of w) (disk (store_of v)) (disk (store_of w)) notes → Stops flat_kind p found (disk (store_of v)) (disk (store_of w)) q so_far n Ends (StoreFault None)
+    short : IsEndCutShort (p_of v).keys (known_of v) (epoch_of v) (sealing_of v) (sealing_of w) (disk (store_of v)) (disk (store_of w)) notes → Stops flat_kind under p found opened (disk (store_of v)) (disk (store_of w)) q so_far n Ends (StoreFault None)
     short one =
         let (c, within, seen) = cut_noted (end_prepare_notes (p_of v).keys (known_of v) (suc (epoch_of v))) one.made notes (disk (store_of v)).seen (disk (store_of w)).seen one.cut one.seen in
         record {
@@ -155,7 +156,7 @@ module _ {V S : Type 0} (called : V → VaultCall → VaultAnswer → List Note 
 
     -- all of it, and the gate's write
     doubtful : IsInDoubt (p_of v).keys (known_of v) (epoch_of v) (sealing_of v) (sealing_of w) (disk (store_of v)) (disk (store_of w)) notes
-        → Stops flat_kind p found (disk (store_of v)) (disk (store_of w)) q so_far n Ends (StoreFault (Some (suc (epoch_of v))))
+        → Stops flat_kind under p found opened (disk (store_of v)) (disk (store_of w)) q so_far n Ends (StoreFault (Some (suc (epoch_of v))))
     doubtful one = ⊎_elim
         (λ gate. record { more = told.events_of (end_gate_notes (p_of v).keys (known_of v) (suc (epoch_of v))); cut = (tt, inl (sym its_gate)); seen = gate; why = inr next })
         (λ all. record { more = end_events (p_of v).keys (known_of v) (suc (epoch_of v)); cut = (tt, inr (sym its_end)); seen = all; why = inr next })
@@ -164,7 +165,7 @@ module _ {V S : Type 0} (called : V → VaultCall → VaultAnswer → List Note 
         next : Some (suc (epoch_of v)) ≡ Some (suc (found.epoch + n))
         next = ap (λ e. Some (suc e)) (at.epoch ∙ at.counted)
 
-    by_worn : (number : ℕ) → number ≡ 2 ^ 62 → IsWorn (p_of v).keys (epoch_of v) (sealing_of v) (sealing_of w) (store_of v) (store_of w) notes → Stops flat_kind p found (disk (store_of v)) (disk (store_of w)) q so_far n Ends (Worn number)
+    by_worn : (number : ℕ) → number ≡ 2 ^ 62 → IsWorn (p_of v).keys (epoch_of v) (sealing_of v) (sealing_of w) (store_of v) (store_of w) notes → Stops flat_kind under p found opened (disk (store_of v)) (disk (store_of w)) q so_far n Ends (Worn number)
     by_worn number is one = record {
       more = [];
       cut = (tt, refl);
@@ -177,8 +178,8 @@ module _ {V S : Type 0} (called : V → VaultCall → VaultAnswer → List Note 
         last (inr past) = inr (subst (λ m. 2 ^ 62 < m) (rw (at.sealed, at.params) refl) past)
 
     refused : (fault : Fault) → RefusedDoes (p_of v).keys (known_of v) (epoch_of v) (record { store = store_of v; sealing = sealing_of v }) (record { store = store_of w; sealing = sealing_of w }) (disk (store_of v)) (disk (store_of w)) notes fault
-        → Stops flat_kind p found (disk (store_of v)) (disk (store_of w)) q so_far n Ends fault
-    refused (StoreFault unsure) (none, one) = subst (λ (u : Option ℕ). Stops flat_kind p found (disk (store_of v)) (disk (store_of w)) q so_far n Ends (StoreFault u)) (sym none) (short one)
+        → Stops flat_kind under p found opened (disk (store_of v)) (disk (store_of w)) q so_far n Ends fault
+    refused (StoreFault unsure) (none, one) = subst (λ (u : Option ℕ). Stops flat_kind under p found opened (disk (store_of v)) (disk (store_of w)) q so_far n Ends (StoreFault u)) (sym none) (short one)
     refused (Worn number) (is, one) = by_worn number is one
     refused Memory does = absurd does
     refused Usage does = absurd does
@@ -191,20 +192,20 @@ module _ {V S : Type 0} (called : V → VaultCall → VaultAnswer → List Note 
     refused SinkFault does = absurd does
 
     doubted : (fault : Fault) → fault ≡ StoreFault (Some (suc (epoch_of v))) → IsInDoubt (p_of v).keys (known_of v) (epoch_of v) (sealing_of v) (sealing_of w) (disk (store_of v)) (disk (store_of w)) notes
-        → Stops flat_kind p found (disk (store_of v)) (disk (store_of w)) q so_far n Ends fault
-    doubted fault is one = subst (λ (f : Fault). Stops flat_kind p found (disk (store_of v)) (disk (store_of w)) q so_far n Ends f) (sym is) (doubtful one)
+        → Stops flat_kind under p found opened (disk (store_of v)) (disk (store_of w)) q so_far n Ends fault
+    doubted fault is one = subst (λ (f : Fault). Stops flat_kind under p found opened (disk (store_of v)) (disk (store_of w)) q so_far n Ends f) (sym is) (doubtful one)
 
   -- each call
-  pub flat_does : (q : FlatPublic) (so_far : List Shape) (n : ℕ) (v : V) (call : VaultCall) (answer : VaultAnswer) (notes : List Note) (w : V) → FlatAt q so_far n v → called v call answer notes w
-      → CallDoes flat_kind p found FlatAt (disk (store_of v)) (disk (store_of w)) w q so_far n call answer
-  flat_does q so_far n v (Fetch keys) (Values values) notes w at one = fetched q so_far n v w notes at keys values one
-  flat_does q so_far n v (End writes) Ended notes w at one = ended q so_far n v w notes at writes one
-  flat_does q so_far n v (Fetch keys) (RefusedBy fault) notes w at one = absurd (flat v (Fetch keys) (RefusedBy fault) notes w one).does
-  flat_does q so_far n v (End writes) (RefusedBy fault) notes w at one = refused q so_far n v w notes at fault (flat v (End writes) (RefusedBy fault) notes w one).does
-  flat_does q so_far n v (End writes) (DoubtBy fault) notes w at one = let (is, cut) = (flat v (End writes) (DoubtBy fault) notes w one).does in doubted q so_far n v w notes at fault is cut
-  flat_does q so_far n v (Fetch keys) Ended notes w at one = tt
-  flat_does q so_far n v (Fetch keys) (DoubtBy fault) notes w at one = tt
-  flat_does q so_far n v (End writes) (Values values) notes w at one = tt
+  pub flat_does : (under : Keys) (opened : Disk) (q : FlatPublic) (so_far : List Shape) (n : ℕ) (v : V) (call : VaultCall) (answer : VaultAnswer) (notes : List Note) (w : V) → FlatAt q so_far n v → called v call answer notes w
+      → IsCallOfKind flat_kind under p found opened FlatAt (disk (store_of v)) (disk (store_of w)) w q so_far n call answer
+  flat_does under opened q so_far n v (Fetch keys) (Values values) notes w at one = fetched under opened q so_far n v w notes at keys values one
+  flat_does under opened q so_far n v (End writes) Ended notes w at one = ended under opened q so_far n v w notes at writes one
+  flat_does under opened q so_far n v (Fetch keys) (RefusedBy fault) notes w at one = absurd (flat v (Fetch keys) (RefusedBy fault) notes w one).does
+  flat_does under opened q so_far n v (End writes) (RefusedBy fault) notes w at one = refused under opened q so_far n v w notes at fault (flat v (End writes) (RefusedBy fault) notes w one).does
+  flat_does under opened q so_far n v (End writes) (DoubtBy fault) notes w at one = let (is, cut) = (flat v (End writes) (DoubtBy fault) notes w one).does in doubted under opened q so_far n v w notes at fault is cut
+  flat_does under opened q so_far n v (Fetch keys) Ended notes w at one = tt
+  flat_does under opened q so_far n v (Fetch keys) (DoubtBy fault) notes w at one = tt
+  flat_does under opened q so_far n v (End writes) (Values values) notes w at one = tt
 
   -- a vault that was just opened
   pub flat_begun : (v : V) → p_of v ≡ p → known_of v ≡ found.gates.epoch → epoch_of v ≡ found.epoch → (sealing_of v).next ≡ 0 → FlatAt (record { known = found.gates.epoch; epoch = found.epoch }) [] 0 v

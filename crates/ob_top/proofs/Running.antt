@@ -2,6 +2,7 @@
 use Rattle.std.proofs.Common.{◌≤◌, ◌⊎◌, ℕ, List, [], length, map, Option, Some, None, refl, inl, inr, arith}
 use Rattle.ob_base.specs.declared.params.Params.{Params}
 use Rattle.ob_seal.specs.declared.keys.Keys.{Keys}
+use Rattle.ob_seal.specs.Sealing.{Sealing}
 use Rattle.ob_base.specs.declared.fault.Fault.{Fault}
 use Rattle.ob_base.specs.declared.fault.Fault.TheVariants.{Memory, Usage, BadScript, BadParams, NotStore, Damaged, StoreFault, StashFull, Worn, SourceFault, SinkFault}
 use Rattle.ob_io.proofs.Pieces.{appended-none}
@@ -12,114 +13,118 @@ use Rattle.ob_store.proofs.Moments.{then_on, weakened}
 use Rattle.ob_serial.specs.Vaults.{Standing, StandsIn}
 use Rattle.ob_pads.specs.Lives.{LivesOn}
 use Rattle.ob_kinds.specs.Phases.{Shape, shapes}
-use Rattle.ob_kinds.specs.Kinds.{Stands, AllStand, StandsAsBefore, IsOpenedAt, opened_with}
-use Rattle.ob_flat.specs.Standing.{StandsFlat}
+use Rattle.ob_kinds.specs.Openings.{OpensStanding}
+use Rattle.ob_kinds.specs.Kinds.{StoreKind, Stands, AllStand, StandsAsBefore, IsOpenedAt, opened_with}
 use Rattle.ob_conduct.specs.Acts.{calls}
-use Rattle.ob_top.specs.Flat.{flat_kind}
 use Rattle.ob_conduct.specs.Left.{IsLeftStanding}
 use Rattle.ob_store.specs.Calls.{Notes}
 use Rattle.ob_store.proofs.Events.{joined}
 use Rattle.ob_store.proofs.Serving.{rose_later}
-use Rattle.ob_twin.specs.declared.gates.Open.{Open}
 use Rattle.ob_serial.specs.Serial.{EpochRecord}
 use Rattle.ob_script.specs.Script.{Scripts}
-use Rattle.ob_flat.specs.declared.opening.Opening.{Opening}
 use Rattle.ob_top.specs.Outside.{Outside, outside}
-use Rattle.ob_top.specs.Runs.{Manner, EndsEarly, OpensStanding, IsOpened, EndsFor, IsReported, IsLeftOnDisk, LeftByWholeRun, IsReadAndOpened, ServedOver, Ran, Went, RunOn, begin_events}
+use Rattle.ob_top.specs.Runs.{Manner, EndsEarly, IsOpened, EndsFor, IsReported, IsLeftOnDisk, LeftByWholeRun, IsReadAndOpened, ServedOver, Ran, Went, RunOn, begin_events}
 use Rattle.ob_top.proofs.Living.{whole_lives}
 
--- an early end has printed nothing, which is the report of no records
-pub early_reported : {S : Type 0} (disk : S → Disk) (keys : Keys) (old new : Disk) (before after output : Flow) (fault : Fault) → EndsEarly flat_kind keys old new disk before after fault → IsReported output output [] (Some fault)
-early_reported disk keys old new before after output SinkFault (inl head) = absurd head.kind
-early_reported disk keys old new before after output SinkFault (inr (inl input)) = absurd input.refused
-early_reported disk keys old new before after output SinkFault (inr (inr opening)) = absurd opening.kind
-early_reported disk keys old new before after output Memory early = record { bytes = appended-none output.bytes; later = omega arith }
-early_reported disk keys old new before after output Usage early = record { bytes = appended-none output.bytes; later = omega arith }
-early_reported disk keys old new before after output (BadScript line) early = record { bytes = appended-none output.bytes; later = omega arith }
-early_reported disk keys old new before after output (BadParams field) early = record { bytes = appended-none output.bytes; later = omega arith }
-early_reported disk keys old new before after output NotStore early = record { bytes = appended-none output.bytes; later = omega arith }
-early_reported disk keys old new before after output (Damaged cell check kept computed) early = record { bytes = appended-none output.bytes; later = omega arith }
-early_reported disk keys old new before after output (StoreFault unsure) early = record { bytes = appended-none output.bytes; later = omega arith }
-early_reported disk keys old new before after output (StashFull rows) early = record { bytes = appended-none output.bytes; later = omega arith }
-early_reported disk keys old new before after output (Worn number) early = record { bytes = appended-none output.bytes; later = omega arith }
-early_reported disk keys old new before after output SourceFault early = record { bytes = appended-none output.bytes; later = omega arith }
+-- the output is no cause of a head's or an opening's refusal
+pub record IsQuiet (store : StoreKind) : Type 0 where
+  pub head : store.head_fault SinkFault → ⊥
+  pub opening : store.open_fault SinkFault → ⊥
 
-pub ended_early : {S : Type 0} (disk : S → Disk) (by : Manner) (keys : Keys) (old new : S) (before after output : Flow) (fault : Fault) → EndsEarly flat_kind keys (disk old) (disk new) disk before after fault → ((disk new).tells → LivesOn disk keys old new [])
-    → RunOn flat_kind disk by keys old new
-    (outside before output) (outside after output) (Some fault)
-ended_early disk by keys old new before after output fault early lives = record {
-  records = [];
-  reported = early_reported disk keys (disk old) (disk new) before after output fault early;
-  went = inl (refl, early, lives);
-}
+module _ (store : StoreKind) (quiet : IsQuiet store) where
+  -- an early end has printed nothing, which is the report of no records
+  pub early_reported : {S : Type 0} (disk : S → Disk) (keys : Keys) (old new : Disk) (before after output : Flow) (fault : Fault) → EndsEarly store keys old new disk before after fault → IsReported output output [] (Some fault)
+  early_reported disk keys old new before after output SinkFault (inl head) = absurd (quiet.head head.kind)
+  early_reported disk keys old new before after output SinkFault (inr (inl input)) = absurd input.refused
+  early_reported disk keys old new before after output SinkFault (inr (inr opening)) = absurd (quiet.opening opening.kind)
+  early_reported disk keys old new before after output Memory early = record { bytes = appended-none output.bytes; later = omega arith }
+  early_reported disk keys old new before after output Usage early = record { bytes = appended-none output.bytes; later = omega arith }
+  early_reported disk keys old new before after output (BadScript line) early = record { bytes = appended-none output.bytes; later = omega arith }
+  early_reported disk keys old new before after output (BadParams field) early = record { bytes = appended-none output.bytes; later = omega arith }
+  early_reported disk keys old new before after output NotStore early = record { bytes = appended-none output.bytes; later = omega arith }
+  early_reported disk keys old new before after output (Damaged cell check kept computed) early = record { bytes = appended-none output.bytes; later = omega arith }
+  early_reported disk keys old new before after output (StoreFault unsure) early = record { bytes = appended-none output.bytes; later = omega arith }
+  early_reported disk keys old new before after output (StashFull rows) early = record { bytes = appended-none output.bytes; later = omega arith }
+  early_reported disk keys old new before after output (Worn number) early = record { bytes = appended-none output.bytes; later = omega arith }
+  early_reported disk keys old new before after output SourceFault early = record { bytes = appended-none output.bytes; later = omega arith }
 
-module _ (p : Params) (found : Opening) (so_far : List Shape) (n : ℕ) (old mid new : Disk) (before after : Flow) (later : old.faults ≤ mid.faults) where
-  -- the store's count rose since an earlier moment too
-  pub cause_since : (fault : Option Fault) → EndsFor flat_kind p found so_far n mid new before after fault → EndsFor flat_kind p found so_far n old new before after fault
-  cause_since None cause = cause
-  cause_since (Some Memory) cause = cause
-  cause_since (Some SinkFault) cause = cause
-  cause_since (Some (StoreFault unsure)) (rose, which) = (rose_later old.faults mid.faults new.faults later rose, which)
-  cause_since (Some (Worn number)) cause = cause
-  cause_since (Some Usage) cause = cause
-  cause_since (Some (BadScript line)) cause = cause
-  cause_since (Some (BadParams field)) cause = cause
-  cause_since (Some NotStore) cause = cause
-  cause_since (Some (Damaged cell check kept computed)) cause = cause
-  cause_since (Some (StashFull rows)) cause = cause
-  cause_since (Some SourceFault) cause = cause
+  pub ended_early : {S : Type 0} (disk : S → Disk) (by : Manner) (keys : Keys) (old new : S) (before after output : Flow) (fault : Fault) → EndsEarly store keys (disk old) (disk new) disk before after fault → ((disk new).tells → LivesOn disk keys old new [])
+      → RunOn store disk by keys old new
+      (outside before output) (outside after output) (Some fault)
+  ended_early disk by keys old new before after output fault early lives = record {
+    records = [];
+    reported = early_reported disk keys (disk old) (disk new) before after output fault early;
+    went = inl (refl, early, lives);
+  }
 
-pub went_of : {S : Type 0} (disk : S → Disk) (by : Manner) (keys : Keys) (old new : S) (before after : Outside) (records : List (EpochRecord ℕ)) (fault : Option Fault) → Ran flat_kind disk by keys old new before after records fault → Went flat_kind
-    disk by keys old new before after records fault
-went_of disk by keys old new before after records None ran = ran
-went_of disk by keys old new before after records (Some fault) ran = inr ran
+  module _ (keys : Keys) (p : Params) (found : store.Found) (so_far : List Shape) (n : ℕ) (old mid new : Disk) (before after : Flow) (later : old.faults ≤ mid.faults) where
+    -- the store's count rose since an earlier moment too
+    pub cause_since : (fault : Option Fault) → EndsFor store keys p found mid so_far n mid new before after fault → EndsFor store keys p found mid so_far n old new before after fault
+    cause_since None cause = cause
+    cause_since (Some Memory) cause = cause
+    cause_since (Some SinkFault) cause = cause
+    cause_since (Some (StoreFault unsure)) (rose, which) = (rose_later old.faults mid.faults new.faults later rose, which)
+    cause_since (Some (Worn number)) cause = cause
+    cause_since (Some Usage) cause = cause
+    cause_since (Some (BadScript line)) cause = cause
+    cause_since (Some (BadParams field)) cause = cause
+    cause_since (Some NotStore) cause = cause
+    cause_since (Some (Damaged cell check kept computed)) cause = cause
+    cause_since (Some (StashFull rows)) cause = cause
+    cause_since (Some SourceFault) cause = cause
 
--- What a crash leaves of the opening and of the serving.
-left_both : {S : Type 0} (disk : S → Disk) (keys : Keys) (old mid new : Disk) (p : Params) (found : Opening) (at : Standing) (script : Scripts) (records : List (EpochRecord ℕ)) (fault : Option Fault)
-    → LeavesOnly old mid (StandsAsBefore flat_kind keys p old) → IsLeftOnDisk flat_kind keys p found at script records fault disk mid new → LeftByWholeRun flat_kind keys p found at script records fault disk old mid new
-left_both disk keys old mid new p found at script records fault first l = record {
-  next = l.next;
-  is_next = l.is_next;
-  opening = first;
-  stages = l.stages;
-  since = then_on old mid new (λ c. StandsAsBefore flat_kind keys p old c ⊎ StandsIn (StandsFlat keys p found.sealer.generation) (IsLeftStanding (opened_with p p.batches at) records l.next) c)
-      (weakened old mid (StandsAsBefore flat_kind keys p old) (λ c. StandsAsBefore flat_kind keys p old c ⊎ StandsIn (StandsFlat keys p found.sealer.generation) (IsLeftStanding (opened_with p p.batches at) records l.next) c) (λ c is. inl is) first)
-      (weakened mid new (StandsIn (StandsFlat keys p found.sealer.generation) (IsLeftStanding (opened_with p p.batches at) records l.next))
-      (λ c. StandsAsBefore flat_kind keys p old c ⊎ StandsIn (StandsFlat keys p found.sealer.generation) (IsLeftStanding (opened_with p p.batches at) records l.next) c) (λ c is. inr is) l.since);
-  now = l.now;
-}
+  pub went_of : {S : Type 0} (disk : S → Disk) (by : Manner) (keys : Keys) (old new : S) (before after : Outside) (records : List (EpochRecord ℕ)) (fault : Option Fault) → Ran store disk by keys old new before after records fault → Went store
+      disk by keys old new before after records fault
+  went_of disk by keys old new before after records None ran = ran
+  went_of disk by keys old new before after records (Some fault) ran = inr ran
 
--- The script was run over the store that was opened.
-pub ran : {S : Type 0} (disk : S → Disk) (by : Manner) (keys : Keys) (old between new : S) (input input_new output output_new : Flow) (p : Params) (script : Scripts) (found : Opening) (start : Open) (fault : Option Fault) → (disk old).faults ≤ (disk between).faults
-    → IsOpened flat_kind keys (disk old) input p script found start → Notes (begin_events flat_kind p found start) (disk old).seen (disk between).seen
-    → ((disk old).tells → (disk between).tells × IsSynced (disk between))
-    → ((at : Standing) → (disk old).tells → Stands flat_kind keys p (disk old).cells at → IsOpenedAt flat_kind keys p at found (disk between))
-    → ((at : Standing) → (disk old).tells → Stands flat_kind keys p (disk old).cells at → AllStand flat_kind keys p (disk old) → LeavesOnly (disk old) (disk between) (StandsAsBefore flat_kind keys p (disk old)))
-    → OpensStanding flat_kind disk keys p (disk old) (disk between)
-    → IsReadAndOpened disk keys old between found.sealer
-    → ServedOver flat_kind disk by keys p found found.sealer script between new output output_new fault
-    → RunOn flat_kind disk by keys old new (outside input output) (outside input_new output_new) fault
-ran disk by keys old between new input input_new output output_new p script found start fault later opened seen durable stood before opens begun s = record {
-  records = s.records;
-  reported = s.reported;
-  went = went_of disk by keys old new (outside input output) (outside input_new output_new) s.records fault (record {
-    p = p;
-    script = script;
-    found = found;
-    start = start;
-    opened = opened;
-    is_served = s.is_served;
-    cause = cause_since p found (shapes (calls s.is_served.served.acts)) (length s.records) (disk old) (disk between) (disk new) output output_new later fault s.cause;
-    events = s.events;
-    traced = s.traced;
-    seen = joined (begin_events flat_kind p found start) s.events (disk old).seen (disk between).seen (disk new).seen seen s.seen;
-    between = between;
-    opening_seen = seen;
-    serving_seen = s.seen;
-    opens = opens;
-    stood = stood;
-    left = λ at tells stands all. let (told, settled) = durable tells in
-        left_both disk keys (disk old) (disk between) (disk new) p found at script s.records fault (before at tells stands all) (s.left at told settled (stood at tells stands));
-    lives = whole_lives disk keys old between new found.sealer (map (λ s. s.1) (calls s.is_served.served.acts)) s.goes begun s.lives;
-  });
-}
+  -- What a crash leaves of the opening and of the serving.
+  left_both : {S : Type 0} (disk : S → Disk) (keys : Keys) (old mid new : Disk) (p : Params) (found : store.Found) (at : Standing) (script : Scripts) (records : List (EpochRecord ℕ)) (fault : Option Fault)
+      → LeavesOnly old mid (StandsAsBefore store keys p old) → IsLeftOnDisk store keys p found at script records fault disk mid new → LeftByWholeRun store keys p found at script records fault disk old mid new
+  left_both disk keys old mid new p found at script records fault first l = record {
+    next = l.next;
+    is_next = l.is_next;
+    opening = first;
+    stages = l.stages;
+    since = then_on old mid new (λ c. StandsAsBefore store keys p old c ⊎ StandsIn (store.stands keys p (store.generation found)) (IsLeftStanding (opened_with p (store.left p found) at) records l.next) c)
+        (weakened old mid (StandsAsBefore store keys p old) (λ c. StandsAsBefore store keys p old c ⊎ StandsIn (store.stands keys p (store.generation found)) (IsLeftStanding (opened_with p (store.left p found) at) records l.next) c) (λ c is. inl is) first)
+        (weakened mid new (StandsIn (store.stands keys p (store.generation found)) (IsLeftStanding (opened_with p (store.left p found) at) records l.next))
+        (λ c. StandsAsBefore store keys p old c ⊎ StandsIn (store.stands keys p (store.generation found)) (IsLeftStanding (opened_with p (store.left p found) at) records l.next) c) (λ c is. inr is) l.since);
+    now = l.now;
+  }
+
+  -- The script was run over the store that was opened.
+  pub ran : {S : Type 0} (disk : S → Disk) (by : Manner) (keys : Keys) (old between new : S) (input input_new output output_new : Flow) (p : Params) (script : Scripts) (found : store.Found) (start : store.Start) (sealing : Sealing) (fault : Option Fault)
+      → (disk old).faults ≤ (disk between).faults
+      → IsOpened store keys (disk old) input p script found start → Notes (begin_events store p found start) (disk old).seen (disk between).seen
+      → ((disk old).tells → (disk between).tells × IsSynced (disk between))
+      → ((at : Standing) → (disk old).tells → Stands store keys p (disk old).cells at → IsOpenedAt store keys p at found (disk between))
+      → ((at : Standing) → (disk old).tells → Stands store keys p (disk old).cells at → AllStand store keys p (disk old) → LeavesOnly (disk old) (disk between) (StandsAsBefore store keys p (disk old)))
+      → OpensStanding store disk keys p (disk old) (disk between)
+      → IsReadAndOpened disk keys old between sealing
+      → ServedOver store disk by keys p found sealing script between new output output_new fault
+      → RunOn store disk by keys old new (outside input output) (outside input_new output_new) fault
+  ran disk by keys old between new input input_new output output_new p script found start sealing fault later opened seen durable stood before opens begun s = record {
+    records = s.records;
+    reported = s.reported;
+    went = went_of disk by keys old new (outside input output) (outside input_new output_new) s.records fault (record {
+      p = p;
+      script = script;
+      found = found;
+      start = start;
+      opened = opened;
+      between = between;
+      is_served = s.is_served;
+      cause = cause_since keys p found (shapes (calls s.is_served.served.acts)) (length s.records) (disk old) (disk between) (disk new) output output_new later fault s.cause;
+      events = s.events;
+      traced = s.traced;
+      seen = joined (begin_events store p found start) s.events (disk old).seen (disk between).seen (disk new).seen seen s.seen;
+      opening_seen = seen;
+      serving_seen = s.seen;
+      opens = opens;
+      stood = stood;
+      left = λ at tells stands all. let (told, settled) = durable tells in
+          left_both disk keys (disk old) (disk between) (disk new) p found at script s.records fault (before at tells stands all) (s.left at told settled (stood at tells stands));
+      lives = whole_lives disk keys old between new sealing (map (λ s. s.1) (calls s.is_served.served.acts)) s.goes begun s.lives;
+    });
+  }

@@ -32,6 +32,7 @@ use Rattle.ob_serial.specs.VaultKinds.{Kind, Called, AllCalled, ended_of, ended_
 use Rattle.ob_kinds.specs.Phases.{Shape, Fetches, Ends, events_of_phases, shapes, refused}
 use Rattle.ob_kinds.specs.Kinds.{StoreKind, IsOpenedAt, opened_with}
 use Rattle.ob_kinds.specs.Shown.{steps_phases, public_behind, IsSeenCut}
+use Rattle.ob_kinds.specs.Steps.{IsAnsweredCall, Stops, IsCallOfKind}
 use Rattle.ob_kinds.specs.Laws.{AllAnswered}
 use Rattle.ob_kinds.proofs.Shapes.{events_join, shapes_join, answered_not_refused, refused_last}
 use Rattle.ob_script.specs.Script.{ScriptTxn, Scripts, AreSound, asks_by}
@@ -54,7 +55,6 @@ use Rattle.ob_script_runs.specs.Served.{IsServed, ClientsServedAll}
 use Rattle.ob_script_runs.proofs.Whole.{RunsScripts, is_served, its_acts, its_desk, all_served, next_served}
 use Rattle.ob_desk.specs.Beats.{BeatKind}
 use Rattle.ob_top.specs.Runs.{Manner, manner, EndsWith, EndsFor, IsTraced, IsReported, IsLeftOnDisk, StagedFrom, IsNextEpoch, ComesNext, ServedOver, LivesBehind, fault_of}
-use Rattle.ob_top.proofs.Steps.{Goes, Stops, CallDoes}
 
 -- an end that was refused ended nothing
 none_ended : (writes : List (ℕ × Option (List ℕ))) (refused : EndErr) → ended_by (End writes, end_answer (Err refused)) ≡ []
@@ -79,9 +79,9 @@ all_answered ((End writes, Values values) ∷ steps) are = absurd are
 all_answered ((End writes, RefusedBy fault) ∷ steps) are = absurd are
 all_answered ((End writes, DoubtBy fault) ∷ steps) are = absurd are
 
-module _ {V S : Type 0} (k : Kind V) (store : StoreKind) (disk : S → Disk) (store_of : V → S) (p : Params) (found : store.Found) (At : store.Public → List Shape → ℕ → V → Type 0)
-    (does : (q : store.Public) (so_far : List Shape) (n : ℕ) (v : V) (call : VaultCall) (answer : VaultAnswer) (notes : List Note) (w : V) → At q so_far n v → k.called v call answer notes w
-    → CallDoes store p found At (disk (store_of v)) (disk (store_of w)) w q so_far n call answer) where
+module _ {V S : Type 0} (k : Kind V) (store : StoreKind) (disk : S → Disk) (store_of : V → S) (under : Keys) (p : Params) (found : store.Found) (start : V) (At : store.Public → List Shape → ℕ → V → Type 0)
+    (does : (q : store.Public) (so_far : List Shape) (n : ℕ) (v : V) (call : VaultCall) (answer : VaultAnswer) (w : V) → At q so_far n v → Called k v call answer w
+    → IsCallOfKind store under p found (disk (store_of start)) At (disk (store_of v)) (disk (store_of w)) w q so_far n call answer) where
   -- Behind calls that were all answered: what they drew, what was seen, and where the vault is.
   pub record Behind (q : store.Public) (so_far : List Shape) (n : ℕ) (first : V) (steps : List (VaultCall × VaultAnswer)) (last : V) : Type 0 where
     pub taken : List (Shape × store.Drawn)
@@ -102,7 +102,7 @@ module _ {V S : Type 0} (k : Kind V) (store : StoreKind) (disk : S → Disk) (st
 
   -- one call before them
   before_it : (q : store.Public) (so_far : List Shape) (n : ℕ) (first mid last : V) (shape : Shape) (m : ℕ) (step : VaultCall × VaultAnswer) (steps : List (VaultCall × VaultAnswer)) → shapes (step ∷ steps) ≡ shape ∷ shapes steps
-      → m + length (ended_of steps) ≡ n + length (ended_of (step ∷ steps)) → (one : Goes store p At (disk (store_of first)) (disk (store_of mid)) mid q so_far shape m) → Behind (store.next p q shape one.drawn) (so_far ++ shape ∷ []) m mid steps last
+      → m + length (ended_of steps) ≡ n + length (ended_of (step ∷ steps)) → (one : IsAnsweredCall store p At (disk (store_of first)) (disk (store_of mid)) mid q so_far shape m) → Behind (store.next p q shape one.drawn) (so_far ++ shape ∷ []) m mid steps last
       → Behind q so_far n first (step ∷ steps) last
   before_it q so_far n first mid last shape m step steps is counts one b = record {
     taken = (shape, one.drawn) ∷ b.taken;
@@ -116,10 +116,10 @@ module _ {V S : Type 0} (k : Kind V) (store : StoreKind) (disk : S → Disk) (st
   pub behind : (q : store.Public) (so_far : List Shape) (n : ℕ) (first : V) (steps : List (VaultCall × VaultAnswer)) (last : V) → At q so_far n first → AllCalled k first steps last → AreAnswered steps → Behind q so_far n first steps last
   behind q so_far n first [] last at chain answered = subst (λ w. Behind q so_far n first [] w) (sym chain) (stays q so_far n first at)
   behind q so_far n first ((Fetch keys, Values values) ∷ steps) last at (mid, one, rest) answered =
-      let goes = does q so_far n first (Fetch keys) (Values values) one.notes mid at one.called in
+      let goes = does q so_far n first (Fetch keys) (Values values) mid at one in
       before_it q so_far n first mid last Fetches n (Fetch keys, Values values) steps refl refl goes (behind (store.next p q Fetches goes.drawn) (so_far ++ Fetches ∷ []) n mid steps last goes.at rest answered)
   behind q so_far n first ((End writes, Ended) ∷ steps) last at (mid, one, rest) answered =
-      let goes = does q so_far n first (End writes) Ended one.notes mid at one.called in
+      let goes = does q so_far n first (End writes) Ended mid at one in
       before_it q so_far n first mid last Ends (suc n) (End writes, Ended) steps refl (one_more n (length (ended_of steps))) goes (behind (store.next p q Ends goes.drawn) (so_far ++ Ends ∷ []) (suc n) mid steps last goes.at rest answered)
     where
       one_more : (i j : ℕ) → suc i + j ≡ i + suc j
@@ -139,7 +139,7 @@ module _ {V S : Type 0} (k : Kind V) (store : StoreKind) (disk : S → Disk) (st
   none_more [] call answer none = append-nil (ended_by (call, answer)) ∙ none
   none_more (step ∷ front) call answer none = ap (λ l. ended_by step ++ l) (none_more front call answer none)
 
-  module _ (first last : V) (before after : Flow) (records : List (EpochRecord ℕ)) (begun : At (store.public found) [] 0 first) where
+  module _ (first last : V) (before after : Flow) (records : List (EpochRecord ℕ)) (begun : At (store.public p found) [] 0 first) where
     abbrev old_disk : Disk
     old_disk = disk (store_of first)
 
@@ -148,32 +148,32 @@ module _ {V S : Type 0} (k : Kind V) (store : StoreKind) (disk : S → Disk) (st
 
     -- How it ended, after these calls: why, what was written, and what was seen.
     pub record Ending (asked : List (VaultCall × VaultAnswer)) (fault : Option Fault) : Type 0 where
-      pub cause : EndsFor store p found (shapes asked) (length records) (disk (store_of first)) (disk (store_of last)) before after fault
+      pub cause : EndsFor store under p found (disk (store_of start)) (shapes asked) (length records) (disk (store_of first)) (disk (store_of last)) before after fault
       pub reported : IsReported before after records fault
       pub events : List Event
-      pub traced : IsTraced store p (store.public found) asked fault events
+      pub traced : IsTraced store p (store.public p found) asked fault events
       pub seen : Notes events (disk (store_of first)).seen (disk (store_of last)).seen
 
     none_cut : (q : store.Public) (one : Option Shape) (fault : Option Fault) → one ≡ None → IsSeenCut store p q one fault []
     none_cut q one fault is = subst (λ (o : Option Shape). IsSeenCut store p q o fault []) (sym is) refl
 
     -- no call was refused
-    ends_alone : (asked : List (VaultCall × VaultAnswer)) → AllCalled k first asked last → AreAnswered asked → (fault : Option Fault) → EndsFor store p found (shapes asked) (length records) (disk (store_of first)) (disk (store_of last)) before after fault
+    ends_alone : (asked : List (VaultCall × VaultAnswer)) → AllCalled k first asked last → AreAnswered asked → (fault : Option Fault) → EndsFor store under p found (disk (store_of start)) (shapes asked) (length records) (disk (store_of first)) (disk (store_of last)) before after fault
         → IsReported before after records fault → Ending asked fault
     ends_alone asked chain answered fault cause reported =
-        let b = behind (store.public found) [] 0 first asked last begun chain answered in
+        let b = behind (store.public p found) [] 0 first asked last begun chain answered in
         record {
           cause = cause;
           reported = reported;
-          events = events_of_phases (steps_phases store p (store.public found) b.taken) ++ [];
+          events = events_of_phases (steps_phases store p (store.public p found) b.taken) ++ [];
           traced = record {
             steps = b.taken;
             shapes_are = b.shapes_are;
             more = [];
-            cut = none_cut (public_behind store p (store.public found) b.taken) (refused asked) fault (answered_not_refused asked (all_answered asked answered));
+            cut = none_cut (public_behind store p (store.public p found) b.taken) (refused asked) fault (answered_not_refused asked (all_answered asked answered));
             events_are = refl;
           };
-          seen = subst (λ (l : List Event). Notes l (disk (store_of first)).seen (disk (store_of last)).seen) (sym (append-nil (events_of_phases (steps_phases store p (store.public found) b.taken)))) b.seen;
+          seen = subst (λ (l : List Event). Notes l (disk (store_of first)).seen (disk (store_of last)).seen) (sym (append-nil (events_of_phases (steps_phases store p (store.public p found) b.taken)))) b.seen;
         }
 
     module _ (faults : (v : V) → (k.disk v).faults ≡ (disk (store_of v)).faults) where
@@ -181,22 +181,23 @@ module _ {V S : Type 0} (k : Kind V) (store : StoreKind) (disk : S → Disk) (st
       rises rose = subst (λ n. Rose (disk (store_of first)).faults n) (faults last) (subst (λ n. Rose n (k.disk last).faults) (faults first) rose)
 
       -- the vault refused a call
-      cause_of : (so_far : List Shape) (n : ℕ) (shape : Shape) (fault : Fault) (mid : V) (q : store.Public) → Stops store p found (disk (store_of mid)) (disk (store_of last)) q so_far n shape fault → so_far ≡ so_far → n ≡ length records
-          → (IsStoreFault fault → Rose (k.disk first).faults (k.disk last).faults) → EndsFor store p found so_far (length records) (disk (store_of first)) (disk (store_of last)) before after (Some fault)
+      cause_of : (so_far : List Shape) (n : ℕ) (shape : Shape) (fault : Fault) (mid : V) (q : store.Public) → Stops store under p found (disk (store_of start)) (disk (store_of mid)) (disk (store_of last)) q so_far n shape fault → so_far ≡ so_far → n ≡ length records
+          → (IsStoreFault fault → Rose (k.disk first).faults (k.disk last).faults) → EndsFor store under p found (disk (store_of start)) so_far (length records) (disk (store_of first)) (disk (store_of last)) before after (Some fault)
       cause_of so_far n shape (StoreFault unsure) mid q s same is rose = (rises (rose tt), subst (λ m. (unsure ≡ None) ⊎ (unsure ≡ Some (suc (store.epoch found + m)))) is s.why)
       cause_of so_far n shape Memory mid q s same is rose = tt
       cause_of so_far n shape SinkFault mid q s same is rose = absurd s.why
-      cause_of so_far n shape (Worn number) mid q s same is rose = subst (λ m. store.causes p found so_far m (Worn number)) is s.why
-      cause_of so_far n shape Usage mid q s same is rose = subst (λ m. store.causes p found so_far m Usage) is s.why
-      cause_of so_far n shape (BadScript line) mid q s same is rose = subst (λ m. store.causes p found so_far m (BadScript line)) is s.why
-      cause_of so_far n shape (BadParams field) mid q s same is rose = subst (λ m. store.causes p found so_far m (BadParams field)) is s.why
-      cause_of so_far n shape NotStore mid q s same is rose = subst (λ m. store.causes p found so_far m NotStore) is s.why
-      cause_of so_far n shape (Damaged cell check kept computed) mid q s same is rose = subst (λ m. store.causes p found so_far m (Damaged cell check kept computed)) is s.why
-      cause_of so_far n shape (StashFull rows) mid q s same is rose = subst (λ m. store.causes p found so_far m (StashFull rows)) is s.why
-      cause_of so_far n shape SourceFault mid q s same is rose = subst (λ m. store.causes p found so_far m SourceFault) is s.why
+      cause_of so_far n shape (Worn number) mid q s same is rose = subst (λ m. store.causes under p found (disk (store_of start)) (disk (store_of last)) so_far m (Worn number)) is s.why
+      cause_of so_far n shape Usage mid q s same is rose = subst (λ m. store.causes under p found (disk (store_of start)) (disk (store_of last)) so_far m Usage) is s.why
+      cause_of so_far n shape (BadScript line) mid q s same is rose = subst (λ m. store.causes under p found (disk (store_of start)) (disk (store_of last)) so_far m (BadScript line)) is s.why
+      cause_of so_far n shape (BadParams field) mid q s same is rose = subst (λ m. store.causes under p found (disk (store_of start)) (disk (store_of last)) so_far m (BadParams field)) is s.why
+      cause_of so_far n shape NotStore mid q s same is rose = subst (λ m. store.causes under p found (disk (store_of start)) (disk (store_of last)) so_far m NotStore) is s.why
+      cause_of so_far n shape (Damaged cell check kept computed) mid q s same is rose = subst (λ m. store.causes under p found (disk (store_of start)) (disk (store_of last)) so_far m (Damaged cell check kept computed)) is s.why
+      cause_of so_far n shape (StashFull rows) mid q s same is rose = subst (λ m. store.causes under p found (disk (store_of start)) (disk (store_of last)) so_far m (StashFull rows)) is s.why
+      cause_of so_far n shape SourceFault mid q s same is rose = subst (λ m. store.causes under p found (disk (store_of start)) (disk (store_of last)) so_far m SourceFault) is s.why
 
       -- the output doesn't fail a vault's call
-      all_reported : (store_fault : Fault) (so_far : List Shape) (n : ℕ) (shape : Shape) (q : store.Public) (a b : Disk) → Stops store p found a b q so_far n shape store_fault → IsWritten (report decimal records) before after → IsReported before after records (Some store_fault)
+      all_reported : (store_fault : Fault) (so_far : List Shape) (n : ℕ) (shape : Shape) (q : store.Public) (a b : Disk) → Stops store under p found (disk (store_of start)) a b q so_far n shape store_fault
+          → IsWritten (report decimal records) before after → IsReported before after records (Some store_fault)
       all_reported SinkFault so_far n shape q a b s written = absurd s.why
       all_reported Memory so_far n shape q a b s written = written
       all_reported Usage so_far n shape q a b s written = written
@@ -212,19 +213,19 @@ module _ {V S : Type 0} (k : Kind V) (store : StoreKind) (disk : S → Disk) (st
       -- a last call was refused with this fault, behind others that were answered
       cut_short : (front : List (VaultCall × VaultAnswer)) (call : VaultCall) (answer : VaultAnswer) (shape : Shape) (fault : Fault) → AllCalled k first (front ++ (call, answer) ∷ []) last → AreAnswered front → AreWritten (ended_of front) records
           → refused ((call, answer) ∷ []) ≡ Some shape → shapes ((call, answer) ∷ []) ≡ []
-          → ((q : store.Public) (so_far : List Shape) (n : ℕ) (v : V) (notes : List Note) (w : V) → At q so_far n v → k.called v call answer notes w → Stops store p found (disk (store_of v)) (disk (store_of w)) q so_far n shape fault)
+          → ((q : store.Public) (so_far : List Shape) (n : ℕ) (v : V) (w : V) → At q so_far n v → Called k v call answer w → Stops store under p found (disk (store_of start)) (disk (store_of v)) (disk (store_of w)) q so_far n shape fault)
           → (IsStoreFault fault → Rose (k.disk first).faults (k.disk last).faults) → IsWritten (report decimal records) before after → Ending (front ++ (call, answer) ∷ []) (Some fault)
       cut_short front call answer shape fault chain answered wrote is none stops cause written =
           let (mid, before_last, one) = split first front call answer last chain in
-          let b = behind (store.public found) [] 0 first front mid begun before_last answered in
-          let q = public_behind store p (store.public found) b.taken in
-          let s = stops q (shapes front) (0 + length (ended_of front)) mid one.notes last b.at one.called in
+          let b = behind (store.public p found) [] 0 first front mid begun before_last answered in
+          let q = public_behind store p (store.public p found) b.taken in
+          let s = stops q (shapes front) (0 + length (ended_of front)) mid last b.at one in
           let all : shapes (front ++ (call, answer) ∷ []) ≡ shapes front = shapes_join front ((call, answer) ∷ []) ∙ ap (λ (l : List Shape). shapes front ++ l) none ∙ append-nil (shapes front) in
           record {
-            cause = subst (λ (l : List Shape). EndsFor store p found l (length records) (disk (store_of first)) (disk (store_of last)) before after (Some fault)) (sym all)
+            cause = subst (λ (l : List Shape). EndsFor store under p found (disk (store_of start)) l (length records) (disk (store_of first)) (disk (store_of last)) before after (Some fault)) (sym all)
                 (cause_of (shapes front) (0 + length (ended_of front)) shape fault mid q s refl (none_before (length (ended_of front)) ∙ counted (ended_of front) records wrote) cause);
             reported = all_reported fault (shapes front) (0 + length (ended_of front)) shape q (disk (store_of mid)) (disk (store_of last)) s written;
-            events = events_of_phases (steps_phases store p (store.public found) b.taken) ++ s.more;
+            events = events_of_phases (steps_phases store p (store.public p found) b.taken) ++ s.more;
             traced = record {
               steps = b.taken;
               shapes_are = b.shapes_are ∙ sym all;
@@ -232,7 +233,7 @@ module _ {V S : Type 0} (k : Kind V) (store : StoreKind) (disk : S → Disk) (st
               cut = subst (λ (o : Option Shape). IsSeenCut store p q o (Some fault) s.more) (sym (refused_last front (call, answer) (all_answered front answered) ∙ is)) s.cut;
               events_are = refl;
             };
-            seen = joined (events_of_phases (steps_phases store p (store.public found) b.taken)) s.more _ _ _ b.seen s.seen;
+            seen = joined (events_of_phases (steps_phases store p (store.public p found) b.taken)) s.more _ _ _ b.seen s.seen;
           }
         where
           none_before : (m : ℕ) → 0 + m ≡ m
@@ -241,12 +242,12 @@ module _ {V S : Type 0} (k : Kind V) (store : StoreKind) (disk : S → Disk) (st
       -- a refused batch, and a refused end
       by_fetch : (front : List (VaultCall × VaultAnswer)) (keys : List (Option ℕ)) (fault : Fault) → AllCalled k first (front ++ (Fetch keys, RefusedBy fault) ∷ []) last → AreAnswered front → AreWritten (ended_of front) records
           → (IsStoreFault fault → Rose (k.disk first).faults (k.disk last).faults) → IsWritten (report decimal records) before after → Ending (front ++ (Fetch keys, RefusedBy fault) ∷ []) (Some fault)
-      by_fetch front keys fault chain answered wrote cause written = cut_short front (Fetch keys) (RefusedBy fault) Fetches fault chain answered wrote refl refl (λ q so_far n v notes w at one. does q so_far n v (Fetch keys) (RefusedBy fault) notes w at one) cause written
+      by_fetch front keys fault chain answered wrote cause written = cut_short front (Fetch keys) (RefusedBy fault) Fetches fault chain answered wrote refl refl (λ q so_far n v w at one. does q so_far n v (Fetch keys) (RefusedBy fault) w at one) cause written
 
       by_end : (front : List (VaultCall × VaultAnswer)) (writes : List (ℕ × Option (List ℕ))) (refusal : EndErr) → AllCalled k first (front ++ (End writes, end_answer (Err refusal)) ∷ []) last → AreAnswered front → AreWritten (ended_of front) records
           → (IsStoreFault (fault_in refusal) → Rose (k.disk first).faults (k.disk last).faults) → IsWritten (report decimal records) before after → Ending (front ++ (End writes, end_answer (Err refusal)) ∷ []) (Some (fault_in refusal))
-      by_end front writes (Before fault) chain answered wrote cause written = cut_short front (End writes) (RefusedBy fault) Ends fault chain answered wrote refl refl (λ q so_far n v notes w at one. does q so_far n v (End writes) (RefusedBy fault) notes w at one) cause written
-      by_end front writes (Unsure fault) chain answered wrote cause written = cut_short front (End writes) (DoubtBy fault) Ends fault chain answered wrote refl refl (λ q so_far n v notes w at one. does q so_far n v (End writes) (DoubtBy fault) notes w at one) cause written
+      by_end front writes (Before fault) chain answered wrote cause written = cut_short front (End writes) (RefusedBy fault) Ends fault chain answered wrote refl refl (λ q so_far n v w at one. does q so_far n v (End writes) (RefusedBy fault) w at one) cause written
+      by_end front writes (Unsure fault) chain answered wrote cause written = cut_short front (End writes) (DoubtBy fault) Ends fault chain answered wrote refl refl (λ q so_far n v w at one. does q so_far n v (End writes) (DoubtBy fault) w at one) cause written
 
       module _ (acts : List Act) (same : records_of_acts acts ≡ records) (chain : AllCalled k first (calls acts) last) (wrote : AreWritten (ended_of (calls acts)) records) (printed : IsPrinted before after (report decimal records)) where
         module _ (d e : DeskState) (t u : Trace) (fault : Fault) (f : Failure k (scene d first t) (scene e last u) acts before after fault) where
@@ -295,30 +296,30 @@ module _ {V S : Type 0} (k : Kind V) (store : StoreKind) (disk : S → Disk) (st
         ending d e t u were are (Err fault) (inr f) = by_act d e t u fault f f.act refl f.reason (subst (λ (rs : List (EpochRecord ℕ)). AreLines f.act rs before after) same f.lines)
 
   -- what the lender knows of a vault's words
-  pub record IsLender (keys : Keys) (sealing : Sealing) (first : V) : Type 1 where
+  pub record IsLender (sealing : Sealing) : Type 1 where
     pub faults : (v : V) → (k.disk v).faults ≡ (disk (store_of v)).faults
     pub goes : (v w : V) → GoesOn (k.disk v) (k.disk w) → GoesOn (disk (store_of v)) (disk (store_of w))
     pub since : (a b : V) (P : Image → Type 0) → LeavesOnly (k.disk a) (k.disk b) P → LeavesOnly (disk (store_of a)) (disk (store_of b)) P
     pub now : (v : V) (c : Image) → (disk (store_of v)).may_leave c → (k.disk v).may_leave c
-    pub stands : (c : Image) (at : Standing) → k.stands first c at → store.stands keys p (store.generation found) c at
+    pub stands : (c : Image) (at : Standing) → k.stands start c at → store.stands under p (store.generation found) c at
     pub only : OnlyNow k
     pub rests : Rests k
-    pub holds : (m : Map nat_cmp) → store.is_map found m → HoldsMap k first m
-    pub sound : (at : Standing) → (disk (store_of first)).tells → IsSynced (disk (store_of first)) → IsOpenedAt store keys p at found (disk (store_of first)) → k.sound first (opened_with p (store.left p found) at)
-    pub lives : (w : V) (steps : List (VaultCall × VaultAnswer)) → AllCalled k first steps w → LivesBehind disk keys sealing (store_of first) (store_of w) (map (λ s. s.1) steps)
+    pub holds : (m : Map nat_cmp) → store.is_map under p (disk (store_of start)) found m → HoldsMap k start m
+    pub sound : (at : Standing) → (disk (store_of start)).tells → IsSynced (disk (store_of start)) → IsOpenedAt store under p at found (disk (store_of start)) → k.sound start (opened_with p (store.left p found) at)
+    pub lives : (w : V) (steps : List (VaultCall × VaultAnswer)) → AllCalled k start steps w → LivesBehind disk under sealing (store_of start) (store_of w) (map (λ s. s.1) steps)
 
   module _ {U : Type 0} (beat : BeatKind) (threads : Bool) (kind : RunnerKind U (List ScriptTxn))
       (means : RunsScripts kind)
-      (keys : Keys) (sealing : Sealing) (script : Scripts) (sound : AreSound script) (may : MayOpen (record { params = p }) (suc (store.epoch found)) (store.left p found) script.clients)
-      (first : V) (trace : Trace) (runners : List U) (before : Flow) (end : RunState V U) (result : Result (Unit {0}) Fault)
+      (sealing : Sealing) (script : Scripts) (sound : AreSound script) (may : MayOpen (record { params = p }) (suc (store.epoch found)) (store.left p found) script.clients)
+      (trace : Trace) (runners : List U) (before : Flow) (end : RunState V U) (result : Result (Unit {0}) Fault)
       (named : map kind.client runners ≡ script.clients) (planned : All (λ u. kind.plan u ≡ asks_by (kind.client u) script.txns) runners) where
     abbrev base : DeskState
     base = new_desk (record { params = p }) (suc (store.epoch found)) (store.left p found) script.clients
 
     abbrev begin : RunState V U
-    begin = run_state (scene base first trace) runners before
+    begin = run_state (scene base start trace) runners before
 
-    module _ (acts : List Act) (d : Conducted k kind beat begin end acts result) (rounds : AreShaped threads script.clients acts) (l : IsLender keys sealing first) where
+    module _ (acts : List Act) (d : Conducted k kind beat begin end acts result) (rounds : AreShaped threads script.clients acts) (l : IsLender sealing) where
       abbrev last : V
       last = end.scene.vault
 
@@ -328,13 +329,13 @@ module _ {V S : Type 0} (k : Kind V) (store : StoreKind) (disk : S → Disk) (st
       abbrev records : List (EpochRecord ℕ)
       records = records_of_acts acts
 
-      comes_next : (epoch : ℕ) → epoch ≡ store.epoch found → (next : Option (EpochRecord ℕ)) → IsNextOf k begin end acts result next → IsNextEpoch store found (suc epoch + length records) script records next
+      comes_next : (epoch : ℕ) → epoch ≡ store.epoch found → (next : Option (EpochRecord ℕ)) → IsNextOf k begin end acts result next → IsNextEpoch store under p (disk (store_of start)) found (suc epoch + length records) script records next
       comes_next epoch same None is = tt
       comes_next epoch same (Some r) (fault, told, f, (writes, refused, act_is, u, the)) =
           let is = f.acts_are ∙ ap (λ (x : Act). f.front ++ x ∷ f.behind) act_is in
-          subst (ComesNext store found (suc epoch + length records) script records) the (record {
+          subst (ComesNext store under p (disk (store_of start)) found (suc epoch + length records) script records) the (record {
             epoch_is = due_epoch k kind p beat begin (record { params = p }) (suc (store.epoch found)) (store.left p found) script.clients refl acts end result d f.front writes refused f.behind is f.says u ∙ ap (λ e. suc e + length records) (sym same);
-            served = next_served k beat kind means p (store.epoch found) (store.left p found) script sound may first trace runners before end acts result named planned d f.front writes refused f.behind is f.says u;
+            served = next_served k beat kind means p (store.epoch found) (store.left p found) script sound may start trace runners before end acts result named planned d f.front writes refused f.behind is f.says u;
             in_order = due_in_order k kind p beat begin (record { params = p }) (suc (store.epoch found)) (store.left p found) script.clients refl acts end result d f.front writes refused f.behind is f.says u;
             one_by_one = λ m of. due_one_by_one k kind p beat begin (record { params = p }) (suc (store.epoch found)) (store.left p found) script.clients refl acts end result d f.front writes refused f.behind is f.says u m (l.holds m of);
           })
@@ -342,19 +343,20 @@ module _ {V S : Type 0} (k : Kind V) (store : StoreKind) (disk : S → Disk) (st
       doubt_told : (epoch n : ℕ) → epoch ≡ n → TellsDoubt epoch result → fault_of result ≡ Some (StoreFault (Some n))
       doubt_told epoch n same told = ap fault_of told ∙ ap (λ (m : ℕ). Some (StoreFault (Some m))) same
 
-      standing_in : {P Q : Standing → Type 0} (c : Image) → ((at : Standing) → P at → Q at) → StandsIn (k.stands first) P c → StandsIn (store.stands keys p (store.generation found)) Q c
+      standing_in : {P Q : Standing → Type 0} (c : Image) → ((at : Standing) → P at → Q at) → StandsIn (k.stands start) P c → StandsIn (store.stands under p (store.generation found)) Q c
       standing_in c to (at, stands, is) = (at, l.stands c at stands, to at is)
 
-      as_stored : (P : Standing → Type 0) (from to : V) → LeavesOnly (k.disk from) (k.disk to) (StandsIn (k.stands first) P) → LeavesOnly (disk (store_of from)) (disk (store_of to)) (StandsIn (store.stands keys p (store.generation found)) P)
-      as_stored P from to leaves = weakened (disk (store_of from)) (disk (store_of to)) (StandsIn (k.stands first) P) (StandsIn (store.stands keys p (store.generation found)) P)
-          (λ c is. standing_in c (λ s x. x) is) (l.since from to (StandsIn (k.stands first) P) leaves)
+      as_stored : (P : Standing → Type 0) (from to : V) → LeavesOnly (k.disk from) (k.disk to) (StandsIn (k.stands start) P) → LeavesOnly (disk (store_of from)) (disk (store_of to)) (StandsIn (store.stands under p (store.generation found)) P)
+      as_stored P from to leaves = weakened (disk (store_of from)) (disk (store_of to)) (StandsIn (k.stands start) P) (StandsIn (store.stands under p (store.generation found)) P)
+          (λ c is. standing_in c (λ s x. x) is) (l.since from to (StandsIn (k.stands start) P) leaves)
 
-      staged_stores : (at : Standing) (told : List (EpochRecord ℕ)) (next : Option (EpochRecord ℕ)) (from to : V) → Stages k (k.stands first) at told next from to → StagedFrom store keys p found at script records (fault_of result) disk at told next (disk (store_of from)) (disk (store_of to))
+      staged_stores : (at : Standing) (told : List (EpochRecord ℕ)) (next : Option (EpochRecord ℕ)) (from to : V) → Stages k (k.stands start) at told next from to
+          → StagedFrom store under p found at script records (fault_of result) disk at told next (disk (store_of from)) (disk (store_of to))
       staged_stores at [] next from to leaves = as_stored (IsThisOrNext at next) from to leaves
       staged_stores at (r ∷ told) next from to (mid, leaves, rest) = (store_of mid, as_stored (IsThisOrNext at (Some r)) from mid leaves, staged_stores (next_at at r) told next mid to rest)
 
-      left : (at : Standing) → (disk (store_of first)).tells → IsSynced (disk (store_of first)) → IsOpenedAt store keys p at found (disk (store_of first))
-          → IsLeftOnDisk store keys p found at script records (fault_of result) disk (disk (store_of first)) (disk (store_of last))
+      left : (at : Standing) → (disk (store_of start)).tells → IsSynced (disk (store_of start)) → IsOpenedAt store under p at found (disk (store_of start))
+          → IsLeftOnDisk store under p found at script records (fault_of result) disk (disk (store_of start)) (disk (store_of last))
       left at tells settled opened =
           let v = opened_with p (store.left p found) at in
           let same : at.epoch ≡ store.epoch found = sym opened.epoch in
@@ -362,31 +364,31 @@ module _ {V S : Type 0} (k : Kind V) (store : StoreKind) (disk : S → Disk) (st
           record {
             next = by.next;
             is_next = comes_next at.epoch same by.next by.is_next;
-            since = weakened (disk (store_of first)) (disk (store_of last)) (StandsIn (k.stands first) (IsLeftStanding v records by.next)) (StandsIn (store.stands keys p (store.generation found)) (IsLeftStanding v records by.next))
-                (λ c is. standing_in c (λ s x. x) is) (l.since first last (StandsIn (k.stands first) (IsLeftStanding v records by.next)) by.since);
-            stages = staged_stores at records by.next first last by.stages;
+            since = weakened (disk (store_of start)) (disk (store_of last)) (StandsIn (k.stands start) (IsLeftStanding v records by.next)) (StandsIn (store.stands under p (store.generation found)) (IsLeftStanding v records by.next))
+                (λ c is. standing_in c (λ s x. x) is) (l.since start last (StandsIn (k.stands start) (IsLeftStanding v records by.next)) by.since);
+            stages = staged_stores at records by.next start last by.stages;
             now = λ c may. standing_in c
                 (λ s x. ⊎_elim (λ e. inl e) (λ (r, is, told, e). inr (r, is, doubt_told (suc (store.epoch found) + length records) (suc at.epoch + length records) (ap (λ e. suc e + length records) (sym same)) told, e)) x) (by.now c (l.now last c may));
           }
 
       whole : (r : Result (Unit {0}) Fault) → RunEnds k begin end acts r → r ≡ result → fault_of result ≡ None → ClientsServedAll script records
-      whole (Ok done) (answered, over, written) is none = all_served k beat kind means p (store.epoch found) (store.left p found) script sound may first trace runners before end acts result named planned d over
+      whole (Ok done) (answered, over, written) is none = all_served k beat kind means p (store.epoch found) (store.left p found) script sound may start trace runners before end acts result named planned d over
       whole (Err fault) ends is none = absurd (no_fault fault (ap fault_of is ∙ none))
         where
           no_fault : (f : Fault) → ◌≡◌ {A = Option Fault} (Some f) None → ⊥
           no_fault f e = cc e
 
-      chain : AllCalled k first (calls acts) last
-      chain = called k first (calls acts) d.notes last d.chain
+      chain : AllCalled k start (calls acts) last
+      chain = called k start (calls acts) d.notes last d.chain
 
       abbrev is_run : IsServed (AreShaped threads script.clients) beat p (store.epoch found) (store.left p found) script records
-      is_run = is_served k beat kind means p (store.epoch found) (store.left p found) script sound may first trace runners before end acts result named planned d (AreShaped threads script.clients) rounds
+      is_run = is_served k beat kind means p (store.epoch found) (store.left p found) script sound may start trace runners before end acts result named planned d (AreShaped threads script.clients) rounds
 
-      acts_are : acts ≡ (is_served k beat kind means p (store.epoch found) (store.left p found) script sound may first trace runners before end acts result named planned d (AreShaped threads script.clients) rounds).acts
-      acts_are = sym (its_acts k beat kind means p (store.epoch found) (store.left p found) script sound may first trace runners before end acts result named planned d (AreShaped threads script.clients) rounds)
+      acts_are : acts ≡ (is_served k beat kind means p (store.epoch found) (store.left p found) script sound may start trace runners before end acts result named planned d (AreShaped threads script.clients) rounds).acts
+      acts_are = sym (its_acts k beat kind means p (store.epoch found) (store.left p found) script sound may start trace runners before end acts result named planned d (AreShaped threads script.clients) rounds)
 
-      desk_is : end.scene.desk ≡ (is_served k beat kind means p (store.epoch found) (store.left p found) script sound may first trace runners before end acts result named planned d (AreShaped threads script.clients) rounds).desk
-      desk_is = sym (its_desk k beat kind means p (store.epoch found) (store.left p found) script sound may first trace runners before end acts result named planned d (AreShaped threads script.clients) rounds)
+      desk_is : end.scene.desk ≡ (is_served k beat kind means p (store.epoch found) (store.left p found) script sound may start trace runners before end acts result named planned d (AreShaped threads script.clients) rounds).desk
+      desk_is = sym (its_desk k beat kind means p (store.epoch found) (store.left p found) script sound may start trace runners before end acts result named planned d (AreShaped threads script.clients) rounds)
 
       ends_with : (r : Result (Unit {0}) Fault) → RunEnds k begin end acts r → EndsWith (fault_of r) acts end.scene.desk
       ends_with (Ok done) (answered, over, written) = over
@@ -394,9 +396,9 @@ module _ {V S : Type 0} (k : Kind V) (store : StoreKind) (disk : S → Disk) (st
       ends_with (Err fault) (inr f) = inr (f.front, f.act, f.behind, f.acts_are, f.says, f.told)
 
       -- what serving does
-      pub serves : At (store.public found) [] 0 first → ServedOver store disk (manner beat threads) keys p found sealing script (store_of first) (store_of last) before after (fault_of result)
+      pub serves : At (store.public p found) [] 0 start → ServedOver store disk (manner beat threads) under p found sealing script (store_of start) (store_of last) before after (fault_of result)
       serves begun =
-          let e = ending first last before after records begun l.faults acts refl chain d.wrote d.printed base end.scene.desk trace end.scene.trace runners end.runners result d.ends in
+          let e = ending start last before after records begun l.faults acts refl chain d.wrote d.printed base end.scene.desk trace end.scene.trace runners end.runners result d.ends in
           record {
             records = records;
             is_served = record {
@@ -408,30 +410,30 @@ module _ {V S : Type 0} (k : Kind V) (store : StoreKind) (disk : S → Disk) (st
                   (subst (λ (xs : List Act). Run m base (history xs) (contents m records) end.scene.desk) acts_are (d.serial m (l.holds m of)).0);
               one_by_one = λ m of. d.one_by_one m (l.holds m of);
             };
-            cause = subst (λ (xs : List Act). EndsFor store p found (shapes (calls xs)) (length records) (disk (store_of first)) (disk (store_of last)) before after (fault_of result)) acts_are e.cause;
+            cause = subst (λ (xs : List Act). EndsFor store under p found (disk (store_of start)) (shapes (calls xs)) (length records) (disk (store_of start)) (disk (store_of last)) before after (fault_of result)) acts_are e.cause;
             reported = e.reported;
             events = e.events;
-            traced = subst (λ (xs : List Act). IsTraced store p (store.public found) (calls xs) (fault_of result) e.events) acts_are e.traced;
+            traced = subst (λ (xs : List Act). IsTraced store p (store.public p found) (calls xs) (fault_of result) e.events) acts_are e.traced;
             seen = e.seen;
-            goes = l.goes first last (goes_all k first (calls acts) d.notes last d.chain);
+            goes = l.goes start last (goes_all k start (calls acts) d.notes last d.chain);
             left = left;
-            lives = subst (λ (xs : List Act). LivesBehind disk keys sealing (store_of first) (store_of last) (map (λ s. s.1) (calls xs))) acts_are (l.lives last (calls acts) chain);
+            lives = subst (λ (xs : List Act). LivesBehind disk under sealing (store_of start) (store_of last) (map (λ s. s.1) (calls xs))) acts_are (l.lives last (calls acts) chain);
           }
 
   -- the same, from the epoch and the batches left that the vault tells
   pub serves_on : {U : Type 0} (beat : BeatKind) (threads : Bool) (kind : RunnerKind U (List ScriptTxn))
       (means : RunsScripts kind)
-      (keys : Keys) (sealing : Sealing) (script : Scripts) (sound : AreSound script) (may : MayOpen (record { params = p }) (suc (store.epoch found)) (store.left p found) script.clients)
-      (first : V) (trace : Trace) (runners : List U) (before : Flow) (end : RunState V U) (result : Result (Unit {0}) Fault) (epoch left : ℕ)
+      (sealing : Sealing) (script : Scripts) (sound : AreSound script) (may : MayOpen (record { params = p }) (suc (store.epoch found)) (store.left p found) script.clients)
+      (trace : Trace) (runners : List U) (before : Flow) (end : RunState V U) (result : Result (Unit {0}) Fault) (epoch left : ℕ)
       → map kind.client runners ≡ script.clients → All (λ u. kind.plan u ≡ asks_by (kind.client u) script.txns) runners → epoch ≡ store.epoch found → left ≡ store.left p found
-      → RunsBy threads k kind beat (run_state (scene (new_desk (record { params = p }) (suc epoch) left script.clients) first trace) runners before) end result
-      → IsLender keys sealing first → At (store.public found) [] 0 first
-      → ServedOver store disk (manner beat threads) keys p found sealing script (store_of first) (store_of end.scene.vault) before end.output (fault_of result)
-  serves_on beat threads kind means keys sealing script sound may first trace runners before end result epoch left named planned epoch_is left_is run l begun =
-      let run_is = subst (λ n. RunsBy threads k kind beat (run_state (scene (new_desk (record { params = p }) (suc (store.epoch found)) n script.clients) first trace) runners before) end result) left_is
-      (subst (λ e. RunsBy threads k kind beat (run_state (scene (new_desk (record { params = p }) (suc e) left script.clients) first trace) runners before) end result) epoch_is run) in
+      → RunsBy threads k kind beat (run_state (scene (new_desk (record { params = p }) (suc epoch) left script.clients) start trace) runners before) end result
+      → IsLender sealing → At (store.public p found) [] 0 start
+      → ServedOver store disk (manner beat threads) under p found sealing script (store_of start) (store_of end.scene.vault) before end.output (fault_of result)
+  serves_on beat threads kind means sealing script sound may trace runners before end result epoch left named planned epoch_is left_is run l begun =
+      let run_is = subst (λ n. RunsBy threads k kind beat (run_state (scene (new_desk (record { params = p }) (suc (store.epoch found)) n script.clients) start trace) runners before) end result) left_is
+      (subst (λ e. RunsBy threads k kind beat (run_state (scene (new_desk (record { params = p }) (suc e) left script.clients) start trace) runners before) end result) epoch_is run) in
       let (acts, d, shaped) = runs_shaped threads k kind beat _ end result run_is in
-      serves beat threads kind means keys sealing script sound may first trace runners before end result named planned acts d (subst (λ numbers. AreShaped threads numbers acts) named shaped) l begun
+      serves beat threads kind means sealing script sound may trace runners before end result named planned acts d (subst (λ numbers. AreShaped threads numbers acts) named shaped) l begun
 
 -- the same by other names
 pub renamed : (store : StoreKind) {S : Type 0} (disk : S → Disk) (by : Manner) (keys : Keys) (p : Params) (found : store.Found) (sealing : Sealing) (script : Scripts) (a old b new : S) (before after : Flow) (fault : Option Fault)

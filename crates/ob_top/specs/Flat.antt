@@ -8,18 +8,19 @@ use Rattle.ob_store.specs.declared.event.Event.{Event}
 use Rattle.ob_store.specs.declared.event.Event.TheVariants as event
 use Rattle.ob_store.specs.Disk.{Disk}
 use Rattle.ob_store.specs.Runs.{from_on}
-use Rattle.ob_store.specs.Calls.{NotesFirst}
+use Rattle.ob_store.specs.Calls.{IsStoreFault, NotesFirst}
 use Rattle.ob_store.specs.Told as told
 use Rattle.ob_twin.specs.declared.gates.Open.{Open}
 use Rattle.ob_twin.specs.Register.{place_of, gate_at, body_at}
 use Rattle.ob_twin.specs.Opening.{GatesAre, with_mark, is_closed_first}
 use Rattle.ob_flat.specs.declared.opening.Opening.{Opening}
-use Rattle.ob_flat.specs.Places.{area_of}
+use Rattle.ob_flat.specs.Formats.{FormatLeaves}
+use Rattle.ob_flat.specs.Places.{area_of, cells}
 use Rattle.ob_flat.specs.Heads.{IsHead, IsHeadRead}
 use Rattle.ob_start.specs.Registers.{Found}
 use Rattle.ob_flat.specs.Openings.{IsFoundIn, IsOpeningOf, IsOpenFault}
 use Rattle.ob_start.specs.Heads.{IsHeadFault}
-use Rattle.ob_flat.specs.Orders.{registers_events, found_notes, open_events}
+use Rattle.ob_flat.specs.Orders.{format_events, registers_events, found_notes, open_events}
 use Rattle.ob_flat.specs.Standing.{IsMapOf, StandsFlat}
 use Rattle.ob_kinds.specs.Phases.{Phase, Reads, Writes, Syncs, Shape, Fetches, Ends, events_of_phases}
 use Rattle.ob_kinds.specs.Kinds.{StoreKind}
@@ -97,24 +98,30 @@ flat_kind = record {
   head_read = IsHeadRead;
   head_fault = IsHeadFault;
   stands = StandsFlat;
+  cells = cells;
+  format_order = λ p. format_events p.keys;
+  format_leaves = λ keys p old image. FormatLeaves keys p.keys old image;
+  format_fault = λ fault. ⊥;
   Found = Opening;
   epoch = λ found. found.epoch;
   left = λ p found. p.batches;
   generation = λ found. found.sealer.generation;
-  is_map = λ found m. IsMapOf found.values.items m;
+  is_map = λ keys p opened found m. IsMapOf found.values.items m;
   finds = λ keys p image found. IsFoundIn keys p.keys image found × GatesAre found.gates.epoch 5 image;
   refuses = λ keys p image fault. IsOpeningOf keys p.keys image (Err fault);
   open_fault = IsOpenFault;
+  may_begin = IsStoreFault;
   Start = Open;
   starts = λ keys p image found known. GatesAre known 1 image;
   opens = λ p found known. open_phases p.keys found.epoch known found.sealer.generation;
   opens_partly = FlatOpensPartly;
   Public = FlatPublic;
-  public = λ found. record { known = found.gates.epoch; epoch = found.epoch };
+  public = λ p found. record { known = found.gates.epoch; epoch = found.epoch };
   Drawn = Unit {0};
   phases = λ p q shape drawn. flat_phases p q shape;
   next = λ p q shape drawn. flat_next q shape;
   cut = λ p q shape drawn. FlatCut p q shape;
-  causes = λ p found behind n fault. FlatCauses p.keys found.epoch n fault;
+  causes = λ keys p found opened now behind n fault. FlatCauses p.keys found.epoch n fault;
   lasts = FlatLasts;
+  may_stop = λ p fault. ⊥;
 }

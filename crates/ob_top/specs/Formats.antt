@@ -1,6 +1,5 @@
 -- What `format` does.
 use Rattle.std.specs.Prelude.{ℕ, ◌≡◌, Option, Some, None}
-use Rattle.std.specs.FinMap.{empty}
 use Rattle.ob_base.specs.declared.params.Params.{Params}
 use Rattle.ob_seal.specs.declared.keys.Keys.{Keys}
 use Rattle.ob_base.specs.declared.fault.Fault.{Fault}
@@ -11,46 +10,36 @@ use Rattle.ob_report.specs.Faults.{status_of, fault_line}
 use Rattle.ob_report.specs.Sizes.{size_line}
 use Rattle.ob_io.specs.Streams.{Flow}
 use Rattle.ob_report.specs.Printed.{IsPrinted}
-use Rattle.ob_store.specs.Disk.{Disk, Image}
-use Rattle.ob_store.specs.Images.{IsSynced, LeavesOnly}
-use Rattle.ob_flat.specs.Formats.{FormatLeaves}
-use Rattle.ob_store.specs.Calls.{Notes, NotesFirst}
-use Rattle.ob_serial.specs.Vaults.{Standing}
+use Rattle.ob_store.specs.Disk.{Disk}
+use Rattle.ob_store.specs.Images.{LeavesOnly}
+use Rattle.ob_store.specs.Calls.{NotesFirst}
 use Rattle.ob_pads.specs.Lives.{IsFormattedStore}
-use Rattle.ob_flat.specs.Places.{cells}
-use Rattle.ob_flat.specs.Orders.{format_events}
-use Rattle.ob_flat.specs.Standing.{StandsFlat}
+use Rattle.ob_kinds.specs.Kinds.{StoreKind}
+use Rattle.ob_kinds.specs.Formats.{MakesEmpty}
 use Rattle.ob_top.specs.Outside.{Outside}
 
--- before the first epoch, with no key present
-abbrev pub beginning : Standing
-beginning = record { epoch = 0; content = empty }
-
--- An empty store was made, of generation 1, by the order of writes and syncs that the number of its keys fixes; nothing waits for a
--- sync. A life of it begins.
-pub record IsFormatted {S : Type 0} (disk : S → Disk) (keys : Keys) (p : Params) (old new : S) : Type 0 where
-  pub seen : Notes (format_events p.keys) (disk old).seen (disk new).seen
-  pub stands : (disk old).tells → StandsFlat keys p 1 (disk new).cells beginning
-  pub images : (disk old).tells → (c : Image) → (disk new).may_leave c → StandsFlat keys p 1 c beginning
-  pub durable : (disk old).tells → IsSynced (disk new)
+-- An empty store was made, and a life of it begins.
+pub record IsFormatted (store : StoreKind) {S : Type 0} (disk : S → Disk) (keys : Keys) (p : Params) (old new : S) : Type 0 where
+  pub made : MakesEmpty store keys p (disk old) (disk new)
   pub begins : (disk old).tells → (disk old).leaves → IsFormattedStore disk keys new
 
-module _ {S : Type 0} (disk : S → Disk) where
+module _ (store : StoreKind) {S : Type 0} (disk : S → Disk) where
   -- How it ends. Its line tells how many cells the store has.
   abbrev pub FormatEnds : Keys → Params → S → S → Flow → Flow → Option Fault → Type 0
-  FormatEnds keys p old new before after None = IsFormatted disk keys p old new × (after.bytes ≡ appended before.bytes (size_line (cells p)))
-  FormatEnds keys p old new before after (Some SinkFault) = IsFormatted disk keys p old new × Rose before.faults after.faults × IsPrinted before after (size_line (cells p))
+  FormatEnds keys p old new before after None = IsFormatted store disk keys p old new × (after.bytes ≡ appended before.bytes (size_line (store.cells p)))
+  FormatEnds keys p old new before after (Some SinkFault) = IsFormatted store disk keys p old new × Rose before.faults after.faults × IsPrinted before after (size_line (store.cells p))
   FormatEnds keys p old new before after (Some (StoreFault unsure)) =
-      (unsure ≡ None) × Rose (disk old).faults (disk new).faults × NotesFirst (format_events p.keys) (disk old).seen (disk new).seen × (after ≡ before)
-  FormatEnds keys p old new before after (Some _) = ⊥
+      (unsure ≡ None) × Rose (disk old).faults (disk new).faults × NotesFirst (store.format_order p) (disk old).seen (disk new).seen × (after ≡ before)
+  FormatEnds keys p old new before after (Some fault) = store.format_fault fault × (new ≡ old) × (after ≡ before)
 
-  -- What stands in the output, and the store: behind the whole line; where the line failed; and where the store did.
+  -- What stands in the output, and the store: behind the whole line; where the line failed; where the store did; and where nothing was
+  -- done.
   abbrev pub FormatTold : Keys → Params → S → S → Flow → Flow → Option Fault → Type 0
-  FormatTold keys p old new before after None = IsFormatted disk keys p old new × (after.bytes ≡ appended before.bytes (size_line (cells p)))
-  FormatTold keys p old new before after (Some SinkFault) = IsFormatted disk keys p old new × Rose before.faults after.faults × IsPrinted before after (size_line (cells p))
+  FormatTold keys p old new before after None = IsFormatted store disk keys p old new × (after.bytes ≡ appended before.bytes (size_line (store.cells p)))
+  FormatTold keys p old new before after (Some SinkFault) = IsFormatted store disk keys p old new × Rose before.faults after.faults × IsPrinted before after (size_line (store.cells p))
   FormatTold keys p old new before after (Some (StoreFault unsure)) =
-      (unsure ≡ None) × Rose (disk old).faults (disk new).faults × NotesFirst (format_events p.keys) (disk old).seen (disk new).seen × IsPrinted before after (fault_line (Some (StoreFault None)))
-  FormatTold keys p old new before after (Some _) = ⊥
+      (unsure ≡ None) × Rose (disk old).faults (disk new).faults × NotesFirst (store.format_order p) (disk old).seen (disk new).seen × IsPrinted before after (fault_line (Some (StoreFault None)))
+  FormatTold keys p old new before after (Some fault) = store.format_fault fault × (new ≡ old) × IsPrinted before after (fault_line (Some fault))
 
   -- What `format` has done with parameters in range and a store. It looks at no input.
   pub record FormatDone (keys : Keys) (p : Params) (old new : S) (before after : Outside) (status : ℕ) : Type 0 where
@@ -59,4 +48,4 @@ module _ {S : Type 0} (disk : S → Disk) where
     pub untouched : after.input ≡ before.input
     pub told : FormatTold keys p old new before.output after.output fault
     -- A crash at any moment leaves what is no store, or a torn head; or, behind the last sync, the empty store.
-    pub left : (disk old).tells → LeavesOnly (disk old) (disk new) (FormatLeaves keys p.keys (disk old))
+    pub left : (disk old).tells → LeavesOnly (disk old) (disk new) (store.format_leaves keys p (disk old))

@@ -21,6 +21,7 @@ use Rattle.ob_serial.specs.Serial.{EpochRecord, Map, OneByOne, AreInOrder, commi
 use Rattle.ob_serial.specs.Vaults.{VaultCall, VaultAnswer, VaultState, Standing, StandsIn}
 use Rattle.ob_pads.specs.Lives.{Opens, LivesOn}
 use Rattle.ob_kinds.specs.Phases.{Reads, Shape, events_of_phases, shapes, refused}
+use Rattle.ob_kinds.specs.Openings.{OpensStanding}
 use Rattle.ob_kinds.specs.Kinds.{StoreKind, Stands, AllStand, StandsAsBefore, IsOpenedAt, opened_with}
 use Rattle.ob_kinds.specs.Shown.{steps_phases, public_behind, IsSeenCut}
 use Rattle.ob_desk.specs.Desk.{DeskState, MayOpen, Run, new_desk}
@@ -62,15 +63,6 @@ IsInputRefused keys before after SourceFault = Rose before.faults after.faults
 IsInputRefused keys before after (BadScript line) = (input : List ℕ) × IsInput before.bytes limit input × IsFirstBad keys input line
 IsInputRefused keys before after _ = ⊥
 
--- The first sync of an opening succeeded, and the store was this one then: no write waited. Until then a crash leaves what it might have
--- left before; from then on only an image that stands for what the store stood for, at no lower generation.
-pub record OpensStanding (store : StoreKind) {S : Type 0} (disk : S → Disk) (keys : Keys) (p : Params) (old new : Disk) : Type 0 where
-  pub synced : S
-  pub until : Passes Same old (disk synced)
-  pub settled : old.tells → IsSynced (disk synced)
-  pub since : (generation : ℕ) (at : Standing) → old.tells → store.stands keys p generation old.cells at
-      → LeavesOnly (disk synced) new (λ c. (later : ℕ) × (generation ≤ later) × store.stands keys p later c at)
-
 module _ (store : StoreKind) (keys : Keys) (old new : Disk) where
   -- The head was refused: all that was done is to read it.
   pub record StopsAtHead (before after : Flow) (fault : Fault) : Type 0 where
@@ -104,8 +96,8 @@ module _ (store : StoreKind) (keys : Keys) (old new : Disk) where
     pub read : old.tells → store.refuses keys p old.cells fault
     pub cause : IsStoreFault fault → Rose old.faults new.faults
     pub seen : store.opens_partly keys p old new fault
-    -- unless its store failed, no cell is written, and a crash leaves what it might have left before
-    pub unwritten : (IsStoreFault fault → ⊥) → Keeps old new × Passes Same old new
+    -- unless it may have begun the next generation, no cell is written, and a crash leaves what it might have left before
+    pub unwritten : (store.may_begin fault → ⊥) → Keeps old new × Passes Same old new
     -- each image that a crash leaves stands as one did before; and from the first sync on for what the store stood for
     pub left : (at : Standing) → old.tells → Stands store keys p old.cells at → AllStand store keys p old → LeavesOnly old new (StandsAsBefore store keys p old)
     pub opens : Passes Same old new ⊎ OpensStanding store disk keys p old new
@@ -124,12 +116,12 @@ pub record IsOpened (store : StoreKind) (keys : Keys) (old : Disk) (before : Flo
 
 -- Why serving ended: the script did; memory was wanting; the output failed; the store failed, perhaps at the last write or sync of the
 -- end of the epoch behind n; or the vault refused for a cause of its kind, behind calls of these shapes.
-abbrev pub EndsFor : (store : StoreKind) → Params → store.Found → List Shape → ℕ → Disk → Disk → Flow → Flow → Option Fault → Type 0
-EndsFor store p found behind n old new before after None = Unit {0}
-EndsFor store p found behind n old new before after (Some Memory) = Unit {0}
-EndsFor store p found behind n old new before after (Some SinkFault) = Rose before.faults after.faults
-EndsFor store p found behind n old new before after (Some (StoreFault unsure)) = Rose old.faults new.faults × ((unsure ≡ None) ⊎ (unsure ≡ Some (suc (store.epoch found + n))))
-EndsFor store p found behind n old new before after (Some fault) = store.causes p found behind n fault
+abbrev pub EndsFor : (store : StoreKind) → Keys → Params → store.Found → (opened : Disk) → List Shape → ℕ → Disk → Disk → Flow → Flow → Option Fault → Type 0
+EndsFor store keys p found opened behind n old new before after None = Unit {0}
+EndsFor store keys p found opened behind n old new before after (Some Memory) = Unit {0}
+EndsFor store keys p found opened behind n old new before after (Some SinkFault) = Rose before.faults after.faults
+EndsFor store keys p found opened behind n old new before after (Some (StoreFault unsure)) = Rose old.faults new.faults × ((unsure ≡ None) ⊎ (unsure ≡ Some (suc (store.epoch found + n))))
+EndsFor store keys p found opened behind n old new before after (Some fault) = store.causes keys p found opened new behind n fault
 
 -- How serving ended. Without a fault each client has signed off, nothing waits, and the desk isn't stopped; else the driver's last act,
 -- behind which there are clients' turns alone, tells of the fault, or nothing was done for want of memory.
@@ -145,17 +137,17 @@ pub record Manner : Type 0 where
 abbrev pub manner : BeatKind → Bool → Manner
 manner beat threads = record { beat = beat; threads = threads }
 
--- A script was served from a map on, all of each client's part where there was no fault. The committed transactions ran one by one from
--- that map, in the order of their epochs and tickets.
-pub record ScriptServed (store : StoreKind) (by : Manner) (p : Params) (found : store.Found) (script : Scripts) (records : List (EpochRecord ℕ)) (fault : Option Fault) : Type 0 where
+-- A script was served over a store that was opened so, all of each client's part where there was no fault. The committed transactions
+-- ran one by one from the map that was found, in the order of their epochs and tickets.
+pub record ScriptServed (store : StoreKind) (by : Manner) (keys : Keys) (p : Params) (opened : Disk) (found : store.Found) (script : Scripts) (records : List (EpochRecord ℕ)) (fault : Option Fault) : Type 0 where
   -- By hand the acts are whole rounds; by threads they are, without the clients' turns, things that the driver does.
   pub served : IsServed (AreShaped by.threads script.clients) by.beat p (store.epoch found) (store.left p found) script records
   pub all : fault ≡ None → ClientsServedAll script records
   pub ends : EndsWith fault served.acts served.desk
   -- what batches delivered is the map's, so the acts are a run from that map
   pub opens : MayOpen (record { params = p }) (suc (store.epoch found)) (store.left p found) script.clients
-  pub fed : (m : Map nat_cmp) → store.is_map found m → Run m (new_desk (record { params = p }) (suc (store.epoch found)) (store.left p found) script.clients) (history served.acts) (contents m records) served.desk
-  pub one_by_one : (m : Map nat_cmp) → store.is_map found m → OneByOne nat_cmp m (committed_of records) (contents m records)
+  pub fed : (m : Map nat_cmp) → store.is_map keys p opened found m → Run m (new_desk (record { params = p }) (suc (store.epoch found)) (store.left p found) script.clients) (history served.acts) (contents m records) served.desk
+  pub one_by_one : (m : Map nat_cmp) → store.is_map keys p opened found m → OneByOne nat_cmp m (committed_of records) (contents m records)
 
 -- The whole report is written, unless the output failed.
 abbrev pub IsReported : Flow → Flow → List (EpochRecord ℕ) → Option Fault → Type 0
@@ -164,16 +156,16 @@ IsReported before after records _ = IsWritten (report decimal records) before af
 
 -- The record is that of the next epoch: with it too each client's transactions are a front of its script's, and those that its close
 -- kept run one by one behind the committed ones.
-pub record ComesNext (store : StoreKind) (found : store.Found) (epoch : ℕ) (script : Scripts) (records : List (EpochRecord ℕ)) (r : EpochRecord ℕ) : Type 0 where
+pub record ComesNext (store : StoreKind) (keys : Keys) (p : Params) (opened : Disk) (found : store.Found) (epoch : ℕ) (script : Scripts) (records : List (EpochRecord ℕ)) (r : EpochRecord ℕ) : Type 0 where
   pub epoch_is : r.epoch ≡ epoch
   pub served : ClientsServed script (records ++ r ∷ [])
   pub in_order : AreInOrder (records ++ r ∷ [])
-  pub one_by_one : (m : Map nat_cmp) → store.is_map found m → OneByOne nat_cmp m (committed_of (records ++ r ∷ [])) (contents m (records ++ r ∷ []))
+  pub one_by_one : (m : Map nat_cmp) → store.is_map keys p opened found m → OneByOne nat_cmp m (committed_of (records ++ r ∷ [])) (contents m (records ++ r ∷ []))
 
 -- the epoch whose end was begun behind those of the records, where one was
-abbrev pub IsNextEpoch : (store : StoreKind) → store.Found → ℕ → Scripts → List (EpochRecord ℕ) → Option (EpochRecord ℕ) → Type 0
-IsNextEpoch store found epoch script records None = Unit {0}
-IsNextEpoch store found epoch script records (Some r) = ComesNext store found epoch script records r
+abbrev pub IsNextEpoch : (store : StoreKind) → Keys → Params → (opened : Disk) → store.Found → ℕ → Scripts → List (EpochRecord ℕ) → Option (EpochRecord ℕ) → Type 0
+IsNextEpoch store keys p opened found epoch script records None = Unit {0}
+IsNextEpoch store keys p opened found epoch script records (Some r) = ComesNext store keys p opened found epoch script records r
 
 module _ (store : StoreKind) (keys : Keys) (p : Params) (found : store.Found) (at : Standing) (script : Scripts) (records : List (EpochRecord ℕ)) (fault : Option Fault) where
   -- what the vault held once the store was opened
@@ -199,7 +191,7 @@ module _ (store : StoreKind) (keys : Keys) (p : Params) (found : store.Found) (a
   -- is answered, for the epoch in doubt as well; so for none below the last one that is reported.
   pub record IsLeftOnDisk {S : Type 0} (disk : S → Disk) (old new : Disk) : Type 0 where
     pub next : Option (EpochRecord ℕ)
-    pub is_next : IsNextEpoch store found (suc at.epoch + length records) script records next
+    pub is_next : IsNextEpoch store keys p old found (suc at.epoch + length records) script records next
     pub since : LeavesOnly old new (StandsNow (IsLeftStanding held records next))
     pub stages : StagedFrom disk at records next old new
     pub now : (c : Image) → new.may_leave c → StandsNow (IsLeftNow held records next IsDoubt) c
@@ -207,7 +199,7 @@ module _ (store : StoreKind) (keys : Keys) (p : Params) (found : store.Found) (a
   -- What a crash leaves of a whole run: of the opening, from old to opened, and of serving, from then on to new.
   pub record LeftByWholeRun {S : Type 0} (disk : S → Disk) (old opened new : Disk) : Type 0 where
     pub next : Option (EpochRecord ℕ)
-    pub is_next : IsNextEpoch store found (suc at.epoch + length records) script records next
+    pub is_next : IsNextEpoch store keys p opened found (suc at.epoch + length records) script records next
     -- until the store is opened, an image that stands as one did before;
     pub opening : LeavesOnly old opened (StandsAsBefore store keys p old)
     -- from then on, only one that stands as served, and from each epoch's end on for that epoch at least;
@@ -230,11 +222,11 @@ LivesBehind {S} disk keys sealing opened new answers = (old : S) → ((disk open
 -- What serving does to the store and the output.
 pub record ServedOver (store : StoreKind) {S : Type 0} (disk : S → Disk) (by : Manner) (keys : Keys) (p : Params) (found : store.Found) (sealing : Sealing) (script : Scripts) (old new : S) (before after : Flow) (fault : Option Fault) : Type 0 where
   pub records : List (EpochRecord ℕ)
-  pub is_served : ScriptServed store by p found script records fault
-  pub cause : EndsFor store p found (shapes (calls is_served.served.acts)) (length records) (disk old) (disk new) before after fault
+  pub is_served : ScriptServed store by keys p (disk old) found script records fault
+  pub cause : EndsFor store keys p found (disk old) (shapes (calls is_served.served.acts)) (length records) (disk old) (disk new) before after fault
   pub reported : IsReported before after records fault
   pub events : List Event
-  pub traced : IsTraced store p (store.public found) (calls is_served.served.acts) fault events
+  pub traced : IsTraced store p (store.public p found) (calls is_served.served.acts) fault events
   pub seen : Notes events (disk old).seen (disk new).seen
   pub goes : GoesOn (disk old) (disk new)
   pub left : (at : Standing) → (disk old).tells → IsSynced (disk old) → IsOpenedAt store keys p at found (disk old) → IsLeftOnDisk store keys p found at script records fault disk (disk old) (disk new)
@@ -248,14 +240,14 @@ module _ (store : StoreKind) {S : Type 0} (disk : S → Disk) (by : Manner) wher
     pub found : store.Found
     pub start : store.Start
     pub opened : IsOpened store keys (disk old) before.input p script found start
-    pub is_served : ScriptServed store by p found script records fault
-    pub cause : EndsFor store p found (shapes (calls is_served.served.acts)) (length records) (disk old) (disk new) before.output after.output fault
-    -- the trace is that of the opening, and then that of the vault's calls
-    pub events : List Event
-    pub traced : IsTraced store p (store.public found) (calls is_served.served.acts) fault events
-    pub seen : Notes (begin_events store p found start ++ events) (disk old).seen (disk new).seen
     -- the store as it was once it was opened, before the first transaction was run
     pub between : S
+    pub is_served : ScriptServed store by keys p (disk between) found script records fault
+    pub cause : EndsFor store keys p found (disk between) (shapes (calls is_served.served.acts)) (length records) (disk old) (disk new) before.output after.output fault
+    -- the trace is that of the opening, and then that of the vault's calls
+    pub events : List Event
+    pub traced : IsTraced store p (store.public p found) (calls is_served.served.acts) fault events
+    pub seen : Notes (begin_events store p found start ++ events) (disk old).seen (disk new).seen
     pub opening_seen : Notes (begin_events store p found start) (disk old).seen (disk between).seen
     pub serving_seen : Notes events (disk between).seen (disk new).seen
     pub opens : OpensStanding store disk keys p (disk old) (disk between)

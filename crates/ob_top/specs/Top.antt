@@ -11,7 +11,6 @@ use Rattle.ob_seal.specs.declared.keys.Keys.{Keys}
 use Rattle.ob_store.specs.Disk.{Disk}
 use Rattle.ob_store.specs.Images.{LeavesOnly}
 use Rattle.ob_desk.specs.Beats.{BeatKind}
-use Rattle.ob_flat.specs.Formats.{FormatLeaves}
 use Rattle.ob_words.specs.Reading.{asked_by, format_asked, run_asked, audit_asked}
 use Rattle.ob_top.specs.declared.words.Command.{Command}
 use Rattle.ob_top.specs.declared.words.Command.TheVariants.{Format, Run}
@@ -38,8 +37,8 @@ IsRefusedWithout words text fault = IsRefusedBefore words text fault ⊎ (AskFor
 abbrev pub CommandDoes : {S : Type 0} → (S → Disk) → BeatKind → List (List ℕ) → Option (Bor (List ℕ)) → S → S → Outside → Outside → Option Fault → Type 0
 CommandDoes disk beat words text old new before after fault =
     ((f : Fault) × (fault ≡ Some f) × IsRefusedBefore words text f × (new ≡ old) × (after ≡ before))
-    ⊎ ((keys : Keys) × HasKeys text keys × (((p : Params) × Asks words (Format p) × FormatEnds disk keys p old new before.output after.output fault
-    × ((disk old).tells → LeavesOnly (disk old) (disk new) (FormatLeaves keys p.keys (disk old))) × (after.input ≡ before.input))
+    ⊎ ((keys : Keys) × HasKeys text keys × (((p : Params) × Asks words (Format p) × FormatEnds flat_kind disk keys p old new before.output after.output fault
+    × ((disk old).tells → LeavesOnly (disk old) (disk new) (flat_kind.format_leaves keys p (disk old))) × (after.input ≡ before.input))
     ⊎ ((k : ℕ) × (turns : Bool) × Asks words (Run k turns) × RunOn flat_kind disk (manner beat (not turns)) keys old new before after fault)))
 
 module _ {S : Type 0} (disk : S → Disk) (beat : BeatKind) (words : List (List ℕ)) (text : Option (Bor (List ℕ))) (entry : Option (MutBor S)) (exit : Left S) (before after : Outside) (status : ℕ) where
@@ -71,7 +70,7 @@ module _ {S : Type 0} (disk : S → Disk) (beat : BeatKind) (words : List (List 
       Refuses Memory
       ⊎ (((field : Field) × IsBadNumber numbers field × Refuses (BadParams field))
       ⊎ ((p : Params) × AreParams numbers p × (KeysDo
-      ⊎ ((keys : Keys) × HasKeys text keys × OfStore entry exit (IsOnlyTold (StoreFault None) before after status) (λ old new. FormatDone disk keys p old new before after status)))))
+      ⊎ ((keys : Keys) × HasKeys text keys × OfStore entry exit (IsOnlyTold (StoreFault None) before after status) (λ old new. FormatDone flat_kind disk keys p old new before after status)))))
 
   -- `run`: want of memory for the words is told, then lanes out of their range, then what is wrong with the keys, then that there is no
   -- store, before anything is touched. With `--turns` all clients are made by hand.

@@ -5,6 +5,7 @@ ghost use Rattle.ob_io.specs.Streams.{outflow};
 ghost use Rattle.ob_store.specs.Images.{LeavesOnly};
 ghost use Rattle.ob_store.specs.Calls.{GoesOn};
 ghost use Rattle.ob_flat.specs.Formats.{FormatLeaves};
+ghost use Rattle.ob_top.specs.Flat.{flat_kind};
 ghost use Rattle.ob_top.specs.Formats.{FormatEnds};
 ghost use Rattle.ob_top.specs.Runs.{fault_of};
 
@@ -28,7 +29,8 @@ pub fn format_on<S: Store, O: Sink>(
     requires none_out { (S.disk store.old).out ≡ 0 }
     ensures goes { GoesOn (S.disk store.old) (S.disk store.new) }
     ensures none_out { (S.disk store.new).out ≡ 0 }
-    ensures ends { FormatEnds S.disk keys.now params.now store.old store.new
+    ensures ends { FormatEnds flat_kind S.disk keys.now params.now store.old
+        store.new
         (outflow O.Sink output.old) (outflow O.Sink output.new) (fault_of result) }
     ensures left { (S.disk store.old).tells
         → LeavesOnly (S.disk store.old) (S.disk store.new)

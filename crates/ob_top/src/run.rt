@@ -10,6 +10,7 @@ ghost use Rattle.ob_twin.specs.declared.gates.Open.{Open};
 ghost use Rattle.ob_serial.specs.Vaults.{Standing};
 ghost use Rattle.ob_pads.specs.Lives.{LivesOn};
 ghost use Rattle.ob_flat.specs.Openings.{HasSealedNothing};
+ghost use Rattle.ob_kinds.specs.Openings.{OpensStanding};
 ghost use Rattle.ob_kinds.specs.Kinds.{Stands, AllStand, StandsAsBefore, IsOpenedAt};
 ghost use Rattle.ob_top.specs.Flat.{flat_kind};
 ghost use Rattle.ob_desk.specs.Desk.{DeskState, MayOpen, new_desk};
@@ -21,7 +22,7 @@ ghost use Rattle.ob_runner.specs.Turns.{IsScriptTurn};
 ghost use Rattle.ob_conduct.specs.Scenes.{scene, run_state, runner_kind};
 ghost use Rattle.ob_run.specs.Threaded.{RunsBy};
 ghost use Rattle.ob_serial.specs.VaultKinds.{kind_of};
-ghost use Rattle.ob_top.specs.Runs.{manner, CameIn, IsInputRefused, EndsEarly, OpensStanding, IsOpened, IsReadAndOpened, ServedOver, RunOn, begin_events, fault_of};
+ghost use Rattle.ob_top.specs.Runs.{manner, CameIn, IsInputRefused, EndsEarly, IsOpened, IsReadAndOpened, ServedOver, RunOn, begin_events, fault_of};
 ghost use Rattle.ob_top.specs.Outside.{outside};
 
 use ob_base::{Fault, Memory, Params};

@@ -1,0 +1,5 @@
+pub mod Seen
+pub mod Causes
+pub mod RingKind
+pub mod RingSteps
+pub mod Laws
