@@ -17,6 +17,3 @@ pub use hands::{Hands, Nobody};
 pub use looking::look_once;
 pub use room::Room;
 pub use round::Round;
-
-#[cfg(test)]
-mod tests;

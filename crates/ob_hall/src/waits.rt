@@ -20,7 +20,7 @@ use std::sync::atomic::Ordering::SeqCst;
 use std::time::Duration;
 
 // A caller that waits asks again after at most so many milliseconds.
-const NAP: u64 = 5;
+const NAP: u64 = 50;
 
 impl Hall {
     // A get's first turn.

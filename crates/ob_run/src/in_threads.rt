@@ -38,7 +38,8 @@ fn open_hall(alloc: Global, desk: Desk, clients: &[u32]) -> Result<(Hall, Pass, 
     Ok((hall, driver, passes))
 }
 
-// Serves the clients of a hall that none has called, with their passes, and closes it.
+// Serves the clients of a hall that none has called, with their passes, the first ones in threads,
+// and closes it.
 fn serve_hall<U: Runner + Send, R: Threads + Wait + Sync, V: Vault, W: Watch, B: Beat, O: Sink>(
     rt: &R,
     alloc: Global,
@@ -52,6 +53,7 @@ fn serve_hall<U: Runner + Send, R: Threads + Wait + Sync, V: Vault, W: Watch, B:
     watch: &mut W,
     beat: &mut B,
     output: &mut O,
+    starts: usize,
 ) -> Result<(), Fault>
     requires params { V.params vault.old ≡ params.now }
     requires serves { (V.counts vault.old).spent ≡ false }
@@ -97,7 +99,7 @@ fn serve_hall<U: Runner + Send, R: Threads + Wait + Sync, V: Vault, W: Watch, B:
         watch,
         beat,
         output,
-        true,
+        starts,
     );
     all.push_reserved(driver);
     take_apart(seated, &mut back, &mut all);
@@ -106,9 +108,9 @@ fn serve_hall<U: Runner + Send, R: Threads + Wait + Sync, V: Vault, W: Watch, B:
     result
 }
 
-/// Runs the clients over the vault, in threads, from the desk as it was made: a hall is made round
-/// it, and closed at the end.
-pub(crate) fn run_in_threads<
+/// Runs the clients over the vault from the desk as it was made, the first ones in threads, so many
+/// as starts are to be tried: a hall is made round the desk, and closed at the end.
+pub fn run_in_threads<
     U: Runner + Send,
     R: Threads + Wait + Sync,
     V: Vault,
@@ -126,6 +128,7 @@ pub(crate) fn run_in_threads<
     watch: &mut W,
     beat: &mut B,
     output: &mut O,
+    starts: usize,
 ) -> Result<(), Fault>
     requires params { V.params vault.old ≡ params.now }
     requires serves { (V.counts vault.old).spent ≡ false }
@@ -156,6 +159,6 @@ pub(crate) fn run_in_threads<
         return Err(Fault::Memory);
     };
     serve_hall(
-        rt, alloc, params, hall, driver, passes, room, runners, vault, watch, beat, output,
+        rt, alloc, params, hall, driver, passes, room, runners, vault, watch, beat, output, starts,
     )
 }

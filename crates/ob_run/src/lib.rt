@@ -6,7 +6,5 @@ mod in_threads;
 mod running;
 mod seating;
 
+pub use in_threads::run_in_threads;
 pub use running::run;
-
-#[cfg(test)]
-mod tests;

@@ -70,7 +70,17 @@ pub fn run<U: Runner + Send, R: Threads + Wait + Sync, V: Vault, W: Watch, B: Be
 {
     if threads {
         run_in_threads(
-            rt, alloc, params, desk, clients, runners, vault, watch, beat, output,
+            rt,
+            alloc,
+            params,
+            desk,
+            clients,
+            runners,
+            vault,
+            watch,
+            beat,
+            output,
+            clients.len(),
         )
     } else {
         run_by_hand(rt, alloc, params, desk, runners, vault, watch, beat, output)

@@ -13,6 +13,3 @@ pub use line::{Ask, Ending, Line, ScriptTxn};
 pub use parsing::{LIMIT, parse};
 pub use reading::number_of;
 pub use scripts::Scripts;
-
-#[cfg(test)]
-mod tests;

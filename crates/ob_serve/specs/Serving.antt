@@ -1,5 +1,5 @@
 -- How the driver's run beside the clients ended, and how the clients came back.
-use Rattle.std.specs.Prelude.{◌≡◌, ◌⊎◌, ℕ, Bool, true, false, List, drop, map, Result, Ok, Err}
+use Rattle.std.specs.Prelude.{◌≡◌, ◌⊎◌, ℕ, List, drop, map, Result, Ok, Err}
 use Rattle.ob_base.specs.declared.fault.Fault.{Fault}
 use Rattle.ob_serial.specs.Vaults.{VaultCounts}
 use Rattle.ob_serial.specs.VaultKinds.{Kind}
@@ -30,8 +30,3 @@ pub record AreBack {U Plan : Type 0} (w : Words U Plan) (hall : Hall) (flags : �
   pub last : List (Started U)
   pub rounds : AreCrewRounds w hall first last
   pub joined : Each (IsJoined w hall) last back
-
--- how many of them may go to threads
-abbrev pub flags_of : Bool → ℕ → ℕ
-flags_of true clients = clients
-flags_of false clients = 0

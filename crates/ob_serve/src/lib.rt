@@ -7,6 +7,3 @@ mod lending;
 mod serving;
 
 pub use serving::serve;
-
-#[cfg(test)]
-mod tests;

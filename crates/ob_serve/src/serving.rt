@@ -8,7 +8,7 @@ ghost use Rattle.ob_driver.specs.Driven.{side};
 ghost use Rattle.ob_driver.specs.Rooms.{HasRoom};
 ghost use Rattle.ob_driver.specs.Drives.{IsFirstPass};
 ghost use Rattle.ob_starts.specs.Served.{words, IsClient};
-ghost use Rattle.ob_serve.specs.Serving.{ServeEnds, AreBack, flags_of};
+ghost use Rattle.ob_serve.specs.Serving.{ServeEnds, AreBack};
 
 use crate::beside::in_scope;
 use crate::lending::Lent;
@@ -34,13 +34,6 @@ struct Places<U: Runner> {
     flags: Vec<AtomicBool>,
     started: Vec<Started<U>>,
     back: Vec<Client<U>>,
-}
-
-// How many of them may go to threads.
-fn flag_count(threads: bool, clients: usize) -> usize
-    ensures { result ≡ flags_of threads clients }
-{
-    if threads { clients } else { 0 }
 }
 
 // As many flags.
@@ -84,8 +77,9 @@ fn finish<T>(_last: &mut T)
     ensures { _last.new ≡ _last.old }
 {}
 
-/// Drives the epochs of a hall beside its clients, up to the end: each client in a thread of its
-/// own, or, without `threads` or where the system refuses a thread, by hand. All clients come back.
+/// Drives the epochs of a hall beside its clients, up to the end: each of the first ones, so many as
+/// starts are to be tried, in a thread of its own; the others by hand, and so is each whose thread
+/// the system refuses. All clients come back.
 ///
 /// # Errors
 /// Those of the driver; and memory was wanting, before anything was done: then no client made a
@@ -102,7 +96,7 @@ pub fn serve<U: Runner + Send, R: Threads + Wait + Sync, V: Vault, W: Watch, B: 
     watch: &mut W,
     beat: &mut B,
     output: &mut O,
-    threads: bool,
+    starts: usize,
 ) -> Result<(), Fault>
     requires params { V.params vault.old ≡ params.now }
     requires first { IsFirstPass hall.now pass.old params.now (V.counts vault.old) }
@@ -111,15 +105,14 @@ pub fn serve<U: Runner + Send, R: Threads + Wait + Sync, V: Vault, W: Watch, B: 
     ensures params { V.params vault.new ≡ params.now }
     ensures anchors { B.anchors beat.new ≡ B.anchors beat.old }
     ensures back { AreBack (words U.client U.bound U.plan U.fits U.turn) hall.now
-        (flags_of threads (length clients.old.items)) clients.old.items clients.new.items }
+        starts clients.old.items clients.new.items }
     ensures ends { ServeEnds (kind_of V.Vault) (beat_kind B.passes B.exact) hall.now
         (side pass.old vault.old (W.trace watch.old) (outflow O.Sink output.old))
         (V.counts vault.old) clients.old.items
         (side pass.new vault.new (W.trace watch.new) (outflow O.Sink output.new))
         (V.counts vault.new) clients.new.items result }
 {
-    let count = flag_count(threads, clients.len());
-    let Ok(places) = make_places(alloc, params, clients.len(), count) else {
+    let Ok(places) = make_places(alloc, params, clients.len(), starts) else {
         return Err(Fault::Memory);
     };
     let Places {

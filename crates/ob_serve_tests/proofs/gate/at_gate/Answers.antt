@@ -1,0 +1,4 @@
+use Rattle.ob_serve_tests.proofs.gate.at_gate.Goals as goal
+
+pub returns : goal.returns
+returns c = let e = c.in_ok-runner.ensures in record { named = e.named; below = e.below; unsaid = e.unsaid }

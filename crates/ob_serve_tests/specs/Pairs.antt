@@ -1,0 +1,23 @@
+-- For tests: two runners that have made no call, and the pass of a client of the tests' halls that has made none.
+use Rattle.std.specs.Prelude.{◌≡◌, ◌≤◌, ℕ, All, List, [], map}
+use Rattle.ob_hall.specs.Passes.{Steps, Hall, Pass, opening_of}
+use Rattle.ob_hall.specs.Calling.{IsReady, IsBetween}
+use Rattle.ob_driver.specs.Testing.{two_clients}
+
+-- it is this client's, names only the keys of the tests' stores, and has made no call
+pub record IsNewPair {U : Type 0} (client bound : U → ℕ) (fits : U → Steps → Type 0) (number : ℕ) (u : U) : Type 0 where
+  pub named : client u ≡ number
+  pub below : bound u ≤ 8
+  pub unsaid : fits u []
+
+-- the runners of the clients 1 and 2
+pub record AreTwo {U : Type 0} (client bound : U → ℕ) (fits : U → Steps → Type 0) (runners : List U) : Type 0 where
+  pub named : map client runners ≡ two_clients
+  pub below : All (λ u. bound u ≤ 8) runners
+  pub unsaid : All (λ u. fits u []) runners
+
+-- it may begin, at a hall of the tests' keys
+pub record IsSession (hall : Hall) (pass : Pass) : Type 0 where
+  pub ready : IsReady hall pass
+  pub between : IsBetween pass
+  pub keys : 8 ≤ (opening_of hall).setup.params.keys

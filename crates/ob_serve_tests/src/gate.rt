@@ -1,0 +1,204 @@
+//! A client that runs while a batch is read.
+
+ghost use Rattle.std.specs.Prelude.{◌≡◌, ◌<◌, ◌≤◌, ◌+◌, ◌^◌, ℕ, List, All, length, map, IfOk, IfErr};
+ghost use Rattle.ob_mem.specs.Memory.{disk_of_store};
+ghost use Rattle.ob_runner.specs.RunnerViews.{client_of, bound_of, MayHaveMade};
+ghost use Rattle.ob_serve_tests.specs.Pairs.{IsNewPair};
+
+use crate::runs::{both, formatted, run_two, scripted};
+use ob_base::{Fault, Key, Value, Write};
+use ob_desk::Desk;
+use ob_mem::{MemSink, MemStore};
+use ob_runner::ScriptRunner;
+use ob_serial::{EndErr, Vault};
+use ob_session::{Made, Runner, Step};
+use ob_store::Watch;
+use std::alloc::Global;
+use std::process::Abort;
+use std::sync::Wait;
+use std::sync::atomic::AtomicBool;
+use std::sync::atomic::Ordering::SeqCst;
+use std::thread;
+use std::thread::Threads;
+
+/// Where fetches wait for a client.
+#[derive(Drop)]
+pub struct Gate {
+    reached: AtomicBool,
+    open: AtomicBool,
+    ran_out: AtomicBool,
+}
+
+impl Gate {
+    /// One that no fetch waits at.
+    pub fn free() -> Gate {
+        Gate {
+            reached: AtomicBool::new(false),
+            open: AtomicBool::new(true),
+            ran_out: AtomicBool::new(false),
+        }
+    }
+
+    // One that a client has to open.
+    fn shut() -> Gate {
+        Gate {
+            reached: AtomicBool::new(false),
+            open: AtomicBool::new(false),
+            ran_out: AtomicBool::new(false),
+        }
+    }
+
+    // Waits until it is open, but not for ever.
+    fn pass(&self) {
+        self.reached.store(true, SeqCst);
+        for _ in 0..10_000_000 {
+            if self.open.load(SeqCst) {
+                return;
+            }
+            thread::yield_now();
+        }
+        self.ran_out.store(true, SeqCst);
+    }
+
+    // Opens it, where a fetch waits.
+    fn open_where_reached(&self) {
+        if self.reached.load(SeqCst) {
+            self.open.store(true, SeqCst);
+        }
+    }
+}
+
+/// A vault whose fetches pass a gate.
+#[derive(Drop)]
+pub struct Gated<'g, V> {
+    pub vault: V,
+    pub gate: &'g Gate,
+}
+
+impl<'g, V: Vault> Vault for Gated<'g, V> {
+    ghost params = { λ v. V.params v.vault };
+
+    ghost counts = { λ v. V.counts v.vault };
+
+    ghost holds = { λ v s. V.holds v.vault s };
+
+    ghost sound = { λ v s. V.sound v.vault s };
+
+    ghost stands = { λ v. V.stands v.vault };
+
+    ghost disk = { λ v. V.disk v.vault };
+
+    ghost called = { λ v call answer notes new. V.called v.vault call answer notes new.vault };
+
+    fn epoch(&self) -> u64 {
+        self.vault.epoch()
+    }
+
+    fn left(&self) -> u32 {
+        self.vault.left()
+    }
+
+    fn spent(&self) -> bool {
+        self.vault.spent()
+    }
+
+    fn fetch<W: Watch>(
+        &mut self,
+        asks: &[Option<Key>],
+        out: &mut [Option<Value>],
+        watch: &mut W,
+    ) -> Result<(), Fault> {
+        self.gate.pass();
+        self.vault.fetch(asks, out, watch)
+    }
+
+    fn end<W: Watch>(&mut self, writes: &[Write], watch: &mut W) -> Result<(), EndErr> {
+        self.vault.end(writes, watch)
+    }
+
+    ghost agrees = { λ v s h. V.agrees v.vault s h };
+
+    ghost sound_holds = { λ v s h. V.sound_holds v.vault s h };
+
+    ghost rests = { λ v s image h may. V.rests v.vault s image h may };
+}
+
+/// A runner whose step opens the gate, where a fetch waits there.
+#[derive(Drop)]
+pub struct Opens<'g, U> {
+    runner: U,
+    gate: &'g Gate,
+    opens: bool,
+}
+
+impl<'g, U: Runner> Runner for Opens<'g, U> {
+    ghost client = { λ r. U.client r.runner };
+
+    ghost bound = { λ r. U.bound r.runner };
+
+    ghost Plan = { U.Plan };
+
+    ghost plan = { λ r. U.plan r.runner };
+
+    ghost fits = { λ r said. U.fits r.runner said };
+
+    ghost turn = { U.turn };
+
+    fn step(&mut self, desk: &mut Desk) -> (Step, Made) {
+        if self.opens {
+            self.gate.open_where_reached();
+        }
+        self.runner.step(desk)
+    }
+}
+
+// Each client waits for a key. The second one opens the gate when it asks again.
+const SCRIPT: &[u8] = b"client 1\nbegin\nget 5\ncommit\nclient 2\nbegin\nget 6\nput 6 b\ncommit\n";
+
+// The runner of a client whose steps open the gate, or don't.
+fn at_gate<'g>(
+    alloc: Global,
+    gate: &'g Gate,
+    number: u32,
+    opens: bool,
+) -> Result<Opens<'g, ScriptRunner>, Fault>
+    ensures { IfOk result (λ o. IsNewPair (λ r. client_of r.runner) (λ r. bound_of r.runner)
+        (λ r said. MayHaveMade r.runner said) number o) }
+{
+    let runner = scripted(alloc, SCRIPT, number)?;
+    Ok(Opens {
+        runner,
+        gate,
+        opens,
+    })
+}
+
+// A run of both in threads.
+#[tactic(auto, using(ob_run::proofs::Scripts::scripts_are_quiet))]
+fn run_gated<R: Threads + Wait + Sync + Abort>(
+    rt: &R,
+    alloc: Global,
+    store: &mut MemStore,
+    gate: &Gate,
+    output: &mut MemSink,
+) -> Result<(), Fault>
+    requires { (disk_of_store store.old).out ≡ 0 }
+{
+    let first = at_gate(alloc, gate, 1, false)?;
+    let second = at_gate(alloc, gate, 2, true)?;
+    let mut runners = both(alloc, first, second)?;
+    run_two(rt, alloc, store, gate, &mut runners, output, true)
+}
+
+#[test]
+fn a_client_runs_while_a_batch_is_read(rt: HostRuntime) {
+    let alloc = rt.alloc();
+    let mut store = formatted(&rt, alloc, Vec::new(alloc));
+    let mut output = MemSink::new(alloc, 1000, Vec::new(alloc)).expect(&rt, "memory");
+    let gate = Gate::shut();
+    let ended = run_gated(&rt, alloc, &mut store, &gate, &mut output);
+    assert!(rt; ended == Ok(()));
+    assert!(rt; gate.reached.load(SeqCst));
+    assert!(rt; gate.open.load(SeqCst));
+    assert!(rt; !gate.ran_out.load(SeqCst));
+}

@@ -1,0 +1,113 @@
+//! A client that finds no memory.
+
+ghost use Rattle.std.specs.Prelude.{◌≡◌, ◌++◌, List, All, false, IfOk};
+ghost use Rattle.ob_desk.specs.Desk.{Call, Reply};
+ghost use Rattle.ob_session.specs.Steps.{steps_of, Leads, IsOwn};
+ghost use Rattle.ob_session.specs.Clients.{said_by, stands_after, IsOneCall};
+ghost use Rattle.ob_session.specs.Agreeing.{Agrees};
+ghost use Rattle.ob_hall.specs.Testing.{Visits};
+ghost use Rattle.ob_woven_ends.specs.Ends.{QuietRule};
+ghost use Rattle.ob_serve_tests.specs.Pairs.{AreTwo};
+
+use crate::gate::Gate;
+use crate::runs::{both, formatted, run_two};
+use ob_base::{Fault, Memory};
+use ob_desk::Desk;
+use ob_mem::MemSink;
+use ob_session::{Made, Runner, Said, Step};
+use std::alloc::Global;
+use std::process::Abort;
+use std::sync::Wait;
+use std::thread::Threads;
+
+/// Stops the desk for want of memory in its first step, where it is starved, and signs off.
+#[derive(Drop)]
+pub struct Starved {
+    client: u32,
+    starved: bool,
+    gone: bool,
+}
+
+impl Runner for Starved {
+    ghost use Rattle.ob_hall.specs.Testing.{Visits};
+    ghost use Rattle.ob_woven_ends.specs.Ends.{QuietRule};
+
+    ghost client = { λ v. v.client };
+
+    ghost bound = { λ v. 0 };
+
+    ghost Plan = { Unit {0} };
+
+    ghost plan = { λ v. tt };
+
+    ghost fits = { λ v said. Visits v.client v.gone said };
+
+    ghost turn = { λ plan. QuietRule };
+
+    fn step(&mut self, desk: &mut Desk) -> (Step, Made) {
+        if self.gone {
+            return (Step::Done, Made::NONE);
+        }
+        if self.starved {
+            let fault = Fault::Memory;
+            desk.stop(fault);
+            self.starved = false;
+            return (Step::Ran, Made::one(Said::Stop { fault }));
+        }
+        let client = self.client;
+        desk.sign_off(client);
+        self.gone = true;
+        (Step::Done, Made::one(Said::SignOff { client }))
+    }
+}
+
+// Both clients, of which the first one finds no memory.
+fn starving(alloc: Global) -> Result<Vec<Starved>, Memory>
+    ensures { IfOk result (λ v. AreTwo (λ r. r.client) (λ r. 0)
+        (λ r said. Visits r.client r.gone said) v.items) }
+{
+    let first = Starved {
+        client: 1,
+        starved: true,
+        gone: false,
+    };
+    let second = Starved {
+        client: 2,
+        starved: false,
+        gone: false,
+    };
+    both(alloc, first, second)
+}
+
+/// How a run of both ends, and which of them have signed off.
+pub fn ends<R: Threads + Wait + Sync + Abort>(
+    rt: &R,
+    alloc: Global,
+    threads: bool,
+) -> Result<(Option<Fault>, bool, bool), Fault> {
+    let mut store = formatted(rt, alloc, Vec::new(alloc));
+    let mut output = MemSink::new(alloc, 1000, Vec::new(alloc))?;
+    let mut runners = starving(alloc)?;
+    let gate = Gate::free();
+    let ended = run_two(
+        rt,
+        alloc,
+        &mut store,
+        &gate,
+        &mut runners,
+        &mut output,
+        threads,
+    );
+    assert_eq!(rt; output.written(), b"".as_slice());
+    let gone = |at: usize| runners.get(at).is_some_and(|runner| runner.gone);
+    Ok((ended.err(), gone(0), gone(1)))
+}
+
+// By hand the desk is found stopped behind a round; in threads each client makes its steps to the end.
+#[test]
+fn want_of_memory_is_told_and_the_others_sign_off(rt: HostRuntime) {
+    let alloc = rt.alloc();
+    let memory = Some(Fault::Memory);
+    assert_eq!(&rt; ends(&rt, alloc, true), Ok((memory, true, true)));
+    assert_eq!(&rt; ends(&rt, alloc, false), Ok((memory, false, true)));
+}
