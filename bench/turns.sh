@@ -6,7 +6,7 @@ set -euo pipefail
 top=$(cd "$(dirname "$0")/.." && pwd)
 work=$(mktemp -d)
 trap 'rm -rf "$work"' EXIT
-turns=1024000
+turns=10240000
 mkdir -p "$work/crates/turn_bench/src"
 for crate in ob_base ob_turn; do
     cp -r "$top/crates/$crate" "$work/crates/"
@@ -32,7 +32,7 @@ use std::thread;
 use std::thread::Threads;
 
 // How many turns are taken in all.
-const TURNS: u32 = 1024000;
+const TURNS: u32 = 10240000;
 
 #[derive(Drop)]
 struct Nothing {

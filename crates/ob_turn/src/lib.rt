@@ -2,6 +2,7 @@
 //!
 //! `Turn` is a ticket lock (Mellor-Crummey and Scott, "Algorithms for Scalable Synchronization on
 //! Shared-Memory Multiprocessors") round a value, with one history of the turns that were taken.
+//! Its callers wait for a ticket at a gate, where few are awake (Dice, "Malthusian Locks").
 //! `Bell` is a number that one thread raises and all read. The docs of a call name its
 //! linearization point (Herlihy and Wing, "Linearizability: A Correctness Condition for Concurrent
 //! Objects"): the one atomic step at which it takes effect.

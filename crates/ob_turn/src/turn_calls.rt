@@ -13,13 +13,67 @@ use crate::turn::{
 use atomic_table::Table;
 use ob_base::Memory;
 use std::alloc::{AllocError, Global};
+use std::hint;
 use std::snapshot::Snapshot;
 use std::sync::Wait;
 
 // The tickets below this may be drawn.
 const LAST: u64 = 1 << 63;
 
+// So often a caller looks before it sleeps.
+const LOOKS: u32 = 100;
+
+// Once in so many turns who comes to the gate lies down at once, behind those that lie there.
+const FAIR: u64 = 64;
+
 impl<E, T: Stepped<E>> Turn<T, E> {
+    // Whether the turn is nobody's: each ticket drawn was served, and is done.
+    fn is_free(&self) -> bool {
+        let served = self.table.shared.peek(1);
+        self.table.shared.peek(0) == served
+    }
+
+    // Whether the turn is nobody's within a moment.
+    fn is_soon_free(&self) -> bool {
+        for _ in 0..LOOKS {
+            if self.is_free() {
+                return true;
+            }
+            hint::spin_loop();
+        }
+        false
+    }
+
+    // Whether the ticket is served within a moment.
+    fn is_soon_served(&self, ticket: u64) -> bool {
+        for _ in 0..LOOKS {
+            if self.table.shared.peek(1) == ticket {
+                return true;
+            }
+            hint::spin_loop();
+        }
+        false
+    }
+
+    // Waits at the gate until the turn is nobody's.
+    fn pass_gate<R: Wait>(&self, rt: &R) {
+        if self.is_free() {
+            return;
+        }
+        let mut awake = self.table.shared.peek(1) % FAIR != 0 && self.sleepers.stays_awake();
+        for _ in rt.forever() {
+            if awake && self.is_soon_free() {
+                break;
+            }
+            self.sleepers.lies_down(awake);
+            if !(self.is_free() && self.sleepers.rouses()) {
+                self.sleepers.sleep_at_gate(rt);
+            }
+            awake = true;
+        }
+        self.sleepers.goes();
+    }
+
     // Draws a ticket. It waits for good once they are used up.
     fn draw<R: Wait>(&self, rt: &R, seat: &mut TurnSeat<T, E>) -> u64
         requires own { IsTurnSeat self.now seat.old }
@@ -43,32 +97,42 @@ impl<E, T: Stepped<E>> Turn<T, E> {
         ensures entered { Entered T.steps seat.old.me ticket seat.new.me }
     {
         for _ in rt.forever() {
-            let seen = self.sleepers.seen(ticket);
+            let soon = self.is_soon_served(ticket);
+            if !soon {
+                self.sleepers.announce(ticket);
+            }
             let served = self.table.shared.load::<Watch>(seat, 1);
             if served == ticket {
                 return;
             }
-            self.sleepers.sleep(rt, ticket, seen);
+            if !soon {
+                self.sleepers.sleep(rt, ticket);
+            }
         }
         unreachable!()
     }
 
-    // Wakes who waits for the ticket behind this one, where it is drawn.
+    // Wakes who waits for the ticket behind this one, where it is drawn, else one at the gate.
     fn wake_behind(&self, served: u64) {
         let next = served.saturating_add(1);
         if next < self.table.shared.peek(0) {
             self.sleepers.wake(next);
+        } else {
+            self.sleepers.call();
         }
     }
 
-    /// Waits for the seat's turn, and takes the value out. Its linearization point is the load
-    /// that finds the seat's ticket served: the seat has then seen the whole history, which leads
-    /// to the value. It waits for good once `2^63` tickets are drawn. `enter` makes a guard of it.
+    /// Waits for the seat's turn, and takes the value out. A ticket is drawn when the turn is
+    /// nobody's, so a thread that takes turn after turn goes on, and others wait at the gate. Its
+    /// linearization point is the load that finds the seat's ticket served: the seat has then seen
+    /// the whole history, which leads to the value. It waits for good once `2^63` tickets are drawn.
+    /// `enter` makes a guard of it.
     pub fn take<R: Wait>(&self, rt: &R, seat: &mut TurnSeat<T, E>) -> T
         requires own { IsTurnSeat self.now seat.old }
         requires idle { IsIdle seat.old }
         ensures entered { Enters T.steps seat.old seat.new result }
     {
+        self.pass_gate(rt);
         let ticket = self.draw(rt, seat);
         self.wait(rt, seat, ticket);
         match self.table.shared.exchange(seat, 0, Slot::Out) {
@@ -93,8 +157,8 @@ impl<E, T: Stepped<E>> Turn<T, E> {
     /// Puts the value back, and ends the turn with its last call. Its linearization point is the
     /// addition to the ticket that is served, which puts the turn's entry, the calls noted and
     /// the last one, at the end of the history. It waits for nobody and takes no memory. It wakes
-    /// the caller with the next ticket, and makes no system call where none was drawn. `leave` does
-    /// it with a guard.
+    /// the caller with the next ticket, else one that lies at the gate, and makes no system call
+    /// where there is neither. `leave` does it with a guard.
     pub fn put(&self, seat: &mut TurnSeat<T, E>, value: T, last: Snapshot<E>)
         requires own { IsTurnSeat self.now seat.old }
         requires inside { IsInside seat.old }
