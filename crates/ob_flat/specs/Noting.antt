@@ -1,4 +1,4 @@
--- The events of a call that only reads and may fail.
+-- Private: the events of a call that only reads and may fail.
 use Rattle.std.specs.Prelude.{List, Option, Result, Err}
 use Rattle.ob_base.specs.declared.fault.Fault.{Fault}
 use Rattle.ob_base.specs.declared.fault.Fault.TheVariants.{StoreFault}

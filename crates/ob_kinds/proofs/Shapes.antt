@@ -1,8 +1,8 @@
 -- Shapes of calls, one behind the other.
-use Rattle.std.proofs.Common.{◌≡◌, ◌∙◌, ℕ, suc, List, [], ◌∷◌, ◌++◌, length, None, refl, ap}
+use Rattle.std.proofs.Common.{◌≡◌, ◌∙◌, ℕ, suc, List, [], ◌∷◌, ◌++◌, length, map, None, refl, ap}
 use Rattle.std.proofs.lemmas.List.Concat.{flat_map-append}
 use Rattle.ob_serial.specs.Vaults.{VaultCall, Fetch, End, VaultAnswer, Values, Ended, RefusedBy, DoubtBy}
-use Rattle.ob_kinds.specs.Phases.{Phase, Shape, Fetches, Ends, phase_events, events_of_phases, shapes, refused}
+use Rattle.ob_kinds.specs.Phases.{Phase, Shape, Fetches, Ends, answered, phase_events, events_of_phases, shape_of, shapes, refused}
 use Rattle.ob_kinds.specs.Laws.{AllAnswered}
 
 pub events_join : (xs ys : List Phase) → events_of_phases (xs ++ ys) ≡ events_of_phases xs ++ events_of_phases ys
@@ -18,6 +18,28 @@ shapes_join ((End writes, Values values) ∷ xs) ys = shapes_join xs ys
 shapes_join ((End writes, Ended) ∷ xs) ys = ap (λ (l : List Shape). Ends ∷ l) (shapes_join xs ys)
 shapes_join ((End writes, RefusedBy fault) ∷ xs) ys = shapes_join xs ys
 shapes_join ((End writes, DoubtBy fault) ∷ xs) ys = shapes_join xs ys
+
+pub answered_join : (xs ys : List (VaultCall × VaultAnswer)) → answered (xs ++ ys) ≡ answered xs ++ answered ys
+answered_join [] ys = refl
+answered_join ((Fetch keys, Values values) ∷ xs) ys = ap (λ (l : List VaultCall). Fetch keys ∷ l) (answered_join xs ys)
+answered_join ((Fetch keys, Ended) ∷ xs) ys = answered_join xs ys
+answered_join ((Fetch keys, RefusedBy fault) ∷ xs) ys = answered_join xs ys
+answered_join ((Fetch keys, DoubtBy fault) ∷ xs) ys = answered_join xs ys
+answered_join ((End writes, Values values) ∷ xs) ys = answered_join xs ys
+answered_join ((End writes, Ended) ∷ xs) ys = ap (λ (l : List VaultCall). End writes ∷ l) (answered_join xs ys)
+answered_join ((End writes, RefusedBy fault) ∷ xs) ys = answered_join xs ys
+answered_join ((End writes, DoubtBy fault) ∷ xs) ys = answered_join xs ys
+
+pub shapes_of_answered : (steps : List (VaultCall × VaultAnswer)) → shapes steps ≡ map shape_of (answered steps)
+shapes_of_answered [] = refl
+shapes_of_answered ((Fetch keys, Values values) ∷ steps) = ap (λ (l : List Shape). Fetches ∷ l) (shapes_of_answered steps)
+shapes_of_answered ((Fetch keys, Ended) ∷ steps) = shapes_of_answered steps
+shapes_of_answered ((Fetch keys, RefusedBy fault) ∷ steps) = shapes_of_answered steps
+shapes_of_answered ((Fetch keys, DoubtBy fault) ∷ steps) = shapes_of_answered steps
+shapes_of_answered ((End writes, Values values) ∷ steps) = shapes_of_answered steps
+shapes_of_answered ((End writes, Ended) ∷ steps) = ap (λ (l : List Shape). Ends ∷ l) (shapes_of_answered steps)
+shapes_of_answered ((End writes, RefusedBy fault) ∷ steps) = shapes_of_answered steps
+shapes_of_answered ((End writes, DoubtBy fault) ∷ steps) = shapes_of_answered steps
 
 pub answered_have_shapes : (steps : List (VaultCall × VaultAnswer)) → AllAnswered steps → length (shapes steps) ≡ length steps
 answered_have_shapes [] are = refl

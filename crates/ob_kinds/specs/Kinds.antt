@@ -7,7 +7,7 @@ use Rattle.ob_seal.specs.declared.keys.Keys.{Keys}
 use Rattle.ob_store.specs.declared.event.Event.{Event}
 use Rattle.ob_store.specs.Disk.{Disk, Image}
 use Rattle.ob_serial.specs.Serial.{Map}
-use Rattle.ob_serial.specs.Vaults.{VaultState, Standing}
+use Rattle.ob_serial.specs.Vaults.{VaultCall, VaultState, Standing}
 use Rattle.ob_kinds.specs.Phases.{Phase, Shape}
 
 -- The words of a kind of store.
@@ -50,8 +50,14 @@ pub record StoreKind : Type 1 where
   pub Drawn : Type 0
   pub phases : Params → Public → Shape → Drawn → List Phase
   pub next : Params → Public → Shape → Drawn → Public
-  -- What may be seen of a call that was refused with this fault, or left in doubt by it.
-  pub cut : Params → Public → Shape → Drawn → Fault → List Event → Type 0
+  -- What fills the holes depends on: what a vault keeps to itself, as an opening leaves it; what a call with these keys, or these writes,
+  -- draws from there, and what is kept behind it; and that the words in it are the first of these, which a tape gave.
+  pub Hidden : Type 0
+  pub hidden : Params → Found → Hidden
+  pub draws : Params → Hidden → VaultCall → Drawn → Hidden → Type 0
+  pub is_of_tape : Hidden → (words : List ℕ) → Type 0
+  -- What may be seen of a call that was refused with this fault, or left in doubt by it, once a tape had given these words.
+  pub cut : Params → Public → Hidden → VaultCall → Drawn → (words : List ℕ) → Fault → List Event → Type 0
   -- Why a vault refuses a call behind these, and so many epochs that ended, besides its store: the disk was this one once it was opened,
   -- and this one behind the call.
   pub causes : Keys → Params → Found → (opened now : Disk) → List Shape → ℕ → Fault → Type 0

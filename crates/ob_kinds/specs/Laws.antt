@@ -1,7 +1,7 @@
 -- Laws of shapes and phases.
-use Rattle.std.specs.Prelude.{ℕ, ◌≡◌, List, [], ◌∷◌, ◌++◌, length, None}
+use Rattle.std.specs.Prelude.{ℕ, ◌≡◌, List, [], ◌∷◌, ◌++◌, length, map, None}
 use Rattle.ob_serial.specs.Vaults.{VaultCall, Fetch, End, VaultAnswer, Values, Ended}
-use Rattle.ob_kinds.specs.Phases.{Phase, Shape, events_of_phases, shapes, refused}
+use Rattle.ob_kinds.specs.Phases.{Phase, Shape, answered, events_of_phases, shape_of, shapes, refused}
 
 abbrev pub EventsJoin : Type 0
 EventsJoin = (xs ys : List Phase) → events_of_phases (xs ++ ys) ≡ events_of_phases xs ++ events_of_phases ys
@@ -15,6 +15,9 @@ AllAnswered (_ ∷ steps) = ⊥
 
 abbrev pub ShapesJoin : Type 0
 ShapesJoin = (xs ys : List (VaultCall × VaultAnswer)) → shapes (xs ++ ys) ≡ shapes xs ++ shapes ys
+
+abbrev pub ShapesAreOfAnswered : Type 0
+ShapesAreOfAnswered = (steps : List (VaultCall × VaultAnswer)) → shapes steps ≡ map shape_of (answered steps)
 
 abbrev pub AnsweredHaveShapes : Type 0
 AnsweredHaveShapes = (steps : List (VaultCall × VaultAnswer)) → AllAnswered steps → length (shapes steps) ≡ length steps

@@ -1,6 +1,6 @@
 -- A vault over a ring store that was just opened, in the words of its kind of store.
 use Rattle.std.specs.Ordering.{nat_cmp}
-use Rattle.std.proofs.Common.{◌≡◌, ◌∙◌, ◌+◌, ◌*◌, ◌≤◌, ℕ, suc, false, length, None, refl, sym, ap, subst, inl, arith}
+use Rattle.std.proofs.Common.{◌≡◌, ◌∙◌, ◌+◌, ◌*◌, ◌≤◌, ℕ, suc, false, [], length, None, refl, sym, ap, subst, inl, arith}
 use Rattle.ob_base.specs.Layout.{checkpoint_cells, record_cells}
 use Rattle.ob_base.specs.Tree.{buckets, width}
 use Rattle.ob_base.specs.declared.params.Params.{Params}
@@ -17,7 +17,7 @@ use Rattle.ob_store.specs.Disk.{Disk, Image}
 use Rattle.ob_ring_kind.proofs.Bounds.{all_left}
 use Rattle.ob_ring_kind.specs.Causes.{seals_an_epoch, words_an_epoch}
 use Rattle.ob_ring_kind.specs.Laws.{RingBeginsSound, RingCallsBegin}
-use Rattle.ob_ring_kind.specs.RingKind.{GoesOnFrom, IsRingMap, RingFound, ring_public}
+use Rattle.ob_ring_kind.specs.RingKind.{GoesOnFrom, IsRingMap, RingFound, ring_hidden, ring_public}
 use Rattle.ob_ring_kind.specs.RingSteps.{RingAt}
 
 -- what a run that serves holds, with this map
@@ -33,7 +33,7 @@ holds_found keys p f opened m serving is = record {
 }
 
 module _ {V S : Type 0} (k : Kind V) (disk : S → Disk) (runs : V → Running S) (keys : Keys) (p : Params) (found : Found) (f : RingFound) (v : V) (goes : GoesOnFrom keys p found f) (run_is : (runs v).run ≡ f.run) (lanes : (runs v).lanes ≤ 1)
-    (planned : HasPlanned f.run f.content f.records) (holding : (u : VaultState) → RingHolds f.run (disk (runs v).store) u → k.holds v u) where
+    (planned : HasPlanned f.run f.content f.records) (none : (runs v).drawn ≡ []) (holding : (u : VaultState) → RingHolds f.run (disk (runs v).store) u → k.holds v u) where
   sealed_none : ((f.run).sealer).next ≡ 0
   sealed_none = ap (λ (x : Sealing). x.next) goes.sealer
 
@@ -45,16 +45,16 @@ module _ {V S : Type 0} (k : Kind V) (disk : S → Disk) (runs : V → Running S
   seals_left = subst (λ d. d + ((f.run).left * record_cells p + (buckets p * width p + checkpoint_cells p)) ≤ suc 0 * seals_an_epoch p) (sym sealed_none)
       (all_left (f.run).left (length f.records) p.batches (record_cells p) (buckets p * width p + checkpoint_cells p) goes.left)
 
-  pub ring_begun : RingAt k disk runs keys p f (disk (runs v).store) (ring_public p f) 0 v
+  pub ring_begun : RingAt k disk runs keys p f (disk (runs v).store) (ring_public p f) (ring_hidden f) 0 v
   ring_begun = record {
     params = ap (λ (r : Run). r.params) run_is ∙ goes.params;
     keys_are = ap (λ (r : Run). (r.sealer).keys) run_is ∙ ap (λ (x : Sealing). x.keys) goes.sealer;
     one_lane = lanes;
-    content = f.content;
-    records = f.records;
     planned = subst (λ (r : Run). HasPlanned r f.content f.records) (sym run_is) planned;
     known = ap (λ (r : Run). (ring_public p (record { content = f.content; records = f.records; run = r })).known) run_is;
     shown = refl;
+    generation = ap (λ (r : Run). (r.sealer).generation) run_is;
+    tape = none;
     left = ap (λ (r : Run). r.left + length f.records) run_is ∙ goes.left;
     epoch = ap (λ (r : Run). r.epoch) run_is ∙ none_more (f.run).epoch;
     words = subst (λ (r : Run). r.drawn + (r.left * p.places + (p.writes + buckets p * width p)) ≤ suc 0 * words_an_epoch p) (sym run_is) words_left;
@@ -66,7 +66,7 @@ module _ {V S : Type 0} (k : Kind V) (disk : S → Disk) (runs : V → Running S
       none_more i = omega arith
 
 pub ring_calls_begin : {V S : Type 0} (k : Kind V) (disk : S → Disk) → RingCallsBegin k disk
-ring_calls_begin k disk runs keys p found f v goes run_is lanes planned holding = ring_begun k disk runs keys p found f v goes run_is lanes planned holding
+ring_calls_begin k disk runs keys p found f v goes run_is lanes planned none holding = ring_begun k disk runs keys p found f v goes run_is lanes planned none holding
 
 -- where the store stood, it is sound
 pub ring_begins_sound : {S : Type 0} (disk : S → Disk) → RingBeginsSound disk

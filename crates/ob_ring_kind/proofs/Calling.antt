@@ -1,6 +1,6 @@
 -- What a call of a vault over a ring store does, in the words of its kind of store.
 use Rattle.std.specs.Ordering.{nat_cmp}
-use Rattle.std.proofs.Common.{◌≡◌, ◌∙◌, ◌+◌, ◌*◌, ◌^◌, ◌<◌, ◌≤◌, ℕ, suc, false, List, [], ◌∷◌, ◌++◌, take, map, length, length-append, Option, Some, Ok, Err, refl, sym, ap, subst, inl, inr, arith}
+use Rattle.std.proofs.Common.{◌≡◌, ◌∙◌, ◌+◌, ◌*◌, ◌^◌, ◌<◌, ◌≤◌, ℕ, suc, false, List, [], ◌∷◌, ◌++◌, take, map, length, length-append, Option, Some, Result, Ok, Err, ⊎_elim, refl, sym, ap, subst, inl, inr, arith}
 use Rattle.ob_base.specs.Layout.{checkpoint_cells, record_cells}
 use Rattle.ob_base.specs.Tree.{buckets, width}
 use Rattle.ob_base.specs.declared.fault.Fault.{Fault}
@@ -14,8 +14,9 @@ use Rattle.ob_ending.specs.Lifts.{IsLiftDamage}
 use Rattle.ob_epoch.specs.Table.{buckets_of, flat_of}
 use Rattle.ob_fetch.proofs.NextLaws.{seals_listed, stands_listed}
 use Rattle.ob_fetch.specs.Fetches.{DrawsWords, IsWornForBatch, RunIsAt, next_batch, words_since}
-use Rattle.ob_kinds.specs.Phases.{Shape, Fetches, Ends, events_of_phases}
+use Rattle.ob_kinds.specs.Phases.{Shape, Fetches, Ends, events_of_phases, shape_of}
 use Rattle.ob_kinds.specs.Steps.{IsCallOfKind, IsRefusalWhy, Stops}
+use Rattle.ob_log.specs.Appends.{IsWornOut}
 use Rattle.ob_log.specs.Logs.{BatchRecord, RecordsFit}
 use Rattle.ob_recover.specs.Repeats.{IsBatchDamage, content_of_ring, table_after_records}
 use Rattle.ob_ring.specs.FlatTable.{FlatTable}
@@ -24,8 +25,10 @@ use Rattle.ob_ring.specs.Ring.{StandsFor}
 use Rattle.ob_ring_trace.proofs.Batch.{batches_are_scheduled}
 use Rattle.ob_ring_trace.specs.Known.{PlansFrom, fills_of, fills_with_lifts, public_of_kept}
 use Rattle.ob_ring_trace.specs.Telling.{IsFrontShown, IsRowShown}
-use Rattle.ob_ring_vault.specs.RingVaults.{EndCalled, FetchCalled, HasPlanned, Running, record_of_fetch, write_from, writes_of_end}
+use Rattle.ob_ring_vault.specs.RingVaults.{EndCalled, FetchCalled, HasPlanned, KeepsRun, Running, record_of_fetch, words_of_call, write_from, writes_of_end}
 use Rattle.ob_schedule.specs.Schedule.{Fills, Public, after_end, after_phase, batch_leaves, batch_notes, end_notes}
+use Rattle.std.proofs.lemmas.Bool.{cases_lt}
+use Rattle.std.proofs.lemmas.List.{append-nil}
 use Rattle.ob_seal.specs.Sealing.{Sealing}
 use Rattle.ob_seal.specs.declared.keys.Keys.{Keys}
 use Rattle.ob_serial.specs.Serial.{Map}
@@ -34,6 +37,7 @@ use Rattle.ob_serial.specs.Vaults.{DoubtBy, End, Ended, Fetch, RefusedBy, Values
 use Rattle.ob_serial.specs.declared.vault.EndErr.TheVariants.{Before, Unsure}
 use Rattle.ob_stand.specs.Stands.{RingStanding}
 use Rattle.ob_store.proofs.Doing.{cut_noted}
+use Rattle.ob_store.proofs.Events.{none_noted}
 use Rattle.ob_store.specs.Calls.{Notes}
 use Rattle.ob_store.specs.Disk.{Disk}
 use Rattle.ob_store.specs.Told.{events_of}
@@ -43,7 +47,9 @@ use Rattle.ob_twin.specs.declared.gates.Gates.{Gates}
 use Rattle.ob_ring_kind.proofs.Bounds.{batch_past, end_past, less_left, one_more, rows_few, seals_few, words_few}
 use Rattle.ob_ring_kind.proofs.Phasing.{phased}
 use Rattle.ob_ring_kind.specs.Causes.{IsRingWorn, seals_an_epoch, words_an_epoch}
-use Rattle.ob_ring_kind.specs.Laws.{RingCallsDo}
+use Rattle.ob_ring_kind.proofs.Drawing.{draws_batch, draws_end, ended, grown}
+use Rattle.ob_ring_kind.specs.Hidden.{RingDrawsCut, RingHidden, with_next}
+use Rattle.ob_ring_kind.specs.Laws.{RingCallsDo, RingWordsAreOfTape}
 use Rattle.ob_ring_kind.specs.RingKind.{IsRingMap, RingFound, ring_kind}
 use Rattle.ob_ring_kind.specs.RingSteps.{HasRingWords, RingAt}
 use Rattle.ob_ring_kind.specs.Seen.{RingPublic, ring_next, ring_notes, ring_phases}
@@ -54,10 +60,10 @@ drawn_more many old new d = ap (λ (l : List ℕ). length l) d.words ∙ length-
 
 module _ {V S : Type 0} (k : Kind V) (disk : S → Disk) (runs : V → Running S) (words : HasRingWords k disk runs) (keys : Keys) (p : Params) (f : RingFound) (opened : Disk) where
   -- behind calls of any shapes
-  abbrev pub RingBehind : RingPublic → List Shape → ℕ → V → Type 0
-  RingBehind q so_far n v = RingAt k disk runs keys p f opened q n v
+  abbrev pub RingBehind : RingPublic → RingHidden → List Shape → ℕ → V → Type 0
+  RingBehind q h so_far n v = RingAt k disk runs keys p f opened q h n v
 
-  module _ (q : RingPublic) (so_far : List Shape) (n : ℕ) (v w : V) (at : RingAt k disk runs keys p f opened q n v) where
+  module _ (q : RingPublic) (h : RingHidden) (so_far : List Shape) (n : ℕ) (v w : V) (at : RingAt k disk runs keys p f opened q h n v) where
     abbrev old : Running S
     old = runs v
 
@@ -68,10 +74,10 @@ module _ {V S : Type 0} (k : Kind V) (disk : S → Disk) (runs : V → Running S
     params = (old.run).params
 
     abbrev c : Content
-    c = at.content
+    c = h.content
 
     abbrev rs : List BatchRecord
-    rs = at.records
+    rs = h.records
 
     -- the planner's table
     abbrev t : FlatTable
@@ -88,6 +94,10 @@ module _ {V S : Type 0} (k : Kind V) (disk : S → Disk) (runs : V → Running S
 
     is_next : length rs ≡ next_batch old.run
     is_next = omega (arith, at.left, ap (λ (x : Params). x.batches) at.params)
+
+    -- where no batch is left all were shown
+    all_shown : (old.run).left ≡ 0 → length rs ≡ params.batches
+    all_shown none = omega (arith, at.left, none, ap (λ (x : Params). x.batches) at.params)
 
     -- ---- what is held
 
@@ -127,16 +137,29 @@ module _ {V S : Type 0} (k : Kind V) (disk : S → Disk) (runs : V → Running S
     whole_row row shown shape fills is r = subst (λ (l : List Event). Notes l (disk old.store).seen (disk new.store).seen) (events_are row shape fills is) (r.in_order at.one_lane)
 
     -- a front of it
-    stopped : (row shown : List Note) (shape : Shape) (fills : Fills) (refused : Fault) → row ≡ ring_notes p q shape fills → IsFrontShown old.lanes row shown (disk old.store).seen (disk new.store).seen
-        → IsRefusalWhy ring_kind keys p f opened (disk new.store) so_far n refused → Stops ring_kind keys p f opened (disk old.store) (disk new.store) q so_far n shape refused
-    stopped row shown shape fills refused is r why =
+    stopped : (row shown : List Note) (call : VaultCall) (fills : Fills) (refused : Fault) → row ≡ ring_notes p q (shape_of call) fills → IsFrontShown old.lanes row shown (disk old.store).seen (disk new.store).seen
+        → RingDrawsCut p h call fills new.drawn → KeepsRun disk old new shown → IsRefusalWhy ring_kind keys p f opened (disk new.store) so_far n refused
+        → Stops ring_kind keys p f opened (disk old.store) (disk new.store) new.drawn q h so_far n call refused
+    stopped row shown call fills refused is r draws keeps why =
         let (m, few, seen) = cut_noted row r.made shown (disk old.store).seen (disk new.store).seen r.cut (r.in_order at.one_lane) in
         record {
           more = take m (events_of row);
-          cut = (fills, (m, ap (λ (l : List Event). take m l) (events_are row shape fills is)));
+          cut = (fills, inr (draws, m, ap (λ (l : List Event). take m l) (events_are row (shape_of call) fills is)));
           seen = seen;
           why = why;
+          of_tape = (_, grown disk old new shown p h at.params at.planned at.generation at.tape keeps);
         }
+
+    -- or nothing
+    idle : (call : VaultCall) (fills : Fills) (refused : Fault) (shown : List Note) → new.store ≡ old.store → KeepsRun disk old new shown → IsRefusalWhy ring_kind keys p f opened (disk new.store) so_far n refused
+        → Stops ring_kind keys p f opened (disk old.store) (disk new.store) new.drawn q h so_far n call refused
+    idle call fills refused shown same keeps why = record {
+      more = [];
+      cut = (fills, inl refl);
+      seen = subst (λ (x : S). Notes [] (disk old.store).seen (disk x).seen) (sym same) (none_noted (disk old.store).seen);
+      why = why;
+      of_tape = (_, grown disk old new shown p h at.params at.planned at.generation at.tape keeps);
+    }
 
     -- ---- a batch
 
@@ -147,14 +170,16 @@ module _ {V S : Type 0} (k : Kind V) (disk : S → Disk) (runs : V → Running S
       abbrev then : List BatchRecord
       then = rs ++ r ∷ []
 
+      fit : FetchCalled disk old new notes asks (Ok tt) → RecordsFit p then
+      fit one = subst (λ (x : Params). RecordsFit x then) ((one.run).params ∙ at.params) (one.onward c rs at.planned is_next).fit
+
       fetched_at : FetchCalled disk old new notes asks (Ok tt) → ((m : Map nat_cmp) → IsRingMap keys p opened f m → (u : VaultState) × k.holds w u × (u.spent ≡ false))
-          → RingAt k disk runs keys p f opened (ring_next p q Fetches (fills_of p c then)) n w
+          → RingAt k disk runs keys p f opened (ring_next p q Fetches (fills_of p c then)) (with_next h r) n w
       fetched_at one holds =
           let params_are : (new.run).params ≡ p = (one.run).params ∙ at.params in
           let planned : HasPlanned new.run c then = one.onward c rs at.planned is_next in
           let obeys : Obeys p c = subst (λ (x : Params). Obeys x c) params_are planned.obeys in
-          let fit : RecordsFit p then = subst (λ (x : Params). RecordsFit x then) params_are planned.fit in
-          let scheduled = batches_are_scheduled.own p c rs r (old.run).epoch (old.run).gates obeys fit in
+          let scheduled = batches_are_scheduled.own p c rs r (old.run).epoch (old.run).gates obeys (fit one) in
           let places : params.places ≡ p.places = ap (λ (x : Params). x.places) at.params in
           let drawn : (new.run).drawn ≡ (old.run).drawn + p.places = (one.run).drawn ∙ drawn_more params.places old.drawn new.drawn one.draws ∙ ap (λ m. m + params.places) (sym (one.run).was_drawn) ∙ ap (λ m. (old.run).drawn + m) places in
           let sealed : ((new.run).sealer).next ≡ ((old.run).sealer).next + record_cells p = ap (λ (s : Sealing). s.next) (one.seals).all ∙ ap (λ (x : Params). ((old.run).sealer).next + record_cells x) at.params in
@@ -162,8 +187,6 @@ module _ {V S : Type 0} (k : Kind V) (disk : S → Disk) (runs : V → Running S
             params = params_are;
             keys_are = (one.run).keys ∙ at.keys_are;
             one_lane = subst (λ m. m ≤ 1) (sym (one.run).lanes) at.one_lane;
-            content = c;
-            records = then;
             planned = planned;
             known = ap (λ e. public_of_kept p c then e (new.run).gates) one.epoch
                 ∙ ap (λ (g : Gates). public_of_kept p c then (old.run).epoch g) one.gates
@@ -171,6 +194,8 @@ module _ {V S : Type 0} (k : Kind V) (disk : S → Disk) (runs : V → Running S
                 ∙ ap (λ (x : Public). after_phase p x (batch_leaves p (fills_of p c then) (length rs))) at.known
                 ∙ ap (λ (m : ℕ). after_phase p q.known (batch_leaves p (fills_of p c then) m)) at.shown;
             shown = length-append rs (r ∷ []) ∙ one_longer (length rs) ∙ ap suc at.shown;
+            generation = (one.run).generation ∙ at.generation;
+            tape = grown disk old new notes p h at.params at.planned at.generation at.tape one.run;
             left = omega (arith, one.left, at.left, length-append rs (r ∷ []));
             epoch = one.epoch ∙ at.epoch;
             words = less_left (new.run).left (old.run).left p.places (p.writes + buckets p * width p) (old.run).drawn (new.run).drawn (suc n * words_an_epoch p) one.left drawn at.words;
@@ -215,11 +240,36 @@ module _ {V S : Type 0} (k : Kind V) (disk : S → Disk) (runs : V → Running S
       batch_why fault.SourceFault one = absurd one.refusal
       batch_why fault.SinkFault one = absurd one.refusal
 
+      -- where no number is worn the words of a batch are left
+      words_left : {result : Result (Unit {0}) Fault} → FetchCalled disk old new notes asks result → (IsWornOut result → ⊥) → (old.run).drawn + params.places ≤ 2 ^ 62
+      words_left one not = ⊎_elim (λ (lt : 2 ^ 62 < (old.run).drawn + params.places). absurd (not ((one.worn).1 (inl lt)))) (λ le. le) (cases_lt (2 ^ 62) ((old.run).drawn + params.places))
+
+      -- one that was refused, and drew a word for each place
+      drawing : (refused : Fault) → length (words_of_call disk old new notes) ≡ params.places → (old.run).drawn + params.places ≤ 2 ^ 62 → FetchCalled disk old new notes asks (Err refused)
+          → Stops ring_kind keys p f opened (disk old.store) (disk new.store) new.drawn q h so_far n (Fetch asks) refused
+      drawing refused many few one =
+          stopped (batch_row then) notes (Fetch asks) (fills_of p c then) refused (batch_is then) (one.scheduled c rs at.planned is_next)
+          (with_next h r, draws_batch disk old new notes p h at.params at.planned at.generation at.tape one.run asks one.whole is_next many few, ([], grown disk old new notes p h at.params at.planned at.generation at.tape one.run ∙ sym (append-nil _)))
+          one.run (batch_why refused one)
+
+      batch_stops : (refused : Fault) → FetchCalled disk old new notes asks (Err refused) → Stops ring_kind keys p f opened (disk old.store) (disk new.store) new.drawn q h so_far n (Fetch asks) refused
+      batch_stops (fault.StoreFault unsure) one = drawing (fault.StoreFault unsure) (one.draws).many_are (words_left one (λ none. none)) one
+      batch_stops (fault.Damaged cell check kept computed) one = drawing (fault.Damaged cell check kept computed) (one.draws).many_are (words_left one (λ none. none)) one
+      batch_stops (fault.Worn number) one = idle (Fetch asks) (fills_of p c then) (fault.Worn number) notes (one.idle tt) one.run (batch_why (fault.Worn number) one)
+      batch_stops fault.Memory one = absurd one.refusal
+      batch_stops fault.Usage one = absurd one.refusal
+      batch_stops (fault.BadScript line) one = absurd one.refusal
+      batch_stops (fault.BadParams field) one = absurd one.refusal
+      batch_stops fault.NotStore one = absurd one.refusal
+      batch_stops (fault.StashFull rows) one = absurd one.refusal
+      batch_stops fault.SourceFault one = absurd one.refusal
+      batch_stops fault.SinkFault one = absurd one.refusal
+
     -- ---- an end
 
     module _ (writes : List Write) (notes : List Note) where
-      ended_at : EndCalled disk old new notes writes (Ok tt) → ((m : Map nat_cmp) → IsRingMap keys p opened f m → (u : VaultState) × k.holds w u × (u.spent ≡ false))
-          → RingAt k disk runs keys p f opened (ring_next p q Ends (fills_with_lifts p c rs)) (suc n) w
+      ended_at : (one : EndCalled disk old new notes writes (Ok tt)) → ((m : Map nat_cmp) → IsRingMap keys p opened f m → (u : VaultState) × k.holds w u × (u.spent ≡ false))
+          → RingAt k disk runs keys p f opened (ring_next p q Ends (fills_with_lifts p c rs)) (ended disk old new notes p h at.params at.planned at.generation at.tape one.run writes one) (suc n) w
       ended_at one holds =
           let params_are : (new.run).params ≡ p = (one.run).params ∙ at.params in
           let leads : LeadsOn params ((old.run).sealer).generation c rs (old.run).epoch (old.run).gates (new.run).ring (new.run).gates = one.onward c rs at.planned in
@@ -234,14 +284,14 @@ module _ {V S : Type 0} (k : Kind V) (disk : S → Disk) (runs : V → Running S
             params = params_are;
             keys_are = (one.run).keys ∙ at.keys_are;
             one_lane = subst (λ m. m ≤ 1) (sym (one.run).lanes) at.one_lane;
-            content = content_of_ring (new.run).ring;
-            records = [];
             planned = subst (λ (x : Params). PlansFrom x ((new.run).sealer).generation (new.run).gates (new.run).ring (content_of_ring (new.run).ring) []) (sym (one.run).params)
                 (subst (λ g. PlansFrom params g (new.run).gates (new.run).ring (content_of_ring (new.run).ring) []) (sym (one.run).generation) leads.plans);
             known = ap (λ e. public_of_kept p (content_of_ring (new.run).ring) [] e (new.run).gates) one.epoch
                 ∙ subst (λ (x : Params). public_of_kept x (content_of_ring (new.run).ring) [] (suc (old.run).epoch) (new.run).gates ≡ after_end x (public_of_kept x c rs (old.run).epoch (old.run).gates)) at.params (sym leads.public)
                 ∙ ap (λ (x : Public). after_end p x) at.known;
             shown = refl;
+            generation = refl;
+            tape = refl;
             left = omega (arith, batches);
             epoch = one.epoch ∙ ap suc at.epoch ∙ next_epoch (f.run).epoch n;
             words = subst (λ m. (new.run).drawn + (m * p.places + (p.writes + buckets p * width p)) ≤ suc (suc n) * words_an_epoch p) (sym batches)
@@ -300,39 +350,46 @@ module _ {V S : Type 0} (k : Kind V) (disk : S → Disk) (runs : V → Running S
           one_behind i = omega arith
 
   -- each call
-  pub ring_does : (q : RingPublic) (so_far : List Shape) (n : ℕ) (v : V) (call : VaultCall) (answer : VaultAnswer) (w : V) → RingBehind q so_far n v → Called k v call answer w
-      → IsCallOfKind ring_kind keys p f opened RingBehind (disk (runs v).store) (disk (runs w).store) w q so_far n call answer
-  ring_does q so_far n v (Fetch asks) (Values values) w at one =
+  pub ring_does : (q : RingPublic) (h : RingHidden) (so_far : List Shape) (n : ℕ) (v : V) (call : VaultCall) (answer : VaultAnswer) (w : V) → RingBehind q h so_far n v → Called k v call answer w
+      → IsCallOfKind ring_kind keys p f opened RingBehind (disk (runs v).store) (disk (runs w).store) (runs w).drawn w q h so_far n call answer
+  ring_does q h so_far n v (Fetch asks) (Values values) w at one =
       let is : FetchCalled disk (runs v) (runs w) one.notes asks (Ok tt) = words.called v (Fetch asks) (Values values) one.notes w one.called in
-      let rs' = then q so_far n v w at asks one.notes in
+      let rs' = then q h so_far n v w at asks one.notes in
       record {
-        drawn = fills_of p at.content rs';
-        seen = whole_row q so_far n v w at (batch_row q so_far n v w at rs') one.notes Fetches (fills_of p at.content rs') (batch_is q so_far n v w at rs') (is.scheduled at.content at.records at.planned (is_next q so_far n v w at));
-        at = fetched_at q so_far n v w at asks one.notes is (held_on q so_far n v w at (Fetch asks) (Values values) one (λ u. refl));
+        drawn = fills_of p h.content rs';
+        behind = with_next h (r q h so_far n v w at asks one.notes);
+        draws = (
+          draws_batch disk (runs v) (runs w) one.notes p h at.params at.planned at.generation at.tape is.run asks is.whole (is_next q h so_far n v w at) (is.draws).many_are (words_left q h so_far n v w at asks one.notes is (λ none. none)),
+          fit q h so_far n v w at asks one.notes is,
+        );
+        seen = whole_row q h so_far n v w at (batch_row q h so_far n v w at rs') one.notes Fetches (fills_of p h.content rs') (batch_is q h so_far n v w at rs') (is.scheduled h.content h.records at.planned (is_next q h so_far n v w at));
+        at = fetched_at q h so_far n v w at asks one.notes is (held_on q h so_far n v w at (Fetch asks) (Values values) one (λ u. refl));
       }
-  ring_does q so_far n v (End writes) Ended w at one =
+  ring_does q h so_far n v (End writes) Ended w at one =
       let is : EndCalled disk (runs v) (runs w) one.notes (map write_from writes) (Ok tt) = words.called v (End writes) Ended one.notes w one.called in
       record {
-        drawn = fills_with_lifts p at.content at.records;
-        seen = whole_row q so_far n v w at (end_row q so_far n v w at) one.notes Ends (fills_with_lifts p at.content at.records) (end_is q so_far n v w at) (is.scheduled at.content at.records at.planned);
-        at = ended_at q so_far n v w at (map write_from writes) one.notes is (held_on q so_far n v w at (End writes) Ended one (λ u. refl));
+        drawn = fills_with_lifts p h.content h.records;
+        behind = ended disk (runs v) (runs w) one.notes p h at.params at.planned at.generation at.tape is.run (map write_from writes) is;
+        draws = draws_end disk (runs v) (runs w) one.notes p h at.params at.planned at.generation at.tape is.run (map write_from writes) is (all_shown q h so_far n v w at is.none_left);
+        seen = whole_row q h so_far n v w at (end_row q h so_far n v w at) one.notes Ends (fills_with_lifts p h.content h.records) (end_is q h so_far n v w at) (is.scheduled h.content h.records at.planned);
+        at = ended_at q h so_far n v w at (map write_from writes) one.notes is (held_on q h so_far n v w at (End writes) Ended one (λ u. refl));
       }
-  ring_does q so_far n v (Fetch asks) (RefusedBy refused) w at one =
-      let is : FetchCalled disk (runs v) (runs w) one.notes asks (Err refused) = words.called v (Fetch asks) (RefusedBy refused) one.notes w one.called in
-      let rs' = then q so_far n v w at asks one.notes in
-      stopped q so_far n v w at (batch_row q so_far n v w at rs') one.notes Fetches (fills_of p at.content rs') refused (batch_is q so_far n v w at rs') (is.scheduled at.content at.records at.planned (is_next q so_far n v w at))
-      (batch_why q so_far n v w at asks one.notes refused is)
-  ring_does q so_far n v (End writes) (RefusedBy refused) w at one =
+  ring_does q h so_far n v (Fetch asks) (RefusedBy refused) w at one =
+      batch_stops q h so_far n v w at asks one.notes refused (words.called v (Fetch asks) (RefusedBy refused) one.notes w one.called)
+  ring_does q h so_far n v (End writes) (RefusedBy refused) w at one =
       let is : EndCalled disk (runs v) (runs w) one.notes (map write_from writes) (Err (Before refused)) = words.called v (End writes) (RefusedBy refused) one.notes w one.called in
-      stopped q so_far n v w at (end_row q so_far n v w at) one.notes Ends (fills_with_lifts p at.content at.records) refused (end_is q so_far n v w at) (is.scheduled at.content at.records at.planned)
-      (end_why q so_far n v w at (map write_from writes) one.notes refused is)
-  ring_does q so_far n v (End writes) (DoubtBy refused) w at one =
+      stopped q h so_far n v w at (end_row q h so_far n v w at) one.notes (End writes) (fills_with_lifts p h.content h.records) refused (end_is q h so_far n v w at) (is.scheduled h.content h.records at.planned) refl is.run
+      (end_why q h so_far n v w at (map write_from writes) one.notes refused is)
+  ring_does q h so_far n v (End writes) (DoubtBy refused) w at one =
       let is : EndCalled disk (runs v) (runs w) one.notes (map write_from writes) (Err (Unsure refused)) = words.called v (End writes) (DoubtBy refused) one.notes w one.called in
-      stopped q so_far n v w at (end_row q so_far n v w at) one.notes Ends (fills_with_lifts p at.content at.records) refused (end_is q so_far n v w at) (is.scheduled at.content at.records at.planned)
-      (doubt_why q so_far n v w at (map write_from writes) one.notes refused is)
-  ring_does q so_far n v (Fetch asks) Ended w at one = tt
-  ring_does q so_far n v (Fetch asks) (DoubtBy refused) w at one = tt
-  ring_does q so_far n v (End writes) (Values values) w at one = tt
+      stopped q h so_far n v w at (end_row q h so_far n v w at) one.notes (End writes) (fills_with_lifts p h.content h.records) refused (end_is q h so_far n v w at) (is.scheduled h.content h.records at.planned) refl is.run
+      (doubt_why q h so_far n v w at (map write_from writes) one.notes refused is)
+  ring_does q h so_far n v (Fetch asks) Ended w at one = tt
+  ring_does q h so_far n v (Fetch asks) (DoubtBy refused) w at one = tt
+  ring_does q h so_far n v (End writes) (Values values) w at one = tt
 
 pub ring_calls_do : {V S : Type 0} (k : Kind V) (disk : S → Disk) → RingCallsDo k disk
-ring_calls_do k disk runs words keys p f first q so_far n v call answer w at one = ring_does k disk runs words keys p f (disk (runs first).store) q so_far n v call answer w at one
+ring_calls_do k disk runs words keys p f first q h so_far n v call answer w at one = ring_does k disk runs words keys p f (disk (runs first).store) q h so_far n v call answer w at one
+
+pub words_are_of_tape : {V S : Type 0} (k : Kind V) (disk : S → Disk) → RingWordsAreOfTape k disk
+words_are_of_tape k disk runs keys p f first q h n v at = ([], at.tape ∙ sym (append-nil h.words))

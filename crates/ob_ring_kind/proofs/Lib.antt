@@ -1,5 +1,6 @@
 pub mod Phasing
 pub mod Bounds
+pub mod Drawing
 pub mod Calling
 pub mod Opening
 pub mod Refusing

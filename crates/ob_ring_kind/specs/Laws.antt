@@ -28,7 +28,8 @@ use Rattle.ob_vault.specs.OpeningActs.{AreGatesIn}
 use Rattle.ob_vault.specs.OpeningRuns.{IsRingOpened, OpensFrom, RefusedDoes, RefusedWrites}
 use Rattle.ob_vault.specs.Openings.{IsOpenFault, IsOpenRefusal, IsStandingRefusal, OpensWhatStood}
 use Rattle.ob_vault.specs.declared.opening.Opening.{Opening}
-use Rattle.ob_ring_kind.specs.RingKind.{GoesOnFrom, IsRingFound, IsRingRefusal, RingFound, ring_kind, ring_public}
+use Rattle.ob_ring_kind.specs.Hidden.{IsOfTape, RingHidden}
+use Rattle.ob_ring_kind.specs.RingKind.{GoesOnFrom, IsRingFound, IsRingRefusal, RingFound, ring_hidden, ring_kind, ring_public}
 use Rattle.ob_ring_kind.specs.RingSteps.{HasRingWords, RingAt}
 use Rattle.ob_ring_kind.specs.Seen.{RingMayBegin, RingOpensPartly, RingPublic, phases_of}
 
@@ -38,16 +39,22 @@ PhasesAreNotes = (notes : List Note) → events_of_phases (phases_of notes) ≡ 
 
 -- ---- calls
 
--- Each call of a vault over a ring store shows the schedule's phases, or a front of them, and is refused for a cause of the kind.
+-- Each call of a vault over a ring store shows the schedule's phases, filled by what it draws, or a front of them, and is refused for a
+-- cause of the kind.
 abbrev pub RingCallsDo : {V S : Type 0} → Kind V → (S → Disk) → Type 0
-RingCallsDo {V} {S} k disk = (runs : V → Running S) → HasRingWords k disk runs → (keys : Keys) (p : Params) (f : RingFound) (first : V) (q : RingPublic) (so_far : List Shape) (n : ℕ) (v : V) (call : VaultCall) (answer : VaultAnswer) (w : V)
-    → RingAt k disk runs keys p f (disk (runs first).store) q n v → Called k v call answer w
-    → IsCallOfKind ring_kind keys p f (disk (runs first).store) (λ q' so_far' n' v'. RingAt k disk runs keys p f (disk (runs first).store) q' n' v') (disk (runs v).store) (disk (runs w).store) w q so_far n call answer
+RingCallsDo {V} {S} k disk = (runs : V → Running S) → HasRingWords k disk runs → (keys : Keys) (p : Params) (f : RingFound) (first : V) (q : RingPublic) (h : RingHidden) (so_far : List Shape) (n : ℕ) (v : V) (call : VaultCall) (answer : VaultAnswer) (w : V)
+    → RingAt k disk runs keys p f (disk (runs first).store) q h n v → Called k v call answer w
+    → IsCallOfKind ring_kind keys p f (disk (runs first).store) (λ q' h' so_far' n' v'. RingAt k disk runs keys p f (disk (runs first).store) q' h' n' v') (disk (runs v).store) (disk (runs w).store) (runs w).drawn w q h so_far n call answer
 
--- And so the calls of one that was just opened begin, where its planner has shown the batches of what was found.
+-- The words hidden are those that the tape gave.
+abbrev pub RingWordsAreOfTape : {V S : Type 0} → Kind V → (S → Disk) → Type 0
+RingWordsAreOfTape {V} {S} k disk = (runs : V → Running S) (keys : Keys) (p : Params) (f : RingFound) (first : V) (q : RingPublic) (h : RingHidden) (n : ℕ) (v : V)
+    → RingAt k disk runs keys p f (disk (runs first).store) q h n v → IsOfTape h (runs v).drawn
+
+-- And so the calls of one that was just opened begin, where its planner has shown the batches of what was found, and no word was drawn.
 abbrev pub RingCallsBegin : {V S : Type 0} → Kind V → (S → Disk) → Type 0
-RingCallsBegin {V} {S} k disk = (runs : V → Running S) (keys : Keys) (p : Params) (found : Found) (f : RingFound) (v : V) → GoesOnFrom keys p found f → (runs v).run ≡ f.run → (runs v).lanes ≤ 1 → HasPlanned f.run f.content f.records
-    → ((u : VaultState) → RingHolds f.run (disk (runs v).store) u → k.holds v u) → RingAt k disk runs keys p f (disk (runs v).store) (ring_public p f) 0 v
+RingCallsBegin {V} {S} k disk = (runs : V → Running S) (keys : Keys) (p : Params) (found : Found) (f : RingFound) (v : V) → GoesOnFrom keys p found f → (runs v).run ≡ f.run → (runs v).lanes ≤ 1 → HasPlanned f.run f.content f.records → (runs v).drawn ≡ []
+    → ((u : VaultState) → RingHolds f.run (disk (runs v).store) u → k.holds v u) → RingAt k disk runs keys p f (disk (runs v).store) (ring_public p f) (ring_hidden f) 0 v
 
 -- One that was opened where the store stood is sound: it holds that map, and each image that a crash may leave stands for it.
 abbrev pub RingBeginsSound : {S : Type 0} → (S → Disk) → Type 0

@@ -1,5 +1,5 @@
 -- A ring store, as a kind of store.
-use Rattle.std.specs.Prelude.{ℕ, suc, ◌≡◌, ◌+◌, ◌^◌, ◌<◌, ◌≤◌, false, List, length, Ok}
+use Rattle.std.specs.Prelude.{ℕ, suc, ◌≡◌, ◌+◌, ◌^◌, ◌<◌, ◌≤◌, false, List, [], length, Ok}
 use Rattle.std.specs.FinMap as finite
 use Rattle.std.specs.Ordering.{nat_cmp}
 use Rattle.ob_base.specs.declared.fault.Fault.{Fault}
@@ -28,7 +28,8 @@ use Rattle.ob_vault.specs.Formats.{RingFormatLeaves}
 use Rattle.ob_vault.specs.OpeningActs.{AreGatesIn}
 use Rattle.ob_vault.specs.Openings.{IsOpenFault, IsOpenRefusal, IsStandingRefusal, fresh_sealer}
 use Rattle.ob_ring_kind.specs.Causes.{IsRingWorn, IsSlotDamage, RingLasts}
-use Rattle.ob_ring_kind.specs.Seen.{RingCut, RingMayBegin, RingOpensPartly, RingPublic, opening_phases, ring_next, ring_phases}
+use Rattle.ob_ring_kind.specs.Hidden.{IsOfTape, RingCut, RingDraws, RingHidden}
+use Rattle.ob_ring_kind.specs.Seen.{RingMayBegin, RingOpensPartly, RingPublic, opening_phases, ring_next, ring_phases}
 
 -- the number of its version in the head
 abbrev pub ring_version : ℕ
@@ -90,6 +91,10 @@ RingCauses keys p f opened now n _ = ⊥
 abbrev pub ring_public : Params → RingFound → RingPublic
 ring_public p f = record { known = public_of_kept p f.content f.records (f.run).epoch (f.run).gates; shown = length f.records }
 
+-- what was found, and no word of the generation
+abbrev pub ring_hidden : RingFound → RingHidden
+ring_hidden f = record { content = f.content; records = f.records; generation = ((f.run).sealer).generation; words = [] }
+
 abbrev pub ring_kind : StoreKind
 ring_kind = record {
   is_head = λ keys p bytes. IsHead keys ring_version p bytes;
@@ -118,7 +123,11 @@ ring_kind = record {
   Drawn = Fills;
   phases = ring_phases;
   next = ring_next;
-  cut = λ p q shape f fault more. RingCut p q shape f more;
+  Hidden = RingHidden;
+  hidden = λ p f. ring_hidden f;
+  draws = RingDraws;
+  is_of_tape = IsOfTape;
+  cut = λ p q h call f words fault more. RingCut p q h call f words more;
   causes = λ keys p f opened now behind n fault. RingCauses keys p f opened now n fault;
   lasts = RingLasts;
   may_stop = RingMayStop;

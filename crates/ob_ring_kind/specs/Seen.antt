@@ -4,7 +4,7 @@ use Rattle.ob_base.specs.declared.params.Params.{Params}
 use Rattle.ob_base.specs.declared.fault.Fault.{Fault}
 use Rattle.ob_base.specs.declared.fault.Fault.TheVariants as fault
 use Rattle.ob_content.specs.Content.{Content, content_of}
-use Rattle.ob_kinds.specs.Phases.{Phase, Reads, Writes, Syncs, Shape, Fetches, Ends, events_of_phases}
+use Rattle.ob_kinds.specs.Phases.{Phase, Reads, Writes, Syncs, Shape, Fetches, Ends}
 use Rattle.ob_log.specs.Logs.{BatchRecord}
 use Rattle.ob_recover.specs.Finds.{IsFoundInRing, finding_notes}
 use Rattle.ob_recover.specs.declared.found.Found.{Found}
@@ -15,7 +15,6 @@ use Rattle.ob_seal.specs.declared.keys.Keys.{Keys}
 use Rattle.ob_store.specs.Calls.{Notes, NotesFirst}
 use Rattle.ob_store.specs.Disk.{Disk}
 use Rattle.ob_store.specs.Told.{events_of}
-use Rattle.ob_store.specs.declared.event.Event.{Event}
 use Rattle.ob_store.specs.declared.event.Event.TheVariants as event
 use Rattle.ob_store.specs.declared.watch.Note.{Note}
 use Rattle.ob_store.specs.declared.watch.Note.TheVariants.{Label, Read, Write, Sync}
@@ -77,7 +76,3 @@ ring_phases p q shape f = phases_of (ring_notes p q shape f)
 abbrev pub ring_next : Params → RingPublic → Shape → Fills → RingPublic
 ring_next p q Fetches f = record { known = after_phase p q.known (batch_leaves p f q.shown); shown = suc q.shown }
 ring_next p q Ends f = record { known = after_end p q.known; shown = 0 }
-
--- a call that was refused, or left in doubt, shows some of the first events of one
-abbrev pub RingCut : Params → RingPublic → Shape → Fills → List Event → Type 0
-RingCut p q shape f more = (k : ℕ) × (more ≡ take k (events_of_phases (ring_phases p q shape f)))

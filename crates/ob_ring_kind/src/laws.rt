@@ -1,7 +1,7 @@
 //! Laws of a ring store, in the words of its kind of store.
 
 ghost use Rattle.ob_serial.specs.VaultKinds.{kind_of};
-ghost use Rattle.ob_ring_kind.specs.Laws.{PhasesAreNotes, RingBeginsSound, RingCallsBegin, RingCallsDo, RingFormats, RingLeavesStanding, RingOpens, RingOpensAt, RingOpensStanding, RingRefuses};
+ghost use Rattle.ob_ring_kind.specs.Laws.{PhasesAreNotes, RingBeginsSound, RingCallsBegin, RingCallsDo, RingFormats, RingLeavesStanding, RingOpens, RingOpensAt, RingOpensStanding, RingRefuses, RingWordsAreOfTape};
 
 use ob_serial::Vault;
 use ob_store::Store;
@@ -11,9 +11,11 @@ pub fn phases_are_notes()
     ensures { PhasesAreNotes }
 {}
 
-/// Each call of a vault over a ring store, whatever it answers, in the words of its kind of store.
+/// Each call of a vault over a ring store, whatever it answers, in the words of its kind of store;
+/// and its words are those that its tape gave.
 pub fn calls_do<V: Vault, S: Store>()
-    ensures { RingCallsDo (kind_of V.Vault) (λ store. S.disk store) }
+    ensures calls { RingCallsDo (kind_of V.Vault) (λ store. S.disk store) }
+    ensures words { RingWordsAreOfTape (kind_of V.Vault) (λ store. S.disk store) }
 {}
 
 /// The state from which the calls of a vault over a store that was just opened go on.

@@ -6,6 +6,7 @@ ghost use Rattle.ob_mem.specs.Memory.{disk_of_store};
 use crate::replay::replayed;
 use ob_desk::Eager;
 use ob_mem::{MemSink, MemSource, MemStore};
+use ob_tape::ListTape;
 use ob_top::obladi;
 use std::process::Abort;
 use std::sync::Wait;
@@ -39,11 +40,13 @@ fn call_on<R: AllocGlobal + Threads + Wait + Sync + Abort>(
     let mut input = MemSource::new(input.as_bytes().to_vec(alloc)?, Vec::new(alloc));
     let mut sink = MemSink::new(alloc, 1_000_000, Vec::new(alloc))?;
     let keys = Some(KEYS.as_bytes());
+    let mut tape = ListTape::new(alloc, &[])?;
     let status = obladi(
         rt,
         words,
         keys,
         Some(store),
+        &mut tape,
         &mut input,
         &mut sink,
         &mut Eager,
@@ -59,9 +62,9 @@ fn report_of<R: AllocGlobal + Threads + Wait + Sync + Abort>(
     words: &[&str],
     script: &str,
 ) -> Result<String, Broken> {
-    let mut store = MemStore::new(rt.alloc(), 41, Vec::new(rt.alloc()))?;
+    let mut store = MemStore::new(rt.alloc(), 161, Vec::new(rt.alloc()))?;
     let told = call_on(rt, &FORMAT, &mut store, "")?;
-    assert!(rt; told.as_str() == "store of 41 cells\n");
+    assert!(rt; told.as_str() == "store of 161 cells\n");
     call_on(rt, words, &mut store, script)
 }
 

@@ -17,10 +17,10 @@ use Rattle.ob_top.specs.declared.words.Command.TheVariants.{Format, Run}
 use Rattle.ob_top.specs.Words.{AreParams, IsBadNumber, AreLanes, AreBadLanes, IsCommandOf, IsOutOfRange, IsRefusedFor, HasKeys, IsKeysRefused}
 use Rattle.ob_top.specs.Outside.{Outside, IsFinished, IsOnlyTold}
 use Rattle.ob_top.specs.Formats.{FormatDone}
-use Rattle.ob_top.specs.Flat.{flat_kind}
+use Rattle.ob_ring_kind.specs.RingKind.{ring_kind}
 use Rattle.ob_top.specs.Runs.{manner, RunOn, RunDone}
 use Rattle.ob_top.specs.Top.{AskForSomething, CommandDoes, IsRefusedWithout}
-use Rattle.ob_top.proofs.Beginnings.{flat_quiet}
+use Rattle.ob_top.proofs.Beginnings.{ring_quiet}
 use Rattle.ob_top.proofs.Finishing.{run_done, format_done}
 
 -- ---- words ask for one thing at most
@@ -165,7 +165,7 @@ module _ (before mid after : Outside) (status : ℕ) (input : after.input ≡ mi
 
   -- ---- with a store
 
-  module _ {S : Type 0} (disk : S → Disk) (beat : BeatKind) (words : List (List ℕ)) (text : Option (Bor (List ℕ))) (old new : S) where
+  module _ {S : Type 0} (disk : S → Disk) (beat : BeatKind) (drawn : List ℕ) (words : List (List ℕ)) (text : Option (Bor (List ℕ))) (old new : S) where
     abbrev Tell : Fault → Type 0
     Tell f = (new ≡ old) × IsOnlyTold f before after status
 
@@ -174,35 +174,35 @@ module _ (before mid after : Outside) (status : ℕ) (input : after.input ≡ mi
 
     abbrev FormatTells : List (List ℕ) → Type 0
     FormatTells numbers = Tell Memory ⊎ (((field : Field) × IsBadNumber numbers field × Tell (BadParams field))
-        ⊎ ((p : Params) × AreParams numbers p × (KeysTell ⊎ ((keys : Keys) × HasKeys text keys × FormatDone flat_kind disk keys p old new before after status))))
+        ⊎ ((p : Params) × AreParams numbers p × (KeysTell ⊎ ((keys : Keys) × HasKeys text keys × FormatDone ring_kind disk keys p old new before after status))))
 
     abbrev RunTells : Option (List ℕ) → Bool → Type 0
     RunTells lanes turns = Tell Memory ⊎ ((AreBadLanes lanes × Tell (BadParams LANES))
-        ⊎ ((k : ℕ) × AreLanes lanes k × (KeysTell ⊎ ((keys : Keys) × HasKeys text keys × RunDone flat_kind disk (manner beat (not turns)) keys old new before after status))))
+        ⊎ ((k : ℕ) × AreLanes lanes k × (KeysTell ⊎ ((keys : Keys) × HasKeys text keys × RunDone ring_kind disk (manner beat (not turns)) drawn keys old new before after status))))
 
-    pub usage_done : (fault : Option Fault) → CommandDoes disk beat words text old new before mid fault → IsFinished mid.output after.output fault status → asked_by words ≡ None → Tell Usage ⊎ Tell Memory
+    pub usage_done : (fault : Option Fault) → CommandDoes disk beat drawn words text old new before mid fault → IsFinished mid.output after.output fault status → asked_by words ≡ None → Tell Usage ⊎ Tell Memory
     usage_done fault (inl (f, is, inl refused, kept, same)) done nothing = usage_tells (new ≡ old) kept same words text fault f is done refused nothing
     usage_done fault (inl (f, is, inr ((command, (asked, by, fits)), bad), kept, same)) done nothing = absurd (nothing_asked words asked nothing by)
     usage_done fault (inr (keys, has, inl (p, (asked, by, fits), ends, leaves, same))) done nothing = absurd (nothing_asked words asked nothing by)
     usage_done fault (inr (keys, has, inr (k, by_hand, (asked, by, fits), on))) done nothing = absurd (nothing_asked words asked nothing by)
 
-    pub audit_told : (fault : Option Fault) → CommandDoes disk beat words text old new before mid fault → IsFinished mid.output after.output fault status → asked_by words ≡ Some audit_asked → Tell Memory
+    pub audit_told : (fault : Option Fault) → CommandDoes disk beat drawn words text old new before mid fault → IsFinished mid.output after.output fault status → asked_by words ≡ Some audit_asked → Tell Memory
     audit_told fault (inl (f, is, inl refused, kept, same)) done asks = audit_tells (new ≡ old) kept same words text fault f is done refused asks
     audit_told fault (inl (f, is, inr (some, bad), kept, same)) done asks = absurd (audit_alone words some asks)
     audit_told fault (inr (keys, has, inl (p, fits, ends, leaves, same))) done asks = absurd (audit_alone words (Format p, fits) asks)
     audit_told fault (inr (keys, has, inr (k, by_hand, fits, on))) done asks = absurd (audit_alone words (Run k by_hand, fits) asks)
 
-    pub format_does : (fault : Option Fault) → CommandDoes disk beat words text old new before mid fault → IsFinished mid.output after.output fault status
+    pub format_does : (fault : Option Fault) → CommandDoes disk beat drawn words text old new before mid fault → IsFinished mid.output after.output fault status
         → (store keys : List ℕ) (numbers : List (List ℕ)) → asked_by words ≡ Some (format_asked store keys numbers) → FormatTells numbers
     format_does fault (inl (f, is, inl refused, kept, same)) done store keys numbers asks = early (format_tells (new ≡ old) kept same words text fault f is done store keys numbers refused asks)
     format_does fault (inl (f, is, inr ((command, (asked, by, fits)), bad), kept, same)) done store keys numbers asks =
         let (p, are) = params_at store keys numbers command (params_asked words asked command store keys numbers by fits asks) in
         inr (inr (p, are, inl (keys_tell (new ≡ old) kept same words text fault f is done bad)))
     format_does fault (inr (found, has, inl (p, (asked, by, fits), ends, leaves, same))) done store keys numbers asks =
-        inr (inr (p, params_asked words asked (Format p) store keys numbers by fits asks, inr (found, has, format_done flat_kind flat_quiet disk found p old new before mid after status fault ends leaves same input done)))
+        inr (inr (p, params_asked words asked (Format p) store keys numbers by fits asks, inr (found, has, format_done ring_kind ring_quiet disk found p old new before mid after status fault ends leaves same input done)))
     format_does fault (inr (found, has, inr (k, by_hand, (asked, by, fits), on))) done store keys numbers asks = absurd (params_asked words asked (Run k by_hand) store keys numbers by fits asks)
 
-    pub run_does : (fault : Option Fault) → CommandDoes disk beat words text old new before mid fault → IsFinished mid.output after.output fault status
+    pub run_does : (fault : Option Fault) → CommandDoes disk beat drawn words text old new before mid fault → IsFinished mid.output after.output fault status
         → (store keys : List ℕ) (lanes : Option (List ℕ)) (turns : Bool) → asked_by words ≡ Some (run_asked store keys lanes turns) → RunTells lanes turns
     run_does fault (inl (f, is, inl refused, kept, same)) done store keys lanes turns asks = early (run_tells (new ≡ old) kept same words text fault f is done store keys lanes turns refused asks)
     run_does fault (inl (f, is, inr ((command, (asked, by, fits)), bad), kept, same)) done store keys lanes turns asks =
@@ -211,8 +211,8 @@ module _ (before mid after : Outside) (status : ℕ) (input : after.input ≡ mi
     run_does fault (inr (found, has, inl (p, (asked, by, fits), ends, leaves, same))) done store keys lanes turns asks = absurd (lanes_asked words asked (Format p) store keys lanes turns by fits asks)
     run_does fault (inr (found, has, inr (k, by_hand, (asked, by, fits), on))) done store keys lanes turns asks =
         let (are, same) = lanes_asked words asked (Run k by_hand) store keys lanes turns by fits asks in
-        let its = subst (λ (b : Bool). RunOn flat_kind disk (manner beat (not b)) found old new before mid fault) same on in
-        inr (inr (k, are, inr (found, has, run_done flat_kind flat_quiet disk (manner beat (not turns)) found old new before mid after input status fault its done)))
+        let its = subst (λ (b : Bool). RunOn ring_kind disk (manner beat (not b)) drawn found old new before mid fault) same on in
+        inr (inr (k, are, inr (found, has, run_done ring_kind ring_quiet disk (manner beat (not turns)) drawn found old new before mid after input status fault its done)))
 
   -- ---- without one
 

@@ -56,12 +56,12 @@ module _ (store : StoreKind) (quiet : IsQuiet store) where
   format_failed disk keys p old new before fault is cause seen =
       subst (λ (f : Fault). FormatEnds store disk keys p old new before before (Some f)) (sym is) (refl, cause (subst IsStoreFault (sym is) tt), seen, refl)
 
-  module _ {S : Type 0} (disk : S → Disk) (by : Manner) (keys : Keys) (old new : S) (before mid after : Outside) (input : after.input ≡ mid.input) where
+  module _ {S : Type 0} (disk : S → Disk) (by : Manner) (words : List ℕ) (keys : Keys) (old new : S) (before mid after : Outside) (input : after.input ≡ mid.input) where
     early_on : (fault : Fault) → EndsEarly store keys (disk old) (disk new) disk before.input mid.input fault → EndsEarly store keys (disk old) (disk new) disk before.input after.input fault
     early_on fault early = subst (λ (f : Flow). EndsEarly store keys (disk old) (disk new) disk before.input f fault) (sym input) early
 
-    ran_on : (records : List (EpochRecord ℕ)) (fault : Option Fault) (r : Ran store disk by keys old new before mid records fault) → EndsFor store keys r.p r.found (disk r.between) (shapes (calls r.is_served.served.acts)) (length records) (disk old) (disk new) before.output after.output
-        fault → Ran store disk by keys old new before after records fault
+    ran_on : (records : List (EpochRecord ℕ)) (fault : Option Fault) (r : Ran store disk by words keys old new before mid records fault) → EndsFor store keys r.p r.found (disk r.between) (shapes (calls r.is_served.served.acts)) (length records) (disk old) (disk new) before.output after.output
+        fault → Ran store disk by words keys old new before after records fault
     ran_on records fault r cause = record {
       p = r.p;
       script = r.script;
@@ -83,7 +83,7 @@ module _ (store : StoreKind) (quiet : IsQuiet store) where
     }
 
     module _ (status : ℕ) where
-      done_whole : (r : RunOn store disk by keys old new before mid None) → IsFinished mid.output after.output None status → RunDone store disk by keys old new before after status
+      done_whole : (r : RunOn store disk by words keys old new before mid None) → IsFinished mid.output after.output None status → RunDone store disk by words keys old new before after status
       done_whole r f =
           let bytes : after.output.bytes ≡ appended before.output.bytes (report decimal r.records) = ap (λ (o : Flow). o.bytes) f.line ∙ r.reported.bytes in
           record {
@@ -95,17 +95,17 @@ module _ (store : StoreKind) (quiet : IsQuiet store) where
             went = ran_on r.records None r.went r.went.cause;
           }
 
-      sink_rose : (records : List (EpochRecord ℕ)) → Went store disk by keys old new before mid records (Some SinkFault) → Rose before.output.faults mid.output.faults
+      sink_rose : (records : List (EpochRecord ℕ)) → Went store disk by words keys old new before mid records (Some SinkFault) → Rose before.output.faults mid.output.faults
       sink_rose records (inl (none, inl head, lives)) = absurd (quiet.head head.kind)
       sink_rose records (inl (none, inr (inl input), lives)) = absurd input.refused
       sink_rose records (inl (none, inr (inr opening), lives)) = absurd (quiet.opening opening.kind)
       sink_rose records (inr ran) = ran.cause
 
-      sink_went : (records : List (EpochRecord ℕ)) → after.output ≡ mid.output → Went store disk by keys old new before mid records (Some SinkFault) → Went store disk by keys old new before after records (Some SinkFault)
+      sink_went : (records : List (EpochRecord ℕ)) → after.output ≡ mid.output → Went store disk by words keys old new before mid records (Some SinkFault) → Went store disk by words keys old new before after records (Some SinkFault)
       sink_went records same (inl (none, early, lives)) = inl (none, early_on SinkFault early, lives)
       sink_went records same (inr ran) = inr (ran_on records (Some SinkFault) ran (subst (λ (f : Flow). Rose before.output.faults f.faults) (sym same) ran.cause))
 
-      done_sink : (r : RunOn store disk by keys old new before mid (Some SinkFault)) → IsFinished mid.output after.output (Some SinkFault) status → RunDone store disk by keys old new before after status
+      done_sink : (r : RunOn store disk by words keys old new before mid (Some SinkFault)) → IsFinished mid.output after.output (Some SinkFault) status → RunDone store disk by words keys old new before after status
       done_sink r f = record {
         fault = Some SinkFault;
         status_is = f.status_is;
@@ -121,7 +121,7 @@ module _ (store : StoreKind) (quiet : IsQuiet store) where
 
       -- any other fault, behind the whole report
       done_other : (fault : Fault) (records : List (EpochRecord ℕ)) → mid.output.bytes ≡ appended before.output.bytes (report decimal records) → before.output.faults ≤ mid.output.faults
-          → IsPrinted mid.output after.output (fault_line (Some fault)) → status ≡ status_of (Some fault) → Went store disk by keys old new before after records (Some fault) → RunDone store disk by keys old new before after status
+          → IsPrinted mid.output after.output (fault_line (Some fault)) → status ≡ status_of (Some fault) → Went store disk by words keys old new before after records (Some fault) → RunDone store disk by words keys old new before after status
       done_other fault records bytes later line status_is went = record {
         fault = Some fault;
         status_is = status_is;
@@ -136,11 +136,11 @@ module _ (store : StoreKind) (quiet : IsQuiet store) where
 
       went_other : (fault : Fault) (records : List (EpochRecord ℕ)) → ((p : Params) (found : store.Found) (opened : Disk) (so_far : List Shape) (n : ℕ) → EndsFor store keys p found opened so_far n (disk old) (disk new) before.output mid.output (Some fault)
           → EndsFor store keys p found opened so_far n (disk old) (disk new) before.output after.output (Some fault))
-          → Went store disk by keys old new before mid records (Some fault) → Went store disk by keys old new before after records (Some fault)
+          → Went store disk by words keys old new before mid records (Some fault) → Went store disk by words keys old new before after records (Some fault)
       went_other fault records same (inl (none, early, lives)) = inl (none, early_on fault early, lives)
       went_other fault records same (inr ran) = inr (ran_on records (Some fault) ran (same ran.p ran.found (disk ran.between) (shapes (calls ran.is_served.served.acts)) (length records) ran.cause))
 
-      pub run_done : (fault : Option Fault) → RunOn store disk by keys old new before mid fault → IsFinished mid.output after.output fault status → RunDone store disk by keys old new before after status
+      pub run_done : (fault : Option Fault) → RunOn store disk by words keys old new before mid fault → IsFinished mid.output after.output fault status → RunDone store disk by words keys old new before after status
       run_done None r f = done_whole r f
       run_done (Some SinkFault) r f = done_sink r f
       run_done (Some Memory) r f = done_other Memory r.records r.reported.bytes r.reported.later f.line f.status_is (went_other Memory r.records (λ p found opened so_far n cause. cause) r.went)

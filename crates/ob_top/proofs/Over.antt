@@ -77,26 +77,26 @@ audit_low Kept before after status (inr (kept, done)) input output = done_low be
 
 -- ---- with a store
 
-module _ {S : Type 0} (disk : S → Disk) (beat : BeatKind) (words : List (List ℕ)) (text : Option (Bor (List ℕ))) (old new : S) (before after : Outside) (status : ℕ) where
-  pub usage_over : OverStore disk beat words text old new before after status → asked_by words ≡ None
-      → Tell disk beat words text old new before after status Usage ⊎ Tell disk beat words text old new before after status Memory
+module _ {S : Type 0} (disk : S → Disk) (beat : BeatKind) (drawn : List ℕ) (words : List (List ℕ)) (text : Option (Bor (List ℕ))) (old new : S) (before after : Outside) (status : ℕ) where
+  pub usage_over : OverStore disk beat drawn words text old new before after status → asked_by words ≡ None
+      → Tell disk beat drawn words text old new before after status Usage ⊎ Tell disk beat drawn words text old new before after status Memory
   usage_over (inl (asked, kept, done)) nothing = absurd (nothing_asked words audit_asked nothing asked)
-  usage_over (inr (mid, fault, does, input, done)) nothing = usage_done before mid after status input disk beat words text old new fault does done nothing
+  usage_over (inr (mid, fault, does, input, done)) nothing = usage_done before mid after status input disk beat drawn words text old new fault does done nothing
 
-  pub audit_over : OverStore disk beat words text old new before after status → asked_by words ≡ Some audit_asked
-      → Tell disk beat words text old new before after status Memory ⊎ ((new ≡ old) × AuditDone before after status)
+  pub audit_over : OverStore disk beat drawn words text old new before after status → asked_by words ≡ Some audit_asked
+      → Tell disk beat drawn words text old new before after status Memory ⊎ ((new ≡ old) × AuditDone before after status)
   audit_over (inl (asked, kept, done)) asks = inr (kept, done)
-  audit_over (inr (mid, fault, does, input, done)) asks = inl (audit_told before mid after status input disk beat words text old new fault does done asks)
+  audit_over (inr (mid, fault, does, input, done)) asks = inl (audit_told before mid after status input disk beat drawn words text old new fault does done asks)
 
-  pub format_over : OverStore disk beat words text old new before after status → (store keys : List ℕ) (numbers : List (List ℕ)) → asked_by words ≡ Some (format_asked store keys numbers)
-      → FormatTells disk beat words text old new before after status numbers
+  pub format_over : OverStore disk beat drawn words text old new before after status → (store keys : List ℕ) (numbers : List (List ℕ)) → asked_by words ≡ Some (format_asked store keys numbers)
+      → FormatTells disk beat drawn words text old new before after status numbers
   format_over (inl (asked, kept, done)) store keys numbers asks = absurd (not_format words store keys numbers asked asks)
-  format_over (inr (mid, fault, does, input, done)) store keys numbers asks = format_does before mid after status input disk beat words text old new fault does done store keys numbers asks
+  format_over (inr (mid, fault, does, input, done)) store keys numbers asks = format_does before mid after status input disk beat drawn words text old new fault does done store keys numbers asks
 
-  pub run_over : OverStore disk beat words text old new before after status → (store keys : List ℕ) (lanes : Option (List ℕ)) (turns : Bool) → asked_by words ≡ Some (run_asked store keys lanes turns)
-      → RunTells disk beat words text old new before after status lanes turns
+  pub run_over : OverStore disk beat drawn words text old new before after status → (store keys : List ℕ) (lanes : Option (List ℕ)) (turns : Bool) → asked_by words ≡ Some (run_asked store keys lanes turns)
+      → RunTells disk beat drawn words text old new before after status lanes turns
   run_over (inl (asked, kept, done)) store keys lanes turns asks = absurd (not_run words store keys lanes turns asked asks)
-  run_over (inr (mid, fault, does, input, done)) store keys lanes turns asks = run_does before mid after status input disk beat words text old new fault does done store keys lanes turns asks
+  run_over (inr (mid, fault, does, input, done)) store keys lanes turns asks = run_does before mid after status input disk beat drawn words text old new fault does done store keys lanes turns asks
 
 -- ---- without one
 

@@ -48,10 +48,10 @@ module _ (store : StoreKind) (quiet : IsQuiet store) where
   early_reported disk keys old new before after output (Worn number) early = record { bytes = appended-none output.bytes; later = omega arith }
   early_reported disk keys old new before after output SourceFault early = record { bytes = appended-none output.bytes; later = omega arith }
 
-  pub ended_early : {S : Type 0} (disk : S → Disk) (by : Manner) (keys : Keys) (old new : S) (before after output : Flow) (fault : Fault) → EndsEarly store keys (disk old) (disk new) disk before after fault → ((disk new).tells → LivesOn disk keys old new [])
-      → RunOn store disk by keys old new
+  pub ended_early : {S : Type 0} (disk : S → Disk) (by : Manner) (words : List ℕ) (keys : Keys) (old new : S) (before after output : Flow) (fault : Fault) → EndsEarly store keys (disk old) (disk new) disk before after fault → ((disk new).tells → LivesOn disk keys old new [])
+      → RunOn store disk by words keys old new
       (outside before output) (outside after output) (Some fault)
-  ended_early disk by keys old new before after output fault early lives = record {
+  ended_early disk by words keys old new before after output fault early lives = record {
     records = [];
     reported = early_reported disk keys (disk old) (disk new) before after output fault early;
     went = inl (refl, early, lives);
@@ -73,10 +73,10 @@ module _ (store : StoreKind) (quiet : IsQuiet store) where
     cause_since (Some (StashFull rows)) cause = cause
     cause_since (Some SourceFault) cause = cause
 
-  pub went_of : {S : Type 0} (disk : S → Disk) (by : Manner) (keys : Keys) (old new : S) (before after : Outside) (records : List (EpochRecord ℕ)) (fault : Option Fault) → Ran store disk by keys old new before after records fault → Went store
-      disk by keys old new before after records fault
-  went_of disk by keys old new before after records None ran = ran
-  went_of disk by keys old new before after records (Some fault) ran = inr ran
+  pub went_of : {S : Type 0} (disk : S → Disk) (by : Manner) (words : List ℕ) (keys : Keys) (old new : S) (before after : Outside) (records : List (EpochRecord ℕ)) (fault : Option Fault) → Ran store disk by words keys old new before after records fault → Went store
+      disk by words keys old new before after records fault
+  went_of disk by words keys old new before after records None ran = ran
+  went_of disk by words keys old new before after records (Some fault) ran = inr ran
 
   -- What a crash leaves of the opening and of the serving.
   left_both : {S : Type 0} (disk : S → Disk) (keys : Keys) (old mid new : Disk) (p : Params) (found : store.Found) (at : Standing) (script : Scripts) (records : List (EpochRecord ℕ)) (fault : Option Fault)
@@ -94,7 +94,7 @@ module _ (store : StoreKind) (quiet : IsQuiet store) where
   }
 
   -- The script was run over the store that was opened.
-  pub ran : {S : Type 0} (disk : S → Disk) (by : Manner) (keys : Keys) (old between new : S) (input input_new output output_new : Flow) (p : Params) (script : Scripts) (found : store.Found) (start : store.Start) (sealing : Sealing) (fault : Option Fault)
+  pub ran : {S : Type 0} (disk : S → Disk) (by : Manner) (words : List ℕ) (keys : Keys) (old between new : S) (input input_new output output_new : Flow) (p : Params) (script : Scripts) (found : store.Found) (start : store.Start) (sealing : Sealing) (fault : Option Fault)
       → (disk old).faults ≤ (disk between).faults
       → IsOpened store keys (disk old) input p script found start → Notes (begin_events store p found start) (disk old).seen (disk between).seen
       → ((disk old).tells → (disk between).tells × IsSynced (disk between))
@@ -102,12 +102,12 @@ module _ (store : StoreKind) (quiet : IsQuiet store) where
       → ((at : Standing) → (disk old).tells → Stands store keys p (disk old).cells at → AllStand store keys p (disk old) → LeavesOnly (disk old) (disk between) (StandsAsBefore store keys p (disk old)))
       → OpensStanding store disk keys p (disk old) (disk between)
       → IsReadAndOpened disk keys old between sealing
-      → ServedOver store disk by keys p found sealing script between new output output_new fault
-      → RunOn store disk by keys old new (outside input output) (outside input_new output_new) fault
-  ran disk by keys old between new input input_new output output_new p script found start sealing fault later opened seen durable stood before opens begun s = record {
+      → ServedOver store disk by keys p found sealing script words between new output output_new fault
+      → RunOn store disk by words keys old new (outside input output) (outside input_new output_new) fault
+  ran disk by words keys old between new input input_new output output_new p script found start sealing fault later opened seen durable stood before opens begun s = record {
     records = s.records;
     reported = s.reported;
-    went = went_of disk by keys old new (outside input output) (outside input_new output_new) s.records fault (record {
+    went = went_of disk by words keys old new (outside input output) (outside input_new output_new) s.records fault (record {
       p = p;
       script = script;
       found = found;

@@ -13,7 +13,6 @@ use Rattle.ob_io.specs.Streams.{Flow}
 use Rattle.ob_report.specs.Printed.{IsPrinted}
 use Rattle.ob_report.specs.Report.{report}
 use Rattle.ob_store.specs.declared.event.Event.{Event}
-use Rattle.ob_store.specs.declared.watch.Note.{Note}
 use Rattle.ob_store.specs.Disk.{Disk, Image}
 use Rattle.ob_store.specs.Images.{LeavesOnly, IsSynced}
 use Rattle.ob_store.specs.Lines.{Trace}
@@ -29,12 +28,12 @@ use Rattle.ob_serial.specs.declared.vault.EndErr.{EndErr}
 use Rattle.ob_serial.specs.declared.vault.EndErr.TheVariants.{Before, Unsure}
 use Rattle.ob_serial.specs.Vaults.{Standing, StandsIn, VaultCall, Fetch, End, VaultAnswer, Values, Ended, RefusedBy, DoubtBy}
 use Rattle.ob_serial.specs.VaultKinds.{Kind, Called, AllCalled, ended_of, ended_by}
-use Rattle.ob_kinds.specs.Phases.{Shape, Fetches, Ends, events_of_phases, shapes, refused}
+use Rattle.ob_kinds.specs.Phases.{Shape, Fetches, Ends, answered, events_of_phases, shape_of, shapes, refused}
 use Rattle.ob_kinds.specs.Kinds.{StoreKind, IsOpenedAt, opened_with}
-use Rattle.ob_kinds.specs.Shown.{steps_phases, public_behind, IsSeenCut}
+use Rattle.ob_kinds.specs.Shown.{AreDrawn, IsSeenCut, public_behind, steps_phases}
 use Rattle.ob_kinds.specs.Steps.{IsAnsweredCall, Stops, IsCallOfKind}
 use Rattle.ob_kinds.specs.Laws.{AllAnswered}
-use Rattle.ob_kinds.proofs.Shapes.{events_join, shapes_join, answered_not_refused, refused_last}
+use Rattle.ob_kinds.proofs.Shapes.{answered_join as answers_join, events_join, shapes_join, answered_not_refused, refused_last}
 use Rattle.ob_script.specs.Script.{ScriptTxn, Scripts, AreSound, asks_by}
 use Rattle.ob_desk.specs.Desk.{DeskState, MayOpen, Run, new_desk}
 use Rattle.ob_conduct.specs.Acts.{Act, Says, Halts, Rests as Looked, Takes, Delivers, DeliverFails, FetchFails, Closes, Publishes, Refuses, Unprinted, calls, history, vault_calls, rest_fetches, fault_in, fault_told, records as records_of_acts}
@@ -79,21 +78,26 @@ all_answered ((End writes, Values values) ∷ steps) are = absurd are
 all_answered ((End writes, RefusedBy fault) ∷ steps) are = absurd are
 all_answered ((End writes, DoubtBy fault) ∷ steps) are = absurd are
 
-module _ {V S : Type 0} (k : Kind V) (store : StoreKind) (disk : S → Disk) (store_of : V → S) (under : Keys) (p : Params) (found : store.Found) (start : V) (At : store.Public → List Shape → ℕ → V → Type 0)
-    (does : (q : store.Public) (so_far : List Shape) (n : ℕ) (v : V) (call : VaultCall) (answer : VaultAnswer) (w : V) → At q so_far n v → Called k v call answer w
-    → IsCallOfKind store under p found (disk (store_of start)) At (disk (store_of v)) (disk (store_of w)) w q so_far n call answer) where
+module _ {V S : Type 0} (k : Kind V) (store : StoreKind) (disk : S → Disk) (store_of : V → S) (under : Keys) (p : Params) (found : store.Found) (start : V) (At : store.Public → store.Hidden → List Shape → ℕ → V → Type 0) (tape_of : V → List ℕ)
+    (does : (q : store.Public) (h : store.Hidden) (so_far : List Shape) (n : ℕ) (v : V) (call : VaultCall) (answer : VaultAnswer) (w : V) → At q h so_far n v → Called k v call answer w
+    → IsCallOfKind store under p found (disk (store_of start)) At (disk (store_of v)) (disk (store_of w)) (tape_of w) w q h so_far n call answer)
+    (tells : (q : store.Public) (h : store.Hidden) (so_far : List Shape) (n : ℕ) (v : V) → At q h so_far n v → store.is_of_tape h (tape_of v)) where
   -- Behind calls that were all answered: what they drew, what was seen, and where the vault is.
-  pub record Behind (q : store.Public) (so_far : List Shape) (n : ℕ) (first : V) (steps : List (VaultCall × VaultAnswer)) (last : V) : Type 0 where
+  pub record Behind (q : store.Public) (h : store.Hidden) (so_far : List Shape) (n : ℕ) (first : V) (steps : List (VaultCall × VaultAnswer)) (last : V) : Type 0 where
     pub taken : List (Shape × store.Drawn)
     pub shapes_are : map (λ s. s.0) taken ≡ shapes steps
-    pub at : At (public_behind store p q taken) (so_far ++ shapes steps) (n + length (ended_of steps)) last
+    pub kept : store.Hidden
+    pub drawn : AreDrawn store p h (answered steps) taken kept
+    pub at : At (public_behind store p q taken) kept (so_far ++ shapes steps) (n + length (ended_of steps)) last
     pub seen : Notes (events_of_phases (steps_phases store p q taken)) (disk (store_of first)).seen (disk (store_of last)).seen
 
-  stays : (q : store.Public) (so_far : List Shape) (n : ℕ) (v : V) → At q so_far n v → Behind q so_far n v [] v
-  stays q so_far n v at = record {
+  stays : (q : store.Public) (h : store.Hidden) (so_far : List Shape) (n : ℕ) (v : V) → At q h so_far n v → Behind q h so_far n v [] v
+  stays q h so_far n v at = record {
     taken = [];
     shapes_are = refl;
-    at = subst (λ (l : List Shape). At q l (n + length {A = List (ℕ × Option (List ℕ))} []) v) (sym (append-nil so_far)) (subst (λ m. At q so_far m v) (no_more n) at);
+    kept = h;
+    drawn = refl;
+    at = subst (λ (l : List Shape). At q h l (n + length {A = List (ℕ × Option (List ℕ))} []) v) (sym (append-nil so_far)) (subst (λ m. At q h so_far m v) (no_more n) at);
     seen = none_noted _;
   }
     where
@@ -101,35 +105,40 @@ module _ {V S : Type 0} (k : Kind V) (store : StoreKind) (disk : S → Disk) (st
       no_more m = omega arith
 
   -- one call before them
-  before_it : (q : store.Public) (so_far : List Shape) (n : ℕ) (first mid last : V) (shape : Shape) (m : ℕ) (step : VaultCall × VaultAnswer) (steps : List (VaultCall × VaultAnswer)) → shapes (step ∷ steps) ≡ shape ∷ shapes steps
-      → m + length (ended_of steps) ≡ n + length (ended_of (step ∷ steps)) → (one : IsAnsweredCall store p At (disk (store_of first)) (disk (store_of mid)) mid q so_far shape m) → Behind (store.next p q shape one.drawn) (so_far ++ shape ∷ []) m mid steps last
-      → Behind q so_far n first (step ∷ steps) last
-  before_it q so_far n first mid last shape m step steps is counts one b = record {
-    taken = (shape, one.drawn) ∷ b.taken;
-    shapes_are = ap (λ (l : List Shape). shape ∷ l) b.shapes_are ∙ sym is;
-    at = subst (λ (l : List Shape). At (public_behind store p q ((shape, one.drawn) ∷ b.taken)) l (n + length (ended_of (step ∷ steps))) last) (append_assoc so_far (shape ∷ []) (shapes steps) ∙ ap (λ (l : List Shape). so_far ++ l) (sym is))
-        (subst (λ i. At (public_behind store p q ((shape, one.drawn) ∷ b.taken)) ((so_far ++ shape ∷ []) ++ shapes steps) i last) counts b.at);
-    seen = subst (λ (l : List Event). Notes l (disk (store_of first)).seen (disk (store_of last)).seen) (sym (events_join (store.phases p q shape one.drawn) (steps_phases store p (store.next p q shape one.drawn) b.taken)))
-        (joined (events_of_phases (store.phases p q shape one.drawn)) (events_of_phases (steps_phases store p (store.next p q shape one.drawn) b.taken)) _ _ _ one.seen b.seen);
+  before_it : (q : store.Public) (h : store.Hidden) (so_far : List Shape) (n : ℕ) (first mid last : V) (call : VaultCall) (m : ℕ) (step : VaultCall × VaultAnswer) (steps : List (VaultCall × VaultAnswer)) → shapes (step ∷ steps) ≡ shape_of call ∷ shapes steps
+      → answered (step ∷ steps) ≡ call ∷ answered steps
+      → m + length (ended_of steps) ≡ n + length (ended_of (step ∷ steps)) → (one : IsAnsweredCall store p At (disk (store_of first)) (disk (store_of mid)) mid q h so_far call m)
+      → Behind (store.next p q (shape_of call) one.drawn) one.behind (so_far ++ shape_of call ∷ []) m mid steps last
+      → Behind q h so_far n first (step ∷ steps) last
+  before_it q h so_far n first mid last call m step steps is are counts one b = record {
+    taken = (shape_of call, one.drawn) ∷ b.taken;
+    shapes_are = ap (λ (l : List Shape). shape_of call ∷ l) b.shapes_are ∙ sym is;
+    kept = b.kept;
+    drawn = subst (λ (l : List VaultCall). AreDrawn store p h l ((shape_of call, one.drawn) ∷ b.taken) b.kept) (sym are) (one.behind, one.draws, b.drawn);
+    at = subst (λ (l : List Shape). At (public_behind store p q ((shape_of call, one.drawn) ∷ b.taken)) b.kept l (n + length (ended_of (step ∷ steps))) last) (append_assoc so_far (shape_of call ∷ []) (shapes steps) ∙ ap (λ (l : List Shape). so_far ++ l) (sym is))
+        (subst (λ i. At (public_behind store p q ((shape_of call, one.drawn) ∷ b.taken)) b.kept ((so_far ++ shape_of call ∷ []) ++ shapes steps) i last) counts b.at);
+    seen = subst (λ (l : List Event). Notes l (disk (store_of first)).seen (disk (store_of last)).seen) (sym (events_join (store.phases p q (shape_of call) one.drawn) (steps_phases store p (store.next p q (shape_of call) one.drawn) b.taken)))
+        (joined (events_of_phases (store.phases p q (shape_of call) one.drawn)) (events_of_phases (steps_phases store p (store.next p q (shape_of call) one.drawn) b.taken)) _ _ _ one.seen b.seen);
   }
 
-  pub behind : (q : store.Public) (so_far : List Shape) (n : ℕ) (first : V) (steps : List (VaultCall × VaultAnswer)) (last : V) → At q so_far n first → AllCalled k first steps last → AreAnswered steps → Behind q so_far n first steps last
-  behind q so_far n first [] last at chain answered = subst (λ w. Behind q so_far n first [] w) (sym chain) (stays q so_far n first at)
-  behind q so_far n first ((Fetch keys, Values values) ∷ steps) last at (mid, one, rest) answered =
-      let goes = does q so_far n first (Fetch keys) (Values values) mid at one in
-      before_it q so_far n first mid last Fetches n (Fetch keys, Values values) steps refl refl goes (behind (store.next p q Fetches goes.drawn) (so_far ++ Fetches ∷ []) n mid steps last goes.at rest answered)
-  behind q so_far n first ((End writes, Ended) ∷ steps) last at (mid, one, rest) answered =
-      let goes = does q so_far n first (End writes) Ended mid at one in
-      before_it q so_far n first mid last Ends (suc n) (End writes, Ended) steps refl (one_more n (length (ended_of steps))) goes (behind (store.next p q Ends goes.drawn) (so_far ++ Ends ∷ []) (suc n) mid steps last goes.at rest answered)
+  pub behind : (q : store.Public) (h : store.Hidden) (so_far : List Shape) (n : ℕ) (first : V) (steps : List (VaultCall × VaultAnswer)) (last : V) → At q h so_far n first → AllCalled k first steps last → AreAnswered steps → Behind q h so_far n first steps last
+  behind q h so_far n first [] last at chain all = subst (λ w. Behind q h so_far n first [] w) (sym chain) (stays q h so_far n first at)
+  behind q h so_far n first ((Fetch keys, Values values) ∷ steps) last at (mid, one, rest) all =
+      let goes = does q h so_far n first (Fetch keys) (Values values) mid at one in
+      before_it q h so_far n first mid last (Fetch keys) n (Fetch keys, Values values) steps refl refl refl goes (behind (store.next p q Fetches goes.drawn) goes.behind (so_far ++ Fetches ∷ []) n mid steps last goes.at rest all)
+  behind q h so_far n first ((End writes, Ended) ∷ steps) last at (mid, one, rest) all =
+      let goes = does q h so_far n first (End writes) Ended mid at one in
+      before_it q h so_far n first mid last (End writes) (suc n) (End writes, Ended) steps refl refl (one_more n (length (ended_of steps))) goes
+      (behind (store.next p q Ends goes.drawn) goes.behind (so_far ++ Ends ∷ []) (suc n) mid steps last goes.at rest all)
     where
       one_more : (i j : ℕ) → suc i + j ≡ i + suc j
       one_more i j = omega arith
-  behind q so_far n first ((Fetch keys, Ended) ∷ steps) last at chain answered = absurd answered
-  behind q so_far n first ((Fetch keys, RefusedBy fault) ∷ steps) last at chain answered = absurd answered
-  behind q so_far n first ((Fetch keys, DoubtBy fault) ∷ steps) last at chain answered = absurd answered
-  behind q so_far n first ((End writes, Values values) ∷ steps) last at chain answered = absurd answered
-  behind q so_far n first ((End writes, RefusedBy fault) ∷ steps) last at chain answered = absurd answered
-  behind q so_far n first ((End writes, DoubtBy fault) ∷ steps) last at chain answered = absurd answered
+  behind q h so_far n first ((Fetch keys, Ended) ∷ steps) last at chain all = absurd all
+  behind q h so_far n first ((Fetch keys, RefusedBy fault) ∷ steps) last at chain all = absurd all
+  behind q h so_far n first ((Fetch keys, DoubtBy fault) ∷ steps) last at chain all = absurd all
+  behind q h so_far n first ((End writes, Values values) ∷ steps) last at chain all = absurd all
+  behind q h so_far n first ((End writes, RefusedBy fault) ∷ steps) last at chain all = absurd all
+  behind q h so_far n first ((End writes, DoubtBy fault) ∷ steps) last at chain all = absurd all
 
   split : (first : V) (front : List (VaultCall × VaultAnswer)) (call : VaultCall) (answer : VaultAnswer) (last : V) → AllCalled k first (front ++ (call, answer) ∷ []) last → (mid : V) × AllCalled k first front mid × Called k mid call answer last
   split first [] call answer last (end, one, same) = (first, refl, subst (λ w. Called k first call answer w) (sym same) one)
@@ -139,7 +148,7 @@ module _ {V S : Type 0} (k : Kind V) (store : StoreKind) (disk : S → Disk) (st
   none_more [] call answer none = append-nil (ended_by (call, answer)) ∙ none
   none_more (step ∷ front) call answer none = ap (λ l. ended_by step ++ l) (none_more front call answer none)
 
-  module _ (first last : V) (before after : Flow) (records : List (EpochRecord ℕ)) (begun : At (store.public p found) [] 0 first) where
+  module _ (first last : V) (before after : Flow) (records : List (EpochRecord ℕ)) (begun : At (store.public p found) (store.hidden p found) [] 0 first) where
     abbrev old_disk : Disk
     old_disk = disk (store_of first)
 
@@ -151,17 +160,17 @@ module _ {V S : Type 0} (k : Kind V) (store : StoreKind) (disk : S → Disk) (st
       pub cause : EndsFor store under p found (disk (store_of start)) (shapes asked) (length records) (disk (store_of first)) (disk (store_of last)) before after fault
       pub reported : IsReported before after records fault
       pub events : List Event
-      pub traced : IsTraced store p (store.public p found) asked fault events
+      pub traced : IsTraced store p (store.public p found) (store.hidden p found) (tape_of last) asked fault events
       pub seen : Notes events (disk (store_of first)).seen (disk (store_of last)).seen
 
-    none_cut : (q : store.Public) (one : Option Shape) (fault : Option Fault) → one ≡ None → IsSeenCut store p q one fault []
-    none_cut q one fault is = subst (λ (o : Option Shape). IsSeenCut store p q o fault []) (sym is) refl
+    none_cut : (q : store.Public) (h : store.Hidden) (one : Option VaultCall) (fault : Option Fault) → one ≡ None → IsSeenCut store p q h one (tape_of last) fault []
+    none_cut q h one fault is = subst (λ (o : Option VaultCall). IsSeenCut store p q h o (tape_of last) fault []) (sym is) refl
 
     -- no call was refused
     ends_alone : (asked : List (VaultCall × VaultAnswer)) → AllCalled k first asked last → AreAnswered asked → (fault : Option Fault) → EndsFor store under p found (disk (store_of start)) (shapes asked) (length records) (disk (store_of first)) (disk (store_of last)) before after fault
         → IsReported before after records fault → Ending asked fault
-    ends_alone asked chain answered fault cause reported =
-        let b = behind (store.public p found) [] 0 first asked last begun chain answered in
+    ends_alone asked chain all fault cause reported =
+        let b = behind (store.public p found) (store.hidden p found) [] 0 first asked last begun chain all in
         record {
           cause = cause;
           reported = reported;
@@ -169,8 +178,11 @@ module _ {V S : Type 0} (k : Kind V) (store : StoreKind) (disk : S → Disk) (st
           traced = record {
             steps = b.taken;
             shapes_are = b.shapes_are;
+            behind = b.kept;
+            drawn = b.drawn;
+            of_tape = tells (public_behind store p (store.public p found) b.taken) b.kept (shapes asked) (0 + length (ended_of asked)) last b.at;
             more = [];
-            cut = none_cut (public_behind store p (store.public p found) b.taken) (refused asked) fault (answered_not_refused asked (all_answered asked answered));
+            cut = none_cut (public_behind store p (store.public p found) b.taken) b.kept (refused asked) fault (answered_not_refused asked (all_answered asked all));
             events_are = refl;
           };
           seen = subst (λ (l : List Event). Notes l (disk (store_of first)).seen (disk (store_of last)).seen) (sym (append-nil (events_of_phases (steps_phases store p (store.public p found) b.taken)))) b.seen;
@@ -181,56 +193,60 @@ module _ {V S : Type 0} (k : Kind V) (store : StoreKind) (disk : S → Disk) (st
       rises rose = subst (λ n. Rose (disk (store_of first)).faults n) (faults last) (subst (λ n. Rose n (k.disk last).faults) (faults first) rose)
 
       -- the vault refused a call
-      cause_of : (so_far : List Shape) (n : ℕ) (shape : Shape) (fault : Fault) (mid : V) (q : store.Public) → Stops store under p found (disk (store_of start)) (disk (store_of mid)) (disk (store_of last)) q so_far n shape fault → so_far ≡ so_far → n ≡ length records
+      cause_of : (so_far : List Shape) (n : ℕ) (call : VaultCall) (fault : Fault) (mid : V) (q : store.Public) (h : store.Hidden) → Stops store under p found (disk (store_of start)) (disk (store_of mid)) (disk (store_of last)) (tape_of last) q h so_far n call fault → so_far ≡ so_far → n ≡ length records
           → (IsStoreFault fault → Rose (k.disk first).faults (k.disk last).faults) → EndsFor store under p found (disk (store_of start)) so_far (length records) (disk (store_of first)) (disk (store_of last)) before after (Some fault)
-      cause_of so_far n shape (StoreFault unsure) mid q s same is rose = (rises (rose tt), subst (λ m. (unsure ≡ None) ⊎ (unsure ≡ Some (suc (store.epoch found + m)))) is s.why)
-      cause_of so_far n shape Memory mid q s same is rose = tt
-      cause_of so_far n shape SinkFault mid q s same is rose = absurd s.why
-      cause_of so_far n shape (Worn number) mid q s same is rose = subst (λ m. store.causes under p found (disk (store_of start)) (disk (store_of last)) so_far m (Worn number)) is s.why
-      cause_of so_far n shape Usage mid q s same is rose = subst (λ m. store.causes under p found (disk (store_of start)) (disk (store_of last)) so_far m Usage) is s.why
-      cause_of so_far n shape (BadScript line) mid q s same is rose = subst (λ m. store.causes under p found (disk (store_of start)) (disk (store_of last)) so_far m (BadScript line)) is s.why
-      cause_of so_far n shape (BadParams field) mid q s same is rose = subst (λ m. store.causes under p found (disk (store_of start)) (disk (store_of last)) so_far m (BadParams field)) is s.why
-      cause_of so_far n shape NotStore mid q s same is rose = subst (λ m. store.causes under p found (disk (store_of start)) (disk (store_of last)) so_far m NotStore) is s.why
-      cause_of so_far n shape (Damaged cell check kept computed) mid q s same is rose = subst (λ m. store.causes under p found (disk (store_of start)) (disk (store_of last)) so_far m (Damaged cell check kept computed)) is s.why
-      cause_of so_far n shape (StashFull rows) mid q s same is rose = subst (λ m. store.causes under p found (disk (store_of start)) (disk (store_of last)) so_far m (StashFull rows)) is s.why
-      cause_of so_far n shape SourceFault mid q s same is rose = subst (λ m. store.causes under p found (disk (store_of start)) (disk (store_of last)) so_far m SourceFault) is s.why
+      cause_of so_far n call (StoreFault unsure) mid q h s same is rose = (rises (rose tt), subst (λ m. (unsure ≡ None) ⊎ (unsure ≡ Some (suc (store.epoch found + m)))) is s.why)
+      cause_of so_far n call Memory mid q h s same is rose = tt
+      cause_of so_far n call SinkFault mid q h s same is rose = absurd s.why
+      cause_of so_far n call (Worn number) mid q h s same is rose = subst (λ m. store.causes under p found (disk (store_of start)) (disk (store_of last)) so_far m (Worn number)) is s.why
+      cause_of so_far n call Usage mid q h s same is rose = subst (λ m. store.causes under p found (disk (store_of start)) (disk (store_of last)) so_far m Usage) is s.why
+      cause_of so_far n call (BadScript line) mid q h s same is rose = subst (λ m. store.causes under p found (disk (store_of start)) (disk (store_of last)) so_far m (BadScript line)) is s.why
+      cause_of so_far n call (BadParams field) mid q h s same is rose = subst (λ m. store.causes under p found (disk (store_of start)) (disk (store_of last)) so_far m (BadParams field)) is s.why
+      cause_of so_far n call NotStore mid q h s same is rose = subst (λ m. store.causes under p found (disk (store_of start)) (disk (store_of last)) so_far m NotStore) is s.why
+      cause_of so_far n call (Damaged cell check kept computed) mid q h s same is rose = subst (λ m. store.causes under p found (disk (store_of start)) (disk (store_of last)) so_far m (Damaged cell check kept computed)) is s.why
+      cause_of so_far n call (StashFull rows) mid q h s same is rose = subst (λ m. store.causes under p found (disk (store_of start)) (disk (store_of last)) so_far m (StashFull rows)) is s.why
+      cause_of so_far n call SourceFault mid q h s same is rose = subst (λ m. store.causes under p found (disk (store_of start)) (disk (store_of last)) so_far m SourceFault) is s.why
 
       -- the output doesn't fail a vault's call
-      all_reported : (store_fault : Fault) (so_far : List Shape) (n : ℕ) (shape : Shape) (q : store.Public) (a b : Disk) → Stops store under p found (disk (store_of start)) a b q so_far n shape store_fault
+      all_reported : (store_fault : Fault) (so_far : List Shape) (n : ℕ) (call : VaultCall) (q : store.Public) (h : store.Hidden) (a b : Disk) → Stops store under p found (disk (store_of start)) a b (tape_of last) q h so_far n call store_fault
           → IsWritten (report decimal records) before after → IsReported before after records (Some store_fault)
-      all_reported SinkFault so_far n shape q a b s written = absurd s.why
-      all_reported Memory so_far n shape q a b s written = written
-      all_reported Usage so_far n shape q a b s written = written
-      all_reported (BadScript line) so_far n shape q a b s written = written
-      all_reported (BadParams field) so_far n shape q a b s written = written
-      all_reported NotStore so_far n shape q a b s written = written
-      all_reported (Damaged cell check kept computed) so_far n shape q a b s written = written
-      all_reported (StoreFault unsure) so_far n shape q a b s written = written
-      all_reported (StashFull rows) so_far n shape q a b s written = written
-      all_reported (Worn number) so_far n shape q a b s written = written
-      all_reported SourceFault so_far n shape q a b s written = written
+      all_reported SinkFault so_far n call q h a b s written = absurd s.why
+      all_reported Memory so_far n call q h a b s written = written
+      all_reported Usage so_far n call q h a b s written = written
+      all_reported (BadScript line) so_far n call q h a b s written = written
+      all_reported (BadParams field) so_far n call q h a b s written = written
+      all_reported NotStore so_far n call q h a b s written = written
+      all_reported (Damaged cell check kept computed) so_far n call q h a b s written = written
+      all_reported (StoreFault unsure) so_far n call q h a b s written = written
+      all_reported (StashFull rows) so_far n call q h a b s written = written
+      all_reported (Worn number) so_far n call q h a b s written = written
+      all_reported SourceFault so_far n call q h a b s written = written
 
       -- a last call was refused with this fault, behind others that were answered
-      cut_short : (front : List (VaultCall × VaultAnswer)) (call : VaultCall) (answer : VaultAnswer) (shape : Shape) (fault : Fault) → AllCalled k first (front ++ (call, answer) ∷ []) last → AreAnswered front → AreWritten (ended_of front) records
-          → refused ((call, answer) ∷ []) ≡ Some shape → shapes ((call, answer) ∷ []) ≡ []
-          → ((q : store.Public) (so_far : List Shape) (n : ℕ) (v : V) (w : V) → At q so_far n v → Called k v call answer w → Stops store under p found (disk (store_of start)) (disk (store_of v)) (disk (store_of w)) q so_far n shape fault)
+      cut_short : (front : List (VaultCall × VaultAnswer)) (call : VaultCall) (answer : VaultAnswer) (fault : Fault) → AllCalled k first (front ++ (call, answer) ∷ []) last → AreAnswered front → AreWritten (ended_of front) records
+          → refused ((call, answer) ∷ []) ≡ Some call → shapes ((call, answer) ∷ []) ≡ [] → answered ((call, answer) ∷ []) ≡ []
+          → ((q : store.Public) (h : store.Hidden) (so_far : List Shape) (n : ℕ) (v : V) (w : V) → At q h so_far n v → Called k v call answer w → Stops store under p found (disk (store_of start)) (disk (store_of v)) (disk (store_of w)) (tape_of w) q h so_far n call fault)
           → (IsStoreFault fault → Rose (k.disk first).faults (k.disk last).faults) → IsWritten (report decimal records) before after → Ending (front ++ (call, answer) ∷ []) (Some fault)
-      cut_short front call answer shape fault chain answered wrote is none stops cause written =
+      cut_short front call answer fault chain all wrote is none none_answered stops cause written =
           let (mid, before_last, one) = split first front call answer last chain in
-          let b = behind (store.public p found) [] 0 first front mid begun before_last answered in
+          let b = behind (store.public p found) (store.hidden p found) [] 0 first front mid begun before_last all in
           let q = public_behind store p (store.public p found) b.taken in
-          let s = stops q (shapes front) (0 + length (ended_of front)) mid last b.at one in
-          let all : shapes (front ++ (call, answer) ∷ []) ≡ shapes front = shapes_join front ((call, answer) ∷ []) ∙ ap (λ (l : List Shape). shapes front ++ l) none ∙ append-nil (shapes front) in
+          let s = stops q b.kept (shapes front) (0 + length (ended_of front)) mid last b.at one in
+          let as_front : shapes (front ++ (call, answer) ∷ []) ≡ shapes front = shapes_join front ((call, answer) ∷ []) ∙ ap (λ (l : List Shape). shapes front ++ l) none ∙ append-nil (shapes front) in
+          let calls_front : answered (front ++ (call, answer) ∷ []) ≡ answered front = answers_join front ((call, answer) ∷ []) ∙ ap (λ (l : List VaultCall). answered front ++ l) none_answered ∙ append-nil (answered front) in
           record {
-            cause = subst (λ (l : List Shape). EndsFor store under p found (disk (store_of start)) l (length records) (disk (store_of first)) (disk (store_of last)) before after (Some fault)) (sym all)
-                (cause_of (shapes front) (0 + length (ended_of front)) shape fault mid q s refl (none_before (length (ended_of front)) ∙ counted (ended_of front) records wrote) cause);
-            reported = all_reported fault (shapes front) (0 + length (ended_of front)) shape q (disk (store_of mid)) (disk (store_of last)) s written;
+            cause = subst (λ (l : List Shape). EndsFor store under p found (disk (store_of start)) l (length records) (disk (store_of first)) (disk (store_of last)) before after (Some fault)) (sym as_front)
+                (cause_of (shapes front) (0 + length (ended_of front)) call fault mid q b.kept s refl (none_before (length (ended_of front)) ∙ counted (ended_of front) records wrote) cause);
+            reported = all_reported fault (shapes front) (0 + length (ended_of front)) call q b.kept (disk (store_of mid)) (disk (store_of last)) s written;
             events = events_of_phases (steps_phases store p (store.public p found) b.taken) ++ s.more;
             traced = record {
               steps = b.taken;
-              shapes_are = b.shapes_are ∙ sym all;
+              shapes_are = b.shapes_are ∙ sym as_front;
+              behind = b.kept;
+              drawn = subst (λ (l : List VaultCall). AreDrawn store p (store.hidden p found) l b.taken b.kept) (sym calls_front) b.drawn;
+              of_tape = s.of_tape;
               more = s.more;
-              cut = subst (λ (o : Option Shape). IsSeenCut store p q o (Some fault) s.more) (sym (refused_last front (call, answer) (all_answered front answered) ∙ is)) s.cut;
+              cut = subst (λ (o : Option VaultCall). IsSeenCut store p q b.kept o (tape_of last) (Some fault) s.more) (sym (refused_last front (call, answer) (all_answered front all) ∙ is)) s.cut;
               events_are = refl;
             };
             seen = joined (events_of_phases (steps_phases store p (store.public p found) b.taken)) s.more _ _ _ b.seen s.seen;
@@ -242,12 +258,12 @@ module _ {V S : Type 0} (k : Kind V) (store : StoreKind) (disk : S → Disk) (st
       -- a refused batch, and a refused end
       by_fetch : (front : List (VaultCall × VaultAnswer)) (keys : List (Option ℕ)) (fault : Fault) → AllCalled k first (front ++ (Fetch keys, RefusedBy fault) ∷ []) last → AreAnswered front → AreWritten (ended_of front) records
           → (IsStoreFault fault → Rose (k.disk first).faults (k.disk last).faults) → IsWritten (report decimal records) before after → Ending (front ++ (Fetch keys, RefusedBy fault) ∷ []) (Some fault)
-      by_fetch front keys fault chain answered wrote cause written = cut_short front (Fetch keys) (RefusedBy fault) Fetches fault chain answered wrote refl refl (λ q so_far n v w at one. does q so_far n v (Fetch keys) (RefusedBy fault) w at one) cause written
+      by_fetch front keys fault chain answered wrote cause written = cut_short front (Fetch keys) (RefusedBy fault) fault chain answered wrote refl refl refl (λ q h so_far n v w at one. does q h so_far n v (Fetch keys) (RefusedBy fault) w at one) cause written
 
       by_end : (front : List (VaultCall × VaultAnswer)) (writes : List (ℕ × Option (List ℕ))) (refusal : EndErr) → AllCalled k first (front ++ (End writes, end_answer (Err refusal)) ∷ []) last → AreAnswered front → AreWritten (ended_of front) records
           → (IsStoreFault (fault_in refusal) → Rose (k.disk first).faults (k.disk last).faults) → IsWritten (report decimal records) before after → Ending (front ++ (End writes, end_answer (Err refusal)) ∷ []) (Some (fault_in refusal))
-      by_end front writes (Before fault) chain answered wrote cause written = cut_short front (End writes) (RefusedBy fault) Ends fault chain answered wrote refl refl (λ q so_far n v w at one. does q so_far n v (End writes) (RefusedBy fault) w at one) cause written
-      by_end front writes (Unsure fault) chain answered wrote cause written = cut_short front (End writes) (DoubtBy fault) Ends fault chain answered wrote refl refl (λ q so_far n v w at one. does q so_far n v (End writes) (DoubtBy fault) w at one) cause written
+      by_end front writes (Before fault) chain answered wrote cause written = cut_short front (End writes) (RefusedBy fault) fault chain answered wrote refl refl refl (λ q h so_far n v w at one. does q h so_far n v (End writes) (RefusedBy fault) w at one) cause written
+      by_end front writes (Unsure fault) chain answered wrote cause written = cut_short front (End writes) (DoubtBy fault) fault chain answered wrote refl refl refl (λ q h so_far n v w at one. does q h so_far n v (End writes) (DoubtBy fault) w at one) cause written
 
       module _ (acts : List Act) (same : records_of_acts acts ≡ records) (chain : AllCalled k first (calls acts) last) (wrote : AreWritten (ended_of (calls acts)) records) (printed : IsPrinted before after (report decimal records)) where
         module _ (d e : DeskState) (t u : Trace) (fault : Fault) (f : Failure k (scene d first t) (scene e last u) acts before after fault) where
@@ -396,7 +412,7 @@ module _ {V S : Type 0} (k : Kind V) (store : StoreKind) (disk : S → Disk) (st
       ends_with (Err fault) (inr f) = inr (f.front, f.act, f.behind, f.acts_are, f.says, f.told)
 
       -- what serving does
-      pub serves : At (store.public p found) [] 0 start → ServedOver store disk (manner beat threads) under p found sealing script (store_of start) (store_of last) before after (fault_of result)
+      pub serves : At (store.public p found) (store.hidden p found) [] 0 start → ServedOver store disk (manner beat threads) under p found sealing script (tape_of last) (store_of start) (store_of last) before after (fault_of result)
       serves begun =
           let e = ending start last before after records begun l.faults acts refl chain d.wrote d.printed base end.scene.desk trace end.scene.trace runners end.runners result d.ends in
           record {
@@ -413,7 +429,7 @@ module _ {V S : Type 0} (k : Kind V) (store : StoreKind) (disk : S → Disk) (st
             cause = subst (λ (xs : List Act). EndsFor store under p found (disk (store_of start)) (shapes (calls xs)) (length records) (disk (store_of start)) (disk (store_of last)) before after (fault_of result)) acts_are e.cause;
             reported = e.reported;
             events = e.events;
-            traced = subst (λ (xs : List Act). IsTraced store p (store.public p found) (calls xs) (fault_of result) e.events) acts_are e.traced;
+            traced = subst (λ (xs : List Act). IsTraced store p (store.public p found) (store.hidden p found) (tape_of last) (calls xs) (fault_of result) e.events) acts_are e.traced;
             seen = e.seen;
             goes = l.goes start last (goes_all k start (calls acts) d.notes last d.chain);
             left = left;
@@ -427,8 +443,8 @@ module _ {V S : Type 0} (k : Kind V) (store : StoreKind) (disk : S → Disk) (st
       (trace : Trace) (runners : List U) (before : Flow) (end : RunState V U) (result : Result (Unit {0}) Fault) (epoch left : ℕ)
       → map kind.client runners ≡ script.clients → All (λ u. kind.plan u ≡ asks_by (kind.client u) script.txns) runners → epoch ≡ store.epoch found → left ≡ store.left p found
       → RunsBy threads k kind beat (run_state (scene (new_desk (record { params = p }) (suc epoch) left script.clients) start trace) runners before) end result
-      → IsLender sealing → At (store.public p found) [] 0 start
-      → ServedOver store disk (manner beat threads) under p found sealing script (store_of start) (store_of end.scene.vault) before end.output (fault_of result)
+      → IsLender sealing → At (store.public p found) (store.hidden p found) [] 0 start
+      → ServedOver store disk (manner beat threads) under p found sealing script (tape_of end.scene.vault) (store_of start) (store_of end.scene.vault) before end.output (fault_of result)
   serves_on beat threads kind means sealing script sound may trace runners before end result epoch left named planned epoch_is left_is run l begun =
       let run_is = subst (λ n. RunsBy threads k kind beat (run_state (scene (new_desk (record { params = p }) (suc (store.epoch found)) n script.clients) start trace) runners before) end result) left_is
       (subst (λ e. RunsBy threads k kind beat (run_state (scene (new_desk (record { params = p }) (suc e) left script.clients) start trace) runners before) end result) epoch_is run) in
@@ -436,6 +452,6 @@ module _ {V S : Type 0} (k : Kind V) (store : StoreKind) (disk : S → Disk) (st
       serves beat threads kind means sealing script sound may trace runners before end result named planned acts d (subst (λ numbers. AreShaped threads numbers acts) named shaped) l begun
 
 -- the same by other names
-pub renamed : (store : StoreKind) {S : Type 0} (disk : S → Disk) (by : Manner) (keys : Keys) (p : Params) (found : store.Found) (sealing : Sealing) (script : Scripts) (a old b new : S) (before after : Flow) (fault : Option Fault)
-    → a ≡ old → new ≡ b → ServedOver store disk by keys p found sealing script a b before after fault → ServedOver store disk by keys p found sealing script old new before after fault
-renamed store disk by keys p found sealing script a old b new before after fault old_is new_is s = rw (← old_is, new_is) s
+pub renamed : (store : StoreKind) {S : Type 0} (disk : S → Disk) (by : Manner) (keys : Keys) (p : Params) (found : store.Found) (was sealing : Sealing) (script : Scripts) (given words : List ℕ) (a old b new : S) (before after : Flow) (fault : Option Fault)
+    → was ≡ sealing → given ≡ words → a ≡ old → new ≡ b → ServedOver store disk by keys p found was script given a b before after fault → ServedOver store disk by keys p found sealing script words old new before after fault
+renamed store disk by keys p found was sealing script given words a old b new before after fault sealing_is words_are old_is new_is s = rw (← sealing_is, ← words_are, ← old_is, new_is) s

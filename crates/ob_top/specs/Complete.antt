@@ -1,5 +1,5 @@
 -- When a command must do what it is asked for.
-use Rattle.std.specs.Prelude.{ℕ, ◌≡◌, ◌⊎◌, ◌+◌, Bool, List, length, take, Option, Some}
+use Rattle.std.specs.Prelude.{ℕ, ◌≡◌, ◌⊎◌, ◌+◌, ◌<◌, Bool, List, length, take, Option, Some}
 use Rattle.std.specs.Borrow.{Bor, MutBor}
 use Rattle.ob_base.specs.declared.params.Params.{Params}
 use Rattle.ob_base.specs.Causes.{Rose}
@@ -11,7 +11,7 @@ use Rattle.ob_kinds.specs.Kinds.{StoreKind}
 use Rattle.ob_words.specs.Reading.{asked_by, format_asked, run_asked, audit_asked}
 use Rattle.ob_top.specs.Words.{AreParams, AreLanes, HasKeys}
 use Rattle.ob_top.specs.Outside.{Outside, Left, OfStore}
-use Rattle.ob_top.specs.Flat.{flat_kind}
+use Rattle.ob_ring_kind.specs.RingKind.{ring_kind}
 
 module _ (words : List (List ℕ)) (text : Option (Bor (List ℕ))) (old new : Disk) (before after : Outside) where
   -- A store can be made: the words ask for `format`, with numbers in range; the keys are keys; and no count of faults rose, the store's
@@ -56,10 +56,15 @@ module _ (words : List (List ℕ)) (text : Option (Bor (List ℕ))) (old new : D
     pub lasts : store.lasts p generation at.epoch (length script.txns)
 
 module _ {S : Type 0} (disk : S → Disk) (words : List (List ℕ)) (text : Option (Bor (List ℕ))) (before after : Outside) (status : ℕ) where
-  -- What can be done is done, but for want of memory: `FormatDoes` and `RunDoes` say what that comes to.
+  -- more rows than the stash may keep would be left, which comes only where the store may hold more keys than that
+  abbrev pub StopsFull : Params → Type 0
+  StopsFull p = (status ≡ 6) × (p.room < p.keys)
+
+  -- What can be done is done, but for want of memory, or of room in the stash: `FormatDoes` and `RunDoes` say what that comes to.
   abbrev pub DoesWhatItCan : S → S → Type 0
-  DoesWhatItCan old new = CanFormat words text (disk old) (disk new) before after ⊎ ((script : Scripts) × CanRun words text (disk old) (disk new) before after flat_kind script)
-      → (status ≡ 0) ⊎ (status ≡ 9)
+  DoesWhatItCan old new =
+      (CanFormat words text (disk old) (disk new) before after → (status ≡ 0) ⊎ (status ≡ 9))
+      × ((script : Scripts) (can : CanRun words text (disk old) (disk new) before after ring_kind script) → (status ≡ 0) ⊎ ((status ≡ 9) ⊎ StopsFull can.p))
 
   abbrev pub Completes : Option (MutBor S) → Left S → Type 0
   Completes entry exit = OfStore entry exit (Unit {0}) DoesWhatItCan

@@ -10,10 +10,10 @@ use Rattle.ob_top.specs.Audits.{AuditDone}
 use Rattle.ob_top.specs.Top.{CommandDoes, IsRefusedWithout}
 
 -- an audit, which leaves the store; or something over the store, and then the fault's line
-abbrev pub OverStore : {S : Type 0} → (S → Disk) → BeatKind → List (List ℕ) → Option (Bor (List ℕ)) → S → S → Outside → Outside → ℕ → Type 0
-OverStore disk beat words text old new before after status =
+abbrev pub OverStore : {S : Type 0} → (S → Disk) → BeatKind → (drawn : List ℕ) → List (List ℕ) → Option (Bor (List ℕ)) → S → S → Outside → Outside → ℕ → Type 0
+OverStore disk beat drawn words text old new before after status =
     ((asked_by words ≡ Some audit_asked) × (new ≡ old) × AuditDone before after status)
-    ⊎ ((mid : Outside) × (fault : Option Fault) × CommandDoes disk beat words text old new before mid fault × (after.input ≡ mid.input) × IsFinished mid.output after.output fault status)
+    ⊎ ((mid : Outside) × (fault : Option Fault) × CommandDoes disk beat drawn words text old new before mid fault × (after.input ≡ mid.input) × IsFinished mid.output after.output fault status)
 
 abbrev pub WithoutStore : List (List ℕ) → Option (Bor (List ℕ)) → Outside → Outside → ℕ → Type 0
 WithoutStore words text before after status =

@@ -1,5 +1,5 @@
 -- What `run` does.
-use Rattle.std.specs.Prelude.{ℕ, suc, Bool, ◌≡◌, ◌⊎◌, ◌+◌, ◌≤◌, All, List, [], ◌∷◌, ◌++◌, length, map, Option, Some, None, Result, Ok, Err, decimal}
+use Rattle.std.specs.Prelude.{ℕ, suc, Bool, ◌≡◌, ◌⊎◌, ◌+◌, All, List, [], ◌∷◌, ◌++◌, length, map, Option, Some, None, Result, Ok, Err, decimal}
 use Rattle.std.specs.Ordering.{nat_cmp}
 use Rattle.ob_base.specs.declared.params.Params.{Params}
 use Rattle.ob_seal.specs.declared.keys.Keys.{Keys}
@@ -20,14 +20,14 @@ use Rattle.ob_store.specs.Calls.{GoesOn, Keeps, Notes, IsStoreFault}
 use Rattle.ob_serial.specs.Serial.{EpochRecord, Map, OneByOne, AreInOrder, committed_of}
 use Rattle.ob_serial.specs.Vaults.{VaultCall, VaultAnswer, VaultState, Standing, StandsIn}
 use Rattle.ob_pads.specs.Lives.{Opens, LivesOn}
-use Rattle.ob_kinds.specs.Phases.{Reads, Shape, events_of_phases, shapes, refused}
+use Rattle.ob_kinds.specs.Phases.{Reads, Shape, answered, events_of_phases, shapes, refused}
 use Rattle.ob_kinds.specs.Openings.{OpensStanding}
 use Rattle.ob_kinds.specs.Kinds.{StoreKind, Stands, AllStand, StandsAsBefore, IsOpenedAt, opened_with}
-use Rattle.ob_kinds.specs.Shown.{steps_phases, public_behind, IsSeenCut}
+use Rattle.ob_kinds.specs.Shown.{AreDrawn, IsSeenCut, public_behind, steps_phases}
 use Rattle.ob_desk.specs.Desk.{DeskState, MayOpen, Run, new_desk}
 use Rattle.ob_desk.specs.Beats.{BeatKind}
 use Rattle.ob_script.specs.Script.{Scripts, IsScript, IsFirstBad, limit}
-use Rattle.ob_flat.specs.Noting.{NotesReads}
+use Rattle.ob_top.specs.Noting.{NotesReads}
 use Rattle.ob_conduct.specs.Acts.{Act, calls, history, fault_told}
 use Rattle.ob_conduct.specs.Moves.{IsSaid}
 use Rattle.ob_conduct.specs.Records.{IsWritten, IsOver, contents}
@@ -41,12 +41,16 @@ abbrev pub begin_events : (store : StoreKind) → Params → store.Found → sto
 begin_events store p found start = events_of_phases (Reads (0 ∷ []) ∷ store.opens p found start)
 
 -- What is seen of serving: the phases of the vault's calls, and of one that was refused a front. It depends on the parameters, on what is
--- public of the vault, on how the calls follow one another, and on what they draw; on no key, no value and no write.
-pub record IsTraced (store : StoreKind) (p : Params) (q : store.Public) (asked : List (VaultCall × VaultAnswer)) (fault : Option Fault) (events : List Event) : Type 0 where
+-- public of the vault, on how the calls follow one another, and on what they draw; on no key, no value and no write. What they draw is, call
+-- by call, what is to be drawn behind the calls before it; and its words are the first of those that the tape has given.
+pub record IsTraced (store : StoreKind) (p : Params) (q : store.Public) (h : store.Hidden) (words : List ℕ) (asked : List (VaultCall × VaultAnswer)) (fault : Option Fault) (events : List Event) : Type 0 where
   pub steps : List (Shape × store.Drawn)
   pub shapes_are : map (λ s. s.0) steps ≡ shapes asked
+  pub behind : store.Hidden
+  pub drawn : AreDrawn store p h (answered asked) steps behind
+  pub of_tape : store.is_of_tape behind words
   pub more : List Event
-  pub cut : IsSeenCut store p (public_behind store p q steps) (refused asked) fault more
+  pub cut : IsSeenCut store p (public_behind store p q steps) behind (refused asked) words fault more
   pub events_are : events ≡ events_of_phases (steps_phases store p q steps) ++ more
 
 -- a script came in
@@ -219,20 +223,21 @@ pub record IsReadAndOpened {S : Type 0} (disk : S → Disk) (keys : Keys) (old n
 abbrev pub LivesBehind : {S : Type 0} → (S → Disk) → Keys → Sealing → S → S → List VaultAnswer → Type 0
 LivesBehind {S} disk keys sealing opened new answers = (old : S) → ((disk opened).tells → Opens keys (disk old) (disk opened) sealing) → (disk new).tells → LivesOn disk keys old new answers
 
--- What serving does to the store and the output.
-pub record ServedOver (store : StoreKind) {S : Type 0} (disk : S → Disk) (by : Manner) (keys : Keys) (p : Params) (found : store.Found) (sealing : Sealing) (script : Scripts) (old new : S) (before after : Flow) (fault : Option Fault) : Type 0 where
+-- What serving does to the store and the output; behind it the tape has given these words.
+pub record ServedOver (store : StoreKind) {S : Type 0} (disk : S → Disk) (by : Manner) (keys : Keys) (p : Params) (found : store.Found) (sealing : Sealing) (script : Scripts) (words : List ℕ) (old new : S) (before after : Flow) (fault : Option Fault) : Type 0 where
   pub records : List (EpochRecord ℕ)
   pub is_served : ScriptServed store by keys p (disk old) found script records fault
   pub cause : EndsFor store keys p found (disk old) (shapes (calls is_served.served.acts)) (length records) (disk old) (disk new) before after fault
   pub reported : IsReported before after records fault
   pub events : List Event
-  pub traced : IsTraced store p (store.public p found) (calls is_served.served.acts) fault events
+  pub traced : IsTraced store p (store.public p found) (store.hidden p found) words (calls is_served.served.acts) fault events
   pub seen : Notes events (disk old).seen (disk new).seen
   pub goes : GoesOn (disk old) (disk new)
   pub left : (at : Standing) → (disk old).tells → IsSynced (disk old) → IsOpenedAt store keys p at found (disk old) → IsLeftOnDisk store keys p found at script records fault disk (disk old) (disk new)
   pub lives : LivesBehind disk keys sealing old new (map (λ s. s.1) (calls is_served.served.acts))
 
-module _ (store : StoreKind) {S : Type 0} (disk : S → Disk) (by : Manner) where
+-- behind the run the tape has given these words of its generation
+module _ (store : StoreKind) {S : Type 0} (disk : S → Disk) (by : Manner) (words : List ℕ) where
   -- The script was run, whole or up to a fault.
   pub record Ran (keys : Keys) (old new : S) (before after : Outside) (records : List (EpochRecord ℕ)) (fault : Option Fault) : Type 0 where
     pub p : Params
@@ -246,7 +251,7 @@ module _ (store : StoreKind) {S : Type 0} (disk : S → Disk) (by : Manner) wher
     pub cause : EndsFor store keys p found (disk between) (shapes (calls is_served.served.acts)) (length records) (disk old) (disk new) before.output after.output fault
     -- the trace is that of the opening, and then that of the vault's calls
     pub events : List Event
-    pub traced : IsTraced store p (store.public p found) (calls is_served.served.acts) fault events
+    pub traced : IsTraced store p (store.public p found) (store.hidden p found) words (calls is_served.served.acts) fault events
     pub seen : Notes (begin_events store p found start ++ events) (disk old).seen (disk new).seen
     pub opening_seen : Notes (begin_events store p found start) (disk old).seen (disk between).seen
     pub serving_seen : Notes events (disk between).seen (disk new).seen

@@ -1,5 +1,5 @@
 -- What a request of the words comes to: the numbers that it names, and the files; and what the keys' text comes to.
-use Rattle.std.specs.Prelude.{ℕ, ◌≡◌, ◌≢◌, ◌⊎◌, ◌<◌, ◌≤◌, ◌^◌, Bool, true, false, List, [], ◌∷◌, ◌++◌, length, Option, Some, None, Ok}
+use Rattle.std.specs.Prelude.{ℕ, ◌≡◌, ◌≢◌, ◌⊎◌, ◌<◌, ◌≤◌, ◌^◌, Bool, true, false, List, [], ◌∷◌, ◌++◌, length, replicate, Option, Some, None, Ok}
 use Rattle.std.specs.Fmt.{decimal}
 use Rattle.ob_base.specs.declared.params.Params.{Params}
 use Rattle.ob_base.specs.declared.fault.Field.{Field}
@@ -125,3 +125,7 @@ HasKeys (Some text) keys = AreKeys text.now keys
 abbrev pub IsKeysRefused : Option (Bor (List ℕ)) → Fault → Type 0
 IsKeysRefused None fault = fault ≡ SourceFault
 IsKeysRefused (Some text) fault = (fault ≡ BadParams KEYS) × (IsKeyText text.now → ⊥)
+
+-- The tape's key is the third of the keys; and zeros where the keys are refused.
+abbrev pub IsTapeKey : Option (Bor (List ℕ)) → List ℕ → Type 0
+IsTapeKey text key = ((keys : Keys) × HasKeys text keys × (key ≡ keys.tape)) ⊎ (((fault : Fault) × IsKeysRefused text fault) × (key ≡ replicate 32 0))

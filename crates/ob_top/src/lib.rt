@@ -10,4 +10,4 @@ mod words;
 
 pub use endings::finish;
 pub use top::obladi;
-pub use words::{Paths, store_wanted};
+pub use words::{Paths, store_wanted, tape_key};

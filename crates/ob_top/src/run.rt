@@ -3,16 +3,16 @@
 ghost use Rattle.std.specs.Prelude.{◌≡◌, ◌≤◌, ℕ, List, IfOk, IfErr, OnOk, OnErr, None, suc, false, map, All, []};
 ghost use Rattle.ob_base.specs.declared.params.Params.{Params};
 ghost use Rattle.ob_io.specs.Streams.{inflow, outflow};
-ghost use Rattle.ob_store.specs.Calls.{GoesOn, Notes};
+ghost use Rattle.ob_store.specs.Calls.{GoesOn};
 ghost use Rattle.ob_store.specs.Images.{IsSynced, LeavesOnly};
-ghost use Rattle.ob_twin.specs.Opening.{GatesAre};
-ghost use Rattle.ob_twin.specs.declared.gates.Open.{Open};
 ghost use Rattle.ob_serial.specs.Vaults.{Standing};
 ghost use Rattle.ob_pads.specs.Lives.{LivesOn};
-ghost use Rattle.ob_flat.specs.Openings.{HasSealedNothing};
 ghost use Rattle.ob_kinds.specs.Openings.{OpensStanding};
-ghost use Rattle.ob_kinds.specs.Kinds.{Stands, AllStand, StandsAsBefore, IsOpenedAt};
-ghost use Rattle.ob_top.specs.Flat.{flat_kind};
+ghost use Rattle.ob_kinds.specs.Kinds.{Stands, AllStand, StandsAsBefore};
+ghost use Rattle.ob_recover.specs.declared.found.Found.{Found};
+ghost use Rattle.ob_ring_kind.specs.RingKind.{GoesOnFrom, RingFound, ring_kind};
+ghost use Rattle.ob_ring_vault.specs.RingVaults.{HasPlanned, run_over};
+ghost use Rattle.ob_top.specs.Begun.{IsBegun, MayServe};
 ghost use Rattle.ob_desk.specs.Desk.{DeskState, MayOpen, new_desk};
 ghost use Rattle.ob_desk.specs.Beats.{beat_kind};
 ghost use Rattle.ob_script.specs.Script.{AreSound};
@@ -22,19 +22,22 @@ ghost use Rattle.ob_runner.specs.Turns.{IsScriptTurn};
 ghost use Rattle.ob_conduct.specs.Scenes.{scene, run_state, runner_kind};
 ghost use Rattle.ob_run.specs.Threaded.{RunsBy};
 ghost use Rattle.ob_serial.specs.VaultKinds.{kind_of};
-ghost use Rattle.ob_top.specs.Runs.{manner, CameIn, IsInputRefused, EndsEarly, IsOpened, IsReadAndOpened, ServedOver, RunOn, begin_events, fault_of};
+ghost use Rattle.ob_top.specs.Runs.{manner, CameIn, IsInputRefused, EndsEarly, IsReadAndOpened, ServedOver, RunOn, fault_of};
 ghost use Rattle.ob_top.specs.Outside.{outside};
 
 use ob_base::{Fault, Memory, Params};
 use ob_desk::{Beat, Desk};
-use ob_flat::{FlatVault, Opening, head, prepare};
 use ob_io::{ReadErr, Sink, Source, read_all};
+use ob_recover::head;
+use ob_ring_vault::RingVault;
 use ob_run::run;
 use ob_runner::{ScriptRunner, runners};
 use ob_script::{LIMIT, Scripts, parse};
 use ob_seal::Keys;
 use ob_serial::Vault;
 use ob_store::{Blind, Store, Watch};
+use ob_tape::Tape;
+use ob_vault::{Opening, prepare};
 use std::alloc::Global;
 use std::sync::Wait;
 use std::thread::Threads;
@@ -42,11 +45,11 @@ use std::thread::Threads;
 // A run of which all is ready: the store's parameters, the script, what makes its clients' calls,
 // and what opening found.
 #[derive(Drop)]
-struct Begun {
+struct Begun<L> {
     params: Params,
     scripts: Scripts,
     runners: Vec<ScriptRunner>,
-    opening: Opening,
+    opening: Opening<L>,
 }
 
 // Reads the script that comes in.
@@ -66,42 +69,38 @@ fn read_script<I: Source>(alloc: Global, input: &mut I, keys: u32) -> Result<Scr
 }
 
 // Reads the head, then the script, and then opens the store.
-fn begin<S: Store, I: Source>(
+fn begin<S: Store, T: Tape, I: Source>(
     alloc: Global,
     store: &mut S,
+    tape: &mut T,
     keys: &Keys,
     input: &mut I,
-) -> Result<Begun, Fault>
+) -> Result<Begun<S::Lane>, Fault>
     requires none_out { (S.disk store.old).out ≡ 0 }
+    requires unstarted { T.present tape.old ≡ 0 }
     ensures none_out { (S.disk store.new).out ≡ 0 }
     ensures goes { GoesOn (S.disk store.old) (S.disk store.new) }
-    ensures params { IfOk result (λ begun. begun.opening.params ≡ begun.params) }
-    ensures sealer { IfOk result (λ begun. HasSealedNothing keys.now begun.opening.sealer) }
+    ensures serves { IfOk result (λ begun. MayServe begun.params (S.disk store.new)
+        (T.present tape.new) (T.drawn tape.new) begun.opening) }
+    ensures sealer { IfOk result (λ begun. begun.opening.sealer.next ≡ 0) }
     ensures sound { IfOk result (λ begun. AreSound begun.scripts) }
     ensures runners { IfOk result (λ begun. AreRunners begun.scripts begun.runners.items) }
     ensures keys { IfOk result (λ begun. begun.scripts.keys ≡ begun.params.keys) }
     ensures durable { (S.disk store.old).tells
         → OnOk result ((S.disk store.new).tells × IsSynced (S.disk store.new)) }
-    ensures opened { (at : Standing) → (S.disk store.old).tells
-        → IfOk result (λ begun. Stands flat_kind keys.now begun.params (S.disk store.old).cells at
-        → IsOpenedAt flat_kind keys.now begun.params at begun.opening (S.disk store.new)) }
     ensures left { (at : Standing) → (S.disk store.old).tells
-        → IfOk result (λ begun. Stands flat_kind keys.now begun.params (S.disk store.old).cells at
-        → AllStand flat_kind keys.now begun.params (S.disk store.old)
+        → IfOk result (λ begun. Stands ring_kind keys.now begun.params (S.disk store.old).cells at
+        → AllStand ring_kind keys.now begun.params (S.disk store.old)
         → LeavesOnly (S.disk store.old) (S.disk store.new)
-        (StandsAsBefore flat_kind keys.now begun.params (S.disk store.old))) }
+        (StandsAsBefore ring_kind keys.now begun.params (S.disk store.old))) }
     ensures since { IfOk result
-        (λ begun. OpensStanding flat_kind S.disk keys.now begun.params (S.disk store.old)
+        (λ begun. OpensStanding ring_kind S.disk keys.now begun.params (S.disk store.old)
         (S.disk store.new)) }
-    ensures told { (S.disk store.new).tells
-        → IfOk result (λ begun. GatesAre begun.opening.gates.epoch 5 (S.disk store.new).cells) }
-    ensures begun { IfOk result (λ begun. (start : Open)
-        × IsOpened flat_kind keys.now (S.disk store.old) (inflow I.Source input.old) begun.params
-        begun.scripts begun.opening start
-        × Notes (begin_events flat_kind begun.params begun.opening start) (S.disk store.old).seen
-        (S.disk store.new).seen) }
+    ensures begun { IfOk result (λ begun. (f : RingFound) × (f.run ≡ run_over begun.opening)
+        × IsBegun keys.now begun.params begun.scripts (S.disk store.old) (S.disk store.new)
+        (inflow I.Source input.old) f) }
     ensures refused { IfErr result
-        (λ fault. EndsEarly flat_kind keys.now (S.disk store.old) (S.disk store.new) S.disk
+        (λ fault. EndsEarly ring_kind keys.now (S.disk store.old) (S.disk store.new) S.disk
         (inflow I.Source input.old) (inflow I.Source input.new) fault) }
     ensures opens { IfOk result (λ begun. IsReadAndOpened S.disk keys.now store.old store.new
         begun.opening.sealer) }
@@ -120,7 +119,7 @@ fn begin<S: Store, I: Source>(
         Ok(runners) => runners,
         Err(Memory) => return Err(Fault::Memory),
     };
-    match prepare(alloc, store, keys, &params, &mut Blind) {
+    match prepare(alloc, store, tape, keys, &params, 1, &mut Blind) {
         Ok(opening) => Ok(Begun {
             params,
             scripts,
@@ -186,29 +185,35 @@ fn conduct<R: Threads + Wait + Sync, V: Vault, W: Watch, O: Sink, B: Beat>(
     )
 }
 
+// Both are given back as they are.
+fn hand_back<S, T>(store: &mut S, tape: &mut T)
+    ensures store { store.exit.now ≡ store.entry.now }
+    ensures tape { tape.exit.now ≡ tape.entry.now }
+{}
+
 // Runs the script over the store that was opened.
-fn serve_on<R: Threads + Wait + Sync, S: Store, O: Sink, B: Beat>(
+fn serve_on<R: Threads + Wait + Sync, S: Store, T: Tape, O: Sink, B: Beat>(
     rt: &R,
     alloc: Global,
     store: &mut S,
+    tape: &mut T,
     keys: &Keys,
-    begun: Begun,
+    begun: Begun<S::Lane>,
     output: &mut O,
     beat: &mut B,
     threads: bool,
 ) -> Result<(), Fault>
     requires none_out { (S.disk store.old).out ≡ 0 }
-    requires params { begun.opening.params ≡ begun.params }
-    requires sealer { HasSealedNothing keys.now begun.opening.sealer }
-    requires told { (S.disk store.old).tells
-        → GatesAre begun.opening.gates.epoch 5 (S.disk store.old).cells }
+    requires serves { MayServe begun.params (S.disk store.old) (T.present tape.old)
+        (T.drawn tape.old) begun.opening }
     requires sound { AreSound begun.scripts }
     requires runners { AreRunners begun.scripts begun.runners.items }
     requires keys { begun.scripts.keys ≡ begun.params.keys }
     ensures none_out { (S.disk store.new).out ≡ 0 }
-    ensures serves { ServedOver flat_kind S.disk (manner (beat_kind B.passes B.exact) threads) keys.now
-        begun.params begun.opening begun.opening.sealer
-        begun.scripts store.old store.new
+    ensures serves { (f : RingFound) (found : Found) → f.run ≡ run_over begun.opening
+        → GoesOnFrom keys.now begun.params found f → HasPlanned f.run f.content f.records
+        → ServedOver ring_kind S.disk (manner (beat_kind B.passes B.exact) threads) keys.now
+        begun.params f begun.opening.sealer begun.scripts (T.drawn tape.new) store.old store.new
         (outflow O.Sink output.old) (outflow O.Sink output.new) (fault_of result) }
 {
     let Begun {
@@ -217,7 +222,7 @@ fn serve_on<R: Threads + Wait + Sync, S: Store, O: Sink, B: Beat>(
         mut runners,
         opening,
     } = begun;
-    let mut vault = FlatVault::over(store, opening);
+    let mut vault = RingVault::over(store, tape, opening);
     let ended = conduct(
         rt,
         alloc,
@@ -230,7 +235,8 @@ fn serve_on<R: Threads + Wait + Sync, S: Store, O: Sink, B: Beat>(
         beat,
         threads,
     );
-    let _store = vault.into_store();
+    let (store, tape) = vault.into_lent();
+    hand_back(store, tape);
     ended
 }
 
@@ -239,10 +245,11 @@ fn serve_on<R: Threads + Wait + Sync, S: Store, O: Sink, B: Beat>(
 ///
 /// # Errors
 /// In this order: the head, the input, the opening; then what the run met.
-pub fn run_on<R: Threads + Wait + Sync, S: Store, I: Source, O: Sink, B: Beat>(
+pub fn run_on<R: Threads + Wait + Sync, S: Store, T: Tape, I: Source, O: Sink, B: Beat>(
     rt: &R,
     alloc: Global,
     store: &mut S,
+    tape: &mut T,
     keys: &Keys,
     input: &mut I,
     output: &mut O,
@@ -250,19 +257,20 @@ pub fn run_on<R: Threads + Wait + Sync, S: Store, I: Source, O: Sink, B: Beat>(
     threads: bool,
 ) -> Result<(), Fault>
     requires none_out { (S.disk store.old).out ≡ 0 }
+    requires unstarted { T.present tape.old ≡ 0 }
     ensures goes { GoesOn (S.disk store.old) (S.disk store.new) }
     ensures none_out { (S.disk store.new).out ≡ 0 }
-    ensures done { RunOn flat_kind S.disk (manner (beat_kind B.passes B.exact) threads) keys.now
-        store.old store.new
+    ensures done { RunOn ring_kind S.disk (manner (beat_kind B.passes B.exact) threads)
+        (T.drawn tape.new) keys.now store.old store.new
         (outside (inflow I.Source input.old) (outflow O.Sink output.old))
         (outside (inflow I.Source input.new) (outflow O.Sink output.new))
         (fault_of result) }
 {
-    let begun = match begin(alloc, store, keys, input) {
+    let begun = match begin(alloc, store, tape, keys, input) {
         Ok(begun) => begun,
         Err(fault) => return Err(fault),
     };
-    match serve_on(rt, alloc, store, keys, begun, output, beat, threads) {
+    match serve_on(rt, alloc, store, tape, keys, begun, output, beat, threads) {
         Ok(()) => Ok(()),
         Err(fault) => Err(fault),
     }

@@ -20,26 +20,29 @@ use ob_base::Fault;
 use ob_desk::Beat;
 use ob_io::{Sink, Source};
 use ob_store::Store;
+use ob_tape::Tape;
 use std::alloc::Global;
 use std::sync::Wait;
 use std::thread::Threads;
 
 // Does this over a store.
-fn do_on<R: Threads + Wait + Sync, S: Store, I: Source, O: Sink, B: Beat>(
+fn do_on<R: Threads + Wait + Sync, S: Store, T: Tape, I: Source, O: Sink, B: Beat>(
     rt: &R,
     alloc: Global,
     command: Command,
     keys: Option<&[u8]>,
     store: &mut S,
+    tape: &mut T,
     input: &mut I,
     output: &mut O,
     beat: &mut B,
 ) -> Result<(), Fault>
     requires none_out { (S.disk store.old).out ≡ 0 }
+    requires unstarted { T.present tape.old ≡ 0 }
     ensures goes { GoesOn (S.disk store.old) (S.disk store.new) }
     ensures none_out { (S.disk store.new).out ≡ 0 }
     ensures does { (words : List (List ℕ)) → Asks words command
-        → CommandDoes S.disk (beat_kind B.passes B.exact) words keys.entry
+        → CommandDoes S.disk (beat_kind B.passes B.exact) (T.drawn tape.new) words keys.entry
         store.old store.new
         (outside (inflow I.Source input.old) (outflow O.Sink output.old))
         (outside (inflow I.Source input.new) (outflow O.Sink output.new)) (fault_of result) }
@@ -49,25 +52,29 @@ fn do_on<R: Threads + Wait + Sync, S: Store, I: Source, O: Sink, B: Beat>(
         Err(fault) => return Err(fault),
     };
     match command {
-        Command::Format { params } => format_on(store, &keys, &params, output),
-        Command::Run { turns, .. } => run_on(rt, alloc, store, &keys, input, output, beat, !turns),
+        Command::Format { params } => format_on(alloc, store, tape, &keys, &params, output),
+        Command::Run { turns, .. } => run_on(
+            rt, alloc, store, tape, &keys, input, output, beat, !turns,
+        ),
     }
 }
 
 // Does what the words ask for, with a store.
-fn do_with<R: AllocGlobal + Threads + Wait + Sync, S: Store, I: Source, O: Sink, B: Beat>(
+fn do_with<R: AllocGlobal + Threads + Wait + Sync, S: Store, T: Tape, I: Source, O: Sink, B: Beat>(
     rt: &R,
     words: &[&str],
     keys: Option<&[u8]>,
     store: &mut S,
+    tape: &mut T,
     input: &mut I,
     output: &mut O,
     beat: &mut B,
 ) -> u8
     requires none_out { (S.disk store.old).out ≡ 0 }
+    requires unstarted { T.present tape.old ≡ 0 }
     ensures goes { GoesOn (S.disk store.old) (S.disk store.new) }
     ensures none_out { (S.disk store.new).out ≡ 0 }
-    ensures does { OverStore S.disk (beat_kind B.passes B.exact)
+    ensures does { OverStore S.disk (beat_kind B.passes B.exact) (T.drawn tape.new)
         (map (λ w. w.now) words.entry.now) keys.entry
         store.old store.new
         (outside (inflow I.Source input.old) (outflow O.Sink output.old))
@@ -79,7 +86,17 @@ fn do_with<R: AllocGlobal + Threads + Wait + Sync, S: Store, I: Source, O: Sink,
     };
     match work {
         Work::OnStore(command) => {
-            let ended = do_on(rt, rt.alloc(), command, keys, store, input, output, beat);
+            let ended = do_on(
+                rt,
+                rt.alloc(),
+                command,
+                keys,
+                store,
+                tape,
+                input,
+                output,
+                beat,
+            );
             finish(output, ended)
         }
         Work::Audit => audit_on(rt.alloc(), input, output),
@@ -126,8 +143,8 @@ fn do_without<I: Source, O: Sink>(
 /// store, and reports them, each epoch once it is durable. Each client's calls are made in a thread of
 /// its own, or by hand where the system refuses it; with `--turns` all are made by hand, in rounds.
 /// `store` is the store that the words name, or none where it wasn't opened; `keys` is the text of the
-/// key file that they name, or none where it wasn't read; `beat` says at which looks the driver of
-/// epochs acts.
+/// key file that they name, or none where it wasn't read; `tape` wasn't started, and gives the random
+/// words by which rows are spread; `beat` says at which looks the driver of epochs acts.
 ///
 /// `audit` reads a trace, and prints whether each line may stand there, or the first that may not. It
 /// touches no store and no keys.
@@ -135,18 +152,28 @@ fn do_without<I: Source, O: Sink>(
 /// The status is 0 where all was done and written, 1 where a line of a trace may not stand there, and
 /// else that of the fault whose line stands behind the report: 2 for words that are no command, for a
 /// number or lanes out of range, for keys that are none and for a script that breaks the grammar; 3
-/// for what is no store; 4 for damage; 5 where the store failed or none was handed in; 7 where the
-/// key file, the input or the output failed; 8 where a number is worn out; 9 for want of memory.
-pub fn obladi<R: AllocGlobal + Threads + Wait + Sync, S: Store, I: Source, O: Sink, B: Beat>(
+/// for what is no store; 4 for damage; 5 where the store failed or none was handed in; 6 where more
+/// rows would be left than the stash may keep; 7 where the key file, the input or the output failed; 8
+/// where a number is worn out; 9 for want of memory.
+pub fn obladi<
+    R: AllocGlobal + Threads + Wait + Sync,
+    S: Store,
+    T: Tape,
+    I: Source,
+    O: Sink,
+    B: Beat,
+>(
     rt: &R,
     words: &[&str],
     keys: Option<&[u8]>,
     store: Option<&mut S>,
+    tape: &mut T,
     input: &mut I,
     output: &mut O,
     beat: &mut B,
 ) -> u8
     requires none_out { NoneOut S.disk store }
+    requires unstarted { T.present tape.old ≡ 0 }
     // A store that was handed in can be handed in again.
     ensures goes { StoreGoesOn S.disk store.entry store.exit }
     // Words that are no command leave everything but the output untouched.
@@ -169,7 +196,7 @@ pub fn obladi<R: AllocGlobal + Threads + Wait + Sync, S: Store, I: Source, O: Si
         keys.entry store.entry
         store.exit
         (outside (inflow I.Source input.old) (outflow O.Sink output.old))
-        (outside (inflow I.Source input.new) (outflow O.Sink output.new)) result }
+        (outside (inflow I.Source input.new) (outflow O.Sink output.new)) result (T.drawn tape.new) }
     // What is asked for is done, where nothing stands against it but want of memory.
     ensures complete { Completes S.disk (map (λ w. w.now) words.entry.now) keys.entry
         (outside (inflow I.Source input.old) (outflow O.Sink output.old))
@@ -180,7 +207,7 @@ pub fn obladi<R: AllocGlobal + Threads + Wait + Sync, S: Store, I: Source, O: Si
         (outside (inflow I.Source input.new) (outflow O.Sink output.new)) result }
 {
     match store {
-        Some(store) => do_with(rt, words, keys, store, input, output, beat),
+        Some(store) => do_with(rt, words, keys, store, tape, input, output, beat),
         None => do_without(rt.alloc(), words, keys, input, output),
     }
 }

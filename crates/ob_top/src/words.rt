@@ -2,7 +2,7 @@
 
 ghost use Rattle.std.specs.Prelude.{◌≡◌, ◌∷◌, [], map, option_map, MatchResult, IfOk, IfErr};
 ghost use Rattle.ob_words.specs.Reading.{asked_of};
-ghost use Rattle.ob_top.specs.Words.{Denotes, AreParams, IsBadNumber, AreLanes, AreBadLanes, IsWorkOf, IsOutOfRange, AskFor, IsRefusedFor, AreFilesOf, AreWanted, HasKeys, IsKeysRefused};
+ghost use Rattle.ob_top.specs.Words.{Denotes, AreParams, IsBadNumber, AreLanes, AreBadLanes, IsWorkOf, IsOutOfRange, AskFor, IsRefusedFor, AreFilesOf, AreWanted, HasKeys, IsKeysRefused, IsTapeKey};
 
 use ob_base::{Fault, Field, Memory, Params};
 use ob_script::number_of;
@@ -162,6 +162,17 @@ pub fn keys_of(text: Option<&[u8]>) -> Result<Keys, Fault>
     match Keys::from_hex(text) {
         Some(keys) => Ok(keys),
         None => Err(Fault::BadParams { field: Field::KEYS }),
+    }
+}
+
+/// The key of the tape, which is the third of a key file's text; zeros where no text was read or it
+/// isn't one of keys.
+pub fn tape_key(text: Option<&[u8]>) -> [u8; 32]
+    ensures { IsTapeKey text.entry result }
+{
+    match keys_of(text) {
+        Ok(keys) => keys.tape,
+        Err(_) => [0; 32],
     }
 }
 

@@ -1,12 +1,9 @@
 //! Tests of `audit` by the top call.
 
-use ob_desk::Eager;
-use ob_mem::{MemSink, MemSource, MemStore};
-use ob_top::obladi;
-use std::alloc::Global;
+use crate::fixture::{call_without, source_of};
+use ob_mem::MemSink;
 use std::process::Abort;
 use std::sync::Wait;
-use std::test::Fail as Broken;
 use std::thread::Threads;
 
 // The trace of a format and of a run of one epoch, with a `/` for each line end.
@@ -36,54 +33,44 @@ const ROWS: [(&str, &str, u8, &str); 4] = [
 ];
 
 // Audits a trace without a store and keys, of whose input this read fails and of whose output this write.
-fn audited<R: AllocGlobal + Threads + Wait + Sync>(
+fn audited<R: AllocGlobal + Threads + Wait + Sync + Abort>(
     rt: &R,
     trace: &str,
     read: u64,
     write: u64,
-) -> Result<(u8, MemSink), Broken> {
+) -> (u8, MemSink) {
     let alloc = rt.alloc();
-    let lines = trace.replace(alloc, "/", "\n")?;
-    let (mut reads, mut writes) = (Vec::new(alloc), Vec::new(alloc));
-    reads.push(read)?;
-    writes.push(write)?;
-    let mut input = MemSource::new(lines.as_bytes().to_vec(alloc)?, reads);
-    let mut sink = MemSink::new(alloc, 1000, writes)?;
-    let none: Option<&mut MemStore> = None;
-    let status = obladi(
-        rt,
-        &["audit"],
-        None,
-        none,
-        &mut input,
-        &mut sink,
-        &mut Eager,
-    );
-    Ok((status, sink))
+    let writes = [write].to_vec(alloc).expect(rt, "memory");
+    let mut input = source_of(rt, trace, &[read]);
+    let mut sink = MemSink::new(alloc, 1000, writes).expect(rt, "memory");
+    let status = call_without(rt, "audit", None, &mut input, &mut sink);
+    (status, sink)
 }
 
 #[test]
-fn traces_are_audited(rt: HostRuntime) -> Result<(), Broken> {
+fn traces_are_audited(rt: HostRuntime) {
     let alloc = rt.alloc();
     for (old, new, status, output) in ROWS {
-        let trace = TRACE.replace(alloc, old, new)?;
-        let (told, sink) = audited(&rt, trace.as_str(), 9, 99)?;
+        let trace = TRACE.replace(alloc, old, new).expect(&rt, "memory");
+        let (told, sink) = audited(&rt, trace.as_str(), 9, 99);
         assert_eq!(&rt; told, status, "{old}");
         assert!(&rt; sink.written() == output.as_bytes(), "{old}");
     }
-    Ok(())
 }
 
-// An input that fails, and an output that fails at its first write, its second, and so on.
+// A trace, the read of its input and the write of its output that fail, and what was written before.
+const FAILING: [(&str, u64, u64, &str); 4] = [
+    (TRACE, 1, 99, "fault: source\n"),
+    ("O/", 9, 0, ""),
+    ("O/", 9, 1, "breaks line "),
+    ("O/", 9, 3, "breaks line 1 wanted "),
+];
+
 #[test]
-fn an_audit_tells_what_failed(rt: HostRuntime) -> Result<(), Broken> {
-    let (status, sink) = audited(&rt, TRACE, 1, 99)?;
-    assert_eq!(&rt; status, 7);
-    assert!(&rt; sink.written() == b"fault: source\n".as_slice());
-    for (write, front) in [(0, ""), (1, "breaks line "), (3, "breaks line 1 wanted ")] {
-        let (status, sink) = audited(&rt, "O/", 9, write)?;
+fn an_audit_tells_what_failed(rt: HostRuntime) {
+    for (trace, read, write, front) in FAILING {
+        let (status, sink) = audited(&rt, trace, read, write);
         assert_eq!(&rt; status, 7);
-        assert!(&rt; sink.written() == front.as_bytes(), "{write}");
+        assert!(&rt; sink.written() == front.as_bytes(), "{read} {write}");
     }
-    Ok(())
 }

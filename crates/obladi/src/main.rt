@@ -5,7 +5,8 @@ use ob_base::{Fault, Memory};
 use ob_desk::Eager;
 use ob_file::{FileStore, OpenErr, open_locked};
 use ob_io::{ReadErr, Sink, StdSink, StdSource, read_all};
-use ob_top::{Paths, finish, obladi, store_wanted};
+use ob_tape::ChaChaTape;
+use ob_top::{Paths, finish, obladi, store_wanted, tape_key};
 use std::alloc::{AllocGlobal, Global};
 use std::fs::File;
 use std::io::ErrorKind;
@@ -100,12 +101,14 @@ fn run<R: AllocGlobal + Threads + Wait + Sync, O: Sink>(
     let paths = store_wanted(rt.alloc(), &texts)?;
     let mut opened = open_files(rt, &paths)?;
     let keys = read_keys(rt, opened.keys.as_ref())?;
+    let mut tape = ChaChaTape::new(&tape_key(keys.as_deref()));
     let mut input = StdSource::new(rt.reader());
     Ok(obladi(
         waits,
         &texts,
         keys.as_deref(),
         opened.store.as_mut(),
+        &mut tape,
         &mut input,
         output,
         &mut Eager,

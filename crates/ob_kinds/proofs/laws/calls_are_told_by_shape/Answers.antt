@@ -9,3 +9,6 @@ returns-clause-each c = shapes.answered_have_shapes
 
 pub returns-clause-none : goal.returns-clause-none
 returns-clause-none c = shapes.answered_not_refused
+
+pub returns-clause-of : goal.returns-clause-of
+returns-clause-of c = shapes.shapes_of_answered

@@ -1,12 +1,35 @@
+use Rattle.std.proofs.Common.{◌≡◌, Err, ap, subst}
+use Rattle.ob_base.specs.declared.fault.Fault.{Fault}
+use Rattle.ob_schedule.specs.Schedule.{format_notes}
 use Rattle.ob_store.proofs.Doing.{first_noted}
-use Rattle.ob_flat.specs.Orders.{format_notes}
-use Rattle.ob_top.proofs.Beginnings.{flat_quiet}
-use Rattle.ob_top.proofs.Finishing.{format_failed}
-use Rattle.ob_top.specs.Flat.{flat_kind}
+use Rattle.ob_io.specs.Flows.{appended}
+use Rattle.ob_io.specs.Streams.{outflow}
+use Rattle.ob_report.specs.Printed.{IsPrinted}
+use Rattle.ob_report.specs.Sizes.{size_line}
+use Rattle.ob_top.proofs.Beginnings.{format_refused, whole_formatted}
 use Rattle.ob_top.proofs.format.format_on.Goals as goal
 
 pub returns-in-Err-clause-ends : goal.returns-in-Err-clause-ends
 returns-in-Err-clause-ends g c =
     let e = c.in-Err.ensures in
-    format_failed flat_kind flat_quiet g.S.Store.disk c.args.keys.now c.args.params.now c.args.store.now c.format.new.store _ c.in-Err.fault e.faults e.serves.cause
-    (first_noted (format_notes c.args.params.now.keys) _ _ _ _ e.does.first)
+    format_refused (λ s. g.S.Store.disk s) c.args.keys.now c.args.params.now c.args.store.now c.format.new.store _ c.in-Err.fault e.faults e.serves.cause (λ is. (e.memory (ap (λ (x : Fault). Err x) is)).0)
+    (first_noted (format_notes c.args.params.now) _ _ _ _ e.does.first)
+
+pub returns-in-Ok-size_text-clause-ends : goal.returns-in-Ok-size_text-clause-ends
+returns-in-Ok-size_text-clause-ends g c =
+    let e = c.in-Ok.ensures in
+    let before = outflow g.O.Sink c.args.output.now in
+    let after = outflow g.O.Sink c.size_text.new.sink in (
+      whole_formatted (λ s. g.S.Store.disk s) c.args.keys.now c.args.params.now (g.T.Tape.drawn c.format.new.tape) c.args.store.now c.format.new.store e.serves.goes e.serves.tells e.does.all.seen e.stands e.images e.durable,
+      subst (λ n. after.bytes ≡ appended before.bytes (size_line n)) c.ring_cells.ensures.cells c.in-Ok-size_text.ensures.all,
+    )
+
+pub returns-in-Err-size_text-clause-ends : goal.returns-in-Err-size_text-clause-ends
+returns-in-Err-size_text-clause-ends g c =
+    let e = c.in-Ok.ensures in
+    let before = outflow g.O.Sink c.args.output.now in
+    let after = outflow g.O.Sink c.size_text.new.sink in (
+      whole_formatted (λ s. g.S.Store.disk s) c.args.keys.now c.args.params.now (g.T.Tape.drawn c.format.new.tape) c.args.store.now c.format.new.store e.serves.goes e.serves.tells e.does.all.seen e.stands e.images e.durable,
+      c.in-Err-size_text.ensures.cause.failed,
+      subst (λ n. IsPrinted before after (size_line n)) c.ring_cells.ensures.cells c.size_text.ensures.printed,
+    )

@@ -1,10 +1,17 @@
-use Rattle.std.proofs.Common.{Err, [], ◌∷◌, inl, inr, refl}
+use Rattle.std.proofs.Common.{Err, [], ◌∷◌, inl, inr, ap, refl}
 use Rattle.ob_base.specs.declared.params.Params.{Params}
+use Rattle.ob_seal.specs.Sealing.{Sealing}
 use Rattle.ob_store.specs.declared.watch.Note.TheVariants.{Read}
-use Rattle.ob_flat.proofs.Tellings.{reads_noted}
-use Rattle.ob_top.proofs.Beginnings.{opened, opened_kind, unopened, left_opening, kept, opens_from, opens_or_not}
+use Rattle.ob_store.proofs.Serving.{goes_then}
+use Rattle.ob_top.proofs.Noted.{reads_noted}
+use Rattle.ob_ring_kind.proofs.Opening.{ring_leaves_standing, ring_opens_standing}
+use Rattle.ob_ring_kind.specs.Laws.{found_ring}
+use Rattle.ob_top.proofs.Beginnings.{begun, may_serve, unopened}
 use Rattle.ob_top.proofs.Living.{read_lives, refused_lives, read_opened}
 use Rattle.ob_top.proofs.run.begin.Goals as goal
+
+pub returns-in-Ok-prepare-clause-goes : goal.returns-in-Ok-prepare-clause-goes
+returns-in-Ok-prepare-clause-goes g c = goes_then _ _ _ c.in-Ok.ensures.serves.goes c.in-Ok-prepare.ensures.serves.goes
 
 pub returns-in-Err-clause-refused : goal.returns-in-Err-clause-refused
 returns-in-Err-clause-refused g c =
@@ -42,54 +49,63 @@ returns-in-Err-runners-clause-refused g c = inr (inl (record {
 pub returns-in-Ok-prepare-clause-begun : goal.returns-in-Ok-prepare-clause-begun
 returns-in-Ok-prepare-clause-begun g c =
     let head = c.in-Ok.ensures in
+    let e = c.in-Ok-prepare.ensures in (
+      found_ring e.opened.found c.in-Ok-prepare.opening,
+      refl,
+      begun (λ s. g.S.Store.disk s) c.args.keys.now c.in-Ok.params c.in-Ok-read_script.scripts _ c.args.store.now c.head.new.store c.prepare.new.store head.value (record { keeps = head.keeps; passes = head.passes; seen = head.does.seen }) c.in-Ok-read_script.ensures.came
+          _ _ c.in-Ok-prepare.opening e.opened e.serves.tells e.stands,
+    )
+
+pub returns-in-Ok-prepare-clause-serves : goal.returns-in-Ok-prepare-clause-serves
+returns-in-Ok-prepare-clause-serves g c =
     let e = c.in-Ok-prepare.ensures in
-    opened c.args.keys.now (g.S.Store.disk c.args.store.now) (g.S.Store.disk c.head.new.store) (g.S.Store.disk c.prepare.new.store) _ c.in-Ok.params c.in-Ok-read_script.scripts _ _
-    c.in-Ok-prepare.opening head.value head.keeps head.does.seen c.in-Ok-read_script.ensures.came e.opening.value e.opening.begins.gates e.opening.order
+    may_serve (λ s. g.S.Store.disk s) c.args.keys.now c.in-Ok.params c.head.new.store c.prepare.new.store _ _ _ _ c.in-Ok-prepare.opening e.opened e.serves.goes.told e.tape
+
+pub returns-in-Ok-prepare-clause-sealer : goal.returns-in-Ok-prepare-clause-sealer
+returns-in-Ok-prepare-clause-sealer g c = ap (λ (x : Sealing). x.next) c.in-Ok-prepare.ensures.opened.is.sealer
+
+pub returns-in-Ok-prepare-clause-durable : goal.returns-in-Ok-prepare-clause-durable
+returns-in-Ok-prepare-clause-durable g c = λ tells.
+    let here = c.in-Ok.ensures.keeps.tells tells in
+    (c.in-Ok-prepare.ensures.serves.tells here, (c.in-Ok-prepare.ensures.opened.told here).settled)
+
+pub returns-in-Ok-prepare-clause-since : goal.returns-in-Ok-prepare-clause-since
+returns-in-Ok-prepare-clause-since g c =
+    let head = c.in-Ok.ensures in
+    ring_opens_standing (λ s. g.S.Store.disk s) c.args.keys.now c.in-Ok.params c.args.store.now c.head.new.store c.prepare.new.store (record { keeps = head.keeps; passes = head.passes; seen = head.does.seen }) c.in-Ok-prepare.ensures.leaves
+
+pub returns-in-Ok-prepare-clause-left : goal.returns-in-Ok-prepare-clause-left
+returns-in-Ok-prepare-clause-left g c = λ at tells stands all.
+    let head = c.in-Ok.ensures in
+    ring_leaves_standing (λ s. g.S.Store.disk s) c.args.keys.now c.in-Ok.params c.args.store.now c.prepare.new.store (g.met.S.Store.only_now c.args.store.now) tells all
+    (inr (ring_opens_standing (λ s. g.S.Store.disk s) c.args.keys.now c.in-Ok.params c.args.store.now c.head.new.store c.prepare.new.store (record { keeps = head.keeps; passes = head.passes; seen = head.does.seen }) c.in-Ok-prepare.ensures.leaves)) at stands
 
 pub returns-in-Err-prepare-clause-refused : goal.returns-in-Err-prepare-clause-refused
 returns-in-Err-prepare-clause-refused g c =
     let head = c.in-Ok.ensures in
     let e = c.in-Err-prepare.ensures in
-    unopened c.args.keys.now (g.S.Store.disk c.args.store.now) (g.S.Store.disk c.head.new.store) (g.S.Store.disk c.prepare.new.store) _ c.in-Ok.params c.in-Ok-read_script.scripts _ _
-    g.S.Store.disk _ c.in-Err-prepare.fault head.value head.keeps head.serves.goes.faults head.does.seen c.in-Ok-read_script.ensures.came e.faults e.opening.value e.serves.cause e.opening.order head.passes e.opening.unwritten
-    (λ at tells stands all. left_opening c.args.keys.now c.in-Ok.params (g.S.Store.disk c.args.store.now) (g.S.Store.disk c.head.new.store) (g.S.Store.disk c.prepare.new.store) head.passes head.keeps (g.met.S.Store.only_now c.args.store.now) tells at e.opening.crash stands all)
-    (opens_or_not g.S.Store.disk c.args.keys.now c.in-Ok.params c.args.store.now c.head.new.store c.prepare.new.store head.passes head.keeps e.opening.since)
-
-pub returns-in-Ok-prepare-clause-opened : goal.returns-in-Ok-prepare-clause-opened
-returns-in-Ok-prepare-clause-opened g c = λ at tells stands.
-    let head = c.in-Ok.ensures in
-    opened_kind c.args.keys.now c.in-Ok.params at c.in-Ok-prepare.opening (g.S.Store.disk c.prepare.new.store)
-    (c.in-Ok-prepare.ensures.opening.opened at (head.keeps.tells tells) (kept c.args.keys.now c.in-Ok.params (g.S.Store.disk c.args.store.now) (g.S.Store.disk c.head.new.store) (g.S.Store.disk c.prepare.new.store) head.passes head.keeps (g.met.S.Store.only_now c.args.store.now) tells at stands))
-
-pub returns-in-Ok-prepare-clause-left : goal.returns-in-Ok-prepare-clause-left
-returns-in-Ok-prepare-clause-left g c = λ at tells stands all.
-    let head = c.in-Ok.ensures in
-    left_opening c.args.keys.now c.in-Ok.params (g.S.Store.disk c.args.store.now) (g.S.Store.disk c.head.new.store) (g.S.Store.disk c.prepare.new.store) head.passes head.keeps (g.met.S.Store.only_now c.args.store.now) tells at c.in-Ok-prepare.ensures.opening.crash stands all
-
-pub returns-in-Ok-prepare-clause-since : goal.returns-in-Ok-prepare-clause-since
-returns-in-Ok-prepare-clause-since g c =
-    let head = c.in-Ok.ensures in
-    opens_from g.S.Store.disk c.args.keys.now c.in-Ok.params c.args.store.now c.head.new.store c.prepare.new.store head.passes head.keeps c.in-Ok-prepare.ensures.opening.since
+    unopened (λ s. g.S.Store.disk s) c.args.keys.now c.in-Ok.params c.in-Ok-read_script.scripts _ c.args.store.now c.head.new.store c.prepare.new.store head.value (record { keeps = head.keeps; passes = head.passes; seen = head.does.seen }) c.in-Ok-read_script.ensures.came
+    c.prepare.result _ _ _ _ _ _ c.in-Err-prepare.fault _ (g.met.S.Store.only_now c.args.store.now) head.serves.goes.faults e.faults e.serves.cause e.does_err e.refused e.stands e.unwritten e.leaves
 
 -- ---- the life of the store
 
 pub returns-in-Err-clause-lives : goal.returns-in-Err-clause-lives
-returns-in-Err-clause-lives g c = read_lives g.S.Store.disk g.met.S.Store.only_now c.args.keys.now c.args.store.now c.head.new.store c.in-Err.ensures.serves.goes c.in-Err.ensures.passes
+returns-in-Err-clause-lives g c = read_lives (λ s. g.S.Store.disk s) g.met.S.Store.only_now c.args.keys.now c.args.store.now c.head.new.store c.in-Err.ensures.serves.goes c.in-Err.ensures.passes
 
 pub returns-in-Err-read_script-clause-lives : goal.returns-in-Err-read_script-clause-lives
-returns-in-Err-read_script-clause-lives g c = read_lives g.S.Store.disk g.met.S.Store.only_now c.args.keys.now c.args.store.now c.head.new.store c.in-Ok.ensures.serves.goes c.in-Ok.ensures.passes
+returns-in-Err-read_script-clause-lives g c = read_lives (λ s. g.S.Store.disk s) g.met.S.Store.only_now c.args.keys.now c.args.store.now c.head.new.store c.in-Ok.ensures.serves.goes c.in-Ok.ensures.passes
 
 pub returns-in-Err-runners-clause-lives : goal.returns-in-Err-runners-clause-lives
-returns-in-Err-runners-clause-lives g c = read_lives g.S.Store.disk g.met.S.Store.only_now c.args.keys.now c.args.store.now c.head.new.store c.in-Ok.ensures.serves.goes c.in-Ok.ensures.passes
+returns-in-Err-runners-clause-lives g c = read_lives (λ s. g.S.Store.disk s) g.met.S.Store.only_now c.args.keys.now c.args.store.now c.head.new.store c.in-Ok.ensures.serves.goes c.in-Ok.ensures.passes
 
 pub returns-in-Err-prepare-clause-lives : goal.returns-in-Err-prepare-clause-lives
 returns-in-Err-prepare-clause-lives g c =
     let head = c.in-Ok.ensures in
     let e = c.in-Err-prepare.ensures in
-    refused_lives g.S.Store.disk g.met.S.Store.only_now c.args.keys.now c.args.store.now c.head.new.store head.serves.goes head.passes c.prepare.new.store e.serves.goes c.in-Err-prepare.fault e.opening.register
+    refused_lives (λ s. g.S.Store.disk s) g.met.S.Store.only_now c.args.keys.now c.args.store.now c.head.new.store head.serves.goes head.passes _ c.in-Ok.params c.prepare.new.store e.serves.goes c.prepare.result c.in-Err-prepare.fault e.leaves
 
 pub returns-in-Ok-prepare-clause-opens : goal.returns-in-Ok-prepare-clause-opens
 returns-in-Ok-prepare-clause-opens g c =
     let head = c.in-Ok.ensures in
     let e = c.in-Ok-prepare.ensures in
-    read_opened g.S.Store.disk g.met.S.Store.only_now c.args.keys.now c.args.store.now c.head.new.store head.serves.goes head.passes c.prepare.new.store e.serves.goes c.in-Ok-prepare.opening e.opening.begins.sealer e.opening.begins.durable e.opening.register
+    read_opened (λ s. g.S.Store.disk s) g.met.S.Store.only_now c.args.keys.now c.args.store.now c.head.new.store head.serves.goes head.passes _ c.in-Ok.params c.prepare.new.store e.serves.goes _ _ c.in-Ok-prepare.opening e.opened e.leaves

@@ -3,16 +3,16 @@ use Rattle.ob_top.proofs.Over.{audit_low, usage_over, audit_over, format_over, r
 use Rattle.ob_top.proofs.top.obladi.Goals as goal
 
 pub returns-in-Some-clause-usage : goal.returns-in-Some-clause-usage
-returns-in-Some-clause-usage g c = rw c.in-Some.is (usage_over g.S.Store.disk _ _ _ _ _ _ _ _ c.do_with.ensures.does)
+returns-in-Some-clause-usage g c = rw c.in-Some.is (usage_over g.S.Store.disk _ _ _ _ _ _ _ _ _ c.do_with.ensures.does)
 
 pub returns-in-Some-clause-audit : goal.returns-in-Some-clause-audit
-returns-in-Some-clause-audit g c = rw c.in-Some.is (audit_over g.S.Store.disk _ _ _ _ _ _ _ _ c.do_with.ensures.does)
+returns-in-Some-clause-audit g c = rw c.in-Some.is (audit_over g.S.Store.disk _ _ _ _ _ _ _ _ _ c.do_with.ensures.does)
 
 pub returns-in-Some-clause-format : goal.returns-in-Some-clause-format
-returns-in-Some-clause-format g c = rw c.in-Some.is (format_over g.S.Store.disk _ _ _ _ _ _ _ _ c.do_with.ensures.does)
+returns-in-Some-clause-format g c = rw c.in-Some.is (format_over g.S.Store.disk _ _ _ _ _ _ _ _ _ c.do_with.ensures.does)
 
 pub returns-in-Some-clause-run : goal.returns-in-Some-clause-run
-returns-in-Some-clause-run g c = rw c.in-Some.is (run_over g.S.Store.disk _ _ _ _ _ _ _ _ c.do_with.ensures.does)
+returns-in-Some-clause-run g c = rw c.in-Some.is (run_over g.S.Store.disk _ _ _ _ _ _ _ _ _ c.do_with.ensures.does)
 
 pub returns-in-None-clause-usage : goal.returns-in-None-clause-usage
 returns-in-None-clause-usage g c = rw c.in-None.is (usage_alone _ _ _ _ _ c.do_without.ensures)
@@ -27,14 +27,14 @@ pub returns-in-None-clause-run : goal.returns-in-None-clause-run
 returns-in-None-clause-run g c = rw c.in-None.is (run_alone _ _ _ _ _ c.do_without.ensures)
 
 pub returns-in-Some-clause-complete : goal.returns-in-Some-clause-complete
-returns-in-Some-clause-complete g c = rw c.in-Some.is (completes g.S.Store.disk _ _ _ _ _ _ _ _
-    (format_over g.S.Store.disk _ _ _ _ _ _ _ _ c.do_with.ensures.does) (run_over g.S.Store.disk _ _ _ _ _ _ _ _ c.do_with.ensures.does))
+returns-in-Some-clause-complete g c = rw c.in-Some.is (completes g.S.Store.disk _ _ _ _ _ _ _ _ _
+    (format_over g.S.Store.disk _ _ _ _ _ _ _ _ _ c.do_with.ensures.does) (run_over g.S.Store.disk _ _ _ _ _ _ _ _ _ c.do_with.ensures.does))
 
 pub returns-in-None-clause-complete : goal.returns-in-None-clause-complete
 returns-in-None-clause-complete g c = rw c.in-None.is tt
 
 pub returns-in-Some-clause-audit_complete : goal.returns-in-Some-clause-audit_complete
-returns-in-Some-clause-audit_complete g c = λ asks. audit_low _ _ _ _ (audit_over g.S.Store.disk _ _ _ _ _ _ _ _ c.do_with.ensures.does asks)
+returns-in-Some-clause-audit_complete g c = λ asks. audit_low _ _ _ _ (audit_over g.S.Store.disk _ _ _ _ _ _ _ _ _ c.do_with.ensures.does asks)
 
 pub returns-in-None-clause-audit_complete : goal.returns-in-None-clause-audit_complete
 returns-in-None-clause-audit_complete g c = λ asks. audit_low _ _ _ _ (audit_without _ _ _ _ _ c.do_without.ensures asks)
