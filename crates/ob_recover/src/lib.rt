@@ -16,10 +16,3 @@ pub use heads::{VERSION, head};
 pub use reading::read_batch;
 pub use replaying::replay;
 pub use showing::show_reads;
-
-#[cfg(test)]
-mod replay_tests;
-#[cfg(test)]
-mod tests;
-#[cfg(test)]
-mod two_epochs;

@@ -11,8 +11,3 @@ mod rooms;
 pub use formatting::format;
 pub use opening::Opening;
 pub use preparing::prepare;
-
-#[cfg(test)]
-mod opened_tests;
-#[cfg(test)]
-mod tests;

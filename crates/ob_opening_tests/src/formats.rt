@@ -2,15 +2,15 @@
 
 ghost use Rattle.std.specs.Prelude.{◌≡◌};
 
-use crate::format;
-use crate::opened_tests::{left_after, new_store, open, opened};
-use ob_base::{Fault, Params, ring_cells};
+use crate::openings::{left_after, new_store, open, opened};
+use crate::small::{small_store, test_keys};
+use ob_base::Fault;
 use ob_cells::read_cells;
 use ob_mem::{Fail, MemSink, MemStore};
 use ob_recover::{find, head};
-use ob_seal::Keys;
 use ob_store::{Blind, SinkWatch};
 use ob_tape::{ChaChaTape, ListTape};
+use ob_vault::format;
 use sha2::{Digest, Sha256};
 use std::alloc::Global;
 use std::process::Abort;
@@ -22,26 +22,13 @@ const NEW: [u8; 32] = [
     0x3d, 0x91, 0x4b, 0x30, 0xe9, 0xcb, 0xbf, 0xd9, 0x80, 0xaf, 0x27, 0x1b, 0x6d, 0x17, 0xb8, 0xa1,
 ];
 
-// The bytes 0 to 95.
-fn key_bytes() -> [u8; 96] {
-    let mut bytes = [0; 96];
-    for i in 0..96 {
-        bytes[i] = i as u8;
-    }
-    bytes
-}
-
-// Their last 32.
+// The last 32 of the bytes 0 to 95.
 fn tape_key() -> [u8; 32] {
     let mut bytes = [0; 32];
     for i in 0..32 {
         bytes[i] = 64 + i as u8;
     }
     bytes
-}
-
-fn small_store(rt: &impl Abort) -> Params {
-    Params::new(8, 2, 2, 3, 2, 2, 2, 2, 8).expect(rt, "parameters")
 }
 
 // The digest of all cells of a store.
@@ -59,7 +46,7 @@ fn digest_of(rt: &impl Abort, store: &mut MemStore) -> [u8; 32] {
 fn a_new_store_is_that_of_another_implementation(rt: HostRuntime) {
     let alloc = rt.alloc();
     let p = small_store(&rt);
-    let keys = Keys::from_bytes(&key_bytes());
+    let keys = test_keys();
     let mut store = MemStore::new(alloc, 109, Vec::new(alloc)).expect(&rt, "memory");
     let mut tape = ChaChaTape::new(&tape_key());
     let mut sink = MemSink::new(alloc, 1000, Vec::new(alloc)).expect(&rt, "memory");
@@ -77,7 +64,7 @@ fn format_with(rt: &impl Abort, alloc: Global, fail: Fail) -> Result<(), Fault> 
     let fails = [fail].to_vec(alloc).expect(rt, "memory");
     let mut store = MemStore::new(alloc, 109, fails).expect(rt, "memory");
     let mut tape = ListTape::new(alloc, &[]).expect(rt, "memory");
-    let keys = Keys::from_bytes(&key_bytes());
+    let keys = test_keys();
     format(
         alloc,
         &mut store,
@@ -115,7 +102,7 @@ const STANDING: [(Option<[u8; 128]>, &[usize]); 3] = [
 #[test]
 fn a_format_may_crash_at_any_moment(rt: HostRuntime) {
     let alloc = rt.alloc();
-    let keys = Keys::from_bytes(&key_bytes());
+    let keys = test_keys();
     let p = small_store(&rt);
     let mut store = new_store(&rt, alloc, &[]);
     let mut tape = ListTape::new(alloc, &[]).expect(&rt, "memory");

@@ -1,5 +1,5 @@
 use Rattle.std.proofs.Common.{◌≡◌}
-use Rattle.ob_recover.proofs.replay_tests.after_two_epochs.Given as goal
+use Rattle.ob_opening_tests.proofs.replaying.after_two_epochs.Given as goal
 
 abbrev pub invariant-loop-i : goal.invariant-loop-i
 invariant-loop-i g l = l.store.log.out ≡ 0

@@ -2,26 +2,19 @@
 
 ghost use Rattle.std.specs.Prelude.{◌≡◌};
 
+use crate::small::{small_store, test_keys};
 use crate::two_epochs::CELLS;
-use crate::{find, replay};
 use hex::FromHex;
-use ob_base::{Jobs, Params};
+use ob_base::Jobs;
 use ob_batch::Crew;
 use ob_check::Sheet;
 use ob_mem::MemStore;
+use ob_recover::{find, replay};
 use ob_ring::Ring;
-use ob_seal::{Keys, Sealer};
+use ob_seal::Sealer;
 use ob_store::{Blind, Store};
 use std::alloc::Global;
 use std::process::Abort;
-
-fn test_keys() -> Keys {
-    let mut bytes = [0; 96];
-    for i in 0..96 {
-        bytes[i] = i as u8;
-    }
-    Keys::from_bytes(&bytes)
-}
 
 // The store after two epochs.
 fn after_two_epochs(rt: &impl Abort, alloc: Global) -> MemStore
@@ -70,7 +63,7 @@ fn replayed(rt: &impl Abort, alloc: Global, store: &mut MemStore) -> (Ring, u32)
     requires { store.old.log.out ≡ 0 }
 {
     let keys = test_keys();
-    let p = Params::new(8, 2, 2, 3, 2, 2, 2, 2, 8).expect(rt, "parameters");
+    let p = small_store(rt);
     let mut sheet = Sheet::new(alloc, &p).expect(rt, "memory");
     let found = find(alloc, store, &keys, &p, &mut sheet, &mut Blind).expect(rt, "a store");
     assert!(rt; (found.generation, found.epoch) == (2, 2));

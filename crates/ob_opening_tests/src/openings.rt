@@ -3,30 +3,18 @@
 ghost use Rattle.std.specs.Prelude.{◌≡◌, ◌∷◌, None, replicate};
 ghost use Rattle.ob_mem.specs.Memory.{disk_of_store};
 
-use crate::{format, prepare};
+use crate::small::{small_store, test_keys};
 use ob_base::{Check, Fault, Key, Params, set_u64};
 use ob_log::append;
 use ob_mem::{Fail, MemSink, MemStore};
-use ob_seal::{Keys, Sealer};
+use ob_seal::Sealer;
 use ob_store::{Blind, SinkWatch, Store, Watch};
 use ob_tape::ListTape;
+use ob_vault::{format, prepare};
 use std::alloc::Global;
 use std::process::Abort;
 
 const OPEN: [u8; 128] = [0xA5; 128];
-
-fn small_store(rt: &impl Abort) -> Params {
-    Params::new(8, 2, 2, 3, 2, 2, 2, 2, 8).expect(rt, "parameters")
-}
-
-// The keys of the bytes 0 to 95.
-fn test_keys() -> Keys {
-    let mut bytes = [0; 96];
-    for i in 0..96 {
-        bytes[i] = i as u8;
-    }
-    Keys::from_bytes(&bytes)
-}
 
 // How an opening is answered.
 #[derive(Clone, Copy, Debug, PartialEq, Eq)]

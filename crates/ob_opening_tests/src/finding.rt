@@ -2,12 +2,13 @@
 
 ghost use Rattle.std.specs.Prelude.{◌≡◌, ◌≤◌};
 
-use crate::{Found, find, head};
+use crate::small::{small_store, test_keys};
 use hex::FromHex;
-use ob_base::{Check, Fault, Params, set_u64};
+use ob_base::{Check, Fault, set_u64};
 use ob_check::Sheet;
 use ob_mem::{Fail, MemSink, MemStore};
-use ob_seal::{Keys, Sealer};
+use ob_recover::{Found, find, head};
+use ob_seal::Sealer;
 use ob_store::{Blind, SinkWatch, Store};
 use std::alloc::Global;
 use std::process::Abort;
@@ -81,14 +82,6 @@ const FORMATTED: [(u64, &str); 16] = [
     ),
 ];
 
-fn test_keys() -> Keys {
-    let mut bytes = [0; 96];
-    for i in 0..96 {
-        bytes[i] = i as u8;
-    }
-    Keys::from_bytes(&bytes)
-}
-
 // Such a store, where these calls fail.
 fn formatted(rt: &impl Abort, alloc: Global, fails: &[Fail]) -> MemStore
     ensures { result.log.out ≡ 0 }
@@ -130,7 +123,7 @@ fn with_changes(rt: &impl Abort, alloc: Global, cells: &[u64]) -> MemStore
 fn found_in(rt: &impl Abort, alloc: Global, store: &mut MemStore) -> Result<Found, Fault>
     ensures { store.new.log.out ≤ store.old.log.out }
 {
-    let p = Params::new(8, 2, 2, 3, 2, 2, 2, 2, 8).expect(rt, "parameters");
+    let p = small_store(rt);
     let mut sheet = Sheet::new(alloc, &p).expect(rt, "memory");
     find(alloc, store, &test_keys(), &p, &mut sheet, &mut Blind)
 }

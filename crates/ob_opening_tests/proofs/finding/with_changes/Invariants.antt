@@ -1,5 +1,5 @@
 use Rattle.std.proofs.Common.{◌≡◌}
-use Rattle.ob_recover.proofs.tests.with_changes.Given as goal
+use Rattle.ob_opening_tests.proofs.finding.with_changes.Given as goal
 
 abbrev pub invariant-loop-cell : goal.invariant-loop-cell
 invariant-loop-cell g l = l.store.log.out ≡ 0

@@ -1,6 +1,6 @@
 use Rattle.std.proofs.Common.{◌≡◌, List, Option, None, length, take, refl}
 use Rattle.ob_log.proofs.OneAsk.{one_low, one_apart}
-use Rattle.ob_vault.proofs.opened_tests.append_pads.Goals as goal
+use Rattle.ob_opening_tests.proofs.openings.append_pads.Goals as goal
 
 pub append-requires-clause-keys_low : goal.append-requires-clause-keys_low
 append-requires-clause-keys_low c =
