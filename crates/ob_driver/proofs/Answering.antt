@@ -21,3 +21,7 @@ module _ {T E : Type 0} where
   pub if_err : (result : Result T E) (P S : E → Type 0) → ((e : E) → P e → S e) → IfErr result P → IfErr result S
   if_err (Ok x) P S so p = tt
   if_err (Err e) P S so p = so e p
+
+  pub on_ok_both : (result : Result T E) (P Q S : Type 0) → (P → Q → S) → OnOk result P → OnOk result Q → OnOk result S
+  on_ok_both (Ok x) P Q S so p q = so p q
+  on_ok_both (Err e) P Q S so p q = tt

@@ -83,7 +83,7 @@ asks_later k a b xs n m rose = rose_later (k.disk a.vault).faults (k.disk b.vaul
 -- ---- batches within a turn
 
 pub notes_none : (now : Pass) → NotesMore now now []
-notes_none now = record { made = refl; noted = sym (append-nil (noted_by now)); place = refl; ear = refl }
+notes_none now = record { made = refl; seen = refl; noted = sym (append-nil (noted_by now)); place = refl; ear = refl }
 
 module _ {V : Type 0} (k : Kind V) (hall : Hall) where
   pub inside_none : (now : Pass) (a : Scene V) (c : VaultCounts) → IsInTurn hall now a.desk → IsBetweenActs (params_of hall) a.desk c → ReadsInside k hall now a [] now a c

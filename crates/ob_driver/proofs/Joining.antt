@@ -25,8 +25,8 @@ use Rattle.ob_conduct.proofs.Acting.{tells_none, written_none}
 use Rattle.ob_conduct.proofs.Going.{calls_append, records_append, ended_append, answered_join, tells_join, written_then, cut_then}
 use Rattle.ob_driver.specs.declared.round.Round.{Round}
 use Rattle.ob_driver.specs.Resting.{IsBetweenTurns}
-use Rattle.ob_driver.specs.Driven.{Side, epochs_of, Acts, DoneOnce, FailsOnce}
-use Rattle.ob_driver.specs.Drives.{AreThings, DoneThings, FailsThings}
+use Rattle.ob_driver.specs.Driven.{Side, side, epochs_of, Acts, DoneOnce, FailsOnce}
+use Rattle.ob_driver.specs.Drives.{AreThings, DoneThings, FailsThings, RunsOut, RunFails}
 use Rattle.ob_driver.proofs.Turning.{acts_append}
 
 -- ---- lists of things
@@ -84,10 +84,11 @@ module _ {V : Type 0} (k : Kind V) (beat : BeatKind) where
 
   module _ (hall : Hall) (a : Side V) (c : VaultCounts) where
     -- nothing was done yet
-    pub done_none : IsBetweenTurns hall a.pass c → DoneThings k beat hall a c a c
-    done_none rests = record {
+    pub done_none : (Also : List Act → Type 0) → Also [] → IsBetweenTurns hall a.pass c → DoneThings k beat hall Also a c a c
+    done_none Also also rests = record {
       acts = [];
       things = things_none;
+      also = also;
       done = record {
         acts_are = record {
           allowed = All-nil (IsAllowed beat);
@@ -107,12 +108,13 @@ module _ {V : Type 0} (k : Kind V) (beat : BeatKind) where
       };
     }
 
-    module _ (b e : Side V) (d : VaultCounts) (m : DoneThings k beat hall a c b d) where
+    module _ (b e : Side V) (d : VaultCounts) (A B : List Act → Type 0) (m : DoneThings k beat hall A a c b d) where
       -- one more was done
-      pub done_more : (next : VaultCounts) (round : Round) → DoneOnce k beat hall b d e next round → DoneThings k beat hall a c e next
-      done_more next round n = record {
+      pub done_more : (next : VaultCounts) (round : Round) (n : DoneOnce k beat hall b d e next round) → B (m.acts ++ n.acts) → DoneThings k beat hall B a c e next
+      done_more next round n also = record {
         acts = m.acts ++ n.acts;
         things = things_more m.acts n.acts m.things n.one;
+        also = also;
         done = record {
           acts_are = acts_join a b e m.acts n.acts m.done.acts_are n.done.acts_are;
           answered = subst AreAnswered (sym (calls_append m.acts n.acts)) (answered_join (calls m.acts) (calls n.acts) m.done.answered n.done.answered);
@@ -123,10 +125,11 @@ module _ {V : Type 0} (k : Kind V) (beat : BeatKind) where
       }
 
       -- one more failed
-      pub fails_behind : (fault : Fault) → FailsOnce k beat hall b d e fault → FailsThings k beat hall a c e fault
-      fails_behind fault n = record {
+      pub fails_behind : (fault : Fault) (n : FailsOnce k beat hall b d e fault) → B (m.acts ++ n.acts) → FailsThings k beat hall B a c e fault
+      fails_behind fault n also = record {
         acts = m.acts ++ n.acts;
         things = things_more m.acts n.acts m.things n.one;
+        also = also;
         fails = record {
           acts_are = acts_join a b e m.acts n.acts m.done.acts_are n.fails.acts_are;
           own = n.fails.own;
@@ -143,3 +146,18 @@ module _ {V : Type 0} (k : Kind V) (beat : BeatKind) where
           lines = subst (λ (rs : List (EpochRecord ℕ)). AreLines n.fails.last rs a.output e.output) (sym (records_append m.acts n.acts)) (lines_behind n.fails.last (records m.acts) (records n.acts) a.output b.output e.output m.done.written n.fails.lines);
         };
       }
+
+-- ---- what else is so of the acts, by what it follows from
+
+module _ {V : Type 0} (k : Kind V) (beat : BeatKind) (hall : Hall) (A B : List Act → Type 0) (so : (acts : List Act) → A acts → B acts) (old : Side V) (c : VaultCounts) (new : Side V) where
+  pub done_also : (next : VaultCounts) → DoneThings k beat hall A old c new next → DoneThings k beat hall B old c new next
+  done_also next m = record { acts = m.acts; things = m.things; also = so m.acts m.also; done = m.done }
+
+  pub fails_also : (fault : Fault) → FailsThings k beat hall A old c new fault → FailsThings k beat hall B old c new fault
+  fails_also fault m = record { acts = m.acts; things = m.things; also = so m.acts m.also; fails = m.fails }
+
+pub runs_out_also : {V : Type 0} (k : Kind V) (beat : BeatKind) (hall : Hall) (A B : List Act → Type 0) (old : Side V) (c : VaultCounts) (new : Side V) (next : VaultCounts) → ((acts : List Act) → A acts → B acts) → RunsOut k beat hall A old c new next → RunsOut k beat hall B old c new next
+runs_out_also k beat hall A B old c new next so r = record { rung = r.rung; found = r.found; done = done_also k beat hall A B so (side r.rung old.vault old.trace old.output) c new next r.done; over = r.over }
+
+pub run_fails_also : {V : Type 0} (k : Kind V) (beat : BeatKind) (hall : Hall) (A B : List Act → Type 0) (old : Side V) (c : VaultCounts) (new : Side V) (fault : Fault) → ((acts : List Act) → A acts → B acts) → RunFails k beat hall A old c new fault → RunFails k beat hall B old c new fault
+run_fails_also k beat hall A B old c new fault so r = record { rung = r.rung; found = r.found; fails = fails_also k beat hall A B so (side r.rung old.vault old.trace old.output) c new fault r.fails }

@@ -12,3 +12,5 @@ pub mod Beginning
 pub mod Answering
 pub mod Joining
 pub mod Trying
+pub mod Standing
+pub mod Rounding

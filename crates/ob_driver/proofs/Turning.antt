@@ -36,6 +36,7 @@ call_noted hall now next d new s t n own may step none = record {
 pub notes_one : (now next : Pass) (s : Call × Reply) → NotesTurn now next (s ∷ []) → NotesMore now next (s ∷ [])
 notes_one now next s n = record {
   made = λ i. (n.notes.knows i).mine;
+  seen = λ i. (n.notes.knows i).seen;
   noted = ap noted_calls (λ i. (n.notes.knows i).noted) ∙ flat_map-append (λ (c : Steps). c) now.seat.me.0.noted ((s ∷ []) ∷ []);
   place = λ i. (n.notes.knows i).by;
   ear = n.beside.ear;
@@ -44,6 +45,7 @@ notes_one now next s n = record {
 pub notes_join : (a b c : Pass) (xs ys : Steps) → NotesMore a b xs → NotesMore b c ys → NotesMore a c (xs ++ ys)
 notes_join a b c xs ys m n = record {
   made = n.made ∙ m.made;
+  seen = n.seen ∙ m.seen;
   noted = n.noted ∙ (ap (λ (l : Steps). l ++ ys) m.noted ∙ append_assoc (noted_by a) xs ys);
   place = n.place ∙ m.place;
   ear = n.ear ∙ m.ear;

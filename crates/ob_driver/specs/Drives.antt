@@ -20,16 +20,18 @@ pub record AreThings (acts : List Act) : Type 0 where
   pub acts_are : acts ≡ flat_map (λ (thing : List Act). thing) things
   pub each : All IsOneThing things
 
--- things that the driver did, which nobody refused
-pub record DoneThings {V : Type 0} (k : Kind V) (beat : BeatKind) (hall : Hall) (old : Side V) (c : VaultCounts) (new : Side V) (next : VaultCounts) : Type 0 where
+-- things that the driver did, which nobody refused; and of which this is so, too
+pub record DoneThings {V : Type 0} (k : Kind V) (beat : BeatKind) (hall : Hall) (Also : List Act → Type 0) (old : Side V) (c : VaultCounts) (new : Side V) (next : VaultCounts) : Type 0 where
   pub acts : List Act
   pub things : AreThings acts
+  pub also : Also acts
   pub done : Done k beat hall old c new next acts
 
--- things that the driver did, of which the last one tells of a fault
-pub record FailsThings {V : Type 0} (k : Kind V) (beat : BeatKind) (hall : Hall) (old : Side V) (c : VaultCounts) (new : Side V) (fault : Fault) : Type 0 where
+-- things that the driver did, of which the last one tells of a fault; and of which this is so, too
+pub record FailsThings {V : Type 0} (k : Kind V) (beat : BeatKind) (hall : Hall) (Also : List Act → Type 0) (old : Side V) (c : VaultCounts) (new : Side V) (fault : Fault) : Type 0 where
   pub acts : List Act
   pub things : AreThings acts
+  pub also : Also acts
   pub fails : Fails k beat hall old c new acts fault
 
 -- The history that the pass has seen leads to a desk that is over: each client has signed off, and no transaction waits for its epoch's end.
@@ -47,17 +49,17 @@ pub record IsFirstPass (hall : Hall) (pass : Pass) (p : Params) (c : VaultCounts
   pub serves : c.spent ≡ false
 
 -- The bell was raised to the epoch that the vault's opening found; then things were done, up to the end of the run.
-pub record RunsOut {V : Type 0} (k : Kind V) (beat : BeatKind) (hall : Hall) (old : Side V) (c : VaultCounts) (new : Side V) (next : VaultCounts) : Type 0 where
+pub record RunsOut {V : Type 0} (k : Kind V) (beat : BeatKind) (hall : Hall) (Also : List Act → Type 0) (old : Side V) (c : VaultCounts) (new : Side V) (next : VaultCounts) : Type 0 where
   pub rung : Pass
   pub found : IsRaised old.pass rung c.epoch
-  pub done : DoneThings k beat hall (side rung old.vault old.trace old.output) c new next
+  pub done : DoneThings k beat hall Also (side rung old.vault old.trace old.output) c new next
   pub over : IsOverAt hall new.pass
 
 -- The bell was raised so; then things were done, of which the last one tells of a fault.
-pub record RunFails {V : Type 0} (k : Kind V) (beat : BeatKind) (hall : Hall) (old : Side V) (c : VaultCounts) (new : Side V) (fault : Fault) : Type 0 where
+pub record RunFails {V : Type 0} (k : Kind V) (beat : BeatKind) (hall : Hall) (Also : List Act → Type 0) (old : Side V) (c : VaultCounts) (new : Side V) (fault : Fault) : Type 0 where
   pub rung : Pass
   pub found : IsRaised old.pass rung c.epoch
-  pub fails : FailsThings k beat hall (side rung old.vault old.trace old.output) c new fault
+  pub fails : FailsThings k beat hall Also (side rung old.vault old.trace old.output) c new fault
 
 -- memory was wanting before anything was done
 abbrev pub IsNotBegun : {V : Type 0} → Side V → Side V → Fault → Type 0

@@ -4,5 +4,6 @@ pub mod Turning
 pub mod Inside
 pub mod Driven
 pub mod Looks
+pub mod Places
 pub mod Drives
 pub mod Testing

@@ -1,13 +1,14 @@
 -- The driver's turns, and the acts that they are.
 use Rattle.std.specs.Prelude.{◌≡◌, List, [], ◌∷◌, ◌++◌}
 use Rattle.ob_turn.specs.declared.turn.Entry.{Entry}
-use Rattle.ob_hall.specs.Passes.{Steps, Pass, pass_place, entries_by, calls_in}
+use Rattle.ob_hall.specs.Passes.{Steps, Pass, pass_place, history_of, entries_by, calls_in}
 use Rattle.ob_conduct.specs.Acts.{Act, Halts, Rests, Takes, Delivers, DeliverFails, FetchFails, Closes, Publishes, Refuses, Unprinted, history}
 use Rattle.ob_driver.specs.Resting.{noted_by}
 
 -- in its turn the pass noted these calls behind others
 pub record NotesMore (before after : Pass) (calls : Steps) : Type 0 where
   pub made : entries_by after ≡ entries_by before
+  pub seen : history_of after ≡ history_of before
   pub noted : noted_by after ≡ noted_by before ++ calls
   pub place : pass_place after ≡ pass_place before
   pub ear : after.ear ≡ before.ear

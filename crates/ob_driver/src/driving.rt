@@ -8,6 +8,7 @@ ghost use Rattle.ob_hall.specs.Passes.{IsRaised};
 ghost use Rattle.ob_driver.specs.Resting.{params_of, IsBetweenTurns};
 ghost use Rattle.ob_driver.specs.Rooms.{HasRoom};
 ghost use Rattle.ob_driver.specs.Driven.{side};
+ghost use Rattle.ob_driver.specs.Places.{AreInRounds};
 ghost use Rattle.ob_driver.specs.Drives.{DoneThings, FailsThings, IsOverAt, IsFirstPass, RunsOut, RunFails};
 ghost use Rattle.ob_driver.specs.declared.round.Round.TheVariants as rounds;
 
@@ -41,7 +42,8 @@ fn pause<R: Wait>(rt: &R, hall: &Hall, round: Round, ran: bool, asked: u64) {
     }
 }
 
-// Looks, between which the clients made by hand make their steps, up to the end of the run.
+// Rounds, up to the end of the run: the clients made by hand make their steps, and then the driver
+// looks. Each turn of a round stands behind those before it.
 //
 // # Errors
 // The desk was found stopped; or the vault refused, or the output failed, and the desk is stopped.
@@ -65,9 +67,9 @@ fn drive_on<R: Wait, V: Vault, W: Watch, B: Beat, O: Sink, H: Hands>(
     ensures room { HasRoom (params_of hall.now) room.new }
     ensures anchors { B.anchors beat.new ≡ B.anchors beat.old }
     ensures hands { H.ready hall.now hands.new }
-    ensures stepped { H.stepped hall.now hands.old hands.new }
     ensures done { OnOk result (DoneThings (kind_of V.Vault)
         (beat_kind B.passes B.exact) hall.now
+        (AreInRounds (H.round hall.now) hands.old hands.new pass.old pass.new)
         (side pass.old vault.old (W.trace watch.old) (outflow O.Sink output.old))
         (V.counts vault.old)
         (side pass.new vault.new (W.trace watch.new) (outflow O.Sink output.new))
@@ -75,14 +77,18 @@ fn drive_on<R: Wait, V: Vault, W: Watch, B: Beat, O: Sink, H: Hands>(
     ensures over { OnOk result (IsOverAt hall.now pass.new) }
     ensures failed { IfErr result (λ fault. FailsThings (kind_of V.Vault)
         (beat_kind B.passes B.exact) hall.now
+        (AreInRounds (H.round hall.now) hands.old hands.new pass.old pass.new)
         (side pass.old vault.old (W.trace watch.old) (outflow O.Sink output.old))
         (V.counts vault.old)
         (side pass.new vault.new (W.trace watch.new) (outflow O.Sink output.new)) fault) }
 {
+    let mut turns: u64 = 0;
     for _ in rt.forever() {
         let asked = hall.asked();
-        let ran = hands.step_all(rt, hall);
-        let round = match look_once(rt, params, hall, pass, vault, watch, beat, output, room) {
+        let ran = hands.step_all(rt, hall, &mut turns);
+        let round = match look_once(
+            rt, params, hall, pass, vault, watch, beat, output, room, &mut turns,
+        ) {
             Ok(round) => round,
             Err(fault) => return Err(fault),
         };
@@ -134,15 +140,16 @@ pub fn drive_epochs<R: Wait, V: Vault, W: Watch, B: Beat, O: Sink, H: Hands>(
     ensures room { HasRoom params.now room.new }
     ensures anchors { B.anchors beat.new ≡ B.anchors beat.old }
     ensures hands { H.ready hall.now hands.new }
-    ensures stepped { H.stepped hall.now hands.old hands.new }
     ensures done { OnOk result (RunsOut (kind_of V.Vault)
         (beat_kind B.passes B.exact) hall.now
+        (AreInRounds (H.round hall.now) hands.old hands.new pass.old pass.new)
         (side pass.old vault.old (W.trace watch.old) (outflow O.Sink output.old))
         (V.counts vault.old)
         (side pass.new vault.new (W.trace watch.new) (outflow O.Sink output.new))
         (V.counts vault.new)) }
     ensures failed { IfErr result (λ fault. RunFails (kind_of V.Vault)
         (beat_kind B.passes B.exact) hall.now
+        (AreInRounds (H.round hall.now) hands.old hands.new pass.old pass.new)
         (side pass.old vault.old (W.trace watch.old) (outflow O.Sink output.old))
         (V.counts vault.old)
         (side pass.new vault.new (W.trace watch.new) (outflow O.Sink output.new)) fault) }

@@ -15,6 +15,7 @@ ghost use Rattle.ob_conduct.specs.Scenes.{scene};
 ghost use Rattle.ob_conduct.specs.Ready.{IsBetweenActs};
 ghost use Rattle.ob_driver.specs.Resting.{params_of, noted_by, IsInTurn, IsBetweenTurns};
 ghost use Rattle.ob_driver.specs.Turning.{MakesTurn};
+ghost use Rattle.ob_driver.specs.Places.{EndsItsTurn};
 ghost use Rattle.ob_driver.specs.Inside.{counts_ended, IsLooking, ReadsInside, RefusesInside, Ends, EndRefused};
 ghost use Rattle.ob_driver.specs.Rooms.{HasRoom};
 ghost use Rattle.ob_driver.specs.Driven.{side, FailsOnce, EndedOnce};
@@ -118,6 +119,7 @@ fn stop_inside(hall: &Hall, pass: &mut Pass, mut desk: Desk, fault: Fault)
     requires turn { IsInTurn hall.now pass.old desk }
     ensures made { MakesTurn pass.old pass.new
         (noted_by pass.old ++ (desks.Stop fault, desks.Done) ∷ []) }
+    ensures ends { EndsItsTurn pass.old pass.new }
     ensures ear { pass.new.ear ≡ pass.old.ear }
     ensures own { IsPassOf hall.now pass.new }
     ensures idle { IsOutOfTurn pass.new }
@@ -146,6 +148,7 @@ fn publish(
           desks.Publish (ended + 1) params.now.batches,
           desks.Published (record_of result),
         ) ∷ []) }
+    ensures ends { EndsItsTurn pass.old pass.new }
     ensures raised { Raises pass.old.ear pass.new.ear ended }
     ensures own { IsPassOf hall.now pass.new }
     ensures idle { IsOutOfTurn pass.new }
@@ -190,6 +193,7 @@ fn close<V: Vault, W: Watch>(
     ensures refused { IfErr result (λ fault. EndRefused (kind_of V.Vault) desk.running.epoch pass.old
         (scene desk vault.old (W.trace watch.old)) fault pass.new
         (scene desk vault.new (W.trace watch.new))) }
+    ensures ends { EndsItsTurn pass.old pass.new }
     ensures own { IsPassOf hall.now pass.new }
     ensures idle { IsOutOfTurn pass.new }
 {
@@ -234,6 +238,7 @@ pub fn end_epoch<V: Vault, W: Watch>(
     requires room { HasRoom (params_of hall.now) room.old }
     ensures params { V.params vault.new ≡ params_of hall.now }
     ensures room { HasRoom (params_of hall.now) room.new }
+    ensures ends { EndsItsTurn pass.old pass.new }
     ensures rests { OnOk result (IsBetweenTurns hall.now pass.new (V.counts vault.new)) }
     // Behind a look at which it may be done.
     ensures ended { (beat : BeatKind) (look : Seen) (flow : Flow)

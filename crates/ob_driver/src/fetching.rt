@@ -12,6 +12,7 @@ ghost use Rattle.ob_hall.specs.Passes.{IsPassOf, IsOutOfTurn};
 ghost use Rattle.ob_conduct.specs.Acts.{look_calls, MayAct, IsToFetch};
 ghost use Rattle.ob_driver.specs.Resting.{params_of, noted_by, IsInTurn, IsDriver, IsOut};
 ghost use Rattle.ob_driver.specs.Turning.{MakesTurn};
+ghost use Rattle.ob_driver.specs.Places.{MakesEntries, EndsItsTurn, IsTurnAt, MakesFromItsTurn};
 ghost use Rattle.ob_driver.specs.Inside.{IsLooking};
 ghost use Rattle.ob_driver.specs.Driven.{side, DoneOnce, FailsOnce};
 ghost use Rattle.ob_driver.specs.declared.round.Round.TheVariants as rounds;
@@ -34,6 +35,7 @@ fn take(hall: &Hall, pass: &mut Pass, mut desk: Desk, asks: &mut Vec<Option<Key>
     ensures taken { (mid : DeskState) × desks.TakeStep desk asks.new.items mid }
     ensures made { MakesTurn pass.old pass.new
         (noted_by pass.old ++ (desks.TakeBatch, desks.Batch asks.new.items) ∷ []) }
+    ensures ends { EndsItsTurn pass.old pass.new }
     ensures places { length asks.new.items ≡ length asks.old.items }
     ensures ear { pass.new.ear ≡ pass.old.ear }
     ensures own { IsPassOf hall.now pass.new }
@@ -44,42 +46,47 @@ fn take(hall: &Hall, pass: &mut Pass, mut desk: Desk, asks: &mut Vec<Option<Key>
     leave(hall, pass, desk, Driven::TakeBatch { batch });
 }
 
-// Delivers the values of the batch, in a turn.
+// Delivers the values of the batch, in a turn, which stands behind so many as `turns` says.
 fn deliver<R: Wait>(
     rt: &R,
     hall: &Hall,
     pass: &mut Pass,
     asks: &Vec<Option<Key>>,
     found: &Vec<Option<Value>>,
+    turns: &mut u64,
 )
     requires out { (c : VaultCounts) × IsOut hall.now pass.old c asks.now.items }
     requires whole { length found.now.items ≡ length asks.now.items }
     ensures made { MakesTurn pass.old pass.new
         ((desks.Deliver asks.now.items found.now.items, desks.Done) ∷ []) }
+    ensures stand { MakesEntries pass.old turns.old pass.new turns.new }
     ensures ear { pass.new.ear ≡ pass.old.ear }
     ensures own { IsPassOf hall.now pass.new }
     ensures idle { IsOutOfTurn pass.new }
 {
-    let mut desk = hall.enter(rt, pass);
+    let (mut desk, count) = hall.enter_behind(rt, pass, *turns);
     deliver_batch(&mut desk, asks, found);
     let keys = Snapshot::of(asks);
     let values = Snapshot::of(found);
     leave(hall, pass, desk, Driven::Deliver { keys, values });
+    *turns = count;
     hall.wake();
 }
 
-/// Stops the desk with a fault, in a turn.
-pub fn stop<R: Wait>(rt: &R, hall: &Hall, pass: &mut Pass, fault: Fault)
+/// Stops the desk with a fault, in a turn, which stands behind so many as `turns` says.
+pub fn stop<R: Wait>(rt: &R, hall: &Hall, pass: &mut Pass, fault: Fault, turns: &mut u64)
     requires driver { IsDriver hall.now pass.old }
     requires idle { IsOutOfTurn pass.old }
     ensures made { MakesTurn pass.old pass.new ((desks.Stop fault, desks.Done) ∷ []) }
+    ensures stand { MakesEntries pass.old turns.old pass.new turns.new }
     ensures ear { pass.new.ear ≡ pass.old.ear }
     ensures own { IsPassOf hall.now pass.new }
     ensures idle { IsOutOfTurn pass.new }
 {
-    let mut desk = hall.enter(rt, pass);
+    let (mut desk, count) = hall.enter_behind(rt, pass, *turns);
     desk.stop(fault);
     leave(hall, pass, desk, Driven::Stop { fault });
+    *turns = count;
     hall.wake();
 }
 
@@ -97,15 +104,18 @@ pub fn fetch<R: Wait, V: Vault, W: Watch>(
     watch: &mut W,
     asks: &mut Vec<Option<Key>>,
     found: &mut Vec<Option<Value>>,
+    turns: &mut u64,
 ) -> Result<(), Fault>
     requires params { V.params vault.old ≡ params_of hall.now }
     requires looking { IsLooking hall.now pass.old desk (V.counts vault.old) }
     requires some_left { 0 < (V.counts vault.old).left }
     requires places { length asks.old.items ≡ (params_of hall.now).places }
     requires room { length found.old.items ≡ (params_of hall.now).places }
+    requires turns { IsTurnAt pass.old turns.old }
     ensures params { V.params vault.new ≡ params_of hall.now }
     ensures places { length asks.new.items ≡ (params_of hall.now).places }
     ensures room { length found.new.items ≡ (params_of hall.now).places }
+    ensures stand { MakesFromItsTurn pass.old turns.old pass.new turns.new }
     // Behind a look at which it may be done this is a thing that the driver does.
     ensures fetched { (beat : BeatKind) (look : Seen) (flow : Flow)
         → noted_by pass.old ≡ look_calls look → MayAct beat look → IsToFetch look
@@ -121,11 +131,11 @@ pub fn fetch<R: Wait, V: Vault, W: Watch>(
     take(hall, pass, desk, asks);
     match read_batch(vault, watch, asks, found) {
         Ok(()) => {
-            deliver(rt, hall, pass, asks, found);
+            deliver(rt, hall, pass, asks, found, turns);
             Ok(())
         }
         Err(fault) => {
-            stop(rt, hall, pass, fault);
+            stop(rt, hall, pass, fault, turns);
             Err(fault)
         }
     }

@@ -5,25 +5,22 @@ use std::sync::Wait;
 
 /// Clients whose calls are made by hand, on the driver's own thread, between its looks.
 pub trait Hands {
+    ghost use Rattle.std.specs.Prelude.{ℕ};
     ghost use Rattle.ob_hall.specs.Passes.{Hall as AnyHall};
 
     /// They may make steps at this hall.
     ghost ready: { AnyHall → Self → Type 0 };
 
-    /// What steps they made, one behind the other.
-    ghost stepped: { AnyHall → Self → Self → Type 0 };
+    /// One round: each of them made one step. The turns of these steps stand one behind the other,
+    /// and behind the first so many; up to the last of them there are so many.
+    ghost round: { AnyHall → ℕ → Self → Self → ℕ → Type 0 };
 
-    /// Each one in order makes one step. Answers whether one of them ran.
-    fn step_all<R: Wait>(&mut self, rt: &R, hall: &Hall) -> bool
+    /// Each one in order makes one step. `turns` says how many turns the caller was told of, and then
+    /// how many there are up to the last of these. Answers whether one of them ran.
+    fn step_all<R: Wait>(&mut self, rt: &R, hall: &Hall, turns: &mut u64) -> bool
         requires ready { ready hall.now self.old }
         ensures ready { ready hall.now self.new }
-        ensures stepped { stepped hall.now self.old self.new };
-
-    /// None were made.
-    ghost none: { (hall : AnyHall) (hands : Self) → stepped hall hands hands };
-
-    /// Some were, and then others.
-    ghost behind: { (hall : AnyHall) (first mid last : Self) → stepped hall first mid → stepped hall mid last → stepped hall first last };
+        ensures round { round hall.now turns.old self.old self.new turns.new };
 }
 
 /// No client is made by hand.
@@ -31,15 +28,13 @@ pub trait Hands {
 pub struct Nobody;
 
 impl Hands for Nobody {
+    ghost use Rattle.std.specs.Prelude.{◌≡◌};
+
     ghost ready = { λ hall hands. Unit {0} };
 
-    ghost stepped = { λ hall first last. Unit {0} };
+    ghost round = { λ hall n first last m. n ≡ m };
 
-    fn step_all<R: Wait>(&mut self, _rt: &R, _hall: &Hall) -> bool {
+    fn step_all<R: Wait>(&mut self, _rt: &R, _hall: &Hall, _turns: &mut u64) -> bool {
         false
     }
-
-    ghost none = { λ hall hands. tt };
-
-    ghost behind = { λ hall first mid last before after. tt };
 }

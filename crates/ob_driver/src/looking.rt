@@ -9,6 +9,7 @@ ghost use Rattle.ob_conduct.specs.Acts.{look_calls, MayAct, IsToEnd};
 ghost use Rattle.ob_driver.specs.Inside.{IsLooking};
 ghost use Rattle.ob_driver.specs.Resting.{params_of, noted_by, IsBetweenTurns};
 ghost use Rattle.ob_driver.specs.Rooms.{HasRoom};
+ghost use Rattle.ob_driver.specs.Places.{MakesEntries, IsTurnAt, MakesFromItsTurn};
 ghost use Rattle.ob_driver.specs.declared.round.Round.TheVariants as rounds;
 ghost use Rattle.ob_driver.specs.Driven.{side, DoneOnce, FailsOnce};
 ghost use Rattle.ob_driver.specs.Drives.{IsOverAt};
@@ -39,13 +40,16 @@ fn end_and_tell<R: Wait, V: Vault, W: Watch, O: Sink>(
     watch: &mut W,
     output: &mut O,
     room: &mut Room,
+    turns: &mut u64,
 ) -> Result<(), Fault>
     requires params { (V.params vault.old ≡ params_of hall.now) × (params.now ≡ params_of hall.now) }
     requires looking { IsLooking hall.now pass.old desk (V.counts vault.old) }
     requires goes_on { desk.stop ≡ None }
     requires room { HasRoom (params_of hall.now) room.old }
+    requires turns { IsTurnAt pass.old turns.old }
     ensures params { V.params vault.new ≡ params_of hall.now }
     ensures room { HasRoom (params_of hall.now) room.new }
+    ensures stand { MakesFromItsTurn pass.old turns.old pass.new turns.new }
     ensures ended { (beat : BeatKind) (look : Seen) → noted_by pass.old ≡ look_calls look
         → MayAct beat look → IsToEnd look → OnOk result (DoneOnce (kind_of V.Vault) beat hall.now
         (side pass.old vault.old (W.trace watch.old) (outflow O.Sink output.old))
@@ -66,13 +70,14 @@ fn end_and_tell<R: Wait, V: Vault, W: Watch, O: Sink>(
     match text(&told, output) {
         Ok(()) => Ok(()),
         Err(Failed) => {
-            stop(rt, hall, pass, Fault::SinkFault);
+            stop(rt, hall, pass, Fault::SinkFault, turns);
             Err(Fault::SinkFault)
         }
     }
 }
 
-/// The driver looks once, in a turn, and acts at most once.
+/// The driver looks once, in a turn, and acts at most once. `turns` says how many turns the caller
+/// was told of, behind which the driver's stand; and then how many there are up to its last one.
 ///
 /// # Errors
 /// The desk was found stopped; or the vault refused, or the output failed, and the desk is stopped.
@@ -86,6 +91,7 @@ pub fn look_once<R: Wait, V: Vault, W: Watch, B: Beat, O: Sink>(
     beat: &mut B,
     output: &mut O,
     room: &mut Room,
+    turns: &mut u64,
 ) -> Result<Round, Fault>
     requires params { (V.params vault.old ≡ params_of hall.now) × (params.now ≡ params_of hall.now) }
     requires rests { IsBetweenTurns hall.now pass.old (V.counts vault.old) }
@@ -93,6 +99,7 @@ pub fn look_once<R: Wait, V: Vault, W: Watch, B: Beat, O: Sink>(
     ensures params { V.params vault.new ≡ params_of hall.now }
     ensures room { HasRoom (params_of hall.now) room.new }
     ensures anchors { B.anchors beat.new ≡ B.anchors beat.old }
+    ensures stand { MakesEntries pass.old turns.old pass.new turns.new }
     ensures acted { IfOk result (λ round. DoneOnce (kind_of V.Vault)
         (beat_kind B.passes B.exact) hall.now
         (side pass.old vault.old (W.trace watch.old) (outflow O.Sink output.old))
@@ -106,7 +113,8 @@ pub fn look_once<R: Wait, V: Vault, W: Watch, B: Beat, O: Sink>(
         (V.counts vault.old)
         (side pass.new vault.new (W.trace watch.new) (outflow O.Sink output.new)) fault) }
 {
-    let desk = hall.enter(rt, pass);
+    let (desk, count) = hall.enter_behind(rt, pass, *turns);
+    *turns = count;
     let fault = desk.stopped();
     if let Some(found) = fault {
         leave(hall, pass, desk, Driven::IsStopped { fault });
@@ -126,14 +134,16 @@ pub fn look_once<R: Wait, V: Vault, W: Watch, B: Beat, O: Sink>(
         Plan::Fetch => {
             note(hall, pass, Driven::Looks { look });
             let (asks, found) = (&mut room.asks, &mut room.found);
-            match fetch(rt, hall, pass, desk, vault, watch, asks, found) {
+            match fetch(rt, hall, pass, desk, vault, watch, asks, found, turns) {
                 Ok(()) => Ok(Round::Acted),
                 Err(fault) => Err(fault),
             }
         }
         Plan::End => {
             note(hall, pass, Driven::Looks { look });
-            match end_and_tell(rt, params, hall, pass, desk, vault, watch, output, room) {
+            match end_and_tell(
+                rt, params, hall, pass, desk, vault, watch, output, room, turns,
+            ) {
                 Ok(()) => Ok(Round::Acted),
                 Err(fault) => Err(fault),
             }

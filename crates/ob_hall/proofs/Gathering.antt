@@ -18,7 +18,7 @@ use Rattle.ob_turn.specs.TurnRule.{both_views, joined_of}
 use Rattle.ob_turn.proofs.Closing.{all_left, all_right, last_of}
 use Rattle.ob_turn.proofs.Prefixes.{prefix_self, prefix_trans, longer-left}
 use Rattle.ob_hall.specs.Turns.{IsTurn}
-use Rattle.ob_hall.specs.Passes.{Steps, Hall, Pass, opening_of, raised_by, may_raise, callers_of, IsPassOf, IsEarOf, IsOutOfTurn}
+use Rattle.ob_hall.specs.Passes.{Steps, Hall, Pass, opening_of, raised_by, may_raise, callers_of, IsPassOf, IsOutOfTurn}
 use Rattle.ob_hall.specs.Closing.{HasPass, IsWholeHistory}
 
 abbrev pub V : Type 0

@@ -1,12 +1,12 @@
 -- The driver of epochs knows from its own calls how far the epochs are.
-use Rattle.std.proofs.Common.{◌≡◌, ℕ, zero, suc, ◌-◌, ◌==◌, Bool, true, false, if◌then◌else◌, List, [], ◌∷◌, ◌++◌, map, replicate, take, flat_map, Option, None, Some, refl, sym, ap, ◌∙◌, subst, inl, inr, eq-eqb, eqb-true}
+use Rattle.std.proofs.Common.{◌≡◌, ℕ, zero, suc, ◌-◌, ◌==◌, Bool, true, false, if◌then◌else◌, List, [], ◌∷◌, ◌++◌, map, replicate, take, None, Some, refl, sym, ap, ◌∙◌, inl, inr, eq-eqb, eqb-true}
 use Rattle.std.specs.Option.{is_some}
 use Rattle.std.proofs.lemmas.Bool.{false≢true}
 use Rattle.std.proofs.lemmas.Option.{none-some}
 use Rattle.std.specs.List.{All}
 use Rattle.std.proofs.lemmas.List.Elements.{All-head, All-tail}
 use Rattle.ob_base.specs.declared.fault.Fault.{Fault}
-use Rattle.ob_order.specs.Order.{OrderState, is_asked_for}
+use Rattle.ob_order.specs.Order.{is_asked_for}
 use Rattle.ob_desk.specs.Desk as desk
 use Rattle.ob_desk.specs.Desk.{DeskState, Call, Reply, DeskStep, is_memory, stop_closed}
 use Rattle.ob_session.specs.Steps.{Leads, IsOwn}
@@ -15,7 +15,7 @@ use Rattle.ob_session.proofs.Epochs.{halted}
 use Rattle.ob_turn.specs.declared.turn.Entry.{Entry}
 use Rattle.ob_turn.specs.History as turns
 use Rattle.ob_turn.specs.History.{Calls, entries_of}
-use Rattle.ob_hall.specs.Turns.{IsBy, IsTurn}
+use Rattle.ob_hall.specs.Turns.{IsTurn}
 use Rattle.ob_hall.specs.Passes.{Steps, calls_in}
 use Rattle.ob_hall.specs.Rounds.{Rounds, rounds_of, keys_in, rounds_after, rounds_behind}
 use Rattle.ob_hall.proofs.Numbers.{setup_run}

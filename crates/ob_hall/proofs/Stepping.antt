@@ -1,5 +1,5 @@
 -- A runner's steps, in turns of its client's pass.
-use Rattle.std.proofs.Common.{◌≡◌, ℕ, List, [], ◌∷◌, ◌++◌, sym, ap, subst, ◌∙◌, append_assoc, append-nil}
+use Rattle.std.proofs.Common.{◌≡◌, ◌+◌, ℕ, List, [], ◌∷◌, ◌++◌, length, length-append, arith, sym, ap, subst, ◌∙◌, append_assoc, append-nil}
 use Rattle.std.specs.List.{All}
 use Rattle.std.proofs.lemmas.List.Elements.{All-append}
 use Rattle.ob_desk.specs.Desk.{DeskState}
@@ -10,7 +10,7 @@ use Rattle.ob_session.proofs.Saying.{said_append}
 use Rattle.ob_turn.specs.declared.turn.Entry.{Entry}
 use Rattle.ob_turn.specs.History.{entry}
 use Rattle.ob_turn.specs.TurnRule.{left}
-use Rattle.ob_hall.specs.Passes.{Steps, Hall, Pass, pass_place, entries_by, calls_in, own_calls, said_of, EntersTurn, LeavesTurn}
+use Rattle.ob_hall.specs.Passes.{Steps, Hall, Pass, pass_place, history_of, entries_by, calls_in, own_calls, said_of, EntersTurn, LeavesTurn, IsTurnBehind, IsBehind}
 use Rattle.ob_hall.specs.Calling.{IsReady, TellsCalls}
 use Rattle.ob_hall.specs.Driving.{TurnSays, DriveSays, StepRule, MakesStep, AreSteps, MakesSteps}
 use Rattle.ob_hall.proofs.Making.{one_turn}
@@ -22,6 +22,15 @@ pub said_after : (hall : Hall) (before mid after : Pass) (d new : DeskState) (ca
     → said_of after ≡ said_of before ++ said_by before.client calls
 said_after hall before mid after d new calls ready entered led own l =
     said_more hall before after calls (one_turn hall before mid after d new calls ready.own entered led (are_by hall before mid d ready entered calls own) l)
+
+-- The entry of its turn is the last of so many as it was told at the turn's beginning.
+pub stands_behind : (told : ℕ) (mid after : Pass) (count : ℕ) (calls : Steps) → IsTurnBehind told mid count → LeavesTurn mid after calls → IsBehind told after count
+stands_behind told mid after count calls b l =
+    let one : Entry Steps = entry (pass_place mid) (mid.seat.me.0.noted ++ calls ∷ []) in
+    let seen : history_of after ≡ history_of mid ++ one ∷ [] = λ i. (l.ends.knows i).0.seen in
+    let longer : length (history_of mid ++ one ∷ []) ≡ length (history_of mid) + 1 = length-append (history_of mid) (one ∷ []) in
+    let place : length (history_of after) ≡ count = ap length seen ∙ (longer ∙ omega (arith, b.1)) in
+    (omega (arith, b.0, place), place)
 
 pub drive_begins : (hall : Hall) (before now : Pass) → TellsCalls hall before now (TurnSays before.client (said_of before)) → TellsCalls hall before now (DriveSays before.client)
 drive_begins hall before now t = record { calls = t.calls; says = t.says.0; made = t.made }

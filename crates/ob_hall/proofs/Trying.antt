@@ -21,7 +21,7 @@ use Rattle.ob_hall.specs.Rounds.{rounds_of}
 use Rattle.ob_hall.specs.Testing.{IsOpenedHall, IsInTxn, IsInTxnOrNot}
 use Rattle.ob_hall.proofs.Making.{one_note}
 use Rattle.ob_hall.proofs.Gathering.{first_items}
-use Rattle.ob_hall.specs.Calling.{IsReady, IsBetween, IsIn, BeginStands, HasNotSignedOff, StaysIn}
+use Rattle.ob_hall.specs.Calling.{IsReady, IsBetween, IsIn, BeginStands, StaysIn}
 
 pub stays_inside : {A : Type 0} (result : Result A Refused) (before after : Pass) → ((x : Txn) → IsIn before x → StaysIn result before after x) → IsInTxn before → IsInTxn after
 stays_inside result before after stands (x, i, here) = (x, (stands x i).0, (stands x i).1 here)

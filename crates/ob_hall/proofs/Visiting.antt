@@ -1,5 +1,5 @@
 -- A runner of the tests that signs off: its call may be made, and its step keeps what it knows.
-use Rattle.std.proofs.Common.{◌≡◌, ◌∙◌, ℕ, true, false, cond, List, [], ◌∷◌, ◌++◌, refl, sym, ap, inl, inr, eq-eqb, append-nil}
+use Rattle.std.proofs.Common.{◌≡◌, ◌∙◌, ℕ, true, false, cond, [], ◌∷◌, ◌++◌, refl, sym, ap, inr, eq-eqb, append-nil}
 use Rattle.std.proofs.lemmas.Option.{none-some}
 use Rattle.ob_desk.specs.Desk as desk
 use Rattle.ob_desk.specs.Desk.{DeskState, Call, Reply, MayCall}

@@ -1,5 +1,5 @@
 -- What a pass has seen and made, and what a turn of it does.
-use Rattle.std.specs.Prelude.{◌≡◌, ℕ, suc, Bool, List, flat_map, Option, Some, slice_get}
+use Rattle.std.specs.Prelude.{◌≡◌, ◌<◌, ℕ, suc, Bool, List, length, flat_map, Option, Some, slice_get}
 use Rattle.ob_desk.specs.Desk.{DeskState, Setup, Call, Reply, MayOpen, new_desk}
 use Rattle.ob_desk.specs.declared.calls.Txn.{Txn}
 use Rattle.ob_session.specs.Clients.{said_by}
@@ -123,6 +123,14 @@ pub record StaysBeside (before after : Pass) : Type 0 where
 pub record EntersTurn (hall : Hall) (before after : Pass) (d : DeskState) : Type 0 where
   pub enters : turns.Enters IsTurn before.seat after.seat d
   pub beside : StaysBeside before after
+
+-- In its turn: with this one there are so many turns, more than the caller was told of.
+abbrev pub IsTurnBehind : ℕ → Pass → ℕ → Type 0
+IsTurnBehind told pass count = (told < count) × (suc (length (history_of pass)) ≡ count)
+
+-- Behind its turn: that turn's entry is the last of so many, and stands behind all those of which the caller was told.
+abbrev pub IsBehind : ℕ → Pass → ℕ → Type 0
+IsBehind told pass count = (told < length (history_of pass)) × (length (history_of pass) ≡ count)
 
 -- the calls are noted
 pub record NotesTurn (before after : Pass) (calls : Steps) : Type 0 where

@@ -5,7 +5,7 @@ ghost use Rattle.ob_turn.specs.History.{IsAt};
 ghost use Rattle.ob_turn.specs.TurnCalls.{IsInside};
 ghost use Rattle.ob_session.specs.Steps.{steps_of};
 ghost use Rattle.ob_hall.specs.Turns.{IsTurn};
-ghost use Rattle.ob_hall.specs.Passes.{IsPassOf, IsOutOfTurn, EntersTurn, NotesTurn, LeavesTurn, IsNumberTold, IsRaised, told_by, may_raise};
+ghost use Rattle.ob_hall.specs.Passes.{IsPassOf, IsOutOfTurn, EntersTurn, IsTurnBehind, NotesTurn, LeavesTurn, IsNumberTold, IsRaised, told_by, may_raise};
 ghost use Rattle.ob_hall.specs.Calling.{IsReady, StandsAs};
 
 use crate::hall::{Beside, Hall, Pass};
@@ -30,6 +30,19 @@ impl Hall {
         ensures own { IsPassOf self.now pass.new }
     {
         self.turn.take(rt, &mut pass.seat)
+    }
+
+    /// Waits for the pass's turn, as `enter` does, and tells with the desk how many turns there are
+    /// with this one. It stands behind all those of which the caller was told, by this pass or
+    /// another one.
+    pub fn enter_behind<R: Wait>(&self, rt: &R, pass: &mut Pass, told: u64) -> (Desk, u64)
+        requires own { IsPassOf self.now pass.old }
+        requires idle { IsOutOfTurn pass.old }
+        ensures entered { EntersTurn self.now pass.old pass.new result.0 }
+        ensures behind { IsTurnBehind told pass.new result.1 }
+        ensures own { IsPassOf self.now pass.new }
+    {
+        self.turn.take_behind(rt, &mut pass.seat, told)
     }
 
     /// Notes calls of this turn, behind those that are noted. It waits for nobody and takes no

@@ -3,7 +3,7 @@
 ghost use Rattle.std.specs.Prelude.{◌≡◌, ◌≤◌};
 ghost use Rattle.ob_session.specs.Clients.{stands_after};
 ghost use Rattle.ob_session.specs.declared.runner.Step.TheVariants as steps;
-ghost use Rattle.ob_hall.specs.Passes.{opening_of, said_of};
+ghost use Rattle.ob_hall.specs.Passes.{opening_of, said_of, IsBehind};
 ghost use Rattle.ob_hall.specs.Calling.{IsReady, TellsCalls};
 ghost use Rattle.ob_hall.specs.Driving.{TurnSays, DriveSays, MakesStep, MakesSteps};
 
@@ -12,8 +12,16 @@ use ob_session::{Runner, Step};
 use std::sync::Wait;
 use std::sync::atomic::Ordering::SeqCst;
 
-/// One step of a runner, in one turn of its client's pass.
-pub fn take_turn<R: Wait, U: Runner>(rt: &R, hall: &Hall, pass: &mut Pass, runner: &mut U) -> Step
+/// One step of a runner, in one turn of its client's pass. The turn stands behind so many as the
+/// caller was told of in `turns`, by this pass or another one; behind it `turns` says how many there
+/// are up to it.
+pub fn take_turn<R: Wait, U: Runner>(
+    rt: &R,
+    hall: &Hall,
+    pass: &mut Pass,
+    runner: &mut U,
+    turns: &mut u64,
+) -> Step
     requires ready { IsReady hall.now pass.old }
     requires client { U.client runner.old ≡ pass.old.client }
     requires bound { U.bound runner.old ≤ (opening_of hall.now).setup.params.keys }
@@ -27,10 +35,12 @@ pub fn take_turn<R: Wait, U: Runner>(rt: &R, hall: &Hall, pass: &mut Pass, runne
     ensures bound { U.bound runner.new ≡ U.bound runner.old }
     ensures plan { U.plan runner.new ≡ U.plan runner.old }
     ensures ready { IsReady hall.now pass.new }
+    ensures behind { IsBehind turns.old pass.new turns.new }
 {
-    let mut desk = hall.enter(rt, pass);
+    let (mut desk, count) = hall.enter_behind(rt, pass, *turns);
     let (step, made) = runner.step(&mut desk);
     hall.leave_client(pass, desk, made);
+    *turns = count;
     step
 }
 
@@ -50,8 +60,9 @@ pub fn drive<R: Wait, U: Runner>(rt: &R, hall: &Hall, pass: &mut Pass, runner: &
     ensures plan { U.plan runner.new ≡ U.plan runner.old }
     ensures ready { IsReady hall.now pass.new }
 {
+    let mut turns = 0;
     let mut seen = hall.news.load(SeqCst);
-    let mut step = take_turn(rt, hall, pass, runner);
+    let mut step = take_turn(rt, hall, pass, runner, &mut turns);
     for _ in rt.forever() {
         match step {
             Step::Done => {
@@ -62,7 +73,7 @@ pub fn drive<R: Wait, U: Runner>(rt: &R, hall: &Hall, pass: &mut Pass, runner: &
             Step::Ran => {}
         }
         seen = hall.news.load(SeqCst);
-        step = take_turn(rt, hall, pass, runner);
+        step = take_turn(rt, hall, pass, runner, &mut turns);
     }
     unreachable!()
 }

@@ -70,8 +70,8 @@ module _ {Plan : Type 0} (turn : Plan → TurnRule) (seats : List (ℕ × Plan))
     -- one entry's acts
     one_keeps : (before : List (Entry Steps)) (e : Entry Steps) (rest : List (Entry Steps)) (by : ℕ) (mine these : List Act) → log ≡ before ++ e ∷ rest → e.by ≡ by → IsEntryOf numbers by (calls_in (e ∷ [])) mine these → KeepRule (plan_rule turn seats) (calls_in before) these
     one_keeps before e rest zero mine these log_is by (one, is, same) = subst (KeepRule (plan_rule turn seats) (calls_in before)) (sym same) (keeps_driven (plan_rule turn seats) (calls_in before) mine (turn_driven mine one))
-    one_keeps before e rest (suc i) mine these log_is by (none, inl (quiet, same)) = subst (KeepRule (plan_rule turn seats) (calls_in before)) (sym same) tt
-    one_keeps before e rest (suc i) mine these log_is by (none, inr (number, named, same)) = subst (KeepRule (plan_rule turn seats) (calls_in before)) (sym same) (said_keeps before e rest i number log_is by named, tt)
+    one_keeps before e rest (suc i) mine these log_is by (none, inr (nobody, quiet, same)) = subst (KeepRule (plan_rule turn seats) (calls_in before)) (sym same) tt
+    one_keeps before e rest (suc i) mine these log_is by (none, inl (number, named, same)) = subst (KeepRule (plan_rule turn seats) (calls_in before)) (sym same) (said_keeps before e rest i number log_is by named, tt)
 
     keeps_from : (before rest : List (Entry Steps)) (own acts : List Act) → log ≡ before ++ rest → AreWoven numbers rest own acts → KeepRule (plan_rule turn seats) (calls_in before) acts
     keeps_from before [] own acts log_is (none, same) = subst (KeepRule (plan_rule turn seats) (calls_in before)) (sym same) tt

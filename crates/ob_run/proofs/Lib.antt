@@ -8,3 +8,7 @@ pub mod Shapes
 pub mod Laws
 pub mod Serving
 pub mod Scripts
+pub mod Standing
+pub mod Rounds
+pub mod Hands
+pub mod ByHand

@@ -11,6 +11,7 @@ use Rattle.ob_hall.specs.Opening.{IsFreshPass, AreClients, ArePasses}
 use Rattle.ob_hall.specs.Calling.{IsReady, IsBetween}
 use Rattle.ob_driver.specs.Driven.{Side}
 use Rattle.ob_driver.specs.Drives.{IsFirstPass}
+use Rattle.ob_starts.specs.Served.{Words}
 use Rattle.ob_serve.specs.Serving.{ServeEnds}
 
 first_is : {A : Type 0} (x y : A) (xs ys : List A) → ◌≡◌ {A = List A} (x ∷ xs) (y ∷ ys) → x ≡ y
@@ -57,9 +58,9 @@ module _ (hall : Hall) (numbers : List ℕ) (driver : Pass) (others : List Pass)
       count at (n ∷ ns) (p ∷ ps) (fresh, named, raises, rest) = ap suc (count (suc at) ns ps rest)
 
 -- the driver's pass is in no turn once its run has ended
-pub driver_back : {V U : Type 0} (k : Kind V) (beat : BeatKind) (hall : Hall) (p : Params) (old : Side V) (c : VaultCounts) (before : List (Pass × U)) (new : Side V) (next : VaultCounts) (after : List (Pass × U)) (result : Result (Unit {0}) Fault)
-    → IsFirstPass hall old.pass p c → ServeEnds k beat hall old c before new next after result → IsPassOf hall new.pass × IsOutOfTurn new.pass
-driver_back k beat hall p old c before new next after (Ok done) first r = (r.done.done.rests.at.driver.own, r.done.done.rests.idle)
-driver_back k beat hall p old c before new next after (Err fault) first (inl none) =
+pub driver_back : {V U Plan : Type 0} (k : Kind V) (beat : BeatKind) (w : Words U Plan) (hall : Hall) (starts : ℕ) (p : Params) (old : Side V) (c : VaultCounts) (before : List (Pass × U)) (new : Side V) (next : VaultCounts) (after : List (Pass × U)) (result : Result (Unit {0}) Fault)
+    → IsFirstPass hall old.pass p c → ServeEnds k beat w hall starts old c before new next after result → IsPassOf hall new.pass × IsOutOfTurn new.pass
+driver_back k beat w hall starts p old c before new next after (Ok done) first r = (r.done.done.rests.at.driver.own, r.done.done.rests.idle)
+driver_back k beat w hall starts p old c before new next after (Err fault) first (inl none) =
     (subst (λ (s : Side _). IsPassOf hall s.pass) (sym none.0.1) first.fresh.own, subst (λ (s : Side _). IsOutOfTurn s.pass) (sym none.0.1) first.fresh.idle)
-driver_back k beat hall p old c before new next after (Err fault) first (inr r) = (r.fails.fails.own, r.fails.fails.idle)
+driver_back k beat w hall starts p old c before new next after (Err fault) first (inr r) = (r.fails.fails.own, r.fails.fails.idle)

@@ -1,9 +1,10 @@
 -- The clients of a hall before and after their calls.
-use Rattle.std.proofs.Common.{◌≡◌, ◌∙◌, ◌<◌, ◌≤◌, ◌+◌, ℕ, zero, suc, All, Contains, List, [], ◌∷◌, ◌++◌, map, length, slice_get, Some, refl, sym, ap, ap₂, subst, inl, inr, arith}
+use Rattle.std.proofs.Common.{◌≡◌, ◌∙◌, ◌<◌, ◌≤◌, ◌+◌, ℕ, zero, suc, false, All, Contains, List, [], ◌∷◌, ◌++◌, map, length, slice_get, Some, refl, sym, ap, ap₂, subst, inl, inr, arith}
 use Rattle.std.proofs.lemmas.Option.{none-some, same_Some}
 use Rattle.std.proofs.lemmas.List.Elements.{All-nil, All-cons, All-head, All-tail}
 use Rattle.ob_desk.specs.Desk.{DeskState}
-use Rattle.ob_session.specs.Clients.{said_by}
+use Rattle.ob_session.specs.Clients.{said_by, stands_after}
+use Rattle.ob_session.specs.declared.runner.Step.TheVariants.{Done}
 use Rattle.ob_turn.specs.declared.turn.Entry.{Entry}
 use Rattle.ob_turn.specs.History.{entries_of}
 use Rattle.ob_hall.specs.Turns.{client_numbers}
@@ -16,7 +17,9 @@ use Rattle.ob_hall.specs.Laws.{AreOwnCalls}
 use Rattle.ob_conduct.specs.Scenes.{RunnerKind, runner_kind, seat_of}
 use Rattle.ob_starts.specs.Served.{Words, words, IsClient, IsLater}
 use Rattle.ob_starts.specs.Starts.{Each}
+use Rattle.ob_run.specs.Threaded.{is_by_hand}
 use Rattle.ob_run.proofs.Keeping.{IsPlanned}
+use Rattle.ob_run.proofs.ByHand.{IsNewHere}
 
 among_map : {A B : Type 0} (f : A → B) (x : A) (xs : List A) → Contains xs x → Contains (map f xs) (f x)
 among_map {A} f x [] (i, low, is) = absurd (none i low)
@@ -60,6 +63,18 @@ module _ {U Plan : Type 0} (client bound : U → ℕ) (plan : U → Plan) (fits 
       })
       (seated keys (suc at) cs keys_are rest (All-tail (λ p. IsReady hall p × IsBetween p) c.0 (passes_of cs) ready) (All-tail (λ u. bound u ≤ keys) c.1 (runners_of cs) below) (All-tail (λ u. fits u []) c.1 (runners_of cs) none))
 
+  pub same_numbers : (cs : List (Pass × U)) → All (IsClient w hall) cs → map client (runners_of cs) ≡ map (λ (c : Pass × U). c.0.client) cs
+  same_numbers [] all = refl
+  same_numbers (c ∷ cs) all = ap₂ (λ (n : ℕ) (l : List ℕ). n ∷ l) (All-head (IsClient w hall) c cs all).named (same_numbers cs (All-tail (IsClient w hall) c cs all))
+
+  -- they have made no call
+  pub none_yet : (at : ℕ) (numbers : List ℕ) (cs : List (Pass × U)) → AreClients hall at numbers (passes_of cs) → All (IsClient w hall) cs → All (IsNewHere w hall) cs
+  none_yet at [] [] are all = All-nil (IsNewHere w hall)
+  none_yet at [] (c ∷ cs) are all = absurd are
+  none_yet at (number ∷ numbers) [] are all = All-nil (IsNewHere w hall)
+  none_yet at (number ∷ numbers) (c ∷ cs) (fresh, named, raises, rest) all =
+      All-cons (IsNewHere w hall) c cs (record { none_made = fresh.none_made; clients = (All-head (IsClient w hall) c cs all).ready.clients }) (none_yet (suc at) numbers cs rest (All-tail (IsClient w hall) c cs all))
+
   -- ---- behind their calls
 
   still_client : (c n : Pass × U) → IsClient w hall c → IsLater w hall c n → IsClient w hall n
@@ -102,13 +117,25 @@ module _ {U Plan : Type 0} (client bound : U → ℕ) (plan : U → Plan) (fits 
 
   module _ (log : List (Entry Steps)) (raised : List ℕ) (d : DeskState) (own_calls : AreOwnCalls) (new : IsNew (opening_of hall)) (led : IsLegal hall log d) where
     -- what a client has said is what the history says of it
-    fits_one : (n : Pass × U) → IsClient w hall n → HasPass log raised n.0 → fits n.1 (said_by (client n.1) (calls_in log))
-    fits_one n is has =
+    said_is : (n : Pass × U) → IsClient w hall n → HasPass log raised n.0 → said_by (client n.1) (calls_in log) ≡ said_of n.0
+    said_is n is has =
         let named = is.ready.clients in
         let mine = (own_calls (opening_of hall) d log named.at n.0.client new led named.named).0 in
         let its : entries_of (suc named.at) log ≡ entries_by n.0 = subst (λ at. entries_of at log ≡ entries_by n.0) named.place has.own in
-        subst (λ number. fits n.1 (said_by number (calls_in log))) (sym is.named)
-        (subst (fits n.1) (sym (mine ∙ ap (λ (es : List (Entry Steps)). said_by n.0.client (calls_in es)) its)) is.fits)
+        ap (λ number. said_by number (calls_in log)) is.named ∙ (mine ∙ ap (λ (es : List (Entry Steps)). said_by n.0.client (calls_in es)) its)
+
+    fits_one : (n : Pass × U) → IsClient w hall n → HasPass log raised n.0 → fits n.1 (said_by (client n.1) (calls_in log))
+    fits_one n is has = subst (fits n.1) (sym (said_is n is has)) is.fits
+
+    -- Those that aren't by hand have signed off, by the history.
+    pub signed_off : (hand : List ℕ) (ns : List (Pass × U)) → All (IsClient w hall) ns → All (HasPass log raised) (passes_of ns) → All (λ (n : Pass × U). is_by_hand hand n.0.client ≡ false → stands_after (said_of n.0) ≡ Done) ns
+        → All (λ number. is_by_hand hand number ≡ false → stands_after (said_by number (calls_in log)) ≡ Done) (map client (runners_of ns))
+    signed_off hand [] all have off = All-nil (λ number. is_by_hand hand number ≡ false → stands_after (said_by number (calls_in log)) ≡ Done)
+    signed_off hand (n ∷ ns) all have off =
+        let is = All-head (IsClient w hall) n ns all in
+        All-cons (λ number. is_by_hand hand number ≡ false → stands_after (said_by number (calls_in log)) ≡ Done) (client n.1) (map client (runners_of ns))
+        (λ other. ap stands_after (said_is n is (All-head (HasPass log raised) n.0 (passes_of ns) have)) ∙ All-head (λ (x : Pass × U). is_by_hand hand x.0.client ≡ false → stands_after (said_of x.0) ≡ Done) n ns off (ap (is_by_hand hand) (sym is.named) ∙ other))
+        (signed_off hand ns (All-tail (IsClient w hall) n ns all) (All-tail (HasPass log raised) n.0 (passes_of ns) have) (All-tail (λ (x : Pass × U). is_by_hand hand x.0.client ≡ false → stands_after (said_of x.0) ≡ Done) n ns off))
 
     pub fitting : (ns : List (Pass × U)) → All (IsClient w hall) ns → All (HasPass log raised) (passes_of ns) → All (λ u. fits u (said_by (client u) (calls_in log))) (runners_of ns)
     fitting [] all have = All-nil (λ u. fits u (said_by (client u) (calls_in log)))

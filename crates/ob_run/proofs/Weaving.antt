@@ -78,8 +78,8 @@ entry_turn clients zero steps mine these (one, is, same) = subst (λ (l : List A
   kept = λ more kept. turn_kept mine more one kept;
   history_is = sym is;
 })
-entry_turn clients (suc i) steps mine these (none, inl (quiet, same)) = subst (λ (l : List Act). IsTurnOf mine l steps) (sym same) (record { driven_is = sym none; kept = λ more kept. kept; history_is = sym quiet })
-entry_turn clients (suc i) steps mine these (none, inr (number, named, same)) = subst (λ (l : List Act). IsTurnOf mine l steps) (sym same) (record { driven_is = sym none; kept = λ more kept. kept; history_is = append-nil steps })
+entry_turn clients (suc i) steps mine these (none, inr (nobody, quiet, same)) = subst (λ (l : List Act). IsTurnOf mine l steps) (sym same) (record { driven_is = sym none; kept = λ more kept. kept; history_is = sym quiet })
+entry_turn clients (suc i) steps mine these (none, inl (number, named, same)) = subst (λ (l : List Act). IsTurnOf mine l steps) (sym same) (record { driven_is = sym none; kept = λ more kept. kept; history_is = append-nil steps })
 
 pub driven_is : (clients : List ℕ) (log : List (Entry Steps)) (own acts : List Act) → AreWoven clients log own acts → driven acts ≡ own
 driven_is clients [] own acts (none, same) = ap driven same ∙ sym none

@@ -74,7 +74,7 @@ fn serve_hall<U: Runner + Send, R: Threads + Wait + Sync, V: Vault, W: Watch, B:
     ensures params { V.params vault.new ≡ params.now }
     ensures beat { B.anchors beat.new ≡ B.anchors beat.old }
     ensures done { (d : DeskState)
-        × InThreads (kind_of V.Vault) (runner_kind U.client U.bound U.plan U.fits U.turn)
+        × InThreads starts (kind_of V.Vault) (runner_kind U.client U.bound U.plan U.fits U.turn)
         (beat_kind B.passes B.exact)
         (run_state (scene (opening_of hall) vault.old (W.trace watch.old)) runners.old.items
         (outflow O.Sink output.old))
@@ -109,7 +109,9 @@ fn serve_hall<U: Runner + Send, R: Threads + Wait + Sync, V: Vault, W: Watch, B:
 }
 
 /// Runs the clients over the vault from the desk as it was made, the first ones in threads, so many
-/// as starts are to be tried: a hall is made round the desk, and closed at the end.
+/// as starts are to be tried: a hall is made round the desk, and closed at the end. Those whose
+/// thread the system refuses, and the others, are made by hand: in each round each of these makes a
+/// step, in order, and then the driver does one thing.
 pub fn run_in_threads<
     U: Runner + Send,
     R: Threads + Wait + Sync,
@@ -145,7 +147,7 @@ pub fn run_in_threads<
     ensures anchors { (V.disk vault.new).anchors ≡ (V.disk vault.old).anchors }
     ensures beat { B.anchors beat.new ≡ B.anchors beat.old }
     ensures done { (d : DeskState)
-        × InThreads (kind_of V.Vault) (runner_kind U.client U.bound U.plan U.fits U.turn)
+        × InThreads starts (kind_of V.Vault) (runner_kind U.client U.bound U.plan U.fits U.turn)
         (beat_kind B.passes B.exact)
         (run_state (scene desk vault.old (W.trace watch.old)) runners.old.items
         (outflow O.Sink output.old))

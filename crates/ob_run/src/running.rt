@@ -22,8 +22,8 @@ use std::sync::Wait;
 use std::thread::Threads;
 
 /// Runs these clients over the vault, from the desk as it was made, up to the end: each client in a
-/// thread of its own, and by hand where the system refuses it one; or, without `threads`, all by
-/// hand, in rounds. The caller's thread drives the epochs. The run is over where each client has
+/// thread of its own; or, without `threads`, all by hand. Where the system refuses a client's thread
+/// it is made by hand, too. Those made by hand have their turns in rounds. The caller's thread drives the epochs. The run is over where each client has
 /// signed off and no transaction waits for its epoch's end, or where the desk is stopped. Each
 /// epoch's lines are written once it is durable. No thread is left behind.
 ///

@@ -1,30 +1,22 @@
 -- Rounds of the clients that are made by hand.
-use Rattle.std.specs.Prelude.{◌≡◌, List, [], ◌∷◌, ◌++◌}
-use mathlib.Core.Path.{refl, sym, subst}
-use Rattle.ob_hall.specs.Passes.{Hall}
+use Rattle.std.specs.Prelude.{◌≡◌, ℕ, List, drop, map}
+use Rattle.ob_hall.specs.Passes.{Hall, Pass}
+use Rattle.ob_conduct.specs.Acts.{Act}
+use Rattle.ob_driver.specs.Places.{AreInRounds}
 use Rattle.ob_starts.specs.declared.starting.Started.{Started}
 use Rattle.ob_starts.specs.Served.{Words}
-use Rattle.ob_starts.specs.Starts.{Each, IsStepped}
+use Rattle.ob_starts.specs.Starts.{Each, HasItsPlace, IsAsItCame, IsStepped, IsJoined, AreOrdered, stays}
 
-module _ {U Plan : Type 0} (w : Words U Plan) (hall : Hall) where
-  -- In each round each client that is here made one step, and those that are away stayed: so they stood behind each round, up to the last.
-  abbrev pub CrewRounds : List (Started U) → List (List (Started U)) → List (Started U) → Type 0
-  CrewRounds first [] last = last ≡ first
-  CrewRounds first (next ∷ behind) last = Each (IsStepped w hall) first next × CrewRounds next behind last
+-- Each client that is here made one step, and those that are away stayed. The turns of these steps stand one behind the other, and behind the first n; up to the last of them there are m.
+abbrev pub CrewSteps : {U Plan : Type 0} → Words U Plan → Hall → ℕ → List (Started U) → List (Started U) → ℕ → Type 0
+CrewSteps w hall n before after m = Each (IsStepped w hall) before after × AreOrdered n after m
 
-  -- some rounds led from where they stood first to where they stand last
-  pub record AreCrewRounds (first last : List (Started U)) : Type 0 where
-    pub behind : List (List (Started U))
-    pub rounds : CrewRounds first behind last
-
-  -- none did
-  pub no_crew_round : (first : List (Started U)) → AreCrewRounds first first
-  no_crew_round first = record { behind = []; rounds = refl }
-
-  more_rounds : (first : List (Started U)) (xs : List (List (Started U))) (mid : List (Started U)) (ys : List (List (Started U))) (last : List (Started U)) → CrewRounds first xs mid → CrewRounds mid ys last → CrewRounds first (xs ++ ys) last
-  more_rounds first [] mid ys last r s = subst (λ m. CrewRounds m ys last) r s
-  more_rounds first (x ∷ xs) mid ys last r s = (r.0, more_rounds x xs mid ys last r.1 s)
-
-  -- some did, and then others
-  pub crew_rounds_behind : (first mid last : List (Started U)) → AreCrewRounds first mid → AreCrewRounds mid last → AreCrewRounds first last
-  crew_rounds_behind first mid last r s = record { behind = r.behind ++ s.behind; rounds = more_rounds first r.behind mid s.behind last r.rounds s.rounds }
+-- Each client was started, where it had one of the flags, or stayed as it came. The driver's acts, in the turns of its pass, were done in rounds, in each of which those that were here made a step before. All are back in their places, those that were away served.
+pub record AreBack {U Plan : Type 0} (w : Words U Plan) (hall : Hall) (flags : ℕ) (clients back : List (Pass × U)) (before after : Pass) (acts : List Act) : Type 0 where
+  pub first : List (Started U)
+  pub placed : Each (HasItsPlace w hall) clients first
+  pub came : Each IsAsItCame clients first
+  pub stayed : drop flags first ≡ map stays (drop flags clients)
+  pub last : List (Started U)
+  pub rounds : AreInRounds (CrewSteps w hall) first last before after acts
+  pub joined : Each (IsJoined w hall) last back

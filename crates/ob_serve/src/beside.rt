@@ -7,8 +7,10 @@ ghost use Rattle.ob_desk.specs.Beats.{beat_kind};
 ghost use Rattle.ob_driver.specs.Driven.{side};
 ghost use Rattle.ob_driver.specs.Rooms.{HasRoom};
 ghost use Rattle.ob_driver.specs.Drives.{IsFirstPass};
-ghost use Rattle.ob_starts.specs.Served.{words, IsClient};
-ghost use Rattle.ob_serve.specs.Serving.{DriverEnds, AreBack};
+ghost use Rattle.ob_starts.specs.Served.{words, IsClient, IsLater};
+ghost use Rattle.ob_starts.specs.Starts.{Each};
+ghost use Rattle.ob_serve.specs.Crews.{AreBack};
+ghost use Rattle.ob_serve.specs.Serving.{DriverEnds};
 ghost use denote.Param.Send.{IsSend, IsSync};
 
 use crate::crew::Crew;
@@ -71,9 +73,11 @@ pub(crate) fn in_scope<
     ensures output_name { result.0.output.ghost_name ≡ lent.entry.output.ghost_name }
     ensures params { V.params result.0.vault.now ≡ params.now }
     ensures anchors { B.anchors result.0.beat.now ≡ B.anchors lent.entry.beat.now }
-    ensures back { AreBack (words U.client U.bound U.plan U.fits U.turn) hall.now
-        (length flags.now) clients.items result.1.items }
+    ensures back { Each (IsLater (words U.client U.bound U.plan U.fits U.turn) hall.now)
+        clients.items result.1.items }
     ensures ends { DriverEnds (kind_of V.Vault) (beat_kind B.passes B.exact) hall.now
+        (AreBack (words U.client U.bound U.plan U.fits U.turn) hall.now (length flags.now)
+        clients.items result.1.items lent.entry.pass.now result.0.pass.now)
         (side lent.entry.pass.now lent.entry.vault.now (W.trace lent.entry.watch.now)
         (outflow O.Sink lent.entry.output.now))
         (V.counts lent.entry.vault.now)
@@ -101,9 +105,12 @@ pub(crate) fn in_scope<
                 × (result.0.output.ghost_name ≡ lent.entry.output.ghost_name)
                 × (V.params result.0.vault.now ≡ params.entry.now)
                 × (B.anchors result.0.beat.now ≡ B.anchors lent.entry.beat.now)
-                × (AreBack (words U.client U.bound U.plan U.fits U.turn) hall.entry.now
-                (length flags.entry.now) clients.items result.1.items)
+                × (Each (IsLater (words U.client U.bound U.plan U.fits U.turn) hall.entry.now)
+                clients.items result.1.items)
                 × (DriverEnds (kind_of V.Vault) (beat_kind B.passes B.exact) hall.entry.now
+                (AreBack (words U.client U.bound U.plan U.fits U.turn) hall.entry.now
+                (length flags.entry.now) clients.items result.1.items lent.entry.pass.now
+                result.0.pass.now)
                 (side lent.entry.pass.now lent.entry.vault.now (W.trace lent.entry.watch.now)
                 (outflow O.Sink lent.entry.output.now))
                 (V.counts lent.entry.vault.now)

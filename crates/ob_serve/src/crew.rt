@@ -2,8 +2,8 @@
 
 ghost use Rattle.std.specs.Prelude.{All};
 ghost use Rattle.ob_starts.specs.Served.{words};
-ghost use Rattle.ob_starts.specs.Starts.{Each, CanStep, IsStepped};
-ghost use Rattle.ob_serve.specs.Crews.{AreCrewRounds, no_crew_round, crew_rounds_behind};
+ghost use Rattle.ob_starts.specs.Starts.{CanStep};
+ghost use Rattle.ob_serve.specs.Crews.{CrewSteps};
 
 use ob_driver::Hands;
 use ob_hall::Hall;
@@ -18,36 +18,34 @@ pub(crate) struct Crew<U: Runner> {
 }
 
 // Each client that is here makes one step.
-fn step_each<U: Runner, R: Wait>(rt: &R, hall: &Hall, started: &mut Vec<Started<U>>) -> bool
+fn step_each<U: Runner, R: Wait>(
+    rt: &R,
+    hall: &Hall,
+    started: &mut Vec<Started<U>>,
+    turns: &mut u64,
+) -> bool
     requires met { All (CanStep (words U.client U.bound U.plan U.fits U.turn) hall.now)
         started.old.items }
-    ensures stepped { Each (IsStepped (words U.client U.bound U.plan U.fits U.turn) hall.now)
-        started.old.items started.new.items }
+    ensures stepped { CrewSteps (words U.client U.bound U.plan U.fits U.turn) hall.now turns.old
+        started.old.items started.new.items turns.new }
 {
-    step_all(rt, hall, started.as_mut_slice())
+    step_all(rt, hall, started.as_mut_slice(), turns)
 }
 
 impl<U: Runner> Hands for Crew<U> {
     ghost use Rattle.std.specs.Prelude.{All};
     ghost use Rattle.ob_starts.specs.Served.{words};
     ghost use Rattle.ob_starts.specs.Starts.{CanStep};
-    ghost use Rattle.ob_serve.specs.Crews.{AreCrewRounds, no_crew_round, crew_rounds_behind};
+    ghost use Rattle.ob_serve.specs.Crews.{CrewSteps};
 
     ghost ready = { λ hall crew.
         All (CanStep (words U.client U.bound U.plan U.fits U.turn) hall) crew.started.items };
 
-    ghost stepped = { λ hall first last.
-        AreCrewRounds (words U.client U.bound U.plan U.fits U.turn) hall first.started.items
-        last.started.items };
+    ghost round = { λ hall n first last m.
+        CrewSteps (words U.client U.bound U.plan U.fits U.turn) hall n first.started.items
+        last.started.items m };
 
-    fn step_all<R: Wait>(&mut self, rt: &R, hall: &Hall) -> bool {
-        step_each(rt, hall, &mut self.started)
+    fn step_all<R: Wait>(&mut self, rt: &R, hall: &Hall, turns: &mut u64) -> bool {
+        step_each(rt, hall, &mut self.started, turns)
     }
-
-    ghost none = { λ hall crew. no_crew_round (words U.client U.bound U.plan U.fits U.turn)
-        hall crew.started.items };
-
-    ghost behind = { λ hall first mid last before after.
-        crew_rounds_behind (words U.client U.bound U.plan U.fits U.turn) hall first.started.items
-        mid.started.items last.started.items before after };
 }

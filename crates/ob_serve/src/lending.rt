@@ -5,6 +5,7 @@ ghost use Rattle.ob_io.specs.Streams.{outflow};
 ghost use Rattle.ob_serial.specs.VaultKinds.{kind_of};
 ghost use Rattle.ob_desk.specs.Beats.{beat_kind};
 ghost use Rattle.ob_driver.specs.Driven.{side};
+ghost use Rattle.ob_driver.specs.Places.{AreInRounds};
 ghost use Rattle.ob_driver.specs.Rooms.{HasRoom};
 ghost use Rattle.ob_driver.specs.Drives.{IsFirstPass};
 ghost use Rattle.ob_serve.specs.Serving.{DriverEnds};
@@ -90,7 +91,6 @@ pub(crate) fn drive_lent<
     requires room { HasRoom params.now room.old }
     requires hands { H.ready hall.now hands.old }
     ensures hands { H.ready hall.now hands.new }
-    ensures stepped { H.stepped hall.now hands.old hands.new }
     ensures pass_name { result.0.pass.ghost_name ≡ lent.entry.pass.ghost_name }
     ensures vault_name { result.0.vault.ghost_name ≡ lent.entry.vault.ghost_name }
     ensures watch_name { result.0.watch.ghost_name ≡ lent.entry.watch.ghost_name }
@@ -99,6 +99,7 @@ pub(crate) fn drive_lent<
     ensures params { V.params result.0.vault.now ≡ params.now }
     ensures anchors { B.anchors result.0.beat.now ≡ B.anchors lent.entry.beat.now }
     ensures ends { DriverEnds (kind_of V.Vault) (beat_kind B.passes B.exact) hall.now
+        (AreInRounds (H.round hall.now) hands.old hands.new lent.entry.pass.now result.0.pass.now)
         (side lent.entry.pass.now lent.entry.vault.now (W.trace lent.entry.watch.now)
         (outflow O.Sink lent.entry.output.now))
         (V.counts lent.entry.vault.now)

@@ -7,8 +7,9 @@ ghost use Rattle.ob_desk.specs.Beats.{beat_kind};
 ghost use Rattle.ob_driver.specs.Driven.{side};
 ghost use Rattle.ob_driver.specs.Rooms.{HasRoom};
 ghost use Rattle.ob_driver.specs.Drives.{IsFirstPass};
-ghost use Rattle.ob_starts.specs.Served.{words, IsClient};
-ghost use Rattle.ob_serve.specs.Serving.{ServeEnds, AreBack};
+ghost use Rattle.ob_starts.specs.Served.{words, IsClient, IsLater};
+ghost use Rattle.ob_starts.specs.Starts.{Each};
+ghost use Rattle.ob_serve.specs.Serving.{ServeEnds};
 
 use crate::beside::in_scope;
 use crate::lending::Lent;
@@ -79,12 +80,13 @@ fn finish<T>(_last: &mut T)
 
 /// Drives the epochs of a hall beside its clients, up to the end: each of the first ones, so many as
 /// starts are to be tried, in a thread of its own; the others by hand, and so is each whose thread
-/// the system refuses. All clients come back.
+/// the system refuses: in each round those made by hand make a step, in order, and then the driver
+/// does one thing. All clients come back.
 ///
 /// # Errors
 /// Those of the driver; and memory was wanting, before anything was done: then no client made a
 /// call.
-#[tactic(auto, using(crate::proofs::Meeting::none_started, crate::proofs::Ending::all_ends))]
+#[tactic(auto, using(crate::proofs::Meeting::back_same, crate::proofs::Ending::all_ends))]
 pub fn serve<U: Runner + Send, R: Threads + Wait + Sync, V: Vault, W: Watch, B: Beat, O: Sink>(
     rt: &R,
     alloc: Global,
@@ -104,9 +106,11 @@ pub fn serve<U: Runner + Send, R: Threads + Wait + Sync, V: Vault, W: Watch, B: 
         clients.old.items }
     ensures params { V.params vault.new ≡ params.now }
     ensures anchors { B.anchors beat.new ≡ B.anchors beat.old }
-    ensures back { AreBack (words U.client U.bound U.plan U.fits U.turn) hall.now
-        starts clients.old.items clients.new.items }
-    ensures ends { ServeEnds (kind_of V.Vault) (beat_kind B.passes B.exact) hall.now
+    // Each is in its place, as it was or later.
+    ensures back { Each (IsLater (words U.client U.bound U.plan U.fits U.turn) hall.now)
+        clients.old.items clients.new.items }
+    ensures ends { ServeEnds (kind_of V.Vault) (beat_kind B.passes B.exact)
+        (words U.client U.bound U.plan U.fits U.turn) hall.now starts
         (side pass.old vault.old (W.trace watch.old) (outflow O.Sink output.old))
         (V.counts vault.old) clients.old.items
         (side pass.new vault.new (W.trace watch.new) (outflow O.Sink output.new))

@@ -3,3 +3,4 @@ pub mod Joining
 pub mod Placing
 pub mod Sent
 pub mod Visiting
+pub mod Ordering

@@ -1,6 +1,6 @@
 -- Clients in threads of their own, and clients whose calls are made by hand.
-use Rattle.std.specs.Prelude.{◌≡◌, Bool, true, false, List, [], ◌∷◌}
-use Rattle.ob_hall.specs.Passes.{Hall, Pass, said_of}
+use Rattle.std.specs.Prelude.{◌≡◌, ◌<◌, ℕ, Bool, true, false, List, [], ◌∷◌, length}
+use Rattle.ob_hall.specs.Passes.{Hall, Pass, history_of, said_of}
 use Rattle.ob_hall.specs.Calling.{TellsCalls}
 use Rattle.ob_hall.specs.Driving.{TurnSays, MakesStep}
 use Rattle.ob_session.specs.Clients.{stands_after}
@@ -51,6 +51,17 @@ module _ {U Plan : Type 0} (w : Words U Plan) (hall : Hall) where
   abbrev pub IsJoined : Started U → Pass × U → Type 0
   IsJoined (Away handle) back = StepsToSignOff w hall handle.promise.client.value back
   IsJoined (Here client) back = back ≡ client
+
+-- Behind a round: each client that is here made its last turn behind the one before it, the first of them behind the first n turns; up to the last of these turns there are m.
+abbrev pub AreOrdered : {U : Type 0} → ℕ → List (Started U) → ℕ → Type 0
+AreOrdered n [] m = n ≡ m
+AreOrdered n (Away handle ∷ clients) m = AreOrdered n clients m
+AreOrdered n (Here client ∷ clients) m = (n < length (history_of client.0)) × AreOrdered (length (history_of client.0)) clients m
+
+-- Where it stays here the client is as it came.
+abbrev pub IsAsItCame : {U : Type 0} → Pass × U → Started U → Type 0
+IsAsItCame client (Away handle) = Unit {0}
+IsAsItCame client (Here now) = now ≡ client
 
 -- the client as it came, to be made by hand
 abbrev pub stays : {U : Type 0} → Pass × U → Started U

@@ -1,8 +1,8 @@
 //! A client in a thread of its own, or by hand.
 
-ghost use Rattle.std.specs.Prelude.{◌≡◌, ◌≤◌, All, [], length, drop, map, vec_capacity, IfOk, IfErr, IfNone};
+ghost use Rattle.std.specs.Prelude.{◌≡◌, ◌≤◌, false, All, [], length, drop, map, vec_capacity, IfOk, IfErr, IfNone};
 ghost use Rattle.ob_starts.specs.Served.{words, IsClient};
-ghost use Rattle.ob_starts.specs.Starts.{Each, ComesBack, IsByHand, HasItsPlace, IsWaitedFor, IsJoined, stays};
+ghost use Rattle.ob_starts.specs.Starts.{Each, ComesBack, IsByHand, HasItsPlace, IsAsItCame, IsWaitedFor, IsJoined, stays};
 
 use crate::serving::{Client, run_unless, serve};
 use ob_hall::Hall;
@@ -41,8 +41,21 @@ pub enum Started<U: Runner> {
     },
 }
 
+// The client that came back, no call of which was made. It would wait for good with one that was
+// served, which can't be, since its flag was set before.
+fn untouched<U, R: Wait>(rt: &R, back: (Client<U>, bool)) -> Client<U>
+    ensures { back ≡ (result, false) }
+{
+    let (client, served) = back;
+    if !served {
+        return client;
+    }
+    for _ in rt.forever() {}
+    unreachable!()
+}
+
 // Starts a client's thread, with a promise of what it gives back. Where the system refuses it the
-// client comes back, with its flag set.
+// client comes back as it came, with its flag set.
 fn launch<
     's,
     E,
@@ -64,6 +77,7 @@ fn launch<
     ensures started { IfOk result (λ handle. handle.promise ≡ promise) }
     ensures refused { IfErr result
         (IsByHand (words U.client U.bound U.plan U.fits U.turn) hall.now client) }
+    ensures came { IfErr result (λ back. back ≡ client) }
 {
     let job = move || -> (Client<U>, bool)
         requires { IsClient (words U.client U.bound U.plan U.fits U.turn) hall.now client }
@@ -74,8 +88,8 @@ fn launch<
         Ok(handle) => Ok(handle),
         Err(refused) => {
             by_hand.store(true, SeqCst);
-            let (client, _) = (refused.value)();
-            Err(client)
+            let back = (refused.value)();
+            Err(untouched(rt, back))
         }
     }
 }
@@ -91,6 +105,7 @@ fn start<'s, E, U: Runner + Send + 's, R: Threads + Wait + Sync>(
     requires client { IsClient (words U.client U.bound U.plan U.fits U.turn) hall.now client }
     ensures placed { HasItsPlace (words U.client U.bound U.plan U.fits U.turn) hall.now client
         result }
+    ensures came { IsAsItCame client result }
 {
     let since = Since {
         hall: Snapshot::of(hall),
@@ -113,6 +128,7 @@ fn place<'s, E, U: Runner + Send + 's, R: Threads + Wait + Sync>(
     requires client { IsClient (words U.client U.bound U.plan U.fits U.turn) hall.now client }
     ensures placed { HasItsPlace (words U.client U.bound U.plan U.fits U.turn) hall.now client
         result }
+    ensures came { IsAsItCame client result }
     ensures stays { IfNone flag.entry (result ≡ stays client) }
 {
     match flag {
@@ -138,6 +154,7 @@ pub fn start_all<'s, E, U: Runner + Send + 's, R: Threads + Wait + Sync>(
     requires room { length clients.items ≤ vec_capacity started.old }
     ensures placed { Each (HasItsPlace (words U.client U.bound U.plan U.fits U.turn) hall.now)
         clients.items started.new.items }
+    ensures came { Each IsAsItCame clients.items started.new.items }
     ensures others { drop (length flags.now) started.new.items
         ≡ map stays (drop (length flags.now) clients.items) }
 {

@@ -81,7 +81,8 @@ fn step_each<U: Runner, R: Wait>(rt: &R, hall: &Hall, started: &mut Vec<Started<
     ensures stepped { Each (IsStepped (words U.client U.bound U.plan U.fits U.turn) hall.now)
         started.old.items started.new.items }
 {
-    step_all(rt, hall, started.as_mut_slice());
+    let mut turns = 0;
+    step_all(rt, hall, started.as_mut_slice(), &mut turns);
 }
 
 // Starts as many clients as there are flags, makes a step of each other one, and joins all. With

@@ -1,5 +1,5 @@
 -- A seat that drew a ticket, found it served and took the slot is in its turn.
-use Rattle.std.proofs.Common.{◌≡◌, ℕ, List, [], ◌∷◌, ap, refl, sym, ◌∙◌, subst}
+use Rattle.std.proofs.Common.{◌≡◌, ℕ, List, [], ◌∷◌, length, ap, refl, sym, ◌∙◌, subst}
 use Rattle.std.specs.List.{All}
 use mathlib.Core.Option.{some, some-injective}
 use mathlib.Core.List.{IsPrefix}
@@ -41,3 +41,10 @@ module _ {T E : Type 0} (steps : ℕ → T → E → T → Type 0) where
         joined = subst (λ (l : List (Entry E)). All (HasPart l) before.me.0.joined) seen e.8;
         value = subst (λ (v : View T E). Reaches steps v x) (sym view) (x, subst (LeadsFromOpening steps before.me.0.opening log) (sym value) e.5, refl);
       }
+
+  -- Its ticket says how many turns it has seen.
+  pub places : (before drawn watched after : TurnSeat T E) (k : ℕ)
+      → drawn.me ≡ (staged before.me.0 (Waiting k), before.me.1) → Entered steps drawn.me k watched.me → after.me.0 ≡ watched.me.0 → length after.me.0.seen ≡ k
+  places before drawn watched after k drew found same =
+      let e : Entered steps (staged before.me.0 (Waiting k), before.me.1) k watched.me = subst (λ m. Entered steps m k watched.me) drew found in
+      (λ i. length (same i).seen) ∙ ((λ i. length (e.3 i).0.seen) ∙ sym e.9)

@@ -264,6 +264,7 @@ module _ (T E : Type 0) (steps : ℕ → T → E → T → Type 0) (opened : T) 
           fit.prefix,
           (fit.named stage.2).1,
           All-weaker (IsJoinedAway opened r.log r.names s.views) (HasPart r.log) (λ gone q. (q.prefix, q.own)) v.joined (r.settled id v at),
+          sym found ∙ now,
         ),
       )
 

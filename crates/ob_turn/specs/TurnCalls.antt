@@ -1,5 +1,5 @@
 -- What each call on a turn does to a seat.
-use Rattle.std.specs.Prelude.{◌≡◌, ℕ, ◌<◌, ◌≤◌, List, [], ◌∷◌, length, slice_index_or}
+use Rattle.std.specs.Prelude.{◌≡◌, ℕ, suc, ◌<◌, ◌≤◌, List, [], ◌∷◌, length, slice_index_or}
 use Rattle.std.specs.List.{All, sum_by}
 use mathlib.Core.List.{IsPrefix}
 use Rattle.atomic_table.specs.declared.shared.Seat.{Seat}
@@ -70,6 +70,11 @@ module _ {T E : Type 0} where
     pub own : entries_of after.me.0.by after.me.0.seen ≡ after.me.0.mine
     pub joined : All (HasPart after.me.0.seen) before.me.0.joined
     pub value : Reaches steps after.me.0 x
+
+  -- In its turn: with this one there are so many turns, more than the caller was told of. Its entry will stand at that place of the history.
+  pub record StandsBehind (told count : ℕ) (now : TurnSeat T E) : Type 0 where
+    pub place : suc (length now.me.0.seen) ≡ count
+    pub behind : told < count
 
   -- The seat's turn goes on: since it began, calls were noted and nothing else changed, and they lead to the value.
   pub record TurnGoesOn (steps : ℕ → T → E → T → Type 0) (entered now : TurnSeat T E) (x : T) : Type 0 where

@@ -123,12 +123,12 @@ module _ {T E : Type 0} where
       pub unnamed : (by : ℕ) → names ≤ by → entries_of by log ≡ []
       pub home : Home opening log s.homes s.views
 
-    -- the seat is in its turn, with the slot's value, which stands for all that it has seen
+    -- the seat is in its turn, with the slot's value, which stands for all that it has seen: as many turns as its ticket says
     abbrev pub Entered : Me (Slot T E) (View T E) → ℕ → Me (Slot T E) (View T E) → Type 0
     Entered m k w =
         (y : Slot T E) × (x : T) × (log : List (Entry E))
         × (w ≡ (record m.0 { stage = Inside k; noted = []; seen = log }, (0, y) ∷ m.1))
-        × (value_in y ≡ some x) × LeadsFromOpening steps m.0.opening log x × IsPrefix m.0.seen log × (entries_of m.0.by log ≡ m.0.mine) × All (HasPart log) m.0.joined
+        × (value_in y ≡ some x) × LeadsFromOpening steps m.0.opening log x × IsPrefix m.0.seen log × (entries_of m.0.by log ≡ m.0.mine) × All (HasPart log) m.0.joined × (k ≡ length log)
 
     -- a waiting seat enters exactly where its ticket is served
     abbrev pub Watches : Step (Slot T E) → Me (Slot T E) (View T E) → ℕ → Me (Slot T E) (View T E) → Type 0

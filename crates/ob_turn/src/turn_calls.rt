@@ -1,9 +1,9 @@
 //! A turn's calls: drawn, waited for, served.
 
-ghost use Rattle.std.specs.Prelude.{◌≡◌, ◌<◌, ◌≤◌, ◌++◌, [], ◌∷◌, true, IfOk};
+ghost use Rattle.std.specs.Prelude.{◌≡◌, ◌<◌, ◌≤◌, ◌++◌, [], ◌∷◌, suc, true, IfOk};
 ghost use Rattle.ob_turn.specs.History.{IsAt};
 ghost use Rattle.ob_turn.specs.TurnRule.{staged, Entered, kept_back, handed_on};
-ghost use Rattle.ob_turn.specs.TurnCalls.{IsTurnSeat, IsSame, IsIdle, IsInside, AreSeats, Enters, NotesCall, EndsTurn, Joins};
+ghost use Rattle.ob_turn.specs.TurnCalls.{IsTurnSeat, IsSame, IsIdle, IsInside, AreSeats, Enters, StandsBehind, NotesCall, EndsTurn, Joins};
 ghost use Rattle.ob_turn.specs.declared.turn.Stage.TheVariants.{Idle, Waiting};
 
 use crate::sleepers::Sleepers;
@@ -122,6 +122,44 @@ impl<E, T: Stepped<E>> Turn<T, E> {
         }
     }
 
+    // How many turns there are with that of the ticket. It waits for good where the caller was told
+    // of as many before.
+    fn turns_with<R: Wait>(rt: &R, ticket: u64, told: u64) -> u64
+        ensures with_this { result ≡ suc ticket }
+        ensures behind { told < result }
+    {
+        for _ in rt.forever() {
+            if let Some(count) = ticket.checked_add(1) {
+                if told < count {
+                    return count;
+                }
+            }
+        }
+        unreachable!()
+    }
+
+    /// Waits for the seat's turn, as `take` does, and tells with the value how many turns there are
+    /// with this one: its entry stands at that place of the history. It stands behind all those of
+    /// which the caller was told, by this seat or another one: the call would wait for good else,
+    /// which can't be, since a ticket drawn later is served later.
+    pub fn take_behind<R: Wait>(&self, rt: &R, seat: &mut TurnSeat<T, E>, told: u64) -> (T, u64)
+        requires own { IsTurnSeat self.now seat.old }
+        requires idle { IsIdle seat.old }
+        ensures entered { Enters T.steps seat.old seat.new result.0 }
+        ensures stands { StandsBehind told result.1 seat.new }
+    {
+        self.pass_gate(rt);
+        let ticket = self.draw(rt, seat);
+        self.wait(rt, seat, ticket);
+        let count = Self::turns_with(rt, ticket, told);
+        match self.table.shared.exchange(seat, 0, Slot::Out) {
+            Slot::Rests(value) => (value, count),
+            Slot::Leaves(value, _) => (value, count),
+            Slot::Noted(_) => unreachable!(),
+            Slot::Out => unreachable!(),
+        }
+    }
+
     /// Waits for the seat's turn, and takes the value out. A ticket is drawn when the turn is
     /// nobody's, so a thread that takes turn after turn goes on, and others wait at the gate. Its
     /// linearization point is the load that finds the seat's ticket served: the seat has then seen
@@ -132,15 +170,8 @@ impl<E, T: Stepped<E>> Turn<T, E> {
         requires idle { IsIdle seat.old }
         ensures entered { Enters T.steps seat.old seat.new result }
     {
-        self.pass_gate(rt);
-        let ticket = self.draw(rt, seat);
-        self.wait(rt, seat, ticket);
-        match self.table.shared.exchange(seat, 0, Slot::Out) {
-            Slot::Rests(value) => value,
-            Slot::Leaves(value, _) => value,
-            Slot::Noted(_) => unreachable!(),
-            Slot::Out => unreachable!(),
-        }
+        let (value, _) = self.take_behind(rt, seat, 0);
+        value
     }
 
     /// Notes a call of this turn, behind those that are noted. It waits for nobody and takes no

@@ -1,5 +1,5 @@
 -- A whole history, entry by entry.
-use Rattle.std.proofs.Common.{◌≡◌, ◌∙◌, ◌⊎◌, ℕ, zero, suc, ◌==◌, Bool, true, false, if◌then◌else◌, All, List, [], ◌∷◌, ◌++◌, slice_get, Some, refl, sym, ap, ap₂, subst, inl, inr, append-nil, eq-eqb, eqb-true, nat_cmp}
+use Rattle.std.proofs.Common.{◌≡◌, ◌∙◌, ◌⊎◌, ℕ, zero, suc, ◌==◌, Bool, true, false, if◌then◌else◌, All, List, [], ◌∷◌, ◌++◌, slice_get, Option, Some, None, refl, sym, ap, ap₂, subst, inl, inr, append-nil, eq-eqb, eqb-true, nat_cmp}
 use Rattle.std.proofs.lemmas.Bool.{false≢true}
 use Rattle.std.proofs.lemmas.Option.{same_Some}
 use Rattle.std.proofs.lemmas.List.Elements.{All-nil, All-cons, All-head, All-tail, All-append}
@@ -45,9 +45,9 @@ pub record IsSaidBy (clients : List ℕ) (i : ℕ) (steps : Steps) : Type 0 wher
   pub named : slice_get clients i ≡ Some number
   pub own : All (IsOwn number) steps
 
-turn_said : (clients : List ℕ) (i : ℕ) (x : DeskState) (cs : List Steps) (y : DeskState) → client_numbers x ≡ clients → Calls IsTurn (suc i) x cs y → (noted_calls cs ≡ []) ⊎ IsSaidBy clients i (noted_calls cs)
-turn_said clients i x [] y same turn = inl refl
-turn_said clients i x (c ∷ cs) y same (z, (led, by), rest) = inr (more (turn_said clients i z cs y (numbers_run x c z led ∙ same) rest))
+made_by : (clients : List ℕ) (i : ℕ) (x : DeskState) (cs : List Steps) (y : DeskState) → client_numbers x ≡ clients → Calls IsTurn (suc i) x cs y → (noted_calls cs ≡ []) ⊎ IsSaidBy clients i (noted_calls cs)
+made_by clients i x [] y same turn = inl refl
+made_by clients i x (c ∷ cs) y same (z, (led, by), rest) = inr (more (made_by clients i z cs y (numbers_run x c z led ∙ same) rest))
   where
     named : slice_get clients i ≡ Some by.0
     named = ap (λ (l : List ℕ). slice_get l i) (sym same) ∙ by.1
@@ -59,6 +59,18 @@ turn_said clients i x (c ∷ cs) y same (z, (led, by), rest) = inr (more (turn_s
       named = named;
       own = All-append (IsOwn by.0) c (noted_calls cs) by.2 (subst (λ (n : ℕ). All (IsOwn n) (noted_calls cs)) (same_Some said.number by.0 (sym said.named ∙ named)) said.own);
     }
+
+-- there is no such client, and nothing was called
+abbrev pub IsNobodys : List ℕ → ℕ → Steps → Type 0
+IsNobodys clients i steps = (slice_get clients i ≡ None) × (steps ≡ [])
+
+at_place : (clients : List ℕ) (i : ℕ) (steps : Steps) (found : Option ℕ) → slice_get clients i ≡ found → (steps ≡ []) ⊎ IsSaidBy clients i steps → IsSaidBy clients i steps ⊎ IsNobodys clients i steps
+at_place clients i steps found at (inr said) = inl said
+at_place clients i steps None at (inl none) = inr (at, none)
+at_place clients i steps (Some number) at (inl none) = inl (record { number = number; named = at; own = subst (All (IsOwn number)) (sym none) (All-nil (IsOwn number)) })
+
+turn_said : (clients : List ℕ) (i : ℕ) (x : DeskState) (cs : List Steps) (y : DeskState) → client_numbers x ≡ clients → Calls IsTurn (suc i) x cs y → IsSaidBy clients i (noted_calls cs) ⊎ IsNobodys clients i (noted_calls cs)
+turn_said clients i x cs y same turn = at_place clients i (noted_calls cs) (slice_get clients i) refl (made_by clients i x cs y same turn)
 
 -- ---- the acts of a history
 
@@ -95,27 +107,27 @@ module _ (clients : List ℕ) (beat : BeatKind) where
   client_then : (e : Entry Steps) (entries : List (Entry Steps)) (driven : List Act) (i : ℕ) (x z : DeskState) → e.by ≡ suc i → Leads x (calls_in (e ∷ [])) z → IsSaidBy clients i (calls_in (e ∷ [])) → Acts clients beat entries driven → Acts clients beat (e ∷ entries) driven
   client_then e entries driven i x z by leads said a = record {
     acts = Says said.number (calls_in (e ∷ [])) ∷ a.acts;
-    are = ([], driven, Says said.number (calls_in (e ∷ [])) ∷ [], a.acts, refl, refl, subst (λ (n : ℕ). IsEntryOf clients n (calls_in (e ∷ [])) [] (Says said.number (calls_in (e ∷ [])) ∷ [])) (sym by) (refl, inr (said.number, said.named, refl)), a.are);
+    are = ([], driven, Says said.number (calls_in (e ∷ [])) ∷ [], a.acts, refl, refl, subst (λ (n : ℕ). IsEntryOf clients n (calls_in (e ∷ [])) [] (Says said.number (calls_in (e ∷ [])) ∷ [])) (sym by) (refl, inl (said.number, said.named, refl)), a.are);
     allowed = All-cons (IsAllowed beat) (Says said.number (calls_in (e ∷ []))) a.acts said.own a.allowed;
     history_is = ap (λ (s : Steps). calls_in (e ∷ []) ++ s) a.history_is ∙ sym (calls_append (e ∷ []) entries);
     calls_are = a.calls_are;
     records_are = records_append (Says said.number (calls_in (e ∷ [])) ∷ []) a.acts ∙ (ap (λ (rs : List (EpochRecord ℕ)). rs ++ records a.acts) (ap published (append-nil (calls_in (e ∷ []))) ∙ own_tells said.number (calls_in (e ∷ [])) x z said.own leads) ∙ a.records_are);
   }
 
-  -- an entry of a client's in which nothing was called
-  none_then : (e : Entry Steps) (entries : List (Entry Steps)) (driven : List Act) (i : ℕ) → e.by ≡ suc i → calls_in (e ∷ []) ≡ [] → Acts clients beat entries driven → Acts clients beat (e ∷ entries) driven
-  none_then e entries driven i by none a = record {
+  -- an entry of nobody's
+  none_then : (e : Entry Steps) (entries : List (Entry Steps)) (driven : List Act) (i : ℕ) → e.by ≡ suc i → IsNobodys clients i (calls_in (e ∷ [])) → Acts clients beat entries driven → Acts clients beat (e ∷ entries) driven
+  none_then e entries driven i by (nobody, none) a = record {
     acts = a.acts;
-    are = ([], driven, [], a.acts, refl, refl, subst (λ (n : ℕ). IsEntryOf clients n (calls_in (e ∷ [])) [] []) (sym by) (refl, inl (none, refl)), a.are);
+    are = ([], driven, [], a.acts, refl, refl, subst (λ (n : ℕ). IsEntryOf clients n (calls_in (e ∷ [])) [] []) (sym by) (refl, inr (nobody, none, refl)), a.are);
     allowed = a.allowed;
     history_is = a.history_is ∙ (sym (ap (λ (s : Steps). s ++ calls_in entries) none) ∙ sym (calls_append (e ∷ []) entries));
     calls_are = a.calls_are;
     records_are = a.records_are;
   }
 
-  client_entry : (e : Entry Steps) (entries : List (Entry Steps)) (driven : List Act) (i : ℕ) (x z : DeskState) → e.by ≡ suc i → Leads x (calls_in (e ∷ [])) z → (noted_calls e.calls ≡ []) ⊎ IsSaidBy clients i (noted_calls e.calls) → Acts clients beat entries driven → Acts clients beat (e ∷ entries) driven
-  client_entry e entries driven i x z by leads (inl none) a = none_then e entries driven i by (one_entry e ∙ none) a
-  client_entry e entries driven i x z by leads (inr said) a = client_then e entries driven i x z by leads (subst (IsSaidBy clients i) (sym (one_entry e)) said) a
+  client_entry : (e : Entry Steps) (entries : List (Entry Steps)) (driven : List Act) (i : ℕ) (x z : DeskState) → e.by ≡ suc i → Leads x (calls_in (e ∷ [])) z → IsSaidBy clients i (noted_calls e.calls) ⊎ IsNobodys clients i (noted_calls e.calls) → Acts clients beat entries driven → Acts clients beat (e ∷ entries) driven
+  client_entry e entries driven i x z by leads (inr none) a = none_then e entries driven i by (none.0, one_entry e ∙ none.1) a
+  client_entry e entries driven i x z by leads (inl said) a = client_then e entries driven i x z by leads (subst (IsSaidBy clients i) (sym (one_entry e)) said) a
 
   entry_then : (e : Entry Steps) (entries : List (Entry Steps)) (x z : DeskState) (by : ℕ) → e.by ≡ by → (b : Bool) → (0 == e.by) ≡ b → client_numbers x ≡ clients → Calls IsTurn e.by x e.calls z → (driven : List Act) → AreActs (if b then e ∷ entries_of 0 entries else entries_of 0 entries) driven → All (IsAllowed beat) driven
       → ((more : List Act) → AreActs (entries_of 0 entries) more → All (IsAllowed beat) more → Acts clients beat entries more) → Acts clients beat (e ∷ entries) driven
@@ -145,11 +157,11 @@ module _ {V : Type 0} (k : Kind V) (clients : List ℕ) where
   entry_serves e x z v w notes m mine these zero (one, calls_are, same) is numbers turn chain held =
       subst (λ (acts : List Act). Serves k m x (history acts) z w) (sym same)
       (turn_serves k m x z v w notes held mine one (subst (λ (s : Steps). Leads x s z) calls_are (entry_leads x e z turn)) chain)
-  entry_serves e x z v w notes m mine these (suc i) (none, inl (quiet, same)) is numbers turn chain held =
+  entry_serves e x z v w notes m mine these (suc i) (none, inr (nobody, quiet, same)) is numbers turn chain held =
       let still : w ≡ v = (subst (λ (acts : List Act). AllNoted k v (calls acts) notes w) none chain).0 in
       let stays : z ≡ x = subst (λ (s : Steps). Leads x s z) quiet (entry_leads x e z turn) in
       subst (λ (acts : List Act). Serves k m x (history acts) z w) (sym same) (record { next = m; run = (refl, stays); holds = subst (λ (u : V). HoldsMap k u m) (sym still) held })
-  entry_serves e x z v w notes m mine these (suc i) (none, inr (number, named, same)) is numbers turn chain held =
+  entry_serves e x z v w notes m mine these (suc i) (none, inl (number, named, same)) is numbers turn chain held =
       let still : w ≡ v = (subst (λ (acts : List Act). AllNoted k v (calls acts) notes w) none chain).0 in
       let own : All (IsOwn number) (calls_in (e ∷ [])) = owns (turn_said clients i x e.calls z numbers (subst (λ (n : ℕ). Calls IsTurn n x e.calls z) is turn)) named in
       subst (λ (acts : List Act). Serves k m x (history acts) z w) (sym same) (record {
@@ -158,9 +170,9 @@ module _ {V : Type 0} (k : Kind V) (clients : List ℕ) where
         holds = subst (λ (u : V). HoldsMap k u m) (sym still) held;
       })
     where
-      owns : (noted_calls e.calls ≡ []) ⊎ IsSaidBy clients i (noted_calls e.calls) → slice_get clients i ≡ Some number → All (IsOwn number) (calls_in (e ∷ []))
-      owns (inl quiet) is = subst (All (IsOwn number)) (sym (one_entry e ∙ quiet)) (All-nil (IsOwn number))
-      owns (inr said) is = subst (All (IsOwn number)) (sym (one_entry e)) (subst (λ (n : ℕ). All (IsOwn n) (noted_calls e.calls)) (same_Some said.number number (sym said.named ∙ is)) said.own)
+      owns : IsSaidBy clients i (noted_calls e.calls) ⊎ IsNobodys clients i (noted_calls e.calls) → slice_get clients i ≡ Some number → All (IsOwn number) (calls_in (e ∷ []))
+      owns (inr quiet) is = subst (All (IsOwn number)) (sym (one_entry e ∙ quiet.1)) (All-nil (IsOwn number))
+      owns (inl said) is = subst (All (IsOwn number)) (sym (one_entry e)) (subst (λ (n : ℕ). All (IsOwn n) (noted_calls e.calls)) (same_Some said.number number (sym said.named ∙ is)) said.own)
 
   pub serves : (entries : List (Entry Steps)) (x y : DeskState) (v w : V) (notes : List Note) (m : Map nat_cmp) (driven acts : List Act) → client_numbers x ≡ clients → LeadsByTurns IsTurn x entries y → AreWoven clients entries driven acts → AllNoted k v (calls driven) notes w → HoldsMap k v m
       → Serves k m x (history acts) y w

@@ -1,5 +1,5 @@
 -- The acts of a hall's whole history: the driver's, entry by entry, and between them the clients'.
-use Rattle.std.specs.Prelude.{◌≡◌, ◌⊎◌, ℕ, zero, suc, All, List, [], ◌∷◌, ◌++◌, slice_get, Some}
+use Rattle.std.specs.Prelude.{◌≡◌, ◌⊎◌, ℕ, zero, suc, All, List, [], ◌∷◌, ◌++◌, slice_get, Some, None}
 use Rattle.std.specs.Ordering.{nat_cmp}
 use Rattle.ob_store.specs.declared.watch.Note.{Note}
 use Rattle.ob_serial.specs.Serial.{Map, OneByOne, committed_of}
@@ -16,10 +16,10 @@ use Rattle.ob_conduct.specs.Scenes.{AllNoted}
 use Rattle.ob_conduct.specs.Records.{contents, HoldsMap}
 use Rattle.ob_driver.specs.Turning.{IsOneTurn, AreActs}
 
--- These are the acts of an entry with these calls. At place 0 they are the driver's, which are given; at place i + 1 it is one step of the i-th of these clients, or none where nothing was called.
+-- These are the acts of an entry with these calls. At place 0 they are the driver's, which are given; at place i + 1 it is one step of the i-th of these clients, even where it called nothing. Where there is no such client nothing was called.
 abbrev pub IsEntryOf : List ℕ → ℕ → Steps → List Act → List Act → Type 0
 IsEntryOf clients zero steps driven acts = IsOneTurn driven × (steps ≡ history driven) × (acts ≡ driven)
-IsEntryOf clients (suc i) steps driven acts = (driven ≡ []) × (((steps ≡ []) × (acts ≡ [])) ⊎ ((number : ℕ) × (slice_get clients i ≡ Some number) × (acts ≡ Says number steps ∷ [])))
+IsEntryOf clients (suc i) steps driven acts = (driven ≡ []) × (((number : ℕ) × (slice_get clients i ≡ Some number) × (acts ≡ Says number steps ∷ [])) ⊎ ((slice_get clients i ≡ None) × (steps ≡ []) × (acts ≡ [])))
 
 -- These are the acts of the entries, one entry behind the other, where the driver's are given.
 abbrev pub AreWoven : List ℕ → List (Entry Steps) → List Act → List Act → Type 0

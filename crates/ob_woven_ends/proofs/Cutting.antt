@@ -47,8 +47,8 @@ behind_all P (x ∷ xs) ys all = behind_all P xs ys (All-tail P x (xs ++ ys) all
 -- their calls of the desk are the entries',
 entry_history : (clients : List ℕ) (by : ℕ) (steps : Steps) (mine these : List Act) → IsEntryOf clients by steps mine these → history these ≡ steps
 entry_history clients zero steps mine these (one, is, same) = ap history same ∙ sym is
-entry_history clients (suc i) steps mine these (none, inl (quiet, same)) = ap history same ∙ sym quiet
-entry_history clients (suc i) steps mine these (none, inr (number, named, same)) = ap history same ∙ append-nil steps
+entry_history clients (suc i) steps mine these (none, inr (nobody, quiet, same)) = ap history same ∙ sym quiet
+entry_history clients (suc i) steps mine these (none, inl (number, named, same)) = ap history same ∙ append-nil steps
 
 pub woven_history : (clients : List ℕ) (entries : List (Entry Steps)) (driven acts : List Act) → AreWoven clients entries driven acts → history acts ≡ calls_in entries
 woven_history clients [] driven acts (none, quiet) = ap history quiet
@@ -58,8 +58,8 @@ woven_history clients (e ∷ entries) driven acts (mine, more, these, rest, driv
 -- and those of the vault the driver's
 entry_calls : (clients : List ℕ) (by : ℕ) (steps : Steps) (mine these : List Act) → IsEntryOf clients by steps mine these → calls these ≡ calls mine
 entry_calls clients zero steps mine these (one, is, same) = ap calls same
-entry_calls clients (suc i) steps mine these (none, inl (quiet, same)) = ap calls same ∙ sym (ap calls none)
-entry_calls clients (suc i) steps mine these (none, inr (number, named, same)) = ap calls same ∙ sym (ap calls none)
+entry_calls clients (suc i) steps mine these (none, inr (nobody, quiet, same)) = ap calls same ∙ sym (ap calls none)
+entry_calls clients (suc i) steps mine these (none, inl (number, named, same)) = ap calls same ∙ sym (ap calls none)
 
 pub woven_calls : (clients : List ℕ) (entries : List (Entry Steps)) (driven acts : List Act) → AreWoven clients entries driven acts → calls acts ≡ calls driven
 woven_calls clients [] driven acts (none, quiet) = ap calls quiet ∙ sym (ap calls none)
@@ -72,9 +72,9 @@ no_turn these none one = subst IsOneTurn none one
 
 entry_said : (beat : BeatKind) (clients : List ℕ) (by : ℕ) (steps : Steps) (mine these : List Act) → IsEntryOf clients by steps mine these → mine ≡ [] → (rest : List Act) → All (IsAllowed beat) (these ++ rest) → (All (IsAllowed beat) rest → All IsSaid rest) → All IsSaid (these ++ rest)
 entry_said beat clients zero steps mine these (one, is, same) none rest allowed on = absurd (no_turn mine none one)
-entry_said beat clients (suc i) steps mine these (nothing, inl (quiet, same)) none rest allowed on =
+entry_said beat clients (suc i) steps mine these (nothing, inr (nobody, quiet, same)) none rest allowed on =
     subst (λ (xs : List Act). All IsSaid (xs ++ rest)) (sym same) (on (behind_all (IsAllowed beat) these rest allowed))
-entry_said beat clients (suc i) steps mine these (nothing, inr (number, named, same)) none rest allowed on =
+entry_said beat clients (suc i) steps mine these (nothing, inl (number, named, same)) none rest allowed on =
     subst (λ (xs : List Act). All IsSaid (xs ++ rest)) (sym same)
     (let one : All (IsAllowed beat) (Says number steps ∷ rest) = subst (λ (xs : List Act). All (IsAllowed beat) (xs ++ rest)) same allowed in
     All-cons IsSaid (Says number steps) rest (All-head (IsAllowed beat) (Says number steps) rest one) (on (All-tail (IsAllowed beat) (Says number steps) rest one)))

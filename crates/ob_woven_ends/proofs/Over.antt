@@ -21,7 +21,7 @@ use Rattle.ob_driver.specs.Driven.{Side}
 use Rattle.ob_driver.specs.Drives.{RunsOut}
 use Rattle.ob_driver.proofs.Sound.{history_sound}
 use Rattle.ob_woven.specs.Woven.{Woven}
-use Rattle.ob_woven_ends.specs.Ends.{AreQuiet}
+use Rattle.ob_woven_ends.specs.Ends.{AreQuiet, AnyActs}
 use Rattle.ob_woven_ends.proofs.Shapes.{same_shape, over_too}
 use Rattle.ob_woven_ends.proofs.Quiet.{same_calls}
 
@@ -36,7 +36,7 @@ still_over opened over d seen rest fresh legal so_far is_over driven mild quiet 
     (history_sound p opened seen over refl fresh so_far mild).fit
     (history_sound p opened (seen ++ rest) d refl fresh legal (subst (λ (es : List (Entry Steps)). All IsMild (calls_in es)) (sym driven) mild)).fit
 
-pub over_runs : {V : Type 0} (k : Kind V) (beat : BeatKind) (hall : Hall) (old : Side V) (c : VaultCounts) (new : Side V) (next : VaultCounts) (r : RunsOut k beat hall old c new next) (log : List (Entry Steps)) (raised : List ℕ) (d : DeskState) → HasPass log raised new.pass → IsLegal hall log d
+pub over_runs : {V : Type 0} (k : Kind V) (beat : BeatKind) (hall : Hall) (old : Side V) (c : VaultCounts) (new : Side V) (next : VaultCounts) (r : RunsOut k beat hall AnyActs old c new next) (log : List (Entry Steps)) (raised : List ℕ) (d : DeskState) → HasPass log raised new.pass → IsLegal hall log d
     → AreQuiet (opening_of hall) log → (w : Woven k beat (opening_of hall) d log old.vault new.vault r.done.acts) → AreAnswered (calls w.acts) × IsOver d × IsWritten (report decimal (records w.acts)) old.output new.output
 over_runs k beat hall old c new next r log raised d has legal quiet w =
     let done = r.done.done in

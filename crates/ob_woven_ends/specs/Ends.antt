@@ -15,7 +15,7 @@ use Rattle.ob_hall.specs.Passes.{Steps, Hall, Pass, opening_of, IsLegal}
 use Rattle.ob_hall.specs.Opening.{ArePasses}
 use Rattle.ob_hall.specs.Closing.{HasPass, IsWholeHistory}
 use Rattle.ob_hall.specs.Driving.{StepRule, AreSteps}
-use Rattle.ob_conduct.specs.Acts.{calls, records}
+use Rattle.ob_conduct.specs.Acts.{Act, calls, records}
 use Rattle.ob_conduct.specs.Scenes.{scene}
 use Rattle.ob_conduct.specs.Records.{AreAnswered, IsOver, IsWritten}
 use Rattle.ob_conduct.specs.Moves.{Failure}
@@ -35,15 +35,19 @@ IsQuiet {Plan} turn = (plan : Plan) (client : ℕ) (said steps : Steps) → turn
 abbrev pub AreQuiet : DeskState → List (Entry Steps) → Type 0
 AreQuiet opened log = (at number : ℕ) → slice_get (client_numbers opened) at ≡ Some number → AreSteps QuietRule number [] (entries_of (suc at) log)
 
+-- nothing more is asked of the driver's acts
+abbrev pub AnyActs : List Act → Type 0
+AnyActs acts = Unit {0}
+
 -- The driver saw a desk that was over, and made no entry behind that; so it is of the whole history, and the vault refused nothing.
 abbrev pub OverRunsEndOver : {V : Type 0} → Kind V → Type 0
-OverRunsEndOver {V} k = (beat : BeatKind) (hall : Hall) (old : Side V) (c : VaultCounts) (new : Side V) (next : VaultCounts) (r : RunsOut k beat hall old c new next) (log : List (Entry Steps)) (raised : List ℕ) (d : DeskState)
+OverRunsEndOver {V} k = (beat : BeatKind) (hall : Hall) (old : Side V) (c : VaultCounts) (new : Side V) (next : VaultCounts) (r : RunsOut k beat hall AnyActs old c new next) (log : List (Entry Steps)) (raised : List ℕ) (d : DeskState)
     → HasPass log raised new.pass → IsLegal hall log d → AreQuiet (opening_of hall) log → (w : Woven k beat (opening_of hall) d log old.vault new.vault r.done.acts)
     → AreAnswered (calls w.acts) × IsOver d × IsWritten (report decimal (records w.acts)) old.output new.output
 
 -- The driver's last act told of a fault; so does the last act of the whole history that isn't a client's.
 abbrev pub FailedRunsFail : {V : Type 0} → Kind V → Type 0
-FailedRunsFail {V} k = (beat : BeatKind) (hall : Hall) (old : Side V) (p : Params) (c : VaultCounts) (new : Side V) (fault : Fault) → IsFirstPass hall old.pass p c → (r : RunFails k beat hall old c new fault) (log : List (Entry Steps)) (d : DeskState)
+FailedRunsFail {V} k = (beat : BeatKind) (hall : Hall) (old : Side V) (p : Params) (c : VaultCounts) (new : Side V) (fault : Fault) → IsFirstPass hall old.pass p c → (r : RunFails k beat hall AnyActs old c new fault) (log : List (Entry Steps)) (d : DeskState)
     → IsLegal hall log d → (w : Woven k beat (opening_of hall) d log old.vault new.vault r.fails.acts)
     → Failure k (scene (opening_of hall) old.vault old.trace) (scene d new.vault new.trace) w.acts old.output new.output fault
 

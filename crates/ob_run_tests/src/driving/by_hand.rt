@@ -49,12 +49,12 @@ impl Seated {
         Ok(Seated { pass, runner })
     }
 
-    // Makes one step.
-    fn step<R: Wait>(&mut self, rt: &R, hall: &Hall) -> bool
+    // Makes one step, behind so many turns as it is told, and tells how many there are then.
+    fn step<R: Wait>(&mut self, rt: &R, hall: &Hall, turns: &mut u64) -> bool
         requires seated { IsSeated hall.now self.old.pass self.old.runner }
         ensures seated { IsSeated hall.now self.new.pass self.new.runner }
     {
-        ran(take_turn(rt, hall, &mut self.pass, &mut self.runner))
+        ran(take_turn(rt, hall, &mut self.pass, &mut self.runner, turns))
     }
 }
 
@@ -70,17 +70,13 @@ impl Hands for Both {
 
     ghost ready = { λ hall both. IsSeated hall both.first.pass both.first.runner × IsSeated hall both.second.pass both.second.runner };
 
-    ghost stepped = { λ hall first last. Unit {0} };
+    ghost round = { λ hall n first last m. Unit {0} };
 
-    fn step_all<R: Wait>(&mut self, rt: &R, hall: &Hall) -> bool {
-        let first = self.first.step(rt, hall);
-        let second = self.second.step(rt, hall);
+    fn step_all<R: Wait>(&mut self, rt: &R, hall: &Hall, turns: &mut u64) -> bool {
+        let first = self.first.step(rt, hall, turns);
+        let second = self.second.step(rt, hall, turns);
         first || second
     }
-
-    ghost none = { λ hall hands. tt };
-
-    ghost behind = { λ hall first mid last before after. tt };
 }
 
 /// A hall of two clients round a new desk, with the driver's pass and theirs.

@@ -1,5 +1,6 @@
 use Rattle.std.proofs.Common.{◌∙◌, refl}
 use Rattle.ob_driver.proofs.Joining.{done_none, done_more, fails_behind}
+use Rattle.ob_driver.proofs.Rounding.{rounds_none, rounds_more}
 use Rattle.ob_driver.proofs.driving.drive_on.Goals as goal
 
 pub loop-init : goal.loop-init
@@ -8,8 +9,7 @@ loop-init g c = record {
   room = c.requires.room;
   anchors = refl;
   hands = c.requires.hands;
-  stepped = g.met.H.Hands.none c.args.hall.now c.args.hands.now;
-  done = done_none _ _ c.args.hall.now _ (g.V.Vault.counts c.args.vault.now) c.requires.rests;
+  done = done_none _ _ c.args.hall.now _ (g.V.Vault.counts c.args.vault.now) _ (rounds_none (g.H.Hands.round c.args.hall.now) c.args.hands.now c.args.pass.now) c.requires.rests;
 }
 
 pub look_once-requires-clause-rests : goal.look_once-requires-clause-rests
@@ -19,20 +19,34 @@ pub loop-preserved : goal.loop-preserved
 loop-preserved g c =
     let i = c.loop.invariant in
     let e = c.in-Ok.ensures in
+    let did = e.acted.done.acts_are in
     record {
       params = e.params;
       room = e.room;
       anchors = e.anchors ∙ i.anchors;
       hands = c.step_all-ran.ensures.ready;
-      stepped = g.met.H.Hands.behind c.args.hall.now c.args.hands.now c.loop.hands c.step_all-ran.new.self i.stepped c.step_all-ran.ensures.stepped;
-      done = done_more _ _ c.args.hall.now _ _ _ _ _ i.done _ c.in-Ok.round e.acted;
+      done = done_more _ _ c.args.hall.now _ _ _ _ _ _ _ i.done _ c.in-Ok.round e.acted
+          (rounds_more (g.H.Hands.round c.args.hall.now) c.args.hands.now c.loop.hands c.step_all-ran.new.self c.args.pass.now c.loop.pass c.look_once.new.pass i.done.acts e.acted.acts c.loop.turns c.step_all-ran.new.turns c.look_once.new.turns i.done.also.0 i.done.also.1 c.step_all-ran.ensures.round e.stand
+          e.acted.one did.turns did.are did.made);
     }
 
 pub returns-in-Err-clause-failed : goal.returns-in-Err-clause-failed
-returns-in-Err-clause-failed g c = fails_behind _ _ c.args.hall.now _ _ _ _ _ c.loop.invariant.done c.in-Err.fault c.in-Err.ensures.failed
+returns-in-Err-clause-failed g c =
+    let i = c.loop.invariant in
+    let e = c.in-Err.ensures in
+    let did = e.failed.fails.acts_are in
+    fails_behind _ _ c.args.hall.now _ _ _ _ _ _ _ i.done c.in-Err.fault e.failed
+    (rounds_more (g.H.Hands.round c.args.hall.now) c.args.hands.now c.loop.hands c.step_all-ran.new.self c.args.pass.now c.loop.pass c.look_once.new.pass i.done.acts e.failed.acts c.loop.turns c.step_all-ran.new.turns c.look_once.new.turns i.done.also.0 i.done.also.1 c.step_all-ran.ensures.round e.stand
+    e.failed.one did.turns did.are did.made).0
 
 pub returns-then-is_over-clause-done : goal.returns-then-is_over-clause-done
-returns-then-is_over-clause-done g c = done_more _ _ c.args.hall.now _ _ _ _ _ c.loop.invariant.done _ c.in-Ok.round c.in-Ok.ensures.acted
+returns-then-is_over-clause-done g c =
+    let i = c.loop.invariant in
+    let e = c.in-Ok.ensures in
+    let did = e.acted.done.acts_are in
+    done_more _ _ c.args.hall.now _ _ _ _ _ _ _ i.done _ c.in-Ok.round e.acted
+    (rounds_more (g.H.Hands.round c.args.hall.now) c.args.hands.now c.loop.hands c.step_all-ran.new.self c.args.pass.now c.loop.pass c.look_once.new.pass i.done.acts e.acted.acts c.loop.turns c.step_all-ran.new.turns c.look_once.new.turns i.done.also.0 i.done.also.1 c.step_all-ran.ensures.round e.stand
+    e.acted.one did.turns did.are did.made).0
 
 pub returns-then-is_over-clause-over : goal.returns-then-is_over-clause-over
 returns-then-is_over-clause-over g c = c.in-Ok.ensures.over c.if-is_over.ensures

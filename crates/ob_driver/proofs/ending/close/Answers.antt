@@ -13,6 +13,7 @@ use Rattle.ob_conduct.proofs.Closing.{close_few, close_rising, close_below}
 use Rattle.ob_driver.specs.Resting.{params_of}
 use Rattle.ob_driver.proofs.Turning.{call_leads, turn_made}
 use Rattle.ob_driver.proofs.Shutting.{may_close, may_publish, some_closed, shut_turn, ends, gives_up}
+use Rattle.ob_driver.proofs.Standing.{ends_left, ends_noted}
 use Rattle.ob_driver.proofs.ending.close.Goals as goal
 
 pub close-requires-clause-may : goal.close-requires-clause-may
@@ -73,3 +74,12 @@ leave-requires-clause-desk g c =
     (shut_turn (kind_of g.V.Vault) c.args.hall.now c.args.pass.now c.note.new.pass c.note.new.pass c.args.desk c.close.new.self c.args.vault.now c.args.vault.now (g.W.Watch.trace c.args.watch.now) (g.W.Watch.trace c.args.watch.now) (g.V.Vault.counts c.args.vault.now)
     (map pair_of c.close.new.out.items) c.requires.ready c.close.ensures.step (rw c.of-made.ensures at c.note.ensures.noted) c.requires.turn c.note.ensures.own c.requires.goes_on c.requires.none_left)
     (some_closed c.args.desk c.close.new.self (map pair_of c.close.new.out.items) c.close.ensures.step) c.unsure.ensures refl
+
+pub returns-in-Ok-clause-ends : goal.returns-in-Ok-clause-ends
+returns-in-Ok-clause-ends g c = ends_noted c.args.pass.now c.note.new.pass c.publish.new.pass _ c.note.ensures.noted c.publish.ensures.ends
+
+pub returns-in-Err-Before-clause-ends : goal.returns-in-Err-Before-clause-ends
+returns-in-Err-Before-clause-ends g c = ends_noted c.args.pass.now c.note.new.pass c.stop_inside.new.pass _ c.note.ensures.noted c.stop_inside.ensures.ends
+
+pub returns-in-Err-Unsure-clause-ends : goal.returns-in-Err-Unsure-clause-ends
+returns-in-Err-Unsure-clause-ends g c = ends_noted c.args.pass.now c.note.new.pass c.leave.new.pass _ c.note.ensures.noted (ends_left c.note.new.pass c.leave.new.pass _ c.leave.ensures.left)

@@ -4,6 +4,7 @@ use Rattle.ob_serial.specs.VaultKinds.{kind_of}
 use Rattle.ob_conduct.specs.Scenes.{scene}
 use Rattle.ob_driver.proofs.Answering.{if_ok_all, on_ok_all, if_err_both}
 use Rattle.ob_driver.proofs.Closing.{still_raises, still_told, ended_rests, ended_once, end_refused_once, batch_refused_once}
+use Rattle.ob_driver.proofs.Standing.{ends_notes}
 use Rattle.ob_driver.proofs.ending.end_epoch.Goals as goal
 
 pub close-requires-clause-turn : goal.close-requires-clause-turn
@@ -54,3 +55,9 @@ returns-in-Err-clause-refused g c = λ beat look flow noted may end.
     let (batches, refused) = c.in-Err.ensures.refused in
     batch_refused_once (kind_of g.V.Vault) beat c.args.hall.now c.args.pass.now c.read_left.new.pass c.stop_inside.new.pass (scene c.args.desk c.args.vault.now (g.W.Watch.trace c.args.watch.now))
     (scene c.read_left.new.desk c.read_left.new.vault (g.W.Watch.trace c.read_left.new.watch)) (g.V.Vault.counts c.args.vault.now) look batches flow noted may end c.in-Err.fault refused c.stop_inside.ensures.made c.stop_inside.ensures.ear c.stop_inside.ensures.own c.stop_inside.ensures.idle
+
+pub returns-in-Ok-clause-ends : goal.returns-in-Ok-clause-ends
+returns-in-Ok-clause-ends g c = ends_notes c.args.pass.now c.read_left.new.pass c.close.new.pass _ c.in-Ok.ensures.read.1.notes c.close.ensures.ends
+
+pub returns-in-Err-clause-ends : goal.returns-in-Err-clause-ends
+returns-in-Err-clause-ends g c = ends_notes c.args.pass.now c.read_left.new.pass c.stop_inside.new.pass _ c.in-Err.ensures.refused.1.notes c.stop_inside.ensures.ends

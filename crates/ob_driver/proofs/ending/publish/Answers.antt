@@ -5,6 +5,7 @@ use Rattle.ob_turn.specs.BellCalls.{Raises}
 use Rattle.ob_serial.specs.Views.{record_of}
 use Rattle.ob_desk.specs.Desk as desk
 use Rattle.ob_driver.proofs.Turning.{call_leads, turn_made, turn_rung, made_rung}
+use Rattle.ob_driver.proofs.Standing.{ends_left, ends_rung}
 use Rattle.ob_driver.proofs.ending.publish.Goals as goal
 
 pub leave-requires-clause-desk : goal.leave-requires-clause-desk
@@ -21,3 +22,6 @@ returns-clause-made c =
 
 pub returns-clause-raised : goal.returns-clause-raised
 returns-clause-raised c = subst (λ (e : Seat (Unit {0}) Heard). Raises c.args.pass.now.ear e c.args.ended) (sym c.leave.ensures.left.beside.ear) c.raise.ensures.raised.raises
+
+pub returns-clause-ends : goal.returns-clause-ends
+returns-clause-ends c = ends_rung c.args.pass.now c.raise.new.pass c.leave.new.pass c.raise.ensures.raised.seat (ends_left c.raise.new.pass c.leave.new.pass _ c.leave.ensures.left)

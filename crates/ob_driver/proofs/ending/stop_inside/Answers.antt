@@ -1,6 +1,7 @@
 use Rattle.std.proofs.Common.{refl}
 use Rattle.ob_desk.specs.Desk as desk
 use Rattle.ob_driver.proofs.Turning.{call_leads, turn_made}
+use Rattle.ob_driver.proofs.Standing.{ends_left}
 use Rattle.ob_driver.proofs.ending.stop_inside.Goals as goal
 
 pub leave-requires-clause-desk : goal.leave-requires-clause-desk
@@ -8,3 +9,6 @@ leave-requires-clause-desk c = call_leads c.args.hall.now c.args.pass.now c.args
 
 pub returns-clause-made : goal.returns-clause-made
 returns-clause-made c = turn_made c.args.pass.now c.leave.new.pass (desk.Stop c.args.fault, desk.Done) c.leave.ensures.left
+
+pub returns-clause-ends : goal.returns-clause-ends
+returns-clause-ends c = ends_left c.args.pass.now c.leave.new.pass _ c.leave.ensures.left

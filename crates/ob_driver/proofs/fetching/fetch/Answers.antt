@@ -6,6 +6,7 @@ use Rattle.ob_conduct.proofs.Batches.{batch_below, batch_distinct}
 use Rattle.ob_driver.specs.Resting.{params_of}
 use Rattle.ob_driver.proofs.Insides.{may_take}
 use Rattle.ob_driver.proofs.Batching.{batch_is_out, taken_driver, fetched_once, refused_once}
+use Rattle.ob_driver.proofs.Standing.{goes_then}
 use Rattle.ob_driver.proofs.fetching.fetch.Goals as goal
 
 pub take-requires-clause-may : goal.take-requires-clause-may
@@ -60,3 +61,9 @@ returns-in-Err-clause-refused g c = λ beat look flow noted may fetch.
     refused_once (kind_of g.V.Vault) beat c.args.hall.now c.args.pass.now c.take.new.pass c.stop.new.pass c.args.desk mid (g.V.Vault.counts c.args.vault.now) look flow c.take.new.asks.items c.requires.looking noted may fetch taken c.take.ensures.made c.take.ensures.own
     c.take.ensures.ear c.args.vault.now c.read_batch.new.vault (g.W.Watch.trace c.args.watch.now) (g.W.Watch.trace c.read_batch.new.watch) c.in-Err.fault c.in-Err.ensures.called c.in-Err.ensures.faults c.in-Err.ensures.cause c.stop.ensures.made c.stop.ensures.ear c.stop.ensures.own
     c.stop.ensures.idle
+
+pub returns-in-Ok-clause-stand : goal.returns-in-Ok-clause-stand
+returns-in-Ok-clause-stand g c = goes_then c.args.pass.now c.take.new.pass c.deliver.new.pass c.args.turns.now c.deliver.new.turns c.requires.turns c.take.ensures.ends c.deliver.ensures.stand
+
+pub returns-in-Err-clause-stand : goal.returns-in-Err-clause-stand
+returns-in-Err-clause-stand g c = goes_then c.args.pass.now c.take.new.pass c.stop.new.pass c.args.turns.now c.stop.new.turns c.requires.turns c.take.ensures.ends c.stop.ensures.stand

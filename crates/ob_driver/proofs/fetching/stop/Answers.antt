@@ -3,17 +3,24 @@ use Rattle.ob_desk.specs.Desk as desk
 use Rattle.ob_driver.proofs.Turning.{call_leads, turn_made}
 use Rattle.ob_driver.proofs.Resting.{in_turn}
 use Rattle.ob_driver.proofs.Whole.{whole_turn}
+use Rattle.ob_driver.proofs.Standing.{ends_left, goes_on_ended, made_entered}
 use Rattle.ob_driver.proofs.fetching.stop.Goals as goal
 
 pub leave-requires-clause-desk : goal.leave-requires-clause-desk
 leave-requires-clause-desk g c =
-    call_leads c.args.hall.now c.enter-desk.new.pass c.enter-desk.result c.stop.new.self (desk.Stop c.args.fault, desk.Done)
-    (in_turn c.args.hall.now c.args.pass.now c.enter-desk.new.pass c.enter-desk.result c.requires.driver c.enter-desk.ensures.entered c.enter-desk.ensures.own) tt c.stop.ensures refl
+    call_leads c.args.hall.now c.enter_behind-desk.new.pass c.enter_behind-desk.result.0 c.stop.new.self (desk.Stop c.args.fault, desk.Done)
+    (in_turn c.args.hall.now c.args.pass.now c.enter_behind-desk.new.pass c.enter_behind-desk.result.0 c.requires.driver c.enter_behind-desk.ensures.entered c.enter_behind-desk.ensures.own) tt c.stop.ensures refl
 
 pub returns-clause-made : goal.returns-clause-made
 returns-clause-made g c =
-    whole_turn c.args.hall.now c.args.pass.now c.enter-desk.new.pass c.leave.new.pass c.enter-desk.result ((desk.Stop c.args.fault, desk.Done) ∷ []) c.requires.driver c.enter-desk.ensures.entered
-    (turn_made c.enter-desk.new.pass c.leave.new.pass (desk.Stop c.args.fault, desk.Done) c.leave.ensures.left)
+    whole_turn c.args.hall.now c.args.pass.now c.enter_behind-desk.new.pass c.leave.new.pass c.enter_behind-desk.result.0 ((desk.Stop c.args.fault, desk.Done) ∷ []) c.requires.driver c.enter_behind-desk.ensures.entered
+    (turn_made c.enter_behind-desk.new.pass c.leave.new.pass (desk.Stop c.args.fault, desk.Done) c.leave.ensures.left)
 
 pub returns-clause-ear : goal.returns-clause-ear
-returns-clause-ear g c = c.leave.ensures.left.beside.ear ∙ c.enter-desk.ensures.entered.beside.ear
+returns-clause-ear g c = c.leave.ensures.left.beside.ear ∙ c.enter_behind-desk.ensures.entered.beside.ear
+
+pub returns-clause-stand : goal.returns-clause-stand
+returns-clause-stand g c =
+    let b = c.enter_behind-desk.ensures.behind in
+    made_entered c.args.hall.now c.args.pass.now c.enter_behind-desk.new.pass c.leave.new.pass c.enter_behind-desk.result.0 c.args.turns.now c.enter_behind-desk.result.1 c.enter_behind-desk.result.1 c.enter_behind-desk.ensures.entered b
+    (goes_on_ended c.enter_behind-desk.new.pass c.leave.new.pass c.enter_behind-desk.result.1 b.1 (ends_left c.enter_behind-desk.new.pass c.leave.new.pass _ c.leave.ensures.left))

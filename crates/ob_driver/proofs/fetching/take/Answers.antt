@@ -1,6 +1,7 @@
 use Rattle.std.proofs.Common.{refl}
 use Rattle.ob_desk.specs.Desk as desk
 use Rattle.ob_driver.proofs.Turning.{call_leads, turn_made}
+use Rattle.ob_driver.proofs.Standing.{ends_left}
 use Rattle.ob_driver.proofs.fetching.take.Goals as goal
 
 pub leave-requires-clause-desk : goal.leave-requires-clause-desk
@@ -9,3 +10,6 @@ leave-requires-clause-desk c =
 
 pub returns-clause-made : goal.returns-clause-made
 returns-clause-made c = rw c.of-batch.ensures at (turn_made c.args.pass.now c.leave.new.pass (desk.TakeBatch, desk.Batch c.of-batch.result.value.items) c.leave.ensures.left)
+
+pub returns-clause-ends : goal.returns-clause-ends
+returns-clause-ends c = ends_left c.args.pass.now c.leave.new.pass _ c.leave.ensures.left

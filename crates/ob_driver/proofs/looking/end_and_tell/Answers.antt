@@ -2,6 +2,7 @@ use Rattle.ob_io.specs.Streams.{outflow}
 use Rattle.ob_serial.specs.Views.{record_of}
 use Rattle.ob_serial.specs.VaultKinds.{kind_of}
 use Rattle.ob_driver.proofs.Lines.{told_once, untold_once}
+use Rattle.ob_driver.proofs.Standing.{goes_on_ended, goes_then}
 use Rattle.ob_driver.proofs.looking.end_and_tell.Goals as goal
 
 pub stop-requires-clause-driver : goal.stop-requires-clause-driver
@@ -24,3 +25,12 @@ returns-clause-refused g c = λ beat look noted may end.
 
 pub returns-in-Err-clause-refused : goal.returns-in-Err-clause-refused
 returns-in-Err-clause-refused g c = λ beat look noted may end. c.in-Err.ensures.refused beat look (outflow g.O.Sink c.args.output.now) noted may end
+
+pub returns-in-Ok-text-clause-stand : goal.returns-in-Ok-text-clause-stand
+returns-in-Ok-text-clause-stand g c = goes_on_ended c.args.pass.now c.end_epoch.new.pass c.args.turns.now c.requires.turns c.in-Ok.ensures.ends
+
+pub returns-clause-stand : goal.returns-clause-stand
+returns-clause-stand g c = goes_then c.args.pass.now c.end_epoch.new.pass c.stop.new.pass c.args.turns.now c.stop.new.turns c.requires.turns c.in-Ok.ensures.ends c.stop.ensures.stand
+
+pub returns-in-Err-clause-stand : goal.returns-in-Err-clause-stand
+returns-in-Err-clause-stand g c = goes_on_ended c.args.pass.now c.end_epoch.new.pass c.args.turns.now c.requires.turns c.in-Err.ensures.ends

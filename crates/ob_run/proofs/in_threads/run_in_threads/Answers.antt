@@ -12,7 +12,7 @@ make_room-requires g c =
     omega (arith, low, same)
 
 pub returns-in_default-clause-done : goal.returns-in_default-clause-done
-returns-in_default-clause-done g c = (c.args.desk, idle _ _ c.args.params.now _ _ _ _ _ _ c.requires.fresh c.requires.none_made)
+returns-in_default-clause-done g c = (c.args.desk, idle _ _ c.args.params.now _ _ _ _ _ _ c.requires.fresh c.args.starts c.requires.none_made)
 
 pub open_hall-requires : goal.open_hall-requires
 open_hall-requires g c = record {
@@ -26,7 +26,7 @@ open_hall-requires g c = record {
 }
 
 pub returns-in_default-open_hall-clause-done : goal.returns-in_default-open_hall-clause-done
-returns-in_default-open_hall-clause-done g c = (c.args.desk, idle _ _ c.args.params.now _ _ _ _ _ _ c.requires.fresh c.requires.none_made)
+returns-in_default-open_hall-clause-done g c = (c.args.desk, idle _ _ c.args.params.now _ _ _ _ _ _ c.requires.fresh c.args.starts c.requires.none_made)
 
 pub returns-clause-anchors : goal.returns-clause-anchors
 returns-clause-anchors g c = let d = c.serve_hall.ensures.done.1.1 in (goes_all _ _ _ d.notes _ d.chain).anchors

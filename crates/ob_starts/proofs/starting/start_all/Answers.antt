@@ -1,7 +1,7 @@
 use Rattle.std.proofs.Common.{drop, map, ◌≡◌, ◌∷◌, [], ◌++◌, length, sym, ap, subst, ◌∙◌, append_assoc, length-append, arith}
 use Rattle.std.specs.Vec.Iter.{into_iter_items}
 use Rattle.ob_starts.specs.Served.{words, IsClient}
-use Rattle.ob_starts.specs.Starts.{Each, HasItsPlace, stays}
+use Rattle.ob_starts.specs.Starts.{Each, HasItsPlace, IsAsItCame, stays}
 use Rattle.ob_starts.proofs.Eaching.{each-length, each-snoc, all-at, later_next}
 use Rattle.ob_starts.proofs.starting.start_all.Goals as goal
 
@@ -30,6 +30,7 @@ loop-client-preserved g c =
       count = (let was = i.count in let gone = c.in-Some.ensures.steps.1 in let short = ap length steps in omega (arith, was, gone, short));
       placed = subst (λ l. Each (HasItsPlace (words g.U.Runner.client g.U.Runner.bound g.U.Runner.plan g.U.Runner.fits g.U.Runner.turn) c.args.hall.now) (at.yielded ++ c.in-Some.client ∷ []) l) (sym c.push_reserved.ensures.items)
           (each-snoc (HasItsPlace (words g.U.Runner.client g.U.Runner.bound g.U.Runner.plan g.U.Runner.fits g.U.Runner.turn) c.args.hall.now) at.yielded at.started.items c.in-Some.client c.place-one.result i.placed c.place-one.ensures.placed);
+      came = subst (λ l. Each IsAsItCame (at.yielded ++ c.in-Some.client ∷ []) l) (sym c.push_reserved.ensures.items) (each-snoc IsAsItCame at.yielded at.started.items c.in-Some.client c.place-one.result i.came c.place-one.ensures.came);
       others = subst (λ l. drop (length c.args.flags.now) l ≡ map stays (drop (length c.args.flags.now) (at.yielded ++ c.in-Some.client ∷ []))) (sym c.push_reserved.ensures.items)
           (later_next stays (length c.args.flags.now) c.len.result at.yielded at.started.items c.in-Some.client c.place-one.result c.get-flag.result _ same (omega (arith, many, ok.0)) c.get-flag.ensures.lookup.3 c.place-one.ensures.stays i.others);
       room = (let room = i.room in let kept = c.push_reserved.ensures.capacity in omega (arith, room, kept));

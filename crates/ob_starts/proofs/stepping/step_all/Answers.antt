@@ -3,6 +3,7 @@ use Rattle.std.specs.List.{list_any}
 use Rattle.ob_starts.specs.Served.{words}
 use Rattle.ob_starts.specs.Starts.{CanStep, IsStepped, ran_here}
 use Rattle.ob_starts.proofs.Eaching.{one_more, any_more, still_there}
+use Rattle.ob_starts.proofs.Ordering.{ordered_more}
 use Rattle.ob_starts.proofs.stepping.step_all.Goals as goal
 
 pub step-ran-requires : goal.step-ran-requires
@@ -22,5 +23,6 @@ loop-one-preserved g c =
     record {
       stepped = more.front;
       others = more.others;
+      ordered = ordered_more c.args.turns.now at.turns c.step-ran.new.turns at.one-index at.started c.step-ran.new.started lt at.invariant.ordered c.step-ran.ensures.ordered;
       ran = ap (λ b. b || c.step-ran.result) at.invariant.ran ∙ (ap (λ b. list_any ran_here (take at.one-index at.started) || b) c.step-ran.ensures.ran ∙ sym (any_more ran_here at.one-index at.started c.step-ran.new.started lt));
     }
