@@ -7,6 +7,7 @@ pub mod EndTables
 pub mod KnownEntries
 pub mod MadeLaws
 pub mod MakeLaws
+pub mod Rows
 pub mod RunLaws
 pub mod ScheduledEnds
 pub mod StandEnds

@@ -24,10 +24,10 @@ use Rattle.ob_ring.proofs.PlanLaws.{job_same}
 use Rattle.ob_ring_trace.specs.Ends.{EndIsScheduled, closing_notes, ending_notes, gates_ended, refill_notes}
 use Rattle.ob_ring_trace.specs.Fronts.{AreFirstNotes}
 use Rattle.ob_ring_trace.specs.Known.{PlansFrom, fills_with_lifts, public_of_kept}
-use Rattle.ob_ring_trace.proofs.Ending.{ends_are_scheduled, lifts_come_first}
+use Rattle.ob_ring_trace.proofs.Ending.{ends_are_scheduled, lifts_are}
 use Rattle.ob_ring_trace.proofs.Once.{table_once}
 use Rattle.ob_schedule.specs.Paths.{eviction_path}
-use Rattle.ob_schedule.specs.Schedule.{after_end, end_notes, log_gates, writes_of}
+use Rattle.ob_schedule.specs.Schedule.{Fills, Public, after_end, end_notes, log_gates, writes_of}
 use Rattle.ob_seal.specs.declared.keys.Keys.{Keys}
 use Rattle.ob_store.specs.Disk.{Disk}
 use Rattle.ob_store.specs.Runs.{write_notes}
@@ -40,6 +40,8 @@ use Rattle.ob_twin.specs.Register.{place_of}
 use Rattle.ob_twin.specs.declared.gates.Gates.{Gates}
 use Rattle.ob_values.specs.Epochs.{Read}
 use Rattle.ob_end.specs.EndRuns.{IsEndMade, LeadsOn, end_writes, rows_ended}
+use Rattle.ob_end.specs.Shown.{before_gate, end_lifts}
+use Rattle.ob_end.proofs.Rows.{before_closes, behind_lifts}
 use Rattle.ob_recover.specs.Fits.{IsPlannerFit}
 use Rattle.ob_end.proofs.EndLaws.{content_is, planner_then}
 use Rattle.ob_end.proofs.EndTables as tables
@@ -52,12 +54,6 @@ lifts_same : (p : Params) (versions : List Version) (qs : List Picked) → map (
 lifts_same p versions [] = refl
 lifts_same p versions (q ∷ qs) = ap (λ (ns : List Note). note.Read (job_of p versions q).cell ∷ ns) (lifts_same p versions qs)
 
-lifts_front : (p : Params) (c : Content) (rs : List BatchRecord) (epoch : ℕ) (gates : Gates) → Obeys p c → RecordsFit p rs
-    → AreFirstNotes (lift_notes p c.versions (table_after_records p (flat_of p c) rs)) (end_notes p (public_of_kept p c rs epoch gates) (fills_with_lifts p c rs))
-lifts_front p c rs epoch gates obeys fit =
-    let t : FlatTable = table_after_records p (flat_of p c) rs in
-    subst (λ (ns : List Note). AreFirstNotes ns (end_notes p (public_of_kept p c rs epoch gates) (fills_with_lifts p c rs))) (sym (lifts_same p c.versions (final_picked p t (eviction_path p t.counter)))) (lifts_come_first p c rs epoch gates obeys fit)
-
 -- the lifts' notes are the same, whichever of the seals and of the tables they are told by
 lifts_at : (p : Params) (ring : Kept) (t : FlatTable) (c : Content) (rs : List BatchRecord) → StandsFor ring t → IsPlannerOf p c rs (unlisted ring)
     → lift_notes p (ring.metas).versions t ≡ lift_notes p c.versions (table_after_records p (flat_of p c) rs)
@@ -66,10 +62,22 @@ lifts_at p ring t c rs stands planner =
     let jobs : job_of p (ring.metas).versions ≡ job_of p c.versions = job_same p (record (buckets_of p c) { order = (ring.metas).order }) ring.metas (seals_listed (buckets_of p c) ring planner.seals) in
     λ i. map (λ (j : Job). note.Read j.cell) (map (jobs i) (final_picked p (same i) (eviction_path p (same i).counter)))
 
+-- and are the schedule's
+pub lifts_scheduled : (p : Params) (g : ℕ) (ring : Kept) (t : FlatTable) (c : Content) (rs : List BatchRecord) (epoch : ℕ) (gates : Gates) → StandsFor ring t → PlansFrom p g gates ring c rs
+    → lift_notes p (ring.metas).versions t ≡ end_lifts p (public_of_kept p c rs epoch gates) (fills_with_lifts p c rs)
+lifts_scheduled p g ring t c rs epoch gates stands from =
+    let t' : FlatTable = table_after_records p (flat_of p c) rs in
+    lifts_at p ring t c rs stands from.planner ∙ lifts_same p c.versions (final_picked p t' (eviction_path p t'.counter)) ∙ lifts_are p c rs epoch gates from.obeys
+
+-- they come first, and the gate behind them
 pub front_at : (p : Params) (g : ℕ) (ring : Kept) (t : FlatTable) (c : Content) (rs : List BatchRecord) (epoch : ℕ) (gates : Gates) → StandsFor ring t → PlansFrom p g gates ring c rs
-    → AreFirstNotes (lift_notes p (ring.metas).versions t) (end_notes p (public_of_kept p c rs epoch gates) (fills_with_lifts p c rs))
+    → AreFirstNotes (lift_notes p (ring.metas).versions t) (before_gate (end_notes p (public_of_kept p c rs epoch gates) (fills_with_lifts p c rs)))
 front_at p g ring t c rs epoch gates stands from =
-    subst (λ (ns : List Note). AreFirstNotes ns (end_notes p (public_of_kept p c rs epoch gates) (fills_with_lifts p c rs))) (sym (lifts_at p ring t c rs stands from.planner)) (lifts_front p c rs epoch gates from.obeys from.fit)
+    let q : Public = public_of_kept p c rs epoch gates in
+    let f : Fills = fills_with_lifts p c rs in (
+      behind_lifts p q f,
+      before_closes p q f ∙ ap (λ (ns : List Note). ns ++ behind_lifts p q f) (sym (lifts_scheduled p g ring t c rs epoch gates stands from)),
+    )
 
 -- the batches of records, as if they had read nothing
 abbrev reads_of : Params → List BatchRecord → List Read

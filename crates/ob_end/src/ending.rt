@@ -16,7 +16,6 @@ ghost use Rattle.ob_ring.specs.Ring.{StandsFor};
 ghost use Rattle.ob_ring.specs.Writing.{write_at};
 ghost use Rattle.ob_ring_trace.specs.Ends.{gates_ended};
 ghost use Rattle.ob_ring_trace.specs.Known.{PlansFrom, fills_with_lifts, public_of_kept};
-ghost use Rattle.ob_ring_trace.specs.Telling.{IsShownAs};
 ghost use Rattle.ob_schedule.specs.Schedule.{end_notes};
 ghost use Rattle.ob_serial.specs.VaultViews.{IsEndFault, IsStoreEnd};
 ghost use Rattle.ob_stand.specs.Stands.{RingStanding};
@@ -28,6 +27,7 @@ ghost use Rattle.ob_twin.specs.Opening.{GatesAre, is_closed_first};
 ghost use Rattle.ob_twin.specs.Register.{place_of};
 ghost use Rattle.ob_end.specs.Closings.{SameGeneration};
 ghost use Rattle.ob_end.specs.EndRuns.{AreEntriesWritten, EndAnswers, EndDamage, EndDoes, EndDraws, EndImages, EndStands, IfEnded, IsAtContent, IsEndReady, IsEndUndamaged, LeadsOn, TakeBucketWords, end_err_of, end_writes, seals_for_end, table_ended};
+ghost use Rattle.ob_end.specs.Shown.{EndShows, end_lifts};
 
 use crate::closing::close_epoch;
 use crate::making::make_end;
@@ -146,11 +146,14 @@ pub fn end<S: Store, T: Tape, W: Watch>(
         (S.disk store.old).seen (S.disk store.new).seen (W.trace watch.old) (W.trace watch.new)
         result }
     ensures gates { OnOk result (run.new.gates ≡ gates_ended run.old.gates run.old.epoch) }
-    // It shows the schedule's end of what the store knows of the epoch, and refused a front of it.
+    // It shows the schedule's end of what the store knows of the epoch, and refused what its answer
+    // says of it: up to the gate's write, or what comes before that, or the lifts alone.
     ensures scheduled { (notes : List Note) × Shows notes (W.trace watch.old) (W.trace watch.new)
         × ((c : Content) (rs : List BatchRecord)
         → PlansFrom run.old.params run.old.sealer.generation run.old.gates run.old.ring c rs
-        → IsShownAs crew.old.lanes (end_notes run.old.params
+        → EndShows crew.old.lanes (end_lifts run.old.params
+        (public_of_kept run.old.params c rs run.old.epoch run.old.gates)
+        (fills_with_lifts run.old.params c rs)) (end_notes run.old.params
         (public_of_kept run.old.params c rs run.old.epoch run.old.gates)
         (fills_with_lifts run.old.params c rs)) notes (S.disk store.old).seen
         (S.disk store.new).seen result) }

@@ -1,7 +1,8 @@
 -- What a fetch shows is the schedule's batch, and its planner goes on from there.
-use Rattle.std.specs.Prelude.{◌≡◌, ◌⊎◌, ℕ, suc, ◌<◌, ◌≤◌, List, [], ◌∷◌, ◌++◌, map, length, Option, Result, Ok, Err}
+use Rattle.std.specs.Prelude.{◌≡◌, ◌⊎◌, ℕ, suc, ◌<◌, ◌≤◌, List, [], ◌∷◌, ◌++◌, map, length, Option, None, Result, Ok, Err, IfErr}
 use Rattle.std.specs.Result.{IsErr}
-use Rattle.std.proofs.Common.{arith, inl, inr, ⊎_elim, refl, sym, ap, ◌∙◌, subst}
+use Rattle.std.proofs.Common.{arith, inl, inr, refl, sym, ap, ◌∙◌, subst}
+use Rattle.std.proofs.lemmas.List.{append-nil}
 use Rattle.ob_base.specs.declared.fault.Fault.{Fault}
 use Rattle.ob_base.specs.declared.fault.Fault.TheVariants.{Memory, Usage, BadScript, BadParams, NotStore, Damaged, StoreFault, StashFull, Worn, SourceFault, SinkFault}
 use Rattle.ob_base.specs.declared.params.Params.{Params}
@@ -16,10 +17,10 @@ use Rattle.ob_ring.specs.Picked.{SameSeals, place_picked}
 use Rattle.ob_ring.specs.Ring.{Kept, StandsFor}
 use Rattle.ob_ring.proofs.PlanLaws.{job_same}
 use Rattle.ob_ring_trace.specs.Known.{PlansFrom, fills_of, public_of_kept}
-use Rattle.ob_ring_trace.specs.Telling.{IsFrontShown, IsRowShown, IsShownAs}
+use Rattle.ob_ring_trace.specs.Telling.{IsFrontShown, IsRowShown}
 use Rattle.ob_ring_trace.proofs.Batch.{batches_are_scheduled}
 use Rattle.ob_ring_trace.proofs.Once.{table_once}
-use Rattle.ob_ring_trace.proofs.Telling.{batch_read, front_all, front_as, front_more, front_none, front_step, front_then, row_as, row_read, row_step, row_then}
+use Rattle.ob_ring_trace.proofs.Telling.{batch_read, front_as, front_none, front_step, front_then, row_as, row_read, row_step, row_then}
 use Rattle.ob_schedule.specs.Schedule.{batch_notes}
 use Rattle.ob_seal.specs.declared.keys.Keys.{Keys}
 use Rattle.ob_store.specs.Disk.{Disk}
@@ -32,7 +33,7 @@ use Rattle.ob_store.proofs.Showing.{shows_then}
 use Rattle.ob_twin.specs.declared.gates.Gates.{Gates}
 use Rattle.ob_fetch.proofs.LogLaws.{more_at, more_many}
 use Rattle.ob_fetch.proofs.NextLaws.{follows_more, moves_unlisted, seals_listed, stands_listed}
-use Rattle.ob_fetch.specs.Fetches.{FetchDoes, IsLoggedFirst, IsOpenIfShown, MovesPlanner, next_batch, unlisted}
+use Rattle.ob_fetch.specs.Fetches.{FetchDoes, FetchShows, IsLoggedFirst, IsOpenIfShown, MovesPlanner, next_batch, unlisted}
 use Rattle.ob_fetch.specs.declared.run.Run.{Run}
 
 -- there is room for the batch that comes next
@@ -97,10 +98,10 @@ cut_short disk keys p epoch r made notes old new (Err (Worn number)) cut = tt
 cut_short disk keys p epoch r made notes old new (Err SourceFault) cut = tt
 cut_short disk keys p epoch r made notes old new (Err SinkFault) cut = tt
 
--- a front is what a refused call showed
-pub shown_err : {T E : Type 0} (x : Result T E) → IsErr x → (most : ℕ) (row shown : List Note) (old new : Option (List Event)) → IsFrontShown most row shown old new → IsShownAs most row shown old new x
-shown_err (Ok value) err most row shown old new front = absurd (grind (arith, err))
-shown_err (Err e) err most row shown old new front = front
+-- where the store failed in the record's writes, the first of them are shown
+pub begun_shown : (x : Result (Unit {0}) Fault) → IsErr x → IfErr x (λ f. f ≡ StoreFault None) → (most : ℕ) (logged row shown : List Note) (old new : Option (List Event)) → IsFrontShown most logged shown old new → FetchShows most logged row shown old new x
+begun_shown (Ok value) err is most logged row shown old new front = absurd (grind (arith, err))
+begun_shown (Err f) err is most logged row shown old new front = subst (λ (y : Fault). FetchShows most logged row shown old new (Err y)) (sym is) (inl front)
 
 module _ (most : ℕ) (p : Params) (g : ℕ) (gates : Gates) (ring : Kept) (batch epoch : ℕ) (r : BatchRecord) (t : FlatTable) (stands : StandsFor ring t) where
   abbrev cells : List ℕ
@@ -115,9 +116,13 @@ module _ (most : ℕ) (p : Params) (g : ℕ) (gates : Gates) (ring : Kept) (batc
   abbrev Shown : (IsShown : ℕ → List Note → List Note → Option (List Event) → Option (List Event) → Type 0) (old new : Option (List Event)) (before later : Trace) → Type 0
   Shown IsShown old new before later = IsShownOf most p g gates ring batch epoch r IsShown old new before later
 
+  -- refused with this fault
+  abbrev Refused : Fault → ℕ → List Note → List Note → Option (List Event) → Option (List Event) → Type 0
+  Refused f m row shown old new = FetchShows m written row shown old new (Err f)
+
   -- nothing was
-  pub shown_none : (old new : Option (List Event)) (before later : Trace) → Tells [] [] old new before later → Shown IsFrontShown old new before later
-  shown_none old new before later none = record { notes = []; shows = none.shows; reads_as = λ c rs was many. front_none most _ old new none.seen }
+  pub shown_none : (number : ℕ) (old new : Option (List Event)) (before later : Trace) → Tells [] [] old new before later → Shown (Refused (Worn number)) old new before later
+  shown_none number old new before later none = record { notes = []; shows = none.shows; reads_as = λ c rs was many. row_step most [] old new none.seen }
 
   module _ (room : batch < p.batches) (obeys : RecordObeys p batch r) where
     abbrev all_notes : Content → List BatchRecord → List Note
@@ -132,21 +137,13 @@ module _ (most : ℕ) (p : Params) (g : ℕ) (gates : Gates) (ring : Kept) (batc
         ap (λ (ns : List Note). written ++ ns) (ap (λ (u : FlatTable). repeated_notes p (ring.metas).versions u (asked_of_record p r)) same ∙ repeated_same p (record (buckets_of p c) { order = (ring.metas).order }) ring.metas table (asked_of_record p r) seals)
         ∙ (batches_are_scheduled.own p c rs r epoch gates was.obeys (fit_more p g gates ring c rs r batch was many room obeys)).notes
 
-    rest_of : (c : Content) (rs : List BatchRecord) → PlansFrom p g gates ring c rs → length rs ≡ batch → (rest : List Note) × (all_notes c rs ≡ written ++ rest)
-    rest_of c rs was many = (batches_are_scheduled.own p c rs r epoch gates was.obeys (fit_more p g gates ring c rs r batch was many room obeys)).begins
-
     module _ (old new : Option (List Event)) (before later : Trace) where
       -- the record's writes were cut short
-      pub shown_begun : TellsFirst written old new before later → Shown IsFrontShown old new before later
-      shown_begun first = record {
-        notes = first.shown;
-        shows = (first.tells).shows;
-        reads_as = λ c rs was many. (let rest = rest_of c rs was many in front_as most (written ++ rest.0) (all_notes c rs) first.shown old new (sym rest.1) (front_more most written rest.0 first.shown old new (front_step most written old new before later first)));
-      }
+      pub shown_begun : (first : TellsFirst written old new before later) → IsFrontShown most written first.shown old new
+      shown_begun first = front_step most written old new before later first
 
       -- which is no more than these
-      pub open_begun : {S : Type 0} (disk : S → Disk) (keys : Keys) (a b : S) (first : TellsFirst written old new before later) (x : Result (Unit {0}) Fault) → IsOpenIfShown disk keys p (suc epoch) r (shown_begun first).notes a b x
-      unfolding shown_begun
+      pub open_begun : {S : Type 0} (disk : S → Disk) (keys : Keys) (a b : S) (first : TellsFirst written old new before later) (x : Result (Unit {0}) Fault) → IsOpenIfShown disk keys p (suc epoch) r first.shown a b x
       open_begun disk keys a b first x = cut_short disk keys p (suc epoch) r first.made first.shown a b x first.cut
 
     module _ (old mid new : Option (List Event)) (before between later : Trace) (made : Tells written written old mid before between) where
@@ -158,20 +155,23 @@ module _ (most : ℕ) (p : Params) (g : ℕ) (gates : Gates) (ring : Kept) (batc
       shown_all : BatchIsShown most cells read_notes mid new between later → Shown IsRowShown old new before later
       shown_all read = record { notes = written ++ read_notes; shows = shows_then written read_notes before between later made.shows read.1; reads_as = shown_row read }
 
-      shown_whole : BatchIsShown most cells read_notes mid new between later → Shown IsFrontShown old new before later
-      shown_whole read = record {
-        notes = written ++ read_notes;
-        shows = shows_then written read_notes before between later made.shows read.1;
-        reads_as = λ c rs was many. front_all most (all_notes c rs) (written ++ read_notes) old new (shown_row read c rs was many);
-      }
-
       -- or none was
-      shown_log : NoneIsShown mid new between later → Shown IsFrontShown old new before later
-      shown_log none = record {
+      log_front : NoneIsShown mid new between later → IsFrontShown most written (written ++ []) old new
+      log_front none = front_as most (written ++ []) written (written ++ []) old new (append-nil written)
+          (front_then most written written [] [] old mid new (row_step most written old mid made.seen) (front_none most [] mid new none.0))
+
+      shown_log : (unsure : Option ℕ) → NoneIsShown mid new between later → Shown (Refused (StoreFault unsure)) old new before later
+      shown_log unsure none = record {
         notes = written ++ [];
         shows = shows_then written [] before between later made.shows none.1;
-        reads_as = λ c rs was many. (let rest = rest_of c rs was many in front_as most (written ++ rest.0) (all_notes c rs) (written ++ []) old new (sym rest.1)
-            (front_then most written written rest.0 [] old mid new (row_step most written old mid made.seen) (front_none most rest.0 mid new none.0)));
+        reads_as = λ c rs was many. inl (log_front none);
+      }
+
+      shown_store : (unsure : Option ℕ) → BatchIsShown most cells read_notes mid new between later → Shown (Refused (StoreFault unsure)) old new before later
+      shown_store unsure read = record {
+        notes = written ++ read_notes;
+        shows = shows_then written read_notes before between later made.shows read.1;
+        reads_as = λ c rs was many. inr (shown_row read c rs was many);
       }
 
     module _ {S : Type 0} (disk : S → Disk) (keys : Keys) (old new : S) (before later : Trace) where
@@ -187,33 +187,39 @@ module _ (most : ℕ) (p : Params) (g : ℕ) (gates : Gates) (ring : Kept) (batc
       abbrev Logged : Fault → Type 0
       Logged f = IsLoggedFirst disk most keys p (suc epoch) r cells read_notes old new before later (Err f)
 
-      whole : (f : Fault) (d : Logged f) → BatchIsShown most cells read_notes (disk d.between).seen (disk new).seen d.shown later → Shown IsFrontShown (disk old).seen (disk new).seen before later
-      whole f d read = shown_whole (disk old).seen (disk d.between).seen (disk new).seen before d.shown later d.appended read
+      whole : (f : Fault) (d : Logged f) → BatchIsShown most cells read_notes (disk d.between).seen (disk new).seen d.shown later → Shown IsRowShown (disk old).seen (disk new).seen before later
+      whole f d read = shown_all (disk old).seen (disk d.between).seen (disk new).seen before d.shown later d.appended read
 
       maybe : (unsure : Option ℕ) (d : Logged (StoreFault unsure)) → BatchIsShown most cells read_notes (disk d.between).seen (disk new).seen d.shown later ⊎ NoneIsShown (disk d.between).seen (disk new).seen d.shown later
-          → Shown IsFrontShown (disk old).seen (disk new).seen before later
-      maybe unsure d either = ⊎_elim (λ read. whole (StoreFault unsure) d read) (λ none. shown_log (disk old).seen (disk d.between).seen (disk new).seen before d.shown later d.appended none) either
+          → Shown (Refused (StoreFault unsure)) (disk old).seen (disk new).seen before later
+      maybe unsure d (inl read) = shown_store (disk old).seen (disk d.between).seen (disk new).seen before d.shown later d.appended unsure read
+      maybe unsure d (inr none) = shown_log (disk old).seen (disk d.between).seen (disk new).seen before d.shown later d.appended unsure none
 
-      by_fault : (f : Fault) → FetchDoes disk most keys p (suc epoch) r cells read_notes old new before later (Err f) → Shown IsFrontShown (disk old).seen (disk new).seen before later
+      by_fault : (f : Fault) → FetchDoes disk most keys p (suc epoch) r cells read_notes old new before later (Err f) → Shown (Refused f) (disk old).seen (disk new).seen before later
       by_fault Memory d = whole Memory d d.read
       by_fault Usage d = whole Usage d d.read
       by_fault (BadScript line) d = whole (BadScript line) d d.read
       by_fault (BadParams field) d = whole (BadParams field) d d.read
       by_fault NotStore d = whole NotStore d d.read
       by_fault (Damaged cell check kept computed) d = whole (Damaged cell check kept computed) d d.read
-      by_fault (StoreFault unsure) d = ⊎_elim (λ first. shown_begun (disk old).seen (disk new).seen before later first) (λ (logged : Logged (StoreFault unsure)). maybe unsure logged logged.read) d
+      by_fault (StoreFault unsure) (inl first) = record {
+        notes = first.shown;
+        shows = (first.tells).shows;
+        reads_as = λ c rs was many. inl (shown_begun (disk old).seen (disk new).seen before later first);
+      }
+      by_fault (StoreFault unsure) (inr logged) = maybe unsure logged logged.read
       by_fault (StashFull rows) d = whole (StashFull rows) d d.read
-      by_fault (Worn number) d = shown_none (disk old).seen (disk new).seen before later d
+      by_fault (Worn number) d = shown_none number (disk old).seen (disk new).seen before later d
       by_fault SourceFault d = whole SourceFault d d.read
       by_fault SinkFault d = whole SinkFault d d.read
 
       -- it was refused
-      pub shown_cut : (f : Fault) → DoesSo (Err f) → Shown IsFrontShown (disk old).seen (disk new).seen before later
+      pub shown_cut : (f : Fault) → DoesSo (Err f) → Shown (Refused f) (disk old).seen (disk new).seen before later
       shown_cut f does = by_fault f (does ring.metas t (same_seals ring.metas) stands)
 
       -- what was shown behind the record's writes, was shown behind its opening
       open_by : (f : Fault) (d : FetchDoes disk most keys p (suc epoch) r cells read_notes old new before later (Err f)) → IsOpenIfShown disk keys p (suc epoch) r (by_fault f d).notes old new (Err f)
-      unfolding by_fault shown_begun
+      unfolding by_fault
       open_by Memory d = tt
       open_by Usage d = tt
       open_by (BadScript line) d = tt

@@ -16,6 +16,7 @@ use Rattle.ob_ring.specs.Fetching.{after_labels}
 use Rattle.ob_ring.specs.FlatTable.{Batch, FlatTable, after}
 use Rattle.ob_ring.specs.Picked.{SameSeals}
 use Rattle.ob_ring.specs.Ring.{Kept, StandsFor}
+use Rattle.ob_ring_trace.specs.Telling.{IsFrontShown, IsRowShown}
 use Rattle.ob_seal.specs.declared.keys.Keys.{Keys}
 use Rattle.ob_stand.specs.Reads.{plains_in, slots_in}
 use Rattle.ob_stand.specs.Stands.{RingStanding, Stands, with_record}
@@ -23,6 +24,7 @@ use Rattle.ob_store.specs.Disk.{Disk, Image}
 use Rattle.ob_store.specs.Images.{IsSynced, Passes, Same}
 use Rattle.ob_store.specs.Lines.{Trace}
 use Rattle.ob_store.specs.Told.{IsCut, Tells, TellsFirst}
+use Rattle.ob_store.specs.declared.event.Event.{Event}
 use Rattle.ob_store.specs.declared.watch.Note.{Note}
 use Rattle.ob_tables.specs.Kept.{entry_at}
 use Rattle.ob_taken.specs.Values.{Values}
@@ -133,6 +135,13 @@ FetchAnswers keys p versions image t r rows rows' (Err (fault.Damaged cell check
 FetchAnswers keys p versions image t r rows rows' (Err (fault.StoreFault unsure)) = Unit {0}
 FetchAnswers keys p versions image t r rows rows' (Err (fault.Worn number)) = Unit {0}
 FetchAnswers keys p versions image t r rows rows' (Err _) = ⊥
+
+-- What is shown of a batch's row, which begins with its record's notes: nothing where numbers are worn; where the store failed the first of
+-- the record's own, or all of the row; and else all of it.
+abbrev pub FetchShows : ℕ → (logged row shown : List Note) → Option (List Event) → Option (List Event) → Result (Unit {0}) Fault → Type 0
+FetchShows most logged row shown old new (Err (fault.Worn number)) = IsRowShown most [] shown old new
+FetchShows most logged row shown old new (Err (fault.StoreFault unsure)) = IsFrontShown most logged shown old new ⊎ IsRowShown most row shown old new
+FetchShows most logged row shown old new _ = IsRowShown most row shown old new
 
 module _ {S : Type 0} (disk : S → Disk) where
   -- Before any slot was read, the batch's record was open in every image that a crash may leave: the store was this one then. What the

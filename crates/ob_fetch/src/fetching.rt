@@ -6,7 +6,7 @@ ghost use Rattle.ob_base.specs.Planned.{most_jobs};
 ghost use Rattle.ob_bucket.specs.Buckets.{Buckets};
 ghost use Rattle.ob_cells.specs.Writes.{Seals, WritesWithin};
 ghost use Rattle.ob_content.specs.Content.{Content};
-ghost use Rattle.ob_log.specs.Appends.{IsWornOut};
+ghost use Rattle.ob_log.specs.Appends.{IsWornOut, append_notes};
 ghost use Rattle.ob_log.specs.Logs.{BatchRecord};
 ghost use Rattle.ob_pads.specs.Seals.{CellsAreSealed};
 ghost use Rattle.ob_recover.specs.Fits.{IsPlannerFit};
@@ -15,7 +15,6 @@ ghost use Rattle.ob_ring.specs.FlatTable.{FlatTable};
 ghost use Rattle.ob_ring.specs.Picked.{SameSeals};
 ghost use Rattle.ob_ring.specs.Ring.{StandsFor};
 ghost use Rattle.ob_ring_trace.specs.Known.{PlansFrom, fills_of, public_of_kept};
-ghost use Rattle.ob_ring_trace.specs.Telling.{IsShownAs};
 ghost use Rattle.ob_schedule.specs.Schedule.{batch_notes};
 ghost use Rattle.ob_serial.specs.Vaults.{AreBelow, AreDistinct};
 ghost use Rattle.ob_stand.specs.Stands.{OneOf, RingStanding, with_record};
@@ -23,7 +22,7 @@ ghost use Rattle.ob_store.specs.Calls.{IsStoreFault, Serves};
 ghost use Rattle.ob_store.specs.Images.{IsSynced, LeavesOnly};
 ghost use Rattle.ob_store.specs.Lines.{Shows};
 ghost use Rattle.ob_store.specs.declared.watch.Note.{Note};
-ghost use Rattle.ob_fetch.specs.Fetches.{FetchAnswers, FetchDoes, FetchDraws, FetchStands, RunIsAt, IsFetchRefusal, IsOpenIfShown, IsRunReady, IsWornForBatch, MovesPlanner, values_asked, next_batch, record_next, words_since};
+ghost use Rattle.ob_fetch.specs.Fetches.{FetchAnswers, FetchDoes, FetchDraws, FetchShows, FetchStands, RunIsAt, IsFetchRefusal, IsOpenIfShown, IsRunReady, IsWornForBatch, MovesPlanner, values_asked, next_batch, record_next, words_since};
 
 use crate::answering::answer_all;
 use crate::beginning::{begin_batch, is_worn};
@@ -124,8 +123,8 @@ pub fn fetch<S: Store, T: Tape, W: Watch>(
         (repeated_notes run.old.params start.versions t (asked_of_record run.old.params
         (record_next run.old asks.now (words_since (T.drawn tape.old) (T.drawn tape.new)))))
         store.old store.new (W.trace watch.old) (W.trace watch.new) result }
-    // It shows the schedule's batch of what the store knows of the epoch, and refused a front of it, of
-    // which no more than the record's notes come before that is open.
+    // It shows the schedule's batch of what the store knows of the epoch, and refused what its answer
+    // says of it; of what the store failed in, no more than the record's notes come before that is open.
     ensures scheduled { (notes : List Note) × Shows notes (W.trace watch.old) (W.trace watch.new)
         × IsOpenIfShown S.disk run.old.sealer.keys run.old.params (suc run.old.epoch)
         (record_next run.old asks.now (words_since (T.drawn tape.old) (T.drawn tape.new))) notes
@@ -133,7 +132,8 @@ pub fn fetch<S: Store, T: Tape, W: Watch>(
         × ((c : Content) (rs : List BatchRecord)
         → PlansFrom run.old.params run.old.sealer.generation run.old.gates run.old.ring c rs
         → length rs ≡ next_batch run.old
-        → IsShownAs crew.old.lanes (batch_notes run.old.params
+        → FetchShows crew.old.lanes (append_notes run.old.params (suc run.old.epoch)
+        (next_batch run.old)) (batch_notes run.old.params
         (public_of_kept run.old.params c rs run.old.epoch run.old.gates)
         (fills_of run.old.params c (rs ++ record_next run.old asks.now
         (words_since (T.drawn tape.old) (T.drawn tape.new)) ∷ [])) (length rs)) notes

@@ -23,5 +23,5 @@ pub record AreStandingLaws (store : StoreKind) : Type 1 where
       → IsStoreFault refused ⊎ (refused ≡ Memory)
   pub finds : (keys : Keys) (p : Params) (g : ℕ) (image : Image) (at : Standing) (found : store.Found) → store.stands keys p g image at → store.finds keys p image found → store.epoch found ≡ at.epoch
   -- then a call is refused for what may refuse one even so
-  pub serves : (keys : Keys) (p : Params) (g n m : ℕ) (found : store.Found) (opened now : Disk) (behind : List Shape) (refused : Fault) (map : Map nat_cmp) → store.lasts p g (store.epoch found) n → m ≤ n
-      → store.is_map keys p opened found map → store.causes keys p found opened now behind m refused → store.may_stop p refused
+  pub serves : (keys : Keys) (p : Params) (g n m : ℕ) (found : store.Found) (opened now : Disk) (h : store.Hidden) (behind : List Shape) (refused : Fault) (map : Map nat_cmp) → store.lasts p g (store.epoch found) n → m ≤ n
+      → store.is_map keys p opened found map → store.causes keys p found opened now h behind m refused → store.may_stop p refused

@@ -1,6 +1,7 @@
 pub mod Phases
 pub mod Kinds
 pub mod Shown
+pub mod Lives
 pub mod Steps
 pub mod Openings
 pub mod Formats

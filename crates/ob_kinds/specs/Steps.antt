@@ -13,17 +13,17 @@ use Rattle.ob_kinds.specs.Kinds.{StoreKind}
 use Rattle.ob_kinds.specs.Shown.{IsSeenCut}
 
 -- Why a vault refuses: its store failed, perhaps at the last write or sync of the epoch behind n; or for a cause of its kind.
-abbrev pub IsRefusalWhy : (store : StoreKind) → Keys → Params → store.Found → (opened now : Disk) → List Shape → ℕ → Fault → Type 0
-IsRefusalWhy store keys p found opened now so_far n (StoreFault unsure) = (unsure ≡ None) ⊎ (unsure ≡ Some (suc (store.epoch found + n)))
-IsRefusalWhy store keys p found opened now so_far n SinkFault = ⊥
-IsRefusalWhy store keys p found opened now so_far n fault = store.causes keys p found opened now so_far n fault
+abbrev pub IsRefusalWhy : (store : StoreKind) → Keys → Params → store.Found → (opened now : Disk) → store.Hidden → List Shape → ℕ → Fault → Type 0
+IsRefusalWhy store keys p found opened now h so_far n (StoreFault unsure) = (unsure ≡ None) ⊎ (unsure ≡ Some (suc (store.epoch found + n)))
+IsRefusalWhy store keys p found opened now h so_far n SinkFault = ⊥
+IsRefusalWhy store keys p found opened now h so_far n fault = store.causes keys p found opened now h so_far n fault
 
 -- A call that was refused, behind calls of these shapes and so many epochs; a tape has then given these words.
 pub record Stops (store : StoreKind) (keys : Keys) (p : Params) (found : store.Found) (opened old new : Disk) (words : List ℕ) (q : store.Public) (h : store.Hidden) (so_far : List Shape) (n : ℕ) (call : VaultCall) (fault : Fault) : Type 0 where
   pub more : List Event
   pub cut : IsSeenCut store p q h (Some call) words (Some fault) more
   pub seen : Notes more old.seen new.seen
-  pub why : IsRefusalWhy store keys p found opened new so_far n fault
+  pub why : IsRefusalWhy store keys p found opened new h so_far n fault
   pub of_tape : store.is_of_tape h words
 
 -- A call that was answered, what it drew, and where the vault then is.

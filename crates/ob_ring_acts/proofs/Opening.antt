@@ -18,22 +18,22 @@ use Rattle.ob_vault.specs.declared.opening.Opening.{Opening}
 use Rattle.ob_ring_acts.specs.Acts.{AreBatchesSmall, RunsInLife}
 
 -- what an act that shows a batch again leaves as it was
-record IsFurther (s t : LifeState) (n : ℕ) : Type 0 where
-  epoch : t.epoch ≡ s.epoch
-  content : t.content ≡ s.content
-  log : t.log ≡ s.log
-  generation : t.generation ≡ s.generation
-  drawn : t.drawn ≡ s.drawn
-  begun : t.begun ≡ s.begun + n
+pub record IsFurther (s t : LifeState) (n : ℕ) : Type 0 where
+  pub epoch : t.epoch ≡ s.epoch
+  pub content : t.content ≡ s.content
+  pub log : t.log ≡ s.log
+  pub generation : t.generation ≡ s.generation
+  pub drawn : t.drawn ≡ s.drawn
+  pub begun : t.begun ≡ s.begun + n
 
 module _ (p : Params) (word_of : WordId → ℕ) where
-  further : (s : LifeState) (n : ℕ) → IsFurther s (reached p word_of s (repeated n)) n
+  pub further : (s : LifeState) (n : ℕ) → IsFurther s (reached p word_of s (repeated n)) n
   further s zero = record { epoch = refl; content = refl; log = refl; generation = refl; drawn = refl; begun = omega arith }
   further s (suc n) =
       let f = further (life_step p word_of s ShowBatch) n in
       record { epoch = f.epoch; content = f.content; log = f.log; generation = f.generation; drawn = f.drawn; begun = (let begun = f.begun in omega (arith, begun)) }
 
-  moved : (c : Content) (rs : List BatchRecord) (s t : LifeState) (n : ℕ) → IsFurther s t n → IsLifeAt p word_of c rs s → IsLifeAt p word_of c rs t
+  pub moved : (c : Content) (rs : List BatchRecord) (s t : LifeState) (n : ℕ) → IsFurther s t n → IsLifeAt p word_of c rs s → IsLifeAt p word_of c rs t
   moved c rs s t n f life = record {
     table = (λ i. ((f.content) i).table) ∙ life.table;
     slots = λ u j low few. (λ i. ((f.content) i).slot u j) ∙ life.slots u j low few;

@@ -4,6 +4,7 @@ use Rattle.std.proofs.Common.{◌≡◌, ◌∙◌, ◌+◌, ◌*◌, ◌≤◌,
 use Rattle.ob_base.specs.Layout.{checkpoint_cells, record_cells}
 use Rattle.ob_base.specs.Tree.{buckets, width}
 use Rattle.ob_base.specs.declared.params.Params.{Params}
+use Rattle.ob_fetch.specs.Fetches.{RunIsAt}
 use Rattle.ob_fetch.specs.declared.run.Run.{Run}
 use Rattle.ob_recover.specs.declared.found.Found.{Found}
 use Rattle.ob_ring_vault.specs.RingVaults.{HasPlanned, RingHolds, Running}
@@ -57,9 +58,11 @@ module _ {V S : Type 0} (k : Kind V) (disk : S → Disk) (runs : V → Running S
     tape = none;
     left = ap (λ (r : Run). r.left + length f.records) run_is ∙ goes.left;
     epoch = ap (λ (r : Run). r.epoch) run_is ∙ none_more (f.run).epoch;
+    epoch_hidden = ap (λ (r : Run). r.epoch) run_is;
     words = subst (λ (r : Run). r.drawn + (r.left * p.places + (p.writes + buckets p * width p)) ≤ suc 0 * words_an_epoch p) (sym run_is) words_left;
     seals = subst (λ (r : Run). (r.sealer).next + (r.left * record_cells p + (buckets p * width p + checkpoint_cells p)) ≤ suc 0 * seals_an_epoch p) (sym run_is) seals_left;
     held = λ m is. (held_with f.run m, holding (held_with f.run m) (holds_found keys p f (disk (runs v).store) m goes.serving is), refl);
+    stands = λ m is. record { standing = is.standing; content = is.content; records = is.records; at = subst (λ (r : Run). RunIsAt r is.standing (disk (runs v).store)) (sym run_is) is.at };
   }
     where
       none_more : (i : ℕ) → i ≡ i + 0

@@ -1,12 +1,10 @@
 -- What a call of a vault over a ring store draws, from what it keeps to itself.
-use Rattle.std.proofs.Common.{◌≡◌, ◌∙◌, ◌+◌, ◌^◌, ◌≤◌, ℕ, List, [], ◌++◌, ◌∷◌, length, Option, Result, Ok, refl, sym, ap, subst}
-use Rattle.ob_base.specs.declared.fault.Fault.{Fault}
+use Rattle.std.proofs.Common.{◌≡◌, ◌∙◌, ◌+◌, ◌^◌, ◌≤◌, ℕ, suc, List, [], ◌++◌, ◌∷◌, length, Option, Ok, refl, sym, ap, subst}
 use Rattle.ob_base.specs.declared.params.Params.{Params}
 use Rattle.ob_base.specs.declared.value.Write.{Write}
 use Rattle.ob_end.specs.EndRuns.{end_writes, table_ended, words_for_end}
 use Rattle.ob_fetch.proofs.NextLaws.{stands_listed}
 use Rattle.ob_fetch.specs.Fetches.{next_batch}
-use Rattle.ob_log.specs.Logs.{BatchRecord}
 use Rattle.ob_recover.specs.Repeats.{content_of_ring, entries_after_records}
 use Rattle.ob_ring.specs.FlatTable.{FlatTable}
 use Rattle.ob_ring.specs.Ring.{StandsFor}
@@ -59,7 +57,7 @@ module _ {S : Type 0} (disk : S → Disk) (old new : Running S) (notes : List No
 
   module _ (writes : List Write) (one : EndCalled disk old new notes writes (Ok tt)) where
     abbrev pub ended : RingHidden
-    ended = record { content = content_of_ring (new.run).ring; records = []; generation = ((new.run).sealer).generation; words = new.drawn }
+    ended = record { epoch = (new.run).epoch; content = content_of_ring (new.run).ring; records = []; generation = ((new.run).sealer).generation; words = new.drawn }
 
     writes_same : end_writes own writes drawn ((old.run).sealer).generation (old.run).drawn ≡ end_writes own writes drawn h.generation (length h.words)
     writes_same = ap (λ (g : ℕ). end_writes own writes drawn g (old.run).drawn) generation ∙ ap (λ (n : ℕ). end_writes own writes drawn h.generation n) many_before
@@ -76,8 +74,8 @@ module _ {S : Type 0} (disk : S → Disk) (old new : Running S) (notes : List No
       others = λ u not. (one.filled t stands).filled.ranks u not ∙ ((planned.planner).seals).ranks u;
     }
 
-    pub draws_end : length h.records ≡ own.batches → DrawsEnd p h writes (fills_with_lifts p h.content h.records) ended
-    draws_end all = subst (λ (x : Params). DrawsEnd x h writes (fills_with_lifts x h.content h.records) ended) params (record {
+    pub draws_end : length h.records ≡ own.batches → (old.run).epoch ≡ h.epoch → DrawsEnd p h writes (fills_with_lifts p h.content h.records) ended
+    draws_end all epoch = subst (λ (x : Params). DrawsEnd x h writes (fills_with_lifts x h.content h.records) ended) params (record {
       all = all;
       few_writes = one.few;
       words = drawn;
@@ -85,6 +83,7 @@ module _ {S : Type 0} (disk : S → Disk) (old new : Running S) (notes : List No
       few = subst (λ (n : ℕ). n + words_for_end own t ≤ 2 ^ 62) many_before ((one.answers t stands).has).words;
       fills = refl;
       ended = content_ended;
+      epoch = one.epoch ∙ ap suc epoch;
       none = refl;
       generation = keeps.generation ∙ generation;
       grows = grown;

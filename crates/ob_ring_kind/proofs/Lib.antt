@@ -2,6 +2,7 @@ pub mod Phasing
 pub mod Bounds
 pub mod Drawing
 pub mod Calling
+pub mod Founding
 pub mod Opening
 pub mod Refusing
 pub mod Begun

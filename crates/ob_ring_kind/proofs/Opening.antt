@@ -31,6 +31,7 @@ use Rattle.ob_vault.specs.OpeningRuns.{IsRingOpened, OpensFrom}
 use Rattle.ob_vault.specs.Openings.{OpensWhatStood}
 use Rattle.ob_vault.specs.Openings as vault
 use Rattle.ob_vault.specs.declared.opening.Opening.{Opening}
+use Rattle.ob_ring_kind.proofs.Founding.{found_is_standing}
 use Rattle.ob_ring_kind.proofs.Phasing.{phased}
 use Rattle.ob_ring_kind.specs.RingKind.{GoesOnFrom, IsRingFound, RingFound, ring_kind}
 use Rattle.ob_ring_kind.specs.Seen.{opening_phases}
@@ -125,17 +126,21 @@ opening_seen disk keys p old mid new before after o is seen =
 -- ---- where the store stood
 
 module _ {L : Type 0} (keys : Keys) (p : Params) (old mid new : Disk) (found : Found) (o : Opening L) (keeps : Keeps old mid) (tells : old.tells) (told : new.tells)
-    (stands : (s : RingStanding) → mid.tells → stand.Stands keys p s mid.cells → OpensWhatStood keys p s new (Ok o)) where
+    (in_cells : IsFoundInRing keys p mid.cells found) (stands : (s : RingStanding) → mid.tells → stand.Stands keys p s mid.cells → OpensWhatStood keys p s new (Ok o)) where
   -- it found what the store stood for, which stands in the next generation, whatever crashes
   pub opened_at : (at : Standing) → Stands ring_kind keys p old.cells at → IsOpenedAt ring_kind keys p at (found_ring found o) new
   opened_at at (g, is) =
       let s = ring_standing at g is.content is.records in
-      let opened = stands s (keeps.tells tells) (subst (λ (i : Image). stand.Stands keys p s i) (sym (same_cells old mid keeps tells)) is.stands) in
+      let here : stand.Stands keys p s mid.cells = subst (λ (i : Image). stand.Stands keys p s i) (sym (same_cells old mid keeps tells)) is.stands in
+      let opened = stands s (keeps.tells tells) here in
+      let same = found_is_standing keys p s mid.cells found here in_cells in
       let generation : (o.sealer).generation ≡ suc g = ap (λ (x : Sealing). x.generation) opened.sealer in
       record {
         epoch = opened.epoch;
         content = record {
           standing = with_generation s (suc g);
+          content = sym same.content;
+          records = sym same.records;
           params = opened.params;
           keys_are = ap (λ (x : Sealing). x.keys) opened.sealer;
           at = run_is_at keys p s new o told opened;
@@ -156,7 +161,7 @@ ring_opens L disk keys p old mid new before after o head is = record {
 }
 
 pub ring_opens_at : {S : Type 0} (L : Type 0) (disk : S → Disk) → RingOpensAt L disk
-ring_opens_at L disk keys p old mid new found o head tells told stands at is = opened_at keys p (disk old) (disk mid) (disk new) found o head.keeps tells told stands at is
+ring_opens_at L disk keys p old mid new found o head tells told in_cells stands at is = opened_at keys p (disk old) (disk mid) (disk new) found o head.keeps tells told in_cells stands at is
 
 pub ring_opens_standing : {S : Type 0} (disk : S → Disk) → RingOpensStanding disk
 ring_opens_standing disk keys p old mid new head from = opens_standing disk keys p old mid new head.passes head.keeps from

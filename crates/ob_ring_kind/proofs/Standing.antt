@@ -25,6 +25,7 @@ use Rattle.ob_twin.specs.Reading.{AllWhole, Counts}
 use Rattle.ob_twin.proofs.Judging.{number_read}
 use Rattle.ob_vault.specs.Openings.{IsOpenFault}
 use Rattle.ob_ring_kind.specs.Causes.{IsRingWorn, RingLasts, seals_an_epoch, words_an_epoch}
+use Rattle.ob_ring_kind.specs.Hidden.{RingHidden}
 use Rattle.ob_ring_kind.specs.RingKind.{IsRingFound, IsRingMap, IsRingRefusal, RingCauses, RingFound, RingMayStop, ring_kind}
 
 -- ---- the head
@@ -131,19 +132,19 @@ not_worn p g epoch n m (generations, epochs, words, seals) few (inr (inl past)) 
 not_worn p g epoch n m (generations, epochs, words, seals) few (inr (inr past)) =
     let more : suc m * seals_an_epoch p ≤ suc n * seals_an_epoch p = mul-le-mul_right (seals_an_epoch p) (omega (arith, few)) in omega (arith, more, seals, past)
 
-serves : (keys : Keys) (p : Params) (g n m : ℕ) (f : RingFound) (opened now : Disk) (refused : Fault) (map : Map nat_cmp) → RingLasts p g (f.run).epoch n → m ≤ n → IsRingMap keys p opened f map → RingCauses keys p f opened now m refused
+serves : (keys : Keys) (p : Params) (g n m : ℕ) (f : RingFound) (opened now : Disk) (h : RingHidden) (refused : Fault) (map : Map nat_cmp) → RingLasts p g (f.run).epoch n → m ≤ n → IsRingMap keys p opened f map → RingCauses keys p f opened now h m refused
     → RingMayStop p refused
-serves keys p g n m f opened now (fault.Worn number) map lasts few is (worn_is, worn) = absurd (not_worn p g (f.run).epoch n m lasts few worn)
-serves keys p g n m f opened now (fault.StashFull rows) map lasts few is cause = cause
-serves keys p g n m f opened now (fault.Damaged cell check kept computed) map lasts few is (slot, none) = absurd (none map is)
-serves keys p g n m f opened now (fault.StoreFault unsure) map lasts few is cause = absurd cause
-serves keys p g n m f opened now fault.Memory map lasts few is cause = absurd cause
-serves keys p g n m f opened now fault.NotStore map lasts few is cause = absurd cause
-serves keys p g n m f opened now fault.Usage map lasts few is cause = absurd cause
-serves keys p g n m f opened now (fault.BadScript line) map lasts few is cause = absurd cause
-serves keys p g n m f opened now (fault.BadParams field) map lasts few is cause = absurd cause
-serves keys p g n m f opened now fault.SourceFault map lasts few is cause = absurd cause
-serves keys p g n m f opened now fault.SinkFault map lasts few is cause = absurd cause
+serves keys p g n m f opened now h (fault.Worn number) map lasts few is (worn_is, worn) = absurd (not_worn p g (f.run).epoch n m lasts few worn)
+serves keys p g n m f opened now h (fault.StashFull rows) map lasts few is cause = cause
+serves keys p g n m f opened now h (fault.Damaged cell check kept computed) map lasts few is (slot, none) = absurd (none map is)
+serves keys p g n m f opened now h (fault.StoreFault unsure) map lasts few is cause = absurd cause
+serves keys p g n m f opened now h fault.Memory map lasts few is cause = absurd cause
+serves keys p g n m f opened now h fault.NotStore map lasts few is cause = absurd cause
+serves keys p g n m f opened now h fault.Usage map lasts few is cause = absurd cause
+serves keys p g n m f opened now h (fault.BadScript line) map lasts few is cause = absurd cause
+serves keys p g n m f opened now h (fault.BadParams field) map lasts few is cause = absurd cause
+serves keys p g n m f opened now h fault.SourceFault map lasts few is cause = absurd cause
+serves keys p g n m f opened now h fault.SinkFault map lasts few is cause = absurd cause
 
 pub ring_keeps : AreStandingLaws ring_kind
 ring_keeps = record {
@@ -152,5 +153,5 @@ ring_keeps = record {
   reads_head = reads_head;
   opens = λ keys p g image at n refused is lasts kind r. opens keys p g image at refused is lasts.0 kind r;
   finds = finds;
-  serves = λ keys p g n m f opened now behind refused map lasts few is cause. serves keys p g n m f opened now refused map lasts few is cause;
+  serves = λ keys p g n m found opened now h behind refused map lasts few is cause. serves keys p g n m found opened now h refused map lasts few is cause;
 }

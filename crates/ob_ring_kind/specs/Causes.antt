@@ -1,16 +1,16 @@
 -- Why a vault over a ring store refuses a call, besides its store.
-use Rattle.std.specs.Prelude.{ℕ, suc, ◌≡◌, ◌⊎◌, ◌+◌, ◌*◌, ◌^◌, ◌<◌, ◌≤◌, List}
+use Rattle.std.specs.Prelude.{ℕ, suc, ◌≡◌, ◌⊎◌, ◌+◌, ◌*◌, ◌^◌, ◌<◌, ◌≤◌, List, Option}
 use Rattle.ob_base.specs.Layout.{checkpoint_cells, record_cells}
 use Rattle.ob_base.specs.Tree.{buckets, width}
 use Rattle.ob_base.specs.declared.fault.Damaged.{Damaged}
 use Rattle.ob_base.specs.declared.params.Params.{Params}
-use Rattle.ob_content.specs.Content.{Content, Obeys}
+use Rattle.ob_content.specs.Content.{Obeys}
 use Rattle.ob_ending.specs.Lifts.{IsLiftDamage}
-use Rattle.ob_epoch.specs.Table.{flat_of}
 use Rattle.ob_log.specs.Logs.{BatchRecord}
-use Rattle.ob_recover.specs.Repeats.{IsBatchDamage, table_after_records}
+use Rattle.ob_recover.specs.Repeats.{IsBatchDamage}
 use Rattle.ob_seal.specs.declared.keys.Keys.{Keys}
 use Rattle.ob_store.specs.Disk.{Image}
+use Rattle.ob_ring_kind.specs.Hidden.{IsNextRecord, RingHidden, table_hidden}
 
 -- ---- numbers
 
@@ -33,11 +33,9 @@ RingLasts p generation epoch n = (suc generation < 2 ^ 62) × (suc (epoch + n) <
 
 -- ---- slots
 
--- In this image something is damaged so of what a batch, or the final lifts, would read behind the batches of some records, from some
--- content on: a slot's tag or seal, or the row in it.
-pub record IsSlotDamage (keys : Keys) (p : Params) (image : Image) (damaged : Damaged) : Type 0 where
-  pub content : Content
-  pub records : List BatchRecord
-  pub obeys : Obeys p content
-  pub read : ((r : BatchRecord) × IsBatchDamage keys p content.versions image (table_after_records p (flat_of p content) records) r damaged)
-      ⊎ IsLiftDamage keys p content.versions image (table_after_records p (flat_of p content) records) damaged
+-- In this image something is damaged so of what the next batch, or the final lifts, would read from what is hidden: a slot's tag or seal, or
+-- the row in it.
+pub record IsSlotDamage (keys : Keys) (p : Params) (image : Image) (h : RingHidden) (damaged : Damaged) : Type 0 where
+  pub obeys : Obeys p h.content
+  pub read : ((r : BatchRecord) × ((asks : List (Option ℕ)) × IsNextRecord h asks r) × IsBatchDamage keys p (h.content).versions image (table_hidden p h) r damaged)
+      ⊎ IsLiftDamage keys p (h.content).versions image (table_hidden p h) damaged

@@ -1,5 +1,7 @@
 -- What a ring store's vault keeps to itself, and what fills the holes of its calls.
-use Rattle.std.specs.Prelude.{◌≡◌, ◌⊎◌, ℕ, ◌+◌, ◌^◌, ◌<◌, ◌≤◌, true, false, List, [], ◌∷◌, ◌++◌, length, map, take, drop, slice_index, Option}
+use Rattle.std.specs.Prelude.{◌≡◌, ◌⊎◌, ℕ, suc, ◌+◌, ◌%◌, ◌^◌, ◌<◌, ◌≤◌, true, false, List, [], ◌∷◌, ◌++◌, length, map, take, drop, slice_index, Option, None, Some}
+use Rattle.ob_base.specs.declared.fault.Fault.{Fault}
+use Rattle.ob_base.specs.declared.fault.Fault.TheVariants as fault
 use Rattle.ob_base.specs.declared.params.Params.{Params}
 use Rattle.ob_base.specs.declared.value.Write.{Write}
 use Rattle.ob_base.specs.Tree.{buckets}
@@ -7,8 +9,9 @@ use Rattle.ob_bucket.specs.Buckets.{version_at}
 use Rattle.ob_bucket.specs.Rank.{ranks_of}
 use Rattle.ob_content.specs.Content.{Content, Obeys}
 use Rattle.ob_end.specs.EndRuns.{end_writes, table_ended, words_for_end}
+use Rattle.ob_end.specs.Shown.{before_gate, end_lifts, up_to_gate}
 use Rattle.ob_epoch.specs.Table.{flat_of}
-use Rattle.ob_kinds.specs.Phases.{Shape, events_of_phases, shape_of}
+use Rattle.ob_kinds.specs.Phases.{Ends, Fetches}
 use Rattle.ob_log.specs.Logs.{BatchRecord, RecordsFit}
 use Rattle.ob_recover.specs.Repeats.{entries_after_records, table_after_records}
 use Rattle.ob_ring.specs.Filling.{words_of}
@@ -17,15 +20,17 @@ use Rattle.ob_ring.specs.Writing.{entries_after}
 use Rattle.ob_ring_trace.specs.Known.{fills_of, fills_with_lifts}
 use Rattle.ob_ring_vault.specs.RingVaults.{write_from}
 use Rattle.ob_schedule.specs.Paths.{is_one_of}
-use Rattle.ob_schedule.specs.Schedule.{Fills}
+use Rattle.ob_schedule.specs.Schedule.{Fills, record_notes}
 use Rattle.ob_serial.specs.Vaults.{End, Fetch, VaultCall}
+use Rattle.ob_store.specs.Told.{events_of}
 use Rattle.ob_store.specs.declared.event.Event.{Event}
 use Rattle.ob_tables.specs.Kept.{entry_at}
-use Rattle.ob_tables.specs.declared.entry.Entry.{Entry}
-use Rattle.ob_ring_kind.specs.Seen.{RingPublic, ring_phases}
+use Rattle.ob_ring_kind.specs.Seen.{RingPublic, ring_notes}
 
--- The content of the last checkpoint, the records since, the generation, and the words of that which were drawn so far.
+-- The last epoch that ended, the content of its checkpoint, the records since, the generation, and the words of that which were drawn so
+-- far.
 pub record RingHidden : Type 0 where
+  pub epoch : ℕ
   pub content : Content
   pub records : List BatchRecord
   pub generation : ℕ
@@ -84,6 +89,7 @@ pub record DrawsEnd (p : Params) (h : RingHidden) (writes : List Write) (f : Fil
   pub few : length h.words + words_for_end p (table_hidden p h) ≤ 2 ^ 62
   pub fills : f ≡ fills_with_lifts p h.content h.records
   pub ended : IsContentEnded p h writes words behind.content
+  pub epoch : behind.epoch ≡ suc h.epoch
   pub none : behind.records ≡ []
   pub generation : behind.generation ≡ h.generation
   pub grows : behind.words ≡ h.words ++ words
@@ -104,6 +110,30 @@ abbrev pub RingDrawsCut : Params → RingHidden → VaultCall → Fills → (wor
 RingDrawsCut p h (Fetch asks) f words = (behind : RingHidden) × DrawsBatch p h asks f behind × IsOfTape behind words
 RingDrawsCut p h (End writes) f words = f ≡ fills_with_lifts p h.content h.records
 
--- a call that was refused, or left in doubt, shows nothing, or some of the first events of one
-abbrev pub RingCut : Params → RingPublic → RingHidden → VaultCall → Fills → (words : List ℕ) → List Event → Type 0
-RingCut p q h call f words more = (more ≡ []) ⊎ (RingDrawsCut p h call f words × (k : ℕ) × (more ≡ take k (events_of_phases (ring_phases p q (shape_of call) f))))
+-- ---- what is seen of a call that was cut off
+
+-- the first ones of these, and no more
+abbrev pub AreFirst : List Event → List Event → Type 0
+AreFirst all more = (k : ℕ) × (more ≡ take k all)
+
+-- Of a batch that its store refused, the first of its record's events, or all of the batch's; where a slot is damaged, all of them.
+abbrev pub BatchCut : Params → RingPublic → Fills → Fault → List Event → Type 0
+BatchCut p q f (fault.StoreFault None) more = AreFirst (events_of (record_notes p (((q.known).epoch + 1) % 2) q.shown)) more ⊎ (more ≡ events_of (ring_notes p q Fetches f))
+BatchCut p q f (fault.Damaged cell check kept computed) more = more ≡ events_of (ring_notes p q Fetches f)
+BatchCut p q f _ more = ⊥
+
+-- Of an end that its store refused, the first events before the write that opens its register's gate; one that is left in doubt made that
+-- write, with the sync behind it or without. A damaged slot, or a full stash, is told behind all reads of the lifts and before any write.
+abbrev pub EndCut : Params → RingPublic → Fills → Fault → List Event → Type 0
+EndCut p q f (fault.StoreFault None) more = AreFirst (events_of (before_gate (ring_notes p q Ends f))) more
+EndCut p q f (fault.StoreFault (Some epoch)) more = (more ≡ events_of (up_to_gate (ring_notes p q Ends f))) ⊎ (more ≡ events_of (ring_notes p q Ends f))
+EndCut p q f (fault.Damaged cell check kept computed) more = more ≡ events_of (end_lifts p q.known f)
+EndCut p q f (fault.StashFull rows) more = more ≡ events_of (end_lifts p q.known f)
+EndCut p q f (fault.Worn number) more = (more ≡ []) ⊎ (more ≡ events_of (end_lifts p q.known f))
+EndCut p q f _ more = ⊥
+
+-- What is seen goes by the fault, its holes filled as the call's; a batch for which numbers are worn draws no word, and shows nothing.
+abbrev pub RingCut : Params → RingPublic → RingHidden → VaultCall → Fills → (words : List ℕ) → Fault → List Event → Type 0
+RingCut p q h (Fetch asks) f words (fault.Worn number) more = more ≡ []
+RingCut p q h (Fetch asks) f words refused more = RingDrawsCut p h (Fetch asks) f words × BatchCut p q f refused more
+RingCut p q h (End writes) f words refused more = RingDrawsCut p h (End writes) f words × EndCut p q f refused more

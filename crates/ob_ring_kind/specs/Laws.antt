@@ -1,16 +1,20 @@
 -- Laws of a ring store, in the words of its kind of store.
-use Rattle.std.specs.Prelude.{ℕ, ◌≡◌, ◌⊎◌, ◌≤◌, false, List, [], ◌∷◌, Ok}
+use Rattle.std.specs.Prelude.{ℕ, ◌≡◌, ◌⊎◌, ◌+◌, ◌%◌, ◌≤◌, false, List, [], ◌∷◌, ◌++◌, Ok}
+use Rattle.ob_base.specs.Layout.{EpochTwin}
 use Rattle.ob_base.specs.declared.fault.Fault.{Fault}
 use Rattle.ob_base.specs.declared.params.Params.{Params}
 use Rattle.ob_content.specs.Content.{content_of}
+use Rattle.ob_end.specs.Shown.{before_gate, end_lifts, up_to_gate}
 use Rattle.ob_kinds.specs.Formats.{MakesEmpty}
 use Rattle.ob_kinds.specs.Kinds.{AllStand, IsOpenedAt, Stands, StandsAsBefore, opened_with}
 use Rattle.ob_kinds.specs.Openings.{OpensStanding}
-use Rattle.ob_kinds.specs.Phases.{Shape, events_of_phases}
+use Rattle.ob_kinds.specs.Phases.{Shape, Ends, Fetches, events_of_phases}
 use Rattle.ob_kinds.specs.Steps.{IsCallOfKind}
+use Rattle.ob_recover.specs.Finds.{IsFoundInRing}
 use Rattle.ob_recover.specs.declared.found.Found.{Found}
+use Rattle.ob_ring_trace.specs.Fronts.{AreFirstNotes}
 use Rattle.ob_ring_vault.specs.RingVaults.{HasPlanned, RingHolds, RingSound, Running, run_over}
-use Rattle.ob_schedule.specs.Schedule.{format_notes}
+use Rattle.ob_schedule.specs.Schedule.{Fills, format_notes, gate_cell, record_notes}
 use Rattle.ob_seal.specs.declared.keys.Keys.{Keys}
 use Rattle.ob_serial.specs.VaultKinds.{Called, Kind}
 use Rattle.ob_serial.specs.Vaults.{Standing, VaultAnswer, VaultCall, VaultState}
@@ -23,6 +27,7 @@ use Rattle.ob_store.specs.Lines.{Trace}
 use Rattle.ob_store.specs.Told.{events_of}
 use Rattle.ob_store.specs.declared.event.Event.TheVariants as event
 use Rattle.ob_store.specs.declared.watch.Note.{Note}
+use Rattle.ob_store.specs.declared.watch.Note.TheVariants as note
 use Rattle.ob_vault.specs.Formats.{RingFormatLeaves, formatted_standing}
 use Rattle.ob_vault.specs.OpeningActs.{AreGatesIn}
 use Rattle.ob_vault.specs.OpeningRuns.{IsRingOpened, OpensFrom, RefusedDoes, RefusedWrites}
@@ -31,16 +36,24 @@ use Rattle.ob_vault.specs.declared.opening.Opening.{Opening}
 use Rattle.ob_ring_kind.specs.Hidden.{IsOfTape, RingHidden}
 use Rattle.ob_ring_kind.specs.RingKind.{GoesOnFrom, IsRingFound, IsRingRefusal, RingFound, ring_hidden, ring_kind, ring_public}
 use Rattle.ob_ring_kind.specs.RingSteps.{HasRingWords, RingAt}
-use Rattle.ob_ring_kind.specs.Seen.{RingMayBegin, RingOpensPartly, RingPublic, phases_of}
+use Rattle.ob_ring_kind.specs.Seen.{RingMayBegin, RingOpensPartly, RingPublic, phases_of, ring_notes}
 
 -- the events of a row's phases are those of its notes
 abbrev pub PhasesAreNotes : Type 0
 PhasesAreNotes = (notes : List Note) → events_of_phases (phases_of notes) ≡ events_of notes
 
+-- Where the row of a refused call is cut. An end's closes with the write that opens the gate of the next epoch in its register, and a sync;
+-- its lifts come first; and a batch's begins with its record's notes.
+pub record RowsAreCut : Type 0 where
+  pub closes : (p : Params) (q : RingPublic) (f : Fills) → ring_notes p q Ends f ≡ before_gate (ring_notes p q Ends f) ++ note.Write (gate_cell p EpochTwin ((q.known).epoch + 1)) ∷ note.Sync ∷ []
+  pub opens : (p : Params) (q : RingPublic) (f : Fills) → up_to_gate (ring_notes p q Ends f) ≡ before_gate (ring_notes p q Ends f) ++ note.Write (gate_cell p EpochTwin ((q.known).epoch + 1)) ∷ []
+  pub lifts : (p : Params) (q : RingPublic) (f : Fills) → AreFirstNotes (end_lifts p q.known f) (before_gate (ring_notes p q Ends f))
+  pub logs : (p : Params) (q : RingPublic) (f : Fills) → AreFirstNotes (record_notes p (((q.known).epoch + 1) % 2) q.shown) (ring_notes p q Fetches f)
+
 -- ---- calls
 
--- Each call of a vault over a ring store shows the schedule's phases, filled by what it draws, or a front of them, and is refused for a
--- cause of the kind.
+-- Each call of a vault over a ring store shows the schedule's phases, filled by what it draws, or what its refusal allows of them, and is
+-- refused for a cause of the kind.
 abbrev pub RingCallsDo : {V S : Type 0} → Kind V → (S → Disk) → Type 0
 RingCallsDo {V} {S} k disk = (runs : V → Running S) → HasRingWords k disk runs → (keys : Keys) (p : Params) (f : RingFound) (first : V) (q : RingPublic) (h : RingHidden) (so_far : List Shape) (n : ℕ) (v : V) (call : VaultCall) (answer : VaultAnswer) (w : V)
     → RingAt k disk runs keys p f (disk (runs first).store) q h n v → Called k v call answer w
@@ -85,6 +98,7 @@ RingOpens {S} L disk = (keys : Keys) (p : Params) (old mid new : S) (before afte
 -- where the store stood, that was found, and stands in the next generation, whatever crashes
 abbrev pub RingOpensAt : {S : Type 0} → (L : Type 0) → (S → Disk) → Type 0
 RingOpensAt {S} L disk = (keys : Keys) (p : Params) (old mid new : S) (found : Found) (o : Opening L) → ReadsHead (disk old) (disk mid) → (disk old).tells → (disk new).tells
+    → IsFoundInRing keys p (disk mid).cells found
     → ((s : RingStanding) → (disk mid).tells → stand.Stands keys p s (disk mid).cells → OpensWhatStood keys p s (disk new) (Ok o))
     → (at : Standing) → Stands ring_kind keys p (disk old).cells at → IsOpenedAt ring_kind keys p at (found_ring found o) (disk new)
 

@@ -1,6 +1,6 @@
 pub mod Seen
-pub mod Causes
 pub mod Hidden
+pub mod Causes
 pub mod RingKind
 pub mod RingSteps
 pub mod Laws

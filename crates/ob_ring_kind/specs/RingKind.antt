@@ -66,9 +66,11 @@ pub record IsRingRefusal (keys : Keys) (p : Params) (image : Image) (refused : F
   pub is : IsOpenRefusal keys p image refused
   pub stood : (s : RingStanding) → Stands keys p s image → IsStandingRefusal s refused
 
--- The store that was opened stands for this map, and the run that was found is at that.
+-- The store that was opened stands for this map, with the content and the records that were found, and the run is at that.
 pub record IsRingMap (keys : Keys) (p : Params) (opened : Disk) (f : RingFound) (m : Map nat_cmp) : Type 0 where
   pub standing : RingStanding
+  pub content : standing.content ≡ f.content
+  pub records : standing.records ≡ f.records
   pub params : (f.run).params ≡ p
   pub keys_are : ((f.run).sealer).keys ≡ keys
   pub at : RunIsAt f.run standing opened
@@ -80,20 +82,20 @@ RingMayStop p (fault.StashFull rows) = (p.room < rows) × (rows ≤ p.keys)
 RingMayStop p _ = ⊥
 
 -- A number is worn; more rows are left in the stash than it may keep; or a slot is damaged, and no map was found.
-abbrev pub RingCauses : Keys → Params → RingFound → (opened now : Disk) → ℕ → Fault → Type 0
-RingCauses keys p f opened now n (fault.Worn number) = (number ≡ 2 ^ 62) × IsRingWorn p (f.run).epoch n
-RingCauses keys p f opened now n (fault.StashFull rows) = RingMayStop p (fault.StashFull rows)
-RingCauses keys p f opened now n (fault.Damaged cell check kept computed) =
-    (now.tells → IsSlotDamage keys p now.cells (record { cell = cell; check = check; kept = kept; computed = computed }))
+abbrev pub RingCauses : Keys → Params → RingFound → (opened now : Disk) → RingHidden → ℕ → Fault → Type 0
+RingCauses keys p f opened now h n (fault.Worn number) = (number ≡ 2 ^ 62) × IsRingWorn p (f.run).epoch n
+RingCauses keys p f opened now h n (fault.StashFull rows) = RingMayStop p (fault.StashFull rows)
+RingCauses keys p f opened now h n (fault.Damaged cell check kept computed) =
+    (now.tells → IsSlotDamage keys p now.cells h (record { cell = cell; check = check; kept = kept; computed = computed }))
     × ((m : Map nat_cmp) → IsRingMap keys p opened f m → ⊥)
-RingCauses keys p f opened now n _ = ⊥
+RingCauses keys p f opened now h n _ = ⊥
 
 abbrev pub ring_public : Params → RingFound → RingPublic
 ring_public p f = record { known = public_of_kept p f.content f.records (f.run).epoch (f.run).gates; shown = length f.records }
 
 -- what was found, and no word of the generation
 abbrev pub ring_hidden : RingFound → RingHidden
-ring_hidden f = record { content = f.content; records = f.records; generation = ((f.run).sealer).generation; words = [] }
+ring_hidden f = record { epoch = (f.run).epoch; content = f.content; records = f.records; generation = ((f.run).sealer).generation; words = [] }
 
 abbrev pub ring_kind : StoreKind
 ring_kind = record {
@@ -127,8 +129,8 @@ ring_kind = record {
   hidden = λ p f. ring_hidden f;
   draws = RingDraws;
   is_of_tape = IsOfTape;
-  cut = λ p q h call f words fault more. RingCut p q h call f words more;
-  causes = λ keys p f opened now behind n fault. RingCauses keys p f opened now n fault;
+  cut = RingCut;
+  causes = λ keys p f opened now h behind n fault. RingCauses keys p f opened now h n fault;
   lasts = RingLasts;
   may_stop = RingMayStop;
 }

@@ -1,5 +1,5 @@
 -- What is seen of a ring store's calls: the phases of the public schedule.
-use Rattle.std.specs.Prelude.{ℕ, suc, ◌≡◌, ◌⊎◌, ◌≤◌, List, [], ◌∷◌, length, take}
+use Rattle.std.specs.Prelude.{ℕ, suc, ◌⊎◌, ◌≤◌, List, [], ◌∷◌, length, take}
 use Rattle.ob_base.specs.declared.params.Params.{Params}
 use Rattle.ob_base.specs.declared.fault.Fault.{Fault}
 use Rattle.ob_base.specs.declared.fault.Fault.TheVariants as fault

@@ -5,5 +5,6 @@
 mod laws;
 
 pub use laws::{
-    calls_begin, calls_do, formats_are_told, openings_are_told, phases_are_notes, refusals_are_told,
+    calls_begin, calls_do, formats_are_told, openings_are_told, phases_are_notes,
+    refusals_are_told, rows_are_cut,
 };

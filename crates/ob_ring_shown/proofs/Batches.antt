@@ -1,20 +1,21 @@
 -- What a batch draws is what a life shows.
-use Rattle.std.specs.Prelude.{◌≡◌, ◌⊎◌, ℕ, zero, suc, ◌+◌, ◌<◌, ◌≤◌, ◌^◌, List, [], ◌∷◌, ◌++◌, map, length, slice_index, Option}
+use Rattle.std.specs.Prelude.{◌≡◌, ◌⊎◌, ℕ, zero, suc, ◌+◌, ◌<◌, List, [], ◌∷◌, ◌++◌, map, length, Option}
 use Rattle.std.proofs.Common.{arith, length-append, refl, sym, ap, subst, ◌∙◌, inl, inr, ⊎_elim}
 use Rattle.std.proofs.lemmas.List.{append-nil, get_or-append-add, length-map, map-append}
 use Rattle.ob_base.specs.Repeats.{Has}
 use Rattle.ob_base.specs.declared.params.Params.{Params}
 use Rattle.ob_base.proofs.Repeats.{has_left, has_right}
-use Rattle.ob_life.specs.Life.{Append, IsLife, LabelFill, LifeAct, LifeBatch, LifeContent, LifeState, ShowBatch, SlotFill, WordId, leaf_of_word, life_labels, life_slots, leaves, life_step, log_slots, phase_labels, phase_slots, reached, slots_of, batch_places}
+use Rattle.ob_life.specs.Life.{Append, IsLife, LabelFill, LifeAct, LifeBatch, LifeContent, LifeState, ShowBatch, SlotFill, WordId, leaf_of_word, leaves, life_step, log_slots, phase_labels, phase_slots, reached, slots_of, batch_places}
 use Rattle.ob_log.specs.Logs.{BatchRecord, RecordsFit}
+use Rattle.ob_fetch.proofs.LogLaws.{more_at}
 use Rattle.ob_ring.specs.FlatTable.{FlatTable, after_batch, batch_shown}
 use Rattle.ob_ring_acts.specs.Acts.{AreBatchesSmall, AreTapeWords, IsBatchSmall}
-use Rattle.ob_ring_kind.specs.Hidden.{DrawsBatch, RingHidden, with_next}
-use Rattle.ob_ring_trace.proofs.Living.{lives_show_fills}
-use Rattle.ob_ring_trace.specs.Known.{fills_of}
-use Rattle.ob_ring_trace.specs.Lives.{AreWordsOf, IsLifeAt, LifeShowsFills, life_batch}
+use Rattle.ob_ring_kind.specs.Hidden.{DrawsBatch, RingHidden}
+use Rattle.ob_ring_trace.proofs.Opening.{AreWide}
+use Rattle.ob_ring_trace.specs.Lives.{AreWordsOf, IsLifeAt, life_batch}
 use Rattle.ob_schedule.specs.Schedule.{Fills, batch_leaves}
 use Rattle.ob_serial.specs.Vaults.{Fetch}
+use Rattle.ob_ring_shown.proofs.Wide.{ShowFills, wide_show}
 use Rattle.ob_ring_shown.specs.Shown.{AreFilledBy, IsInLife}
 
 has_more : {A : Type 0} (xs : List A) (y x : A) → Has (xs ++ y ∷ []) x → Has xs x ⊎ (y ≡ x)
@@ -24,13 +25,13 @@ has_more (z ∷ xs) y x (inl is) = inl (inl is)
 has_more (z ∷ xs) y x (inr has) = ⊎_elim (λ (h : Has xs x). inl (inr h)) (λ (is : y ≡ x). inr is) (has_more xs y x has)
 
 -- what a phase shows is among what the log's phases show
-has_phase : (p : Params) (word_of : WordId → ℕ) (e : ℕ) (c : LifeContent) (t : FlatTable) (log : List LifeBatch) (n : ℕ) (f : SlotFill) → Has (phase_slots p word_of e c t log n) f → Has (log_slots p word_of e c t log) f
+pub has_phase : (p : Params) (word_of : WordId → ℕ) (e : ℕ) (c : LifeContent) (t : FlatTable) (log : List LifeBatch) (n : ℕ) (f : SlotFill) → Has (phase_slots p word_of e c t log n) f → Has (log_slots p word_of e c t log) f
 has_phase p word_of e c t [] n f has = has
 has_phase p word_of e c t (r ∷ log) zero f has = has_left (slots_of e c (batch_shown p t (leaves p word_of (batch_places r)))) (log_slots p word_of e c (after_batch p t (leaves p word_of (batch_places r))) log) f has
 has_phase p word_of e c t (r ∷ log) (suc n) f has = has_right (slots_of e c (batch_shown p t (leaves p word_of (batch_places r)))) (log_slots p word_of e c (after_batch p t (leaves p word_of (batch_places r))) log) f
     (has_phase p word_of e c (after_batch p t (leaves p word_of (batch_places r))) log n f has)
 
-module _ (p : Params) (word_of : WordId → ℕ) (s : LifeState) (h : RingHidden) (here : IsInLife p word_of h s) (asks : List (Option ℕ)) (f : Fills) (behind : RingHidden) (d : DrawsBatch p h asks f behind) (fit : RecordsFit p behind.records)
+module _ (p : Params) (word_of : WordId → ℕ) (s : LifeState) (h : RingHidden) (here : IsInLife p word_of h s) (asks : List (Option ℕ)) (f : Fills) (behind : RingHidden) (d : DrawsBatch p h asks f behind) (some_left : length h.records < p.batches)
     (tape : AreTapeWords word_of h.generation (h.words ++ (d.next).words)) where
   abbrev r : BatchRecord
   r = d.next
@@ -53,8 +54,8 @@ module _ (p : Params) (word_of : WordId → ℕ) (s : LifeState) (h : RingHidden
   asks_many : length r.asks ≡ p.places
   asks_many = ap (λ (l : List (Option ℕ)). length l) (d.is_next).asked ∙ d.whole
 
-  fit_then : RecordsFit p (h.records ++ r ∷ [])
-  fit_then = subst (λ (x : RingHidden). RecordsFit p x.records) d.behind_is fit
+  wide : AreWide p (h.records ++ r ∷ [])
+  wide = more_at h.records r (λ x n. length x.asks ≡ p.places) (λ b lt. ((here.fit).each b lt).asks_many) asks_many
 
   words_of_record : AreWordsOf word_of r
   words_of_record i lt =
@@ -78,25 +79,26 @@ module _ (p : Params) (word_of : WordId → ℕ) (s : LifeState) (h : RingHidden
   small_more : AreBatchesSmall (s.log ++ b ∷ [])
   small_more x has = ⊎_elim (λ (old_one : Has s.log x). here.small x old_one) (λ (is : b ≡ x). subst IsBatchSmall is small_batch) (has_more s.log b x has)
 
-  shows : LifeShowsFills p word_of h.content (h.records ++ r ∷ []) logged
-  shows = lives_show_fills p word_of h.content (h.records ++ r ∷ []) logged here.obeys fit_then (life_more logged refl refl)
+  shows : ShowFills p word_of h.content (h.records ++ r ∷ []) logged
+  shows = wide_show p word_of h.content (h.records ++ r ∷ []) logged here.obeys wide (life_more logged refl refl)
 
   pub batch_life : IsLife p word_of s acts
   batch_life = (
     (
-      (let many = log_many in let few = fit_then.few in omega (arith, many, few, length-append h.records (r ∷ []))),
+      (let many = log_many in omega (arith, many, some_left)),
       (d.is_next).generation ∙ sym here.generation,
       (let drawn = here.drawn in let first = (d.is_next).first in omega (arith, drawn, first)),
     ),
     ((let begun = here.begun in omega (arith, begun, length-append s.log (b ∷ []))), tt),
   )
 
-  pub batch_then : IsInLife p word_of behind (reached p word_of s acts)
-  batch_then = subst (λ (x : RingHidden). IsInLife p word_of x shown) (sym d.behind_is) (record {
+  pub batch_then : RecordsFit p behind.records → IsInLife p word_of behind (reached p word_of s acts)
+  batch_then fit = subst (λ (x : RingHidden). IsInLife p word_of x shown) (sym d.behind_is) (record {
     obeys = here.obeys;
-    fit = fit_then;
+    fit = subst (λ (x : RingHidden). RecordsFit p x.records) d.behind_is fit;
     life = life_more shown refl refl;
     small = small_more;
+    epoch = here.epoch;
     generation = here.generation;
     drawn = (let first = (d.is_next).first in let many = d.many in let asked = asks_many in omega (arith, first, many, asked, length-append h.words r.words));
     begun = (let begun = here.begun in omega (arith, begun, length-append s.log (b ∷ [])));

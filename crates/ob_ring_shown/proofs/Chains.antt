@@ -1,5 +1,5 @@
 -- What calls draw, one behind the other, is what a life shows.
-use Rattle.std.specs.Prelude.{◌≡◌, ℕ, ◌+◌, ◌<◌, ◌≤◌, List, [], ◌∷◌, ◌++◌, map, length, slice_index}
+use Rattle.std.specs.Prelude.{◌≡◌, ℕ, ◌<◌, List, [], ◌∷◌, ◌++◌, length, slice_index}
 use Rattle.std.proofs.Common.{arith, length-append, refl, sym, ap, subst, ◌∙◌}
 use Rattle.std.proofs.lemmas.List.{append-nil, append_assoc, get_or_append_left}
 use Rattle.ob_base.specs.declared.params.Params.{Params}
@@ -15,17 +15,17 @@ use Rattle.ob_schedule.specs.Schedule.{Fills}
 use Rattle.ob_serial.specs.Vaults.{End, Fetch, VaultCall}
 use Rattle.ob_ring_shown.proofs.Batches as batches
 use Rattle.ob_ring_shown.proofs.Ends as ends
-use Rattle.ob_ring_shown.specs.Shown.{AreFilledBy, AreOfLife, AreShownBy, DrawnIsShown, IsInLife}
+use Rattle.ob_ring_shown.specs.Shown.{AreFilledBy, AreShownBy, DrawnIsShown, IsInLife}
 
 -- ---- words go on
 
 -- the later words begin with these, in the same generation
-record GoesOn (h later : RingHidden) : Type 0 where
-  more : List ℕ
-  words : later.words ≡ h.words ++ more
-  generation : later.generation ≡ h.generation
+pub record GoesOn (h later : RingHidden) : Type 0 where
+  pub more : List ℕ
+  pub words : later.words ≡ h.words ++ more
+  pub generation : later.generation ≡ h.generation
 
-tape_before : (word_of : WordId → ℕ) (h later : RingHidden) → GoesOn h later → AreTapeWords word_of later.generation later.words → AreTapeWords word_of h.generation h.words
+pub tape_before : (word_of : WordId → ℕ) (h later : RingHidden) → GoesOn h later → AreTapeWords word_of later.generation later.words → AreTapeWords word_of h.generation h.words
 tape_before word_of h later g tape i lt =
     ap (λ (n : ℕ). word_of (record { generation = n; place = i })) (sym g.generation)
     ∙ tape i (omega (arith, lt, ap (λ (l : List ℕ). length l) g.words, length-append h.words g.more))
@@ -43,7 +43,7 @@ then_on h mid later one two = record {
   generation = two.generation ∙ one.generation;
 }
 
-all_on : (p : Params) (h behind : RingHidden) (calls : List VaultCall) (steps : List (Shape × Fills)) → AreDrawn ring_kind p h calls steps behind → GoesOn h behind
+pub all_on : (p : Params) (h behind : RingHidden) (calls : List VaultCall) (steps : List (Shape × Fills)) → AreDrawn ring_kind p h calls steps behind → GoesOn h behind
 all_on p h behind [] [] is = record { more = []; words = ap (λ (x : RingHidden). x.words) is ∙ sym (append-nil h.words); generation = ap (λ (x : RingHidden). x.generation) is }
 all_on p h behind (call ∷ calls) (step ∷ steps) (mid, draws, rest) = then_on h mid behind (one_on p h call step.1 mid draws) (all_on p mid behind calls steps rest)
 all_on p h behind [] (step ∷ steps) none = absurd none
@@ -61,11 +61,12 @@ one_call : (p : Params) (word_of : WordId → ℕ) (s : LifeState) (h : RingHidd
     → IsOne p word_of s call f behind
 one_call p word_of s h (Fetch asks) f behind here (d, fit) tape =
     let own = subst (λ (x : RingHidden). AreTapeWords word_of x.generation x.words) d.behind_is tape in
+    let some : length h.records < p.batches = (let few = fit.few in let is = ap (λ (x : RingHidden). length x.records) d.behind_is in omega (arith, few, is, length-append h.records (d.next ∷ []))) in
     record {
-      acts = batches.acts p word_of s h here asks f behind d fit own;
-      is_life = batches.batch_life p word_of s h here asks f behind d fit own;
-      then = batches.batch_then p word_of s h here asks f behind d fit own;
-      filled = batches.batch_filled p word_of s h here asks f behind d fit own;
+      acts = batches.acts p word_of s h here asks f behind d some own;
+      is_life = batches.batch_life p word_of s h here asks f behind d some own;
+      then = batches.batch_then p word_of s h here asks f behind d some own fit;
+      filled = batches.batch_filled p word_of s h here asks f behind d some own;
     }
 one_call p word_of s h (End ws) f behind here d tape =
     let own = subst (λ (l : List ℕ). AreTapeWords word_of h.generation l) d.grows (subst (λ (n : ℕ). AreTapeWords word_of n behind.words) d.generation tape) in

@@ -11,8 +11,7 @@ use Rattle.ob_bucket.specs.Buckets.{version_at}
 use Rattle.ob_bucket.specs.Rank.{IsRanking}
 use Rattle.ob_end.specs.EndRuns.{end_writes, words_for_end}
 use Rattle.ob_epoch.proofs.Counts.{slots_rank}
-use Rattle.ob_epoch.specs.Table.{flat_of}
-use Rattle.ob_life.specs.Life.{AreDrawn, End as EndAct, IsActAllowed, IsLife, LifeAct, LifeBatch, LifeState, ShowLifts, SlotFill, WordId, book_after_log, book_now, is_table_lifted, lift_slots, life_step, reached, table_now}
+use Rattle.ob_life.specs.Life.{AreDrawn, End as EndAct, IsLife, LifeAct, LifeBatch, LifeState, ShowLifts, SlotFill, WordId, book_after_log, book_now, is_table_lifted, lift_slots, life_step, reached, table_now}
 use Rattle.ob_log.specs.Logs.{BatchRecord, RecordsFit}
 use Rattle.ob_recover.specs.Repeats.{entries_after_records}
 use Rattle.ob_ring.proofs.Members.{off_unless, one_of-filter}
@@ -148,6 +147,7 @@ module _ (p : Params) (word_of : WordId → ℕ) (s : LifeState) (h : RingHidden
     fit = fit_none p behind.records d.none;
     life = subst (λ (rs : List BatchRecord). IsLifeAt p word_of behind.content rs ended) (sym d.none) life_ended;
     small = λ b none. absurd none;
+    epoch = (let was = here.epoch in let now = d.epoch in omega (arith, was, now));
     generation = here.generation ∙ sym d.generation;
     drawn = refl;
     begun = refl;

@@ -1,3 +1,11 @@
+pub mod Wide
 pub mod Batches
 pub mod Ends
 pub mod Chains
+pub mod Opening
+pub mod Stopping
+pub mod Cutting
+pub mod Leaving
+pub mod Whole
+pub mod Joining
+pub mod Formatted

@@ -15,13 +15,14 @@ use Rattle.ob_ring_trace.specs.Lives.{IsLifeAt}
 use Rattle.ob_schedule.specs.Schedule.{Fills, batch_leaves}
 use Rattle.ob_serial.specs.Vaults.{End, Fetch, VaultCall}
 
--- The life is where this is hidden: in the epoch behind the content, with the records, each of which was shown in this attempt; in the
--- generation, of which so many words were drawn.
+-- The life is where this is hidden: behind the epoch, with its content and with the records, each of which was shown in this attempt; in
+-- the generation, of which so many words were drawn.
 pub record IsInLife (p : Params) (word_of : WordId → ℕ) (h : RingHidden) (s : LifeState) : Type 0 where
   pub obeys : Obeys p h.content
   pub fit : RecordsFit p h.records
   pub life : IsLifeAt p word_of h.content h.records s
   pub small : AreBatchesSmall s.log
+  pub epoch : s.epoch ≡ h.epoch
   pub generation : s.generation ≡ h.generation
   pub drawn : s.drawn ≡ length h.words
   pub begun : s.begun ≡ length s.log

@@ -14,9 +14,10 @@ use Rattle.ob_cells.specs.Writes.{Seals}
 use Rattle.ob_content.specs.Content.{Content}
 use Rattle.ob_end.specs.Closings.{SameGeneration}
 use Rattle.ob_end.specs.EndRuns.{AreEntriesWritten, EndAnswers, EndDamage, EndDraws, EndImages, EndStands, IfEnded, IsAtContent, IsEndUndamaged, LeadsOn, TakeBucketWords, end_writes, seals_for_end, table_ended}
+use Rattle.ob_end.specs.Shown.{EndShows, end_lifts}
 use Rattle.ob_ending.specs.Lifts.{IsUndamaged}
 use Rattle.ob_fetch.specs.declared.run.Run.{Run}
-use Rattle.ob_fetch.specs.Fetches.{FetchAnswers, FetchDraws, IsFetchRefusal, IsOpenIfShown, IsWornForBatch, MovesPlanner, RunIsAt, next_batch, record_next, words_since}
+use Rattle.ob_fetch.specs.Fetches.{FetchAnswers, FetchDraws, FetchShows, IsFetchRefusal, IsOpenIfShown, IsWornForBatch, MovesPlanner, RunIsAt, next_batch, record_next, words_since}
 use Rattle.ob_log.specs.Appends.{IsWornOut, append_notes}
 use Rattle.ob_log.specs.Logs.{BatchRecord, OpenRecords}
 use Rattle.ob_pads.specs.Seals.{CellsAreSealed}
@@ -26,7 +27,6 @@ use Rattle.ob_ring.specs.Picked.{SameSeals}
 use Rattle.ob_ring.specs.Ring.{StandsFor}
 use Rattle.ob_ring_trace.specs.Ends.{gates_ended}
 use Rattle.ob_ring_trace.specs.Known.{PlansFrom, fills_of, fills_with_lifts, public_of_kept}
-use Rattle.ob_ring_trace.specs.Telling.{IsShownAs}
 use Rattle.ob_schedule.specs.Schedule.{batch_notes, end_notes}
 use Rattle.ob_seal.specs.declared.keys.Keys.{Keys}
 use Rattle.ob_serial.specs.Serial.{Map}
@@ -160,9 +160,11 @@ module _ {S : Type 0} (disk : S → Disk) (old new : Running S) (notes : List No
       -- a word for each place, or none where numbers are worn
       pub draws : FetchDraws ((old.run).params).places old.drawn new.drawn result
       pub seals : Seals (record_cells (old.run).params) (old.run).sealer (new.run).sealer result
-      -- its notes are the schedule's batch of what the store knows, filled by the labels and slots of the table's picks
+      -- its notes are the schedule's batch of what the store knows, filled by the labels and slots of the table's picks; refused they are
+      -- what its answer says of that row, which begins with the record's
       pub scheduled : (c : Content) (rs : List BatchRecord) → HasPlanned old.run c rs → length rs ≡ next_batch old.run
-          → IsShownAs old.lanes (batch_notes (old.run).params (public_of_kept (old.run).params c rs (old.run).epoch (old.run).gates) (fills_of (old.run).params c (rs ++ record_of_fetch ∷ [])) (length rs)) notes (disk old.store).seen (disk new.store).seen result
+          → FetchShows old.lanes (append_notes (old.run).params (suc (old.run).epoch) (next_batch old.run))
+          (batch_notes (old.run).params (public_of_kept (old.run).params c rs (old.run).epoch (old.run).gates) (fills_of (old.run).params c (rs ++ record_of_fetch ∷ [])) (length rs)) notes (disk old.store).seen (disk new.store).seen result
       -- behind it the store knows the record's batch too
       pub onward : (c : Content) (rs : List BatchRecord) → HasPlanned old.run c rs → length rs ≡ next_batch old.run → OnOk result (HasPlanned new.run c (rs ++ record_of_fetch ∷ []))
       -- its record was open before its slots were read
@@ -198,9 +200,11 @@ module _ {S : Type 0} (disk : S → Disk) (old new : Running S) (notes : List No
       pub sealed : (disk old.store).tells → IfEnded SealsCells result
       pub draws : (t : FlatTable) → StandsFor (old.run).ring t → EndDraws (old.run).params t (old.run).epoch (old.run).drawn old.drawn new.drawn result
       pub seals : (t : FlatTable) → StandsFor (old.run).ring t → Seals (seals_for_end (old.run).params t) (old.run).sealer (new.run).sealer result
-      -- its notes are the schedule's end of what the store knows
+      -- its notes are the schedule's end of what the store knows; refused they are what its answer says of that row: up to the write that
+      -- opens the register's gate where it is unsure, the first of what comes before that where the store failed, or the lifts' reads
       pub scheduled : (c : Content) (rs : List BatchRecord) → HasPlanned old.run c rs
-          → IsShownAs old.lanes (end_notes (old.run).params (public_of_kept (old.run).params c rs (old.run).epoch (old.run).gates) (fills_with_lifts (old.run).params c rs)) notes (disk old.store).seen (disk new.store).seen result
+          → EndShows old.lanes (end_lifts (old.run).params (public_of_kept (old.run).params c rs (old.run).epoch (old.run).gates) (fills_with_lifts (old.run).params c rs))
+          (end_notes (old.run).params (public_of_kept (old.run).params c rs (old.run).epoch (old.run).gates) (fills_with_lifts (old.run).params c rs)) notes (disk old.store).seen (disk new.store).seen result
       -- behind it the store knows what the schedule's end leaves
       pub onward : (c : Content) (rs : List BatchRecord) → HasPlanned old.run c rs → OnOk result (LeadsOn (old.run).params ((old.run).sealer).generation c rs (old.run).epoch (old.run).gates (new.run).ring (new.run).gates)
       -- the table then: lifted, written, and filled anew; the words of the writes' places are their keys', and those behind the buckets'

@@ -1,5 +1,6 @@
 -- How the head's read and the opening join.
-use Rattle.std.proofs.Common.{◌≡◌, ◌∙◌, ◌≤◌, ℕ, List, length, Some, Result, Ok, Err, refl, sym, ap, subst, inr, arith}
+use Rattle.std.specs.Prelude.{false}
+use Rattle.std.proofs.Common.{◌≡◌, ◌∙◌, ◌≤◌, ℕ, List, length, None, Some, Result, Ok, Err, refl, sym, ap, subst, inr, arith}
 use Rattle.ob_base.specs.Causes.{Rose}
 use Rattle.ob_base.specs.declared.fault.Fault.{Fault}
 use Rattle.ob_base.specs.declared.fault.Fault.TheVariants as fault
@@ -11,6 +12,9 @@ use Rattle.ob_ring_kind.proofs.Opening.{opens_or_not, ring_leaves_standing, ring
 use Rattle.ob_ring_kind.proofs.Refusing.{ring_refuses}
 use Rattle.ob_ring_kind.specs.Laws.{ReadsHead, found_ring}
 use Rattle.ob_ring_kind.specs.RingKind.{ring_kind}
+use Rattle.ob_life.specs.Life.{LifeState, WordId}
+use Rattle.ob_ring_shown.proofs.Stopping.{stops_in_life}
+use Rattle.ob_ring_shown.specs.Lives.{RingFormatted, ring_lives}
 use Rattle.ob_script.specs.Script.{Scripts}
 use Rattle.ob_seal.specs.declared.keys.Keys.{Keys}
 use Rattle.ob_stand.specs.Stands as stand
@@ -25,6 +29,7 @@ use Rattle.ob_store.specs.Disk.{Disk, Image}
 use Rattle.ob_store.specs.Images.{IsSynced}
 use Rattle.ob_store.specs.Lines.{Trace}
 use Rattle.ob_vault.proofs.PlanLaws.{opened_plans}
+use Rattle.ob_vault.specs.OpeningActs.{IsLeftAt, OpensInLife}
 use Rattle.ob_vault.specs.Formats.{IsFormatFault, formatted_standing}
 use Rattle.ob_vault.specs.OpeningRuns.{IsAtStart, IsRingOpened, OpeningLeaves, RefusedDoes, RefusedWrites}
 use Rattle.ob_vault.specs.Openings.{IsOpenFault, IsOpenRefusal, IsStandingRefusal, OpensWhatStood}
@@ -50,15 +55,16 @@ module _ {S : Type 0} (disk : S → Disk) (keys : Keys) (p : Params) (script : S
         start = (is.found).gates;
         opened = record { head = head; came = came; finds = so.finds; starts = so.starts };
         seen = so.seen;
-        stood = λ at tells here. ring_opens_at L disk keys p old mid new is.found o read tells (told (read.keeps.tells tells)) stands at here;
+        stood = λ at tells here. ring_opens_at L disk keys p old mid new is.found o read tells (told (read.keeps.tells tells)) (is.told (read.keeps.tells tells)).found_in stands at here;
       }
 
   -- it was refused
   pub unopened : {T L : Type 0} (o : Result (Opening L) Fault) (tape_old tape_new : T) (present : ℕ) (drawn : List ℕ) (shown later : Trace) (refused : Fault) (after : Flow) → ((c : Image) → (disk old).left_since (disk old).moment c → (disk old).may_leave c)
       → (disk old).faults ≤ (disk mid).faults → IsOpenFault refused → (IsStoreFault refused → Rose (disk mid).faults (disk new).faults) → RefusedDoes keys 1 p (disk mid) (disk new) shown later refused
       → ((disk mid).tells → IsOpenRefusal keys p (disk mid).cells refused) → ((s : RingStanding) → (disk mid).tells → stand.Stands keys p s (disk mid).cells → IsStandingRefusal s refused)
-      → RefusedWrites disk keys p mid new tape_old tape_new present drawn refused → OpeningLeaves {L = L} disk keys p mid new (Err refused) → EndsEarly ring_kind keys (disk old) (disk new) disk before after refused
-  unopened {T} {L} o tape_old tape_new present drawn shown later refused after only further kind cause does refusal stood writes leaves =
+      → RefusedWrites disk keys p mid new tape_old tape_new present drawn refused → OpeningLeaves {L = L} disk keys p mid new (Err refused)
+      → ((word_of : WordId → ℕ) (s : LifeState) → (disk mid).tells → IsLeftAt keys p word_of s None (disk mid).cells → OpensInLife keys 1 p word_of s None (disk mid) (disk new) shown later false) → EndsEarly ring_kind ring_lives keys (disk old) (disk new) disk before after refused
+  unopened {T} {L} o tape_old tape_new present drawn shown later refused after only further kind cause does refusal stood writes leaves acts =
       let so = ring_refuses T disk keys p old mid new tape_old tape_new present drawn shown later refused read kind does refusal stood writes in
       let either = opens_or_not disk keys p old mid new read.passes read.keeps leaves in
       inr (inr (record {
@@ -73,6 +79,7 @@ module _ {S : Type 0} (disk : S → Disk) (keys : Keys) (p : Params) (script : S
         unwritten = so.unwritten;
         left = λ at tells stands all. ring_leaves_standing disk keys p old new only tells all either at stands;
         opens = either;
+        stops_life = λ tells word_of s here each. stops_in_life keys 1 p (disk old) (disk mid) (disk new) shown later false read word_of s (λ at. acts word_of s (read.keeps.tells tells) at) tells here each;
       }))
 
 -- a vault may be made of an opening
@@ -93,19 +100,20 @@ may_serve disk keys p mid new shown later present drawn o is before tape = recor
 
 -- an empty store was made, and a life of it begins
 pub formatted : {S : Type 0} (disk : S → Disk) (keys : Keys) (p : Params) (drawn : List ℕ) (old new : S) → Notes (events_of (format_notes p)) (disk old).seen (disk new).seen → ((disk old).tells → stand.Stands keys p (formatted_standing p drawn) (disk new).cells)
-    → ((disk old).tells → (c : Image) → (disk new).may_leave c → stand.Stands keys p (formatted_standing p drawn) c) → ((disk old).tells → IsSynced (disk new)) → ((disk old).tells → (disk old).leaves → IsFormattedStore disk keys new) → IsFormatted ring_kind disk keys p old new
-formatted disk keys p drawn old new seen stands images durable begins = record { made = (ring_formats disk).made keys p drawn old new seen stands images durable; begins = begins }
+    → ((disk old).tells → (c : Image) → (disk new).may_leave c → stand.Stands keys p (formatted_standing p drawn) c) → ((disk old).tells → IsSynced (disk new)) → ((disk old).tells → (disk old).leaves → IsFormattedStore disk keys new)
+    → ((disk old).tells → RingFormatted keys p (disk new)) → IsFormatted ring_kind ring_lives disk keys p old new
+formatted disk keys p drawn old new seen stands images durable begins life = record { made = (ring_formats disk).made keys p drawn old new seen stands images durable; begins = begins; begins_life = life }
 
 -- as the call tells it
 pub whole_formatted : {S : Type 0} (disk : S → Disk) (keys : Keys) (p : Params) (drawn : List ℕ) (old new : S) → GoesOn (disk old) (disk new) → ((disk old).tells → (disk new).tells) → Notes (events_of (format_notes p)) (disk old).seen (disk new).seen
     → ((disk old).tells → stand.Stands keys p (formatted_standing p drawn) (disk new).cells) → ((disk old).tells → (c : Image) → (disk new).may_leave c → stand.Stands keys p (formatted_standing p drawn) c) → ((disk old).tells → IsSynced (disk new))
-    → IsFormatted ring_kind disk keys p old new
-whole_formatted disk keys p drawn old new goes told seen stands images durable =
-    formatted disk keys p drawn old new seen stands images durable (λ tells leaves. formatted_of disk keys p old new goes tells leaves (formatted_standing p drawn) refl (Ok tt) told (images tells))
+    → ((disk old).tells → RingFormatted keys p (disk new)) → IsFormatted ring_kind ring_lives disk keys p old new
+whole_formatted disk keys p drawn old new goes told seen stands images durable life =
+    formatted disk keys p drawn old new seen stands images durable (λ tells leaves. formatted_of disk keys p old new goes tells leaves (formatted_standing p drawn) refl (Ok tt) told (images tells)) life
 
 -- one that was refused
 pub format_refused : {S : Type 0} (disk : S → Disk) (keys : Keys) (p : Params) (old new : S) (before : Flow) (refused : Fault) → IsFormatFault refused → (IsStoreFault refused → Rose (disk old).faults (disk new).faults) → (refused ≡ fault.Memory → new ≡ old)
-    → NotesFirst (events_of (format_notes p)) (disk old).seen (disk new).seen → FormatEnds ring_kind disk keys p old new before before (Some refused)
+    → NotesFirst (events_of (format_notes p)) (disk old).seen (disk new).seen → FormatEnds ring_kind ring_lives disk keys p old new before before (Some refused)
 format_refused disk keys p old new before (fault.StoreFault unsure) is cause same seen = (is, cause tt, seen, refl)
 format_refused disk keys p old new before fault.Memory is cause same seen = (refl, same refl, refl)
 format_refused disk keys p old new before fault.Usage is cause same seen = absurd is

@@ -18,6 +18,7 @@ use Rattle.ob_top.specs.Words.{AreParams, IsBadNumber, AreLanes, AreBadLanes, Is
 use Rattle.ob_top.specs.Outside.{Outside, IsFinished, IsOnlyTold}
 use Rattle.ob_top.specs.Formats.{FormatDone}
 use Rattle.ob_ring_kind.specs.RingKind.{ring_kind}
+use Rattle.ob_ring_shown.specs.Lives.{ring_lives}
 use Rattle.ob_top.specs.Runs.{manner, RunOn, RunDone}
 use Rattle.ob_top.specs.Top.{AskForSomething, CommandDoes, IsRefusedWithout}
 use Rattle.ob_top.proofs.Beginnings.{ring_quiet}
@@ -174,11 +175,11 @@ module _ (before mid after : Outside) (status : ℕ) (input : after.input ≡ mi
 
     abbrev FormatTells : List (List ℕ) → Type 0
     FormatTells numbers = Tell Memory ⊎ (((field : Field) × IsBadNumber numbers field × Tell (BadParams field))
-        ⊎ ((p : Params) × AreParams numbers p × (KeysTell ⊎ ((keys : Keys) × HasKeys text keys × FormatDone ring_kind disk keys p old new before after status))))
+        ⊎ ((p : Params) × AreParams numbers p × (KeysTell ⊎ ((keys : Keys) × HasKeys text keys × FormatDone ring_kind ring_lives disk keys p old new before after status))))
 
     abbrev RunTells : Option (List ℕ) → Bool → Type 0
     RunTells lanes turns = Tell Memory ⊎ ((AreBadLanes lanes × Tell (BadParams LANES))
-        ⊎ ((k : ℕ) × AreLanes lanes k × (KeysTell ⊎ ((keys : Keys) × HasKeys text keys × RunDone ring_kind disk (manner beat (not turns)) drawn keys old new before after status))))
+        ⊎ ((k : ℕ) × AreLanes lanes k × (KeysTell ⊎ ((keys : Keys) × HasKeys text keys × RunDone ring_kind ring_lives disk (manner beat (not turns)) drawn keys old new before after status))))
 
     pub usage_done : (fault : Option Fault) → CommandDoes disk beat drawn words text old new before mid fault → IsFinished mid.output after.output fault status → asked_by words ≡ None → Tell Usage ⊎ Tell Memory
     usage_done fault (inl (f, is, inl refused, kept, same)) done nothing = usage_tells (new ≡ old) kept same words text fault f is done refused nothing
@@ -199,7 +200,7 @@ module _ (before mid after : Outside) (status : ℕ) (input : after.input ≡ mi
         let (p, are) = params_at store keys numbers command (params_asked words asked command store keys numbers by fits asks) in
         inr (inr (p, are, inl (keys_tell (new ≡ old) kept same words text fault f is done bad)))
     format_does fault (inr (found, has, inl (p, (asked, by, fits), ends, leaves, same))) done store keys numbers asks =
-        inr (inr (p, params_asked words asked (Format p) store keys numbers by fits asks, inr (found, has, format_done ring_kind ring_quiet disk found p old new before mid after status fault ends leaves same input done)))
+        inr (inr (p, params_asked words asked (Format p) store keys numbers by fits asks, inr (found, has, format_done ring_kind ring_quiet ring_lives disk found p old new before mid after status fault ends leaves same input done)))
     format_does fault (inr (found, has, inr (k, by_hand, (asked, by, fits), on))) done store keys numbers asks = absurd (params_asked words asked (Run k by_hand) store keys numbers by fits asks)
 
     pub run_does : (fault : Option Fault) → CommandDoes disk beat drawn words text old new before mid fault → IsFinished mid.output after.output fault status
@@ -211,8 +212,8 @@ module _ (before mid after : Outside) (status : ℕ) (input : after.input ≡ mi
     run_does fault (inr (found, has, inl (p, (asked, by, fits), ends, leaves, same))) done store keys lanes turns asks = absurd (lanes_asked words asked (Format p) store keys lanes turns by fits asks)
     run_does fault (inr (found, has, inr (k, by_hand, (asked, by, fits), on))) done store keys lanes turns asks =
         let (are, same) = lanes_asked words asked (Run k by_hand) store keys lanes turns by fits asks in
-        let its = subst (λ (b : Bool). RunOn ring_kind disk (manner beat (not b)) drawn found old new before mid fault) same on in
-        inr (inr (k, are, inr (found, has, run_done ring_kind ring_quiet disk (manner beat (not turns)) drawn found old new before mid after input status fault its done)))
+        let its = subst (λ (b : Bool). RunOn ring_kind ring_lives disk (manner beat (not b)) drawn found old new before mid fault) same on in
+        inr (inr (k, are, inr (found, has, run_done ring_kind ring_quiet ring_lives disk (manner beat (not turns)) drawn found old new before mid after input status fault its done)))
 
   -- ---- without one
 

@@ -21,8 +21,10 @@ use Rattle.ob_top.specs.Words.{AreParams, IsBadNumber, AreLanes, AreBadLanes, Ha
 use Rattle.ob_top.specs.Outside.{Outside, IsOnlyTold}
 use Rattle.ob_top.specs.Formats.{FormatTold, FormatDone}
 use Rattle.ob_ring_kind.specs.RingKind.{RingMayStop, ring_kind}
+use Rattle.ob_ring_shown.specs.Lives.{ring_lives}
 use Rattle.ob_kinds.specs.Keeping.{AreStandingLaws}
 use Rattle.ob_kinds.specs.Kinds.{StoreKind}
+use Rattle.ob_kinds.specs.Lives.{LifeWords}
 use Rattle.ob_kinds.specs.Phases.{Shape, shapes}
 use Rattle.ob_conduct.specs.Acts.{calls}
 use Rattle.ob_desk.specs.Beats.{BeatKind}
@@ -34,7 +36,7 @@ use Rattle.ob_top.proofs.Named.{no_bad_number, no_bad_lanes, one_keys, keys_stan
 
 -- ---- format
 
-format_fault : {S : Type 0} (disk : S → Disk) (keys : Keys) (p : Params) (old new : S) (before after : Outside) (f : Option Fault) → FormatTold ring_kind disk keys p old new before.output after.output f
+format_fault : {S : Type 0} (disk : S → Disk) (keys : Keys) (p : Params) (old new : S) (before after : Outside) (f : Option Fault) → FormatTold ring_kind ring_lives disk keys p old new before.output after.output f
     → (Rose (disk old).faults (disk new).faults → ⊥) → (Rose before.output.faults after.output.faults → ⊥) → (status_of f ≡ 0) ⊎ (status_of f ≡ 9)
 format_fault disk keys p old new before after None told store output = inl refl
 format_fault disk keys p old new before after (Some fault.SinkFault) told store output = absurd (output told.1)
@@ -54,7 +56,7 @@ format_fault disk keys p old new before after (Some fault.SourceFault) told stor
 keys_few : (p : Params) → p.keys ≤ 2 ^ 32
 keys_few p = omega (arith, p.in_range.few_keys)
 
-module _ (store : StoreKind) (laws : AreStandingLaws store) {S : Type 0} (disk : S → Disk) (words : List (List ℕ)) (text : Option (Bor (List ℕ))) (old new : S) (before after : Outside) (script : Scripts) (can : CanRun words text (disk old) (disk new) before after store script) where
+module _ (store : StoreKind) (laws : AreStandingLaws store) (life : LifeWords store) {S : Type 0} (disk : S → Disk) (words : List (List ℕ)) (text : Option (Bor (List ℕ))) (old new : S) (before after : Outside) (script : Scripts) (can : CanRun words text (disk old) (disk new) before after store script) where
   input_is : (input : List ℕ) → IsInput before.input.bytes limit input → input ≡ take (limit + 1) can.bytes
   input_is input is = subst (λ (b : Option (List ℕ)). IsInput b limit input) can.told is
 
@@ -89,7 +91,7 @@ module _ (store : StoreKind) (laws : AreStandingLaws store) {S : Type 0} (disk :
   by_memory f (inl is) holds = absurd (holds is)
   by_memory f (inr is) holds = ap (λ (x : Fault). status_of (Some x)) is
 
-  early : (f : Fault) → EndsEarly store can.keys (disk old) (disk new) disk before.input after.input f → status_of (Some f) ≡ 9
+  early : (f : Fault) → EndsEarly store life can.keys (disk old) (disk new) disk before.input after.input f → status_of (Some f) ≡ 9
   early f (inl head) =
       absurd (can.store_holds (head.cause (laws.reads_head can.keys can.p ((disk old).cells 0) f (laws.has_head can.keys can.p can.generation (disk old).cells can.at can.stands) head.kind (head.read can.tells))))
   early f (inr (inl input)) = input_told input.p.keys f (many_keys input.p input.head) input.refused
@@ -98,16 +100,16 @@ module _ (store : StoreKind) (laws : AreStandingLaws store) {S : Type 0} (disk :
       (subst (λ (q : Params). store.refuses can.keys q (disk old).cells f) (one_p opening.p opening.head) (opening.read can.tells))) (λ is. can.store_holds (opening.cause is))
 
   module _ (by : Manner) (drawn : List ℕ) (records : List (EpochRecord ℕ)) where
-    ran_keys : (f : Option Fault) (r : Ran store disk by drawn can.keys old new before after records f) → r.p.keys ≡ can.p.keys
+    ran_keys : (f : Option Fault) (r : Ran store life disk by drawn can.keys old new before after records f) → r.p.keys ≡ can.p.keys
     ran_keys f r = many_keys r.p r.opened.head
 
-    ran_epoch : (f : Option Fault) (r : Ran store disk by drawn can.keys old new before after records f) → store.epoch r.found ≡ can.at.epoch
+    ran_epoch : (f : Option Fault) (r : Ran store life disk by drawn can.keys old new before after records f) → store.epoch r.found ≡ can.at.epoch
     ran_epoch f r = laws.finds can.keys can.p can.generation (disk old).cells can.at r.found can.stands (subst (λ (q : Params). store.finds can.keys q (disk old).cells r.found) (one_p r.p r.opened.head) (r.opened.finds can.tells))
 
-    ran_script : (f : Option Fault) (r : Ran store disk by drawn can.keys old new before after records f) → r.script ≡ script
+    ran_script : (f : Option Fault) (r : Ran store life disk by drawn can.keys old new before after records f) → r.script ≡ script
     ran_script f r = came_one r.p.keys r.script (ran_keys f r) r.opened.came
 
-    ran_few : (f : Option Fault) (r : Ran store disk by drawn can.keys old new before after records f) → length records ≤ length script.txns
+    ran_few : (f : Option Fault) (r : Ran store life disk by drawn can.keys old new before after records f) → length records ≤ length script.txns
     ran_few f r =
         let served = r.is_served.served in
         let epochs = few_epochs records served.some in
@@ -115,32 +117,32 @@ module _ (store : StoreKind) (laws : AreStandingLaws store) {S : Type 0} (disk :
         subst (λ (s : Scripts). length records ≤ length s.txns) (ran_script f r) (omega (arith, epochs, txns))
 
     -- what stands was opened, so its map was found
-    ran_map : (f : Option Fault) (r : Ran store disk by drawn can.keys old new before after records f) → store.is_map can.keys can.p (disk r.between) r.found can.at.content
+    ran_map : (f : Option Fault) (r : Ran store life disk by drawn can.keys old new before after records f) → store.is_map can.keys can.p (disk r.between) r.found can.at.content
     ran_map f r =
         let same = one_p r.p r.opened.head in
         subst (λ (q : Params). store.is_map can.keys q (disk r.between) r.found can.at.content) same
         (r.stood can.at can.tells (can.generation, subst (λ (q : Params). store.stands can.keys q can.generation (disk old).cells can.at) (sym same) can.stands)).content
 
     -- a fault of the kind is one that may stop it even so
-    may_stop : (f : Fault) (r : Ran store disk by drawn can.keys old new before after records (Some f)) (so_far : List Shape) → store.causes can.keys r.p r.found (disk r.between) (disk new) so_far (length records) f → store.may_stop can.p f
-    may_stop f r so_far cause =
-        laws.serves can.keys can.p can.generation (length script.txns) (length records) r.found (disk r.between) (disk new) so_far f can.at.content
+    may_stop : (f : Fault) (r : Ran store life disk by drawn can.keys old new before after records (Some f)) (h : store.Hidden) (so_far : List Shape) → store.causes can.keys r.p r.found (disk r.between) (disk new) h so_far (length records) f → store.may_stop can.p f
+    may_stop f r h so_far cause =
+        laws.serves can.keys can.p can.generation (length script.txns) (length records) r.found (disk r.between) (disk new) h so_far f can.at.content
         (subst (λ e. store.lasts can.p can.generation e (length script.txns)) (sym (ran_epoch (Some f) r)) can.lasts) (ran_few (Some f) r) (ran_map (Some f) r)
-        (subst (λ (q : Params). store.causes can.keys q r.found (disk r.between) (disk new) so_far (length records) f) (one_p r.p r.opened.head) cause)
+        (subst (λ (q : Params). store.causes can.keys q r.found (disk r.between) (disk new) h so_far (length records) f) (one_p r.p r.opened.head) cause)
 
-    ran_fault : (f : Fault) (r : Ran store disk by drawn can.keys old new before after records (Some f)) (so_far : List Shape) → EndsFor store can.keys r.p r.found (disk r.between) so_far (length records) (disk old) (disk new) before.output after.output (Some f)
+    ran_fault : (f : Fault) (r : Ran store life disk by drawn can.keys old new before after records (Some f)) (h : store.Hidden) (so_far : List Shape) → EndsFor store can.keys r.p r.found (disk r.between) h so_far (length records) (disk old) (disk new) before.output after.output (Some f)
         → (status_of (Some f) ≡ 9) ⊎ store.may_stop can.p f
-    ran_fault fault.Memory r so_far cause = inl refl
-    ran_fault fault.SinkFault r so_far cause = absurd (can.output_holds cause)
-    ran_fault (fault.StoreFault unsure) r so_far cause = absurd (can.store_holds cause.0)
-    ran_fault (fault.Worn number) r so_far cause = inr (may_stop (fault.Worn number) r so_far cause)
-    ran_fault fault.Usage r so_far cause = inr (may_stop fault.Usage r so_far cause)
-    ran_fault (fault.BadScript line) r so_far cause = inr (may_stop (fault.BadScript line) r so_far cause)
-    ran_fault (fault.BadParams field) r so_far cause = inr (may_stop (fault.BadParams field) r so_far cause)
-    ran_fault fault.NotStore r so_far cause = inr (may_stop fault.NotStore r so_far cause)
-    ran_fault (fault.Damaged cell check kept computed) r so_far cause = inr (may_stop (fault.Damaged cell check kept computed) r so_far cause)
-    ran_fault (fault.StashFull rows) r so_far cause = inr (may_stop (fault.StashFull rows) r so_far cause)
-    ran_fault fault.SourceFault r so_far cause = inr (may_stop fault.SourceFault r so_far cause)
+    ran_fault fault.Memory r h so_far cause = inl refl
+    ran_fault fault.SinkFault r h so_far cause = absurd (can.output_holds cause)
+    ran_fault (fault.StoreFault unsure) r h so_far cause = absurd (can.store_holds cause.0)
+    ran_fault (fault.Worn number) r h so_far cause = inr (may_stop (fault.Worn number) r h so_far cause)
+    ran_fault fault.Usage r h so_far cause = inr (may_stop fault.Usage r h so_far cause)
+    ran_fault (fault.BadScript line) r h so_far cause = inr (may_stop (fault.BadScript line) r h so_far cause)
+    ran_fault (fault.BadParams field) r h so_far cause = inr (may_stop (fault.BadParams field) r h so_far cause)
+    ran_fault fault.NotStore r h so_far cause = inr (may_stop fault.NotStore r h so_far cause)
+    ran_fault (fault.Damaged cell check kept computed) r h so_far cause = inr (may_stop (fault.Damaged cell check kept computed) r h so_far cause)
+    ran_fault (fault.StashFull rows) r h so_far cause = inr (may_stop (fault.StashFull rows) r h so_far cause)
+    ran_fault fault.SourceFault r h so_far cause = inr (may_stop fault.SourceFault r h so_far cause)
 
     -- it answers 0, or 9, or tells of a fault that may stop it even so
     abbrev pub Answers : ℕ → Type 0
@@ -150,12 +152,12 @@ module _ (store : StoreKind) (laws : AreStandingLaws store) {S : Type 0} (disk :
     by_fault status f is (inl nine) = inr (inl (is ∙ nine))
     by_fault status f is (inr may) = inr (inr (f, may, is))
 
-    answers : (status : ℕ) (f : Option Fault) → status ≡ status_of f → Went store disk by drawn can.keys old new before after records f → Answers status
+    answers : (status : ℕ) (f : Option Fault) → status ≡ status_of f → Went store life disk by drawn can.keys old new before after records f → Answers status
     answers status None is ran = inl is
     answers status (Some f) is (inl (none, ended, lives)) = inr (inl (is ∙ early f ended))
-    answers status (Some f) is (inr ran) = by_fault status f is (ran_fault f ran (shapes (calls ran.is_served.served.acts)) ran.cause)
+    answers status (Some f) is (inr ran) = by_fault status f is (ran_fault f ran ran.traced.behind (shapes (calls ran.is_served.served.acts)) ran.cause)
 
-  pub run_answers : (by : Manner) (drawn : List ℕ) (status : ℕ) → RunDone store disk by drawn can.keys old new before after status → (status ≡ 0) ⊎ ((status ≡ 9) ⊎ ((f : Fault) × store.may_stop can.p f × (status ≡ status_of (Some f))))
+  pub run_answers : (by : Manner) (drawn : List ℕ) (status : ℕ) → RunDone store life disk by drawn can.keys old new before after status → (status ≡ 0) ⊎ ((status ≡ 9) ⊎ ((f : Fault) × store.may_stop can.p f × (status ≡ status_of (Some f))))
   run_answers by drawn status d = answers by drawn d.records status d.fault d.status_is d.went
 
 -- ---- both
@@ -170,11 +172,11 @@ module _ {S : Type 0} (disk : S → Disk) (beat : BeatKind) (drawn : List ℕ) (
 
   abbrev pub FormatTells : List (List ℕ) → Type 0
   FormatTells numbers = Tell fault.Memory ⊎ (((field : Field) × IsBadNumber numbers field × Tell (fault.BadParams field))
-      ⊎ ((p : Params) × AreParams numbers p × (KeysTell ⊎ ((keys : Keys) × HasKeys text keys × FormatDone ring_kind disk keys p old new before after status))))
+      ⊎ ((p : Params) × AreParams numbers p × (KeysTell ⊎ ((keys : Keys) × HasKeys text keys × FormatDone ring_kind ring_lives disk keys p old new before after status))))
 
   abbrev pub RunTells : Option (List ℕ) → Bool → Type 0
   RunTells lanes turns = Tell fault.Memory ⊎ ((AreBadLanes lanes × Tell (fault.BadParams LANES))
-      ⊎ ((k : ℕ) × AreLanes lanes k × (KeysTell ⊎ ((keys : Keys) × HasKeys text keys × RunDone ring_kind disk (manner beat (not turns)) drawn keys old new before after status))))
+      ⊎ ((k : ℕ) × AreLanes lanes k × (KeysTell ⊎ ((keys : Keys) × HasKeys text keys × RunDone ring_kind ring_lives disk (manner beat (not turns)) drawn keys old new before after status))))
 
   format_whole : (can : CanFormat words text (disk old) (disk new) before after) → FormatTells can.numbers → (status ≡ 0) ⊎ (status ≡ 9)
   format_whole can (inl (kept, told)) = inr told.status_is
@@ -187,7 +189,7 @@ module _ {S : Type 0} (disk : S → Disk) (beat : BeatKind) (drawn : List ℕ) (
   run_whole script can (inr (inl (bad, (kept, told)))) = absurd (no_bad_lanes can.lanes can.k can.in_range bad)
   run_whole script can (inr (inr (k, are, inl (f, refused, (kept, told))))) = absurd (keys_stand text can.keys f can.has refused)
   run_whole script can (inr (inr (k, are, inr (keys, has, d)))) =
-      by_stop can.p status (run_answers ring_kind ring_keeps disk words text old new before after script can (manner beat (not can.turns)) drawn status (subst (λ (k : Keys). RunDone ring_kind disk (manner beat (not can.turns)) drawn k old new before after status) (one_keys text keys can.keys has can.has) d))
+      by_stop can.p status (run_answers ring_kind ring_keeps ring_lives disk words text old new before after script can (manner beat (not can.turns)) drawn status (subst (λ (k : Keys). RunDone ring_kind ring_lives disk (manner beat (not can.turns)) drawn k old new before after status) (one_keys text keys can.keys has can.has) d))
     where
       by_stop : (p : Params) (s : ℕ) → (s ≡ 0) ⊎ ((s ≡ 9) ⊎ ((f : Fault) × RingMayStop p f × (s ≡ status_of (Some f)))) → (s ≡ 0) ⊎ ((s ≡ 9) ⊎ ((s ≡ 6) × (p.room < p.keys)))
       by_stop p s (inl none) = inl none

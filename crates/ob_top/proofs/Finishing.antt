@@ -23,6 +23,7 @@ use Rattle.ob_serial.specs.Serial.{EpochRecord}
 use Rattle.ob_top.specs.Outside.{Outside, LineTold, IsFinished}
 use Rattle.ob_top.specs.Formats.{FormatEnds, FormatTold, FormatDone}
 use Rattle.ob_kinds.specs.Kinds.{StoreKind}
+use Rattle.ob_kinds.specs.Lives.{LifeWords}
 use Rattle.ob_kinds.specs.Phases.{Shape, shapes}
 use Rattle.ob_conduct.specs.Acts.{calls}
 use Rattle.ob_top.specs.Runs.{Manner, EndsEarly, EndsFor, Ran, Went, RunOn, RunDone}
@@ -49,19 +50,19 @@ front before after text more p rose = record {
   whole = inr rose;
 }
 
-module _ (store : StoreKind) (quiet : IsQuiet store) where
+module _ (store : StoreKind) (quiet : IsQuiet store) (life : LifeWords store) where
   -- a store that failed while it was made
   pub format_failed : {S : Type 0} (disk : S → Disk) (keys : Keys) (p : Params) (old new : S) (before : Flow) (fault : Fault) → fault ≡ StoreFault None → (IsStoreFault fault → Rose (disk old).faults (disk new).faults) → NotesFirst (store.format_order p) (disk old).seen (disk new).seen
-      → FormatEnds store disk keys p old new before before (Some fault)
+      → FormatEnds store life disk keys p old new before before (Some fault)
   format_failed disk keys p old new before fault is cause seen =
-      subst (λ (f : Fault). FormatEnds store disk keys p old new before before (Some f)) (sym is) (refl, cause (subst IsStoreFault (sym is) tt), seen, refl)
+      subst (λ (f : Fault). FormatEnds store life disk keys p old new before before (Some f)) (sym is) (refl, cause (subst IsStoreFault (sym is) tt), seen, refl)
 
   module _ {S : Type 0} (disk : S → Disk) (by : Manner) (words : List ℕ) (keys : Keys) (old new : S) (before mid after : Outside) (input : after.input ≡ mid.input) where
-    early_on : (fault : Fault) → EndsEarly store keys (disk old) (disk new) disk before.input mid.input fault → EndsEarly store keys (disk old) (disk new) disk before.input after.input fault
-    early_on fault early = subst (λ (f : Flow). EndsEarly store keys (disk old) (disk new) disk before.input f fault) (sym input) early
+    early_on : (fault : Fault) → EndsEarly store life keys (disk old) (disk new) disk before.input mid.input fault → EndsEarly store life keys (disk old) (disk new) disk before.input after.input fault
+    early_on fault early = subst (λ (f : Flow). EndsEarly store life keys (disk old) (disk new) disk before.input f fault) (sym input) early
 
-    ran_on : (records : List (EpochRecord ℕ)) (fault : Option Fault) (r : Ran store disk by words keys old new before mid records fault) → EndsFor store keys r.p r.found (disk r.between) (shapes (calls r.is_served.served.acts)) (length records) (disk old) (disk new) before.output after.output
-        fault → Ran store disk by words keys old new before after records fault
+    ran_on : (records : List (EpochRecord ℕ)) (fault : Option Fault) (r : Ran store life disk by words keys old new before mid records fault) → EndsFor store keys r.p r.found (disk r.between) r.traced.behind (shapes (calls r.is_served.served.acts)) (length records) (disk old) (disk new) before.output after.output
+        fault → Ran store life disk by words keys old new before after records fault
     ran_on records fault r cause = record {
       p = r.p;
       script = r.script;
@@ -80,10 +81,12 @@ module _ (store : StoreKind) (quiet : IsQuiet store) where
       stood = r.stood;
       left = r.left;
       lives = r.lives;
+      opens_life = r.opens_life;
+      goes_on = r.goes_on;
     }
 
     module _ (status : ℕ) where
-      done_whole : (r : RunOn store disk by words keys old new before mid None) → IsFinished mid.output after.output None status → RunDone store disk by words keys old new before after status
+      done_whole : (r : RunOn store life disk by words keys old new before mid None) → IsFinished mid.output after.output None status → RunDone store life disk by words keys old new before after status
       done_whole r f =
           let bytes : after.output.bytes ≡ appended before.output.bytes (report decimal r.records) = ap (λ (o : Flow). o.bytes) f.line ∙ r.reported.bytes in
           record {
@@ -95,17 +98,17 @@ module _ (store : StoreKind) (quiet : IsQuiet store) where
             went = ran_on r.records None r.went r.went.cause;
           }
 
-      sink_rose : (records : List (EpochRecord ℕ)) → Went store disk by words keys old new before mid records (Some SinkFault) → Rose before.output.faults mid.output.faults
+      sink_rose : (records : List (EpochRecord ℕ)) → Went store life disk by words keys old new before mid records (Some SinkFault) → Rose before.output.faults mid.output.faults
       sink_rose records (inl (none, inl head, lives)) = absurd (quiet.head head.kind)
       sink_rose records (inl (none, inr (inl input), lives)) = absurd input.refused
       sink_rose records (inl (none, inr (inr opening), lives)) = absurd (quiet.opening opening.kind)
       sink_rose records (inr ran) = ran.cause
 
-      sink_went : (records : List (EpochRecord ℕ)) → after.output ≡ mid.output → Went store disk by words keys old new before mid records (Some SinkFault) → Went store disk by words keys old new before after records (Some SinkFault)
+      sink_went : (records : List (EpochRecord ℕ)) → after.output ≡ mid.output → Went store life disk by words keys old new before mid records (Some SinkFault) → Went store life disk by words keys old new before after records (Some SinkFault)
       sink_went records same (inl (none, early, lives)) = inl (none, early_on SinkFault early, lives)
       sink_went records same (inr ran) = inr (ran_on records (Some SinkFault) ran (subst (λ (f : Flow). Rose before.output.faults f.faults) (sym same) ran.cause))
 
-      done_sink : (r : RunOn store disk by words keys old new before mid (Some SinkFault)) → IsFinished mid.output after.output (Some SinkFault) status → RunDone store disk by words keys old new before after status
+      done_sink : (r : RunOn store life disk by words keys old new before mid (Some SinkFault)) → IsFinished mid.output after.output (Some SinkFault) status → RunDone store life disk by words keys old new before after status
       done_sink r f = record {
         fault = Some SinkFault;
         status_is = f.status_is;
@@ -121,7 +124,7 @@ module _ (store : StoreKind) (quiet : IsQuiet store) where
 
       -- any other fault, behind the whole report
       done_other : (fault : Fault) (records : List (EpochRecord ℕ)) → mid.output.bytes ≡ appended before.output.bytes (report decimal records) → before.output.faults ≤ mid.output.faults
-          → IsPrinted mid.output after.output (fault_line (Some fault)) → status ≡ status_of (Some fault) → Went store disk by words keys old new before after records (Some fault) → RunDone store disk by words keys old new before after status
+          → IsPrinted mid.output after.output (fault_line (Some fault)) → status ≡ status_of (Some fault) → Went store life disk by words keys old new before after records (Some fault) → RunDone store life disk by words keys old new before after status
       done_other fault records bytes later line status_is went = record {
         fault = Some fault;
         status_is = status_is;
@@ -134,32 +137,32 @@ module _ (store : StoreKind) (quiet : IsQuiet store) where
           no_fault : Some fault ≡ None → ⊥
           no_fault is = cc is
 
-      went_other : (fault : Fault) (records : List (EpochRecord ℕ)) → ((p : Params) (found : store.Found) (opened : Disk) (so_far : List Shape) (n : ℕ) → EndsFor store keys p found opened so_far n (disk old) (disk new) before.output mid.output (Some fault)
-          → EndsFor store keys p found opened so_far n (disk old) (disk new) before.output after.output (Some fault))
-          → Went store disk by words keys old new before mid records (Some fault) → Went store disk by words keys old new before after records (Some fault)
+      went_other : (fault : Fault) (records : List (EpochRecord ℕ)) → ((p : Params) (found : store.Found) (opened : Disk) (h : store.Hidden) (so_far : List Shape) (n : ℕ) → EndsFor store keys p found opened h so_far n (disk old) (disk new) before.output mid.output (Some fault)
+          → EndsFor store keys p found opened h so_far n (disk old) (disk new) before.output after.output (Some fault))
+          → Went store life disk by words keys old new before mid records (Some fault) → Went store life disk by words keys old new before after records (Some fault)
       went_other fault records same (inl (none, early, lives)) = inl (none, early_on fault early, lives)
-      went_other fault records same (inr ran) = inr (ran_on records (Some fault) ran (same ran.p ran.found (disk ran.between) (shapes (calls ran.is_served.served.acts)) (length records) ran.cause))
+      went_other fault records same (inr ran) = inr (ran_on records (Some fault) ran (same ran.p ran.found (disk ran.between) ran.traced.behind (shapes (calls ran.is_served.served.acts)) (length records) ran.cause))
 
-      pub run_done : (fault : Option Fault) → RunOn store disk by words keys old new before mid fault → IsFinished mid.output after.output fault status → RunDone store disk by words keys old new before after status
+      pub run_done : (fault : Option Fault) → RunOn store life disk by words keys old new before mid fault → IsFinished mid.output after.output fault status → RunDone store life disk by words keys old new before after status
       run_done None r f = done_whole r f
       run_done (Some SinkFault) r f = done_sink r f
-      run_done (Some Memory) r f = done_other Memory r.records r.reported.bytes r.reported.later f.line f.status_is (went_other Memory r.records (λ p found opened so_far n cause. cause) r.went)
-      run_done (Some Usage) r f = done_other Usage r.records r.reported.bytes r.reported.later f.line f.status_is (went_other Usage r.records (λ p found opened so_far n cause. cause) r.went)
-      run_done (Some (BadScript line)) r f = done_other (BadScript line) r.records r.reported.bytes r.reported.later f.line f.status_is (went_other (BadScript line) r.records (λ p found opened so_far n cause. cause) r.went)
-      run_done (Some (BadParams field)) r f = done_other (BadParams field) r.records r.reported.bytes r.reported.later f.line f.status_is (went_other (BadParams field) r.records (λ p found opened so_far n cause. cause) r.went)
-      run_done (Some NotStore) r f = done_other NotStore r.records r.reported.bytes r.reported.later f.line f.status_is (went_other NotStore r.records (λ p found opened so_far n cause. cause) r.went)
-      run_done (Some (Damaged cell check kept computed)) r f = done_other (Damaged cell check kept computed) r.records r.reported.bytes r.reported.later f.line f.status_is (went_other (Damaged cell check kept computed) r.records (λ p found opened so_far n cause. cause) r.went)
-      run_done (Some (StoreFault unsure)) r f = done_other (StoreFault unsure) r.records r.reported.bytes r.reported.later f.line f.status_is (went_other (StoreFault unsure) r.records (λ p found opened so_far n cause. cause) r.went)
-      run_done (Some (StashFull rows)) r f = done_other (StashFull rows) r.records r.reported.bytes r.reported.later f.line f.status_is (went_other (StashFull rows) r.records (λ p found opened so_far n cause. cause) r.went)
-      run_done (Some (Worn number)) r f = done_other (Worn number) r.records r.reported.bytes r.reported.later f.line f.status_is (went_other (Worn number) r.records (λ p found opened so_far n cause. cause) r.went)
-      run_done (Some SourceFault) r f = done_other SourceFault r.records r.reported.bytes r.reported.later f.line f.status_is (went_other SourceFault r.records (λ p found opened so_far n cause. cause) r.went)
+      run_done (Some Memory) r f = done_other Memory r.records r.reported.bytes r.reported.later f.line f.status_is (went_other Memory r.records (λ p found opened h so_far n cause. cause) r.went)
+      run_done (Some Usage) r f = done_other Usage r.records r.reported.bytes r.reported.later f.line f.status_is (went_other Usage r.records (λ p found opened h so_far n cause. cause) r.went)
+      run_done (Some (BadScript line)) r f = done_other (BadScript line) r.records r.reported.bytes r.reported.later f.line f.status_is (went_other (BadScript line) r.records (λ p found opened h so_far n cause. cause) r.went)
+      run_done (Some (BadParams field)) r f = done_other (BadParams field) r.records r.reported.bytes r.reported.later f.line f.status_is (went_other (BadParams field) r.records (λ p found opened h so_far n cause. cause) r.went)
+      run_done (Some NotStore) r f = done_other NotStore r.records r.reported.bytes r.reported.later f.line f.status_is (went_other NotStore r.records (λ p found opened h so_far n cause. cause) r.went)
+      run_done (Some (Damaged cell check kept computed)) r f = done_other (Damaged cell check kept computed) r.records r.reported.bytes r.reported.later f.line f.status_is (went_other (Damaged cell check kept computed) r.records (λ p found opened h so_far n cause. cause) r.went)
+      run_done (Some (StoreFault unsure)) r f = done_other (StoreFault unsure) r.records r.reported.bytes r.reported.later f.line f.status_is (went_other (StoreFault unsure) r.records (λ p found opened h so_far n cause. cause) r.went)
+      run_done (Some (StashFull rows)) r f = done_other (StashFull rows) r.records r.reported.bytes r.reported.later f.line f.status_is (went_other (StashFull rows) r.records (λ p found opened h so_far n cause. cause) r.went)
+      run_done (Some (Worn number)) r f = done_other (Worn number) r.records r.reported.bytes r.reported.later f.line f.status_is (went_other (Worn number) r.records (λ p found opened h so_far n cause. cause) r.went)
+      run_done (Some SourceFault) r f = done_other SourceFault r.records r.reported.bytes r.reported.later f.line f.status_is (went_other SourceFault r.records (λ p found opened h so_far n cause. cause) r.went)
 
   module _ {S : Type 0} (disk : S → Disk) (keys : Keys) (p : Params) (old new : S) (before mid after : Flow) where
     -- a format that did nothing
     nothing_told : (refused : Fault) → store.format_fault refused × (new ≡ old) × (mid ≡ before) → IsPrinted mid after (fault_line (Some refused)) → store.format_fault refused × (new ≡ old) × IsPrinted before after (fault_line (Some refused))
     nothing_told refused (kind, same, quiet) printed = (kind, same, subst (λ (o : Flow). IsPrinted o after (fault_line (Some refused))) quiet printed)
 
-    format_told : (fault : Option Fault) → FormatEnds store disk keys p old new before mid fault → LineTold mid after fault → FormatTold store disk keys p old new before after fault
+    format_told : (fault : Option Fault) → FormatEnds store life disk keys p old new before mid fault → LineTold mid after fault → FormatTold store life disk keys p old new before after fault
     format_told None (formatted, bytes) line = (formatted, ap (λ (o : Flow). o.bytes) line ∙ bytes)
     format_told (Some SinkFault) (formatted, rose, printed) line = (
       formatted,
@@ -177,9 +180,9 @@ module _ (store : StoreKind) (quiet : IsQuiet store) where
     format_told (Some (Worn number)) ends line = nothing_told (Worn number) ends line
     format_told (Some SourceFault) ends line = nothing_told SourceFault ends line
 
-  pub format_done : {S : Type 0} (disk : S → Disk) (keys : Keys) (p : Params) (old new : S) (before mid after : Outside) (status : ℕ) (fault : Option Fault) → FormatEnds store disk keys p old new before.output mid.output fault
+  pub format_done : {S : Type 0} (disk : S → Disk) (keys : Keys) (p : Params) (old new : S) (before mid after : Outside) (status : ℕ) (fault : Option Fault) → FormatEnds store life disk keys p old new before.output mid.output fault
       → ((disk old).tells → LeavesOnly (disk old) (disk new) (store.format_leaves keys p (disk old))) → mid.input ≡ before.input → after.input ≡ mid.input
-      → IsFinished mid.output after.output fault status → FormatDone store disk keys p old new before after status
+      → IsFinished mid.output after.output fault status → FormatDone store life disk keys p old new before after status
   format_done disk keys p old new before mid after status fault ends leaves first second f = record {
     fault = fault;
     status_is = f.status_is;

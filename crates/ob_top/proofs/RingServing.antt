@@ -1,19 +1,24 @@
 -- What serving a script does to the store that a ring vault was lent.
 use Rattle.std.specs.List.{All}
-use Rattle.std.proofs.Common.{◌≡◌, ℕ, suc, Bool, List, map, Result}
+use Rattle.std.proofs.Common.{◌≡◌, ℕ, suc, Bool, List, map, Option, None, Some, Result}
 use Rattle.ob_base.specs.declared.params.Params.{Params}
 use Rattle.ob_base.specs.declared.fault.Fault.{Fault}
 use Rattle.ob_io.specs.Streams.{Flow}
 use Rattle.ob_seal.specs.declared.keys.Keys.{Keys}
-use Rattle.ob_store.specs.Disk.{Disk}
+use Rattle.ob_store.specs.Disk.{Clock, Disk, Image, NotAfter}
+use Rattle.ob_schedule.specs.Schedule.{Fills}
 use Rattle.ob_store.specs.Lines.{Trace}
-use Rattle.ob_serial.specs.VaultKinds.{Kind}
+use Rattle.ob_serial.specs.VaultKinds.{Called, Kind}
+use Rattle.ob_serial.specs.Vaults.{VaultAnswer, VaultCall}
 use Rattle.ob_ring_vault.specs.RingVaults.{Running}
 use Rattle.ob_ring_kind.specs.RingKind.{RingFound, ring_hidden, ring_kind, ring_public}
 use Rattle.ob_ring_kind.specs.RingSteps.{HasRingWords, RingAt}
 use Rattle.ob_kinds.specs.Phases.{Shape}
+use Rattle.ob_kinds.specs.Shown.{AreDrawn}
 use Rattle.ob_ring_kind.specs.Hidden.{IsOfTape, RingHidden}
 use Rattle.ob_ring_kind.specs.Seen.{RingPublic}
+use Rattle.ob_ring_shown.proofs.Leaving.{goes_on_none, goes_on_refused}
+use Rattle.ob_ring_shown.specs.Lives.{RingGoesOn, ring_lives}
 use Rattle.ob_ring_kind.proofs.Calling.{RingBehind, ring_does, words_are_of_tape}
 use Rattle.ob_script.specs.Script.{ScriptTxn, Scripts, AreSound, asks_by}
 use Rattle.ob_desk.specs.Desk.{MayOpen, new_desk}
@@ -24,19 +29,28 @@ use Rattle.ob_desk.specs.Beats.{BeatKind}
 use Rattle.ob_top.specs.Runs.{manner, ServedOver, fault_of}
 use Rattle.ob_top.proofs.Serving.{IsLender, serves_on}
 
-module _ {V S : Type 0} (k : Kind V) (disk : S → Disk) (runs : V → Running S) (words : HasRingWords k disk runs) (keys : Keys) (p : Params) (f : RingFound) (first : V) where
+module _ {V S : Type 0} (k : Kind V) (disk : S → Disk) (counts_now : (x : S) (t : Clock) (c : Image) → NotAfter t (disk x).moment → (disk x).may_leave c → (disk x).left_since t c)
+    (only_now : (x : S) (c : Image) → (disk x).left_since (disk x).moment c → (disk x).may_leave c) (runs : V → Running S) (words : HasRingWords k disk runs) (keys : Keys) (p : Params) (f : RingFound) (first : V) where
   pub tells : (q : RingPublic) (h : RingHidden) (so_far : List Shape) (n : ℕ) (v : V) → RingBehind k disk runs words keys p f (disk (runs first).store) q h so_far n v → IsOfTape h (runs v).drawn
   tells q h so_far n v at = words_are_of_tape k disk runs keys p f first q h n v at
 
+  pub at_rest : (calls : List VaultCall) (steps : List (Shape × Fills)) (q : RingPublic) (h : RingHidden) (so_far : List Shape) (n : ℕ) (v : V) → AreDrawn ring_kind p (ring_hidden f) calls steps h → RingBehind k disk runs words keys p f (disk (runs first).store) q h so_far n v
+      → RingGoesOn keys p f (disk (runs first).store) calls steps h None (runs v).drawn (disk (runs v).store)
+  at_rest calls steps q h so_far n v drawn at = goes_on_none k disk runs words counts_now only_now keys p f (disk (runs first).store) calls steps q h n v drawn at
+
+  pub at_stop : (calls : List VaultCall) (steps : List (Shape × Fills)) (q : RingPublic) (h : RingHidden) (so_far : List Shape) (n : ℕ) (v : V) → AreDrawn ring_kind p (ring_hidden f) calls steps h → RingBehind k disk runs words keys p f (disk (runs first).store) q h so_far n v
+      → (call : VaultCall) (answer : VaultAnswer) (w : V) → Called k v call answer w → RingGoesOn keys p f (disk (runs first).store) calls steps h (Some call) (runs w).drawn (disk (runs w).store)
+  at_stop calls steps q h so_far n v drawn at call answer w one = goes_on_refused k disk runs words counts_now only_now keys p f (disk (runs first).store) calls steps q h n v drawn at call answer w one
+
   abbrev pub IsRingLender : Type 1
-  IsRingLender = IsLender k ring_kind disk (λ v. (runs v).store) keys p f first (RingBehind k disk runs words keys p f (disk (runs first).store)) (λ v. (runs v).drawn) (ring_does k disk runs words keys p f (disk (runs first).store)) tells (f.run).sealer
+  IsRingLender = IsLender k ring_kind disk (λ v. (runs v).store) keys p f first (RingBehind k disk runs words keys p f (disk (runs first).store)) (λ v. (runs v).drawn) (ring_does k disk runs words keys p f (disk (runs first).store)) tells ring_lives at_rest at_stop (f.run).sealer
 
   pub ring_serves : {U : Type 0} (beat : BeatKind) (threads : Bool) (kind : RunnerKind U (List ScriptTxn)) (means : RunsScripts kind) (script : Scripts) (sound : AreSound script)
       (may : MayOpen (record { params = p }) (suc (f.run).epoch) (f.run).left script.clients) (trace : Trace) (runners : List U) (before : Flow) (end : RunState V U) (result : Result (Unit {0}) Fault) (epoch left : ℕ)
       → map kind.client runners ≡ script.clients → All (λ u. kind.plan u ≡ asks_by (kind.client u) script.txns) runners → epoch ≡ (f.run).epoch → left ≡ (f.run).left
       → RunsBy threads k kind beat (run_state (scene (new_desk (record { params = p }) (suc epoch) left script.clients) first trace) runners before) end result
       → IsRingLender → RingAt k disk runs keys p f (disk (runs first).store) (ring_public p f) (ring_hidden f) 0 first
-      → ServedOver ring_kind disk (manner beat threads) keys p f (f.run).sealer script (runs end.scene.vault).drawn (runs first).store (runs end.scene.vault).store before end.output (fault_of result)
+      → ServedOver ring_kind ring_lives disk (manner beat threads) keys p f (f.run).sealer script (runs end.scene.vault).drawn (runs first).store (runs end.scene.vault).store before end.output (fault_of result)
   ring_serves beat threads kind means script sound may trace runners before end result epoch left named planned epoch_is left_is run l begun =
-      serves_on k ring_kind disk (λ v. (runs v).store) keys p f first (RingBehind k disk runs words keys p f (disk (runs first).store)) (λ v. (runs v).drawn) (ring_does k disk runs words keys p f (disk (runs first).store)) tells
+      serves_on k ring_kind disk (λ v. (runs v).store) keys p f first (RingBehind k disk runs words keys p f (disk (runs first).store)) (λ v. (runs v).drawn) (ring_does k disk runs words keys p f (disk (runs first).store)) tells ring_lives at_rest at_stop
       beat threads kind means (f.run).sealer script sound may trace runners before end result epoch left named planned epoch_is left_is run l begun

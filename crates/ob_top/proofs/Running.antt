@@ -13,6 +13,7 @@ use Rattle.ob_store.proofs.Moments.{then_on, weakened}
 use Rattle.ob_serial.specs.Vaults.{Standing, StandsIn}
 use Rattle.ob_pads.specs.Lives.{LivesOn}
 use Rattle.ob_kinds.specs.Phases.{Shape, shapes}
+use Rattle.ob_kinds.specs.Lives.{LifeWords}
 use Rattle.ob_kinds.specs.Openings.{OpensStanding}
 use Rattle.ob_kinds.specs.Kinds.{StoreKind, Stands, AllStand, StandsAsBefore, IsOpenedAt, opened_with}
 use Rattle.ob_conduct.specs.Acts.{calls}
@@ -31,9 +32,9 @@ pub record IsQuiet (store : StoreKind) : Type 0 where
   pub head : store.head_fault SinkFault → ⊥
   pub opening : store.open_fault SinkFault → ⊥
 
-module _ (store : StoreKind) (quiet : IsQuiet store) where
+module _ (store : StoreKind) (quiet : IsQuiet store) (life : LifeWords store) where
   -- an early end has printed nothing, which is the report of no records
-  pub early_reported : {S : Type 0} (disk : S → Disk) (keys : Keys) (old new : Disk) (before after output : Flow) (fault : Fault) → EndsEarly store keys old new disk before after fault → IsReported output output [] (Some fault)
+  pub early_reported : {S : Type 0} (disk : S → Disk) (keys : Keys) (old new : Disk) (before after output : Flow) (fault : Fault) → EndsEarly store life keys old new disk before after fault → IsReported output output [] (Some fault)
   early_reported disk keys old new before after output SinkFault (inl head) = absurd (quiet.head head.kind)
   early_reported disk keys old new before after output SinkFault (inr (inl input)) = absurd input.refused
   early_reported disk keys old new before after output SinkFault (inr (inr opening)) = absurd (quiet.opening opening.kind)
@@ -48,8 +49,8 @@ module _ (store : StoreKind) (quiet : IsQuiet store) where
   early_reported disk keys old new before after output (Worn number) early = record { bytes = appended-none output.bytes; later = omega arith }
   early_reported disk keys old new before after output SourceFault early = record { bytes = appended-none output.bytes; later = omega arith }
 
-  pub ended_early : {S : Type 0} (disk : S → Disk) (by : Manner) (words : List ℕ) (keys : Keys) (old new : S) (before after output : Flow) (fault : Fault) → EndsEarly store keys (disk old) (disk new) disk before after fault → ((disk new).tells → LivesOn disk keys old new [])
-      → RunOn store disk by words keys old new
+  pub ended_early : {S : Type 0} (disk : S → Disk) (by : Manner) (words : List ℕ) (keys : Keys) (old new : S) (before after output : Flow) (fault : Fault) → EndsEarly store life keys (disk old) (disk new) disk before after fault → ((disk new).tells → LivesOn disk keys old new [])
+      → RunOn store life disk by words keys old new
       (outside before output) (outside after output) (Some fault)
   ended_early disk by words keys old new before after output fault early lives = record {
     records = [];
@@ -57,9 +58,9 @@ module _ (store : StoreKind) (quiet : IsQuiet store) where
     went = inl (refl, early, lives);
   }
 
-  module _ (keys : Keys) (p : Params) (found : store.Found) (so_far : List Shape) (n : ℕ) (old mid new : Disk) (before after : Flow) (later : old.faults ≤ mid.faults) where
+  module _ (keys : Keys) (p : Params) (found : store.Found) (h : store.Hidden) (so_far : List Shape) (n : ℕ) (old mid new : Disk) (before after : Flow) (later : old.faults ≤ mid.faults) where
     -- the store's count rose since an earlier moment too
-    pub cause_since : (fault : Option Fault) → EndsFor store keys p found mid so_far n mid new before after fault → EndsFor store keys p found mid so_far n old new before after fault
+    pub cause_since : (fault : Option Fault) → EndsFor store keys p found mid h so_far n mid new before after fault → EndsFor store keys p found mid h so_far n old new before after fault
     cause_since None cause = cause
     cause_since (Some Memory) cause = cause
     cause_since (Some SinkFault) cause = cause
@@ -73,7 +74,7 @@ module _ (store : StoreKind) (quiet : IsQuiet store) where
     cause_since (Some (StashFull rows)) cause = cause
     cause_since (Some SourceFault) cause = cause
 
-  pub went_of : {S : Type 0} (disk : S → Disk) (by : Manner) (words : List ℕ) (keys : Keys) (old new : S) (before after : Outside) (records : List (EpochRecord ℕ)) (fault : Option Fault) → Ran store disk by words keys old new before after records fault → Went store
+  pub went_of : {S : Type 0} (disk : S → Disk) (by : Manner) (words : List ℕ) (keys : Keys) (old new : S) (before after : Outside) (records : List (EpochRecord ℕ)) (fault : Option Fault) → Ran store life disk by words keys old new before after records fault → Went store life
       disk by words keys old new before after records fault
   went_of disk by words keys old new before after records None ran = ran
   went_of disk by words keys old new before after records (Some fault) ran = inr ran
@@ -101,10 +102,10 @@ module _ (store : StoreKind) (quiet : IsQuiet store) where
       → ((at : Standing) → (disk old).tells → Stands store keys p (disk old).cells at → IsOpenedAt store keys p at found (disk between))
       → ((at : Standing) → (disk old).tells → Stands store keys p (disk old).cells at → AllStand store keys p (disk old) → LeavesOnly (disk old) (disk between) (StandsAsBefore store keys p (disk old)))
       → OpensStanding store disk keys p (disk old) (disk between)
-      → IsReadAndOpened disk keys old between sealing
-      → ServedOver store disk by keys p found sealing script words between new output output_new fault
-      → RunOn store disk by words keys old new (outside input output) (outside input_new output_new) fault
-  ran disk by words keys old between new input input_new output output_new p script found start sealing fault later opened seen durable stood before opens begun s = record {
+      → IsReadAndOpened disk keys old between sealing → ((disk old).tells → life.begins keys p (disk old).cells found)
+      → ServedOver store life disk by keys p found sealing script words between new output output_new fault
+      → RunOn store life disk by words keys old new (outside input output) (outside input_new output_new) fault
+  ran disk by words keys old between new input input_new output output_new p script found start sealing fault later opened seen durable stood before opens begun found_so s = record {
     records = s.records;
     reported = s.reported;
     went = went_of disk by words keys old new (outside input output) (outside input_new output_new) s.records fault (record {
@@ -115,7 +116,7 @@ module _ (store : StoreKind) (quiet : IsQuiet store) where
       opened = opened;
       between = between;
       is_served = s.is_served;
-      cause = cause_since keys p found (shapes (calls s.is_served.served.acts)) (length s.records) (disk old) (disk between) (disk new) output output_new later fault s.cause;
+      cause = cause_since keys p found s.traced.behind (shapes (calls s.is_served.served.acts)) (length s.records) (disk old) (disk between) (disk new) output output_new later fault s.cause;
       events = s.events;
       traced = s.traced;
       seen = joined (begin_events store p found start) s.events (disk old).seen (disk between).seen (disk new).seen seen s.seen;
@@ -126,5 +127,7 @@ module _ (store : StoreKind) (quiet : IsQuiet store) where
       left = λ at tells stands all. let (told, settled) = durable tells in
           left_both disk keys (disk old) (disk between) (disk new) p found at script s.records fault (before at tells stands all) (s.left at told settled (stood at tells stands));
       lives = whole_lives disk keys old between new sealing (map (λ s. s.1) (calls s.is_served.served.acts)) s.goes begun s.lives;
+      opens_life = found_so;
+      goes_on = s.goes_on;
     });
   }

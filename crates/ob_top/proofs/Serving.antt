@@ -30,6 +30,7 @@ use Rattle.ob_serial.specs.Vaults.{Standing, StandsIn, VaultCall, Fetch, End, Va
 use Rattle.ob_serial.specs.VaultKinds.{Kind, Called, AllCalled, ended_of, ended_by}
 use Rattle.ob_kinds.specs.Phases.{Shape, Fetches, Ends, answered, events_of_phases, shape_of, shapes, refused}
 use Rattle.ob_kinds.specs.Kinds.{StoreKind, IsOpenedAt, opened_with}
+use Rattle.ob_kinds.specs.Lives.{LifeWords}
 use Rattle.ob_kinds.specs.Shown.{AreDrawn, IsSeenCut, public_behind, steps_phases}
 use Rattle.ob_kinds.specs.Steps.{IsAnsweredCall, Stops, IsCallOfKind}
 use Rattle.ob_kinds.specs.Laws.{AllAnswered}
@@ -81,7 +82,11 @@ all_answered ((End writes, DoubtBy fault) ∷ steps) are = absurd are
 module _ {V S : Type 0} (k : Kind V) (store : StoreKind) (disk : S → Disk) (store_of : V → S) (under : Keys) (p : Params) (found : store.Found) (start : V) (At : store.Public → store.Hidden → List Shape → ℕ → V → Type 0) (tape_of : V → List ℕ)
     (does : (q : store.Public) (h : store.Hidden) (so_far : List Shape) (n : ℕ) (v : V) (call : VaultCall) (answer : VaultAnswer) (w : V) → At q h so_far n v → Called k v call answer w
     → IsCallOfKind store under p found (disk (store_of start)) At (disk (store_of v)) (disk (store_of w)) (tape_of w) w q h so_far n call answer)
-    (tells : (q : store.Public) (h : store.Hidden) (so_far : List Shape) (n : ℕ) (v : V) → At q h so_far n v → store.is_of_tape h (tape_of v)) where
+    (tells : (q : store.Public) (h : store.Hidden) (so_far : List Shape) (n : ℕ) (v : V) → At q h so_far n v → store.is_of_tape h (tape_of v)) (life : LifeWords store)
+    (at_rest : (calls : List VaultCall) (taken : List (Shape × store.Drawn)) (q : store.Public) (h : store.Hidden) (so_far : List Shape) (n : ℕ) (v : V) → AreDrawn store p (store.hidden p found) calls taken h → At q h so_far n v
+    → life.goes_on under p found (disk (store_of start)) calls taken h None (tape_of v) (disk (store_of v)))
+    (at_stop : (calls : List VaultCall) (taken : List (Shape × store.Drawn)) (q : store.Public) (h : store.Hidden) (so_far : List Shape) (n : ℕ) (v : V) → AreDrawn store p (store.hidden p found) calls taken h → At q h so_far n v
+    → (call : VaultCall) (answer : VaultAnswer) (w : V) → Called k v call answer w → life.goes_on under p found (disk (store_of start)) calls taken h (Some call) (tape_of w) (disk (store_of w))) where
   -- Behind calls that were all answered: what they drew, what was seen, and where the vault is.
   pub record Behind (q : store.Public) (h : store.Hidden) (so_far : List Shape) (n : ℕ) (first : V) (steps : List (VaultCall × VaultAnswer)) (last : V) : Type 0 where
     pub taken : List (Shape × store.Drawn)
@@ -157,22 +162,24 @@ module _ {V S : Type 0} (k : Kind V) (store : StoreKind) (disk : S → Disk) (st
 
     -- How it ended, after these calls: why, what was written, and what was seen.
     pub record Ending (asked : List (VaultCall × VaultAnswer)) (fault : Option Fault) : Type 0 where
-      pub cause : EndsFor store under p found (disk (store_of start)) (shapes asked) (length records) (disk (store_of first)) (disk (store_of last)) before after fault
       pub reported : IsReported before after records fault
       pub events : List Event
       pub traced : IsTraced store p (store.public p found) (store.hidden p found) (tape_of last) asked fault events
+      pub cause : EndsFor store under p found (disk (store_of start)) traced.behind (shapes asked) (length records) (disk (store_of first)) (disk (store_of last)) before after fault
       pub seen : Notes events (disk (store_of first)).seen (disk (store_of last)).seen
+      pub goes_on : life.goes_on under p found (disk (store_of start)) (answered asked) traced.steps traced.behind (refused asked) (tape_of last) (disk (store_of last))
 
     none_cut : (q : store.Public) (h : store.Hidden) (one : Option VaultCall) (fault : Option Fault) → one ≡ None → IsSeenCut store p q h one (tape_of last) fault []
     none_cut q h one fault is = subst (λ (o : Option VaultCall). IsSeenCut store p q h o (tape_of last) fault []) (sym is) refl
 
     -- no call was refused
-    ends_alone : (asked : List (VaultCall × VaultAnswer)) → AllCalled k first asked last → AreAnswered asked → (fault : Option Fault) → EndsFor store under p found (disk (store_of start)) (shapes asked) (length records) (disk (store_of first)) (disk (store_of last)) before after fault
+    ends_alone : (asked : List (VaultCall × VaultAnswer)) → AllCalled k first asked last → AreAnswered asked → (fault : Option Fault) → ((h : store.Hidden) → EndsFor store under p found (disk (store_of start)) h (shapes asked) (length records) (disk (store_of first)) (disk (store_of last)) before after fault)
         → IsReported before after records fault → Ending asked fault
     ends_alone asked chain all fault cause reported =
         let b = behind (store.public p found) (store.hidden p found) [] 0 first asked last begun chain all in
+        let none : refused asked ≡ None = answered_not_refused asked (all_answered asked all) in
         record {
-          cause = cause;
+          cause = cause b.kept;
           reported = reported;
           events = events_of_phases (steps_phases store p (store.public p found) b.taken) ++ [];
           traced = record {
@@ -182,9 +189,11 @@ module _ {V S : Type 0} (k : Kind V) (store : StoreKind) (disk : S → Disk) (st
             drawn = b.drawn;
             of_tape = tells (public_behind store p (store.public p found) b.taken) b.kept (shapes asked) (0 + length (ended_of asked)) last b.at;
             more = [];
-            cut = none_cut (public_behind store p (store.public p found) b.taken) b.kept (refused asked) fault (answered_not_refused asked (all_answered asked all));
+            cut = none_cut (public_behind store p (store.public p found) b.taken) b.kept (refused asked) fault none;
             events_are = refl;
           };
+          goes_on = subst (λ (o : Option VaultCall). life.goes_on under p found (disk (store_of start)) (answered asked) b.taken b.kept o (tape_of last) (disk (store_of last))) (sym none)
+              (at_rest (answered asked) b.taken (public_behind store p (store.public p found) b.taken) b.kept (shapes asked) (0 + length (ended_of asked)) last b.drawn b.at);
           seen = subst (λ (l : List Event). Notes l (disk (store_of first)).seen (disk (store_of last)).seen) (sym (append-nil (events_of_phases (steps_phases store p (store.public p found) b.taken)))) b.seen;
         }
 
@@ -194,18 +203,18 @@ module _ {V S : Type 0} (k : Kind V) (store : StoreKind) (disk : S → Disk) (st
 
       -- the vault refused a call
       cause_of : (so_far : List Shape) (n : ℕ) (call : VaultCall) (fault : Fault) (mid : V) (q : store.Public) (h : store.Hidden) → Stops store under p found (disk (store_of start)) (disk (store_of mid)) (disk (store_of last)) (tape_of last) q h so_far n call fault → so_far ≡ so_far → n ≡ length records
-          → (IsStoreFault fault → Rose (k.disk first).faults (k.disk last).faults) → EndsFor store under p found (disk (store_of start)) so_far (length records) (disk (store_of first)) (disk (store_of last)) before after (Some fault)
+          → (IsStoreFault fault → Rose (k.disk first).faults (k.disk last).faults) → EndsFor store under p found (disk (store_of start)) h so_far (length records) (disk (store_of first)) (disk (store_of last)) before after (Some fault)
       cause_of so_far n call (StoreFault unsure) mid q h s same is rose = (rises (rose tt), subst (λ m. (unsure ≡ None) ⊎ (unsure ≡ Some (suc (store.epoch found + m)))) is s.why)
       cause_of so_far n call Memory mid q h s same is rose = tt
       cause_of so_far n call SinkFault mid q h s same is rose = absurd s.why
-      cause_of so_far n call (Worn number) mid q h s same is rose = subst (λ m. store.causes under p found (disk (store_of start)) (disk (store_of last)) so_far m (Worn number)) is s.why
-      cause_of so_far n call Usage mid q h s same is rose = subst (λ m. store.causes under p found (disk (store_of start)) (disk (store_of last)) so_far m Usage) is s.why
-      cause_of so_far n call (BadScript line) mid q h s same is rose = subst (λ m. store.causes under p found (disk (store_of start)) (disk (store_of last)) so_far m (BadScript line)) is s.why
-      cause_of so_far n call (BadParams field) mid q h s same is rose = subst (λ m. store.causes under p found (disk (store_of start)) (disk (store_of last)) so_far m (BadParams field)) is s.why
-      cause_of so_far n call NotStore mid q h s same is rose = subst (λ m. store.causes under p found (disk (store_of start)) (disk (store_of last)) so_far m NotStore) is s.why
-      cause_of so_far n call (Damaged cell check kept computed) mid q h s same is rose = subst (λ m. store.causes under p found (disk (store_of start)) (disk (store_of last)) so_far m (Damaged cell check kept computed)) is s.why
-      cause_of so_far n call (StashFull rows) mid q h s same is rose = subst (λ m. store.causes under p found (disk (store_of start)) (disk (store_of last)) so_far m (StashFull rows)) is s.why
-      cause_of so_far n call SourceFault mid q h s same is rose = subst (λ m. store.causes under p found (disk (store_of start)) (disk (store_of last)) so_far m SourceFault) is s.why
+      cause_of so_far n call (Worn number) mid q h s same is rose = subst (λ m. store.causes under p found (disk (store_of start)) (disk (store_of last)) h so_far m (Worn number)) is s.why
+      cause_of so_far n call Usage mid q h s same is rose = subst (λ m. store.causes under p found (disk (store_of start)) (disk (store_of last)) h so_far m Usage) is s.why
+      cause_of so_far n call (BadScript line) mid q h s same is rose = subst (λ m. store.causes under p found (disk (store_of start)) (disk (store_of last)) h so_far m (BadScript line)) is s.why
+      cause_of so_far n call (BadParams field) mid q h s same is rose = subst (λ m. store.causes under p found (disk (store_of start)) (disk (store_of last)) h so_far m (BadParams field)) is s.why
+      cause_of so_far n call NotStore mid q h s same is rose = subst (λ m. store.causes under p found (disk (store_of start)) (disk (store_of last)) h so_far m NotStore) is s.why
+      cause_of so_far n call (Damaged cell check kept computed) mid q h s same is rose = subst (λ m. store.causes under p found (disk (store_of start)) (disk (store_of last)) h so_far m (Damaged cell check kept computed)) is s.why
+      cause_of so_far n call (StashFull rows) mid q h s same is rose = subst (λ m. store.causes under p found (disk (store_of start)) (disk (store_of last)) h so_far m (StashFull rows)) is s.why
+      cause_of so_far n call SourceFault mid q h s same is rose = subst (λ m. store.causes under p found (disk (store_of start)) (disk (store_of last)) h so_far m SourceFault) is s.why
 
       -- the output doesn't fail a vault's call
       all_reported : (store_fault : Fault) (so_far : List Shape) (n : ℕ) (call : VaultCall) (q : store.Public) (h : store.Hidden) (a b : Disk) → Stops store under p found (disk (store_of start)) a b (tape_of last) q h so_far n call store_fault
@@ -233,9 +242,10 @@ module _ {V S : Type 0} (k : Kind V) (store : StoreKind) (disk : S → Disk) (st
           let q = public_behind store p (store.public p found) b.taken in
           let s = stops q b.kept (shapes front) (0 + length (ended_of front)) mid last b.at one in
           let as_front : shapes (front ++ (call, answer) ∷ []) ≡ shapes front = shapes_join front ((call, answer) ∷ []) ∙ ap (λ (l : List Shape). shapes front ++ l) none ∙ append-nil (shapes front) in
+          let was_cut : refused (front ++ (call, answer) ∷ []) ≡ Some call = refused_last front (call, answer) (all_answered front all) ∙ is in
           let calls_front : answered (front ++ (call, answer) ∷ []) ≡ answered front = answers_join front ((call, answer) ∷ []) ∙ ap (λ (l : List VaultCall). answered front ++ l) none_answered ∙ append-nil (answered front) in
           record {
-            cause = subst (λ (l : List Shape). EndsFor store under p found (disk (store_of start)) l (length records) (disk (store_of first)) (disk (store_of last)) before after (Some fault)) (sym as_front)
+            cause = subst (λ (l : List Shape). EndsFor store under p found (disk (store_of start)) b.kept l (length records) (disk (store_of first)) (disk (store_of last)) before after (Some fault)) (sym as_front)
                 (cause_of (shapes front) (0 + length (ended_of front)) call fault mid q b.kept s refl (none_before (length (ended_of front)) ∙ counted (ended_of front) records wrote) cause);
             reported = all_reported fault (shapes front) (0 + length (ended_of front)) call q b.kept (disk (store_of mid)) (disk (store_of last)) s written;
             events = events_of_phases (steps_phases store p (store.public p found) b.taken) ++ s.more;
@@ -246,9 +256,12 @@ module _ {V S : Type 0} (k : Kind V) (store : StoreKind) (disk : S → Disk) (st
               drawn = subst (λ (l : List VaultCall). AreDrawn store p (store.hidden p found) l b.taken b.kept) (sym calls_front) b.drawn;
               of_tape = s.of_tape;
               more = s.more;
-              cut = subst (λ (o : Option VaultCall). IsSeenCut store p q b.kept o (tape_of last) (Some fault) s.more) (sym (refused_last front (call, answer) (all_answered front all) ∙ is)) s.cut;
+              cut = subst (λ (o : Option VaultCall). IsSeenCut store p q b.kept o (tape_of last) (Some fault) s.more) (sym was_cut) s.cut;
               events_are = refl;
             };
+            goes_on = subst (λ (l : List VaultCall). life.goes_on under p found (disk (store_of start)) l b.taken b.kept (refused (front ++ (call, answer) ∷ [])) (tape_of last) (disk (store_of last))) (sym calls_front)
+                (subst (λ (o : Option VaultCall). life.goes_on under p found (disk (store_of start)) (answered front) b.taken b.kept o (tape_of last) (disk (store_of last))) (sym was_cut)
+                (at_stop (answered front) b.taken q b.kept (shapes front) (0 + length (ended_of front)) mid b.drawn b.at call answer last one));
             seen = joined (events_of_phases (steps_phases store p (store.public p found) b.taken)) s.more _ _ _ b.seen s.seen;
           }
         where
@@ -287,9 +300,9 @@ module _ {V S : Type 0} (k : Kind V) (store : StoreKind) (disk : S → Disk) (st
           told_by act given is tells = same_Some fault given (sym f.told ∙ ap fault_told is ∙ tells)
 
           by_act : (act : Act) → f.act ≡ act → IsReason k (scene d first t) f.front act → AreLines act records before after → Ending (calls acts) (Some fault)
-          by_act (Halts given) is reason lines = its_fault (Halts given) Memory is (ap Some reason) (ends_alone (calls acts) chain (answered_all (Halts given) is refl) (Some Memory) tt lines)
+          by_act (Halts given) is reason lines = its_fault (Halts given) Memory is (ap Some reason) (ends_alone (calls acts) chain (answered_all (Halts given) is refl) (Some Memory) (λ h. tt) lines)
           by_act Unprinted is reason lines = its_fault Unprinted SinkFault is refl
-              (ends_alone (calls acts) chain (answered_all Unprinted is refl) (Some SinkFault) (rose_later before.faults lines.mid.faults after.faults lines.written.later lines.rose) printed)
+              (ends_alone (calls acts) chain (answered_all Unprinted is refl) (Some SinkFault) (λ h. rose_later before.faults lines.mid.faults after.faults lines.written.later lines.rose) printed)
           by_act (DeliverFails keys given) is reason lines = by_last (calls f.front) (Fetch keys) (RefusedBy given) given (told_by (DeliverFails keys given) given is refl) (its_calls (DeliverFails keys given) is) refl
               (λ c w cause. by_fetch (calls f.front) keys given c f.answered w cause lines)
           by_act (FetchFails look batches keys given) is reason lines = by_last (calls f.front ++ rest_fetches batches) (Fetch keys) (RefusedBy given) given (told_by (FetchFails look batches keys given) given is refl)
@@ -305,9 +318,9 @@ module _ {V S : Type 0} (k : Kind V) (store : StoreKind) (disk : S → Disk) (st
           by_act (Publishes writes left told) is reason lines = absurd reason
 
         ending : {U : Type 0} (d e : DeskState) (t u : Trace) (were are : List U) (result : Result (Unit {0}) Fault) → RunEnds k (run_state (scene d first t) were before) (run_state (scene e last u) are after) acts result → Ending (calls acts) (fault_of result)
-        ending d e t u were are (Ok done) (answered, over, written) = ends_alone (calls acts) chain answered None tt (subst (λ (rs : List (EpochRecord ℕ)). IsWritten (report decimal rs) before after) same written)
+        ending d e t u were are (Ok done) (answered, over, written) = ends_alone (calls acts) chain answered None (λ h. tt) (subst (λ (rs : List (EpochRecord ℕ)). IsWritten (report decimal rs) before after) same written)
         ending d e t u were are (Err fault) (inl short) = subst (λ (f : Fault). Ending (calls acts) (Some f)) (sym short.fault_is)
-            (ends_alone (calls acts) chain (subst (λ (xs : List Act). AreAnswered (calls xs)) (sym short.none) tt) (Some Memory) tt
+            (ends_alone (calls acts) chain (subst (λ (xs : List Act). AreAnswered (calls xs)) (sym short.none) tt) (Some Memory) (λ h. tt)
             (subst (λ (f : Flow). IsWritten (report decimal records) before f) (sym short.silent) (subst (λ (rs : List (EpochRecord ℕ)). IsWritten (report decimal rs) before before) (sym (ap records_of_acts short.none) ∙ same) (written_none before))))
         ending d e t u were are (Err fault) (inr f) = by_act d e t u fault f f.act refl f.reason (subst (λ (rs : List (EpochRecord ℕ)). AreLines f.act rs before after) same f.lines)
 
@@ -411,10 +424,17 @@ module _ {V S : Type 0} (k : Kind V) (store : StoreKind) (disk : S → Disk) (st
       ends_with (Err fault) (inl short) = inl (short.fault_is, short.none)
       ends_with (Err fault) (inr f) = inr (f.front, f.act, f.behind, f.acts_are, f.says, f.told)
 
+      -- the trace, what goes on in the life with its steps, and why it ended there
+      abbrev TracesLife : List Act → List Event → Type 0
+      TracesLife xs events = (t : IsTraced store p (store.public p found) (store.hidden p found) (tape_of last) (calls xs) (fault_of result) events)
+          × life.goes_on under p found (disk (store_of start)) (answered (calls xs)) t.steps t.behind (refused (calls xs)) (tape_of last) (disk (store_of last))
+          × EndsFor store under p found (disk (store_of start)) t.behind (shapes (calls xs)) (length records) (disk (store_of start)) (disk (store_of last)) before after (fault_of result)
+
       -- what serving does
-      pub serves : At (store.public p found) (store.hidden p found) [] 0 start → ServedOver store disk (manner beat threads) under p found sealing script (tape_of last) (store_of start) (store_of last) before after (fault_of result)
+      pub serves : At (store.public p found) (store.hidden p found) [] 0 start → ServedOver store life disk (manner beat threads) under p found sealing script (tape_of last) (store_of start) (store_of last) before after (fault_of result)
       serves begun =
           let e = ending start last before after records begun l.faults acts refl chain d.wrote d.printed base end.scene.desk trace end.scene.trace runners end.runners result d.ends in
+          let told = subst (λ (xs : List Act). TracesLife xs e.events) acts_are (e.traced, e.goes_on, e.cause) in
           record {
             records = records;
             is_served = record {
@@ -426,14 +446,15 @@ module _ {V S : Type 0} (k : Kind V) (store : StoreKind) (disk : S → Disk) (st
                   (subst (λ (xs : List Act). Run m base (history xs) (contents m records) end.scene.desk) acts_are (d.serial m (l.holds m of)).0);
               one_by_one = λ m of. d.one_by_one m (l.holds m of);
             };
-            cause = subst (λ (xs : List Act). EndsFor store under p found (disk (store_of start)) (shapes (calls xs)) (length records) (disk (store_of start)) (disk (store_of last)) before after (fault_of result)) acts_are e.cause;
+            cause = told.2;
             reported = e.reported;
             events = e.events;
-            traced = subst (λ (xs : List Act). IsTraced store p (store.public p found) (store.hidden p found) (tape_of last) (calls xs) (fault_of result) e.events) acts_are e.traced;
+            traced = told.0;
             seen = e.seen;
             goes = l.goes start last (goes_all k start (calls acts) d.notes last d.chain);
             left = left;
             lives = subst (λ (xs : List Act). LivesBehind disk under sealing (store_of start) (store_of last) (map (λ s. s.1) (calls xs))) acts_are (l.lives last (calls acts) chain);
+            goes_on = told.1;
           }
 
   -- the same, from the epoch and the batches left that the vault tells
@@ -444,7 +465,7 @@ module _ {V S : Type 0} (k : Kind V) (store : StoreKind) (disk : S → Disk) (st
       → map kind.client runners ≡ script.clients → All (λ u. kind.plan u ≡ asks_by (kind.client u) script.txns) runners → epoch ≡ store.epoch found → left ≡ store.left p found
       → RunsBy threads k kind beat (run_state (scene (new_desk (record { params = p }) (suc epoch) left script.clients) start trace) runners before) end result
       → IsLender sealing → At (store.public p found) (store.hidden p found) [] 0 start
-      → ServedOver store disk (manner beat threads) under p found sealing script (tape_of end.scene.vault) (store_of start) (store_of end.scene.vault) before end.output (fault_of result)
+      → ServedOver store life disk (manner beat threads) under p found sealing script (tape_of end.scene.vault) (store_of start) (store_of end.scene.vault) before end.output (fault_of result)
   serves_on beat threads kind means sealing script sound may trace runners before end result epoch left named planned epoch_is left_is run l begun =
       let run_is = subst (λ n. RunsBy threads k kind beat (run_state (scene (new_desk (record { params = p }) (suc (store.epoch found)) n script.clients) start trace) runners before) end result) left_is
       (subst (λ e. RunsBy threads k kind beat (run_state (scene (new_desk (record { params = p }) (suc e) left script.clients) start trace) runners before) end result) epoch_is run) in
@@ -452,6 +473,6 @@ module _ {V S : Type 0} (k : Kind V) (store : StoreKind) (disk : S → Disk) (st
       serves beat threads kind means sealing script sound may trace runners before end result named planned acts d (subst (λ numbers. AreShaped threads numbers acts) named shaped) l begun
 
 -- the same by other names
-pub renamed : (store : StoreKind) {S : Type 0} (disk : S → Disk) (by : Manner) (keys : Keys) (p : Params) (found : store.Found) (was sealing : Sealing) (script : Scripts) (given words : List ℕ) (a old b new : S) (before after : Flow) (fault : Option Fault)
-    → was ≡ sealing → given ≡ words → a ≡ old → new ≡ b → ServedOver store disk by keys p found was script given a b before after fault → ServedOver store disk by keys p found sealing script words old new before after fault
-renamed store disk by keys p found was sealing script given words a old b new before after fault sealing_is words_are old_is new_is s = rw (← sealing_is, ← words_are, ← old_is, new_is) s
+pub renamed : (store : StoreKind) (life : LifeWords store) {S : Type 0} (disk : S → Disk) (by : Manner) (keys : Keys) (p : Params) (found : store.Found) (was sealing : Sealing) (script : Scripts) (given words : List ℕ) (a old b new : S) (before after : Flow) (fault : Option Fault)
+    → was ≡ sealing → given ≡ words → a ≡ old → new ≡ b → ServedOver store life disk by keys p found was script given a b before after fault → ServedOver store life disk by keys p found sealing script words old new before after fault
+renamed store life disk by keys p found was sealing script given words a old b new before after fault sealing_is words_are old_is new_is s = rw (← sealing_is, ← words_are, ← old_is, new_is) s

@@ -16,18 +16,21 @@ use Rattle.ob_store.specs.Calls.{NotesFirst}
 use Rattle.ob_pads.specs.Lives.{IsFormattedStore}
 use Rattle.ob_kinds.specs.Kinds.{StoreKind}
 use Rattle.ob_kinds.specs.Formats.{MakesEmpty}
+use Rattle.ob_kinds.specs.Lives.{LifeWords}
 use Rattle.ob_top.specs.Outside.{Outside}
 
 -- An empty store was made, and a life of it begins.
-pub record IsFormatted (store : StoreKind) {S : Type 0} (disk : S → Disk) (keys : Keys) (p : Params) (old new : S) : Type 0 where
+pub record IsFormatted (store : StoreKind) (life : LifeWords store) {S : Type 0} (disk : S → Disk) (keys : Keys) (p : Params) (old new : S) : Type 0 where
   pub made : MakesEmpty store keys p (disk old) (disk new)
   pub begins : (disk old).tells → (disk old).leaves → IsFormattedStore disk keys new
+  -- each image that a crash leaves stands for a life that begins
+  pub begins_life : (disk old).tells → life.formatted keys p (disk new)
 
-module _ (store : StoreKind) {S : Type 0} (disk : S → Disk) where
+module _ (store : StoreKind) (life : LifeWords store) {S : Type 0} (disk : S → Disk) where
   -- How it ends. Its line tells how many cells the store has.
   abbrev pub FormatEnds : Keys → Params → S → S → Flow → Flow → Option Fault → Type 0
-  FormatEnds keys p old new before after None = IsFormatted store disk keys p old new × (after.bytes ≡ appended before.bytes (size_line (store.cells p)))
-  FormatEnds keys p old new before after (Some SinkFault) = IsFormatted store disk keys p old new × Rose before.faults after.faults × IsPrinted before after (size_line (store.cells p))
+  FormatEnds keys p old new before after None = IsFormatted store life disk keys p old new × (after.bytes ≡ appended before.bytes (size_line (store.cells p)))
+  FormatEnds keys p old new before after (Some SinkFault) = IsFormatted store life disk keys p old new × Rose before.faults after.faults × IsPrinted before after (size_line (store.cells p))
   FormatEnds keys p old new before after (Some (StoreFault unsure)) =
       (unsure ≡ None) × Rose (disk old).faults (disk new).faults × NotesFirst (store.format_order p) (disk old).seen (disk new).seen × (after ≡ before)
   FormatEnds keys p old new before after (Some fault) = store.format_fault fault × (new ≡ old) × (after ≡ before)
@@ -35,8 +38,8 @@ module _ (store : StoreKind) {S : Type 0} (disk : S → Disk) where
   -- What stands in the output, and the store: behind the whole line; where the line failed; where the store did; and where nothing was
   -- done.
   abbrev pub FormatTold : Keys → Params → S → S → Flow → Flow → Option Fault → Type 0
-  FormatTold keys p old new before after None = IsFormatted store disk keys p old new × (after.bytes ≡ appended before.bytes (size_line (store.cells p)))
-  FormatTold keys p old new before after (Some SinkFault) = IsFormatted store disk keys p old new × Rose before.faults after.faults × IsPrinted before after (size_line (store.cells p))
+  FormatTold keys p old new before after None = IsFormatted store life disk keys p old new × (after.bytes ≡ appended before.bytes (size_line (store.cells p)))
+  FormatTold keys p old new before after (Some SinkFault) = IsFormatted store life disk keys p old new × Rose before.faults after.faults × IsPrinted before after (size_line (store.cells p))
   FormatTold keys p old new before after (Some (StoreFault unsure)) =
       (unsure ≡ None) × Rose (disk old).faults (disk new).faults × NotesFirst (store.format_order p) (disk old).seen (disk new).seen × IsPrinted before after (fault_line (Some (StoreFault None)))
   FormatTold keys p old new before after (Some fault) = store.format_fault fault × (new ≡ old) × IsPrinted before after (fault_line (Some fault))

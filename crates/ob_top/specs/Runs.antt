@@ -21,6 +21,7 @@ use Rattle.ob_serial.specs.Serial.{EpochRecord, Map, OneByOne, AreInOrder, commi
 use Rattle.ob_serial.specs.Vaults.{VaultCall, VaultAnswer, VaultState, Standing, StandsIn}
 use Rattle.ob_pads.specs.Lives.{Opens, LivesOn}
 use Rattle.ob_kinds.specs.Phases.{Reads, Shape, answered, events_of_phases, shapes, refused}
+use Rattle.ob_kinds.specs.Lives.{LifeWords}
 use Rattle.ob_kinds.specs.Openings.{OpensStanding}
 use Rattle.ob_kinds.specs.Kinds.{StoreKind, Stands, AllStand, StandsAsBefore, IsOpenedAt, opened_with}
 use Rattle.ob_kinds.specs.Shown.{AreDrawn, IsSeenCut, public_behind, steps_phases}
@@ -40,9 +41,9 @@ use Rattle.ob_top.specs.Outside.{Outside}
 abbrev pub begin_events : (store : StoreKind) → Params → store.Found → store.Start → List Event
 begin_events store p found start = events_of_phases (Reads (0 ∷ []) ∷ store.opens p found start)
 
--- What is seen of serving: the phases of the vault's calls, and of one that was refused a front. It depends on the parameters, on what is
--- public of the vault, on how the calls follow one another, and on what they draw; on no key, no value and no write. What they draw is, call
--- by call, what is to be drawn behind the calls before it; and its words are the first of those that the tape has given.
+-- What is seen of serving: the phases of the vault's calls, and of one that was refused what its fault allows. It depends on the parameters,
+-- on what is public of the vault, on how the calls follow one another, and on what they draw; on no key, no value and no write. What they
+-- draw is, call by call, what is to be drawn behind the calls before it; and its words are the first of those that the tape has given.
 pub record IsTraced (store : StoreKind) (p : Params) (q : store.Public) (h : store.Hidden) (words : List ℕ) (asked : List (VaultCall × VaultAnswer)) (fault : Option Fault) (events : List Event) : Type 0 where
   pub steps : List (Shape × store.Drawn)
   pub shapes_are : map (λ s. s.0) steps ≡ shapes asked
@@ -67,7 +68,7 @@ IsInputRefused keys before after SourceFault = Rose before.faults after.faults
 IsInputRefused keys before after (BadScript line) = (input : List ℕ) × IsInput before.bytes limit input × IsFirstBad keys input line
 IsInputRefused keys before after _ = ⊥
 
-module _ (store : StoreKind) (keys : Keys) (old new : Disk) where
+module _ (store : StoreKind) (life : LifeWords store) (keys : Keys) (old new : Disk) where
   -- The head was refused: all that was done is to read it.
   pub record StopsAtHead (before after : Flow) (fault : Fault) : Type 0 where
     pub untouched : after ≡ before
@@ -105,6 +106,8 @@ module _ (store : StoreKind) (keys : Keys) (old new : Disk) where
     -- each image that a crash leaves stands as one did before; and from the first sync on for what the store stood for
     pub left : (at : Standing) → old.tells → Stands store keys p old.cells at → AllStand store keys p old → LeavesOnly old new (StandsAsBefore store keys p old)
     pub opens : Passes Same old new ⊎ OpensStanding store disk keys p old new
+    -- some of an opening's acts were made, in each life that the cells stood for
+    pub stops_life : old.tells → life.stops keys p old new
 
   -- Nothing was run: the head, the input or the opening was refused.
   abbrev pub EndsEarly : {S : Type 0} → (S → Disk) → Flow → Flow → Fault → Type 0
@@ -119,13 +122,13 @@ pub record IsOpened (store : StoreKind) (keys : Keys) (old : Disk) (before : Flo
   pub starts : old.tells → store.starts keys p old.cells found start
 
 -- Why serving ended: the script did; memory was wanting; the output failed; the store failed, perhaps at the last write or sync of the
--- end of the epoch behind n; or the vault refused for a cause of its kind, behind calls of these shapes.
-abbrev pub EndsFor : (store : StoreKind) → Keys → Params → store.Found → (opened : Disk) → List Shape → ℕ → Disk → Disk → Flow → Flow → Option Fault → Type 0
-EndsFor store keys p found opened behind n old new before after None = Unit {0}
-EndsFor store keys p found opened behind n old new before after (Some Memory) = Unit {0}
-EndsFor store keys p found opened behind n old new before after (Some SinkFault) = Rose before.faults after.faults
-EndsFor store keys p found opened behind n old new before after (Some (StoreFault unsure)) = Rose old.faults new.faults × ((unsure ≡ None) ⊎ (unsure ≡ Some (suc (store.epoch found + n))))
-EndsFor store keys p found opened behind n old new before after (Some fault) = store.causes keys p found opened new behind n fault
+-- end of the epoch behind n; or the vault refused for a cause of its kind, from what was hidden behind calls of these shapes.
+abbrev pub EndsFor : (store : StoreKind) → Keys → Params → store.Found → (opened : Disk) → store.Hidden → List Shape → ℕ → Disk → Disk → Flow → Flow → Option Fault → Type 0
+EndsFor store keys p found opened h behind n old new before after None = Unit {0}
+EndsFor store keys p found opened h behind n old new before after (Some Memory) = Unit {0}
+EndsFor store keys p found opened h behind n old new before after (Some SinkFault) = Rose before.faults after.faults
+EndsFor store keys p found opened h behind n old new before after (Some (StoreFault unsure)) = Rose old.faults new.faults × ((unsure ≡ None) ⊎ (unsure ≡ Some (suc (store.epoch found + n))))
+EndsFor store keys p found opened h behind n old new before after (Some fault) = store.causes keys p found opened new h behind n fault
 
 -- How serving ended. Without a fault each client has signed off, nothing waits, and the desk isn't stopped; else the driver's last act,
 -- behind which there are clients' turns alone, tells of the fault, or nothing was done for want of memory.
@@ -224,20 +227,21 @@ abbrev pub LivesBehind : {S : Type 0} → (S → Disk) → Keys → Sealing → 
 LivesBehind {S} disk keys sealing opened new answers = (old : S) → ((disk opened).tells → Opens keys (disk old) (disk opened) sealing) → (disk new).tells → LivesOn disk keys old new answers
 
 -- What serving does to the store and the output; behind it the tape has given these words.
-pub record ServedOver (store : StoreKind) {S : Type 0} (disk : S → Disk) (by : Manner) (keys : Keys) (p : Params) (found : store.Found) (sealing : Sealing) (script : Scripts) (words : List ℕ) (old new : S) (before after : Flow) (fault : Option Fault) : Type 0 where
+pub record ServedOver (store : StoreKind) (life : LifeWords store) {S : Type 0} (disk : S → Disk) (by : Manner) (keys : Keys) (p : Params) (found : store.Found) (sealing : Sealing) (script : Scripts) (words : List ℕ) (old new : S) (before after : Flow) (fault : Option Fault) : Type 0 where
   pub records : List (EpochRecord ℕ)
   pub is_served : ScriptServed store by keys p (disk old) found script records fault
-  pub cause : EndsFor store keys p found (disk old) (shapes (calls is_served.served.acts)) (length records) (disk old) (disk new) before after fault
   pub reported : IsReported before after records fault
   pub events : List Event
   pub traced : IsTraced store p (store.public p found) (store.hidden p found) words (calls is_served.served.acts) fault events
+  pub cause : EndsFor store keys p found (disk old) traced.behind (shapes (calls is_served.served.acts)) (length records) (disk old) (disk new) before after fault
   pub seen : Notes events (disk old).seen (disk new).seen
   pub goes : GoesOn (disk old) (disk new)
   pub left : (at : Standing) → (disk old).tells → IsSynced (disk old) → IsOpenedAt store keys p at found (disk old) → IsLeftOnDisk store keys p found at script records fault disk (disk old) (disk new)
   pub lives : LivesBehind disk keys sealing old new (map (λ s. s.1) (calls is_served.served.acts))
+  pub goes_on : life.goes_on keys p found (disk old) (answered (calls is_served.served.acts)) traced.steps traced.behind (refused (calls is_served.served.acts)) words (disk new)
 
 -- behind the run the tape has given these words of its generation
-module _ (store : StoreKind) {S : Type 0} (disk : S → Disk) (by : Manner) (words : List ℕ) where
+module _ (store : StoreKind) (life : LifeWords store) {S : Type 0} (disk : S → Disk) (by : Manner) (words : List ℕ) where
   -- The script was run, whole or up to a fault.
   pub record Ran (keys : Keys) (old new : S) (before after : Outside) (records : List (EpochRecord ℕ)) (fault : Option Fault) : Type 0 where
     pub p : Params
@@ -248,10 +252,10 @@ module _ (store : StoreKind) {S : Type 0} (disk : S → Disk) (by : Manner) (wor
     -- the store as it was once it was opened, before the first transaction was run
     pub between : S
     pub is_served : ScriptServed store by keys p (disk between) found script records fault
-    pub cause : EndsFor store keys p found (disk between) (shapes (calls is_served.served.acts)) (length records) (disk old) (disk new) before.output after.output fault
     -- the trace is that of the opening, and then that of the vault's calls
     pub events : List Event
     pub traced : IsTraced store p (store.public p found) (store.hidden p found) words (calls is_served.served.acts) fault events
+    pub cause : EndsFor store keys p found (disk between) traced.behind (shapes (calls is_served.served.acts)) (length records) (disk old) (disk new) before.output after.output fault
     pub seen : Notes (begin_events store p found start ++ events) (disk old).seen (disk new).seen
     pub opening_seen : Notes (begin_events store p found start) (disk old).seen (disk between).seen
     pub serving_seen : Notes events (disk between).seen (disk new).seen
@@ -263,12 +267,16 @@ module _ (store : StoreKind) {S : Type 0} (disk : S → Disk) (by : Manner) (wor
         → LeftByWholeRun store keys p found at script records fault disk (disk old) (disk between) (disk new)
     -- The head's read, the opening and the vault's calls, with their answers, are a run in the life of the store.
     pub lives : (disk new).tells → LivesOn disk keys old new (map (λ s. s.1) (calls is_served.served.acts))
+    -- What is shown is a part of one life of the store: each life that the cells stood for goes on with the opening's acts to where this was
+    -- found, and from there with those of the vault's calls, which show what fills the trace's holes, to where the store is left.
+    pub opens_life : (disk old).tells → life.begins keys p (disk old).cells found
+    pub goes_on : life.goes_on keys p found (disk between) (answered (calls is_served.served.acts)) traced.steps traced.behind (refused (calls is_served.served.acts)) words (disk new)
 
   -- The run ended early, and nothing was run: no vault's call is in the store's life. Or the script was run.
   abbrev pub Went : Keys → S → S → Outside → Outside → List (EpochRecord ℕ) → Option Fault → Type 0
   Went keys old new before after records None = Ran keys old new before after records None
   Went keys old new before after records (Some fault) =
-      ((records ≡ []) × EndsEarly store keys (disk old) (disk new) disk before.input after.input fault × ((disk new).tells → LivesOn disk keys old new [])) ⊎ Ran keys old new before after records (Some fault)
+      ((records ≡ []) × EndsEarly store life keys (disk old) (disk new) disk before.input after.input fault × ((disk new).tells → LivesOn disk keys old new [])) ⊎ Ran keys old new before after records (Some fault)
 
   -- What it comes to before the fault's line is written.
   pub record RunOn (keys : Keys) (old new : S) (before after : Outside) (fault : Option Fault) : Type 0 where

@@ -19,6 +19,7 @@ use Rattle.ob_top.specs.Outside.{Outside, Left, OfStore, IsOnlyTold}
 use Rattle.ob_top.specs.Audits.{AuditDone}
 use Rattle.ob_top.specs.Formats.{FormatEnds, FormatDone}
 use Rattle.ob_ring_kind.specs.RingKind.{ring_kind}
+use Rattle.ob_ring_shown.specs.Lives.{ring_lives}
 use Rattle.ob_top.specs.Runs.{manner, RunOn, RunDone}
 
 -- The words ask for something over a store, and the numbers are in range.
@@ -37,9 +38,9 @@ IsRefusedWithout words text fault = IsRefusedBefore words text fault ⊎ (AskFor
 abbrev pub CommandDoes : {S : Type 0} → (S → Disk) → BeatKind → (drawn : List ℕ) → List (List ℕ) → Option (Bor (List ℕ)) → S → S → Outside → Outside → Option Fault → Type 0
 CommandDoes disk beat drawn words text old new before after fault =
     ((f : Fault) × (fault ≡ Some f) × IsRefusedBefore words text f × (new ≡ old) × (after ≡ before))
-    ⊎ ((keys : Keys) × HasKeys text keys × (((p : Params) × Asks words (Format p) × FormatEnds ring_kind disk keys p old new before.output after.output fault
+    ⊎ ((keys : Keys) × HasKeys text keys × (((p : Params) × Asks words (Format p) × FormatEnds ring_kind ring_lives disk keys p old new before.output after.output fault
     × ((disk old).tells → LeavesOnly (disk old) (disk new) (ring_kind.format_leaves keys p (disk old))) × (after.input ≡ before.input))
-    ⊎ ((k : ℕ) × (turns : Bool) × Asks words (Run k turns) × RunOn ring_kind disk (manner beat (not turns)) drawn keys old new before after fault)))
+    ⊎ ((k : ℕ) × (turns : Bool) × Asks words (Run k turns) × RunOn ring_kind ring_lives disk (manner beat (not turns)) drawn keys old new before after fault)))
 
 module _ {S : Type 0} (disk : S → Disk) (beat : BeatKind) (words : List (List ℕ)) (text : Option (Bor (List ℕ))) (entry : Option (MutBor S)) (exit : Left S) (before after : Outside) (status : ℕ) where
   -- a store that was handed in is as it was
@@ -70,7 +71,7 @@ module _ {S : Type 0} (disk : S → Disk) (beat : BeatKind) (words : List (List 
       Refuses Memory
       ⊎ (((field : Field) × IsBadNumber numbers field × Refuses (BadParams field))
       ⊎ ((p : Params) × AreParams numbers p × (KeysDo
-      ⊎ ((keys : Keys) × HasKeys text keys × OfStore entry exit (IsOnlyTold (StoreFault None) before after status) (λ old new. FormatDone ring_kind disk keys p old new before after status)))))
+      ⊎ ((keys : Keys) × HasKeys text keys × OfStore entry exit (IsOnlyTold (StoreFault None) before after status) (λ old new. FormatDone ring_kind ring_lives disk keys p old new before after status)))))
 
   -- `run`: want of memory for the words is told, then lanes out of their range, then what is wrong with the keys, then that there is no
   -- store, before anything is touched. With `--turns` all clients are made by hand. Behind it the tape has given these words.
@@ -79,4 +80,4 @@ module _ {S : Type 0} (disk : S → Disk) (beat : BeatKind) (words : List (List 
       Refuses Memory
       ⊎ ((AreBadLanes lanes × Refuses (BadParams LANES))
       ⊎ ((k : ℕ) × AreLanes lanes k × (KeysDo
-      ⊎ ((keys : Keys) × HasKeys text keys × OfStore entry exit (IsOnlyTold (StoreFault None) before after status) (λ old new. RunDone ring_kind disk (manner beat (not turns)) drawn keys old new before after status)))))
+      ⊎ ((keys : Keys) × HasKeys text keys × OfStore entry exit (IsOnlyTold (StoreFault None) before after status) (λ old new. RunDone ring_kind ring_lives disk (manner beat (not turns)) drawn keys old new before after status)))))

@@ -5,6 +5,7 @@ ghost use Rattle.ob_io.specs.Streams.{outflow};
 ghost use Rattle.ob_store.specs.Images.{LeavesOnly};
 ghost use Rattle.ob_store.specs.Calls.{GoesOn};
 ghost use Rattle.ob_ring_kind.specs.RingKind.{ring_kind};
+ghost use Rattle.ob_ring_shown.specs.Lives.{ring_lives};
 ghost use Rattle.ob_top.specs.Formats.{FormatEnds};
 ghost use Rattle.ob_top.specs.Runs.{fault_of};
 
@@ -35,7 +36,7 @@ pub fn format_on<S: Store, T: Tape, O: Sink>(
     requires unstarted { T.present tape.old ≡ 0 }
     ensures goes { GoesOn (S.disk store.old) (S.disk store.new) }
     ensures none_out { (S.disk store.new).out ≡ 0 }
-    ensures ends { FormatEnds ring_kind S.disk keys.now params.now store.old store.new
+    ensures ends { FormatEnds ring_kind ring_lives S.disk keys.now params.now store.old store.new
         (outflow O.Sink output.old) (outflow O.Sink output.new) (fault_of result) }
     ensures left { (S.disk store.old).tells
         → LeavesOnly (S.disk store.old) (S.disk store.new)

@@ -11,6 +11,7 @@ ghost use Rattle.ob_kinds.specs.Openings.{OpensStanding};
 ghost use Rattle.ob_kinds.specs.Kinds.{Stands, AllStand, StandsAsBefore};
 ghost use Rattle.ob_recover.specs.declared.found.Found.{Found};
 ghost use Rattle.ob_ring_kind.specs.RingKind.{GoesOnFrom, RingFound, ring_kind};
+ghost use Rattle.ob_ring_shown.specs.Lives.{ring_lives};
 ghost use Rattle.ob_ring_vault.specs.RingVaults.{HasPlanned, run_over};
 ghost use Rattle.ob_top.specs.Begun.{IsBegun, MayServe};
 ghost use Rattle.ob_desk.specs.Desk.{DeskState, MayOpen, new_desk};
@@ -100,7 +101,7 @@ fn begin<S: Store, T: Tape, I: Source>(
         × IsBegun keys.now begun.params begun.scripts (S.disk store.old) (S.disk store.new)
         (inflow I.Source input.old) f) }
     ensures refused { IfErr result
-        (λ fault. EndsEarly ring_kind keys.now (S.disk store.old) (S.disk store.new) S.disk
+        (λ fault. EndsEarly ring_kind ring_lives keys.now (S.disk store.old) (S.disk store.new) S.disk
         (inflow I.Source input.old) (inflow I.Source input.new) fault) }
     ensures opens { IfOk result (λ begun. IsReadAndOpened S.disk keys.now store.old store.new
         begun.opening.sealer) }
@@ -212,7 +213,7 @@ fn serve_on<R: Threads + Wait + Sync, S: Store, T: Tape, O: Sink, B: Beat>(
     ensures none_out { (S.disk store.new).out ≡ 0 }
     ensures serves { (f : RingFound) (found : Found) → f.run ≡ run_over begun.opening
         → GoesOnFrom keys.now begun.params found f → HasPlanned f.run f.content f.records
-        → ServedOver ring_kind S.disk (manner (beat_kind B.passes B.exact) threads) keys.now
+        → ServedOver ring_kind ring_lives S.disk (manner (beat_kind B.passes B.exact) threads) keys.now
         begun.params f begun.opening.sealer begun.scripts (T.drawn tape.new) store.old store.new
         (outflow O.Sink output.old) (outflow O.Sink output.new) (fault_of result) }
 {
@@ -260,7 +261,7 @@ pub fn run_on<R: Threads + Wait + Sync, S: Store, T: Tape, I: Source, O: Sink, B
     requires unstarted { T.present tape.old ≡ 0 }
     ensures goes { GoesOn (S.disk store.old) (S.disk store.new) }
     ensures none_out { (S.disk store.new).out ≡ 0 }
-    ensures done { RunOn ring_kind S.disk (manner (beat_kind B.passes B.exact) threads)
+    ensures done { RunOn ring_kind ring_lives S.disk (manner (beat_kind B.passes B.exact) threads)
         (T.drawn tape.new) keys.now store.old store.new
         (outside (inflow I.Source input.old) (outflow O.Sink output.old))
         (outside (inflow I.Source input.new) (outflow O.Sink output.new))

@@ -15,4 +15,6 @@ mod fixture;
 #[cfg(test)]
 mod noting;
 #[cfg(test)]
+mod refused;
+#[cfg(test)]
 mod shown;

@@ -1,7 +1,7 @@
 //! What calls do to their store, event by event, on new stores and behind crashes.
 
 use crate::events::{
-    AGAIN, FIRST_BATCH, FIRST_RECORD, FORMATTED, LATER_READS, LEAF_ONE, OPENED, REFILL,
+    AGAIN, FIRST_BATCH, FIRST_RECORD, FORMATTED, LATER_READS, LEAF_ONE, OPENED, REFILL, REGISTER,
     SECOND_EPOCH, SECOND_RECORD,
 };
 use crate::fixture::{Call, FORMAT, expect_on, formatted, left_after, run_of};
@@ -26,7 +26,7 @@ fn line_of<R: AllocGlobal + Abort>(rt: &R, event: &Event) -> String {
 }
 
 // Asserts that a store was asked for just these parts, one behind the other.
-fn compare_events<R: AllocGlobal + Abort>(rt: &R, noting: &Noting, parts: &[&str]) {
+pub fn compare_events<R: AllocGlobal + Abort>(rt: &R, noting: &Noting, parts: &[&str]) {
     assert!(rt; !noting.lost);
     let mut shown = String::new(rt.alloc());
     for event in &noting.events {
@@ -97,6 +97,7 @@ const ROWS: [Row; 8] = [
             SECOND_RECORD,
             LATER_READS,
             REFILL,
+            REGISTER,
         ],
     ),
     (
@@ -112,6 +113,7 @@ const ROWS: [Row; 8] = [
             SECOND_RECORD,
             LATER_READS,
             REFILL,
+            REGISTER,
             SECOND_EPOCH,
         ],
     ),
@@ -128,6 +130,7 @@ const ROWS: [Row; 8] = [
             SECOND_RECORD,
             LATER_READS,
             REFILL,
+            REGISTER,
             LEAF_ONE,
         ],
     ),
@@ -137,7 +140,14 @@ const ROWS: [Row; 8] = [
         &[],
         EMPTY,
         NOTHING,
-        &[AGAIN, FIRST_BATCH, SECOND_RECORD, LATER_READS, REFILL],
+        &[
+            AGAIN,
+            FIRST_BATCH,
+            SECOND_RECORD,
+            LATER_READS,
+            REFILL,
+            REGISTER,
+        ],
     ),
     (
         8,
@@ -152,6 +162,7 @@ const ROWS: [Row; 8] = [
             SECOND_RECORD,
             LATER_READS,
             REFILL,
+            REGISTER,
         ],
     ),
     (
@@ -160,7 +171,14 @@ const ROWS: [Row; 8] = [
         &[],
         EMPTY,
         NOTHING,
-        &[AGAIN, FIRST_BATCH, SECOND_RECORD, LATER_READS, REFILL],
+        &[
+            AGAIN,
+            FIRST_BATCH,
+            SECOND_RECORD,
+            LATER_READS,
+            REFILL,
+            REGISTER,
+        ],
     ),
     (
         9,
@@ -168,7 +186,14 @@ const ROWS: [Row; 8] = [
         &[],
         EMPTY,
         NOTHING,
-        &[AGAIN, FIRST_BATCH, SECOND_RECORD, LATER_READS, REFILL],
+        &[
+            AGAIN,
+            FIRST_BATCH,
+            SECOND_RECORD,
+            LATER_READS,
+            REFILL,
+            REGISTER,
+        ],
     ),
     (
         13,
@@ -176,7 +201,7 @@ const ROWS: [Row; 8] = [
         &[],
         "client 1/begin/get 5/commit/",
         FULL,
-        &[AGAIN, FIRST_BATCH, LATER_READS, REFILL],
+        &[AGAIN, FIRST_BATCH, LATER_READS, REFILL, REGISTER],
     ),
 ];
 

@@ -15,14 +15,14 @@ use Rattle.ob_twin.specs.Opening.{GatesAre, is_closed_first}
 use Rattle.ob_twin.specs.Register.{place_of}
 use Rattle.ob_twin.specs.declared.gates.Gates.{Gates}
 use Rattle.ob_ring.specs.Ring.{StandsFor}
-use Rattle.ob_end.specs.EndRuns.{AreEntriesWritten, EndAnswers, EndDamage, EndDoes, EndImages, IfEnded, IsAtContent, IsEndUndamaged, LeadsOn, TakeBucketWords, end_writes, seals_for_end, table_ended, EndDraws}
+use Rattle.ob_end.specs.EndRuns.{AreEntriesWritten, EndAnswers, EndDamage, EndDoes, EndImages, IfEnded, IsAtContent, IsEndUndamaged, LeadsOn, TakeBucketWords, end_err_of, end_writes, seals_for_end, table_ended, EndDraws}
 use Rattle.ob_pads.specs.Seals.{CellsAreSealed}
 use Rattle.ob_end.proofs.ActLaws.{damage_closed, damage_made, end_moments, read_moments, sealed_closed, sealed_from, undamaged_closed}
 use Rattle.ob_end.proofs.CloseLaws.{gates_kept}
 use Rattle.ob_end.proofs.EndCases.{answers_closed, at_spent, gates_at, one_more, read_leaves, does_as, does_closed, does_made, images_closed, images_ended, if_ended, images_refused, ready_spent, seals_closed, seals_ended, serves_closed, serves_ended, draws_closed, draws_made}
 use Rattle.ob_end.proofs.EndStage as stage
-use Rattle.ob_end.proofs.ScheduledEnds.{front_at}
-use Rattle.ob_end.proofs.ToldEnds.{closed_told, cut_short, made_told, reads_are}
+use Rattle.ob_end.proofs.ScheduledEnds.{front_at, lifts_scheduled}
+use Rattle.ob_end.proofs.ToldEnds.{closed_told, cut_short, lifts_as, made_told, reads_are, refused_as}
 use Rattle.ob_end.proofs.ending.end.Goals as goal
 
 pub close_epoch-requires-clause-epoch : goal.close_epoch-requires-clause-epoch
@@ -428,9 +428,15 @@ returns-in-Err-clause-scheduled g c =
     let jobs = lift_jobs run.params run.ring.metas.versions fit.table in
     let cells = lift_cells run.params run.ring.metas.versions fit.table in
     let notes = lift_notes run.params run.ring.metas.versions fit.table in
-    let told = made_told c.args.crew.now.lanes cells notes (reads_are jobs) old.seen mids.seen (g.W.Watch.trace c.args.watch.now) (g.W.Watch.trace c.make_end.new.watch) (end.Before c.in-Err.fault) c.in-Err.fault
-    (c.in-Err.ensures.told run.ring.metas fit.table (seals_none run.ring.metas) fit.stands) in
-    (told.0, told.1, λ content rs from. told.2 (end_notes run.params (public_of_kept run.params content rs run.epoch run.gates) (fills_with_lifts run.params content rs)) (front_at run.params run.sealer.generation run.ring fit.table content rs run.epoch run.gates fit.stands from))
+    let told = made_told c.args.crew.now.lanes cells notes (reads_are jobs) old.seen mids.seen (g.W.Watch.trace c.args.watch.now) (g.W.Watch.trace c.make_end.new.watch) c.in-Err.fault
+    (c.in-Err.ensures.told run.ring.metas fit.table (seals_none run.ring.metas) fit.stands) in (
+      told.0,
+      told.1,
+      λ content rs from.
+          let row = end_notes run.params (public_of_kept run.params content rs run.epoch run.gates) (fills_with_lifts run.params content rs) in
+          lifts_as c.args.crew.now.lanes notes _ row told.0 old.seen mids.seen (Err (end.Before c.in-Err.fault)) (lifts_scheduled run.params run.sealer.generation run.ring fit.table content rs run.epoch run.gates fit.stands from)
+          (told.2 row (front_at run.params run.sealer.generation run.ring fit.table content rs run.epoch run.gates fit.stands from)),
+    )
 
 pub returns-in-Err-close_epoch-clause-scheduled : goal.returns-in-Err-close_epoch-clause-scheduled
 returns-in-Err-close_epoch-clause-scheduled g c =
@@ -456,9 +462,16 @@ returns-in-Err-close_epoch-clause-scheduled g c =
     let one : mid.epoch + 1 ≡ suc run.epoch = (let same : mid.epoch ≡ run.epoch = ap (λ (m : Run). m.epoch) kept in omega (arith, same)) in
     let same_closes : is_closed_first mid.gates.epoch (place_of (mid.epoch + 1)) ≡ closes = ap (λ (m : Run). is_closed_first m.gates.epoch (place_of (m.epoch + 1))) kept ∙ ap (λ n. is_closed_first run.gates.epoch (place_of n)) (one_more run.epoch) in
     let told = cut_short c.args.crew.now.lanes cells notes (reads_are jobs) (end_write_notes mid.ring (suc run.epoch)) closes (suc run.epoch) old.seen mids.seen new.seen
-    (g.W.Watch.trace c.args.watch.now) (g.W.Watch.trace c.make_end.new.watch) (g.W.Watch.trace c.close_epoch.new.watch) (c.in-Ok.ensures.told run.ring.metas fit.table (seals_none run.ring.metas) fit.stands) c.end_err.result c.in-Err-close_epoch.refused
-    (does_as mid.ring mid.ring (mid.epoch + 1) (suc run.epoch) _ closes _ _ _ _ (Err c.in-Err-close_epoch.refused) refl one same_closes c.in-Err-close_epoch.ensures.does) in
-    (told.0, told.1, λ content rs from. told.2 (end_notes run.params (public_of_kept run.params content rs run.epoch run.gates) (fills_with_lifts run.params content rs)) (stage.whole_notes run1 mid old writes words kept ready made low short may content rs from))
+    (g.W.Watch.trace c.args.watch.now) (g.W.Watch.trace c.make_end.new.watch) (g.W.Watch.trace c.close_epoch.new.watch) (c.in-Ok.ensures.told run.ring.metas fit.table (seals_none run.ring.metas) fit.stands) (mid.epoch + 1) c.in-Err-close_epoch.refused c.in-Err-close_epoch.ensures.faults
+    (does_as mid.ring mid.ring (mid.epoch + 1) (suc run.epoch) _ closes _ _ _ _ (Err c.in-Err-close_epoch.refused) refl one same_closes c.in-Err-close_epoch.ensures.does) in (
+      told.0,
+      told.1,
+      λ content rs from.
+          let row = end_notes run.params (public_of_kept run.params content rs run.epoch run.gates) (fills_with_lifts run.params content rs) in
+          refused_as c.args.crew.now.lanes _ row told.0 old.seen new.seen (end_err_of c.in-Err-close_epoch.refused) c.end_err.result (sym c.end_err.ensures)
+          (lifts_as c.args.crew.now.lanes notes _ row told.0 old.seen new.seen (Err (end_err_of c.in-Err-close_epoch.refused)) (lifts_scheduled run.params run.sealer.generation run.ring fit.table content rs run.epoch run.gates fit.stands from)
+          (told.2 row (stage.whole_notes run1 mid old writes words kept ready made low short may content rs from))),
+    )
 
 pub returns-clause-scheduled : goal.returns-clause-scheduled
 returns-clause-scheduled g c =

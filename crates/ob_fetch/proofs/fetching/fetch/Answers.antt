@@ -1,4 +1,8 @@
-use Rattle.std.proofs.Common.{true, ◌<◌, ◌+◌, ◌-◌, ◌%◌, ◌^◌, ℕ, suc, List, [], ◌∷◌, ◌++◌, Option, Ok, Err, refl, ap, sym, subst, ◌∙◌, arith}
+use Rattle.std.proofs.Common.{◌≡◌, true, ◌<◌, ◌+◌, ◌-◌, ◌%◌, ◌^◌, ℕ, suc, List, [], ◌∷◌, ◌++◌, None, Option, Result, Ok, Err, refl, ap, sym, subst, ◌∙◌, arith}
+use Rattle.std.proofs.lemmas.Result.{err_from_is_err_and}
+use Rattle.std.specs.Prelude.{IfErr}
+use Rattle.ob_base.specs.declared.fault.Fault.{Fault}
+use Rattle.ob_base.specs.declared.fault.Fault.TheVariants.{StoreFault}
 use Rattle.ob_base.specs.Layout.{log_cell, record_cells}
 use Rattle.ob_epoch.specs.Table.{buckets_of, flat_of}
 use Rattle.ob_log.specs.Appends.{HoldsRecord, append_notes}
@@ -9,14 +13,14 @@ use Rattle.ob_ring.specs.Ring.{Kept}
 use Rattle.ob_seal.specs.Sealing.{Sealing}
 use Rattle.ob_stand.specs.Stands.{OneOf, with_record}
 use Rattle.ob_store.specs.Disk.{Image}
-use Rattle.ob_ring_trace.proofs.Telling.{front_none}
+use Rattle.ob_ring_trace.proofs.Telling.{row_step}
 use Rattle.ob_store.proofs.Events.{none_noted}
 use Rattle.ob_store.proofs.Showing.{shows_none}
 use Rattle.ob_store.specs.Told.{Tells, TellsFirst}
 use Rattle.ob_tables.specs.Kept.{Held}
 use Rattle.ob_fetch.proofs.AnswerLaws.{item_got}
 use Rattle.ob_fetch.proofs.FetchLaws.{answers_as, answers_refused, begun_leaves, cells_same, does_refused, leaves_none, leaves_read, moves_as, next_is, settled_then, tells_as, within_next, within_then}
-use Rattle.ob_fetch.proofs.ScheduleLaws.{open_begun, open_cut, batch_room, plans_as, plans_more, shown_begun, shown_cut, shown_err, shown_well}
+use Rattle.ob_fetch.proofs.ScheduleLaws.{open_begun, open_cut, batch_room, plans_as, plans_more, begun_shown, shown_begun, shown_cut, shown_well}
 use Rattle.ob_fetch.proofs.NextLaws.{Begun, answers_then, refused_then, runs_as, runs_next, seals_listed, stands_as, stands_listed, stands_then}
 use Rattle.ob_fetch.specs.Fetches.{AreMapValues, FetchAnswers, values_asked, next_batch, record_next, words_since}
 use Rattle.ob_fetch.specs.declared.run.Run.{Run}
@@ -28,7 +32,7 @@ returns-then-is_worn-clause-images g c =
 
 pub returns-then-is_worn-clause-scheduled : goal.returns-then-is_worn-clause-scheduled
 returns-then-is_worn-clause-scheduled g c =
-    ([], shows_none (g.W.Watch.trace c.args.watch.now), tt, λ content rs was many. front_none c.args.crew.now.lanes _ (g.S.Store.disk c.args.store.now).seen (g.S.Store.disk c.args.store.now).seen (none_noted (g.S.Store.disk c.args.store.now).seen))
+    ([], shows_none (g.W.Watch.trace c.args.watch.now), tt, λ content rs was many. row_step c.args.crew.now.lanes [] (g.S.Store.disk c.args.store.now).seen (g.S.Store.disk c.args.store.now).seen (none_noted (g.S.Store.disk c.args.store.now).seen))
 
 pub begin_batch-requires-clause-keys_low : goal.begin_batch-requires-clause-keys_low
 begin_batch-requires-clause-keys_low g c =
@@ -60,13 +64,15 @@ returns-in_err-begin_batch-clause-scheduled g c =
     let mid = g.S.Store.disk c.begin_batch.new.store in
     let r = record_next c.args.run.now c.args.asks.now (words_since (g.T.Tape.drawn c.args.tape.now) (g.T.Tape.drawn c.begin_batch.new.tape)) in
     let first = subst (λ (e : ℕ). TellsFirst (append_notes p e (next_batch run)) old.seen mid.seen (g.W.Watch.trace c.args.watch.now) (g.W.Watch.trace c.begin_batch.new.watch)) (next_is run.epoch) c.in_err-begin_batch.ensures.does.first in
-    let shown = shown_begun c.args.crew.now.lanes p run.sealer.generation run.gates run.ring (next_batch run) run.epoch r c.requires.ready.table.0 c.requires.ready.table.1 (batch_room run c.requires.some_left c.requires.ready.few) c.begin_batch.ensures.obeys
+    let exit = err_from_is_err_and c.from_residual.result c.from_residual.ensures.1 in
+    let cause = subst (λ (x : Result (Unit {0}) Fault). IfErr x (λ f. f ≡ StoreFault None)) (sym exit.1) (exit.2 ∙ c.in_err-begin_batch.ensures.faults) in
+    let front = shown_begun c.args.crew.now.lanes p run.sealer.generation run.gates run.ring (next_batch run) run.epoch r c.requires.ready.table.0 c.requires.ready.table.1 (batch_room run c.requires.some_left c.requires.ready.few) c.begin_batch.ensures.obeys
     old.seen mid.seen (g.W.Watch.trace c.args.watch.now) (g.W.Watch.trace c.begin_batch.new.watch) first in (
-      shown.notes,
-      shown.shows,
+      first.shown,
+      first.tells.shows,
       open_begun c.args.crew.now.lanes p run.sealer.generation run.gates run.ring (next_batch run) run.epoch r c.requires.ready.table.0 c.requires.ready.table.1 (batch_room run c.requires.some_left c.requires.ready.few) c.begin_batch.ensures.obeys
           old.seen mid.seen (g.W.Watch.trace c.args.watch.now) (g.W.Watch.trace c.begin_batch.new.watch) g.S.Store.disk run.sealer.keys c.args.store.now c.begin_batch.new.store first c.from_residual.result,
-      λ content rs was many. shown_err c.from_residual.result c.from_residual.ensures.0 c.args.crew.now.lanes _ shown.notes old.seen mid.seen (shown.reads_as content rs was many),
+      λ content rs was many. begun_shown c.from_residual.result c.from_residual.ensures.0 cause c.args.crew.now.lanes (append_notes p (suc run.epoch) (next_batch run)) _ first.shown old.seen mid.seen front,
     )
 
 pub returns-in-Err-clause-within : goal.returns-in-Err-clause-within

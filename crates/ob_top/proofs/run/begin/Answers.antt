@@ -1,4 +1,4 @@
-use Rattle.std.proofs.Common.{Err, [], ◌∷◌, inl, inr, ap, refl}
+use Rattle.std.proofs.Common.{Err, None, [], ◌∷◌, inl, inr, ap, refl}
 use Rattle.ob_base.specs.declared.params.Params.{Params}
 use Rattle.ob_seal.specs.Sealing.{Sealing}
 use Rattle.ob_store.specs.declared.watch.Note.TheVariants.{Read}
@@ -85,7 +85,7 @@ returns-in-Err-prepare-clause-refused g c =
     let head = c.in-Ok.ensures in
     let e = c.in-Err-prepare.ensures in
     unopened (λ s. g.S.Store.disk s) c.args.keys.now c.in-Ok.params c.in-Ok-read_script.scripts _ c.args.store.now c.head.new.store c.prepare.new.store head.value (record { keeps = head.keeps; passes = head.passes; seen = head.does.seen }) c.in-Ok-read_script.ensures.came
-    c.prepare.result _ _ _ _ _ _ c.in-Err-prepare.fault _ (g.met.S.Store.only_now c.args.store.now) head.serves.goes.faults e.faults e.serves.cause e.does_err e.refused e.stands e.unwritten e.leaves
+    c.prepare.result _ _ _ _ _ _ c.in-Err-prepare.fault _ (g.met.S.Store.only_now c.args.store.now) head.serves.goes.faults e.faults e.serves.cause e.does_err e.refused e.stands e.unwritten e.leaves (λ word_of s told at. e.acts word_of s None told at)
 
 -- ---- the life of the store
 

@@ -8,6 +8,7 @@ use Rattle.ob_pads.proofs.Chains.{chain_runs}
 use Rattle.ob_pads.specs.Lives.{Opens}
 use Rattle.ob_ring_kind.proofs.Begun.{held_with, holds_found, ring_begins_sound, ring_begun}
 use Rattle.ob_ring_kind.specs.RingKind.{ring_kind}
+use Rattle.ob_ring_shown.specs.Lives.{ring_lives}
 use Rattle.ob_ring_kind.specs.RingSteps.{HasRingWords}
 use Rattle.ob_ring_life.proofs.Calls.{is_act}
 use Rattle.ob_ring_vault.specs.RingVaults.{RingHolds, RingSound, running}
@@ -44,7 +45,7 @@ returns-clause-serves g c = λ f found same goes planned.
     let first = c.over-vault.result in
     let run_is : first.run ≡ f.run = c.over-vault.ensures.run ∙ sym same in
     let words : HasRingWords _ g.S.Store.disk (λ v. running v.lent.store.now (g.T.Tape.drawn v.lent.tape.now) v.crew.lanes v.run) = record { called = λ v call answer notes w one. one; holds = λ v u is. is } in
-    let lender : IsRingLender _ g.S.Store.disk (λ v. running v.lent.store.now (g.T.Tape.drawn v.lent.tape.now) v.crew.lanes v.run) words keys p f first = record {
+    let lender : IsRingLender _ g.S.Store.disk (λ x t image at left. g.met.S.Store.counts_now x t image at left) (λ x image left. g.met.S.Store.only_now x image left) (λ v. running v.lent.store.now (g.T.Tape.drawn v.lent.tape.now) v.crew.lanes v.run) words keys p f first = record {
       faults = λ v. refl;
       goes = λ v w one. record { anchors = rest_same _ _ _ _ (rest_same _ _ _ _ one.anchors); faults = one.faults; later = one.later; kept = one.kept; told = one.told; leaves = one.leaves; seen = one.seen };
       since = λ a b P l. record { later = l.later; each = l.each; before = l.before };
@@ -60,7 +61,7 @@ returns-clause-serves g c = λ f found same goes planned.
           (λ v w call answer notes does told. is_act g.S.Store.disk (running v.lent.store.now (g.T.Tape.drawn v.lent.tape.now) v.crew.lanes v.run) (running w.lent.store.now (g.T.Tape.drawn w.lent.tape.now) w.crew.lanes w.run) notes (λ image left. g.met.S.Store.only_now v.lent.store.now image left) call answer does told)
           keys old first w steps tells (λ told. subst (λ (s : Sealing). Opens keys (g.S.Store.disk old) (g.S.Store.disk first.lent.store.now) s) (sym (ap (λ (r : Run). r.sealer) run_is)) (opens told)) called;
     } in
-    let s = ring_serves _ g.S.Store.disk (λ v. running v.lent.store.now (g.T.Tape.drawn v.lent.tape.now) v.crew.lanes v.run) words keys p f first
+    let s = ring_serves _ g.S.Store.disk (λ x t image at left. g.met.S.Store.counts_now x t image at left) (λ x image left. g.met.S.Store.only_now x image left) (λ v. running v.lent.store.now (g.T.Tape.drawn v.lent.tape.now) v.crew.lanes v.run) words keys p f first
     _ c.args.threads (runner_kind client_of bound_of plan_of MayHaveMade IsScriptTurn) (record { means = λ r said fit. is_its_script (runner_state r) said fit; turns = λ script client said steps turn. turn })
     c.args.begun.scripts c.requires.sound (may_open p f.run.epoch f.run.left c.args.begun.scripts
     (subst (λ (r : Run). r.epoch < 2 ^ 62) (sym same) c.args.begun.opening.small)
@@ -73,7 +74,7 @@ returns-clause-serves g c = λ f found same goes planned.
     (ap (λ x. g.T.Tape.drawn x) c.over-vault.ensures.tape ∙ none_in _ c.requires.serves.none_drawn) (λ u is. subst (λ (r : Run). RingHolds r (g.S.Store.disk first.lent.store.now) u) (sym run_is) is)) in
     let names : c.over-arg-1.given ≡ c.into_lent-store.result.0.ghost_name = sym (c.into_lent-store.ensures.name ∙ first_same _ _ _ _ c.conduct-ended.ensures.anchors ∙ c.over-vault.ensures.name) in
     let tape_names : c.over-arg-2-1.given ≡ c.into_lent-store.result.1.ghost_name = sym (c.into_lent-store.ensures.tape_name ∙ first_same _ _ _ _ (rest_same _ _ _ _ c.conduct-ended.ensures.anchors) ∙ c.over-vault.ensures.tape_name) in
-    renamed ring_kind g.S.Store.disk _ keys p f f.run.sealer c.args.begun.opening.sealer c.args.begun.scripts _ _ _ c.args.store.now _ c.store-1.given.0 _ _ _
+    renamed ring_kind ring_lives g.S.Store.disk _ keys p f f.run.sealer c.args.begun.opening.sealer c.args.begun.scripts _ _ _ c.args.store.now _ c.store-1.given.0 _ _ _
     (ap (λ (r : Run). r.sealer) same) (ap (λ x. g.T.Tape.drawn x) (sym (c.tape-1.given.1 tape_names ∙ c.hand_back.ensures.tape ∙ c.into_lent-store.ensures.tape)))
     c.over-vault.ensures.store (c.store-1.given.1 names ∙ c.hand_back.ensures.store ∙ c.into_lent-store.ensures.store) s
 
