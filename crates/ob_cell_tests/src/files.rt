@@ -75,6 +75,29 @@ fn two_lanes_read_by_turns(rt: HostRuntime) -> Result<(), Fail> {
 }
 
 #[test]
+fn a_lane_is_kept_for_its_own_store(rt: HostRuntime) -> Result<(), Fail> {
+    let alloc = rt.alloc();
+    let path = fresh_path(&rt, "kept")?;
+    let elsewhere = fresh_path(&rt, "elsewhere")?;
+    let mut store = FileStore::open(&rt, alloc, path.as_str(), true)?;
+    let mut other = FileStore::open(&rt, alloc, elsewhere.as_str(), true)?;
+    assert!(&rt; other.write(0, &filled(2)).is_ok());
+    // One of another store isn't kept, and one of its own is, though another file has its name then.
+    store.absorb(other.lane().expect(&rt, "a lane"));
+    let mut cell = filled(9);
+    for byte in 4..7 {
+        assert!(&rt; store.write(0, &filled(byte)).is_ok());
+        let mut lane = store.lane().expect(&rt, "a lane");
+        assert!(&rt; store.read(&mut lane, 0, &mut cell).is_ok());
+        assert_eq!(&rt; cell, filled(byte));
+        store.absorb(lane);
+        let _ = fs::rename(&rt, elsewhere.as_str(), path.as_str());
+    }
+    fs::remove_file(&rt, path.as_str())?;
+    Ok(())
+}
+
+#[test]
 fn a_file_that_is_short_reads_as_zeros_behind(rt: HostRuntime) -> Result<(), Fail> {
     let alloc = rt.alloc();
     let path = fresh_path(&rt, "short")?;
@@ -109,8 +132,9 @@ fn what_cannot_be_done_fails(rt: HostRuntime) -> Result<(), Fail> {
     let mut cell = filled(0);
     assert!(&rt; store.read(&mut lane, u64::MAX, &mut cell).is_err());
     store.absorb(lane);
-    // A lane of a file that was taken away can't be made.
+    // Of a file that was taken away there is the lane given back, and no other.
     fs::remove_file(&rt, path.as_str())?;
+    assert!(&rt; store.lane().is_ok());
     assert!(&rt; store.lane().is_err());
     Ok(())
 }

@@ -26,20 +26,24 @@ pub enum OpenErr {
 
 /// A store in a file: cell k is the 128 bytes from `128 * k` on, and bytes past the file's end are
 /// zeros. It tells how often it has failed, and nothing of what it holds. As long as it lives the
-/// file is locked: no other program, and no other store, has it.
+/// file is locked: no other program, and no other store, has it. The file of the lane given back
+/// last is kept open for the next one: to look at a file's state before each batch of reads makes
+/// its next sync take longer.
 #[derive(Drop)]
 pub struct FileStore<R: Files<File = File>> {
     rt: R,
     path: String,
     file: File,
     node: Node,
+    idle: Option<File>,
     faults: u64,
 }
 
-/// The file, opened once more.
+/// The file, opened once more, and how often its reads have failed.
 #[derive(Drop)]
 pub struct FileLane {
     file: File,
+    node: Node,
     faults: u64,
 }
 
@@ -67,6 +71,7 @@ impl<R: Files<File = File>> FileStore<R> {
             path,
             file,
             node,
+            idle: None,
             faults: 0,
         })
     }
@@ -110,11 +115,16 @@ impl<R: Files<File = File> + Sync> Store for FileStore<R> {
         ensures counts { CountsFault self.old.faults self.new.faults result }
         ensures fresh { IfOk result (λ lane. lane.faults ≡ 0) }
     {
-        let Ok(file) = self.opened_again() else {
+        let opened = match self.idle.take() {
+            Some(file) => Ok(file),
+            None => self.opened_again(),
+        };
+        let Ok(file) = opened else {
             self.faults = self.faults.saturating_add(1);
             return Err(Failed);
         };
-        Ok(FileLane { file, faults: 0 })
+        let (node, faults) = (self.node, 0);
+        Ok(FileLane { file, node, faults })
     }
 
     fn read(&self, lane: &mut FileLane, cell: u64, out: &mut [u8; 128]) -> Result<(), Failed>
@@ -127,7 +137,11 @@ impl<R: Files<File = File> + Sync> Store for FileStore<R> {
         ensures counts { self.new.faults ≡ with_more lane.faults self.old.faults }
         ensures later { self.old.faults ≤ self.new.faults }
     {
-        self.faults = self.faults.saturating_add(lane.faults);
+        let FileLane { file, node, faults } = lane;
+        if node == self.node {
+            self.idle = Some(file);
+        }
+        self.faults = self.faults.saturating_add(faults);
     }
 
     fn write(&mut self, cell: u64, bytes: &[u8; 128]) -> Result<(), Failed>
