@@ -1,5 +1,6 @@
 -- Two pieces, of which the second may be cut.
-use Rattle.std.proofs.Common.{◌≡◌, ◌≤◌, ℕ, ◌+◌, List, ◌++◌, Option, take, length, ◌∙◌, ap, sym, refl, subst, arith, length-append}
+use Rattle.std.proofs.Common.{◌≡◌, ◌≤◌, ℕ, ◌+◌, List, ◌++◌, Option, Result, Ok, Err, take, length, ◌∙◌, ap, sym, refl, subst, arith, length-append}
+use Rattle.std.specs.Prelude.{OnOk}
 use Rattle.std.proofs.Math.Seq.{take-append-add}
 use Rattle.std.proofs.lemmas.List.{take-append-le}
 use Rattle.ob_io.specs.Flows.{appended}
@@ -27,3 +28,8 @@ front_of_both old mid new a b first second =
     let le = second.1 in
     let is = second.2 in
     (length a + m, omega (arith, length-append a b), is ∙ rw first (appended-again old a (take m b)) ∙ ap (λ (l : List ℕ). appended old l) (sym (take-append-add a b m)))
+
+-- both pieces
+pub all_of_both : {T E : Type 0} (result : Result T E) (old mid new : Option (List ℕ)) (a b : List ℕ) → mid ≡ appended old a → OnOk result (new ≡ appended mid b) → OnOk result (new ≡ appended old (a ++ b))
+all_of_both (Ok x) old mid new a b first second = second ∙ ap (λ (o : Option (List ℕ)). appended o b) first ∙ appended-again old a b
+all_of_both (Err e) old mid new a b first second = tt

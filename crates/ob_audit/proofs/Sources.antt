@@ -45,3 +45,8 @@ pub piece_told : (answer : Option Audit) (limit : ℕ) (bytes piece : List ℕ) 
     → MatchOption answer ((more : List ℕ) × (old ≡ prepended more new) × HasReadLines r (bytes ++ more)) (λ audit. IsAudited (prepended bytes old) limit audit)
 piece_told None limit bytes piece old new r is read = (piece, is, read)
 piece_told (Some audit) limit bytes piece old new r is settled = audited limit bytes piece old new audit is settled
+
+-- one byte more of a piece was read
+pub read_byte : (r : Reader) (bytes piece : List ℕ) (i : ℕ) → i < length piece → HasReadLines r ((bytes ++ take i piece) ++ get_or piece i 0 ∷ []) → HasReadLines r (bytes ++ take (i + 1) piece)
+read_byte r bytes piece i lt read =
+    subst (λ (t : List ℕ). HasReadLines r t) (append_assoc bytes (take i piece) (get_or piece i 0 ∷ []) ∙ ap (λ (t : List ℕ). bytes ++ t) (sym (take_more piece i 0 lt))) read

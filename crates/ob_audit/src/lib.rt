@@ -1,5 +1,5 @@
-//! An audit: the lines of a trace are read, each is held against what may stand there, and the answer
-//! is written.
+//! An audit: the lines of a trace are read, each is held against what may stand there, and the
+//! answer is written.
 #![tactic(auto)]
 
 mod lines;

@@ -89,8 +89,8 @@ fn line_in(bytes: &[u8]) -> Option<Line>
     }
 }
 
-/// The line that the bytes spell, which have no line feed; Bad where none is spelled, or where there
-/// are more than 96.
+/// The line that the bytes spell, which have no line feed; Bad where none is spelled, or where
+/// there are more than 96.
 pub fn line_of(bytes: &[u8]) -> Line
     ensures { IsLineOf bytes.now result }
 {

@@ -3,7 +3,7 @@
 use ob_follow::{Line, Wanted};
 
 /// What an audit answers.
-#[derive(Clone, Copy, Debug, PartialEq, Eq)]
+#[derive(Clone, Copy)]
 pub enum Audit {
     /// Each line may stand where it stands.
     Fits,

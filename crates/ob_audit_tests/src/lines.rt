@@ -26,14 +26,14 @@ const BAD: [&str; 14] = [
 #[test]
 fn lines_are_read(rt: HostRuntime) {
     for text in BAD {
-        assert!(rt; line_of(text.as_bytes()) == Line::Bad, "{text}");
+        assert!(rt; matches!(line_of(text.as_bytes()), Line::Bad), "{text}");
     }
-    let last = Line::Note(Note::Write(18446744073709551615));
-    assert!(rt; line_of(b"W 18446744073709551615") == last);
-    assert!(rt; line_of(b"L 0") == Line::Note(Note::Label(0)));
-    assert!(rt; line_of(b"S") == Line::Note(Note::Sync));
-    assert!(rt; line_of(b"O") == Line::Open);
-    assert!(rt; line_of(b"P 8 2 2 3 2 2 2 2 8") != Line::Bad);
+    let last = line_of(b"W 18446744073709551615");
+    assert!(rt; matches!(last, Line::Note(Note::Write(18446744073709551615))));
+    assert!(rt; matches!(line_of(b"L 0"), Line::Note(Note::Label(0))));
+    assert!(rt; matches!(line_of(b"S"), Line::Note(Note::Sync)));
+    assert!(rt; matches!(line_of(b"O"), Line::Open));
+    assert!(rt; matches!(line_of(b"P 8 2 2 3 2 2 2 2 8"), Line::Start(_)));
 }
 
 #[test]

@@ -31,8 +31,11 @@ fn candidate(i: u64) -> Note {
 // Whether the cell is a slot of a bucket's first home that none of these lines has read.
 fn is_fresh(lines: &[Line], bucket: u32, cell: u64) -> bool {
     let first = 39 + 5 * bucket as u64;
-    let read = Line::Note(Note::Read(cell));
-    first <= cell && cell < first + 5 && !lines.iter().any(|line| *line == read)
+    let is_read = |line: &Line| match *line {
+        Line::Note(Note::Read(read)) => read == cell,
+        _ => false,
+    };
+    first <= cell && cell < first + 5 && !lines.iter().any(is_read)
 }
 
 // Whether the line is one of those that are wanted behind these.
@@ -80,8 +83,8 @@ fn is_told(
     }
 }
 
-// Whether of many notes just those may stand behind these lines that are wanted, and the next line is
-// one of them.
+// Whether of many notes just those may stand behind these lines that are wanted, and the next line
+// is one of them.
 fn are_told(
     alloc: Global,
     p: &Params,

@@ -19,8 +19,9 @@ const WHOLE: &str =
      W 28;W 29;W 30;W 31;W 32;W 33;W 34;W 35;W 36;W 37;W 38;W 10;W 12;S;W 7;S;W 8;S";
 
 // Recipes of traces, the most bytes that are audited, and what is said. A recipe's parts, between
-// semicolons, are lines, or from where to where lines of the whole trace are taken, or `fill`: format
-// behind format, more than a piece that is read. The last line lacks its line feed behind a `!`.
+// semicolons, are lines, or from where to where lines of the whole trace are taken, or `fill`:
+// format behind format, more than a piece that is read. The last line lacks its line feed behind a
+// `!`.
 const ROWS: [(&str, u64, &str); 36] = [
     ("1-177", MOST, "fits\n"),
     ("1-176;S!", MOST, "fits\n"),
@@ -171,7 +172,7 @@ fn a_source_that_fails_is_told(rt: HostRuntime) {
     ] {
         let answer = failing_behind(alloc, reads, recipe);
         assert!(rt;
-            answer == Some(Err(Fault::SourceFault)),
+            matches!(answer, Some(Err(Fault::SourceFault))),
             "{reads}, {recipe}"
         );
     }

@@ -1,4 +1,5 @@
-//! What every crate speaks of: parameters, keys, values, operations, numbers in bytes, and refusals.
+//! What every crate speaks of: parameters, keys, values, operations, numbers in bytes, and
+//! refusals.
 #![tactic(auto)]
 
 mod clients;

@@ -6,7 +6,7 @@ ghost use Rattle.ob_batch.specs.Errors.{jobs_fault};
 use ob_base::Fault;
 
 /// Why a batch of jobs was refused.
-#[derive(Clone, Copy, Debug, PartialEq, Eq)]
+#[derive(Clone, Copy, PartialEq, Eq)]
 pub enum JobsErr {
     /// A lane was refused, and nothing was read.
     NotBegun(Fault),

@@ -3,6 +3,7 @@
 ghost use Rattle.std.specs.Prelude.{◌≡◌};
 ghost use Rattle.ob_mem.specs.Memory.{disk_of_store};
 
+use crate::steps::new_store;
 use hex::FromHex;
 use ob_base::{Check, Fault, Job, Jobs, Params};
 use ob_batch::{Crew, JobsErr, run_jobs};
@@ -42,8 +43,7 @@ fn test_sealer() -> Sealer {
 fn store_of(rt: &impl Abort, alloc: Global, fails: &[Fail], broken: u64) -> MemStore
     ensures { result.log.out ≡ 0 }
 {
-    let fails = fails.to_vec(alloc).expect(rt, "memory");
-    let mut store = MemStore::new(alloc, 74, fails).expect(rt, "memory");
+    let mut store = new_store(rt, alloc, 74, fails);
     for (cell, digits) in CELLS {
         let mut bytes = <[u8; 128] as FromHex>::from_hex(digits).expect(rt, "digits");
         if cell == broken {
@@ -85,25 +85,45 @@ fn results(jobs: &[Job]) -> (usize, usize) {
     (done, empty)
 }
 
-// What a batch answers, without the bytes that it tells of a damaged cell.
-#[derive(Clone, Copy, Debug, PartialEq, Eq)]
-enum Answer {
-    Read,
-    NotBegun,
-    Refused,
-    Damaged(u64, Check),
-    Other,
-}
+type Answer = Result<(), JobsErr>;
 
-fn answer_of(told: Result<(), JobsErr>) -> Answer {
+// A batch's answer, with zeros for the bytes that it tells of a damaged cell.
+fn answer_of(told: Answer) -> Answer {
     match told {
-        Ok(()) => Answer::Read,
-        Err(JobsErr::NotBegun(Fault::StoreFault { unsure: None })) => Answer::NotBegun,
-        Err(JobsErr::Job(Fault::StoreFault { unsure: None })) => Answer::Refused,
-        Err(JobsErr::Job(Fault::Damaged { cell, check, .. })) => Answer::Damaged(cell, check),
-        _ => Answer::Other,
+        Err(JobsErr::Job(Fault::Damaged { cell, check, .. })) => {
+            Err(JobsErr::Job(Fault::Damaged {
+                cell,
+                check,
+                kept: [0; 16],
+                computed: [0; 16],
+            }))
+        }
+        _ => told,
     }
 }
+
+const STORE_FAULT: Fault = Fault::StoreFault { unsure: None };
+
+const BAD_SEAL_41: Fault = Fault::Damaged {
+    cell: 41,
+    check: Check::Seal,
+    kept: [0; 16],
+    computed: [0; 16],
+};
+
+const BAD_TAG_41: Fault = Fault::Damaged {
+    cell: 41,
+    check: Check::Tag,
+    kept: [0; 16],
+    computed: [0; 16],
+};
+
+const BAD_TAG_46: Fault = Fault::Damaged {
+    cell: 46,
+    check: Check::Tag,
+    kept: [0; 16],
+    computed: [0; 16],
+};
 
 const READ_46: Fail = Fail::Read {
     cell: 46,
@@ -119,20 +139,27 @@ const READ_56: Fail = Fail::Read {
 // jobs then have a result, and how often the store has failed. Where an earlier job fails too, its
 // count shows that the later cells were read.
 const BATCHES: [(&[Fail], u64, u64, Answer, usize, u64); 7] = [
-    (&[], 0, 2, Answer::Read, 3, 0),
-    (&[], 46, 2, Answer::Damaged(46, Check::Tag), 0, 0),
-    (&[], 0, 3, Answer::Damaged(41, Check::Seal), 0, 0),
-    (&[READ_56], 46, 2, Answer::Damaged(46, Check::Tag), 0, 1),
-    (&[READ_46], 56, 2, Answer::Refused, 0, 1),
+    (&[], 0, 2, Ok(()), 3, 0),
+    (&[], 46, 2, Err(JobsErr::Job(BAD_TAG_46)), 0, 0),
+    (&[], 0, 3, Err(JobsErr::Job(BAD_SEAL_41)), 0, 0),
+    (&[READ_56], 46, 2, Err(JobsErr::Job(BAD_TAG_46)), 0, 1),
+    (&[READ_46], 56, 2, Err(JobsErr::Job(STORE_FAULT)), 0, 1),
     (
         &[READ_46, READ_56],
         41,
         2,
-        Answer::Damaged(41, Check::Tag),
+        Err(JobsErr::Job(BAD_TAG_41)),
         0,
         2,
     ),
-    (&[Fail::Lane(0), READ_46], 56, 2, Answer::NotBegun, 0, 1),
+    (
+        &[Fail::Lane(0), READ_46],
+        56,
+        2,
+        Err(JobsErr::NotBegun(STORE_FAULT)),
+        0,
+        1,
+    ),
 ];
 
 #[test]
@@ -145,15 +172,15 @@ fn batches_are_read_or_the_first_failing_job_is_told(rt: HostRuntime) {
         assert_eq!(rt; crew.lanes(), 1);
         assert!(rt; jobs.jobs().len() <= crew.jobs());
         let result = run_jobs(&mut store, &mut crew, &test_sealer(), &mut jobs);
-        assert_eq!(rt; answer_of(result), wanted);
-        assert_eq!(rt; results(jobs.jobs()), (results_wanted, results_wanted));
-        assert_eq!(rt; store.faults(), faults);
+        assert!(rt; answer_of(result) == wanted, "{broken} {number} {faults}");
+        assert!(rt; results(jobs.jobs()) == (results_wanted, results_wanted));
+        assert!(rt; store.faults() == faults);
     }
 }
 
 #[test]
 fn a_refusal_leads_to_its_fault(rt: HostRuntime) {
-    let refused = Fault::StoreFault { unsure: None };
-    assert_eq!(rt; Fault::from(JobsErr::NotBegun(refused)), refused);
-    assert_eq!(rt; Fault::from(JobsErr::Job(Fault::Memory)), Fault::Memory);
+    let refused = JobsErr::NotBegun(STORE_FAULT);
+    assert!(rt; Fault::from(refused) == STORE_FAULT);
+    assert!(rt; Fault::from(JobsErr::Job(Fault::Memory)) == Fault::Memory);
 }

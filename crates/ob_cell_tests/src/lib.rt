@@ -15,3 +15,5 @@ mod registers;
 mod sealed;
 #[cfg(test)]
 mod starts;
+#[cfg(test)]
+mod steps;

@@ -2,16 +2,16 @@
 
 ghost use Rattle.std.specs.Prelude.{◌≡◌, ◌<◌, ◌≤◌, ◌^◌, ◌∷◌, IfSome, Some, replicate, None, true};
 
+use crate::steps::{new_sink, new_store};
 use hex::FromHex;
 use ob_base::{Check, Failed, Fault, Key, Params};
 use ob_cells::read_cells;
 use ob_log::{append, read_open};
-use ob_mem::{Fail, MemSink, MemStore};
+use ob_mem::{Fail, MemStore};
 use ob_seal::{Keys, Sealer};
 use ob_store::{Blind, SinkWatch, Store, Watch, write_through};
 use std::alloc::Global;
 use std::process::Abort;
-use std::test::Fail as Broken;
 
 // The words of three batches, as the tape of another implementation drew them.
 const FIRST: [u64; 2] = [6358360514227290561, 11633887360776027008];
@@ -32,8 +32,8 @@ enum Call {
     Append(u64, u32, u64, Option<Key>, &'static [u64]),
     // Makes so many other seals.
     Seal(u64),
-    // Writes these bytes into a cell.
-    Put(u64, [u8; 128]),
+    // Fills a cell with a byte.
+    Fill(u64, u8),
     // Writes a cell of a body under the seal of this number: the epoch, the batch, and the kind and
     // key of two places.
     Forge(u64, u64, [u8; 6]),
@@ -115,8 +115,8 @@ fn seal_more(sealer: &mut Sealer, many: u64) {
     }
 }
 
-// A cell under the seal of a number: its plain bytes have the epoch, the batch, and the kind and key
-// of two places.
+// A cell under the seal of a number: its plain bytes have the epoch, the batch, and the kind and
+// key of two places.
 fn forged(cell: u64, number: u64, numbers: [u8; 6]) -> [u8; 128] {
     let mut plain = [0; 96];
     for (byte, at) in numbers.iter().zip([0, 8, 20, 21, 33, 34]) {
@@ -184,7 +184,7 @@ fn make<W: Watch>(
             seal_more(sealer, *many);
             Ok(0)
         }
-        Call::Put(cell, bytes) => put(store, *cell, bytes),
+        Call::Fill(cell, byte) => put(store, *cell, &[*byte; 128]),
         Call::Forge(cell, number, numbers) => {
             put(store, *cell, &forged(*cell, *number, *numbers))
         }
@@ -217,16 +217,15 @@ fn played(
 ) -> MemStore
     ensures { result.log.out ≡ 0 }
 {
-    let fails = fails.to_vec(alloc).expect(rt, "memory");
-    let mut store = MemStore::new(alloc, 200, fails).expect(rt, "memory");
-    let mut sink = MemSink::new(alloc, 200, Vec::new(alloc)).expect(rt, "memory");
+    let mut store = new_store(rt, alloc, 200, fails);
+    let mut sink = new_sink(rt, alloc, 200);
     let mut sealer = test_sealer();
     let mut watch = SinkWatch::new(&mut sink);
     for (call, wanted) in calls {
         let answer = make(alloc, p, &mut store, &mut sealer, call, &mut watch);
-        assert_eq!(rt; answer, *wanted, "{shown}");
+        assert!(rt; answer == *wanted, "{shown}");
     }
-    assert_eq!(rt; sink.written(), shown.as_bytes());
+    assert!(rt; sink.written() == shown.as_bytes(), "{shown}");
     store
 }
 
@@ -243,12 +242,12 @@ const WRITTEN: &[Row] = &[
     (Call::Seal(36), Ok(0)),
     (Call::Append(2, 0, 31, Some(5), &THIRD), Ok(0)),
     (Call::Read, Ok(2)),
-    (Call::Put(16, ZEROS), Ok(0)),
+    (Call::Fill(16, 0), Ok(0)),
     (Call::Read, Ok(1)),
     (Call::Bend(14), Ok(0)),
-    (Call::Put(16, OPEN), Ok(0)),
+    (Call::Fill(16, 0xA5), Ok(0)),
     (Call::Read, Ok(0)),
-    (Call::Put(14, OPEN), Ok(0)),
+    (Call::Fill(14, 0xA5), Ok(0)),
     (Call::Read, Ok(2)),
 ];
 
@@ -297,116 +296,126 @@ const WIDE: &[Row] = &[
     ),
 ];
 
+// The second batch's body isn't read.
+const UNREAD: [Fail; 1] = [Fail::Read {
+    cell: 15,
+    writes: 4,
+}];
+
+// Where a batch asks for key 7 once, beside a pad.
+const FORGED: &[Row] = &[
+    (Call::Forge(13, 0, [1, 0, 1, 7, 1, 0]), Ok(0)),
+    (Call::Fill(14, 0xA5), Ok(0)),
+    (Call::Read, Ok(1)),
+];
+
+// How many places a batch has, the calls that fail, those that are made, and what is shown.
+const PLAYED: [(u32, &[Fail], &[Row], &str); 5] = [
+    (
+        2,
+        &[],
+        WRITTEN,
+        "W 13\nS\nW 14\nS\nW 15\nS\nW 16\nS\nW 9\nS\nW 10\nS\nR 13\nR 14\nR 15\nR 16\nR 13\nR 14\nR 15\nR 16\nR 13\nR 14\nR 15\nR 16\nR 13\nR 14\nR 15\nR 16\n",
+    ),
+    (
+        2,
+        &UNREAD,
+        &[ONE, TWO, (Call::Read, FAULT)],
+        "W 13\nS\nW 14\nS\nW 15\nS\nW 16\nS\nR 13\nR 14\nR 15\n",
+    ),
+    (2, &[], BENT, "W 13\nS\nW 14\nS\nR 13\nR 14\nR 15\nR 16\n"),
+    (2, &[], FORGED, "R 13\nR 14\nR 15\nR 16\n"),
+    (
+        8,
+        &[],
+        WIDE,
+        "W 18\nW 19\nS\nW 20\nS\nW 15\nW 16\nS\nW 17\nS\nR 15\nR 16\nR 17\nR 18\nR 19\nR 20\nR 15\nR 16\nR 17\nR 18\nR 19\nR 20\n",
+    ),
+];
+
 #[test]
 fn calls_answer(rt: HostRuntime) {
-    let alloc = rt.alloc();
-    let fails = [Fail::Read {
-        cell: 15,
-        writes: 4,
-    }];
-    let table: [(u32, &[Fail], &[Row], &str); 5] = [
-        (
-            2,
-            &[],
-            WRITTEN,
-            "W 13\nS\nW 14\nS\nW 15\nS\nW 16\nS\nW 9\nS\nW 10\nS\nR 13\nR 14\nR 15\nR 16\nR 13\nR 14\nR 15\nR 16\nR 13\nR 14\nR 15\nR 16\nR 13\nR 14\nR 15\nR 16\n",
-        ),
-        (
-            2,
-            &fails,
-            &[ONE, TWO, (Call::Read, FAULT)],
-            "W 13\nS\nW 14\nS\nW 15\nS\nW 16\nS\nR 13\nR 14\nR 15\n",
-        ),
-        (2, &[], BENT, "W 13\nS\nW 14\nS\nR 13\nR 14\nR 15\nR 16\n"),
-        (
-            2,
-            &[],
-            &[
-                (Call::Forge(13, 0, [1, 0, 1, 7, 1, 0]), Ok(0)),
-                (Call::Put(14, OPEN), Ok(0)),
-                (Call::Read, Ok(1)),
-            ],
-            "R 13\nR 14\nR 15\nR 16\n",
-        ),
-        (
-            8,
-            &[],
-            WIDE,
-            "W 18\nW 19\nS\nW 20\nS\nW 15\nW 16\nS\nW 17\nS\nR 15\nR 16\nR 17\nR 18\nR 19\nR 20\nR 15\nR 16\nR 17\nR 18\nR 19\nR 20\n",
-        ),
-    ];
-    for (places, fails, calls, shown) in table {
+    for (places, fails, calls, shown) in PLAYED {
         let p = params(&rt, 8, places);
-        let _ = played(&rt, alloc, &p, fails, calls, shown);
+        let _ = played(&rt, rt.alloc(), &p, fails, calls, shown);
     }
 }
 
-// What a crash leaves in cells that aren't sure: what they got last, zeros, or A5 in every byte.
-const KEPT: &[(u64, [u8; 128])] = &[];
+// What a crash leaves of a store: in the body and the gate of the first record, where they aren't
+// sure, this byte throughout, or what they got last.
+fn left_after(rt: &impl Abort, store: &MemStore, moment: usize, filling: Option<u8>) -> MemStore
+    ensures { result.log.out ≡ 0 }
+{
+    let left = match filling {
+        None => store.crash(moment, &[]),
+        Some(byte) => store.crash(moment, &[(13, [byte; 128]), (14, [byte; 128])]),
+    };
+    left.expect(rt, "memory")
+}
 
-const BLANK: &[(u64, [u8; 128])] = &[(13, ZEROS), (14, ZEROS)];
+// The call that fails, if one does, and what an append answers and shows.
+type Append = (&'static [Fail], Result<usize, Fault>, &'static str);
 
-const FULL: &[(u64, [u8; 128])] = &[(13, OPEN), (14, OPEN)];
+const WELL: Append = (&[], Ok(0), "W 13\nS\nW 14\nS\n");
+
+const FIRST_WRITE: Append = (&[Fail::Write(0)], FAULT, "W 13\n");
+
+const FIRST_SYNC: Append = (&[Fail::Sync(0)], FAULT, "W 13\n");
+
+const LAST_WRITE: Append = (&[Fail::Write(1)], FAULT, "W 13\nS\nW 14\n");
+
+const LAST_SYNC: Append = (&[Fail::Sync(1)], FAULT, "W 13\nS\nW 14\n");
+
+// An append, the moment of a crash, what it leaves, and how many records are then open.
+const CRASHES: [(Append, usize, Option<u8>, usize); 23] = [
+    (WELL, 0, None, 0),
+    (WELL, 0, Some(0), 0),
+    (WELL, 0, Some(0xA5), 0),
+    (WELL, 1, None, 0),
+    (WELL, 1, Some(0), 0),
+    (WELL, 1, Some(0xA5), 0),
+    (WELL, 2, None, 0),
+    (WELL, 2, Some(0), 0),
+    (WELL, 2, Some(0xA5), 0),
+    (WELL, 3, None, 1),
+    (WELL, 3, Some(0), 0),
+    (WELL, 3, Some(0xA5), 1),
+    (WELL, 4, None, 1),
+    (WELL, 4, Some(0), 1),
+    (WELL, 4, Some(0xA5), 1),
+    (FIRST_WRITE, 4, None, 0),
+    (FIRST_WRITE, 4, Some(0), 0),
+    (FIRST_SYNC, 4, None, 0),
+    (FIRST_SYNC, 4, Some(0), 0),
+    (LAST_WRITE, 4, None, 1),
+    (LAST_WRITE, 4, Some(0), 0),
+    (LAST_SYNC, 4, None, 1),
+    (LAST_SYNC, 4, Some(0), 0),
+];
+
+// What a read of the open records answers after an append and a crash at this moment.
+fn read_after(
+    rt: &impl Abort,
+    alloc: Global,
+    append: &Append,
+    moment: usize,
+    filling: Option<u8>,
+) -> Result<usize, Fault> {
+    let p = params(rt, 8, 2);
+    let (fails, answer, shown) = append;
+    let calls = [(Call::Append(1, 0, 0, None, &FIRST), *answer)];
+    let store = played(rt, alloc, &p, fails, &calls, shown);
+    let mut left = left_after(rt, &store, moment, filling);
+    let mut sealer = test_sealer();
+    make(alloc, &p, &mut left, &mut sealer, &Call::Read, &mut Blind)
+}
 
 #[test]
-fn a_crash_leaves_a_prefix(rt: HostRuntime) -> Result<(), Broken> {
-    let alloc = rt.alloc();
-    let p = params(&rt, 8, 2);
-    // The call that fails, if one does; what the append answers and shows; the moment of the crash,
-    // what it leaves, and how many records are then open.
-    let well: (&[Fail], Result<usize, Fault>, &str) = (&[], Ok(0), "W 13\nS\nW 14\nS\n");
-    let first_write: (&[Fail], Result<usize, Fault>, &str) = (&[Fail::Write(0)], FAULT, "W 13\n");
-    let first_sync: (&[Fail], Result<usize, Fault>, &str) = (&[Fail::Sync(0)], FAULT, "W 13\n");
-    let last_write: (&[Fail], Result<usize, Fault>, &str) = (
-        &[Fail::Write(1)],
-        FAULT,
-        "W 13\nS\nW 14\n",
-    );
-    let last_sync: (&[Fail], Result<usize, Fault>, &str) = (
-        &[Fail::Sync(1)],
-        FAULT,
-        "W 13\nS\nW 14\n",
-    );
-    let table = [
-        (well, 0, KEPT, 0),
-        (well, 0, BLANK, 0),
-        (well, 0, FULL, 0),
-        (well, 1, KEPT, 0),
-        (well, 1, BLANK, 0),
-        (well, 1, FULL, 0),
-        (well, 2, KEPT, 0),
-        (well, 2, BLANK, 0),
-        (well, 2, FULL, 0),
-        (well, 3, KEPT, 1),
-        (well, 3, BLANK, 0),
-        (well, 3, FULL, 1),
-        (well, 4, KEPT, 1),
-        (well, 4, BLANK, 1),
-        (well, 4, FULL, 1),
-        (first_write, 4, KEPT, 0),
-        (first_write, 4, BLANK, 0),
-        (first_sync, 4, KEPT, 0),
-        (first_sync, 4, BLANK, 0),
-        (last_write, 4, KEPT, 1),
-        (last_write, 4, BLANK, 0),
-        (last_sync, 4, KEPT, 1),
-        (last_sync, 4, BLANK, 0),
-    ];
-    for ((fails, answer, shown), moment, filling, left) in table {
-        let calls = [(Call::Append(1, 0, 0, None, &FIRST), answer)];
-        let store = played(&rt, alloc, &p, fails, &calls, shown);
-        let mut crashed = store.crash(moment, filling)?;
-        let read = make(
-            alloc,
-            &p,
-            &mut crashed,
-            &mut test_sealer(),
-            &Call::Read,
-            &mut Blind,
-        );
-        assert_eq!(rt; read, Ok(left), "{shown} {moment}");
+fn a_crash_leaves_a_prefix(rt: HostRuntime) {
+    for (append, moment, filling, open) in CRASHES {
+        let read = read_after(&rt, rt.alloc(), &append, moment, filling);
+        assert!(rt; read == Ok(open), "{moment} {open}");
     }
-    Ok(())
 }
 
 // The cells were made by another implementation.
@@ -425,32 +434,45 @@ const CELLS: [(u64, &str); 3] = [
     ),
 ];
 
-#[test]
-fn records_are_spelled_and_told(rt: HostRuntime) -> Result<(), Broken> {
-    let alloc = rt.alloc();
-    let p = params(&rt, 8, 2);
+// A store in which three records were written.
+fn with_records(rt: &impl Abort, alloc: Global, p: &Params) -> MemStore
+    ensures { result.log.out ≡ 0 }
+{
     let shown = "W 13\nS\nW 14\nS\nW 15\nS\nW 16\nS\nW 9\nS\nW 10\nS\n";
-    let mut store = played(&rt, alloc, &p, &[], &WRITTEN[..4], shown);
-    for (cell, digits) in CELLS {
-        let wanted = <[u8; 128] as FromHex>::from_hex(digits)?;
-        assert_eq!(rt; cell_of(&mut store, cell), Ok(wanted), "{cell}");
-        assert_eq!(rt; cell_of(&mut store, cell + 1), Ok(OPEN), "{cell}");
-    }
-    let Ok(records) = read_open(alloc, &mut store, &test_sealer(), &p, 1, &mut Blind) else {
-        return Err("no records".into());
-    };
-    assert_eq!(rt; records.as_slice().len(), 2);
-    for (i, first, words) in [(0, 0, FIRST), (1, 2, SECOND)] {
-        let record = &records.as_slice()[i];
-        assert_eq!(rt; (record.generation(), record.first()), (2, first));
-        assert_eq!(rt; record.asks(), [None, None].as_slice());
-        assert_eq!(rt; record.words(), words.as_slice());
-    }
-    Ok(())
+    played(rt, alloc, p, &[], &WRITTEN[..4], shown)
 }
 
-// The keys of the store; the epoch, the batch, and the kind and key of two places in the first body;
-// and what is told.
+#[test]
+fn records_are_spelled(rt: HostRuntime) {
+    let mut store = with_records(&rt, rt.alloc(), &params(&rt, 8, 2));
+    for (cell, digits) in CELLS {
+        let wanted = <[u8; 128] as FromHex>::from_hex(digits).expect(&rt, "digits");
+        assert!(rt; cell_of(&mut store, cell) == Ok(wanted), "{cell}");
+        assert!(rt; cell_of(&mut store, cell + 1) == Ok(OPEN), "{cell}");
+    }
+}
+
+// The places of the first words of the records that are open, and their words.
+const OPENED: [(u64, [u64; 2]); 2] = [(0, FIRST), (2, SECOND)];
+
+#[test]
+fn records_are_told(rt: HostRuntime) {
+    let alloc = rt.alloc();
+    let p = params(&rt, 8, 2);
+    let mut store = with_records(&rt, alloc, &p);
+    let records = read_open(alloc, &mut store, &test_sealer(), &p, 1, &mut Blind).expect(
+        &rt, "records",
+    );
+    assert_eq!(rt; records.as_slice().len(), 2);
+    for (record, (first, words)) in records.as_slice().iter().zip(OPENED) {
+        assert!(rt; record.generation() == 2 && record.first() == first);
+        assert!(rt; record.asks() == [None, None].as_slice());
+        assert!(rt; record.words() == words.as_slice());
+    }
+}
+
+// The keys of the store; the epoch, the batch, and the kind and key of two places in the first
+// body; and what is told.
 const BROKEN: [(u32, [u8; 6], Check, u8, u8); 10] = [
     (8, [3, 0, 0, 0, 0, 0], Check::Epoch, 3, 1),
     (8, [1, 1, 0, 0, 0, 0], Check::Form, 1, 0),
@@ -475,7 +497,7 @@ fn the_first_broken_rule_is_told(rt: HostRuntime) {
         });
         let calls = [
             (Call::Forge(13, 0, numbers), Ok(0)),
-            (Call::Put(14, OPEN), Ok(0)),
+            (Call::Fill(14, 0xA5), Ok(0)),
             (Call::Read, wanted),
         ];
         let p = params(&rt, keys, 2);

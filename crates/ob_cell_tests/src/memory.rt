@@ -1,48 +1,57 @@
 //! Planned failures, and what a crash may leave.
 
+use crate::steps::Step::{Lane, Read, Synced, Write};
+use crate::steps::{Step, new_sink, new_store, play};
 use ob_io::{ReadErr, Sink, Source, put_all, read_all};
-use ob_mem::{BareStore, Fail, MemSink, MemSource, MemStore, Void};
+use ob_mem::{BareStore, Fail, MemSink, MemSource, Void};
 use ob_store::{SinkWatch, Store, write_run};
 use std::process::Abort;
-use std::test::Fail as Broken;
+
+// Of a source of three bytes whose second read fails: how many bytes a read of two gives, and how
+// many are left then.
+const READS: [(Option<usize>, usize); 4] = [(Some(2), 1), (None, 1), (Some(1), 0), (Some(0), 0)];
 
 #[test]
-fn a_source_fails_at_the_named_calls(rt: HostRuntime) -> Result<(), Broken> {
+fn a_source_fails_at_the_named_calls(rt: HostRuntime) {
     let alloc = rt.alloc();
-    let mut source = MemSource::new([1, 2, 3].to_vec(alloc)?, [1].to_vec(alloc)?);
+    let bytes = [1, 2, 3].to_vec(alloc).expect(&rt, "memory");
+    let fails = [1].to_vec(alloc).expect(&rt, "memory");
+    let mut source = MemSource::new(bytes, fails);
     let mut piece = [0; 2];
-    assert!(rt; source.read(&mut piece) == Ok(2));
-    assert!(rt; source.read(&mut piece).is_err());
-    assert_eq!(rt; source.left().len(), 1);
-    assert!(rt; source.read(&mut piece) == Ok(1));
-    assert!(rt; source.read(&mut piece) == Ok(0));
+    for (count, left) in READS {
+        assert_eq!(rt; source.read(&mut piece).ok(), count);
+        assert_eq!(rt; source.left().len(), left);
+    }
     assert_eq!(rt; piece, [3, 2]);
     assert_eq!(rt; source.faults(), 1);
-    Ok(())
 }
 
 #[test]
-fn a_source_is_read_to_its_end(rt: HostRuntime) -> Result<(), Broken> {
+fn a_source_is_read_to_its_end(rt: HostRuntime) {
     let alloc = rt.alloc();
-    let mut source = MemSource::new([7; 5000].to_vec(alloc)?, Vec::new(alloc));
+    let bytes = [7; 5000].to_vec(alloc).expect(&rt, "memory");
+    let mut source = MemSource::new(bytes, Vec::new(alloc));
     match read_all(alloc, &mut source, 10_000) {
         Ok(bytes) => assert_eq!(rt; bytes.len(), 5000),
         Err(ReadErr::Memory | ReadErr::Failed) => assert!(rt; false),
     }
-    Ok(())
 }
 
+// Of a sink with room for five bytes whose second write fails: what is written, and how much of it
+// is taken.
+const WRITES: [(&[u8], Option<usize>); 3] = [(b"ab", Some(2)), (b"cd", None), (b"cdef", Some(3))];
+
 #[test]
-fn a_sink_fails_at_the_named_calls_and_without_room(rt: HostRuntime) -> Result<(), Broken> {
+fn a_sink_fails_at_the_named_calls_and_without_room(rt: HostRuntime) {
     let alloc = rt.alloc();
-    let mut sink = MemSink::new(alloc, 5, [1].to_vec(alloc)?)?;
-    assert!(rt; sink.write(b"ab") == Ok(2));
-    assert!(rt; sink.write(b"cd").is_err());
-    assert!(rt; sink.write(b"cdef") == Ok(3));
+    let fails = [1].to_vec(alloc).expect(&rt, "memory");
+    let mut sink = MemSink::new(alloc, 5, fails).expect(&rt, "memory");
+    for (bytes, count) in WRITES {
+        assert_eq!(rt; sink.write(bytes).ok(), count);
+    }
     assert!(rt; put_all(&mut sink, b"g").is_err());
     assert_eq!(rt; sink.written(), b"abcde".as_slice());
     assert_eq!(rt; sink.faults(), 2);
-    Ok(())
 }
 
 #[test]
@@ -50,91 +59,101 @@ fn a_void_takes_all(rt: HostRuntime) {
     assert!(rt; put_all(&mut Void, b"abc").is_ok());
 }
 
-#[test]
-fn planned_calls_of_a_store_fail(rt: HostRuntime) -> Result<(), Broken> {
-    let alloc = rt.alloc();
-    let fails = [
-        Fail::Write(1),
-        Fail::Sync(0),
-        Fail::Lane(1),
-        Fail::Read { cell: 2, writes: 3 },
-    ];
-    let mut store = MemStore::new(alloc, 3, fails.to_vec(alloc)?)?;
-    assert!(rt; store.write(2, &[1; 128]).is_ok());
-    assert!(rt; store.write(2, &[2; 128]).is_err());
-    assert!(rt; store.sync().is_err());
-    assert!(rt; store.write(3, &[3; 128]).is_err());
-    let mut lane = store.lane().expect(&rt, "a lane");
-    let mut bytes = [9; 128];
-    assert!(rt; store.read(&mut lane, 2, &mut bytes).is_err());
-    assert!(rt; store.read(&mut lane, 7, &mut bytes).is_ok());
-    assert_eq!(rt; bytes[127], 0);
-    assert!(rt; store.lane().is_err());
-    store.absorb(lane);
-    assert_eq!(rt; store.faults(), 5);
-    assert_eq!(rt; store.starved(), 0);
-    Ok(())
-}
+const PLANNED: [Fail; 4] = [
+    Fail::Write(1),
+    Fail::Sync(0),
+    Fail::Lane(1),
+    Fail::Read { cell: 2, writes: 3 },
+];
 
-// The first byte of a cell.
-fn first_byte<S: Store>(rt: &impl Abort, store: &mut S, cell: u64) -> u8 {
-    let mut bytes = [0; 128];
-    let mut lane = store.lane().expect(rt, "a lane");
-    assert!(rt; store.read(&mut lane, cell, &mut bytes).is_ok());
-    store.absorb(lane);
-    bytes[0]
-}
+// On three cells, where these calls fail.
+const FAILING: &[Step] = &[
+    Write(2, 1, true),
+    Write(2, 2, false),
+    Synced(false),
+    Write(3, 3, false),
+    Read(2, None),
+    Lane(false),
+    Read(7, Some(0)),
+];
 
 #[test]
-fn a_crash_fills_what_is_not_sure(rt: HostRuntime) -> Result<(), Broken> {
+fn planned_calls_of_a_store_fail(rt: HostRuntime) {
     let alloc = rt.alloc();
-    let mut store = MemStore::new(alloc, 4, [Fail::Sync(1)].to_vec(alloc)?)?;
-    assert!(rt; store.write(0, &[1; 128]).is_ok());
-    assert!(rt; store.sync().is_ok());
-    assert!(rt; store.write(1, &[2; 128]).is_ok());
-    assert!(rt; store.sync().is_err());
+    let mut store = new_store(&rt, alloc, 3, &PLANNED);
+    play(&rt, &mut store, FAILING);
+    assert!(rt; store.faults() == 5 && store.starved() == 0);
+}
+
+// Two cells, of which the first is sure.
+const HALF_SURE: &[Step] = &[
+    Write(0, 1, true),
+    Synced(true),
+    Write(1, 2, true),
+    Synced(false),
+];
+
+// The moment of a crash, and the bytes of the cells 0 and 1 then.
+const CRASHES: [(usize, u8, u8); 6] = [
+    (0, 0, 0),
+    (1, 7, 0),
+    (2, 1, 0),
+    (3, 1, 9),
+    (4, 1, 9),
+    (9, 1, 9),
+];
+
+#[test]
+fn a_crash_fills_what_is_not_sure(rt: HostRuntime) {
+    let alloc = rt.alloc();
+    let mut store = new_store(&rt, alloc, 4, &[Fail::Sync(1)]);
+    play(&rt, &mut store, HALF_SURE);
     let fillings = [(0, [7; 128]), (1, [8; 128]), (1, [9; 128]), (5, [9; 128])];
-    for (moment, first, second) in [
-        (0, 0, 0),
-        (1, 7, 0),
-        (2, 1, 0),
-        (3, 1, 9),
-        (4, 1, 9),
-        (9, 1, 9),
-    ] {
-        let mut left = store.crash(moment, &fillings)?;
-        assert_eq!(rt; first_byte(&rt, &mut left, 0), first, "cell 0 at {moment}");
-        assert_eq!(rt; first_byte(&rt, &mut left, 1), second, "cell 1 at {moment}");
-        assert_eq!(rt; first_byte(&rt, &mut left, 5), 0);
+    for (moment, first, second) in CRASHES {
+        let mut left = store.crash(moment, &fillings).expect(&rt, "memory");
+        let cells = [
+            Read(0, Some(first)),
+            Read(1, Some(second)),
+            Read(5, Some(0)),
+        ];
+        play(&rt, &mut left, &cells);
     }
-    let mut kept = store.crash(4, &[])?;
-    assert_eq!(rt; first_byte(&rt, &mut kept, 1), 2);
-    Ok(())
+    let mut kept = store.crash(4, &[]).expect(&rt, "memory");
+    play(&rt, &mut kept, &[Read(1, Some(2))]);
 }
 
-#[test]
-fn a_bare_store_reads_what_was_written(rt: HostRuntime) -> Result<(), Broken> {
-    let mut store = BareStore::new(rt.alloc(), 2)?;
-    assert!(rt; store.write(1, &[5; 128]).is_ok());
-    assert!(rt; store.write(2, &[5; 128]).is_err());
-    assert!(rt; store.sync().is_ok());
-    assert_eq!(rt; first_byte(&rt, &mut store, 1), 5);
-    Ok(())
-}
+// On a store of two cells.
+const BARE: &[Step] = &[
+    Write(1, 5, true),
+    Write(2, 5, false),
+    Synced(true),
+    Read(1, Some(5)),
+];
 
 #[test]
-fn a_run_is_written_cell_by_cell(rt: HostRuntime) -> Result<(), Broken> {
+fn a_bare_store_reads_what_was_written(rt: HostRuntime) {
+    let mut store = BareStore::new(rt.alloc(), 2).expect(&rt, "memory");
+    play(&rt, &mut store, BARE);
+}
+
+// What two runs leave, of which the second one's last write failed.
+const RUNS: &[Step] = &[
+    Read(0, Some(0)),
+    Read(1, Some(5)),
+    Read(2, Some(7)),
+    Read(3, Some(8)),
+];
+
+#[test]
+fn a_run_is_written_cell_by_cell(rt: HostRuntime) {
     let alloc = rt.alloc();
-    let mut store = MemStore::new(alloc, 4, [Fail::Write(3)].to_vec(alloc)?)?;
-    let mut sink = MemSink::new(alloc, 40, Vec::new(alloc))?;
+    let mut store = new_store(&rt, alloc, 4, &[Fail::Write(3)]);
+    let mut sink = new_sink(&rt, alloc, 40);
     let mut watch = SinkWatch::new(&mut sink);
     assert!(rt; write_run(&mut store, 1, &[[5; 128], [6; 128]], &mut watch).is_ok());
     assert!(rt; write_run(&mut store, 2, &[[7; 128], [8; 128], [9; 128]], &mut watch).is_err());
     assert_eq!(rt; sink.written(), b"W 1\nW 2\nW 2\nW 3\n".as_slice());
-    for (cell, byte) in [(0, 0), (1, 5), (2, 7), (3, 8)] {
-        assert_eq!(rt; first_byte(&rt, &mut store, cell), byte, "cell {cell}");
-    }
-    Ok(())
+    play(&rt, &mut store, RUNS);
 }
 
 fn is_read_by_threads<S: Store + Sync>(_: &S) -> bool {
@@ -146,23 +165,12 @@ fn moves_to_a_thread<T: Send>(_: &T) -> bool {
 }
 
 #[test]
-fn threads_read_stores_through_lanes(rt: HostRuntime) -> Result<(), Broken> {
+fn threads_read_stores_through_lanes(rt: HostRuntime) {
     let alloc = rt.alloc();
-    let mut store = MemStore::new(alloc, 4, Vec::new(alloc))?;
+    let mut store = new_store(&rt, alloc, 4, &[]);
     assert!(rt; is_read_by_threads(&store));
-    let Ok(lane) = store.lane() else {
-        assert!(rt; false);
-        return Ok(());
-    };
-    assert!(rt; moves_to_a_thread(&lane));
-    store.absorb(lane);
-    let mut bare = BareStore::new(alloc, 4)?;
+    assert!(rt; moves_to_a_thread(&store.lane().expect(&rt, "a lane")));
+    let mut bare = BareStore::new(alloc, 4).expect(&rt, "memory");
     assert!(rt; is_read_by_threads(&bare));
-    let Ok(lane) = bare.lane() else {
-        assert!(rt; false);
-        return Ok(());
-    };
-    assert!(rt; moves_to_a_thread(&lane));
-    bare.absorb(lane);
-    Ok(())
+    assert!(rt; moves_to_a_thread(&bare.lane().expect(&rt, "a lane")));
 }

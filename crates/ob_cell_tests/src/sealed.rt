@@ -3,14 +3,14 @@
 ghost use Rattle.std.specs.Prelude.{◌≡◌};
 ghost use Rattle.ob_mem.specs.Memory.{disk_of_store};
 
+use crate::steps::{new_sink, new_store};
 use ob_base::{Check, Fault};
 use ob_cells::{Cut, Identity, open_sealed, read_cells, read_sealed, write_sealed};
-use ob_mem::{Fail, MemSink, MemStore};
+use ob_mem::{Fail, MemStore};
 use ob_seal::{Keys, Sealer};
 use ob_store::{Blind, SinkWatch, Store, write_through};
 use std::alloc::Global;
 use std::process::Abort;
-use std::test::Fail as Broken;
 
 // A sealer under the keys of the bytes 0 to 95.
 fn test_sealer(generation: u64) -> Sealer
@@ -35,10 +35,10 @@ fn empty_slots<const N: usize>() -> [u8; N] {
 }
 
 // A store with four in the cells 39 to 42, under the first seals of generation 1.
-fn with_slots(rt: &impl Abort, alloc: Global, fails: Vec<Fail>) -> MemStore
+fn with_slots(rt: &impl Abort, alloc: Global, fails: &[Fail]) -> MemStore
     ensures { result.log.out ≡ 0 }
 {
-    let mut store = MemStore::new(alloc, 43, fails).expect(rt, "memory");
+    let mut store = new_store(rt, alloc, 43, fails);
     let bytes: [u8; 292] = empty_slots();
     let mut sealer = test_sealer(1);
     let cut = Cut { bytes: &bytes };
@@ -61,10 +61,10 @@ const TAGS: [u128; 4] = [
 ];
 
 #[test]
-fn a_run_reads_back(rt: HostRuntime) -> Result<(), Broken> {
+fn a_run_reads_back(rt: HostRuntime) {
     let alloc = rt.alloc();
-    let mut store = with_slots(&rt, alloc, Vec::new(alloc));
-    let mut sink = MemSink::new(alloc, 20, Vec::new(alloc))?;
+    let mut store = with_slots(&rt, alloc, &[]);
+    let mut sink = new_sink(&rt, alloc, 20);
     let mut cells = [[9; 128]; 4];
     let mut watch = SinkWatch::new(&mut sink);
     assert!(rt; read_cells(&mut store, 39, &mut cells, &mut watch).is_ok());
@@ -74,22 +74,19 @@ fn a_run_reads_back(rt: HostRuntime) -> Result<(), Broken> {
     }
     let mut plain = [9; 384];
     let sealer = test_sealer(0);
-    assert_eq!(rt; open_sealed(&sealer, 39, &cells, &mut plain), Ok(FIRST));
+    assert!(rt; open_sealed(&sealer, 39, &cells, &mut plain) == Ok(FIRST));
     assert!(rt; plain == empty_slots());
     plain = [9; 384];
-    assert_eq!(rt;
-        read_sealed(&mut store, &sealer, 39, &mut plain, &mut Blind),
-        Ok(FIRST)
-    );
+    let read = read_sealed(&mut store, &sealer, 39, &mut plain, &mut Blind);
+    assert!(rt; read == Ok(FIRST));
     assert!(rt; plain == empty_slots());
-    Ok(())
 }
 
-// A cell with other plain bytes, sealed so.
-fn other(generation: u64, number: u8, cell: u64) -> [u8; 128] {
-    let mut sealer = test_sealer(generation);
+// A cell with other plain bytes, under the seal of this generation and number.
+fn other(sealed: (u8, u8), cell: u64) -> [u8; 128] {
+    let mut sealer = test_sealer(u64::from(sealed.0));
     let mut bytes = [0; 128];
-    for _ in 0..=number {
+    for _ in 0..=sealed.1 {
         if let Ok(sealed) = sealer.seal(cell, &[7; 96]) {
             bytes = sealed;
         }
@@ -97,11 +94,11 @@ fn other(generation: u64, number: u8, cell: u64) -> [u8; 128] {
     bytes
 }
 
-// The 16 bytes of an identity of small numbers.
-fn identity(generation: u8, number: u8) -> [u8; 16] {
+// The 16 bytes of a small generation and number.
+fn identity(sealed: (u8, u8)) -> [u8; 16] {
     let mut bytes = [0; 16];
-    bytes[0] = generation;
-    bytes[8] = number;
+    bytes[0] = sealed.0;
+    bytes[8] = sealed.1;
     bytes
 }
 
@@ -112,37 +109,41 @@ fn read_with(
     cell: u64,
     bytes: &[u8; 128],
 ) -> (Result<Identity, Fault>, usize) {
-    let mut store = with_slots(rt, alloc, Vec::new(alloc));
+    let mut store = with_slots(rt, alloc, &[]);
     assert!(rt; write_through(&mut store, cell, bytes, &mut Blind).is_ok());
-    let mut sink = MemSink::new(alloc, 20, Vec::new(alloc)).expect(rt, "memory");
+    let mut sink = new_sink(rt, alloc, 20);
     let mut plain = [0; 384];
     let mut watch = SinkWatch::new(&mut sink);
     let read = read_sealed(&mut store, &test_sealer(0), 39, &mut plain, &mut watch);
     (read, sink.written().len() / 5)
 }
 
+// A cell of the run that is sealed anew, under a generation and a number; the first cell that
+// breaks a rule then, and the generation and number that it has and those that it should have.
+const SEALED_ANEW: [(u64, (u8, u8), u64, (u8, u8), (u8, u8)); 3] = [
+    (41, (1, 3), 41, (1, 3), (1, 2)),
+    (41, (2, 2), 41, (2, 2), (1, 2)),
+    (39, (7, 0), 40, (1, 1), (7, 1)),
+];
+
 #[test]
 fn the_first_cell_that_breaks_a_rule_is_told(rt: HostRuntime) {
-    let table = [
-        (41, other(1, 3, 41), 41, identity(1, 3), identity(1, 2)),
-        (41, other(2, 2, 41), 41, identity(2, 2), identity(1, 2)),
-        (39, other(7, 0, 39), 40, identity(1, 1), identity(7, 1)),
-    ];
-    for (cell, bytes, at, kept, computed) in table {
+    for (cell, sealed, at, kept, computed) in SEALED_ANEW {
         let told = Fault::Damaged {
             cell: at,
             check: Check::Seal,
-            kept,
-            computed,
+            kept: identity(kept),
+            computed: identity(computed),
         };
-        let reads = at as usize - 38;
-        assert_eq!(rt;
-            read_with(&rt, rt.alloc(), cell, &bytes),
-            (Err(told), reads),
-            "{cell}"
-        );
+        let (read, reads) = read_with(&rt, rt.alloc(), cell, &other(sealed, cell));
+        assert!(rt; read == Err(told) && reads == at as usize - 38, "{cell}");
     }
-    let (read, reads) = read_with(&rt, rt.alloc(), 40, &other(1, 1, 41));
+}
+
+// A cell under the seal of the cell behind it.
+#[test]
+fn a_seal_is_of_its_cell_alone(rt: HostRuntime) {
+    let (read, reads) = read_with(&rt, rt.alloc(), 40, &other((1, 1), 41));
     assert_eq!(rt; reads, 2);
     assert!(rt;
         matches!(
@@ -154,36 +155,41 @@ fn the_first_cell_that_breaks_a_rule_is_told(rt: HostRuntime) {
             })
         )
     );
-    let (read, reads) = read_with(&rt, rt.alloc(), 42, &other(1, 3, 42));
-    assert_eq!(rt; (read, reads), (Ok(FIRST), 4));
+    let (read, reads) = read_with(&rt, rt.alloc(), 42, &other((1, 3), 42));
+    assert!(rt; read == Ok(FIRST) && reads == 4);
 }
 
+const STORE_FAULT: Fault = Fault::StoreFault { unsure: None };
+
+const NOT_READ: [Fail; 2] = [
+    Fail::Lane(0),
+    Fail::Read {
+        cell: 41,
+        writes: 4,
+    },
+];
+
 #[test]
-fn a_failing_call_is_told(rt: HostRuntime) -> Result<(), Broken> {
+fn a_failing_read_is_told(rt: HostRuntime) {
     let alloc = rt.alloc();
-    for fail in [
-        Fail::Lane(0),
-        Fail::Read {
-            cell: 41,
-            writes: 4,
-        },
-    ] {
-        let told = Err(Fault::StoreFault { unsure: None });
-        let mut store = with_slots(&rt, alloc, [fail].to_vec(alloc)?);
+    for fail in NOT_READ {
+        let mut store = with_slots(&rt, alloc, &[fail]);
         let mut plain = [0; 384];
-        assert_eq!(rt;
-            read_sealed(&mut store, &test_sealer(0), 39, &mut plain, &mut Blind),
-            told
-        );
-        store = with_slots(&rt, alloc, [fail].to_vec(alloc)?);
+        let read = read_sealed(&mut store, &test_sealer(0), 39, &mut plain, &mut Blind);
+        assert!(rt; read == Err(STORE_FAULT));
+        store = with_slots(&rt, alloc, &[fail]);
         let mut cells = [[0; 128]; 4];
         assert!(rt; read_cells(&mut store, 39, &mut cells, &mut Blind).is_err());
     }
-    let mut store = MemStore::new(alloc, 43, [Fail::Write(2)].to_vec(alloc)?)?;
+}
+
+#[test]
+fn a_failing_write_is_told(rt: HostRuntime) {
+    let alloc = rt.alloc();
+    let mut store = new_store(&rt, alloc, 43, &[Fail::Write(2)]);
     let mut sealer = test_sealer(1);
     let bytes: [u8; 384] = empty_slots();
     let cut = Cut { bytes: &bytes };
     assert!(rt; write_sealed(&mut store, &mut sealer, 39, 4, &cut, &mut Blind).is_err());
     assert_eq!(rt; sealer.next(), (1, 3));
-    Ok(())
 }

@@ -1,20 +1,20 @@
 //! A store of another version, begun.
 
+use crate::steps::{new_sink, new_store};
 use ob_base::Fault;
-use ob_mem::{MemSink, MemStore};
 use ob_seal::{Keys, Sealer};
 use ob_start::{begin, lay_registers, read_head, read_registers, set_first};
 use ob_store::{Blind, SinkWatch};
 use ob_twin::{Gates, Twin};
-use std::test::Fail as Broken;
+use std::process::Abort;
 
 #[test]
-fn a_store_is_begun(rt: HostRuntime) -> Result<(), Broken> {
+fn a_store_is_begun(rt: HostRuntime) {
     let alloc = rt.alloc();
     let keys = Keys::from_bytes(&[7; 96]);
     let sealer = Sealer::new(&keys, 0);
-    let mut store = MemStore::new(alloc, 20, Vec::new(alloc))?;
-    let mut sink = MemSink::new(alloc, 200, Vec::new(alloc))?;
+    let mut store = new_store(&rt, alloc, 20, &[]);
+    let mut sink = new_sink(&rt, alloc, 200);
     let mut watch = SinkWatch::new(&mut sink);
     assert!(rt; lay_registers(&mut store, &sealer, &[12, 14], &mut watch).is_ok());
     let written = b"W 0\nS\nW 2\nW 4\nW 6\nW 8\nW 12\nW 14\nS\nW 4\nS\nW 3\nS\nW 4\nS\n";
@@ -27,12 +27,8 @@ fn a_store_is_begun(rt: HostRuntime) -> Result<(), Broken> {
     );
     assert!(rt; set_first(Twin::EPOCH, &mut store, &sealer, 0, &mut Blind).is_ok());
     let mut gates = Gates::new();
-    match read_registers(&mut store, &sealer, &mut gates, &mut Blind) {
-        Ok(numbers) => {
-            assert_eq!(rt; (numbers.generation, numbers.epoch), (1, 0));
-            assert!(rt; begin(&mut store, &sealer, &mut gates, 1, &mut Blind) == Ok(2));
-        }
-        Err(_) => assert!(rt; false),
-    }
-    Ok(())
+    let numbers = read_registers(&mut store, &sealer, &mut gates, &mut Blind);
+    let numbers = numbers.expect(&rt, "registers");
+    assert!(rt; numbers.generation == 1 && numbers.epoch == 0);
+    assert!(rt; begin(&mut store, &sealer, &mut gates, 1, &mut Blind) == Ok(2));
 }

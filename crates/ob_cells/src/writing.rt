@@ -25,8 +25,8 @@ fn seal_next(sealer: &mut Sealer, cell: u64, plain: &[u8; 96]) -> [u8; 128]
     }
 }
 
-/// Writes so many cells from a cell on, in rising order, under the next seals, and makes not sure of
-/// them. A crash at any moment of it changes no other cell. Each write is shown, whatever it
+/// Writes so many cells from a cell on, in rising order, under the next seals, and makes not sure
+/// of them. A crash at any moment of it changes no other cell. Each write is shown, whatever it
 /// answered.
 ///
 /// # Errors

@@ -17,7 +17,7 @@ use Rattle.ob_cells.specs.Reads.{IsFirstDamage, IsRunOpened}
 use Rattle.ob_cells.specs.Rules.{first_broken, told_of}
 use Rattle.ob_cells.specs.Runs.{run_at}
 use Rattle.ob_cells.proofs.RunReads as runs
-use Rattle.ob_content.specs.Content.{content_of}
+use Rattle.ob_tables.specs.Content.{content_of}
 use Rattle.ob_check.specs.ReadBack.{IsCheckRead, IsOpenedTo, IsRefused, IsReadFrom, IsRefusedFrom, IsContentRead, epoch_in}
 use Rattle.ob_check.specs.Reading.{content_in}
 use Rattle.ob_check.specs.Rules.{rules}

@@ -28,9 +28,9 @@ use Rattle.ob_cells.specs.Reads.{IsFirstDamage}
 use Rattle.ob_cells.specs.Rules.{first_broken, told_of}
 use Rattle.ob_cells.specs.Runs.{run_at}
 use Rattle.ob_cells.proofs.RunReads as runs
-use Rattle.ob_content.specs.Content.{Content, Obeys, content_of}
-use Rattle.ob_content.specs.Spelling.{checkpoint_bytes}
-use Rattle.ob_content.proofs.TextLaws.{content_length, fields_fit}
+use Rattle.ob_tables.specs.Content.{Content, Obeys, content_of}
+use Rattle.ob_tables.specs.Spelling.{checkpoint_bytes}
+use Rattle.ob_tables.proofs.TextLaws.{content_length, fields_fit}
 use Rattle.ob_check.specs.Fields.{number_in, rank_in, count_in}
 use Rattle.ob_check.specs.ReadBack.{IsCheckRead, IsOpenedTo, IsRefused, IsReadFrom, IsRefusedFrom, IsContentRead, ReadsBack, epoch_in}
 use Rattle.ob_check.specs.Reading.{content_in, entry_in, key_of, version_in, row_in}

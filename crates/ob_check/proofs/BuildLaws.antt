@@ -19,7 +19,7 @@ use Rattle.ob_bucket.proofs.SpellingLaws.{spelled_once}
 use Rattle.ob_bucket.specs.Buckets.{Buckets, no_version, with_version}
 use Rattle.ob_tables.specs.declared.entry.Entry.{Entry}
 use Rattle.ob_tables.specs.Kept.{Held}
-use Rattle.ob_content.specs.Content.{Content, Rows}
+use Rattle.ob_tables.specs.Content.{Content, Rows}
 use Rattle.ob_check.specs.Fields.{bucket_place, count_in, row_key_in, row_value_in}
 use Rattle.ob_check.specs.Reading.{entry_in, version_in, row_in, content_in}
 use Rattle.ob_check.specs.Rules.{is_loose, loose_keys}

@@ -21,7 +21,7 @@ use Rattle.ob_tables.specs.declared.entry.Entry.{Entry}
 use Rattle.ob_tables.specs.Kept.{entry_at}
 use Rattle.ob_tables.proofs.RowLaws.{ties, differs}
 use Rattle.ob_cells.specs.Rules.{Rule, first_broken}
-use Rattle.ob_content.specs.Content.{Obeys, FitsBook, FitsEntry, FitsSeals, IsLoose, IsKeyOf}
+use Rattle.ob_tables.specs.Content.{Obeys, FitsBook, FitsEntry, FitsSeals, IsLoose, IsKeyOf}
 use Rattle.ob_check.specs.Fields.{byte_at, entry_place, is_present, leaf_in, bucket_place, number_in, rank_in, mark_in, count_in, row_key_in, row_len_in, row_value_in}
 use Rattle.ob_check.specs.Marks.{HaveLeaves}
 use Rattle.ob_check.specs.Reading.{entry_in, key_of, version_in, row_in, content_in}

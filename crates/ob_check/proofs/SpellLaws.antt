@@ -15,9 +15,9 @@ use Rattle.ob_bucket.specs.Version.{Version, HasSlots, version_bytes, version_le
 use Rattle.ob_bucket.specs.Buckets.{no_version}
 use Rattle.ob_bucket.proofs.PartLaws.{part_none, parts_joined, keys_width, index_width}
 use Rattle.ob_base.proofs.Spelled.{length-flat_map_wide}
-use Rattle.ob_content.specs.Content.{Content, Obeys}
-use Rattle.ob_content.specs.Spelling.{checkpoint_bytes, entry_bytes, row_bytes, stash_bytes}
-use Rattle.ob_content.proofs.TextLaws.{entry_width, version_width, row_width, row_short}
+use Rattle.ob_tables.specs.Content.{Content, Obeys}
+use Rattle.ob_tables.specs.Spelling.{checkpoint_bytes, entry_bytes, row_bytes, stash_bytes}
+use Rattle.ob_tables.proofs.TextLaws.{entry_width, version_width, row_width, row_short}
 use Rattle.ob_check.specs.Fields.{bucket_place, count_place, row_place}
 use Rattle.ob_check.proofs.PlaceLaws.{bucket_is, count_end}
 

@@ -19,9 +19,9 @@ use Rattle.ob_bucket.proofs.PartLaws.{key_width, keys_width}
 use Rattle.ob_bucket.proofs.SpellingLaws.{mark_is}
 use Rattle.ob_tables.specs.declared.entry.Entry.{Entry}
 use Rattle.ob_tables.specs.Kept.{entry_at}
-use Rattle.ob_content.specs.Content.{Content, FitsEntry, Obeys}
-use Rattle.ob_content.specs.Spelling.{entry_bytes, row_bytes, stash_bytes, checkpoint_bytes}
-use Rattle.ob_content.proofs.TextLaws.{entry_width, version_width, fields_fit, row_width, row_short, row_key_low}
+use Rattle.ob_tables.specs.Content.{Content, FitsEntry, Obeys}
+use Rattle.ob_tables.specs.Spelling.{entry_bytes, row_bytes, stash_bytes, checkpoint_bytes}
+use Rattle.ob_tables.proofs.TextLaws.{entry_width, version_width, fields_fit, row_width, row_short, row_key_low}
 use Rattle.ob_check.specs.Fields.{byte_at, entry_place, leaf_in, bucket_place, number_in, rank_in, mark_in, count_place, count_in, row_place, row_key_in, row_len_in, row_value_in}
 use Rattle.ob_check.specs.Reading.{entry_in}
 use Rattle.ob_check.proofs.PlaceLaws.{bucket_is}

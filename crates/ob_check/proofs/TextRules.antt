@@ -16,9 +16,9 @@ use Rattle.ob_bucket.specs.Buckets.{version_at, no_version}
 use Rattle.ob_tables.specs.declared.entry.Entry.{Entry}
 use Rattle.ob_tables.specs.Kept.{entry_at}
 use Rattle.ob_cells.specs.Rules.{Rule, first_broken}
-use Rattle.ob_content.specs.Content.{Content, Obeys, IsLoose}
-use Rattle.ob_content.specs.Spelling.{checkpoint_bytes}
-use Rattle.ob_content.proofs.TextLaws.{key_low, row_is_of, row_key_low, row_short}
+use Rattle.ob_tables.specs.Content.{Content, Obeys, IsLoose}
+use Rattle.ob_tables.specs.Spelling.{checkpoint_bytes}
+use Rattle.ob_tables.proofs.TextLaws.{key_low, row_is_of, row_key_low, row_short}
 use Rattle.ob_check.specs.Fields.{byte_at, entry_place, is_present, leaf_in, bucket_place, number_in, rank_in, mark_in, count_in, row_key_in, row_len_in}
 use Rattle.ob_check.specs.Rules.{is_among, counter_rules, present_rule, leaf_rule, entry_rules, numbers_in, placed_in, placed_before, may_lie, may_stand, key_rule, key_rules, ranks_in, shown_in}
 use Rattle.ob_check.specs.Rules.{holds_key, may_rank, may_mark, rank_rule, mark_rule, index_rules, home_rule, home_rules, bucket_rules, is_loose, loose_keys, many_rule, room_rule, count_rules}

@@ -19,7 +19,7 @@ use Rattle.ob_cells.specs.Orders.{IsInRun}
 use Rattle.ob_cells.specs.Reads.{IsFirstDamage}
 use Rattle.ob_cells.specs.Rules.{first_broken, epoch_damage, form_damage}
 use Rattle.ob_cells.specs.Runs.{IsRun, run_at}
-use Rattle.ob_content.specs.Content.{Content, Obeys, content_of}
+use Rattle.ob_tables.specs.Content.{Content, Obeys, content_of}
 use Rattle.ob_check.specs.Reading.{content_in}
 use Rattle.ob_check.specs.Rules.{rules}
 use Rattle.ob_check.specs.Written.{HoldsCheckpointFrom, area_of}

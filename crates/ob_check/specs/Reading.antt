@@ -8,7 +8,7 @@ use Rattle.ob_base.specs.LittleEndian.{field_at}
 use Rattle.ob_base.specs.Tree.{buckets, width, below}
 use Rattle.ob_bucket.specs.Version.{Version, EMPTY}
 use Rattle.ob_tables.specs.declared.entry.Entry.{Entry}
-use Rattle.ob_content.specs.Content.{Content}
+use Rattle.ob_tables.specs.Content.{Content}
 use Rattle.ob_check.specs.Fields.{byte_at, entry_place, is_present, leaf_in, bucket_place, number_in, rank_in, mark_in, count_in, row_key_in, row_value_in}
 
 abbrev pub entry_in : List ℕ → ℕ → Option Entry

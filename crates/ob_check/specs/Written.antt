@@ -9,8 +9,8 @@ use Rattle.ob_seal.specs.declared.keys.Keys.{Keys}
 use Rattle.ob_seal.specs.Pieces.{piece}
 use Rattle.ob_store.specs.Disk.{Image}
 use Rattle.ob_cells.specs.Runs.{AreSealed, run_at}
-use Rattle.ob_content.specs.Content.{Content}
-use Rattle.ob_content.specs.Spelling.{checkpoint_bytes}
+use Rattle.ob_tables.specs.Content.{Content}
+use Rattle.ob_tables.specs.Spelling.{checkpoint_bytes}
 
 -- the first cell of the area of an epoch
 abbrev pub area_of : Params → ℕ → ℕ

@@ -3,7 +3,7 @@
 ghost use Rattle.std.specs.Prelude.{◌≡◌, ◌≤◌, ◌<◌, ◌^◌, length, MatchResult, replicate, false};
 ghost use Rattle.ob_base.specs.Layout.{checkpoint_len};
 ghost use Rattle.ob_cells.specs.Rules.{rule_damage};
-ghost use Rattle.ob_content.specs.Content.{Obeys, content_of};
+ghost use Rattle.ob_tables.specs.Content.{Obeys, content_of};
 ghost use Rattle.ob_check.specs.Fresh.{AreFresh, AreIdle};
 ghost use Rattle.ob_check.specs.ReadBack.{IsAccepted, IsRefused};
 
@@ -15,7 +15,8 @@ use ob_bucket::Metas;
 use ob_cells::{bad_epoch, bad_number};
 use ob_tables::Tables;
 
-// What is told of a number that breaks its rule, where the bytes are those of the cells from `base` on.
+// What is told of a number that breaks its rule, where the bytes are those of the cells from `base`
+// on.
 fn told(base: u64, broken: &Broken) -> Damaged
     requires { base < 2 ^ 62 }
     ensures { result

@@ -6,7 +6,7 @@ ghost use Rattle.ob_base.specs.Layout.{checkpoint_len, meta_len};
 ghost use Rattle.ob_base.specs.Tree.{below, buckets};
 ghost use Rattle.ob_bucket.specs.Version.{Spells};
 ghost use Rattle.ob_cells.specs.Rules.{first_broken};
-ghost use Rattle.ob_content.specs.Content.{Obeys, content_of};
+ghost use Rattle.ob_tables.specs.Content.{Obeys, content_of};
 ghost use Rattle.ob_check.specs.Fields.{bucket_place, count_in, row_len_in, row_value_in};
 ghost use Rattle.ob_check.specs.Fresh.{AreFresh, AreIdle};
 ghost use Rattle.ob_check.specs.Reading.{content_in, entry_in, row_in, version_in};

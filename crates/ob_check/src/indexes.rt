@@ -77,7 +77,8 @@ fn check_rank(p: &Params, place: usize, taken: &[bool], rank: u8) -> Option<Brok
     })
 }
 
-// Tests an index of a bucket, where these ranks are taken, and so many indexes before it were shown.
+// Tests an index of a bucket, where these ranks are taken, and so many indexes before it were
+// shown.
 fn check_index(
     p: &Params,
     bytes: &[u8],

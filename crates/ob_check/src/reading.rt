@@ -5,7 +5,7 @@ ghost use Rattle.ob_base.specs.declared.fault.Fault.TheVariants as fault;
 ghost use Rattle.ob_base.specs.Layout.{checkpoint_cells};
 ghost use Rattle.ob_bucket.specs.Buckets.{Buckets};
 ghost use Rattle.ob_cells.specs.Orders.{run_reads, reads_of};
-ghost use Rattle.ob_content.specs.Content.{Obeys, content_of};
+ghost use Rattle.ob_tables.specs.Content.{Obeys, content_of};
 ghost use Rattle.ob_store.specs.Calls.{IsStoreFault, Keeps, Serves};
 ghost use Rattle.ob_store.specs.Images.{Passes, Same};
 ghost use Rattle.ob_store.specs.Told.{Does};
@@ -82,17 +82,17 @@ fn read_into<S: Store, W: Watch>(
     }
 }
 
-/// Reads the checkpoint of an epoch from its area: the cells from the first on, up to the first that
-/// is refused or damaged; then the epoch; then the rules of the numbers, in the order of the bytes.
-/// What stands in an absent key's other numbers, behind a value and behind the stash's rows isn't
-/// looked at. Each read is shown, whatever it answered. The sheet is written over.
+/// Reads the checkpoint of an epoch from its area: the cells from the first on, up to the first
+/// that is refused or damaged; then the epoch; then the rules of the numbers, in the order of the
+/// bytes. What stands in an absent key's other numbers, behind a value and behind the stash's rows
+/// isn't looked at. Each read is shown, whatever it answered. The sheet is written over.
 ///
 /// # Errors
 /// Memory was wanting: nothing was read. The store failed, and its count of faults rose. A cell is
-/// damaged: in its tag (check Tag, with both tags), then, from the second cell on, in its seal (check
-/// Seal, with both identities); then the epoch is another one (check Epoch, at the first cell, with
-/// both epochs); then the first number that breaks its rule (check Form, at the cell of its first
-/// byte, with the number and the least one that the rule allows there).
+/// damaged: in its tag (check Tag, with both tags), then, from the second cell on, in its seal
+/// (check Seal, with both identities); then the epoch is another one (check Epoch, at the first
+/// cell, with both epochs); then the first number that breaks its rule (check Form, at the cell of
+/// its first byte, with the number and the least one that the rule allows there).
 pub fn read<S: Store, W: Watch>(
     alloc: Global,
     store: &mut S,

@@ -5,8 +5,8 @@ ghost use Rattle.ob_cells.specs.Reads.{ReadsRun};
 ghost use Rattle.ob_store.specs.Calls.{IsStoreFault, Keeps, Serves};
 ghost use Rattle.ob_store.specs.Images.{Passes, Same};
 ghost use Rattle.ob_base.specs.Layout.{checkpoint_cells, checkpoint_len};
-ghost use Rattle.ob_content.specs.Content.{Obeys, content_of};
-ghost use Rattle.ob_content.specs.Spelling.{checkpoint_bytes};
+ghost use Rattle.ob_tables.specs.Content.{Obeys, content_of};
+ghost use Rattle.ob_tables.specs.Spelling.{checkpoint_bytes};
 
 use crate::spell::spell;
 use ob_base::{Fault, Memory, Params, checkpoint_cells, checkpoint_len};

@@ -8,8 +8,8 @@ ghost use Rattle.ob_base.specs.LittleEndian.{with_part};
 ghost use Rattle.ob_base.specs.Tree.{buckets};
 ghost use Rattle.ob_bucket.specs.Version.{HasSlots, version_bytes, version_len};
 ghost use Rattle.ob_bucket.specs.Buckets.{version_at};
-ghost use Rattle.ob_content.specs.Content.{Obeys, content_of};
-ghost use Rattle.ob_content.specs.Spelling.{checkpoint_bytes, entry_bytes, row_bytes};
+ghost use Rattle.ob_tables.specs.Content.{Obeys, content_of};
+ghost use Rattle.ob_tables.specs.Spelling.{checkpoint_bytes, entry_bytes, row_bytes};
 ghost use Rattle.ob_check.specs.Fields.{bucket_place, count_place, row_place};
 
 use crate::places::{bucket_place, count_place, entry_place, row_place};

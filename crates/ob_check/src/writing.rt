@@ -7,7 +7,7 @@ ghost use Rattle.ob_store.specs.Calls.{Serves, IsStoreFault};
 ghost use Rattle.ob_store.specs.Runs.{write_notes};
 ghost use Rattle.ob_store.specs.Told.{Does};
 ghost use Rattle.ob_cells.specs.Runs.{IsFurther};
-ghost use Rattle.ob_content.specs.Content.{Obeys, content_of};
+ghost use Rattle.ob_tables.specs.Content.{Obeys, content_of};
 ghost use Rattle.ob_check.specs.Written.{AreWriteFaults, HoldsCheckpointFrom, IsWornFor, area_of};
 
 use crate::sheet::Sheet;
@@ -27,9 +27,9 @@ pub fn area_of(p: &Params, epoch: u64) -> u64
     check_cell(p, (epoch % 2) as u8, 0)
 }
 
-/// Writes the checkpoint of the tables at an epoch's end into the area of that epoch, under the next
-/// seals, and makes not sure of it. A crash at any moment of it changes no other cell. Each write is
-/// shown, whatever it answered. The sheet is written over. It takes no memory.
+/// Writes the checkpoint of the tables at an epoch's end into the area of that epoch, under the
+/// next seals, and makes not sure of it. A crash at any moment of it changes no other cell. Each
+/// write is shown, whatever it answered. The sheet is written over. It takes no memory.
 ///
 /// # Errors
 /// Worn exactly where fewer seal numbers are left below `2^62` than a checkpoint has cells: nothing

@@ -3,7 +3,7 @@
 ghost use Rattle.std.specs.Prelude.{◌≡◌, ◌<◌, ◌+◌, ◌^◌, IfOk};
 ghost use Rattle.ob_base.specs.Layout.{checkpoint_cells};
 ghost use Rattle.ob_base.specs.Tree.{buckets};
-ghost use Rattle.ob_content.specs.Content.{Obeys, content_of};
+ghost use Rattle.ob_tables.specs.Content.{Obeys, content_of};
 
 use hex::FromHex;
 use ob_base::{

@@ -20,7 +20,7 @@ use ob_serial::Vault;
 use ob_store::Watch;
 
 /// Whether the run goes on behind a look.
-#[derive(Clone, Copy, Debug, PartialEq, Eq)]
+#[derive(Clone, Copy)]
 pub enum Round {
     On,
     /// Each client has signed off, and no transaction waits for its epoch's end.

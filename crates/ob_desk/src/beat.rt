@@ -24,7 +24,7 @@ pub trait Beat {
 
 /// Acts just where each transaction that isn't aborted waits, and there is one. So it aborts none
 /// that could go on.
-#[derive(Clone, Copy, Debug, PartialEq, Eq)]
+#[derive(Clone, Copy)]
 pub struct Eager;
 
 impl Beat for Eager {
@@ -43,7 +43,7 @@ impl Beat for Eager {
 }
 
 /// Acts at every look.
-#[derive(Clone, Copy, Debug, PartialEq, Eq)]
+#[derive(Clone, Copy)]
 pub struct Hasty;
 
 impl Beat for Hasty {

@@ -4,7 +4,7 @@ use ob_base::{Fault, Key, Value};
 use ob_serial::Why;
 
 /// The name of a transaction.
-#[derive(Clone, Copy, Debug, PartialEq, Eq)]
+#[derive(Clone, Copy, PartialEq, Eq)]
 pub struct Txn {
     /// Its client's number.
     pub client: u32,
@@ -14,7 +14,7 @@ pub struct Txn {
 }
 
 /// What a begin is answered.
-#[derive(Clone, Copy, Debug, PartialEq, Eq)]
+#[derive(Clone, Copy)]
 pub enum Begun {
     /// The transaction that began.
     Txn { txn: Txn },
@@ -23,7 +23,7 @@ pub enum Begun {
 }
 
 /// What a get or a poll is answered.
-#[derive(Clone, Copy, Debug, PartialEq, Eq)]
+#[derive(Clone, Copy)]
 pub enum Got {
     /// The key's value, none where it is absent.
     Value { value: Option<Value> },
@@ -34,7 +34,7 @@ pub enum Got {
 }
 
 /// What a put, a delete or a commit is answered.
-#[derive(Clone, Copy, Debug, PartialEq, Eq)]
+#[derive(Clone, Copy)]
 pub enum Done {
     Yes,
     /// The transaction is aborted.
@@ -42,7 +42,7 @@ pub enum Done {
 }
 
 /// What the driver of epochs sees of the running one.
-#[derive(Clone, Copy, Debug, PartialEq, Eq)]
+#[derive(Clone, Copy)]
 pub struct Look {
     /// Transactions that aren't aborted, and asked to commit or have a get that can't be answered
     /// yet.

@@ -5,7 +5,7 @@ use ob_base::Key;
 use ob_serial::{Outcome, Why};
 
 /// What is kept of a transaction beside its operations.
-#[derive(Clone, Copy, Debug, PartialEq, Eq)]
+#[derive(Clone, Copy)]
 pub struct Holder {
     /// Its client's number.
     pub client: u32,
@@ -16,7 +16,7 @@ pub struct Holder {
 }
 
 /// A client.
-#[derive(Clone, Copy, Debug, PartialEq, Eq)]
+#[derive(Clone, Copy)]
 pub struct Client {
     pub number: u32,
     /// Its last transaction.

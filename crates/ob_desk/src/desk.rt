@@ -71,6 +71,8 @@ impl Desk {
         ensures { IfOk result (λ d. d
             ≡ desks.new_desk (record { params = params.now }) epoch left clients.now) }
     {
+        // Made first: a want of memory then leaves no part to drop.
+        let clients = enrol(alloc, clients)?;
         let order = Order::new(alloc, params, left)?;
         let other = Order::new(alloc, params, left)?;
         Ok(Desk {
@@ -78,7 +80,7 @@ impl Desk {
             running: new_part(alloc, epoch, order),
             other: new_part(alloc, epoch, other),
             is_closed: false,
-            clients: enrol(alloc, clients)?,
+            clients,
             stopped: None,
         })
     }

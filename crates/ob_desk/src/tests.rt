@@ -57,7 +57,14 @@ enum Answer {
         txns: usize,
         ended: [Option<Outcome<Key>>; 3],
     },
-    Seen(Look),
+    Seen {
+        waiting: u64,
+        live: u64,
+        queued: u64,
+        left: u64,
+        txns: u64,
+        clients: u64,
+    },
 }
 
 // A write of a batch, where the value of a put is seven.
@@ -298,26 +305,26 @@ const LOOKS: [(Call, Answer); 9] = [
     (Call::SignOff(4), Answer::Not),
     (
         Call::Look,
-        Answer::Seen(Look {
+        Answer::Seen {
             waiting: 2,
             live: 3,
             queued: 1,
             left: 2,
             txns: 4,
             clients: 5,
-        }),
+        },
     ),
     (Call::Round, Answer::Yes),
     (
         Call::Look,
-        Answer::Seen(Look {
+        Answer::Seen {
             waiting: 1,
             live: 3,
             queued: 0,
             left: 1,
             txns: 4,
             clients: 5,
-        }),
+        },
     ),
 ];
 
@@ -542,7 +549,22 @@ fn look(desk: &Desk) -> Answer {
     if !desk.may_look() {
         return Answer::Not;
     }
-    Answer::Seen(desk.look())
+    let Look {
+        waiting,
+        live,
+        queued,
+        left,
+        txns,
+        clients,
+    } = desk.look();
+    Answer::Seen {
+        waiting,
+        live,
+        queued,
+        left,
+        txns,
+        clients,
+    }
 }
 
 fn stop(desk: &mut Desk, fault: Fault) -> Answer {

@@ -115,7 +115,9 @@ module _ {V : Type 0} (k : Kind V) (hall : Hall) (before mid after : Pass) (a b 
     pub ended_rests : IsBetweenTurns hall after next
     ended_rests = record {
       at = record {
-        driver = driver_later hall before after ending_calls turn l.at.driver own raises (mild_look look (rest_calls batches ++ (close_calls ends.writes ++ publish_calls ends.left told)) (rest_mild batches (close_calls ends.writes ++ publish_calls ends.left told) (mild_more desk.Close (desk.Writes ends.writes) (publish_calls ends.left told) tt (mild_one (desk.Publish (suc told.epoch) ends.left) (desk.Published told) tt))));
+        driver = driver_later hall before after ending_calls turn l.at.driver own raises
+            (mild_look look (rest_calls batches ++ (close_calls ends.writes ++ publish_calls ends.left told))
+            (rest_mild batches (close_calls ends.writes ++ publish_calls ends.left told) (mild_more desk.Close (desk.Writes ends.writes) (publish_calls ends.left told) tt (mild_one (desk.Publish (suc told.epoch) ends.left) (desk.Published told) tt))));
         rounds = rounds_now;
         serves = ap (λ (x : VaultCounts). x.spent) counts ∙ r.ready.serves;
         told = subst (λ (n : ℕ). n ≤ next.epoch) (sym (ap (latest 0) seen_is ∙ latest-snoc 0 (suc c.epoch) (raised_by before))) (let x = next_epoch in omega (arith, x));
@@ -180,7 +182,8 @@ module _ {V : Type 0} (k : Kind V) (hall : Hall) (before mid after : Pass) (a b 
           turns = refused_turn.turn ∷ [];
           made = refused_turn.made;
           are = acts_one refused_turn.turn (Closes look batches f.writes ∷ Refuses f.writes f.refused ∷ []) refl
-              (refused_turn.calls_are ∙ (ap (λ (s : Steps). look_calls look ++ s) (sym (append_assoc (rest_calls batches) (close_calls f.writes) ((stop_for f.refused, desk.Done) ∷ []))) ∙ sym (append_assoc (look_calls look) (rest_calls batches ++ close_calls f.writes) ((stop_for f.refused, desk.Done) ∷ []))));
+              (refused_turn.calls_are ∙ (ap (λ (s : Steps). look_calls look ++ s) (sym (append_assoc (rest_calls batches) (close_calls f.writes) ((stop_for f.refused, desk.Done) ∷ []))) ∙ sym
+              (append_assoc (look_calls look) (rest_calls batches ++ close_calls f.writes) ((stop_for f.refused, desk.Done) ∷ []))));
           notes = refused_asks.notes;
           chain = refused_asks.chain;
           shown = refused_asks.shown;

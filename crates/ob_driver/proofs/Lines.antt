@@ -52,7 +52,8 @@ acts_from k beat before mid v t from new acts same rung at a = record {
   place = a.place ∙ at;
 }
 
-pub done_from : {V : Type 0} (k : Kind V) (beat : BeatKind) (hall : Hall) (before mid : Pass) (v : V) (t : Trace) (from : Flow) (c : VaultCounts) (new : Side V) (next : VaultCounts) (round : Round) → entries_by mid ≡ entries_by before → raised_by mid ≡ raised_by before → pass_place mid ≡ pass_place before
+pub done_from : {V : Type 0} (k : Kind V) (beat : BeatKind) (hall : Hall) (before mid : Pass) (v : V) (t : Trace) (from : Flow) (c : VaultCounts) (new : Side V) (next : VaultCounts) (round : Round) → entries_by mid ≡ entries_by before → raised_by mid ≡
+    raised_by before → pass_place mid ≡ pass_place before
     → DoneOnce k beat hall (side mid v t from) c new next round → DoneOnce k beat hall (side before v t from) c new next round
 done_from k beat hall before mid v t from c new next round same rung at d = record {
   acts = d.acts;
@@ -86,7 +87,8 @@ fails_from k beat hall before mid v t from c new fault same rung at f = record {
 -- ---- nothing was done
 
 module _ {V : Type 0} (k : Kind V) (beat : BeatKind) (hall : Hall) (before after : Pass) (v : V) (t : Trace) (flow : Flow) (c : VaultCounts) where
-  pub rested_once : (look : Look) → IsWhere hall before c → MakesTurn before after (look_calls look) → after.ear ≡ before.ear → IsPassOf hall after → IsOutOfTurn after → MayRest beat look → (round : Round) → SaysRound round (Rests look ∷ []) → DoneOnce k beat hall (side before v t flow) c (side after v t flow) c round
+  pub rested_once : (look : Look) → IsWhere hall before c → MakesTurn before after (look_calls look) → after.ear ≡ before.ear → IsPassOf hall after → IsOutOfTurn after → MayRest beat look → (round : Round) → SaysRound round (Rests look ∷ []) → DoneOnce k beat
+      hall (side before v t flow) c (side after v t flow) c round
   rested_once look w m ear own idle may round says = record {
     acts = Rests look ∷ [];
     one = tt;

@@ -38,7 +38,8 @@ module _ {H : Type 0} (steps : ℕ → H → H → ℕ → Type 0) where
         record {
           rounds = q.rounds ++ r ∷ [];
           count = m;
-          are = rounds_snoc (history_of after) 0 first q.rounds mid q.count r (rounds_longer (history_of now) (history_of after) 0 first q.rounds mid q.count x.goes_on q.are) (subst (λ (y : ℕ). steps y mid last k) (sym at) made) one (subst (λ (es : List (Entry Steps)). AreActs es thing) same are) x.stand;
+          are = rounds_snoc (history_of after) 0 first q.rounds mid q.count r (rounds_longer (history_of now) (history_of after) 0 first q.rounds mid q.count x.goes_on q.are) (subst (λ (y : ℕ). steps y mid last k) (sym at) made) one
+              (subst (λ (es : List (Entry Steps)). AreActs es thing) same are) x.stand;
           acts_are = ap (λ (l : List Act). l ++ thing) q.acts_are ∙ (ap (λ (l : List Act). things ++ l) (sym (append-nil thing)) ∙ sym (flat_map-append (λ (r : HandRound H). r.thing) q.rounds (r ∷ [])));
           made = x.made
               ∙ (ap (λ (es : List (Entry Steps)). es ++ x.entries) q.made

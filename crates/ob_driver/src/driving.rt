@@ -100,8 +100,8 @@ fn drive_on<R: Wait, V: Vault, W: Watch, B: Beat, O: Sink, H: Hands>(
     unreachable!()
 }
 
-/// Raises the bell to the epoch that the vault's opening found, by the driver's pass, which has made
-/// no call.
+/// Raises the bell to the epoch that the vault's opening found, by the driver's pass, which has
+/// made no call.
 pub fn announce<V: Vault>(params: &Params, hall: &Hall, pass: &mut Pass, vault: &V)
     requires first { IsFirstPass hall.now pass.old params.now (V.counts vault.now) }
     ensures found { IsRaised pass.old pass.new (V.counts vault.now).epoch }

@@ -15,8 +15,8 @@ pub trait Hands {
     /// and behind the first so many; up to the last of them there are so many.
     ghost round: { AnyHall → ℕ → Self → Self → ℕ → Type 0 };
 
-    /// Each one in order makes one step. `turns` says how many turns the caller was told of, and then
-    /// how many there are up to the last of these. Answers whether one of them ran.
+    /// Each one in order makes one step. `turns` says how many turns the caller was told of, and
+    /// then how many there are up to the last of these. Answers whether one of them ran.
     fn step_all<R: Wait>(&mut self, rt: &R, hall: &Hall, turns: &mut u64) -> bool
         requires ready { ready hall.now self.old }
         ensures ready { ready hall.now self.new }
@@ -24,7 +24,7 @@ pub trait Hands {
 }
 
 /// No client is made by hand.
-#[derive(Clone, Copy, Debug, PartialEq, Eq)]
+#[derive(Clone, Copy)]
 pub struct Nobody;
 
 impl Hands for Nobody {

@@ -7,7 +7,7 @@ ghost use Rattle.ob_driver.specs.Looks.{IsPlan};
 use ob_desk::{Beat, Look};
 
 /// What to do at a look.
-#[derive(Clone, Copy, Debug, PartialEq, Eq)]
+#[derive(Clone, Copy)]
 pub enum Plan {
     /// Keys are queued, and a batch is left.
     Fetch,

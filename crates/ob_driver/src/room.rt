@@ -6,8 +6,8 @@ ghost use Rattle.ob_driver.specs.Rooms.{HasRoom};
 use ob_base::{Key, Memory, Params, Value, Write};
 use std::alloc::Global;
 
-/// Room for a batch's keys and values, and for an epoch's writes. It is made before the first round,
-/// and the driver takes no memory behind that.
+/// Room for a batch's keys and values, and for an epoch's writes. It is made before the first
+/// round, and the driver takes no memory behind that.
 #[derive(Drop)]
 pub struct Room {
     pub asks: Vec<Option<Key>>,

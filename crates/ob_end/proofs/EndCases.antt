@@ -15,7 +15,7 @@ use Rattle.ob_ring.specs.Ring.{Kept}
 use Rattle.ob_ring_trace.specs.Ends.{gates_ended}
 use Rattle.ob_seal.specs.Sealing.{Sealing}
 use Rattle.ob_seal.specs.declared.keys.Keys.{Keys}
-use Rattle.ob_serial.specs.VaultViews.{IsStoreEnd}
+use Rattle.ob_serial.specs.VaultViews.{IsEndFault, IsStoreEnd}
 use Rattle.ob_serial.specs.declared.vault.EndErr.{EndErr}
 use Rattle.ob_serial.specs.declared.vault.EndErr.TheVariants as end
 use Rattle.ob_stand.specs.Ends.{RingEnd, standing_after}
@@ -36,7 +36,7 @@ use Rattle.ob_twin.specs.declared.set_err.SetErr.{SetErr}
 use Rattle.ob_twin.specs.declared.set_err.SetErr.TheVariants as set
 use Rattle.ob_twin.specs.declared.twin.Twin.TheVariants.{EPOCH}
 use Rattle.ob_end.specs.Closings.{CloseDoes, ClosesEnd, IfWritten}
-use Rattle.ob_end.specs.EndRuns.{DrawsForEnd, EndAnswers, EndDoes, EndDraws, EndImages, IfEnded, IsEndReady, MakeAnswers, MakeDraws, MakeTells, MayEndEpoch, end_err_of, standing_at_end}
+use Rattle.ob_end.specs.EndRuns.{DrawsForEnd, EndAnswers, EndDoes, EndDraws, EndImages, IfEnded, IsEndReady, IsMakeFault, MakeAnswers, MakeDraws, MakeTells, MayEndEpoch, end_err_of, standing_at_end}
 
 -- ---- a run that counts as spent while it is at work
 
@@ -53,6 +53,33 @@ pub at_spent : (run : Run) (s : RingStanding) (disk : Disk) → RunIsAt run s di
 at_spent run s disk is = record { tells = is.tells; settled = is.settled; stands = is.stands; runs = is.runs }
 
 -- ---- answers and causes
+
+-- a refusal before anything was written, as an end's
+pub before_fault : (n : ℕ) (f : Fault) → IsMakeFault f → IsEndFault n (end.Before f)
+before_fault n fault.Memory is = absurd is
+before_fault n fault.Usage is = absurd is
+before_fault n (fault.BadScript line) is = absurd is
+before_fault n (fault.BadParams field) is = absurd is
+before_fault n fault.NotStore is = absurd is
+before_fault n (fault.Damaged cell check kept computed) is = tt
+before_fault n (fault.StoreFault unsure) is = is
+before_fault n (fault.StashFull rows) is = tt
+before_fault n (fault.Worn number) is = tt
+before_fault n fault.SourceFault is = absurd is
+before_fault n fault.SinkFault is = absurd is
+
+pub before_blames : (f : Fault) → IsStoreEnd (end.Before f) → IsStoreFault f
+before_blames fault.Memory blamed = absurd blamed
+before_blames fault.Usage blamed = absurd blamed
+before_blames (fault.BadScript line) blamed = absurd blamed
+before_blames (fault.BadParams field) blamed = absurd blamed
+before_blames fault.NotStore blamed = absurd blamed
+before_blames (fault.Damaged cell check kept computed) blamed = absurd blamed
+before_blames (fault.StoreFault unsure) blamed = tt
+before_blames (fault.StashFull rows) blamed = absurd blamed
+before_blames (fault.Worn number) blamed = absurd blamed
+before_blames fault.SourceFault blamed = absurd blamed
+before_blames fault.SinkFault blamed = absurd blamed
 
 pub answers_closed : (p : Params) (t : FlatTable) (epoch drawn next n : ℕ) (ws : List (Write × Entry)) (x : SetErr) → MayEndEpoch p t epoch drawn next ws → IsSetFault EPOCH n x → EndAnswers p t epoch drawn next ws (Err (end_err_of x))
 answers_closed p t epoch drawn next n ws (set.Before f) may is = subst (λ (y : Fault). MakeAnswers p t epoch drawn next ws (Err y)) (sym is) (refl, (may.has).epochs)

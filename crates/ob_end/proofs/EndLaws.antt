@@ -4,7 +4,7 @@ use Rattle.std.proofs.Common.{arith, refl, sym, ap, ◌∙◌, subst}
 use Rattle.ob_base.specs.declared.params.Params.{Params}
 use Rattle.ob_base.specs.declared.value.Write.{Write}
 use Rattle.ob_bucket.specs.Buckets.{Buckets, is_lifted}
-use Rattle.ob_content.specs.Content.{Obeys, Rows}
+use Rattle.ob_tables.specs.Content.{Obeys, Rows}
 use Rattle.ob_end_writes.specs.EndWrites.{IsEndOfRing, content_left, rows_left}
 use Rattle.ob_ending.specs.Lifts.{LiftsAreRead}
 use Rattle.ob_epoch.specs.Table.{buckets_of, flat_of}

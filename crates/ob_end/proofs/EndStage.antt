@@ -6,7 +6,7 @@ use Rattle.ob_base.specs.declared.value.Write.{Write}
 use Rattle.ob_base.specs.Layout.{checkpoint_cells}
 use Rattle.ob_base.specs.Planned.{most_jobs}
 use Rattle.ob_base.specs.Tree.{buckets, width}
-use Rattle.ob_content.specs.Content.{Content, Obeys}
+use Rattle.ob_tables.specs.Content.{Content, Obeys}
 use Rattle.ob_end_writes.specs.EndWrites.{AreSealedFrom, IsEndOfRing, all_seals, content_left, end_write_notes, rows_left}
 use Rattle.ob_ending.specs.Lifts.{lift_notes}
 use Rattle.ob_bucket.specs.Buckets.{Buckets, is_lifted}

@@ -7,7 +7,7 @@ use Rattle.ob_base.specs.declared.value.Write.{Write}
 use Rattle.ob_base.specs.Tree.{buckets}
 use Rattle.ob_bucket.specs.Buckets.{is_lifted, version_at}
 use Rattle.ob_bucket.specs.Version.{rank_at}
-use Rattle.ob_content.specs.Content.{FitsBook, FitsSeals, Rows}
+use Rattle.ob_tables.specs.Content.{FitsBook, FitsSeals, Rows}
 use Rattle.ob_end_writes.specs.EndWrites.{content_left, rows_left, slot_plain, version_of}
 use Rattle.ob_ending.specs.Renewals.{Renews, renewed_writes, table_behind_writes}
 use Rattle.ob_epoch.specs.Numbers.{RenewsBook, RenewsSeals}

@@ -9,7 +9,7 @@ use Rattle.ob_base.specs.Layout.{checkpoint_cells}
 use Rattle.ob_base.specs.Tree.{buckets, width}
 use Rattle.ob_bucket.specs.Buckets.{is_lifted, version_at}
 use Rattle.ob_bucket.specs.Version.{Version}
-use Rattle.ob_content.specs.Content.{FitsBook, FitsSeals, Obeys}
+use Rattle.ob_tables.specs.Content.{FitsBook, FitsSeals, Obeys}
 use Rattle.ob_end_writes.specs.EndWrites.{AreSealedFrom, all_seals, content_left, rows_left}
 use Rattle.ob_epoch.specs.Plans.{AreAllWhole}
 use Rattle.ob_epoch.specs.Valued.{IsEnd}

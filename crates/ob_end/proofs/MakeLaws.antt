@@ -18,7 +18,7 @@ use Rattle.ob_ending.specs.Lifts.{IsUndamaged, LiftsAnswer}
 use Rattle.ob_ending.specs.Renewals.{RenewAnswers, end_seals, end_words, refill_words, renewed_writes, table_behind_writes}
 use Rattle.ob_epoch.proofs.Calling.{calls_join}
 use Rattle.ob_fetch.specs.Fetches.{DrawsWords}
-use Rattle.ob_content.specs.Content.{Rows}
+use Rattle.ob_tables.specs.Content.{Rows}
 use Rattle.ob_recover.specs.Repeats.{BatchIsShown, BatchTells, IsRepeatFault}
 use Rattle.ob_ring.specs.FlatTable.{FlatTable, FinalLifts, Refill, Writes, after, refill_order, stash_size}
 use Rattle.ob_ring.specs.Ring.{IsListed, Kept, StandsFor}

@@ -7,7 +7,7 @@ use Rattle.ob_base.specs.declared.value.Write.{Write}
 use Rattle.ob_base.specs.Layout.{checkpoint_cells}
 use Rattle.ob_bucket.specs.Version.{Version}
 use Rattle.ob_check.specs.Written.{area_of}
-use Rattle.ob_content.specs.Content.{Content, Obeys}
+use Rattle.ob_tables.specs.Content.{Content, Obeys}
 use Rattle.ob_end_writes.specs.EndWrites.{content_left, end_write_notes, rows_left}
 use Rattle.ob_ending.specs.Lifts.{lift_notes}
 use Rattle.ob_epoch.specs.Ends.{RefillRun}
@@ -149,7 +149,8 @@ module _ (keys : Keys) (disk : Disk) (writes : List Write) (words : List ℕ) (g
   writes_then : end_write_notes new (suc epoch) ++ set_notes (is_closed_first gates.epoch (place_of (suc epoch))) 5 (suc epoch) ≡ refill_notes p (new.metas).versions order ++ closing_notes p epoch gates
   writes_then =
       ap (λ (q : Params). (refill_notes q (new.metas).versions (new.metas).order ++ (write_notes (area_of q (suc epoch)) (checkpoint_cells q) ++ (writes_of (log_gates q (suc (suc epoch) % 2)) ++ note.Sync ∷ []))) ++ set_notes (is_closed_first gates.epoch (place_of (suc epoch))) 5 (suc epoch)) new_p
-      ∙ ap (λ (us : List ℕ). (refill_notes p (new.metas).versions us ++ (write_notes (area_of p (suc epoch)) (checkpoint_cells p) ++ (writes_of (log_gates p (suc (suc epoch) % 2)) ++ note.Sync ∷ []))) ++ set_notes (is_closed_first gates.epoch (place_of (suc epoch))) 5 (suc epoch)) ((made.renews).filled).order
+      ∙ ap (λ (us : List ℕ). (refill_notes p (new.metas).versions us ++ (write_notes (area_of p (suc epoch)) (checkpoint_cells p) ++ (writes_of (log_gates p (suc (suc epoch) % 2)) ++ note.Sync ∷ []))) ++ set_notes
+      (is_closed_first gates.epoch (place_of (suc epoch))) 5 (suc epoch)) ((made.renews).filled).order
       ∙ regroup (refill_notes p (new.metas).versions order) (write_notes (area_of p (suc epoch)) (checkpoint_cells p)) (writes_of (log_gates p (suc (suc epoch) % 2))) (note.Sync ∷ []) (set_notes (is_closed_first gates.epoch (place_of (suc epoch))) 5 (suc epoch))
 
   -- the lifts, the writes and the register make the schedule's end

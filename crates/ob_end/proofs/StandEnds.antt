@@ -3,7 +3,7 @@ use Rattle.std.specs.Prelude.{◌≡◌, ℕ, ◌+◌, ◌≤◌, true, List, ta
 use Rattle.std.proofs.Common.{refl, sym, ap, ◌∙◌, subst}
 use Rattle.ob_base.specs.declared.params.Params.{Params}
 use Rattle.ob_base.specs.declared.value.Write.{Write}
-use Rattle.ob_content.specs.Content.{Content, Rows}
+use Rattle.ob_tables.specs.Content.{Content, Rows}
 use Rattle.ob_end_writes.specs.EndWrites.{IsEndOfRing, rows_left}
 use Rattle.ob_ending.specs.Lifts.{LiftsAreRead}
 use Rattle.ob_ending.specs.Renewals.{Renews, renewed_writes}

@@ -9,7 +9,7 @@ use Rattle.ob_base.specs.Layout.{checkpoint_cells}
 use Rattle.ob_base.specs.Tree.{buckets, width}
 use Rattle.ob_bucket.specs.Buckets.{Buckets, version_at}
 use Rattle.ob_bucket.specs.Version.{Version}
-use Rattle.ob_content.specs.Content.{Content, Obeys}
+use Rattle.ob_tables.specs.Content.{Content, Obeys}
 use Rattle.ob_ending.specs.Lifts.{IsLiftDamage, IsUndamaged, LiftsAreRead, lifts_picked}
 use Rattle.ob_ending.specs.Renewals.{Renews}
 use Rattle.ob_epoch.specs.Table.{flat_of}

@@ -3,7 +3,7 @@
 ghost use Rattle.std.specs.Prelude.{◌≡◌, ◌<◌, ◌≤◌, ◌+◌, ◌*◌, ◌^◌, ℕ, suc, length, IfErr, OnOk};
 ghost use Rattle.ob_base.specs.Layout.{checkpoint_cells};
 ghost use Rattle.ob_cells.specs.Writes.{Seals};
-ghost use Rattle.ob_content.specs.Content.{Obeys};
+ghost use Rattle.ob_tables.specs.Content.{Obeys};
 ghost use Rattle.ob_end_writes.specs.EndWrites.{AreSealedFrom, IsEndOfRing, all_seals, content_left, end_write_notes, rows_left};
 ghost use Rattle.ob_pads.specs.Seals.{CellsAreSealed};
 ghost use Rattle.ob_ring.specs.Ring.{AreListedWithin};

@@ -5,7 +5,7 @@ ghost use Rattle.ob_base.specs.Planned.{most_jobs};
 ghost use Rattle.ob_bucket.specs.Buckets.{Buckets};
 ghost use Rattle.ob_cells.specs.Writes.{Seals};
 ghost use Rattle.ob_end_writes.specs.EndWrites.{end_write_notes};
-ghost use Rattle.ob_content.specs.Content.{Content};
+ghost use Rattle.ob_tables.specs.Content.{Content};
 ghost use Rattle.ob_ending.specs.Lifts.{lift_cells, lift_notes};
 ghost use Rattle.ob_fetch.specs.Fetches.{RunIsAt, words_since};
 ghost use Rattle.ob_log.specs.Logs.{BatchRecord};
@@ -136,7 +136,8 @@ pub fn end<S: Store, T: Tape, W: Watch>(
         run.old.sealer.next run.old.ring run.new.ring) result }
     // What the planner then keeps is a content that obeys the rules of a checkpoint.
     ensures content { IfEnded (IsAtContent run.old.params run.new.ring) result }
-    // The lifts of the table, the buckets as these lie then, the checkpoint, the gates, and the register.
+    // The lifts of the table, the buckets as these lie then, the checkpoint, the gates, and the
+    // register.
     ensures does { (start : Buckets) (t : FlatTable) → SameSeals start run.old.ring.metas
         → StandsFor run.old.ring t
         → EndDoes crew.old.lanes (lift_cells run.old.params start.versions t)

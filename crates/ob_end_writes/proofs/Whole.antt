@@ -12,7 +12,7 @@ use Rattle.ob_cells.specs.Runs.{IsFurther}
 use Rattle.ob_cells.specs.Writes.{Seals, WritesWithin}
 use Rattle.ob_cells.proofs.Written.{sealing_on}
 use Rattle.ob_check.specs.Written.{AreWriteFaults, HoldsCheckpointFrom, area_of}
-use Rattle.ob_content.specs.Content.{Content, content_of}
+use Rattle.ob_tables.specs.Content.{Content, content_of}
 use Rattle.ob_ring.specs.Ring.{Kept}
 use Rattle.ob_seal.specs.declared.keys.Keys.{Keys}
 use Rattle.ob_seal.specs.Sealing.{Sealing}
@@ -24,7 +24,7 @@ use Rattle.ob_store.proofs.Moments.{passed_then, passes_so}
 use Rattle.ob_pads.specs.Seals.{CellsAreSealed, IsGate, IsUnsealed, SealerGoesOn}
 use Rattle.ob_pads.proofs.Sealing.{none_sealed, run_sealed, sealed_join}
 use Rattle.ob_seal.specs.Pieces.{piece}
-use Rattle.ob_content.specs.Spelling.{checkpoint_bytes}
+use Rattle.ob_tables.specs.Spelling.{checkpoint_bytes}
 use Rattle.ob_stand.specs.Ends.{RingEnd, IsEndOf, HoldsNextCheckpoint, IsEndWritten}
 use Rattle.ob_stand.specs.Fills.{next_gate}
 use Rattle.ob_stand.specs.Spare.{Spare, SameButIn}

@@ -9,7 +9,7 @@ use Rattle.ob_base.specs.Tree.{width}
 use Rattle.ob_bucket.specs.Version.{Version, rank_at}
 use Rattle.ob_bucket.specs.Buckets.{version_at}
 use Rattle.ob_check.specs.Written.{area_of}
-use Rattle.ob_content.specs.Content.{Content, Rows}
+use Rattle.ob_tables.specs.Content.{Content, Rows}
 use Rattle.ob_epoch.specs.Valued.{content_with}
 use Rattle.ob_ring.specs.Filling.{base_of}
 use Rattle.ob_ring.specs.Plain.{index_with, key_of_index, plain_for, without_buckets}

@@ -9,7 +9,7 @@ use Rattle.ob_base.specs.Planned.{Planned, job_at, most_jobs}
 use Rattle.ob_batch.specs.Jobs.{AreFilled, AreJobsRead, IsFirstFailing, cells_of}
 use Rattle.ob_bucket.specs.Buckets.{Buckets}
 use Rattle.ob_bucket.specs.Version.{Version}
-use Rattle.ob_content.specs.Content.{Rows}
+use Rattle.ob_tables.specs.Content.{Rows}
 use Rattle.ob_epoch.proofs.Calling.{plans_are_read}
 use Rattle.ob_recover.proofs.RepeatLaws.{jobs_run, jobs_same}
 use Rattle.ob_recover.specs.Repeats.{BatchTells, IsRepeatFault, JobsAnswer, RowsJoin}

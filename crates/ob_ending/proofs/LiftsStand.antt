@@ -5,7 +5,7 @@ use Rattle.ob_base.specs.declared.fault.Fault.{Fault}
 use Rattle.ob_base.specs.declared.fault.Fault.TheVariants.{Memory, Usage, BadScript, BadParams, NotStore, Damaged, StoreFault, StashFull, Worn, SourceFault, SinkFault}
 use Rattle.ob_base.specs.declared.params.Params.{Params}
 use Rattle.ob_bucket.specs.Buckets.{Buckets}
-use Rattle.ob_content.specs.Content.{Rows}
+use Rattle.ob_tables.specs.Content.{Rows}
 use Rattle.ob_epoch.specs.Table.{buckets_of, flat_of}
 use Rattle.ob_fetch.specs.Fetches.{RunsAt}
 use Rattle.ob_fetch.proofs.NextLaws.{seals_listed, stands_listed}

@@ -1,9 +1,9 @@
 -- The words of an end, in the order in which they are taken.
-use Rattle.std.proofs.Common.{◌≡◌, ℕ, zero, suc, List, [], ◌∷◌, ◌++◌, take, drop, length, append_assoc, refl, sym, ap, ◌∙◌, subst, arith}
+use Rattle.std.proofs.Common.{◌≡◌, ◌+◌, ℕ, zero, suc, List, [], ◌∷◌, ◌++◌, take, drop, length, length-append, append_assoc, refl, sym, ap, ◌∙◌, subst, arith}
 use Rattle.ob_base.specs.declared.params.Params.{Params}
 use Rattle.ob_base.specs.declared.value.Write.{Write}
-use Rattle.ob_fetch.proofs.FetchLaws.{drawn_since}
-use Rattle.ob_fetch.specs.Fetches.{words_since}
+use Rattle.ob_fetch.proofs.FetchLaws.{drawn_since, draws_are}
+use Rattle.ob_fetch.specs.Fetches.{DrawsWords, words_since}
 use Rattle.ob_ring.specs.FlatTable.{FlatTable, Refill, after, stash_size}
 use Rattle.ob_ring.specs.Filling.{HasStashRows}
 use Rattle.ob_ring.specs.Ring.{Kept, StandsFor}
@@ -37,6 +37,17 @@ module _ (a : ℕ) (old mid new own rest : List ℕ) (first : mid ≡ old ++ own
 
   pub rest_is : rest ≡ drop a (words_since old new)
   rest_is = sym (ap (λ (l : List ℕ). drop a l) since ∙ back_is a own rest own_many)
+
+  -- as many as both have
+  pub both_counted : (drawn b : ℕ) → drawn ≡ length old → length rest ≡ b → drawn + (a + b) ≡ length new
+  both_counted drawn b drawn_are many =
+      let all = ap length second ∙ length-append mid rest in
+      let some = ap length first ∙ length-append old own in
+      omega arith
+
+  pub both_drawn : (b : ℕ) → length rest ≡ b → DrawsWords (a + b) old new
+  both_drawn b many =
+      draws_are (a + b) old new (own ++ rest) (second ∙ ap (λ (l : List ℕ). l ++ rest) first ∙ append_assoc old own rest) (let all = length-append own rest in omega arith)
 
 -- ---- the calls of the planner, by these names
 

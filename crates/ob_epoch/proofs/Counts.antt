@@ -8,7 +8,7 @@ use Rattle.ob_base.specs.Tree.{buckets}
 use Rattle.ob_bucket.specs.Version.{Version, rank_at, used_at}
 use Rattle.ob_bucket.specs.Buckets.{Buckets, version_at}
 use Rattle.ob_bucket.proofs.Counting.{onto_of_apart}
-use Rattle.ob_content.specs.Content.{Content}
+use Rattle.ob_tables.specs.Content.{Content}
 use Rattle.ob_schedule.specs.Paths.{is_one_of, eviction_path, by_falling_level}
 use Rattle.ob_schedule.specs.Schedule.{Public, after_end, counts_now, is_lifted_by_end}
 use Rattle.ob_ring.specs.FlatTable.{FlatTable, FinalLifts, Writes, after, after_writes, fill, fills, indexes, refill_order, write}

@@ -9,7 +9,7 @@ use Rattle.ob_base.specs.declared.value.Write.{Write}
 use Rattle.ob_base.specs.Tree.{buckets}
 use Rattle.ob_bucket.specs.Version.{Version, IsWhole}
 use Rattle.ob_bucket.specs.Buckets.{version_at}
-use Rattle.ob_content.specs.Content.{Content, Rows, Obeys}
+use Rattle.ob_tables.specs.Content.{Content, Rows, Obeys}
 use Rattle.ob_schedule.specs.Paths.{is_one_of, by_falling_level}
 use Rattle.ob_tables.specs.declared.entry.Entry.{Entry}
 use Rattle.ob_ring.specs.FlatTable.{FlatTable, Batch, FinalLifts, Writes, after, refill_order, stash_size}

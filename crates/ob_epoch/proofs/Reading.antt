@@ -14,7 +14,7 @@ use Rattle.ob_ring.specs.FlatTable.{Spot, In, spot_of, leaf_of, reads, indexes}
 use Rattle.ob_ring.specs.Arrays.{leaf_in, leaf_of_entry}
 use Rattle.ob_ring.proofs.PathLaws.{IsFirst, find_some, find_none, found_live, none_live}
 use Rattle.ob_ring.proofs.TableLaws.{none_counted}
-use Rattle.ob_content.specs.Content.{Content, Obeys, IsKeyOf, content_of}
+use Rattle.ob_tables.specs.Content.{Content, Obeys, IsKeyOf, content_of}
 use Rattle.ob_taken.specs.Takes.{is_present}
 use Rattle.ob_values.proofs.Planned.{past_none}
 use Rattle.ob_epoch.specs.Table.{IsTableOfContent, RingsStand, TablesAreRead, spot_in, spot_among, lying_place, row_for, flat_of}

@@ -10,8 +10,8 @@ use Rattle.ob_bucket.specs.Version as bucket
 use Rattle.ob_bucket.specs.Version.{Version, AreRanks, key_at}
 use Rattle.ob_bucket.specs.Buckets.{version_at}
 use Rattle.ob_bucket.proofs.VersionLaws.{ranks_are}
-use Rattle.ob_content.specs.Content.{FitsEntry, FitsSeals, IsKeyOf, IsLoose, Obeys}
-use Rattle.ob_content.specs.Spelling.{slot_bytes}
+use Rattle.ob_tables.specs.Content.{FitsEntry, FitsSeals, IsKeyOf, IsLoose, Obeys}
+use Rattle.ob_tables.specs.Spelling.{slot_bytes}
 use Rattle.ob_tables.specs.declared.entry.Entry.{Entry}
 use Rattle.ob_tables.specs.Kept.{entry_at}
 use Rattle.ob_ring.proofs.Rows.{p0}

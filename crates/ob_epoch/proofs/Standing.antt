@@ -16,8 +16,8 @@ use Rattle.ob_ring.specs.Arrays.{IsTableOf, arrays_of, rest_of, leaf_in, leaf_of
 use Rattle.ob_ring.specs.Settling.{Rows}
 use Rattle.ob_ring.specs.Laws.{IsOrderly}
 use Rattle.ob_ring.proofs.TableOf.{reads_are}
-use Rattle.ob_content.specs.Content.{Content, Obeys, IsLoose}
-use Rattle.ob_content.specs.Spelling.{slot_bytes}
+use Rattle.ob_tables.specs.Content.{Content, Obeys, IsLoose}
+use Rattle.ob_tables.specs.Spelling.{slot_bytes}
 use Rattle.ob_taken.specs.Takes.{is_present}
 use Rattle.ob_taken.specs.Values.{Values}
 use Rattle.ob_values.specs.Carries.{Carries}

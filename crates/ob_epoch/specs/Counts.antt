@@ -5,7 +5,7 @@ use Rattle.ob_base.specs.declared.params.Params.{Params}
 use Rattle.ob_bucket.specs.Rank.{IsRanking}
 use Rattle.ob_bucket.specs.Version.{Version, AreRanks, rank_at}
 use Rattle.ob_bucket.specs.Buckets.{Buckets, version_at}
-use Rattle.ob_content.specs.Content.{Content, Obeys}
+use Rattle.ob_tables.specs.Content.{Content, Obeys}
 use Rattle.ob_schedule.specs.Schedule.{Public, after_end, counts_now}
 use Rattle.ob_ring.specs.Arrays.{AreWhole, IsTableOf, arrays_of, rest_of}
 use Rattle.ob_ring.specs.Filling.{AreSealedAnew}

@@ -5,7 +5,7 @@ use Rattle.ob_base.specs.declared.job.Job.{Job}
 use Rattle.ob_base.specs.declared.value.Write.{Write}
 use Rattle.ob_base.specs.Tree.{buckets}
 use Rattle.ob_bucket.specs.Buckets.{Buckets, version_at}
-use Rattle.ob_content.specs.Content.{Content, Rows, Obeys}
+use Rattle.ob_tables.specs.Content.{Content, Rows, Obeys}
 use Rattle.ob_tables.specs.declared.entry.Entry.{Entry}
 use Rattle.ob_schedule.specs.Paths.{is_one_of}
 use Rattle.ob_ring.specs.Arrays.{AreWhole, IsTableOf, arrays_of, rest_of}

@@ -6,8 +6,8 @@ use Rattle.std.specs.FinMap as finite
 use Rattle.ob_base.specs.declared.params.Params.{Params}
 use Rattle.ob_bucket.specs.Version.{Version, EMPTY}
 use Rattle.ob_bucket.specs.Buckets.{Buckets}
-use Rattle.ob_content.specs.Content.{Rows}
-use Rattle.ob_content.specs.Spelling.{slot_bytes}
+use Rattle.ob_tables.specs.Content.{Rows}
+use Rattle.ob_tables.specs.Spelling.{slot_bytes}
 use Rattle.ob_ring.specs.Ring.{Kept}
 use Rattle.ob_values.specs.Carries.{Slots}
 use Rattle.ob_values.specs.Epochs.{before_refill}

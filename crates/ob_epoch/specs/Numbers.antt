@@ -6,7 +6,7 @@ use Rattle.ob_base.specs.declared.value.Write.{Write}
 use Rattle.ob_base.specs.Tree.{buckets}
 use Rattle.ob_bucket.specs.Version.{Version}
 use Rattle.ob_bucket.specs.Buckets.{Buckets, version_at}
-use Rattle.ob_content.specs.Content.{Content, FitsBook, FitsSeals}
+use Rattle.ob_tables.specs.Content.{Content, FitsBook, FitsSeals}
 use Rattle.ob_tables.specs.declared.entry.Entry.{Entry}
 use Rattle.ob_tables.specs.Kept.{entry_at}
 use Rattle.ob_ring.specs.Fetching.{after_labels, places_of}

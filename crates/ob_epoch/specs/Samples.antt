@@ -7,8 +7,8 @@ use Rattle.std.specs.List.{range_with_len}
 use Rattle.ob_base.specs.declared.params.Params.{Params}
 use Rattle.ob_base.specs.Tree.{below}
 use Rattle.ob_bucket.specs.Version.{Version}
-use Rattle.ob_content.specs.Content.{Content, Obeys}
-use Rattle.ob_content.specs.Spelling.{slot_bytes}
+use Rattle.ob_tables.specs.Content.{Content, Obeys}
+use Rattle.ob_tables.specs.Spelling.{slot_bytes}
 use Rattle.ob_ring.specs.FlatTable.{FlatTable, Row, In}
 use Rattle.ob_ring.specs.Picked.{Picked, batch_picked}
 use Rattle.ob_taken.specs.Values.{Values}

@@ -6,7 +6,7 @@ use Rattle.ob_base.specs.declared.params.Params.{Params}
 use Rattle.ob_base.specs.Tree.{buckets, below}
 use Rattle.ob_bucket.specs.Version.{Version, used_at, live_index}
 use Rattle.ob_bucket.specs.Buckets.{Buckets, version_at, is_lifted}
-use Rattle.ob_content.specs.Content.{Content, Obeys, content_of}
+use Rattle.ob_tables.specs.Content.{Content, Obeys, content_of}
 use Rattle.ob_tables.specs.declared.entry.Entry.{Entry}
 use Rattle.ob_tables.specs.declared.tables.Tables.{Tables}
 use Rattle.ob_tables.specs.Kept.{entry_at}

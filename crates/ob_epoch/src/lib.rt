@@ -1,6 +1,6 @@
-//! What an epoch makes of a checkpoint's content: the flat table that a content stands for, the content
-//! and the numbers in it after an epoch, and its public counts. Laws of definitions; nothing here
-//! runs.
+//! What an epoch makes of a checkpoint's content: the flat table that a content stands for, the
+//! content and the numbers in it after an epoch, and its public counts. Laws of definitions;
+//! nothing here runs.
 #![tactic(auto)]
 
 ghost use Rattle.ob_epoch.specs.Calls.{CallsJoin, PlansAreRead, RingsRefill, WritesAreFit};
@@ -18,8 +18,8 @@ pub fn tables_are_read()
     ensures { TablesAreRead }
 {}
 
-/// A ring that is made of tables whose content obeys, with no bucket lifted, stands for the content's
-/// table.
+/// A ring that is made of tables whose content obeys, with no bucket lifted, stands for the
+/// content's table.
 pub fn rings_stand()
     ensures { RingsStand }
 {}
@@ -51,8 +51,8 @@ pub fn plans_are_read()
     ensures { PlansAreRead }
 {}
 
-/// The versions stay as they are sealed over one call of the planner behind another, and the list that
-/// it keeps is that of the table's lifted buckets.
+/// The versions stay as they are sealed over one call of the planner behind another, and the list
+/// that it keeps is that of the table's lifted buckets.
 pub fn calls_join()
     ensures { CallsJoin }
 {}
@@ -79,8 +79,8 @@ pub fn renewed_fit()
     ensures { RenewedFit }
 {}
 
-/// From one checkpoint's content to the next: it obeys, it is known, its buckets were filled anew in
-/// their other homes or went on, and it has the map's values after the epoch's writes.
+/// From one checkpoint's content to the next: it obeys, it is known, its buckets were filled anew
+/// in their other homes or went on, and it has the map's values after the epoch's writes.
 pub fn ends_follow()
     ensures { EndsFollow }
 {}

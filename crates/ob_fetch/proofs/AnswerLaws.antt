@@ -6,7 +6,7 @@ use Rattle.std.specs.List.{range_with_len}
 use Rattle.std.specs.Prelude.{slice_get, slice_index_or}
 use Rattle.std.specs.FinMap as finite
 use Rattle.ob_base.specs.declared.params.Params.{Params}
-use Rattle.ob_content.specs.Content.{Rows}
+use Rattle.ob_tables.specs.Content.{Rows}
 use Rattle.ob_log.specs.Logs.{BatchRecord}
 use Rattle.ob_recover.specs.Repeats.{BatchIsRead, asked_of_record}
 use Rattle.ob_ring.specs.Fetching.{leaf_places, own_entry}

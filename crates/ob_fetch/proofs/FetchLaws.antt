@@ -1,5 +1,6 @@
 -- What a fetch tells, leaves and answers, by its parts.
-use Rattle.std.proofs.Common.{◌≡◌, inl, inr, ℕ, suc, ◌+◌, ◌%◌, List, [], ◌∷◌, ◌++◌, Option, None, Result, Err, length, length-append, refl, sym, ap, ◌∙◌, subst, arith}
+use Rattle.std.proofs.Common.{◌≡◌, inl, inr, ℕ, suc, ◌+◌, ◌%◌, ◌^◌, ◌≤◌, Bool, true, false, MatchBool, List, [], ◌∷◌, ◌++◌, Option, None, Result, Err, length, length-append, refl, sym, ap, ◌∙◌, subst, arith}
+use Rattle.std.proofs.lemmas.Bool.{false≢true}
 use mathlib.Core.Path.{fun_ext}
 use Rattle.ob_base.specs.Layout.{log_cell, record_cells}
 use Rattle.ob_base.specs.declared.fault.Fault.{Fault}
@@ -7,7 +8,7 @@ use Rattle.ob_base.specs.declared.fault.Fault.TheVariants.{Memory, Usage, BadScr
 use Rattle.ob_base.specs.declared.params.Params.{Params}
 use Rattle.ob_bucket.specs.Version.{Version}
 use Rattle.ob_cells.specs.Writes.{WritesWithin}
-use Rattle.ob_content.specs.Content.{Rows}
+use Rattle.ob_tables.specs.Content.{Rows}
 use Rattle.ob_log.specs.Appends.{HoldsOneOf, IsAppendFault, IsWornOut, append_notes}
 use Rattle.ob_log.specs.Logs.{BatchRecord, OpenRecords}
 use Rattle.ob_recover.specs.Repeats.{BatchAnswers, BatchTells, IsRepeatFault, asked_of_record, batch_cells, record_of, repeated_notes}
@@ -26,7 +27,7 @@ use Rattle.ob_store.specs.Told.{TellsFirst}
 use Rattle.ob_store.specs.declared.event.Event.{Event}
 use Rattle.ob_store.specs.declared.watch.Note.{Note}
 use Rattle.ob_fetch.proofs.NextLaws.{Begun, at_batch, batch_is, may}
-use Rattle.ob_fetch.specs.Fetches.{DrawsWords, FetchAnswers, FetchDoes, FetchDraws, RunIsAt, IsFetchRefusal, IsLoggedFirst, MovesPlanner, next_batch, words_since}
+use Rattle.ob_fetch.specs.Fetches.{DrawsWords, FetchAnswers, FetchDoes, FetchDraws, RunIsAt, IsFetchRefusal, IsLoggedFirst, IsWornForBatch, MovesPlanner, next_batch, words_since}
 use Rattle.ob_fetch.specs.declared.run.Run.{Run}
 
 -- ---- refusals, by their kind
@@ -60,6 +61,13 @@ not_worn (StashFull rows) fault worn = worn
 not_worn (Worn number) fault worn = fault
 not_worn SourceFault fault worn = worn
 not_worn SinkFault fault worn = worn
+
+-- words and seals are left for a batch
+pub enough_left : (run : Run) (worn : Bool) → worn ≡ false
+    → MatchBool worn (IsWornForBatch run) ((run.drawn + (run.params).places ≤ 2 ^ 62) × ((run.sealer).next + record_cells run.params ≤ 2 ^ 62)) → IsWornForBatch run → ⊥
+enough_left run true is none worn = absurd (false≢true (sym is))
+enough_left run false is (words, seals) (inl more) = omega arith
+enough_left run false is (words, seals) (inr more) = omega arith
 
 -- an append for which there are seals
 pub append_fault : (f : Fault) → IsAppendFault f → (IsWornOut (Err f) → ⊥) → f ≡ StoreFault None
@@ -173,6 +181,9 @@ cells_same mid new tells keeps = fun_ext (λ k. keeps.cells tells k)
 pub drawn_since : (old words : List ℕ) → words_since old (old ++ words) ≡ words
 drawn_since [] words = refl
 drawn_since (x ∷ old) words = drawn_since old words
+
+pub drawn_as : (old new words : List ℕ) → new ≡ old ++ words → words ≡ words_since old new
+drawn_as old new words is = sym (ap (λ (l : List ℕ). words_since old l) is ∙ drawn_since old words)
 
 pub draws_are : (places : ℕ) (old new words : List ℕ) → new ≡ old ++ words → length words ≡ places → DrawsWords places old new
 draws_are places old new words is many =

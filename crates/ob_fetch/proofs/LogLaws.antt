@@ -10,7 +10,7 @@ use Rattle.ob_base.specs.Layout.{record_cells, log_cells, log_cell, log_gate, sl
 use Rattle.ob_base.proofs.LayoutLaws.{area_le, log_lies, row_fits}
 use Rattle.ob_bucket.specs.Buckets.{version_at}
 use Rattle.ob_bucket.specs.Version.{rank_at}
-use Rattle.ob_content.specs.Content.{Content}
+use Rattle.ob_tables.specs.Content.{Content}
 use Rattle.ob_log.specs.Appends.{HoldsRecord}
 use Rattle.ob_log.specs.Logs.{BatchRecord, RecordObeys, OpenRecords, SpellsRecord, record_at, nothing}
 use Rattle.ob_seal.specs.declared.keys.Keys.{Keys}

@@ -7,7 +7,7 @@ use Rattle.ob_base.specs.declared.fault.Fault.TheVariants as fault
 use Rattle.ob_base.specs.Layout.{record_cells}
 use Rattle.ob_base.specs.Planned.{most_jobs}
 use Rattle.ob_bucket.specs.Version.{Version}
-use Rattle.ob_content.specs.Content.{Rows}
+use Rattle.ob_tables.specs.Content.{Rows}
 use Rattle.ob_epoch.specs.Table.{flat_of}
 use Rattle.ob_log.specs.Appends.{append_notes}
 use Rattle.ob_log.specs.Logs.{BatchRecord, OpenRecords}

@@ -5,7 +5,7 @@ ghost use Rattle.ob_base.specs.Layout.{log_cell, record_cells};
 ghost use Rattle.ob_base.specs.Planned.{most_jobs};
 ghost use Rattle.ob_bucket.specs.Buckets.{Buckets};
 ghost use Rattle.ob_cells.specs.Writes.{Seals, WritesWithin};
-ghost use Rattle.ob_content.specs.Content.{Content};
+ghost use Rattle.ob_tables.specs.Content.{Content};
 ghost use Rattle.ob_log.specs.Appends.{IsWornOut, append_notes};
 ghost use Rattle.ob_log.specs.Logs.{BatchRecord};
 ghost use Rattle.ob_pads.specs.Seals.{CellsAreSealed};
@@ -124,7 +124,8 @@ pub fn fetch<S: Store, T: Tape, W: Watch>(
         (record_next run.old asks.now (words_since (T.drawn tape.old) (T.drawn tape.new)))))
         store.old store.new (W.trace watch.old) (W.trace watch.new) result }
     // It shows the schedule's batch of what the store knows of the epoch, and refused what its answer
-    // says of it; of what the store failed in, no more than the record's notes come before that is open.
+    // says of it; of what the store failed in, no more than the record's notes come before that is
+    // open.
     ensures scheduled { (notes : List Note) × Shows notes (W.trace watch.old) (W.trace watch.new)
         × IsOpenIfShown S.disk run.old.sealer.keys run.old.params (suc run.old.epoch)
         (record_next run.old asks.now (words_since (T.drawn tape.old) (T.drawn tape.new))) notes

@@ -37,6 +37,21 @@ fn test_keys() -> Keys {
     Keys::from_bytes(&bytes)
 }
 
+// A formatted store, whose calls fail as told.
+fn formatted_with(rt: &impl Abort, alloc: Global, fails: Vec<Fail>) -> MemStore
+    ensures { (disk_of_store result).out ≡ 0 }
+{
+    let mut store = MemStore::new(alloc, 25, fails).expect(rt, "memory");
+    assert!(rt; format(&mut store, &test_keys(), &small_params(rt), &mut Blind).is_ok());
+    store
+}
+
+fn formatted(rt: &impl Abort, alloc: Global) -> MemStore
+    ensures { (disk_of_store result).out ≡ 0 }
+{
+    formatted_with(rt, alloc, Vec::new(alloc))
+}
+
 // Asks for a key, beside a pad.
 fn ask<W: Watch>(
     rt: &impl Abort,
@@ -72,6 +87,21 @@ fn end_with<W: Watch>(
     }
 }
 
+// An epoch of these asks, each of which has to find its value, and its end with one write, or with
+// none.
+fn one_epoch<W: Watch>(
+    rt: &impl Abort,
+    vault: &mut FlatVault<'_, MemStore>,
+    asks: &[(Key, Option<Value>)],
+    write: Option<Write>,
+    watch: &mut W,
+) -> Result<(), EndErr> {
+    for (key, wanted) in asks {
+        assert_eq!(rt; ask(rt, vault, *key, watch), *wanted);
+    }
+    end_with(rt, vault, write, watch)
+}
+
 // Opens a store, and makes a vault over it.
 fn open<'a, W: Watch>(
     rt: &impl Abort,
@@ -92,16 +122,13 @@ fn two_epochs<W: Watch>(rt: &impl Abort, alloc: Global, store: &mut MemStore, wa
     requires { (disk_of_store store.old).out ≡ 0 }
 {
     let mut vault = open(rt, alloc, store, watch);
-    assert_eq!(rt; ask(rt, &mut vault, 5, watch), None);
-    assert_eq!(rt; ask(rt, &mut vault, 5, watch), None);
-    let write = Write {
+    let put = Some(Write {
         key: 5,
         value: Value::new(b"hi"),
-    };
-    assert!(rt; end_with(rt, &mut vault, Some(write), watch).is_ok());
-    assert_eq!(rt; ask(rt, &mut vault, 5, watch), Value::new(b"hi"));
-    assert_eq!(rt; ask(rt, &mut vault, 4, watch), None);
-    assert!(rt; end_with(rt, &mut vault, None, watch).is_ok());
+    });
+    assert!(rt; one_epoch(rt, &mut vault, &[(5, None), (5, None)], put, watch).is_ok());
+    let wanted = Value::new(b"hi");
+    assert!(rt; one_epoch(rt, &mut vault, &[(5, wanted), (4, None)], None, watch).is_ok());
     assert_eq!(rt; vault.epoch(), 2);
     assert_eq!(rt; vault.left(), 2);
 }
@@ -233,9 +260,8 @@ fn a_format_makes_its_cells_in_order(rt: HostRuntime) -> Result<(), Broken> {
 #[test]
 fn two_epochs_make_their_cells_in_order(rt: HostRuntime) -> Result<(), Broken> {
     let alloc = rt.alloc();
-    let mut store = MemStore::new(alloc, 25, Vec::new(alloc))?;
+    let mut store = formatted(&rt, alloc);
     let mut sink = MemSink::new(alloc, 400, Vec::new(alloc))?;
-    assert!(rt; format(&mut store, &test_keys(), &small_params(&rt), &mut Blind).is_ok());
     two_epochs(&rt, alloc, &mut store, &mut SinkWatch::new(&mut sink));
     assert_eq!(rt; sink.written(), TWO_EPOCHS);
     look(&rt, &mut store, &TWO_EPOCHS_LATER, &[2, 4, 6, 8]);
@@ -293,74 +319,76 @@ fn kept_after(
     (vault.epoch(), value, sealed < vault.generation())
 }
 
+// Crashes a store of two epochs at each moment from its opening to the second end, with this in the
+// cells that aren't sure: the epochs have ended from these moments on.
+fn crash_everywhere(
+    rt: &impl Abort,
+    alloc: Global,
+    store: &MemStore,
+    filling: Option<[u8; 128]>,
+    ended: (usize, usize),
+) {
+    for moment in 30..64 {
+        let epoch = u64::from(moment >= ended.0) + u64::from(moment >= ended.1);
+        let value = if epoch == 0 { None } else { Value::new(b"hi") };
+        assert_eq!(rt;
+            kept_after(rt, alloc, store, moment, filling),
+            (epoch, value, true),
+            "at {moment}"
+        );
+    }
+}
+
 #[test]
-fn a_crash_leaves_the_old_epoch_or_the_new(rt: HostRuntime) -> Result<(), Broken> {
+fn a_crash_leaves_the_old_epoch_or_the_new(rt: HostRuntime) {
     let alloc = rt.alloc();
-    let mut store = MemStore::new(alloc, 25, Vec::new(alloc))?;
-    assert!(rt; format(&mut store, &test_keys(), &small_params(&rt), &mut Blind).is_ok());
+    let mut store = formatted(&rt, alloc);
     two_epochs(&rt, alloc, &mut store, &mut Blind);
     // The format has 30 writes and syncs, the opening 5, the first end 13, the second 15. The last
     // write and sync of an end decide.
-    for moment in 30..64 {
-        for (filling, first, second) in [
-            (None, 47, 62),
-            (Some([0; 128]), 48, 63),
-            (Some(OPEN), 47, 62),
-        ] {
-            let epoch = (moment >= first) as u64 + (moment >= second) as u64;
-            let value = if epoch == 0 { None } else { Value::new(b"hi") };
-            assert_eq!(rt;
-                kept_after(&rt, alloc, &store, moment, filling),
-                (epoch, value, true),
-                "at {moment}"
-            );
-        }
-    }
-    Ok(())
+    crash_everywhere(&rt, alloc, &store, None, (47, 62));
+    crash_everywhere(&rt, alloc, &store, Some([0; 128]), (48, 63));
+    crash_everywhere(&rt, alloc, &store, Some(OPEN), (47, 62));
 }
 
 // The first epoch's end where this call fails.
-fn first_end(rt: &impl Abort, alloc: Global, mut store: MemStore) -> Result<(), EndErr>
-    requires { (disk_of_store store).out ≡ 0 }
-{
-    assert!(rt; format(&mut store, &test_keys(), &small_params(rt), &mut Blind).is_ok());
+fn first_end(rt: &impl Abort, alloc: Global, fail: Fail) -> Result<(), EndErr> {
+    let fails = [fail].to_vec(alloc).expect(rt, "memory");
+    let mut store = formatted_with(rt, alloc, fails);
     let mut vault = open(rt, alloc, &mut store, &mut Blind);
-    assert_eq!(rt; ask(rt, &mut vault, 0, &mut Blind), None);
-    assert_eq!(rt; ask(rt, &mut vault, 0, &mut Blind), None);
-    let ended = end_with(rt, &mut vault, None, &mut Blind);
+    let ended = one_epoch(rt, &mut vault, &[(0, None), (0, None)], None, &mut Blind);
     assert_eq!(rt; vault.spent(), ended.is_err());
     ended
 }
 
+const BEFORE: Result<(), EndErr> = Err(EndErr::Before(Fault::StoreFault { unsure: None }));
+
+const UNSURE: Result<(), EndErr> = Err(EndErr::Unsure(Fault::StoreFault { unsure: Some(1) }));
+
+// The format has 20 writes and 10 syncs, the opening two and three.
+const FAILING: [(Fail, Result<(), EndErr>); 8] = [
+    (Fail::Write(22), BEFORE),
+    (Fail::Write(29), BEFORE),
+    (Fail::Sync(13), BEFORE),
+    (Fail::Write(30), BEFORE),
+    (Fail::Sync(14), BEFORE),
+    (Fail::Write(31), UNSURE),
+    (Fail::Sync(15), UNSURE),
+    (Fail::Write(32), Ok(())),
+];
+
 #[test]
-fn a_failing_call_of_an_end_is_told(rt: HostRuntime) -> Result<(), Broken> {
-    let alloc = rt.alloc();
-    let before = Err(EndErr::Before(Fault::StoreFault { unsure: None }));
-    let unsure = Err(EndErr::Unsure(Fault::StoreFault { unsure: Some(1) }));
-    // The format has 20 writes and 10 syncs, the opening two and three.
-    let table = [
-        (Fail::Write(22), before),
-        (Fail::Write(29), before),
-        (Fail::Sync(13), before),
-        (Fail::Write(30), before),
-        (Fail::Sync(14), before),
-        (Fail::Write(31), unsure),
-        (Fail::Sync(15), unsure),
-        (Fail::Write(32), Ok(())),
-    ];
-    for (fail, want) in table {
-        let store = MemStore::new(alloc, 25, [fail].to_vec(alloc)?)?;
-        assert_eq!(rt; first_end(&rt, alloc, store), want, "at {fail:?}");
+fn a_failing_call_of_an_end_is_told(rt: HostRuntime) {
+    for (fail, want) in FAILING {
+        assert_eq!(rt; first_end(&rt, rt.alloc(), fail), want, "at {fail:?}");
     }
-    Ok(())
 }
 
 // What opening answers where this cell was changed.
 fn refused_with(rt: &impl Abort, alloc: Global, cell: u64, bytes: &[u8; 128]) -> Fault {
-    let mut store = MemStore::new(alloc, 25, Vec::new(alloc)).expect(rt, "memory");
+    let mut store = formatted(rt, alloc);
     let params = small_params(rt);
     let keys = test_keys();
-    assert!(rt; format(&mut store, &keys, &params, &mut Blind).is_ok());
     assert!(rt; store.write(cell, bytes).is_ok());
     match head(&mut store, &keys, &mut Blind) {
         Err(fault) => return fault,
@@ -385,58 +413,46 @@ fn damaged(cell: u64, check: Check, kept: u128, computed: u128) -> Fault {
     }
 }
 
-// A number as it is told of a damaged cell, high byte first.
-fn told(number: u64) -> u128 {
-    u128::from(u64::from_be_bytes(number.to_le_bytes())) << 64
-}
-
-// An identity as it is told of a damaged cell, high byte first.
-fn identity(generation: u64, number: u64) -> u128 {
-    told(generation) | (told(number) >> 64)
-}
+// Of a formatted store's cells the lowest bit of this byte is changed: the tag that is kept, and
+// the one that was computed, high byte first.
+const TAGS: [(u64, usize, u128, u128); 5] = [
+    (
+        0,
+        112,
+        0x9c90193ba8a794728a54437386a91823,
+        0x9d90193ba8a794728a54437386a91823,
+    ),
+    (
+        3,
+        112,
+        0x824a770452230e13583e5a804d7c8af2,
+        0x834a770452230e13583e5a804d7c8af2,
+    ),
+    (
+        5,
+        127,
+        0xd9a64cdd7375301f15adeae0989cb212,
+        0xd9a64cdd7375301f15adeae0989cb213,
+    ),
+    (
+        9,
+        112,
+        0x893e2364ecbf9668601de03b1c1d7db7,
+        0x883e2364ecbf9668601de03b1c1d7db7,
+    ),
+    (
+        16,
+        20,
+        0x5fcec384a6deb2a65c00873ec4c0a9bf,
+        0xc6d7238dbb239e2c0487f75b191deb26,
+    ),
+];
 
 #[test]
 fn a_damaged_tag_is_told(rt: HostRuntime) -> Result<(), Broken> {
     let alloc = rt.alloc();
-    // Of a formatted store's cells the lowest bit of a byte is changed: the tag that is kept, and the
-    // one that was computed.
-    let table = [
-        (
-            0,
-            112,
-            0x9c90193ba8a794728a54437386a91823,
-            0x9d90193ba8a794728a54437386a91823,
-        ),
-        (
-            3,
-            112,
-            0x824a770452230e13583e5a804d7c8af2,
-            0x834a770452230e13583e5a804d7c8af2,
-        ),
-        (
-            5,
-            127,
-            0xd9a64cdd7375301f15adeae0989cb212,
-            0xd9a64cdd7375301f15adeae0989cb213,
-        ),
-        (
-            9,
-            112,
-            0x893e2364ecbf9668601de03b1c1d7db7,
-            0x883e2364ecbf9668601de03b1c1d7db7,
-        ),
-        (
-            16,
-            20,
-            0x5fcec384a6deb2a65c00873ec4c0a9bf,
-            0xc6d7238dbb239e2c0487f75b191deb26,
-        ),
-    ];
-    for (cell, place, kept, computed) in table {
-        let mut store = MemStore::new(alloc, 25, Vec::new(alloc))?;
-        assert!(rt; format(&mut store, &test_keys(), &small_params(&rt), &mut Blind).is_ok());
-        let mut bytes = bytes_in(&rt, &mut store, cell);
-        let place: usize = place;
+    for (cell, place, kept, computed) in TAGS {
+        let mut bytes = bytes_in(&rt, &mut formatted(&rt, alloc), cell);
         assert!(rt; place < 128);
         bytes[place] ^= 1;
         assert_eq!(rt;
@@ -457,68 +473,140 @@ fn sealed(rt: &impl Abort, cell: u64, generation: u64, number: u64, plain: &[u8;
     sealer.seal(cell, plain).expect(rt, "a seal")
 }
 
+// What a cell of a formatted store holds instead.
+#[derive(Clone, Copy)]
+enum Bent {
+    // The head with another byte there, under its tag.
+    Head {
+        at: usize,
+        byte: u8,
+    },
+    // Such bytes.
+    Filled {
+        byte: u8,
+    },
+    // The number 2^62, under its tag.
+    Great,
+    // A row that begins with these two bytes, whether it is present and how long, under this seal.
+    Row {
+        generation: u64,
+        number: u64,
+        front: (u8, u8),
+    },
+}
+
+fn bent_bytes(rt: &impl Abort, cell: u64, bent: &Bent) -> [u8; 128] {
+    match bent {
+        Bent::Head { at, byte } => {
+            let mut front = *HEAD;
+            assert!(rt; *at < 48);
+            front[*at] = *byte;
+            stamped(cell, &front)
+        }
+        Bent::Filled { byte } => [*byte; 128],
+        Bent::Great => stamped(cell, &[0, 0, 0, 0, 0, 0, 0, 0x40]),
+        Bent::Row {
+            generation,
+            number,
+            front,
+        } => {
+            let mut plain = [0; 96];
+            plain[0] = front.0;
+            plain[1] = front.1;
+            sealed(rt, cell, *generation, *number, &plain)
+        }
+    }
+}
+
+// What opening tells of a damaged cell: two numbers that are kept, and two that were computed.
+type Told = (u64, Check, (u64, u64), (u64, u64));
+
+// The 16 bytes of two numbers, low byte first, as a number with the high byte first.
+fn told(numbers: (u64, u64)) -> u128 {
+    let first = u128::from(u64::from_be_bytes(numbers.0.to_le_bytes()));
+    let second = u128::from(u64::from_be_bytes(numbers.1.to_le_bytes()));
+    (first << 64) | second
+}
+
+fn fault_of(told_as: Option<Told>) -> Fault {
+    match told_as {
+        None => Fault::NotStore,
+        Some((cell, check, kept, computed)) => damaged(cell, check, told(kept), told(computed)),
+    }
+}
+
+// A row's cell, and what is told of it; or it is no store.
+const BENT: [(u64, Bent, Option<Told>); 11] = [
+    (0, Bent::Head { at: 8, byte: 101 }, None),
+    (
+        0,
+        Bent::Head { at: 20, byte: 17 },
+        Some((0, Check::Form, (17, 0), (1, 0))),
+    ),
+    (
+        0,
+        Bent::Head { at: 12, byte: 9 },
+        Some((0, Check::Form, (9, 0), (1, 0))),
+    ),
+    (4, Bent::Filled { byte: 0 }, None),
+    (6, Bent::Filled { byte: 1 }, None),
+    (5, Bent::Great, Some((5, Check::Form, (1 << 62, 0), (0, 0)))),
+    (
+        9,
+        Bent::Row {
+            generation: 7,
+            number: 2,
+            front: (0, 0),
+        },
+        Some((10, Check::Seal, (1, 1), (7, 3))),
+    ),
+    (
+        12,
+        Bent::Row {
+            generation: 1,
+            number: 4,
+            front: (0, 0),
+        },
+        Some((12, Check::Seal, (1, 4), (1, 3))),
+    ),
+    (
+        12,
+        Bent::Row {
+            generation: 2,
+            number: 3,
+            front: (2, 65),
+        },
+        Some((12, Check::Seal, (2, 3), (1, 3))),
+    ),
+    (
+        12,
+        Bent::Row {
+            generation: 1,
+            number: 3,
+            front: (2, 65),
+        },
+        Some((12, Check::Form, (2, 0), (0, 0))),
+    ),
+    (
+        16,
+        Bent::Row {
+            generation: 1,
+            number: 7,
+            front: (0, 65),
+        },
+        Some((16, Check::Form, (65, 0), (0, 0))),
+    ),
+];
+
 #[test]
 fn damage_is_named(rt: HostRuntime) -> Result<(), Broken> {
-    let alloc = rt.alloc();
-    let mut version = *HEAD;
-    version[8] = 101;
-    let mut real = *HEAD;
-    real[20] = 17;
-    let mut keys = *HEAD;
-    keys[12] = 9;
-    let mut present = [0; 96];
-    present[0] = 2;
-    present[1] = 65;
-    let mut long = [0; 96];
-    long[1] = 65;
-    let great = [0, 0, 0, 0, 0, 0, 0, 0x40];
-    let table = [
-        (0, stamped(0, &version), Fault::NotStore),
-        (
-            0,
-            stamped(0, &real),
-            damaged(0, Check::Form, told(17), told(1)),
-        ),
-        (
-            0,
-            stamped(0, &keys),
-            damaged(0, Check::Form, told(9), told(1)),
-        ),
-        (4, [0; 128], Fault::NotStore),
-        (6, [1; 128], Fault::NotStore),
-        (
-            5,
-            stamped(5, &great),
-            damaged(5, Check::Form, told(1 << 62), told(0)),
-        ),
-        (
-            9,
-            sealed(&rt, 9, 7, 2, &[0; 96]),
-            damaged(10, Check::Seal, identity(1, 1), identity(7, 3)),
-        ),
-        (
-            12,
-            sealed(&rt, 12, 1, 4, &[0; 96]),
-            damaged(12, Check::Seal, identity(1, 4), identity(1, 3)),
-        ),
-        (
-            12,
-            sealed(&rt, 12, 2, 3, &present),
-            damaged(12, Check::Seal, identity(2, 3), identity(1, 3)),
-        ),
-        (
-            12,
-            sealed(&rt, 12, 1, 3, &present),
-            damaged(12, Check::Form, told(2), told(0)),
-        ),
-        (
-            16,
-            sealed(&rt, 16, 1, 7, &long),
-            damaged(16, Check::Form, told(65), told(0)),
-        ),
-    ];
-    for (cell, bytes, want) in table {
-        assert_eq!(rt; refused_with(&rt, alloc, cell, &bytes), want, "cell {cell}");
+    for (cell, bent, wanted) in BENT {
+        let bytes = bent_bytes(&rt, cell, &bent);
+        assert_eq!(rt;
+            refused_with(&rt, rt.alloc(), cell, &bytes),
+            fault_of(wanted),
+            "cell {cell}"
+        );
     }
     Ok(())
 }
@@ -531,15 +619,13 @@ fn the_last_numbers_are_worn(rt: HostRuntime) -> Result<(), Broken> {
     let alloc = rt.alloc();
     let worn = Fault::Worn { number: 1 << 62 };
     assert_eq!(rt; refused_with(&rt, alloc, 3, &stamped(3, &LAST)), worn);
-    let mut store = MemStore::new(alloc, 25, Vec::new(alloc))?;
-    assert!(rt; format(&mut store, &test_keys(), &small_params(&rt), &mut Blind).is_ok());
+    let mut store = formatted(&rt, alloc);
     two_epochs(&rt, alloc, &mut store, &mut Blind);
     let mut store = store.crash(1000, &[])?;
     assert!(rt; store.write(7, &stamped(7, &LAST)).is_ok());
     let mut vault = open(&rt, alloc, &mut store, &mut Blind);
-    assert_eq!(rt; ask(&rt, &mut vault, 0, &mut Blind), None);
-    assert_eq!(rt; ask(&rt, &mut vault, 0, &mut Blind), None);
-    assert!(rt; end_with(&rt, &mut vault, None, &mut Blind) == Err(EndErr::Before(worn)));
+    let ended = one_epoch(&rt, &mut vault, &[(0, None), (0, None)], None, &mut Blind);
+    assert!(rt; ended == Err(EndErr::Before(worn)));
     assert!(rt; vault.spent());
     Ok(())
 }
@@ -547,8 +633,7 @@ fn the_last_numbers_are_worn(rt: HostRuntime) -> Result<(), Broken> {
 #[test]
 fn a_list_of_calls_is_served(rt: HostRuntime) -> Result<(), Broken> {
     let alloc = rt.alloc();
-    let mut store = MemStore::new(alloc, 25, Vec::new(alloc))?;
-    assert!(rt; format(&mut store, &test_keys(), &small_params(&rt), &mut Blind).is_ok());
+    let mut store = formatted(&rt, alloc);
     let mut vault = open(&rt, alloc, &mut store, &mut Blind);
     assert!(rt; vault.params().places == 2);
     assert!(rt; vault.params().keys == 8);

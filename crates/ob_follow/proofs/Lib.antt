@@ -1,3 +1,4 @@
 pub mod Determined
 pub mod Exact
 pub mod Told
+pub mod Split

@@ -4,3 +4,4 @@ pub mod Names
 pub mod Sides
 pub mod Standing
 pub mod Wants
+pub mod Runs

@@ -2,8 +2,8 @@
 
 ghost use Rattle.ob_follow.specs.Laws.{WantedIsExact, NotesAreScheduled, LineDetermines};
 
-/// A line may stand next exactly where it begins a run or a format, or is one of those that are said
-/// to be wanted.
+/// A line may stand next exactly where it begins a run or a format, or is one of those that are
+/// said to be wanted.
 pub fn wanted_is_exact()
     ensures { WantedIsExact }
 {}

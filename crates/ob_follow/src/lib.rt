@@ -1,11 +1,15 @@
 //! What may stand next in a trace: what is known behind some lines, and what each further line does
-//! to it. It speaks of the public schedule, and of no key, no word and no store.
+//! to it. It speaks of the public schedule, and of no key, no word and no store. And what is wanted
+//! next in a queue, in which reads or writes of cells that follow each other take one place.
 #![tactic(auto)]
 
 mod laws;
 mod line;
+mod run;
+mod runs;
 mod want;
 
 pub use laws::{line_determines, notes_are_scheduled, wanted_is_exact};
 pub use line::{Line, Wanted};
+pub use runs::Runs;
 pub use want::{Change, Gate, Register, Side, Want};

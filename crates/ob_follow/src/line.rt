@@ -4,7 +4,7 @@ use ob_base::Params;
 use ob_store::Note;
 
 /// A line of a trace.
-#[derive(Clone, Copy, Debug, PartialEq, Eq)]
+#[derive(Clone, Copy)]
 pub enum Line {
     /// A format begins, with these parameters.
     Start(Params),
@@ -17,7 +17,7 @@ pub enum Line {
 }
 
 /// What may stand next, beside the beginning of a run or of a format.
-#[derive(Clone, Copy, Debug, PartialEq, Eq)]
+#[derive(Clone, Copy, PartialEq, Eq)]
 pub enum Wanted {
     /// Nothing: only a run or a format may begin.
     Start,

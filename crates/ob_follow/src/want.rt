@@ -6,7 +6,7 @@ ghost use Rattle.ob_follow.specs.Sides.{other, side_number};
 use ob_store::Note;
 
 /// Even numbers lie in the first of two places, odd ones in the second: epochs, generations, homes.
-#[derive(Clone, Copy, Debug, PartialEq, Eq)]
+#[derive(Clone, Copy)]
 pub enum Side {
     Even,
     Odd,
@@ -36,7 +36,7 @@ impl Side {
 
 /// A gate of a register, as far as it is known: its closing may have been begun and not been made
 /// sure of.
-#[derive(Clone, Copy, Debug, PartialEq, Eq)]
+#[derive(Clone, Copy)]
 pub enum Gate {
     Open,
     Closed,
@@ -44,14 +44,14 @@ pub enum Gate {
 }
 
 /// A register with two places.
-#[derive(Clone, Copy, Debug, PartialEq, Eq)]
+#[derive(Clone, Copy)]
 pub enum Register {
     Generation,
     Epoch,
 }
 
 /// What a line that stands at its place does to what is known of the store.
-#[derive(Clone, Copy, Debug, PartialEq, Eq)]
+#[derive(Clone, Copy)]
 pub enum Change {
     /// Nothing.
     Keeps,
@@ -74,7 +74,7 @@ pub enum Change {
 }
 
 /// What may stand at a place of a run.
-#[derive(Clone, Copy, Debug, PartialEq, Eq)]
+#[derive(Clone, Copy)]
 pub enum Want {
     /// Just this note.
     Fixed { note: Note, change: Change },

@@ -1,5 +1,5 @@
 -- A runner's steps, in turns of its client's pass.
-use Rattle.std.proofs.Common.{◌≡◌, ◌+◌, ℕ, List, [], ◌∷◌, ◌++◌, length, length-append, arith, sym, ap, subst, ◌∙◌, append_assoc, append-nil}
+use Rattle.std.proofs.Common.{◌≡◌, ◌⊎◌, ⊎_elim, ◌+◌, ℕ, List, [], ◌∷◌, ◌++◌, length, length-append, arith, sym, ap, subst, ◌∙◌, append_assoc, append-nil}
 use Rattle.std.specs.List.{All}
 use Rattle.std.proofs.lemmas.List.Elements.{All-append}
 use Rattle.ob_desk.specs.Desk.{DeskState}
@@ -42,6 +42,16 @@ drive_goes_on hall before now after t u = record {
   made = makes_join hall before now after t.calls u.calls t.made u.made;
 }
 
+-- no turn was taken yet, or some
+abbrev pub IsDriven : Hall → Pass → Pass → Type 0
+IsDriven hall before now = (now ≡ before) ⊎ TellsCalls hall before now (DriveSays before.client)
+
+pub driven_on : (hall : Hall) (before now after : Pass) → IsDriven hall before now → TellsCalls hall now after (TurnSays now.client (said_of now)) → TellsCalls hall before after (DriveSays before.client)
+driven_on hall before now after driven u = ⊎_elim
+    (λ same. drive_begins hall before after (subst (λ (p : Pass). TellsCalls hall p after (TurnSays p.client (said_of p))) same u))
+    (λ t. drive_goes_on hall before now after t u)
+    driven
+
 -- ---- the steps of a pass, by what its runner is to do
 
 -- the entry of its turn is one step
@@ -58,6 +68,9 @@ steps-snoc rule client said (e ∷ es) step (first, rest) keeps =
     let all : said ++ said_by client (calls_in (e ∷ es)) ≡ (said ++ said_by client (calls_in (e ∷ []))) ++ said_by client (calls_in es) =
     ap (λ (s : Steps). said ++ s) (ap (said_by client) (calls_append (e ∷ []) es) ∙ said_append client (calls_in (e ∷ [])) (calls_in es)) ∙ sym (append_assoc said (said_by client (calls_in (e ∷ []))) (said_by client (calls_in es))) in
     (first, steps-snoc rule client (said ++ said_by client (calls_in (e ∷ []))) es step rest (subst (λ (s : Steps). rule client s (calls_in (step ∷ []))) all keeps))
+
+pub no_steps : (rule : StepRule) (pass : Pass) → MakesSteps rule pass pass
+no_steps rule pass = record { new = []; made = sym (append-nil (entries_by pass)); keep = tt }
 
 pub steps_begin : (rule : StepRule) (before now : Pass) → MakesStep rule before now → MakesSteps rule before now
 steps_begin rule before now m = record { new = m.step ∷ []; made = m.made; keep = (m.keeps, tt) }

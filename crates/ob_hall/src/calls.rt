@@ -16,7 +16,7 @@ use ob_session::{Made, Said};
 use std::sync::Wait;
 
 /// Why a call was not done.
-#[derive(Clone, Copy, Debug, PartialEq, Eq)]
+#[derive(Clone, Copy)]
 pub enum Refused {
     /// The transaction is aborted.
     Aborted { why: Why<Key> },

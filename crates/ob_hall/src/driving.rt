@@ -13,8 +13,8 @@ use std::sync::Wait;
 use std::sync::atomic::Ordering::SeqCst;
 
 /// One step of a runner, in one turn of its client's pass. The turn stands behind so many as the
-/// caller was told of in `turns`, by this pass or another one; behind it `turns` says how many there
-/// are up to it.
+/// caller was told of in `turns`, by this pass or another one; behind it `turns` says how many
+/// there are up to it.
 pub fn take_turn<R: Wait, U: Runner>(
     rt: &R,
     hall: &Hall,
@@ -61,10 +61,9 @@ pub fn drive<R: Wait, U: Runner>(rt: &R, hall: &Hall, pass: &mut Pass, runner: &
     ensures ready { IsReady hall.now pass.new }
 {
     let mut turns = 0;
-    let mut seen = hall.news.load(SeqCst);
-    let mut step = take_turn(rt, hall, pass, runner, &mut turns);
     for _ in rt.forever() {
-        match step {
+        let seen = hall.news.load(SeqCst);
+        match take_turn(rt, hall, pass, runner, &mut turns) {
             Step::Done => {
                 hall.ask_driver();
                 return;
@@ -72,8 +71,6 @@ pub fn drive<R: Wait, U: Runner>(rt: &R, hall: &Hall, pass: &mut Pass, runner: &
             Step::Waits => hall.nap(rt, seen),
             Step::Ran => {}
         }
-        seen = hall.news.load(SeqCst);
-        step = take_turn(rt, hall, pass, runner, &mut turns);
     }
     unreachable!()
 }

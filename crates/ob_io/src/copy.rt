@@ -49,7 +49,8 @@ fn read_part<S: Source>(source: &mut S, bytes: &mut Vec<u8>, room: usize) -> Res
     }
 }
 
-/// Takes what is left, up to `limit` bytes and one more: more than `limit` tells that the input is too long.
+/// Takes what is left, up to `limit` bytes and one more: more than `limit` tells that the input is
+/// too long.
 ///
 /// # Errors
 /// The source failed at a piece, or memory was wanting. A front of what was left is taken.

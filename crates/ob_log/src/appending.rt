@@ -42,10 +42,10 @@ fn write_sure<S: Store, P: Pieces, W: Watch>(
     sync_noted(store, watch)
 }
 
-/// Keeps the record of a batch of an epoch in the log: what its places ask for, their words, and the
-/// place of the first word in the tape of the sealer's generation. The body is written and synced,
-/// then its gate opened and synced; each write is shown whatever it answered, a sync where it
-/// succeeds. It takes no memory.
+/// Keeps the record of a batch of an epoch in the log: what its places ask for, their words, and
+/// the place of the first word in the tape of the sealer's generation. The body is written and
+/// synced, then its gate opened and synced; each write is shown whatever it answered, a sync where
+/// it succeeds. It takes no memory.
 ///
 /// While it runs a crash leaves the open records that were there, or these and this one; once it
 /// went well, these and this one.

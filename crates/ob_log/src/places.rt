@@ -56,8 +56,8 @@ fn least_unasked(asks: &[Option<Key>]) -> u64
     asks.len() as u64
 }
 
-// Whether fewer places ask for a key than there are keys. Where there are more keys than places none
-// is counted.
+// Whether fewer places ask for a key than there are keys. Where there are more keys than places
+// none is counted.
 fn is_key_left(p: &Params, asks: &[Option<Key>]) -> bool
     ensures { result ≡ nat_lt (count_by is_ask asks.now) p.now.keys }
 {
@@ -81,8 +81,8 @@ fn is_free(p: &Params, asks: &[Option<Key>], key: Key) -> bool
     key < p.keys && !is_asked(asks, key)
 }
 
-// What a place asks for, where its kind and key keep their rules; `asks` is what the earlier ones ask
-// for.
+// What a place asks for, where its kind and key keep their rules; `asks` is what the earlier ones
+// ask for.
 fn read_ask(
     p: &Params,
     cell: u64,

@@ -66,16 +66,16 @@ fn read_area<S: Store, W: Watch>(
     }
 }
 
-/// Reads the open records of an epoch: those before the first closed gate of its log area. All cells
-/// of the area are read, in rising order, before any is tested; each read is shown, whatever it
-/// answered. A body behind the first closed gate isn't looked at.
+/// Reads the open records of an epoch: those before the first closed gate of its log area. All
+/// cells of the area are read, in rising order, before any is tested; each read is shown, whatever
+/// it answered. A body behind the first closed gate isn't looked at.
 ///
 /// # Errors
 /// Memory was wanting, and nothing was read; or the store failed, and its count of faults rose; or
 /// the first body under an open gate that is no record is damaged: the first of its cells that
 /// breaks a rule, in its tag (check Tag), then, from the second on, in its seal, which is the one
-/// behind the cell's before it (check Seal); or else, of its plain bytes, the epoch (check Epoch, at
-/// the first cell), then the first number in the order of the bytes that breaks its rule (check
+/// behind the cell's before it (check Seal); or else, of its plain bytes, the epoch (check Epoch,
+/// at the first cell), then the first number in the order of the bytes that breaks its rule (check
 /// Form, at the cell that has the number's first byte, with the number and the least that obeys).
 pub fn read_open<S: Store, W: Watch>(
     alloc: Global,

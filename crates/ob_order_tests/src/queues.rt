@@ -2,24 +2,19 @@
 
 ghost use Rattle.std.specs.Prelude.{◌≡◌, ◌≤◌, ◌<◌, length};
 
-use ob_base::{Key, Memory, Params, Value};
+use ob_base::{Key, Params, Value};
 use ob_queue::Queue;
-use std::alloc::Global;
-use std::test::Fail;
+use std::process::Abort;
 
 // A queue with batches of 2 places, 2 of which are left, and these keys asked for in turn.
-fn queue_of(alloc: Global, keys: &[Key]) -> Result<Option<Queue>, Memory> {
-    let Ok(params) = Params::new(8, 2, 2, 3, 4, 2, 6, 2, 6) else {
-        return Ok(None);
-    };
-    if params.batches < 2 {
-        return Ok(None);
-    }
-    let mut queue = Queue::new(alloc, &params, 2)?;
+fn queue_of<R: AllocGlobal + Abort>(rt: &R, keys: &[Key]) -> Queue {
+    let params = Params::new(8, 2, 2, 3, 4, 2, 6, 2, 6).expect(rt, "parameters in range");
+    assert!(rt; params.batches >= 2);
+    let mut queue = Queue::new(rt.alloc(), &params, 2).expect(rt, "memory");
     for key in keys {
-        queue.ask(*key)?;
+        queue.ask(*key).expect(rt, "memory");
     }
-    Ok(Some(queue))
+    queue
 }
 
 // How many keys are queued and in flight, how many batches are left, and whether it is full.
@@ -71,43 +66,35 @@ fn value() -> Option<Value> {
 }
 
 #[test]
-fn keys_are_queued_once(rt: HostRuntime) -> Result<(), Fail> {
-    let Some(mut queue) = queue_of(rt.alloc(), &[5, 3, 5, 7])? else {
-        return Ok(());
-    };
+fn keys_are_queued_once(rt: HostRuntime) {
+    let mut queue = queue_of(&rt, &[5, 3, 5, 7]);
     assert_eq!(rt; counts(&queue), (3, 0, 2, false));
     assert_eq!(rt;
         (queue.is_asked_for(3), queue.is_asked_for(4)),
         (true, false)
     );
-    queue.ask(4)?;
+    queue.ask(4).expect(&rt, "memory");
     assert_eq!(rt; counts(&queue), (4, 0, 2, true));
     take_back(&mut queue);
     assert_eq!(rt;
         (queue.is_asked_for(7), queue.is_asked_for(4)),
         (true, false)
     );
-    Ok(())
 }
 
 #[test]
-fn keys_in_flight_are_not_queued(rt: HostRuntime) -> Result<(), Fail> {
-    let Some(mut queue) = queue_of(rt.alloc(), &[5, 3, 7])? else {
-        return Ok(());
-    };
+fn keys_in_flight_are_not_queued(rt: HostRuntime) {
+    let mut queue = queue_of(&rt, &[5, 3, 7]);
     assert_eq!(rt; take(&mut queue), [Some(5), Some(3)]);
-    queue.ask(3)?;
+    queue.ask(3).expect(&rt, "memory");
     assert_eq!(rt; counts(&queue), (1, 2, 1, false));
-    queue.ask(1)?;
+    queue.ask(1).expect(&rt, "memory");
     assert_eq!(rt; counts(&queue), (2, 2, 1, true));
-    Ok(())
 }
 
 #[test]
-fn values_are_delivered(rt: HostRuntime) -> Result<(), Fail> {
-    let Some(mut queue) = queue_of(rt.alloc(), &[5, 3, 7])? else {
-        return Ok(());
-    };
+fn values_are_delivered(rt: HostRuntime) {
+    let mut queue = queue_of(&rt, &[5, 3, 7]);
     assert_eq!(rt; round(&mut queue, [value(), None]), [Some(5), Some(3)]);
     assert_eq!(rt;
         (queue.base(5), queue.base(3), queue.base(7)),
@@ -116,18 +103,14 @@ fn values_are_delivered(rt: HostRuntime) -> Result<(), Fail> {
     assert_eq!(rt; counts(&queue), (1, 0, 1, false));
     assert_eq!(rt; round(&mut queue, [value(), value()]), [Some(7), None]);
     assert_eq!(rt; counts(&queue), (0, 0, 0, true));
-    Ok(())
 }
 
 #[test]
-fn cleared_is_as_new(rt: HostRuntime) -> Result<(), Fail> {
-    let Some(mut queue) = queue_of(rt.alloc(), &[5, 3, 7])? else {
-        return Ok(());
-    };
+fn cleared_is_as_new(rt: HostRuntime) {
+    let mut queue = queue_of(&rt, &[5, 3, 7]);
     let _keys = round(&mut queue, [None, None]);
     let _keys = take(&mut queue);
     clear(&mut queue, 4);
     assert_eq!(rt; counts(&queue), (0, 0, 4, false));
     assert_eq!(rt; (queue.base(5), queue.is_asked_for(7)), (None, false));
-    Ok(())
 }

@@ -3,7 +3,7 @@
 use ob_base::{Key, Memory, Op, Value, Write};
 use ob_order::{Version, Work, add_to, end_in, fell_on, fill, push_write};
 use std::alloc::Global;
-use std::test::Fail;
+use std::process::Abort;
 
 // Ticket t has read key 5 from the source.
 fn read_from(works: &mut Vec<Work>, t: usize, source: u64) -> Result<(), Memory> {
@@ -25,11 +25,10 @@ fn end(works: &mut Vec<Work>, t: usize) {
 }
 
 #[test]
-fn the_first_keys_fill_a_batch(rt: HostRuntime) -> Result<(), Fail> {
+fn the_first_keys_fill_a_batch(rt: HostRuntime) {
     let mut places = [None; 3];
     fill(&mut places, &[4, 2]);
     assert_eq!(rt; places, [Some(4), Some(2), None]);
-    Ok(())
 }
 
 fn seven() -> Option<Value> {
@@ -46,22 +45,21 @@ fn written(alloc: Global) -> Result<Vec<Write>, Memory> {
 }
 
 #[test]
-fn a_key_without_a_version_is_not_written(rt: HostRuntime) -> Result<(), Fail> {
-    let writes = written(rt.alloc())?;
+fn a_key_without_a_version_is_not_written(rt: HostRuntime) {
+    let writes = written(rt.alloc()).expect(&rt, "memory");
     let value = seven();
     assert_eq!(rt; writes.len(), 1);
     assert_eq!(rt; writes.get(0).copied(), Some(Write { key: 5, value }));
-    Ok(())
 }
 
 #[test]
-fn a_work_falls_on_its_least_source(rt: HostRuntime) -> Result<(), Fail> {
+fn a_work_falls_on_its_least_source(rt: HostRuntime) {
     let mut works = Vec::new(rt.alloc());
     for _ in 0..3 {
-        works.push(Work::new(rt.alloc()))?;
+        works.push(Work::new(rt.alloc())).expect(&rt, "memory");
     }
-    read_from(&mut works, 3, 2)?;
-    read_from(&mut works, 3, 1)?;
+    read_from(&mut works, 3, 2).expect(&rt, "memory");
+    read_from(&mut works, 3, 1).expect(&rt, "memory");
     end(&mut works, 2);
     end(&mut works, 1);
     assert_eq!(rt; works.len(), 3);
@@ -71,5 +69,4 @@ fn a_work_falls_on_its_least_source(rt: HostRuntime) -> Result<(), Fail> {
         None
     };
     assert_eq!(rt; on, Some(1));
-    Ok(())
 }

@@ -14,7 +14,7 @@ use Rattle.ob_outcomes.proofs.Desks.{Runs, runs_new}
 use Rattle.ob_outcomes.proofs.Held.{begins_alone, none_in_new}
 use Rattle.ob_outcomes.proofs.Noted.{greatest_within, refusal}
 use Rattle.ob_outcomes.proofs.Records.{place_of, record_all, why_told}
-use Rattle.ob_outcomes.proofs.Told.{IsTale, Sound, good_new, told_all}
+use Rattle.ob_outcomes.proofs.Causes.{IsTale, Sound, good_new, told_all}
 
 -- who goes on is the last
 pub record OnlyLast (ws : List Work) : Type 0 where

@@ -19,7 +19,7 @@ use Rattle.ob_desk.specs.Desk.{Part, Setup, new_desk, record_of, why_of, why_ref
 use Rattle.ob_outcomes.specs.Shown.{SourcesStand, IsWhy, IsOutcome, OutcomesAreShown}
 use Rattle.ob_outcomes.proofs.Grows.{Grows, HasLost, lost_grows}
 use Rattle.ob_outcomes.proofs.Desks.{runs_new}
-use Rattle.ob_outcomes.proofs.Told.{IsTale, Sound, good_new, told_all}
+use Rattle.ob_outcomes.proofs.Causes.{IsTale, Sound, good_new, told_all}
 use Rattle.ob_outcomes.proofs.Records.{place_of, contains_at, made, record_all, reader_of, gone_in, going_in, why_told, why_none}
 
 -- a later ticket has read the key from a source at or below t

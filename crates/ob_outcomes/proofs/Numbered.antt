@@ -18,7 +18,7 @@ use Rattle.ob_session.specs.Steps.{Leads}
 use Rattle.ob_outcomes.specs.Shown.{RecordsAreNumbered}
 use Rattle.ob_outcomes.proofs.Desks.{never_none, runs_new}
 use Rattle.ob_outcomes.proofs.Records.{txns_all}
-use Rattle.ob_outcomes.proofs.Told.{good_new, told_all}
+use Rattle.ob_outcomes.proofs.Causes.{good_new, told_all}
 use Rattle.ob_outcomes.proofs.Noted.{IsNoted, noted_tale}
 
 -- the epoch of the next record

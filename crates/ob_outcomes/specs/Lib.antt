@@ -2,3 +2,5 @@ pub mod Ends
 pub mod Shown
 pub mod Callers
 pub mod Alone
+pub mod Served
+pub mod ScriptLaws

@@ -11,8 +11,8 @@ use ob_store::Store;
 /// vault, each of which may be refused, with crashes at any moment, which leave any image that the
 /// store may have left since the last act began.
 ///
-/// No two seals have the same generation and number. And as long as a run goes on, each image that a
-/// crash may leave tells its generation, so this is durable before anything is sealed with it.
+/// No two seals have the same generation and number. And as long as a run goes on, each image that
+/// a crash may leave tells its generation, so this is durable before anything is sealed with it.
 pub fn pads_are_fresh<S: Store>()
     ensures fresh { PadsAreFresh (λ store. S.disk store) }
     ensures durable { GenerationsAreDurable (λ store. S.disk store) }

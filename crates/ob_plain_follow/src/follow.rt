@@ -16,13 +16,12 @@ ghost use Rattle.ob_follow.specs.Follow.{TakesLine, started, opened, taken_up, n
 ghost use Rattle.ob_follow.specs.Names.{RefusesLine, wanted_next, wanted_slot, wanted_want};
 
 use ob_base::Params;
-use ob_follow::{Change, Gate, Line, Register, Side, Want, Wanted};
+use ob_follow::{Change, Gate, Line, Register, Runs, Side, Want, Wanted};
 use ob_plain_wants::{
     Leaves, StandingPlain, Visit, body_of, cell_at, check_at, final_visits, format_wants,
     place_visits, places, push_end, push_found, push_record, push_registers, record_at, set_wants,
     shown_label,
 };
-use ob_runs::Runs;
 use ob_store::Note;
 use std::alloc::{AllocError, Global};
 use std::collections::VecDeque;
@@ -57,6 +56,21 @@ fn first_check(p: &Params, side: Side) -> u64
     ensures { result ≡ check_cell p.now (side_number side) 0 }
 {
     check_at(p, side, 0)
+}
+
+// Puts what logs a batch, and its places, behind the list.
+fn push_batch(
+    alloc: Global,
+    p: &Params,
+    side: Side,
+    batch: u32,
+    wants: &mut Runs,
+) -> Result<(), AllocError>
+    ensures { OnOk result (wants.new
+        ≡ wants.old ++ (record_wants p.now side batch ++ places p.now batch)) }
+{
+    push_record(p, side, batch, wants)?;
+    wants.push_all(&places(alloc, p, batch)?)
 }
 
 impl FollowPlain {
@@ -445,9 +459,9 @@ impl FollowPlain {
     {
         self.wants.pop();
         self.stands.maybe = false;
+        let side = self.stands.epoch.other();
         let mut all = Runs::new(alloc);
-        push_record(&self.params, self.stands.epoch.other(), batch, &mut all)?;
-        all.push_all(&places(alloc, &self.params, batch)?)?;
+        push_batch(alloc, &self.params, side, batch, &mut all)?;
         all.pop();
         self.wants.append(all)
     }
@@ -626,8 +640,7 @@ impl FollowPlain {
             return self.wants.push(Want::Record { batch });
         }
         let side = self.stands.epoch.other();
-        push_record(&self.params, side, batch, &mut self.wants)?;
-        self.wants.push_all(&places(alloc, &self.params, batch)?)
+        push_batch(alloc, &self.params, side, batch, &mut self.wants)
     }
 
     #[tactic(auto, using(crate::proofs::Steps::step_end))]

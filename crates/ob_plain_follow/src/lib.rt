@@ -1,5 +1,5 @@
-//! What may stand next in a trace, by a plain program. Its memory grows with the store, not with the
-//! trace: what an epoch shows lies in rows by bucket.
+//! What may stand next in a trace, by a plain program. Its memory grows with the store, not with
+//! the trace: what an epoch shows lies in rows by bucket.
 #![tactic(auto)]
 
 mod follow;

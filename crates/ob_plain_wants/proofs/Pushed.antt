@@ -1,11 +1,11 @@
 -- Notes that change nothing, put behind a list, and cells that follow each other.
-use Rattle.std.specs.Prelude.{◌≡◌, ℕ, ◌+◌, ◌*◌, List, ◌∷◌, ◌++◌, map, OnOk, Result, Ok, Err}
+use Rattle.std.specs.Prelude.{◌≡◌, ℕ, ◌+◌, ◌*◌, List, [], ◌∷◌, ◌++◌, map, OnOk, Result, Ok, Err}
 use Rattle.std.specs.List.{range_with_len}
 use Rattle.std.proofs.Common.{refl, sym, ap, ◌∙◌, subst, arith, zero, suc, add-one, append_assoc}
 use Rattle.std.proofs.lemmas.List.{map-append}
 use Rattle.ob_base.specs.declared.params.Params.{Params}
 use Rattle.ob_base.specs.Tree.{below, buckets, width}
-use Rattle.ob_base.specs.Layout.{LogArea, slot_cell, check_cell, log_cell, start_of, log_cells, checkpoint_cells, record_cells}
+use Rattle.ob_base.specs.Layout.{LogArea, slot_cell, check_cell, log_cell, log_gate, start_of, log_cells, checkpoint_cells, record_cells}
 use Rattle.ob_store.specs.declared.watch.Note.{Note}
 use Rattle.ob_store.specs.declared.watch.Note.TheVariants.{Write}
 use Rattle.ob_schedule.specs.Schedule.{writes_of, bucket_writes, check_cells, region_cells}
@@ -13,7 +13,8 @@ use Rattle.ob_follow.specs.declared.want.Change.TheVariants.{Keeps}
 use Rattle.ob_follow.specs.declared.want.Want.{Want}
 use Rattle.ob_follow.specs.declared.want.Want.TheVariants.{Fixed}
 use Rattle.ob_follow.specs.Wants.{kept}
-use Rattle.ob_plain_wants.proofs.Lists.{homes_more}
+use Rattle.ob_follow.specs.declared.want.Side.{Side}
+use Rattle.ob_plain_wants.proofs.Lists.{below_up, homes_more}
 
 pub kept_both : (xs ys : List Note) → kept (xs ++ ys) ≡ kept xs ++ kept ys
 kept_both xs ys = map-append (λ note. Fixed note Keeps) xs ys
@@ -21,6 +22,28 @@ kept_both xs ys = map-append (λ note. Fixed note Keeps) xs ys
 -- two pieces behind a list are one
 pub then_kept : (first mid now : List Want) (xs ys : List Note) → mid ≡ first ++ kept xs → now ≡ mid ++ kept ys → now ≡ first ++ kept (xs ++ ys)
 then_kept first mid now xs ys a b = b ∙ (λ j. a j ++ kept ys) ∙ append_assoc first (kept xs) (kept ys) ∙ ap (λ (ws : List Want). first ++ ws) (sym (kept_both xs ys))
+
+-- one gate more of a log area
+pub gates_more : (p : Params) (area n cell : ℕ) (first mid now : List Want) (want : Want) → cell ≡ log_gate p area n → want ≡ Fixed (Write cell) Keeps
+    → mid ≡ first ++ kept (writes_of (map (log_gate p area) (below n))) → now ≡ mid ++ want ∷ [] → now ≡ first ++ kept (writes_of (map (log_gate p area) (below (n + 1))))
+gates_more p area n cell first mid now want at is before pushed =
+    let gates : List ℕ → List Note = λ batches. writes_of (map (log_gate p area) batches) in
+    let more : gates (below (n + 1)) ≡ gates (below n) ++ gates (n ∷ []) =
+    ap gates (below_up n) ∙ ap writes_of (map-append (log_gate p area) (below n) (n ∷ [])) ∙ map-append (λ c. Write c) (map (log_gate p area) (below n)) (map (log_gate p area) (n ∷ [])) in
+    then_kept first mid now (gates (below n)) (gates (n ∷ [])) before (pushed ∙ ap (λ (w : Want). mid ++ w ∷ []) (is ∙ ap (λ (c : ℕ). Fixed (Write c) Keeps) at))
+    ∙ ap (λ (ns : List Note). first ++ kept ns) (sym more)
+
+-- what an end writes, in its five parts
+pub end_put : {E : Type 0} (result : Result Unit E) (old one two three four now : List Want) (side at : Side) (anew gates last : List Note) (checks : Side → List Note) (rest : Params → Side → List Want) (p : Params)
+    → side ≡ at → one ≡ old ++ kept anew → two ≡ one ++ kept (checks side) → three ≡ two ++ kept gates → four ≡ three ++ kept last → OnOk result ((q : Params) → now ≡ four ++ rest q side)
+    → OnOk result (now ≡ old ++ (kept (((anew ++ checks at) ++ gates) ++ last) ++ rest p at))
+end_put {E} (Err fault) old one two three four now side at anew gates last checks rest p same a b c d put = tt
+end_put {E} (Ok done) old one two three four now side at anew gates last checks rest p same a b c d put =
+    let all : List Note = ((anew ++ checks side) ++ gates) ++ last in
+    let parts : four ≡ old ++ kept all =
+    then_kept old three four ((anew ++ checks side) ++ gates) last (then_kept old two three (anew ++ checks side) gates (then_kept old one two anew (checks side) a b) c) d in
+    subst (λ (s : Side). now ≡ old ++ (kept (((anew ++ checks s) ++ gates) ++ last) ++ rest p s)) same
+    (put p ∙ ap (λ (ws : List Want). ws ++ rest p side) parts ∙ append_assoc old (kept all) (rest p side))
 
 -- ---- cells that follow each other
 

@@ -1,6 +1,6 @@
 //! The paths that an end evicts.
 
-ghost use Rattle.std.specs.Prelude.{◌≡◌, ◌+◌, ◌%◌, ◌^◌, IfOk};
+ghost use Rattle.std.specs.Prelude.{◌≡◌, ◌+◌, ◌%◌, ◌^◌, ◌++◌, ◌∷◌, [], cond, IfOk, OnOk};
 ghost use Rattle.ob_base.specs.Tree.{reversed};
 ghost use Rattle.ob_schedule.specs.Paths.{eviction_path, is_one_of};
 ghost use Rattle.ob_schedule.specs.Holes.{firsts};
@@ -34,23 +34,25 @@ pub(crate) fn evicted_buckets(
     Ok(list)
 }
 
-/// Whether a number is one of these.
-pub(crate) fn is_among(list: &[u32], number: u32) -> bool
-    ensures { result ≡ is_one_of list.now number }
+// Puts a number behind the list, unless it is one of it.
+fn push_first(list: &mut Vec<u32>, number: u32) -> Result<(), AllocError>
+    ensures { OnOk result (list.new.items
+        ≡ cond (is_one_of list.old.items number) list.old.items (list.old.items ++ number ∷ [])) }
 {
-    list.iter().any(|v| *v == number)
+    if list.contains(&number) {
+        return Ok(());
+    }
+    list.push(number)?;
+    Ok(())
 }
 
 /// Each number at its first place.
-#[tactic(auto, using(crate::proofs::Firsts::firsts_more))]
 pub(crate) fn firsts_of(alloc: Global, list: &[u32]) -> Result<Vec<u32>, AllocError>
     ensures { IfOk result (λ out. out.items ≡ firsts list.now) }
 {
     let mut out = Vec::new(alloc);
     for u in list {
-        if !is_among(&out, *u) {
-            out.push(*u)?;
-        }
+        push_first(&mut out, *u)?;
     }
     Ok(out)
 }

@@ -15,10 +15,9 @@ use ob_base::{
     EPOCH_CELL, GENERATION_CELL, Params, buckets, check_cell, checkpoint_cells, log_cell,
     record_cells,
 };
-use ob_follow::{Change, Register, Side, Want};
-use ob_runs::Runs;
+use ob_follow::{Change, Register, Runs, Side, Want};
 use ob_store::Note;
-use std::alloc::{AllocError, Global};
+use std::alloc::AllocError;
 
 /// A cell of a checkpoint, wherever it would lie.
 #[tactic(auto, using(ob_base::proofs::Bounds::cells_le, ob_follow::proofs::Determined::some_checks))]
@@ -73,30 +72,15 @@ pub(crate) fn push_check_writes(p: &Params, side: Side, wants: &mut Runs) -> Res
     wants.push_writes(check_at(p, side, 0), checkpoint_cells(p))
 }
 
-// The writes of a log area's gates.
-fn gate_wants(alloc: Global, p: &Params, side: Side) -> Result<Vec<Want>, AllocError>
-    ensures { IfOk result (λ wants. wants.items
-        ≡ kept (writes_of (log_gates p.now (side_number side)))) }
-{
-    (0..p.batches)
-        .map(|batch| gate_at(p, side, batch))
-        .map(|cell| Note::Write(cell))
-        .map(|note| kept(note))
-        .collect(alloc)
-}
-
 /// Puts the writes of a log area's gates behind the list.
-pub(crate) fn push_gates(
-    alloc: Global,
-    p: &Params,
-    side: Side,
-    wants: &mut Runs,
-) -> Result<(), AllocError>
+pub(crate) fn push_gates(p: &Params, side: Side, wants: &mut Runs) -> Result<(), AllocError>
     ensures { OnOk result (wants.new
         ≡ wants.old ++ kept (writes_of (log_gates p.now (side_number side)))) }
 {
-    let gates = gate_wants(alloc, p, side)?;
-    wants.push_all(&gates)
+    for batch in 0..p.batches {
+        wants.push(kept(Note::Write(gate_at(p, side, batch))))?;
+    }
+    Ok(())
 }
 
 /// Puts the writes of a record's body behind the list.
@@ -198,12 +182,12 @@ pub(crate) fn set_notes(register: Register, side: Side) -> [Note; 6]
 
 // Puts the first notes of a format behind the list.
 #[tactic(auto, using(crate::proofs::Formats::front_made))]
-fn push_front(alloc: Global, p: &Params, wants: &mut Runs) -> Result<(), AllocError>
+fn push_front(p: &Params, wants: &mut Runs) -> Result<(), AllocError>
     ensures { OnOk result (wants.new ≡ wants.old ++ kept (format_front p.now)) }
 {
     push_kept(&FIRST_NOTES, wants)?;
-    push_gates(alloc, p, Side::Even, wants)?;
-    push_gates(alloc, p, Side::Odd, wants)?;
+    push_gates(p, Side::Even, wants)?;
+    push_gates(p, Side::Odd, wants)?;
     push_kept(&[Note::Sync], wants)?;
     push_kept(&set_notes(Register::Generation, Side::Odd), wants)?;
     Ok(())
@@ -221,11 +205,11 @@ const FIRST_NOTES: [Note; 6] = [
 
 /// Puts the notes of a format behind the list, but for the last sync.
 #[tactic(auto, using(crate::proofs::Formats::format_made))]
-pub(crate) fn push_format(alloc: Global, p: &Params, wants: &mut Runs) -> Result<(), AllocError>
+pub(crate) fn push_format(p: &Params, wants: &mut Runs) -> Result<(), AllocError>
     ensures { OnOk result ((notes : List Note) × (notes ++ Sync ∷ [] ≡ format_notes p.now)
         × (wants.new ≡ wants.old ++ kept notes)) }
 {
-    push_front(alloc, p, wants)?;
+    push_front(p, wants)?;
     push_homes(p, wants)?;
     push_check_writes(p, Side::Even, wants)?;
     push_kept(&[Note::Sync], wants)?;

@@ -4,7 +4,6 @@ ghost use Rattle.std.specs.Prelude.{◌≡◌, ◌<◌, IfOk, OnOk, None, false,
 ghost use Rattle.ob_base.specs.Tree.{below, buckets};
 ghost use Rattle.ob_base.specs.Layout.{slot_cell};
 ghost use Rattle.ob_schedule.specs.Schedule.{counts_now};
-ghost use Rattle.ob_follow.specs.declared.want.Side.TheVariants.{Even};
 ghost use Rattle.ob_follow.specs.Sides.{side_number, other};
 ghost use Rattle.ob_plain_wants.specs.Visits.{hole_of_visit};
 ghost use Rattle.ob_plain_wants.specs.Seen.{label_shown};
@@ -46,8 +45,8 @@ pub struct StandingPlain {
     pub used: Vec<u64>,
     /// What the places of the running epoch have shown.
     pub labels: Vec<SeenLabel>,
-    /// What the buckets' reads have shown in the running epoch, in rows of 48: a number one greater,
-    /// or 0 for nothing.
+    /// What the buckets' reads have shown in the running epoch, in rows of 48: a number one
+    /// greater, or 0 for nothing.
     pub slots: Vec<u8>,
 }
 
@@ -71,26 +70,6 @@ pub fn shown_label(labels: &[SeenLabel], batch: u32, place: u32) -> Option<u16>
     {
         Some(seen) => Some(seen.leaf),
         None => None,
-    }
-}
-
-fn count_at(counts: &[u32], bucket: u32) -> u32
-    ensures { result ≡ slice_index counts.now bucket }
-{
-    if (bucket as usize) < counts.len() {
-        counts[bucket as usize]
-    } else {
-        0
-    }
-}
-
-fn home_in(homes: &[Side], bucket: u32) -> Side
-    ensures { result ≡ slice_index_or homes.now bucket Even }
-{
-    if (bucket as usize) < homes.len() {
-        homes[bucket as usize]
-    } else {
-        Side::Even
     }
 }
 
@@ -121,7 +100,7 @@ impl StandingPlain {
     pub fn home(&self, bucket: u32) -> Side
         ensures { result ≡ (standing_of self.now).homes bucket }
     {
-        home_in(&self.homes, bucket)
+        at_or(&self.homes, bucket as usize, Side::Even)
     }
 
     /// How often the bucket's version was read, these labels among it.
@@ -129,7 +108,7 @@ impl StandingPlain {
         ensures { result
             ≡ counts_now p.now (public_known p.now (standing_of self.now) leaves.now) bucket }
     {
-        count_at(&self.counts, bucket) as u64 + leaves.passing(p, bucket)
+        at_or(&self.counts, bucket as usize, 0) as u64 + leaves.passing(p, bucket)
     }
 
     /// Whether the bucket's version has shown the slot.

@@ -125,8 +125,8 @@ pub fn place_visits(
         ≡ place_holes p.now (counts_now p.now
         (public_known p.now (standing_of standing.now) leaves.now)) leaf) }
 {
-    let mut visits = VecDeque::new(alloc);
     let buckets = path_of(alloc, p, leaf)?;
+    let mut visits = VecDeque::new(alloc);
     push_all(p, Occasion::Passed, standing, leaves, &buckets, &mut visits)?;
     Ok(visits)
 }
@@ -141,9 +141,9 @@ pub fn final_visits(
     ensures { IfOk result (λ visits. map hole_of_visit visits.items
         ≡ end_holes p.now (standing_of standing.now) leaves.now) }
 {
-    let mut visits = VecDeque::new(alloc);
     let evicted = evicted_buckets(alloc, p, standing.counter)?;
     let buckets = firsts_of(alloc, &evicted)?;
+    let mut visits = VecDeque::new(alloc);
     push_all(p, Occasion::Lifted, standing, leaves, &buckets, &mut visits)?;
     Ok(visits)
 }

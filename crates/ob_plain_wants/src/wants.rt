@@ -17,8 +17,7 @@ use crate::notes::{
 use crate::rows::at_or;
 use crate::standing::StandingPlain;
 use ob_base::Params;
-use ob_follow::{Change, Gate, Register, Side, Want};
-use ob_runs::Runs;
+use ob_follow::{Change, Gate, Register, Runs, Side, Want};
 use ob_store::Note;
 use std::alloc::{AllocError, Global};
 
@@ -84,7 +83,7 @@ pub fn format_wants(alloc: Global, p: &Params) -> Result<Runs, AllocError>
     ensures { IfOk result (λ wants. wants ≡ (started p.now).wants) }
 {
     let mut wants = Runs::new(alloc);
-    push_format(alloc, p, &mut wants)?;
+    push_format(p, &mut wants)?;
     wants.push(Want::Fixed {
         note: Note::Sync,
         change: Change::Formats,
@@ -235,7 +234,7 @@ pub fn push_end(
     let next = standing.epoch.other();
     push_writes_anew(alloc, p, standing, leaves, wants)?;
     push_check_writes(p, next, wants)?;
-    push_gates(alloc, p, standing.epoch, wants)?;
+    push_gates(p, standing.epoch, wants)?;
     push_kept(&[Note::Sync], wants)?;
     push_sets(Register::Epoch, next, standing.epoch_gate, wants)
 }

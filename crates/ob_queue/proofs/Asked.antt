@@ -1,11 +1,9 @@
 -- The keys in flight with the queued ones behind them.
-use Rattle.std.proofs.Common.{◌≡◌, ℕ, zero, suc, ◌+◌, ◌-◌, ◌==◌, ◌<◌, ◌≤◌, min, Bool, true, false, ◌||◌, if◌then◌else◌, List, [], ◌∷◌, ◌++◌, length, map, take, drop, replicate, Option, Some, None, nat_cmp, nat_eq, refl, sym, ap, ap₂, ◌∙◌, subst, arith}
+use Rattle.std.proofs.Common.{◌≡◌, ℕ, zero, suc, ◌+◌, ◌-◌, ◌==◌, ◌<◌, ◌≤◌, min, Bool, true, false, ◌||◌, if◌then◌else◌, List, [], ◌∷◌, ◌++◌, length, map, take, drop, replicate, Option, Some, None, nat_cmp, refl, sym, ap, ap₂, ◌∙◌, arith}
 use Rattle.std.specs.FinMap as finite
 use Rattle.std.specs.List.{list_any}
 use Rattle.std.proofs.Math.Bool.{or-false}
-use Rattle.std.proofs.lemmas.Cmp.{nat_eq_equiv}
 use Rattle.std.proofs.lemmas.List.{take-append-le, drop-append-le, drop-take, take-take, length-take-le, length-drop}
-use Rattle.indexmap.specs.IndexSet.{insert_key}
 use Rattle.ob_order.specs.Order.{Params, OrderState, is_asked_for, asked, after_take, delivered, after_deliver}
 use Rattle.ob_order.proofs.Batches.{take_least, drop_least, delivered_pads}
 use Rattle.ob_queue.specs.Queues.{state_of, without_last}
@@ -16,26 +14,28 @@ or_swap true false c = refl
 or_swap false b c = refl
 
 -- a key is among all keys if it is among the queued ones or those in flight
-any_parts : (n : ℕ) (ks : List ℕ) (k : ℕ) → list_any (nat_eq k) ks ≡ (list_any (λ j. j == k) (drop n ks) || list_any (λ j. j == k) (take n ks))
+any_parts : (n : ℕ) (ks : List ℕ) (k : ℕ) → list_any (λ j. j == k) ks ≡ (list_any (λ j. j == k) (drop n ks) || list_any (λ j. j == k) (take n ks))
 any_parts zero [] k = refl
-any_parts zero (x ∷ xs) k = ap₂ (λ a b. a || b) (nat_eq_equiv.symm k x) (any_parts zero xs k ∙ or-false (list_any (λ j. j == k) xs)) ∙ sym (or-false (list_any (λ j. j == k) (x ∷ xs)))
+any_parts zero (x ∷ xs) k = sym (or-false (list_any (λ j. j == k) (x ∷ xs)))
 any_parts (suc n) [] k = refl
-any_parts (suc n) (x ∷ xs) k = ap₂ (λ a b. a || b) (nat_eq_equiv.symm k x) (any_parts n xs k) ∙ or_swap (x == k) (list_any (λ j. j == k) (drop n xs)) (list_any (λ j. j == k) (take n xs))
+any_parts (suc n) (x ∷ xs) k = ap (λ b. (x == k) || b) (any_parts n xs k) ∙ or_swap (x == k) (list_any (λ j. j == k) (drop n xs)) (list_any (λ j. j == k) (take n xs))
 
 whole : (xs : List ℕ) → drop 0 xs ≡ xs
 whole [] = refl
 whole (x ∷ xs) = refl
 
+-- a key that is asked for is so once
+pub one_known : (o : OrderState) (k : ℕ) → is_asked_for o k ≡ true → o ≡ asked o k
+one_known o k is = ap (λ b. if b then o else record o { queue = o.queue ++ k ∷ [] }) (sym is)
+
 module _ (left n : ℕ) (ks : List ℕ) (bases : finite.FinMap nat_cmp (Option (List ℕ))) where
-  pub is_among : (k : ℕ) → list_any (nat_eq k) ks ≡ is_asked_for (state_of left n ks bases) k
+  pub is_among : (k : ℕ) → list_any (λ j. j == k) ks ≡ is_asked_for (state_of left n ks bases) k
   is_among k = any_parts n ks k
 
-  pub one_asked : (k : ℕ) → n ≤ length ks → state_of left n (insert_key nat_eq ks k) bases ≡ asked (state_of left n ks bases) k
-  one_asked k l = subst (λ b. state_of left n (insert_key nat_eq ks k) bases ≡ (if b then state_of left n ks bases else record (state_of left n ks bases) { queue = drop n ks ++ k ∷ [] })) (is_among k) (by (list_any (nat_eq k) ks))
-    where
-      by : (b : Bool) → state_of left n (if b then ks else ks ++ k ∷ []) bases ≡ (if b then state_of left n ks bases else record (state_of left n ks bases) { queue = drop n ks ++ k ∷ [] })
-      by true = refl
-      by false = ap₂ (λ (queue flying : List ℕ). let o : OrderState = record { left = left; works = []; queue = queue; flying = flying; bases = bases } in o) (drop-append-le n ks (k ∷ []) l) (take-append-le n ks (k ∷ []) l)
+  pub one_asked : (k : ℕ) → is_asked_for (state_of left n ks bases) k ≡ false → n ≤ length ks → state_of left n (ks ++ k ∷ []) bases ≡ asked (state_of left n ks bases) k
+  one_asked k is l =
+      ap₂ (λ (queue flying : List ℕ). let o : OrderState = record { left = left; works = []; queue = queue; flying = flying; bases = bases } in o) (drop-append-le n ks (k ∷ []) l) (take-append-le n ks (k ∷ []) l)
+      ∙ ap (λ b. if b then state_of left n ks bases else record (state_of left n ks bases) { queue = drop n ks ++ k ∷ [] }) (sym is)
 
   pub one_less : 0 < length (drop n ks) → state_of left n (take (length ks - 1) ks) bases ≡ without_last (state_of left n ks bases)
   one_less some =

@@ -2,6 +2,7 @@
 #![tactic(auto)]
 
 mod bases;
+mod key_list;
 mod queue;
 
 pub use queue::Queue;

@@ -6,10 +6,11 @@ ghost use Rattle.ob_order.specs.Order as rules;
 ghost use Rattle.ob_queue.specs.Queues.{without_last};
 
 use crate::bases::{Bases, put_all, value_of};
-use indexmap::{IndexMap, IndexSet};
+use crate::key_list::KeyList;
 use ob_base::{Key, Memory, Params, Value};
 use ob_order::fill;
 use std::alloc::Global;
+use std::collections::HashMap;
 use std::marker::Model;
 
 /// The keys that an epoch is to read: queued in order, in flight, and the values delivered.
@@ -19,7 +20,7 @@ pub struct Queue {
     params: Params,
     left: u32,
     // The keys in flight, and behind them the queued ones.
-    asked: IndexSet<Key>,
+    asked: KeyList,
     flying: usize,
     bases: Bases,
 }
@@ -28,7 +29,7 @@ impl Model for Queue {
     ghost use Rattle.std.specs.FinMap as finite;
     ghost use Rattle.std.specs.Coded.{codes};
     ghost use Rattle.std.specs.Prelude.{◌≤◌, length};
-    ghost use Rattle.indexmap.specs.IndexMap.{index_map_len, spare};
+    ghost use Rattle.std.specs.HashMap.{hash_map_len, spare};
     ghost use Rattle.ob_order.specs.OrderModel.{OrderModel, bases_code};
     ghost use Rattle.ob_queue.specs.Queues.{state_of, HasRoom};
 
@@ -36,9 +37,9 @@ impl Model for Queue {
 
     ghost coded = { Prim.hlevel (codes, bases_code) };
 
-    ghost view = { λ q. record { params = q.params; state = state_of q.left q.flying q.asked.keys (finite.from_entries q.bases.entries) } };
+    ghost view = { λ q. record { params = q.params; state = state_of q.left q.flying q.asked (finite.from_entries q.bases.entries) } };
 
-    ghost invariant = { λ q. (q.flying ≤ length q.asked.keys) × HasRoom q.params.places q.params.batches q.left q.flying (index_map_len q.bases) (spare q.bases) };
+    ghost invariant = { λ q. (q.flying ≤ length q.asked) × HasRoom q.params.places q.params.batches q.left q.flying (hash_map_len q.bases) (spare q.bases) };
 }
 
 impl Queue {
@@ -55,11 +56,11 @@ impl Queue {
         let _told: Option<Value> = None;
         let values = params.places as usize * params.batches as usize;
         // Made first: a want of memory then leaves nothing to drop.
-        let bases = IndexMap::with_capacity(alloc, values)?;
+        let bases = HashMap::with_capacity(alloc, values)?;
         Ok(Queue {
             params: *params,
             left,
-            asked: IndexSet::new(alloc),
+            asked: KeyList::new(alloc),
             flying: 0,
             bases,
         })
@@ -83,7 +84,7 @@ impl Queue {
     pub fn is_asked_for(&self, key: Key) -> bool
         ensures { result ≡ rules.is_asked_for self.now.state key }
     {
-        self.asked.contains(&key)
+        self.asked.contains(key)
     }
 
     /// Whether the batches that are left have no place for one more key.
@@ -103,7 +104,10 @@ impl Queue {
             ≡ record self.old { state = rules.asked self.old.state key }) }
         ensures err { OnErr result (self.new ≡ self.old) }
     {
-        self.asked.insert(key)?;
+        if self.is_asked_for(key) {
+            return Ok(());
+        }
+        self.asked.push(key)?;
         Ok(())
     }
 
@@ -112,7 +116,7 @@ impl Queue {
         requires { 0 < length self.old.state.queue }
         ensures { self.new ≡ record self.old { state = without_last self.old.state } }
     {
-        self.asked.truncate(self.asked.len() - 1);
+        self.asked.drop_last();
     }
 
     /// What was delivered for the key.
@@ -149,7 +153,7 @@ impl Queue {
             &self.asked.as_slice()[..self.flying],
             values,
         );
-        drop(self.asked.drain(..self.flying));
+        self.asked.drop_front(self.flying);
         self.flying = 0;
     }
 

@@ -17,7 +17,7 @@ use Rattle.ob_store.specs.Lines.{Trace, Shows}
 use Rattle.ob_seal.specs.declared.keys.Keys.{Keys}
 use Rattle.ob_bucket.specs.Buckets.{Buckets}
 use Rattle.ob_bucket.specs.Version.{Version}
-use Rattle.ob_content.specs.Content.{Rows}
+use Rattle.ob_tables.specs.Content.{Rows}
 use Rattle.ob_ring.specs.FlatTable.{FlatTable}
 use Rattle.ob_ring.specs.Picked.{Picked, SameSeals, job_of, batch_picked}
 use Rattle.ob_ring.specs.Ring.{IsBatch, Kept, StandsFor}

@@ -8,7 +8,7 @@ use Rattle.ob_bucket.specs.Buckets.{Buckets}
 use Rattle.ob_tables.specs.declared.entry.Entry.{Entry}
 use Rattle.ob_tables.specs.declared.tables.Tables.{Tables}
 use Rattle.ob_tables.specs.Kept.{entry_at}
-use Rattle.ob_content.specs.Content.{Obeys, content_of}
+use Rattle.ob_tables.specs.Content.{Obeys, content_of}
 use Rattle.ob_ring.specs.Ring.{IsRing, StandsFor}
 use Rattle.ob_check.specs.Fresh.{AreIdle}
 use Rattle.ob_epoch.specs.Table.{flat_of, ring_of}

@@ -8,8 +8,8 @@ use Rattle.ob_base.specs.Tree.{buckets}
 use Rattle.ob_bucket.specs.Buckets.{Buckets, version_at}
 use Rattle.ob_bucket.specs.Version.{IsWhole, key_at}
 use Rattle.ob_check.specs.Fresh.{AreIdle}
-use Rattle.ob_content.specs.Content.{Content, FitsBook, FitsSeals, IsKeyOf, Obeys, content_of}
-use Rattle.ob_content.specs.Spelling.{slot_bytes}
+use Rattle.ob_tables.specs.Content.{Content, FitsBook, FitsSeals, IsKeyOf, Obeys, content_of}
+use Rattle.ob_tables.specs.Spelling.{slot_bytes}
 use Rattle.ob_epoch.specs.Plans.{AreAllWhole}
 use Rattle.ob_epoch.specs.Table.{flat_of, ring_of}
 use Rattle.ob_epoch.specs.Valued.{IsSlotOf, IsValued}

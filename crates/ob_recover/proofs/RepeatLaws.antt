@@ -15,7 +15,7 @@ use Rattle.ob_seal.specs.declared.keys.Keys.{Keys}
 use Rattle.ob_bucket.specs.Version.{Version}
 use Rattle.ob_bucket.specs.Buckets.{Buckets}
 use Rattle.ob_tables.specs.declared.entry.Entry.{Entry}
-use Rattle.ob_content.specs.Content.{Content, Rows}
+use Rattle.ob_tables.specs.Content.{Content, Rows}
 use Rattle.ob_ring.specs.Fetching.{after_labels}
 use Rattle.ob_ring.specs.FlatTable.{FlatTable, Batch, after}
 use Rattle.ob_ring.specs.Picked.{Picked, SameSeals, job_of, batch_picked}

@@ -11,11 +11,13 @@ use Rattle.ob_store.specs.declared.watch.Note.{Note}
 use Rattle.ob_store.specs.Disk.{Disk, Image}
 use Rattle.ob_store.specs.Calls.{Keeps}
 use Rattle.ob_store.specs.Lines.{Trace}
+use Rattle.ob_store.proofs.Events.{none_noted}
+use Rattle.ob_store.proofs.Showing.{shows_none}
 use Rattle.ob_seal.specs.declared.keys.Keys.{Keys}
 use Rattle.ob_bucket.specs.Buckets.{Buckets}
 use Rattle.ob_tables.specs.declared.entry.Entry.{Entry}
 use Rattle.ob_tables.specs.Kept.{entry_at}
-use Rattle.ob_content.specs.Content.{Content, Rows}
+use Rattle.ob_tables.specs.Content.{Content, Rows}
 use Rattle.ob_ring.specs.Fetching.{after_labels}
 use Rattle.ob_ring.specs.FlatTable.{FlatTable, Batch, after}
 use Rattle.ob_ring.specs.Picked.{SameSeals, batch_picked}
@@ -23,7 +25,8 @@ use Rattle.ob_ring.specs.Ring.{Kept, StandsFor}
 use Rattle.ob_log.specs.Logs.{BatchRecord, record_at, nothing}
 use Rattle.ob_epoch.specs.Table.{flat_of}
 use Rattle.ob_stand.specs.Reads.{slots_in}
-use Rattle.ob_recover.specs.Repeats.{record_places, asked_of_record, table_after_records, entries_after_records, repeated_notes, batch_cells, BatchAnswers, BatchTells, AllRowsJoin, AreRepeated, IsRepeatDamage, IsRepeatFault, RepeatsTold, RowsJoin, RepeatsFirst, RepeatDoes, RepeatsAnswer, content_of_ring}
+use Rattle.ob_recover.specs.Repeats.{record_places, asked_of_record, table_after_records, entries_after_records, repeated_notes, batch_cells, BatchAnswers, BatchTells, AllRowsJoin, AreRepeated}
+use Rattle.ob_recover.specs.Repeats.{IsRepeatDamage, IsRepeatFault, RepeatsTold, RowsJoin, RepeatsFirst, RepeatDoes, RepeatsAnswer, content_of_ring}
 use Rattle.ob_recover.proofs.RepeatLaws.{table_more, entries_more, told_more, told_still, repeated_more}
 
 -- ---- one batch, as its call tells it
@@ -61,6 +64,20 @@ pub record Repeating (keys : Keys) (o : Kept) (most : ℕ) (rs : List BatchRecor
   pub read : old.tells → AreRepeated o.p (slots_in keys o.p (content_of_ring o) old.cells) (flat_of o.p (content_of_ring o)) (content_of_ring o).rows (ring.stash).rows (take n rs)
   pub joins : AllRowsJoin o.p (flat_of o.p (content_of_ring o)) (take n rs) (o.stash).rows (ring.stash).rows
   pub told : RepeatsTold most o.p (content_of_ring o) (take n rs) old.seen now.seen before shown
+
+-- none yet
+pub none_repeated : (keys : Keys) (o : Kept) (most : ℕ) (rs : List BatchRecord) (disk : Disk) (shown : Trace) → StandsFor o (flat_of o.p (content_of_ring o)) → Repeating keys o most rs zero disk disk shown shown o
+none_repeated keys o most rs disk shown stands = record {
+  params = refl;
+  table = stands;
+  entries = λ k. refl;
+  seals = record { homes = λ u. refl; generations = λ u. refl; bases = λ u. refl; ranks = λ u. refl; order = refl };
+  counter = refl;
+  room = refl;
+  read = λ tells. record { batches = []; asked = refl; read = tt; faultless = tt; rows_are = refl };
+  joins = refl;
+  told = record { seen = none_noted disk.seen; shows = shows_none shown };
+}
 
 -- and one batch more
 joins_more : (p : Params) (t : FlatTable) (rs : List BatchRecord) (r : BatchRecord) (rows mid rows' : Rows) → AllRowsJoin p t rs rows mid → RowsJoin (batch_picked p (table_after_records p t rs) (asked_of_record p r)) mid rows' → AllRowsJoin p t (rs ++ r ∷ []) rows rows'

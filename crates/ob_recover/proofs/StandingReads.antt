@@ -17,7 +17,7 @@ use Rattle.ob_seal.specs.Seals.{sealed}
 use Rattle.ob_seal.proofs.Spelling.{sealed_parts}
 use Rattle.ob_tables.specs.declared.entry.Entry.{Entry}
 use Rattle.ob_tables.specs.Kept.{entry_at}
-use Rattle.ob_content.specs.Content.{Content, Rows, Obeys}
+use Rattle.ob_tables.specs.Content.{Content, Rows, Obeys}
 use Rattle.ob_ring.specs.FlatTable.{FlatTable, Row, Spot, Shown, Batch, FinalLifts, after, batch_shown, final_shown, lift, leaf_of, leaf_shown, after_place, fetch, spot_of, asked_row, index_in, index_shown, mark_index, lift_order, reads, visit}
 use Rattle.ob_ring.specs.Laws.{IsOrderly, seen_in}
 use Rattle.ob_ring.specs.News.{Seen, with_shown, AreNew}

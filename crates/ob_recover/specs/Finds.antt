@@ -22,7 +22,7 @@ use Rattle.ob_start.specs.Registers as start
 use Rattle.ob_start.specs.Registers.{IsRegisterDamage}
 use Rattle.ob_log.specs.Logs.{RecordsFit}
 use Rattle.ob_log.specs.Reads.{AreAccepted, IsFirstBroken, area_notes}
-use Rattle.ob_content.specs.Content.{Obeys, content_of}
+use Rattle.ob_tables.specs.Content.{Obeys, content_of}
 use Rattle.ob_check.specs.Fresh.{AreIdle}
 use Rattle.ob_check.specs.ReadBack.{IsReadFrom, IsRefusedFrom}
 use Rattle.ob_check.specs.Written.{area_of}

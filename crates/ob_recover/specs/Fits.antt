@@ -2,7 +2,7 @@
 use Rattle.std.specs.Prelude.{ℕ, ◌<◌}
 use Rattle.ob_base.specs.Tree.{buckets}
 use Rattle.ob_bucket.specs.Buckets.{version_at}
-use Rattle.ob_content.specs.Content.{FitsBook, FitsSeals}
+use Rattle.ob_tables.specs.Content.{FitsBook, FitsSeals}
 use Rattle.ob_epoch.specs.Plans.{AreAllWhole}
 use Rattle.ob_ring.specs.FlatTable.{FlatTable}
 use Rattle.ob_ring.specs.Ring.{Kept, StandsFor}

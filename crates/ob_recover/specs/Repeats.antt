@@ -16,7 +16,7 @@ use Rattle.ob_seal.specs.declared.keys.Keys.{Keys}
 use Rattle.ob_bucket.specs.Version.{Version}
 use Rattle.ob_tables.specs.declared.entry.Entry.{Entry}
 use Rattle.ob_tables.specs.Kept.{entry_at}
-use Rattle.ob_content.specs.Content.{Content, Rows, content_of}
+use Rattle.ob_tables.specs.Content.{Content, Rows, content_of}
 use Rattle.ob_ring.specs.Fetching.{places_of, leaf_places, after_labels}
 use Rattle.ob_ring.specs.FlatTable.{FlatTable, Batch, after, leaf_shown, after_place}
 use Rattle.ob_ring.specs.Picked.{Picked, SameSeals, job_of, place_picked, batch_picked}

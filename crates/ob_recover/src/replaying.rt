@@ -2,7 +2,7 @@
 
 ghost use Rattle.std.specs.Prelude.{◌≡◌, ◌≤◌, [], IfErr, IfOk, OnOk};
 ghost use Rattle.ob_base.specs.Planned.{most_jobs};
-ghost use Rattle.ob_content.specs.Content.{content_of};
+ghost use Rattle.ob_tables.specs.Content.{content_of};
 ghost use Rattle.ob_store.specs.Images.{Same, Passes};
 ghost use Rattle.ob_store.specs.Calls.{Serves, IsStoreFault, Keeps};
 ghost use Rattle.ob_epoch.specs.Table.{flat_of};

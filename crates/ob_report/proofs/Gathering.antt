@@ -1,9 +1,9 @@
 -- How gathered texts join, and how they are handed over.
 use Rattle.std.proofs.Common.{◌≡◌, ◌≤◌, ◌<◌, ℕ, ◌+◌, List, [], ◌∷◌, ◌++◌, Option, take, drop, length, get_or, sym, ap, refl, ◌∙◌, arith, inl, inr, append_assoc, length-append, length-drop, map, Result, Ok, Err}
-use Rattle.std.specs.Prelude.{flat_map, OnOk, OnErr}
+use Rattle.std.specs.Prelude.{flat_map, OnOk}
 use Rattle.std.proofs.lemmas.List.{take_all, drop_all, take_more, take-append-drop, take-append-le, drop-append-le, drop-drop, append-nil}
 use Rattle.std.proofs.lemmas.Grind.{flat_map-append}
-use Rattle.ob_base.specs.Causes.{Rose, HasCause}
+use Rattle.ob_base.specs.Causes.{HasCause}
 use Rattle.ob_io.specs.Flows.{appended}
 use Rattle.ob_io.proofs.Pieces.{appended-again, appended-none, take-more}
 use Rattle.ob_io.specs.Streams.{flow}
@@ -75,6 +75,10 @@ then a b first mid last (Err e) w p =
       rest = tt;
       cause = record { later = omega (arith, w.later, p.cause.later); failed = omega (arith, w.later, p.cause.failed) };
     }
+
+-- A text by another name.
+pub same_text : {T E : Type 0} (a b : List ℕ) (before after : Gathering) (result : Result T E) → a ≡ b → Gathers a before after result → Gathers b before after result
+same_text a b before after result same p = rw (← same) p
 
 -- Two texts as one by another name.
 pub then_as : {T E : Type 0} (all a b : List ℕ) (first mid last : Gathering) (result : Result T E) → IsWhole a first mid → Gathers b mid last result → all ≡ a ++ b → Gathers all first last result

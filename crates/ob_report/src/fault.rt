@@ -1,15 +1,17 @@
 //! The line and the status of a fault.
 
-ghost use Rattle.std.specs.Prelude.{◌≡◌, Some};
+ghost use Rattle.std.specs.Prelude.{◌≡◌, ◌++◌, Some, codes};
+ghost use Rattle.std.specs.Fmt.{decimal};
+ghost use Rattle.ob_report.specs.Report.{line_end};
 ghost use Rattle.ob_report.specs.Faults.{check_text, field_text, fault_line, fault_status};
 ghost use Rattle.ob_base.specs.declared.fault.Fault.TheVariants as Fault;
 ghost use Rattle.ob_report.specs.Gathered.{gathered, Gathers};
 ghost use Rattle.ob_io.specs.Streams.{outflow};
 ghost use Rattle.ob_report.specs.Printed.{Prints};
 
-use crate::page::{Page, hand_over};
+use crate::page::{Page, hand_over, put_bytes};
 use crate::piece::Piece::{Number, Text};
-use crate::piece::put_pieces;
+use crate::piece::{put_number, put_pieces};
 use ob_base::{Check, Failed, Fault, Field};
 use ob_io::Sink;
 
@@ -65,17 +67,49 @@ fn put_store<S: Sink>(sink: &mut S, page: &mut Page, unsure: Option<u64>) -> Res
         (gathered S.Sink sink.new page.new.items) result }
 {
     match unsure {
-        None => put_pieces(sink, page, &[Text(b"fault: store\n")]),
-        Some(epoch) => put_pieces(
-            sink,
-            page,
-            &[
-                Text(b"fault: store, epoch "),
-                Number(epoch),
-                Text(b" unsure\n"),
-            ],
-        ),
+        None => put_bytes(sink, page, b"fault: store\n"),
+        Some(epoch) => put_number(sink, page, b"fault: store, epoch ", epoch, b" unsure\n"),
     }
+}
+
+fn put_damaged<S: Sink>(
+    sink: &mut S,
+    page: &mut Page,
+    cell: u64,
+    check: Check,
+) -> Result<(), Failed>
+    ensures { Gathers
+        (codes "fault: damaged cell " ++ decimal cell ++ codes " " ++ check_text check ++ line_end)
+        (gathered S.Sink sink.old page.old.items)
+        (gathered S.Sink sink.new page.new.items) result }
+{
+    put_pieces(
+        sink,
+        page,
+        &[
+            Text(b"fault: damaged cell "),
+            Number(cell),
+            Text(b" "),
+            Text(check_text(check)),
+            Text(b"\n"),
+        ],
+    )
+}
+
+fn put_parameter<S: Sink>(sink: &mut S, page: &mut Page, field: Field) -> Result<(), Failed>
+    ensures { Gathers (codes "fault: parameter " ++ field_text field ++ line_end)
+        (gathered S.Sink sink.old page.old.items)
+        (gathered S.Sink sink.new page.new.items) result }
+{
+    put_pieces(
+        sink,
+        page,
+        &[
+            Text(b"fault: parameter "),
+            Text(field_text(field)),
+            Text(b"\n"),
+        ],
+    )
 }
 
 fn put_fault<S: Sink>(sink: &mut S, page: &mut Page, fault: &Fault) -> Result<(), Failed>
@@ -84,47 +118,23 @@ fn put_fault<S: Sink>(sink: &mut S, page: &mut Page, fault: &Fault) -> Result<()
         (gathered S.Sink sink.new page.new.items) result }
 {
     match *fault {
-        Fault::Usage => put_pieces(sink, page, &[Text(b"fault: usage\n")]),
-        Fault::BadScript { line } => put_pieces(
-            sink,
-            page,
-            &[Text(b"fault: script line "), Number(line), Text(b"\n")],
-        ),
-        Fault::BadParams { field } => put_pieces(
-            sink,
-            page,
-            &[
-                Text(b"fault: parameter "),
-                Text(field_text(field)),
-                Text(b"\n"),
-            ],
-        ),
-        Fault::NotStore => put_pieces(sink, page, &[Text(b"fault: not a store\n")]),
-        Fault::Damaged { cell, check, .. } => put_pieces(
-            sink,
-            page,
-            &[
-                Text(b"fault: damaged cell "),
-                Number(cell),
-                Text(b" "),
-                Text(check_text(check)),
-                Text(b"\n"),
-            ],
-        ),
+        Fault::Usage => put_bytes(sink, page, b"fault: usage\n"),
+        Fault::BadScript { line } => put_number(sink, page, b"fault: script line ", line, b"\n"),
+        Fault::BadParams { field } => put_parameter(sink, page, field),
+        Fault::NotStore => put_bytes(sink, page, b"fault: not a store\n"),
+        Fault::Damaged { cell, check, .. } => put_damaged(sink, page, cell, check),
         Fault::StoreFault { unsure } => put_store(sink, page, unsure),
-        Fault::StashFull { rows } => put_pieces(
+        Fault::StashFull { rows } => put_number(
             sink,
             page,
-            &[Text(b"fault: stash full, "), Number(rows), Text(b" rows\n")],
+            b"fault: stash full, ",
+            rows,
+            b" rows\n",
         ),
-        Fault::SourceFault => put_pieces(sink, page, &[Text(b"fault: source\n")]),
-        Fault::SinkFault => put_pieces(sink, page, &[Text(b"fault: sink\n")]),
-        Fault::Worn { number } => put_pieces(
-            sink,
-            page,
-            &[Text(b"fault: worn at "), Number(number), Text(b"\n")],
-        ),
-        Fault::Memory => put_pieces(sink, page, &[Text(b"fault: memory\n")]),
+        Fault::SourceFault => put_bytes(sink, page, b"fault: source\n"),
+        Fault::SinkFault => put_bytes(sink, page, b"fault: sink\n"),
+        Fault::Worn { number } => put_number(sink, page, b"fault: worn at ", number, b"\n"),
+        Fault::Memory => put_bytes(sink, page, b"fault: memory\n"),
     }
 }
 

@@ -1,5 +1,5 @@
 //! The text of records and of refusals, written to a sink.
-#![tactic(auto, using(crate::proofs::Joins::joins))]
+#![tactic(auto)]
 
 mod fault;
 mod page;

@@ -1,5 +1,7 @@
 //! Parts of a line.
 
+ghost use Rattle.std.specs.Prelude.{◌++◌};
+ghost use Rattle.std.specs.Fmt.{decimal};
 ghost use Rattle.ob_report.specs.Gathered.{gathered, Gathers};
 ghost use Rattle.ob_report.specs.Pieces.{piece_text, pieces_text};
 
@@ -29,6 +31,32 @@ fn put_piece<S: Sink>(sink: &mut S, page: &mut Page, piece: &Piece<'_>) -> Resul
             put_bytes(sink, page, digits.format(n).as_bytes())
         }
     }
+}
+
+/// Gathers a number between two texts.
+///
+/// # Errors
+/// As [`put_pieces`].
+pub fn put_number<'t, S: Sink>(
+    sink: &mut S,
+    page: &mut Page,
+    before: &'t [u8],
+    number: u64,
+    after: &'t [u8],
+) -> Result<(), Failed>
+    ensures { Gathers (before.now ++ decimal number ++ after.now)
+        (gathered S.Sink sink.old page.old.items)
+        (gathered S.Sink sink.new page.new.items) result }
+{
+    put_pieces(
+        sink,
+        page,
+        &[
+            Piece::Text(before),
+            Piece::Number(number),
+            Piece::Text(after),
+        ],
+    )
 }
 
 /// Gathers the text of the pieces, one behind the other.

@@ -9,64 +9,110 @@ ghost use Rattle.ob_report.specs.Gathered.{gathered, Gathers};
 ghost use Rattle.ob_io.specs.Streams.{outflow};
 ghost use Rattle.ob_report.specs.Printed.{Prints};
 
-use crate::page::{Page, hand_over};
+use crate::page::{Page, hand_over, put_bytes};
 use crate::piece::Piece::{Number, Text};
-use crate::piece::put_pieces;
+use crate::piece::{put_number, put_pieces};
 use ob_base::{Failed, Key, Op, Value};
 use ob_io::Sink;
 use ob_serial::{EpochRecord, Outcome, TxnRecord, Why};
+
+// Gathers a word and a blank, a key, what stands behind it and a value, and the line's end.
+fn put_value<'t, S: Sink>(
+    sink: &mut S,
+    page: &mut Page,
+    before: &'t [u8],
+    key: Key,
+    after: &'t [u8],
+    value: &'t Value,
+) -> Result<(), Failed>
+    ensures { Gathers (before.now ++ decimal key ++ after.now ++ value.now ++ line_end)
+        (gathered S.Sink sink.old page.old.items)
+        (gathered S.Sink sink.new page.new.items) result }
+{
+    put_pieces(
+        sink,
+        page,
+        &[
+            Text(before),
+            Number(u64::from(key)),
+            Text(after),
+            Text(value.as_slice()),
+            Text(b"\n"),
+        ],
+    )
+}
 
 fn put_get<S: Sink>(
     sink: &mut S,
     page: &mut Page,
     key: Key,
-    reply: Option<Value>,
+    reply: &Option<Value>,
 ) -> Result<(), Failed>
-    ensures { Gathers (codes "get " ++ decimal key ++ reply_text decimal reply ++ line_end)
+    ensures { Gathers (codes "get " ++ decimal key ++ reply_text decimal reply.now ++ line_end)
         (gathered S.Sink sink.old page.old.items)
         (gathered S.Sink sink.new page.new.items) result }
 {
-    let key = Number(u64::from(key));
     match reply {
-        None => put_pieces(sink, page, &[Text(b"get "), key, Text(b" absent\n")]),
-        Some(value) => put_pieces(
-            sink,
-            page,
-            &[
-                Text(b"get "),
-                key,
-                Text(b" = "),
-                Text(value.as_slice()),
-                Text(b"\n"),
-            ],
-        ),
+        None => put_number(sink, page, b"get ", u64::from(key), b" absent\n"),
+        Some(value) => put_value(sink, page, b"get ", key, b" = ", value),
     }
 }
 
-fn put_op<S: Sink>(sink: &mut S, page: &mut Page, op: Op<Key>) -> Result<(), Failed>
-    ensures { Gathers (op_line decimal op)
+fn put_op<S: Sink>(sink: &mut S, page: &mut Page, op: &Op<Key>) -> Result<(), Failed>
+    ensures { Gathers (op_line decimal op.now)
         (gathered S.Sink sink.old page.old.items)
         (gathered S.Sink sink.new page.new.items) result }
 {
     match op {
-        Op::Get { key, reply, .. } => put_get(sink, page, key, reply),
-        Op::Put { key, value } => put_pieces(
-            sink,
-            page,
-            &[
-                Text(b"put "),
-                Number(u64::from(key)),
-                Text(b" "),
-                Text(value.as_slice()),
-                Text(b"\n"),
-            ],
-        ),
-        Op::Del { key } => put_pieces(
-            sink,
-            page,
-            &[Text(b"del "), Number(u64::from(key)), Text(b"\n")],
-        ),
+        Op::Get { key, reply, .. } => put_get(sink, page, *key, reply),
+        Op::Put { key, value } => put_value(sink, page, b"put ", *key, b" ", value),
+        Op::Del { key } => put_number(sink, page, b"del ", u64::from(*key), b"\n"),
     }
+}
+
+// Gathers a conflict over a key, and its line's end.
+fn put_conflict<S: Sink>(sink: &mut S, page: &mut Page, key: Key, reader: u64) -> Result<(), Failed>
+    ensures { Gathers (codes "aborted conflict key " ++ decimal key
+        ++ codes " reader " ++ decimal reader ++ line_end)
+        (gathered S.Sink sink.old page.old.items)
+        (gathered S.Sink sink.new page.new.items) result }
+{
+    put_pieces(
+        sink,
+        page,
+        &[
+            Text(b"aborted conflict key "),
+            Number(u64::from(key)),
+            Text(b" reader "),
+            Number(reader),
+            Text(b"\n"),
+        ],
+    )
+}
+
+// Gathers how many reads were queued and how many are left, and the line's end.
+fn put_reads_full<S: Sink>(
+    sink: &mut S,
+    page: &mut Page,
+    queued: u64,
+    left: u64,
+) -> Result<(), Failed>
+    ensures { Gathers (codes "aborted reads full queued " ++ decimal queued
+        ++ codes " left " ++ decimal left ++ line_end)
+        (gathered S.Sink sink.old page.old.items)
+        (gathered S.Sink sink.new page.new.items) result }
+{
+    put_pieces(
+        sink,
+        page,
+        &[
+            Text(b"aborted reads full queued "),
+            Number(queued),
+            Text(b" left "),
+            Number(left),
+            Text(b"\n"),
+        ],
+    )
 }
 
 // Gathers why a transaction was aborted, and its line's end.
@@ -76,45 +122,15 @@ fn put_why<S: Sink>(sink: &mut S, page: &mut Page, why: Why<Key>) -> Result<(), 
         (gathered S.Sink sink.new page.new.items) result }
 {
     match why {
-        Why::Conflict { key, reader } => put_pieces(
-            sink,
-            page,
-            &[
-                Text(b"aborted conflict key "),
-                Number(u64::from(key)),
-                Text(b" reader "),
-                Number(reader),
-                Text(b"\n"),
-            ],
-        ),
-        Why::Depends { on } => put_pieces(
-            sink,
-            page,
-            &[Text(b"aborted depends on "), Number(on), Text(b"\n")],
-        ),
-        Why::ReadsFull { queued, left } => put_pieces(
-            sink,
-            page,
-            &[
-                Text(b"aborted reads full queued "),
-                Number(queued),
-                Text(b" left "),
-                Number(left),
-                Text(b"\n"),
-            ],
-        ),
-        Why::WritesFull { keys } => put_pieces(
-            sink,
-            page,
-            &[
-                Text(b"aborted writes full keys "),
-                Number(keys),
-                Text(b"\n"),
-            ],
-        ),
-        Why::EpochEnd => put_pieces(sink, page, &[Text(b"aborted epoch end\n")]),
-        Why::Asked => put_pieces(sink, page, &[Text(b"aborted asked\n")]),
-        Why::Stopped { .. } => put_pieces(sink, page, &[Text(b"aborted stopped\n")]),
+        Why::Conflict { key, reader } => put_conflict(sink, page, key, reader),
+        Why::Depends { on } => put_number(sink, page, b"aborted depends on ", on, b"\n"),
+        Why::ReadsFull { queued, left } => put_reads_full(sink, page, queued, left),
+        Why::WritesFull { keys } => {
+            put_number(sink, page, b"aborted writes full keys ", keys, b"\n")
+        }
+        Why::EpochEnd => put_bytes(sink, page, b"aborted epoch end\n"),
+        Why::Asked => put_bytes(sink, page, b"aborted asked\n"),
+        Why::Stopped { .. } => put_bytes(sink, page, b"aborted stopped\n"),
     }
 }
 
@@ -125,9 +141,9 @@ fn put_outcome<S: Sink>(sink: &mut S, page: &mut Page, outcome: Outcome<Key>) ->
         (gathered S.Sink sink.new page.new.items) result }
 {
     match outcome {
-        Outcome::Committed => put_pieces(sink, page, &[Text(b"committed\n")]),
+        Outcome::Committed => put_bytes(sink, page, b"committed\n"),
         Outcome::Aborted { why } => put_why(sink, page, why),
-        Outcome::Unsure { .. } => put_pieces(sink, page, &[Text(b"unsure\n")]),
+        Outcome::Unsure { .. } => put_bytes(sink, page, b"unsure\n"),
     }
 }
 
@@ -137,7 +153,7 @@ fn put_ops<S: Sink>(sink: &mut S, page: &mut Page, ops: &[Op<Key>]) -> Result<()
         (gathered S.Sink sink.new page.new.items) result }
 {
     for op in ops {
-        put_op(sink, page, *op)?;
+        put_op(sink, page, op)?;
     }
     Ok(())
 }
@@ -191,11 +207,7 @@ fn put_record<S: Sink>(
         (gathered S.Sink sink.old page.old.items)
         (gathered S.Sink sink.new page.new.items) result }
 {
-    put_pieces(
-        sink,
-        page,
-        &[Text(b"epoch "), Number(record.epoch), Text(b"\n")],
-    )?;
+    put_number(sink, page, b"epoch ", record.epoch, b"\n")?;
     put_txns(sink, page, &record.txns)
 }
 

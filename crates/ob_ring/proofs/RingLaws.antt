@@ -1,5 +1,5 @@
 -- What the ring's calls do, as steps of the flat table.
-use Rattle.std.specs.Prelude.{◌≡◌, ℕ, ◌+◌, ◌%◌, ◌^◌, ◌<◌, Bool, false, List, [], ◌++◌, map, length, replicate, filter, Option, slice_index_or}
+use Rattle.std.specs.Prelude.{◌≡◌, ℕ, ◌+◌, ◌%◌, ◌^◌, ◌<◌, Bool, false, List, [], ◌++◌, map, length, replicate, filter, Option, slice_index, slice_index_or}
 use Rattle.std.specs.declared.option.Option.TheVariants.{None, Some}
 use Rattle.std.specs.FinMap as finite
 use Rattle.std.proofs.Common.{zero, suc, arith, refl, sym, ap, subst, ◌∙◌}
@@ -20,10 +20,10 @@ use Rattle.ob_ring.specs.FlatTable.{FlatTable, Batch, FinalLifts, Refill, stash_
 use Rattle.ob_ring.specs.Arrays.{IsTableOf, AreWhole, arrays_of, rest_of, leaf_of_entry}
 use Rattle.ob_ring.specs.Picked.{Plans, job_of, batch_picked, final_picked, places_from}
 use Rattle.ob_ring.specs.Fetching.{Fetches, leaf_places}
-use Rattle.ob_ring.specs.Ring.{Kept, IsRing, StandsFor, IsBatch, IsLifting, empty_table}
+use Rattle.ob_ring.specs.Ring.{Kept, IsRing, StandsFor, IsBatch, IsLifting, AreListedWithin, empty_table}
 use Rattle.ob_ring.specs.Sound.{IsSound}
-use Rattle.ob_ring.specs.Filling.{arrays_in, HasStashRows, FillsTo}
-use Rattle.ob_ring.proofs.FillAll.{refilled_is, rows_after}
+use Rattle.ob_ring.specs.Filling.{arrays_in, HasStashRows, IsSealedAnew, AreSealedAnew, FillsTo, base_of, words_of}
+use Rattle.ob_ring.proofs.FillAll.{listed_within, refilled_is, rows_after}
 use Rattle.ob_ring.proofs.TableLaws.{steps_keep_order, none_counted}
 
 pub batch_is : (p : Params) (book book' : List (Option Entry)) (metas metas' : Buckets) (stash : Held) (counter : ℕ) (before now : Planned) (asked : List (Option ℕ × Entry)) → Fetches p book book' (record metas { order = [] }) metas' before now asked →
@@ -125,11 +125,40 @@ module _ (r : Kept) (p : Params) (book : List (Option Entry)) (metas mid cleared
   at_hand : (t : FlatTable) → HasStashRows t (r.stash).rows → HasStashRows t stash.rows
   at_hand t at = subst (λ (o : Kept). HasStashRows t (o.stash).rows) (sym view) at
 
+  pub refill_kept : ◌≡◌ {A = Kept} (record { p = p; book = book; metas = cleared; stash = stash; counter = counter }) (record r { metas = cleared })
+  refill_kept = ap (λ (o : Kept). record o { metas = cleared }) view
+
+  same_order : cleared.order ≡ metas.order
+  same_order = ap (λ (s : Buckets). s.order) changed ∙ f.order
+
+  pub refill_order_kept : cleared.order ≡ (r.metas).order
+  refill_order_kept = same_order ∙ ap (λ (o : Kept). (o.metas).order) view
+
+  pub refill_within : AreListedWithin (record { p = p; book = book; metas = cleared; stash = stash; counter = counter })
+  refill_within = λ i h. listed_within p metas cleared.order i listed_here same_order (subst (λ (xs : List ℕ). i < length xs) same_order h)
+
+  pub refill_whole : AreWhole p cleared
+  refill_whole = record {
+    many = ap (λ (s : Buckets). length s.versions) changed ∙ (f.whole).many;
+    marks = ap (λ (s : Buckets). length s.lifted) changed ∙ length-replicate (length mid.lifted) false ∙ (f.whole).marks;
+    slots = λ u h. subst (λ (s : Buckets). HasSlots p (version_at s.versions u)) (sym changed) ((f.whole).slots u h);
+  }
+
+  sealed_here : AreSealedAnew p metas cleared words first (length metas.order)
+  sealed_here = record {
+    anew = λ i h. subst (λ (s : Buckets). IsSealedAnew (version_at metas.versions (slice_index metas.order i)) (version_at s.versions (slice_index metas.order i)) first.0 (base_of p first i) (words_of p words i)) (sym changed) ((f.anew).anew i h);
+    others = λ u off. ap (λ (s : Buckets). version_at s.versions u) changed ∙ (f.anew).others u off;
+  }
+
+  pub refill_anew : AreSealedAnew r.p r.metas cleared words first (length (r.metas).order)
+  refill_anew = subst (λ (o : Kept). AreSealedAnew o.p o.metas cleared words first (length (o.metas).order)) view sealed_here
+
   pub refill_stands : (t : FlatTable) → StandsFor r t → HasStashRows t (r.stash).rows → StandsFor (record { p = p; book = book; metas = cleared; stash = stash; counter = counter }) (after r.p t Refill)
   refill_stands t s at = subst (λ (o : Kept). StandsFor (record { p = p; book = book; metas = cleared; stash = stash; counter = counter }) (after o.p t Refill)) view
       (stands t (subst (λ (o : Kept). StandsFor o t) (sym view) s) (at_hand t at))
 
-  pub refill_counts : (many : ℕ) → ((lifted : ℕ → Bool) (c : ℕ) (t : FlatTable) → IsSound p t → HasStashRows t stash.rows → IsTableOf p (arrays_in cleared lifted (rest_of book c)) t → many ≡ stash_size p t) → (t : FlatTable) → StandsFor r t → HasStashRows t (r.stash).rows → many ≡ stash_size r.p (after r.p t Refill)
+  pub refill_counts : (many : ℕ) → ((lifted : ℕ → Bool) (c : ℕ) (t : FlatTable) → IsSound p t → HasStashRows t stash.rows → IsTableOf p (arrays_in cleared lifted (rest_of book c)) t → many ≡ stash_size p t) → (t : FlatTable) → StandsFor r t → HasStashRows t
+      (r.stash).rows → many ≡ stash_size r.p (after r.p t Refill)
   refill_counts many counts t s at =
       let done : StandsFor (record { p = p; book = book; metas = cleared; stash = stash; counter = counter }) (after p t Refill) = stands t (subst (λ (o : Kept). StandsFor o t) (sym view) s) (at_hand t at) in
       subst (λ (o : Kept). many ≡ stash_size o.p (after o.p t Refill)) view (counts (λ u. is_lifted cleared u) counter (after p t Refill) (done.orderly).sound (rows_after p t (refill_order p t) stash.rows (at_hand t at)) done.arrays)

@@ -112,8 +112,9 @@ impl Ring {
         &self.tables
     }
 
-    /// Plans a read batch: for each place what it asks for, or none for a pad, and its word; `first`
-    /// is the id of the first word, the others' follow. The jobs are those of the slots to be read.
+    /// Plans a read batch: for each place what it asks for, or none for a pad, and its word;
+    /// `first` is the id of the first word, the others' follow. The jobs are those of the slots to
+    /// be read.
     pub fn plan_fetch(
         &mut self,
         asks: &[Option<Key>],
@@ -243,11 +244,11 @@ impl Ring {
         );
     }
 
-    /// Fills the listed buckets anew: each takes the first keys of the stash, in rising order, whose
-    /// paths go through it, as many as it has real indexes. Each bucket takes as many words as it
-    /// has slots; its slots are sealed with the numbers from `first` on, those of the buckets before
-    /// it first. The stash has a row of each key that lies in no bucket, and these rows stay at hand
-    /// until `forget_written`.
+    /// Fills the listed buckets anew: each takes the first keys of the stash, in rising order,
+    /// whose paths go through it, as many as it has real indexes. Each bucket takes as many words
+    /// as it has slots; its slots are sealed with the numbers from `first` on, those of the buckets
+    /// before it first. The stash has a row of each key that lies in no bucket, and these rows stay
+    /// at hand until `forget_written`.
     ///
     /// # Errors
     /// More rows are left than the stash may keep. Then the ring serves no more.

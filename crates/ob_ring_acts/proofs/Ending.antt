@@ -10,7 +10,7 @@ use Rattle.ob_base.specs.declared.params.Params.{Params}
 use Rattle.ob_base.specs.declared.value.Write.{Write}
 use Rattle.ob_bucket.specs.Buckets.{version_at}
 use Rattle.ob_bucket.specs.Rank.{IsRanking}
-use Rattle.ob_content.specs.Content.{Content}
+use Rattle.ob_tables.specs.Content.{Content}
 use Rattle.ob_end.specs.EndRuns.{AreEntriesWritten, EndImages, IsAtContent, MayEndEpoch, TakeBucketWords, standing_at_end, table_ended, words_for_end}
 use Rattle.ob_epoch.proofs.Counts.{slots_rank}
 use Rattle.ob_epoch.specs.Table.{flat_of}

@@ -2,7 +2,7 @@
 use Rattle.std.specs.Prelude.{◌≡◌, ℕ, zero, suc, ◌+◌, List, ◌∷◌, length}
 use Rattle.std.proofs.Common.{arith, refl, sym, ap, subst, ◌∙◌}
 use Rattle.ob_base.specs.declared.params.Params.{Params}
-use Rattle.ob_content.specs.Content.{Content}
+use Rattle.ob_tables.specs.Content.{Content}
 use Rattle.ob_life.specs.Calls.{repeated}
 use Rattle.ob_life.specs.Life.{LifeBatch, LifeState, Open, ShowBatch, WordId, life_step, reached}
 use Rattle.ob_log.specs.Logs.{BatchRecord}

@@ -26,8 +26,8 @@ pub fn chains_are_lives<V: Vault, S: Store>()
     ensures { RingChainsInLife (kind_of V.Vault) (λ store. S.disk store) }
 {}
 
-/// What a call that was answered shows is the public schedule, filled by the words and the slots that
-/// the life shows in it.
+/// What a call that was answered shows is the public schedule, filled by the words and the slots
+/// that the life shows in it.
 pub fn calls_show_lives<S: Store>()
     ensures fetches { FetchesShowLives (λ store. S.disk store) }
     ensures ends { EndsShowLives (λ store. S.disk store) }

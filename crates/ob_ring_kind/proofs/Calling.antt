@@ -8,7 +8,7 @@ use Rattle.ob_base.specs.declared.fault.Fault.TheVariants as fault
 use Rattle.ob_base.specs.declared.params.Params.{Params}
 use Rattle.ob_base.specs.declared.value.Write.{Write}
 use Rattle.ob_bucket.specs.Buckets.{Buckets}
-use Rattle.ob_content.specs.Content.{Content, Obeys}
+use Rattle.ob_tables.specs.Content.{Content, Obeys}
 use Rattle.ob_end.specs.EndRuns.{IsWornForEnd, LeadsOn, seals_for_end, standing_at_end, table_ended, words_for_end}
 use Rattle.ob_end.specs.Shown.{EndShows, before_gate, end_lifts, up_to_gate}
 use Rattle.ob_ending.specs.Lifts.{IsLiftDamage}

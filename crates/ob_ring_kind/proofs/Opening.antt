@@ -1,7 +1,7 @@
 -- An opening of a ring store, in the words of its kind of store: the head was read, and then the store was opened.
 use Rattle.std.proofs.Common.{◌≡◌, ◌∙◌, ◌⊎◌, ◌≤◌, ℕ, suc, List, [], ◌∷◌, length, Ok, refl, sym, ap, subst, inl, inr, arith}
 use Rattle.ob_base.specs.declared.params.Params.{Params}
-use Rattle.ob_content.specs.Content.{Content, content_of}
+use Rattle.ob_tables.specs.Content.{Content, content_of}
 use Rattle.ob_kinds.specs.Kinds.{AllStand, IsOpenedAt, Stands, StandsAsBefore}
 use Rattle.ob_kinds.specs.Openings.{OpensStanding}
 use Rattle.ob_kinds.specs.Phases.{events_of_phases}

@@ -4,7 +4,7 @@ use Rattle.ob_base.specs.Layout.{checkpoint_cells, record_cells}
 use Rattle.ob_base.specs.Tree.{buckets, width}
 use Rattle.ob_base.specs.declared.fault.Damaged.{Damaged}
 use Rattle.ob_base.specs.declared.params.Params.{Params}
-use Rattle.ob_content.specs.Content.{Obeys}
+use Rattle.ob_tables.specs.Content.{Obeys}
 use Rattle.ob_ending.specs.Lifts.{IsLiftDamage}
 use Rattle.ob_log.specs.Logs.{BatchRecord}
 use Rattle.ob_recover.specs.Repeats.{IsBatchDamage}

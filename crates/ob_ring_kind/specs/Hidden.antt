@@ -7,7 +7,7 @@ use Rattle.ob_base.specs.declared.value.Write.{Write}
 use Rattle.ob_base.specs.Tree.{buckets}
 use Rattle.ob_bucket.specs.Buckets.{version_at}
 use Rattle.ob_bucket.specs.Rank.{ranks_of}
-use Rattle.ob_content.specs.Content.{Content, Obeys}
+use Rattle.ob_tables.specs.Content.{Content, Obeys}
 use Rattle.ob_end.specs.EndRuns.{end_writes, table_ended, words_for_end}
 use Rattle.ob_end.specs.Shown.{before_gate, end_lifts, up_to_gate}
 use Rattle.ob_epoch.specs.Table.{flat_of}

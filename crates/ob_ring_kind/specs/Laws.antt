@@ -3,7 +3,7 @@ use Rattle.std.specs.Prelude.{ℕ, ◌≡◌, ◌⊎◌, ◌+◌, ◌%◌, ◌�
 use Rattle.ob_base.specs.Layout.{EpochTwin}
 use Rattle.ob_base.specs.declared.fault.Fault.{Fault}
 use Rattle.ob_base.specs.declared.params.Params.{Params}
-use Rattle.ob_content.specs.Content.{content_of}
+use Rattle.ob_tables.specs.Content.{content_of}
 use Rattle.ob_end.specs.Shown.{before_gate, end_lifts, up_to_gate}
 use Rattle.ob_kinds.specs.Formats.{MakesEmpty}
 use Rattle.ob_kinds.specs.Kinds.{AllStand, IsOpenedAt, Stands, StandsAsBefore, opened_with}

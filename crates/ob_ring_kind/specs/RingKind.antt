@@ -6,7 +6,7 @@ use Rattle.ob_base.specs.declared.fault.Fault.{Fault}
 use Rattle.ob_base.specs.declared.fault.Fault.TheVariants as fault
 use Rattle.ob_base.specs.Layout.{ring_cells}
 use Rattle.ob_base.specs.declared.params.Params.{Params}
-use Rattle.ob_content.specs.Content.{Content, content_of}
+use Rattle.ob_tables.specs.Content.{Content, content_of}
 use Rattle.ob_fetch.specs.Fetches.{RunIsAt}
 use Rattle.ob_fetch.specs.declared.run.Run.{Run}
 use Rattle.ob_kinds.specs.Kinds.{StoreKind}

@@ -3,7 +3,7 @@ use Rattle.std.specs.Prelude.{ℕ, suc, ◌⊎◌, ◌≤◌, List, [], ◌∷�
 use Rattle.ob_base.specs.declared.params.Params.{Params}
 use Rattle.ob_base.specs.declared.fault.Fault.{Fault}
 use Rattle.ob_base.specs.declared.fault.Fault.TheVariants as fault
-use Rattle.ob_content.specs.Content.{Content, content_of}
+use Rattle.ob_tables.specs.Content.{Content, content_of}
 use Rattle.ob_kinds.specs.Phases.{Phase, Reads, Writes, Syncs, Shape, Fetches, Ends}
 use Rattle.ob_log.specs.Logs.{BatchRecord}
 use Rattle.ob_recover.specs.Finds.{IsFoundInRing, finding_notes}

@@ -3,7 +3,7 @@ use Rattle.std.specs.Prelude.{◌≡◌, ◌⊎◌, ℕ, ◌+◌, ◌<◌, List,
 use Rattle.std.proofs.Common.{arith, refl, sym, ap, subst, ◌∙◌, inl, inr}
 use Rattle.std.proofs.lemmas.Option.{same_Some}
 use Rattle.ob_base.specs.declared.params.Params.{Params}
-use Rattle.ob_content.specs.Content.{Content}
+use Rattle.ob_tables.specs.Content.{Content}
 use Rattle.ob_fetch.specs.Fetches.{words_since}
 use Rattle.ob_fetch.specs.declared.run.Run.{Run}
 use Rattle.ob_kinds.specs.Phases.{Shape}

@@ -6,7 +6,7 @@ use Rattle.std.proofs.lemmas.List.{length-map, map-append}
 use Rattle.ob_base.proofs.Repeats.{has_cases}
 use Rattle.ob_base.specs.Repeats.{Has}
 use Rattle.ob_base.specs.declared.params.Params.{Params}
-use Rattle.ob_content.specs.Content.{Content, Obeys}
+use Rattle.ob_tables.specs.Content.{Content, Obeys}
 use Rattle.ob_life.specs.Calls.{repeated}
 use Rattle.ob_life.specs.Life.{IsLife, LabelFill, LifeBatch, LifeState, Open, ShowBatch, SlotFill, WordId, leaf_of_word, life_labels, life_slots, life_step, log_slots, phase_labels, phase_slots, reached}
 use Rattle.ob_log.specs.Logs.{BatchRecord, RecordsFit}

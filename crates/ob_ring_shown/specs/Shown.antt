@@ -3,7 +3,7 @@ use Rattle.std.specs.Prelude.{◌≡◌, ℕ, ◌+◌, ◌<◌, List, [], ◌∷
 use Rattle.ob_base.specs.Repeats.{Has}
 use Rattle.ob_base.specs.declared.params.Params.{Params}
 use Rattle.ob_bucket.specs.Rank.{IsRanking}
-use Rattle.ob_content.specs.Content.{Obeys}
+use Rattle.ob_tables.specs.Content.{Obeys}
 use Rattle.ob_kinds.specs.Phases.{Shape}
 use Rattle.ob_kinds.specs.Shown.{AreDrawn}
 use Rattle.ob_life.specs.Life.{HolesAreFresh, IsLife, LifeAct, LifeState, SlotFill, WordId, formatted_life, leaf_of_word, life_labels, life_slots, reached}

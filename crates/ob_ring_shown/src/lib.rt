@@ -1,5 +1,5 @@
-//! What the calls of a vault over a ring store draw is what a life of the store shows, so it is fresh
-//! over all runs; and each run goes on with the life that its store stood for.
+//! What the calls of a vault over a ring store draw is what a life of the store shows, so it is
+//! fresh over all runs; and each run goes on with the life that its store stood for.
 #![tactic(auto)]
 
 ghost use Rattle.ob_serial.specs.VaultKinds.{kind_of};
@@ -10,8 +10,8 @@ ghost use Rattle.ob_ring_shown.specs.Lives.{FormatsBegin, OpeningsGoOn, Openings
 use ob_serial::Vault;
 use ob_store::Store;
 
-/// What calls draw, one behind the other, makes the acts of a life of the store, and fills the holes
-/// with what these show: no word in two holes, over all the runs of the store.
+/// What calls draw, one behind the other, makes the acts of a life of the store, and fills the
+/// holes with what these show: no word in two holes, over all the runs of the store.
 pub fn drawn_is_shown()
     ensures { DrawnIsShown }
 {}
@@ -21,8 +21,8 @@ pub fn formats_begin<S: Store>()
     ensures { FormatsBegin (λ store. S.disk store) }
 {}
 
-/// An opening goes on with each life that the store's cells stood for, and shows again what that has
-/// shown.
+/// An opening goes on with each life that the store's cells stood for, and shows again what that
+/// has shown.
 pub fn openings_go_on()
     ensures { OpeningsGoOn }
 {}
@@ -44,8 +44,8 @@ pub fn runs_are_lives<S: Store>()
 {}
 
 /// Any row of runs over a store that was formatted, each of which begins at an image that a crash
-/// left behind the one before, is one life: in all of them no word is shown in two holes, and a hole
-/// that is shown again is filled as before.
+/// left behind the one before, is one life: in all of them no word is shown in two holes, and a
+/// hole that is shown again is filled as before.
 pub fn runs_are_one_life<S: Store>()
     ensures { RunsAreOneLife (λ store. S.disk store) }
 {}

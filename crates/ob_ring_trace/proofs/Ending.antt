@@ -7,7 +7,7 @@ use Rattle.ob_base.specs.declared.value.Write.{Write}
 use Rattle.ob_base.specs.Layout.{EpochTwin, slot_cell}
 use Rattle.ob_bucket.specs.Buckets.{version_at}
 use Rattle.ob_bucket.specs.Version.{Version}
-use Rattle.ob_content.specs.Content.{Content, Obeys, Rows}
+use Rattle.ob_tables.specs.Content.{Content, Obeys, Rows}
 use Rattle.ob_epoch.specs.Counts.{IsEndPublic, lifted_and_written, public_of}
 use Rattle.ob_epoch.specs.Ends.{RefillRun}
 use Rattle.ob_epoch.specs.Table.{flat_of}

@@ -7,7 +7,7 @@ use mathlib.Core.Path.{fun_ext}
 use Rattle.ob_base.specs.declared.params.Params.{Params}
 use Rattle.ob_base.specs.Tree.{below}
 use Rattle.ob_base.specs.Repeats.{Has}
-use Rattle.ob_content.specs.Content.{Content}
+use Rattle.ob_tables.specs.Content.{Content}
 use Rattle.ob_epoch.specs.Table.{flat_of, lying_place, row_for}
 use Rattle.ob_life.specs.Life.{LifeContent, SlotFill, WordId, batch_places, book_after, leaf_of_word, leaves, lift_slots, log_slots, phase_labels, slot_fill, slots_of, table_after, table_now, with_words}
 use Rattle.ob_life.proofs.BookLaws.{IsBookOf, book_batch, kept_leaf, label_leaves, low_bits}
@@ -101,7 +101,8 @@ filled_leaves p c rs b wide lt =
 -- ---- slots
 
 -- what a list of picks shows has the slots that fill its holes
-filled_slots : (e : ℕ) (c : LifeContent) (k : Content) (shown : List Shown) (fills : Fills) → ((s : Shown) → Has shown s → c.slot s.bucket s.index ≡ slot_kept k s.bucket s.index) → AreSlotsOf k shown fills → (f : SlotFill) → Has (slots_of e c shown) f → f.slot ≡ fills.slot (record { bucket = f.bucket; number = f.number })
+filled_slots : (e : ℕ) (c : LifeContent) (k : Content) (shown : List Shown) (fills : Fills) → ((s : Shown) → Has shown s → c.slot s.bucket s.index ≡ slot_kept k s.bucket s.index) → AreSlotsOf k shown fills → (f : SlotFill) → Has (slots_of e c shown) f → f.slot
+    ≡ fills.slot (record { bucket = f.bucket; number = f.number })
 filled_slots e c k [] fills slots own f has = absurd has
 filled_slots e c k (s ∷ ss) fills slots own f (inl is) =
     subst (λ (x : SlotFill). x.slot ≡ fills.slot (record { bucket = x.bucket; number = x.number })) is (slots s (inl refl) ∙ sym (own s (inl refl)))

@@ -8,7 +8,7 @@ use Rattle.ob_base.specs.declared.params.Params.{Params}
 use Rattle.ob_base.specs.Tree.{below}
 use Rattle.ob_base.specs.Layout.{LogArea, EpochTwin, GenerationTwin}
 use Rattle.ob_base.proofs.Repeats.{has_left, has_right}
-use Rattle.ob_content.specs.Content.{Content, Obeys}
+use Rattle.ob_tables.specs.Content.{Content, Obeys}
 use Rattle.ob_epoch.specs.Table.{flat_of}
 use Rattle.ob_epoch.specs.Counts.{public_of}
 use Rattle.ob_epoch.proofs.Counts.{opening_counts}

@@ -11,7 +11,7 @@ use Rattle.ob_base.proofs.Repeats.{has_left, has_right}
 use Rattle.ob_bucket.specs.Buckets.{version_at}
 use Rattle.ob_store.specs.declared.watch.Note.{Note}
 use Rattle.ob_store.specs.declared.watch.Note.TheVariants.{Label, Read}
-use Rattle.ob_content.specs.Content.{Content}
+use Rattle.ob_tables.specs.Content.{Content}
 use Rattle.ob_schedule.specs.Holes.{place_holes, passes_before}
 use Rattle.ob_schedule.specs.Schedule.{Public, Fills, counts_now, hole_reads, phase_notes}
 use Rattle.ob_ring.specs.FlatTable.{FlatTable, Shown, leaf_shown, place_shown, after_place, batch_shown, leaves_shown}

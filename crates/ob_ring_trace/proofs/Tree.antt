@@ -6,7 +6,7 @@ use Rattle.std.proofs.lemmas.Nat.{pow_pos}
 use Rattle.ob_base.specs.declared.params.Params.{Params}
 use Rattle.ob_base.specs.Repeats.{Has}
 use Rattle.ob_base.specs.Tree.{buckets, path, width}
-use Rattle.ob_content.specs.Content.{Content, Obeys}
+use Rattle.ob_tables.specs.Content.{Content, Obeys}
 use Rattle.ob_epoch.specs.Counts.{public_of}
 use Rattle.ob_epoch.specs.Table.{flat_of, lying_place, row_for}
 use Rattle.ob_log.specs.Logs.{BatchRecord}

@@ -1,7 +1,7 @@
 -- A read batch's calls show the schedule's batch, and leave its public state.
 use Rattle.std.specs.Prelude.{◌≡◌, ℕ, suc, List, [], ◌∷◌, ◌++◌, length, Option}
 use Rattle.ob_base.specs.declared.params.Params.{Params}
-use Rattle.ob_content.specs.Content.{Content, Obeys}
+use Rattle.ob_tables.specs.Content.{Content, Obeys}
 use Rattle.ob_epoch.specs.Table.{flat_of}
 use Rattle.ob_log.specs.Appends.{append_notes}
 use Rattle.ob_log.specs.Logs.{BatchRecord, RecordsFit}

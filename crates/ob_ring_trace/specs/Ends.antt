@@ -8,7 +8,7 @@ use Rattle.ob_base.specs.Tree.{width}
 use Rattle.ob_bucket.specs.Buckets.{version_at}
 use Rattle.ob_bucket.specs.Version.{Version}
 use Rattle.ob_check.specs.Written.{area_of}
-use Rattle.ob_content.specs.Content.{Content, Obeys, Rows}
+use Rattle.ob_tables.specs.Content.{Content, Obeys, Rows}
 use Rattle.ob_epoch.specs.Ends.{RefillRun}
 use Rattle.ob_epoch.specs.Table.{flat_of}
 use Rattle.ob_epoch.specs.Valued.{content_with}

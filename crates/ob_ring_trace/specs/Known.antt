@@ -5,7 +5,7 @@ use Rattle.ob_base.specs.Repeats.{Has}
 use Rattle.ob_base.specs.declared.params.Params.{Params}
 use Rattle.ob_bucket.specs.Buckets.{version_at}
 use Rattle.ob_bucket.specs.Version.{rank_at}
-use Rattle.ob_content.specs.Content.{Content, Obeys}
+use Rattle.ob_tables.specs.Content.{Content, Obeys}
 use Rattle.ob_epoch.specs.Counts.{public_of}
 use Rattle.ob_epoch.specs.Table.{flat_of}
 use Rattle.ob_life.specs.Bridge.{slot_read_off}

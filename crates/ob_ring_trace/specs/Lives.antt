@@ -3,7 +3,7 @@ use Rattle.std.specs.Prelude.{◌≡◌, ℕ, ◌+◌, ◌<◌, List, map, lengt
 use Rattle.ob_base.specs.Repeats.{Has}
 use Rattle.ob_base.specs.declared.params.Params.{Params}
 use Rattle.ob_base.specs.Tree.{buckets, width}
-use Rattle.ob_content.specs.Content.{Content, Obeys}
+use Rattle.ob_tables.specs.Content.{Content, Obeys}
 use Rattle.ob_epoch.specs.Table.{flat_of}
 use Rattle.ob_life.specs.Life.{LifeBatch, LifeState, SlotFill, WordId, leaf_of_word, lift_slots, log_slots, phase_labels, table_now}
 use Rattle.ob_log.specs.Logs.{BatchRecord, RecordsFit}

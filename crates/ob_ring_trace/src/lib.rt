@@ -1,5 +1,5 @@
-//! What the calls of a ring store show is the public schedule, made of what the store may know. Laws
-//! of definitions; nothing here runs.
+//! What the calls of a ring store show is the public schedule, made of what the store may know.
+//! Laws of definitions; nothing here runs.
 #![tactic(auto)]
 
 ghost use Rattle.ob_ring_trace.specs.Batches.{BatchesAreScheduled, BatchesAreTold};

@@ -1,5 +1,5 @@
 -- A vault holds its map, and stays sound, whatever its calls answer.
-use Rattle.std.specs.Prelude.{◌≡◌, ℕ, suc, ◌+◌, Bool, true, false, List, Option, Some, Result, Ok, Err, OnOk, OnErr}
+use Rattle.std.specs.Prelude.{◌≡◌, ℕ, suc, ◌+◌, Bool, true, false, List, ◌∷◌, Option, Some, Result, Ok, Err, OnOk, OnErr}
 use Rattle.std.specs.Borrow.{GName}
 use Rattle.std.specs.FinMap as finite
 use Rattle.std.proofs.Common.{arith, refl, sym, ap, ◌∙◌, subst, inl, inr, ⊎_elim}
@@ -21,6 +21,7 @@ use Rattle.ob_stand.specs.Stands.{OneOf, RingStanding, Stands, StandsRing, with_
 use Rattle.ob_stand.specs.Vaults.{IsRingOf, plain_writes}
 use Rattle.ob_stand.proofs.EndLaws.{end_spares}
 use Rattle.ob_stand.proofs.VaultLaws.{ring_stands, writes_agree}
+use Rattle.ob_store.specs.Calls.{GoesOn}
 use Rattle.ob_store.specs.Disk.{Clock, Disk, Image, NotAfter}
 use Rattle.ob_store.specs.Images.{IsSynced, LeavesOnly}
 use Rattle.ob_store.proofs.Moments.{weakened}
@@ -33,6 +34,18 @@ use Rattle.ob_ring_vault.specs.RingVaults.{RingHolds, RingServes, RingSound, cou
 -- two references more change nothing of what crashes leave
 pub lent_leaves : (a b x y : GName) (old new : Disk) (P : Image → Type 0) → LeavesOnly old new P → LeavesOnly (lent_both a b old) (lent_both x y new) P
 lent_leaves a b x y old new P run = record { later = run.later; each = run.each; before = run.before }
+
+-- nor of what goes on
+pub lent_goes : (a b : GName) (old new : Disk) → GoesOn old new → GoesOn (lent_both a b old) (lent_both a b new)
+lent_goes a b old new goes = record {
+  anchors = ap (λ (l : List GName). a ∷ b ∷ l) goes.anchors;
+  faults = goes.faults;
+  later = goes.later;
+  kept = goes.kept;
+  told = goes.told;
+  leaves = goes.leaves;
+  seen = goes.seen;
+}
 
 parts : (v : VaultState) (run : Run) → counts_of v ≡ counts_of_run run → (v.epoch ≡ run.epoch) × (v.left ≡ run.left) × (v.spent ≡ run.spent)
 parts v run is = (ap (λ (k : VaultCounts). k.epoch) is, ap (λ (k : VaultCounts). k.left) is, ap (λ (k : VaultCounts). k.spent) is)

@@ -13,8 +13,8 @@ use Rattle.ob_base.specs.Planned.{most_jobs}
 use Rattle.ob_base.specs.Tree.{buckets, width}
 use Rattle.ob_bucket.specs.Buckets.{version_at}
 use Rattle.ob_bucket.specs.Version.{key_at}
-use Rattle.ob_content.specs.Content.{FitsBook, FitsSeals}
-use Rattle.ob_content.specs.Spelling.{slot_bytes}
+use Rattle.ob_tables.specs.Content.{FitsBook, FitsSeals}
+use Rattle.ob_tables.specs.Spelling.{slot_bytes}
 use Rattle.ob_end.specs.EndRuns.{IsEndReady}
 use Rattle.ob_recover.specs.Fits.{IsPlannerFit}
 use Rattle.ob_epoch.specs.Plans.{AreAllWhole}

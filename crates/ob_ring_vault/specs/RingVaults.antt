@@ -11,7 +11,7 @@ use Rattle.ob_base.specs.declared.value.Write.{Write}
 use Rattle.ob_batch.specs.Lanes.{ReadByLanes}
 use Rattle.ob_bucket.specs.Buckets.{Buckets}
 use Rattle.ob_cells.specs.Writes.{Seals}
-use Rattle.ob_content.specs.Content.{Content}
+use Rattle.ob_tables.specs.Content.{Content}
 use Rattle.ob_end.specs.Closings.{SameGeneration}
 use Rattle.ob_end.specs.EndRuns.{AreEntriesWritten, EndAnswers, EndDamage, EndDraws, EndImages, EndStands, IfEnded, IsAtContent, IsEndUndamaged, LeadsOn, TakeBucketWords, end_writes, seals_for_end, table_ended}
 use Rattle.ob_end.specs.Shown.{EndShows, end_lifts}

@@ -18,7 +18,7 @@ use Rattle.ob_conduct.specs.Scenes.{scene, run_state, RunnerKind, runner_kind}
 use Rattle.ob_driver.specs.Driven.{Side}
 use Rattle.ob_driver.specs.Drives.{IsFirstPass}
 use Rattle.ob_woven.specs.Woven.{HistoriesWeave}
-use Rattle.ob_woven_ends.specs.Ends.{IsQuiet, OverRunsEndOver, FailedRunsFail, IdleHallsHaveNone}
+use Rattle.ob_woven.specs.Ends.{IsQuiet, OverRunsEndOver, FailedRunsFail, IdleHallsHaveNone}
 use Rattle.ob_starts.specs.Served.{Words, words, IsClient, IsLater}
 use Rattle.ob_starts.specs.Starts.{Each}
 use Rattle.ob_starts.proofs.Eaching.{each-length}
@@ -54,26 +54,25 @@ module _ {V U Plan : Type 0} (k : Kind V) (beat : BeatKind) (client bound : U �
       (subst (λ (us : List U). AreClients hall 0 (map client us) (passes_of cs)) (sym runners_are) (subst (AreClients hall 0 numbers) (sym passes_are) (are_clients hall numbers old.pass others passes)))
       (subst (All (λ q. IsReady hall q × IsBetween q)) (sym passes_are) (are_ready hall numbers old.pass others passes)) (subst (All (λ u. bound u ≤ p.keys)) (sym runners_are) below) (subst (All (λ u. fits u [])) (sym runners_are) none_made)
 
-  module _ (new : Side V) (next : VaultCounts) (ns : List (Pass × U)) (result : Result (Unit {0}) Fault) (each : Each (IsLater w hall) cs ns) (ends : ServeEnds k beat w hall starts old c cs new next ns result) (all : List Pass) (all_are : all ≡ new.pass ∷ passes_of ns) where
+  module _ (new : Side V) (next : VaultCounts) (ns : List (Pass × U)) (result : Result (Unit {0}) Fault) (each : Each (IsLater w hall) cs ns) (ends : ServeEnds k beat w hall starts old c cs new next ns result) where
     last_clients : All (IsClient w hall) ns
     last_clients = still_clients client bound plan fits turn hall cs ns clients each
 
-    pub own : All (IsPassOf hall) all
-    own = subst (All (IsPassOf hall)) (sym all_are) (All-cons (IsPassOf hall) new.pass (passes_of ns) (driver_back k beat w hall starts p old c cs new next ns result drivers ends).0 (still_ready client bound plan fits turn hall ns last_clients).0)
+    -- the passes behind it, the driver's first, may all be handed back
+    pub handed_back : All (IsPassOf hall) (new.pass ∷ passes_of ns) × All IsOutOfTurn (new.pass ∷ passes_of ns) × AreAll hall (new.pass ∷ passes_of ns)
+    handed_back = (
+      All-cons (IsPassOf hall) new.pass (passes_of ns) (driver_back k beat w hall starts p old c cs new next ns result drivers ends).0 (still_ready client bound plan fits turn hall ns last_clients).0,
+      All-cons IsOutOfTurn new.pass (passes_of ns) (driver_back k beat w hall starts p old c cs new next ns result drivers ends).1 (still_ready client bound plan fits turn hall ns last_clients).1,
+      record {
+        some_pass = omega arith;
+        count = ap suc (length-map ns (λ (x : Pass × U). x.0) ∙ (each-length (IsLater w hall) cs ns each ∙ (sym (length-map cs (λ (x : Pass × U). x.0)) ∙ (ap length passes_are ∙ as_many hall numbers old.pass others passes)))) ∙ sym passes.callers;
+      },
+    )
 
-    pub out : All IsOutOfTurn all
-    out = subst (All IsOutOfTurn) (sym all_are) (All-cons IsOutOfTurn new.pass (passes_of ns) (driver_back k beat w hall starts p old c cs new next ns result drivers ends).1 (still_ready client bound plan fits turn hall ns last_clients).1)
-
-    pub are_all : AreAll hall all
-    are_all = subst (AreAll hall) (sym all_are) (record {
-      some_pass = omega arith;
-      count = ap suc (length-map ns (λ (x : Pass × U). x.0) ∙ (each-length (IsLater w hall) cs ns each ∙ (sym (length-map cs (λ (x : Pass × U). x.0)) ∙ (ap length passes_are ∙ as_many hall numbers old.pass others passes)))) ∙ sym passes.callers;
-    })
-
-    pub in_threads : (back : List U) (d : DeskState) → back ≡ runners_of ns → IsWholeHistory hall all d → MayOpen (record { params = p }) (suc c.epoch) c.left numbers → HistoriesWeave k → AreOwnCalls → IsQuiet turn → OverRunsEndOver k → FailedRunsFail k
+    pub in_threads : (back : List U) (d : DeskState) → back ≡ runners_of ns → IsWholeHistory hall (new.pass ∷ passes_of ns) d → MayOpen (record { params = p }) (suc c.epoch) c.left numbers → HistoriesWeave k → AreOwnCalls → IsQuiet turn → OverRunsEndOver k → FailedRunsFail k
         → IdleHallsHaveNone → InThreads starts k kind beat (run_state (scene (opening_of hall) old.vault old.trace) runners old.output) (run_state (scene d new.vault new.trace) back new.output) result
     in_threads back d back_is whole opens weave own_calls quiet over fails idle =
         subst (λ (us : List U). InThreads starts k kind beat (run_state (scene (opening_of hall) old.vault old.trace) us old.output) (run_state (scene d new.vault new.trace) back new.output) result) runners_are
         (subst (λ (us : List U). InThreads starts k kind beat (run_state (scene (opening_of hall) old.vault old.trace) (runners_of cs) old.output) (run_state (scene d new.vault new.trace) us new.output) result) (sym back_is)
         (served k beat client bound plan fits turn p hall c numbers opening opens weave own_calls old new cs ns d starts next result drivers (subst (λ (ps : List Pass). ArePasses hall numbers (old.pass ∷ ps)) (sym passes_are) passes) clients each
-        (subst (λ (ps : List Pass). IsWholeHistory hall ps d) all_are whole) (subst (All (λ u. fits u [])) (sym runners_are) none_made) quiet over fails idle ends))
+        whole (subst (All (λ u. fits u [])) (sym runners_are) none_made) quiet over fails idle ends))

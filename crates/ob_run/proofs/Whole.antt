@@ -38,8 +38,8 @@ use Rattle.ob_driver.specs.Driven.{Side, side, Acts}
 use Rattle.ob_driver.specs.Drives.{AreThings, IsFirstPass, RunsOut, RunFails, IsNotBegun}
 use Rattle.ob_driver.specs.Turning.{AreActs}
 use Rattle.ob_woven.specs.Woven.{Woven, HistoriesWeave}
-use Rattle.ob_woven_ends.specs.Ends.{IsQuiet, AreQuiet, OverRunsEndOver, FailedRunsFail, IdleHallsHaveNone}
-use Rattle.ob_woven_ends.proofs.Quiet.{steps_quiet}
+use Rattle.ob_woven.specs.Ends.{IsQuiet, AreQuiet, OverRunsEndOver, FailedRunsFail, IdleHallsHaveNone}
+use Rattle.ob_woven.proofs.Quiet.{steps_quiet}
 use Rattle.ob_starts.specs.Served.{Words, words, IsClient, IsLater}
 use Rattle.ob_starts.specs.Starts.{Each}
 use Rattle.ob_run.specs.Threaded.{is_by_hand, without_others, OthersSignedOff, HandRounds, InThreads}

@@ -5,10 +5,11 @@ ghost use Rattle.ob_io.specs.Streams.{outflow};
 ghost use Rattle.ob_serial.specs.VaultKinds.{kind_of};
 ghost use Rattle.ob_desk.specs.Desk.{DeskState, Setup, MayOpen, new_desk};
 ghost use Rattle.ob_desk.specs.Beats.{beat_kind};
-ghost use Rattle.ob_hall.specs.Passes.{opening_of};
+ghost use Rattle.ob_hall.specs.Passes.{opening_of, IsPassOf, IsOutOfTurn};
 ghost use Rattle.ob_hall.specs.Opening.{ArePasses};
+ghost use Rattle.ob_hall.specs.Closing.{AreAll, IsWholeHistory};
 ghost use Rattle.ob_conduct.specs.Scenes.{scene, run_state, runner_kind};
-ghost use Rattle.ob_woven_ends.specs.Ends.{IsQuiet};
+ghost use Rattle.ob_woven.specs.Ends.{IsQuiet};
 ghost use Rattle.ob_run.specs.Threaded.{InThreads};
 
 use crate::seating::{Room, make_room, seat_all, take_apart};
@@ -19,35 +20,77 @@ use ob_io::Sink;
 use ob_serial::Vault;
 use ob_serve::serve;
 use ob_session::Runner;
+use ob_starts::Client;
 use ob_store::Watch;
 use std::alloc::Global;
 use std::mem;
 use std::sync::Wait;
 use std::thread::Threads;
 
-// A hall round the desk, the driver's pass, and those of the clients, in their order.
-fn open_hall(alloc: Global, desk: Desk, clients: &[u32]) -> Result<(Hall, Pass, Vec<Pass>), Memory>
+// A hall that none has called, the driver's pass, those of the clients, in their order, and room for
+// the clients.
+struct Opened<U: Runner> {
+    hall: Hall,
+    driver: Pass,
+    passes: Vec<Pass>,
+    room: Room<U>,
+}
+
+// A hall round the desk, for these clients.
+fn open_hall<U: Runner>(alloc: Global, desk: Desk, clients: &[u32]) -> Result<Opened<U>, Memory>
     requires opens { (setup : Setup) × (epoch : ℕ) × (left : ℕ)
         × MayOpen setup epoch left clients.now
         × (desk ≡ new_desk setup epoch left clients.now) }
-    ensures desk { IfOk result (λ r. opening_of r.0 ≡ desk) }
-    ensures passes { IfOk result (λ r. ArePasses r.0 clients.now (r.1 ∷ r.2.items)) }
+    ensures desk { IfOk result (λ o. opening_of o.hall ≡ desk) }
+    ensures passes { IfOk result (λ o. ArePasses o.hall clients.now (o.driver ∷ o.passes.items)) }
+    ensures none { IfOk result (λ o. (o.room.clients.items ≡ []) × (o.room.runners.items ≡ [])
+        × (o.room.passes.items ≡ [])) }
+    ensures room { IfOk result (λ o. (length clients.now ≤ vec_capacity o.room.clients)
+        × (length clients.now ≤ vec_capacity o.room.runners)
+        × (length clients.now + 1 ≤ vec_capacity o.room.passes)) }
 {
+    let room = make_room(alloc, clients.len())?;
     let (hall, mut passes) = Hall::new(alloc, desk, clients)?;
     let driver = passes.remove(0);
-    Ok((hall, driver, passes))
+    Ok(Opened {
+        hall,
+        driver,
+        passes,
+        room,
+    })
 }
 
-// Serves the clients of a hall that none has called, with their passes, the first ones in threads,
-// and closes it.
+// Takes the clients apart, gives their runners back, and closes the hall.
+fn close_hall<U: Runner>(
+    hall: Hall,
+    driver: Pass,
+    clients: Vec<Client<U>>,
+    mut back: Vec<U>,
+    mut passes: Vec<Pass>,
+    runners: &mut Vec<U>,
+)
+    requires own { All (IsPassOf hall) (driver ∷ map (λ c. c.0) clients.items) }
+    requires idle { All IsOutOfTurn (driver ∷ map (λ c. c.0) clients.items) }
+    requires all { AreAll hall (driver ∷ map (λ c. c.0) clients.items) }
+    requires none { (back.items ≡ []) × (passes.items ≡ []) }
+    requires room { (length clients.items ≤ vec_capacity back)
+        × (length clients.items + 1 ≤ vec_capacity passes) }
+    ensures runners { runners.new.items ≡ map (λ c. c.1) clients.items }
+    ensures whole { (d : DeskState)
+        × IsWholeHistory hall (driver ∷ map (λ c. c.0) clients.items) d }
+{
+    passes.push_reserved(driver);
+    take_apart(clients, &mut back, &mut passes);
+    *runners = back;
+    let _desk = hall.close(passes);
+}
+
+// Serves the clients of a hall that none has called, the first ones in threads, and closes it.
 fn serve_hall<U: Runner + Send, R: Threads + Wait + Sync, V: Vault, W: Watch, B: Beat, O: Sink>(
     rt: &R,
     alloc: Global,
     params: &Params,
-    hall: Hall,
-    mut driver: Pass,
-    passes: Vec<Pass>,
-    room: Room<U>,
+    opened: Opened<U>,
     runners: &mut Vec<U>,
     vault: &mut V,
     watch: &mut W,
@@ -57,17 +100,18 @@ fn serve_hall<U: Runner + Send, R: Threads + Wait + Sync, V: Vault, W: Watch, B:
 ) -> Result<(), Fault>
     requires params { V.params vault.old ≡ params.now }
     requires serves { (V.counts vault.old).spent ≡ false }
-    requires fresh { opening_of hall
+    requires fresh { opening_of opened.hall
         ≡ new_desk (record { params = params.now }) (suc (V.counts vault.old).epoch)
         (V.counts vault.old).left (map U.client runners.old.items) }
     requires opens { MayOpen (record { params = params.now }) (suc (V.counts vault.old).epoch)
         (V.counts vault.old).left (map U.client runners.old.items) }
-    requires passes { ArePasses hall (map U.client runners.old.items) (driver ∷ passes.items) }
-    requires none { (room.clients.items ≡ []) × (room.runners.items ≡ [])
-        × (room.passes.items ≡ []) }
-    requires room { (length runners.old.items ≤ vec_capacity room.clients)
-        × (length runners.old.items ≤ vec_capacity room.runners)
-        × (length runners.old.items + 1 ≤ vec_capacity room.passes) }
+    requires passes { ArePasses opened.hall (map U.client runners.old.items)
+        (opened.driver ∷ opened.passes.items) }
+    requires none { (opened.room.clients.items ≡ []) × (opened.room.runners.items ≡ [])
+        × (opened.room.passes.items ≡ []) }
+    requires room { (length runners.old.items ≤ vec_capacity opened.room.clients)
+        × (length runners.old.items ≤ vec_capacity opened.room.runners)
+        × (length runners.old.items + 1 ≤ vec_capacity opened.room.passes) }
     requires below { All (λ u. U.bound u ≤ params.now.keys) runners.old.items }
     requires none_made { All (λ u. U.fits u []) runners.old.items }
     requires quiet { IsQuiet U.turn }
@@ -76,15 +120,21 @@ fn serve_hall<U: Runner + Send, R: Threads + Wait + Sync, V: Vault, W: Watch, B:
     ensures done { (d : DeskState)
         × InThreads starts (kind_of V.Vault) (runner_kind U.client U.bound U.plan U.fits U.turn)
         (beat_kind B.passes B.exact)
-        (run_state (scene (opening_of hall) vault.old (W.trace watch.old)) runners.old.items
-        (outflow O.Sink output.old))
+        (run_state (scene (opening_of opened.hall) vault.old (W.trace watch.old))
+        runners.old.items (outflow O.Sink output.old))
         (run_state (scene d vault.new (W.trace watch.new)) runners.new.items
         (outflow O.Sink output.new)) result }
 {
+    let Opened {
+        hall,
+        mut driver,
+        passes,
+        room,
+    } = opened;
     let Room {
         clients: mut seated,
-        runners: mut back,
-        passes: mut all,
+        runners: back,
+        passes: all,
     } = room;
     let taken = mem::replace(runners, Vec::new(alloc));
     seat_all(taken, passes, &mut seated);
@@ -101,10 +151,7 @@ fn serve_hall<U: Runner + Send, R: Threads + Wait + Sync, V: Vault, W: Watch, B:
         output,
         starts,
     );
-    all.push_reserved(driver);
-    take_apart(seated, &mut back, &mut all);
-    *runners = back;
-    let _desk = hall.close(all);
+    close_hall(hall, driver, seated, back, all, runners);
     result
 }
 
@@ -154,13 +201,10 @@ pub fn run_in_threads<
         (run_state (scene d vault.new (W.trace watch.new)) runners.new.items
         (outflow O.Sink output.new)) result }
 {
-    let Ok(room) = make_room(alloc, clients.len()) else {
-        return Err(Fault::Memory);
-    };
-    let Ok((hall, driver, passes)) = open_hall(alloc, desk, clients) else {
+    let Ok(opened) = open_hall(alloc, desk, clients) else {
         return Err(Fault::Memory);
     };
     serve_hall(
-        rt, alloc, params, hall, driver, passes, room, runners, vault, watch, beat, output, starts,
+        rt, alloc, params, opened, runners, vault, watch, beat, output, starts,
     )
 }

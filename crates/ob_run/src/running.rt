@@ -6,7 +6,7 @@ ghost use Rattle.ob_serial.specs.VaultKinds.{kind_of};
 ghost use Rattle.ob_desk.specs.Desk.{DeskState, MayOpen, new_desk};
 ghost use Rattle.ob_desk.specs.Beats.{beat_kind};
 ghost use Rattle.ob_conduct.specs.Scenes.{scene, run_state, runner_kind};
-ghost use Rattle.ob_woven_ends.specs.Ends.{IsQuiet};
+ghost use Rattle.ob_woven.specs.Ends.{IsQuiet};
 ghost use Rattle.ob_run.specs.Threaded.{RunsBy};
 
 use crate::by_hand::run_by_hand;
@@ -22,10 +22,11 @@ use std::sync::Wait;
 use std::thread::Threads;
 
 /// Runs these clients over the vault, from the desk as it was made, up to the end: each client in a
-/// thread of its own; or, without `threads`, all by hand. Where the system refuses a client's thread
-/// it is made by hand, too. Those made by hand have their turns in rounds. The caller's thread drives the epochs. The run is over where each client has
-/// signed off and no transaction waits for its epoch's end, or where the desk is stopped. Each
-/// epoch's lines are written once it is durable. No thread is left behind.
+/// thread of its own; or, without `threads`, all by hand. Where the system refuses a client's
+/// thread it is made by hand, too. Those made by hand have their turns in rounds. The caller's
+/// thread drives the epochs. The run is over where each client has signed off and no transaction
+/// waits for its epoch's end, or where the desk is stopped. Each epoch's lines are written once it
+/// is durable. No thread is left behind.
 ///
 /// # Errors
 /// Memory was wanting, before any client made a call or for a client; or the vault refused, and is

@@ -7,3 +7,4 @@ pub mod Allowed
 pub mod Steps
 pub mod Turns
 pub mod Scripted
+pub mod Makings

@@ -170,8 +170,8 @@ fn spell_step(alloc: Global, stand: Step, made: &Made) -> Result<String, AllocEr
     }
 }
 
-// Does what a turn says: `batch` and a value, or `batch` alone, for a batch that gives it; `stop` for the desk's stop;
-// and else a step. Spells what was done.
+// Does what a turn says: `batch` and a value, or `batch` alone, for a batch that gives it; `stop`
+// for the desk's stop; and else a step. Spells what was done.
 fn take_turn(
     alloc: Global,
     runner: &mut ScriptRunner,

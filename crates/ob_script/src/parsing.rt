@@ -13,7 +13,8 @@ use std::alloc::Global;
 /// The greatest length of a script, in bytes.
 pub const LIMIT: usize = 1_048_576;
 
-// What is in front of the first line's end, and what behind it. Where the bytes are all there is, the last line may lack its end.
+// What is in front of the first line's end, and what behind it. Where the bytes are all there is,
+// the last line may lack its end.
 fn next_line(all: bool, bytes: &[u8]) -> Option<(&[u8], &[u8])>
     ensures some { IfSome result (λ p. (lines_from all bytes.now ≡ p.0.now ∷ lines_from all p.1.now)
         × (length p.1.now < length bytes.now)) }

@@ -34,7 +34,7 @@ pub enum Outcome<K> {
 
 /// A transaction: its timestamp (epoch, then ticket in the epoch, from 1), its client, its
 /// operations as they were answered, and how it ended.
-#[derive(Debug, Drop)]
+#[derive(Drop)]
 pub struct TxnRecord<K> {
     pub epoch: u64,
     pub ticket: u64,
@@ -44,7 +44,7 @@ pub struct TxnRecord<K> {
 }
 
 /// An epoch with its transactions, in rising tickets.
-#[derive(Debug, Drop)]
+#[derive(Drop)]
 pub struct EpochRecord<K> {
     pub epoch: u64,
     pub txns: Vec<TxnRecord<K>>,

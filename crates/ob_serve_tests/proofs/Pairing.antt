@@ -8,7 +8,7 @@ use Rattle.ob_session.specs.Clients.{told_of, last_of, has_signed_off}
 use Rattle.ob_hall.specs.Passes.{Steps, Hall, Pass}
 use Rattle.ob_hall.specs.Testing.{Visits}
 use Rattle.ob_driver.specs.Testing.{IsNewClient}
-use Rattle.ob_woven_ends.specs.Ends.{QuietRule}
+use Rattle.ob_woven.specs.Ends.{QuietRule}
 use Rattle.ob_serve_tests.specs.Pairs.{IsNewPair, AreTwo, IsSession}
 
 module _ {U : Type 0} (client bound : U → ℕ) (fits : U → Steps → Type 0) (runners : List U) where

@@ -30,20 +30,11 @@ pub struct Gate {
 }
 
 impl Gate {
-    /// One that no fetch waits at.
-    pub fn free() -> Gate {
+    /// One that no fetch waits at, or one that a client has to open.
+    pub fn new(open: bool) -> Gate {
         Gate {
             reached: AtomicBool::new(false),
-            open: AtomicBool::new(true),
-            ran_out: AtomicBool::new(false),
-        }
-    }
-
-    // One that a client has to open.
-    fn shut() -> Gate {
-        Gate {
-            reached: AtomicBool::new(false),
-            open: AtomicBool::new(false),
+            open: AtomicBool::new(open),
             ran_out: AtomicBool::new(false),
         }
     }
@@ -195,7 +186,7 @@ fn a_client_runs_while_a_batch_is_read(rt: HostRuntime) {
     let alloc = rt.alloc();
     let mut store = formatted(&rt, alloc, Vec::new(alloc));
     let mut output = MemSink::new(alloc, 1000, Vec::new(alloc)).expect(&rt, "memory");
-    let gate = Gate::shut();
+    let gate = Gate::new(false);
     let ended = run_gated(&rt, alloc, &mut store, &gate, &mut output);
     assert!(rt; ended == Ok(()));
     assert!(rt; gate.reached.load(SeqCst));

@@ -3,7 +3,7 @@
 ghost use Rattle.std.specs.Prelude.{◌≡◌, ◌≤◌, false, IfOk};
 ghost use Rattle.ob_mem.specs.Memory.{disk_of_store};
 ghost use Rattle.ob_runner.specs.RunnerViews.{client_of, bound_of, MayHaveMade};
-ghost use Rattle.ob_woven_ends.specs.Ends.{IsQuiet};
+ghost use Rattle.ob_woven.specs.Ends.{IsQuiet};
 ghost use Rattle.ob_serve_tests.specs.Pairs.{IsNewPair, AreTwo};
 
 use crate::gate::{Gate, Gated};
@@ -151,7 +151,7 @@ pub fn ends<R: Threads + Wait + Sync + Abort>(
     let first = scripted(alloc, SCRIPT, 1)?;
     let second = scripted(alloc, SCRIPT, 2)?;
     let mut runners = both(alloc, first, second)?;
-    let gate = Gate::free();
+    let gate = Gate::new(true);
     run_two(
         rt,
         alloc,

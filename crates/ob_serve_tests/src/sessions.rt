@@ -28,34 +28,35 @@ use std::thread;
 use std::thread::Threads;
 use std::time::Duration;
 
-/// What a client calls.
-#[derive(Clone, Copy)]
+/// What a client calls, and how it has to be answered.
+#[derive(Drop)]
 pub enum Ask {
     Begin,
-    Get { key: Key },
-    Put { key: Key, value: Value },
-    Del { key: Key },
-    Commit,
+    /// It finds this value.
+    Get {
+        key: Key,
+        value: Option<Value>,
+    },
+    /// It is done, or its transaction is aborted for this.
+    Put {
+        key: Key,
+        value: Value,
+        why: Option<Why<Key>>,
+    },
+    /// It is done.
+    Del {
+        key: Key,
+    },
+    Commit {
+        outcome: Outcome<Key>,
+    },
 }
 
-/// What it is answered.
-#[derive(Clone, Copy, Debug, PartialEq, Eq)]
-pub enum Answer {
-    Begun,
-    Value { value: Option<Value> },
-    Done,
-    Aborted { why: Why<Key> },
-    Ended { outcome: Outcome<Key> },
-    /// The desk was stopped, or memory was wanting, or the call may not be made there.
-    Not,
-}
-
-/// A call, the moment from which it may be made, and its wanted answer.
-#[derive(Clone, Copy)]
+/// A call, and the moment from which it may be made.
+#[derive(Drop)]
 pub struct Line {
     at: u64,
     ask: Ask,
-    wanted: Answer,
 }
 
 /// How many calls were answered, and how many of them as wanted.
@@ -97,23 +98,26 @@ impl Clock {
 
 // ---- one call
 
-fn done_answer(done: &Result<(), Refused>) -> Answer {
+// Whether a call was done, or its transaction aborted for this.
+fn is_done(done: &Result<(), Refused>, wanted: Option<Why<Key>>) -> bool {
     match done {
-        Ok(()) => Answer::Done,
-        Err(Refused::Aborted { why }) => Answer::Aborted { why: *why },
-        Err(Refused::Memory) => Answer::Not,
+        Ok(()) => wanted.is_none(),
+        Err(Refused::Aborted { why }) => wanted == Some(*why),
+        Err(Refused::Memory) => false,
     }
 }
 
-fn value_answer(got: &Result<Option<Value>, Refused>) -> Answer {
+// Whether this value was found.
+fn is_found(got: &Result<Option<Value>, Refused>, wanted: &Option<Value>) -> bool {
     match got {
-        Ok(value) => Answer::Value { value: *value },
-        Err(Refused::Aborted { why }) => Answer::Aborted { why: *why },
-        Err(Refused::Memory) => Answer::Not,
+        Ok(value) => value == wanted,
+        Err(_) => false,
     }
 }
 
-fn get<R: Wait>(rt: &R, hall: &Hall, pass: &mut Pass, key: Key) -> Answer
+// Each of these tells whether it was answered as wanted.
+
+fn get<R: Wait>(rt: &R, hall: &Hall, pass: &mut Pass, key: Key, wanted: &Option<Value>) -> bool
     requires ready { IsReady hall.now pass.old }
     requires inside { IsInTxn pass.old }
     requires key { key < (opening_of hall.now).setup.params.keys }
@@ -121,10 +125,17 @@ fn get<R: Wait>(rt: &R, hall: &Hall, pass: &mut Pass, key: Key) -> Answer
     ensures inside { IsInTxn pass.new }
 {
     let got = hall.get(rt, pass, key);
-    value_answer(&got)
+    is_found(&got, wanted)
 }
 
-fn put<R: Wait>(rt: &R, hall: &Hall, pass: &mut Pass, key: Key, value: Value) -> Answer
+fn put<R: Wait>(
+    rt: &R,
+    hall: &Hall,
+    pass: &mut Pass,
+    key: Key,
+    value: Value,
+    wanted: Option<Why<Key>>,
+) -> bool
     requires ready { IsReady hall.now pass.old }
     requires inside { IsInTxn pass.old }
     requires key { key < (opening_of hall.now).setup.params.keys }
@@ -132,10 +143,10 @@ fn put<R: Wait>(rt: &R, hall: &Hall, pass: &mut Pass, key: Key, value: Value) ->
     ensures inside { IsInTxn pass.new }
 {
     let done = hall.put(rt, pass, key, value);
-    done_answer(&done)
+    is_done(&done, wanted)
 }
 
-fn del<R: Wait>(rt: &R, hall: &Hall, pass: &mut Pass, key: Key) -> Answer
+fn del<R: Wait>(rt: &R, hall: &Hall, pass: &mut Pass, key: Key) -> bool
     requires ready { IsReady hall.now pass.old }
     requires inside { IsInTxn pass.old }
     requires key { key < (opening_of hall.now).setup.params.keys }
@@ -143,35 +154,35 @@ fn del<R: Wait>(rt: &R, hall: &Hall, pass: &mut Pass, key: Key) -> Answer
     ensures inside { IsInTxn pass.new }
 {
     let done = hall.del(rt, pass, key);
-    done_answer(&done)
+    is_done(&done, None)
 }
 
-fn commit<R: Wait>(rt: &R, hall: &Hall, pass: &mut Pass) -> Answer
+fn commit<R: Wait>(rt: &R, hall: &Hall, pass: &mut Pass, wanted: Outcome<Key>) -> bool
     requires ready { IsReady hall.now pass.old }
     requires inside { IsInTxn pass.old }
     ensures ready { IsReady hall.now pass.new }
     ensures between { IsBetween pass.new }
 {
     let outcome = hall.commit(rt, pass);
-    Answer::Ended { outcome }
+    outcome == wanted
 }
 
-// A client's begin, and whether it is in a transaction behind it.
-fn begin<R: Wait>(rt: &R, hall: &Hall, pass: &mut Pass) -> (bool, Answer)
+// A client's begin: whether it is in a transaction behind it, which is wanted.
+fn begin<R: Wait>(rt: &R, hall: &Hall, pass: &mut Pass) -> (bool, bool)
     requires ready { IsReady hall.now pass.old }
     requires between { IsBetween pass.old }
     ensures ready { IsReady hall.now pass.new }
     ensures stands { IsInTxnOrNot result.0 pass.new }
 {
     match hall.begin(rt, pass) {
-        Ok(Begun::Txn { .. }) => (true, Answer::Begun),
-        Ok(Begun::Stopped { .. }) => (false, Answer::Not),
-        Err(_) => (false, Answer::Not),
+        Ok(Begun::Txn { .. }) => (true, true),
+        Ok(Begun::Stopped { .. }) => (false, false),
+        Err(_) => (false, false),
     }
 }
 
-// A call in a transaction, and whether the client still is in it.
-fn call_inside<R: Wait>(rt: &R, hall: &Hall, pass: &mut Pass, ask: &Ask) -> (bool, Answer)
+// A call in a transaction: whether the client still is in it, and was answered as wanted.
+fn call_inside<R: Wait>(rt: &R, hall: &Hall, pass: &mut Pass, ask: &Ask) -> (bool, bool)
     requires ready { IsReady hall.now pass.old }
     requires inside { IsInTxn pass.old }
     requires keys { 8 ≤ (opening_of hall.now).setup.params.keys }
@@ -179,16 +190,19 @@ fn call_inside<R: Wait>(rt: &R, hall: &Hall, pass: &mut Pass, ask: &Ask) -> (boo
     ensures stands { IsInTxnOrNot result.0 pass.new }
 {
     match ask {
-        Ask::Get { key } if *key < 8 => (true, get(rt, hall, pass, *key)),
-        Ask::Put { key, value } if *key < 8 => (true, put(rt, hall, pass, *key, *value)),
+        Ask::Get { key, value } if *key < 8 => (true, get(rt, hall, pass, *key, value)),
+        Ask::Put { key, value, why } if *key < 8 => {
+            (true, put(rt, hall, pass, *key, *value, *why))
+        }
         Ask::Del { key } if *key < 8 => (true, del(rt, hall, pass, *key)),
-        Ask::Commit => (false, commit(rt, hall, pass)),
-        _ => (true, Answer::Not),
+        Ask::Commit { outcome } => (false, commit(rt, hall, pass, *outcome)),
+        _ => (true, false),
     }
 }
 
-// One call, where it may be made, and whether the client is in a transaction behind it.
-fn call<R: Wait>(rt: &R, hall: &Hall, pass: &mut Pass, inside: bool, ask: &Ask) -> (bool, Answer)
+// One call, where it may be made: whether the client is in a transaction behind it, and was
+// answered as wanted.
+fn call<R: Wait>(rt: &R, hall: &Hall, pass: &mut Pass, inside: bool, ask: &Ask) -> (bool, bool)
     requires ready { IsReady hall.now pass.old }
     requires stands { IsInTxnOrNot inside pass.old }
     requires keys { 8 ≤ (opening_of hall.now).setup.params.keys }
@@ -200,7 +214,7 @@ fn call<R: Wait>(rt: &R, hall: &Hall, pass: &mut Pass, inside: bool, ask: &Ask) 
     }
     match ask {
         Ask::Begin => begin(rt, hall, pass),
-        _ => (false, Answer::Not),
+        _ => (false, false),
     }
 }
 
@@ -217,15 +231,15 @@ fn follow_all<R: Wait>(rt: &R, hall: &Hall, pass: &mut Pass, script: &[Line], cl
     let mut inside = false;
     for line in script {
         clock.wait_until(rt, line.at);
-        let (next, answer) = call(rt, hall, pass, inside, &line.ask);
+        let (next, right) = call(rt, hall, pass, inside, &line.ask);
         inside = next;
-        clock.count(answer == line.wanted);
+        clock.count(right);
     }
     inside
 }
 
-// Makes them, leaves its transaction, asks for the last durable epoch from this moment on, and signs
-// off.
+// Makes them, leaves its transaction, asks for the last durable epoch from this moment on, and
+// signs off.
 fn follow<R: Wait>(rt: &R, hall: &Hall, pass: &mut Pass, script: &[Line], clock: &Clock, at: u64)
     requires { IsSession hall.now pass.old }
 {
@@ -240,17 +254,25 @@ fn follow<R: Wait>(rt: &R, hall: &Hall, pass: &mut Pass, script: &[Line], clock:
 
 // ---- scripts
 
-fn when(at: u64, ask: Ask, wanted: Answer) -> Line {
-    Line { at, ask, wanted }
-}
-
 // It writes what the other client has read by then.
 fn writer(value: Value) -> [Line; 3] {
-    let why = Why::Conflict { key: 5, reader: 2 };
+    let why = Some(Why::Conflict { key: 5, reader: 2 });
     [
-        when(0, Ask::Begin, Answer::Begun),
-        when(2, Ask::Get { key: 7 }, Answer::Value { value: None }),
-        when(4, Ask::Put { key: 5, value }, Answer::Aborted { why }),
+        Line {
+            at: 0,
+            ask: Ask::Begin,
+        },
+        Line {
+            at: 2,
+            ask: Ask::Get {
+                key: 7,
+                value: None,
+            },
+        },
+        Line {
+            at: 4,
+            ask: Ask::Put { key: 5, value, why },
+        },
     ]
 }
 
@@ -258,10 +280,25 @@ fn writer(value: Value) -> [Line; 3] {
 fn reader() -> [Line; 4] {
     let outcome = Outcome::Committed;
     [
-        when(1, Ask::Begin, Answer::Begun),
-        when(2, Ask::Get { key: 5 }, Answer::Value { value: None }),
-        when(5, Ask::Del { key: 6 }, Answer::Done),
-        when(6, Ask::Commit, Answer::Ended { outcome }),
+        Line {
+            at: 1,
+            ask: Ask::Begin,
+        },
+        Line {
+            at: 2,
+            ask: Ask::Get {
+                key: 5,
+                value: None,
+            },
+        },
+        Line {
+            at: 5,
+            ask: Ask::Del { key: 6 },
+        },
+        Line {
+            at: 6,
+            ask: Ask::Commit { outcome },
+        },
     ]
 }
 

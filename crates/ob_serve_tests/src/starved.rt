@@ -6,7 +6,7 @@ ghost use Rattle.ob_session.specs.Steps.{steps_of, Leads, IsOwn};
 ghost use Rattle.ob_session.specs.Clients.{said_by, stands_after, IsOneCall};
 ghost use Rattle.ob_session.specs.Agreeing.{Agrees};
 ghost use Rattle.ob_hall.specs.Testing.{Visits};
-ghost use Rattle.ob_woven_ends.specs.Ends.{QuietRule};
+ghost use Rattle.ob_woven.specs.Ends.{QuietRule};
 ghost use Rattle.ob_serve_tests.specs.Pairs.{AreTwo};
 
 use crate::gate::Gate;
@@ -30,7 +30,7 @@ pub struct Starved {
 
 impl Runner for Starved {
     ghost use Rattle.ob_hall.specs.Testing.{Visits};
-    ghost use Rattle.ob_woven_ends.specs.Ends.{QuietRule};
+    ghost use Rattle.ob_woven.specs.Ends.{QuietRule};
 
     ghost client = { λ v. v.client };
 
@@ -79,6 +79,13 @@ fn starving(alloc: Global) -> Result<Vec<Starved>, Memory>
     both(alloc, first, second)
 }
 
+fn has_gone(runners: &[Starved], at: usize) -> bool {
+    match runners.get(at) {
+        Some(runner) => runner.gone,
+        None => false,
+    }
+}
+
 /// How a run of both ends, and which of them have signed off.
 pub fn ends<R: Threads + Wait + Sync + Abort>(
     rt: &R,
@@ -88,7 +95,7 @@ pub fn ends<R: Threads + Wait + Sync + Abort>(
     let mut store = formatted(rt, alloc, Vec::new(alloc));
     let mut output = MemSink::new(alloc, 1000, Vec::new(alloc))?;
     let mut runners = starving(alloc)?;
-    let gate = Gate::free();
+    let gate = Gate::new(true);
     let ended = run_two(
         rt,
         alloc,
@@ -99,11 +106,11 @@ pub fn ends<R: Threads + Wait + Sync + Abort>(
         threads,
     );
     assert_eq!(rt; output.written(), b"".as_slice());
-    let gone = |at: usize| runners.get(at).is_some_and(|runner| runner.gone);
-    Ok((ended.err(), gone(0), gone(1)))
+    Ok((ended.err(), has_gone(&runners, 0), has_gone(&runners, 1)))
 }
 
-// By hand the desk is found stopped behind a round; in threads each client makes its steps to the end.
+// By hand the desk is found stopped behind a round; in threads each client makes its steps to the
+// end.
 #[test]
 fn want_of_memory_is_told_and_the_others_sign_off(rt: HostRuntime) {
     let alloc = rt.alloc();

@@ -8,7 +8,7 @@ use ob_desk::{Begun, Done, Got, Txn};
 use ob_serial::{Outcome, Why};
 
 /// A client's call of the desk, with what it was answered.
-#[derive(Clone, Copy, Debug)]
+#[derive(Clone, Copy)]
 pub enum Said {
     Begin {
         client: u32,
@@ -51,7 +51,7 @@ pub enum Said {
 }
 
 /// The calls of one step, at most three, in order.
-#[derive(Clone, Copy, Debug)]
+#[derive(Clone, Copy)]
 pub struct Made {
     pub first: Option<Said>,
     pub second: Option<Said>,

@@ -10,7 +10,7 @@ use crate::made::Made;
 use ob_desk::Desk;
 
 /// How a client stands behind a step.
-#[derive(Clone, Copy, Debug, PartialEq, Eq)]
+#[derive(Clone, Copy)]
 pub enum Step {
     /// It can make its next call.
     Ran,

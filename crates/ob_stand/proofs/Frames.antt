@@ -15,7 +15,7 @@ use Rattle.ob_start.specs.Heads.{IsHead}
 use Rattle.ob_log.specs.Logs.{BatchRecord, OpenRecords}
 use Rattle.ob_bucket.specs.Version.{rank_at}
 use Rattle.ob_bucket.specs.Buckets.{version_at}
-use Rattle.ob_content.specs.Content.{Content}
+use Rattle.ob_tables.specs.Content.{Content}
 use Rattle.ob_stand.specs.Stands.{RingStanding, AreKnown, HoldsRest, HoldsCheckpoint, HoldsSlots, Stands}
 use Rattle.ob_stand.specs.Spare.{SameLog, SameRest, SameReads, IsOtherHome, IsSpare, AgreeOffSpare, StandsFrame, FrameWith, with_records}
 

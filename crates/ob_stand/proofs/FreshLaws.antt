@@ -22,8 +22,8 @@ use Rattle.ob_seal.specs.Seals.{sealed}
 use Rattle.ob_bucket.specs.Version as bucket
 use Rattle.ob_bucket.specs.Version.{Version, key_at, rank_at, EMPTY}
 use Rattle.ob_bucket.specs.Buckets.{version_at, no_version}
-use Rattle.ob_content.specs.Content.{FitsSeals, Obeys}
-use Rattle.ob_content.specs.Spelling.{slot_bytes}
+use Rattle.ob_tables.specs.Content.{FitsSeals, Obeys}
+use Rattle.ob_tables.specs.Spelling.{slot_bytes}
 use Rattle.ob_tables.specs.declared.entry.Entry.{Entry}
 use Rattle.ob_values.proofs.Planned.{past_none}
 use Rattle.ob_epoch.proofs.Sampling.{none_some, no_entry}

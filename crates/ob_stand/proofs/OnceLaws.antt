@@ -23,9 +23,9 @@ use Rattle.ob_log.specs.Logs.{OpenRecords, record_at, record_bytes}
 use Rattle.ob_log.proofs.OnceLaws.{records_same}
 use Rattle.ob_bucket.specs.Version.{Version, key_at, rank_at, used_at}
 use Rattle.ob_bucket.specs.Buckets.{version_at, no_version}
-use Rattle.ob_content.specs.Content.{Content, Obeys}
-use Rattle.ob_content.specs.Spelling.{checkpoint_bytes, slot_bytes, value_bytes}
-use Rattle.ob_content.proofs.TextLaws.{content_once, content_length, value_same}
+use Rattle.ob_tables.specs.Content.{Content, Obeys}
+use Rattle.ob_tables.specs.Spelling.{checkpoint_bytes, slot_bytes, value_bytes}
+use Rattle.ob_tables.proofs.TextLaws.{content_once, content_length, value_same}
 use Rattle.ob_ring.specs.FlatTable.{Spot, InStash, In, spot_of}
 use Rattle.ob_taken.specs.Takes.{is_present}
 use Rattle.ob_taken.specs.Values.{Values}

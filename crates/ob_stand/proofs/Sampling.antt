@@ -9,7 +9,7 @@ use Rattle.ob_base.specs.Tree.{buckets, width, below}
 use Rattle.ob_base.specs.Layout.{LogArea, CheckArea, Lies, record_cells, checkpoint_len, checkpoint_cells, log_cells, home_cells, slot_cell}
 use Rattle.ob_bucket.specs.Buckets.{version_at}
 use Rattle.ob_bucket.proofs.VersionLaws.{ranks_are}
-use Rattle.ob_content.specs.Content.{Content}
+use Rattle.ob_tables.specs.Content.{Content}
 use Rattle.ob_ring.proofs.Rows.{p0}
 use Rattle.ob_values.specs.Samples.{numbers_of}
 use Rattle.ob_epoch.specs.Idle.{idle_order, idle_run}

@@ -11,7 +11,7 @@ use Rattle.ob_twin.specs.Keyed.{tagging}
 use Rattle.ob_twin.specs.Register.{KeepsAt, OldOrNew}
 use Rattle.ob_bucket.specs.Version.{used_at}
 use Rattle.ob_bucket.specs.Buckets.{version_at}
-use Rattle.ob_content.specs.Content.{Content}
+use Rattle.ob_tables.specs.Content.{Content}
 use Rattle.ob_schedule.specs.Paths.{is_one_of}
 use Rattle.ob_taken.specs.Values.{Values}
 use Rattle.ob_values.specs.Carries.{Slots}

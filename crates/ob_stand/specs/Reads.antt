@@ -7,7 +7,7 @@ use Rattle.ob_store.specs.Disk.{Image}
 use Rattle.ob_seal.specs.declared.keys.Keys.{Keys}
 use Rattle.ob_seal.specs.Pads.{pad_of, xored}
 use Rattle.ob_seal.specs.Seals.{sealed}
-use Rattle.ob_content.specs.Content.{Content, Rows}
+use Rattle.ob_tables.specs.Content.{Content, Rows}
 use Rattle.ob_tables.specs.declared.entry.Entry.{Entry}
 use Rattle.ob_taken.specs.Values.{with_writes}
 use Rattle.ob_values.specs.Carries.{Slots}

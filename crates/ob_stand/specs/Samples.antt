@@ -2,7 +2,7 @@
 use Rattle.std.specs.Prelude.{◌≡◌, ◌⊎◌, ◌↔◌, ◌≤◌, ℕ, List, [], ◌∷◌}
 use Rattle.std.specs.declared.option.Option.TheVariants.{None}
 use Rattle.ob_base.specs.declared.params.Params.{Params}
-use Rattle.ob_content.specs.Content.{Content}
+use Rattle.ob_tables.specs.Content.{Content}
 use Rattle.ob_values.specs.Carries.{Slots}
 use Rattle.ob_values.specs.Samples.{numbers_of}
 use Rattle.ob_epoch.specs.Idle.{idle_order}

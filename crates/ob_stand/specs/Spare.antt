@@ -8,7 +8,7 @@ use Rattle.ob_seal.specs.declared.keys.Keys.{Keys}
 use Rattle.ob_log.specs.Logs.{BatchRecord, OpenRecords}
 use Rattle.ob_bucket.specs.Version.{used_at}
 use Rattle.ob_bucket.specs.Buckets.{version_at}
-use Rattle.ob_content.specs.Content.{Content, Obeys}
+use Rattle.ob_tables.specs.Content.{Content, Obeys}
 use Rattle.ob_stand.specs.Stands.{RingStanding, AreKnown, HoldsRest, Stands, cell_at}
 
 -- ---- what is read

@@ -27,8 +27,8 @@ pub fn stands_frame()
     ensures { StandsFrame }
 {}
 
-/// An image with open records of its own that is the same in all else that is read holds the rest as
-/// the other does.
+/// An image with open records of its own that is the same in all else that is read holds the rest
+/// as the other does.
 pub fn frame_with()
     ensures { FrameWith }
 {}
@@ -95,8 +95,8 @@ pub fn end_spares()
     ensures { EndSpares }
 {}
 
-/// With the buckets that were filled anew, the checkpoint and the closed gates in their cells an image
-/// holds all but the registers of the next epoch.
+/// With the buckets that were filled anew, the checkpoint and the closed gates in their cells an
+/// image holds all but the registers of the next epoch.
 pub fn end_is_held()
     ensures { EndIsHeld }
 {}
@@ -132,8 +132,8 @@ pub fn open_begins()
     ensures { OpenBegins }
 {}
 
-/// A crash at any moment of the begin of a generation leaves an image of before, or what was read, in
-/// the old generation or the new one.
+/// A crash at any moment of the begin of a generation leaves an image of before, or what was read,
+/// in the old generation or the new one.
 pub fn opens_leave<S: Store>()
     ensures { OpensLeave (λ store. S.disk store) }
 {}
@@ -153,7 +153,8 @@ pub fn writes_agree()
     ensures { WritesAgree }
 {}
 
-/// The spare cells of a small store, and an end that changes nothing, computed from the definitions.
+/// The spare cells of a small store, and an end that changes nothing, computed from the
+/// definitions.
 pub fn sampled()
     ensures { Sampled }
 {}

@@ -37,7 +37,8 @@ fn put_numbers(plain: &mut [u8], numbers: &[u32])
     }
 }
 
-/// The cell of a head: `OBLADIST`, the version, the nine parameters of 4 bytes each, zeros, the tag.
+/// The cell of a head: `OBLADIST`, the version, the nine parameters of 4 bytes each, zeros, the
+/// tag.
 pub fn head_cell<T: Stamper>(stamper: &T, version: u32, params: &Params) -> [u8; 128]
     ensures { result
         ≡ head_plain version params.now ++ T.tag stamper.now 0 (head_plain version params.now) }

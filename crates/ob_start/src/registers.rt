@@ -29,7 +29,7 @@ pub enum Register {
 }
 
 /// The numbers of both registers.
-#[derive(Clone, Copy, Debug, Drop, PartialEq, Eq)]
+#[derive(Clone, Copy, Drop)]
 pub struct Numbers {
     pub generation: u64,
     /// The last epoch that ended.
@@ -101,8 +101,8 @@ fn judge(generation: Register, epoch: Register) -> Result<Numbers, Fault>
     }
 }
 
-/// Reads all cells of both registers, 1 to 8 in their order, and then tells of them. Which gates are
-/// open is told in `gates`. Nothing is written.
+/// Reads all cells of both registers, 1 to 8 in their order, and then tells of them. Which gates
+/// are open is told in `gates`. Nothing is written.
 ///
 /// # Errors
 /// The store failed, and its count of faults rose; or it is no store exactly where a register has

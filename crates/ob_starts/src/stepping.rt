@@ -30,9 +30,9 @@ fn step<U: Runner, R: Wait>(rt: &R, hall: &Hall, started: &mut Started<U>, turns
 }
 
 /// Each client that is here makes one step, in order, in a turn of its pass; those that are away
-/// stay as they are. True where one of these steps ran, and neither waits nor signed off. These turns
-/// stand one behind the other, and behind so many as the caller was told of in `turns`; then `turns`
-/// says how many there are up to the last of them.
+/// stay as they are. True where one of these steps ran, and neither waits nor signed off. These
+/// turns stand one behind the other, and behind so many as the caller was told of in `turns`; then
+/// `turns` says how many there are up to the last of them.
 pub fn step_all<U: Runner, R: Wait>(
     rt: &R,
     hall: &Hall,

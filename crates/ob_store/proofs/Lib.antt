@@ -7,3 +7,4 @@ pub mod Runs
 pub mod Serving
 pub mod Showing
 pub mod Doing
+pub mod Keeping

@@ -1,7 +1,7 @@
 //! A call on a store.
 
 /// A call on a store, whatever it answered.
-#[derive(Clone, Copy, Debug, PartialEq, Eq)]
+#[derive(Clone, Copy)]
 pub enum Event {
     Read(u64),
     Write(u64),

@@ -1,5 +1,5 @@
-//! Cells of 128 bytes on a medium that can fail: what a call does to them, what a crash may leave of
-//! them, and who is told of the calls.
+//! Cells of 128 bytes on a medium that can fail: what a call does to them, what a crash may leave
+//! of them, and who is told of the calls.
 #![tactic(auto)]
 
 mod event;

@@ -32,7 +32,7 @@ pub trait Watch {
 }
 
 /// It notes nothing, and never breaks.
-#[derive(Clone, Copy, Debug, PartialEq, Eq)]
+#[derive(Clone, Copy)]
 pub struct Blind;
 
 impl Watch for Blind {

@@ -1,3 +1,4 @@
 pub mod BookLaws
 pub mod RowLaws
 pub mod StashLaws
+pub mod TextLaws

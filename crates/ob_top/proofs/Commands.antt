@@ -12,9 +12,9 @@ use Rattle.ob_report.specs.Faults.{fault_line, status_of}
 use Rattle.ob_store.specs.Disk.{Disk}
 use Rattle.ob_desk.specs.Beats.{BeatKind}
 use Rattle.ob_words.specs.Reading.{Asked, asked_by, format_asked, run_asked, audit_asked}
-use Rattle.ob_top.specs.declared.words.Command.{Command}
-use Rattle.ob_top.specs.declared.words.Command.TheVariants.{Format, Run}
-use Rattle.ob_top.specs.Words.{AreParams, IsBadNumber, AreLanes, AreBadLanes, IsCommandOf, IsOutOfRange, IsRefusedFor, HasKeys, IsKeysRefused}
+use Rattle.ob_words.specs.declared.work.Command.{Command}
+use Rattle.ob_words.specs.declared.work.Command.TheVariants.{Format, Run}
+use Rattle.ob_words.specs.Work.{AreParams, IsBadNumber, AreLanes, AreBadLanes, IsCommandOf, IsOutOfRange, IsRefusedFor, HasKeys, IsKeysRefused}
 use Rattle.ob_top.specs.Outside.{Outside, IsFinished, IsOnlyTold}
 use Rattle.ob_top.specs.Formats.{FormatDone}
 use Rattle.ob_ring_kind.specs.RingKind.{ring_kind}

@@ -13,11 +13,11 @@ use Rattle.ob_store.specs.Calls.{IsStoreFault}
 use Rattle.ob_serial.specs.Serial.{EpochRecord}
 use Rattle.ob_script.specs.Script.{Scripts, IsScript, IsFirstBad, limit}
 use Rattle.ob_script.proofs.OneReading.{not_both}
-use Rattle.ob_script_runs.proofs.Counting.{few_txns, few_epochs}
+use Rattle.ob_outcomes.proofs.Counting.{few_txns, few_epochs}
 use Rattle.ob_base.specs.declared.fault.Field.{Field}
 use Rattle.ob_base.specs.declared.fault.Field.TheVariants.{LANES}
 use Rattle.ob_words.specs.Reading.{asked_by, format_asked, run_asked}
-use Rattle.ob_top.specs.Words.{AreParams, IsBadNumber, AreLanes, AreBadLanes, HasKeys, IsKeysRefused}
+use Rattle.ob_words.specs.Work.{AreParams, IsBadNumber, AreLanes, AreBadLanes, HasKeys, IsKeysRefused}
 use Rattle.ob_top.specs.Outside.{Outside, IsOnlyTold}
 use Rattle.ob_top.specs.Formats.{FormatTold, FormatDone}
 use Rattle.ob_ring_kind.specs.RingKind.{RingMayStop, ring_kind}
@@ -32,7 +32,7 @@ use Rattle.ob_top.specs.Runs.{Manner, manner, CameIn, IsInputRefused, EndsEarly,
 use Rattle.ob_top.specs.Complete.{CanFormat, CanRun, DoesWhatItCan, StopsFull}
 use Rattle.ob_ring_kind.proofs.Standing.{ring_keeps}
 use Rattle.ob_top.proofs.Counted.{one_script}
-use Rattle.ob_top.proofs.Named.{no_bad_number, no_bad_lanes, one_keys, keys_stand}
+use Rattle.ob_words.proofs.Named.{no_bad_number, no_bad_lanes, one_keys, keys_stand}
 
 -- ---- format
 
@@ -56,7 +56,8 @@ format_fault disk keys p old new before after (Some fault.SourceFault) told stor
 keys_few : (p : Params) → p.keys ≤ 2 ^ 32
 keys_few p = omega (arith, p.in_range.few_keys)
 
-module _ (store : StoreKind) (laws : AreStandingLaws store) (life : LifeWords store) {S : Type 0} (disk : S → Disk) (words : List (List ℕ)) (text : Option (Bor (List ℕ))) (old new : S) (before after : Outside) (script : Scripts) (can : CanRun words text (disk old) (disk new) before after store script) where
+module _ (store : StoreKind) (laws : AreStandingLaws store) (life : LifeWords store) {S : Type 0} (disk : S → Disk) (words : List (List ℕ)) (text : Option (Bor (List ℕ))) (old new : S) (before after : Outside) (script : Scripts)
+    (can : CanRun words text (disk old) (disk new) before after store script) where
   input_is : (input : List ℕ) → IsInput before.input.bytes limit input → input ≡ take (limit + 1) can.bytes
   input_is input is = subst (λ (b : Option (List ℕ)). IsInput b limit input) can.told is
 
@@ -189,7 +190,8 @@ module _ {S : Type 0} (disk : S → Disk) (beat : BeatKind) (drawn : List ℕ) (
   run_whole script can (inr (inl (bad, (kept, told)))) = absurd (no_bad_lanes can.lanes can.k can.in_range bad)
   run_whole script can (inr (inr (k, are, inl (f, refused, (kept, told))))) = absurd (keys_stand text can.keys f can.has refused)
   run_whole script can (inr (inr (k, are, inr (keys, has, d)))) =
-      by_stop can.p status (run_answers ring_kind ring_keeps ring_lives disk words text old new before after script can (manner beat (not can.turns)) drawn status (subst (λ (k : Keys). RunDone ring_kind ring_lives disk (manner beat (not can.turns)) drawn k old new before after status) (one_keys text keys can.keys has can.has) d))
+      by_stop can.p status (run_answers ring_kind ring_keeps ring_lives disk words text old new before after script can (manner beat (not can.turns)) drawn status
+      (subst (λ (k : Keys). RunDone ring_kind ring_lives disk (manner beat (not can.turns)) drawn k old new before after status) (one_keys text keys can.keys has can.has) d))
     where
       by_stop : (p : Params) (s : ℕ) → (s ≡ 0) ⊎ ((s ≡ 9) ⊎ ((f : Fault) × RingMayStop p f × (s ≡ status_of (Some f)))) → (s ≡ 0) ⊎ ((s ≡ 9) ⊎ ((s ≡ 6) × (p.room < p.keys)))
       by_stop p s (inl none) = inl none

@@ -61,7 +61,8 @@ module _ (store : StoreKind) (quiet : IsQuiet store) (life : LifeWords store) wh
     early_on : (fault : Fault) → EndsEarly store life keys (disk old) (disk new) disk before.input mid.input fault → EndsEarly store life keys (disk old) (disk new) disk before.input after.input fault
     early_on fault early = subst (λ (f : Flow). EndsEarly store life keys (disk old) (disk new) disk before.input f fault) (sym input) early
 
-    ran_on : (records : List (EpochRecord ℕ)) (fault : Option Fault) (r : Ran store life disk by words keys old new before mid records fault) → EndsFor store keys r.p r.found (disk r.between) r.traced.behind (shapes (calls r.is_served.served.acts)) (length records) (disk old) (disk new) before.output after.output
+    ran_on : (records : List (EpochRecord ℕ)) (fault : Option Fault) (r : Ran store life disk by words keys old new before mid records fault) → EndsFor store keys r.p r.found (disk r.between) r.traced.behind (shapes (calls r.is_served.served.acts))
+        (length records) (disk old) (disk new) before.output after.output
         fault → Ran store life disk by words keys old new before after records fault
     ran_on records fault r cause = record {
       p = r.p;

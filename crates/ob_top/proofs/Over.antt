@@ -17,8 +17,8 @@ use Rattle.ob_words.specs.Reading.{Asked, asked_by, format_asked, run_asked, aud
 use Rattle.ob_audit.specs.declared.verdict.Audit as verdict
 use Rattle.ob_audit.specs.declared.verdict.Audit.TheVariants.{Fits, Breaks}
 use Rattle.ob_audit.specs.Traces.{IsAuditFault}
-use Rattle.ob_top.specs.declared.words.Work.TheVariants.{Audit}
-use Rattle.ob_top.specs.Words.{AskFor, AreParams, IsBadNumber, AreLanes, AreBadLanes, HasKeys, IsKeysRefused}
+use Rattle.ob_words.specs.declared.work.Work.TheVariants.{Audit}
+use Rattle.ob_words.specs.Work.{AskFor, AreParams, IsBadNumber, AreLanes, AreBadLanes, HasKeys, IsKeysRefused}
 use Rattle.ob_top.specs.Outside.{Outside, IsFinished, IsOnlyTold}
 use Rattle.ob_top.specs.Audits.{AuditDone, verdict_status}
 use Rattle.ob_top.specs.Over.{OverStore, WithoutStore}

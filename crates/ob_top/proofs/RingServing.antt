@@ -24,7 +24,7 @@ use Rattle.ob_script.specs.Script.{ScriptTxn, Scripts, AreSound, asks_by}
 use Rattle.ob_desk.specs.Desk.{MayOpen, new_desk}
 use Rattle.ob_conduct.specs.Scenes.{scene, RunState, run_state, RunnerKind}
 use Rattle.ob_run.specs.Threaded.{RunsBy}
-use Rattle.ob_script_runs.proofs.Whole.{RunsScripts}
+use Rattle.ob_outcomes.proofs.Whole.{RunsScripts}
 use Rattle.ob_desk.specs.Beats.{BeatKind}
 use Rattle.ob_top.specs.Runs.{manner, ServedOver, fault_of}
 use Rattle.ob_top.proofs.Serving.{IsLender, serves_on}

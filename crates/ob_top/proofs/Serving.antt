@@ -51,8 +51,8 @@ use Rattle.ob_conduct.proofs.Acting.{written_none, answered_rest}
 use Rattle.ob_conduct.proofs.Going.{answered_join}
 use Rattle.ob_conduct.proofs.Behind.{asks_before}
 use Rattle.ob_conduct.proofs.Conducting.{due_epoch, due_in_order, due_one_by_one}
-use Rattle.ob_script_runs.specs.Served.{IsServed, ClientsServedAll}
-use Rattle.ob_script_runs.proofs.Whole.{RunsScripts, is_served, its_acts, its_desk, all_served, next_served}
+use Rattle.ob_outcomes.specs.Served.{IsServed, ClientsServedAll}
+use Rattle.ob_outcomes.proofs.Whole.{RunsScripts, is_served, its_acts, its_desk, all_served, next_served}
 use Rattle.ob_desk.specs.Beats.{BeatKind}
 use Rattle.ob_top.specs.Runs.{Manner, manner, EndsWith, EndsFor, IsTraced, IsReported, IsLeftOnDisk, StagedFrom, IsNextEpoch, ComesNext, ServedOver, LivesBehind, fault_of}
 
@@ -173,7 +173,8 @@ module _ {V S : Type 0} (k : Kind V) (store : StoreKind) (disk : S → Disk) (st
     none_cut q h one fault is = subst (λ (o : Option VaultCall). IsSeenCut store p q h o (tape_of last) fault []) (sym is) refl
 
     -- no call was refused
-    ends_alone : (asked : List (VaultCall × VaultAnswer)) → AllCalled k first asked last → AreAnswered asked → (fault : Option Fault) → ((h : store.Hidden) → EndsFor store under p found (disk (store_of start)) h (shapes asked) (length records) (disk (store_of first)) (disk (store_of last)) before after fault)
+    ends_alone : (asked : List (VaultCall × VaultAnswer)) → AllCalled k first asked last → AreAnswered asked → (fault : Option Fault) →
+        ((h : store.Hidden) → EndsFor store under p found (disk (store_of start)) h (shapes asked) (length records) (disk (store_of first)) (disk (store_of last)) before after fault)
         → IsReported before after records fault → Ending asked fault
     ends_alone asked chain all fault cause reported =
         let b = behind (store.public p found) (store.hidden p found) [] 0 first asked last begun chain all in
@@ -202,7 +203,8 @@ module _ {V S : Type 0} (k : Kind V) (store : StoreKind) (disk : S → Disk) (st
       rises rose = subst (λ n. Rose (disk (store_of first)).faults n) (faults last) (subst (λ n. Rose n (k.disk last).faults) (faults first) rose)
 
       -- the vault refused a call
-      cause_of : (so_far : List Shape) (n : ℕ) (call : VaultCall) (fault : Fault) (mid : V) (q : store.Public) (h : store.Hidden) → Stops store under p found (disk (store_of start)) (disk (store_of mid)) (disk (store_of last)) (tape_of last) q h so_far n call fault → so_far ≡ so_far → n ≡ length records
+      cause_of : (so_far : List Shape) (n : ℕ) (call : VaultCall) (fault : Fault) (mid : V) (q : store.Public) (h : store.Hidden) → Stops store under p found (disk (store_of start)) (disk (store_of mid)) (disk (store_of last)) (tape_of last) q h so_far n call
+          fault → so_far ≡ so_far → n ≡ length records
           → (IsStoreFault fault → Rose (k.disk first).faults (k.disk last).faults) → EndsFor store under p found (disk (store_of start)) h so_far (length records) (disk (store_of first)) (disk (store_of last)) before after (Some fault)
       cause_of so_far n call (StoreFault unsure) mid q h s same is rose = (rises (rose tt), subst (λ m. (unsure ≡ None) ⊎ (unsure ≡ Some (suc (store.epoch found + m)))) is s.why)
       cause_of so_far n call Memory mid q h s same is rose = tt

@@ -9,7 +9,7 @@ use Rattle.ob_serial.specs.Vaults.{Standing}
 use Rattle.ob_script.specs.Script.{Scripts, IsScript, limit}
 use Rattle.ob_kinds.specs.Kinds.{StoreKind}
 use Rattle.ob_words.specs.Reading.{asked_by, format_asked, run_asked, audit_asked}
-use Rattle.ob_top.specs.Words.{AreParams, AreLanes, HasKeys}
+use Rattle.ob_words.specs.Work.{AreParams, AreLanes, HasKeys}
 use Rattle.ob_top.specs.Outside.{Outside, Left, OfStore}
 use Rattle.ob_ring_kind.specs.RingKind.{ring_kind}
 

@@ -34,7 +34,7 @@ use Rattle.ob_conduct.specs.Moves.{IsSaid}
 use Rattle.ob_conduct.specs.Records.{IsWritten, IsOver, contents}
 use Rattle.ob_conduct.specs.Left.{IsLeftStanding, IsLeftNow, IsThisOrNext, next_at}
 use Rattle.ob_run.specs.Threaded.{AreShaped}
-use Rattle.ob_script_runs.specs.Served.{IsServed, ClientsServed, ClientsServedAll}
+use Rattle.ob_outcomes.specs.Served.{IsServed, ClientsServed, ClientsServedAll}
 use Rattle.ob_top.specs.Outside.{Outside}
 
 -- What is seen of the opening: the head's read, and the order that the kind of store gives.

@@ -22,8 +22,8 @@ use std::alloc::Global;
 /// wasn't started, gives the order of its slots.
 ///
 /// # Errors
-/// Memory was wanting, and nothing was done; the store failed, and nothing is written to the output;
-/// or the output failed, and a front of the line is.
+/// Memory was wanting, and nothing was done; the store failed, and nothing is written to the
+/// output; or the output failed, and a front of the line is.
 pub fn format_on<S: Store, T: Tape, O: Sink>(
     alloc: Global,
     store: &mut S,

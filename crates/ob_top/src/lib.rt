@@ -6,8 +6,6 @@ mod endings;
 mod format;
 mod run;
 mod top;
-mod words;
 
 pub use endings::finish;
 pub use top::obladi;
-pub use words::{Paths, store_wanted, tape_key};

@@ -5,7 +5,7 @@ ghost use Rattle.ob_io.specs.Streams.{inflow, outflow};
 ghost use Rattle.ob_store.specs.Calls.{GoesOn};
 ghost use Rattle.ob_top.specs.Outside.{outside, NoneOut, StoreGoesOn};
 ghost use Rattle.ob_top.specs.Runs.{fault_of};
-ghost use Rattle.ob_top.specs.Words.{Asks};
+ghost use Rattle.ob_words.specs.Work.{Asks};
 ghost use Rattle.ob_top.specs.Top.{AskForSomething, CommandDoes, IsRefusedWithout, UsageDoes, AuditDoes, FormatDoes, RunDoes};
 ghost use Rattle.ob_top.specs.Over.{OverStore, WithoutStore};
 ghost use Rattle.ob_top.specs.Complete.{Completes, AuditCompletes};
@@ -15,12 +15,12 @@ use crate::audit::audit_on;
 use crate::endings::finish;
 use crate::format::format_on;
 use crate::run::run_on;
-use crate::words::{Command, Work, keys_of, work_of};
 use ob_base::Fault;
 use ob_desk::Beat;
 use ob_io::{Sink, Source};
 use ob_store::Store;
 use ob_tape::Tape;
+use ob_words::{Command, Work, keys_of, work_of};
 use std::alloc::Global;
 use std::sync::Wait;
 use std::thread::Threads;
@@ -103,7 +103,8 @@ fn do_with<R: AllocGlobal + Threads + Wait + Sync, S: Store, T: Tape, I: Source,
     }
 }
 
-// Why nothing is done over a store without one: what the keys are refused for, or that there is none.
+// Why nothing is done over a store without one: what the keys are refused for, or that there is
+// none.
 fn refusal_of(keys: Option<&[u8]>) -> Fault
     ensures { (words : List (List ℕ)) → AskForSomething words
         → IsRefusedWithout words keys.entry result }
@@ -140,21 +141,22 @@ fn do_without<I: Source, O: Sink>(
 ///
 /// `format STORE KEYS N L Z S R BR BW E T` makes an empty store and prints how many cells it has.
 /// `run STORE KEYS [--lanes K] [--turns]` reads a script, runs its clients' transactions over the
-/// store, and reports them, each epoch once it is durable. Each client's calls are made in a thread of
-/// its own, or by hand where the system refuses it; with `--turns` all are made by hand, in rounds.
-/// `store` is the store that the words name, or none where it wasn't opened; `keys` is the text of the
-/// key file that they name, or none where it wasn't read; `tape` wasn't started, and gives the random
-/// words by which rows are spread; `beat` says at which looks the driver of epochs acts.
+/// store, and reports them, each epoch once it is durable. Each client's calls are made in a thread
+/// of its own, or by hand where the system refuses it; with `--turns` all are made by hand, in
+/// rounds. `store` is the store that the words name, or none where it wasn't opened; `keys` is the
+/// text of the key file that they name, or none where it wasn't read; `tape` wasn't started, and
+/// gives the random words by which rows are spread; `beat` says at which looks the driver of epochs
+/// acts.
 ///
-/// `audit` reads a trace, and prints whether each line may stand there, or the first that may not. It
-/// touches no store and no keys.
+/// `audit` reads a trace, and prints whether each line may stand there, or the first that may not.
+/// It touches no store and no keys.
 ///
-/// The status is 0 where all was done and written, 1 where a line of a trace may not stand there, and
-/// else that of the fault whose line stands behind the report: 2 for words that are no command, for a
-/// number or lanes out of range, for keys that are none and for a script that breaks the grammar; 3
-/// for what is no store; 4 for damage; 5 where the store failed or none was handed in; 6 where more
-/// rows would be left than the stash may keep; 7 where the key file, the input or the output failed; 8
-/// where a number is worn out; 9 for want of memory.
+/// The status is 0 where all was done and written, 1 where a line of a trace may not stand there,
+/// and else that of the fault whose line stands behind the report: 2 for words that are no command,
+/// for a number or lanes out of range, for keys that are none and for a script that breaks the
+/// grammar; 3 for what is no store; 4 for damage; 5 where the store failed or none was handed in; 6
+/// where more rows would be left than the stash may keep; 7 where the key file, the input or the
+/// output failed; 8 where a number is worn out; 9 for want of memory.
 pub fn obladi<
     R: AllocGlobal + Threads + Wait + Sync,
     S: Store,

@@ -32,7 +32,8 @@ const ROWS: [(&str, &str, u8, &str); 4] = [
     ("P 8", "P 9", 1, "breaks line 1 wanted start\n"),
 ];
 
-// Audits a trace without a store and keys, of whose input this read fails and of whose output this write.
+// Audits a trace without a store and keys, of whose input this read fails and of whose output this
+// write.
 fn audited<R: AllocGlobal + Threads + Wait + Sync + Abort>(
     rt: &R,
     trace: &str,
@@ -58,7 +59,8 @@ fn traces_are_audited(rt: HostRuntime) {
     }
 }
 
-// A trace, the read of its input and the write of its output that fail, and what was written before.
+// A trace, the read of its input and the write of its output that fail, and what was written
+// before.
 const FAILING: [(&str, u64, u64, &str); 4] = [
     (TRACE, 1, 99, "fault: source\n"),
     ("O/", 9, 0, ""),

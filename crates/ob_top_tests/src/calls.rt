@@ -6,7 +6,7 @@ use crate::fixture::{
 };
 use ob_desk::Hasty;
 use ob_mem::{MemSink, MemStore};
-use ob_top::store_wanted;
+use ob_words::store_wanted;
 use std::process::Abort;
 use std::sync::Wait;
 use std::thread::Threads;
@@ -140,7 +140,8 @@ const LIVES: [&[Row]; 11] = [
     &[("run S --turns K", TWO_EPOCHS, 0, TOLD)],
 ];
 
-// Makes calls one behind the other, from a new store on, each on what a crash leaves behind the one before.
+// Makes calls one behind the other, from a new store on, each on what a crash leaves behind the one
+// before.
 fn live<R: AllocGlobal + Threads + Wait + Sync + Abort>(rt: &R, life: &[Row]) {
     let mut store = formatted(rt, &[]);
     for &(words, script, status, output) in life {
@@ -192,7 +193,8 @@ fn a_hasty_beat_ends_epochs_early(rt: HostRuntime) {
 
 const SHORT: &str = "00010203";
 
-// Words that are refused without a store, the text of the key file, and the status and what is told.
+// Words that are refused without a store, the text of the key file, and the status and what is
+// told.
 const REFUSED: [(&str, Option<&str>, u8, &str); 19] = [
     ("", Some(KEYS), 2, "fault: usage/"),
     ("run", None, 2, "fault: usage/"),
@@ -255,31 +257,23 @@ fn refusals_come_in_their_order(rt: HostRuntime) {
     expect_on(&rt, &mut store, &[], &blank);
 }
 
-// Words, and the files that they call for: a `+` stands before the path of a store that may be made.
-const WANTED: [(&str, &str); 8] = [
-    ("audit", ""),
-    ("run S K", "S K"),
-    ("run --lanes 2 S K --turns", "S K"),
-    ("run S --lanes 17 K", ""),
-    ("run S", ""),
-    ("format S K 8 2 2 3 2 2 2 2 8", "+S K"),
-    ("format S K 9 2 2 3 2 2 2 2 8", ""),
-    ("format S K 8 2 2 3 2 2 2 2", ""),
+// Words, and the files that they call for: the store's, and whether it may be made, and the keys'.
+const WANTED: [(&str, Option<(&str, bool)>, Option<&str>); 8] = [
+    ("audit", None, None),
+    ("run S K", Some(("S", false)), Some("K")),
+    ("run --lanes 2 S K --turns", Some(("S", false)), Some("K")),
+    ("run S --lanes 17 K", None, None),
+    ("run S", None, None),
+    ("format S K 8 2 2 3 2 2 2 2 8", Some(("S", true)), Some("K")),
+    ("format S K 9 2 2 3 2 2 2 2 8", None, None),
+    ("format S K 8 2 2 3 2 2 2 2", None, None),
 ];
 
 #[test]
 fn what_words_do_not_call_for_is_not_wanted(rt: HostRuntime) {
-    let alloc = rt.alloc();
-    for (line, wanted) in WANTED {
+    for (line, store, keys) in WANTED {
         let words = words_of(&rt, line);
-        let paths = store_wanted(alloc, &words).expect(&rt, "memory");
-        let files = match (paths.store, paths.keys) {
-            (Some((store, true)), Some(keys)) => format!(in alloc; "+{store} {keys}"),
-            (Some((store, false)), Some(keys)) => format!(in alloc; "{store} {keys}"),
-            (None, None) => Ok(String::new(alloc)),
-            _ => format!(in alloc; "one of two"),
-        };
-        let files = files.expect(&rt, "memory");
-        assert!(&rt; files.as_str() == wanted, "{line}: {files}");
+        let paths = store_wanted(rt.alloc(), &words).expect(&rt, "memory");
+        assert!(&rt; paths.store == store && paths.keys == keys, "{line}");
     }
 }

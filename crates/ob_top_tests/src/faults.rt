@@ -39,8 +39,8 @@ fn next_told(ended: bool) -> &'static str {
     }
 }
 
-// A run of one epoch where this call fails, behind a format of 62 writes and 10 syncs: the epoch is in
-// doubt or not, and so many images of it are ended.
+// A run of one epoch where this call fails, behind a format of 62 writes and 10 syncs: the epoch is
+// in doubt or not, and so many images of it are ended.
 fn failing<R: AllocGlobal + Threads + Wait + Sync + Abort>(
     rt: &R,
     fail: Fail,
@@ -114,8 +114,8 @@ pub fn flip<R: Abort>(rt: &R, store: &mut MemStore, cell: u64)
     assert!(rt; store.write(cell, &bytes).is_ok());
 }
 
-// A cell of which a bit is changed, and what is told: of a row of the checkpoint, and of the first slot
-// that a batch reads.
+// A cell of which a bit is changed, and what is told: of a row of the checkpoint, and of the first
+// slot that a batch reads.
 const DAMAGED: [(u64, &str); 2] = [
     (17, "fault: damaged cell 17 tag/"),
     (41, "fault: damaged cell 41 tag/"),
@@ -136,8 +136,8 @@ fn damage_is_told(rt: HostRuntime) {
     }
 }
 
-// A store whose stash may keep one row, where four puts leave two: nothing of the epoch is kept. The
-// next run goes on in it, behind its batch.
+// A store whose stash may keep one row, where four puts leave two: nothing of the epoch is kept.
+// The next run goes on in it, behind its batch.
 #[test]
 fn a_full_stash_is_told(rt: HostRuntime) {
     let alloc = rt.alloc();
@@ -183,8 +183,8 @@ fn next_report(ended: bool) -> &'static str {
     }
 }
 
-// Crashes a run at each moment, with this in the cells that aren't sure, and runs again: the epoch has
-// ended from this moment on.
+// Crashes a run at each moment, with this in the cells that aren't sure, and runs again: the epoch
+// has ended from this moment on.
 fn crash_everywhere<R: AllocGlobal + Threads + Wait + Sync + Abort>(
     rt: &R,
     ran: &MemStore,

@@ -64,8 +64,8 @@ pub fn compare<R: AllocGlobal + Abort>(rt: &R, sink: &MemSink, output: &str) {
     assert!(rt; sink.written() == wanted.as_bytes(), "{output}");
 }
 
-// Makes a call over a store, with a tape of these words and of zeros behind them: its status, and the
-// output.
+// Makes a call over a store, with a tape of these words and of zeros behind them: its status, and
+// the output.
 pub fn call_on<R: AllocGlobal + Threads + Wait + Sync + Abort, S: Store, B: Beat>(
     rt: &R,
     store: &mut S,
@@ -143,8 +143,8 @@ pub fn formatted<R: AllocGlobal + Threads + Wait + Sync + Abort>(rt: &R, fails: 
     store
 }
 
-// What a crash at this moment leaves of a store of 109 cells: in those that aren't sure what they got
-// last, or this byte throughout.
+// What a crash at this moment leaves of a store of 109 cells: in those that aren't sure what they
+// got last, or this byte throughout.
 pub fn left_after<R: Abort>(
     rt: &R,
     store: &MemStore,

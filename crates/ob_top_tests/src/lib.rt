@@ -1,5 +1,5 @@
-//! Tests of the top call over a ring store: words, outputs, statuses and events, faults and crashes, and
-//! audits of a trace.
+//! Tests of the top call over a ring store: words, outputs, statuses and events, faults and
+//! crashes, and audits of a trace.
 #![tactic(auto)]
 
 #[cfg(test)]

@@ -14,8 +14,8 @@ use ob_mem::{MemLane, MemStore};
 use ob_store::{Event, Store};
 use std::alloc::Global;
 
-// A store in memory, and the calls on it, a lane's reads where it was absorbed. Without memory for one
-// it is lost.
+// A store in memory, and the calls on it, a lane's reads where it was absorbed. Without memory for
+// one it is lost.
 #[derive(Drop)]
 pub struct Noting {
     pub store: MemStore,

@@ -26,6 +26,24 @@ const LOOKS: u32 = 100;
 // Once in so many turns who comes to the gate lies down at once, behind those that lie there.
 const FAIR: u64 = 64;
 
+// Waits for good.
+fn wait_for_good<R: Wait>(rt: &R) -> ! {
+    for _ in rt.forever() {}
+    unreachable!()
+}
+
+// How many turns there are with that of the ticket. It waits for good where the caller was told of
+// as many before.
+fn turns_with<R: Wait>(rt: &R, ticket: u64, told: u64) -> u64
+    ensures with_this { result ≡ suc ticket }
+    ensures behind { told < result }
+{
+    match ticket.checked_add(1) {
+        Some(count) if told < count => count,
+        _ => wait_for_good(rt),
+    }
+}
+
 impl<E, T: Stepped<E>> Turn<T, E> {
     // Whether the turn is nobody's: each ticket drawn was served, and is done.
     fn is_free(&self) -> bool {
@@ -81,12 +99,10 @@ impl<E, T: Stepped<E>> Turn<T, E> {
         ensures same { IsSame seat.old seat.new }
         ensures drawn { seat.new.me ≡ (staged seat.old.me.0 (Waiting result), seat.old.me.1) }
     {
-        for _ in rt.forever() {
-            if self.table.shared.load::<Arrive>(seat, 0) < LAST {
-                return self.table.shared.fetch_add::<Draw>(seat, 0, 1);
-            }
+        if self.table.shared.load::<Arrive>(seat, 0) >= LAST {
+            wait_for_good(rt);
         }
-        unreachable!()
+        self.table.shared.fetch_add::<Draw>(seat, 0, 1)
     }
 
     // Waits until the ticket is served, and takes the slot.
@@ -122,22 +138,6 @@ impl<E, T: Stepped<E>> Turn<T, E> {
         }
     }
 
-    // How many turns there are with that of the ticket. It waits for good where the caller was told
-    // of as many before.
-    fn turns_with<R: Wait>(rt: &R, ticket: u64, told: u64) -> u64
-        ensures with_this { result ≡ suc ticket }
-        ensures behind { told < result }
-    {
-        for _ in rt.forever() {
-            if let Some(count) = ticket.checked_add(1) {
-                if told < count {
-                    return count;
-                }
-            }
-        }
-        unreachable!()
-    }
-
     /// Waits for the seat's turn, as `take` does, and tells with the value how many turns there are
     /// with this one: its entry stands at that place of the history. It stands behind all those of
     /// which the caller was told, by this seat or another one: the call would wait for good else,
@@ -151,7 +151,7 @@ impl<E, T: Stepped<E>> Turn<T, E> {
         self.pass_gate(rt);
         let ticket = self.draw(rt, seat);
         self.wait(rt, seat, ticket);
-        let count = Self::turns_with(rt, ticket, told);
+        let count = turns_with(rt, ticket, told);
         match self.table.shared.exchange(seat, 0, Slot::Out) {
             Slot::Rests(value) => (value, count),
             Slot::Leaves(value, _) => (value, count),
@@ -163,8 +163,8 @@ impl<E, T: Stepped<E>> Turn<T, E> {
     /// Waits for the seat's turn, and takes the value out. A ticket is drawn when the turn is
     /// nobody's, so a thread that takes turn after turn goes on, and others wait at the gate. Its
     /// linearization point is the load that finds the seat's ticket served: the seat has then seen
-    /// the whole history, which leads to the value. It waits for good once `2^63` tickets are drawn.
-    /// `enter` makes a guard of it.
+    /// the whole history, which leads to the value. It waits for good once `2^63` tickets are
+    /// drawn. `enter` makes a guard of it.
     pub fn take<R: Wait>(&self, rt: &R, seat: &mut TurnSeat<T, E>) -> T
         requires own { IsTurnSeat self.now seat.old }
         requires idle { IsIdle seat.old }

@@ -3,7 +3,7 @@
 ghost use Rattle.std.specs.Prelude.{◌≡◌, false};
 
 /// Which gates of a register are known to be open.
-#[derive(Clone, Copy, Debug, PartialEq, Eq)]
+#[derive(Clone, Copy)]
 pub struct Open {
     pub zero: bool,
     pub one: bool,
@@ -11,7 +11,7 @@ pub struct Open {
 
 /// Which gates of a store's registers are known to be open: those that a get read as open, or that
 /// a set opened since.
-#[derive(Clone, Copy, Debug, PartialEq, Eq)]
+#[derive(Clone, Copy)]
 pub struct Gates {
     pub generation: Open,
     pub epoch: Open,

@@ -1,4 +1,5 @@
-//! A register of one number in two places, which a crash leaves at the old number or at the new one.
+//! A register of one number in two places, which a crash leaves at the old number or at the new
+//! one.
 #![tactic(auto)]
 
 mod bytes;

@@ -3,7 +3,7 @@
 use ob_base::Fault;
 
 /// Why a set was refused: before the write that opens the gate, or there or at the sync after it.
-#[derive(Clone, Copy, Debug, PartialEq, Eq)]
+#[derive(Clone, Copy)]
 pub enum SetErr {
     /// The old number counts.
     Before(Fault),

@@ -115,9 +115,9 @@ fn unsure_of(twin: Twin, n: u64) -> Option<u64>
 }
 
 impl Twin {
-    /// Sets the number: the gate of its place is written closed, unless it is known to be closed and
-    /// the other is open; then the body; then the gate open; each made sure of before the next. So
-    /// once it is done each image that a crash may leave stands at the new number, and at every
+    /// Sets the number: the gate of its place is written closed, unless it is known to be closed
+    /// and the other is open; then the body; then the gate open; each made sure of before the next.
+    /// So once it is done each image that a crash may leave stands at the new number, and at every
     /// moment before at the old number or the new one.
     ///
     /// # Errors
@@ -154,7 +154,8 @@ impl Twin {
             (place_of (n + 1)) n
             → OnOk result ((c : Image) → (S.disk store.new).may_leave c
             → KeepsAt (T.tag stamper.now) (first_of self) (S.disk store.old).cells n c) }
-        // A crash at any moment leaves the old number or the new one; the old one where it was refused before the gate.
+        // A crash at any moment leaves the old number or the new one; the old one where it was
+        // refused before the gate.
         ensures old_or_new { (m : ℕ) → n ≡ m + 1 → (S.disk store.old).tells
             → IsSynced (S.disk store.old)
             → StandsAt (T.tag stamper.now) (first_of self) (S.disk store.old).cells m

@@ -6,7 +6,7 @@ use crate::Stamper;
 use ob_base::{Check, Damaged};
 
 /// A tag of zeros in every cell, for a store without keys.
-#[derive(Clone, Copy, Debug, PartialEq, Eq)]
+#[derive(Clone, Copy)]
 pub struct ZeroTag;
 
 impl Stamper for ZeroTag {

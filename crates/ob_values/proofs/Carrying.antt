@@ -13,7 +13,7 @@ use Rattle.ob_ring.specs.FlatTable.{FlatTable, Row, Spot, InStash, In, spot_of, 
 use Rattle.ob_ring.specs.Picked.{Picked}
 use Rattle.ob_ring.specs.Settling.{Rows, row_value, fault_at, job_damage, or_else, first_fault, with_row, rows_after}
 use Rattle.ob_taken.specs.Takes.{is_present, spots, is_picked, AreOwn, Takes, KeepsKeys}
-use Rattle.ob_content.specs.Spelling.{slot_bytes}
+use Rattle.ob_tables.specs.Spelling.{slot_bytes}
 use Rattle.ob_taken.specs.Values.{Values}
 use Rattle.ob_values.specs.Carries.{Carries, AreRead}
 use Rattle.ob_values.specs.Laws.{Settles}

@@ -8,7 +8,7 @@ use Rattle.std.proofs.lemmas.Nat.{from_le_bytes-to_le_bytes_4}
 use Rattle.std.proofs.Math.Seq.{take-append_seam}
 use Rattle.ob_ring.specs.Settling.{key_field, len_field, row_value, row_fault}
 use Rattle.ob_ring.specs.Plain.{row_plain}
-use Rattle.ob_content.specs.Spelling.{slot_bytes}
+use Rattle.ob_tables.specs.Spelling.{slot_bytes}
 
 pub key_read : (key : ℕ) (value : List ℕ) → key < 2 ^ 32 → key_field (slot_bytes key value) ≡ key
 key_read key value low = from_le_bytes-to_le_bytes_4 key low

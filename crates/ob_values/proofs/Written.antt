@@ -11,7 +11,7 @@ use Rattle.ob_ring.specs.FlatTable.{FlatTable, Row, InStash, In, spot_of, writte
 use Rattle.ob_ring.specs.Settling.{Rows}
 use Rattle.ob_ring.specs.Writing.{leaf_of_write, with_value}
 use Rattle.ob_taken.specs.Takes.{is_present}
-use Rattle.ob_content.specs.Spelling.{slot_bytes}
+use Rattle.ob_tables.specs.Spelling.{slot_bytes}
 use Rattle.ob_taken.specs.Values.{Values, with_write}
 use Rattle.ob_values.specs.Carries.{Carries}
 use Rattle.ob_values.specs.Laws.{WritesCarry}

@@ -4,8 +4,8 @@ use Rattle.std.specs.declared.option.Option.TheVariants.{None, Some}
 use Rattle.std.specs.FinMap as finite
 use Rattle.ob_base.specs.declared.params.Params.{Params}
 use Rattle.ob_base.specs.declared.job.Job.{Job}
-use Rattle.ob_content.specs.Content.{Rows}
-use Rattle.ob_content.specs.Spelling.{slot_bytes}
+use Rattle.ob_tables.specs.Content.{Rows}
+use Rattle.ob_tables.specs.Spelling.{slot_bytes}
 use Rattle.ob_ring.specs.FlatTable.{FlatTable, InStash, In, spot_of}
 use Rattle.ob_ring.specs.Picked.{Picked}
 use Rattle.ob_taken.specs.Takes.{is_present}

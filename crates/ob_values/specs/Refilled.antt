@@ -6,8 +6,8 @@ use Rattle.ob_base.specs.declared.params.Params.{Params}
 use Rattle.ob_base.specs.Tree.{buckets}
 use Rattle.ob_bucket.specs.Version.{EMPTY, IsWhole, rank_at}
 use Rattle.ob_bucket.specs.Buckets.{Buckets, version_at}
-use Rattle.ob_content.specs.Content.{Rows}
-use Rattle.ob_content.specs.Spelling.{slot_bytes}
+use Rattle.ob_tables.specs.Content.{Rows}
+use Rattle.ob_tables.specs.Spelling.{slot_bytes}
 use Rattle.ob_ring.specs.Arrays.{AreWhole, IsTableOf, Rest, arrays_of}
 use Rattle.ob_ring.specs.FlatTable.{FlatTable, In, Refill, after, spot_of, refill_order}
 use Rattle.ob_ring.specs.Laws.{IsOrderly}

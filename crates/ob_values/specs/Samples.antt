@@ -5,7 +5,7 @@ use Rattle.std.specs.declared.option.Option.TheVariants.{None, Some}
 use Rattle.std.specs.FinMap as finite
 use Rattle.ob_base.specs.declared.value.Write.{Write}
 use Rattle.ob_base.specs.declared.params.Params.{Params}
-use Rattle.ob_content.specs.Spelling.{slot_bytes}
+use Rattle.ob_tables.specs.Spelling.{slot_bytes}
 use Rattle.ob_tables.specs.declared.entry.Entry.{Entry}
 use Rattle.ob_ring.specs.FlatTable.{FlatTable, In, Batch, FinalLifts, Writes, Refill, after, refill_order}
 use Rattle.ob_ring.specs.Ring.{empty_table}

@@ -1,5 +1,6 @@
-//! What the steps of an epoch make of the values of a store's keys: batches, final lifts, writes and a
-//! refill keep each value where the planner's table says. Laws of definitions; nothing here runs.
+//! What the steps of an epoch make of the values of a store's keys: batches, final lifts, writes
+//! and a refill keep each value where the planner's table says. Laws of definitions; nothing here
+//! runs.
 #![tactic(auto)]
 
 ghost use Rattle.ob_values.specs.Epochs.{BucketsGo, EpochsAreMet, EpochsFollow};
@@ -35,14 +36,14 @@ pub fn stash_counts()
     ensures { StashCounts }
 {}
 
-/// The bytes that the planner gives for a slot spell the row of the key that lies there, or that none
-/// does.
+/// The bytes that the planner gives for a slot spell the row of the key that lies there, or that
+/// none does.
 pub fn plain_is_spelled()
     ensures { PlainIsSpelled }
 {}
 
-/// The planned bytes of the slots of a filled bucket are the rows of the keys that lie there, and just
-/// those rows leave the stash.
+/// The planned bytes of the slots of a filled bucket are the rows of the keys that lie there, and
+/// just those rows leave the stash.
 pub fn refill_is_written()
     ensures { RefillIsWritten }
 {}
@@ -64,8 +65,8 @@ pub fn epochs_follow()
     ensures { EpochsFollow }
 {}
 
-/// Of a bucket that an epoch's refill doesn't fill, marks only come and keys only leave, and the keys
-/// that stay weren't written.
+/// Of a bucket that an epoch's refill doesn't fill, marks only come and keys only leave, and the
+/// keys that stay weren't written.
 pub fn buckets_go()
     ensures { BucketsGo }
 {}

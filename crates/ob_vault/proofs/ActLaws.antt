@@ -22,7 +22,7 @@ use Rattle.ob_twin.specs.declared.gates.Gates.{Gates}
 use Rattle.ob_twin.specs.declared.gates.Open.{Open as Known}
 use Rattle.ob_start.specs.Orders.{registers_notes}
 use Rattle.ob_start.specs.Registers.{HaveOpen}
-use Rattle.ob_content.specs.Content.{Content, content_of}
+use Rattle.ob_tables.specs.Content.{Content, content_of}
 use Rattle.ob_log.specs.Logs.{BatchRecord, RecordFits, RecordsFit, record_at}
 use Rattle.ob_schedule.specs.Schedule.{Fills, Public, open_notes}
 use Rattle.ob_life.specs.Life.{LifeAct, LifeState, Open, ShowBatch, WordId, IsActAllowed, IsLife, life_step, reached}

@@ -15,7 +15,7 @@ use Rattle.ob_store.specs.Disk.{Disk, Image}
 use Rattle.ob_store.specs.Images.{Passes, SameOff}
 use Rattle.ob_store.specs.Lines.{Trace}
 use Rattle.ob_store.specs.Runs.{write_notes}
-use Rattle.ob_store.specs.Told.{Tells}
+use Rattle.ob_store.specs.Told.{Tells, TellsFirst}
 use Rattle.ob_store.proofs.Moments.{passes_so}
 use Rattle.ob_store.proofs.Serving.{goes_then, rose_later}
 use Rattle.ob_seal.specs.declared.keys.Keys.{Keys}
@@ -25,7 +25,7 @@ use Rattle.ob_cells.specs.Runs.{AreSealed, run_at}
 use Rattle.ob_bucket.specs.Version.{EMPTY}
 use Rattle.ob_check.specs.Written as check
 use Rattle.ob_check.specs.Written.{area_of}
-use Rattle.ob_content.specs.Spelling.{slot_bytes}
+use Rattle.ob_tables.specs.Spelling.{slot_bytes}
 use Rattle.ob_start.specs.Laying.{SameHead}
 use Rattle.ob_twin.specs.Register.{SameOutside}
 use Rattle.ob_vault.specs.Formats.{HasBlankSlots}
@@ -83,6 +83,13 @@ pub slots_told : (p : Params) (cell b : ℕ) (old new : Option (List Event)) (k 
 slots_told p cell b old new k l at many told =
     subst (λ (n : ℕ). Tells (write_notes (slot_cell p 0 0 0) (n * width p)) (write_notes (slot_cell p 0 0 0) (n * width p)) old new k l) many
     (subst (λ (n : ℕ). Tells (write_notes n (b * width p)) (write_notes n (b * width p)) old new k l) at told)
+
+-- and the first of them
+pub slots_first : (p : Params) (cell b : ℕ) (old new : Option (List Event)) (k l : Trace) → cell ≡ slot_cell p 0 0 0 → b ≡ buckets p → TellsFirst (write_notes cell (b * (p.real + p.dummies))) old new k l
+    → TellsFirst (write_notes (slot_cell p 0 0 0) (buckets p * width p)) old new k l
+slots_first p cell b old new k l at many told =
+    subst (λ (n : ℕ). TellsFirst (write_notes (slot_cell p 0 0 0) (n * width p)) old new k l) many
+    (subst (λ (n : ℕ). TellsFirst (write_notes n (b * width p)) old new k l) at told)
 
 -- the slots as they were sealed
 pub slots_laid : (keys : Keys) (p : Params) (cell b g next : ℕ) (image : Image) → cell ≡ slot_cell p 0 0 0 → b ≡ buckets p → next ≡ 0 → AreSealed keys cell (b * (p.real + p.dummies)) g next (λ i. slot_bytes EMPTY []) (run_at cell image) → HasBlankSlots keys p g image

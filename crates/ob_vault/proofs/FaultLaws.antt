@@ -11,7 +11,7 @@ use Rattle.ob_store.specs.Told.{Tells}
 use Rattle.ob_seal.specs.declared.keys.Keys.{Keys}
 use Rattle.ob_twin.specs.Register.{SameOutside}
 use Rattle.ob_start.specs.Beginning.{IsBeginFault, IsWornFault}
-use Rattle.ob_content.specs.Content.{content_of}
+use Rattle.ob_tables.specs.Content.{content_of}
 use Rattle.ob_stand.specs.Stands.{RingStanding}
 use Rattle.ob_recover.specs.declared.found.Found.{Found}
 use Rattle.ob_recover.specs.Finds.{FindDoes, FindsStanding, IsFindFault, IsFindOf, IsFoundInRing, finding_notes}

@@ -24,7 +24,7 @@ use Rattle.ob_bucket.proofs.VersionLaws.{ranks_are}
 use Rattle.ob_tables.specs.declared.tables.Tables.{Tables}
 use Rattle.ob_check.specs.Written as check
 use Rattle.ob_check.specs.Written.{area_of}
-use Rattle.ob_content.specs.Content.{Content, content_of}
+use Rattle.ob_tables.specs.Content.{Content, content_of}
 use Rattle.ob_schedule.specs.Schedule.{log_gates}
 use Rattle.ob_stand.specs.Fresh.{AreRanked, Ranks, fresh_content, fresh_version}
 use Rattle.ob_stand.specs.Stands.{HoldsCheckpoint, Stands}

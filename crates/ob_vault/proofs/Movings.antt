@@ -16,7 +16,7 @@ use Rattle.ob_seal.specs.Pads.{pad_of, xored}
 use Rattle.ob_batch.specs.Jobs.{IsFirstFailing, IsPlainOf}
 use Rattle.ob_bucket.specs.Version.{Version, rank_at}
 use Rattle.ob_bucket.specs.Buckets.{version_at}
-use Rattle.ob_content.specs.Content.{Content, Rows}
+use Rattle.ob_tables.specs.Content.{Content, Rows}
 use Rattle.ob_epoch.specs.Table.{flat_of}
 use Rattle.ob_log.specs.Logs.{BatchRecord}
 use Rattle.ob_ring.specs.FlatTable.{FlatTable}

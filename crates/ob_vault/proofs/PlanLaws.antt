@@ -2,7 +2,7 @@
 use Rattle.std.specs.Prelude.{ℕ, List, []}
 use Rattle.std.proofs.Common.{refl, sym, subst}
 use Rattle.ob_base.specs.declared.params.Params.{Params}
-use Rattle.ob_content.specs.Content.{Content, content_of}
+use Rattle.ob_tables.specs.Content.{Content, content_of}
 use Rattle.ob_log.specs.Logs.{BatchRecord}
 use Rattle.ob_recover.specs.declared.found.Found.{Found}
 use Rattle.ob_recover.specs.Repeats.{IsPlannerOf}

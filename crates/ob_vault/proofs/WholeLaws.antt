@@ -13,7 +13,7 @@ use Rattle.ob_seal.specs.Sealing.{Sealing}
 use Rattle.ob_twin.specs.Keyed.{tagging}
 use Rattle.ob_twin.specs.Register.{StandsAt}
 use Rattle.ob_recover.specs.declared.found.Found.{Found}
-use Rattle.ob_content.specs.Content.{content_of}
+use Rattle.ob_tables.specs.Content.{content_of}
 use Rattle.ob_recover.specs.Finds.{IsFoundInRing, finding_notes}
 use Rattle.ob_ring_trace.specs.Known.{public_of_kept}
 use Rattle.ob_ring_trace.proofs.Telling.{openings_are_told}

@@ -26,7 +26,7 @@ use Rattle.ob_bucket.specs.Rank.{ranks_of}
 use Rattle.ob_bucket.specs.Buckets.{Buckets, new_buckets}
 use Rattle.ob_bucket.specs.Version.{Version, EMPTY}
 use Rattle.ob_tables.specs.declared.tables.Tables.{Tables}
-use Rattle.ob_content.specs.Spelling.{slot_bytes}
+use Rattle.ob_tables.specs.Spelling.{slot_bytes}
 use Rattle.ob_schedule.specs.Schedule.{log_gates}
 use Rattle.ob_stand.specs.Fresh.{Ranks, fresh_content, fresh_standing, fresh_version}
 use Rattle.ob_stand.specs.Stands.{RingStanding}

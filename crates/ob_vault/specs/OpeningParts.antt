@@ -10,7 +10,7 @@ use Rattle.ob_store.specs.Disk.{Disk, Image}
 use Rattle.ob_store.specs.Lines.{Trace}
 use Rattle.ob_store.specs.Told.{TellsFirst}
 use Rattle.ob_seal.specs.declared.keys.Keys.{Keys}
-use Rattle.ob_content.specs.Content.{content_of}
+use Rattle.ob_tables.specs.Content.{content_of}
 use Rattle.ob_recover.specs.declared.found.Found.{Found}
 use Rattle.ob_recover.specs.Repeats.{IsRepeatDamage}
 use Rattle.ob_vault.specs.declared.opening.Opening.{Opening}

@@ -15,7 +15,7 @@ use Rattle.ob_twin.specs.declared.gates.Gates.{Gates}
 use Rattle.ob_twin.specs.Keyed.{tagging}
 use Rattle.ob_twin.specs.Register.{OldOrNew, StandsAt}
 use Rattle.ob_start.specs.Orders.{begin_notes, registers_notes}
-use Rattle.ob_content.specs.Content.{content_of}
+use Rattle.ob_tables.specs.Content.{content_of}
 use Rattle.ob_stand.specs.Stands.{OneOf, RingStanding, Stands, with_generation}
 use Rattle.ob_log.specs.Logs.{BatchRecord}
 use Rattle.ob_schedule.specs.Schedule.{Fills, Public, after_open, open_notes}

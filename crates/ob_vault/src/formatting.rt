@@ -9,7 +9,7 @@ ghost use Rattle.ob_store.specs.Images.{IsSynced, Passes, LeavesOnly};
 ghost use Rattle.ob_store.specs.Calls.{Serves, IsFailed, IsStoreFault};
 ghost use Rattle.ob_store.specs.Told.{Does};
 ghost use Rattle.ob_check.specs.Written as check;
-ghost use Rattle.ob_content.specs.Content.{Obeys, content_of};
+ghost use Rattle.ob_tables.specs.Content.{Obeys, content_of};
 ghost use Rattle.ob_schedule.specs.Schedule.{format_notes};
 ghost use Rattle.ob_life.specs.Life.{WordId, formatted_life};
 ghost use Rattle.ob_stand.specs.Fresh.{fresh_content};
@@ -44,7 +44,7 @@ struct Blank;
 
 impl Pieces for Blank {
     ghost use Rattle.ob_bucket.specs.Version.{EMPTY};
-    ghost use Rattle.ob_content.specs.Spelling.{slot_bytes};
+    ghost use Rattle.ob_tables.specs.Spelling.{slot_bytes};
 
     ghost plain = { λ _ i. slot_bytes EMPTY [] };
 
@@ -212,12 +212,12 @@ pub fn format<S: Store, T: Tape, W: Watch>(
         Ok(gates) => gates,
         Err(_) => return Err(Fault::Memory),
     };
-    let mut tables = match blank_tables(alloc, p) {
-        Ok(tables) => tables,
-        Err(Memory) => return Err(Fault::Memory),
-    };
     let mut sheet = match Sheet::new(alloc, p) {
         Ok(sheet) => sheet,
+        Err(Memory) => return Err(Fault::Memory),
+    };
+    let mut tables = match blank_tables(alloc, p) {
+        Ok(tables) => tables,
         Err(Memory) => return Err(Fault::Memory),
     };
     let mut sealer = Sealer::new(keys, 1);

@@ -1,5 +1,5 @@
 -- A work that falls, or doesn't.
-use Rattle.std.proofs.Common.{◌≡◌, ℕ, zero, suc, ◌+◌, ◌-◌, ◌<◌, Bool, true, false, if◌then◌else◌, List, [], ◌∷◌, ◌++◌, length, map, take, drop, set, get_or, Option, None, Some, refl, sym, ap, ◌∙◌, arith}
+use Rattle.std.proofs.Common.{◌≡◌, ℕ, zero, suc, ◌+◌, ◌<◌, Bool, true, false, if◌then◌else◌, List, [], ◌∷◌, ◌++◌, length, map, take, drop, set, get_or, Option, None, Some, refl, sym, ap, ◌∙◌, arith}
 use Rattle.ob_order.specs.Works.{Work, is_going, edit, fall, fall_to, end_work, stop_work}
 use Rattle.ob_order.specs.declared.fate.Fate.TheVariants.{Ended, Fell}
 use Rattle.ob_order.proofs.Tidies.{edit_set, fall_idle}

@@ -4,3 +4,5 @@ pub mod Top
 pub mod Asks
 pub mod Passed
 pub mod Operands
+pub mod Named
+pub mod Numbers

@@ -1,9 +1,9 @@
 //! The command line, as its parser is told.
 
 ghost use Rattle.std.specs.Prelude.{◌≡◌, IfOk, false, map};
-ghost use Rattle.clap.specs.Words.{app_of, with_rule};
+ghost use Rattle.clap.specs.Words.{app_of, with_rule, with_subcommand};
 ghost use Rattle.clap.specs.declared.Command.TheViews.{out-Command};
-ghost use Rattle.ob_words.specs.Commands.{operand, option, flag, with_rules, format_app, run_app, audit_app, bare_app, program};
+ghost use Rattle.ob_words.specs.Commands.{operand, option, flag, with_rules, format_shape, run_shape, format_app, run_app, audit_app, bare_app, program};
 
 use clap::{Arg, ArgAction, Command};
 use std::alloc::{AllocError, Global};
@@ -109,6 +109,21 @@ fn bare_program<'a>(alloc: Global) -> Command<'a>
         .subcommand_required(true)
 }
 
+// The program with `format`.
+fn with_format<'a>(alloc: Global, command: Command<'a>) -> Result<Command<'a>, AllocError>
+    ensures { IfOk result (λ c. app_of c
+        ≡ with_subcommand (app_of command.entry) format_shape) }
+{
+    command.subcommand(format_command(alloc)?)
+}
+
+// The program with `run`.
+fn with_run<'a>(alloc: Global, command: Command<'a>) -> Result<Command<'a>, AllocError>
+    ensures { IfOk result (λ c. app_of c ≡ with_subcommand (app_of command.entry) run_shape) }
+{
+    command.subcommand(run_command(alloc)?)
+}
+
 /// The program, whose first word names a command. No word asks for help.
 ///
 /// # Errors
@@ -116,8 +131,7 @@ fn bare_program<'a>(alloc: Global) -> Command<'a>
 pub fn program_command<'a>(alloc: Global) -> Result<Command<'a>, AllocError>
     ensures app { IfOk result (λ c. app_of c ≡ program) }
 {
-    let command = bare_program(alloc);
-    let command = command.subcommand(format_command(alloc)?)?;
-    let command = command.subcommand(run_command(alloc)?)?;
+    let command = with_format(alloc, bare_program(alloc))?;
+    let command = with_run(alloc, command)?;
     command.subcommand(audit_command(alloc))
 }

@@ -12,7 +12,7 @@ use ob_base::Fault;
 use std::alloc::Global;
 
 /// What the words ask for: each operand as it stands, and each option's value where it was given.
-#[derive(Clone, Copy, PartialEq, Eq)]
+#[derive(Clone, Copy)]
 pub enum Request<'a> {
     /// An empty store in the file `store`, under the keys in the file `keys`, of nine numbers.
     Format {
@@ -41,7 +41,7 @@ pub enum Request<'a> {
 }
 
 /// Why the words weren't read.
-#[derive(Clone, Copy, Debug, PartialEq, Eq)]
+#[derive(Clone, Copy)]
 pub enum WordsErr {
     /// Memory was wanting.
     Memory,
@@ -142,7 +142,8 @@ pub fn read_words<'a>(alloc: Global, words: &'a [&'a str]) -> Result<Request<'a>
         ≡ Some (asked_of r))
         (λ e. (e ≡ WordsErr.Memory)
         ⊎ ((e ≡ WordsErr.Usage) × (asked_by (map (λ w. w.now) words.entry.now) ≡ None))) }
-    // The parse's own list of faults is empty where they are read, and isn't where they are refused.
+    // The parse's own list of faults is empty where they are read, and isn't where they are
+    // refused.
     ensures faults { MatchResult result (λ r. fault_of program (map (λ w. w.now) words.entry.now)
         ≡ [])
         (λ e. (e ≡ WordsErr.Memory) ⊎ (fault_of program (map (λ w. w.now) words.entry.now) ≢ [])) }

@@ -135,6 +135,6 @@ fn other_words_are_refused(rt: HostRuntime) -> Result<(), Fail> {
 
 #[test]
 fn no_words_are_refused(rt: HostRuntime) -> Result<(), Fail> {
-    assert!(rt; read_words(rt.alloc(), &[]) == Err(WordsErr::Usage));
+    assert!(rt; matches!(read_words(rt.alloc(), &[]), Err(WordsErr::Usage)));
     Ok(())
 }

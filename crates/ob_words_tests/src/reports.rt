@@ -200,7 +200,8 @@ fn many_puts(alloc: Global, puts: u32) -> Result<EpochRecord<Key>, AllocError> {
 #[test]
 fn a_report_is_written_in_pages(rt: HostRuntime) -> Result<(), Fail> {
     let alloc = rt.alloc();
-    // 33 bytes of the first two lines, and 71 of each put: calls of 4,096 bytes, and one of the rest.
+    // 33 bytes of the first two lines, and 71 of each put: calls of 4,096 bytes, and one of the
+    // rest.
     for (puts, bytes, calls) in [(0, 33, 1), (57, 4080, 1), (58, 4151, 2), (115, 8198, 3)] {
         let record = many_puts(alloc, puts)?;
         let mut whole = MemSink::new(alloc, 10_000, [calls].to_vec(alloc)?)?;

@@ -125,11 +125,13 @@ module _ (clients : List ℕ) (beat : BeatKind) where
     records_are = a.records_are;
   }
 
-  client_entry : (e : Entry Steps) (entries : List (Entry Steps)) (driven : List Act) (i : ℕ) (x z : DeskState) → e.by ≡ suc i → Leads x (calls_in (e ∷ [])) z → IsSaidBy clients i (noted_calls e.calls) ⊎ IsNobodys clients i (noted_calls e.calls) → Acts clients beat entries driven → Acts clients beat (e ∷ entries) driven
+  client_entry : (e : Entry Steps) (entries : List (Entry Steps)) (driven : List Act) (i : ℕ) (x z : DeskState) → e.by ≡ suc i → Leads x (calls_in (e ∷ [])) z → IsSaidBy clients i (noted_calls e.calls) ⊎ IsNobodys clients i (noted_calls e.calls) → Acts clients
+      beat entries driven → Acts clients beat (e ∷ entries) driven
   client_entry e entries driven i x z by leads (inr none) a = none_then e entries driven i by (none.0, one_entry e ∙ none.1) a
   client_entry e entries driven i x z by leads (inl said) a = client_then e entries driven i x z by leads (subst (IsSaidBy clients i) (sym (one_entry e)) said) a
 
-  entry_then : (e : Entry Steps) (entries : List (Entry Steps)) (x z : DeskState) (by : ℕ) → e.by ≡ by → (b : Bool) → (0 == e.by) ≡ b → client_numbers x ≡ clients → Calls IsTurn e.by x e.calls z → (driven : List Act) → AreActs (if b then e ∷ entries_of 0 entries else entries_of 0 entries) driven → All (IsAllowed beat) driven
+  entry_then : (e : Entry Steps) (entries : List (Entry Steps)) (x z : DeskState) (by : ℕ) → e.by ≡ by → (b : Bool) → (0 == e.by) ≡ b → client_numbers x ≡ clients → Calls IsTurn e.by x e.calls z → (driven : List Act) → AreActs
+      (if b then e ∷ entries_of 0 entries else entries_of 0 entries) driven → All (IsAllowed beat) driven
       → ((more : List Act) → AreActs (entries_of 0 entries) more → All (IsAllowed beat) more → Acts clients beat entries more) → Acts clients beat (e ∷ entries) driven
   entry_then e entries x z by is true same numbers turn driven (these, more, are, one, calls_are, behind) allowed on =
       driver_then e entries these more driven (sym (eqb-true 0 e.by same)) are one calls_are allowed (on more behind (back_all (IsAllowed beat) these more (subst (All (IsAllowed beat)) are allowed)))
@@ -152,7 +154,8 @@ module _ {V : Type 0} (k : Kind V) (clients : List ℕ) where
     holds = more.holds;
   }
 
-  entry_serves : (e : Entry Steps) (x z : DeskState) (v w : V) (notes : List Note) (m : Map nat_cmp) (mine these : List Act) (by : ℕ) → IsEntryOf clients by (calls_in (e ∷ [])) mine these → e.by ≡ by → client_numbers x ≡ clients → Calls IsTurn e.by x e.calls z → AllNoted k v (calls mine) notes w → HoldsMap k v m
+  entry_serves : (e : Entry Steps) (x z : DeskState) (v w : V) (notes : List Note) (m : Map nat_cmp) (mine these : List Act) (by : ℕ) → IsEntryOf clients by (calls_in (e ∷ [])) mine these → e.by ≡ by → client_numbers x ≡ clients → Calls IsTurn e.by x e.calls z
+      → AllNoted k v (calls mine) notes w → HoldsMap k v m
       → Serves k m x (history these) z w
   entry_serves e x z v w notes m mine these zero (one, calls_are, same) is numbers turn chain held =
       subst (λ (acts : List Act). Serves k m x (history acts) z w) (sym same)
@@ -187,7 +190,8 @@ module _ {V : Type 0} (k : Kind V) (clients : List ℕ) where
 
 -- ---- the law
 
-pub histories_weave : {V : Type 0} (k : Kind V) (beat : BeatKind) (opened d : DeskState) (log : List (Entry Steps)) (old new : V) (driven : List Act) (notes : List Note) → IsNew opened → LeadsByTurns IsTurn opened log d → AreActs (entries_of 0 log) driven → All (IsAllowed beat) driven → AllNoted k old (calls driven) notes new
+pub histories_weave : {V : Type 0} (k : Kind V) (beat : BeatKind) (opened d : DeskState) (log : List (Entry Steps)) (old new : V) (driven : List Act) (notes : List Note) → IsNew opened → LeadsByTurns IsTurn opened log d → AreActs (entries_of 0 log) driven →
+    All (IsAllowed beat) driven → AllNoted k old (calls driven) notes new
     → Woven k beat opened d log old new driven
 histories_weave {V} k beat opened d log old new driven notes fresh leads are allowed chain = record {
   acts = a.acts;

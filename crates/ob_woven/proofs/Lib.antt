@@ -1,3 +1,12 @@
 pub mod Chains
 pub mod Serving
 pub mod Entries
+pub mod Shapes
+pub mod Stops
+pub mod Cutting
+pub mod Forestalling
+pub mod Unended
+pub mod Failing
+pub mod Quiet
+pub mod Over
+pub mod Idle

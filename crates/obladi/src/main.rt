@@ -1,4 +1,5 @@
-//! The program: its words, its keys and store, standard input and standard output go to the top call.
+//! The program: its words, its keys and store, standard input and standard output go to the top
+//! call.
 #![tactic(auto)]
 
 use ob_base::{Fault, Memory};
@@ -6,7 +7,8 @@ use ob_desk::Eager;
 use ob_file::{FileStore, OpenErr, open_locked};
 use ob_io::{ReadErr, Sink, StdSink, StdSource, read_all};
 use ob_tape::ChaChaTape;
-use ob_top::{Paths, finish, obladi, store_wanted, tape_key};
+use ob_top::{finish, obladi};
+use ob_words::{Paths, store_wanted, tape_key};
 use std::alloc::{AllocGlobal, Global};
 use std::fs::File;
 use std::io::ErrorKind;
@@ -35,17 +37,17 @@ fn texts_of(alloc: Global, words: &[String]) -> Result<Vec<&str>, Memory> {
     Ok(texts)
 }
 
-// The files that the words name, each locked as long as these live: the key file against writers, and
-// the store against all.
+// The files that the words name, each locked as long as these live: the key file against writers,
+// and the store against all.
 #[derive(Drop)]
 struct Opened<'a> {
     keys: Option<File>,
     store: Option<FileStore<&'a HostRuntime>>,
 }
 
-// Opens and locks the files of these paths, before anything is read or written: none where the words
-// call for none, or where it can't be had. Where the two are one file the key file's lock refuses the
-// store. Without a key file no store is opened or made.
+// Opens and locks the files of these paths, before anything is read or written: none where the
+// words call for none, or where it can't be had. Where the two are one file the key file's lock
+// refuses the store. Without a key file no store is opened or made.
 fn open_files<'a>(rt: &'a HostRuntime, paths: &Paths) -> Result<Opened<'a>, Fault> {
     let mut opened = Opened {
         keys: None,
@@ -66,8 +68,8 @@ fn open_files<'a>(rt: &'a HostRuntime, paths: &Paths) -> Result<Opened<'a>, Faul
     Ok(opened)
 }
 
-// The text of a key file, up to a byte more than keys may have: none where there is no file, or where
-// it can't be read.
+// The text of a key file, up to a byte more than keys may have: none where there is no file, or
+// where it can't be read.
 fn read_keys(rt: &HostRuntime, file: Option<&File>) -> Result<Option<Vec<u8>>, Fault> {
     let Some(file) = file else {
         return Ok(None);
@@ -79,8 +81,8 @@ fn read_keys(rt: &HostRuntime, file: Option<&File>) -> Result<Option<Vec<u8>>, F
     }
 }
 
-// Takes those of the descriptors 0 to 2 that were handed over closed, so that no file that is opened
-// later is one of them: an input so taken is empty, and an output refuses what is written.
+// Takes those of the descriptors 0 to 2 that were handed over closed, so that no file that is
+// opened later is one of them: an input so taken is empty, and an output refuses what is written.
 fn hold_standard(rt: &HostRuntime) -> Result<[File; 3], Fault> {
     let open = || File::open(rt, "/dev/null");
     match (open(), open(), open()) {

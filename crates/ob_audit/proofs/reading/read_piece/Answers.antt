@@ -10,3 +10,48 @@ returns-in-Ok-finish-clause-read g c = λ bytes h.
 pub returns-in-Ok-take_piece-clause-read : goal.returns-in-Ok-take_piece-clause-read
 returns-in-Ok-take_piece-clause-read g c = λ bytes h.
     piece_told c.in-Ok-take_piece.answer c.args.limit bytes _ (g.I.Source.left c.args.source.now) (g.I.Source.left c.read.new.self) _ c.in-Ok.ensures.bytes (c.in-Ok-take_piece.ensures.read bytes h)
+
+pub returns-in-Err-clause-within : goal.returns-in-Err-clause-within
+returns-in-Err-clause-within g c = tt
+
+pub returns-in-Err-clause-few : goal.returns-in-Err-clause-few
+returns-in-Err-clause-few g c = tt
+
+pub returns-in-Err-clause-seen : goal.returns-in-Err-clause-seen
+returns-in-Err-clause-seen g c = tt
+
+pub returns-in-Err-clause-more : goal.returns-in-Err-clause-more
+returns-in-Err-clause-more g c = tt
+
+pub returns-in-Err-clause-read : goal.returns-in-Err-clause-read
+returns-in-Err-clause-read g c = λ bytes h. tt
+
+pub returns-in-Err-finish-clause-within : goal.returns-in-Err-finish-clause-within
+returns-in-Err-finish-clause-within g c = tt
+
+pub returns-in-Err-finish-clause-few : goal.returns-in-Err-finish-clause-few
+returns-in-Err-finish-clause-few g c = tt
+
+pub returns-in-Err-finish-clause-seen : goal.returns-in-Err-finish-clause-seen
+returns-in-Err-finish-clause-seen g c = tt
+
+pub returns-in-Err-finish-clause-more : goal.returns-in-Err-finish-clause-more
+returns-in-Err-finish-clause-more g c = tt
+
+pub returns-in-Err-finish-clause-read : goal.returns-in-Err-finish-clause-read
+returns-in-Err-finish-clause-read g c = λ bytes h. tt
+
+pub returns-in-Err-take_piece-clause-within : goal.returns-in-Err-take_piece-clause-within
+returns-in-Err-take_piece-clause-within g c = tt
+
+pub returns-in-Err-take_piece-clause-few : goal.returns-in-Err-take_piece-clause-few
+returns-in-Err-take_piece-clause-few g c = tt
+
+pub returns-in-Err-take_piece-clause-seen : goal.returns-in-Err-take_piece-clause-seen
+returns-in-Err-take_piece-clause-seen g c = tt
+
+pub returns-in-Err-take_piece-clause-more : goal.returns-in-Err-take_piece-clause-more
+returns-in-Err-take_piece-clause-more g c = tt
+
+pub returns-in-Err-take_piece-clause-read : goal.returns-in-Err-take_piece-clause-read
+returns-in-Err-take_piece-clause-read g c = λ bytes h. tt

@@ -1,7 +1,7 @@
 use Rattle.std.proofs.Common.{arith, sym, subst, ap}
 use Rattle.ob_bucket.specs.Buckets.{Buckets}
 use Rattle.ob_tables.specs.Kept.{Held}
-use Rattle.ob_content.specs.Content.{Content, Obeys}
+use Rattle.ob_tables.specs.Content.{Content, Obeys}
 use Rattle.ob_check.proofs.PlaceLaws.{numbers_within}
 use Rattle.ob_check.proofs.ContentReads.{kept_of, spelled_in, obeys}
 use Rattle.ob_check.proofs.BuildLaws.{told_content}

@@ -9,6 +9,8 @@ use Rattle.ob_check.specs.ReadBack.{IsRefused, IsCheckRead, IsCheckReadFault}
 use Rattle.ob_check.specs.Written.{area_of}
 use Rattle.ob_check.proofs.PlaceLaws.{some_cell}
 use Rattle.ob_check.proofs.ReadLaws.{many_of, front_long, opened_to, told_all, fault_of_run, does_run, refused_fault, refused_does}
+use Rattle.ob_store.specs.Calls.{IsStoreFault}
+use Rattle.ob_store.proofs.Serving.{serves_err, serves_ok}
 use Rattle.ob_check.proofs.reading.read_into.Goals as goal
 
 pub read-requires-clause-some : goal.read-requires-clause-some
@@ -79,3 +81,18 @@ returns-in-Err-clause-faults g c =
 pub returns-in-Err-clause-does : goal.returns-in-Err-clause-does
 returns-in-Err-clause-does g c =
     does_run c.args.p.now c.args.epoch c.area_of-base.result (length c.args.sheet.now / 96) _ _ _ _ c.area_of-base.ensures.cell (many_of c.args.p.now (length c.args.sheet.now) c.requires.sheet) c.in-Err.fault c.in-Err.ensures.run.does
+
+-- ---- what each of them says of the store
+
+pub returns-in-Err-clause-serves : goal.returns-in-Err-clause-serves
+returns-in-Err-clause-serves g c = serves_err IsStoreFault IsStoreFault _ _ c.in-Err.fault c.in-Err.fault (λ f. f) c.in-Err.ensures.serves
+
+pub returns-in-Ok-accept-clause-serves : goal.returns-in-Ok-accept-clause-serves
+returns-in-Ok-accept-clause-serves g c =
+    let read = c.read.ensures.serves in
+    serves_ok IsStoreFault _ _ _ read.goes read.out c.in-Ok.ensures.serves.tells
+
+pub returns-in-Err-accept-clause-serves : goal.returns-in-Err-accept-clause-serves
+returns-in-Err-accept-clause-serves g c =
+    let read = c.read.ensures.serves in
+    record { goes = read.goes; out = read.out; tells = tt; cause = λ blamed. absurd (subst IsStoreFault c.from.ensures blamed) }

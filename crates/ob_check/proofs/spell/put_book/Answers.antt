@@ -1,7 +1,7 @@
 use Rattle.std.proofs.Common.{None, arith, ap, ◌∙◌, List, ℕ}
 use Rattle.ob_base.specs.LittleEndian.{with_part}
-use Rattle.ob_content.specs.Spelling.{entry_bytes}
-use Rattle.ob_content.proofs.TextLaws.{entry_width}
+use Rattle.ob_tables.specs.Spelling.{entry_bytes}
+use Rattle.ob_tables.proofs.TextLaws.{entry_width}
 use Rattle.ob_check.proofs.SpellLaws.{items_more}
 use Rattle.ob_check.proofs.spell.put_book.Goals as goal
 

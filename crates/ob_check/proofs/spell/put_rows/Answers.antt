@@ -1,8 +1,8 @@
 use Rattle.std.proofs.Common.{◌<◌, [], arith, ap, ◌∙◌, List, ℕ, length, get_or}
 use Rattle.std.specs.FinMap as finite
 use Rattle.ob_base.specs.LittleEndian.{with_part}
-use Rattle.ob_content.specs.Spelling.{row_bytes}
-use Rattle.ob_content.proofs.TextLaws.{row_width, row_is_of}
+use Rattle.ob_tables.specs.Spelling.{row_bytes}
+use Rattle.ob_tables.proofs.TextLaws.{row_width, row_is_of}
 use Rattle.ob_check.specs.Fields.{row_place}
 use Rattle.ob_check.proofs.SpellLaws.{items_more, items_all}
 use Rattle.ob_check.proofs.spell.put_rows.Goals as goal

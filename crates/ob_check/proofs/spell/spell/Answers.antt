@@ -1,7 +1,7 @@
 use Rattle.std.proofs.Common.{◌∙◌, ap, arith}
 use Rattle.std.specs.Int.{w32, to_le_bytes}
 use Rattle.ob_base.specs.LittleEndian.{with_part}
-use Rattle.ob_content.specs.Content.{content_of}
+use Rattle.ob_tables.specs.Content.{content_of}
 use Rattle.std.specs.Prelude.{replicate}
 use Rattle.ob_check.specs.Fields.{count_place}
 use Rattle.ob_check.proofs.PlaceLaws.{numbers_within}

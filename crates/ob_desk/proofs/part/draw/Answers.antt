@@ -1,4 +1,4 @@
-use Rattle.std.proofs.Common.{ℕ, ◌+◌, ◌∷◌, [], ◌++◌, List, filter, sym, ap, ◌∙◌, subst}
+use Rattle.std.proofs.Common.{ℕ, ◌∷◌, [], ◌++◌, List, filter, sym, ap, ◌∙◌, subst}
 use Rattle.ob_order.specs.OrderModel.{OrderModel}
 use Rattle.ob_order.specs.Works.{goes_on}
 use Rattle.ob_desk.specs.Parts.{HasGoing}

@@ -26,7 +26,8 @@ loop-preserved g c =
       anchors = e.anchors ∙ i.anchors;
       hands = c.step_all-ran.ensures.ready;
       done = done_more _ _ c.args.hall.now _ _ _ _ _ _ _ i.done _ c.in-Ok.round e.acted
-          (rounds_more (g.H.Hands.round c.args.hall.now) c.args.hands.now c.loop.hands c.step_all-ran.new.self c.args.pass.now c.loop.pass c.look_once.new.pass i.done.acts e.acted.acts c.loop.turns c.step_all-ran.new.turns c.look_once.new.turns i.done.also.0 i.done.also.1 c.step_all-ran.ensures.round e.stand
+          (rounds_more (g.H.Hands.round c.args.hall.now) c.args.hands.now c.loop.hands c.step_all-ran.new.self c.args.pass.now c.loop.pass c.look_once.new.pass i.done.acts e.acted.acts c.loop.turns c.step_all-ran.new.turns c.look_once.new.turns i.done.also.0
+          i.done.also.1 c.step_all-ran.ensures.round e.stand
           e.acted.one did.turns did.are did.made);
     }
 
@@ -36,7 +37,8 @@ returns-in-Err-clause-failed g c =
     let e = c.in-Err.ensures in
     let did = e.failed.fails.acts_are in
     fails_behind _ _ c.args.hall.now _ _ _ _ _ _ _ i.done c.in-Err.fault e.failed
-    (rounds_more (g.H.Hands.round c.args.hall.now) c.args.hands.now c.loop.hands c.step_all-ran.new.self c.args.pass.now c.loop.pass c.look_once.new.pass i.done.acts e.failed.acts c.loop.turns c.step_all-ran.new.turns c.look_once.new.turns i.done.also.0 i.done.also.1 c.step_all-ran.ensures.round e.stand
+    (rounds_more (g.H.Hands.round c.args.hall.now) c.args.hands.now c.loop.hands c.step_all-ran.new.self c.args.pass.now c.loop.pass c.look_once.new.pass i.done.acts e.failed.acts c.loop.turns c.step_all-ran.new.turns c.look_once.new.turns i.done.also.0
+    i.done.also.1 c.step_all-ran.ensures.round e.stand
     e.failed.one did.turns did.are did.made).0
 
 pub returns-then-is_over-clause-done : goal.returns-then-is_over-clause-done
@@ -45,7 +47,8 @@ returns-then-is_over-clause-done g c =
     let e = c.in-Ok.ensures in
     let did = e.acted.done.acts_are in
     done_more _ _ c.args.hall.now _ _ _ _ _ _ _ i.done _ c.in-Ok.round e.acted
-    (rounds_more (g.H.Hands.round c.args.hall.now) c.args.hands.now c.loop.hands c.step_all-ran.new.self c.args.pass.now c.loop.pass c.look_once.new.pass i.done.acts e.acted.acts c.loop.turns c.step_all-ran.new.turns c.look_once.new.turns i.done.also.0 i.done.also.1 c.step_all-ran.ensures.round e.stand
+    (rounds_more (g.H.Hands.round c.args.hall.now) c.args.hands.now c.loop.hands c.step_all-ran.new.self c.args.pass.now c.loop.pass c.look_once.new.pass i.done.acts e.acted.acts c.loop.turns c.step_all-ran.new.turns c.look_once.new.turns i.done.also.0
+    i.done.also.1 c.step_all-ran.ensures.round e.stand
     e.acted.one did.turns did.are did.made).0
 
 pub returns-then-is_over-clause-over : goal.returns-then-is_over-clause-over

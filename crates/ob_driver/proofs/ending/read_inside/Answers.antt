@@ -26,12 +26,16 @@ pub read_batch-requires-clause-room : goal.read_batch-requires-clause-room
 read_batch-requires-clause-room g c = c.requires.room ∙ sym (ap (λ (p : Params). p.places) c.requires.params)
 
 pub deliver_batch-requires : goal.deliver_batch-requires
-deliver_batch-requires g c = record { may = may_deliver (params_of c.args.hall.now) c.args.desk.now c.take_batch.new.desk (g.V.Vault.counts c.args.vault.now) c.take_batch.new.asks.items c.read_batch.new.found.items c.requires.ready c.take_batch.ensures.taken (c.read_batch.ensures.room ∙ (c.requires.room ∙ sym (c.take_batch.ensures.places ∙ c.requires.places))) }
+deliver_batch-requires g c = record {
+  may = may_deliver (params_of c.args.hall.now) c.args.desk.now c.take_batch.new.desk (g.V.Vault.counts c.args.vault.now) c.take_batch.new.asks.items c.read_batch.new.found.items c.requires.ready c.take_batch.ensures.taken
+      (c.read_batch.ensures.room ∙ (c.requires.room ∙ sym (c.take_batch.ensures.places ∙ c.requires.places)));
+}
 
 pub returns-in-Err-clause-refused : goal.returns-in-Err-clause-refused
 returns-in-Err-clause-refused g c =
     refuses_one (kind_of g.V.Vault) c.args.hall.now c.args.pass.now c.note.new.pass c.note.new.pass c.args.desk.now c.take_batch.new.desk c.take_batch.new.desk c.args.vault.now c.read_batch.new.vault (g.W.Watch.trace c.args.watch.now) (g.W.Watch.trace c.read_batch.new.watch)
-    (g.V.Vault.counts c.args.vault.now) c.take_batch.new.asks.items c.requires.turn c.requires.ready c.requires.some_left c.take_batch.ensures.taken (rw c.of-batch.ensures at c.note.ensures.noted) c.note.ensures.own c.in-Err.fault c.in-Err.ensures.called c.in-Err.ensures.faults c.in-Err.ensures.cause
+    (g.V.Vault.counts c.args.vault.now) c.take_batch.new.asks.items c.requires.turn c.requires.ready c.requires.some_left c.take_batch.ensures.taken (rw c.of-batch.ensures at c.note.ensures.noted) c.note.ensures.own c.in-Err.fault c.in-Err.ensures.called
+    c.in-Err.ensures.faults c.in-Err.ensures.cause
 
 pub returns-clause-read : goal.returns-clause-read
 returns-clause-read g c = (

@@ -16,7 +16,11 @@ leave-requires-clause-desk g c =
 
 pub returns-in-Some-clause-failed : goal.returns-in-Some-clause-failed
 returns-in-Some-clause-failed g c =
-    halted_once (kind_of g.V.Vault) (beat_kind g.B.Beat.passes g.B.Beat.exact) c.args.hall.now c.args.pass.now c.leave.new.pass c.args.vault.now (g.W.Watch.trace c.args.watch.now) (outflow g.O.Sink c.args.output.now) (g.V.Vault.counts c.args.vault.now) c.in-Some.found (found_turn c.args.hall.now c.args.pass.now c.enter_behind-desk.new.pass c.enter_behind-desk.result.0 (g.V.Vault.counts c.args.vault.now) c.requires.rests.at c.enter_behind-desk.ensures.own c.enter_behind-desk.ensures.entered c.leave.new.pass (Some c.in-Some.found) c.leave.ensures.left) (c.leave.ensures.left.beside.ear ∙ c.enter_behind-desk.ensures.entered.beside.ear) c.leave.ensures.own c.leave.ensures.idle (stop_memory (params_of c.args.hall.now) c.enter_behind-desk.result.0 (g.V.Vault.counts c.args.vault.now) c.in-Some.found (ready_in c.args.hall.now c.args.pass.now c.enter_behind-desk.new.pass c.enter_behind-desk.result.0 (g.V.Vault.counts c.args.vault.now) c.requires.rests.at c.enter_behind-desk.ensures.entered) (sym c.in-Some.is ∙ c.stopped-fault.ensures.0))
+    halted_once (kind_of g.V.Vault) (beat_kind g.B.Beat.passes g.B.Beat.exact) c.args.hall.now c.args.pass.now c.leave.new.pass c.args.vault.now (g.W.Watch.trace c.args.watch.now) (outflow g.O.Sink c.args.output.now) (g.V.Vault.counts c.args.vault.now)
+    c.in-Some.found (found_turn c.args.hall.now c.args.pass.now c.enter_behind-desk.new.pass c.enter_behind-desk.result.0 (g.V.Vault.counts c.args.vault.now) c.requires.rests.at c.enter_behind-desk.ensures.own c.enter_behind-desk.ensures.entered
+    c.leave.new.pass (Some c.in-Some.found) c.leave.ensures.left) (c.leave.ensures.left.beside.ear ∙ c.enter_behind-desk.ensures.entered.beside.ear) c.leave.ensures.own c.leave.ensures.idle
+    (stop_memory (params_of c.args.hall.now) c.enter_behind-desk.result.0 (g.V.Vault.counts c.args.vault.now) c.in-Some.found
+    (ready_in c.args.hall.now c.args.pass.now c.enter_behind-desk.new.pass c.enter_behind-desk.result.0 (g.V.Vault.counts c.args.vault.now) c.requires.rests.at c.enter_behind-desk.ensures.entered) (sym c.in-Some.is ∙ c.stopped-fault.ensures.0))
 
 pub look-look-requires : goal.look-look-requires
 look-look-requires g c =
@@ -24,51 +28,99 @@ look-look-requires g c =
 
 pub leave-requires-in-Over-clause-desk : goal.leave-requires-in-Over-clause-desk
 leave-requires-in-Over-clause-desk g c =
-    looks_lead c.args.hall.now c.args.pass.now c.enter_behind-desk.new.pass c.enter_behind-desk.result.0 (g.V.Vault.counts c.args.vault.now) c.requires.rests.at c.enter_behind-desk.ensures.own c.enter_behind-desk.ensures.entered c.note.new.pass c.look-look.result (sym c.in_default.is ∙ c.stopped-fault.ensures.0) (rw c.in_default.is at c.note.ensures.noted) c.note.ensures.own c.look-look.ensures.0
+    looks_lead c.args.hall.now c.args.pass.now c.enter_behind-desk.new.pass c.enter_behind-desk.result.0 (g.V.Vault.counts c.args.vault.now) c.requires.rests.at c.enter_behind-desk.ensures.own c.enter_behind-desk.ensures.entered c.note.new.pass
+    c.look-look.result (sym c.in_default.is ∙ c.stopped-fault.ensures.0) (rw c.in_default.is at c.note.ensures.noted) c.note.ensures.own c.look-look.ensures.0
 
 pub leave-requires-in-Rest-clause-desk : goal.leave-requires-in-Rest-clause-desk
 leave-requires-in-Rest-clause-desk g c =
-    looks_lead c.args.hall.now c.args.pass.now c.enter_behind-desk.new.pass c.enter_behind-desk.result.0 (g.V.Vault.counts c.args.vault.now) c.requires.rests.at c.enter_behind-desk.ensures.own c.enter_behind-desk.ensures.entered c.note.new.pass c.look-look.result (sym c.in_default.is ∙ c.stopped-fault.ensures.0) (rw c.in_default.is at c.note.ensures.noted) c.note.ensures.own c.look-look.ensures.0
+    looks_lead c.args.hall.now c.args.pass.now c.enter_behind-desk.new.pass c.enter_behind-desk.result.0 (g.V.Vault.counts c.args.vault.now) c.requires.rests.at c.enter_behind-desk.ensures.own c.enter_behind-desk.ensures.entered c.note.new.pass
+    c.look-look.result (sym c.in_default.is ∙ c.stopped-fault.ensures.0) (rw c.in_default.is at c.note.ensures.noted) c.note.ensures.own c.look-look.ensures.0
 
 pub fetch-requires-clause-looking : goal.fetch-requires-clause-looking
 fetch-requires-clause-looking g c =
-    is_looking c.args.hall.now c.args.pass.now c.enter_behind-desk.new.pass c.enter_behind-desk.result.0 (g.V.Vault.counts c.args.vault.now) c.requires.rests.at c.enter_behind-desk.ensures.own c.enter_behind-desk.ensures.entered c.note.new.pass c.look-look.result (sym c.in_default.is ∙ c.stopped-fault.ensures.0) (rw c.in_default.is at c.note.ensures.noted) c.note.ensures.own c.note-in-Fetch.new.pass c.look-look.ensures.0 c.note-in-Fetch.ensures.noted c.note-in-Fetch.ensures.own
+    is_looking c.args.hall.now c.args.pass.now c.enter_behind-desk.new.pass c.enter_behind-desk.result.0 (g.V.Vault.counts c.args.vault.now) c.requires.rests.at c.enter_behind-desk.ensures.own c.enter_behind-desk.ensures.entered c.note.new.pass
+    c.look-look.result (sym c.in_default.is ∙ c.stopped-fault.ensures.0) (rw c.in_default.is at c.note.ensures.noted) c.note.ensures.own c.note-in-Fetch.new.pass c.look-look.ensures.0 c.note-in-Fetch.ensures.noted c.note-in-Fetch.ensures.own
 
 pub end_and_tell-requires-clause-looking : goal.end_and_tell-requires-clause-looking
 end_and_tell-requires-clause-looking g c =
-    is_looking c.args.hall.now c.args.pass.now c.enter_behind-desk.new.pass c.enter_behind-desk.result.0 (g.V.Vault.counts c.args.vault.now) c.requires.rests.at c.enter_behind-desk.ensures.own c.enter_behind-desk.ensures.entered c.note.new.pass c.look-look.result (sym c.in_default.is ∙ c.stopped-fault.ensures.0) (rw c.in_default.is at c.note.ensures.noted) c.note.ensures.own c.note-in-End.new.pass c.look-look.ensures.0 c.note-in-End.ensures.noted c.note-in-End.ensures.own
+    is_looking c.args.hall.now c.args.pass.now c.enter_behind-desk.new.pass c.enter_behind-desk.result.0 (g.V.Vault.counts c.args.vault.now) c.requires.rests.at c.enter_behind-desk.ensures.own c.enter_behind-desk.ensures.entered c.note.new.pass
+    c.look-look.result (sym c.in_default.is ∙ c.stopped-fault.ensures.0) (rw c.in_default.is at c.note.ensures.noted) c.note.ensures.own c.note-in-End.new.pass c.look-look.ensures.0 c.note-in-End.ensures.noted c.note-in-End.ensures.own
 
 pub fetch-requires-clause-some_left : goal.fetch-requires-clause-some_left
 fetch-requires-clause-some_left g c =
-    some_left (params_of c.args.hall.now) c.enter_behind-desk.result.0 (g.V.Vault.counts c.args.vault.now) c.look-look.result (ready_in c.args.hall.now c.args.pass.now c.enter_behind-desk.new.pass c.enter_behind-desk.result.0 (g.V.Vault.counts c.args.vault.now) c.requires.rests.at c.enter_behind-desk.ensures.entered) c.look-look.ensures.0 c.in-Fetch.ensures.may.1
+    some_left (params_of c.args.hall.now) c.enter_behind-desk.result.0 (g.V.Vault.counts c.args.vault.now) c.look-look.result
+    (ready_in c.args.hall.now c.args.pass.now c.enter_behind-desk.new.pass c.enter_behind-desk.result.0 (g.V.Vault.counts c.args.vault.now) c.requires.rests.at c.enter_behind-desk.ensures.entered) c.look-look.ensures.0 c.in-Fetch.ensures.may.1
 
 pub returns-in-Over-clause-acted : goal.returns-in-Over-clause-acted
 returns-in-Over-clause-acted g c =
-    rested_once (kind_of g.V.Vault) (beat_kind g.B.Beat.passes g.B.Beat.exact) c.args.hall.now c.args.pass.now c.leave-in-Over.new.pass c.args.vault.now (g.W.Watch.trace c.args.watch.now) (outflow g.O.Sink c.args.output.now) (g.V.Vault.counts c.args.vault.now) c.look-look.result c.requires.rests.at (looked_turn c.args.hall.now c.args.pass.now c.enter_behind-desk.new.pass c.enter_behind-desk.result.0 (g.V.Vault.counts c.args.vault.now) c.requires.rests.at c.enter_behind-desk.ensures.own c.enter_behind-desk.ensures.entered c.note.new.pass c.look-look.result (sym c.in_default.is ∙ c.stopped-fault.ensures.0) (rw c.in_default.is at c.note.ensures.noted) c.note.ensures.own c.leave-in-Over.new.pass c.leave-in-Over.ensures.left) (c.leave-in-Over.ensures.left.beside.ear ∙ (c.note.ensures.noted.beside.ear ∙ c.enter_behind-desk.ensures.entered.beside.ear)) c.leave-in-Over.ensures.own c.leave-in-Over.ensures.idle c.in-Over.ensures.may.0 rounds.Over (c.look-look.result, refl, c.in-Over.ensures.may.1)
+    rested_once (kind_of g.V.Vault) (beat_kind g.B.Beat.passes g.B.Beat.exact) c.args.hall.now c.args.pass.now c.leave-in-Over.new.pass c.args.vault.now (g.W.Watch.trace c.args.watch.now) (outflow g.O.Sink c.args.output.now) (g.V.Vault.counts c.args.vault.now)
+    c.look-look.result c.requires.rests.at (looked_turn c.args.hall.now c.args.pass.now c.enter_behind-desk.new.pass c.enter_behind-desk.result.0 (g.V.Vault.counts c.args.vault.now) c.requires.rests.at c.enter_behind-desk.ensures.own
+    c.enter_behind-desk.ensures.entered c.note.new.pass c.look-look.result (sym c.in_default.is ∙ c.stopped-fault.ensures.0) (rw c.in_default.is at c.note.ensures.noted) c.note.ensures.own c.leave-in-Over.new.pass c.leave-in-Over.ensures.left)
+    (c.leave-in-Over.ensures.left.beside.ear ∙ (c.note.ensures.noted.beside.ear ∙ c.enter_behind-desk.ensures.entered.beside.ear)) c.leave-in-Over.ensures.own c.leave-in-Over.ensures.idle c.in-Over.ensures.may.0 rounds.Over (c.look-look.result, refl, c.in-Over.ensures.may.1)
 
 pub returns-in-Rest-clause-acted : goal.returns-in-Rest-clause-acted
 returns-in-Rest-clause-acted g c =
-    rested_once (kind_of g.V.Vault) (beat_kind g.B.Beat.passes g.B.Beat.exact) c.args.hall.now c.args.pass.now c.leave-in-Rest.new.pass c.args.vault.now (g.W.Watch.trace c.args.watch.now) (outflow g.O.Sink c.args.output.now) (g.V.Vault.counts c.args.vault.now) c.look-look.result c.requires.rests.at (looked_turn c.args.hall.now c.args.pass.now c.enter_behind-desk.new.pass c.enter_behind-desk.result.0 (g.V.Vault.counts c.args.vault.now) c.requires.rests.at c.enter_behind-desk.ensures.own c.enter_behind-desk.ensures.entered c.note.new.pass c.look-look.result (sym c.in_default.is ∙ c.stopped-fault.ensures.0) (rw c.in_default.is at c.note.ensures.noted) c.note.ensures.own c.leave-in-Rest.new.pass c.leave-in-Rest.ensures.left) (c.leave-in-Rest.ensures.left.beside.ear ∙ (c.note.ensures.noted.beside.ear ∙ c.enter_behind-desk.ensures.entered.beside.ear)) c.leave-in-Rest.ensures.own c.leave-in-Rest.ensures.idle c.in-Rest.ensures.may.0 rounds.Rested (c.look-look.result, refl, c.in-Rest.ensures.may.1)
+    rested_once (kind_of g.V.Vault) (beat_kind g.B.Beat.passes g.B.Beat.exact) c.args.hall.now c.args.pass.now c.leave-in-Rest.new.pass c.args.vault.now (g.W.Watch.trace c.args.watch.now) (outflow g.O.Sink c.args.output.now) (g.V.Vault.counts c.args.vault.now)
+    c.look-look.result c.requires.rests.at (looked_turn c.args.hall.now c.args.pass.now c.enter_behind-desk.new.pass c.enter_behind-desk.result.0 (g.V.Vault.counts c.args.vault.now) c.requires.rests.at c.enter_behind-desk.ensures.own
+    c.enter_behind-desk.ensures.entered c.note.new.pass c.look-look.result (sym c.in_default.is ∙ c.stopped-fault.ensures.0) (rw c.in_default.is at c.note.ensures.noted) c.note.ensures.own c.leave-in-Rest.new.pass c.leave-in-Rest.ensures.left)
+    (c.leave-in-Rest.ensures.left.beside.ear ∙ (c.note.ensures.noted.beside.ear ∙ c.enter_behind-desk.ensures.entered.beside.ear)) c.leave-in-Rest.ensures.own c.leave-in-Rest.ensures.idle c.in-Rest.ensures.may.0 rounds.Rested (c.look-look.result, refl, c.in-Rest.ensures.may.1)
 
 pub returns-in-Over-clause-over : goal.returns-in-Over-clause-over
 returns-in-Over-clause-over g c =
-    λ is. over_at c.args.hall.now c.args.pass.now c.enter_behind-desk.new.pass c.enter_behind-desk.result.0 (g.V.Vault.counts c.args.vault.now) c.requires.rests.at c.enter_behind-desk.ensures.own c.enter_behind-desk.ensures.entered c.note.new.pass c.look-look.result (sym c.in_default.is ∙ c.stopped-fault.ensures.0) (rw c.in_default.is at c.note.ensures.noted) c.note.ensures.own c.leave-in-Over.new.pass c.leave-in-Over.ensures.left c.look-look.ensures.0 c.in-Over.ensures.may.1
+    λ is. over_at c.args.hall.now c.args.pass.now c.enter_behind-desk.new.pass c.enter_behind-desk.result.0 (g.V.Vault.counts c.args.vault.now) c.requires.rests.at c.enter_behind-desk.ensures.own c.enter_behind-desk.ensures.entered c.note.new.pass
+    c.look-look.result (sym c.in_default.is ∙ c.stopped-fault.ensures.0) (rw c.in_default.is at c.note.ensures.noted) c.note.ensures.own c.leave-in-Over.new.pass c.leave-in-Over.ensures.left c.look-look.ensures.0 c.in-Over.ensures.may.1
 
 pub returns-in-Ok-clause-acted : goal.returns-in-Ok-clause-acted
 returns-in-Ok-clause-acted g c =
-    done_from (kind_of g.V.Vault) (beat_kind g.B.Beat.passes g.B.Beat.exact) c.args.hall.now c.args.pass.now c.note-in-Fetch.new.pass c.args.vault.now (g.W.Watch.trace c.args.watch.now) (outflow g.O.Sink c.args.output.now) (g.V.Vault.counts c.args.vault.now) _ (g.V.Vault.counts c.fetch.new.vault) rounds.Acted (look_entries c.args.hall.now c.args.pass.now c.enter_behind-desk.new.pass c.enter_behind-desk.result.0 (g.V.Vault.counts c.args.vault.now) c.requires.rests.at c.enter_behind-desk.ensures.own c.enter_behind-desk.ensures.entered c.note.new.pass c.look-look.result (sym c.in_default.is ∙ c.stopped-fault.ensures.0) (rw c.in_default.is at c.note.ensures.noted) c.note.ensures.own c.note-in-Fetch.new.pass c.look-look.ensures.0 c.note-in-Fetch.ensures.noted c.note-in-Fetch.ensures.own) (look_raised c.args.hall.now c.args.pass.now c.enter_behind-desk.new.pass c.enter_behind-desk.result.0 (g.V.Vault.counts c.args.vault.now) c.requires.rests.at c.enter_behind-desk.ensures.own c.enter_behind-desk.ensures.entered c.note.new.pass c.look-look.result (sym c.in_default.is ∙ c.stopped-fault.ensures.0) (rw c.in_default.is at c.note.ensures.noted) c.note.ensures.own c.note-in-Fetch.new.pass c.look-look.ensures.0 c.note-in-Fetch.ensures.noted c.note-in-Fetch.ensures.own) (look_place c.args.hall.now c.args.pass.now c.enter_behind-desk.new.pass c.enter_behind-desk.result.0 (g.V.Vault.counts c.args.vault.now) c.requires.rests.at c.enter_behind-desk.ensures.own c.enter_behind-desk.ensures.entered c.note.new.pass c.look-look.result (sym c.in_default.is ∙ c.stopped-fault.ensures.0) (rw c.in_default.is at c.note.ensures.noted) c.note.ensures.own c.note-in-Fetch.new.pass c.look-look.ensures.0 c.note-in-Fetch.ensures.noted c.note-in-Fetch.ensures.own) (c.in-Ok.ensures.fetched (beat_kind g.B.Beat.passes g.B.Beat.exact) c.look-look.result (outflow g.O.Sink c.args.output.now) (look_noted c.args.hall.now c.args.pass.now c.enter_behind-desk.new.pass c.enter_behind-desk.result.0 (g.V.Vault.counts c.args.vault.now) c.requires.rests.at c.enter_behind-desk.ensures.own c.enter_behind-desk.ensures.entered c.note.new.pass c.look-look.result (sym c.in_default.is ∙ c.stopped-fault.ensures.0) (rw c.in_default.is at c.note.ensures.noted) c.note.ensures.own c.note-in-Fetch.new.pass c.look-look.ensures.0 c.note-in-Fetch.ensures.noted c.note-in-Fetch.ensures.own) c.in-Fetch.ensures.may.0 c.in-Fetch.ensures.may.1)
+    done_from (kind_of g.V.Vault) (beat_kind g.B.Beat.passes g.B.Beat.exact) c.args.hall.now c.args.pass.now c.note-in-Fetch.new.pass c.args.vault.now (g.W.Watch.trace c.args.watch.now) (outflow g.O.Sink c.args.output.now) (g.V.Vault.counts c.args.vault.now) _
+    (g.V.Vault.counts c.fetch.new.vault) rounds.Acted (look_entries c.args.hall.now c.args.pass.now c.enter_behind-desk.new.pass c.enter_behind-desk.result.0 (g.V.Vault.counts c.args.vault.now) c.requires.rests.at c.enter_behind-desk.ensures.own
+    c.enter_behind-desk.ensures.entered c.note.new.pass c.look-look.result (sym c.in_default.is ∙ c.stopped-fault.ensures.0) (rw c.in_default.is at c.note.ensures.noted) c.note.ensures.own c.note-in-Fetch.new.pass c.look-look.ensures.0
+    c.note-in-Fetch.ensures.noted c.note-in-Fetch.ensures.own) (look_raised c.args.hall.now c.args.pass.now c.enter_behind-desk.new.pass c.enter_behind-desk.result.0 (g.V.Vault.counts c.args.vault.now) c.requires.rests.at c.enter_behind-desk.ensures.own
+    c.enter_behind-desk.ensures.entered c.note.new.pass c.look-look.result (sym c.in_default.is ∙ c.stopped-fault.ensures.0) (rw c.in_default.is at c.note.ensures.noted) c.note.ensures.own c.note-in-Fetch.new.pass c.look-look.ensures.0
+    c.note-in-Fetch.ensures.noted c.note-in-Fetch.ensures.own) (look_place c.args.hall.now c.args.pass.now c.enter_behind-desk.new.pass c.enter_behind-desk.result.0 (g.V.Vault.counts c.args.vault.now) c.requires.rests.at c.enter_behind-desk.ensures.own
+    c.enter_behind-desk.ensures.entered c.note.new.pass c.look-look.result (sym c.in_default.is ∙ c.stopped-fault.ensures.0) (rw c.in_default.is at c.note.ensures.noted) c.note.ensures.own c.note-in-Fetch.new.pass c.look-look.ensures.0
+    c.note-in-Fetch.ensures.noted c.note-in-Fetch.ensures.own) (c.in-Ok.ensures.fetched (beat_kind g.B.Beat.passes g.B.Beat.exact) c.look-look.result (outflow g.O.Sink c.args.output.now)
+    (look_noted c.args.hall.now c.args.pass.now c.enter_behind-desk.new.pass c.enter_behind-desk.result.0 (g.V.Vault.counts c.args.vault.now) c.requires.rests.at c.enter_behind-desk.ensures.own c.enter_behind-desk.ensures.entered c.note.new.pass
+    c.look-look.result (sym c.in_default.is ∙ c.stopped-fault.ensures.0) (rw c.in_default.is at c.note.ensures.noted) c.note.ensures.own c.note-in-Fetch.new.pass c.look-look.ensures.0 c.note-in-Fetch.ensures.noted c.note-in-Fetch.ensures.own) c.in-Fetch.ensures.may.0 c.in-Fetch.ensures.may.1)
 
 pub returns-in-Err-clause-failed : goal.returns-in-Err-clause-failed
 returns-in-Err-clause-failed g c =
-    fails_from (kind_of g.V.Vault) (beat_kind g.B.Beat.passes g.B.Beat.exact) c.args.hall.now c.args.pass.now c.note-in-Fetch.new.pass c.args.vault.now (g.W.Watch.trace c.args.watch.now) (outflow g.O.Sink c.args.output.now) (g.V.Vault.counts c.args.vault.now) _ c.in-Err.fault (look_entries c.args.hall.now c.args.pass.now c.enter_behind-desk.new.pass c.enter_behind-desk.result.0 (g.V.Vault.counts c.args.vault.now) c.requires.rests.at c.enter_behind-desk.ensures.own c.enter_behind-desk.ensures.entered c.note.new.pass c.look-look.result (sym c.in_default.is ∙ c.stopped-fault.ensures.0) (rw c.in_default.is at c.note.ensures.noted) c.note.ensures.own c.note-in-Fetch.new.pass c.look-look.ensures.0 c.note-in-Fetch.ensures.noted c.note-in-Fetch.ensures.own) (look_raised c.args.hall.now c.args.pass.now c.enter_behind-desk.new.pass c.enter_behind-desk.result.0 (g.V.Vault.counts c.args.vault.now) c.requires.rests.at c.enter_behind-desk.ensures.own c.enter_behind-desk.ensures.entered c.note.new.pass c.look-look.result (sym c.in_default.is ∙ c.stopped-fault.ensures.0) (rw c.in_default.is at c.note.ensures.noted) c.note.ensures.own c.note-in-Fetch.new.pass c.look-look.ensures.0 c.note-in-Fetch.ensures.noted c.note-in-Fetch.ensures.own) (look_place c.args.hall.now c.args.pass.now c.enter_behind-desk.new.pass c.enter_behind-desk.result.0 (g.V.Vault.counts c.args.vault.now) c.requires.rests.at c.enter_behind-desk.ensures.own c.enter_behind-desk.ensures.entered c.note.new.pass c.look-look.result (sym c.in_default.is ∙ c.stopped-fault.ensures.0) (rw c.in_default.is at c.note.ensures.noted) c.note.ensures.own c.note-in-Fetch.new.pass c.look-look.ensures.0 c.note-in-Fetch.ensures.noted c.note-in-Fetch.ensures.own) (c.in-Err.ensures.refused (beat_kind g.B.Beat.passes g.B.Beat.exact) c.look-look.result (outflow g.O.Sink c.args.output.now) (look_noted c.args.hall.now c.args.pass.now c.enter_behind-desk.new.pass c.enter_behind-desk.result.0 (g.V.Vault.counts c.args.vault.now) c.requires.rests.at c.enter_behind-desk.ensures.own c.enter_behind-desk.ensures.entered c.note.new.pass c.look-look.result (sym c.in_default.is ∙ c.stopped-fault.ensures.0) (rw c.in_default.is at c.note.ensures.noted) c.note.ensures.own c.note-in-Fetch.new.pass c.look-look.ensures.0 c.note-in-Fetch.ensures.noted c.note-in-Fetch.ensures.own) c.in-Fetch.ensures.may.0 c.in-Fetch.ensures.may.1)
+    fails_from (kind_of g.V.Vault) (beat_kind g.B.Beat.passes g.B.Beat.exact) c.args.hall.now c.args.pass.now c.note-in-Fetch.new.pass c.args.vault.now (g.W.Watch.trace c.args.watch.now) (outflow g.O.Sink c.args.output.now) (g.V.Vault.counts c.args.vault.now)
+    _ c.in-Err.fault (look_entries c.args.hall.now c.args.pass.now c.enter_behind-desk.new.pass c.enter_behind-desk.result.0 (g.V.Vault.counts c.args.vault.now) c.requires.rests.at c.enter_behind-desk.ensures.own c.enter_behind-desk.ensures.entered
+    c.note.new.pass c.look-look.result (sym c.in_default.is ∙ c.stopped-fault.ensures.0) (rw c.in_default.is at c.note.ensures.noted) c.note.ensures.own c.note-in-Fetch.new.pass c.look-look.ensures.0 c.note-in-Fetch.ensures.noted
+    c.note-in-Fetch.ensures.own) (look_raised c.args.hall.now c.args.pass.now c.enter_behind-desk.new.pass c.enter_behind-desk.result.0 (g.V.Vault.counts c.args.vault.now) c.requires.rests.at c.enter_behind-desk.ensures.own
+    c.enter_behind-desk.ensures.entered c.note.new.pass c.look-look.result (sym c.in_default.is ∙ c.stopped-fault.ensures.0) (rw c.in_default.is at c.note.ensures.noted) c.note.ensures.own c.note-in-Fetch.new.pass c.look-look.ensures.0
+    c.note-in-Fetch.ensures.noted c.note-in-Fetch.ensures.own) (look_place c.args.hall.now c.args.pass.now c.enter_behind-desk.new.pass c.enter_behind-desk.result.0 (g.V.Vault.counts c.args.vault.now) c.requires.rests.at c.enter_behind-desk.ensures.own
+    c.enter_behind-desk.ensures.entered c.note.new.pass c.look-look.result (sym c.in_default.is ∙ c.stopped-fault.ensures.0) (rw c.in_default.is at c.note.ensures.noted) c.note.ensures.own c.note-in-Fetch.new.pass c.look-look.ensures.0
+    c.note-in-Fetch.ensures.noted c.note-in-Fetch.ensures.own) (c.in-Err.ensures.refused (beat_kind g.B.Beat.passes g.B.Beat.exact) c.look-look.result (outflow g.O.Sink c.args.output.now)
+    (look_noted c.args.hall.now c.args.pass.now c.enter_behind-desk.new.pass c.enter_behind-desk.result.0 (g.V.Vault.counts c.args.vault.now) c.requires.rests.at c.enter_behind-desk.ensures.own c.enter_behind-desk.ensures.entered c.note.new.pass
+    c.look-look.result (sym c.in_default.is ∙ c.stopped-fault.ensures.0) (rw c.in_default.is at c.note.ensures.noted) c.note.ensures.own c.note-in-Fetch.new.pass c.look-look.ensures.0 c.note-in-Fetch.ensures.noted c.note-in-Fetch.ensures.own) c.in-Fetch.ensures.may.0 c.in-Fetch.ensures.may.1)
 
 pub returns-in-Ok-end_and_tell-clause-acted : goal.returns-in-Ok-end_and_tell-clause-acted
 returns-in-Ok-end_and_tell-clause-acted g c =
-    done_from (kind_of g.V.Vault) (beat_kind g.B.Beat.passes g.B.Beat.exact) c.args.hall.now c.args.pass.now c.note-in-End.new.pass c.args.vault.now (g.W.Watch.trace c.args.watch.now) (outflow g.O.Sink c.args.output.now) (g.V.Vault.counts c.args.vault.now) _ (g.V.Vault.counts c.end_and_tell.new.vault) rounds.Acted (look_entries c.args.hall.now c.args.pass.now c.enter_behind-desk.new.pass c.enter_behind-desk.result.0 (g.V.Vault.counts c.args.vault.now) c.requires.rests.at c.enter_behind-desk.ensures.own c.enter_behind-desk.ensures.entered c.note.new.pass c.look-look.result (sym c.in_default.is ∙ c.stopped-fault.ensures.0) (rw c.in_default.is at c.note.ensures.noted) c.note.ensures.own c.note-in-End.new.pass c.look-look.ensures.0 c.note-in-End.ensures.noted c.note-in-End.ensures.own) (look_raised c.args.hall.now c.args.pass.now c.enter_behind-desk.new.pass c.enter_behind-desk.result.0 (g.V.Vault.counts c.args.vault.now) c.requires.rests.at c.enter_behind-desk.ensures.own c.enter_behind-desk.ensures.entered c.note.new.pass c.look-look.result (sym c.in_default.is ∙ c.stopped-fault.ensures.0) (rw c.in_default.is at c.note.ensures.noted) c.note.ensures.own c.note-in-End.new.pass c.look-look.ensures.0 c.note-in-End.ensures.noted c.note-in-End.ensures.own) (look_place c.args.hall.now c.args.pass.now c.enter_behind-desk.new.pass c.enter_behind-desk.result.0 (g.V.Vault.counts c.args.vault.now) c.requires.rests.at c.enter_behind-desk.ensures.own c.enter_behind-desk.ensures.entered c.note.new.pass c.look-look.result (sym c.in_default.is ∙ c.stopped-fault.ensures.0) (rw c.in_default.is at c.note.ensures.noted) c.note.ensures.own c.note-in-End.new.pass c.look-look.ensures.0 c.note-in-End.ensures.noted c.note-in-End.ensures.own) (c.in-Ok-end_and_tell.ensures.ended (beat_kind g.B.Beat.passes g.B.Beat.exact) c.look-look.result (look_noted c.args.hall.now c.args.pass.now c.enter_behind-desk.new.pass c.enter_behind-desk.result.0 (g.V.Vault.counts c.args.vault.now) c.requires.rests.at c.enter_behind-desk.ensures.own c.enter_behind-desk.ensures.entered c.note.new.pass c.look-look.result (sym c.in_default.is ∙ c.stopped-fault.ensures.0) (rw c.in_default.is at c.note.ensures.noted) c.note.ensures.own c.note-in-End.new.pass c.look-look.ensures.0 c.note-in-End.ensures.noted c.note-in-End.ensures.own) c.in-End.ensures.may.0 c.in-End.ensures.may.1)
+    done_from (kind_of g.V.Vault) (beat_kind g.B.Beat.passes g.B.Beat.exact) c.args.hall.now c.args.pass.now c.note-in-End.new.pass c.args.vault.now (g.W.Watch.trace c.args.watch.now) (outflow g.O.Sink c.args.output.now) (g.V.Vault.counts c.args.vault.now) _
+    (g.V.Vault.counts c.end_and_tell.new.vault) rounds.Acted (look_entries c.args.hall.now c.args.pass.now c.enter_behind-desk.new.pass c.enter_behind-desk.result.0 (g.V.Vault.counts c.args.vault.now) c.requires.rests.at c.enter_behind-desk.ensures.own
+    c.enter_behind-desk.ensures.entered c.note.new.pass c.look-look.result (sym c.in_default.is ∙ c.stopped-fault.ensures.0) (rw c.in_default.is at c.note.ensures.noted) c.note.ensures.own c.note-in-End.new.pass c.look-look.ensures.0
+    c.note-in-End.ensures.noted c.note-in-End.ensures.own) (look_raised c.args.hall.now c.args.pass.now c.enter_behind-desk.new.pass c.enter_behind-desk.result.0 (g.V.Vault.counts c.args.vault.now) c.requires.rests.at c.enter_behind-desk.ensures.own
+    c.enter_behind-desk.ensures.entered c.note.new.pass c.look-look.result (sym c.in_default.is ∙ c.stopped-fault.ensures.0) (rw c.in_default.is at c.note.ensures.noted) c.note.ensures.own c.note-in-End.new.pass c.look-look.ensures.0
+    c.note-in-End.ensures.noted c.note-in-End.ensures.own) (look_place c.args.hall.now c.args.pass.now c.enter_behind-desk.new.pass c.enter_behind-desk.result.0 (g.V.Vault.counts c.args.vault.now) c.requires.rests.at c.enter_behind-desk.ensures.own
+    c.enter_behind-desk.ensures.entered c.note.new.pass c.look-look.result (sym c.in_default.is ∙ c.stopped-fault.ensures.0) (rw c.in_default.is at c.note.ensures.noted) c.note.ensures.own c.note-in-End.new.pass c.look-look.ensures.0
+    c.note-in-End.ensures.noted c.note-in-End.ensures.own) (c.in-Ok-end_and_tell.ensures.ended (beat_kind g.B.Beat.passes g.B.Beat.exact) c.look-look.result
+    (look_noted c.args.hall.now c.args.pass.now c.enter_behind-desk.new.pass c.enter_behind-desk.result.0 (g.V.Vault.counts c.args.vault.now) c.requires.rests.at c.enter_behind-desk.ensures.own c.enter_behind-desk.ensures.entered c.note.new.pass
+    c.look-look.result (sym c.in_default.is ∙ c.stopped-fault.ensures.0) (rw c.in_default.is at c.note.ensures.noted) c.note.ensures.own c.note-in-End.new.pass c.look-look.ensures.0 c.note-in-End.ensures.noted c.note-in-End.ensures.own) c.in-End.ensures.may.0 c.in-End.ensures.may.1)
 
 pub returns-in-Err-end_and_tell-clause-failed : goal.returns-in-Err-end_and_tell-clause-failed
 returns-in-Err-end_and_tell-clause-failed g c =
-    fails_from (kind_of g.V.Vault) (beat_kind g.B.Beat.passes g.B.Beat.exact) c.args.hall.now c.args.pass.now c.note-in-End.new.pass c.args.vault.now (g.W.Watch.trace c.args.watch.now) (outflow g.O.Sink c.args.output.now) (g.V.Vault.counts c.args.vault.now) _ c.in-Err-end_and_tell.fault (look_entries c.args.hall.now c.args.pass.now c.enter_behind-desk.new.pass c.enter_behind-desk.result.0 (g.V.Vault.counts c.args.vault.now) c.requires.rests.at c.enter_behind-desk.ensures.own c.enter_behind-desk.ensures.entered c.note.new.pass c.look-look.result (sym c.in_default.is ∙ c.stopped-fault.ensures.0) (rw c.in_default.is at c.note.ensures.noted) c.note.ensures.own c.note-in-End.new.pass c.look-look.ensures.0 c.note-in-End.ensures.noted c.note-in-End.ensures.own) (look_raised c.args.hall.now c.args.pass.now c.enter_behind-desk.new.pass c.enter_behind-desk.result.0 (g.V.Vault.counts c.args.vault.now) c.requires.rests.at c.enter_behind-desk.ensures.own c.enter_behind-desk.ensures.entered c.note.new.pass c.look-look.result (sym c.in_default.is ∙ c.stopped-fault.ensures.0) (rw c.in_default.is at c.note.ensures.noted) c.note.ensures.own c.note-in-End.new.pass c.look-look.ensures.0 c.note-in-End.ensures.noted c.note-in-End.ensures.own) (look_place c.args.hall.now c.args.pass.now c.enter_behind-desk.new.pass c.enter_behind-desk.result.0 (g.V.Vault.counts c.args.vault.now) c.requires.rests.at c.enter_behind-desk.ensures.own c.enter_behind-desk.ensures.entered c.note.new.pass c.look-look.result (sym c.in_default.is ∙ c.stopped-fault.ensures.0) (rw c.in_default.is at c.note.ensures.noted) c.note.ensures.own c.note-in-End.new.pass c.look-look.ensures.0 c.note-in-End.ensures.noted c.note-in-End.ensures.own) (c.in-Err-end_and_tell.ensures.refused (beat_kind g.B.Beat.passes g.B.Beat.exact) c.look-look.result (look_noted c.args.hall.now c.args.pass.now c.enter_behind-desk.new.pass c.enter_behind-desk.result.0 (g.V.Vault.counts c.args.vault.now) c.requires.rests.at c.enter_behind-desk.ensures.own c.enter_behind-desk.ensures.entered c.note.new.pass c.look-look.result (sym c.in_default.is ∙ c.stopped-fault.ensures.0) (rw c.in_default.is at c.note.ensures.noted) c.note.ensures.own c.note-in-End.new.pass c.look-look.ensures.0 c.note-in-End.ensures.noted c.note-in-End.ensures.own) c.in-End.ensures.may.0 c.in-End.ensures.may.1)
+    fails_from (kind_of g.V.Vault) (beat_kind g.B.Beat.passes g.B.Beat.exact) c.args.hall.now c.args.pass.now c.note-in-End.new.pass c.args.vault.now (g.W.Watch.trace c.args.watch.now) (outflow g.O.Sink c.args.output.now) (g.V.Vault.counts c.args.vault.now) _
+    c.in-Err-end_and_tell.fault (look_entries c.args.hall.now c.args.pass.now c.enter_behind-desk.new.pass c.enter_behind-desk.result.0 (g.V.Vault.counts c.args.vault.now) c.requires.rests.at c.enter_behind-desk.ensures.own
+    c.enter_behind-desk.ensures.entered c.note.new.pass c.look-look.result (sym c.in_default.is ∙ c.stopped-fault.ensures.0) (rw c.in_default.is at c.note.ensures.noted) c.note.ensures.own c.note-in-End.new.pass c.look-look.ensures.0
+    c.note-in-End.ensures.noted c.note-in-End.ensures.own) (look_raised c.args.hall.now c.args.pass.now c.enter_behind-desk.new.pass c.enter_behind-desk.result.0 (g.V.Vault.counts c.args.vault.now) c.requires.rests.at c.enter_behind-desk.ensures.own
+    c.enter_behind-desk.ensures.entered c.note.new.pass c.look-look.result (sym c.in_default.is ∙ c.stopped-fault.ensures.0) (rw c.in_default.is at c.note.ensures.noted) c.note.ensures.own c.note-in-End.new.pass c.look-look.ensures.0
+    c.note-in-End.ensures.noted c.note-in-End.ensures.own) (look_place c.args.hall.now c.args.pass.now c.enter_behind-desk.new.pass c.enter_behind-desk.result.0 (g.V.Vault.counts c.args.vault.now) c.requires.rests.at c.enter_behind-desk.ensures.own
+    c.enter_behind-desk.ensures.entered c.note.new.pass c.look-look.result (sym c.in_default.is ∙ c.stopped-fault.ensures.0) (rw c.in_default.is at c.note.ensures.noted) c.note.ensures.own c.note-in-End.new.pass c.look-look.ensures.0
+    c.note-in-End.ensures.noted c.note-in-End.ensures.own) (c.in-Err-end_and_tell.ensures.refused (beat_kind g.B.Beat.passes g.B.Beat.exact) c.look-look.result
+    (look_noted c.args.hall.now c.args.pass.now c.enter_behind-desk.new.pass c.enter_behind-desk.result.0 (g.V.Vault.counts c.args.vault.now) c.requires.rests.at c.enter_behind-desk.ensures.own c.enter_behind-desk.ensures.entered c.note.new.pass
+    c.look-look.result (sym c.in_default.is ∙ c.stopped-fault.ensures.0) (rw c.in_default.is at c.note.ensures.noted) c.note.ensures.own c.note-in-End.new.pass c.look-look.ensures.0 c.note-in-End.ensures.noted c.note-in-End.ensures.own) c.in-End.ensures.may.0 c.in-End.ensures.may.1)
 
 pub returns-in-Some-clause-stand : goal.returns-in-Some-clause-stand
 returns-in-Some-clause-stand g c =
@@ -82,14 +134,16 @@ returns-in-Over-clause-stand g c =
     let count = c.enter_behind-desk.result.1 in
     let at = c.enter_behind-desk.ensures.behind.1 in
     made_entered c.args.hall.now c.args.pass.now c.enter_behind-desk.new.pass c.leave-in-Over.new.pass c.enter_behind-desk.result.0 c.args.turns.now c.enter_behind-desk.result.1 count c.enter_behind-desk.ensures.entered c.enter_behind-desk.ensures.behind
-    (goes_noted c.enter_behind-desk.new.pass c.note.new.pass c.leave-in-Over.new.pass _ count count c.note.ensures.noted (goes_on_ended c.note.new.pass c.leave-in-Over.new.pass count (at_noted c.enter_behind-desk.new.pass c.note.new.pass _ count c.note.ensures.noted at) (ends_left c.note.new.pass c.leave-in-Over.new.pass _ c.leave-in-Over.ensures.left)))
+    (goes_noted c.enter_behind-desk.new.pass c.note.new.pass c.leave-in-Over.new.pass _ count count c.note.ensures.noted
+    (goes_on_ended c.note.new.pass c.leave-in-Over.new.pass count (at_noted c.enter_behind-desk.new.pass c.note.new.pass _ count c.note.ensures.noted at) (ends_left c.note.new.pass c.leave-in-Over.new.pass _ c.leave-in-Over.ensures.left)))
 
 pub returns-in-Rest-clause-stand : goal.returns-in-Rest-clause-stand
 returns-in-Rest-clause-stand g c =
     let count = c.enter_behind-desk.result.1 in
     let at = c.enter_behind-desk.ensures.behind.1 in
     made_entered c.args.hall.now c.args.pass.now c.enter_behind-desk.new.pass c.leave-in-Rest.new.pass c.enter_behind-desk.result.0 c.args.turns.now c.enter_behind-desk.result.1 count c.enter_behind-desk.ensures.entered c.enter_behind-desk.ensures.behind
-    (goes_noted c.enter_behind-desk.new.pass c.note.new.pass c.leave-in-Rest.new.pass _ count count c.note.ensures.noted (goes_on_ended c.note.new.pass c.leave-in-Rest.new.pass count (at_noted c.enter_behind-desk.new.pass c.note.new.pass _ count c.note.ensures.noted at) (ends_left c.note.new.pass c.leave-in-Rest.new.pass _ c.leave-in-Rest.ensures.left)))
+    (goes_noted c.enter_behind-desk.new.pass c.note.new.pass c.leave-in-Rest.new.pass _ count count c.note.ensures.noted
+    (goes_on_ended c.note.new.pass c.leave-in-Rest.new.pass count (at_noted c.enter_behind-desk.new.pass c.note.new.pass _ count c.note.ensures.noted at) (ends_left c.note.new.pass c.leave-in-Rest.new.pass _ c.leave-in-Rest.ensures.left)))
 
 pub fetch-requires-clause-turns : goal.fetch-requires-clause-turns
 fetch-requires-clause-turns g c =

@@ -9,7 +9,7 @@ use Rattle.ob_fetch.specs.Fetches.{words_since}
 use Rattle.ob_serial.specs.declared.vault.EndErr.{EndErr}
 use Rattle.ob_serial.specs.declared.vault.EndErr.TheVariants as end
 use Rattle.ob_serial.specs.VaultViews.{IsStoreEnd}
-use Rattle.ob_store.specs.Calls.{Serves}
+use Rattle.ob_store.specs.Calls.{Serves, IsStoreFault}
 use Rattle.ob_store.specs.Images.{LeavesOnly}
 use Rattle.ob_twin.specs.Opening.{GatesAre, is_closed_first}
 use Rattle.ob_twin.specs.Register.{place_of}
@@ -19,10 +19,12 @@ use Rattle.ob_end.specs.EndRuns.{AreEntriesWritten, EndAnswers, EndDamage, EndDo
 use Rattle.ob_pads.specs.Seals.{CellsAreSealed}
 use Rattle.ob_end.proofs.ActLaws.{damage_closed, damage_made, end_moments, read_moments, sealed_closed, sealed_from, undamaged_closed}
 use Rattle.ob_end.proofs.CloseLaws.{gates_kept}
-use Rattle.ob_end.proofs.EndCases.{answers_closed, at_spent, gates_at, one_more, read_leaves, does_as, does_closed, does_made, images_closed, images_ended, if_ended, images_refused, ready_spent, seals_closed, seals_ended, serves_closed, serves_ended, draws_closed, draws_made}
+use Rattle.ob_end.proofs.EndCases.{answers_closed, at_spent, gates_at, one_more, read_leaves, does_as, does_closed, does_made, images_closed, images_ended, if_ended, images_refused, ready_spent}
+use Rattle.ob_end.proofs.EndCases.{seals_closed, seals_ended, serves_closed, serves_ended, draws_closed, draws_made, before_blames, before_fault}
 use Rattle.ob_end.proofs.EndStage as stage
 use Rattle.ob_end.proofs.ScheduledEnds.{front_at, lifts_scheduled}
 use Rattle.ob_end.proofs.ToldEnds.{closed_told, cut_short, lifts_as, made_told, reads_are, refused_as}
+use Rattle.ob_store.proofs.Serving.{serves_err}
 use Rattle.ob_end.proofs.ending.end.Goals as goal
 
 pub close_epoch-requires-clause-epoch : goal.close_epoch-requires-clause-epoch
@@ -596,7 +598,8 @@ returns-in-Err-close_epoch-clause-table g c = λ t stands.
     let short = c.requires.short in
     let may = c.in-Ok.ensures.answers in
     subst (λ (e : EndErr). IfEnded (StandsFor c.close_epoch.new.ring (table_ended run.params t (end_writes run.params writes words run.sealer.generation run.drawn))) (Err e)) (sym c.end_err.ensures)
-    (if_ended (StandsFor c.close_epoch.new.ring (table_ended run.params t (end_writes run.params writes words run.sealer.generation run.drawn))) c.in-Err-close_epoch.refused (stage.table_last run1 mid old writes words kept ready made low short may c.close_epoch.new.ring c.close_epoch.ensures.kept t stands))
+    (if_ended (StandsFor c.close_epoch.new.ring (table_ended run.params t (end_writes run.params writes words run.sealer.generation run.drawn))) c.in-Err-close_epoch.refused
+    (stage.table_last run1 mid old writes words kept ready made low short may c.close_epoch.new.ring c.close_epoch.ensures.kept t stands))
 
 pub returns-clause-table : goal.returns-clause-table
 returns-clause-table g c = λ t stands.
@@ -723,3 +726,12 @@ returns-clause-content g c =
     let short = c.requires.short in
     let may = c.in-Ok.ensures.answers in
     stage.content_last run1 mid old writes words kept ready made low short may c.close_epoch.new.ring c.close_epoch.ensures.kept c.in-Ok-close_epoch.ensures.rows
+
+pub returns-in-Err-clause-serves : goal.returns-in-Err-clause-serves
+returns-in-Err-clause-serves g c = serves_err IsStoreFault IsStoreEnd _ _ c.in-Err.fault (end.Before c.in-Err.fault) (before_blames c.in-Err.fault) c.in-Err.ensures.serves
+
+pub returns-in-Err-clause-faults : goal.returns-in-Err-clause-faults
+returns-in-Err-clause-faults g c = before_fault (c.args.run.now.epoch + 1) c.in-Err.fault c.in-Err.ensures.faults
+
+pub returns-in-Err-clause-answers : goal.returns-in-Err-clause-answers
+returns-in-Err-clause-answers g c = c.in-Err.ensures.answers

@@ -9,8 +9,13 @@ use Rattle.ob_ring.specs.FlatTable.{FinalLifts, after}
 use Rattle.ob_ring.specs.Ring.{Kept}
 use Rattle.ob_end.specs.EndRuns.{HasWords, MakeAnswers, MakeDraws, end_writes, rows_ended}
 use Rattle.ob_end.proofs.ActLaws.{runs_of_ring, stands_of_ring}
-use Rattle.ob_end.proofs.MakeLaws.{is_renewed, lifts_damage, lifts_draw, lifts_told, made_kept, refill_room, renew_answers, renew_draws, renewal, rows_are, seals_are, served_then, when_renewed, words_are, writes_are}
+use Rattle.ob_end.proofs.MakeLaws.{is_renewed, lifts_damage, lifts_draw, lifts_told, made_kept, refill_room, renew_answers, renew_draws, renewal, rows_are, seals_are, served_then, when_renewed, words_are, writes_are, lifts_answer, lifts_faults}
 use Rattle.ob_end.proofs.StashLaws.{has_its_rows}
+use Rattle.ob_base.specs.Planned.{most_jobs}
+use Rattle.ob_ring.specs.Writing.{write_at}
+use Rattle.ob_store.specs.Images.{Same}
+use Rattle.ob_store.proofs.Moments.{passed_none}
+use Rattle.ob_store.proofs.Serving.{goes_same}
 use Rattle.ob_end.proofs.making.make_end.Goals as goal
 
 pub returns-in-Err-clause-damage : goal.returns-in-Err-clause-damage
@@ -139,3 +144,80 @@ returns-clause-undamaged g c = λ s at.
     let is = is_renewed (run.drawn + end_words lifted) _ lifted.p.room run.sealer.next (end_seals lifted) c.renew.result
     (λ more. (c.renew.ensures.worn more).0) (λ few. c.renew.ensures.answers few (after run.ring.p c.requires.ready.planner.table FinalLifts) (c.in-Ok.ensures.table c.requires.ready.planner.table c.requires.ready.planner.stands)) in
     (renewal _ _ _ _ _ c.renew.result is).undamaged
+
+pub returns-then-run-ge-NUMBER_LIMIT-clause-serves : goal.returns-then-run-ge-NUMBER_LIMIT-clause-serves
+returns-then-run-ge-NUMBER_LIMIT-clause-serves g c = record { goes = goes_same (g.S.Store.disk c.args.store.now); out = omega arith; tells = tt; cause = λ blamed. absurd blamed }
+
+pub returns-then-run-ge-NUMBER_LIMIT-clause-keeps : goal.returns-then-run-ge-NUMBER_LIMIT-clause-keeps
+returns-then-run-ge-NUMBER_LIMIT-clause-keeps g c = record { tells = λ tells. tells; cells = λ tells k. refl }
+
+pub returns-then-run-ge-NUMBER_LIMIT-clause-passes : goal.returns-then-run-ge-NUMBER_LIMIT-clause-passes
+returns-then-run-ge-NUMBER_LIMIT-clause-passes g c = passed_none (g.S.Store.disk c.args.store.now) Same (λ image. refl)
+
+pub returns-in-Err-clause-serves : goal.returns-in-Err-clause-serves
+returns-in-Err-clause-serves g c = c.in-Err.ensures.serves
+
+pub returns-in-Err-clause-faults : goal.returns-in-Err-clause-faults
+returns-in-Err-clause-faults g c = lifts_faults c.in-Err.fault c.in-Err.ensures.faults
+
+pub returns-in-Err-clause-answers : goal.returns-in-Err-clause-answers
+returns-in-Err-clause-answers g c =
+    let run = c.args.run.now in
+    let more : suc run.epoch < 2 ^ 62 = omega (arith, c.if-run-ge-NUMBER_LIMIT.false) in
+    λ t stands. lifts_answer run.params t run.epoch run.drawn run.sealer.next
+    (end_writes run.params c.args.writes.now (words_since (g.T.Tape.drawn c.args.tape.now) (g.T.Tape.drawn c.args.tape.now)) run.sealer.generation run.drawn) more c.in-Err.fault c.in-Err.ensures.faults
+
+pub read_lifts-requires-clause-stands : goal.read_lifts-requires-clause-stands
+read_lifts-requires-clause-stands g c = c.requires.ready.ready.table
+
+pub read_lifts-requires-clause-jobs : goal.read_lifts-requires-clause-jobs
+read_lifts-requires-clause-jobs g c =
+    let ps = sym c.requires.ready.ready.params in
+    (c.requires.ready.ready.rooms.0 ∙ ap most_jobs ps, c.requires.ready.ready.rooms.1 ∙ ap (λ (q : Params). q.places) ps)
+
+pub read_lifts-requires-clause-crew : goal.read_lifts-requires-clause-crew
+read_lifts-requires-clause-crew g c = subst (λ (q : Params). most_jobs q ≤ c.args.crew.now.jobs) (sym c.requires.ready.ready.params) c.requires.crew
+
+pub renew-requires-clause-params : goal.renew-requires-clause-params
+renew-requires-clause-params g c =
+    let same : c.read_lifts.new.ring.p ≡ c.args.run.now.params = ap (λ (r : Kept). r.p) c.read_lifts.ensures.kept ∙ c.requires.ready.ready.params in
+    sym same
+
+pub renew-requires-clause-listed : goal.renew-requires-clause-listed
+renew-requires-clause-listed g c = c.read_lifts.ensures.listed
+
+pub renew-requires-clause-few : goal.renew-requires-clause-few
+renew-requires-clause-few g c =
+    let same : c.read_lifts.new.ring.p ≡ c.args.run.now.params = ap (λ (r : Kept). r.p) c.read_lifts.ensures.kept ∙ c.requires.ready.ready.params in
+    subst (λ (q : Params). length c.args.writes.now ≤ q.writes) (sym same) c.requires.few
+
+pub renew-requires-clause-keys : goal.renew-requires-clause-keys
+renew-requires-clause-keys g c =
+    let same : c.read_lifts.new.ring.p ≡ c.args.run.now.params = ap (λ (r : Kept). r.p) c.read_lifts.ensures.kept ∙ c.requires.ready.ready.params in
+    λ i lt. subst (λ (q : Params). (write_at c.args.writes.now i).key < q.keys) (sym same) (c.requires.keys i lt)
+
+pub returns-clause-damage : goal.returns-clause-damage
+returns-clause-damage g c =
+    let run = c.args.run.now in
+    let lifted = c.read_lifts.new.ring in
+    let is = is_renewed (run.drawn + end_words lifted) _ lifted.p.room run.sealer.next (end_seals lifted) c.renew.result
+    (λ more. (c.renew.ensures.worn more).0) (λ few. c.renew.ensures.answers few (after run.ring.p c.requires.ready.planner.table FinalLifts) (c.in-Ok.ensures.table c.requires.ready.planner.table c.requires.ready.planner.stands)) in
+    λ start t seals stands tells. (renewal _ _ _ _ _ c.renew.result is).damage run.sealer.keys run.params start.versions (g.S.Store.disk c.args.store.now).cells t
+
+pub returns-clause-keeps : goal.returns-clause-keeps
+returns-clause-keeps g c = c.read_lifts.ensures.keeps
+
+pub returns-clause-passes : goal.returns-clause-passes
+returns-clause-passes g c = c.read_lifts.ensures.passes
+
+pub returns-clause-generation : goal.returns-clause-generation
+returns-clause-generation g c = c.renew.ensures.same
+
+pub returns-clause-drawn : goal.returns-clause-drawn
+returns-clause-drawn g c = c.renew.ensures.counted
+
+pub returns-clause-words : goal.returns-clause-words
+returns-clause-words g c = c.renew.ensures.words
+
+pub returns-clause-rooms : goal.returns-clause-rooms
+returns-clause-rooms g c = c.read_lifts.ensures.rooms

@@ -1,11 +1,11 @@
-use Rattle.std.proofs.Common.{◌≡◌, ◌+◌, ◌%◌, ℕ, suc, [], ◌∷◌, ◌++◌, arith, subst, sym, Ok, Err, None}
+use Rattle.std.proofs.Common.{◌≡◌, ◌+◌, ◌%◌, ℕ, suc, [], ◌∷◌, ◌++◌, arith, subst, sym, Ok, Err, None, ◌≤◌, ◌^◌, Result, ap, ◌∙◌, ◌*◌}
 use Rattle.ob_base.specs.declared.fault.Failed.{Failed}
 use Rattle.ob_base.specs.declared.fault.Fault.TheVariants.{StoreFault}
 use Rattle.ob_base.specs.declared.params.Params.{Params}
 use Rattle.ob_base.specs.Layout.{checkpoint_cells}
 use Rattle.ob_cells.specs.Writes.{WritesWithin}
 use Rattle.ob_check.specs.Written.{area_of}
-use Rattle.ob_content.specs.Content.{content_of}
+use Rattle.ob_tables.specs.Content.{content_of, Content, Obeys}
 use Rattle.ob_ring_trace.specs.Ends.{refill_notes}
 use Rattle.ob_schedule.specs.Schedule.{log_gates, writes_of}
 use Rattle.ob_stand.specs.Ends.{IsEndOf}
@@ -14,8 +14,14 @@ use Rattle.ob_store.specs.Told.{Tells, TellsFirst}
 use Rattle.ob_store.specs.declared.watch.Note.TheVariants as note
 use Rattle.ob_store.proofs.Doing.{does_err, does_refused, does_sync, does_then, first_behind, first_more}
 use Rattle.ob_store.proofs.Moments.{passed_still}
-use Rattle.ob_end_writes.specs.EndWrites.{SameFirst, ShutsGates, bucket_seals, end_write_notes}
-use Rattle.ob_end_writes.proofs.Whole.{as_written, check_refused, content_is, end_sealed, end_written, first_checked, first_then, gates_refused, moments_checked, moments_then, sync_refused}
+use Rattle.ob_end_writes.specs.EndWrites.{SameFirst, ShutsGates, bucket_seals, end_write_notes, IsOfStore}
+use Rattle.ob_end_writes.proofs.Whole.{as_written, check_refused, content_is, end_sealed, end_written, first_checked, first_then, gates_refused, moments_checked, moments_then, sync_refused, of_store, seals_cut, seals_more}
+use Rattle.std.proofs.lemmas.Result.{IfOk-from_err, err_from_is_err_and}
+use Rattle.std.specs.Prelude.{IfErr}
+use Rattle.ob_base.specs.declared.fault.Fault.{Fault}
+use Rattle.ob_seal.specs.Sealing.{Sealing}
+use Rattle.ob_store.specs.Calls.{IsFailed, IsStoreFault, Serves}
+use Rattle.ob_store.proofs.Serving.{serves_err, serves_ok, serves_then}
 use Rattle.ob_end_writes.proofs.writing.write_end.Goals as goal
 
 pub returns-in_err-write-clause-writes : goal.returns-in_err-write-clause-writes
@@ -194,3 +200,102 @@ returns-in-Ok-sync_noted-clause-sealed g c = λ t.
     (g.S.Store.disk c.args.store.now).cells (g.S.Store.disk c.write_buckets.new.store).cells (g.S.Store.disk c.write.new.store).cells (g.S.Store.disk c.shut_gates.new.store).cells (g.S.Store.disk c.sync_noted.new.store).cells
     c.in-Ok.ensures.seals.some c.in-Ok.ensures.seals.all c.requires.room c.requires.params c.in_ok-write.ensures.sealed c.write.ensures.some_sealed (content_of c.tables.result.now) (c.in_ok-write.ensures.written checked)
     (c.write.ensures.rest checked) (c.in-Ok.ensures.sealed t) (c.in-Ok-shut_gates.ensures.unsealed gates) (c.sync_noted.ensures.keeps.cells (c.in-Ok-shut_gates.ensures.serves.tells gates))
+
+pub returns-in-Err-clause-serves : goal.returns-in-Err-clause-serves
+returns-in-Err-clause-serves g c = serves_err IsFailed IsStoreFault _ _ c.in-Err.field-0 (StoreFault None) (λ f. tt) c.in-Err.ensures.serves
+
+pub returns-in_err-write-clause-serves : goal.returns-in_err-write-clause-serves
+returns-in_err-write-clause-serves g c =
+    let exit = err_from_is_err_and c.from_residual.result c.from_residual.ensures.1 in
+    let first = c.write_buckets.ensures.serves in
+    serves_then IsStoreFault _ (g.S.Store.disk c.write_buckets.new.store) _ c.from_residual.result first.goes first.out c.in-Ok.ensures.serves.tells
+    (subst (λ (x : Result (Unit {0}) Fault). Serves IsStoreFault (g.S.Store.disk c.write_buckets.new.store) (g.S.Store.disk c.write.new.store) x) (sym (exit.1 ∙ ap Err exit.2)) c.in_err-write.ensures.serves)
+
+pub returns-in-Err-shut_gates-clause-serves : goal.returns-in-Err-shut_gates-clause-serves
+returns-in-Err-shut_gates-clause-serves g c =
+    let first = c.write_buckets.ensures.serves in
+    let second = c.write.ensures.serves in
+    serves_then IsStoreFault _ (g.S.Store.disk c.write_buckets.new.store) _ (Err (StoreFault None)) first.goes first.out c.in-Ok.ensures.serves.tells
+    (serves_then IsStoreFault _ (g.S.Store.disk c.write.new.store) _ (Err (StoreFault None)) second.goes second.out c.in_ok-write.ensures.serves.tells
+    (serves_err IsFailed IsStoreFault _ _ c.in-Err-shut_gates.field-0 (StoreFault None) (λ f. tt) c.in-Err-shut_gates.ensures.serves))
+
+pub returns-in-Err-sync_noted-clause-serves : goal.returns-in-Err-sync_noted-clause-serves
+returns-in-Err-sync_noted-clause-serves g c =
+    let first = c.write_buckets.ensures.serves in
+    let second = c.write.ensures.serves in
+    let third = c.shut_gates.ensures.serves in
+    serves_then IsStoreFault _ (g.S.Store.disk c.write_buckets.new.store) _ (Err (StoreFault None)) first.goes first.out c.in-Ok.ensures.serves.tells
+    (serves_then IsStoreFault _ (g.S.Store.disk c.write.new.store) _ (Err (StoreFault None)) second.goes second.out c.in_ok-write.ensures.serves.tells
+    (serves_then IsStoreFault _ (g.S.Store.disk c.shut_gates.new.store) _ (Err (StoreFault None)) third.goes third.out c.in-Ok-shut_gates.ensures.serves.tells
+    (serves_err IsFailed IsStoreFault _ _ c.in-Err-sync_noted.field-0 (StoreFault None) (λ f. tt) c.in-Err-sync_noted.ensures.serves)))
+
+pub returns-in-Ok-sync_noted-clause-serves : goal.returns-in-Ok-sync_noted-clause-serves
+returns-in-Ok-sync_noted-clause-serves g c =
+    let first = c.write_buckets.ensures.serves in
+    let second = c.write.ensures.serves in
+    let third = c.shut_gates.ensures.serves in
+    let last = c.sync_noted.ensures.serves in
+    serves_then IsStoreFault _ (g.S.Store.disk c.write_buckets.new.store) _ (Ok tt) first.goes first.out c.in-Ok.ensures.serves.tells
+    (serves_then IsStoreFault _ (g.S.Store.disk c.write.new.store) _ (Ok tt) second.goes second.out c.in_ok-write.ensures.serves.tells
+    (serves_then IsStoreFault _ (g.S.Store.disk c.shut_gates.new.store) _ (Ok tt) third.goes third.out c.in-Ok-shut_gates.ensures.serves.tells
+    (serves_ok IsStoreFault _ _ tt last.goes last.out c.in-Ok-sync_noted.ensures.serves.tells)))
+
+pub returns-in_err-write-clause-faults : goal.returns-in_err-write-clause-faults
+returns-in_err-write-clause-faults g c =
+    let exit = err_from_is_err_and c.from_residual.result c.from_residual.ensures.1 in
+    let few : c.write_buckets.new.sealer.next + checkpoint_cells c.args.p.now ≤ 2 ^ 62 =
+    (let now = ap (λ (x : Sealing). x.next) c.in-Ok.ensures.seals.all in let cells = ap checkpoint_cells c.requires.params in let room = c.requires.room in omega arith) in
+    subst (λ (x : Result (Unit {0}) Fault). IfErr x IsOfStore) (sym (exit.1 ∙ ap Err exit.2)) (of_store c.args.p.now c.write_buckets.new.sealer.next _ few c.in_err-write.ensures.faults)
+
+pub returns-in-Err-clause-seals : goal.returns-in-Err-clause-seals
+returns-in-Err-clause-seals g c = seals_cut c.args.ring.now _ _ c.in-Err.field-0 (StoreFault None) c.in-Err.ensures.seals
+
+pub returns-in_err-write-clause-seals : goal.returns-in_err-write-clause-seals
+returns-in_err-write-clause-seals g c = seals_more c.args.ring.now c.args.p.now _ c.write_buckets.new.sealer _ c.from_residual.result c.requires.params c.in-Ok.ensures.seals.all (IfOk-from_err c.from_residual.result _ c.from_residual.ensures.0) c.write.ensures.some_sealed
+
+pub returns-in-Err-shut_gates-clause-seals : goal.returns-in-Err-shut_gates-clause-seals
+returns-in-Err-shut_gates-clause-seals g c = seals_more c.args.ring.now c.args.p.now _ c.write_buckets.new.sealer _ (Err (StoreFault None)) c.requires.params c.in-Ok.ensures.seals.all tt c.write.ensures.some_sealed
+
+pub returns-in-Err-sync_noted-clause-seals : goal.returns-in-Err-sync_noted-clause-seals
+returns-in-Err-sync_noted-clause-seals g c = seals_more c.args.ring.now c.args.p.now _ c.write_buckets.new.sealer _ (Err (StoreFault None)) c.requires.params c.in-Ok.ensures.seals.all tt c.write.ensures.some_sealed
+
+pub returns-in-Ok-sync_noted-clause-seals : goal.returns-in-Ok-sync_noted-clause-seals
+returns-in-Ok-sync_noted-clause-seals g c = seals_more c.args.ring.now c.args.p.now _ c.write_buckets.new.sealer _ (Ok tt) c.requires.params c.in-Ok.ensures.seals.all c.in_ok-write.ensures.sealed c.write.ensures.some_sealed
+
+pub returns-in_err-write-clause-rows : goal.returns-in_err-write-clause-rows
+returns-in_err-write-clause-rows g c = IfOk-from_err c.from_residual.result _ c.from_residual.ensures.0
+
+pub returns-in_err-write-clause-sealed : goal.returns-in_err-write-clause-sealed
+returns-in_err-write-clause-sealed g c = λ tells. IfOk-from_err c.from_residual.result _ c.from_residual.ensures.0
+
+pub returns-in_err-write-clause-durable : goal.returns-in_err-write-clause-durable
+returns-in_err-write-clause-durable g c = λ tells. IfOk-from_err c.from_residual.result _ c.from_residual.ensures.0
+
+pub returns-in_err-write-clause-kept : goal.returns-in_err-write-clause-kept
+returns-in_err-write-clause-kept g c = c.forget_written.ensures.kept
+
+pub returns-in-Err-shut_gates-clause-kept : goal.returns-in-Err-shut_gates-clause-kept
+returns-in-Err-shut_gates-clause-kept g c = c.forget_written.ensures.kept
+
+pub returns-in-Err-sync_noted-clause-kept : goal.returns-in-Err-sync_noted-clause-kept
+returns-in-Err-sync_noted-clause-kept g c = c.forget_written.ensures.kept
+
+pub returns-in-Ok-sync_noted-clause-kept : goal.returns-in-Ok-sync_noted-clause-kept
+returns-in-Ok-sync_noted-clause-kept g c = c.forget_written.ensures.kept
+
+pub returns-in-Err-clause-does : goal.returns-in-Err-clause-does
+returns-in-Err-clause-does g c =
+    let r = c.args.ring.now in
+    let xs = refill_notes r.p r.metas.versions r.metas.order in
+    let ys = write_notes (area_of r.p c.args.epoch) (checkpoint_cells r.p) in
+    let zs = writes_of (log_gates r.p (suc c.args.epoch % 2)) in
+    does_err _ _ _ _ (end_write_notes r c.args.epoch) (StoreFault None) (first_more _ _ _ _ xs (ys ++ (zs ++ (note.Sync ∷ []))) c.in-Err.ensures.does.first)
+
+pub write-requires-clause-obeys : goal.write-requires-clause-obeys
+write-requires-clause-obeys g c =
+    let r = c.args.ring.now in
+    let kept = content_is c.tables.result.now r c.forget_written.new.self c.forget_written.ensures.kept c.forget_written.ensures.rows c.tables.ensures.book c.tables.ensures.metas c.tables.ensures.stash c.tables.ensures.counter in
+    subst (λ (q : Params). Obeys q (content_of c.tables.result.now)) (sym c.requires.params) (subst (λ (x : Content). Obeys r.p x) (sym kept) c.requires.obeys)
+
+pub write-requires-clause-sheet : goal.write-requires-clause-sheet
+write-requires-clause-sheet g c = c.requires.sheet ∙ ap (λ (q : Params). 96 * checkpoint_cells q) (sym c.requires.params)

@@ -1,14 +1,16 @@
 use Rattle.std.proofs.Common.{◌<◌, Ok, Err, ◌∙◌, ap, arith, subst, sym}
 use Rattle.std.specs.Prelude.{IfSome}
 use Rattle.ob_base.specs.declared.fault.Fault.{Fault}
-use Rattle.ob_base.specs.Planned.{job_at}
-use Rattle.ob_ring.specs.Ring.{Kept}
+use Rattle.ob_base.specs.Planned.{job_at, Planned}
+use Rattle.ob_ring.specs.Ring.{Kept, IsListed}
 use Rattle.ob_ring.specs.Settling.{rows_after}
-use Rattle.ob_recover.proofs.BatchLaws.{keys_low}
-use Rattle.ob_recover.specs.Repeats.{BatchTells}
+use Rattle.ob_recover.proofs.BatchLaws.{keys_low, stands_kept}
+use Rattle.ob_recover.specs.Repeats.{BatchTells, IsRepeatFault}
 use Rattle.ob_ending.proofs.LiftReads.{lifted_badly, lifted_well, lifts_tell, not_lifted, planned_few, rows_join}
 use Rattle.ob_ending.proofs.LiftsStand.{undamaged}
 use Rattle.ob_ending.specs.Lifts.{LiftsAnswer, lift_cells, lift_notes}
+use Rattle.ob_ring.specs.Picked.{SameSeals}
+use Rattle.ob_store.specs.Calls.{IsStoreFault, Serves}
 use Rattle.ob_ending.proofs.lifting.read_lifts.Goals as goal
 
 pub read_jobs-requires : goal.read_jobs-requires
@@ -80,3 +82,62 @@ returns-in-Err-settle-clause-told g c = λ start t seals stands.
     subst (λ (f : Fault). BatchTells c.args.crew.now.lanes (lift_cells p start.versions t) (lift_notes p start.versions t) (g.S.Store.disk c.args.store.now).seen (g.S.Store.disk c.read_jobs.new.store).seen
     (g.W.Watch.trace c.args.watch.now) (g.W.Watch.trace c.read_jobs.new.watch) (Err f)) (sym c.from.ensures)
     (lifts_tell c.args.crew.now.lanes c.args.ring.now c.plan_lifts.new.self c.plan_lifts.new.jobs start t seals (c.plan_lifts.ensures.planned t stands) _ _ _ _ (Ok tt) c.in-Ok.ensures.told)
+
+pub returns-in-Err-clause-serves : goal.returns-in-Err-clause-serves
+returns-in-Err-clause-serves g c = c.in-Err.ensures.serves
+
+pub returns-in-Err-clause-faults : goal.returns-in-Err-clause-faults
+returns-in-Err-clause-faults g c = c.in-Err.ensures.faults
+
+pub returns-in-Err-clause-rooms : goal.returns-in-Err-clause-rooms
+returns-in-Err-clause-rooms g c = (ap (λ (j : Planned). j.room) c.read_jobs.ensures.rest ∙ c.plan_lifts.ensures.rooms.0, ap (λ (j : Planned). j.place_room) c.read_jobs.ensures.rest ∙ c.plan_lifts.ensures.rooms.1)
+
+pub returns-in-Ok-settle-clause-rooms : goal.returns-in-Ok-settle-clause-rooms
+returns-in-Ok-settle-clause-rooms g c = (ap (λ (j : Planned). j.room) c.read_jobs.ensures.rest ∙ c.plan_lifts.ensures.rooms.0, ap (λ (j : Planned). j.place_room) c.read_jobs.ensures.rest ∙ c.plan_lifts.ensures.rooms.1)
+
+pub returns-in-Err-settle-clause-rooms : goal.returns-in-Err-settle-clause-rooms
+returns-in-Err-settle-clause-rooms g c = (ap (λ (j : Planned). j.room) c.read_jobs.ensures.rest ∙ c.plan_lifts.ensures.rooms.0, ap (λ (j : Planned). j.place_room) c.read_jobs.ensures.rest ∙ c.plan_lifts.ensures.rooms.1)
+
+pub returns-in-Err-clause-seals : goal.returns-in-Err-clause-seals
+returns-in-Err-clause-seals g c = c.plan_lifts.ensures.seals
+
+pub returns-in-Err-clause-listed : goal.returns-in-Err-clause-listed
+returns-in-Err-clause-listed g c = c.plan_lifts.ensures.listed
+
+pub returns-in-Err-clause-table : goal.returns-in-Err-clause-table
+returns-in-Err-clause-table g c = λ t stands. (c.plan_lifts.ensures.planned t stands).table
+
+pub returns-in-Ok-settle-clause-serves : goal.returns-in-Ok-settle-clause-serves
+returns-in-Ok-settle-clause-serves g c = c.in-Ok.ensures.serves
+
+pub returns-in-Err-settle-clause-serves : goal.returns-in-Err-settle-clause-serves
+returns-in-Err-settle-clause-serves g c =
+    let serves = c.read_jobs.ensures.serves in
+    subst (λ (f : Fault). Serves {T = Unit {0}} IsStoreFault (g.S.Store.disk c.args.store.now) (g.S.Store.disk c.read_jobs.new.store) (Err f)) (sym c.from.ensures) (record { goes = serves.goes; out = serves.out; tells = tt; cause = λ never. absurd never })
+
+pub returns-in-Err-settle-clause-faults : goal.returns-in-Err-settle-clause-faults
+returns-in-Err-settle-clause-faults g c = subst IsRepeatFault (sym c.from.ensures) tt
+
+pub returns-in-Ok-settle-clause-room : goal.returns-in-Ok-settle-clause-room
+returns-in-Ok-settle-clause-room g c = c.in-Ok-settle.ensures.room ∙ ap (λ (r : Kept). (r.stash).room) c.plan_lifts.ensures.kept
+
+pub returns-in-Ok-settle-clause-seals : goal.returns-in-Ok-settle-clause-seals
+returns-in-Ok-settle-clause-seals g c = subst (λ (r : Kept). SameSeals (record c.args.ring.now.metas { order = (r.metas).order }) r.metas) (sym c.in-Ok-settle.ensures.kept) c.plan_lifts.ensures.seals
+
+pub returns-in-Ok-settle-clause-listed : goal.returns-in-Ok-settle-clause-listed
+returns-in-Ok-settle-clause-listed g c = subst IsListed (sym c.in-Ok-settle.ensures.kept) c.plan_lifts.ensures.listed
+
+pub returns-in-Ok-settle-clause-table : goal.returns-in-Ok-settle-clause-table
+returns-in-Ok-settle-clause-table g c = λ t stands. stands_kept c.plan_lifts.new.self c.settle.new.self c.settle.new.self.stash c.in-Ok-settle.ensures.kept _ (c.plan_lifts.ensures.planned t stands).table
+
+pub returns-in-Err-settle-clause-room : goal.returns-in-Err-settle-clause-room
+returns-in-Err-settle-clause-room g c = c.in-Err-settle.ensures.room ∙ ap (λ (r : Kept). (r.stash).room) c.plan_lifts.ensures.kept
+
+pub returns-in-Err-settle-clause-seals : goal.returns-in-Err-settle-clause-seals
+returns-in-Err-settle-clause-seals g c = subst (λ (r : Kept). SameSeals (record c.args.ring.now.metas { order = (r.metas).order }) r.metas) (sym c.in-Err-settle.ensures.kept) c.plan_lifts.ensures.seals
+
+pub returns-in-Err-settle-clause-listed : goal.returns-in-Err-settle-clause-listed
+returns-in-Err-settle-clause-listed g c = subst IsListed (sym c.in-Err-settle.ensures.kept) c.plan_lifts.ensures.listed
+
+pub returns-in-Err-settle-clause-table : goal.returns-in-Err-settle-clause-table
+returns-in-Err-settle-clause-table g c = λ t stands. stands_kept c.plan_lifts.new.self c.settle.new.self c.settle.new.self.stash c.in-Err-settle.ensures.kept _ (c.plan_lifts.ensures.planned t stands).table

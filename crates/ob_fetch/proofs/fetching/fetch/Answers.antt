@@ -1,9 +1,12 @@
-use Rattle.std.proofs.Common.{◌≡◌, true, ◌<◌, ◌+◌, ◌-◌, ◌%◌, ◌^◌, ℕ, suc, List, [], ◌∷◌, ◌++◌, None, Option, Result, Ok, Err, refl, ap, sym, subst, ◌∙◌, arith}
-use Rattle.std.proofs.lemmas.Result.{err_from_is_err_and}
+use Rattle.std.proofs.Common.{◌≡◌, true, ◌<◌, ◌≤◌, ◌+◌, ◌-◌, ◌%◌, ◌^◌, ℕ, suc, List, [], ◌∷◌, ◌++◌, None, Option, length, Result, Ok, Err, refl, ap, sym, subst, ◌∙◌, arith, inl}
+use Rattle.std.proofs.lemmas.Result.{IfOk-from_err, err_from_is_err_and}
+use Rattle.std.proofs.lemmas.List.{length-take-le}
 use Rattle.std.specs.Prelude.{IfErr}
 use Rattle.ob_base.specs.declared.fault.Fault.{Fault}
 use Rattle.ob_base.specs.declared.fault.Fault.TheVariants.{StoreFault}
+use Rattle.ob_base.specs.declared.params.Params.{Params}
 use Rattle.ob_base.specs.Layout.{log_cell, record_cells}
+use Rattle.ob_base.specs.Planned.{most_jobs}
 use Rattle.ob_epoch.specs.Table.{buckets_of, flat_of}
 use Rattle.ob_log.specs.Appends.{HoldsRecord, append_notes}
 use Rattle.ob_log.specs.Logs.{OpenRecords}
@@ -12,19 +15,28 @@ use Rattle.ob_pads.specs.Seals.{CellsAreSealed}
 use Rattle.ob_ring.specs.Ring.{Kept}
 use Rattle.ob_seal.specs.Sealing.{Sealing}
 use Rattle.ob_stand.specs.Stands.{OneOf, with_record}
+use Rattle.ob_cells.specs.Writes.{Seals}
+use Rattle.ob_log.specs.Appends.{IsWornOut}
+use Rattle.ob_store.specs.Calls.{IsStoreFault, Serves}
 use Rattle.ob_store.specs.Disk.{Image}
 use Rattle.ob_ring_trace.proofs.Telling.{row_step}
 use Rattle.ob_store.proofs.Events.{none_noted}
+use Rattle.ob_store.proofs.Serving.{goes_same, if_err, serves_then}
 use Rattle.ob_store.proofs.Showing.{shows_none}
 use Rattle.ob_store.specs.Told.{Tells, TellsFirst}
 use Rattle.ob_tables.specs.Kept.{Held}
 use Rattle.ob_fetch.proofs.AnswerLaws.{item_got}
-use Rattle.ob_fetch.proofs.FetchLaws.{answers_as, answers_refused, begun_leaves, cells_same, does_refused, leaves_none, leaves_read, moves_as, next_is, settled_then, tells_as, within_next, within_then}
+use Rattle.ob_fetch.proofs.FetchLaws.{answers_as, answers_refused, begun_leaves, cells_same, does_refused, draws_refused, drawn_many, enough_left, fetch_fault, leaves_none, leaves_read, moves_as, next_is, not_worn, settled_then, tells_as, within_next, within_then}
 use Rattle.ob_fetch.proofs.ScheduleLaws.{open_begun, open_cut, batch_room, plans_as, plans_more, begun_shown, shown_begun, shown_cut, shown_well}
 use Rattle.ob_fetch.proofs.NextLaws.{Begun, answers_then, refused_then, runs_as, runs_next, seals_listed, stands_as, stands_listed, stands_then}
-use Rattle.ob_fetch.specs.Fetches.{AreMapValues, FetchAnswers, values_asked, next_batch, record_next, words_since}
+use Rattle.ob_fetch.specs.Fetches.{AreMapValues, FetchAnswers, FetchDraws, FetchStands, IsFetchRefusal, values_asked, next_batch, record_next, words_since, FetchDoes}
 use Rattle.ob_fetch.specs.declared.run.Run.{Run}
 use Rattle.ob_fetch.proofs.fetching.fetch.Goals as goal
+
+-- ---- worn
+
+pub returns-then-is_worn-clause-serves : goal.returns-then-is_worn-clause-serves
+returns-then-is_worn-clause-serves g c = record { goes = goes_same (g.S.Store.disk c.args.store.now); out = omega arith; tells = tt; cause = λ blamed. absurd blamed }
 
 pub returns-then-is_worn-clause-images : goal.returns-then-is_worn-clause-images
 returns-then-is_worn-clause-images g c =
@@ -34,6 +46,31 @@ pub returns-then-is_worn-clause-scheduled : goal.returns-then-is_worn-clause-sch
 returns-then-is_worn-clause-scheduled g c =
     ([], shows_none (g.W.Watch.trace c.args.watch.now), tt, λ content rs was many. row_step c.args.crew.now.lanes [] (g.S.Store.disk c.args.store.now).seen (g.S.Store.disk c.args.store.now).seen (none_noted (g.S.Store.disk c.args.store.now).seen))
 
+-- ---- the conditions of the calls
+
+pub read_batch-requires-clause-asks : goal.read_batch-requires-clause-asks
+read_batch-requires-clause-asks g c = c.requires.whole ∙ ap (λ (q : Params). q.places) (sym c.requires.ready.params)
+
+pub read_batch-requires-clause-words : goal.read_batch-requires-clause-words
+read_batch-requires-clause-words g c =
+    let room = c.begin_batch.ensures.room in
+    let most = c.requires.ready.words in
+    ap length c.front.ensures ∙ length-take-le c.args.run.now.params.places c.begin_batch.new.words.items (omega arith) ∙ ap (λ (q : Params). q.places) (sym c.requires.ready.params)
+
+pub read_batch-requires-clause-keys_low : goal.read_batch-requires-clause-keys_low
+read_batch-requires-clause-keys_low g c =
+    λ i k is. subst (λ (q : Params). k < q.keys) (sym c.requires.ready.params) (c.requires.keys i k (item_got c.args.asks.now i k is))
+
+pub read_batch-requires-clause-stands : goal.read_batch-requires-clause-stands
+read_batch-requires-clause-stands g c = c.requires.ready.table
+
+pub read_batch-requires-clause-jobs : goal.read_batch-requires-clause-jobs
+read_batch-requires-clause-jobs g c =
+    let ps = sym c.requires.ready.params in (c.requires.ready.rooms.0 ∙ ap most_jobs ps, c.requires.ready.rooms.1 ∙ ap (λ (q : Params). q.places) ps)
+
+pub read_batch-requires-clause-crew : goal.read_batch-requires-clause-crew
+read_batch-requires-clause-crew g c = subst (λ (q : Params). most_jobs q ≤ c.args.crew.now.jobs) (sym c.requires.ready.params) c.requires.crew
+
 pub begin_batch-requires-clause-keys_low : goal.begin_batch-requires-clause-keys_low
 begin_batch-requires-clause-keys_low g c =
     λ i k is. c.requires.keys i k (item_got c.args.asks.now i k is)
@@ -41,6 +78,80 @@ begin_batch-requires-clause-keys_low g c =
 pub begin_batch-requires-clause-keys_apart : goal.begin_batch-requires-clause-keys_apart
 begin_batch-requires-clause-keys_apart g c =
     λ i j k a b. c.requires.distinct i j k (item_got c.args.asks.now i k a) (item_got c.args.asks.now j k b)
+
+-- ---- refused while the batch was begun
+
+pub returns-in_err-begin_batch-clause-serves : goal.returns-in_err-begin_batch-clause-serves
+returns-in_err-begin_batch-clause-serves g c =
+    let exit = err_from_is_err_and c.from_residual.result c.from_residual.ensures.1 in
+    subst (λ (x : Result (Unit {0}) Fault). Serves IsStoreFault (g.S.Store.disk c.args.store.now) (g.S.Store.disk c.begin_batch.new.store) x) (sym (exit.1 ∙ ap Err exit.2)) c.in_err-begin_batch.ensures.serves
+
+pub returns-in_err-begin_batch-clause-faults : goal.returns-in_err-begin_batch-clause-faults
+returns-in_err-begin_batch-clause-faults g c =
+    let exit = err_from_is_err_and c.from_residual.result c.from_residual.ensures.1 in
+    let refused : c.from_residual.result ≡ Err (StoreFault None) = exit.1 ∙ ap Err (exit.2 ∙ c.in_err-begin_batch.ensures.faults) in
+    subst (λ (x : Result (Unit {0}) Fault). IfErr x IsFetchRefusal) (sym refused) refl
+
+pub returns-in_err-begin_batch-clause-worn : goal.returns-in_err-begin_batch-clause-worn
+returns-in_err-begin_batch-clause-worn g c =
+    let exit = err_from_is_err_and c.from_residual.result c.from_residual.ensures.1 in
+    let refused : c.from_residual.result ≡ Err (StoreFault None) = exit.1 ∙ ap Err (exit.2 ∙ c.in_err-begin_batch.ensures.faults) in
+    ((λ worn. absurd (subst IsWornOut refused worn)), (λ worn. absurd (enough_left c.args.run.now _ c.if-is_worn.false c.is_worn.ensures worn)))
+
+pub returns-in_err-begin_batch-clause-idle : goal.returns-in_err-begin_batch-clause-idle
+returns-in_err-begin_batch-clause-idle g c =
+    let exit = err_from_is_err_and c.from_residual.result c.from_residual.ensures.1 in
+    let refused : c.from_residual.result ≡ Err (StoreFault None) = exit.1 ∙ ap Err (exit.2 ∙ c.in_err-begin_batch.ensures.faults) in
+    λ worn. absurd (subst IsWornOut refused worn)
+
+pub returns-in_err-begin_batch-clause-draws : goal.returns-in_err-begin_batch-clause-draws
+returns-in_err-begin_batch-clause-draws g c =
+    let exit = err_from_is_err_and c.from_residual.result c.from_residual.ensures.1 in
+    let refused : c.from_residual.result ≡ Err (StoreFault None) = exit.1 ∙ ap Err (exit.2 ∙ c.in_err-begin_batch.ensures.faults) in
+    subst (λ (x : Result (Unit {0}) Fault). FetchDraws c.args.run.now.params.places (g.T.Tape.drawn c.args.tape.now) (g.T.Tape.drawn c.begin_batch.new.tape) x) (sym refused) c.begin_batch.ensures.draws
+
+pub returns-in_err-begin_batch-clause-drawn : goal.returns-in_err-begin_batch-clause-drawn
+returns-in_err-begin_batch-clause-drawn g c = ap (λ (n : ℕ). n + c.args.run.now.params.places) c.requires.drawn ∙ sym (drawn_many c.args.run.now.params.places _ _ c.begin_batch.ensures.draws)
+
+pub returns-in_err-begin_batch-clause-seals : goal.returns-in_err-begin_batch-clause-seals
+returns-in_err-begin_batch-clause-seals g c =
+    let exit = err_from_is_err_and c.from_residual.result c.from_residual.ensures.1 in
+    subst (λ (x : Result (Unit {0}) Fault). Seals (record_cells c.args.run.now.params) c.args.run.now.sealer c.begin_batch.new.sealer x) (sym (exit.1 ∙ ap Err exit.2)) c.in_err-begin_batch.ensures.seals
+
+pub returns-in_err-begin_batch-clause-sealed : goal.returns-in_err-begin_batch-clause-sealed
+returns-in_err-begin_batch-clause-sealed g c = λ tells. IfOk-from_err c.from_residual.result _ c.from_residual.ensures.0
+
+pub returns-in_err-begin_batch-clause-served : goal.returns-in_err-begin_batch-clause-served
+returns-in_err-begin_batch-clause-served g c = IfOk-from_err c.from_residual.result _ c.from_residual.ensures.0
+
+pub returns-in_err-begin_batch-clause-refused : goal.returns-in_err-begin_batch-clause-refused
+returns-in_err-begin_batch-clause-refused g c = if_err _ c.from_residual.result (refl, refl, refl)
+
+pub returns-in_err-begin_batch-clause-ready : goal.returns-in_err-begin_batch-clause-ready
+returns-in_err-begin_batch-clause-ready g c = IfOk-from_err c.from_residual.result _ c.from_residual.ensures.0
+
+pub returns-in_err-begin_batch-clause-fit : goal.returns-in_err-begin_batch-clause-fit
+returns-in_err-begin_batch-clause-fit g c = λ fit. IfOk-from_err c.from_residual.result _ c.from_residual.ensures.0
+
+pub returns-in_err-begin_batch-clause-moves : goal.returns-in_err-begin_batch-clause-moves
+returns-in_err-begin_batch-clause-moves g c = IfOk-from_err c.from_residual.result _ c.from_residual.ensures.0
+
+pub returns-in_err-begin_batch-clause-answers : goal.returns-in_err-begin_batch-clause-answers
+returns-in_err-begin_batch-clause-answers g c = IfOk-from_err c.from_residual.result _ c.from_residual.ensures.0
+
+pub returns-in_err-begin_batch-clause-durable : goal.returns-in_err-begin_batch-clause-durable
+returns-in_err-begin_batch-clause-durable g c = λ tells. IfOk-from_err c.from_residual.result _ c.from_residual.ensures.0
+
+pub returns-in_err-begin_batch-clause-onward : goal.returns-in_err-begin_batch-clause-onward
+returns-in_err-begin_batch-clause-onward g c = λ content rs was many. IfOk-from_err c.from_residual.result _ c.from_residual.ensures.0
+
+pub returns-in_err-begin_batch-clause-value : goal.returns-in_err-begin_batch-clause-value
+returns-in_err-begin_batch-clause-value g c =
+    let exit = err_from_is_err_and c.from_residual.result c.from_residual.ensures.1 in
+    let refused : c.from_residual.result ≡ Err (StoreFault None) = exit.1 ∙ ap Err (exit.2 ∙ c.in_err-begin_batch.ensures.faults) in
+    let run = c.args.run.now in
+    let r = record_next run c.args.asks.now (words_since (g.T.Tape.drawn c.args.tape.now) (g.T.Tape.drawn c.begin_batch.new.tape)) in
+    λ start t seals stands tells. subst (λ (x : Result (Unit {0}) Fault). FetchAnswers run.sealer.keys run.params start.versions (g.S.Store.disk c.begin_batch.new.store).cells t r run.ring.stash.rows run.ring.stash.rows x) (sym refused) tt
 
 pub returns-in_err-begin_batch-clause-within : goal.returns-in_err-begin_batch-clause-within
 returns-in_err-begin_batch-clause-within g c =
@@ -74,6 +185,28 @@ returns-in_err-begin_batch-clause-scheduled g c =
           old.seen mid.seen (g.W.Watch.trace c.args.watch.now) (g.W.Watch.trace c.begin_batch.new.watch) g.S.Store.disk run.sealer.keys c.args.store.now c.begin_batch.new.store first c.from_residual.result,
       λ content rs was many. begun_shown c.from_residual.result c.from_residual.ensures.0 cause c.args.crew.now.lanes (append_notes p (suc run.epoch) (next_batch run)) _ first.shown old.seen mid.seen front,
     )
+
+-- ---- refused while the batch was read
+
+pub returns-in-Err-clause-serves : goal.returns-in-Err-clause-serves
+returns-in-Err-clause-serves g c =
+    let first = c.begin_batch.ensures.serves in
+    serves_then IsStoreFault _ (g.S.Store.disk c.begin_batch.new.store) _ (Err c.in-Err.fault) first.goes first.out c.in_ok-begin_batch.ensures.serves.tells c.in-Err.ensures.serves
+
+pub returns-in-Err-clause-faults : goal.returns-in-Err-clause-faults
+returns-in-Err-clause-faults g c = fetch_fault c.in-Err.fault c.in-Err.ensures.faults
+
+pub returns-in-Err-clause-worn : goal.returns-in-Err-clause-worn
+returns-in-Err-clause-worn g c = ((λ worn. absurd (not_worn c.in-Err.fault c.in-Err.ensures.faults worn)), (λ worn. absurd (enough_left c.args.run.now _ c.if-is_worn.false c.is_worn.ensures worn)))
+
+pub returns-in-Err-clause-idle : goal.returns-in-Err-clause-idle
+returns-in-Err-clause-idle g c = λ worn. absurd (not_worn c.in-Err.fault c.in-Err.ensures.faults worn)
+
+pub returns-in-Err-clause-draws : goal.returns-in-Err-clause-draws
+returns-in-Err-clause-draws g c = draws_refused c.args.run.now.params.places _ _ c.in-Err.fault c.in-Err.ensures.faults c.begin_batch.ensures.draws
+
+pub returns-in-Err-clause-drawn : goal.returns-in-Err-clause-drawn
+returns-in-Err-clause-drawn g c = ap (λ (n : ℕ). n + c.args.run.now.params.places) c.requires.drawn ∙ sym (drawn_many c.args.run.now.params.places _ _ c.begin_batch.ensures.draws)
 
 pub returns-in-Err-clause-within : goal.returns-in-Err-clause-within
 returns-in-Err-clause-within g c =
@@ -185,6 +318,34 @@ returns-in-Err-clause-images g c =
     leaves_read (OneOf keys p s (with_record s r)) old mid new (g.met.S.Store.only_now c.begin_batch.new.store) (g.met.S.Store.counts_now c.begin_batch.new.store)
     (begun_leaves run s r old mid was (record { some = c.requires.some_left; few = c.requires.ready.few; is = refl; obeys = c.begin_batch.ensures.obeys; within = (within_next run old mid c.begin_batch.ensures.within).rest was.tells })
     (g.met.S.Store.only_now c.args.store.now) c.begin_batch.ensures.within c.begin_batch.ensures.images) c.read_batch.ensures.passes
+
+-- ---- read
+
+pub returns-clause-serves : goal.returns-clause-serves
+returns-clause-serves g c =
+    let first = c.begin_batch.ensures.serves in
+    serves_then IsStoreFault _ (g.S.Store.disk c.begin_batch.new.store) _ (Ok tt) first.goes first.out c.in_ok-begin_batch.ensures.serves.tells c.in-Ok.ensures.serves
+
+pub returns-clause-worn : goal.returns-clause-worn
+returns-clause-worn g c = ((λ worn. absurd worn), (λ worn. absurd (enough_left c.args.run.now _ c.if-is_worn.false c.is_worn.ensures worn)))
+
+pub returns-clause-draws : goal.returns-clause-draws
+returns-clause-draws g c = c.begin_batch.ensures.draws
+
+pub returns-clause-drawn : goal.returns-clause-drawn
+returns-clause-drawn g c = ap (λ (n : ℕ). n + c.args.run.now.params.places) c.requires.drawn ∙ sym (drawn_many c.args.run.now.params.places _ _ c.begin_batch.ensures.draws)
+
+pub returns-clause-fit : goal.returns-clause-fit
+returns-clause-fit g c = λ fit. c.in-Ok.ensures.fit fit
+
+pub returns-clause-words : goal.returns-clause-words
+returns-clause-words g c = c.begin_batch.ensures.room
+
+pub returns-clause-answers : goal.returns-clause-answers
+returns-clause-answers g c = c.answer_all.ensures ∙ ap (λ (st : Held). values_asked st.rows c.args.asks.now) c.tables.ensures.stash
+
+pub returns-clause-durable : goal.returns-clause-durable
+returns-clause-durable g c = λ tells. settled_then _ _ (c.in_ok-begin_batch.ensures.serves.tells tells) (c.in_ok-begin_batch.ensures.durable tells) c.read_batch.ensures.keeps c.read_batch.ensures.passes
 
 pub returns-clause-ready : goal.returns-clause-ready
 returns-clause-ready g c =
@@ -341,3 +502,28 @@ returns-clause-images g c =
     leaves_read (OneOf keys p s (with_record s r)) old mid new (g.met.S.Store.only_now c.begin_batch.new.store) (g.met.S.Store.counts_now c.begin_batch.new.store)
     (begun_leaves run s r old mid was (record { some = c.requires.some_left; few = c.requires.ready.few; is = refl; obeys = c.begin_batch.ensures.obeys; within = (within_next run old mid c.begin_batch.ensures.within).rest was.tells })
     (g.met.S.Store.only_now c.args.store.now) c.begin_batch.ensures.within c.begin_batch.ensures.images) c.read_batch.ensures.passes
+
+pub returns-in_err-begin_batch-clause-does : goal.returns-in_err-begin_batch-clause-does
+returns-in_err-begin_batch-clause-does g c =
+    let run = c.args.run.now in
+    let p = run.params in
+    let mid = g.S.Store.disk c.begin_batch.new.store in
+    let r = record_next run c.args.asks.now (words_since (g.T.Tape.drawn c.args.tape.now) (g.T.Tape.drawn c.begin_batch.new.tape)) in
+    let exit = err_from_is_err_and c.from_residual.result c.from_residual.ensures.1 in
+    let refused : c.from_residual.result ≡ Err (StoreFault None) = exit.1 ∙ ap Err (exit.2 ∙ c.in_err-begin_batch.ensures.faults) in
+    let first = subst (λ (e : ℕ). TellsFirst (append_notes p e (next_batch run)) (g.S.Store.disk c.args.store.now).seen mid.seen (g.W.Watch.trace c.args.watch.now) (g.W.Watch.trace c.begin_batch.new.watch)) (next_is run.epoch)
+    c.in_err-begin_batch.ensures.does.first in
+    λ start t seals stands.
+    subst
+    (λ (x : Result (Unit {0}) Fault). FetchDoes g.S.Store.disk c.args.crew.now.lanes run.sealer.keys p (suc run.epoch) r (batch_cells p start.versions t (asked_of_record p r)) (repeated_notes p start.versions t (asked_of_record p r)) c.args.store.now c.begin_batch.new.store
+    (g.W.Watch.trace c.args.watch.now) (g.W.Watch.trace c.begin_batch.new.watch) x) (sym refused) (inl first)
+
+pub returns-in_err-begin_batch-clause-stands : goal.returns-in_err-begin_batch-clause-stands
+returns-in_err-begin_batch-clause-stands g c =
+    let run = c.args.run.now in
+    let p = run.params in
+    let mid = g.S.Store.disk c.begin_batch.new.store in
+    let r = record_next run c.args.asks.now (words_since (g.T.Tape.drawn c.args.tape.now) (g.T.Tape.drawn c.begin_batch.new.tape)) in
+    let exit = err_from_is_err_and c.from_residual.result c.from_residual.ensures.1 in
+    let refused : c.from_residual.result ≡ Err (StoreFault None) = exit.1 ∙ ap Err (exit.2 ∙ c.in_err-begin_batch.ensures.faults) in
+    λ s was. subst (λ (x : Result (Unit {0}) Fault). FetchStands s r c.args.asks.now mid (record run { sealer = c.begin_batch.new.sealer; drawn = run.drawn + p.places; spent = true; words = c.begin_batch.new.words }) c.args.out.now x) (sym refused) tt

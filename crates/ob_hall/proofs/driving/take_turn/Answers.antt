@@ -54,3 +54,27 @@ returns-clause-turn g c = makes_step (g.U.Runner.turn (g.U.Runner.plan c.args.ru
 
 pub returns-clause-behind : goal.returns-clause-behind
 returns-clause-behind g c = stands_behind c.args.turns.now c.enter_behind-desk.new.pass c.leave_client.new.pass c.enter_behind-desk.result.1 (steps_of c.step-step.result.1) c.enter_behind-desk.ensures.behind c.leave_client.ensures.left
+
+pub enter_behind-desk-requires-clause-own : goal.enter_behind-desk-requires-clause-own
+enter_behind-desk-requires-clause-own g c = c.requires.ready.own
+
+pub enter_behind-desk-requires-clause-idle : goal.enter_behind-desk-requires-clause-idle
+enter_behind-desk-requires-clause-idle g c = c.requires.ready.idle
+
+pub leave_client-requires-clause-own : goal.leave_client-requires-clause-own
+leave_client-requires-clause-own g c = c.enter_behind-desk.ensures.own
+
+pub leave_client-requires-clause-inside : goal.leave_client-requires-clause-inside
+leave_client-requires-clause-inside g c = c.enter_behind-desk.ensures.entered.enters.inside
+
+pub returns-clause-client : goal.returns-clause-client
+returns-clause-client g c = c.step-step.ensures.client
+
+pub returns-clause-bound : goal.returns-clause-bound
+returns-clause-bound g c = c.step-step.ensures.bound
+
+pub returns-clause-plan : goal.returns-clause-plan
+returns-clause-plan g c = c.step-step.ensures.plan
+
+pub returns-clause-ready : goal.returns-clause-ready
+returns-clause-ready g c = turning.ready_after c.args.hall.now c.args.pass.now c.enter_behind-desk.new.pass c.enter_behind-desk.result.0 c.requires.ready c.enter_behind-desk.ensures.entered c.leave_client.new.pass (steps_of c.step-step.result.1) c.leave_client.ensures.left

@@ -6,6 +6,7 @@ use Rattle.ob_base.proofs.Bounds.{cells_le}
 use Rattle.ob_store.specs.Calls.{IsFailed, IsStoreFault}
 use Rattle.ob_store.proofs.Doing.{does_err}
 use Rattle.ob_store.proofs.Serving.{serves_then, serves_err}
+use Rattle.ob_store.proofs.Keeping.{serves_none}
 use Rattle.ob_store.proofs.Lanes.{first_none}
 use Rattle.ob_store.proofs.Events.{none_noted}
 use Rattle.ob_cells.specs.Runs.{IsFurther}
@@ -126,3 +127,14 @@ returns-in-Ok-write_through-clause-written g c = λ tells.
     (g.S.Store.disk c.write_sure.new.store).cells c.log_cell-base.ensures.cell c.record_cells-many.ensures.cells (c.as_slice.ensures.value ∙ c.record_bytes-bytes.ensures c.args.sealer.now.generation c.args.sealer.now.next) (c.in-Ok.ensures.run.written tells) in
     holds_record c.args.sealer.now.keys c.args.p.now c.args.epoch c.args.batch (record_for c.args.sealer.now c.args.batch c.args.first c.args.asks.now c.args.words.now) c.log_gate.result c.log_gate.ensures.cell
     (g.S.Store.disk c.write_sure.new.store).cells (g.S.Store.disk c.write_through.new.store).cells spells (c.in-Ok-write_through.ensures.rest told) (c.in-Ok-write_through.ensures.written told ∙ c.open_gate.ensures)
+
+-- ---- what each of them says of the store
+
+pub returns-then-next-many-clause-serves : goal.returns-then-next-many-clause-serves
+returns-then-next-many-clause-serves g c = serves_none IsStoreFault (g.S.Store.disk c.args.store.now) _ (λ blamed. blamed)
+
+pub returns-in-Err-clause-serves : goal.returns-in-Err-clause-serves
+returns-in-Err-clause-serves g c = serves_err IsFailed IsStoreFault _ _ _ _ (λ told. tt) c.in-Err.ensures.serves
+
+pub returns-in-Ok-write_through-clause-durable : goal.returns-in-Ok-write_through-clause-durable
+returns-in-Ok-write_through-clause-durable g c = λ tells. c.in-Ok-write_through.ensures.durable (c.in-Ok.ensures.serves.tells tells)

@@ -1,6 +1,10 @@
 use Rattle.ob_store.specs.Runs.{write_notes}
 use Rattle.ob_store.proofs.Doing.{does_sync}
 use Rattle.ob_cells.proofs.Written.{refused_run, run_synced}
+use Rattle.std.proofs.lemmas.Result.{IfOk-from_err}
+use Rattle.ob_store.specs.Calls.{IsFailed}
+use Rattle.ob_store.proofs.Serving.{serves_then}
+use Rattle.ob_store.proofs.Keeping.{serves_failed}
 use Rattle.ob_log.proofs.appending.write_sure.Goals as goal
 
 pub returns-in_err-write_sealed-clause-run : goal.returns-in_err-write_sealed-clause-run
@@ -18,3 +22,17 @@ returns-clause-run g c =
 
 pub returns-clause-does : goal.returns-clause-does
 returns-clause-does g c = does_sync _ _ _ _ _ _ (write_notes c.args.base c.args.many) c.sync_noted.result c.in_ok-write_sealed.ensures.does.all c.sync_noted.ensures.told
+
+pub returns-in_err-write_sealed-clause-serves : goal.returns-in_err-write_sealed-clause-serves
+returns-in_err-write_sealed-clause-serves g c = serves_failed _ _ _ c.from_residual.result c.from_residual.ensures.0 c.in_err-write_sealed.ensures.serves
+
+pub returns-in_err-write_sealed-clause-durable : goal.returns-in_err-write_sealed-clause-durable
+returns-in_err-write_sealed-clause-durable g c = λ tells. IfOk-from_err c.from_residual.result _ c.from_residual.ensures.0
+
+pub returns-clause-serves : goal.returns-clause-serves
+returns-clause-serves g c =
+    let written = c.in_ok-write_sealed.ensures.serves in
+    serves_then IsFailed _ (g.S.Store.disk c.write_sealed.new.store) _ c.sync_noted.result written.goes written.out written.tells c.sync_noted.ensures.serves
+
+pub returns-clause-durable : goal.returns-clause-durable
+returns-clause-durable g c = λ tells. c.sync_noted.ensures.durable (c.in_ok-write_sealed.ensures.serves.tells tells)

@@ -1,6 +1,6 @@
 use Rattle.std.proofs.Common.{◌≡◌, ◌<◌, is_some, true, nat_eq, nat_cmp, Result, Ok, Err, OnOk, is_ok, sym, ap, ◌∙◌, subst}
 use Rattle.std.specs.FinMap as finite
-use Rattle.indexmap.specs.IndexMap.{spare}
+use Rattle.std.specs.HashMap.{spare}
 use Rattle.std.proofs.lemmas.Bool.{false≢true}
 use Rattle.std.specs.Map.{lookup}
 use Rattle.std.specs.Option.{option_copied_mut}

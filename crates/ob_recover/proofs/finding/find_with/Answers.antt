@@ -1,9 +1,11 @@
 use Rattle.std.proofs.Common.{◌≡◌, suc, ◌+◌, Err, Ok, ◌++◌, sym, subst, ◌∙◌}
 use mathlib.Core.Path.{fun_ext}
 use Rattle.ob_base.specs.Layout.{checkpoint_cells}
+use Rattle.ob_store.specs.Calls.{IsStoreFault}
 use Rattle.ob_store.specs.Disk.{Image}
 use Rattle.ob_store.specs.Told.{Tells, TellsFirst}
 use Rattle.ob_store.proofs.Doing.{tells_then, first_more, first_behind}
+use Rattle.ob_store.proofs.Serving.{serves_err, serves_ok, serves_then}
 use Rattle.ob_cells.specs.Orders.{read_notes}
 use Rattle.ob_start.specs.Orders.{registers_notes}
 use Rattle.ob_log.specs.Logs.{OpenRecords}
@@ -27,6 +29,9 @@ returns-in-Err-clause-stands g c = λ s tells stands. registers_stand c.args.sea
 pub returns-in-Err-clause-does : goal.returns-in-Err-clause-does
 returns-in-Err-clause-does g c = registers_does c.args.sealer.now.keys c.args.p.now (g.S.Store.disk c.args.store.now) (g.S.Store.disk c.read_registers.new.store) (g.W.Watch.trace c.args.watch.now) (g.W.Watch.trace c.read_registers.new.watch) c.in-Err.fault
     c.in-Err.ensures.faults c.in-Err.ensures.does
+
+pub returns-in-Err-clause-serves : goal.returns-in-Err-clause-serves
+returns-in-Err-clause-serves g c = serves_err IsStoreFault IsStoreFault _ _ c.in-Err.fault c.in-Err.fault (λ f. f) c.in-Err.ensures.serves
 
 -- ---- refused at the checkpoint
 
@@ -84,6 +89,12 @@ returns-in-Err-read-clause-does g c =
       told = first_behind _ _ _ _ _ _ registers_notes (cells ++ area_notes p (suc numbers.epoch)) c.in-Ok.ensures.does
           (first_more _ _ _ _ cells (area_notes p (suc numbers.epoch)) (check_front p numbers.epoch one.seen mid.seen shown_one shown_mid c.in-Err-read.fault c.in-Err-read.ensures.faults c.in-Err-read.ensures.does));
     })
+
+pub returns-in-Err-read-clause-serves : goal.returns-in-Err-read-clause-serves
+returns-in-Err-read-clause-serves g c =
+    let first = c.read_registers.ensures.serves in
+    let fault = c.in-Err-read.fault in
+    serves_then IsStoreFault _ (g.S.Store.disk c.read_registers.new.store) _ (Err fault) first.goes first.out c.in-Ok.ensures.serves.tells (serves_err IsStoreFault IsStoreFault _ _ fault fault (λ f. f) c.in-Err-read.ensures.serves)
 
 -- ---- refused at the log
 
@@ -165,7 +176,23 @@ returns-in-Err-read_open-clause-does g c =
           (log_front (area_notes p (numbers.epoch + 1)) mid.seen new.seen shown_mid shown_new fault faults c.in-Err-read_open.ensures.does)));
     })
 
+pub returns-in-Err-read_open-clause-serves : goal.returns-in-Err-read_open-clause-serves
+returns-in-Err-read_open-clause-serves g c =
+    let first = c.read_registers.ensures.serves in
+    let second = c.read.ensures.serves in
+    let fault = c.in-Err-read_open.fault in
+    serves_then IsStoreFault _ (g.S.Store.disk c.read_registers.new.store) _ (Err fault) first.goes first.out c.in-Ok.ensures.serves.tells
+    (serves_then IsStoreFault _ (g.S.Store.disk c.read.new.store) _ (Err fault) second.goes second.out c.in-Ok-read.ensures.serves.tells (serves_err IsStoreFault IsStoreFault _ _ fault fault (λ f. f) c.in-Err-read_open.ensures.serves))
+
 -- ---- found
+
+pub returns-clause-serves : goal.returns-clause-serves
+returns-clause-serves g c =
+    let first = c.read_registers.ensures.serves in
+    let second = c.read.ensures.serves in
+    let third = c.read_open.ensures.serves in
+    serves_then IsStoreFault _ (g.S.Store.disk c.read_registers.new.store) _ (Ok _) first.goes first.out c.in-Ok.ensures.serves.tells
+    (serves_then IsStoreFault _ (g.S.Store.disk c.read.new.store) _ (Ok _) second.goes second.out c.in-Ok-read.ensures.serves.tells (serves_ok IsStoreFault _ _ _ third.goes third.out c.in-Ok-read_open.ensures.serves.tells))
 
 pub returns-clause-obeys : goal.returns-clause-obeys
 returns-clause-obeys g c = record { content = c.in-Ok-read.ensures.obeys.0; idle = c.in-Ok-read.ensures.obeys.1; records = c.in-Ok-read_open.ensures.fit }

@@ -1,16 +1,18 @@
-use Rattle.std.proofs.Common.{◌<◌, Ok, Err, ◌∙◌, ap, arith, subst, sym}
+use Rattle.std.proofs.Common.{◌<◌, Ok, Err, ◌∙◌, ap, arith, subst, sym, []}
 use Rattle.std.specs.Prelude.{IfSome}
 use Rattle.ob_base.specs.declared.fault.Fault.{Fault}
-use Rattle.ob_base.specs.Planned.{job_at}
-use Rattle.ob_ring.specs.Picked.{batch_picked}
+use Rattle.ob_base.specs.Planned.{job_at, Planned}
+use Rattle.ob_ring.specs.Picked.{batch_picked, SameSeals}
 use Rattle.ob_ring.specs.Ring.{Kept}
 use Rattle.ob_tables.specs.Kept.{entry_at}
 use Rattle.ob_ring.specs.Settling.{rows_after}
-use Rattle.ob_recover.specs.Repeats.{BatchAnswers, BatchTells, asked_of_record, batch_cells, repeated_notes}
+use Rattle.ob_recover.specs.Repeats.{BatchAnswers, BatchTells, asked_of_record, batch_cells, repeated_notes, IsRepeatFault}
 use Rattle.ob_recover.proofs.FitLaws.{fit_settled}
 use Rattle.ob_recover.proofs.ShowLaws.{are_placed}
 use Rattle.ob_recover.proofs.BatchLaws.{batch_few, batch_tells, keys_low, not_settled, rows_join, settled_badly, settled_well, stands_kept}
 use Rattle.ob_recover.specs.Repeats.{record_of}
+use Rattle.ob_bucket.specs.Buckets.{Buckets}
+use Rattle.ob_store.specs.Calls.{IsStoreFault, Serves}
 use Rattle.ob_recover.proofs.reading.read_batch.Goals as goal
 
 pub read_jobs-requires-clause-few : goal.read_jobs-requires-clause-few
@@ -109,3 +111,47 @@ returns-in-Err-settle-clause-entries g c = λ batch number k. ap (λ (r : Kept).
 
 pub returns-in-Err-settle-clause-table : goal.returns-in-Err-settle-clause-table
 returns-in-Err-settle-clause-table g c = λ batch number t stands. stands_kept c.plan.new.ring c.settle.new.self c.settle.new.self.stash c.in-Err-settle.ensures.kept _ (c.plan.ensures.planned batch number t stands).table
+
+pub returns-in-Err-clause-serves : goal.returns-in-Err-clause-serves
+returns-in-Err-clause-serves g c = c.in-Err.ensures.serves
+
+pub returns-in-Err-clause-faults : goal.returns-in-Err-clause-faults
+returns-in-Err-clause-faults g c = c.in-Err.ensures.faults
+
+pub returns-in-Err-clause-rooms : goal.returns-in-Err-clause-rooms
+returns-in-Err-clause-rooms g c = (ap (λ (j : Planned). j.room) c.read_jobs.ensures.rest ∙ c.plan.ensures.rooms.0, ap (λ (j : Planned). j.place_room) c.read_jobs.ensures.rest ∙ c.plan.ensures.rooms.1)
+
+pub returns-in-Ok-settle-clause-rooms : goal.returns-in-Ok-settle-clause-rooms
+returns-in-Ok-settle-clause-rooms g c = (ap (λ (j : Planned). j.room) c.read_jobs.ensures.rest ∙ c.plan.ensures.rooms.0, ap (λ (j : Planned). j.place_room) c.read_jobs.ensures.rest ∙ c.plan.ensures.rooms.1)
+
+pub returns-in-Err-settle-clause-rooms : goal.returns-in-Err-settle-clause-rooms
+returns-in-Err-settle-clause-rooms g c = (ap (λ (j : Planned). j.room) c.read_jobs.ensures.rest ∙ c.plan.ensures.rooms.0, ap (λ (j : Planned). j.place_room) c.read_jobs.ensures.rest ∙ c.plan.ensures.rooms.1)
+
+pub returns-in-Ok-settle-clause-serves : goal.returns-in-Ok-settle-clause-serves
+returns-in-Ok-settle-clause-serves g c = c.in-Ok.ensures.serves
+
+pub returns-in-Err-settle-clause-serves : goal.returns-in-Err-settle-clause-serves
+returns-in-Err-settle-clause-serves g c =
+    let serves = c.read_jobs.ensures.serves in
+    subst (λ (f : Fault). Serves {T = Unit {0}} IsStoreFault (g.S.Store.disk c.args.store.now) (g.S.Store.disk c.read_jobs.new.store) (Err f)) (sym c.from.ensures) (record { goes = serves.goes; out = serves.out; tells = tt; cause = λ never. absurd never })
+
+pub returns-in-Err-settle-clause-faults : goal.returns-in-Err-settle-clause-faults
+returns-in-Err-settle-clause-faults g c = subst IsRepeatFault (sym c.from.ensures) tt
+
+pub returns-in-Ok-settle-clause-room : goal.returns-in-Ok-settle-clause-room
+returns-in-Ok-settle-clause-room g c = c.in-Ok-settle.ensures.room ∙ ap (λ (r : Kept). (r.stash).room) c.plan.ensures.kept
+
+pub returns-in-Ok-settle-clause-seals : goal.returns-in-Ok-settle-clause-seals
+returns-in-Ok-settle-clause-seals g c = subst (λ (b : Buckets). SameSeals (record c.args.ring.now.metas { order = [] }) b) (sym (ap (λ (r : Kept). r.metas) c.in-Ok-settle.ensures.kept)) c.plan.ensures.seals
+
+pub returns-in-Err-settle-clause-room : goal.returns-in-Err-settle-clause-room
+returns-in-Err-settle-clause-room g c = c.in-Err-settle.ensures.room ∙ ap (λ (r : Kept). (r.stash).room) c.plan.ensures.kept
+
+pub returns-in-Err-settle-clause-seals : goal.returns-in-Err-settle-clause-seals
+returns-in-Err-settle-clause-seals g c = subst (λ (b : Buckets). SameSeals (record c.args.ring.now.metas { order = [] }) b) (sym (ap (λ (r : Kept). r.metas) c.in-Err-settle.ensures.kept)) c.plan.ensures.seals
+
+pub returns-in-Err-clause-seals : goal.returns-in-Err-clause-seals
+returns-in-Err-clause-seals g c = c.plan.ensures.seals
+
+pub returns-in-Err-clause-entries : goal.returns-in-Err-clause-entries
+returns-in-Err-clause-entries g c = c.plan.ensures.entries

@@ -1,7 +1,7 @@
 use Rattle.std.proofs.Common.{arith, length-drop}
-use Rattle.std.proofs.lemmas.List.{take_rest}
+use Rattle.std.proofs.lemmas.List.{take_all, take_rest}
 use Rattle.std.proofs.lemmas.Result.{err_from_is_err_and}
-use Rattle.ob_report.proofs.Gathering.{stopped_at, part_more}
+use Rattle.ob_report.proofs.Gathering.{nothing, gathers_whole, stopped_at, part_more}
 use Rattle.ob_report.proofs.page.put_bytes.Goals as goal
 
 pub returns-in_err-make_room : goal.returns-in_err-make_room
@@ -18,3 +18,9 @@ loop-at-preserved g c =
       within = omega (arith, part, length-drop c.loop-at.at c.args.bytes.now);
       whole = part_more c.args.bytes.now c.loop-at.at c.hold-at.result _ _ _ _ _ _ tt c.loop-at.invariant.whole c.in_ok-make_room.ensures.gathers held;
     }
+
+pub loop-at-init : goal.loop-at-init
+loop-at-init g c = record { within = omega arith; whole = nothing _ _ _ }
+
+pub returns : goal.returns
+returns g c = gathers_whole c.args.bytes.now _ _ tt (rw (take_all c.loop-at.at c.args.bytes.now c.loop-at-test.false) at c.loop-at.invariant.whole)

@@ -1,18 +1,12 @@
-use Rattle.std.proofs.Common.{◌∙◌, suc, length, map, sym, ap, subst, arith}
+use Rattle.std.proofs.Common.{◌∙◌, ◌∷◌, suc, length, sym, ap, subst, arith}
+use Rattle.std.proofs.lemmas.List.{length-map}
+use Rattle.ob_serial.specs.VaultKinds.{kind_of}
 use Rattle.ob_desk.specs.Desk.{MayOpen, new_desk}
-use Rattle.ob_hall.proofs.Seating.{few}
+use Rattle.ob_hall.specs.Opening.{ArePasses}
+use Rattle.ob_conduct.specs.Acts.{calls}
 use Rattle.ob_conduct.proofs.Moving.{goes_all}
 use Rattle.ob_run.proofs.Shapes.{idle}
 use Rattle.ob_run.proofs.in_threads.run_in_threads.Goals as goal
-
-pub make_room-requires : goal.make_room-requires
-make_room-requires g c =
-    let low = few (map g.U.Runner.client c.args.runners.now.items) c.requires.opens.rising c.requires.opens.named in
-    let same = ap length c.requires.clients in
-    omega (arith, low, same)
-
-pub returns-in_default-clause-done : goal.returns-in_default-clause-done
-returns-in_default-clause-done g c = (c.args.desk, idle _ _ c.args.params.now _ _ _ _ _ _ c.requires.fresh c.args.starts c.requires.none_made)
 
 pub open_hall-requires : goal.open_hall-requires
 open_hall-requires g c = record {
@@ -25,11 +19,29 @@ open_hall-requires g c = record {
   );
 }
 
-pub returns-in_default-open_hall-clause-done : goal.returns-in_default-open_hall-clause-done
-returns-in_default-open_hall-clause-done g c = (c.args.desk, idle _ _ c.args.params.now _ _ _ _ _ _ c.requires.fresh c.args.starts c.requires.none_made)
+pub returns-in_default-clause-done : goal.returns-in_default-clause-done
+returns-in_default-clause-done g c = (c.args.desk, idle _ _ c.args.params.now _ _ _ _ _ _ c.requires.fresh c.args.starts c.requires.none_made)
+
+pub serve_hall-requires-clause-fresh : goal.serve_hall-requires-clause-fresh
+serve_hall-requires-clause-fresh g c κs within = c.in-Ok.ensures.desk ∙ c.requires.fresh
+
+pub serve_hall-requires-clause-passes : goal.serve_hall-requires-clause-passes
+serve_hall-requires-clause-passes g c κs within = subst (λ l. ArePasses c.in-Ok.opened.hall l (c.in-Ok.opened.driver ∷ c.in-Ok.opened.passes.items)) c.requires.clients c.in-Ok.ensures.passes
+
+pub serve_hall-requires-clause-room : goal.serve_hall-requires-clause-room
+serve_hall-requires-clause-room g c κs within =
+    let same = ap length c.requires.clients ∙ length-map c.args.runners.now.items g.U.Runner.client in
+    let room = c.in-Ok.ensures.room in
+    let clients = room.0 in
+    let runners = room.1 in
+    let passes = room.2 in
+    (omega (arith, same, clients), omega (arith, same, runners), omega (arith, same, passes))
 
 pub returns-clause-anchors : goal.returns-clause-anchors
-returns-clause-anchors g c = let d = c.serve_hall.ensures.done.1.1 in (goes_all _ _ _ d.notes _ d.chain).anchors
+returns-clause-anchors g c =
+    let done = c.serve_hall.ensures.done in
+    let d = done.1.1 in
+    (goes_all (kind_of g.V.Vault) c.args.vault.now (calls done.1.0) d.notes c.serve_hall.new.vault d.chain).anchors
 
 pub returns-clause-done : goal.returns-clause-done
-returns-clause-done g c = rw c.in-Ok-open_hall.ensures.desk at c.serve_hall.ensures.done
+returns-clause-done g c = rw c.in-Ok.ensures.desk at c.serve_hall.ensures.done

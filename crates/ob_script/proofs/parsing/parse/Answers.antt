@@ -43,3 +43,16 @@ returns-clause-script c =
       whole = none_mapped _ c.loop-text.reader.open_asks c.if-is_some.ensures;
       scripts_are = c.new.ensures;
     }
+
+pub returns-then-not-branch-clause-refusal : goal.returns-then-not-branch-clause-refusal
+returns-then-not-branch-clause-refusal c =
+    let h = c.loop-text.invariant in
+    record {
+      before = h.before;
+      behind = c.in-Some.text.now ∷ lines_from (is_within c.args.bytes.now) c.in-Some.after.now;
+      state = state_of c.loop-text.reader;
+      lines_are = h.lines_are ∙ ap (λ (t : List Text). h.before ++ t) c.in-Some.ensures.some.0;
+      good = h.good;
+      bad = rw c.if-not-branch.true at c.in_ok-take_text.ensures;
+      number_is = h.number_is;
+    }

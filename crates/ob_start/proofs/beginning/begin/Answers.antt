@@ -1,4 +1,4 @@
-use Rattle.std.proofs.Common.{suc, inl, inr, refl, subst, Result, Ok, arith}
+use Rattle.std.proofs.Common.{suc, inl, inr, refl, subst, Result, Ok, arith, Err, ◌+◌, ◌∙◌}
 use Rattle.ob_store.specs.Images.{Same}
 use Rattle.ob_store.proofs.Events.{none_noted}
 use Rattle.ob_store.proofs.Moments.{passed_none}
@@ -12,6 +12,12 @@ use Rattle.ob_twin.specs.Orders.{set_notes}
 use Rattle.ob_store.proofs.Lanes.{first_none}
 use Rattle.ob_start.specs.Orders.{begin_notes}
 use Rattle.ob_start.proofs.Beginnings.{still, begin_does, next_stands, begins}
+use Rattle.std.specs.Prelude.{IfErr}
+use Rattle.ob_store.specs.Calls.{Serves, IsFailed, IsStoreFault}
+use Rattle.ob_store.proofs.Serving.{serves_err, serves_ok, serves_then}
+use Rattle.ob_store.proofs.Keeping.{serves_none}
+use Rattle.ob_twin.specs.declared.twin.Twin.TheVariants.{GENERATION}
+use Rattle.ob_twin.specs.Refused.{IsSetFault}
 use Rattle.ob_start.proofs.beginning.begin.Goals as goal
 
 pub returns-then-next-ge-NUMBER_LIMIT-clause-does : goal.returns-then-next-ge-NUMBER_LIMIT-clause-does
@@ -85,3 +91,50 @@ returns-in-Err-Unsure-clause-leaves g c =
     let e = c.sync_noted.ensures in
     inr (begins g.S.Store.disk c.args.sealer.now.keys c.args.generation c.args.store.now c.sync_noted.new.store c.set.new.store c.set.result
     (still (g.S.Store.disk c.args.store.now) (g.S.Store.disk c.sync_noted.new.store) e.serves.goes.later e.time e.crash) e.keeps c.in-Ok.ensures.durable c.set.ensures.old_or_new)
+
+-- ---- what each of them says of the store
+
+pub returns-then-next-ge-NUMBER_LIMIT-clause-serves : goal.returns-then-next-ge-NUMBER_LIMIT-clause-serves
+returns-then-next-ge-NUMBER_LIMIT-clause-serves g c = serves_none IsStoreFault (g.S.Store.disk c.args.store.now) _ (λ blamed. blamed)
+
+pub returns-in-Err-clause-serves : goal.returns-in-Err-clause-serves
+returns-in-Err-clause-serves g c = serves_err IsFailed IsStoreFault _ _ _ _ (λ told. tt) c.in-Err.ensures.serves
+
+pub returns-in-Ok-set-clause-serves : goal.returns-in-Ok-set-clause-serves
+returns-in-Ok-set-clause-serves g c =
+    let synced = c.sync_noted.ensures.serves in
+    let set = c.set.ensures.serves in
+    serves_then IsStoreFault _ (g.S.Store.disk c.sync_noted.new.store) _ _ synced.goes synced.out c.in-Ok.ensures.serves.tells (serves_ok IsStoreFault _ _ _ set.goes set.out c.in-Ok-set.ensures.serves.tells)
+
+pub returns-in-Ok-set-clause-rest : goal.returns-in-Ok-set-clause-rest
+returns-in-Ok-set-clause-rest g c = λ tells k out. c.set.ensures.rest (c.sync_noted.ensures.keeps.tells tells) k out ∙ c.sync_noted.ensures.keeps.cells tells k
+
+pub returns-in-Err-Before-clause-serves : goal.returns-in-Err-Before-clause-serves
+returns-in-Err-Before-clause-serves g c =
+    let synced = c.sync_noted.ensures.serves in
+    let mid = g.S.Store.disk c.sync_noted.new.store in
+    let new = g.S.Store.disk c.set.new.store in
+    let n = c.args.generation + 1 in
+    let fault = c.in-Err-Before.fault in
+    serves_then IsStoreFault _ mid _ (Err fault) synced.goes synced.out c.in-Ok.ensures.serves.tells
+    (serves_err (IsSetFault GENERATION n) IsStoreFault mid new c.in-Err-Before.field-0 fault
+    (λ told. subst (λ (r : Result (Unit {0}) SetErr). IfErr r (IsSetFault GENERATION n)) c.in-Err-Before.is c.set.ensures.faults)
+    (subst (λ (r : Result (Unit {0}) SetErr). Serves (IsSetFault GENERATION n) mid new r) c.in-Err-Before.is c.set.ensures.serves))
+
+pub returns-in-Err-Before-clause-rest : goal.returns-in-Err-Before-clause-rest
+returns-in-Err-Before-clause-rest g c = λ tells k out. c.set.ensures.rest (c.sync_noted.ensures.keeps.tells tells) k out ∙ c.sync_noted.ensures.keeps.cells tells k
+
+pub returns-in-Err-Unsure-clause-serves : goal.returns-in-Err-Unsure-clause-serves
+returns-in-Err-Unsure-clause-serves g c =
+    let synced = c.sync_noted.ensures.serves in
+    let mid = g.S.Store.disk c.sync_noted.new.store in
+    let new = g.S.Store.disk c.set.new.store in
+    let n = c.args.generation + 1 in
+    let fault = c.in-Err-Unsure.fault in
+    serves_then IsStoreFault _ mid _ (Err fault) synced.goes synced.out c.in-Ok.ensures.serves.tells
+    (serves_err (IsSetFault GENERATION n) IsStoreFault mid new c.in-Err-Unsure.field-0 fault
+    (λ told. subst (λ (r : Result (Unit {0}) SetErr). IfErr r (IsSetFault GENERATION n)) c.in-Err-Unsure.is c.set.ensures.faults)
+    (subst (λ (r : Result (Unit {0}) SetErr). Serves (IsSetFault GENERATION n) mid new r) c.in-Err-Unsure.is c.set.ensures.serves))
+
+pub returns-in-Err-Unsure-clause-rest : goal.returns-in-Err-Unsure-clause-rest
+returns-in-Err-Unsure-clause-rest g c = λ tells k out. c.set.ensures.rest (c.sync_noted.ensures.keeps.tells tells) k out ∙ c.sync_noted.ensures.keeps.cells tells k

@@ -3,6 +3,10 @@ use Rattle.ob_twin.specs.Orders.{get_notes}
 use Rattle.ob_start.specs.declared.registers.Numbers.{Numbers}
 use Rattle.ob_start.specs.Orders.{registers_notes}
 use Rattle.ob_start.proofs.Noted.{reads_cut, reads_cut_then, reads_own, register_alike}
+use Rattle.std.proofs.Common.{Err, arith}
+use Rattle.ob_store.specs.Calls.{IsStoreFault}
+use Rattle.ob_store.proofs.Serving.{goes_then, serves_err, serves_then}
+use Rattle.ob_store.proofs.Keeping.{serves_own, keeps_then, same_then}
 use Rattle.ob_start.proofs.registers.read_registers.Goals as goal
 
 pub returns-in-Err-clause-does : goal.returns-in-Err-clause-does
@@ -23,3 +27,30 @@ pub returns-clause-does : goal.returns-clause-does
 returns-clause-does g c =
     reads_own registers_notes _ _ _ _ c.judge.result c.judge.ensures.own
     (tells_then (get_notes 1) (get_notes 1) (get_notes 5) (get_notes 5) _ _ _ _ _ _ c.in-Ok.ensures.does.all c.in-Ok-read_register.ensures.does.all)
+
+pub returns-in-Err-clause-serves : goal.returns-in-Err-clause-serves
+returns-in-Err-clause-serves g c = serves_err IsStoreFault IsStoreFault _ _ c.in-Err.fault c.in-Err.fault (λ f. f) c.in-Err.ensures.serves
+
+pub returns-in-Err-read_register-clause-serves : goal.returns-in-Err-read_register-clause-serves
+returns-in-Err-read_register-clause-serves g c =
+    let first = c.read_register.ensures.serves in
+    let fault = c.in-Err-read_register.fault in
+    serves_then IsStoreFault _ (g.S.Store.disk c.read_register.new.store) _ (Err fault) first.goes first.out c.in-Ok.ensures.serves.tells (serves_err IsStoreFault IsStoreFault _ _ fault fault (λ f. f) c.in-Err-read_register.ensures.serves)
+
+pub returns-clause-serves : goal.returns-clause-serves
+returns-clause-serves g c =
+    let first = c.in-Ok.ensures.serves in
+    let second = c.in-Ok-read_register.ensures.serves in
+    serves_own _ _ c.judge.result c.judge.ensures.own (goes_then _ (g.S.Store.disk c.read_register.new.store) _ first.goes second.goes) (let x = first.out in let y = second.out in omega arith) (λ told. second.tells (first.tells told))
+
+pub returns-in-Err-read_register-clause-keeps : goal.returns-in-Err-read_register-clause-keeps
+returns-in-Err-read_register-clause-keeps g c = keeps_then _ (g.S.Store.disk c.read_register.new.store) _ c.in-Ok.ensures.keeps c.in-Err-read_register.ensures.keeps
+
+pub returns-clause-keeps : goal.returns-clause-keeps
+returns-clause-keeps g c = keeps_then _ (g.S.Store.disk c.read_register.new.store) _ c.in-Ok.ensures.keeps c.in-Ok-read_register.ensures.keeps
+
+pub returns-in-Err-read_register-clause-passes : goal.returns-in-Err-read_register-clause-passes
+returns-in-Err-read_register-clause-passes g c = same_then _ (g.S.Store.disk c.read_register.new.store) _ c.in-Ok.ensures.passes c.in-Err-read_register.ensures.passes
+
+pub returns-clause-passes : goal.returns-clause-passes
+returns-clause-passes g c = same_then _ (g.S.Store.disk c.read_register.new.store) _ c.in-Ok.ensures.passes c.in-Ok-read_register.ensures.passes

@@ -1,6 +1,8 @@
 use Rattle.std.proofs.Common.{◌≡◌, ◌++◌, ◌∷◌, [], ◌∙◌, ap, List, ℕ, decimal}
 use Rattle.ob_io.specs.Flows.{appended}
 use Rattle.ob_store.proofs.Puts.{front_of_both}
+use Rattle.std.proofs.lemmas.Result.{IfOk-from_err}
+use Rattle.ob_store.proofs.Keeping.{cause_failed, cause_then}
 use Rattle.ob_store.proofs.sink_watch.put_numbered.Goals as goal
 
 pub returns-clause-front : goal.returns-clause-front
@@ -10,3 +12,12 @@ returns-clause-front g c =
     front_of_both old _ _ (c.args.head.now ++ decimal c.args.number) (10 ∷ [])
     (c.in_ok-put_both.ensures.all ∙ ap (λ (l : List ℕ). appended old (c.args.head.now ++ l)) text)
     c.put_all.ensures.front
+
+pub returns-in_err-put_both-clause-all : goal.returns-in_err-put_both-clause-all
+returns-in_err-put_both-clause-all g c = IfOk-from_err c.from_residual.result _ c.from_residual.ensures.0
+
+pub returns-in_err-put_both-clause-cause : goal.returns-in_err-put_both-clause-cause
+returns-in_err-put_both-clause-cause g c = cause_failed _ _ _ c.from_residual.result c.from_residual.ensures.0 c.in_err-put_both.ensures.cause
+
+pub returns-clause-cause : goal.returns-clause-cause
+returns-clause-cause g c = cause_then _ (g.S.Sink.faults c.put_both.new.sink) _ c.put_all.result c.put_both.ensures.cause.later c.put_all.ensures.cause

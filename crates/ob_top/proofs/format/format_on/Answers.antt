@@ -1,4 +1,4 @@
-use Rattle.std.proofs.Common.{◌≡◌, Err, ap, subst}
+use Rattle.std.proofs.Common.{◌≡◌, Err, ap, arith, subst}
 use Rattle.ob_base.specs.declared.fault.Fault.{Fault}
 use Rattle.ob_schedule.specs.Schedule.{format_notes}
 use Rattle.ob_store.proofs.Doing.{first_noted}
@@ -6,6 +6,7 @@ use Rattle.ob_io.specs.Flows.{appended}
 use Rattle.ob_io.specs.Streams.{outflow}
 use Rattle.ob_report.specs.Printed.{IsPrinted}
 use Rattle.ob_report.specs.Sizes.{size_line}
+use Rattle.ob_ring_kind.proofs.Formatting.{ring_formats}
 use Rattle.ob_ring_shown.proofs.Formatted.{formats}
 use Rattle.ob_top.proofs.Beginnings.{format_refused, whole_formatted}
 use Rattle.ob_top.proofs.format.format_on.Goals as goal
@@ -36,3 +37,32 @@ returns-in-Err-size_text-clause-ends g c =
       c.in-Err-size_text.ensures.cause.failed,
       subst (λ n. IsPrinted before after (size_line n)) c.ring_cells.ensures.cells c.size_text.ensures.printed,
     )
+
+-- ---- at each return: the store goes on, no lane is out, and what a crash leaves
+
+pub returns-in-Err-clause-goes : goal.returns-in-Err-clause-goes
+returns-in-Err-clause-goes g c = c.in-Err.ensures.serves.goes
+
+pub returns-in-Err-clause-none_out : goal.returns-in-Err-clause-none_out
+returns-in-Err-clause-none_out g c = omega (arith, c.in-Err.ensures.serves.out, c.requires.none_out)
+
+pub returns-in-Err-clause-left : goal.returns-in-Err-clause-left
+returns-in-Err-clause-left g c = λ tells. (ring_formats (λ s. g.S.Store.disk s)).leaves c.args.keys.now c.args.params.now (g.T.Tape.drawn c.format.new.tape) c.args.store.now c.format.new.store (c.in-Err.ensures.crash tells)
+
+pub returns-in-Ok-size_text-clause-goes : goal.returns-in-Ok-size_text-clause-goes
+returns-in-Ok-size_text-clause-goes g c = c.in-Ok.ensures.serves.goes
+
+pub returns-in-Ok-size_text-clause-none_out : goal.returns-in-Ok-size_text-clause-none_out
+returns-in-Ok-size_text-clause-none_out g c = omega (arith, c.in-Ok.ensures.serves.out, c.requires.none_out)
+
+pub returns-in-Ok-size_text-clause-left : goal.returns-in-Ok-size_text-clause-left
+returns-in-Ok-size_text-clause-left g c = λ tells. (ring_formats (λ s. g.S.Store.disk s)).leaves c.args.keys.now c.args.params.now (g.T.Tape.drawn c.format.new.tape) c.args.store.now c.format.new.store (c.in-Ok.ensures.crash tells)
+
+pub returns-in-Err-size_text-clause-goes : goal.returns-in-Err-size_text-clause-goes
+returns-in-Err-size_text-clause-goes g c = c.in-Ok.ensures.serves.goes
+
+pub returns-in-Err-size_text-clause-none_out : goal.returns-in-Err-size_text-clause-none_out
+returns-in-Err-size_text-clause-none_out g c = omega (arith, c.in-Ok.ensures.serves.out, c.requires.none_out)
+
+pub returns-in-Err-size_text-clause-left : goal.returns-in-Err-size_text-clause-left
+returns-in-Err-size_text-clause-left g c = λ tells. (ring_formats (λ s. g.S.Store.disk s)).leaves c.args.keys.now c.args.params.now (g.T.Tape.drawn c.format.new.tape) c.args.store.now c.format.new.store (c.in-Ok.ensures.crash tells)

@@ -1,4 +1,4 @@
-use Rattle.std.proofs.Common.{Err, None, [], ◌∷◌, inl, inr, ap, refl}
+use Rattle.std.proofs.Common.{Err, None, [], ◌∷◌, inl, inr, ap, arith, refl}
 use Rattle.ob_base.specs.declared.params.Params.{Params}
 use Rattle.ob_seal.specs.Sealing.{Sealing}
 use Rattle.ob_store.specs.declared.watch.Note.TheVariants.{Read}
@@ -109,3 +109,35 @@ returns-in-Ok-prepare-clause-opens g c =
     let head = c.in-Ok.ensures in
     let e = c.in-Ok-prepare.ensures in
     read_opened (λ s. g.S.Store.disk s) g.met.S.Store.only_now c.args.keys.now c.args.store.now c.head.new.store head.serves.goes head.passes _ c.in-Ok.params c.prepare.new.store e.serves.goes _ _ c.in-Ok-prepare.opening e.opened e.leaves
+
+-- ---- the store goes on, and no lane of it is out
+
+pub returns-in-Err-clause-goes : goal.returns-in-Err-clause-goes
+returns-in-Err-clause-goes g c = c.in-Err.ensures.serves.goes
+
+pub returns-in-Err-clause-none_out : goal.returns-in-Err-clause-none_out
+returns-in-Err-clause-none_out g c = omega (arith, c.in-Err.ensures.serves.out, c.requires.none_out)
+
+pub returns-in-Err-read_script-clause-goes : goal.returns-in-Err-read_script-clause-goes
+returns-in-Err-read_script-clause-goes g c = c.in-Ok.ensures.serves.goes
+
+pub returns-in-Err-read_script-clause-none_out : goal.returns-in-Err-read_script-clause-none_out
+returns-in-Err-read_script-clause-none_out g c = omega (arith, c.in-Ok.ensures.serves.out, c.requires.none_out)
+
+pub returns-in-Err-runners-clause-goes : goal.returns-in-Err-runners-clause-goes
+returns-in-Err-runners-clause-goes g c = c.in-Ok.ensures.serves.goes
+
+pub returns-in-Err-runners-clause-none_out : goal.returns-in-Err-runners-clause-none_out
+returns-in-Err-runners-clause-none_out g c = omega (arith, c.in-Ok.ensures.serves.out, c.requires.none_out)
+
+pub returns-in-Err-prepare-clause-goes : goal.returns-in-Err-prepare-clause-goes
+returns-in-Err-prepare-clause-goes g c = goes_then _ _ _ c.in-Ok.ensures.serves.goes c.in-Err-prepare.ensures.serves.goes
+
+pub returns-in-Err-prepare-clause-none_out : goal.returns-in-Err-prepare-clause-none_out
+returns-in-Err-prepare-clause-none_out g c = omega (arith, c.in-Ok.ensures.serves.out, c.in-Err-prepare.ensures.serves.out, c.requires.none_out)
+
+pub returns-in-Ok-prepare-clause-none_out : goal.returns-in-Ok-prepare-clause-none_out
+returns-in-Ok-prepare-clause-none_out g c = omega (arith, c.in-Ok.ensures.serves.out, c.in-Ok-prepare.ensures.serves.out, c.requires.none_out)
+
+pub returns-in-Ok-prepare-clause-sound : goal.returns-in-Ok-prepare-clause-sound
+returns-in-Ok-prepare-clause-sound g c = c.in-Ok-read_script.ensures.sound

@@ -58,7 +58,8 @@ returns-clause-serves g c = λ f found same goes planned.
       sound = λ at tells settled opened. subst (λ (r : Run). RingSound r (g.S.Store.disk first.lent.store.now) (opened_with p f.run.left at)) (sym run_is) (ring_begins_sound g.S.Store.disk keys p f at first.lent.store.now goes.serving opened);
       lives = λ w steps called. λ old opens tells.
           chain_runs _ g.S.Store.disk (λ v. v.lent.store.now) (λ v. v.run.sealer)
-          (λ v w call answer notes does told. is_act g.S.Store.disk (running v.lent.store.now (g.T.Tape.drawn v.lent.tape.now) v.crew.lanes v.run) (running w.lent.store.now (g.T.Tape.drawn w.lent.tape.now) w.crew.lanes w.run) notes (λ image left. g.met.S.Store.only_now v.lent.store.now image left) call answer does told)
+          (λ v w call answer notes does told. is_act g.S.Store.disk (running v.lent.store.now (g.T.Tape.drawn v.lent.tape.now) v.crew.lanes v.run) (running w.lent.store.now (g.T.Tape.drawn w.lent.tape.now) w.crew.lanes w.run) notes
+          (λ image left. g.met.S.Store.only_now v.lent.store.now image left) call answer does told)
           keys old first w steps tells (λ told. subst (λ (s : Sealing). Opens keys (g.S.Store.disk old) (g.S.Store.disk first.lent.store.now) s) (sym (ap (λ (r : Run). r.sealer) run_is)) (opens told)) called;
     } in
     let s = ring_serves _ g.S.Store.disk (λ x t image at left. g.met.S.Store.counts_now x t image at left) (λ x image left. g.met.S.Store.only_now x image left) (λ v. running v.lent.store.now (g.T.Tape.drawn v.lent.tape.now) v.crew.lanes v.run) words keys p f first

@@ -1,6 +1,6 @@
 use Rattle.std.proofs.Common.{inl, inr, refl, subst}
-use Rattle.ob_top.specs.declared.words.Command.{Command}
-use Rattle.ob_top.specs.Words.{Asks}
+use Rattle.ob_words.specs.declared.work.Command.{Command}
+use Rattle.ob_words.specs.Work.{Asks}
 use Rattle.ob_top.proofs.top.do_on.Goals as goal
 
 pub returns-in-Err-clause-does : goal.returns-in-Err-clause-does

@@ -1,8 +1,12 @@
-use Rattle.std.proofs.Common.{[], ◌%◌, arith, if◌then◌else◌}
+use Rattle.std.proofs.Common.{[], ◌%◌, arith, if◌then◌else◌, ◌+◌, ◌*◌, ◌++◌, ℕ, List, sym, ap, ◌∙◌}
 use Rattle.ob_store.proofs.Doing.{does_refused, first_more, does_then}
 use Rattle.ob_twin.specs.Register.{body_at, gate_at}
 use Rattle.ob_twin.specs.Orders.{through_notes, prepare_notes}
 use Rattle.ob_twin.proofs.Moves.{preparing, closing, passes_within, passes_both}
+use Rattle.std.proofs.lemmas.Result.{IfOk-from_err}
+use Rattle.ob_store.specs.Calls.{IsFailed}
+use Rattle.ob_store.proofs.Serving.{serves_then, on_ok}
+use Rattle.ob_store.proofs.Keeping.{serves_failed}
 use Rattle.ob_twin.proofs.setting.lay_body.Goals as goal
 
 pub returns-in_err-close-clause-any_moment : goal.returns-in_err-close-clause-any_moment
@@ -36,3 +40,33 @@ pub returns-clause-does : goal.returns-clause-does
 returns-clause-does g c =
     does_then _ _ _ _ _ _ (if c.args.closes then through_notes (gate_at c.args.first (c.args.n % 2)) else []) (through_notes (body_at c.args.first (c.args.n % 2))) c.write_through.result
     c.in_ok-close.ensures.does.all c.write_through.ensures.does
+
+pub returns-in_err-close-clause-serves : goal.returns-in_err-close-clause-serves
+returns-in_err-close-clause-serves g c = serves_failed _ _ _ c.from_residual.result c.from_residual.ensures.0 c.in_err-close.ensures.serves
+
+pub returns-in_err-close-clause-done : goal.returns-in_err-close-clause-done
+returns-in_err-close-clause-done g c = λ tells. IfOk-from_err c.from_residual.result _ c.from_residual.ensures.0
+
+pub returns-in_err-close-clause-durable : goal.returns-in_err-close-clause-durable
+returns-in_err-close-clause-durable g c = λ tells. IfOk-from_err c.from_residual.result _ c.from_residual.ensures.0
+
+pub returns-clause-serves : goal.returns-clause-serves
+returns-clause-serves g c =
+    let closed = c.in_ok-close.ensures.serves in
+    serves_then IsFailed _ (g.S.Store.disk c.close.new.store) _ c.write_through.result closed.goes closed.out closed.tells c.write_through.ensures.serves
+
+pub returns-clause-rest : goal.returns-clause-rest
+returns-clause-rest g c = λ tells k off on. c.write_through.ensures.rest (c.in_ok-close.ensures.serves.tells tells) k off ∙ c.close.ensures.rest tells k on
+
+pub returns-clause-done : goal.returns-clause-done
+returns-clause-done g c = λ tells.
+    let first = c.args.first in
+    let tag = g.T.Stamper.tag c.args.stamper.now in
+    let there = c.in_ok-close.ensures.serves.tells tells in
+    on_ok _ _ c.write_through.result
+    (λ put. record {
+      body = put ∙ c.stamp.ensures ∙ ap (λ (l : List ℕ). l ++ tag (body_at first (c.args.n % 2)) l) c.plain_of.ensures;
+      shut = λ opened. c.in_ok-close.ensures.shut tells (sym (c.write_through.ensures.rest there (gate_at first (c.args.n % 2)) (λ e. absurd (omega (arith, e)))) ∙ opened);
+      rest = returns-clause-rest g c tells;
+    })
+    (c.write_through.ensures.written there)

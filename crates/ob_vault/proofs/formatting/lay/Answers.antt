@@ -1,7 +1,7 @@
-use Rattle.std.proofs.Common.{◌≡◌, inr, ◌*◌, ℕ, List, ◌++◌, sym, ◌∙◌, ap, subst, arith}
+use Rattle.std.proofs.Common.{◌≡◌, inr, ◌*◌, ℕ, List, ◌++◌, sym, ◌∙◌, ap, subst, arith, Result, Err}
 use Rattle.ob_base.specs.Tree.{buckets, width}
 use Rattle.ob_store.specs.declared.watch.Note.{Note}
-use Rattle.ob_store.specs.Calls.{IsFailed, Notes}
+use Rattle.ob_store.specs.Calls.{IsFailed, Notes, Serves}
 use Rattle.ob_store.specs.Disk.{Image}
 use Rattle.ob_store.specs.Images.{SameBut}
 use Rattle.ob_store.specs.Told.{Does, Tells, TellsFirst, events_of}
@@ -10,7 +10,7 @@ use Rattle.ob_store.proofs.Doing.{does_refused, does_then, first_more, first_beh
 use Rattle.ob_seal.specs.declared.keys.Keys.{Keys}
 use Rattle.ob_bucket.specs.Buckets.{Buckets}
 use Rattle.ob_check.specs.Written as check
-use Rattle.ob_content.specs.Content.{Content, Obeys}
+use Rattle.ob_tables.specs.Content.{Content, Obeys}
 use Rattle.ob_schedule.specs.Schedule.{format_notes}
 use Rattle.ob_twin.specs.Orders.{through_notes}
 use Rattle.ob_start.specs.Heads.{head_cell}
@@ -22,6 +22,8 @@ use Rattle.ob_stand.proofs.FreshLaws.{fresh_obeys}
 use Rattle.ob_vault.specs.Formats.{HasBlankSlots, IsRingLaid, all_gates, drawn_ranks, epoch_notes}
 use Rattle.ob_vault.proofs.FirstLaws.{are_ranked, as_cleared, begins_sure, content_is, formatted, gates_behind, head_written, laid, still_cleared}
 use Rattle.ob_vault.proofs.OrderLaws.{format_is}
+use Rattle.std.proofs.lemmas.Result.{IfOk-from_err, err_from_is_err_and}
+use Rattle.ob_base.specs.declared.fault.Failed.{Failed}
 use Rattle.ob_vault.proofs.formatting.lay.Goals as goal
 
 pub lay_registers-requires-clause-behind : goal.lay_registers-requires-clause-behind
@@ -181,3 +183,38 @@ returns-clause-begins g c =
       begun = subst (λ (gates : List ℕ). Notes (events_of (lay_notes gates)) (g.S.Store.disk c.args.store.now).seen (g.S.Store.disk c.lay_registers.new.store).seen) c.requires.gates a.does.all.seen;
       later = goes_then _ _ _ c.in_ok-lay_epoch.ensures.serves.goes c.write_through.ensures.serves.goes;
     })
+
+pub returns-in_err-lay_registers-clause-serves : goal.returns-in_err-lay_registers-clause-serves
+returns-in_err-lay_registers-clause-serves g c =
+    let exit = err_from_is_err_and c.from_residual.result c.from_residual.ensures.1 in
+    subst (λ (x : Result (Unit {0}) Failed). Serves IsFailed (g.S.Store.disk c.args.store.now) (g.S.Store.disk c.lay_registers.new.store) x) (sym (exit.1 ∙ ap Err exit.2)) c.in_err-lay_registers.ensures.serves
+
+pub returns-in_err-lay_registers-clause-drawn : goal.returns-in_err-lay_registers-clause-drawn
+returns-in_err-lay_registers-clause-drawn g c = IfOk-from_err c.from_residual.result _ c.from_residual.ensures.0
+
+pub returns-in_err-lay_epoch-clause-drawn : goal.returns-in_err-lay_epoch-clause-drawn
+returns-in_err-lay_epoch-clause-drawn g c = IfOk-from_err c.from_residual-in_err-lay_epoch.result _ c.from_residual-in_err-lay_epoch.ensures.0
+
+pub returns-in_err-lay_registers-clause-stands : goal.returns-in_err-lay_registers-clause-stands
+returns-in_err-lay_registers-clause-stands g c = λ tells. IfOk-from_err c.from_residual.result _ c.from_residual.ensures.0
+
+pub returns-in_err-lay_epoch-clause-stands : goal.returns-in_err-lay_epoch-clause-stands
+returns-in_err-lay_epoch-clause-stands g c = λ tells. IfOk-from_err c.from_residual-in_err-lay_epoch.result _ c.from_residual-in_err-lay_epoch.ensures.0
+
+pub returns-in_err-lay_registers-clause-laid : goal.returns-in_err-lay_registers-clause-laid
+returns-in_err-lay_registers-clause-laid g c = λ tells. IfOk-from_err c.from_residual.result _ c.from_residual.ensures.0
+
+pub returns-in_err-lay_epoch-clause-laid : goal.returns-in_err-lay_epoch-clause-laid
+returns-in_err-lay_epoch-clause-laid g c = λ tells. IfOk-from_err c.from_residual-in_err-lay_epoch.result _ c.from_residual-in_err-lay_epoch.ensures.0
+
+pub returns-in_err-lay_registers-clause-durable : goal.returns-in_err-lay_registers-clause-durable
+returns-in_err-lay_registers-clause-durable g c = λ tells. IfOk-from_err c.from_residual.result _ c.from_residual.ensures.0
+
+pub returns-in_err-lay_epoch-clause-durable : goal.returns-in_err-lay_epoch-clause-durable
+returns-in_err-lay_epoch-clause-durable g c = λ tells. IfOk-from_err c.from_residual-in_err-lay_epoch.result _ c.from_residual-in_err-lay_epoch.ensures.0
+
+pub returns-in_err-lay_registers-clause-begins : goal.returns-in_err-lay_registers-clause-begins
+returns-in_err-lay_registers-clause-begins g c = IfOk-from_err c.from_residual.result _ c.from_residual.ensures.0
+
+pub returns-in_err-lay_epoch-clause-begins : goal.returns-in_err-lay_epoch-clause-begins
+returns-in_err-lay_epoch-clause-begins g c = IfOk-from_err c.from_residual-in_err-lay_epoch.result _ c.from_residual-in_err-lay_epoch.ensures.0

@@ -1,9 +1,9 @@
-use Rattle.std.proofs.Common.{◌≡◌, ◌≤◌, ◌*◌, ◌+◌, ◌^◌, [], ◌∷◌, ◌++◌, true, ap, arith}
+use Rattle.std.proofs.Common.{◌≡◌, ◌≤◌, ◌*◌, ◌+◌, ◌^◌, [], ◌∷◌, ◌++◌, true, ap, arith, Result, Err, sym, ◌∙◌, subst}
 use Rattle.ob_base.specs.Layout.{checkpoint_cells, slot_cell}
 use Rattle.ob_base.specs.Tree.{buckets, width}
 use Rattle.ob_store.specs.declared.watch.Note.TheVariants.{Sync}
 use Rattle.ob_store.specs.Runs.{write_notes}
-use Rattle.ob_store.proofs.Serving.{if_ok}
+use Rattle.ob_store.proofs.Serving.{if_ok, serves_then}
 use Rattle.ob_store.proofs.Moments.{passed_still}
 use Rattle.ob_store.proofs.Doing.{does_err, does_refused, does_then, first_more, first_behind, sync_cut}
 use Rattle.ob_seal.specs.Sealing.{Sealing}
@@ -12,7 +12,10 @@ use Rattle.ob_start.specs.Laying.{SameHead}
 use Rattle.ob_start.proofs.Clearing.{head_then, outside_head}
 use Rattle.ob_twin.specs.Orders.{set_notes}
 use Rattle.ob_vault.specs.Formats.{epoch_notes}
-use Rattle.ob_vault.proofs.EpochLaws.{cells_fit, cut_short, held_off, off_head, seals_left, slots_laid, slots_told, some_buckets}
+use Rattle.ob_vault.proofs.EpochLaws.{cells_fit, cut_short, held_off, off_head, seals_left, slots_laid, slots_told, some_buckets, slots_first}
+use Rattle.std.proofs.lemmas.Result.{IfOk-from_err, err_from_is_err_and}
+use Rattle.ob_base.specs.declared.fault.Failed.{Failed}
+use Rattle.ob_store.specs.Calls.{IsFailed, Serves}
 use Rattle.ob_vault.proofs.formatting.lay_epoch.Goals as goal
 
 pub slot_cell-requires-clause-bucket : goal.slot_cell-requires-clause-bucket
@@ -100,3 +103,62 @@ returns-clause-does g c =
     does_then _ _ _ _ _ _ (write_notes (slot_cell p 0 0 0) (buckets p * width p)) (write_notes (area_of p 0) (checkpoint_cells p) ++ ((Sync ∷ []) ++ set_notes true 5 0)) c.set_first.result first
     (does_then _ _ _ _ _ _ (write_notes (area_of p 0) (checkpoint_cells p)) ((Sync ∷ []) ++ set_notes true 5 0) c.set_first.result c.in-Ok.ensures.does.all
     (does_then _ _ _ _ _ _ (Sync ∷ []) (set_notes true 5 0) c.set_first.result c.in_ok-sync_noted.ensures.told c.set_first.ensures.does))
+
+pub returns-in_err-write_sealed-clause-serves : goal.returns-in_err-write_sealed-clause-serves
+returns-in_err-write_sealed-clause-serves g c =
+    let exit = err_from_is_err_and c.from_residual.result c.from_residual.ensures.1 in
+    subst (λ (x : Result (Unit {0}) Failed). Serves IsFailed (g.S.Store.disk c.args.store.now) (g.S.Store.disk c.write_sealed.new.store) x) (sym (exit.1 ∙ ap Err exit.2)) c.in_err-write_sealed.ensures.serves
+
+pub returns-in_err-write_sealed-clause-epoch : goal.returns-in_err-write_sealed-clause-epoch
+returns-in_err-write_sealed-clause-epoch g c = λ tells. IfOk-from_err c.from_residual.result _ c.from_residual.ensures.0
+
+pub returns-in_err-sync_noted-clause-epoch : goal.returns-in_err-sync_noted-clause-epoch
+returns-in_err-sync_noted-clause-epoch g c = λ tells. IfOk-from_err c.from_residual-in_err-sync_noted.result _ c.from_residual-in_err-sync_noted.ensures.0
+
+pub returns-in_err-write_sealed-clause-slots : goal.returns-in_err-write_sealed-clause-slots
+returns-in_err-write_sealed-clause-slots g c = λ tells. IfOk-from_err c.from_residual.result _ c.from_residual.ensures.0
+
+pub returns-in_err-sync_noted-clause-slots : goal.returns-in_err-sync_noted-clause-slots
+returns-in_err-sync_noted-clause-slots g c = λ tells. IfOk-from_err c.from_residual-in_err-sync_noted.result _ c.from_residual-in_err-sync_noted.ensures.0
+
+pub returns-in_err-write_sealed-clause-checkpoint : goal.returns-in_err-write_sealed-clause-checkpoint
+returns-in_err-write_sealed-clause-checkpoint g c = λ tells. IfOk-from_err c.from_residual.result _ c.from_residual.ensures.0
+
+pub returns-in_err-sync_noted-clause-checkpoint : goal.returns-in_err-sync_noted-clause-checkpoint
+returns-in_err-sync_noted-clause-checkpoint g c = λ tells. IfOk-from_err c.from_residual-in_err-sync_noted.result _ c.from_residual-in_err-sync_noted.ensures.0
+
+pub returns-in_err-write_sealed-clause-durable : goal.returns-in_err-write_sealed-clause-durable
+returns-in_err-write_sealed-clause-durable g c = λ tells. IfOk-from_err c.from_residual.result _ c.from_residual.ensures.0
+
+pub returns-in_err-sync_noted-clause-durable : goal.returns-in_err-sync_noted-clause-durable
+returns-in_err-sync_noted-clause-durable g c = λ tells. IfOk-from_err c.from_residual-in_err-sync_noted.result _ c.from_residual-in_err-sync_noted.ensures.0
+
+pub returns-in_err-sync_noted-clause-serves : goal.returns-in_err-sync_noted-clause-serves
+returns-in_err-sync_noted-clause-serves g c =
+    let exit = err_from_is_err_and c.from_residual-in_err-sync_noted.result c.from_residual-in_err-sync_noted.ensures.1 in
+    let first = c.write_sealed.ensures.serves in
+    let second = c.write.ensures.serves in
+    serves_then IsFailed _ (g.S.Store.disk c.write_sealed.new.store) _ c.from_residual-in_err-sync_noted.result first.goes first.out c.in_ok-write_sealed.ensures.serves.tells
+    (serves_then IsFailed _ (g.S.Store.disk c.write.new.store) _ c.from_residual-in_err-sync_noted.result second.goes second.out c.in-Ok.ensures.serves.tells
+    (subst (λ (x : Result (Unit {0}) Failed). Serves IsFailed (g.S.Store.disk c.write.new.store) (g.S.Store.disk c.sync_noted.new.store) x) (sym (exit.1 ∙ ap Err exit.2)) c.in_err-sync_noted.ensures.serves))
+
+pub returns-clause-serves : goal.returns-clause-serves
+returns-clause-serves g c =
+    let first = c.write_sealed.ensures.serves in
+    let second = c.write.ensures.serves in
+    let third = c.sync_noted.ensures.serves in
+    serves_then IsFailed _ (g.S.Store.disk c.write_sealed.new.store) _ c.set_first.result first.goes first.out c.in_ok-write_sealed.ensures.serves.tells
+    (serves_then IsFailed _ (g.S.Store.disk c.write.new.store) _ c.set_first.result second.goes second.out c.in-Ok.ensures.serves.tells
+    (serves_then IsFailed _ (g.S.Store.disk c.sync_noted.new.store) _ c.set_first.result third.goes third.out c.in_ok-sync_noted.ensures.serves.tells c.set_first.ensures.serves))
+
+pub returns-in_err-write_sealed-clause-passes : goal.returns-in_err-write_sealed-clause-passes
+returns-in_err-write_sealed-clause-passes g c =
+    let p = c.args.p.now in
+    off_head c.slot_cell.result (c.buckets.result * (p.real + p.dummies)) _ _ (omega (arith, c.slot_cell.ensures.cell)) c.write_sealed.ensures.run.within.passes
+
+pub returns-in_err-write_sealed-clause-does : goal.returns-in_err-write_sealed-clause-does
+returns-in_err-write_sealed-clause-does g c =
+    let p = c.args.p.now in
+    does_refused _ _ _ _ (epoch_notes p) c.from_residual.result c.from_residual.ensures.0
+    (first_more _ _ _ _ (write_notes (slot_cell p 0 0 0) (buckets p * width p)) (write_notes (area_of p 0) (checkpoint_cells p) ++ ((Sync ∷ []) ++ set_notes true 5 0))
+    (slots_first p c.slot_cell.result c.buckets.result _ _ _ _ c.slot_cell.ensures.cell c.buckets.ensures.buckets c.in_err-write_sealed.ensures.does.first))

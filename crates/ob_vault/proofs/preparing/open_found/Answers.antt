@@ -3,7 +3,7 @@ use Rattle.ob_seal.specs.Sealing.{Sealing}
 use Rattle.ob_start.specs.Beginning.{BeginLeaves, BeginsFrom}
 use Rattle.ob_store.specs.Calls.{IsStoreFault}
 use Rattle.ob_store.proofs.Serving.{goes_then, serves_err, serves_ok, serves_then}
-use Rattle.ob_content.specs.Content.{content_of}
+use Rattle.ob_tables.specs.Content.{content_of}
 use Rattle.ob_twin.specs.declared.gates.Open.{Open}
 use Rattle.ob_twin.specs.Keyed.{tagging}
 use Rattle.ob_twin.specs.Register.{KeepsAt, SameOutside, StandsAt}
@@ -237,3 +237,6 @@ returns-clause-does g c = record {
   begun = c.in-Ok.ensures.does.all;
   repeats = c.in-Ok-replay.ensures.does;
 }
+
+pub returns-in-Err-clause-serves : goal.returns-in-Err-clause-serves
+returns-in-Err-clause-serves g c = serves_err IsStoreFault IsStoreFault _ _ c.in-Err.fault c.in-Err.fault (λ f. f) c.in-Err.ensures.serves

@@ -1,4 +1,4 @@
-use Rattle.std.proofs.Common.{inl, refl, sym, ap, subst}
+use Rattle.std.proofs.Common.{inl, refl, sym, ap, subst, arith}
 use Rattle.std.specs.Prelude.{IfErr, IfOk, is_ok}
 use mathlib.Core.Path.{fun_ext}
 use Rattle.ob_store.specs.Disk.{Image}
@@ -7,7 +7,7 @@ use Rattle.ob_store.specs.Calls.{IsStoreFault}
 use Rattle.ob_store.proofs.Events.{none_noted}
 use Rattle.ob_store.proofs.Lanes.{first_none}
 use Rattle.ob_store.proofs.Moments.{passed_none}
-use Rattle.ob_store.proofs.Serving.{serves_then}
+use Rattle.ob_store.proofs.Serving.{serves_then, goes_same, serves_err}
 use Rattle.ob_batch.specs.Jobs.{Manned}
 use Rattle.ob_start.specs.Orders.{registers_notes}
 use Rattle.ob_recover.specs.Finds.{IsFoundOf}
@@ -155,7 +155,8 @@ pub returns-clause-does_err : goal.returns-clause-does_err
 returns-clause-does_err g c =
     subst (λ n. IfErr c.open_found.result (RefusedDoes c.args.keys.now n c.args.p.now (g.S.Store.disk c.args.store.now) (g.S.Store.disk c.open_found.new.store) (g.W.Watch.trace c.args.watch.now) (g.W.Watch.trace c.open_found.new.watch)))
     (ap (λ (m : Manned). m.lanes) c.in-Ok.ensures.crew)
-    (all_does g.S.Store.disk g.W.Watch.trace c.args.keys.now c.in-Ok.rooms.crew.lanes c.args.p.now c.in-Ok-find.found c.args.store.now c.find.new.store c.open_found.new.store c.args.tape.now c.open_found.new.tape (g.T.Tape.present c.open_found.new.tape) c.args.watch.now c.find.new.watch c.open_found.new.watch c.open_found.result
+    (all_does g.S.Store.disk g.W.Watch.trace c.args.keys.now c.in-Ok.rooms.crew.lanes c.args.p.now c.in-Ok-find.found c.args.store.now c.find.new.store c.open_found.new.store c.args.tape.now c.open_found.new.tape (g.T.Tape.present c.open_found.new.tape)
+    c.args.watch.now c.find.new.watch c.open_found.new.watch c.open_found.result
     c.in-Ok-find.ensures.value c.in-Ok-find.ensures.keeps c.in-Ok-find.ensures.passes c.in-Ok-find.ensures.does c.open_found.ensures.faults c.open_found.ensures.does c.open_found.ensures.stays)
 
 pub returns-clause-acts : goal.returns-clause-acts
@@ -183,3 +184,9 @@ returns-clause-acts g c = λ word_of s pending tells left.
     subst (λ n. OpensInLife keys n p word_of s pending (disk old) (disk new) before after (is_ok c.open_found.result)) (ap (λ (m : Manned). m.lanes) c.in-Ok.ensures.crew)
     (all_acts disk g.met.S.Store.counts_now keys c.in-Ok.rooms.crew.lanes p found old mid new before between after found_in.keeps found_in.passes found_in.does found_in.obeys found_in.some tells (found_in.value tells)
     word_of s pending left is c.args.tape.now c.open_found.new.tape (g.T.Tape.present c.open_found.new.tape) (g.T.Tape.drawn c.open_found.new.tape) c.open_found.result stood leaves e.does e.begins_err)
+
+pub returns-in-Err-clause-serves : goal.returns-in-Err-clause-serves
+returns-in-Err-clause-serves g c = record { goes = goes_same (g.S.Store.disk c.args.store.now); out = omega arith; tells = tt; cause = λ blamed. absurd blamed }
+
+pub returns-in-Err-find-clause-serves : goal.returns-in-Err-find-clause-serves
+returns-in-Err-find-clause-serves g c = serves_err IsStoreFault IsStoreFault _ _ c.in-Err-find.fault c.in-Err-find.fault (λ f. f) c.in-Err-find.ensures.serves

@@ -13,10 +13,10 @@ returns c =
     let values = c.args.values.now in
     let bases : finite.FinMap nat_cmp (Option (List ℕ)) = finite.from_entries a.bases.entries in
     let made : rules.OrderState → OrderModel = λ o. record { params = a.params; state = o } in
-    let flying = take a.flying a.asked.keys in
+    let flying = take a.flying a.asked in
     let batch : keys ≡ map Some flying ++ replicate (a.params.places - length flying) None = subst (λ (m : OrderModel). keys ≡ rules.batch_in_flight m.params m.state) (sym c.self.view_is) c.requires.batch in
-    let kept = c.drop.new.self.0.keys in
+    let kept = c.drop_front.new.self in
     let given : finite.FinMap nat_cmp (Option (List ℕ)) = finite.from_entries c.put_all.new.bases.entries in
-    let is : given ≡ rules.delivered bases (map Some flying) values = c.put_all.ensures.given ∙ ap (λ (ks : List ℕ). rules.delivered bases (map Some (take a.flying ks)) values) c.as_slice.ensures.keys in
+    let is : given ≡ rules.delivered bases (map Some flying) values = c.put_all.ensures.given ∙ ap (λ (ks : List ℕ). rules.delivered bases (map Some (take a.flying ks)) values) c.as_slice.ensures in
     subst (λ (m : OrderModel). made (state_of a.left 0 kept given) ≡ record { params = m.params; state = rules.after_deliver m.state keys values }) c.self.view_is
-    (ap made (one_delivered a.left a.flying a.asked.keys bases (a.params.places - length flying) keys values kept given batch (c.drop.ensures.kept ∙ c.drain.ensures.kept) is))
+    (ap made (one_delivered a.left a.flying a.asked bases (a.params.places - length flying) keys values kept given batch c.drop_front.ensures is))

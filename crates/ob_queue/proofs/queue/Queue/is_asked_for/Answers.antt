@@ -9,4 +9,4 @@ pub returns : goal.returns
 returns c =
     let a = c.self.inside in
     subst (λ (m : OrderModel). c.contains.result ≡ rules.is_asked_for m.state c.args.key) c.self.view_is
-    (c.contains.ensures ∙ is_among a.left a.flying a.asked.keys (finite.from_entries a.bases.entries) c.args.key)
+    (c.contains.ensures ∙ is_among a.left a.flying a.asked (finite.from_entries a.bases.entries) c.args.key)

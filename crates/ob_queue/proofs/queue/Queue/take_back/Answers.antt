@@ -1,4 +1,4 @@
-use Rattle.std.proofs.Common.{◌≡◌, ℕ, ◌-◌, ◌<◌, List, length, take, drop, Option, nat_cmp, sym, ap, ◌∙◌, subst}
+use Rattle.std.proofs.Common.{◌≡◌, ℕ, ◌<◌, List, length, drop, Option, nat_cmp, sym, ap, ◌∙◌, subst}
 use Rattle.std.specs.FinMap as finite
 use Rattle.ob_order.specs.Order as rules
 use Rattle.ob_order.specs.OrderModel.{OrderModel}
@@ -11,6 +11,6 @@ returns c =
     let a = c.self.inside in
     let bases : finite.FinMap nat_cmp (Option (List ℕ)) = finite.from_entries a.bases.entries in
     let made : rules.OrderState → OrderModel = λ o. record { params = a.params; state = o } in
-    let some : 0 < length (drop a.flying a.asked.keys) = subst (λ (m : OrderModel). 0 < length m.state.queue) (sym c.self.view_is) c.requires in
-    subst (λ (m : OrderModel). made (state_of a.left a.flying c.truncate.new.self.keys bases) ≡ record { params = m.params; state = without_last m.state }) c.self.view_is
-    (ap made (ap (λ ks. state_of a.left a.flying ks bases) (c.truncate.ensures.keys ∙ ap (λ n. take (n - 1) a.asked.keys) c.len.ensures.len) ∙ one_less a.left a.flying a.asked.keys bases some))
+    let some : 0 < length (drop a.flying a.asked) = subst (λ (m : OrderModel). 0 < length m.state.queue) (sym c.self.view_is) c.requires in
+    subst (λ (m : OrderModel). made (state_of a.left a.flying c.drop_last.new.self bases) ≡ record { params = m.params; state = without_last m.state }) c.self.view_is
+    (ap made (ap (λ ks. state_of a.left a.flying ks bases) c.drop_last.ensures ∙ one_less a.left a.flying a.asked bases some))

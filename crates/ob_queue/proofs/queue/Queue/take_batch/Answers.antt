@@ -11,8 +11,8 @@ returns-clause-state c =
     let a = c.self.inside in
     let bases : finite.FinMap nat_cmp (Option (List ℕ)) = finite.from_entries a.bases.entries in
     let made : rules.OrderState → OrderModel = λ o. record { params = a.params; state = o } in
-    let none : take a.flying a.asked.keys ≡ [] = subst (λ (m : OrderModel). m.state.flying ≡ []) (sym c.self.view_is) c.requires.none_flying in
+    let none : take a.flying a.asked ≡ [] = subst (λ (m : OrderModel). m.state.flying ≡ []) (sym c.self.view_is) c.requires.none_flying in
     let places : length c.args.out.now ≡ a.params.places = subst (λ (m : OrderModel). length c.args.out.now ≡ m.params.places) (sym c.self.view_is) c.requires.places in
-    let few : c.min-self-inside.result ≡ min a.params.places (length a.asked.keys) = c.min-self-inside.ensures ∙ ap₂ min (c.fill.auto.out ∙ places) c.len.ensures.len in
-    subst (λ (m : OrderModel). made (state_of (a.left - 1) c.min-self-inside.result a.asked.keys bases) ≡ record { params = m.params; state = rules.after_take m.params m.state }) c.self.view_is
-    (ap made (one_taken a.left a.flying a.asked.keys bases a.params c.min-self-inside.result c.self.invariant.0 none few))
+    let few : c.min-self-inside.result ≡ min a.params.places (length a.asked) = c.min-self-inside.ensures ∙ ap₂ min (c.fill.auto.out ∙ places) c.len.ensures in
+    subst (λ (m : OrderModel). made (state_of (a.left - 1) c.min-self-inside.result a.asked bases) ≡ record { params = m.params; state = rules.after_take m.params m.state }) c.self.view_is
+    (ap made (one_taken a.left a.flying a.asked bases a.params c.min-self-inside.result c.self.invariant.0 none few))

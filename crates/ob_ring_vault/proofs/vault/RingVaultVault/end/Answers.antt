@@ -11,7 +11,7 @@ use Rattle.ob_twin.specs.Opening.{GatesAre}
 use Rattle.ob_ring_vault.specs.declared.known.Known.{Known}
 use Rattle.ob_ring_vault.specs.RingVaults.{running}
 use Rattle.ob_ring_vault.proofs.Callings.{end_called, first_of_three, second_of_three}
-use Rattle.ob_ring_vault.proofs.Holding.{alike_kept, end_holds, end_images, end_sound, lent_leaves, s, serves}
+use Rattle.ob_ring_vault.proofs.Holding.{alike_kept, end_holds, end_images, end_sound, lent_leaves, s, serves, lent_goes}
 use Rattle.ob_ring_vault.proofs.Lending.{end_few, end_grows, end_ready, end_small, end_told}
 use Rattle.ob_ring_vault.proofs.Ready.{ready_of}
 use Rattle.ob_ring_vault.proofs.Written.{at_all, short_at, writes_plain}
@@ -43,7 +43,8 @@ returns-clause-sound g c = λ v sound.
     let holds = sound.holds in
     let at = (serves run old v holds c.requires.serves).at in
     let stands = c.end-result.ensures.stands (s run old v holds c.requires.serves) at in
-    end_sound run old v holds c.requires.serves ws (writes_of writes) plain c.end-result.new.run new c.end-result.ensures.params some.keys some.generation (g.met.S.Store.counts_now c.end-result.new.store) c.end-result.result stands (c.end-result.ensures.images (s run old v holds c.requires.serves) at)
+    end_sound run old v holds c.requires.serves ws (writes_of writes) plain c.end-result.new.run new c.end-result.ensures.params some.keys some.generation (g.met.S.Store.counts_now c.end-result.new.store) c.end-result.result stands
+    (c.end-result.ensures.images (s run old v holds c.requires.serves) at)
     (end_holds run old v holds c.requires.serves ws (writes_of writes) plain c.end-result.new.run new c.end-result.ensures.params c.end-result.result c.end-result.ensures.served c.end-result.ensures.refused stands)
 
 pub returns-clause-images : goal.returns-clause-images
@@ -80,7 +81,8 @@ returns-clause-called g c =
     let told = c.end-result.ensures.scheduled in (
       told.0,
       told.1,
-      end_called g.S.Store.disk (running c.args.self.now.lent.store.now (g.T.Tape.drawn c.args.self.now.lent.tape.now) c.args.self.now.crew.lanes run) (running c.end-result.new.store (g.T.Tape.drawn c.end-result.new.tape) c.end-result.new.crew.lanes c.end-result.new.run) told.0 writes c.end-result.result
+      end_called g.S.Store.disk (running c.args.self.now.lent.store.now (g.T.Tape.drawn c.args.self.now.lent.tape.now) c.args.self.now.crew.lanes run)
+          (running c.end-result.new.store (g.T.Tape.drawn c.end-result.new.tape) c.end-result.new.crew.lanes c.end-result.new.run) told.0 writes c.end-result.result
           (record {
             run = record {
               params = c.end-result.ensures.params;
@@ -176,3 +178,9 @@ invariant_of-self-clause-manned g c =
 
 pub invariant_of-self-clause-ready : goal.invariant_of-self-clause-ready
 invariant_of-self-clause-ready g c = end_ready _ _ c.end-result.new.run c.end-result.result c.end-result.ensures.ready c.end-result.ensures.refused
+
+pub returns-clause-goes : goal.returns-clause-goes
+returns-clause-goes g c = lent_goes _ _ _ _ c.end-result.ensures.serves.goes
+
+pub returns-clause-cause : goal.returns-clause-cause
+returns-clause-cause g c = c.end-result.ensures.serves.cause

@@ -8,7 +8,7 @@ use Rattle.ob_ring.proofs.PlanLaws.{seals_none}
 use Rattle.ob_ring_vault.specs.declared.known.Known.{Known}
 use Rattle.ob_ring_vault.specs.RingVaults.{running}
 use Rattle.ob_ring_vault.proofs.Callings.{fetch_called, fetch_moments, fetch_stood, fetch_undamaged, first_of, open_first}
-use Rattle.ob_ring_vault.proofs.Holding.{alike_kept, fetch_answered, fetch_holds, fetch_images, fetch_sound, lent_leaves, s, serves}
+use Rattle.ob_ring_vault.proofs.Holding.{alike_kept, fetch_answered, fetch_holds, fetch_images, fetch_sound, lent_leaves, s, serves, lent_goes}
 use Rattle.ob_ring_vault.proofs.Lending.{fetch_grows, fetch_ready}
 use Rattle.ob_ring_vault.proofs.Ready.{ready_of}
 use Rattle.ob_ring_vault.proofs.vault.RingVaultVault.fetch.Goals as goal
@@ -82,7 +82,8 @@ returns-clause-called g c =
     let told = c.fetch-result.ensures.scheduled in (
       told.0,
       told.1,
-      fetch_called g.S.Store.disk (running c.args.self.now.lent.store.now (g.T.Tape.drawn c.args.self.now.lent.tape.now) c.args.self.now.crew.lanes run) (running c.fetch-result.new.store (g.T.Tape.drawn c.fetch-result.new.tape) c.fetch-result.new.crew.lanes c.fetch-result.new.run) told.0 asks c.fetch-result.new.out c.fetch-result.result
+      fetch_called g.S.Store.disk (running c.args.self.now.lent.store.now (g.T.Tape.drawn c.args.self.now.lent.tape.now) c.args.self.now.crew.lanes run)
+          (running c.fetch-result.new.store (g.T.Tape.drawn c.fetch-result.new.tape) c.fetch-result.new.crew.lanes c.fetch-result.new.run) told.0 asks c.fetch-result.new.out c.fetch-result.result
           (record {
             run = record {
               params = ap (λ (x : Run). x.params) c.fetch-result.ensures.kept;
@@ -137,4 +138,11 @@ pub invariant_of-self-clause-ready : goal.invariant_of-self-clause-ready
 invariant_of-self-clause-ready g c =
     let run = c.args.self.now.run in
     let kept = ready_of run (c.args.self.now.ready c.requires.serves) in
-    fetch_ready run c.fetch-result.new.run c.fetch-result.ensures.kept (c.fetch-result.new.run.left ≡ run.left) (c.fetch-result.new.out ≡ c.args.out.now) c.fetch-result.result kept c.fetch-result.ensures.ready c.fetch-result.ensures.words (c.fetch-result.ensures.fit kept.planner) c.fetch-result.ensures.refused
+    fetch_ready run c.fetch-result.new.run c.fetch-result.ensures.kept (c.fetch-result.new.run.left ≡ run.left) (c.fetch-result.new.out ≡ c.args.out.now) c.fetch-result.result kept c.fetch-result.ensures.ready c.fetch-result.ensures.words
+    (c.fetch-result.ensures.fit kept.planner) c.fetch-result.ensures.refused
+
+pub returns-clause-goes : goal.returns-clause-goes
+returns-clause-goes g c = lent_goes _ _ _ _ c.fetch-result.ensures.serves.goes
+
+pub returns-clause-cause : goal.returns-clause-cause
+returns-clause-cause g c = c.fetch-result.ensures.serves.cause

@@ -7,12 +7,14 @@ use Rattle.ob_twin.specs.declared.gates.Open.{Open}
 use Rattle.ob_twin.specs.declared.twin.Twin.{Twin}
 use Rattle.ob_twin.specs.declared.set_err.SetErr.TheVariants.{Before, Unsure}
 use Rattle.ob_twin.specs.Register.{first_of, body_at, gate_at, place_of, IsOpen, StandsAt, IsPut, OldOrNew, SameOutside, SameTwo}
-use Rattle.ob_twin.specs.Opening.{known_of, with_mark, is_closed_first, GatesAre}
+use Rattle.ob_twin.specs.Opening.{known_of, with_mark, is_closed_first, GatesAre, with_known}
 use Rattle.ob_twin.specs.Orders.{prepare_notes, SetDoes}
-use Rattle.ob_twin.specs.Refused.{SetLeaves}
+use Rattle.ob_twin.specs.Refused.{SetLeaves, IsSetFault}
 use Rattle.ob_twin.proofs.Moves.{two_within, opening, passes_within, passes_both}
 use Rattle.ob_twin.proofs.Sets.{set_done, set_unsure, put_at, put_everywhere, leaves_old, leaves_unsure, leaves_done}
 use Rattle.ob_twin.proofs.Gating.{are_marked, known_again, closed_of, open_of}
+use Rattle.ob_store.specs.Calls.{IsFailed}
+use Rattle.ob_store.proofs.Serving.{serves_err, serves_ok, serves_then}
 use Rattle.ob_twin.proofs.twin.Twin.set.Goals as goal
 
 -- whether the gate is closed first, from what is known of the register
@@ -176,3 +178,31 @@ returns-clause-does g c =
     subst (λ b. SetDoes b (first_of c.args.self) c.args.n old new before after (Ok tt)) closes_is
     (subst (λ f. SetDoes c.is_closed_first-closes.result f c.args.n old new before after (Ok tt)) c.first-first.ensures
     (set_done _ _ _ _ _ _ c.is_closed_first-closes.result c.first-first.result c.args.n c.in-Ok.ensures.does.all c.in-Ok-open.ensures.does))
+
+-- ---- what each of them says of the store
+
+pub returns-in-Err-clause-serves : goal.returns-in-Err-clause-serves
+returns-in-Err-clause-serves g c = serves_err IsFailed (IsSetFault c.args.self c.args.n) _ _ _ _ (λ told. tt) c.in-Err.ensures.serves
+
+pub returns-in-Err-open-clause-serves : goal.returns-in-Err-open-clause-serves
+returns-in-Err-open-clause-serves g c =
+    let laid = c.lay_body.ensures.serves in
+    serves_then (IsSetFault c.args.self c.args.n) _ (g.S.Store.disk c.lay_body.new.store) _ _ laid.goes laid.out c.in-Ok.ensures.serves.tells
+    (serves_err IsFailed (IsSetFault c.args.self c.args.n) _ _ _ _ (λ told. tt) c.in-Err-open.ensures.serves)
+
+pub returns-clause-serves : goal.returns-clause-serves
+returns-clause-serves g c =
+    let laid = c.lay_body.ensures.serves in
+    let opened = c.open.ensures.serves in
+    serves_then (IsSetFault c.args.self c.args.n) _ (g.S.Store.disk c.lay_body.new.store) _ _ laid.goes laid.out c.in-Ok.ensures.serves.tells
+    (serves_ok (IsSetFault c.args.self c.args.n) _ _ _ opened.goes opened.out c.in-Ok-open.ensures.serves.tells)
+
+pub returns-in-Err-clause-passes : goal.returns-in-Err-clause-passes
+returns-in-Err-clause-passes g c = subst (λ f. Passes (SameOutside f) (g.S.Store.disk c.args.store.now) (g.S.Store.disk c.lay_body.new.store)) c.first-first.ensures c.lay_body.ensures.passes
+
+pub returns-clause-durable : goal.returns-clause-durable
+returns-clause-durable g c = λ tells. c.in-Ok-open.ensures.durable (c.in-Ok.ensures.serves.tells tells)
+
+pub returns-clause-gates : goal.returns-clause-gates
+returns-clause-gates g c =
+    c.set_known.ensures ∙ ap (λ (k : Open). with_known c.args.self c.args.gates.now k) (c.with_mark.ensures ∙ ap (λ (k : Open). with_mark k (place_of c.args.n)) c.known_of-known.ensures)

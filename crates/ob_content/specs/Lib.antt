@@ -1,3 +1,0 @@
-pub mod Content
-pub mod Laws
-pub mod Spelling

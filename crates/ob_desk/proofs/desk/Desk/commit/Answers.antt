@@ -1,0 +1,12 @@
+use Rattle.std.proofs.Common.{refl, sym, ◌∙◌}
+use Rattle.ob_desk.specs.Desk.{outcome_at}
+use Rattle.ob_desk.proofs.Allowed.{was_aborted}
+use Rattle.ob_desk.proofs.desk.Desk.commit.Goals as goal
+
+pub returns-in-Some : goal.returns-in-Some
+returns-in-Some c = record {
+  step = record {
+    earlier = was_aborted (outcome_at c.args.self.now c.args.txn.now) c.in-Some.why (sym c.why_aborted.ensures ∙ c.in-Some.is);
+    same = refl;
+  };
+}

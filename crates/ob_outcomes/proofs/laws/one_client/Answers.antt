@@ -1,5 +1,0 @@
-use Rattle.ob_outcomes.proofs.Alone as alone
-use Rattle.ob_outcomes.proofs.laws.one_client.Goals as goal
-
-pub returns : goal.returns
-returns c = alone.one_client

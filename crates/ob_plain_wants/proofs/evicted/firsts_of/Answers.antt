@@ -1,0 +1,14 @@
+use Rattle.std.specs.Prelude.{cond}
+use Rattle.std.proofs.Common.{List, ℕ, [], ◌∷◌, ◌++◌, get_or, ◌∙◌, sym, ap, arith}
+use Rattle.ob_schedule.specs.Paths.{is_one_of}
+use Rattle.ob_plain_wants.proofs.Firsts.{firsts_more}
+use Rattle.ob_plain_wants.proofs.evicted.firsts_of.Goals as goal
+
+pub loop-u-preserved : goal.loop-u-preserved
+loop-u-preserved c =
+    let list = c.args.list.now in
+    let i = c.loop-u.u-index in
+    let one : ℕ = get_or list i 0 in
+    c.in_ok-push_first.ensures
+    ∙ ap (λ (us : List ℕ). cond (is_one_of us one) us (us ++ one ∷ [])) c.loop-u.invariant
+    ∙ sym (firsts_more list i (omega arith))

@@ -1,0 +1,223 @@
+//! What a request of the words comes to: the command with its numbers, its keys and its files.
+
+ghost use Rattle.std.specs.Prelude.{◌≡◌, ◌∷◌, [], map, option_map, MatchResult, IfOk, IfErr};
+ghost use Rattle.ob_words.specs.Reading.{asked_of};
+ghost use Rattle.ob_words.specs.Work.{Denotes, AreParams, IsBadNumber, AreLanes, AreBadLanes, IsWorkOf, IsOutOfRange, AskFor, IsRefusedFor, AreFilesOf, AreWanted, HasKeys, IsKeysRefused, IsTapeKey};
+
+use crate::request::{Request, WordsErr, read_words};
+use ob_base::{Fault, Field, Memory, Params};
+use ob_script::number_of;
+use ob_seal::Keys;
+use std::alloc::Global;
+
+/// What the words ask for.
+#[derive(Clone, Copy)]
+pub enum Work {
+    /// The trace that comes in is audited.
+    Audit,
+    /// Something over a store.
+    OnStore(Command),
+}
+
+/// What the words ask for over a store.
+#[derive(Clone, Copy)]
+pub enum Command {
+    /// An empty store is made, of these parameters.
+    Format { params: Params },
+    /// The script that comes in is run. The vault's batches may have so many lanes, from 1 to 16;
+    /// and with `turns` all clients' calls are made by hand.
+    Run { lanes: u32, turns: bool },
+}
+
+/// The files that the words call for.
+#[derive(Clone, Copy)]
+pub struct Paths<'a> {
+    /// The store's path, and whether it may be made.
+    pub store: Option<(&'a str, bool)>,
+    /// The key file's path.
+    pub keys: Option<&'a str>,
+}
+
+// How many lanes a run has where no word says it.
+const LANES: u32 = 4;
+
+// The most lanes that a run may have.
+const MOST_LANES: u32 = 16;
+
+// The number of a word; 0, which is in no range, where it is none.
+fn number_in(word: &str) -> u32
+    ensures { Denotes word.now result }
+{
+    match number_of(word.as_bytes()) {
+        Some(n) => n,
+        None => 0,
+    }
+}
+
+// The parameters of nine words, or the first field out of its range.
+fn params_in(
+    n: &str,
+    l: &str,
+    z: &str,
+    s: &str,
+    r: &str,
+    br: &str,
+    bw: &str,
+    e: &str,
+    t: &str,
+) -> Result<Params, Field>
+    ensures { MatchResult result
+        (λ p. AreParams (n.now ∷ l.now ∷ z.now ∷ s.now ∷ r.now ∷ br.now ∷ bw.now ∷ e.now ∷ t.now ∷
+        []) p)
+        (λ field. IsBadNumber
+        (n.now ∷ l.now ∷ z.now ∷ s.now ∷ r.now ∷ br.now ∷ bw.now ∷ e.now ∷ t.now ∷ []) field) }
+{
+    Params::new(
+        number_in(n),
+        number_in(l),
+        number_in(z),
+        number_in(s),
+        number_in(r),
+        number_in(br),
+        number_in(bw),
+        number_in(e),
+        number_in(t),
+    )
+}
+
+// How many lanes the word of `--lanes` gives, if it is there.
+fn lanes_in(word: Option<&str>) -> Result<u32, Field>
+    ensures { MatchResult result (λ k. AreLanes (option_map (λ w. w.now) word.entry) k)
+        (λ field. (field ≡ Field.LANES) × AreBadLanes (option_map (λ w. w.now) word.entry)) }
+{
+    let Some(word) = word else {
+        return Ok(LANES);
+    };
+    match number_of(word.as_bytes()) {
+        Some(k @ 1..=MOST_LANES) => Ok(k),
+        _ => Err(Field::LANES),
+    }
+}
+
+// What a request asks for, or the first field that is out of its range.
+fn work_in(request: &Request<'_>) -> Result<Work, Field>
+    ensures { MatchResult result (λ work. IsWorkOf (asked_of request.now) work)
+        (λ field. IsOutOfRange (asked_of request.now) field) }
+{
+    match request {
+        Request::Format {
+            n,
+            l,
+            z,
+            s,
+            r,
+            br,
+            bw,
+            e,
+            t,
+            ..
+        } => match params_in(n, l, z, s, r, br, bw, e, t) {
+            Ok(params) => Ok(Work::OnStore(Command::Format { params })),
+            Err(field) => Err(field),
+        },
+        Request::Run { lanes, turns, .. } => match lanes_in(*lanes) {
+            Ok(lanes) => Ok(Work::OnStore(Command::Run {
+                lanes,
+                turns: *turns,
+            })),
+            Err(field) => Err(field),
+        },
+        Request::Audit => Ok(Work::Audit),
+    }
+}
+
+/// What the words ask for.
+///
+/// # Errors
+/// `Usage` for words that are no command with its operands and options; `BadParams` for a number out
+/// of its range, the first one; and `Memory`.
+pub fn work_of(alloc: Global, words: &[&str]) -> Result<Work, Fault>
+    ensures work { IfOk result (λ work. AskFor (map (λ w. w.now) words.entry.now) work) }
+    ensures refused { IfErr result
+        (λ fault. IsRefusedFor (map (λ w. w.now) words.entry.now) fault) }
+{
+    let request = read_words(alloc, words)?;
+    match work_in(&request) {
+        Ok(work) => Ok(work),
+        Err(field) => Err(Fault::BadParams { field }),
+    }
+}
+
+/// The keys of a key file's text.
+///
+/// # Errors
+/// `SourceFault` where no text was read, and `BadParams` naming KEYS where it isn't one of keys.
+pub fn keys_of(text: Option<&[u8]>) -> Result<Keys, Fault>
+    ensures { MatchResult result (λ keys. HasKeys text.entry keys)
+        (λ fault. IsKeysRefused text.entry fault) }
+{
+    let Some(text) = text else {
+        return Err(Fault::SourceFault);
+    };
+    match Keys::from_hex(text) {
+        Some(keys) => Ok(keys),
+        None => Err(Fault::BadParams { field: Field::KEYS }),
+    }
+}
+
+/// The key of the tape, which is the third of a key file's text; zeros where no text was read or it
+/// isn't one of keys.
+pub fn tape_key(text: Option<&[u8]>) -> [u8; 32]
+    ensures { IsTapeKey text.entry result }
+{
+    match keys_of(text) {
+        Ok(keys) => keys.tape,
+        Err(_) => [0; 32],
+    }
+}
+
+// The files of a request: none where a number is out of its range, or for an audit.
+fn paths_of<'a>(request: &Request<'a>) -> Paths<'a>
+    ensures { AreFilesOf (asked_of request.now) (option_map (λ s. (s.0.now, s.1)) result.store)
+        (option_map (λ k. k.now) result.keys) }
+{
+    if work_in(request).is_err() {
+        return Paths {
+            store: None,
+            keys: None,
+        };
+    }
+    match request {
+        Request::Format { store, keys, .. } => Paths {
+            store: Some((*store, true)),
+            keys: Some(*keys),
+        },
+        Request::Run { store, keys, .. } => Paths {
+            store: Some((*store, false)),
+            keys: Some(*keys),
+        },
+        Request::Audit => Paths {
+            store: None,
+            keys: None,
+        },
+    }
+}
+
+/// The files that the words call for, so that nothing else is opened or made: none where they are
+/// refused, where a number is out of its range, or for an audit.
+///
+/// # Errors
+/// Memory was wanting.
+pub fn store_wanted<'a>(alloc: Global, words: &'a [&'a str]) -> Result<Paths<'a>, Memory>
+    ensures { IfOk result (λ paths. AreWanted (map (λ w. w.now) words.entry.now)
+        (option_map (λ s. (s.0.now, s.1)) paths.store) (option_map (λ k. k.now) paths.keys)) }
+{
+    match read_words(alloc, words) {
+        Ok(request) => Ok(paths_of(&request)),
+        Err(WordsErr::Usage) => Ok(Paths {
+            store: None,
+            keys: None,
+        }),
+        Err(WordsErr::Memory) => Err(Memory),
+    }
+}

@@ -1,9 +1,0 @@
-pub mod Shapes
-pub mod Stops
-pub mod Cutting
-pub mod Forestalling
-pub mod Unended
-pub mod Failing
-pub mod Quiet
-pub mod Over
-pub mod Idle
