@@ -6,8 +6,7 @@
 set -euo pipefail
 top=$(cd "$(dirname "$0")/.." && pwd)
 source "$top/bench/common.sh"
-bench_crate check_bench ob_base ob_io ob_store ob_mem ob_seal ob_cells ob_bucket ob_tables ob_check \
-    ob_batch <<'PROGRAM'
+bench_crate check_bench ob_base ob_io ob_store ob_mem ob_seal ob_cells ob_tables ob_check <<'PROGRAM'
 //! Writes a checkpoint (w), reads it (r), seals (s) or opens (o) as many cells, runs batches (b) or
 //! opens as many cells as they have (c): the first byte of the input says what, any other nothing.
 //! Each is done several times, behind the same preparations.
@@ -18,8 +17,8 @@ ghost use Rattle.ob_base.specs.Layout.{checkpoint_cells};
 ghost use Rattle.ob_tables.specs.Content.{Obeys, content_of};
 
 use ob_base::{Job, Jobs, Params, check_cell, checkpoint_cells, set_u32, set_u64};
-use ob_batch::{Crew, run_jobs};
-use ob_bucket::Metas;
+use ob_cells::{Crew, run_jobs};
+use ob_tables::Metas;
 use ob_cells::{Cut, write_sealed};
 use ob_check::{Sheet, read, write};
 use ob_mem::{BareLane, BareStore};

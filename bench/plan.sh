@@ -7,14 +7,14 @@ set -euo pipefail
 top=$(cd "$(dirname "$0")/.." && pwd)
 work=$(mktemp -d)
 trap 'rm -rf "$work"' EXIT
-crates="ob_base ob_io ob_bucket ob_tables ob_store ob_schedule ob_ring"
+crates="ob_base ob_io ob_tables ob_store ob_schedule ob_ring"
 mkdir -p "$work/crates/plan_bench/src"
 for crate in $crates; do
     cp -r "$top/crates/$crate" "$work/crates/"
     rm -rf "$work/crates/$crate/out" "$work/crates/$crate/must-fail"
     grep "^$crate:" "$top/crates.txt" >>"$work/crates.txt"
 done
-echo 'plan_bench: ob_base ob_bucket ob_tables ob_store ob_schedule ob_ring' >>"$work/crates.txt"
+echo 'plan_bench: ob_base ob_tables ob_store ob_schedule ob_ring' >>"$work/crates.txt"
 git -C "$work" init -q
 cat >"$work/crates/plan_bench/src/main.rt" <<'PROGRAM'
 //! Plans epochs, and writes what that took.

@@ -1,9 +1,10 @@
 -- Where bytes are cut.
-use Rattle.std.proofs.Common.{◌≡◌, ◌<◌, ◌^◌, ◌⊎◌, ℕ, Bool, true, false, ◌==◌, List, [], ◌∷◌, ◌++◌, Option, Some, None, refl, ap, ◌∙◌, arith, cond, inl, inr}
+use Rattle.std.proofs.Common.{◌≡◌, ◌<◌, ◌≤◌, ◌+◌, ◌^◌, ◌⊎◌, ℕ, length, take, drop, get_or, sym, append_assoc, Bool, true, false, ◌==◌, List, [], ◌∷◌, ◌++◌, Option, Some, None, refl, ap, ◌∙◌, arith, cond, inl, inr}
 use Rattle.std.specs.Prelude.{option_map}
 use Rattle.std.specs.Str.{all_ascii_digits}
 use Rattle.std.specs.Fmt.{decimal}
 use Rattle.std.proofs.lemmas.Bool.{eqb-true, ne_eqb}
+use Rattle.std.proofs.lemmas.List.{take_more, drop_more, drop_all}
 use Rattle.std.proofs.lemmas.Str.Parse.{tells_all_ascii_digits}
 use Rattle.std.proofs.lemmas.Fmt.{digits_decimal}
 use Rattle.ob_audit.specs.Reading.{cut_at}
@@ -12,6 +13,35 @@ use Rattle.ob_audit.proofs.Numerals.{own}
 choose : {A : Type 0} (b : Bool) (x y z : A) → cond b x y ≡ z → ((b ≡ true) × (x ≡ z)) ⊎ ((b ≡ false) × (y ≡ z))
 choose true x y z h = inl (refl, h)
 choose false x y z h = inr (refl, h)
+
+-- a cut with more in front of what stands before it
+abbrev pub with_front : List ℕ → Option (List ℕ × List ℕ) → Option (List ℕ × List ℕ)
+with_front front cut = option_map (λ p. (front ++ p.0, p.1)) cut
+
+no_front : (cut : Option (List ℕ × List ℕ)) → cut ≡ with_front [] cut
+no_front None = refl
+no_front (Some p) = refl
+
+both_fronts : (front more : List ℕ) (x : ℕ) (cut : Option (List ℕ × List ℕ)) → more ≡ front ++ x ∷ [] → with_front front (with_front (x ∷ []) cut) ≡ with_front more cut
+both_fronts front more x None e = refl
+both_fronts front more x (Some q) e =
+    let same : front ++ x ∷ q.0 ≡ more ++ q.0 = sym (append_assoc front (x ∷ []) q.0) ∙ ap (λ (t : List ℕ). t ++ q.0) (sym e) in
+    rw same refl
+
+-- before the first byte, behind one that is another, and behind the last
+pub cut_begun : (at : ℕ) (bytes : List ℕ) → cut_at at bytes ≡ with_front (take 0 bytes) (cut_at at (drop 0 bytes))
+cut_begun at bytes = no_front (cut_at at bytes)
+
+pub cut_further : (at : ℕ) (bytes : List ℕ) (i : ℕ) → i < length bytes → (get_or bytes i 0 ≡ at → ⊥) → with_front (take i bytes) (cut_at at (drop i bytes)) ≡ with_front (take (i + 1) bytes) (cut_at at (drop (i + 1) bytes))
+cut_further at bytes i lt other =
+    let x : ℕ = get_or bytes i 0 in
+    let rest : List ℕ = drop (i + 1) bytes in
+    let no : (x == at) ≡ false = ne_eqb x at other in
+    let head : cut_at at (x ∷ rest) ≡ with_front (x ∷ []) (cut_at at rest) = rw no refl in
+    ap (with_front (take i bytes)) (ap (cut_at at) (drop_more bytes i 0 lt) ∙ head) ∙ both_fronts (take i bytes) (take (i + 1) bytes) x (cut_at at rest) (take_more bytes i 0 lt)
+
+pub cut_nowhere : (at : ℕ) (bytes : List ℕ) (i : ℕ) → length bytes ≤ i → cut_at at bytes ≡ with_front (take i bytes) (cut_at at (drop i bytes)) → ◌≡◌ {A = Option (List ℕ × List ℕ)} None (cut_at at bytes)
+cut_nowhere at bytes i all told = sym (told ∙ ap (λ (rest : List ℕ). with_front (take i bytes) (cut_at at rest)) (drop_all i bytes all))
 
 pub cut_found : (at : ℕ) (xs : List ℕ) (p : List ℕ × List ℕ) → cut_at at xs ≡ Some p → xs ≡ p.0 ++ at ∷ p.1
 cut_found at [] p h = cc

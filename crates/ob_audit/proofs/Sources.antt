@@ -39,6 +39,10 @@ audited_end limit bytes (Some left) audit end few verdict =
     ap (λ (t : List ℕ). take (limit + 1) (bytes ++ t)) end ∙ ap (λ (t : List ℕ). take (limit + 1) t) (append-nil bytes) ∙ take_all (limit + 1) bytes (omega (arith, few)) in
     (bytes, sym whole, verdict)
 
+-- what was answered isn't nothing
+pub no_answer : {P : Type 0} (audit : Audit) → ◌≡◌ {A = Option Audit} (Some audit) None → P
+no_answer {P} audit none = absurd (cc)
+
 -- a piece that was taken
 pub piece_told : (answer : Option Audit) (limit : ℕ) (bytes piece : List ℕ) (old new : Option (List ℕ)) (r : Reader) → old ≡ prepended piece new
     → MatchOption answer (HasReadLines r (bytes ++ piece)) (λ audit. IsSettled limit (bytes ++ piece) audit)

@@ -44,16 +44,17 @@ fn follow(
 {
     match known.take() {
         Some(mut present) => {
-            let answer = present.next(alloc, line)?;
+            let answer = present.next(alloc, line);
             *known = Some(present);
-            Ok(answer)
+            answer
         }
-        None => match first(alloc, line)? {
-            Some(begun) => {
+        None => match first(alloc, line) {
+            Ok(Some(begun)) => {
                 *known = Some(begun);
                 Ok(None)
             }
-            None => Ok(Some(Wanted::Start)),
+            Ok(None) => Ok(Some(Wanted::Start)),
+            Err(error) => Err(error),
         },
     }
 }
@@ -72,13 +73,14 @@ fn judge(
         (λ audit. RefusesText (known_behind known.old) text lines audit)) }
 {
     let found = line_of(kept);
-    match follow(alloc, known, &found)? {
-        None => Ok(None),
-        Some(wanted) => Ok(Some(Audit::Breaks {
+    match follow(alloc, known, &found) {
+        Ok(None) => Ok(None),
+        Ok(Some(wanted)) => Ok(Some(Audit::Breaks {
             line: lines + 1,
             wanted,
             found,
         })),
+        Err(error) => Err(error),
     }
 }
 
@@ -131,14 +133,15 @@ impl Reader {
             → IfOk result (λ answer. MatchOption answer (HasReadLines self.new (bytes ++ 10 ∷ []))
             (λ audit. IsSettled limit (bytes ++ 10 ∷ []) audit)) }
     {
-        match judge(alloc, &mut self.known, &self.begun[..self.len], self.lines)? {
-            Some(audit) => Ok(Some(audit)),
-            None => {
+        match judge(alloc, &mut self.known, &self.begun[..self.len], self.lines) {
+            Ok(Some(audit)) => Ok(Some(audit)),
+            Ok(None) => {
                 self.seen += 1;
                 self.lines += 1;
                 self.len = 0;
                 Ok(None)
             }
+            Err(error) => Err(error),
         }
     }
 
@@ -197,9 +200,10 @@ impl Reader {
             (λ audit. IsSettled limit (bytes ++ piece.now) audit)) }
     {
         for byte in piece {
-            match self.take_byte(alloc, limit, *byte)? {
-                Some(audit) => return Ok(Some(audit)),
-                None => {}
+            match self.take_byte(alloc, limit, *byte) {
+                Ok(None) => {}
+                Ok(Some(audit)) => return Ok(Some(audit)),
+                Err(error) => return Err(error),
             }
         }
         Ok(None)
@@ -215,9 +219,10 @@ impl Reader {
         if self.len == 0 {
             return Ok(Audit::Fits);
         }
-        match judge(alloc, &mut self.known, &self.begun[..self.len], self.lines)? {
-            Some(audit) => Ok(audit),
-            None => Ok(Audit::Fits),
+        match judge(alloc, &mut self.known, &self.begun[..self.len], self.lines) {
+            Ok(Some(audit)) => Ok(audit),
+            Ok(None) => Ok(Audit::Fits),
+            Err(error) => Err(error),
         }
     }
 }

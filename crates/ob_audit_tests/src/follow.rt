@@ -226,11 +226,43 @@ fn break_of(
     first_break(alloc, p, &lines)
 }
 
+/// Whether two lines that are wanted are the same.
+pub(crate) fn is_same(a: Wanted, b: Wanted) -> bool {
+    match (a, b) {
+        (Wanted::Start, Wanted::Start) => true,
+        (Wanted::Label, Wanted::Label) => true,
+        (Wanted::End, Wanted::End) => true,
+        (Wanted::Slot { bucket }, Wanted::Slot { bucket: other }) => bucket == other,
+        (Wanted::Line(note), Wanted::Line(other)) => note == other,
+        (Wanted::LabelOr { cell }, Wanted::LabelOr { cell: other }) => cell == other,
+        (
+            Wanted::Either { first, second },
+            Wanted::Either {
+                first: f,
+                second: s,
+            },
+        ) => { first == f && second == s }
+        (Wanted::EitherWrite { gate, body }, Wanted::EitherWrite { gate: g, body: b }) => {
+            gate == g && body == b
+        }
+        _ => false,
+    }
+}
+
+// Whether the first line that may not stand there, and what may, are as they should be.
+fn is_found(found: Option<(usize, Wanted)>, wanted: Option<(usize, Wanted)>) -> bool {
+    match (found, wanted) {
+        (Some((line, may)), Some((at, should))) => line == at && is_same(may, should),
+        (None, None) => true,
+        _ => false,
+    }
+}
+
 #[test]
 fn traces_are_followed(rt: HostRuntime) {
     let p = small().expect(&rt, "parameters in range");
     for (recipe, wanted) in ROWS {
         let found = break_of(rt.alloc(), &p, recipe).expect(&rt, "memory");
-        assert!(rt; found == wanted, "{recipe}");
+        assert!(rt; is_found(found, wanted), "{recipe}");
     }
 }

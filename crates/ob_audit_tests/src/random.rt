@@ -1,6 +1,6 @@
 //! Tests: at places of traces that are drawn at random just those lines may stand that are wanted.
 
-use crate::follow::{small, trace_of};
+use crate::follow::{is_same, small, trace_of};
 use ob_base::Params;
 use ob_follow::{Line, Wanted};
 use ob_plain_follow::FollowPlain;
@@ -75,7 +75,10 @@ fn is_told(
 ) -> Result<bool, AllocError> {
     let line = Line::Note(note);
     if !is_named(wanted, lines, note) {
-        return Ok(known.next(alloc, &line)? == Some(wanted));
+        return match known.next(alloc, &line)? {
+            Some(again) => Ok(is_same(again, wanted)),
+            None => Ok(false),
+        };
     }
     match behind(alloc, p, lines)? {
         Some(mut again) => Ok(again.next(alloc, &line)?.is_none()),

@@ -1,15 +1,17 @@
 //! Refusals that all crates share: what failed, what is damaged, what is exhausted.
 
+use std::fmt::{self, Debug, Formatter, Write};
+
 /// An object that was handed in failed: its count of faults rose in the call.
-#[derive(Clone, Copy, Debug, PartialEq, Eq)]
+#[derive(Clone, Copy, Debug)]
 pub struct Failed;
 
 /// Memory was wanting.
-#[derive(Clone, Copy, Debug, PartialEq, Eq)]
+#[derive(Clone, Copy, Debug)]
 pub struct Memory;
 
 /// What of a cell failed: its tag, its identity, its epoch, or the form of what it holds.
-#[derive(Clone, Copy, Debug, PartialEq, Eq)]
+#[derive(Clone, Copy, PartialEq, Eq)]
 pub enum Check {
     Tag,
     Seal,
@@ -36,7 +38,7 @@ pub enum Field {
 
 /// A cell that holds other bytes than it must: what it keeps at the failed check, and what was
 /// computed there.
-#[derive(Clone, Copy, Debug, PartialEq, Eq)]
+#[derive(Clone, Copy)]
 pub struct Damaged {
     pub cell: u64,
     pub check: Check,
@@ -48,19 +50,19 @@ pub struct Damaged {
 pub const NUMBER_LIMIT: u64 = 1 << 62;
 
 /// The next number of a kind is `2^62`, which may not be used.
-#[derive(Clone, Copy, Debug, PartialEq, Eq)]
+#[derive(Clone, Copy)]
 pub struct Worn {
     pub number: u64,
 }
 
 /// More rows are left after a refill than the stash may keep.
-#[derive(Clone, Copy, Debug, PartialEq, Eq)]
+#[derive(Clone, Copy)]
 pub struct StashFull {
     pub rows: u64,
 }
 
 /// Why the program refused.
-#[derive(Clone, Copy, Debug, PartialEq, Eq)]
+#[derive(Clone, Copy, PartialEq, Eq)]
 pub enum Fault {
     /// Memory was wanting.
     Memory,
@@ -99,4 +101,23 @@ pub enum Fault {
     SourceFault,
     /// The output or the trace failed.
     SinkFault,
+}
+
+// Writes the kind alone.
+impl Debug for Fault {
+    fn fmt<W: Write>(&self, f: &mut Formatter<W>) -> fmt::Result {
+        f.write_str(match *self {
+            Fault::Memory => "Memory",
+            Fault::Usage => "Usage",
+            Fault::BadScript { .. } => "BadScript",
+            Fault::BadParams { .. } => "BadParams",
+            Fault::NotStore => "NotStore",
+            Fault::Damaged { .. } => "Damaged",
+            Fault::StoreFault { .. } => "StoreFault",
+            Fault::StashFull { .. } => "StashFull",
+            Fault::Worn { .. } => "Worn",
+            Fault::SourceFault => "SourceFault",
+            Fault::SinkFault => "SinkFault",
+        })
+    }
 }

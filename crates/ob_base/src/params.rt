@@ -2,12 +2,12 @@
 
 ghost use Rattle.std.specs.Prelude.{◌≡◌, MatchResult, IfOk, Some, None};
 ghost use Rattle.ob_base.specs.Parameters.{AreInRange};
-ghost use Rattle.ob_base.specs.Fields.{first_out_of_range};
+ghost use Rattle.ob_base.specs.Fields.{is_within, first_out_of_range};
 
 use crate::fault::Field;
 
 /// The parameters of a store. Each value of this type is in range.
-#[derive(Clone, Copy, Debug, PartialEq, Eq)]
+#[derive(Clone, Copy, PartialEq)]
 pub struct Params {
     /// N: keys are the numbers below it, 1 to 65,536 of them, and at most `real * 2^levels`.
     pub keys: u32,
@@ -28,6 +28,13 @@ pub struct Params {
     /// T: rows that the stash may keep after an epoch, 1 to 1,024.
     pub room: u32,
     pub ghost in_range: { AreInRange keys levels real dummies batches places writes evictions room },
+}
+
+// Whether a number is from 1 to `most`.
+fn is_within(most: u32, x: u32) -> bool
+    ensures { result ≡ is_within 1 most x }
+{
+    1 <= x && x <= most
 }
 
 impl Params {
@@ -53,31 +60,31 @@ impl Params {
         ensures first { MatchResult result (λ p. first_out_of_range n l z s r br bw e t
             ≡ None) (λ field. first_out_of_range n l z s r br bw e t ≡ Some field) }
     {
-        if !(1 <= n && n <= 65536) {
+        if !is_within(65536, n) {
             return Err(Field::N);
         }
-        if !(1 <= l && l <= 16) {
+        if !is_within(16, l) {
             return Err(Field::L);
         }
-        if !(1 <= z && z <= 16) {
+        if !is_within(16, z) {
             return Err(Field::Z);
         }
-        if !(1 <= s && s <= 32) {
+        if !is_within(32, s) {
             return Err(Field::S);
         }
-        if !(1 <= r && r <= 16) {
+        if !is_within(16, r) {
             return Err(Field::R);
         }
-        if !(1 <= br && br <= 64) {
+        if !is_within(64, br) {
             return Err(Field::BR);
         }
-        if !(1 <= bw && bw <= 256) {
+        if !is_within(256, bw) {
             return Err(Field::BW);
         }
-        if !(1 <= e && e <= 64) {
+        if !is_within(64, e) {
             return Err(Field::E);
         }
-        if !(1 <= t && t <= 1024) {
+        if !is_within(1024, t) {
             return Err(Field::T);
         }
         if n > z << l {

@@ -14,26 +14,11 @@ use crate::{
 #[test]
 fn first_field_out_of_range_is_named(rt: HostRuntime) {
     assert!(rt; Params::new(8, 2, 2, 3, 2, 2, 2, 2, 8).is_ok());
-    assert_eq!(rt;
-        Params::new(9, 2, 2, 3, 2, 2, 2, 2, 8).err(),
-        Some(Field::N)
-    );
-    assert_eq!(rt;
-        Params::new(0, 0, 2, 3, 2, 2, 2, 2, 8).err(),
-        Some(Field::N)
-    );
-    assert_eq!(rt;
-        Params::new(8, 17, 2, 3, 2, 2, 2, 2, 8).err(),
-        Some(Field::L)
-    );
-    assert_eq!(rt;
-        Params::new(9, 2, 2, 3, 2, 2, 2, 65, 8).err(),
-        Some(Field::E)
-    );
-    assert_eq!(rt;
-        Params::new(8, 2, 2, 3, 2, 2, 2, 2, 1025).err(),
-        Some(Field::T)
-    );
+    assert!(rt; Params::new(9, 2, 2, 3, 2, 2, 2, 2, 8).err() == Some(Field::N));
+    assert!(rt; Params::new(0, 0, 2, 3, 2, 2, 2, 2, 8).err() == Some(Field::N));
+    assert!(rt; Params::new(8, 17, 2, 3, 2, 2, 2, 2, 8).err() == Some(Field::L));
+    assert!(rt; Params::new(9, 2, 2, 3, 2, 2, 2, 65, 8).err() == Some(Field::E));
+    assert!(rt; Params::new(8, 2, 2, 3, 2, 2, 2, 2, 1025).err() == Some(Field::T));
 }
 
 #[test]
@@ -126,9 +111,11 @@ fn jobs_are_kept_in_order(rt: HostRuntime) {
         ..job
     });
     jobs.set_result(1, [7; 96]);
-    assert!(rt; jobs.jobs().len() == 2 && jobs.jobs()[0] == job);
+    assert!(rt; jobs.jobs().len() == 2);
+    assert!(rt; jobs.jobs()[0].cell == 41 && jobs.jobs()[0].result.is_none());
     assert!(rt; jobs.jobs()[1].cell == 42 && jobs.jobs()[1].result == Some([7; 96]));
-    assert!(rt; jobs.places().len() == 1 && jobs.places()[0] == Place { leaf: 3, first: 0 });
+    assert!(rt; jobs.places().len() == 1);
+    assert!(rt; jobs.places()[0].leaf == 3 && jobs.places()[0].first == 0);
     jobs.clear();
     assert!(rt; jobs.jobs().is_empty() && jobs.places().is_empty() && jobs.room() == 18);
 }

@@ -8,7 +8,7 @@ use std::marker::Model;
 pub type Key = u32;
 
 /// A value of 0 to 64 bytes, kept inline. Contracts see the bytes.
-#[derive(Clone, Copy, Debug, PartialEq, Eq)]
+#[derive(Clone, Copy, PartialEq, Eq)]
 pub struct Value {
     bytes: [u8; 64],
     len: usize,
@@ -68,7 +68,7 @@ impl Value {
 }
 
 /// A key with its new value; None takes the key out.
-#[derive(Clone, Copy, Debug, PartialEq, Eq)]
+#[derive(Clone, Copy)]
 pub struct Write {
     pub key: Key,
     pub value: Option<Value>,

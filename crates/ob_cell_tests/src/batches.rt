@@ -1,14 +1,11 @@
 //! Batches over a store whose cells were sealed elsewhere.
 
 ghost use Rattle.std.specs.Prelude.{◌≡◌};
-ghost use Rattle.ob_mem.specs.Memory.{disk_of_store};
 
-use crate::steps::new_store;
-use hex::FromHex;
-use ob_base::{Check, Fault, Job, Jobs, Params};
-use ob_batch::{Crew, JobsErr, run_jobs};
+use crate::shared::{STORE_FAULT, is_damage, new_store, params, spelled, test_sealer};
+use ob_base::{Check, Fault, Job, Jobs};
+use ob_cells::{Crew, JobsErr, run_jobs};
 use ob_mem::{Fail, MemStore};
-use ob_seal::{Keys, Sealer};
 use ob_store::Store;
 use std::alloc::Global;
 use std::process::Abort;
@@ -30,22 +27,13 @@ const CELLS: [(u64, &str); 3] = [
     ),
 ];
 
-// A sealer under the keys of the bytes 0 to 95.
-fn test_sealer() -> Sealer {
-    let mut bytes = [0; 96];
-    for i in 0..96 {
-        bytes[i] = i as u8;
-    }
-    Sealer::new(&Keys::from_bytes(&bytes), 1)
-}
-
 // A store of the three cells, where these calls fail and a bit of this cell is another.
 fn store_of(rt: &impl Abort, alloc: Global, fails: &[Fail], broken: u64) -> MemStore
     ensures { result.log.out ≡ 0 }
 {
     let mut store = new_store(rt, alloc, 74, fails);
-    for (cell, digits) in CELLS {
-        let mut bytes = <[u8; 128] as FromHex>::from_hex(digits).expect(rt, "digits");
+    for &(cell, digits) in &CELLS {
+        let mut bytes = spelled(rt, digits);
         if cell == broken {
             bytes[100] ^= 1;
         }
@@ -56,8 +44,7 @@ fn store_of(rt: &impl Abort, alloc: Global, fails: &[Fail], broken: u64) -> MemS
 
 // Jobs of the three cells: the first one's number, and the others' true ones.
 fn jobs_of(rt: &impl Abort, alloc: Global, number: u64) -> Jobs {
-    let params = Params::new(8, 2, 2, 3, 2, 2, 2, 2, 8).expect(rt, "parameters");
-    let mut jobs = Jobs::new(alloc, &params).expect(rt, "memory");
+    let mut jobs = Jobs::new(alloc, &params(rt, 8, 2)).expect(rt, "memory");
     for (cell, number) in [(41, number), (46, 7), (56, 17)] {
         assert!(rt; jobs.jobs().len() < jobs.room());
         jobs.push(Job {
@@ -71,59 +58,42 @@ fn jobs_of(rt: &impl Abort, alloc: Global, number: u64) -> Jobs {
     jobs
 }
 
-// How many jobs have a result, and how many the plain bytes of an empty slot.
-fn results(jobs: &[Job]) -> (usize, usize) {
+// Whether each of the three jobs has the plain bytes of an empty slot, or each has no result.
+fn are_read(jobs: &[Job], is_read: bool) -> bool {
     let mut empty_slot = [0; 96];
     for i in 0..4 {
         empty_slot[i] = 0xff;
     }
-    let done = jobs.iter().filter(|job| job.result.is_some()).count();
-    let empty = jobs
-        .iter()
-        .filter(|job| job.result == Some(empty_slot))
-        .count();
-    (done, empty)
+    let wanted = if is_read { Some(empty_slot) } else { None };
+    for job in jobs {
+        if job.result != wanted {
+            return false;
+        }
+    }
+    jobs.len() == 3
+}
+
+// What a batch answers: its jobs are done, or the first that fails has a cell damaged so, or the
+// store failed, at that one's read or before any.
+enum Told {
+    Done,
+    Damaged(u64, Check),
+    NotRead,
+    NotBegun,
 }
 
 type Answer = Result<(), JobsErr>;
 
-// A batch's answer, with zeros for the bytes that it tells of a damaged cell.
-fn answer_of(told: Answer) -> Answer {
-    match told {
-        Err(JobsErr::Job(Fault::Damaged { cell, check, .. })) => {
-            Err(JobsErr::Job(Fault::Damaged {
-                cell,
-                check,
-                kept: [0; 16],
-                computed: [0; 16],
-            }))
-        }
-        _ => told,
+// Whether that was told.
+fn is_told(told: &Told, answer: Answer) -> bool {
+    match (told, answer) {
+        (Told::Done, Ok(())) => true,
+        (Told::Damaged(cell, check), Err(JobsErr::Job(fault))) => is_damage(fault, *cell, *check),
+        (Told::NotRead, Err(JobsErr::Job(fault))) => fault == STORE_FAULT,
+        (Told::NotBegun, Err(JobsErr::NotBegun(fault))) => fault == STORE_FAULT,
+        _ => false,
     }
 }
-
-const STORE_FAULT: Fault = Fault::StoreFault { unsure: None };
-
-const BAD_SEAL_41: Fault = Fault::Damaged {
-    cell: 41,
-    check: Check::Seal,
-    kept: [0; 16],
-    computed: [0; 16],
-};
-
-const BAD_TAG_41: Fault = Fault::Damaged {
-    cell: 41,
-    check: Check::Tag,
-    kept: [0; 16],
-    computed: [0; 16],
-};
-
-const BAD_TAG_46: Fault = Fault::Damaged {
-    cell: 46,
-    check: Check::Tag,
-    kept: [0; 16],
-    computed: [0; 16],
-};
 
 const READ_46: Fail = Fail::Read {
     cell: 46,
@@ -135,46 +105,43 @@ const READ_56: Fail = Fail::Read {
     writes: 3,
 };
 
-// The calls that fail, the cell with another bit, the number of the first job, the answer, how many
-// jobs then have a result, and how often the store has failed. Where an earlier job fails too, its
-// count shows that the later cells were read.
-const BATCHES: [(&[Fail], u64, u64, Answer, usize, u64); 7] = [
-    (&[], 0, 2, Ok(()), 3, 0),
-    (&[], 46, 2, Err(JobsErr::Job(BAD_TAG_46)), 0, 0),
-    (&[], 0, 3, Err(JobsErr::Job(BAD_SEAL_41)), 0, 0),
-    (&[READ_56], 46, 2, Err(JobsErr::Job(BAD_TAG_46)), 0, 1),
-    (&[READ_46], 56, 2, Err(JobsErr::Job(STORE_FAULT)), 0, 1),
-    (
-        &[READ_46, READ_56],
-        41,
-        2,
-        Err(JobsErr::Job(BAD_TAG_41)),
-        0,
-        2,
-    ),
-    (
-        &[Fail::Lane(0), READ_46],
-        56,
-        2,
-        Err(JobsErr::NotBegun(STORE_FAULT)),
-        0,
-        1,
-    ),
+// The calls that fail, the cell with another bit, the number of the first job, the answer, and how
+// often the store has failed. Where an earlier job fails too, that shows that the later cells were
+// read.
+struct Batch(&'static [Fail], u64, u64, Told, u64);
+
+const BATCHES: &[Batch] = &[
+    Batch(&[], 0, 2, Told::Done, 0),
+    Batch(&[], 46, 2, Told::Damaged(46, Check::Tag), 0),
+    Batch(&[], 0, 3, Told::Damaged(41, Check::Seal), 0),
+    Batch(&[READ_56], 46, 2, Told::Damaged(46, Check::Tag), 1),
+    Batch(&[READ_46], 56, 2, Told::NotRead, 1),
+    Batch(&[READ_46, READ_56], 41, 2, Told::Damaged(41, Check::Tag), 2),
+    Batch(&[Fail::Lane(0), READ_46], 56, 2, Told::NotBegun, 1),
 ];
+
+// What jobs answer that are read by one lane.
+fn run(rt: &impl Abort, alloc: Global, store: &mut MemStore, jobs: &mut Jobs) -> Answer {
+    let mut crew = Crew::new(alloc, 1, 3).expect(rt, "memory");
+    assert!(rt; crew.lanes() == 1);
+    assert!(rt; jobs.jobs().len() <= crew.jobs());
+    run_jobs(store, &mut crew, &test_sealer(1), jobs)
+}
+
+// Whether a batch, read by one lane, answers so, and leaves results where it is done.
+fn ends_so(rt: &impl Abort, alloc: Global, batch: &Batch) -> bool {
+    let Batch(fails, broken, number, told, faults) = batch;
+    let mut store = store_of(rt, alloc, fails, *broken);
+    let mut jobs = jobs_of(rt, alloc, *number);
+    is_told(told, run(rt, alloc, &mut store, &mut jobs))
+        && are_read(jobs.jobs(), matches!(told, Told::Done))
+        && store.faults() == *faults
+}
 
 #[test]
 fn batches_are_read_or_the_first_failing_job_is_told(rt: HostRuntime) {
-    let alloc = rt.alloc();
-    for (fails, broken, number, wanted, results_wanted, faults) in BATCHES {
-        let mut store = store_of(&rt, alloc, fails, broken);
-        let mut jobs = jobs_of(&rt, alloc, number);
-        let mut crew = Crew::new(alloc, 1, 3).expect(&rt, "memory");
-        assert_eq!(rt; crew.lanes(), 1);
-        assert!(rt; jobs.jobs().len() <= crew.jobs());
-        let result = run_jobs(&mut store, &mut crew, &test_sealer(), &mut jobs);
-        assert!(rt; answer_of(result) == wanted, "{broken} {number} {faults}");
-        assert!(rt; results(jobs.jobs()) == (results_wanted, results_wanted));
-        assert!(rt; store.faults() == faults);
+    for i in 0..BATCHES.len() {
+        assert!(rt; ends_so(&rt, rt.alloc(), &BATCHES[i]), "batch {i}");
     }
 }
 

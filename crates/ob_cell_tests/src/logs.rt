@@ -2,13 +2,14 @@
 
 ghost use Rattle.std.specs.Prelude.{◌≡◌, ◌<◌, ◌≤◌, ◌^◌, ◌∷◌, IfSome, Some, replicate, None, true};
 
-use crate::steps::{new_sink, new_store};
-use hex::FromHex;
+use crate::shared::{
+    STORE_FAULT, damaged, left_after, new_sink, new_store, params, sealed_as, spelled, test_sealer,
+};
 use ob_base::{Check, Failed, Fault, Key, Params};
 use ob_cells::read_cells;
-use ob_log::{append, read_open};
+use ob_log::{Record, append, read_open};
 use ob_mem::{Fail, MemStore};
-use ob_seal::{Keys, Sealer};
+use ob_seal::Sealer;
 use ob_store::{Blind, SinkWatch, Store, Watch, write_through};
 use std::alloc::Global;
 use std::process::Abort;
@@ -20,16 +21,15 @@ const SECOND: [u64; 2] = [14052829551288606090, 10622309020714539063];
 
 const THIRD: [u64; 2] = [10102863338132011689, 14418781035664499212];
 
-const OPEN: [u8; 128] = [0xA5; 128];
-
-const ZEROS: [u8; 128] = [0; 128];
+// What a call answers: of a read, how many records.
+type Answer = Result<usize, Fault>;
 
 // A call on a store and on the log in it.
 #[derive(Clone, Copy)]
 enum Call {
     // Appends the record of a batch of an epoch, with the place of its first word: what its first
     // place asks for, the others being pads, and its words.
-    Append(u64, u32, u64, Option<Key>, &'static [u64]),
+    Append((u64, u32, u64), Option<Key>, &'static [u64]),
     // Makes so many other seals.
     Seal(u64),
     // Fills a cell with a byte.
@@ -41,17 +41,6 @@ enum Call {
     Bend(u64),
     // Reads the open records of epoch 1: how many they are.
     Read,
-}
-
-// A sealer under the keys of the bytes 0 to 95.
-fn test_sealer() -> Sealer
-    ensures { result.next ≡ 0 }
-{
-    let mut bytes = [0; 96];
-    for i in 0..96 {
-        bytes[i] = i as u8;
-    }
-    Sealer::new(&Keys::from_bytes(&bytes), 2)
 }
 
 // One place asks for a key, or for none, and 63 for none.
@@ -82,7 +71,7 @@ fn append_one<W: Watch>(
     one: Option<Key>,
     words: &[u64],
     watch: &mut W,
-) -> Result<(), Fault>
+) -> Answer
     requires none_out { store.old.log.out ≡ 0 }
     ensures none_out { store.new.log.out ≡ 0 }
 {
@@ -95,17 +84,11 @@ fn append_one<W: Watch>(
         return Err(Fault::Usage);
     }
     let asks = one_ask(one);
-    append(
-        store,
-        sealer,
-        p,
-        epoch,
-        batch,
-        first,
-        &asks[..words.len()],
-        words,
-        watch,
-    )
+    let asks = &asks[..words.len()];
+    match append(store, sealer, p, epoch, batch, first, asks, words, watch) {
+        Ok(()) => Ok(0),
+        Err(fault) => Err(fault),
+    }
 }
 
 // Makes so many seals.
@@ -115,19 +98,16 @@ fn seal_more(sealer: &mut Sealer, many: u64) {
     }
 }
 
-// A cell under the seal of a number: its plain bytes have the epoch, the batch, and the kind and
-// key of two places.
-fn forged(cell: u64, number: u64, numbers: [u8; 6]) -> [u8; 128] {
+// The plain bytes of a body: the epoch, the batch, and the kind and key of two places.
+fn body_of(numbers: [u8; 6]) -> [u8; 96] {
     let mut plain = [0; 96];
-    for (byte, at) in numbers.iter().zip([0, 8, 20, 21, 33, 34]) {
-        plain[at] = *byte;
-    }
-    let mut sealer = test_sealer();
-    seal_more(&mut sealer, number);
-    match sealer.seal(cell, &plain) {
-        Ok(bytes) => bytes,
-        Err(_) => ZEROS,
-    }
+    plain[0] = numbers[0];
+    plain[8] = numbers[1];
+    plain[20] = numbers[2];
+    plain[21] = numbers[3];
+    plain[33] = numbers[4];
+    plain[34] = numbers[5];
+    plain
 }
 
 // The bytes of a cell.
@@ -135,22 +115,15 @@ fn cell_of(store: &mut MemStore, cell: u64) -> Result<[u8; 128], Failed>
     requires fits { cell < 2 ^ 63 }
     ensures none_out { store.new.log.out ≤ store.old.log.out }
 {
-    let mut cells = [ZEROS];
-    read_cells(store, cell, &mut cells, &mut Blind)?;
-    Ok(cells[0])
-}
-
-// The same with another bit.
-fn bent(store: &mut MemStore, cell: u64) -> Result<[u8; 128], Failed>
-    ensures none_out { store.new.log.out ≤ store.old.log.out }
-{
-    let mut bytes = cell_of(store, cell.min(1 << 20))?;
-    bytes[50] ^= 1;
-    Ok(bytes)
+    let mut cells = [[0; 128]];
+    match read_cells(store, cell, &mut cells, &mut Blind) {
+        Ok(()) => Ok(cells[0]),
+        Err(Failed) => Err(Failed),
+    }
 }
 
 // Writes a cell.
-fn put(store: &mut MemStore, cell: u64, bytes: &[u8; 128]) -> Result<usize, Fault>
+fn put(store: &mut MemStore, cell: u64, bytes: &[u8; 128]) -> Answer
     requires none_out { store.old.log.out ≡ 0 }
     ensures none_out { store.new.log.out ≡ 0 }
 {
@@ -160,7 +133,37 @@ fn put(store: &mut MemStore, cell: u64, bytes: &[u8; 128]) -> Result<usize, Faul
     }
 }
 
-// What a call answers: of a read, how many records.
+// Changes a bit of a cell.
+fn bend(store: &mut MemStore, cell: u64) -> Answer
+    requires none_out { store.old.log.out ≡ 0 }
+    ensures none_out { store.new.log.out ≡ 0 }
+{
+    match cell_of(store, cell.min(1 << 20)) {
+        Ok(mut bytes) => {
+            bytes[50] ^= 1;
+            put(store, cell, &bytes)
+        }
+        Err(Failed) => Err(Fault::SourceFault),
+    }
+}
+
+// How many records of epoch 1 are open.
+fn count_open<W: Watch>(
+    alloc: Global,
+    p: &Params,
+    store: &mut MemStore,
+    sealer: &Sealer,
+    watch: &mut W,
+) -> Answer
+    ensures none_out { store.new.log.out ≤ store.old.log.out }
+{
+    match read_open(alloc, store, sealer, p, 1, watch) {
+        Ok(records) => Ok(records.as_slice().len()),
+        Err(fault) => Err(fault),
+    }
+}
+
+// Makes a call.
 fn make<W: Watch>(
     alloc: Global,
     p: &Params,
@@ -168,43 +171,27 @@ fn make<W: Watch>(
     sealer: &mut Sealer,
     call: &Call,
     watch: &mut W,
-) -> Result<usize, Fault>
+) -> Answer
     requires none_out { store.old.log.out ≡ 0 }
     ensures none_out { store.new.log.out ≡ 0 }
 {
-    match call {
-        Call::Append(epoch, batch, first, one, words) => {
-            let at = (*epoch, *batch, *first);
-            match append_one(store, sealer, p, at, *one, words, watch) {
-                Ok(()) => Ok(0),
-                Err(fault) => Err(fault),
-            }
-        }
+    match *call {
+        Call::Append(at, one, words) => append_one(store, sealer, p, at, one, words, watch),
         Call::Seal(many) => {
-            seal_more(sealer, *many);
+            seal_more(sealer, many);
             Ok(0)
         }
-        Call::Fill(cell, byte) => put(store, *cell, &[*byte; 128]),
+        Call::Fill(cell, byte) => put(store, cell, &[byte; 128]),
         Call::Forge(cell, number, numbers) => {
-            put(store, *cell, &forged(*cell, *number, *numbers))
+            let bytes = sealed_as(cell, (2, number), &body_of(numbers));
+            put(store, cell, &bytes)
         }
-        Call::Bend(cell) => match bent(store, *cell) {
-            Ok(bytes) => put(store, *cell, &bytes),
-            Err(Failed) => Err(Fault::SourceFault),
-        },
-        Call::Read => match read_open(alloc, store, sealer, p, 1, watch) {
-            Ok(records) => Ok(records.as_slice().len()),
-            Err(fault) => Err(fault),
-        },
+        Call::Bend(cell) => bend(store, cell),
+        Call::Read => count_open(alloc, p, store, sealer, watch),
     }
 }
 
-// The parameters of a store with so many keys and two read batches of so many places.
-fn params(rt: &impl Abort, keys: u32, places: u32) -> Params {
-    Params::new(keys, 2, 2, 3, 2, places, 2, 2, 8).expect(rt, "parameters in range")
-}
-
-type Row = (Call, Result<usize, Fault>);
+type Row = (Call, Answer);
 
 // A store in which these calls were made, each of which has to answer so, and what was then shown.
 fn played(
@@ -219,28 +206,26 @@ fn played(
 {
     let mut store = new_store(rt, alloc, 200, fails);
     let mut sink = new_sink(rt, alloc, 200);
-    let mut sealer = test_sealer();
+    let mut sealer = test_sealer(2);
     let mut watch = SinkWatch::new(&mut sink);
     for (call, wanted) in calls {
         let answer = make(alloc, p, &mut store, &mut sealer, call, &mut watch);
         assert!(rt; answer == *wanted, "{shown}");
     }
-    assert!(rt; sink.written() == shown.as_bytes(), "{shown}");
+    assert!(rt; sink.written() == shown.as_bytes());
     store
 }
 
-const FAULT: Result<usize, Fault> = Err(Fault::StoreFault { unsure: None });
+const ONE: Row = (Call::Append((1, 0, 0), None, &FIRST), Ok(0));
 
-const ONE: Row = (Call::Append(1, 0, 0, None, &FIRST), Ok(0));
-
-const TWO: Row = (Call::Append(1, 1, 2, None, &SECOND), Ok(0));
+const TWO: Row = (Call::Append((1, 1, 2), None, &SECOND), Ok(0));
 
 // Two batches and one of the next epoch are written; then gates are shut and opened.
 const WRITTEN: &[Row] = &[
     ONE,
     TWO,
     (Call::Seal(36), Ok(0)),
-    (Call::Append(2, 0, 31, Some(5), &THIRD), Ok(0)),
+    (Call::Append((2, 0, 31), Some(5), &THIRD), Ok(0)),
     (Call::Read, Ok(2)),
     (Call::Fill(16, 0), Ok(0)),
     (Call::Read, Ok(1)),
@@ -251,13 +236,6 @@ const WRITTEN: &[Row] = &[
     (Call::Read, Ok(2)),
 ];
 
-// A number as it is told of a damaged cell.
-fn told(number: u8) -> [u8; 16] {
-    let mut bytes = [0; 16];
-    bytes[0] = number;
-    bytes
-}
-
 // A bit of the first body is another one. The tags are those of another implementation.
 const BENT: &[Row] = &[
     ONE,
@@ -267,22 +245,16 @@ const BENT: &[Row] = &[
         Err(Fault::Damaged {
             cell: 13,
             check: Check::Tag,
-            kept: [
-                0x80, 0x13, 0x5f, 0xb4, 0xf2, 0x6b, 0xc7, 0x48, 0x79, 0x05, 0x46, 0xd9, 0x39, 0x85,
-                0xba, 0x0c,
-            ],
-            computed: [
-                0x59, 0x4e, 0x0d, 0xda, 0x80, 0x56, 0x84, 0x94, 0xb6, 0xfe, 0x48, 0xd5, 0x8a, 0x2e,
-                0xc7, 0xe7,
-            ],
+            kept: *b"\x80\x13\x5f\xb4\xf2\x6b\xc7\x48\x79\x05\x46\xd9\x39\x85\xba\x0c",
+            computed: *b"\x59\x4e\x0d\xda\x80\x56\x84\x94\xb6\xfe\x48\xd5\x8a\x2e\xc7\xe7",
         }),
     ),
 ];
 
 // Bodies of two cells, of which the last one is sealed one number too far.
 const WIDE: &[Row] = &[
-    (Call::Append(1, 1, 0, Some(7), &[9; 8]), Ok(0)),
-    (Call::Append(1, 0, 0, Some(7), &[9; 8]), Ok(0)),
+    (Call::Append((1, 1, 0), Some(7), &[9; 8]), Ok(0)),
+    (Call::Append((1, 0, 0), Some(7), &[9; 8]), Ok(0)),
     (Call::Read, Ok(2)),
     (Call::Forge(19, 2, [0; 6]), Ok(0)),
     (
@@ -296,12 +268,6 @@ const WIDE: &[Row] = &[
     ),
 ];
 
-// The second batch's body isn't read.
-const UNREAD: [Fail; 1] = [Fail::Read {
-    cell: 15,
-    writes: 4,
-}];
-
 // Where a batch asks for key 7 once, beside a pad.
 const FORGED: &[Row] = &[
     (Call::Forge(13, 0, [1, 0, 1, 7, 1, 0]), Ok(0)),
@@ -310,22 +276,28 @@ const FORGED: &[Row] = &[
 ];
 
 // How many places a batch has, the calls that fail, those that are made, and what is shown.
-const PLAYED: [(u32, &[Fail], &[Row], &str); 5] = [
-    (
+struct Series(u32, &'static [Fail], &'static [Row], &'static str);
+
+const SERIES: [Series; 5] = [
+    Series(
         2,
         &[],
         WRITTEN,
         "W 13\nS\nW 14\nS\nW 15\nS\nW 16\nS\nW 9\nS\nW 10\nS\nR 13\nR 14\nR 15\nR 16\nR 13\nR 14\nR 15\nR 16\nR 13\nR 14\nR 15\nR 16\nR 13\nR 14\nR 15\nR 16\n",
     ),
-    (
+    // The second batch's body isn't read.
+    Series(
         2,
-        &UNREAD,
-        &[ONE, TWO, (Call::Read, FAULT)],
+        &[Fail::Read {
+            cell: 15,
+            writes: 4,
+        }],
+        &[ONE, TWO, (Call::Read, Err(STORE_FAULT))],
         "W 13\nS\nW 14\nS\nW 15\nS\nW 16\nS\nR 13\nR 14\nR 15\n",
     ),
-    (2, &[], BENT, "W 13\nS\nW 14\nS\nR 13\nR 14\nR 15\nR 16\n"),
-    (2, &[], FORGED, "R 13\nR 14\nR 15\nR 16\n"),
-    (
+    Series(2, &[], BENT, "W 13\nS\nW 14\nS\nR 13\nR 14\nR 15\nR 16\n"),
+    Series(2, &[], FORGED, "R 13\nR 14\nR 15\nR 16\n"),
+    Series(
         8,
         &[],
         WIDE,
@@ -333,88 +305,83 @@ const PLAYED: [(u32, &[Fail], &[Row], &str); 5] = [
     ),
 ];
 
+// Makes the calls of a series, each of which has to answer so.
+fn play(rt: &impl Abort, alloc: Global, series: &Series) {
+    let &Series(places, fails, calls, shown) = series;
+    let _ = played(rt, alloc, &params(rt, 8, places), fails, calls, shown);
+}
+
 #[test]
 fn calls_answer(rt: HostRuntime) {
-    for (places, fails, calls, shown) in PLAYED {
-        let p = params(&rt, 8, places);
-        let _ = played(&rt, rt.alloc(), &p, fails, calls, shown);
+    for series in &SERIES {
+        play(&rt, rt.alloc(), series);
     }
 }
 
-// What a crash leaves of a store: in the body and the gate of the first record, where they aren't
-// sure, this byte throughout, or what they got last.
-fn left_after(rt: &impl Abort, store: &MemStore, moment: usize, filling: Option<u8>) -> MemStore
-    ensures { result.log.out ≡ 0 }
-{
-    let left = match filling {
-        None => store.crash(moment, &[]),
-        Some(byte) => store.crash(moment, &[(13, [byte; 128]), (14, [byte; 128])]),
-    };
-    left.expect(rt, "memory")
+// What an append answers and shows where this call fails.
+fn append_with(fail: Option<Fail>) -> (Answer, &'static str) {
+    match fail {
+        None => (Ok(0), "W 13\nS\nW 14\nS\n"),
+        Some(Fail::Write(0) | Fail::Sync(0)) => (Err(STORE_FAULT), "W 13\n"),
+        Some(_) => (Err(STORE_FAULT), "W 13\nS\nW 14\n"),
+    }
 }
 
-// The call that fails, if one does, and what an append answers and shows.
-type Append = (&'static [Fail], Result<usize, Fault>, &'static str);
+// The call that fails at an append, if one does; the moment of a crash; and how many records are
+// open where that leaves in their cells that aren't sure what they got last, zeros, or A5 in every
+// byte.
+type Crash = (Option<Fail>, usize, usize, usize, Option<usize>);
 
-const WELL: Append = (&[], Ok(0), "W 13\nS\nW 14\nS\n");
-
-const FIRST_WRITE: Append = (&[Fail::Write(0)], FAULT, "W 13\n");
-
-const FIRST_SYNC: Append = (&[Fail::Sync(0)], FAULT, "W 13\n");
-
-const LAST_WRITE: Append = (&[Fail::Write(1)], FAULT, "W 13\nS\nW 14\n");
-
-const LAST_SYNC: Append = (&[Fail::Sync(1)], FAULT, "W 13\nS\nW 14\n");
-
-// An append, the moment of a crash, what it leaves, and how many records are then open.
-const CRASHES: [(Append, usize, Option<u8>, usize); 23] = [
-    (WELL, 0, None, 0),
-    (WELL, 0, Some(0), 0),
-    (WELL, 0, Some(0xA5), 0),
-    (WELL, 1, None, 0),
-    (WELL, 1, Some(0), 0),
-    (WELL, 1, Some(0xA5), 0),
-    (WELL, 2, None, 0),
-    (WELL, 2, Some(0), 0),
-    (WELL, 2, Some(0xA5), 0),
-    (WELL, 3, None, 1),
-    (WELL, 3, Some(0), 0),
-    (WELL, 3, Some(0xA5), 1),
-    (WELL, 4, None, 1),
-    (WELL, 4, Some(0), 1),
-    (WELL, 4, Some(0xA5), 1),
-    (FIRST_WRITE, 4, None, 0),
-    (FIRST_WRITE, 4, Some(0), 0),
-    (FIRST_SYNC, 4, None, 0),
-    (FIRST_SYNC, 4, Some(0), 0),
-    (LAST_WRITE, 4, None, 1),
-    (LAST_WRITE, 4, Some(0), 0),
-    (LAST_SYNC, 4, None, 1),
-    (LAST_SYNC, 4, Some(0), 0),
+const CRASHES: [Crash; 9] = [
+    (None, 0, 0, 0, Some(0)),
+    (None, 1, 0, 0, Some(0)),
+    (None, 2, 0, 0, Some(0)),
+    (None, 3, 1, 0, Some(1)),
+    (None, 4, 1, 1, Some(1)),
+    (Some(Fail::Write(0)), 4, 0, 0, None),
+    (Some(Fail::Sync(0)), 4, 0, 0, None),
+    (Some(Fail::Write(1)), 4, 1, 0, None),
+    (Some(Fail::Sync(1)), 4, 1, 0, None),
 ];
 
-// What a read of the open records answers after an append and a crash at this moment.
-fn read_after(
-    rt: &impl Abort,
-    alloc: Global,
-    append: &Append,
-    moment: usize,
-    filling: Option<u8>,
-) -> Result<usize, Fault> {
+// A store after an append at which this call fails.
+fn with_append(rt: &impl Abort, alloc: Global, p: &Params, fail: Option<Fail>) -> MemStore {
+    let (answer, shown) = append_with(fail);
+    let calls = [(Call::Append((1, 0, 0), None, &FIRST), answer)];
+    match fail {
+        None => played(rt, alloc, p, &[], &calls, shown),
+        Some(fail) => played(rt, alloc, p, &[fail], &calls, shown),
+    }
+}
+
+// What a crash leaves, and in the body and the gate of the first record this byte.
+fn left_with(rt: &impl Abort, store: &MemStore, moment: usize, filling: Option<u8>) -> MemStore {
+    match filling {
+        None => left_after(rt, store, moment, &[]),
+        Some(byte) => left_after(rt, store, moment, &[(13, byte), (14, byte)]),
+    }
+}
+
+// What a read of the open records answers after an append at which this call fails, and a crash.
+fn read_after(rt: &impl Abort, alloc: Global, crash: &Crash, filling: Option<u8>) -> Answer {
     let p = params(rt, 8, 2);
-    let (fails, answer, shown) = append;
-    let calls = [(Call::Append(1, 0, 0, None, &FIRST), *answer)];
-    let store = played(rt, alloc, &p, fails, &calls, shown);
-    let mut left = left_after(rt, &store, moment, filling);
-    let mut sealer = test_sealer();
-    make(alloc, &p, &mut left, &mut sealer, &Call::Read, &mut Blind)
+    let store = with_append(rt, alloc, &p, crash.0);
+    let mut left = left_with(rt, &store, crash.1, filling);
+    count_open(alloc, &p, &mut left, &test_sealer(2), &mut Blind)
+}
+
+// Whether so many records are open after a crash.
+fn opens_so(rt: &impl Abort, alloc: Global, crash: &Crash) -> bool {
+    let &(_, _, last, zeros, open) = crash;
+    read_after(rt, alloc, crash, None) == Ok(last)
+        && read_after(rt, alloc, crash, Some(0)) == Ok(zeros)
+        && (open == None || read_after(rt, alloc, crash, Some(0xA5)).ok() == open)
 }
 
 #[test]
 fn a_crash_leaves_a_prefix(rt: HostRuntime) {
-    for (append, moment, filling, open) in CRASHES {
-        let read = read_after(&rt, rt.alloc(), &append, moment, filling);
-        assert!(rt; read == Ok(open), "{moment} {open}");
+    for crash in &CRASHES {
+        assert!(rt; opens_so(&rt, rt.alloc(), crash), "{}", crash.1);
     }
 }
 
@@ -442,38 +409,46 @@ fn with_records(rt: &impl Abort, alloc: Global, p: &Params) -> MemStore
     played(rt, alloc, p, &[], &WRITTEN[..4], shown)
 }
 
+// Whether a cell has these bytes, before its open gate.
+fn is_spelled(rt: &impl Abort, store: &mut MemStore, cell: u64, digits: &str) -> bool {
+    assert!(rt; cell < 200);
+    cell_of(store, cell).ok() == Some(spelled(rt, digits))
+        && cell_of(store, cell + 1).ok() == Some([0xA5; 128])
+}
+
 #[test]
 fn records_are_spelled(rt: HostRuntime) {
     let mut store = with_records(&rt, rt.alloc(), &params(&rt, 8, 2));
-    for (cell, digits) in CELLS {
-        let wanted = <[u8; 128] as FromHex>::from_hex(digits).expect(&rt, "digits");
-        assert!(rt; cell_of(&mut store, cell) == Ok(wanted), "{cell}");
-        assert!(rt; cell_of(&mut store, cell + 1) == Ok(OPEN), "{cell}");
+    for (cell, digits) in &CELLS {
+        assert!(rt; is_spelled(&rt, &mut store, *cell, digits), "{cell}");
     }
 }
 
-// The places of the first words of the records that are open, and their words.
-const OPENED: [(u64, [u64; 2]); 2] = [(0, FIRST), (2, SECOND)];
+// Whether a record has this place of its first word, and these words, for places that ask for none.
+fn is_told(record: &Record, first: u64, words: &[u64]) -> bool {
+    record.generation() == 2
+        && record.first() == first
+        && record.asks() == [None, None].as_slice()
+        && record.words() == words
+}
+
+// Whether these are the records of the first two batches.
+fn are_told(records: &[Record]) -> bool {
+    records.len() == 2 && is_told(&records[0], 0, &FIRST) && is_told(&records[1], 2, &SECOND)
+}
 
 #[test]
 fn records_are_told(rt: HostRuntime) {
-    let alloc = rt.alloc();
     let p = params(&rt, 8, 2);
-    let mut store = with_records(&rt, alloc, &p);
-    let records = read_open(alloc, &mut store, &test_sealer(), &p, 1, &mut Blind).expect(
-        &rt, "records",
-    );
-    assert_eq!(rt; records.as_slice().len(), 2);
-    for (record, (first, words)) in records.as_slice().iter().zip(OPENED) {
-        assert!(rt; record.generation() == 2 && record.first() == first);
-        assert!(rt; record.asks() == [None, None].as_slice());
-        assert!(rt; record.words() == words.as_slice());
-    }
+    let mut store = with_records(&rt, rt.alloc(), &p);
+    let records = read_open(rt.alloc(), &mut store, &test_sealer(2), &p, 1, &mut Blind);
+    let records = records.ok().expect(&rt, "records");
+    assert!(rt; are_told(records.as_slice()));
 }
 
 // The keys of the store; the epoch, the batch, and the kind and key of two places in the first
 // body; and what is told.
-const BROKEN: [(u32, [u8; 6], Check, u8, u8); 10] = [
+const BROKEN: [(u32, [u8; 6], Check, u64, u64); 10] = [
     (8, [3, 0, 0, 0, 0, 0], Check::Epoch, 3, 1),
     (8, [1, 1, 0, 0, 0, 0], Check::Form, 1, 0),
     (8, [1, 0, 2, 0, 0, 0], Check::Form, 2, 0),
@@ -488,17 +463,11 @@ const BROKEN: [(u32, [u8; 6], Check, u8, u8); 10] = [
 
 #[test]
 fn the_first_broken_rule_is_told(rt: HostRuntime) {
-    for (keys, numbers, check, kept, least) in BROKEN {
-        let wanted = Err(Fault::Damaged {
-            cell: 13,
-            check,
-            kept: told(kept),
-            computed: told(least),
-        });
+    for &(keys, numbers, check, kept, least) in &BROKEN {
         let calls = [
             (Call::Forge(13, 0, numbers), Ok(0)),
             (Call::Fill(14, 0xA5), Ok(0)),
-            (Call::Read, wanted),
+            (Call::Read, Err(damaged(13, check, (kept, 0), (least, 0)))),
         ];
         let p = params(&rt, keys, 2);
         let _ = played(&rt, rt.alloc(), &p, &[], &calls, "R 13\nR 14\nR 15\nR 16\n");

@@ -1,48 +1,32 @@
-//! Registers at each moment of a set.
+//! Registers at each moment of a set, and a store of another version that begins with them.
 
 ghost use Rattle.std.specs.Prelude.{◌≡◌, ℕ};
 ghost use Rattle.ob_mem.specs.Replay.{zeros};
 ghost use Rattle.ob_mem.specs.Memory.{disk_of_store};
 
-use crate::steps::{new_sink, new_store};
+use crate::shared::{damaged, left_after, new_sink, new_store};
 use ob_base::{Check, Fault};
 use ob_mem::{Fail, MemStore};
+use ob_seal::{Keys, Sealer};
+use ob_start::{begin, lay_registers, read_head, read_registers, set_first};
 use ob_store::{Blind, SinkWatch, Store};
 use ob_twin::{Gates, SetErr, Twin, ZeroTag};
+use std::alloc::Global;
 use std::process::Abort;
 
-const OPEN: [u8; 128] = [0xA5; 128];
+type Got = Result<Option<u64>, Fault>;
 
-// The epoch register's number after a crash of a store at this moment, where its cells hold these
-// bytes as far as they aren't sure, or what they got last.
-fn number_after(
-    rt: &impl Abort,
-    store: &MemStore,
-    moment: usize,
-    filling: Option<[u8; 128]>,
-) -> Option<u64> {
-    let left = match filling {
-        None => store.crash(moment, &[]),
-        Some(bytes) => store.crash(moment, &[(5, bytes), (6, bytes), (7, bytes), (8, bytes)]),
+// The epoch register's number after a crash of a store, which leaves in its cells, where they
+// aren't sure, this byte throughout, or what they got last.
+fn number_after(rt: &impl Abort, store: &MemStore, moment: usize, filling: Option<u8>) -> Got {
+    let mut left = match filling {
+        None => left_after(rt, store, moment, &[]),
+        Some(byte) => {
+            let fills = [(5, byte), (6, byte), (7, byte), (8, byte)];
+            left_after(rt, store, moment, &fills)
+        }
     };
-    let mut left = left.expect(rt, "memory");
-    let mut gates = Gates::new();
-    Twin::EPOCH
-        .get(&mut left, &ZeroTag, &mut gates, &mut Blind)
-        .expect(rt, "an undamaged register")
-}
-
-// The numbers where those cells hold what they got last, zeros, or A5 in every byte.
-fn numbers_after(rt: &impl Abort, store: &MemStore, moment: usize) -> [Option<u64>; 3] {
-    [
-        number_after(rt, store, moment, None),
-        number_after(rt, store, moment, Some([0; 128])),
-        number_after(rt, store, moment, Some(OPEN)),
-    ]
-}
-
-fn is_before(refused: SetErr) -> bool {
-    matches!(refused, SetErr::Before(_))
+    Twin::EPOCH.get(&mut left, &ZeroTag, &mut Gates::new(), &mut Blind)
 }
 
 // Sets 0, 1 and 2 in a new store: which set was refused first, and whether before its gate.
@@ -51,41 +35,49 @@ fn refused_at(store: &mut MemStore) -> (u64, bool)
     requires blank { (k : ℕ) → (disk_of_store store.old).cells k ≡ zeros }
 {
     let mut gates = Gates::new();
-    if let Err(refused) = Twin::EPOCH.set(store, &ZeroTag, &mut gates, 0, &mut Blind) {
-        return (0, is_before(refused));
-    }
-    if let Err(refused) = Twin::EPOCH.set(store, &ZeroTag, &mut gates, 1, &mut Blind) {
-        return (1, is_before(refused));
-    }
-    if let Err(refused) = Twin::EPOCH.set(store, &ZeroTag, &mut gates, 2, &mut Blind) {
-        return (2, is_before(refused));
+    for number in 0..3 {
+        match Twin::EPOCH.set(store, &ZeroTag, &mut gates, number, &mut Blind) {
+            Ok(()) => {}
+            Err(SetErr::Before(_)) => return (number, true),
+            Err(SetErr::Unsure(_)) => return (number, false),
+        }
     }
     (3, false)
 }
 
-// The numbers after so many calls. The first set has six calls, the second four, the third six.
-const NUMBERS: [(usize, [Option<u64>; 3]); 12] = [
-    (0, [None, None, None]),
-    (6, [Some(0), Some(0), Some(0)]),
-    (7, [Some(0), Some(0), Some(0)]),
-    (8, [Some(0), Some(0), Some(0)]),
-    (9, [Some(1), Some(0), Some(1)]),
-    (10, [Some(1), Some(1), Some(1)]),
-    (11, [Some(1), Some(1), Some(1)]),
-    (12, [Some(1), Some(1), Some(1)]),
-    (13, [Some(1), Some(1), Some(1)]),
-    (14, [Some(1), Some(1), Some(1)]),
-    (15, [Some(2), Some(1), Some(2)]),
-    (16, [Some(2), Some(2), Some(2)]),
+// The numbers after so many calls and a crash, where the cells that aren't sure hold what they got
+// last, zeros, or A5 in every byte. The first set has six calls, the second four, the third six.
+type Numbers = (usize, Option<u64>, Option<u64>, Option<u64>);
+
+const NUMBERS: [Numbers; 12] = [
+    (0, None, None, None),
+    (6, Some(0), Some(0), Some(0)),
+    (7, Some(0), Some(0), Some(0)),
+    (8, Some(0), Some(0), Some(0)),
+    (9, Some(1), Some(0), Some(1)),
+    (10, Some(1), Some(1), Some(1)),
+    (11, Some(1), Some(1), Some(1)),
+    (12, Some(1), Some(1), Some(1)),
+    (13, Some(1), Some(1), Some(1)),
+    (14, Some(1), Some(1), Some(1)),
+    (15, Some(2), Some(1), Some(2)),
+    (16, Some(2), Some(2), Some(2)),
 ];
+
+// Whether the register stands at these numbers then.
+fn stands_at(rt: &impl Abort, store: &MemStore, numbers: &Numbers) -> bool {
+    let &(moment, last, zeros, open) = numbers;
+    number_after(rt, store, moment, None) == Ok(last)
+        && number_after(rt, store, moment, Some(0)) == Ok(zeros)
+        && number_after(rt, store, moment, Some(0xA5)) == Ok(open)
+}
 
 #[test]
 fn a_crash_leaves_old_or_new(rt: HostRuntime) {
-    let alloc = rt.alloc();
-    let mut store = new_store(&rt, alloc, 20, &[]);
+    let mut store = new_store(&rt, rt.alloc(), 20, &[]);
     assert!(rt; refused_at(&mut store) == (3, false));
-    for (moment, wanted) in NUMBERS {
-        assert!(rt; numbers_after(&rt, &store, moment) == wanted, "at {moment}");
+    for numbers in &NUMBERS {
+        assert!(rt; stands_at(&rt, &store, numbers), "at {}", numbers.0);
     }
     assert!(rt; store.starved() == 0);
 }
@@ -112,9 +104,9 @@ const REFUSED: [(Fail, u64, bool); 16] = [
 
 #[test]
 fn a_failing_call_is_told(rt: HostRuntime) {
-    for (fail, at, before) in REFUSED {
+    for &(fail, at, before) in &REFUSED {
         let mut store = new_store(&rt, rt.alloc(), 20, &[fail]);
-        assert!(rt; refused_at(&mut store) == (at, before), "at {fail:?}");
+        assert!(rt; refused_at(&mut store) == (at, before), "set {at}");
     }
 }
 
@@ -125,55 +117,59 @@ fn the_order_is_shown(rt: HostRuntime) {
     let mut sink = new_sink(&rt, alloc, 200);
     let mut gates = Gates::new();
     let mut watch = SinkWatch::new(&mut sink);
-    assert!(rt;
-        Twin::GENERATION
-            .set(&mut store, &ZeroTag, &mut gates, 1, &mut watch)
-            .is_ok()
-    );
-    assert!(rt; Twin::GENERATION.get(&mut store, &ZeroTag, &mut gates, &mut watch) == Ok(Some(1)));
-    assert_eq!(rt;
-        sink.written(),
-        b"W 4\nS\nW 3\nS\nW 4\nS\nR 1\nR 2\nR 3\nR 4\n".as_slice()
-    );
+    let set = Twin::GENERATION.set(&mut store, &ZeroTag, &mut gates, 1, &mut watch);
+    assert!(rt; set.is_ok());
+    let found = Twin::GENERATION.get(&mut store, &ZeroTag, &mut gates, &mut watch);
+    assert!(rt; found == Ok(Some(1)));
+    let shown = b"W 4\nS\nW 3\nS\nW 4\nS\nR 1\nR 2\nR 3\nR 4\n";
+    assert!(rt; sink.written() == shown.as_slice());
 }
 
-// Writes a cell of a body and opens its gate: what the epoch register then reads as.
-fn read_with(
-    rt: &impl Abort,
-    store: &mut MemStore,
-    gates: &mut Gates,
-    cell: u64,
-    bytes: &[u8; 128],
-) -> Result<Option<u64>, Fault>
+// Whether this is told where a cell of a body is written and its gate opened.
+fn tells(rt: &impl Abort, store: &mut MemStore, cell: u64, bytes: &[u8; 128], told: Fault) -> bool
     requires { store.old.log.out ≡ 0 }
     ensures { store.new.log.out ≡ 0 }
 {
-    assert!(rt; store.write(cell.saturating_add(1), &OPEN).is_ok());
+    assert!(rt; store.write(cell.saturating_add(1), &[0xA5; 128]).is_ok());
     assert!(rt; store.write(cell, bytes).is_ok());
-    Twin::EPOCH.get(store, &ZeroTag, gates, &mut Blind)
+    Twin::EPOCH.get(store, &ZeroTag, &mut Gates::new(), &mut Blind) == Err(told)
 }
 
 #[test]
 fn a_body_that_breaks_a_rule_is_named(rt: HostRuntime) {
-    let alloc = rt.alloc();
-    let mut store = new_store(&rt, alloc, 20, &[]);
-    let mut gates = Gates::new();
+    let mut store = new_store(&rt, rt.alloc(), 20, &[]);
     let mut great = [0; 128];
     great[7] = 0x40;
-    let mut kept = [0; 16];
-    kept[7] = 0x40;
-    let form = Fault::Damaged {
-        cell: 7,
-        check: Check::Form,
-        kept,
-        computed: [0; 16],
-    };
-    assert!(rt; read_with(&rt, &mut store, &mut gates, 7, &great) == Err(form));
-    let tag = Fault::Damaged {
-        cell: 5,
-        check: Check::Tag,
-        kept: [1; 16],
-        computed: [0; 16],
-    };
-    assert!(rt; read_with(&rt, &mut store, &mut gates, 5, &[1; 128]) == Err(tag));
+    let form = damaged(7, Check::Form, (1 << 62, 0), (0, 0));
+    assert!(rt; tells(&rt, &mut store, 7, &great, form));
+    let ones = u64::from_le_bytes([1; 8]);
+    let tag = damaged(5, Check::Tag, (ones, ones), (0, 0));
+    assert!(rt; tells(&rt, &mut store, 5, &[1; 128], tag));
+}
+
+// Lays the registers of a store without a head, which is shown, and sets the first epoch.
+fn lay(rt: &impl Abort, alloc: Global, store: &mut MemStore, sealer: &Sealer)
+    requires { store.old.log.out ≡ 0 }
+    ensures { store.new.log.out ≡ 0 }
+{
+    let mut sink = new_sink(rt, alloc, 200);
+    let mut watch = SinkWatch::new(&mut sink);
+    assert!(rt; lay_registers(store, sealer, &[12, 14], &mut watch).is_ok());
+    let written = b"W 0\nS\nW 2\nW 4\nW 6\nW 8\nW 12\nW 14\nS\nW 4\nS\nW 3\nS\nW 4\nS\n";
+    assert!(rt; sink.written() == written.as_slice());
+    let head = read_head(store, &sealer.keys(), 103, &mut Blind);
+    assert!(rt; head.err() == Some(Fault::NotStore));
+    assert!(rt; set_first(Twin::EPOCH, store, sealer, 0, &mut Blind).is_ok());
+}
+
+#[test]
+fn a_store_is_begun(rt: HostRuntime) {
+    let sealer = Sealer::new(&Keys::from_bytes(&[7; 96]), 0);
+    let mut store = new_store(&rt, rt.alloc(), 20, &[]);
+    lay(&rt, rt.alloc(), &mut store, &sealer);
+    let mut gates = Gates::new();
+    let numbers = read_registers(&mut store, &sealer, &mut gates, &mut Blind);
+    let numbers = numbers.expect(&rt, "registers");
+    assert!(rt; numbers.generation == 1 && numbers.epoch == 0);
+    assert!(rt; begin(&mut store, &sealer, &mut gates, 1, &mut Blind) == Ok(2));
 }

@@ -5,3 +5,5 @@ pub mod RuleLaws
 pub mod RunReads
 pub mod Stopping
 pub mod Written
+pub mod Filling
+pub mod JobReads

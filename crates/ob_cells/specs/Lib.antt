@@ -4,3 +4,6 @@ pub mod Reads
 pub mod Rules
 pub mod Runs
 pub mod Writes
+pub mod Errors
+pub mod Jobs
+pub mod Lanes

@@ -1,8 +1,13 @@
-//! Runs of sealed cells: plain bytes of 96 a cell, under seals of one generation in a row. They
-//! read back as they were written, or the first cell that breaks a rule is told.
+//! Sealed cells. Runs: plain bytes of 96 a cell, under seals of one generation in a row, which read
+//! back as they were written, or the first cell that breaks a rule is told. Batches of planned jobs,
+//! each of which reads a sealed cell.
 #![tactic(auto)]
 
 mod bytes;
+mod crew;
+mod error;
+mod job_reading;
+mod job_run;
 mod numbers;
 mod opening;
 mod pieces;
@@ -12,6 +17,9 @@ mod run;
 mod writing;
 
 pub use bytes::put;
+pub use crew::Crew;
+pub use error::JobsErr;
+pub use job_run::run_jobs;
 pub use numbers::{bad_epoch, bad_number};
 pub use opening::open_sealed;
 pub use pieces::{Cut, Pieces};

@@ -5,7 +5,7 @@ ghost use Rattle.ob_seal.specs.Pieces.{onward};
 ghost use Rattle.ob_cells.specs.Reads.{ReadsBack};
 
 /// The identity of a run's first seal.
-#[derive(Clone, Copy, Debug, PartialEq, Eq)]
+#[derive(Clone, Copy, PartialEq, Eq)]
 pub struct Identity {
     /// Its generation.
     pub generation: u64,

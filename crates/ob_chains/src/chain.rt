@@ -11,7 +11,7 @@ use std::collections::{BTreeMap, BTreeSet};
 use std::ops::Bound;
 
 /// A version: the value, none for a delete, and the greatest ticket that has read it.
-#[derive(Clone, Copy, Debug, PartialEq, Eq)]
+#[derive(Clone, Copy)]
 pub struct Link {
     pub value: Option<Value>,
     pub mark: u64,
@@ -28,7 +28,7 @@ pub struct Chain {
 
 impl Chain {
     /// No versions, and no reader.
-    pub fn new(alloc: Global) -> Chain
+    pub(crate) fn new(alloc: Global) -> Chain
         ensures none { (t : ℕ) → link_in result t ≡ None }
         ensures len { links_in result ≡ 0 }
         ensures mark { result.base_mark ≡ 0 }
@@ -42,7 +42,7 @@ impl Chain {
     }
 
     /// The newest version at or below the ticket, and its ticket.
-    pub fn newest(&self, t: u64) -> Option<(u64, Link)>
+    pub(crate) fn newest(&self, t: u64) -> Option<(u64, Link)>
         ensures { IsNewest (link_in self.now) t result }
     {
         match self.links.range(..=t).next_back() {
@@ -52,7 +52,7 @@ impl Chain {
     }
 
     /// How many versions there are.
-    pub fn len(&self) -> u64
+    pub(crate) fn len(&self) -> u64
         ensures { result ≡ links_in self.now }
     {
         self.links.len() as u64
@@ -62,7 +62,7 @@ impl Chain {
     ///
     /// # Errors
     /// Memory was wanting. All is as before.
-    pub fn put(&mut self, t: u64, link: Link) -> Result<bool, Memory>
+    pub(crate) fn put(&mut self, t: u64, link: Link) -> Result<bool, Memory>
         ensures had { IfOk result (λ had. had ≡ is_some (link_in self.old t)) }
         ensures len { IfOk result (λ had. links_in self.new
             ≡ links_in self.old + (if had then 0 else 1)) }
@@ -80,7 +80,7 @@ impl Chain {
     }
 
     /// Takes the ticket's version away. Answers whether it had one.
-    pub fn take(&mut self, t: u64) -> bool
+    pub(crate) fn take(&mut self, t: u64) -> bool
         ensures had { result ≡ is_some (link_in self.old t) }
         ensures len { links_in self.old ≡ links_in self.new + (if result then 1 else 0) }
         ensures links { (u : ℕ)
@@ -92,7 +92,7 @@ impl Chain {
     }
 
     /// The ticket's version, where it has one, was read by this one too.
-    pub fn raise(&mut self, t: u64, reader: u64)
+    pub(crate) fn raise(&mut self, t: u64, reader: u64)
         ensures len { links_in self.new ≡ links_in self.old }
         ensures links { (u : ℕ)
             → link_in self.new u
@@ -110,7 +110,7 @@ impl Chain {
     ///
     /// # Errors
     /// Memory was wanting. All is as before.
-    pub fn note(&mut self, reader: u64) -> Result<(), Memory>
+    pub(crate) fn note(&mut self, reader: u64) -> Result<(), Memory>
         ensures ok { OnOk result ((u : ℕ)
             → has_reader self.new u ≡ (if reader == u then true else has_reader self.old u)) }
         ensures err { OnErr result ((u : ℕ) → has_reader self.new u ≡ has_reader self.old u) }
@@ -122,7 +122,7 @@ impl Chain {
     }
 
     /// The least reader above the ticket.
-    pub fn reader_above(&self, t: u64) -> Option<u64>
+    pub(crate) fn reader_above(&self, t: u64) -> Option<u64>
         ensures { IsNextReader (has_reader self.now) t result }
     {
         match self

@@ -14,10 +14,10 @@ use Rattle.ob_base.specs.declared.params.Params.{Params}
 use Rattle.ob_base.specs.Layout.{checkpoint_len, checkpoint_cells}
 use Rattle.ob_base.specs.Tree.{buckets, width, below}
 use Rattle.ob_base.proofs.LayoutLaws.{checkpoint_cells_hold}
-use Rattle.ob_bucket.specs.Buckets.{Buckets, version_at, no_version}
-use Rattle.ob_bucket.specs.Version.{Version, EMPTY, key_at}
-use Rattle.ob_bucket.proofs.SpellingLaws.{take_joined}
-use Rattle.ob_bucket.proofs.VersionLaws.{version_of}
+use Rattle.ob_tables.specs.Buckets.{Buckets, version_at, no_version}
+use Rattle.ob_tables.specs.Version.{Version, EMPTY, key_at}
+use Rattle.ob_tables.proofs.SpellingLaws.{take_joined}
+use Rattle.ob_tables.proofs.VersionLaws.{version_of}
 use Rattle.ob_seal.specs.declared.keys.Keys.{Keys}
 use Rattle.ob_seal.specs.Pieces.{piece}
 use Rattle.ob_seal.proofs.PieceLaws.{length-piece, piece_next, piece_first}

@@ -14,9 +14,9 @@ use Rattle.ob_base.specs.declared.params.Params.{Params}
 use Rattle.ob_base.specs.Layout.{meta_len}
 use Rattle.ob_base.specs.LittleEndian.{field_at}
 use Rattle.ob_base.specs.Tree.{below, buckets}
-use Rattle.ob_bucket.specs.Version.{Version, Spells}
-use Rattle.ob_bucket.proofs.SpellingLaws.{spelled_once}
-use Rattle.ob_bucket.specs.Buckets.{Buckets, no_version, with_version}
+use Rattle.ob_tables.specs.Version.{Version, Spells}
+use Rattle.ob_tables.proofs.SpellingLaws.{spelled_once}
+use Rattle.ob_tables.specs.Buckets.{Buckets, no_version, with_version}
 use Rattle.ob_tables.specs.declared.entry.Entry.{Entry}
 use Rattle.ob_tables.specs.Kept.{Held}
 use Rattle.ob_tables.specs.Content.{Content, Rows}

@@ -14,9 +14,9 @@ use Rattle.ob_base.specs.declared.params.Params.{Params}
 use Rattle.ob_base.specs.Layout.{checkpoint_len}
 use Rattle.ob_base.specs.LittleEndian.{field_at}
 use Rattle.ob_base.specs.Tree.{buckets, width, below, passes}
-use Rattle.ob_bucket.specs.Version as bucket
-use Rattle.ob_bucket.specs.Version.{Version, Spells, EMPTY, key_at}
-use Rattle.ob_bucket.specs.Buckets.{version_at, no_version}
+use Rattle.ob_tables.specs.Version as bucket
+use Rattle.ob_tables.specs.Version.{Version, Spells, EMPTY, key_at}
+use Rattle.ob_tables.specs.Buckets.{version_at, no_version}
 use Rattle.ob_tables.specs.declared.entry.Entry.{Entry}
 use Rattle.ob_tables.specs.Kept.{entry_at}
 use Rattle.ob_tables.proofs.RowLaws.{ties, differs}

@@ -16,3 +16,4 @@ pub mod TextReads
 pub mod RisingKeys
 pub mod TextRules
 pub mod BackLaws
+pub mod WriteLaws

@@ -4,7 +4,7 @@ use Rattle.std.proofs.Common.{zero, suc, arith, refl, sym, ap, ◌∙◌, inl, i
 use Rattle.std.proofs.lemmas.Bool.{cases_eq}
 use Rattle.std.proofs.lemmas.List.{append-nil}
 use Rattle.ob_base.specs.Tree.{below}
-use Rattle.ob_bucket.proofs.VersionLaws.{range_up}
+use Rattle.ob_tables.proofs.VersionLaws.{range_up}
 
 pub front_at : (xs ys : List ℕ) (i : ℕ) → i < length xs → get_or (xs ++ ys) i 0 ≡ get_or xs i 0
 front_at [] ys i lt = absurd (omega arith)

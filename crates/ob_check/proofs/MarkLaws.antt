@@ -7,8 +7,8 @@ use Rattle.std.proofs.lemmas.List.{append-nil, length-replicate}
 use Rattle.std.proofs.lemmas.List.Concat.{flat_map-append}
 use Rattle.ob_base.specs.declared.params.Params.{Params}
 use Rattle.ob_base.specs.Tree.{below}
-use Rattle.ob_bucket.proofs.VersionLaws.{range_up}
-use Rattle.ob_bucket.proofs.Counting.{count_by-range_more, find-range_more, find-range_at}
+use Rattle.ob_tables.proofs.VersionLaws.{range_up}
+use Rattle.ob_tables.proofs.Counting.{count_by-range_more, find-range_more, find-range_at}
 use Rattle.ob_check.specs.Fields.{number_in, rank_in, mark_in, index_place}
 use Rattle.ob_check.specs.Rules.{numbers_in, placed_in, placed_before, ranks_in, shown_in, is_among}
 use Rattle.ob_check.specs.Marks.{AreMarked}

@@ -7,7 +7,7 @@ use Rattle.std.proofs.lemmas.List.{append-nil}
 use Rattle.std.proofs.lemmas.List.Concat.{flat_map-append}
 use Rattle.std.proofs.lemmas.List.Folds.{list_any-append}
 use Rattle.ob_base.specs.Tree.{below}
-use Rattle.ob_bucket.proofs.VersionLaws.{range_up}
+use Rattle.ob_tables.proofs.VersionLaws.{range_up}
 use Rattle.ob_check.specs.Rules.{is_among}
 use Rattle.ob_check.proofs.Ranges.{map_up, any_at}
 use Rattle.ob_check.proofs.Passing.{either, eq_from}

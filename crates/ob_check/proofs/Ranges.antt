@@ -6,7 +6,7 @@ use Rattle.std.proofs.lemmas.Bool.{cases_eq}
 use Rattle.std.proofs.lemmas.List.Folds.{list_any-append}
 use Rattle.std.proofs.lemmas.List.{map-append}
 use Rattle.ob_base.specs.Tree.{below}
-use Rattle.ob_bucket.proofs.VersionLaws.{range_up}
+use Rattle.ob_tables.proofs.VersionLaws.{range_up}
 
 module _ {X : Type 0} (f : ℕ → X) where
   pub map_up : (n : ℕ) → map f (below (n + 1)) ≡ map f (below n) ++ f n ∷ []

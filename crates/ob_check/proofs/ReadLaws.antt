@@ -1,6 +1,6 @@
 -- What a read of cells tells of a checkpoint.
-use Rattle.std.specs.Prelude.{◌≡◌, ◌≤◌, ℕ, ◌*◌, ◌/◌, List, take, length, Option, Some, None}
-use Rattle.std.proofs.Common.{arith, rules, sym, ap, subst, ◌∙◌, ⊎_elim}
+use Rattle.std.specs.Prelude.{◌≡◌, ◌≤◌, ℕ, ◌*◌, ◌/◌, List, take, length, Option, Some, None, Result, Ok, Err, IfErr}
+use Rattle.std.proofs.Common.{arith, rules, inl, sym, ap, subst, ◌∙◌, ⊎_elim}
 use Rattle.std.proofs.lemmas.List.{length-take-le}
 use Rattle.ob_base.specs.declared.fault.Check.{Check}
 use Rattle.ob_base.specs.declared.fault.Check.TheVariants.{Tag, Seal, Epoch, Form}
@@ -19,9 +19,10 @@ use Rattle.ob_store.specs.Told.{Tells, Does}
 use Rattle.ob_store.proofs.Doing.{does_all}
 use Rattle.ob_cells.specs.declared.run.Identity.{Identity}
 use Rattle.ob_cells.specs.Orders.{read_notes, reads_till, reads_end, IsRunFault}
+use Rattle.ob_cells.specs.Reads.{IsRunRead}
 use Rattle.ob_cells.specs.Rules.{Rule, told_of}
 use Rattle.ob_cells.specs.Runs.{IsRun, run_at}
-use Rattle.ob_check.specs.ReadBack.{IsOpenedTo, IsRefused, IsCheckReadFault}
+use Rattle.ob_check.specs.ReadBack.{IsCheckFault, IsCheckRead, IsCheckReadFault, IsOpenedTo, IsRefused}
 use Rattle.ob_check.specs.Written.{area_of}
 
 pub many_of : (p : Params) (n : ℕ) → n ≡ 96 * checkpoint_cells p → n / 96 ≡ checkpoint_cells p
@@ -72,6 +73,42 @@ module _ (p : Params) (epoch base many : ℕ) (old new : Option (List Event)) (b
   pub does_run : (f : Fault) → Does (reads_till base many f) old new before after (reads_end f) → Does (reads_till (area_of p epoch) (checkpoint_cells p) f) old new before after (reads_end f)
   does_run f does =
       subst (λ b. Does (reads_till b (checkpoint_cells p) f) old new before after (reads_end f)) at (subst (λ m. Does (reads_till base m f) old new before after (reads_end f)) cells does)
+
+damage_in : (keys : Keys) (p : Params) (epoch : ℕ) (image : Image) (plain : List ℕ) (f : Fault) → IsRunRead keys (area_of p epoch) (checkpoint_cells p) (run_at (area_of p epoch) image) plain (Err f) → IsCheckRead keys p epoch image (Err f)
+damage_in keys p epoch image plain (Broken cell check kept computed) is = inl is
+damage_in keys p epoch image plain Memory is = tt
+damage_in keys p epoch image plain Usage is = tt
+damage_in keys p epoch image plain (BadScript line) is = tt
+damage_in keys p epoch image plain (BadParams field) is = tt
+damage_in keys p epoch image plain NotStore is = tt
+damage_in keys p epoch image plain (StoreFault unsure) is = tt
+damage_in keys p epoch image plain (StashFull left) is = tt
+damage_in keys p epoch image plain (Worn number) is = tt
+damage_in keys p epoch image plain SourceFault is = tt
+damage_in keys p epoch image plain SinkFault is = tt
+
+pub damage_of_run : (keys : Keys) (p : Params) (epoch : ℕ) (image : Image) (plain : List ℕ) (base many : ℕ) (f : Fault) → base ≡ area_of p epoch → many ≡ checkpoint_cells p → IsRunRead keys base many (run_at base image) plain (Err f)
+    → IsCheckRead keys p epoch image (Err f)
+damage_of_run keys p epoch image plain base many f at cells is =
+    damage_in keys p epoch image plain f (subst (λ b. IsRunRead keys b (checkpoint_cells p) (run_at b image) plain (Err f)) at (subst (λ m. IsRunRead keys base m (run_at base image) plain (Err f)) cells is))
+
+-- a refusal that isn't for want of memory
+pub check_fault : (p : Params) (epoch : ℕ) (f : Fault) → IsCheckReadFault p epoch f → IsCheckFault p epoch f
+check_fault p epoch (Broken cell check kept computed) is = is
+check_fault p epoch Memory is = absurd is
+check_fault p epoch Usage is = is
+check_fault p epoch (BadScript line) is = is
+check_fault p epoch (BadParams field) is = is
+check_fault p epoch NotStore is = is
+check_fault p epoch (StoreFault unsure) is = is
+check_fault p epoch (StashFull left) is = is
+check_fault p epoch (Worn number) is = is
+check_fault p epoch SourceFault is = is
+check_fault p epoch SinkFault is = is
+
+pub check_faults : {T : Type 0} (p : Params) (epoch : ℕ) (r : Result T Fault) → IfErr r (IsCheckReadFault p epoch) → IfErr r (IsCheckFault p epoch)
+check_faults p epoch (Ok v) is = tt
+check_faults p epoch (Err f) is = check_fault p epoch f is
 
 -- ---- where their bytes were
 

@@ -6,7 +6,7 @@ use Rattle.std.proofs.lemmas.Bool.{cases_eq}
 use Rattle.std.proofs.lemmas.List.{append-nil}
 use Rattle.std.proofs.lemmas.List.Concat.{flat_map-append}
 use Rattle.ob_base.specs.Tree.{below}
-use Rattle.ob_bucket.proofs.VersionLaws.{range_up}
+use Rattle.ob_tables.proofs.VersionLaws.{range_up}
 use Rattle.ob_cells.specs.Rules.{Rule, first_broken, or_rule}
 use Rattle.ob_cells.proofs.RuleLaws.{first_append, or_none, kept_then, broken_then}
 

@@ -11,9 +11,9 @@ use Rattle.ob_base.specs.declared.params.Params.{Params}
 use Rattle.ob_base.specs.Layout.{checkpoint_len, meta_len}
 use Rattle.ob_base.specs.LittleEndian.{with_part}
 use Rattle.ob_base.specs.Tree.{buckets}
-use Rattle.ob_bucket.specs.Version.{Version, HasSlots, version_bytes, version_len, key_bytes, index_bytes}
-use Rattle.ob_bucket.specs.Buckets.{no_version}
-use Rattle.ob_bucket.proofs.PartLaws.{part_none, parts_joined, keys_width, index_width}
+use Rattle.ob_tables.specs.Version.{Version, HasSlots, version_bytes, version_len, key_bytes, index_bytes}
+use Rattle.ob_tables.specs.Buckets.{no_version}
+use Rattle.ob_tables.proofs.PartLaws.{part_none, parts_joined, keys_width, index_width}
 use Rattle.ob_base.proofs.Spelled.{length-flat_map_wide}
 use Rattle.ob_tables.specs.Content.{Content, Obeys}
 use Rattle.ob_tables.specs.Spelling.{checkpoint_bytes, entry_bytes, row_bytes, stash_bytes}

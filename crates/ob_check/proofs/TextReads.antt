@@ -13,10 +13,10 @@ use Rattle.ob_base.specs.LittleEndian.{field_at}
 use Rattle.ob_base.specs.Tree.{buckets, width}
 use Rattle.ob_base.proofs.Bounds.{leaves_le}
 use Rattle.ob_base.proofs.Spelled.{length-flat_map_wide}
-use Rattle.ob_bucket.specs.Version.{Version, Spells, EMPTY, key_at, rank_at, used_at, key_bytes, mark_of, index_bytes, version_bytes}
-use Rattle.ob_bucket.specs.Buckets.{version_at, no_version}
-use Rattle.ob_bucket.proofs.PartLaws.{key_width, keys_width}
-use Rattle.ob_bucket.proofs.SpellingLaws.{mark_is}
+use Rattle.ob_tables.specs.Version.{Version, Spells, EMPTY, key_at, rank_at, used_at, key_bytes, mark_of, index_bytes, version_bytes}
+use Rattle.ob_tables.specs.Buckets.{version_at, no_version}
+use Rattle.ob_tables.proofs.PartLaws.{key_width, keys_width}
+use Rattle.ob_tables.proofs.SpellingLaws.{mark_is}
 use Rattle.ob_tables.specs.declared.entry.Entry.{Entry}
 use Rattle.ob_tables.specs.Kept.{entry_at}
 use Rattle.ob_tables.specs.Content.{Content, FitsEntry, Obeys}

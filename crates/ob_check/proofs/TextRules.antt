@@ -11,8 +11,8 @@ use Rattle.std.proofs.lemmas.List.FromFn.{length-map-range_with_len, get_or-map-
 use Rattle.ob_base.specs.declared.params.Params.{Params}
 use Rattle.ob_base.specs.LittleEndian.{field_at}
 use Rattle.ob_base.specs.Tree.{buckets, width, below, passes}
-use Rattle.ob_bucket.specs.Version.{Version, EMPTY, key_at, rank_at, used_at, mark_of}
-use Rattle.ob_bucket.specs.Buckets.{version_at, no_version}
+use Rattle.ob_tables.specs.Version.{Version, EMPTY, key_at, rank_at, used_at, mark_of}
+use Rattle.ob_tables.specs.Buckets.{version_at, no_version}
 use Rattle.ob_tables.specs.declared.entry.Entry.{Entry}
 use Rattle.ob_tables.specs.Kept.{entry_at}
 use Rattle.ob_cells.specs.Rules.{Rule, first_broken}

@@ -12,9 +12,9 @@ use Rattle.ob_base.specs.Layout.{checkpoint_len, meta_len}
 use Rattle.ob_base.specs.LittleEndian.{field_at}
 use Rattle.ob_base.proofs.Spelled.{low_part}
 use Rattle.ob_base.specs.Tree.{buckets, width, below}
-use Rattle.ob_bucket.specs.Version.{HasSlots, AreRanks, IsUnshown, MarksObey, ReadsVersion, Spells, EMPTY, key_bytes}
-use Rattle.ob_bucket.proofs.Counting.{count_by-range_more}
-use Rattle.ob_bucket.proofs.SpellingLaws.{KeysRead, keys_read_none, keys_read_more, IndexesRead, indexes_read_none, indexes_read_more, reads_are, obeyed}
+use Rattle.ob_tables.specs.Version.{HasSlots, AreRanks, IsUnshown, MarksObey, ReadsVersion, Spells, EMPTY, key_bytes}
+use Rattle.ob_tables.proofs.Counting.{count_by-range_more}
+use Rattle.ob_tables.proofs.SpellingLaws.{KeysRead, keys_read_none, keys_read_more, IndexesRead, indexes_read_none, indexes_read_more, reads_are, obeyed}
 use Rattle.ob_check.specs.Fields.{bucket_place, key_place, number_in, rank_in, mark_in, byte_at}
 use Rattle.ob_check.specs.Reading.{key_of, version_in}
 use Rattle.ob_check.specs.Rules.{is_among, ranks_in, shown_in, holds_key, may_rank, may_mark}

@@ -3,7 +3,7 @@ use Rattle.std.specs.Prelude.{◌≡◌, false, [], replicate, None}
 use Rattle.std.specs.FinMap as finite
 use Rattle.ob_base.specs.declared.params.Params.{Params}
 use Rattle.ob_base.specs.Tree.{buckets}
-use Rattle.ob_bucket.specs.Buckets.{Buckets, new_buckets}
+use Rattle.ob_tables.specs.Buckets.{Buckets, new_buckets}
 use Rattle.ob_tables.specs.declared.tables.Tables.{Tables}
 
 pub record AreFresh (p : Params) (t : Tables Buckets) : Type 0 where

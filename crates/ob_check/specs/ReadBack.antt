@@ -9,7 +9,7 @@ use Rattle.ob_base.specs.declared.fault.Fault.TheVariants.{Damaged as Broken, St
 use Rattle.ob_base.specs.declared.params.Params.{Params}
 use Rattle.ob_base.specs.Layout.{checkpoint_cells, checkpoint_len}
 use Rattle.ob_base.specs.LittleEndian.{field_at}
-use Rattle.ob_bucket.specs.Buckets.{Buckets}
+use Rattle.ob_tables.specs.Buckets.{Buckets}
 use Rattle.ob_seal.specs.declared.keys.Keys.{Keys}
 use Rattle.ob_seal.specs.Pieces.{piece}
 use Rattle.ob_store.specs.Disk.{Image}

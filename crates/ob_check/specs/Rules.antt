@@ -6,7 +6,7 @@ use Rattle.std.specs.Int.{w64}
 use Rattle.ob_base.specs.declared.params.Params.{Params}
 use Rattle.ob_base.specs.LittleEndian.{field_at}
 use Rattle.ob_base.specs.Tree.{buckets, width, below, passes}
-use Rattle.ob_bucket.specs.Version.{EMPTY}
+use Rattle.ob_tables.specs.Version.{EMPTY}
 use Rattle.ob_check.specs.Fields.{byte_at, entry_place, is_present, leaf_in, bucket_place, key_place, index_place, number_in, rank_in, mark_in, count_place, count_in, row_place, row_key_in, row_len_in}
 use Rattle.ob_cells.specs.Rules.{Rule}
 

@@ -11,9 +11,8 @@ use crate::broken::Broken;
 use crate::building::fill;
 use crate::rules::check_all;
 use ob_base::{Damaged, Params, u64_at};
-use ob_bucket::Metas;
 use ob_cells::{bad_epoch, bad_number};
-use ob_tables::Tables;
+use ob_tables::{Metas, Tables};
 
 // What is told of a number that breaks its rule, where the bytes are those of the cells from `base`
 // on.

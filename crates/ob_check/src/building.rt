@@ -4,7 +4,7 @@ ghost use Rattle.std.specs.Prelude.{◌≡◌, ◌<◌, ◌≤◌, ◌^◌, ℕ,
 ghost use Rattle.std.specs.FinMap as finite;
 ghost use Rattle.ob_base.specs.Layout.{checkpoint_len, meta_len};
 ghost use Rattle.ob_base.specs.Tree.{below, buckets};
-ghost use Rattle.ob_bucket.specs.Version.{Spells};
+ghost use Rattle.ob_tables.specs.Version.{Spells};
 ghost use Rattle.ob_cells.specs.Rules.{first_broken};
 ghost use Rattle.ob_tables.specs.Content.{Obeys, content_of};
 ghost use Rattle.ob_check.specs.Fields.{bucket_place, count_in, row_len_in, row_value_in};
@@ -14,8 +14,7 @@ ghost use Rattle.ob_check.specs.Rules.{rules};
 
 use crate::places::{bucket_place, count_place, entry_place, row_place};
 use ob_base::{Params, Value, buckets, meta_len, u32_at, u64_at};
-use ob_bucket::{Meta, Metas};
-use ob_tables::{Book, Entry, Stash, Tables};
+use ob_tables::{Book, Entry, Meta, Metas, Stash, Tables};
 
 // What is kept of a key.
 fn entry_in(p: &Params, bytes: &[u8], k: u32) -> Option<Entry>

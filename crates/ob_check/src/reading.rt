@@ -3,7 +3,7 @@
 ghost use Rattle.std.specs.Prelude.{◌≡◌, ◌*◌, length, Err, IfErr, IfOk, replicate, false};
 ghost use Rattle.ob_base.specs.declared.fault.Fault.TheVariants as fault;
 ghost use Rattle.ob_base.specs.Layout.{checkpoint_cells};
-ghost use Rattle.ob_bucket.specs.Buckets.{Buckets};
+ghost use Rattle.ob_tables.specs.Buckets.{Buckets};
 ghost use Rattle.ob_cells.specs.Orders.{run_reads, reads_of};
 ghost use Rattle.ob_tables.specs.Content.{Obeys, content_of};
 ghost use Rattle.ob_store.specs.Calls.{IsStoreFault, Keeps, Serves};
@@ -18,11 +18,10 @@ use crate::accepting::accept;
 use crate::sheet::Sheet;
 use crate::writing::area_of;
 use ob_base::{Fault, Memory, Params, checkpoint_len};
-use ob_bucket::Metas;
 use ob_cells::read_sealed;
 use ob_seal::Sealer;
 use ob_store::{Store, Watch};
-use ob_tables::{Book, Stash, Tables};
+use ob_tables::{Book, Metas, Stash, Tables};
 use std::alloc::{AllocError, Global};
 
 // Tables in which nothing is kept, with room for all keys in the stash.

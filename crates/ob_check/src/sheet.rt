@@ -10,11 +10,10 @@ ghost use Rattle.ob_tables.specs.Spelling.{checkpoint_bytes};
 
 use crate::spell::spell;
 use ob_base::{Fault, Memory, Params, checkpoint_cells, checkpoint_len};
-use ob_bucket::Metas;
 use ob_cells::{Identity, read_sealed};
 use ob_seal::Sealer;
 use ob_store::{Store, Watch};
-use ob_tables::Tables;
+use ob_tables::{Metas, Tables};
 use std::alloc::Global;
 use std::marker::Model;
 

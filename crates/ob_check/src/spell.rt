@@ -6,17 +6,16 @@ ghost use Rattle.std.specs.FinMap as finite;
 ghost use Rattle.ob_base.specs.Layout.{checkpoint_len, meta_len};
 ghost use Rattle.ob_base.specs.LittleEndian.{with_part};
 ghost use Rattle.ob_base.specs.Tree.{buckets};
-ghost use Rattle.ob_bucket.specs.Version.{HasSlots, version_bytes, version_len};
-ghost use Rattle.ob_bucket.specs.Buckets.{version_at};
+ghost use Rattle.ob_tables.specs.Version.{HasSlots, version_bytes, version_len};
+ghost use Rattle.ob_tables.specs.Buckets.{version_at};
 ghost use Rattle.ob_tables.specs.Content.{Obeys, content_of};
 ghost use Rattle.ob_tables.specs.Spelling.{checkpoint_bytes, entry_bytes, row_bytes};
 ghost use Rattle.ob_check.specs.Fields.{bucket_place, count_place, row_place};
 
 use crate::places::{bucket_place, count_place, entry_place, row_place};
 use ob_base::{Key, Params, Value, buckets, meta_len, set_u32, set_u64};
-use ob_bucket::{Meta, Metas};
 use ob_cells::put;
-use ob_tables::{Book, Entry, Stash, Tables};
+use ob_tables::{Book, Entry, Meta, Metas, Stash, Tables};
 
 // What is kept of a key.
 fn entry_bytes(entry: Option<Entry>) -> [u8; 21]

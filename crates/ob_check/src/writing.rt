@@ -12,11 +12,10 @@ ghost use Rattle.ob_check.specs.Written.{AreWriteFaults, HoldsCheckpointFrom, Is
 
 use crate::sheet::Sheet;
 use ob_base::{Failed, Fault, NUMBER_LIMIT, Params, check_cell, checkpoint_cells, checkpoint_len};
-use ob_bucket::Metas;
 use ob_cells::{Cut, write_sealed};
 use ob_seal::Sealer;
 use ob_store::{Store, Watch};
-use ob_tables::Tables;
+use ob_tables::{Metas, Tables};
 
 // The first cell of the area of an epoch.
 pub fn area_of(p: &Params, epoch: u64) -> u64

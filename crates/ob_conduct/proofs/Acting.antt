@@ -27,7 +27,7 @@ use Rattle.ob_session.specs.Clients.{said_by}
 use Rattle.ob_conduct.specs.Acts.{Act, Halts, Rests, Takes, Delivers, DeliverFails, FetchFails, Closes, Publishes, Refuses, Unprinted, Batch, history, calls, records, desk_calls, vault_calls}
 use Rattle.ob_conduct.specs.Acts.{look_calls, rest_calls, rest_fetches, close_calls, publish_calls, stop_calls, stop_for, MayAct, PassesTest, MayRest, IsToFetch, IsToEnd, IsAllowed}
 use Rattle.ob_conduct.specs.Scenes.{Scene}
-use Rattle.ob_conduct.specs.Records.{AreAnswered, IsWritten}
+use Rattle.ob_conduct.specs.Records.{AreAnswered, IsOver, IsWritten}
 use Rattle.ob_conduct.specs.Ready.{IsBetweenActs, IsOrdered, TellsEpochs, IsDueRecord}
 use Rattle.ob_conduct.specs.Moves.{Moves, ReadsBatches, ReadFails, IsClosed, IsEnded, EndFails, Acted, IsSaid, ActFails}
 use Rattle.ob_conduct.proofs.Moving.{moves_join, moves_one, looked, later}
@@ -139,6 +139,17 @@ module _ {V : Type 0} (k : Kind V) where
   three_acts a b c d x y z m n o = moves_join k a b d (desk_calls x) (history (y ∷ z ∷ [])) (vault_calls x) (calls (y ∷ z ∷ [])) m (two_acts b c d y z n o)
 
 -- ---- what is done at a look
+
+none_of_length : {A : Type 0} (xs : List A) → length xs ≡ 0 → xs ≡ []
+none_of_length [] is = refl
+none_of_length (x ∷ xs) is = absurd (omega (arith, is))
+
+-- a look that shows that nothing is left
+pub over_desk : (d : DeskState) (look : Look) → d.closed ≡ None → d.stop ≡ None → look ≡ look_at d → (look.clients ≡ 0) × (look.txns ≡ 0) → IsOver d
+over_desk d look closed none seen last = record {
+  at_rest = record { none_runs = none_of_length d.running.order.works (sym (ap (λ (l : Look). l.txns) seen) ∙ last.1); none_closed = closed; not_stopped = none };
+  signed_off = sym (ap (λ (l : Look). l.clients) seen) ∙ last.0;
+}
 
 -- nothing is to be done at a look that isn't the last one
 pub still : (beat : BeatKind) (look : Look) → (look.clients ≡ 0 → 0 < look.txns) → (look.queued ≡ 0) ⊎ (look.left ≡ 0) → look.txns ≡ 0 → MayRest beat look

@@ -43,10 +43,10 @@ stop_is d new f none e = ap (λ (x : DeskState). x.stop) e ∙ step (is_memory f
     step true = refl
     step false = refl
 
-may_take : (p : Params) (d : DeskState) (c : VaultCounts) → IsBetweenActs p d c → 0 < c.left → MayCall d desk.TakeBatch
+pub may_take : (p : Params) (d : DeskState) (c : VaultCounts) → IsBetweenActs p d c → 0 < c.left → MayCall d desk.TakeBatch
 may_take p d c r some = (r.none_closed, subst (λ n. 0 < n) (sym r.left) some, r.landed)
 
-may_deliver : (p : Params) (d mid : DeskState) (c : VaultCounts) (keys : List (Option ℕ)) (values : List (Option (List ℕ))) → IsBetweenActs p d c → TakeStep d keys mid → length values ≡ length keys → MayCall mid (desk.Deliver keys values)
+pub may_deliver : (p : Params) (d mid : DeskState) (c : VaultCounts) (keys : List (Option ℕ)) (values : List (Option (List ℕ))) → IsBetweenActs p d c → TakeStep d keys mid → length values ≡ length keys → MayCall mid (desk.Deliver keys values)
 may_deliver p d mid c keys values r t whole = subst (λ (x : DeskState). MayCall x (desk.Deliver keys values)) (sym t.state) (r.none_closed, t.taken ∙ taken_in_flight d.setup.params d.running.order, whole)
 
 holds_on : {V : Type 0} (k : Kind V) (v w : V) (keys : List (Option ℕ)) (values : List (Option (List ℕ))) (m : Map nat_cmp) → Called k v (Fetch keys) (Values values) w → HoldsMap k v m → HoldsMap k w m

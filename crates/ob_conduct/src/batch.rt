@@ -71,6 +71,7 @@ pub fn fetch_batch<V: Vault, W: Watch>(
     ensures read { OnOk result ((batch : Batch)
         × ReadsBatches (kind_of V.Vault) params.now (scene desk.old vault.old (W.trace watch.old))
         (batch ∷ []) (scene desk.new vault.new (W.trace watch.new)) (V.counts vault.new)) }
+    ensures less { OnOk result ((V.counts vault.new).left < (V.counts vault.old).left) }
     ensures refused { IfErr result
         (λ fault. ReadFails (kind_of V.Vault) (scene desk.old vault.old (W.trace watch.old)) []
         fault (scene desk.new vault.new (W.trace watch.new))) }
@@ -85,37 +86,6 @@ pub fn fetch_batch<V: Vault, W: Watch>(
         &mut asks[..places],
         &mut found[..places],
     )
-}
-
-// Takes, fetches and delivers each batch that is left.
-fn read_rest<V: Vault, W: Watch>(
-    desk: &mut Desk,
-    vault: &mut V,
-    watch: &mut W,
-    asks: &mut [Option<Key>],
-    found: &mut [Option<Value>],
-) -> Result<(), Fault>
-    requires ready { IsBetweenActs (V.params vault.old) desk.old (V.counts vault.old) }
-    requires goes_on { desk.old.stop ≡ None }
-    requires places { length asks.old ≡ (V.params vault.old).places }
-    requires room { length found.old ≡ (V.params vault.old).places }
-    ensures params { V.params vault.new ≡ V.params vault.old }
-    ensures read { OnOk result ((batches : List Batch)
-        × ReadsBatches (kind_of V.Vault) (V.params vault.old)
-        (scene desk.old vault.old (W.trace watch.old)) batches
-        (scene desk.new vault.new (W.trace watch.new)) (V.counts vault.new)) }
-    ensures none_left { OnOk result ((V.counts vault.new).left ≡ 0) }
-    ensures refused { IfErr result (λ fault. (batches : List Batch)
-        × ReadFails (kind_of V.Vault) (scene desk.old vault.old (W.trace watch.old)) batches fault
-        (scene desk.new vault.new (W.trace watch.new))) }
-{
-    while vault.left() > 0 {
-        match read_batch(desk, vault, watch, asks, found) {
-            Ok(()) => {}
-            Err(fault) => return Err(fault),
-        }
-    }
-    Ok(())
 }
 
 /// Takes, fetches and delivers each batch that is left.
@@ -140,14 +110,11 @@ pub fn fetch_rest<V: Vault, W: Watch>(
         × ReadFails (kind_of V.Vault) (scene desk.old vault.old (W.trace watch.old)) batches fault
         (scene desk.new vault.new (W.trace watch.new))) }
 {
-    let places = params.places as usize;
-    let mut asks: [Option<Key>; 64] = [None; 64];
-    let mut found: [Option<Value>; 64] = [None; 64];
-    read_rest(
-        desk,
-        vault,
-        watch,
-        &mut asks[..places],
-        &mut found[..places],
-    )
+    while vault.left() > 0 {
+        match fetch_batch(params, desk, vault, watch) {
+            Ok(()) => {}
+            Err(fault) => return Err(fault),
+        }
+    }
+    Ok(())
 }

@@ -130,21 +130,18 @@ fn a_failing_store_is_told(rt: HostRuntime) -> Result<(), Broken> {
     let alloc = rt.alloc();
     // Formatting makes 20 writes and 10 syncs; opening 2 writes and 3 syncs; an end 10 and 3.
     for n in 22..31 {
-        assert_eq!(rt;
-            fault_at(&rt, alloc, Fail::Write(n)),
-            Some(Fault::StoreFault { unsure: None }),
+        assert!(rt;
+            fault_at(&rt, alloc, Fail::Write(n)) == Some(Fault::StoreFault { unsure: None }),
             "write {n}"
         );
     }
-    assert_eq!(rt;
-        fault_at(&rt, alloc, Fail::Write(31)),
-        Some(Fault::StoreFault { unsure: Some(1) })
+    assert!(rt;
+        fault_at(&rt, alloc, Fail::Write(31)) == Some(Fault::StoreFault { unsure: Some(1) })
     );
-    assert_eq!(rt; fault_at(&rt, alloc, Fail::Write(32)), None);
-    assert_eq!(rt;
-        fault_at(&rt, alloc, Fail::Sync(15)),
-        Some(Fault::StoreFault { unsure: Some(1) })
+    assert!(rt; fault_at(&rt, alloc, Fail::Write(32)) == None);
+    assert!(rt;
+        fault_at(&rt, alloc, Fail::Sync(15)) == Some(Fault::StoreFault { unsure: Some(1) })
     );
-    assert_eq!(rt; fault_at(&rt, alloc, Fail::Sync(16)), None);
+    assert!(rt; fault_at(&rt, alloc, Fail::Sync(16)) == None);
     Ok(())
 }

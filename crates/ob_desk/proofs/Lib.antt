@@ -10,4 +10,5 @@ pub mod Published
 pub mod Rooms
 pub mod Runs
 pub mod Sees
+pub mod Steps
 pub mod Told

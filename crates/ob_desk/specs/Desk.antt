@@ -7,7 +7,7 @@ use Rattle.std.specs.declared.option.Option.TheVariants.{None, Some}
 use Rattle.std.specs.Ordering.{nat_cmp}
 use Rattle.std.specs.List.Sorted.{IsStrictlyIncreasing}
 use Rattle.std.specs.FinMap as finite
-use Rattle.ob_serial.specs.Serial.{TxnRecord, EpochRecord, Map, after_ops, OneByOne, committed_of}
+use Rattle.ob_serial.specs.Serial.{TxnRecord, EpochRecord, Map, OneByOne, committed_of}
 use Rattle.ob_serial.specs.Vaults.{with_writes}
 use Rattle.ob_order.specs.Works.{Work, at_ticket, edit, fate_at, waiting_at as waits_in, goes_on, last_writes}
 use Rattle.ob_desk.specs.Replay.{EachReplays}

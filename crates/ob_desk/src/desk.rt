@@ -140,10 +140,10 @@ impl Desk {
             (desks.part_at self.now txn.now.epoch) }
     {
         if txn.epoch == self.running.epoch {
-            return why_in(&self.running.order, &self.running.holders, txn.ticket);
+            return why_in(&self.running, txn.ticket);
         }
         if self.is_closed && txn.epoch == self.other.epoch {
-            return why_in(&self.other.order, &self.other.holders, txn.ticket);
+            return why_in(&self.other, txn.ticket);
         }
         None
     }

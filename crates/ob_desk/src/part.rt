@@ -51,13 +51,13 @@ pub fn why_of(fate: Option<Fate>, cause: Option<Why<Key>>) -> Option<Why<Key>>
 }
 
 /// Why the ticket was aborted, if it was.
-pub fn why_in(order: &Order, holders: &[Holder], t: u64) -> Option<Why<Key>>
-    ensures { result ≡ desks.why_in order.now.state.works holders.now t }
+pub fn why_in(part: &Part, t: u64) -> Option<Why<Key>>
+    ensures { result ≡ desks.why_at (part_of part.now) t }
 {
     if t == 0 {
         return None;
     }
-    why_of(order.fate(t), cause_at(holders, t))
+    why_of(part.order.fate(t), cause_at(&part.holders, t))
 }
 
 // Notes why the ticket was aborted.
@@ -279,7 +279,7 @@ pub fn draw(part: &mut Part, client: u32) -> Result<u64, Memory>
     part.told.reserve(part.holders.len() + 1)?;
     let ticket = part.order.begin()?;
     part.going.push_reserved(ticket);
-    let _ = part.holders.push(Holder {
+    part.holders.push_reserved(Holder {
         client,
         asked: false,
         cause: None,
@@ -312,17 +312,6 @@ fn outcome_of(fate: Fate, cause: Option<Why<Key>>) -> Outcome<Key>
     }
 }
 
-// Appends what there is room for.
-fn append(told: &mut Vec<TxnRecord<Key>>, txn: TxnRecord<Key>)
-    requires { vec_len told.old < vec_capacity told.old }
-    ensures txns { told.new.items ≡ told.old.items ++ txn ∷ [] }
-    ensures room { vec_capacity told.old ≤ vec_capacity told.new }
-{
-    // The prover has to see this type named here.
-    let _told: Option<Value> = None;
-    let _ = told.push(txn);
-}
-
 // Tells a transaction whose ticket is the next one, where it has a holder.
 fn tell(told: &mut Vec<TxnRecord<Key>>, epoch: u64, work: Work, holders: &[Holder])
     requires { length told.old.items < length holders.now
@@ -344,7 +333,7 @@ fn tell(told: &mut Vec<TxnRecord<Key>>, epoch: u64, work: Work, holders: &[Holde
             ops: work.into_ops(),
             outcome,
         };
-        append(told, txn);
+        told.push_reserved(txn);
     }
 }
 

@@ -97,7 +97,7 @@ pub fn count_here(clients: &[Client]) -> u64
 fn outcome_in(part: &Part, otherwise: Outcome<Key>, t: u64) -> Outcome<Key>
     ensures { result ≡ desks.outcome_in (part_of part.now) otherwise t }
 {
-    match why_in(&part.order, &part.holders, t) {
+    match why_in(part, t) {
         Some(why) => Outcome::Aborted { why },
         None => otherwise,
     }

@@ -1,5 +1,5 @@
 -- The driver's turn up to its look, and the end of a turn in which nothing was done.
-use Rattle.std.proofs.Common.{◌≡◌, ◌∙◌, ◌⊎◌, ◌<◌, ◌≤◌, ℕ, All, List, [], ◌∷◌, ◌++◌, length, Option, None, Some, refl, sym, ap, subst, inl, inr, arith}
+use Rattle.std.proofs.Common.{◌≡◌, ◌∙◌, ◌⊎◌, ◌<◌, ◌≤◌, ℕ, All, List, [], ◌∷◌, ◌++◌, Option, None, Some, refl, sym, ap, subst, inl, inr}
 use Rattle.std.proofs.lemmas.Option.{none-some, same_Some}
 use Rattle.ob_base.specs.declared.fault.Fault.{Fault}
 use Rattle.ob_base.specs.declared.fault.Fault.TheVariants.{Memory}
@@ -17,8 +17,8 @@ use Rattle.atomic_table.specs.declared.shared.Seat.{Seat}
 use Rattle.ob_hall.specs.Turns.{IsTurn}
 use Rattle.ob_hall.specs.Passes.{Steps, Hall, Pass, opening_of, pass_place, history_of, entries_by, raised_by, calls_in, own_calls, IsPassOf, IsLegal, EntersTurn, NotesTurn, LeavesTurn}
 use Rattle.ob_hall.specs.Rounds.{rounds_of, rounds_behind}
+use Rattle.ob_conduct.proofs.Acting.{over_desk}
 use Rattle.ob_conduct.specs.Acts.{look_calls, IsToFetch}
-use Rattle.ob_conduct.specs.Records.{IsOver}
 use Rattle.ob_conduct.specs.Ready.{IsBetweenActs}
 use Rattle.ob_driver.specs.Resting.{params_of, IsMild, noted_by, IsWhere, IsInTurn}
 use Rattle.ob_driver.specs.Turning.{NotesMore, MakesTurn}
@@ -55,15 +55,12 @@ pub leaves_legal : (hall : Hall) (now after : Pass) (new : DeskState) (calls : S
 leaves_legal hall now after new calls own at l = subst (λ (es : List (Entry Steps)). IsLegal hall es new) (sym (λ i. (l.ends.knows i).0.seen))
     (leads-snoc IsTurn (opening_of hall) (history_of now) at.0 new (pass_place now) (now.seat.me.0.noted ++ calls ∷ []) (subst (λ (o : Option DeskState). LeadsFromOpening IsTurn o (history_of now) at.0) own.opening at.1) at.2)
 
-none_of_length : {A : Type 0} (xs : List A) → length xs ≡ 0 → xs ≡ []
-none_of_length [] is = refl
-none_of_length (x ∷ xs) is = absurd (omega (arith, is))
-
-over_desk : (d : DeskState) (look : Look) → d.closed ≡ None → None ≡ d.stop → look ≡ look_at d → IsLastLook look → IsOver d
-over_desk d look closed none seen last = record {
-  at_rest = record { none_runs = none_of_length d.running.order.works (sym (ap (λ (l : Look). l.txns) seen) ∙ last.1); none_closed = closed; not_stopped = sym none };
-  signed_off = sym (ap (λ (l : Look). l.clients) seen) ∙ last.0;
-}
+-- the pass is in its turn, and has noted this look in it and nothing else
+pub record LooksOn (before now : Pass) (look : Look) : Type 0 where
+  pub noted : noted_by now ≡ look_calls look
+  pub entries : entries_by now ≡ entries_by before
+  pub place : pass_place now ≡ pass_place before
+  pub raised : raised_by now ≡ raised_by before
 
 module _ (hall : Hall) (before mid : Pass) (d : DeskState) (c : VaultCounts) (w : IsWhere hall before c) (own : IsPassOf hall mid) (entered : EntersTurn hall before mid d) where
   pub entered_raised : raised_by mid ≡ raised_by before
@@ -96,7 +93,7 @@ module _ (hall : Hall) (before mid : Pass) (d : DeskState) (c : VaultCounts) (w 
     over_at after l seen last = record {
       desk = d;
       legal = leaves_legal hall one after d ((desk.Looks, desk.Seen look) ∷ []) own_one (looks_lead seen) l;
-      over = over_desk d look is_open none seen last;
+      over = over_desk d look is_open (sym none) seen last;
     }
 
     -- or goes on
@@ -113,14 +110,10 @@ module _ (hall : Hall) (before mid : Pass) (d : DeskState) (c : VaultCounts) (w 
         ready = ready_in hall before mid d c w entered;
       }
 
-      pub look_noted : noted_by two ≡ look_calls look
-      look_noted = notes_are.noted ∙ ap (λ (s : Steps). s ++ look_calls look) (none_noted hall before mid d w.driver entered)
-
-      pub look_entries : entries_by two ≡ entries_by before
-      look_entries = notes_are.made ∙ same_entries hall before mid d w.driver entered
-
-      pub look_place : pass_place two ≡ pass_place before
-      look_place = notes_are.place ∙ (mid_place hall before mid d w.driver entered ∙ sym w.driver.place)
-
-      pub look_raised : raised_by two ≡ raised_by before
-      look_raised = ap (λ (e : Seat (Unit {0}) Heard). e.me.0.seen) (notes_are.ear ∙ entered.beside.ear)
+      pub looks_on : LooksOn before two look
+      looks_on = record {
+        noted = notes_are.noted ∙ ap (λ (s : Steps). s ++ look_calls look) (none_noted hall before mid d w.driver entered);
+        entries = notes_are.made ∙ same_entries hall before mid d w.driver entered;
+        place = notes_are.place ∙ (mid_place hall before mid d w.driver entered ∙ sym w.driver.place);
+        raised = ap (λ (e : Seat (Unit {0}) Heard). e.me.0.seen) (notes_are.ear ∙ entered.beside.ear);
+      }

@@ -37,7 +37,7 @@ fn is_over(round: Round) -> bool
 // Sleeps until a client asks that hadn't yet, or a while, where neither the driver nor a client
 // made by hand did anything.
 fn pause<R: Wait>(rt: &R, hall: &Hall, round: Round, ran: bool, asked: u64) {
-    if round == Round::Rested && !ran {
+    if matches!(round, Round::Rested) && !ran {
         hall.rest(rt, asked);
     }
 }

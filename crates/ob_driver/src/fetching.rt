@@ -1,6 +1,6 @@
 //! A batch that was taken of the desk, read while clients go on, and delivered.
 
-ghost use Rattle.std.specs.Prelude.{◌≡◌, ◌<◌, ◌++◌, [], ◌∷◌, length, OnOk, IfErr};
+ghost use Rattle.std.specs.Prelude.{◌≡◌, ◌<◌, ◌++◌, [], ◌∷◌, length, OnOk, IfOk, IfErr};
 ghost use Rattle.ob_io.specs.Streams.{Flow};
 ghost use Rattle.ob_serial.specs.Vaults.{VaultCounts};
 ghost use Rattle.ob_serial.specs.VaultKinds.{kind_of};
@@ -19,6 +19,7 @@ ghost use Rattle.ob_driver.specs.declared.round.Round.TheVariants as rounds;
 
 use crate::asking::{deliver_batch, read_batch, take_batch};
 use crate::noting::leave;
+use crate::round::Round;
 use ob_base::{Fault, Key, Value};
 use ob_desk::Desk;
 use ob_hall::{Driven, Hall, Pass};
@@ -91,7 +92,7 @@ pub fn stop<R: Wait>(rt: &R, hall: &Hall, pass: &mut Pass, fault: Fault, turns: 
 }
 
 /// Takes a batch and ends the turn; the vault reads it while no turn is held; and it is delivered
-/// in another turn.
+/// in another turn. Answers that something was done.
 ///
 /// # Errors
 /// The vault refused, and the desk is stopped with its fault.
@@ -105,7 +106,7 @@ pub fn fetch<R: Wait, V: Vault, W: Watch>(
     asks: &mut Vec<Option<Key>>,
     found: &mut Vec<Option<Value>>,
     turns: &mut u64,
-) -> Result<(), Fault>
+) -> Result<Round, Fault>
     requires params { V.params vault.old ≡ params_of hall.now }
     requires looking { IsLooking hall.now pass.old desk (V.counts vault.old) }
     requires some_left { 0 < (V.counts vault.old).left }
@@ -116,6 +117,7 @@ pub fn fetch<R: Wait, V: Vault, W: Watch>(
     ensures places { length asks.new.items ≡ (params_of hall.now).places }
     ensures room { length found.new.items ≡ (params_of hall.now).places }
     ensures stand { MakesFromItsTurn pass.old turns.old pass.new turns.new }
+    ensures acts { IfOk result (λ round. round ≡ rounds.Acted) }
     // Behind a look at which it may be done this is a thing that the driver does.
     ensures fetched { (beat : BeatKind) (look : Seen) (flow : Flow)
         → noted_by pass.old ≡ look_calls look → MayAct beat look → IsToFetch look
@@ -132,7 +134,7 @@ pub fn fetch<R: Wait, V: Vault, W: Watch>(
     match read_batch(vault, watch, asks, found) {
         Ok(()) => {
             deliver(rt, hall, pass, asks, found, turns);
-            Ok(())
+            Ok(Round::Acted)
         }
         Err(fault) => {
             stop(rt, hall, pass, fault, turns);

@@ -22,19 +22,3 @@ pub trait Hands {
         ensures ready { ready hall.now self.new }
         ensures round { round hall.now turns.old self.old self.new turns.new };
 }
-
-/// No client is made by hand.
-#[derive(Clone, Copy)]
-pub struct Nobody;
-
-impl Hands for Nobody {
-    ghost use Rattle.std.specs.Prelude.{◌≡◌};
-
-    ghost ready = { λ hall hands. Unit {0} };
-
-    ghost round = { λ hall n first last m. n ≡ m };
-
-    fn step_all<R: Wait>(&mut self, _rt: &R, _hall: &Hall, _turns: &mut u64) -> bool {
-        false
-    }
-}

@@ -13,7 +13,7 @@ mod room;
 mod round;
 
 pub use driving::{announce, drive_epochs};
-pub use hands::{Hands, Nobody};
+pub use hands::Hands;
 pub use looking::look_once;
 pub use room::Room;
 pub use round::Round;

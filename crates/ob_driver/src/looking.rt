@@ -29,7 +29,7 @@ use ob_serial::Vault;
 use ob_store::Watch;
 use std::sync::Wait;
 
-// Ends the epoch within the turn, and then writes its lines.
+// Ends the epoch within the turn, and then writes its lines. Answers that something was done.
 fn end_and_tell<R: Wait, V: Vault, W: Watch, O: Sink>(
     rt: &R,
     params: &Params,
@@ -41,7 +41,7 @@ fn end_and_tell<R: Wait, V: Vault, W: Watch, O: Sink>(
     output: &mut O,
     room: &mut Room,
     turns: &mut u64,
-) -> Result<(), Fault>
+) -> Result<Round, Fault>
     requires params { (V.params vault.old ≡ params_of hall.now) × (params.now ≡ params_of hall.now) }
     requires looking { IsLooking hall.now pass.old desk (V.counts vault.old) }
     requires goes_on { desk.stop ≡ None }
@@ -50,6 +50,7 @@ fn end_and_tell<R: Wait, V: Vault, W: Watch, O: Sink>(
     ensures params { V.params vault.new ≡ params_of hall.now }
     ensures room { HasRoom (params_of hall.now) room.new }
     ensures stand { MakesFromItsTurn pass.old turns.old pass.new turns.new }
+    ensures acts { IfOk result (λ round. round ≡ rounds.Acted) }
     ensures ended { (beat : BeatKind) (look : Seen) → noted_by pass.old ≡ look_calls look
         → MayAct beat look → IsToEnd look → OnOk result (DoneOnce (kind_of V.Vault) beat hall.now
         (side pass.old vault.old (W.trace watch.old) (outflow O.Sink output.old))
@@ -68,7 +69,7 @@ fn end_and_tell<R: Wait, V: Vault, W: Watch, O: Sink>(
         Err(fault) => return Err(fault),
     };
     match text(&told, output) {
-        Ok(()) => Ok(()),
+        Ok(()) => Ok(Round::Acted),
         Err(Failed) => {
             stop(rt, hall, pass, Fault::SinkFault, turns);
             Err(Fault::SinkFault)
@@ -134,19 +135,13 @@ pub fn look_once<R: Wait, V: Vault, W: Watch, B: Beat, O: Sink>(
         Plan::Fetch => {
             note(hall, pass, Driven::Looks { look });
             let (asks, found) = (&mut room.asks, &mut room.found);
-            match fetch(rt, hall, pass, desk, vault, watch, asks, found, turns) {
-                Ok(()) => Ok(Round::Acted),
-                Err(fault) => Err(fault),
-            }
+            fetch(rt, hall, pass, desk, vault, watch, asks, found, turns)
         }
         Plan::End => {
             note(hall, pass, Driven::Looks { look });
-            match end_and_tell(
+            end_and_tell(
                 rt, params, hall, pass, desk, vault, watch, output, room, turns,
-            ) {
-                Ok(()) => Ok(Round::Acted),
-                Err(fault) => Err(fault),
-            }
+            )
         }
     }
 }

@@ -11,6 +11,14 @@ use ob_desk::Desk;
 use ob_hall::{Driven, Hall, Pass, Turned};
 use std::snapshot::Snapshot;
 
+// What is noted of a call.
+fn noted(call: Driven) -> Snapshot<Turned>
+    ensures { result.value ≡ driver_step call ∷ [] }
+{
+    let turned = Turned::driver(call);
+    Snapshot::of(&turned)
+}
+
 /// Notes a call.
 pub fn note(hall: &Hall, pass: &mut Pass, call: Driven)
     requires own { IsPassOf hall.now pass.old }
@@ -18,8 +26,7 @@ pub fn note(hall: &Hall, pass: &mut Pass, call: Driven)
     ensures noted { NotesTurn pass.old pass.new (driver_step call ∷ []) }
     ensures own { IsPassOf hall.now pass.new }
 {
-    let turned = Turned::driver(call);
-    hall.note(pass, Snapshot::of(&turned));
+    hall.note(pass, noted(call));
 }
 
 /// Ends the turn with a call.
@@ -32,6 +39,5 @@ pub fn leave(hall: &Hall, pass: &mut Pass, desk: Desk, call: Driven)
     ensures own { IsPassOf hall.now pass.new }
     ensures idle { IsOutOfTurn pass.new }
 {
-    let turned = Turned::driver(call);
-    hall.leave(pass, desk, Snapshot::of(&turned));
+    hall.leave(pass, desk, noted(call));
 }

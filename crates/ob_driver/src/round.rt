@@ -1,7 +1,7 @@
 //! How the driver goes on behind a look.
 
 /// How the run goes on behind a look.
-#[derive(Clone, Copy, PartialEq, Eq)]
+#[derive(Clone, Copy)]
 pub enum Round {
     /// Something was done.
     Acted,

@@ -4,10 +4,10 @@ use Rattle.std.proofs.Common.{◌∙◌, ap, arith, inl, inr, sym, subst}
 use mathlib.Core.Path.{fun_ext}
 use Rattle.ob_base.specs.declared.fault.Fault.{Fault}
 use Rattle.ob_base.specs.declared.params.Params.{Params}
-use Rattle.ob_bucket.specs.Version.{Version}
+use Rattle.ob_tables.specs.Version.{Version}
 use Rattle.ob_cells.specs.Runs.{IsFurther}
-use Rattle.ob_ending.specs.Lifts.{IsUndamaged}
-use Rattle.ob_end_writes.specs.EndWrites.{SameFirst}
+use Rattle.ob_end.specs.Lifts.{IsUndamaged}
+use Rattle.ob_end.specs.EndWrites.{SameFirst}
 use Rattle.ob_fetch.specs.declared.run.Run.{Run}
 use Rattle.ob_fetch.specs.Fetches.{RunIsAt, RunsAt}
 use Rattle.ob_pads.specs.Seals.{CellsAreSealed}

@@ -1,12 +1,12 @@
 -- An end that was written, and the register's set behind it.
 use Rattle.std.specs.Prelude.{◌≡◌, ◌<◌, ℕ, suc, ◌^◌, Bool, List, Option, Result, Ok, Err, OnOk}
 use Rattle.std.specs.declared.option.Option.TheVariants.{None}
-use Rattle.std.proofs.Common.{arith, sym, ap, ◌∙◌, subst, inl, inr, ⊎_elim}
+use Rattle.std.proofs.Common.{arith, refl, sym, ap, ◌∙◌, subst, inl, inr, ⊎_elim}
 use Rattle.ob_base.specs.declared.fault.Fault.{Fault}
 use Rattle.ob_base.specs.declared.fault.Fault.TheVariants as fault
 use Rattle.ob_base.specs.declared.params.Params.{Params}
 use Rattle.ob_cells.specs.Writes.{Seals}
-use Rattle.ob_end_writes.specs.EndWrites.{IsOfStore, WritesSpare}
+use Rattle.ob_end.specs.EndWrites.{IsOfStore, WritesSpare}
 use Rattle.ob_seal.specs.declared.keys.Keys.{Keys}
 use Rattle.ob_seal.specs.Sealing.{Sealing}
 use Rattle.ob_stand.specs.Ends.{Ending, EndLeaves, IsEndOf, IsEndWritten, RingEnd}
@@ -23,13 +23,16 @@ use Rattle.ob_twin.specs.Keyed.{tagging}
 use Rattle.ob_twin.specs.Opening.{GatesAre}
 use Rattle.ob_twin.specs.declared.gates.Open.{Open}
 use Rattle.ob_twin.specs.Orders.{SetDoes, gate_notes, prepare_notes, set_notes}
-use Rattle.ob_twin.specs.Refused.{SetLeaves}
+use Rattle.ob_serial.specs.VaultViews.{IsEndFault}
+use Rattle.ob_twin.specs.declared.twin.Twin.TheVariants.{EPOCH}
+use Rattle.ob_twin.specs.Refused.{IsSetFault, SetLeaves}
 use Rattle.ob_twin.specs.Register.{IsPut}
 use Rattle.ob_twin.specs.declared.set_err.SetErr.{SetErr}
 use Rattle.ob_twin.specs.declared.set_err.SetErr.TheVariants as set
 use Rattle.ob_twin.proofs.Moves.{under_next}
 use Rattle.ob_twin.proofs.Sets.{leaves_before, leaves_either, put_stands}
 use Rattle.ob_end.specs.Closings.{ClosesEnd, CloseDoes, IfWritten}
+use Rattle.ob_end.specs.EndRuns.{end_err_of}
 
 -- a refusal of the store alone is one of a set that wrote no gate
 pub set_fault : (f : Fault) → IsOfStore f → f ≡ fault.StoreFault None
@@ -105,3 +108,8 @@ close_tells writes closes epoch a b c k l m (Err (set.Unsure f)) before set = �
     (λ gate. inl (tells_then writes writes (gate_notes closes 5 epoch) (gate_notes closes 5 epoch) a b c k l m before gate))
     (λ all. inr (tells_then writes writes (set_notes closes 5 epoch) (gate_notes closes 5 epoch) a b c k l m before all))
     set
+
+-- the refusals of an end whose epoch wasn't set
+pub close_fault : (n : ℕ) (refused : SetErr) → IsSetFault EPOCH n refused → IsEndFault n (end_err_of refused)
+close_fault n (set.Before f) is = subst (λ (x : Fault). IsEndFault n (end_err_of (set.Before x))) (sym is) refl
+close_fault n (set.Unsure f) is = is

@@ -6,7 +6,7 @@ use Rattle.ob_base.specs.declared.fault.Fault.TheVariants as fault
 use Rattle.ob_base.specs.declared.params.Params.{Params}
 use Rattle.ob_base.specs.declared.value.Write.{Write}
 use Rattle.ob_cells.specs.Writes.{Seals}
-use Rattle.ob_end_writes.specs.EndWrites.{end_write_notes}
+use Rattle.ob_end.specs.EndWrites.{end_write_notes}
 use Rattle.ob_fetch.specs.declared.run.Run.{Run}
 use Rattle.ob_fetch.specs.Fetches.{RunIsAt}
 use Rattle.ob_recover.specs.Repeats.{BatchIsShown}

@@ -3,10 +3,10 @@ use Rattle.std.specs.Prelude.{◌≡◌, ℕ, suc, ◌<◌, ◌≤◌, ◌^◌, 
 use Rattle.std.proofs.Common.{arith, refl, sym, ap, ◌∙◌, subst}
 use Rattle.ob_base.specs.declared.params.Params.{Params}
 use Rattle.ob_base.specs.declared.value.Write.{Write}
-use Rattle.ob_bucket.specs.Buckets.{Buckets, is_lifted}
+use Rattle.ob_tables.specs.Buckets.{Buckets, is_lifted}
 use Rattle.ob_tables.specs.Content.{Obeys, Rows}
-use Rattle.ob_end_writes.specs.EndWrites.{IsEndOfRing, content_left, rows_left}
-use Rattle.ob_ending.specs.Lifts.{LiftsAreRead}
+use Rattle.ob_end.specs.EndWrites.{IsEndOfRing, content_left, rows_left}
+use Rattle.ob_end.specs.Lifts.{LiftsAreRead}
 use Rattle.ob_epoch.specs.Table.{buckets_of, flat_of}
 use Rattle.ob_epoch.proofs.Reading.{rings_stand}
 use Rattle.ob_fetch.specs.Fetches.{RunsAt, unlisted}
@@ -23,8 +23,8 @@ use Rattle.ob_stand.specs.Stands.{RingStanding, Stands}
 use Rattle.ob_store.specs.Disk.{Disk, Image}
 use Rattle.ob_tables.specs.declared.entry.Entry.{Entry}
 use Rattle.ob_tables.specs.declared.tables.Tables.{Tables}
-use Rattle.ob_taken.specs.Values.{Values, with_writes}
-use Rattle.ob_values.specs.Runs.{slots_of}
+use Rattle.ob_epoch.specs.Values.{Values, with_writes}
+use Rattle.ob_epoch.specs.Runs.{slots_of}
 use Rattle.ob_end.specs.EndRuns.{IsEndMade, end_writes, rows_ended}
 use Rattle.ob_recover.specs.Fits.{IsPlannerFit}
 use Rattle.ob_end.proofs.EndTables as tables

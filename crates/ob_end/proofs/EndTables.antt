@@ -5,11 +5,11 @@ use Rattle.std.proofs.Common.{arith, inl, sym, ap, ◌∙◌, subst}
 use Rattle.ob_base.specs.declared.params.Params.{Params}
 use Rattle.ob_base.specs.declared.value.Write.{Write}
 use Rattle.ob_base.specs.Tree.{buckets}
-use Rattle.ob_bucket.specs.Buckets.{is_lifted, version_at}
-use Rattle.ob_bucket.specs.Version.{rank_at}
+use Rattle.ob_tables.specs.Buckets.{is_lifted, version_at}
+use Rattle.ob_tables.specs.Version.{rank_at}
 use Rattle.ob_tables.specs.Content.{FitsBook, FitsSeals, Rows}
-use Rattle.ob_end_writes.specs.EndWrites.{content_left, rows_left, slot_plain, version_of}
-use Rattle.ob_ending.specs.Renewals.{Renews, renewed_writes, table_behind_writes}
+use Rattle.ob_end.specs.EndWrites.{content_left, rows_left, slot_plain, version_of}
+use Rattle.ob_end.specs.Renewals.{Renews, renewed_writes, table_behind_writes}
 use Rattle.ob_epoch.specs.Numbers.{RenewsBook, RenewsSeals}
 use Rattle.ob_epoch.specs.Plans.{AreAllWhole}
 use Rattle.ob_epoch.specs.Valued.{AreTablesFilled, IsEnd}
@@ -23,14 +23,14 @@ use Rattle.ob_ring.specs.FlatTable.{FlatTable, Refill, after, refill_order, stas
 use Rattle.ob_ring.specs.Laws.{IsOrderly}
 use Rattle.ob_ring.specs.Ring.{Kept, StandsFor}
 use Rattle.ob_tables.specs.declared.entry.Entry.{Entry}
-use Rattle.ob_taken.specs.Values.{Values, with_writes}
-use Rattle.ob_values.specs.Carries.{Carries, Slots}
-use Rattle.ob_values.specs.Laws.{AreFit}
-use Rattle.ob_values.specs.Refilled.{IsRefilled}
-use Rattle.ob_values.proofs.Counted.{stash_counts}
-use Rattle.ob_values.proofs.Planned.{refill_is_written}
-use Rattle.ob_values.proofs.Refilling.{refill_carries}
-use Rattle.ob_values.proofs.Written.{writes_carry}
+use Rattle.ob_epoch.specs.Values.{Values, with_writes}
+use Rattle.ob_epoch.specs.Carries.{Carries, Slots}
+use Rattle.ob_epoch.specs.ValueLaws.{AreFit}
+use Rattle.ob_epoch.specs.Refilled.{IsRefilled}
+use Rattle.ob_epoch.proofs.Counted.{stash_counts}
+use Rattle.ob_epoch.proofs.Planned.{refill_is_written}
+use Rattle.ob_epoch.proofs.Refilling.{refill_carries}
+use Rattle.ob_epoch.proofs.Written.{writes_carry}
 
 module _ (lifted renewed : Kept) (writes : List Write) (words : List ℕ) (g drawn next : ℕ) (renews : Renews writes words g drawn next lifted renewed) where
   abbrev pub p : Params

@@ -1,3 +1,11 @@
+pub mod LiftsFew
+pub mod LiftReads
+pub mod LiftsStand
+pub mod RenewLaws
+pub mod Parts
+pub mod Shuts
+pub mod FillsAll
+pub mod Whole
 pub mod ActLaws
 pub mod CloseLaws
 pub mod EndCases

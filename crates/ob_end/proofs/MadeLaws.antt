@@ -7,10 +7,10 @@ use Rattle.ob_base.specs.declared.params.Params.{Params}
 use Rattle.ob_base.specs.declared.value.Write.{Write}
 use Rattle.ob_base.specs.Layout.{checkpoint_cells}
 use Rattle.ob_base.specs.Tree.{buckets, width}
-use Rattle.ob_bucket.specs.Buckets.{is_lifted, version_at}
-use Rattle.ob_bucket.specs.Version.{Version}
+use Rattle.ob_tables.specs.Buckets.{is_lifted, version_at}
+use Rattle.ob_tables.specs.Version.{Version}
 use Rattle.ob_tables.specs.Content.{FitsBook, FitsSeals, Obeys}
-use Rattle.ob_end_writes.specs.EndWrites.{AreSealedFrom, all_seals, content_left, rows_left}
+use Rattle.ob_end.specs.EndWrites.{AreSealedFrom, all_seals, content_left, rows_left}
 use Rattle.ob_epoch.specs.Plans.{AreAllWhole}
 use Rattle.ob_epoch.specs.Valued.{IsEnd}
 use Rattle.ob_epoch.proofs.Calling.{calls_join, writes_are_fit}
@@ -26,10 +26,10 @@ use Rattle.ob_seal.specs.declared.keys.Keys.{Keys}
 use Rattle.ob_store.specs.Disk.{Disk}
 use Rattle.ob_tables.specs.Kept.{Held, entry_at}
 use Rattle.ob_tables.specs.declared.entry.Entry.{Entry}
-use Rattle.ob_taken.proofs.TheLaws.{picked_are_taken}
-use Rattle.ob_taken.specs.Values.{Values, with_writes}
-use Rattle.ob_values.specs.Carries.{Carries}
-use Rattle.ob_values.specs.Laws.{AreFit}
+use Rattle.ob_epoch.proofs.KeyLaws.{picked_are_taken}
+use Rattle.ob_epoch.specs.Values.{Values, with_writes}
+use Rattle.ob_epoch.specs.Carries.{Carries}
+use Rattle.ob_epoch.specs.ValueLaws.{AreFit}
 use Rattle.ob_end.specs.EndRuns.{AreFilledAnew, IsEndMade, TakeBucketWords, end_writes, rows_ended, seals_for_end, table_ended}
 use Rattle.ob_recover.specs.Fits.{IsPlannerFit}
 use Rattle.ob_end.proofs.EndTables as tables

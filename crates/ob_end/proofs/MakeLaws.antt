@@ -12,10 +12,10 @@ use Rattle.ob_base.specs.declared.params.Params.{Params}
 use Rattle.ob_base.specs.declared.value.Write.{Write}
 use Rattle.ob_base.specs.Layout.{checkpoint_cells}
 use Rattle.ob_base.specs.Tree.{buckets, width}
-use Rattle.ob_bucket.specs.Buckets.{is_lifted}
-use Rattle.ob_bucket.specs.Version.{Version}
-use Rattle.ob_ending.specs.Lifts.{IsUndamaged, LiftsAnswer}
-use Rattle.ob_ending.specs.Renewals.{RenewAnswers, end_seals, end_words, refill_words, renewed_writes, table_behind_writes}
+use Rattle.ob_tables.specs.Buckets.{is_lifted}
+use Rattle.ob_tables.specs.Version.{Version}
+use Rattle.ob_end.specs.Lifts.{IsUndamaged, LiftsAnswer}
+use Rattle.ob_end.specs.Renewals.{RenewAnswers, end_seals, end_words, refill_words, renewed_writes, table_behind_writes}
 use Rattle.ob_epoch.proofs.Calling.{calls_join}
 use Rattle.ob_fetch.specs.Fetches.{DrawsWords}
 use Rattle.ob_tables.specs.Content.{Rows}

@@ -4,7 +4,7 @@ use Rattle.std.proofs.Common.{refl, sym, ap, ◌∙◌, subst}
 use Rattle.ob_base.specs.declared.params.Params.{Params}
 use Rattle.ob_base.specs.declared.value.Write.{Write}
 use Rattle.ob_tables.specs.Content.{Content}
-use Rattle.ob_ending.specs.Renewals.{Renews}
+use Rattle.ob_end.specs.Renewals.{Renews}
 use Rattle.ob_epoch.specs.Ends.{IsRunFrom, RefillRun}
 use Rattle.ob_epoch.specs.Numbers.{KnowsBook}
 use Rattle.ob_epoch.specs.Table.{buckets_of, flat_of}
@@ -24,7 +24,7 @@ use Rattle.ob_ring_trace.specs.Ends.{RefillsFrom}
 use Rattle.ob_stand.specs.Stands.{AreKnown}
 use Rattle.ob_tables.specs.Kept.{entry_at}
 use Rattle.ob_tables.specs.declared.entry.Entry.{Entry}
-use Rattle.ob_values.specs.Epochs.{Read, after_epoch, before_refill}
+use Rattle.ob_epoch.specs.Epochs.{Read, after_epoch, before_refill}
 use Rattle.ob_end.proofs.EndTables as made
 use Rattle.ob_end.proofs.KnownEntries.{entries_known}
 

@@ -5,11 +5,11 @@ use Rattle.ob_base.specs.declared.job.Job.{Job}
 use Rattle.ob_base.specs.declared.params.Params.{Params}
 use Rattle.ob_base.specs.declared.value.Write.{Write}
 use Rattle.ob_base.specs.Layout.{checkpoint_cells}
-use Rattle.ob_bucket.specs.Version.{Version}
+use Rattle.ob_tables.specs.Version.{Version}
 use Rattle.ob_check.specs.Written.{area_of}
 use Rattle.ob_tables.specs.Content.{Content, Obeys}
-use Rattle.ob_end_writes.specs.EndWrites.{content_left, end_write_notes, rows_left}
-use Rattle.ob_ending.specs.Lifts.{lift_notes}
+use Rattle.ob_end.specs.EndWrites.{content_left, end_write_notes, rows_left}
+use Rattle.ob_end.specs.Lifts.{lift_notes}
 use Rattle.ob_epoch.specs.Ends.{RefillRun}
 use Rattle.ob_epoch.specs.Table.{buckets_of, flat_of}
 use Rattle.ob_fetch.specs.Fetches.{unlisted}
@@ -38,7 +38,7 @@ use Rattle.ob_twin.specs.Opening.{is_closed_first}
 use Rattle.ob_twin.specs.Orders.{set_notes}
 use Rattle.ob_twin.specs.Register.{place_of}
 use Rattle.ob_twin.specs.declared.gates.Gates.{Gates}
-use Rattle.ob_values.specs.Epochs.{Read}
+use Rattle.ob_epoch.specs.Epochs.{Read}
 use Rattle.ob_end.specs.EndRuns.{IsEndMade, LeadsOn, end_writes, rows_ended}
 use Rattle.ob_end.specs.Shown.{before_gate, end_lifts}
 use Rattle.ob_end.proofs.Rows.{before_closes, behind_lifts}

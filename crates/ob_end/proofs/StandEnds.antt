@@ -4,9 +4,9 @@ use Rattle.std.proofs.Common.{refl, sym, ap, ◌∙◌, subst}
 use Rattle.ob_base.specs.declared.params.Params.{Params}
 use Rattle.ob_base.specs.declared.value.Write.{Write}
 use Rattle.ob_tables.specs.Content.{Content, Rows}
-use Rattle.ob_end_writes.specs.EndWrites.{IsEndOfRing, rows_left}
-use Rattle.ob_ending.specs.Lifts.{LiftsAreRead}
-use Rattle.ob_ending.specs.Renewals.{Renews, renewed_writes}
+use Rattle.ob_end.specs.EndWrites.{IsEndOfRing, rows_left}
+use Rattle.ob_end.specs.Lifts.{LiftsAreRead}
+use Rattle.ob_end.specs.Renewals.{Renews, renewed_writes}
 use Rattle.ob_epoch.specs.Plans.{AreAllWhole}
 use Rattle.ob_epoch.specs.Table.{flat_of}
 use Rattle.ob_fetch.specs.Fetches.{unlisted}
@@ -26,10 +26,10 @@ use Rattle.ob_stand.specs.Stands.{AreKnown, RingStanding, Stands}
 use Rattle.ob_stand.proofs.ReadLaws.{runs_end}
 use Rattle.ob_store.specs.Disk.{Image}
 use Rattle.ob_tables.specs.declared.entry.Entry.{Entry}
-use Rattle.ob_values.specs.Carries.{AreRead, Slots}
-use Rattle.ob_values.specs.Epochs.{IsEpoch, after_epoch, before_refill, rows_before_refill}
-use Rattle.ob_values.specs.Laws.{AreFit}
-use Rattle.ob_values.specs.Refilled.{IsRefilled}
+use Rattle.ob_epoch.specs.Carries.{AreRead, Slots}
+use Rattle.ob_epoch.specs.Epochs.{IsEpoch, after_epoch, before_refill, rows_before_refill}
+use Rattle.ob_epoch.specs.ValueLaws.{AreFit}
+use Rattle.ob_epoch.specs.Refilled.{IsRefilled}
 use Rattle.ob_end.proofs.EndTables as made
 use Rattle.ob_end.proofs.RunLaws as runs
 

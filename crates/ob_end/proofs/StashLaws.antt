@@ -4,17 +4,17 @@ use Rattle.std.specs.declared.option.Option.TheVariants.{None, Some}
 use Rattle.std.proofs.Common.{refl, sym, ◌∙◌}
 use Rattle.std.proofs.lemmas.Bool.{false≢true}
 use Rattle.ob_base.specs.declared.params.Params.{Params}
-use Rattle.ob_ending.specs.Lifts.{lifts_picked}
-use Rattle.ob_ending.specs.Renewals.{HasItsRows}
+use Rattle.ob_end.specs.Lifts.{lifts_picked}
+use Rattle.ob_end.specs.Renewals.{HasItsRows}
 use Rattle.ob_recover.specs.Repeats.{RowsJoin}
 use Rattle.ob_ring.specs.Filling.{HasStashRows}
 use Rattle.ob_ring.specs.FlatTable.{FlatTable, FinalLifts, Row, Spot, InStash, In, after, in_stash, is_stash, spot_of}
 use Rattle.ob_ring.specs.Ring.{Kept, StandsFor}
 use Rattle.ob_ring.specs.Settling.{Rows}
-use Rattle.ob_taken.proofs.TheLaws.{picked_are_taken}
-use Rattle.ob_taken.specs.Takes.{is_present}
-use Rattle.ob_taken.specs.Values.{Values}
-use Rattle.ob_values.specs.Carries.{Carries, Slots}
+use Rattle.ob_epoch.proofs.KeyLaws.{picked_are_taken}
+use Rattle.ob_epoch.specs.Takes.{is_present}
+use Rattle.ob_epoch.specs.Values.{Values}
+use Rattle.ob_epoch.specs.Carries.{Carries, Slots}
 use Rattle.ob_recover.specs.Fits.{IsPlannerFit}
 use Rattle.ob_recover.proofs.JoinLaws.{carries_then, joined, map_then}
 

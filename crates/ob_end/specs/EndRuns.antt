@@ -7,11 +7,11 @@ use Rattle.ob_base.specs.declared.params.Params.{Params}
 use Rattle.ob_base.specs.declared.value.Write.{Write}
 use Rattle.ob_base.specs.Layout.{checkpoint_cells}
 use Rattle.ob_base.specs.Tree.{buckets, width}
-use Rattle.ob_bucket.specs.Buckets.{Buckets, version_at}
-use Rattle.ob_bucket.specs.Version.{Version}
+use Rattle.ob_tables.specs.Buckets.{Buckets, version_at}
+use Rattle.ob_tables.specs.Version.{Version}
 use Rattle.ob_tables.specs.Content.{Content, Obeys}
-use Rattle.ob_ending.specs.Lifts.{IsLiftDamage, IsUndamaged, LiftsAreRead, lifts_picked}
-use Rattle.ob_ending.specs.Renewals.{Renews}
+use Rattle.ob_end.specs.Lifts.{IsLiftDamage, IsUndamaged, LiftsAreRead, lifts_picked}
+use Rattle.ob_end.specs.Renewals.{Renews}
 use Rattle.ob_epoch.specs.Table.{flat_of}
 use Rattle.ob_fetch.specs.declared.run.Run.{Run}
 use Rattle.ob_fetch.specs.Fetches.{DrawsWords, IsRunReady, RunIsAt}
@@ -37,11 +37,11 @@ use Rattle.ob_store.specs.declared.event.Event.{Event}
 use Rattle.ob_store.specs.declared.watch.Note.{Note}
 use Rattle.ob_tables.specs.Kept.{entry_at}
 use Rattle.ob_tables.specs.declared.entry.Entry.{Entry}
-use Rattle.ob_taken.specs.Values.{with_writes}
+use Rattle.ob_epoch.specs.Values.{with_writes}
 use Rattle.ob_twin.specs.declared.gates.Gates.{Gates}
 use Rattle.ob_twin.specs.declared.set_err.SetErr.{SetErr}
 use Rattle.ob_twin.specs.declared.set_err.SetErr.TheVariants as set
-use Rattle.ob_values.specs.Runs.{slots_of}
+use Rattle.ob_epoch.specs.Runs.{slots_of}
 use Rattle.ob_end.specs.Closings.{CloseDoes}
 
 -- ---- what a run keeps at all times, whatever its store tells

@@ -1,3 +1,6 @@
+pub mod Lifts
+pub mod Renewals
+pub mod EndWrites
 pub mod Closings
 pub mod EndRuns
 pub mod Shown

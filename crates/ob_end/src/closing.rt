@@ -4,7 +4,7 @@ ghost use Rattle.std.specs.Prelude.{◌≡◌, ◌<◌, ◌≤◌, ◌+◌, ◌*
 ghost use Rattle.ob_base.specs.Layout.{checkpoint_cells};
 ghost use Rattle.ob_cells.specs.Writes.{Seals};
 ghost use Rattle.ob_tables.specs.Content.{Obeys};
-ghost use Rattle.ob_end_writes.specs.EndWrites.{AreSealedFrom, IsEndOfRing, all_seals, content_left, end_write_notes, rows_left};
+ghost use Rattle.ob_end.specs.EndWrites.{AreSealedFrom, IsEndOfRing, all_seals, content_left, end_write_notes, rows_left};
 ghost use Rattle.ob_pads.specs.Seals.{CellsAreSealed};
 ghost use Rattle.ob_ring.specs.Ring.{AreListedWithin};
 ghost use Rattle.ob_stand.specs.Ends.{RingEnd};
@@ -17,9 +17,9 @@ ghost use Rattle.ob_twin.specs.Refused.{IsSetFault};
 ghost use Rattle.ob_twin.specs.Register.{place_of};
 ghost use Rattle.ob_end.specs.Closings.{ClosesEnd, CloseDoes, IfWritten, SameGeneration};
 
+use crate::writing::write_end;
 use ob_base::Params;
 use ob_check::Sheet;
-use ob_end_writes::write_end;
 use ob_ring::Ring;
 use ob_seal::Sealer;
 use ob_store::{Store, Watch};

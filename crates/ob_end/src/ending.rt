@@ -2,11 +2,11 @@
 
 ghost use Rattle.std.specs.Prelude.{◌≡◌, ◌<◌, ◌≤◌, ◌+◌, ◌^◌, ℕ, List, Some, suc, false, true, length, IfErr, OnErr, OnOk};
 ghost use Rattle.ob_base.specs.Planned.{most_jobs};
-ghost use Rattle.ob_bucket.specs.Buckets.{Buckets};
+ghost use Rattle.ob_tables.specs.Buckets.{Buckets};
 ghost use Rattle.ob_cells.specs.Writes.{Seals};
-ghost use Rattle.ob_end_writes.specs.EndWrites.{end_write_notes};
+ghost use Rattle.ob_end.specs.EndWrites.{end_write_notes};
 ghost use Rattle.ob_tables.specs.Content.{Content};
-ghost use Rattle.ob_ending.specs.Lifts.{lift_cells, lift_notes};
+ghost use Rattle.ob_end.specs.Lifts.{lift_cells, lift_notes};
 ghost use Rattle.ob_fetch.specs.Fetches.{RunIsAt, words_since};
 ghost use Rattle.ob_log.specs.Logs.{BatchRecord};
 ghost use Rattle.ob_pads.specs.Seals.{CellsAreSealed};
@@ -32,7 +32,7 @@ ghost use Rattle.ob_end.specs.Shown.{EndShows, end_lifts};
 use crate::closing::close_epoch;
 use crate::making::make_end;
 use ob_base::Write;
-use ob_batch::Crew;
+use ob_cells::Crew;
 use ob_fetch::Run;
 use ob_serial::EndErr;
 use ob_store::{Store, Watch};
@@ -49,9 +49,9 @@ fn end_err(refused: SetErr) -> EndErr
 }
 
 /// Ends the epoch that runs: reads the final lifts, makes the epoch's writes, of which the i-th
-/// takes the i-th word drawn, fills the lifted buckets anew, writes them where they then lie, writes
-/// the checkpoint and closed gates for the log of the epoch behind, and sets the epoch's register.
-/// All batches are left then. It takes no memory.
+/// takes the i-th word drawn, fills the lifted buckets anew, writes them where they then lie,
+/// writes the checkpoint and closed gates for the log of the epoch behind, and sets the epoch's
+/// register. All batches are left then. It takes no memory.
 ///
 /// While it runs a crash leaves the epoch that stood; from the write on that opens the register's
 /// gate it leaves that or the one that ends, and once it is done the one that ends.
@@ -92,7 +92,7 @@ pub fn end<S: Store, T: Tape, W: Watch>(
         → EndAnswers run.old.params t run.old.epoch run.old.drawn run.old.sealer.next
         (end_writes run.old.params writes.now (words_since (T.drawn tape.old) (T.drawn tape.new))
         run.old.sealer.generation run.old.drawn) result }
-    // Where the store tells its cells, what is damaged first of the lifts; where it stood, nothing is.
+    // Where the store tells its cells, what is damaged first of the lifts; where it stood, nothing.
     ensures damage { (start : Buckets) (t : FlatTable) → SameSeals start run.old.ring.metas
         → StandsFor run.old.ring t → (S.disk store.old).tells
         → EndDamage run.old.sealer.keys run.old.params start.versions (S.disk store.new).cells t

@@ -2,8 +2,8 @@
 
 ghost use Rattle.std.specs.Prelude.{◌≡◌, ◌<◌, ◌≤◌, ◌^◌, ℕ, List, length, IfErr, OnOk, Some};
 ghost use Rattle.ob_base.specs.Planned.{most_jobs};
-ghost use Rattle.ob_bucket.specs.Buckets.{Buckets};
-ghost use Rattle.ob_ending.specs.Lifts.{IsUndamaged, lift_cells, lift_notes};
+ghost use Rattle.ob_tables.specs.Buckets.{Buckets};
+ghost use Rattle.ob_end.specs.Lifts.{IsUndamaged, lift_cells, lift_notes};
 ghost use Rattle.ob_fetch.specs.Fetches.{RunIsAt, words_since};
 ghost use Rattle.ob_ring.specs.FlatTable.{FlatTable};
 ghost use Rattle.ob_ring.specs.Picked.{SameSeals};
@@ -14,9 +14,10 @@ ghost use Rattle.ob_store.specs.Calls.{IsStoreFault, Keeps, Serves};
 ghost use Rattle.ob_store.specs.Images.{Passes, Same};
 ghost use Rattle.ob_end.specs.EndRuns.{IsEndMade, IsEndReady, IsMakeFault, MakeAnswers, MakeDamage, MakeDraws, MakeTells, end_writes};
 
+use crate::lifting::read_lifts;
+use crate::renewing::renew;
 use ob_base::{Fault, NUMBER_LIMIT, Write};
-use ob_batch::Crew;
-use ob_ending::{read_lifts, renew};
+use ob_cells::Crew;
 use ob_fetch::Run;
 use ob_store::{Store, Watch};
 use ob_tape::Tape;

@@ -9,8 +9,8 @@ use Rattle.ob_base.specs.declared.job.Job.{Job}
 use Rattle.ob_base.specs.declared.value.Write.{Write}
 use Rattle.ob_base.specs.Layout.{slot_cell}
 use Rattle.ob_base.specs.Tree.{buckets}
-use Rattle.ob_bucket.specs.Version.{Version, rank_at}
-use Rattle.ob_bucket.specs.Buckets.{Buckets, no_version, version_at}
+use Rattle.ob_tables.specs.Version.{Version, rank_at}
+use Rattle.ob_tables.specs.Buckets.{Buckets, no_version, version_at}
 use Rattle.ob_schedule.specs.Paths.{by_falling_level, eviction_path, is_one_of}
 use Rattle.ob_ring.specs.Arrays.{rest_of}
 use Rattle.ob_ring.specs.Fetching.{leaf_places, own_entry}
@@ -20,13 +20,13 @@ use Rattle.ob_ring.specs.Plain.{without_buckets}
 use Rattle.ob_ring.specs.Ring.{IsListed, Kept, StandsFor}
 use Rattle.ob_ring.specs.Writing.{write_at}
 use Rattle.ob_ring.proofs.Members.{off_unless, one_of-filter, one_of-filter_from, one_of-take}
-use Rattle.ob_values.specs.Carries.{AreRead}
-use Rattle.ob_values.specs.Epochs.{AreAllRead, Read, after_batches}
-use Rattle.ob_values.specs.Laws.{AreFit}
-use Rattle.ob_values.specs.Refilled.{IsRefilled}
-use Rattle.ob_values.specs.Runs.{AreRun, Plains, slots_of}
-use Rattle.ob_values.proofs.Planned.{past_none, refill_is_written}
-use Rattle.ob_values.proofs.Running.{jobs_are_read}
+use Rattle.ob_epoch.specs.Carries.{AreRead}
+use Rattle.ob_epoch.specs.Epochs.{AreAllRead, Read, after_batches}
+use Rattle.ob_epoch.specs.ValueLaws.{AreFit}
+use Rattle.ob_epoch.specs.Refilled.{IsRefilled}
+use Rattle.ob_epoch.specs.Runs.{AreRun, Plains, slots_of}
+use Rattle.ob_epoch.proofs.Planned.{past_none, refill_is_written}
+use Rattle.ob_epoch.proofs.Running.{jobs_are_read}
 use Rattle.ob_epoch.specs.Calls.{AreSlotsWritten, CallsJoin, PlansAreRead, RefillsRing, RingsRefill, WritesAreFit}
 use Rattle.ob_epoch.specs.Plans.{AreAllWhole}
 use Rattle.ob_epoch.proofs.Plans.{bucket_listed, refill_plans}

@@ -5,9 +5,9 @@ use Rattle.std.proofs.Common.{arith, refl, sym, ap, ◌∙◌, subst, inl, inr}
 use Rattle.std.proofs.lemmas.Bool.{true≢false, cases_lt, leb-false, or_parts}
 use Rattle.ob_base.specs.declared.params.Params.{Params}
 use Rattle.ob_base.specs.Tree.{buckets}
-use Rattle.ob_bucket.specs.Version.{Version, rank_at, used_at}
-use Rattle.ob_bucket.specs.Buckets.{Buckets, version_at}
-use Rattle.ob_bucket.proofs.Counting.{onto_of_apart}
+use Rattle.ob_tables.specs.Version.{Version, rank_at, used_at}
+use Rattle.ob_tables.specs.Buckets.{Buckets, version_at}
+use Rattle.ob_tables.proofs.Counting.{onto_of_apart}
 use Rattle.ob_tables.specs.Content.{Content}
 use Rattle.ob_schedule.specs.Paths.{is_one_of, eviction_path, by_falling_level}
 use Rattle.ob_schedule.specs.Schedule.{Public, after_end, counts_now, is_lifted_by_end}
@@ -18,7 +18,7 @@ use Rattle.ob_ring.proofs.Batches.{FinalLaw, final_law}
 use Rattle.ob_ring.proofs.Members.{off_unless, one_of-filter, one_of-filter_from, one_of-take}
 use Rattle.ob_ring.proofs.Refills.{FillsLaw, of_levels, refill_law, writes_keep}
 use Rattle.ob_ring.proofs.TableLaws.{counted_in, none_counted, steps_keep_order, used_final}
-use Rattle.ob_values.proofs.Planned.{past_none}
+use Rattle.ob_epoch.proofs.Planned.{past_none}
 use Rattle.ob_epoch.specs.Counts.{EndCounts, IsEndPublic, OpeningCounts, SlotsRank, lifted_and_written, marks_of, public_of}
 use Rattle.ob_epoch.specs.Table.{flat_of}
 use Rattle.ob_epoch.proofs.Plans.{bucket_listed, refill_plans}

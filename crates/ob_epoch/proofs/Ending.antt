@@ -7,8 +7,8 @@ use Rattle.ob_base.specs.declared.params.Params.{Params}
 use Rattle.ob_base.specs.declared.job.Job.{Job}
 use Rattle.ob_base.specs.declared.value.Write.{Write}
 use Rattle.ob_base.specs.Tree.{buckets}
-use Rattle.ob_bucket.specs.Version.{Version, IsWhole}
-use Rattle.ob_bucket.specs.Buckets.{version_at}
+use Rattle.ob_tables.specs.Version.{Version, IsWhole}
+use Rattle.ob_tables.specs.Buckets.{version_at}
 use Rattle.ob_tables.specs.Content.{Content, Rows, Obeys}
 use Rattle.ob_schedule.specs.Paths.{is_one_of, by_falling_level}
 use Rattle.ob_tables.specs.declared.entry.Entry.{Entry}
@@ -18,12 +18,12 @@ use Rattle.ob_ring.specs.Writing.{leaf_writes}
 use Rattle.ob_ring.proofs.TableLaws.{steps_keep_order}
 use Rattle.ob_ring.proofs.Members.{IsDistinct, distinct-filter, off_unless, one_of-filter, one_of-filter_from, one_of-take}
 use Rattle.ob_ring.proofs.Refills.{distinct_levels, of_levels}
-use Rattle.ob_taken.specs.Goes.{Goes}
-use Rattle.ob_taken.specs.Values.{Values, with_writes}
-use Rattle.ob_values.specs.Carries.{Slots, Carries}
-use Rattle.ob_values.specs.Epochs.{EpochFollows, EpochGoes, Read, IsEpoch, after_batches, after_epoch, before_refill}
-use Rattle.ob_values.proofs.Counted.{stash_counts}
-use Rattle.ob_values.proofs.Epochs.{buckets_go, epochs_follow}
+use Rattle.ob_epoch.specs.Goes.{Goes}
+use Rattle.ob_epoch.specs.Values.{Values, with_writes}
+use Rattle.ob_epoch.specs.Carries.{Slots, Carries}
+use Rattle.ob_epoch.specs.Epochs.{EpochFollows, EpochGoes, Read, IsEpoch, after_batches, after_epoch, before_refill}
+use Rattle.ob_epoch.proofs.Counted.{stash_counts}
+use Rattle.ob_epoch.proofs.Epochs.{buckets_go, epochs_follow}
 use Rattle.ob_epoch.specs.Ends.{EndsFollow, IsRunFrom, RefillRun}
 use Rattle.ob_epoch.specs.Numbers.{IsKnown, RenewsSeals}
 use Rattle.ob_epoch.specs.Plans.{AreAllWhole}

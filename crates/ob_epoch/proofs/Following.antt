@@ -1,8 +1,8 @@
 -- From one checkpoint's content to the next.
 use Rattle.ob_epoch.specs.Table.{flat_of}
 use Rattle.ob_epoch.specs.Valued.{ContentsFollow}
-use Rattle.ob_values.specs.Epochs.{EpochFollows, after_epoch}
-use Rattle.ob_values.proofs.Epochs.{epochs_follow}
+use Rattle.ob_epoch.specs.Epochs.{EpochFollows, after_epoch}
+use Rattle.ob_epoch.proofs.Epochs.{epochs_follow}
 use Rattle.ob_epoch.proofs.Reading.{tables_are_read}
 use Rattle.ob_epoch.proofs.Standing.{contents_carry, tables_obey}
 

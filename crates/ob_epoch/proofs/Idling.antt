@@ -6,9 +6,9 @@ use Rattle.std.specs.Ordering.{nat_cmp}
 use Rattle.std.proofs.Common.{zero, suc, arith, refl, sym, ap, ◌∙◌, subst, inl}
 use Rattle.std.proofs.lemmas.Bool.{true≢false, ne_eqb}
 use Rattle.ob_base.specs.Tree.{buckets}
-use Rattle.ob_bucket.specs.Version as bucket
-use Rattle.ob_bucket.specs.Version.{Version, IsWhole, key_at, used_at}
-use Rattle.ob_bucket.specs.Buckets.{Buckets, version_at}
+use Rattle.ob_tables.specs.Version as bucket
+use Rattle.ob_tables.specs.Version.{Version, IsWhole, key_at, used_at}
+use Rattle.ob_tables.specs.Buckets.{Buckets, version_at}
 use Rattle.ob_schedule.specs.Paths.{is_one_of}
 use Rattle.ob_tables.specs.Kept.{entry_at}
 use Rattle.ob_ring.specs.Arrays.{AreWhole, IsTableOf, arrays_of, leaf_of_entry, rest_of}
@@ -19,23 +19,23 @@ use Rattle.ob_ring.specs.Plain.{index_with, key_of_index, plain_for}
 use Rattle.ob_ring.specs.Ring.{IsRing, empty_table}
 use Rattle.ob_ring.proofs.Rows.{p0}
 use Rattle.ob_ring.proofs.TableLaws.{steps_keep_order}
-use Rattle.ob_taken.specs.Values.{Values}
-use Rattle.ob_values.specs.Epochs.{IsEpoch, IsMet, Read, after_epoch, before_refill}
-use Rattle.ob_values.proofs.Meeting.{epochs_are_met}
-use Rattle.ob_values.proofs.Refilling.{plains_are_spelled}
+use Rattle.ob_epoch.specs.Values.{Values}
+use Rattle.ob_epoch.specs.Epochs.{IsEpoch, IsMet, Read, after_epoch, before_refill}
+use Rattle.ob_epoch.proofs.Meeting.{epochs_are_met}
+use Rattle.ob_epoch.proofs.Refilling.{plains_are_spelled}
 use Rattle.ob_epoch.specs.Calls.{AreSlotsWritten, RefillsRing}
 use Rattle.ob_epoch.specs.Counts.{IsEndPublic, public_of}
 use Rattle.ob_epoch.specs.Ends.{IsNext, IsRunFrom}
 use Rattle.ob_epoch.specs.Idle.{Idled, idle_lifted, idle_order, idle_ring, idle_run, idle_versions, no_rows}
 use Rattle.ob_epoch.specs.Plans.{AreAllWhole}
-use Rattle.ob_epoch.specs.Samples.{formatted, slots}
+use Rattle.ob_epoch.specs.ContentSamples.{formatted, slots}
 use Rattle.ob_epoch.specs.Table.{flat_of, lying_place, row_for}
 use Rattle.ob_epoch.specs.Valued.{content_with}
 use Rattle.ob_epoch.proofs.Counts.{opening_counts}
 use Rattle.ob_epoch.proofs.Ending.{ends_follow, orderly_before}
 use Rattle.ob_epoch.proofs.Numbers.{renewed_fit}
 use Rattle.ob_epoch.proofs.Reading.{tables_are_read}
-use Rattle.ob_epoch.proofs.Sampling.{all_unused, end_obeys, format_obeys, formatted_key, formatted_known, formatted_obeys, formatted_valued, formatted_version, no_entry, none_some, two_none}
+use Rattle.ob_epoch.proofs.ContentSampling.{all_unused, end_obeys, format_obeys, formatted_key, formatted_known, formatted_obeys, formatted_valued, formatted_version, no_entry, none_some, two_none}
 use Rattle.ob_epoch.proofs.Standing.{contents_carry}
 
 -- ---- the content after the format stands for the empty table

@@ -1,3 +1,18 @@
+pub mod Taking
+pub mod Moving
+pub mod Going
+pub mod KeyLaws
+pub mod Spelling
+pub mod Carrying
+pub mod Steps
+pub mod Written
+pub mod Refilling
+pub mod Planned
+pub mod Counted
+pub mod Running
+pub mod Epochs
+pub mod Meeting
+pub mod ValueSampling
 pub mod Reading
 pub mod Standing
 pub mod Following
@@ -5,6 +20,6 @@ pub mod Plans
 pub mod Numbers
 pub mod Counts
 pub mod Ending
-pub mod Sampling
+pub mod ContentSampling
 pub mod Calling
 pub mod Idling

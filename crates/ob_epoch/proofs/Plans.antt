@@ -4,17 +4,17 @@ use Rattle.std.proofs.Common.{suc, arith, refl, sym, ◌∙◌, subst, inl, inr}
 use Rattle.std.proofs.lemmas.Bool.{true≢false, cases_lt, or_cases, eqb-true}
 use Rattle.ob_base.specs.declared.params.Params.{Params}
 use Rattle.ob_base.specs.Tree.{buckets}
-use Rattle.ob_bucket.specs.Rank.{ranks_of}
-use Rattle.ob_bucket.specs.Version.{IsWhole, AreRanks}
-use Rattle.ob_bucket.specs.Buckets.{Buckets, version_at}
-use Rattle.ob_bucket.proofs.VersionLaws.{ranks_are}
+use Rattle.ob_tables.specs.Rank.{ranks_of}
+use Rattle.ob_tables.specs.Version.{IsWhole, AreRanks}
+use Rattle.ob_tables.specs.Buckets.{Buckets, version_at}
+use Rattle.ob_tables.proofs.VersionLaws.{ranks_are}
 use Rattle.ob_schedule.specs.Paths.{is_one_of, by_falling_level}
 use Rattle.ob_ring.specs.Arrays.{AreWhole}
 use Rattle.ob_ring.specs.Filling.{AreSealedAnew, words_of}
 use Rattle.ob_ring.specs.FlatTable.{refill_order}
 use Rattle.ob_ring.proofs.Members.{one_of-filter_from, one_of-take}
 use Rattle.ob_ring.proofs.Refills.{refill_law, in_levels}
-use Rattle.ob_values.proofs.Planned.{past_none}
+use Rattle.ob_epoch.proofs.Planned.{past_none}
 use Rattle.ob_epoch.specs.Plans.{RefillPlans}
 
 lifted_case : (b up : Bool) → (up ≡ true → b ≡ true) → (not b && up) ≡ false

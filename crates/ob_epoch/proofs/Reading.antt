@@ -6,8 +6,8 @@ use Rattle.std.proofs.Common.{zero, suc, arith, refl, sym, ap, ◌∙◌, inl, i
 use Rattle.std.proofs.lemmas.Bool.{false≢true, cases_lt}
 use Rattle.ob_base.specs.declared.params.Params.{Params}
 use Rattle.ob_base.specs.Tree.{buckets, below, passes}
-use Rattle.ob_bucket.specs.Version.{Version, key_at, used_at, live_index}
-use Rattle.ob_bucket.specs.Buckets.{version_at, no_version}
+use Rattle.ob_tables.specs.Version.{Version, key_at, used_at, live_index}
+use Rattle.ob_tables.specs.Buckets.{version_at, no_version}
 use Rattle.ob_tables.specs.declared.entry.Entry.{Entry}
 use Rattle.ob_tables.specs.Kept.{entry_at}
 use Rattle.ob_ring.specs.FlatTable.{Spot, In, spot_of, leaf_of, reads, indexes}
@@ -15,8 +15,8 @@ use Rattle.ob_ring.specs.Arrays.{leaf_in, leaf_of_entry}
 use Rattle.ob_ring.proofs.PathLaws.{IsFirst, find_some, find_none, found_live, none_live}
 use Rattle.ob_ring.proofs.TableLaws.{none_counted}
 use Rattle.ob_tables.specs.Content.{Content, Obeys, IsKeyOf, content_of}
-use Rattle.ob_taken.specs.Takes.{is_present}
-use Rattle.ob_values.proofs.Planned.{past_none}
+use Rattle.ob_epoch.specs.Takes.{is_present}
+use Rattle.ob_epoch.proofs.Planned.{past_none}
 use Rattle.ob_epoch.specs.Table.{IsTableOfContent, RingsStand, TablesAreRead, spot_in, spot_among, lying_place, row_for, flat_of}
 
 -- a key's bucket is one of the tree, and its index a real one

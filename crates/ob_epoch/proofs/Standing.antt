@@ -7,8 +7,8 @@ use Rattle.std.proofs.Common.{arith, refl, sym, ap, ◌∙◌, subst, inl, inr, 
 use Rattle.std.proofs.lemmas.Bool.{true≢false, false≢true, cases_lt}
 use Rattle.ob_base.specs.declared.params.Params.{Params}
 use Rattle.ob_base.specs.Tree.{buckets, passes}
-use Rattle.ob_bucket.specs.Version.{Version, key_at, used_at}
-use Rattle.ob_bucket.specs.Buckets.{Buckets, version_at}
+use Rattle.ob_tables.specs.Version.{Version, key_at, used_at}
+use Rattle.ob_tables.specs.Buckets.{Buckets, version_at}
 use Rattle.ob_tables.specs.declared.entry.Entry.{Entry}
 use Rattle.ob_tables.specs.Kept.{entry_at}
 use Rattle.ob_ring.specs.FlatTable.{FlatTable, Row, Spot, InStash, In, spot_of, leaf_of, reads}
@@ -18,15 +18,15 @@ use Rattle.ob_ring.specs.Laws.{IsOrderly}
 use Rattle.ob_ring.proofs.TableOf.{reads_are}
 use Rattle.ob_tables.specs.Content.{Content, Obeys, IsLoose}
 use Rattle.ob_tables.specs.Spelling.{slot_bytes}
-use Rattle.ob_taken.specs.Takes.{is_present}
-use Rattle.ob_taken.specs.Values.{Values}
-use Rattle.ob_values.specs.Carries.{Carries}
-use Rattle.ob_values.proofs.Planned.{past_none}
+use Rattle.ob_epoch.specs.Takes.{is_present}
+use Rattle.ob_epoch.specs.Values.{Values}
+use Rattle.ob_epoch.specs.Carries.{Carries}
+use Rattle.ob_epoch.proofs.Planned.{past_none}
 use Rattle.ob_epoch.specs.Table.{lying_place, row_for, flat_of}
 use Rattle.ob_epoch.specs.Valued.{IsSlotOf, IsValued, ContentsCarry, content_with, AreTablesFilled, TablesObey}
 use Rattle.ob_epoch.proofs.Reading.{holds, held, counted}
-use Rattle.ob_values.proofs.Refilling.{stash_not}
-use Rattle.ob_taken.proofs.Taking.{present_at}
+use Rattle.ob_epoch.proofs.Refilling.{stash_not}
+use Rattle.ob_epoch.proofs.Taking.{present_at}
 
 none_some : {X : Type 0} (o : Option X) (x : X) → o ≡ None → o ≡ Some x → ⊥
 none_some o x e f = absurd (cc)

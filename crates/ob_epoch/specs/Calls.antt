@@ -7,7 +7,7 @@ use Rattle.ob_base.specs.declared.value.Write.{Write}
 use Rattle.ob_base.specs.Layout.{slot_cell}
 use Rattle.ob_base.specs.Planned.{Planned}
 use Rattle.ob_base.specs.Tree.{buckets, width}
-use Rattle.ob_bucket.specs.Buckets.{Buckets, version_at}
+use Rattle.ob_tables.specs.Buckets.{Buckets, version_at}
 use Rattle.ob_tables.specs.declared.entry.Entry.{Entry}
 use Rattle.ob_schedule.specs.Paths.{eviction_path, is_one_of}
 use Rattle.ob_ring.specs.Fetching.{leaf_places}
@@ -17,11 +17,11 @@ use Rattle.ob_ring.specs.Picked.{SameSeals, batch_picked, final_picked}
 use Rattle.ob_ring.specs.Plain.{plain_for, key_of_index, index_with, without_buckets}
 use Rattle.ob_ring.specs.Ring.{IsBatch, IsLifting, IsListed, IsRing, Kept, StandsFor}
 use Rattle.ob_ring.specs.Writing.{write_at, writes_of}
-use Rattle.ob_values.specs.Carries.{AreRead}
-use Rattle.ob_values.specs.Epochs.{AreAllRead, Read, after_batches}
-use Rattle.ob_values.specs.Laws.{AreFit}
-use Rattle.ob_values.specs.Refilled.{IsRefilled}
-use Rattle.ob_values.specs.Runs.{AreRun, Plains, slots_of}
+use Rattle.ob_epoch.specs.Carries.{AreRead}
+use Rattle.ob_epoch.specs.Epochs.{AreAllRead, Read, after_batches}
+use Rattle.ob_epoch.specs.ValueLaws.{AreFit}
+use Rattle.ob_epoch.specs.Refilled.{IsRefilled}
+use Rattle.ob_epoch.specs.Runs.{AreRun, Plains, slots_of}
 use Rattle.ob_epoch.specs.Plans.{AreAllWhole}
 
 -- Jobs of a plan that were run have read the slots as they lay at the epoch's beginning, where the versions stayed as they were sealed.

@@ -2,9 +2,9 @@
 use Rattle.std.specs.Prelude.{◌≡◌, ℕ, Bool, List, [], length, Option}
 use Rattle.std.specs.List.{count_by}
 use Rattle.ob_base.specs.declared.params.Params.{Params}
-use Rattle.ob_bucket.specs.Rank.{IsRanking}
-use Rattle.ob_bucket.specs.Version.{Version, AreRanks, rank_at}
-use Rattle.ob_bucket.specs.Buckets.{Buckets, version_at}
+use Rattle.ob_tables.specs.Rank.{IsRanking}
+use Rattle.ob_tables.specs.Version.{Version, AreRanks, rank_at}
+use Rattle.ob_tables.specs.Buckets.{Buckets, version_at}
 use Rattle.ob_tables.specs.Content.{Content, Obeys}
 use Rattle.ob_schedule.specs.Schedule.{Public, after_end, counts_now}
 use Rattle.ob_ring.specs.Arrays.{AreWhole, IsTableOf, arrays_of, rest_of}

@@ -4,7 +4,7 @@ use Rattle.ob_base.specs.declared.params.Params.{Params}
 use Rattle.ob_base.specs.declared.job.Job.{Job}
 use Rattle.ob_base.specs.declared.value.Write.{Write}
 use Rattle.ob_base.specs.Tree.{buckets}
-use Rattle.ob_bucket.specs.Buckets.{Buckets, version_at}
+use Rattle.ob_tables.specs.Buckets.{Buckets, version_at}
 use Rattle.ob_tables.specs.Content.{Content, Rows, Obeys}
 use Rattle.ob_tables.specs.declared.entry.Entry.{Entry}
 use Rattle.ob_schedule.specs.Paths.{is_one_of}
@@ -12,10 +12,10 @@ use Rattle.ob_ring.specs.Arrays.{AreWhole, IsTableOf, arrays_of, rest_of}
 use Rattle.ob_ring.specs.Filling.{AreSealedAnew}
 use Rattle.ob_ring.specs.FlatTable.{refill_order, stash_size}
 use Rattle.ob_ring.specs.Picked.{SameSeals}
-use Rattle.ob_taken.specs.Goes.{Goes}
-use Rattle.ob_taken.specs.Values.{Values, with_writes}
-use Rattle.ob_values.specs.Carries.{Slots}
-use Rattle.ob_values.specs.Epochs.{Read, IsEpoch, after_epoch, before_refill}
+use Rattle.ob_epoch.specs.Goes.{Goes}
+use Rattle.ob_epoch.specs.Values.{Values, with_writes}
+use Rattle.ob_epoch.specs.Carries.{Slots}
+use Rattle.ob_epoch.specs.Epochs.{Read, IsEpoch, after_epoch, before_refill}
 use Rattle.ob_epoch.specs.Numbers.{IsKnown, KnowsBook}
 use Rattle.ob_epoch.specs.Table.{flat_of}
 use Rattle.ob_epoch.specs.Valued.{IsValued, content_with}

@@ -4,19 +4,19 @@ use Rattle.std.specs.Prelude.{◌≡◌, ℕ, Bool, true, false, List, [], ◌�
 use Rattle.std.specs.declared.option.Option.TheVariants.{None}
 use Rattle.std.specs.FinMap as finite
 use Rattle.ob_base.specs.declared.params.Params.{Params}
-use Rattle.ob_bucket.specs.Version.{Version, EMPTY}
-use Rattle.ob_bucket.specs.Buckets.{Buckets}
+use Rattle.ob_tables.specs.Version.{Version, EMPTY}
+use Rattle.ob_tables.specs.Buckets.{Buckets}
 use Rattle.ob_tables.specs.Content.{Rows}
 use Rattle.ob_tables.specs.Spelling.{slot_bytes}
 use Rattle.ob_ring.specs.Ring.{Kept}
-use Rattle.ob_values.specs.Carries.{Slots}
-use Rattle.ob_values.specs.Epochs.{before_refill}
-use Rattle.ob_values.specs.Runs.{Plains}
-use Rattle.ob_values.specs.Samples.{numbers_of}
+use Rattle.ob_epoch.specs.Carries.{Slots}
+use Rattle.ob_epoch.specs.Epochs.{before_refill}
+use Rattle.ob_epoch.specs.Runs.{Plains}
+use Rattle.ob_epoch.specs.ValueSamples.{numbers_of}
 use Rattle.ob_epoch.specs.Calls.{AreSlotsWritten, RefillsRing}
 use Rattle.ob_epoch.specs.Counts.{IsEndPublic, public_of}
 use Rattle.ob_epoch.specs.Ends.{IsNext, IsRunFrom, RefillRun}
-use Rattle.ob_epoch.specs.Samples.{end_version, format_version, formatted}
+use Rattle.ob_epoch.specs.ContentSamples.{end_version, format_version, formatted}
 use Rattle.ob_epoch.specs.Table.{flat_of}
 use Rattle.ob_epoch.specs.Valued.{content_with}
 

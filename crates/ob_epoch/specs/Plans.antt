@@ -2,8 +2,8 @@
 use Rattle.std.specs.Prelude.{◌≡◌, ℕ, ◌-◌, ◌<◌, true, false, List, length}
 use Rattle.ob_base.specs.declared.params.Params.{Params}
 use Rattle.ob_base.specs.Tree.{buckets}
-use Rattle.ob_bucket.specs.Version.{IsWhole}
-use Rattle.ob_bucket.specs.Buckets.{Buckets, version_at}
+use Rattle.ob_tables.specs.Version.{IsWhole}
+use Rattle.ob_tables.specs.Buckets.{Buckets, version_at}
 use Rattle.ob_schedule.specs.Paths.{is_one_of}
 use Rattle.ob_ring.specs.Arrays.{AreWhole, IsTableOf, Rest, arrays_of}
 use Rattle.ob_ring.specs.Filling.{AreSealedAnew}

@@ -4,8 +4,8 @@ use Rattle.std.specs.declared.option.Option.TheVariants.{None, Some}
 use Rattle.std.specs.List.{find}
 use Rattle.ob_base.specs.declared.params.Params.{Params}
 use Rattle.ob_base.specs.Tree.{buckets, below}
-use Rattle.ob_bucket.specs.Version.{Version, used_at, live_index}
-use Rattle.ob_bucket.specs.Buckets.{Buckets, version_at, is_lifted}
+use Rattle.ob_tables.specs.Version.{Version, used_at, live_index}
+use Rattle.ob_tables.specs.Buckets.{Buckets, version_at, is_lifted}
 use Rattle.ob_tables.specs.Content.{Content, Obeys, content_of}
 use Rattle.ob_tables.specs.declared.entry.Entry.{Entry}
 use Rattle.ob_tables.specs.declared.tables.Tables.{Tables}
@@ -14,7 +14,7 @@ use Rattle.ob_ring.specs.Arrays.{IsTableOf, arrays_of, rest_of}
 use Rattle.ob_ring.specs.FlatTable.{FlatTable, Row, Spot, InStash, In}
 use Rattle.ob_ring.specs.Laws.{IsOrderly}
 use Rattle.ob_ring.specs.Ring.{Kept, StandsFor}
-use Rattle.ob_taken.specs.Takes.{is_present}
+use Rattle.ob_epoch.specs.Takes.{is_present}
 
 -- the buckets as an opening reads them: none is lifted, none is listed
 abbrev pub buckets_of : Params → Content → Buckets

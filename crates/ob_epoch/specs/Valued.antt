@@ -6,8 +6,8 @@ use Rattle.ob_base.specs.declared.params.Params.{Params}
 use Rattle.ob_base.specs.declared.job.Job.{Job}
 use Rattle.ob_base.specs.declared.value.Write.{Write}
 use Rattle.ob_base.specs.Tree.{buckets}
-use Rattle.ob_bucket.specs.Version.{IsWhole, key_at}
-use Rattle.ob_bucket.specs.Buckets.{Buckets, version_at}
+use Rattle.ob_tables.specs.Version.{IsWhole, key_at}
+use Rattle.ob_tables.specs.Buckets.{Buckets, version_at}
 use Rattle.ob_tables.specs.Content.{Content, Rows, FitsBook, FitsSeals, Obeys}
 use Rattle.ob_tables.specs.Spelling.{slot_bytes}
 use Rattle.ob_tables.specs.declared.entry.Entry.{Entry}
@@ -15,9 +15,9 @@ use Rattle.ob_tables.specs.Kept.{entry_at}
 use Rattle.ob_ring.specs.Arrays.{AreWhole, IsTableOf, arrays_of, rest_of}
 use Rattle.ob_ring.specs.FlatTable.{FlatTable}
 use Rattle.ob_ring.specs.Laws.{IsOrderly}
-use Rattle.ob_taken.specs.Values.{Values, with_writes}
-use Rattle.ob_values.specs.Carries.{Slots, Carries}
-use Rattle.ob_values.specs.Epochs.{Read, IsEpoch, after_epoch}
+use Rattle.ob_epoch.specs.Values.{Values, with_writes}
+use Rattle.ob_epoch.specs.Carries.{Slots, Carries}
+use Rattle.ob_epoch.specs.Epochs.{Read, IsEpoch, after_epoch}
 use Rattle.ob_epoch.specs.Table.{flat_of}
 
 -- an index that holds a key has that key's row, with the map's value

@@ -1,19 +1,22 @@
 -- What a fetch tells, leaves and answers, by its parts.
-use Rattle.std.proofs.Common.{◌≡◌, inl, inr, ℕ, suc, ◌+◌, ◌%◌, ◌^◌, ◌≤◌, Bool, true, false, MatchBool, List, [], ◌∷◌, ◌++◌, Option, None, Result, Err, length, length-append, refl, sym, ap, ◌∙◌, subst, arith}
+use Rattle.std.proofs.Common.{◌≡◌, inl, inr, ℕ, suc, ◌+◌, ◌%◌, ◌^◌, ◌<◌, ◌≤◌, Bool, true, false, MatchBool, List, [], ◌∷◌, ◌++◌, Option, None, Result, Err, length, length-append, refl, sym, ap, ◌∙◌, subst, arith}
 use Rattle.std.proofs.lemmas.Bool.{false≢true}
 use mathlib.Core.Path.{fun_ext}
 use Rattle.ob_base.specs.Layout.{log_cell, record_cells}
 use Rattle.ob_base.specs.declared.fault.Fault.{Fault}
 use Rattle.ob_base.specs.declared.fault.Fault.TheVariants.{Memory, Usage, BadScript, BadParams, NotStore, Damaged, StoreFault, StashFull, Worn, SourceFault, SinkFault}
 use Rattle.ob_base.specs.declared.params.Params.{Params}
-use Rattle.ob_bucket.specs.Version.{Version}
+use Rattle.ob_tables.specs.Buckets.{Buckets}
+use Rattle.ob_tables.specs.Version.{Version}
 use Rattle.ob_cells.specs.Writes.{WritesWithin}
 use Rattle.ob_tables.specs.Content.{Rows}
-use Rattle.ob_log.specs.Appends.{HoldsOneOf, IsAppendFault, IsWornOut, append_notes}
-use Rattle.ob_log.specs.Logs.{BatchRecord, OpenRecords}
-use Rattle.ob_recover.specs.Repeats.{BatchAnswers, BatchTells, IsRepeatFault, asked_of_record, batch_cells, record_of, repeated_notes}
+use Rattle.ob_epoch.specs.Table.{buckets_of, flat_of}
+use Rattle.ob_log.specs.Appends.{HoldsOneOf, HoldsRecord, IsAppendFault, IsWornOut, append_notes}
+use Rattle.ob_log.specs.Logs.{BatchRecord, OpenRecords, RecordObeys}
+use Rattle.ob_recover.specs.Repeats.{BatchAnswers, BatchTells, IsRepeatFault, asked_of_record, batch_cells, record_of, repeated_notes, table_after_records}
 use Rattle.ob_ring.specs.FlatTable.{FlatTable}
-use Rattle.ob_ring.specs.Ring.{Kept}
+use Rattle.ob_ring.specs.Picked.{SameSeals}
+use Rattle.ob_ring.specs.Ring.{Kept, StandsFor}
 use Rattle.ob_seal.specs.declared.keys.Keys.{Keys}
 use Rattle.ob_stand.proofs.AppendLaws.{appends_leave}
 use Rattle.ob_stand.proofs.Frames.{stands_all}
@@ -26,8 +29,8 @@ use Rattle.ob_store.specs.Lines.{Trace}
 use Rattle.ob_store.specs.Told.{TellsFirst}
 use Rattle.ob_store.specs.declared.event.Event.{Event}
 use Rattle.ob_store.specs.declared.watch.Note.{Note}
-use Rattle.ob_fetch.proofs.NextLaws.{Begun, at_batch, batch_is, may}
-use Rattle.ob_fetch.specs.Fetches.{DrawsWords, FetchAnswers, FetchDoes, FetchDraws, RunIsAt, IsFetchRefusal, IsLoggedFirst, IsWornForBatch, MovesPlanner, next_batch, words_since}
+use Rattle.ob_fetch.proofs.NextLaws.{Begun, at_batch, batch_is, may, seals_listed, stands_listed}
+use Rattle.ob_fetch.specs.Fetches.{DrawsWords, FetchAnswers, FetchDoes, FetchDraws, RunIsAt, IsFetchRefusal, IsLoggedFirst, IsWornForBatch, MovesPlanner, next_batch, record_next, words_since}
 use Rattle.ob_fetch.specs.declared.run.Run.{Run}
 
 -- ---- refusals, by their kind
@@ -68,6 +71,15 @@ pub enough_left : (run : Run) (worn : Bool) → worn ≡ false
 enough_left run true is none worn = absurd (false≢true (sym is))
 enough_left run false is (words, seals) (inl more) = omega arith
 enough_left run false is (words, seals) (inr more) = omega arith
+
+pub left_for : (run : Run) (worn : Bool) → worn ≡ false → MatchBool worn (IsWornForBatch run) ((run.drawn + (run.params).places ≤ 2 ^ 62) × ((run.sealer).next + record_cells run.params ≤ 2 ^ 62))
+    → (run.drawn + (run.params).places ≤ 2 ^ 62) × ((run.sealer).next + record_cells run.params ≤ 2 ^ 62)
+left_for run true is none = absurd (false≢true (sym is))
+left_for run false is left = left
+
+pub worn_for : (run : Run) (worn : Bool) → worn ≡ true → MatchBool worn (IsWornForBatch run) ((run.drawn + (run.params).places ≤ 2 ^ 62) × ((run.sealer).next + record_cells run.params ≤ 2 ^ 62)) → IsWornForBatch run
+worn_for run true is worn = worn
+worn_for run false is worn = absurd (false≢true is)
 
 -- an append for which there are seals
 pub append_fault : (f : Fault) → IsAppendFault f → (IsWornOut (Err f) → ⊥) → f ≡ StoreFault None
@@ -205,6 +217,23 @@ RecordStep run epoch = SameOff (log_cell run.params (epoch % 2) (next_batch run)
 pub within_next : (run : Run) (old new : Disk) → WritesWithin (log_cell run.params ((run.epoch + 1) % 2) (next_batch run) 0) (record_cells run.params + 1) old new
     → WritesWithin (log_cell run.params (suc run.epoch % 2) (next_batch run) 0) (record_cells run.params + 1) old new
 within_next run old new within = subst (λ (e : ℕ). WritesWithin (log_cell run.params (e % 2) (next_batch run) 0) (record_cells run.params + 1) old new) (next_is run.epoch) within
+
+pub begun_now : (run : Run) (asks : List (Option ℕ)) (words : List ℕ) (old new : Disk) → 0 < run.left → run.left ≤ (run.params).batches → RecordObeys run.params (next_batch run) (record_next run asks words)
+    → WritesWithin (log_cell run.params (suc run.epoch % 2) (next_batch run) 0) (record_cells run.params + 1) old new → old.tells → Begun run (record_next run asks words) old new
+begun_now run asks words old new some few obeys within tells = record { some = some; few = few; is = refl; obeys = obeys; within = within.rest tells }
+
+-- its record stays while it is read
+pub written_still : (keys : Keys) (p : Params) (epoch batch : ℕ) (r : BatchRecord) (mid new : Disk) → mid.tells → Keeps mid new → HoldsRecord keys p (epoch + 1) batch r mid.cells → HoldsRecord keys p (suc epoch) batch r new.cells
+written_still keys p epoch batch r mid new told keeps held =
+    subst (λ (image : Image). HoldsRecord keys p (suc epoch) batch r image) (sym (cells_same mid new told keeps)) (subst (λ (e : ℕ). HoldsRecord keys p e batch r mid.cells) (next_is epoch) held)
+
+-- what is answered of the buckets as the store that stood has them
+pub value_stood : (run : Run) (s : RingStanding) (old : Disk) (was : RunIsAt run s old) (image : Image) (r : BatchRecord) (rows' : Rows) (x : Result (Unit {0}) Fault)
+    → ((start : Buckets) (t : FlatTable) → SameSeals start (run.ring).metas → StandsFor run.ring t → old.tells → FetchAnswers (run.sealer).keys run.params start.versions image t r ((run.ring).stash).rows rows' x)
+    → FetchAnswers (run.sealer).keys run.params (s.content).versions image (table_after_records run.params (flat_of run.params s.content) s.records) r ((run.ring).stash).rows rows' x
+value_stood run s old was image r rows' x told =
+    let t = table_after_records run.params (flat_of run.params s.content) s.records in
+    told (record (buckets_of run.params s.content) { order = ((run.ring).metas).order }) t (seals_listed (buckets_of run.params s.content) run.ring was.runs.planner.seals) (stands_listed run.ring t was.runs.planner.table) was.tells
 
 module _ (run : Run) (s : RingStanding) (r : BatchRecord) (old mid : Disk) (was : RunIsAt run s old) (begun : Begun run r old mid) where
   -- the open records, as the call was told of them

@@ -8,8 +8,8 @@ use mathlib.Core.Path.{fun_ext}
 use Rattle.ob_base.specs.declared.params.Params.{Params}
 use Rattle.ob_base.specs.Layout.{record_cells, log_cells, log_cell, log_gate, slot_cell}
 use Rattle.ob_base.proofs.LayoutLaws.{area_le, log_lies, row_fits}
-use Rattle.ob_bucket.specs.Buckets.{version_at}
-use Rattle.ob_bucket.specs.Version.{rank_at}
+use Rattle.ob_tables.specs.Buckets.{version_at}
+use Rattle.ob_tables.specs.Version.{rank_at}
 use Rattle.ob_tables.specs.Content.{Content}
 use Rattle.ob_log.specs.Appends.{HoldsRecord}
 use Rattle.ob_log.specs.Logs.{BatchRecord, RecordObeys, OpenRecords, SpellsRecord, record_at, nothing}

@@ -6,7 +6,7 @@ use Rattle.ob_base.specs.declared.fault.Fault.{Fault}
 use Rattle.ob_base.specs.declared.fault.Fault.TheVariants as fault
 use Rattle.ob_base.specs.Layout.{record_cells}
 use Rattle.ob_base.specs.Planned.{most_jobs}
-use Rattle.ob_bucket.specs.Version.{Version}
+use Rattle.ob_tables.specs.Version.{Version}
 use Rattle.ob_tables.specs.Content.{Rows}
 use Rattle.ob_epoch.specs.Table.{flat_of}
 use Rattle.ob_log.specs.Appends.{append_notes}
@@ -27,8 +27,8 @@ use Rattle.ob_store.specs.Told.{IsCut, Tells, TellsFirst}
 use Rattle.ob_store.specs.declared.event.Event.{Event}
 use Rattle.ob_store.specs.declared.watch.Note.{Note}
 use Rattle.ob_tables.specs.Kept.{entry_at}
-use Rattle.ob_taken.specs.Values.{Values}
-use Rattle.ob_values.specs.Runs.{slots_of}
+use Rattle.ob_epoch.specs.Values.{Values}
+use Rattle.ob_epoch.specs.Runs.{slots_of}
 use Rattle.ob_fetch.specs.declared.run.Run.{Run}
 
 -- ---- what is drawn

@@ -3,7 +3,7 @@
 ghost use Rattle.std.specs.Prelude.{◌≡◌, ◌↔◌, ◌<◌, ◌≤◌, ◌+◌, ◌%◌, ◌^◌, ℕ, suc, false, true, List, [], ◌∷◌, ◌++◌, length, OnOk, OnErr, IfErr};
 ghost use Rattle.ob_base.specs.Layout.{log_cell, record_cells};
 ghost use Rattle.ob_base.specs.Planned.{most_jobs};
-ghost use Rattle.ob_bucket.specs.Buckets.{Buckets};
+ghost use Rattle.ob_tables.specs.Buckets.{Buckets};
 ghost use Rattle.ob_cells.specs.Writes.{Seals, WritesWithin};
 ghost use Rattle.ob_tables.specs.Content.{Content};
 ghost use Rattle.ob_log.specs.Appends.{IsWornOut, append_notes};
@@ -29,7 +29,7 @@ use crate::beginning::{begin_batch, is_worn};
 use crate::drawing::front;
 use crate::run::Run;
 use ob_base::{Fault, Key, NUMBER_LIMIT, Value};
-use ob_batch::Crew;
+use ob_cells::Crew;
 use ob_recover::read_batch;
 use ob_store::{Store, Watch};
 use ob_tape::Tape;
@@ -165,7 +165,7 @@ pub fn fetch<S: Store, T: Tape, W: Watch>(
     }
     let first = run.drawn;
     run.drawn += run.params.places as u64;
-    begin_batch(
+    match begin_batch(
         store,
         tape,
         &mut run.sealer,
@@ -176,7 +176,10 @@ pub fn fetch<S: Store, T: Tape, W: Watch>(
         first,
         asks,
         watch,
-    )?;
+    ) {
+        Ok(()) => {}
+        Err(fault) => return Err(fault),
+    }
     match read_batch(
         store,
         crew,

@@ -11,16 +11,13 @@ use ob_store::Store;
 use std::alloc::{AllocError, Global};
 use std::fs::File;
 use std::rt::Files;
-use thiserror::Error;
 
 /// Why a store's file was not opened.
-#[derive(Debug, Drop, Error)]
+#[derive(Drop)]
 pub enum OpenErr {
     /// Memory was wanting.
-    #[error(transparent)]
-    Memory(#[from(alloc)] AllocError),
+    Memory(AllocError),
     /// The file can't be opened for reading and writing, or another has it locked.
-    #[error("the file was not opened")]
     Failed,
 }
 
@@ -59,9 +56,13 @@ impl<R: Files<File = File>> FileStore<R> {
         R: Drop,
         ensures { IfOk result (λ s. s.faults ≡ 0) }
     {
-        let path = String::from_str(alloc, path)?;
-        let Ok((file, node)) = open_cells(&rt, path.as_str(), create) else {
-            return Err(OpenErr::Failed);
+        let path = match String::from_str(alloc, path) {
+            Ok(path) => path,
+            Err(wanting) => return Err(OpenErr::Memory(wanting)),
+        };
+        let (file, node) = match open_cells(&rt, path.as_str(), create) {
+            Ok(opened) => opened,
+            Err(Failed) => return Err(OpenErr::Failed),
         };
         if file.try_lock().is_err() {
             return Err(OpenErr::Failed);

@@ -97,7 +97,7 @@ fn one_epoch<W: Watch>(
     watch: &mut W,
 ) -> Result<(), EndErr> {
     for (key, wanted) in asks {
-        assert_eq!(rt; ask(rt, vault, *key, watch), *wanted);
+        assert!(rt; ask(rt, vault, *key, watch) == *wanted);
     }
     end_with(rt, vault, write, watch)
 }
@@ -331,9 +331,8 @@ fn crash_everywhere(
     for moment in 30..64 {
         let epoch = u64::from(moment >= ended.0) + u64::from(moment >= ended.1);
         let value = if epoch == 0 { None } else { Value::new(b"hi") };
-        assert_eq!(rt;
-            kept_after(rt, alloc, store, moment, filling),
-            (epoch, value, true),
+        assert!(rt;
+            kept_after(rt, alloc, store, moment, filling) == (epoch, value, true),
             "at {moment}"
         );
     }
@@ -380,7 +379,7 @@ const FAILING: [(Fail, Result<(), EndErr>); 8] = [
 #[test]
 fn a_failing_call_of_an_end_is_told(rt: HostRuntime) {
     for (fail, want) in FAILING {
-        assert_eq!(rt; first_end(&rt, rt.alloc(), fail), want, "at {fail:?}");
+        assert!(rt; first_end(&rt, rt.alloc(), fail) == want, "at {fail:?}");
     }
 }
 
@@ -455,9 +454,8 @@ fn a_damaged_tag_is_told(rt: HostRuntime) -> Result<(), Broken> {
         let mut bytes = bytes_in(&rt, &mut formatted(&rt, alloc), cell);
         assert!(rt; place < 128);
         bytes[place] ^= 1;
-        assert_eq!(rt;
-            refused_with(&rt, alloc, cell, &bytes),
-            damaged(cell, Check::Tag, kept, computed),
+        assert!(rt;
+            refused_with(&rt, alloc, cell, &bytes) == damaged(cell, Check::Tag, kept, computed),
             "cell {cell}"
         );
     }
@@ -470,7 +468,7 @@ fn sealed(rt: &impl Abort, cell: u64, generation: u64, number: u64, plain: &[u8;
     for _ in 0..number {
         assert!(rt; sealer.seal(0, plain).is_ok());
     }
-    sealer.seal(cell, plain).expect(rt, "a seal")
+    sealer.seal(cell, plain).ok().expect(rt, "a seal")
 }
 
 // What a cell of a formatted store holds instead.
@@ -602,9 +600,8 @@ const BENT: [(u64, Bent, Option<Told>); 11] = [
 fn damage_is_named(rt: HostRuntime) -> Result<(), Broken> {
     for (cell, bent, wanted) in BENT {
         let bytes = bent_bytes(&rt, cell, &bent);
-        assert_eq!(rt;
-            refused_with(&rt, rt.alloc(), cell, &bytes),
-            fault_of(wanted),
+        assert!(rt;
+            refused_with(&rt, rt.alloc(), cell, &bytes) == fault_of(wanted),
             "cell {cell}"
         );
     }
@@ -618,7 +615,7 @@ const LAST: [u8; 8] = [0xFF, 0xFF, 0xFF, 0xFF, 0xFF, 0xFF, 0xFF, 0x3F];
 fn the_last_numbers_are_worn(rt: HostRuntime) -> Result<(), Broken> {
     let alloc = rt.alloc();
     let worn = Fault::Worn { number: 1 << 62 };
-    assert_eq!(rt; refused_with(&rt, alloc, 3, &stamped(3, &LAST)), worn);
+    assert!(rt; refused_with(&rt, alloc, 3, &stamped(3, &LAST)) == worn);
     let mut store = formatted(&rt, alloc);
     two_epochs(&rt, alloc, &mut store, &mut Blind);
     let mut store = store.crash(1000, &[])?;

@@ -17,7 +17,7 @@ pub enum Line {
 }
 
 /// What may stand next, beside the beginning of a run or of a format.
-#[derive(Clone, Copy, PartialEq, Eq)]
+#[derive(Clone, Copy)]
 pub enum Wanted {
     /// Nothing: only a run or a format may begin.
     Start,

@@ -135,7 +135,6 @@ impl Runs {
     pub fn append(&mut self, mut more: Runs) -> Result<(), AllocError>
         ensures { OnOk result (self.new ≡ self.old ++ more) }
     {
-        self.list.append(&mut more.list)?;
-        Ok(())
+        self.list.append(&mut more.list)
     }
 }

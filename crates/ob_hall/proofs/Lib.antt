@@ -6,13 +6,10 @@ pub mod Making
 pub mod Turning
 pub mod Seating
 pub mod Chaining
-pub mod Asking
 pub mod Gathering
 pub mod Stepping
-pub mod Afterwards
 pub mod Keeping
 pub mod Rounds
 pub mod Sent
 pub mod Trying
-pub mod Counting
 pub mod Visiting

@@ -1,21 +1,14 @@
 -- What a client's call at the hall needs, and what it does and answers.
-use Rattle.std.specs.Prelude.{◌≡◌, ◌⊎◌, ℕ, false, List, [], ◌∷◌, ◌++◌, Option, Some, None, Result, Ok, Err}
+use Rattle.std.specs.Prelude.{◌≡◌, ◌⊎◌, ℕ, false, List, [], ◌∷◌, ◌++◌, Some, None}
 use mathlib.Core.List.{IsPrefix}
-use Rattle.ob_desk.specs.Desk as desk
-use Rattle.ob_desk.specs.Desk.{DeskState, Call, Reply}
-use Rattle.ob_desk.specs.Calls.{begun_reply}
-use Rattle.ob_desk.specs.declared.calls.Begun.{Begun as CodeBegun}
-use Rattle.ob_desk.specs.declared.calls.Begun.TheVariants as begun
+use Rattle.ob_desk.specs.Desk.{DeskState}
 use Rattle.ob_desk.specs.declared.calls.Txn.{Txn}
-use Rattle.ob_base.specs.declared.fault.Memory.{Memory}
 use Rattle.ob_serial.specs.declared.records.Why.{Why}
 use Rattle.ob_serial.specs.declared.records.Outcome.{Outcome}
 use Rattle.ob_serial.specs.declared.records.Outcome.TheVariants.{Aborted as AbortedBy}
 use Rattle.ob_session.specs.Clients.{Told, told_of, last_of, has_signed_off}
 use Rattle.ob_turn.specs.declared.turn.Entry.{Entry}
 use Rattle.ob_turn.specs.History.{entries_of}
-use Rattle.ob_hall.specs.declared.calls.Refused.{Refused}
-use Rattle.ob_hall.specs.declared.calls.Refused.TheVariants as refused
 use Rattle.ob_hall.specs.Passes.{Steps, Hall, Pass, pass_place, history_of, entries_by, calls_in, said_of, last_of_pass, IsPassOf, IsOutOfTurn, IsClients, IsLegal}
 
 -- A client's pass at this hall, in no turn.
@@ -58,27 +51,6 @@ pub record MakesCalls (hall : Hall) (before after : Pass) (calls : Steps) : Type
   pub place : pass_place after ≡ pass_place before
   pub client : after.client ≡ before.client
 
--- what a begin calls, where it is answered so
-abbrev pub BeginSays : ℕ → Result CodeBegun Memory → Steps → Type 0
-BeginSays client (Ok reply) calls = calls ≡ (desk.Begin client, begun_reply reply) ∷ []
-BeginSays client (Err memory) calls = calls ≡ []
-
--- the last transaction behind a begin that was answered so
-abbrev pub last_begun : Option Txn → Result CodeBegun Memory → Option Txn
-last_begun last (Ok (begun.Txn x)) = Some x
-last_begun last _ = last
-
--- the transaction that began is the client's
-abbrev pub IsNamed : ℕ → Result CodeBegun Memory → Type 0
-IsNamed client (Ok (begun.Txn x)) = x.client ≡ client
-IsNamed client _ = Unit {0}
-
--- what a put or a delete calls, where it is answered so
-abbrev pub WriteSays : Txn → ℕ → Option (List ℕ) → Result (Unit {0}) Refused → Steps → Type 0
-WriteSays x key value (Ok done) calls = calls ≡ (desk.Write x key value, desk.Done) ∷ []
-WriteSays x key value (Err (refused.Aborted why)) calls = calls ≡ (desk.Write x key value, desk.Aborted why) ∷ []
-WriteSays x key value (Err refused.Memory) calls = calls ≡ []
-
 -- these calls were made, and have these answers
 pub record TellsCalls (hall : Hall) (before after : Pass) (Says : Steps → Type 0) : Type 0 where
   pub calls : Steps
@@ -99,18 +71,3 @@ HasNotSignedOff pass = has_signed_off (said_of pass) ≡ false
 -- where it stood it stands still
 abbrev pub StandsAs : Pass → Pass → Type 0
 StandsAs before after = (IsBetween before → IsBetween after) × ((x : Txn) → IsIn before x → IsIn after x)
-
--- behind a begin that is answered so
-abbrev pub BeginStands : Result CodeBegun Memory → Pass → Type 0
-BeginStands (Ok (begun.Txn x)) after = IsIn after x × HasNotSignedOff after
-BeginStands (Ok (begun.Stopped fault)) after = IsBetween after
-BeginStands (Err memory) after = IsBetween after
-
--- where it was aborted
-abbrev pub IfAborted : {A : Type 0} → Result A Refused → Type 0 → Type 0
-IfAborted (Err (refused.Aborted why)) P = P
-IfAborted _ P = Unit {0}
-
--- Behind a get, a put or a delete that is answered so it still is in its transaction; where that was aborted, it is over.
-abbrev pub StaysIn : {A : Type 0} → Result A Refused → Pass → Pass → Txn → Type 0
-StaysIn result before after x = IsIn after x × (HasNotSignedOff before → HasNotSignedOff after) × IfAborted result (HasNotSignedOff before → IsBetween after)

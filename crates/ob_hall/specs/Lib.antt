@@ -2,7 +2,6 @@ pub mod Noting
 pub mod Turns
 pub mod Passes
 pub mod Calling
-pub mod Waiting
 pub mod Driving
 pub mod Laws
 pub mod Opening

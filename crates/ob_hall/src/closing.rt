@@ -36,6 +36,7 @@ impl Hall {
             turn.join(&mut seat, its_seat);
             bell.join(&mut ear, its_ear);
         }
+        passes.destroy_empty();
         bell.close_with(ear);
         turn.close_with(seat)
     }

@@ -1,4 +1,4 @@
-//! The calls of the driver of epochs, and the bell.
+//! Turns at a hall, the bell, and the words on which callers sleep.
 
 ghost use Rattle.std.specs.Prelude.{◌≡◌, ◌≤◌, [], ◌∷◌, ◌++◌, true};
 ghost use Rattle.ob_turn.specs.History.{IsAt};
@@ -20,21 +20,13 @@ use std::time::Duration;
 // The driver looks again after at most so many milliseconds.
 const REST: u64 = 10;
 
-impl Hall {
-    /// Waits for the pass's turn, and takes the desk out. The pass has then seen the whole history,
-    /// which leads to the desk.
-    pub fn enter<R: Wait>(&self, rt: &R, pass: &mut Pass) -> Desk
-        requires own { IsPassOf self.now pass.old }
-        requires idle { IsOutOfTurn pass.old }
-        ensures entered { EntersTurn self.now pass.old pass.new result }
-        ensures own { IsPassOf self.now pass.new }
-    {
-        self.turn.take(rt, &mut pass.seat)
-    }
+// A caller that waits asks again after at most so many milliseconds.
+const NAP: u64 = 50;
 
-    /// Waits for the pass's turn, as `enter` does, and tells with the desk how many turns there are
-    /// with this one. It stands behind all those of which the caller was told, by this pass or
-    /// another one.
+impl Hall {
+    /// Waits for the pass's turn, takes the desk out, and tells with it how many turns there are
+    /// with this one. The pass has then seen the whole history, which leads to the desk. The turn
+    /// stands behind all those of which the caller was told, by this pass or another one.
     pub fn enter_behind<R: Wait>(&self, rt: &R, pass: &mut Pass, told: u64) -> (Desk, u64)
         requires own { IsPassOf self.now pass.old }
         requires idle { IsOutOfTurn pass.old }
@@ -70,8 +62,8 @@ impl Hall {
         self.turn.put(&mut pass.seat, desk, last)
     }
 
-    // Ends a client's turn with what it did.
-    pub(crate) fn leave_client(&self, pass: &mut Pass, desk: Desk, made: Made)
+    /// Ends a client's turn with what it did.
+    pub fn leave_client(&self, pass: &mut Pass, desk: Desk, made: Made)
         requires own { IsPassOf self.now pass.old }
         requires inside { IsInside pass.old.seat }
         requires desk { IsAt IsTurn pass.old.seat.me.0
@@ -103,6 +95,25 @@ impl Hall {
         ensures own { IsPassOf self.now pass.new }
     {
         self.bell.raise(&mut pass.ear, epoch)
+    }
+
+    // Wakes the driver, where it sleeps: a call waits, or a client is done.
+    pub(crate) fn ask_driver(&self) {
+        self.asks.fetch_add(1, SeqCst);
+        self.asks.wake_all();
+    }
+
+    /// How often the driver had news for callers that sleep.
+    pub fn news(&self) -> u64 {
+        self.news.load(SeqCst)
+    }
+
+    /// Wakes the driver, and sleeps until it has news that weren't there yet when the caller read
+    /// `news`, or a while.
+    pub fn nap<R: Wait>(&self, rt: &R, seen: u64) {
+        self.ask_driver();
+        self.news
+            .park_timeout(rt, (seen % (1 << 32)) as u32, Duration::from_millis(NAP));
     }
 
     /// How often a client whose call waits, or that is done, has asked for the driver.

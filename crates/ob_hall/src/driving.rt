@@ -10,7 +10,6 @@ ghost use Rattle.ob_hall.specs.Driving.{TurnSays, DriveSays, MakesStep, MakesSte
 use crate::hall::{Hall, Pass};
 use ob_session::{Runner, Step};
 use std::sync::Wait;
-use std::sync::atomic::Ordering::SeqCst;
 
 /// One step of a runner, in one turn of its client's pass. The turn stands behind so many as the
 /// caller was told of in `turns`, by this pass or another one; behind it `turns` says how many
@@ -62,7 +61,7 @@ pub fn drive<R: Wait, U: Runner>(rt: &R, hall: &Hall, pass: &mut Pass, runner: &
 {
     let mut turns = 0;
     for _ in rt.forever() {
-        let seen = hall.news.load(SeqCst);
+        let seen = hall.news();
         match take_turn(rt, hall, pass, runner, &mut turns) {
             Step::Done => {
                 hall.ask_driver();

@@ -30,8 +30,10 @@ pub type Hall = Beside<Turn<Desk, Turned>, Bell, Snapshot<Desk>>;
 pub struct Held<A, B> {
     pub(crate) seat: A,
     pub(crate) ear: B,
-    pub(crate) client: u32,
-    pub(crate) last: Option<Txn>,
+    /// Its client's number, 0 of the driver's.
+    pub client: u32,
+    /// The last transaction that its client began.
+    pub last: Option<Txn>,
 }
 
 /// A caller's right to call at a hall. The driver's has number 0, a client's has its number.

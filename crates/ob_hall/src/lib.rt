@@ -6,19 +6,14 @@
 //! says where in it the call stands, and that its answer is the desk's there.
 #![tactic(auto)]
 
-mod calls;
 mod closing;
 mod driver;
 mod driving;
 mod hall;
 mod laws;
 mod opening;
-#[cfg(test)]
-mod tests;
 mod turned;
-mod waits;
 
-pub use calls::Refused;
 pub use driving::{drive, take_turn};
 pub use hall::{Beside, Hall, Held, Pass};
 pub use laws::{

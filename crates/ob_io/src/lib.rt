@@ -15,8 +15,6 @@ pub use standard::{StdSink, StdSource};
 #[cfg(test)]
 mod tests;
 
-use thiserror::Error;
-
 /// Bytes that come in.
 pub trait Source {
     /// What is left, where the source tells.
@@ -60,12 +58,10 @@ pub trait Sink {
 }
 
 /// Why a source wasn't read to its end.
-#[derive(Clone, Copy, Debug, PartialEq, Eq, Error)]
+#[derive(Clone, Copy)]
 pub enum ReadErr {
     /// Memory was wanting.
-    #[error("out of memory")]
     Memory,
     /// The source failed.
-    #[error("the source failed")]
     Failed,
 }

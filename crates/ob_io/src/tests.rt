@@ -2,7 +2,6 @@
 
 use crate::{ReadErr, StdSink, StdSource, put_all, read_all};
 use std::io::{self, ErrorKind, Read, Write};
-use std::test::Fail;
 
 // A reader of "abc": two bytes, an interruption, a byte, and then its end, or a failure.
 #[derive(Drop)]
@@ -58,29 +57,26 @@ impl Write for Narrow {
 }
 
 #[test]
-fn a_reader_of_std_is_read_to_its_end_or_its_failure(rt: HostRuntime) -> Result<(), Fail> {
+fn a_reader_of_std_is_read_to_its_end_or_its_failure(rt: HostRuntime) {
     let alloc = rt.alloc();
     let mut whole = StdSource::new(Halting {
         calls: 0,
         fails: false,
     });
-    let bytes = read_all(alloc, &mut whole, 100)?;
+    let bytes = read_all(alloc, &mut whole, 100).ok().expect(&rt, "bytes");
     assert!(rt; bytes.as_slice() == b"abc".as_slice());
     let mut front = StdSource::new(Halting {
         calls: 0,
         fails: false,
     });
-    let some = read_all(alloc, &mut front, 1)?;
+    let some = read_all(alloc, &mut front, 1).ok().expect(&rt, "bytes");
     assert!(rt; some.as_slice() == b"ab".as_slice());
     let mut failing = StdSource::new(Halting {
         calls: 0,
         fails: true,
     });
-    assert_eq!(rt;
-        read_all(alloc, &mut failing, 100).err(),
-        Some(ReadErr::Failed)
-    );
-    Ok(())
+    let failed = read_all(alloc, &mut failing, 100);
+    assert!(rt; matches!(failed, Err(ReadErr::Failed)));
 }
 
 #[test]

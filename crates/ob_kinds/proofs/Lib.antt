@@ -1,1 +1,11 @@
 pub mod Shapes
+pub mod Phasing
+pub mod Bounds
+pub mod Drawing
+pub mod Calling
+pub mod Founding
+pub mod Opening
+pub mod Refusing
+pub mod Begun
+pub mod Formatting
+pub mod Standing

@@ -3,7 +3,7 @@ use Rattle.std.proofs.Common.{◌≡◌, suc, List, [], ◌∷◌, ◌++◌, len
 use Rattle.std.proofs.lemmas.List.Concat.{flat_map-append}
 use Rattle.ob_serial.specs.Vaults.{VaultCall, Fetch, End, VaultAnswer, Values, Ended, RefusedBy, DoubtBy}
 use Rattle.ob_kinds.specs.Phases.{Phase, Shape, Fetches, Ends, answered, phase_events, events_of_phases, shape_of, shapes, refused}
-use Rattle.ob_kinds.specs.Laws.{AllAnswered}
+use Rattle.ob_kinds.specs.KindLaws.{AllAnswered}
 
 pub events_join : (xs ys : List Phase) → events_of_phases (xs ++ ys) ≡ events_of_phases xs ++ events_of_phases ys
 events_join xs ys = flat_map-append phase_events xs ys

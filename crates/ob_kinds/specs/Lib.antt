@@ -6,4 +6,10 @@ pub mod Steps
 pub mod Openings
 pub mod Formats
 pub mod Keeping
-pub mod Laws
+pub mod KindLaws
+pub mod Seen
+pub mod Hidden
+pub mod Causes
+pub mod RingKind
+pub mod RingSteps
+pub mod RingLaws

@@ -23,7 +23,7 @@ use Rattle.ob_store.specs.Calls.{Serves}
 use Rattle.ob_store.specs.declared.event.Event.{Event}
 use Rattle.ob_store.specs.Lines.{Trace}
 use Rattle.ob_store.specs.Told.{Tells, TellsFirst, Does}
-use Rattle.ob_store.proofs.Doing.{does_all, does_err, first_behind, tells_then}
+use Rattle.ob_store.proofs.Doing.{does_all, does_err, first_more, first_behind, tells_then}
 use Rattle.ob_store.proofs.Serving.{goes_then}
 use Rattle.ob_store.proofs.Moments.{passed_none, then_on, weakened, leaves_of, passed_then, passes_so}
 use Rattle.ob_twin.specs.Bodies.{open_gate}
@@ -262,6 +262,11 @@ module _ (p : Params) (epoch batch base many gate : ℕ) (base_is : base ≡ log
   pub notes_are : run_notes base many gate ≡ append_notes p epoch batch
   notes_are =
       ap (λ b. run_notes b many gate) base_is ∙ ap (λ n. run_notes (log_cell p (epoch % 2) batch 0) n gate) many_is ∙ ap (λ g. run_notes (log_cell p (epoch % 2) batch 0) (record_cells p) g) gate_is
+
+  -- the body was refused
+  pub told_body : (a b : Option (List Event)) (k l : Trace) (f : Fault) → TellsFirst (write_notes base many ++ Sync ∷ []) a b k l → Does {T = Unit {0}} {E = Fault} (append_notes p epoch batch) a b k l (Err f)
+  told_body a b k l f written = subst (λ (xs : List Note). Does {T = Unit {0}} {E = Fault} xs a b k l (Err f)) notes_are
+      (does_err a b k l (run_notes base many gate) f (first_more a b k l (write_notes base many ++ Sync ∷ []) (Write gate ∷ Sync ∷ []) written))
 
   module _ (a b c : Option (List Event)) (k l m : Trace) (body : Tells (write_notes base many ++ Sync ∷ []) (write_notes base many ++ Sync ∷ []) a b k l) where
     -- all went well

@@ -1,5 +1,6 @@
 pub mod Accepting
 pub mod AppendLaws
+pub mod AreaReads
 pub mod Apart
 pub mod Fitting
 pub mod OnceLaws

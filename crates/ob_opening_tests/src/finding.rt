@@ -227,10 +227,7 @@ fn a_plain_store_is_no_ring_store(rt: HostRuntime) {
     let mut bytes = [0; 128];
     bytes[..12].copy_from_slice(b"OBLADIST\x66\0\0\0");
     assert!(rt; store.write(0, &bytes).is_ok());
-    assert_eq!(rt;
-        head(&mut store, &test_keys(), &mut Blind).err(),
-        Some(Fault::NotStore)
-    );
+    assert!(rt; head(&mut store, &test_keys(), &mut Blind).err() == Some(Fault::NotStore));
 }
 
 const READ: [u64; 23] = [

@@ -6,7 +6,7 @@ use crate::small::{small_store, test_keys};
 use crate::two_epochs::CELLS;
 use hex::FromHex;
 use ob_base::Jobs;
-use ob_batch::Crew;
+use ob_cells::Crew;
 use ob_check::Sheet;
 use ob_mem::MemStore;
 use ob_recover::{find, replay};
@@ -51,6 +51,7 @@ fn record_batches(rt: &impl Abort, store: &mut MemStore, records: &[Spelled])
     for record in records {
         let body = sealer
             .seal(cell, &plain_of(rt, *record))
+            .ok()
             .expect(rt, "a seal");
         assert!(rt; store.write(cell, &body).is_ok());
         assert!(rt; store.write(cell.wrapping_add(1), &[0xA5; 128]).is_ok());

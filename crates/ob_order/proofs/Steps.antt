@@ -1,23 +1,46 @@
 -- The definitions one step on, in the form that a loop's step has.
-use Rattle.std.proofs.Common.{◌≡◌, ℕ, zero, suc, ◌+◌, ◌<◌, ◌≤◌, Bool, true, false, cond, if◌then◌else◌, List, [], ◌∷◌, ◌++◌, take, drop, get_or, length, append-nil, drop_of_length-le, Option, None, Some, option_map, option_and_then, unwrap_or, slice_get, refl, sym, ap, ap₂, ◌∙◌, arith, add-one}
+use Rattle.std.proofs.Common.{◌≡◌, ℕ, zero, suc, ◌+◌, ◌-◌, ◌<◌, ◌≤◌, Bool, true, false, cond, if◌then◌else◌, List, [], ◌∷◌, ◌++◌, take, drop, get_or, length, append-nil, drop_of_length-le, Option, None, Some, option_map, option_and_then, unwrap_or, slice_get, Bor, refl, sym, ap, ap₂, ◌∙◌, arith, add-one}
 use Rattle.std.proofs.Common.{nat_cmp, is_eq}
 use Rattle.std.specs.FinMap as finite
+use Rattle.std.specs.Slice.{IsItemAt}
 use Rattle.std.specs.FinMap.{get-from_entries}
 use Rattle.std.specs.Cmp.{nat_cmp_total}
 use Rattle.std.specs.Map.{lookup}
 use Rattle.std.specs.BTreeMap.{is_at}
 use Rattle.ob_order.specs.Order.{count_below}
-use Rattle.std.specs.Option.{option_or}
+use Rattle.std.specs.Option.{option_or, option_copied}
 use Rattle.std.specs.List.{find}
-use Rattle.std.proofs.lemmas.Option.{slice_get_read, slice_get_within, none-some}
+use Rattle.std.proofs.lemmas.Option.{slice_get_read, slice_get_past, slice_get_within, none-some}
 use Rattle.std.proofs.lemmas.Bool.{false≢true}
-use Rattle.ob_order.specs.Works.{Work, Version, is_going, at_ticket, edit, edit_index, version_in, newest, has_get, has_read, greatest, goes_on}
+use Rattle.ob_order.specs.Works.{Work, Version, is_going, at_ticket, waiting_at, edit, edit_index, version_in, newest, has_get, has_read, greatest, goes_on}
 
 next_at : {A : Type 0} (xs : List A) (n : ℕ) → at_ticket xs (n + 1) ≡ slice_get xs n
 next_at xs n = ap (at_ticket xs) (add-one n)
 
 there : {A : Type 0} (xs : List A) (n : ℕ) (x : A) → n < length xs → x ≡ get_or xs n x → at_ticket xs (n + 1) ≡ Some x
 there xs n x l e = next_at xs n ∙ slice_get_read xs (length xs) n x refl l e
+
+-- the item of a ticket, at the place where code looks
+pub at_before : {A : Type 0} (xs : List A) (t : ℕ) → 0 < t → at_ticket xs t ≡ slice_get xs (t - 1)
+at_before xs zero l = absurd (omega arith)
+at_before xs (suc n) l = ap (slice_get xs) (omega arith)
+
+-- what a look at a place finds
+pub looked_up : {A : Type 0} (xs : List A) (i : ℕ) (r : Option (Bor A)) → IsItemAt xs i r → option_copied r ≡ slice_get xs i
+looked_up xs i None h = sym (slice_get_past xs i h.3)
+looked_up xs i (Some x) h = sym (slice_get_read xs (length xs) i x.now refl h.3.0 h.1)
+
+-- the same of one that was drawn
+pub drawn_before : {A : Type 0} (xs : List A) (t : ℕ) (x : A) → 0 < t → t ≤ length xs → x ≡ get_or xs (t - 1) x → at_ticket xs t ≡ Some x
+drawn_before xs t x l g e = at_before xs t l ∙ slice_get_read xs (length xs) (t - 1) x refl (omega (arith, l, g)) e
+
+-- what one that was drawn waits for
+pub waits_before : (ws : List Work) (t : ℕ) (w : Work) → 0 < t → t ≤ length ws → w ≡ get_or ws (t - 1) w → waiting_at ws t ≡ w.waiting
+waits_before ws t w l g e = ap (option_and_then (λ x. x.waiting)) (drawn_before ws t w l g e)
+
+-- none has a ticket past the last one
+pub past_last : {A : Type 0} (xs : List A) (t : ℕ) → length xs < t → at_ticket xs t ≡ None
+past_last xs t l = at_before xs t (omega (arith, l)) ∙ slice_get_past xs (t - 1) (omega (arith, l))
 
 pub newest_more : (ws : List Work) (n k : ℕ) (w : Work) → n < length ws → w ≡ get_or ws n w → newest ws (n + 1) k ≡ option_or (option_map (λ v. let q : Version = record { source = n + 1; value = v } in q) (version_in w k)) (newest ws n k)
 newest_more ws n k w l e =

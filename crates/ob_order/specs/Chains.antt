@@ -1,4 +1,4 @@
--- How version chains with stored marks stand for the works: an index that computing afresh would give.
+-- Private: how version chains with stored marks stand for the works: an index that computing afresh would give.
 use Rattle.std.specs.Prelude.{ℕ, max, ◌≡◌, ◌<◌, ◌≤◌, nat_le, ◌==◌, if◌then◌else◌, List, [], ◌∷◌, Option, Some, None}
 use Rattle.std.specs.Option.{option_or, option_map}
 use Rattle.std.specs.List.{find}

@@ -3,7 +3,7 @@
 use ob_base::{Key, Value};
 
 /// A version of a key.
-#[derive(Clone, Copy, Debug, PartialEq, Eq)]
+#[derive(Clone, Copy)]
 pub struct Version {
     /// The ticket that wrote it, from 1, or 0 for the value that the epoch began with.
     pub source: u64,
@@ -12,7 +12,7 @@ pub struct Version {
 }
 
 /// What a get is answered.
-#[derive(Clone, Copy, Debug, PartialEq, Eq)]
+#[derive(Clone, Copy)]
 pub enum Read {
     /// The value, and the ticket whose version it is: 0 for the value that the epoch began with.
     Value { value: Option<Value>, source: u64 },
@@ -23,7 +23,7 @@ pub enum Read {
 }
 
 /// What a put or a delete is answered.
-#[derive(Clone, Copy, Debug, PartialEq, Eq)]
+#[derive(Clone, Copy)]
 pub enum Wrote {
     /// The key has this version.
     Yes,

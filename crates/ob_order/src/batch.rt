@@ -31,6 +31,6 @@ pub fn push_write(out: &mut Vec<Write>, key: Key, version: Option<Version>)
     let _told: Option<Value> = None;
     if let Some(version) = version {
         let value = version.value;
-        let _ = out.push(Write { key, value });
+        out.push_reserved(Write { key, value });
     }
 }

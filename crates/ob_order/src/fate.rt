@@ -1,7 +1,7 @@
 //! How a transaction stands in the order.
 
 /// How a transaction stands.
-#[derive(Clone, Copy, Debug, PartialEq, Eq)]
+#[derive(Clone, Copy)]
 pub enum Fate {
     /// It isn't aborted.
     Going,

@@ -67,7 +67,7 @@ impl Work {
     {
         // The prover has to see this type named here.
         let _told: Option<Value> = None;
-        let _ = self.ops.push(op);
+        self.ops.push_reserved(op);
         self.waiting = None;
     }
 
@@ -172,8 +172,7 @@ pub fn add_to(list: &mut Vec<Work>, t: usize, op: Op<Key>) -> Result<(), Memory>
     ensures ok { OnOk result (list.new.items ≡ works.with_op list.old.items t op) }
     ensures err { OnErr result (list.new.items ≡ list.old.items) }
 {
-    list[t - 1].push_op(op)?;
-    Ok(())
+    list[t - 1].push_op(op)
 }
 
 /// Appends to ticket t's operations the answer that it waits for.
@@ -191,8 +190,7 @@ pub fn make_wait(list: &mut Vec<Work>, t: usize, key: Key) -> Result<(), Memory>
     ensures ok { OnOk result (list.new.items ≡ works.edit (works.wait_for key) list.old.items t) }
     ensures err { OnErr result (list.new.items ≡ list.old.items) }
 {
-    list[t - 1].wait_for(key)?;
-    Ok(())
+    list[t - 1].wait_for(key)
 }
 
 /// Ticket t, which waits, waits for this key, or for none.

@@ -30,11 +30,59 @@ fn is_live<O: EpochOrder>(order: &O, t: u64) -> bool
     t != 0 && matches!(order.fate(t), Some(Fate::Going))
 }
 
-pub fn read<O: EpochOrder>(rt: &impl Abort, order: &mut O, t: u64, key: Key) -> Option<Read> {
+/// What a get is answered: the value and the ticket that it is of, or how many keys are queued and
+/// how many batches are left where it finds no place. Neither where it is queued.
+pub type Got = (Option<(Option<Value>, u64)>, Option<(u64, u64)>);
+
+fn got_of(read: &Read) -> Got {
+    match *read {
+        Read::Value { value, source } => (Some((value, source)), None),
+        Read::Queued => (None, None),
+        Read::Full { queued, left } => (None, Some((queued, left))),
+    }
+}
+
+/// What a write is answered: the key and its later reader, or how many keys have versions where it
+/// finds no place. Neither where the key has this version.
+pub type Put = (Option<(Key, u64)>, Option<u64>);
+
+/// The answer of a write.
+pub fn put_of(wrote: &Wrote) -> Put {
+    match *wrote {
+        Wrote::Yes => (None, None),
+        Wrote::Conflict { key, reader } => (Some((key, reader)), None),
+        Wrote::Full { keys } => (None, Some(keys)),
+    }
+}
+
+/// How a ticket stands: whether it goes on, and because of which it fell.
+pub type Stand = (bool, Option<u64>);
+
+/// How a ticket of this fate stands.
+pub fn stand_of(fate: &Fate) -> Stand {
+    match *fate {
+        Fate::Going => (true, None),
+        Fate::Ended => (false, None),
+        Fate::Fell { on } => (false, Some(on)),
+    }
+}
+
+/// How the ticket stands, where it was drawn.
+pub fn stand<O: EpochOrder>(order: &O, t: u64) -> Option<Stand> {
+    if t == 0 {
+        return None;
+    }
+    match order.fate(t) {
+        Some(fate) => Some(stand_of(&fate)),
+        None => None,
+    }
+}
+
+pub fn read<O: EpochOrder>(rt: &impl Abort, order: &mut O, t: u64, key: Key) -> Option<Got> {
     if !is_live(order, t) {
         return None;
     }
-    Some(order.read(t, key).expect(rt, "memory"))
+    Some(got_of(&order.read(t, key).expect(rt, "memory")))
 }
 
 pub fn write<O: EpochOrder>(
@@ -43,11 +91,11 @@ pub fn write<O: EpochOrder>(
     t: u64,
     key: Key,
     value: Option<Value>,
-) -> Option<Wrote> {
+) -> Option<Put> {
     if !is_live(order, t) {
         return None;
     }
-    Some(order.write(t, key, value).expect(rt, "memory"))
+    Some(put_of(&order.write(t, key, value).expect(rt, "memory")))
 }
 
 pub fn abort<O: EpochOrder>(order: &mut O, t: u64) {
@@ -57,12 +105,12 @@ pub fn abort<O: EpochOrder>(order: &mut O, t: u64) {
 }
 
 /// The poll of a ticket that isn't aborted and waits.
-pub fn again<O: EpochOrder>(order: &mut O, t: u64) -> Option<Read> {
+pub fn again<O: EpochOrder>(order: &mut O, t: u64) -> Option<Got> {
     if !is_live(order, t) {
         return None;
     }
     let key = order.waiting(t)?;
-    Some(order.again(t, key))
+    Some(got_of(&order.again(t, key)))
 }
 
 /// A batch is taken, and each of its keys is absent.

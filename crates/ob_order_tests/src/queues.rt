@@ -4,20 +4,42 @@ ghost use Rattle.std.specs.Prelude.{◌≡◌, ◌≤◌, ◌<◌, length};
 
 use ob_base::{Key, Params, Value};
 use ob_queue::Queue;
+use std::alloc::Global;
 use std::process::Abort;
 
-// A queue with batches of 2 places, 2 of which are left, and these keys asked for in turn.
-fn queue_of<R: AllocGlobal + Abort>(rt: &R, keys: &[Key]) -> Queue {
-    let params = Params::new(8, 2, 2, 3, 4, 2, 6, 2, 6).expect(rt, "parameters in range");
-    assert!(rt; params.batches >= 2);
-    let mut queue = Queue::new(rt.alloc(), &params, 2).expect(rt, "memory");
-    for key in keys {
-        queue.ask(*key).expect(rt, "memory");
-    }
-    queue
+// A call on a queue, and what it is answered.
+enum Row {
+    Ask(Key),
+    // The key that was queued last is queued no more.
+    TakeBack,
+    // A batch is taken, of these keys.
+    Take(Option<Key>, Option<Key>),
+    // A batch is taken, of these keys, each of which has the value, or none.
+    Round(Option<Key>, bool, Option<Key>, bool),
+    // So many batches are left in the next epoch.
+    Clear(u32),
+    // How many keys are queued and in flight, how many batches are left, and whether it is full.
+    Counts(u64, u64, u64, bool),
+    // Whether the key is queued or in flight.
+    Asked(Key, bool),
+    // Whether the key has the value, where it was delivered.
+    Base(Key, Option<bool>),
 }
 
-// How many keys are queued and in flight, how many batches are left, and whether it is full.
+// A batch is taken, and its keys have these values, if any.
+#[tactic(auto, using(ob_order::proofs::Batches::taken_in_flight, ob_order::proofs::Batches::none_of_length))]
+fn take(queue: &mut Queue, values: Option<[Option<Value>; 2]>) -> [Option<Key>; 2] {
+    let mut keys = [None; 2];
+    if queue.left() == 0 || queue.in_flight() != 0 || queue.params().places != 2 {
+        return keys;
+    }
+    queue.take_batch(&mut keys);
+    if let Some(values) = values {
+        queue.deliver(&keys, &values);
+    }
+    keys
+}
+
 fn counts(queue: &Queue) -> (u64, u64, u64, bool) {
     (
         queue.queued(),
@@ -27,90 +49,126 @@ fn counts(queue: &Queue) -> (u64, u64, u64, bool) {
     )
 }
 
-// A batch is taken.
-#[tactic(auto, using(ob_order::proofs::Batches::none_of_length))]
-fn take(queue: &mut Queue) -> [Option<Key>; 2] {
-    let mut keys = [None; 2];
-    if queue.left() != 0 && queue.in_flight() == 0 && queue.params().places == 2 {
-        queue.take_batch(&mut keys);
-    }
-    keys
+// The value, or none.
+fn value(some: bool) -> Option<Value> {
+    if some { Value::new(&[1, 2]) } else { None }
 }
 
-// A batch is taken, and its keys have these values.
-#[tactic(auto, using(ob_order::proofs::Batches::taken_in_flight, ob_order::proofs::Batches::none_of_length))]
-fn round(queue: &mut Queue, values: [Option<Value>; 2]) -> [Option<Key>; 2] {
-    let mut keys = [None; 2];
-    if queue.left() == 0 || queue.in_flight() != 0 || queue.params().places != 2 {
-        return keys;
-    }
-    queue.take_batch(&mut keys);
-    queue.deliver(&keys, &values);
-    keys
-}
-
-fn clear(queue: &mut Queue, left: u32) {
-    if left <= queue.params().batches {
-        queue.clear(left);
+// Whether the key has the value, where it was delivered.
+fn is_base(queue: &Queue, key: Key, wanted: Option<bool>) -> bool {
+    match (queue.base(key), wanted) {
+        (Some(found), Some(some)) => found == value(some),
+        (None, None) => true,
+        _ => false,
     }
 }
 
-fn take_back(queue: &mut Queue) {
-    if queue.queued() != 0 {
-        queue.take_back();
+// Makes a call: whether it can be made, and is answered so.
+fn is_answered(queue: &mut Queue, row: &Row) -> bool {
+    match *row {
+        Row::Ask(key) => queue.ask(key).is_ok(),
+        Row::TakeBack if queue.queued() != 0 => {
+            queue.take_back();
+            true
+        }
+        Row::Take(first, second) => take(queue, None) == [first, second],
+        Row::Round(first, one, second, other) => {
+            take(queue, Some([value(one), value(other)])) == [first, second]
+        }
+        Row::Clear(left) if left <= queue.params().batches => {
+            queue.clear(left);
+            true
+        }
+        Row::Counts(queued, in_flight, left, is_full) => {
+            counts(queue) == (queued, in_flight, left, is_full)
+        }
+        Row::Asked(key, is_asked) => queue.is_asked_for(key) == is_asked,
+        Row::Base(key, wanted) => is_base(queue, key, wanted),
+        _ => false,
     }
 }
 
-fn value() -> Option<Value> {
-    Value::new(&[1, 2])
+// Whether all these calls are answered so, on a queue with batches of 2 places, 2 of which are
+// left.
+fn are_answered(rt: &impl Abort, alloc: Global, rows: &[Row]) -> bool {
+    let params = Params::new(8, 2, 2, 3, 4, 2, 6, 2, 6).expect(rt, "parameters in range");
+    assert!(rt; params.batches >= 2);
+    let mut queue = Queue::new(alloc, &params, 2).expect(rt, "memory");
+    for row in rows {
+        if !is_answered(&mut queue, row) {
+            return false;
+        }
+    }
+    true
 }
+
+const QUEUED_ONCE: &[Row] = &[
+    Row::Ask(5),
+    Row::Ask(3),
+    Row::Ask(5),
+    Row::Ask(7),
+    Row::Counts(3, 0, 2, false),
+    Row::Asked(3, true),
+    Row::Asked(4, false),
+    Row::Ask(4),
+    Row::Counts(4, 0, 2, true),
+    Row::TakeBack,
+    Row::Asked(7, true),
+    Row::Asked(4, false),
+];
 
 #[test]
 fn keys_are_queued_once(rt: HostRuntime) {
-    let mut queue = queue_of(&rt, &[5, 3, 5, 7]);
-    assert_eq!(rt; counts(&queue), (3, 0, 2, false));
-    assert_eq!(rt;
-        (queue.is_asked_for(3), queue.is_asked_for(4)),
-        (true, false)
-    );
-    queue.ask(4).expect(&rt, "memory");
-    assert_eq!(rt; counts(&queue), (4, 0, 2, true));
-    take_back(&mut queue);
-    assert_eq!(rt;
-        (queue.is_asked_for(7), queue.is_asked_for(4)),
-        (true, false)
-    );
+    assert!(rt; are_answered(&rt, rt.alloc(), QUEUED_ONCE));
 }
+
+const FLYING: &[Row] = &[
+    Row::Ask(5),
+    Row::Ask(3),
+    Row::Ask(7),
+    Row::Take(Some(5), Some(3)),
+    Row::Ask(3),
+    Row::Counts(1, 2, 1, false),
+    Row::Ask(1),
+    Row::Counts(2, 2, 1, true),
+];
 
 #[test]
 fn keys_in_flight_are_not_queued(rt: HostRuntime) {
-    let mut queue = queue_of(&rt, &[5, 3, 7]);
-    assert_eq!(rt; take(&mut queue), [Some(5), Some(3)]);
-    queue.ask(3).expect(&rt, "memory");
-    assert_eq!(rt; counts(&queue), (1, 2, 1, false));
-    queue.ask(1).expect(&rt, "memory");
-    assert_eq!(rt; counts(&queue), (2, 2, 1, true));
+    assert!(rt; are_answered(&rt, rt.alloc(), FLYING));
 }
+
+const DELIVERED: &[Row] = &[
+    Row::Ask(5),
+    Row::Ask(3),
+    Row::Ask(7),
+    Row::Round(Some(5), true, Some(3), false),
+    Row::Base(5, Some(true)),
+    Row::Base(3, Some(false)),
+    Row::Base(7, None),
+    Row::Counts(1, 0, 1, false),
+    Row::Round(Some(7), true, None, true),
+    Row::Counts(0, 0, 0, true),
+];
 
 #[test]
 fn values_are_delivered(rt: HostRuntime) {
-    let mut queue = queue_of(&rt, &[5, 3, 7]);
-    assert_eq!(rt; round(&mut queue, [value(), None]), [Some(5), Some(3)]);
-    assert_eq!(rt;
-        (queue.base(5), queue.base(3), queue.base(7)),
-        (Some(value()), Some(None), None)
-    );
-    assert_eq!(rt; counts(&queue), (1, 0, 1, false));
-    assert_eq!(rt; round(&mut queue, [value(), value()]), [Some(7), None]);
-    assert_eq!(rt; counts(&queue), (0, 0, 0, true));
+    assert!(rt; are_answered(&rt, rt.alloc(), DELIVERED));
 }
+
+const CLEARED: &[Row] = &[
+    Row::Ask(5),
+    Row::Ask(3),
+    Row::Ask(7),
+    Row::Round(Some(5), false, Some(3), false),
+    Row::Take(Some(7), None),
+    Row::Clear(4),
+    Row::Counts(0, 0, 4, false),
+    Row::Base(5, None),
+    Row::Asked(7, false),
+];
 
 #[test]
 fn cleared_is_as_new(rt: HostRuntime) {
-    let mut queue = queue_of(&rt, &[5, 3, 7]);
-    let _keys = round(&mut queue, [None, None]);
-    let _keys = take(&mut queue);
-    clear(&mut queue, 4);
-    assert_eq!(rt; counts(&queue), (0, 0, 4, false));
-    assert_eq!(rt; (queue.base(5), queue.is_asked_for(7)), (None, false));
+    assert!(rt; are_answered(&rt, rt.alloc(), CLEARED));
 }

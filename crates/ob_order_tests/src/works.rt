@@ -5,22 +5,26 @@ use ob_order::{Version, Work, add_to, end_in, fell_on, fill, push_write};
 use std::alloc::Global;
 use std::process::Abort;
 
-// Ticket t has read key 5 from the source.
-fn read_from(works: &mut Vec<Work>, t: usize, source: u64) -> Result<(), Memory> {
-    let op: Op<Key> = Op::Get {
+// Each of these tickets reads key 5 from its source, or ends: whether all could.
+fn go_on(works: &mut Vec<Work>, rows: &[(usize, Option<u64>)]) -> bool {
+    for (t, source) in rows {
+        if *t == 0 || works.len() < *t {
+            return false;
+        }
+        match *source {
+            Some(source) if add_to(works, *t, read_from(source)).is_err() => return false,
+            Some(_) => {}
+            None => end_in(works, *t),
+        }
+    }
+    true
+}
+
+fn read_from(source: u64) -> Op<Key> {
+    Op::Get {
         key: 5,
         reply: None,
         source,
-    };
-    if t != 0 && t <= works.len() {
-        add_to(works, t, op)?;
-    }
-    Ok(())
-}
-
-fn end(works: &mut Vec<Work>, t: usize) {
-    if t != 0 && t <= works.len() {
-        end_in(works, t);
     }
 }
 
@@ -28,7 +32,7 @@ fn end(works: &mut Vec<Work>, t: usize) {
 fn the_first_keys_fill_a_batch(rt: HostRuntime) {
     let mut places = [None; 3];
     fill(&mut places, &[4, 2]);
-    assert_eq!(rt; places, [Some(4), Some(2), None]);
+    assert!(rt; places == [Some(4), Some(2), None]);
 }
 
 fn seven() -> Option<Value> {
@@ -48,25 +52,20 @@ fn written(alloc: Global) -> Result<Vec<Write>, Memory> {
 fn a_key_without_a_version_is_not_written(rt: HostRuntime) {
     let writes = written(rt.alloc()).expect(&rt, "memory");
     let value = seven();
-    assert_eq!(rt; writes.len(), 1);
-    assert_eq!(rt; writes.get(0).copied(), Some(Write { key: 5, value }));
+    assert!(rt; writes.len() == 1);
+    assert!(rt; matches!(writes.get(0), Some(w) if w.key == 5 && w.value == value));
 }
+
+// A ticket, and what it has read from, or that it ends.
+const READ_AND_ENDED: &[(usize, Option<u64>)] = &[(3, Some(2)), (3, Some(1)), (2, None), (1, None)];
 
 #[test]
 fn a_work_falls_on_its_least_source(rt: HostRuntime) {
-    let mut works = Vec::new(rt.alloc());
-    for _ in 0..3 {
-        works.push(Work::new(rt.alloc())).expect(&rt, "memory");
-    }
-    read_from(&mut works, 3, 2).expect(&rt, "memory");
-    read_from(&mut works, 3, 1).expect(&rt, "memory");
-    end(&mut works, 2);
-    end(&mut works, 1);
-    assert_eq!(rt; works.len(), 3);
-    let on = if works.len() == 3 {
-        fell_on(&works, 2)
-    } else {
-        None
-    };
-    assert_eq!(rt; on, Some(1));
+    let mut works = Vec::with_capacity(rt.alloc(), 3).expect(&rt, "memory");
+    works.push_reserved(Work::new(rt.alloc()));
+    works.push_reserved(Work::new(rt.alloc()));
+    works.push_reserved(Work::new(rt.alloc()));
+    assert!(rt; go_on(&mut works, READ_AND_ENDED));
+    assert!(rt; works.len() == 3);
+    assert!(rt; fell_on(&works, 2) == Some(1));
 }

@@ -2,7 +2,7 @@
 
 ghost use Rattle.std.specs.Prelude.{◌≡◌, ◌<◌, ℕ, ◌^◌, ◌∷◌, true, false, ◌++◌, [], List, Some, None, IfOk, OnOk, IfSome, MatchOption, MatchBool, ◌≤◌, drop, option_map};
 ghost use Rattle.ob_base.specs.Tree.{width};
-ghost use Rattle.ob_base.specs.Layout.{slot_cell, check_cell};
+ghost use Rattle.ob_base.specs.Layout.{slot_cell};
 ghost use Rattle.ob_schedule.specs.Holes.{Hole};
 ghost use Rattle.ob_follow.specs.declared.want.Want.TheVariants.{Fixed, Place, Record, Setting, Checkpoint};
 ghost use Rattle.ob_follow.specs.Sides.{side_number, other};
@@ -19,8 +19,8 @@ use ob_base::Params;
 use ob_follow::{Change, Gate, Line, Register, Runs, Side, Want, Wanted};
 use ob_plain_wants::{
     Leaves, StandingPlain, Visit, body_of, cell_at, check_at, final_visits, format_wants,
-    place_visits, places, push_end, push_found, push_record, push_registers, record_at, set_wants,
-    shown_label,
+    place_visits, push_end, push_found, push_places, push_record, push_registers, record_at,
+    set_wants, shown_label,
 };
 use ob_store::Note;
 use std::alloc::{AllocError, Global};
@@ -51,26 +51,13 @@ pub struct FollowPlain {
     pub wants: Runs,
 }
 
-// The first cell of a checkpoint.
-fn first_check(p: &Params, side: Side) -> u64
-    ensures { result ≡ check_cell p.now (side_number side) 0 }
-{
-    check_at(p, side, 0)
-}
-
 // Puts what logs a batch, and its places, behind the list.
-fn push_batch(
-    alloc: Global,
-    p: &Params,
-    side: Side,
-    batch: u32,
-    wants: &mut Runs,
-) -> Result<(), AllocError>
+fn push_batch(p: &Params, side: Side, batch: u32, wants: &mut Runs) -> Result<(), AllocError>
     ensures { OnOk result (wants.new
         ≡ wants.old ++ (record_wants p.now side batch ++ places p.now batch)) }
 {
     push_record(p, side, batch, wants)?;
-    wants.push_all(&places(alloc, p, batch)?)
+    push_places(p, batch, 0, wants)
 }
 
 impl FollowPlain {
@@ -80,6 +67,7 @@ impl FollowPlain {
     pub fn new(alloc: Global, p: &Params) -> Result<FollowPlain, AllocError>
         ensures { IfOk result (λ known. follow_of known ≡ started p.now) }
     {
+        let wants = format_wants(alloc, p)?;
         Ok(FollowPlain {
             params: *p,
             formatted: false,
@@ -90,7 +78,7 @@ impl FollowPlain {
             batch: 0,
             leaves: Leaves::new(alloc),
             visits: VecDeque::new(alloc),
-            wants: format_wants(alloc, p)?,
+            wants,
         })
     }
 
@@ -140,8 +128,8 @@ impl FollowPlain {
                 }
             }
             Want::Checkpoint => Wanted::Either {
-                first: first_check(p, epoch),
-                second: first_check(p, epoch.other()),
+                first: check_at(p, epoch, 0),
+                second: check_at(p, epoch.other(), 0),
             },
         }
     }
@@ -316,9 +304,8 @@ impl FollowPlain {
         ensures { OnOk result (follow_of self.new
             ≡ shows_label (follow_of self.old) batch place leaf) }
     {
-        let visits = place_visits(alloc, &self.params, &self.stands, &self.leaves, leaf)?;
+        self.visits = place_visits(alloc, &self.params, &self.stands, &self.leaves, leaf)?;
         self.stands.keep_label(batch, place, leaf)?;
-        self.visits = visits;
         self.leaves.push(alloc, &self.params, leaf)
     }
 
@@ -441,8 +428,7 @@ impl FollowPlain {
         self.wants.pop();
         self.stands.logged = self.batch;
         self.stands.maybe = false;
-        let all = places(alloc, &self.params, batch)?;
-        self.wants.push_all(&all[1..])?;
+        push_places(&self.params, batch, 1, &mut self.wants)?;
         self.show_label(alloc, batch, 0, leaf)
     }
 
@@ -461,7 +447,7 @@ impl FollowPlain {
         self.stands.maybe = false;
         let side = self.stands.epoch.other();
         let mut all = Runs::new(alloc);
-        push_batch(alloc, &self.params, side, batch, &mut all)?;
+        push_batch(&self.params, side, batch, &mut all)?;
         all.pop();
         self.wants.append(all)
     }
@@ -570,11 +556,11 @@ impl FollowPlain {
             note took) }
     {
         let epoch = self.stands.epoch;
-        if is_same(note, Note::Read(first_check(&self.params, epoch))) {
+        if is_same(note, Note::Read(check_at(&self.params, epoch, 0))) {
             self.find_older(alloc)?;
             return Ok(true);
         }
-        if is_same(note, Note::Read(first_check(&self.params, epoch.other()))) {
+        if is_same(note, Note::Read(check_at(&self.params, epoch.other(), 0))) {
             self.find_newer(alloc)?;
             return Ok(true);
         }
@@ -605,20 +591,13 @@ impl FollowPlain {
         self.visits.front().copied()
     }
 
-    fn next_want(&self) -> Option<Want>
-        ensures { MatchOption result (self.now.wants ≡ []) (λ w. self.now.wants
-            ≡ w ∷ drop 1 self.now.wants) }
-    {
-        self.wants.first()
-    }
-
     // Takes a note, if it may stand next, but for the step that may come behind it.
     fn take(&mut self, alloc: Global, note: Note) -> Result<bool, AllocError>
         ensures { IfOk result (λ took. Took (follow_of self.old) (follow_of self.new) note took) }
     {
         match self.next_visit() {
             Some(visit) => self.take_visit(visit, note),
-            None => match self.next_want() {
+            None => match self.wants.first() {
                 Some(want) => self.take_want(alloc, want, note),
                 None => Ok(false),
             },
@@ -626,7 +605,7 @@ impl FollowPlain {
     }
 
     // The batch that comes next.
-    fn begin_batch(&mut self, alloc: Global) -> Result<(), AllocError>
+    fn begin_batch(&mut self) -> Result<(), AllocError>
         requires { self.old.batch < self.old.params.batches }
         ensures { OnOk result ((follow_of self.old).wants ≡ []
             → follow_of self.new ≡ next_step (follow_of self.old)) }
@@ -634,13 +613,13 @@ impl FollowPlain {
         let batch = self.batch;
         self.batch = batch + 1;
         if batch < self.stands.logged {
-            return self.wants.push_all(&places(alloc, &self.params, batch)?);
+            return push_places(&self.params, batch, 0, &mut self.wants);
         }
         if batch == self.stands.logged && self.stands.maybe {
             return self.wants.push(Want::Record { batch });
         }
         let side = self.stands.epoch.other();
-        push_batch(alloc, &self.params, side, batch, &mut self.wants)
+        push_batch(&self.params, side, batch, &mut self.wants)
     }
 
     #[tactic(auto, using(crate::proofs::Steps::step_end))]
@@ -649,16 +628,14 @@ impl FollowPlain {
         ensures { OnOk result ((follow_of self.old).wants ≡ []
             → follow_of self.new ≡ next_step (follow_of self.old)) }
     {
-        let visits = final_visits(alloc, &self.params, &self.stands, &self.leaves)?;
+        self.visits = final_visits(alloc, &self.params, &self.stands, &self.leaves)?;
         push_end(
             alloc,
             &self.params,
             &self.stands,
             &self.leaves,
             &mut self.wants,
-        )?;
-        self.visits = visits;
-        Ok(())
+        )
     }
 
     // Takes the next step up where nothing is wanted of the present one.
@@ -675,7 +652,7 @@ impl FollowPlain {
             return Ok(());
         }
         if self.batch < self.params.batches {
-            self.begin_batch(alloc)
+            self.begin_batch()
         } else {
             self.begin_end(alloc)
         }
@@ -708,14 +685,17 @@ impl FollowPlain {
             × RefusesLine (follow_of self.old) line.now wanted)) }
     {
         match line {
-            Line::Start(p) => {
-                *self = FollowPlain::new(alloc, p)?;
-                Ok(None)
-            }
-            Line::Open => {
-                self.open()?;
-                Ok(None)
-            }
+            Line::Start(p) => match FollowPlain::new(alloc, p) {
+                Ok(known) => {
+                    *self = known;
+                    Ok(None)
+                }
+                Err(error) => Err(error),
+            },
+            Line::Open => match self.open() {
+                Ok(()) => Ok(None),
+                Err(error) => Err(error),
+            },
             Line::Note(note) => self.next_note(alloc, *note),
             Line::Bad => Ok(Some(self.wanted())),
         }

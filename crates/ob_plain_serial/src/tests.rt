@@ -63,7 +63,7 @@ fn runs_one_by_one_exactly_where_each_get_finds_its_reply(rt: HostRuntime) -> Re
     for (outcome, reply, wanted) in table {
         let records = epoch(alloc, outcome, reply)?;
         let last = one_by_one(PlainMap::new(alloc), &records)?;
-        assert_eq!(rt; last.map(|m| m.get(5)), wanted);
+        assert!(rt; last.map(|m| m.get(5)) == wanted);
     }
     Ok(())
 }

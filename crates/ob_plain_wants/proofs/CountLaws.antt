@@ -1,13 +1,12 @@
 -- How often paths pass the buckets of a tree, with one label more.
-use Rattle.std.specs.Prelude.{◌≡◌, ◌<◌, ℕ, ◌+◌, ◌-◌, ◌/◌, ◌^◌, ◌==◌, cond, List, [], ◌∷◌, ◌++◌, map, length, nat_lt, get_or, slice_index, count_by}
+use Rattle.std.specs.Prelude.{◌≡◌, ◌<◌, ℕ, ◌+◌, ◌-◌, ◌/◌, ◌^◌, ◌==◌, cond, List, [], ◌∷◌, ◌++◌, map, length, replicate, get_or, slice_index, count_by}
 use Rattle.std.specs.List.{list_any}
 use Rattle.std.proofs.Common.{refl, sym, ap, ◌∙◌, arith}
-use Rattle.std.proofs.lemmas.List.{get_or_default}
+use Rattle.std.proofs.lemmas.List.{get_or_default, get_or-replicate, length-replicate}
 use Rattle.std.proofs.lemmas.List.Sums.{count_by-le-length}
 use Rattle.ob_base.specs.declared.params.Params.{Params}
 use Rattle.ob_base.specs.Tree.{below, passes}
 use Rattle.ob_plain_wants.specs.Counted.{AreCounted}
-use Rattle.ob_plain_wants.proofs.RowLaws.{index_at, no_row}
 use Rattle.ob_plain_wants.proofs.TotalLaws.{count_behind}
 
 -- a path is told by the tree's levels
@@ -30,8 +29,10 @@ counted_at p levels leaves known passed u value told same is lt read = read ∙ 
 pub many_few : (p : Params) (leaves known : List ℕ) (u value : ℕ) → value ≡ count_by (passes p u) known → leaves ≡ known → length leaves < 2 ^ 63 → value < 2 ^ 63
 many_few p leaves known u value many is few = omega (arith, many, count_by-le-length (passes p u) known, ap (λ (ls : List ℕ). length ls) is, few)
 
-pub none_counted : (p : Params) (leaves passed : List ℕ) (u n : ℕ) → passed ≡ map (λ v. 0) (below n) → leaves ≡ [] → slice_index passed u ≡ count_by (passes p u) leaves
-none_counted p leaves passed u n none is = ap (λ (ts : List ℕ). slice_index ts u) none ∙ index_at (λ v. 0) n u 0 ∙ no_row 0 (nat_lt u n) ∙ ap (count_by (passes p u)) (sym is)
+pub none_counted : (p : Params) (leaves passed : List ℕ) (u n : ℕ) → passed ≡ replicate n 0 → leaves ≡ [] → u < length passed → slice_index passed u ≡ count_by (passes p u) leaves
+none_counted p leaves passed u n none is lt =
+    let within : u < n = omega (arith, lt, ap (λ (ts : List ℕ). length ts) none, length-replicate {A = ℕ} n 0) in
+    ap (λ (ts : List ℕ). slice_index ts u) none ∙ get_or-replicate n u 0 0 within ∙ ap (count_by (passes p u)) (sym is)
 
 pub no_labels : (leaves : List ℕ) → length leaves ≡ 0 → leaves ≡ []
 no_labels [] none = refl

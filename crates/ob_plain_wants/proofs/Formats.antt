@@ -23,12 +23,26 @@ writes_joined (x ∷ xs) ys = ap (λ (ns : List Note). Write x ∷ ns) (writes_j
 abbrev pub first_notes : List Note
 first_notes = Write 0 ∷ Sync ∷ Write 2 ∷ Write 4 ∷ Write 6 ∷ Write 8 ∷ []
 
-pub front_made : (p : Params) → (((first_notes ++ writes_of (log_gates p 0)) ++ writes_of (log_gates p 1)) ++ Sync ∷ []) ++ set_twin p GenerationTwin 1 true ≡ format_front p
-front_made p =
-    ap (λ (ns : List Note). (ns ++ Sync ∷ []) ++ set_twin p GenerationTwin 1 true) (append_assoc first_notes (writes_of (log_gates p 0)) (writes_of (log_gates p 1)) ∙ ap (λ (ns : List Note). first_notes ++ ns) (sym (writes_joined (log_gates p 0) (log_gates p 1))))
+-- what sets the generation's second place, behind a sync
+abbrev pub set_generation : List Note
+set_generation = Sync ∷ Write 4 ∷ Sync ∷ Write 3 ∷ Sync ∷ Write 4 ∷ Sync ∷ []
 
-pub format_made : (p : Params) → (((((format_front p ++ bucket_writes p (λ u. 0) (below (buckets p))) ++ writes_of (check_cells p 0)) ++ Sync ∷ []) ++ set_twin p EpochTwin 0 true) ++ Write 0 ∷ []) ++ Sync ∷ [] ≡ format_notes p
-format_made p = append_assoc ((((format_front p ++ bucket_writes p (λ u. 0) (below (buckets p))) ++ writes_of (check_cells p 0)) ++ Sync ∷ []) ++ set_twin p EpochTwin 0 true) (Write 0 ∷ []) (Sync ∷ [])
+-- what sets the epoch's first place, behind a sync, and the head
+abbrev pub set_epoch : List Note
+set_epoch = Sync ∷ Write 6 ∷ Sync ∷ Write 5 ∷ Sync ∷ Write 6 ∷ Sync ∷ Write 0 ∷ []
+
+pub front_made : (p : Params) → ((first_notes ++ writes_of (log_gates p 0)) ++ writes_of (log_gates p 1)) ++ set_generation ≡ format_front p
+front_made p =
+    sym (append_assoc ((first_notes ++ writes_of (log_gates p 0)) ++ writes_of (log_gates p 1)) (Sync ∷ []) (set_twin p GenerationTwin 1 true))
+    ∙ ap (λ (ns : List Note). (ns ++ Sync ∷ []) ++ set_twin p GenerationTwin 1 true) (append_assoc first_notes (writes_of (log_gates p 0)) (writes_of (log_gates p 1)) ∙ ap (λ (ns : List Note). first_notes ++ ns) (sym (writes_joined (log_gates p 0) (log_gates p 1))))
+
+pub format_made : (p : Params) → (((format_front p ++ bucket_writes p (λ u. 0) (below (buckets p))) ++ writes_of (check_cells p 0)) ++ set_epoch) ++ Sync ∷ [] ≡ format_notes p
+format_made p =
+    let body : List Note = (format_front p ++ bucket_writes p (λ u. 0) (below (buckets p))) ++ writes_of (check_cells p 0) in
+    let set : List Note = set_twin p EpochTwin 0 true in
+    append_assoc body set_epoch (Sync ∷ [])
+    ∙ sym (append_assoc body (Sync ∷ []) (set ++ Write 0 ∷ Sync ∷ []))
+    ∙ sym (append_assoc (body ++ Sync ∷ []) set (Write 0 ∷ Sync ∷ []))
 
 -- the last sync makes a format whole
 format_last : (notes : List Note) → format_wants (notes ++ Sync ∷ []) ≡ kept notes ++ Fixed Sync Formats ∷ []

@@ -1,7 +1,8 @@
 -- Lists that are made by a count.
-use Rattle.std.proofs.Common.{◌≡◌, ◌<◌, ◌+◌, ◌-◌, ◌^◌, ℕ, zero, suc, Bool, true, false, List, [], ◌∷◌, ◌++◌, map, filter, length, take, get_or, refl, sym, ap, ◌∙◌, arith, append_assoc, append-nil, add-one}
+use Rattle.std.proofs.Common.{◌≡◌, ◌<◌, ◌≤◌, ◌+◌, ◌-◌, ◌^◌, ℕ, zero, suc, Bool, true, false, List, [], ◌∷◌, ◌++◌, map, filter, length, take, drop, get_or, refl, sym, ap, ◌∙◌, arith, append_assoc, append-nil, add-one}
 use Rattle.std.specs.List.{range_with_len, flat_map}
-use Rattle.std.proofs.lemmas.List.{take_more, map-append}
+use Rattle.std.proofs.lemmas.List.{take_more, drop_more, drop_all, map-append}
+use Rattle.std.proofs.lemmas.List.FromFn.{get_or-map-range_with_len, length-map-range_with_len}
 use Rattle.std.proofs.lemmas.List.Concat.{flat_map-append}
 use Rattle.std.specs.Prelude.{nat_lt, ◌==◌, slice_index_or}
 use Rattle.std.proofs.lemmas.Bool.{lt-ltb, eq-eqb}
@@ -20,8 +21,8 @@ use Rattle.ob_plain_wants.specs.Occasions.{holes_on}
 use Rattle.ob_follow.specs.Sides.{other, side_number}
 use Rattle.ob_follow.specs.declared.want.Change.TheVariants.{Keeps}
 use Rattle.ob_follow.specs.declared.want.Want.{Want}
-use Rattle.ob_follow.specs.declared.want.Want.TheVariants.{Fixed}
-use Rattle.ob_follow.specs.Wants.{kept}
+use Rattle.ob_follow.specs.declared.want.Want.TheVariants.{Fixed, Place}
+use Rattle.ob_follow.specs.Wants.{kept, places}
 use Rattle.ob_follow.specs.Standing.{StandingKnown}
 use Rattle.ob_plain_wants.specs.Marked.{writes_marked}
 
@@ -34,6 +35,14 @@ range_up a n = rw add-one (range_more a n (a + n) refl)
 
 pub below_up : (n : ℕ) → below (n + 1) ≡ below n ++ n ∷ []
 below_up n = rw add-one (range_more 0 n n (omega arith))
+
+map_up : {X : Type 0} (f : ℕ → X) (n : ℕ) → map f (below (n + 1)) ≡ map f (below n) ++ f n ∷ []
+map_up f n = ap (map f) (below_up n) ∙ map-append f (below n) (n ∷ [])
+
+-- what a function gives for one number more, behind a list
+pub one_behind : {X : Type 0} (f : ℕ → X) (old now next : List X) (x : X) (n : ℕ) → now ≡ old ++ map f (below n) → next ≡ now ++ x ∷ [] → x ≡ f n → next ≡ old ++ map f (below (n + 1))
+one_behind {X} f old now next x n was is told =
+    is ∙ (λ j. was j ++ told j ∷ []) ∙ append_assoc old (map f (below n)) (f n ∷ []) ∙ ap (λ (xs : List X). old ++ xs) (sym (map_up f n))
 
 pub flat_taken : {A : Type 0} (f : ℕ → List A) (us : List ℕ) (i : ℕ) → i < length us → flat_map f (take (i + 1) us) ≡ flat_map f (take i us) ++ f (get_or us i 0)
 flat_taken {A} f us i lt = ap (flat_map f) (take_more us i 0 lt) ∙ flat_map-append f (take i us) (get_or us i 0 ∷ []) ∙ ap (λ (xs : List A). flat_map f (take i us) ++ xs) (append-nil (f (get_or us i 0)))
@@ -105,3 +114,16 @@ visit_all p u n old mid now v low last pushed is lifted =
     ∙ ap (λ (hs : List Hole). hs ++ lift) (ap (map hole_of_visit) pushed ∙ map-append hole_of_visit old (v ∷ []))
     ∙ append_assoc (map hole_of_visit old) (hole_of_visit v ∷ []) lift
     ∙ ap (λ (hs : List Hole). map hole_of_visit old ++ hs) (ap (λ (h : Hole). h ∷ lift) is ∙ visit_full p u n low last)
+
+-- one place more of a batch, of those that are put behind a list
+pub places_more : (p : Params) (batch place : ℕ) (now next all : List Want) → place < p.places → now ++ drop place (places p batch) ≡ all → next ≡ now ++ Place batch place ∷ [] → next ++ drop (place + 1) (places p batch) ≡ all
+places_more p batch place now next all lt before pushed =
+    let rest : List Want = drop (place + 1) (places p batch) in
+    let long : place < length (places p batch) = omega (arith, lt, length-map-range_with_len (λ i. Place batch i) 0 p.places) in
+    let at : get_or (places p batch) place (Place batch 0) ≡ Place batch place = get_or-map-range_with_len (λ i. Place batch i) 0 p.places place place (Place batch 0) lt (omega arith) in
+    ap (λ (ws : List Want). ws ++ rest) pushed ∙ append_assoc now (Place batch place ∷ []) rest
+    ∙ ap (λ (ws : List Want). now ++ ws) (sym (drop_more (places p batch) place (Place batch 0) long ∙ ap (λ (w : Want). w ∷ rest) at)) ∙ before
+
+pub places_end : (p : Params) (batch place : ℕ) (now all : List Want) → p.places ≤ place → now ++ drop place (places p batch) ≡ all → now ≡ all
+places_end p batch place now all most before =
+    sym (append-nil now) ∙ ap (λ (ws : List Want). now ++ ws) (sym (drop_all place (places p batch) (omega (arith, most, length-map-range_with_len (λ i. Place batch i) 0 p.places)))) ∙ before

@@ -1,8 +1,8 @@
 -- Lists in rows of 48 places and rows of bits, with one value put in, and as an end leaves them.
-use Rattle.std.specs.Prelude.{◌≡◌, ◌<◌, ℕ, ◌+◌, ◌*◌, ◌^◌, ◌%◌, ◌==◌, nat_lt, Bool, true, false, not, ◌&&◌, cond, List, [], map, slice_index, slice_index_or, Option, Some, None}
+use Rattle.std.specs.Prelude.{◌≡◌, ◌<◌, ℕ, ◌-◌, ◌+◌, ◌*◌, ◌^◌, ◌%◌, ◌==◌, nat_lt, Bool, true, false, not, ◌&&◌, cond, List, [], map, slice_index, slice_index_or, Option, Some, None}
 use mir.Syntax.{w64}
 use Rattle.std.specs.Int.RustNames.{bit_or}
-use Rattle.std.proofs.Common.{refl, sym, ap, ◌∙◌, arith, inl, inr, add-one}
+use Rattle.std.proofs.Common.{zero, suc, refl, sym, ap, ◌∙◌, arith, inl, inr, add-one}
 use Rattle.std.proofs.lemmas.Nat.Bits.{bit_at-zero, bit_at_set_same, bit_at_set_other}
 use Rattle.std.proofs.lemmas.Bool.{lt-ltb, le-ltb, cases_lt, eq-eqb, ne_eqb, eqb-true, eqb-false, and_right}
 use Rattle.std.proofs.lemmas.List.{get_or_past}
@@ -31,6 +31,15 @@ put_at {T} old new none v u i w k few put = elim (cases_lt k 48) [
 pub rows_put : {T : Type 0} (old new : List T) (none v : T) (u i : ℕ) → i < 48 → ((j : ℕ) → slice_index_or new j none ≡ cond (j == u * 48 + i) v (slice_index_or old j none))
     → in_rows new none ≡ λ w k. cond ((u == w) && (i == k)) v (in_rows old none w k)
 rows_put {T} old new none v u i few put = λ j w k. put_at old new none v u i w k few put j
+
+-- a place within a row lies at its index
+pub in_row : {T : Type 0} (list : List T) (none : T) (row place : ℕ) → place < 48 → slice_index_or list (row * 48 + place) none ≡ in_rows list none row place
+in_row {T} list none row place few = let is : nat_lt place 48 ≡ true = lt-ltb place 48 few in rw is refl
+
+-- a number that is kept
+pub number_kept : (n : ℕ) → (n ≡ 0 → ⊥) → Some (n - 1) ≡ kept_number n
+number_kept zero some = absurd (some refl)
+number_kept (suc n) some = let same : suc n - 1 ≡ n = omega arith in ap (λ (k : ℕ). Some k) same
 
 -- what is shown first is kept
 first_kept : (s kept : StandingKnown) (o : Option ℕ) → o ≡ None → kept ≡ elim o [ None ↦ kept | Some x ↦ s ]

@@ -5,7 +5,7 @@ ghost use Rattle.ob_base.specs.Tree.{reversed};
 ghost use Rattle.ob_schedule.specs.Paths.{eviction_path, is_one_of};
 ghost use Rattle.ob_schedule.specs.Holes.{firsts};
 
-use crate::tree::path_of;
+use crate::tree::push_path;
 use ob_base::{Params, reverse};
 use std::alloc::{AllocError, Global};
 
@@ -18,7 +18,6 @@ fn leaf_evicted(p: &Params, number: u64) -> u16
 }
 
 /// The buckets of the paths that are evicted next, path by path.
-#[tactic(auto, using(crate::proofs::Lists::paths_more))]
 pub(crate) fn evicted_buckets(
     alloc: Global,
     p: &Params,
@@ -28,8 +27,7 @@ pub(crate) fn evicted_buckets(
 {
     let mut list = Vec::new(alloc);
     for i in 0..p.evictions {
-        let path = path_of(alloc, p, leaf_evicted(p, counter as u64 + i as u64))?;
-        list.extend_from_slice(&path)?;
+        push_path(p, leaf_evicted(p, counter as u64 + i as u64), &mut list)?;
     }
     Ok(list)
 }

@@ -1,7 +1,7 @@
 //! Labels that an attempt has shown.
 
-ghost use Rattle.std.specs.Prelude.{◌≡◌, ◌<◌, ◌+◌, ◌-◌, ◌^◌, ◌==◌, ◌∷◌, ◌++◌, [], ℕ, List, map, cond, length, slice_index, OnOk, IfOk, count_by};
-ghost use Rattle.ob_base.specs.Tree.{below, buckets, passes};
+ghost use Rattle.std.specs.Prelude.{◌≡◌, ◌<◌, ◌+◌, ◌-◌, ◌^◌, ◌==◌, ◌∷◌, ◌++◌, [], ℕ, List, cond, length, slice_index, OnOk, count_by};
+ghost use Rattle.ob_base.specs.Tree.{passes};
 ghost use Rattle.ob_plain_wants.specs.Counted.{AreCounted};
 
 use crate::tree::{bucket_on, passing};
@@ -29,12 +29,6 @@ impl Model for Leaves {
     ghost view = { λ s. s.labels.items };
 
     ghost invariant = { λ s. AreCounted s.levels s.labels.items s.passed.items };
-}
-
-fn none_passed(alloc: Global, p: &Params) -> Result<Vec<u64>, AllocError>
-    ensures { IfOk result (λ passed. passed.items ≡ map (λ u. 0) (below (buckets p.now))) }
-{
-    (0..buckets(p)).map(|_| 0).collect(alloc)
 }
 
 // One more path passes a bucket, if it is one of the list's.
@@ -100,7 +94,7 @@ impl Leaves {
         ensures { self.new ≡ self.old }
     {
         if self.labels.is_empty() {
-            self.passed = none_passed(alloc, p)?;
+            self.passed = vec![in alloc; 0; buckets(p) as usize]?;
             self.levels = p.levels;
         }
         Ok(())

@@ -22,5 +22,5 @@ pub use standing::{StandingPlain, cell_at, shown_label};
 pub use visit::Visit;
 pub use visits::{final_visits, place_visits};
 pub use wants::{
-    format_wants, places, push_end, push_found, push_record, push_registers, set_wants,
+    format_wants, push_end, push_found, push_places, push_record, push_registers, set_wants,
 };

@@ -1,7 +1,7 @@
 //! Which buckets of the store are among some.
 
-ghost use Rattle.std.specs.Prelude.{◌≡◌, ◌<◌, ◌==◌, ℕ, IfOk, cond, true, false, map, slice_index_or, length};
-ghost use Rattle.ob_base.specs.Tree.{below, buckets};
+ghost use Rattle.std.specs.Prelude.{◌≡◌, ◌<◌, ◌==◌, ℕ, IfOk, cond, true, false, slice_index_or, length};
+ghost use Rattle.ob_base.specs.Tree.{buckets};
 ghost use Rattle.ob_schedule.specs.Paths.{is_one_of};
 
 use ob_base::{Params, buckets};
@@ -27,18 +27,12 @@ fn mark_all(list: &[u32], marks: &mut [bool])
     }
 }
 
-fn no_marks(alloc: Global, p: &Params) -> Result<Vec<bool>, AllocError>
-    ensures { IfOk result (λ marks. marks.items ≡ map (λ u. false) (below (buckets p.now))) }
-{
-    (0..buckets(p)).map(|_| false).collect(alloc)
-}
-
 /// Which buckets are among these.
 pub(crate) fn marks_of(alloc: Global, p: &Params, list: &[u32]) -> Result<Vec<bool>, AllocError>
     ensures { IfOk result (λ marks. (u : ℕ) → u < buckets p.now
         → slice_index_or marks.items u false ≡ is_one_of list.now u) }
 {
-    let mut marks = no_marks(alloc, p)?;
+    let mut marks = vec![in alloc; false; buckets(p) as usize]?;
     mark_all(list, &mut marks);
     Ok(marks)
 }

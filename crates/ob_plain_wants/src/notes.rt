@@ -181,16 +181,13 @@ pub(crate) fn set_notes(register: Register, side: Side) -> [Note; 6]
 }
 
 // Puts the first notes of a format behind the list.
-#[tactic(auto, using(crate::proofs::Formats::front_made))]
 fn push_front(p: &Params, wants: &mut Runs) -> Result<(), AllocError>
     ensures { OnOk result (wants.new ≡ wants.old ++ kept (format_front p.now)) }
 {
     push_kept(&FIRST_NOTES, wants)?;
     push_gates(p, Side::Even, wants)?;
     push_gates(p, Side::Odd, wants)?;
-    push_kept(&[Note::Sync], wants)?;
-    push_kept(&set_notes(Register::Generation, Side::Odd), wants)?;
-    Ok(())
+    push_kept(&SET_GENERATION, wants)
 }
 
 // The first writes of a format: the head, and the registers' gates.
@@ -203,8 +200,30 @@ const FIRST_NOTES: [Note; 6] = [
     Note::Write(8),
 ];
 
+// Behind the log areas' gates a format sets the generation's second place.
+const SET_GENERATION: [Note; 7] = [
+    Note::Sync,
+    Note::Write(GENERATION_CELL + 3),
+    Note::Sync,
+    Note::Write(GENERATION_CELL + 2),
+    Note::Sync,
+    Note::Write(GENERATION_CELL + 3),
+    Note::Sync,
+];
+
+// Behind the checkpoint it sets the epoch's first place, and writes the head.
+const SET_EPOCH: [Note; 8] = [
+    Note::Sync,
+    Note::Write(EPOCH_CELL + 1),
+    Note::Sync,
+    Note::Write(EPOCH_CELL),
+    Note::Sync,
+    Note::Write(EPOCH_CELL + 1),
+    Note::Sync,
+    Note::Write(0),
+];
+
 /// Puts the notes of a format behind the list, but for the last sync.
-#[tactic(auto, using(crate::proofs::Formats::format_made))]
 pub(crate) fn push_format(p: &Params, wants: &mut Runs) -> Result<(), AllocError>
     ensures { OnOk result ((notes : List Note) × (notes ++ Sync ∷ [] ≡ format_notes p.now)
         × (wants.new ≡ wants.old ++ kept notes)) }
@@ -212,8 +231,5 @@ pub(crate) fn push_format(p: &Params, wants: &mut Runs) -> Result<(), AllocError
     push_front(p, wants)?;
     push_homes(p, wants)?;
     push_check_writes(p, Side::Even, wants)?;
-    push_kept(&[Note::Sync], wants)?;
-    push_kept(&set_notes(Register::Epoch, Side::Even), wants)?;
-    push_kept(&[Note::Write(0)], wants)?;
-    Ok(())
+    push_kept(&SET_EPOCH, wants)
 }

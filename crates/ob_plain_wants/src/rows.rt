@@ -1,15 +1,15 @@
 //! Lists in rows of 48 places, and rows of bits, which are as long as they have to be.
 
 ghost use Rattle.std.specs.Prelude.{◌≡◌, ◌+◌, ◌*◌, ◌^◌, ◌<◌, ◌≤◌, ◌==◌, ◌&&◌, ℕ, true, cond, length, OnOk, slice_index, slice_index_or};
-ghost use Rattle.ob_plain_wants.specs.Rows.{in_rows, has_bit};
+ghost use Rattle.ob_plain_wants.specs.Rows.{has_bit};
 
 use std::alloc::AllocError;
 
-/// The places of a row.
-pub(crate) const ROW: u64 = 48;
+// The places of a row.
+const ROW: u64 = 48;
 
-// Where a place of a row lies.
-fn index_of(row: u32, place: u64) -> usize
+/// Where a place of a row lies.
+pub(crate) fn index_of(row: u32, place: u64) -> usize
     requires { place < 48 }
     ensures { result ≡ row * 48 + place }
 {
@@ -27,17 +27,6 @@ pub(crate) fn at_or<T: Copy>(list: &[T], index: usize, none: T) -> T
     }
 }
 
-/// What lies at a place of a row.
-pub(crate) fn in_rows<T: Copy>(list: &[T], none: T, row: u32, place: u64) -> T
-    ensures { result ≡ in_rows list.now none row place }
-{
-    if place < ROW {
-        at_or(list, index_of(row, place), none)
-    } else {
-        none
-    }
-}
-
 // Lets a list be so long, with what nothing stands for.
 fn lengthen<T: Copy>(list: &mut Vec<T>, len: usize, none: T) -> Result<(), AllocError>
     ensures long { OnOk result (len ≤ length list.new.items) }
@@ -50,8 +39,13 @@ fn lengthen<T: Copy>(list: &mut Vec<T>, len: usize, none: T) -> Result<(), Alloc
     Ok(())
 }
 
-// Puts a value at an index.
-fn put_at<T: Copy>(list: &mut Vec<T>, none: T, index: usize, value: T) -> Result<(), AllocError>
+/// Puts a value at an index below `2^62`.
+pub(crate) fn put_at<T: Copy>(
+    list: &mut Vec<T>,
+    none: T,
+    index: usize,
+    value: T,
+) -> Result<(), AllocError>
     requires { index < 2 ^ 62 }
     ensures { OnOk result ((j : ℕ) → slice_index_or list.new.items j none
         ≡ cond (j == index) value (slice_index_or list.old.items j none)) }
@@ -59,21 +53,6 @@ fn put_at<T: Copy>(list: &mut Vec<T>, none: T, index: usize, value: T) -> Result
     lengthen(list, index + 1, none)?;
     list[index] = value;
     Ok(())
-}
-
-/// Puts a value at a place of a row.
-pub(crate) fn put_in_rows<T: Copy>(
-    list: &mut Vec<T>,
-    none: T,
-    row: u32,
-    place: u64,
-    value: T,
-) -> Result<(), AllocError>
-    requires { place < 48 }
-    ensures { OnOk result ((j : ℕ) → slice_index_or list.new.items j none
-        ≡ cond (j == row * 48 + place) value (slice_index_or list.old.items j none)) }
-{
-    put_at(list, none, index_of(row, place), value)
 }
 
 /// Whether a bit of a word is set.

@@ -1,6 +1,6 @@
 //! What a stop finds.
 
-ghost use Rattle.std.specs.Prelude.{◌≡◌, ◌<◌, IfOk, OnOk, None, false, nat_le, slice_index, slice_index_or, map, ◌^◌, cond, ◌||◌};
+ghost use Rattle.std.specs.Prelude.{◌≡◌, ◌<◌, ◌++◌, IfOk, OnOk, None, false, nat_le, slice_index, slice_index_or, map, ◌^◌, cond, ◌||◌};
 ghost use Rattle.ob_base.specs.Tree.{below, buckets};
 ghost use Rattle.ob_base.specs.Layout.{slot_cell};
 ghost use Rattle.ob_schedule.specs.Schedule.{counts_now};
@@ -13,7 +13,7 @@ ghost use Rattle.ob_follow.specs.Follow.{with_gate, next_side};
 use crate::evicted::{evicted_buckets, next_counter};
 use crate::leaves::Leaves;
 use crate::marks::marks_of;
-use crate::rows::{at_or, has_bit, in_rows, put_in_rows, set_bit};
+use crate::rows::{at_or, has_bit, index_of, put_at, set_bit};
 use crate::seen::SeenLabel;
 use crate::visit::Visit;
 use ob_base::{Params, buckets, slot_cell};
@@ -122,7 +122,7 @@ impl StandingPlain {
     pub fn shown_slot(&self, visit: Visit) -> Option<u8>
         ensures { result ≡ (standing_of self.now).slots (hole_of_visit visit) }
     {
-        let kept = in_rows(&self.slots, 0, visit.bucket, visit.number);
+        let kept = at_or(&self.slots, index_of(visit.bucket, visit.number), 0);
         if kept == 0 { None } else { Some(kept - 1) }
     }
 
@@ -138,8 +138,7 @@ impl StandingPlain {
     {
         let paths = evicted_buckets(alloc, p, self.counter)?;
         let evicted = marks_of(alloc, p, &paths)?;
-        let lifted = self.evicted_or_read(alloc, p, leaves, &evicted)?;
-        Ok(lifted)
+        self.evicted_or_read(alloc, p, leaves, &evicted)
     }
 
     // Whether a bucket is evicted, or was read as often as there are dummies.
@@ -165,9 +164,11 @@ impl StandingPlain {
             (counts_now p.now (public_known p.now (standing_of self.now) leaves.now) u))
             (below (buckets p.now))) }
     {
-        (0..buckets(p))
-            .map(|bucket| self.is_lifted(p, leaves, evicted, bucket))
-            .collect(alloc)
+        let mut lifted = Vec::new(alloc);
+        for bucket in 0..buckets(p) {
+            lifted.push(self.is_lifted(p, leaves, evicted, bucket))?;
+        }
+        Ok(lifted)
     }
 
     fn home_after(&self, lifted: &[bool], bucket: u32) -> Side
@@ -179,22 +180,6 @@ impl StandingPlain {
         } else {
             self.home(bucket)
         }
-    }
-
-    fn homes_after(
-        &self,
-        alloc: Global,
-        p: &Params,
-        lifted: &[bool],
-    ) -> Result<Vec<Side>, AllocError>
-        ensures { IfOk result (λ homes. homes.items
-            ≡ map (λ u. cond (slice_index_or lifted.now u false)
-            (other ((standing_of self.now).homes u)) ((standing_of self.now).homes u))
-            (below (buckets p.now))) }
-    {
-        (0..buckets(p))
-            .map(|bucket| self.home_after(lifted, bucket))
-            .collect(alloc)
     }
 
     // How often a bucket's version was read after an end.
@@ -215,25 +200,6 @@ impl StandingPlain {
         }
     }
 
-    fn counts_after(
-        &self,
-        alloc: Global,
-        p: &Params,
-        leaves: &Leaves,
-        lifted: &[bool],
-    ) -> Result<Vec<u32>, AllocError>
-        ensures { IfOk result (λ counts. counts.items
-            ≡ map (λ u. cond (slice_index_or lifted.now u false) 0
-            (cond (nat_le p.now.dummies (counts_now p.now
-            (public_known p.now (standing_of self.now) leaves.now) u)) 0
-            (counts_now p.now (public_known p.now (standing_of self.now) leaves.now) u)))
-            (below (buckets p.now))) }
-    {
-        (0..buckets(p))
-            .map(|bucket| self.count_left(p, leaves, lifted, bucket))
-            .collect(alloc)
-    }
-
     // The slots that a bucket's version is known to have shown after an end too.
     fn used_left(&self, lifted: &[bool], bucket: u32) -> u64
         ensures { result ≡ cond (slice_index_or lifted.now bucket false) 0
@@ -245,14 +211,38 @@ impl StandingPlain {
         at_or(&self.used, bucket as usize, 0)
     }
 
-    fn used_after(&self, alloc: Global, p: &Params, lifted: &[bool]) -> Result<Vec<u64>, AllocError>
-        ensures { IfOk result (λ used. used.items
-            ≡ map (λ u. cond (slice_index_or lifted.now u false) 0
-            (slice_index self.now.used.items u)) (below (buckets p.now))) }
+    // Puts where each bucket lies after an end, how often its version was read and the slots that
+    // it is known to have shown behind the lists.
+    fn push_after(
+        &self,
+        p: &Params,
+        leaves: &Leaves,
+        lifted: &[bool],
+        homes: &mut Vec<Side>,
+        counts: &mut Vec<u32>,
+        used: &mut Vec<u64>,
+    ) -> Result<(), AllocError>
+        ensures { OnOk result (
+            (homes.new.items ≡ homes.old.items
+            ++ map (λ u. cond (slice_index_or lifted.now u false)
+            (other ((standing_of self.now).homes u)) ((standing_of self.now).homes u))
+            (below (buckets p.now)))
+            × (counts.new.items ≡ counts.old.items
+            ++ map (λ u. cond (slice_index_or lifted.now u false) 0
+            (cond (nat_le p.now.dummies (counts_now p.now
+            (public_known p.now (standing_of self.now) leaves.now) u)) 0
+            (counts_now p.now (public_known p.now (standing_of self.now) leaves.now) u)))
+            (below (buckets p.now)))
+            × (used.new.items ≡ used.old.items
+            ++ map (λ u. cond (slice_index_or lifted.now u false) 0
+            (slice_index self.now.used.items u)) (below (buckets p.now)))) }
     {
-        (0..buckets(p))
-            .map(|bucket| self.used_left(lifted, bucket))
-            .collect(alloc)
+        for bucket in 0..buckets(p) {
+            homes.push(self.home_after(lifted, bucket))?;
+            counts.push(self.count_left(p, leaves, lifted, bucket))?;
+            used.push(self.used_left(lifted, bucket))?;
+        }
+        Ok(())
     }
 
     /// What stands after the running epoch's end.
@@ -266,11 +256,10 @@ impl StandingPlain {
             ≡ standing_ended p.now (standing_of self.now) leaves.now) }
     {
         let lifted = self.lifted(alloc, p, leaves)?;
-        let homes = self.homes_after(alloc, p, &lifted)?;
-        let counts = self.counts_after(alloc, p, leaves, &lifted)?;
-        let used = self.used_after(alloc, p, &lifted)?;
-        let labels = Vec::new(alloc);
-        let slots = Vec::new(alloc);
+        let mut homes = Vec::new(alloc);
+        let mut counts = Vec::new(alloc);
+        let mut used = Vec::new(alloc);
+        self.push_after(p, leaves, &lifted, &mut homes, &mut counts, &mut used)?;
         Ok(StandingPlain {
             epoch: self.epoch.other(),
             homes,
@@ -282,21 +271,20 @@ impl StandingPlain {
             logged: 0,
             maybe: false,
             used,
-            labels,
-            slots,
+            labels: Vec::new(alloc),
+            slots: Vec::new(alloc),
         })
     }
 
     // Keeps what a read shows for the first time in the epoch.
-    #[tactic(auto, using(crate::proofs::RowLaws::rows_put))]
     fn put_slot(&mut self, visit: Visit, slot: u8) -> Result<(), AllocError>
         requires { slot < 64 }
         ensures { OnOk result ((standing_of self.old).slots (hole_of_visit visit) ≡ None
             → standing_of self.new ≡ with_slot (standing_of self.old) (hole_of_visit visit) slot) }
     {
         set_bit(&mut self.used, visit.bucket, slot)?;
-        put_in_rows(&mut self.slots, 0, visit.bucket, visit.number, slot + 1)?;
-        Ok(())
+        let index = index_of(visit.bucket, visit.number);
+        put_at(&mut self.slots, 0, index, slot + 1)
     }
 
     /// Keeps what a read has shown.
@@ -312,7 +300,6 @@ impl StandingPlain {
     }
 
     /// Keeps what a place has shown.
-    #[tactic(auto, using(crate::proofs::LabelLaws::labels_more))]
     pub fn keep_label(&mut self, batch: u32, place: u32, leaf: u16) -> Result<(), AllocError>
         ensures { OnOk result (standing_of self.new
             ≡ with_label (standing_of self.old) batch place leaf) }

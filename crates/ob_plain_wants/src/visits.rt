@@ -14,14 +14,13 @@ use crate::evicted::{evicted_buckets, firsts_of};
 use crate::leaves::Leaves;
 use crate::occasion::Occasion;
 use crate::standing::StandingPlain;
-use crate::tree::path_of;
+use crate::tree::push_path;
 use crate::visit::Visit;
 use ob_base::Params;
 use std::alloc::{AllocError, Global};
 use std::collections::VecDeque;
 
 // Puts the reads that lift a bucket, after so many of its version, behind the list.
-#[tactic(auto, using(crate::proofs::Lists::lifts_more))]
 fn push_lift(
     p: &Params,
     bucket: u32,
@@ -86,7 +85,6 @@ fn push_reads(
 }
 
 // Puts the reads of these buckets on an occasion behind the list.
-#[tactic(auto, using(crate::proofs::Lists::reads_more))]
 fn push_all(
     p: &Params,
     occasion: Occasion,
@@ -125,7 +123,8 @@ pub fn place_visits(
         ≡ place_holes p.now (counts_now p.now
         (public_known p.now (standing_of standing.now) leaves.now)) leaf) }
 {
-    let buckets = path_of(alloc, p, leaf)?;
+    let mut buckets = Vec::new(alloc);
+    push_path(p, leaf, &mut buckets)?;
     let mut visits = VecDeque::new(alloc);
     push_all(p, Occasion::Passed, standing, leaves, &buckets, &mut visits)?;
     Ok(visits)

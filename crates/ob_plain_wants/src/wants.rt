@@ -1,6 +1,6 @@
 //! What a run shows next, each note with what it changes.
 
-ghost use Rattle.std.specs.Prelude.{◌≡◌, ◌+◌, ◌-◌, ◌≤◌, ◌<◌, ◌^◌, ◌++◌, ◌∷◌, [], OnOk, IfOk};
+ghost use Rattle.std.specs.Prelude.{◌≡◌, ◌+◌, ◌-◌, ◌≤◌, ◌<◌, ◌^◌, ◌++◌, ◌∷◌, [], drop, OnOk, IfOk};
 ghost use Rattle.std.specs.List.{range_with_len};
 ghost use Rattle.ob_base.specs.declared.params.Params.{Params};
 ghost use Rattle.ob_schedule.specs.Paths.{by_falling_level};
@@ -109,13 +109,14 @@ pub fn push_record(p: &Params, side: Side, batch: u32, wants: &mut Runs) -> Resu
     ])
 }
 
-/// The places of a batch.
-pub fn places(alloc: Global, p: &Params, batch: u32) -> Result<Vec<Want>, AllocError>
-    ensures { IfOk result (λ wants. wants.items ≡ places p.now batch) }
+/// Puts the places of a batch, but for the first so many, behind the list.
+pub fn push_places(p: &Params, batch: u32, from: u32, wants: &mut Runs) -> Result<(), AllocError>
+    ensures { OnOk result (wants.new ≡ wants.old ++ drop from (places p.now batch)) }
 {
-    (0..p.places)
-        .map(|place| Want::Place { batch, place })
-        .collect(alloc)
+    for place in from..p.places {
+        wants.push(Want::Place { batch, place })?;
+    }
+    Ok(())
 }
 
 /// Puts what an opening shows behind the registers behind the list.
@@ -155,7 +156,6 @@ fn push_anew(
 }
 
 // Puts the writes of the marked ones of a level's buckets behind the list.
-#[tactic(auto, using(crate::proofs::Lists::anew_more))]
 fn push_level(
     p: &Params,
     standing: &StandingPlain,

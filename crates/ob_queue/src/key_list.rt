@@ -41,7 +41,7 @@ fn forget(known: &mut HashSet<Key>, keys: &[Key])
 impl KeyList {
     /// No keys. It takes no memory.
     #[tactic(auto, using(crate::proofs::Once::once_empty))]
-    pub fn new(alloc: Global) -> KeyList
+    pub(crate) fn new(alloc: Global) -> KeyList
         ensures { result ≡ [] }
     {
         KeyList {
@@ -52,7 +52,7 @@ impl KeyList {
 
     /// Forgets them all. It takes no memory, and keeps what there is.
     #[tactic(auto, using(crate::proofs::Once::once_empty))]
-    pub fn clear(&mut self)
+    pub(crate) fn clear(&mut self)
         ensures { self.new ≡ [] }
     {
         self.keys.clear();
@@ -60,7 +60,7 @@ impl KeyList {
     }
 
     /// Whether the key is one of them.
-    pub fn contains(&self, key: Key) -> bool
+    pub(crate) fn contains(&self, key: Key) -> bool
         ensures { result ≡ list_any (λ j. j == key) self.now }
     {
         self.known.contains(&key)
@@ -70,7 +70,7 @@ impl KeyList {
     ///
     /// # Errors
     /// Memory was wanting. All is as before.
-    pub fn push(&mut self, key: Key) -> Result<(), Memory>
+    pub(crate) fn push(&mut self, key: Key) -> Result<(), Memory>
         requires { list_any (λ j. j == key) self.old ≡ false }
         ensures ok { OnOk result (self.new ≡ self.old ++ key ∷ []) }
         ensures err { OnErr result (self.new ≡ self.old) }
@@ -78,12 +78,12 @@ impl KeyList {
         // Made first: what follows then needs no memory.
         self.keys.reserve(1)?;
         self.known.insert(key)?;
-        let _ = self.keys.push(key);
+        self.keys.push_reserved(key);
         Ok(())
     }
 
     /// The last key goes. It takes no memory.
-    pub fn drop_last(&mut self)
+    pub(crate) fn drop_last(&mut self)
         requires { 0 < length self.old }
         ensures { self.new ≡ take (length self.old - 1) self.old }
     {
@@ -93,7 +93,7 @@ impl KeyList {
     }
 
     /// The first so many keys go. It takes no memory.
-    pub fn drop_front(&mut self, many: usize)
+    pub(crate) fn drop_front(&mut self, many: usize)
         requires { many ≤ length self.old }
         ensures { self.new ≡ drop many self.old }
     {
@@ -102,14 +102,14 @@ impl KeyList {
     }
 
     /// The keys in order.
-    pub fn as_slice(&self) -> &[Key]
+    pub(crate) fn as_slice(&self) -> &[Key]
         ensures { result.now ≡ self.now }
     {
         self.keys.as_slice()
     }
 
     /// How many keys there are.
-    pub fn len(&self) -> usize
+    pub(crate) fn len(&self) -> usize
         ensures { result ≡ length self.now }
     {
         self.keys.len()

@@ -15,18 +15,19 @@ use Rattle.ob_store.specs.Disk.{Image}
 use Rattle.ob_store.specs.Calls.{Notes}
 use Rattle.ob_store.specs.Lines.{Trace, Shows}
 use Rattle.ob_seal.specs.declared.keys.Keys.{Keys}
-use Rattle.ob_bucket.specs.Buckets.{Buckets}
-use Rattle.ob_bucket.specs.Version.{Version}
+use Rattle.ob_tables.specs.Buckets.{Buckets}
+use Rattle.ob_tables.specs.Version.{Version}
 use Rattle.ob_tables.specs.Content.{Rows}
 use Rattle.ob_ring.specs.FlatTable.{FlatTable}
 use Rattle.ob_ring.specs.Picked.{Picked, SameSeals, job_of, batch_picked}
 use Rattle.ob_ring.specs.Ring.{IsBatch, Kept, StandsFor}
 use Rattle.ob_tables.specs.Kept.{Held}
+use Rattle.ob_tables.specs.declared.entry.Entry.{Entry}
 use Rattle.ob_ring.specs.Settling.{first_fault, rows_after}
 use Rattle.ob_log.specs.Logs.{BatchRecord}
-use Rattle.ob_batch.specs.Jobs as jobs
-use Rattle.ob_batch.specs.Jobs.{AreFilled, AreJobsRead, AreKept, AreSeen, IsFirstFailing, cells_of}
-use Rattle.ob_batch.specs.declared.error.JobsErr.{JobsErr}
+use Rattle.ob_cells.specs.Jobs as jobs
+use Rattle.ob_cells.specs.Jobs.{AreFilled, AreJobsRead, AreKept, AreSeen, IsFirstFailing, cells_of}
+use Rattle.ob_cells.specs.declared.error.JobsErr.{JobsErr}
 use Rattle.ob_epoch.proofs.Calling.{plans_are_read}
 use Rattle.ob_stand.specs.Reads.{plains_in}
 use Rattle.ob_recover.specs.Repeats.{record_of, record_places, asked_of_record, batch_cells, batch_jobs, repeated_notes, BatchAnswers, BatchIsShown, BatchTells, HaveKeysOf, IsRepeatFault, JobsAnswer, RowsJoin}
@@ -213,6 +214,17 @@ module _ (most : ℕ) (old mid : Kept) (r : BatchRecord) (now : Planned) (start 
 -- another stash changes no table
 pub stands_kept : (r r' : Kept) (stash : Held) → r' ≡ record r { stash = stash } → (t : FlatTable) → StandsFor r t → StandsFor r' t
 stands_kept r r' stash is t stands = subst (λ (x : Kept). StandsFor x t) (sym is) (record { orderly = stands.orderly; arrays = stands.arrays })
+
+-- a plan leaves the stash, and what settles its jobs leaves all else
+pub kept_planned : (old planned : Kept) → planned ≡ record old { book = planned.book; metas = planned.metas } → planned ≡ record old { book = planned.book; metas = planned.metas; stash = planned.stash }
+kept_planned old planned kept = kept ∙ ap (λ (s : Held). record old { book = planned.book; metas = planned.metas; stash = s }) (sym (ap (λ (r : Kept). r.stash) kept))
+
+pub kept_settled : (old planned settled : Kept) → planned ≡ record old { book = planned.book; metas = planned.metas } → settled ≡ record planned { stash = settled.stash }
+    → settled ≡ record old { book = settled.book; metas = settled.metas; stash = settled.stash }
+kept_settled old planned settled kept only =
+    only ∙ ap (λ (r : Kept). record r { stash = settled.stash }) kept
+    ∙ ap (λ (b : List (Option Entry)). record old { book = b; metas = planned.metas; stash = settled.stash }) (sym (ap (λ (r : Kept). r.book) only))
+    ∙ ap (λ (m : Buckets). record old { book = settled.book; metas = m; stash = settled.stash }) (sym (ap (λ (r : Kept). r.metas) only))
 
 -- a record is that of its parts
 pub record_is : (r : BatchRecord) (generation first : ℕ) (asks : List (Option ℕ)) (words : List ℕ) → generation ≡ r.generation → first ≡ r.first → asks ≡ r.asks → words ≡ r.words

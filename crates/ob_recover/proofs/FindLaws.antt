@@ -15,7 +15,7 @@ use Rattle.ob_store.specs.Told.{Tells, TellsFirst, Does}
 use Rattle.ob_store.proofs.Doing.{first_all}
 use Rattle.ob_store.proofs.Moments.{passed_then}
 use Rattle.ob_seal.specs.declared.keys.Keys.{Keys}
-use Rattle.ob_bucket.specs.Buckets.{Buckets}
+use Rattle.ob_tables.specs.Buckets.{Buckets}
 use Rattle.ob_tables.specs.declared.tables.Tables.{Tables}
 use Rattle.ob_base.specs.declared.fault.Check.TheVariants.{Tag, Seal, Epoch, Form}
 use Rattle.ob_cells.specs.Orders.{read_notes, run_reads, reads_of}

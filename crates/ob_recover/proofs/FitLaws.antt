@@ -5,8 +5,8 @@ use Rattle.std.specs.FinMap as finite
 use Rattle.std.proofs.Common.{arith, inl, inr, refl, sym, ap, ◌∙◌, subst}
 use Rattle.ob_base.specs.declared.params.Params.{Params}
 use Rattle.ob_base.specs.Tree.{buckets}
-use Rattle.ob_bucket.specs.Buckets.{Buckets, version_at}
-use Rattle.ob_bucket.specs.Version.{IsWhole, key_at}
+use Rattle.ob_tables.specs.Buckets.{Buckets, version_at}
+use Rattle.ob_tables.specs.Version.{IsWhole, key_at}
 use Rattle.ob_check.specs.Fresh.{AreIdle}
 use Rattle.ob_tables.specs.Content.{Content, FitsBook, FitsSeals, IsKeyOf, Obeys, content_of}
 use Rattle.ob_tables.specs.Spelling.{slot_bytes}
@@ -27,9 +27,9 @@ use Rattle.ob_ring.specs.Ring.{IsRing, Kept, StandsFor}
 use Rattle.ob_tables.specs.Kept.{entry_at}
 use Rattle.ob_tables.specs.declared.entry.Entry.{Entry}
 use Rattle.ob_tables.specs.declared.tables.Tables.{Tables}
-use Rattle.ob_taken.proofs.TheLaws.{picked_are_taken}
-use Rattle.ob_taken.specs.Values.{Values}
-use Rattle.ob_values.specs.Carries.{Carries, Slots}
+use Rattle.ob_epoch.proofs.KeyLaws.{picked_are_taken}
+use Rattle.ob_epoch.specs.Values.{Values}
+use Rattle.ob_epoch.specs.Carries.{Carries, Slots}
 
 -- ---- over a batch
 

@@ -12,8 +12,8 @@ use Rattle.ob_store.specs.Lines.{Trace, Shows}
 use Rattle.ob_store.proofs.Events.{none_noted, joined}
 use Rattle.ob_store.proofs.Showing.{shows_none, shows_then}
 use Rattle.ob_seal.specs.declared.keys.Keys.{Keys}
-use Rattle.ob_bucket.specs.Version.{Version}
-use Rattle.ob_bucket.specs.Buckets.{Buckets}
+use Rattle.ob_tables.specs.Version.{Version}
+use Rattle.ob_tables.specs.Buckets.{Buckets}
 use Rattle.ob_tables.specs.declared.entry.Entry.{Entry}
 use Rattle.ob_tables.specs.Content.{Content, Rows}
 use Rattle.ob_ring.specs.Fetching.{after_labels}
@@ -21,11 +21,11 @@ use Rattle.ob_ring.specs.FlatTable.{FlatTable, Batch, after}
 use Rattle.ob_ring.specs.Picked.{Picked, SameSeals, job_of, batch_picked}
 use Rattle.ob_ring.specs.Settling.{first_fault, rows_after}
 use Rattle.ob_log.specs.Logs.{BatchRecord}
-use Rattle.ob_batch.specs.Jobs.{AreJobsRead}
-use Rattle.ob_batch.specs.Lanes.{ReadByLanes}
-use Rattle.ob_values.specs.Carries.{Slots, AreRead}
-use Rattle.ob_values.specs.Epochs.{Read, after_batches, rows_of_batches, AreAllRead, AreFaultless}
-use Rattle.ob_values.specs.Runs.{AreRun, Plains}
+use Rattle.ob_cells.specs.Jobs.{AreJobsRead}
+use Rattle.ob_cells.specs.Lanes.{ReadByLanes}
+use Rattle.ob_epoch.specs.Carries.{Slots, AreRead}
+use Rattle.ob_epoch.specs.Epochs.{Read, after_batches, rows_of_batches, AreAllRead, AreFaultless}
+use Rattle.ob_epoch.specs.Runs.{AreRun, Plains}
 use Rattle.ob_epoch.specs.Table.{flat_of}
 use Rattle.ob_stand.specs.Reads.{plains_in}
 use Rattle.ob_stand.proofs.ReadLaws.{sealed_are_opened}

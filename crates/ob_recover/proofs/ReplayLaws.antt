@@ -1,6 +1,6 @@
 -- The repeats so far, and one more.
-use Rattle.std.proofs.Common.{◌≡◌, ⊎_elim, ℕ, zero, suc, ◌+◌, ◌<◌, List, [], ◌∷◌, ◌++◌, Option, Result, Ok, Err, OnOk, take, drop, length, refl, sym, ◌∙◌, ap, subst, arith}
-use Rattle.std.proofs.lemmas.List.{take_more}
+use Rattle.std.proofs.Common.{◌≡◌, ⊎_elim, ℕ, zero, suc, ◌+◌, ◌<◌, ◌≤◌, List, [], ◌∷◌, ◌++◌, Option, Result, Ok, Err, OnOk, take, drop, length, refl, sym, ◌∙◌, ap, subst, arith}
+use Rattle.std.proofs.lemmas.List.{take_all, take_more}
 use mathlib.Core.Path.{fun_ext}
 use Rattle.ob_base.specs.declared.params.Params.{Params}
 use Rattle.ob_base.specs.declared.fault.Damaged.{Damaged as Damage}
@@ -14,7 +14,7 @@ use Rattle.ob_store.specs.Lines.{Trace}
 use Rattle.ob_store.proofs.Events.{none_noted}
 use Rattle.ob_store.proofs.Showing.{shows_none}
 use Rattle.ob_seal.specs.declared.keys.Keys.{Keys}
-use Rattle.ob_bucket.specs.Buckets.{Buckets}
+use Rattle.ob_tables.specs.Buckets.{Buckets}
 use Rattle.ob_tables.specs.declared.entry.Entry.{Entry}
 use Rattle.ob_tables.specs.Kept.{entry_at}
 use Rattle.ob_tables.specs.Content.{Content, Rows}
@@ -25,7 +25,7 @@ use Rattle.ob_ring.specs.Ring.{Kept, StandsFor}
 use Rattle.ob_log.specs.Logs.{BatchRecord, record_at, nothing}
 use Rattle.ob_epoch.specs.Table.{flat_of}
 use Rattle.ob_stand.specs.Reads.{slots_in}
-use Rattle.ob_recover.specs.Repeats.{record_places, asked_of_record, table_after_records, entries_after_records, repeated_notes, batch_cells, BatchAnswers, BatchTells, AllRowsJoin, AreRepeated}
+use Rattle.ob_recover.specs.Repeats.{record_places, asked_of_record, table_after_records, entries_after_records, repeated_notes, batch_cells, BatchAnswers, BatchTells, AllRowsJoin, AreRepeated, HasRepeated}
 use Rattle.ob_recover.specs.Repeats.{IsRepeatDamage, IsRepeatFault, RepeatsTold, RowsJoin, RepeatsFirst, RepeatDoes, RepeatsAnswer, content_of_ring}
 use Rattle.ob_recover.proofs.RepeatLaws.{table_more, entries_more, told_more, told_still, repeated_more}
 
@@ -206,3 +206,29 @@ module _ (keys : Keys) (o : Kept) (most : ℕ) (rs : List BatchRecord) (n : ℕ)
   refused_does (Worn number) fault last = absurd fault
   refused_does SourceFault fault last = absurd fault
   refused_does SinkFault fault last = absurd fault
+
+-- ---- all of them
+
+module _ (keys : Keys) (o : Kept) (most : ℕ) (rs : List BatchRecord) (n : ℕ) (old now : Disk) (before shown : Trace) (ring : Kept) (all : length rs ≤ n) (so : Repeating keys o most rs n old now before shown ring) where
+  abbrev kept : Content
+  kept = content_of_ring o
+
+  whole : take n rs ≡ rs
+  whole = take_all n rs all
+
+  pub all_repeated : HasRepeated o rs ring
+  all_repeated = record {
+    params = so.params;
+    table = subst (λ (l : List BatchRecord). StandsFor ring (table_after_records o.p (flat_of o.p kept) l)) whole so.table;
+    entries = λ k. so.entries k ∙ ap (λ (l : List BatchRecord). entries_after_records o.p (λ i. entry_at o.book i) l k) whole;
+    joins = subst (λ (l : List BatchRecord). AllRowsJoin o.p (flat_of o.p kept) l (o.stash).rows (ring.stash).rows) whole so.joins;
+    seals = so.seals;
+    counter = so.counter;
+    room = so.room;
+  }
+
+  pub all_read : old.tells → RepeatsAnswer keys o old.cells rs (ring.stash).rows (Ok tt)
+  all_read tells = subst (λ (l : List BatchRecord). AreRepeated o.p (slots_in keys o.p kept old.cells) (flat_of o.p kept) kept.rows (ring.stash).rows l) whole (so.read tells)
+
+  pub all_told : RepeatsTold most o.p kept rs old.seen now.seen before shown
+  all_told = subst (λ (l : List BatchRecord). RepeatsTold most o.p kept l old.seen now.seen before shown) whole so.told

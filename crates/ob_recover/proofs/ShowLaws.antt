@@ -8,10 +8,10 @@ use Rattle.ob_base.specs.declared.job.Place.{Place}
 use Rattle.ob_base.specs.Planned.{Planned, job_at}
 use Rattle.ob_store.specs.Lines.{Trace, Shows}
 use Rattle.ob_store.proofs.Showing.{shows_then}
-use Rattle.ob_batch.specs.Jobs.{AreFilled}
+use Rattle.ob_cells.specs.Jobs.{AreFilled}
 use Rattle.ob_store.specs.declared.watch.Note.{Note}
 use Rattle.ob_store.specs.declared.watch.Note.TheVariants as note
-use Rattle.ob_bucket.specs.Version.{Version}
+use Rattle.ob_tables.specs.Version.{Version}
 use Rattle.ob_ring.specs.FlatTable.{FlatTable, after_batch, after_place, leaf_shown}
 use Rattle.ob_ring.specs.Picked.{Picked, job_of, place_picked, batch_picked, places_from}
 use Rattle.ob_ring.proofs.FetchLaws.{picked_both}

@@ -1,5 +1,5 @@
 -- Of a store that stands each batch is read, and the planner keeps its map.
-use Rattle.std.proofs.Common.{◌≡◌, ⊎_elim, ℕ, zero, suc, ◌+◌, ◌-◌, ◌<◌, ◌≤◌, ◌^◌, ◌%◌, ◌==◌, ◌&&◌, ◌||◌, Bool, true, false, List, [], ◌∷◌, Option, Some, None, Ok, Err, map, length, get_or, refl, sym, ◌∙◌, ap, subst, arith}
+use Rattle.std.proofs.Common.{◌≡◌, ⊎_elim, ℕ, zero, suc, ◌+◌, ◌-◌, ◌<◌, ◌≤◌, ◌^◌, ◌%◌, ◌==◌, ◌&&◌, ◌||◌, Bool, true, false, List, [], ◌∷◌, Option, Some, None, Result, Ok, Err, map, length, get_or, refl, sym, ◌∙◌, ap, subst, arith}
 use Rattle.std.specs.List.{range_with_len}
 use Rattle.std.specs.Prelude.{cond, ◌++◌}
 use Rattle.std.proofs.lemmas.Bool.{eq-eqb, or_left, or_right, true≢false}
@@ -17,7 +17,9 @@ use Rattle.ob_seal.specs.Seals.{sealed}
 use Rattle.ob_seal.proofs.Spelling.{sealed_parts}
 use Rattle.ob_tables.specs.declared.entry.Entry.{Entry}
 use Rattle.ob_tables.specs.Kept.{entry_at}
-use Rattle.ob_tables.specs.Content.{Content, Rows, Obeys}
+use Rattle.ob_tables.specs.Content.{Content, Rows, Obeys, content_of}
+use Rattle.ob_store.specs.declared.event.Event.{Event}
+use Rattle.ob_store.specs.Lines.{Trace}
 use Rattle.ob_ring.specs.FlatTable.{FlatTable, Row, Spot, Shown, Batch, FinalLifts, after, batch_shown, final_shown, lift, leaf_of, leaf_shown, after_place, fetch, spot_of, asked_row, index_in, index_shown, mark_index, lift_order, reads, visit}
 use Rattle.ob_ring.specs.Laws.{IsOrderly, seen_in}
 use Rattle.ob_ring.specs.News.{Seen, with_shown, AreNew}
@@ -31,21 +33,21 @@ use Rattle.ob_schedule.specs.Paths.{eviction_path, is_one_of}
 use Rattle.ob_ring.specs.Fetching.{leaf_places, own_entry}
 use Rattle.std.proofs.lemmas.Nat.{mod_below, pow_pos}
 use Rattle.ob_log.specs.Logs.{BatchRecord}
-use Rattle.ob_batch.specs.Jobs.{IsPlainOf, IsFirstFailing}
-use Rattle.ob_taken.specs.Takes.{AreKeysLow}
-use Rattle.ob_taken.specs.Values.{Values}
-use Rattle.ob_taken.proofs.TheLaws.{steps_only_take}
-use Rattle.ob_taken.proofs.Taking.{batch_present}
-use Rattle.ob_values.specs.Carries.{AreRead, Slots, Carries}
-use Rattle.ob_values.specs.Epochs.{Read, AreAllRead, after_batches, rows_of_batches}
-use Rattle.ob_values.proofs.Steps.{batch_carries, lifts_carry}
+use Rattle.ob_cells.specs.Jobs.{IsPlainOf, IsFirstFailing}
+use Rattle.ob_epoch.specs.Takes.{AreKeysLow}
+use Rattle.ob_epoch.specs.Values.{Values}
+use Rattle.ob_epoch.proofs.KeyLaws.{steps_only_take}
+use Rattle.ob_epoch.proofs.Taking.{batch_present}
+use Rattle.ob_epoch.specs.Carries.{AreRead, Slots, Carries}
+use Rattle.ob_epoch.specs.Epochs.{Read, AreAllRead, after_batches, rows_of_batches}
+use Rattle.ob_epoch.proofs.Steps.{batch_carries, lifts_carry}
 use Rattle.ob_epoch.specs.Table.{flat_of, lying_place, ring_of, row_for}
 use Rattle.ob_epoch.proofs.Reading.{tables_are_read}
 use Rattle.ob_epoch.proofs.Standing.{contents_carry}
 use Rattle.ob_stand.specs.Reads.{slots_in}
 use Rattle.ob_stand.specs.Stands.{RingStanding, Stands}
 use Rattle.ob_stand.proofs.ReadLaws.{stands_valued}
-use Rattle.ob_recover.specs.Repeats.{asked_of_record, table_after_records, batch_jobs, AreRepeated, IsRepeatDamage, IsRepeatFault, RepeatsAnswer, ReplaysStanding}
+use Rattle.ob_recover.specs.Repeats.{asked_of_record, table_after_records, batch_jobs, content_of_ring, AreRepeated, HasRepeated, IsRepeatDamage, IsRepeatFault, IsReplayOf, RepeatDoes, RepeatsAnswer, ReplaysStanding}
 use Rattle.ob_recover.specs.declared.found.Found.{Found}
 use Rattle.ob_recover.specs.Finds.{KeepsWhatStood}
 use Rattle.ob_ring.specs.Ring.{Kept}
@@ -328,3 +330,34 @@ module _ (keys : Keys) (p : Params) (s : RingStanding) (image : Image) (stands :
   replayed_badly (Worn number) fault was = absurd fault
   replayed_badly SourceFault fault was = absurd fault
   replayed_badly SinkFault fault was = absurd fault
+
+-- ---- a replay of what was found, by the repeats of its records
+
+module _ (p : Params) (found : Found) (o : Kept) (rs : List BatchRecord) (made : o ≡ ring_of p found.tables) (logged : rs ≡ found.records) where
+  pub found_repeated : (ring : Kept) → HasRepeated o rs ring → HasRepeated (ring_of p found.tables) found.records ring
+  found_repeated ring has = subst (λ (l : List BatchRecord). HasRepeated (ring_of p found.tables) l ring) logged (subst (λ (r : Kept). HasRepeated r rs ring) made has)
+
+  pub found_does : (most : ℕ) (old new : Option (List Event)) (before after : Trace) (r : Result (Unit {0}) Fault) → RepeatDoes most o.p (content_of_ring o) rs old new before after r
+      → RepeatDoes most p (content_of found.tables) found.records old new before after r
+  found_does most old new before after r does =
+      subst (λ (l : List BatchRecord). RepeatDoes most p (content_of found.tables) l old new before after r) logged (subst (λ (x : Kept). RepeatDoes most x.p (content_of_ring x) rs old new before after r) made does)
+
+  module _ (keys : Keys) (image : Image) (rows : Rows) where
+    pub found_answer : (r : Result (Unit {0}) Fault) → RepeatsAnswer keys o image rs rows r → RepeatsAnswer keys (ring_of p found.tables) image found.records rows r
+    found_answer r was = subst (λ (l : List BatchRecord). RepeatsAnswer keys (ring_of p found.tables) image l rows r) logged (subst (λ (x : Kept). RepeatsAnswer keys x image rs rows r) made was)
+
+    refused_as : (f : Fault) → RepeatsAnswer keys (ring_of p found.tables) image found.records rows (Err f) → IsReplayOf keys p image found (Err f)
+    refused_as Memory was = was
+    refused_as Usage was = was
+    refused_as (BadScript line) was = was
+    refused_as (BadParams field) was = was
+    refused_as NotStore was = was
+    refused_as (Damaged cell check kept computed) was = was
+    refused_as (StoreFault unsure) was = was
+    refused_as (StashFull full) was = was
+    refused_as (Worn number) was = was
+    refused_as SourceFault was = was
+    refused_as SinkFault was = was
+
+    pub found_refused : (f : Fault) → RepeatsAnswer keys o image rs rows (Err f) → IsReplayOf keys p image found (Err f)
+    found_refused f was = refused_as f (found_answer (Err f) was)

@@ -10,7 +10,7 @@ use Rattle.ob_store.specs.Lines.{Trace}
 use Rattle.ob_store.specs.Told.{Tells, TellsFirst}
 use Rattle.ob_store.specs.declared.watch.Note.{Note}
 use Rattle.ob_seal.specs.declared.keys.Keys.{Keys}
-use Rattle.ob_bucket.specs.Buckets.{Buckets}
+use Rattle.ob_tables.specs.Buckets.{Buckets}
 use Rattle.ob_tables.specs.declared.tables.Tables.{Tables}
 use Rattle.ob_cells.specs.Orders.{read_notes}
 use Rattle.ob_cells.specs.Reads.{IsFirstDamage}

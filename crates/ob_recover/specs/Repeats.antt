@@ -13,7 +13,7 @@ use Rattle.ob_store.specs.declared.event.Event.{Event}
 use Rattle.ob_store.specs.declared.watch.Note.{Note}
 use Rattle.ob_store.specs.declared.watch.Note.TheVariants as note
 use Rattle.ob_seal.specs.declared.keys.Keys.{Keys}
-use Rattle.ob_bucket.specs.Version.{Version}
+use Rattle.ob_tables.specs.Version.{Version}
 use Rattle.ob_tables.specs.declared.entry.Entry.{Entry}
 use Rattle.ob_tables.specs.Kept.{entry_at}
 use Rattle.ob_tables.specs.Content.{Content, Rows, content_of}
@@ -23,11 +23,11 @@ use Rattle.ob_ring.specs.Picked.{Picked, SameSeals, job_of, place_picked, batch_
 use Rattle.ob_ring.specs.Ring.{Kept, StandsFor}
 use Rattle.ob_ring.specs.Settling.{first_fault, rows_after}
 use Rattle.ob_log.specs.Logs.{BatchRecord}
-use Rattle.ob_batch.specs.Jobs.{IsFirstFailing, AreJobsRead}
-use Rattle.ob_batch.specs.Lanes.{ReadByLanes}
-use Rattle.ob_values.specs.Carries.{Slots, AreRead, Carries}
-use Rattle.ob_values.specs.Epochs.{Read, AreAllRead, AreFaultless, rows_of_batches}
-use Rattle.ob_values.specs.Runs.{slots_of}
+use Rattle.ob_cells.specs.Jobs.{IsFirstFailing, AreJobsRead}
+use Rattle.ob_cells.specs.Lanes.{ReadByLanes}
+use Rattle.ob_epoch.specs.Carries.{Slots, AreRead, Carries}
+use Rattle.ob_epoch.specs.Epochs.{Read, AreAllRead, AreFaultless, rows_of_batches}
+use Rattle.ob_epoch.specs.Runs.{slots_of}
 use Rattle.ob_epoch.specs.Table.{buckets_of, flat_of, ring_of}
 use Rattle.ob_stand.specs.Reads.{plains_in, slots_in}
 use Rattle.ob_stand.specs.Stands.{RingStanding}

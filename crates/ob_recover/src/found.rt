@@ -2,9 +2,8 @@
 
 ghost use Rattle.std.specs.Prelude.{◌<◌, ◌^◌};
 
-use ob_bucket::Metas;
 use ob_log::Records;
-use ob_tables::Tables;
+use ob_tables::{Metas, Tables};
 use ob_twin::Gates;
 
 /// What a store holds, as an opening finds it.

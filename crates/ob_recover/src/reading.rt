@@ -5,8 +5,8 @@ ghost use Rattle.ob_base.specs.Planned.{most_jobs, job_at};
 ghost use Rattle.ob_store.specs.Images.{Same, Passes};
 ghost use Rattle.ob_store.specs.Calls.{Serves, IsStoreFault, Keeps};
 ghost use Rattle.ob_tables.specs.Kept.{entry_at};
-ghost use Rattle.ob_batch.specs.Jobs.{AreFilled, cells_of};
-ghost use Rattle.ob_bucket.specs.Buckets.{Buckets};
+ghost use Rattle.ob_cells.specs.Jobs.{AreFilled, cells_of};
+ghost use Rattle.ob_tables.specs.Buckets.{Buckets};
 ghost use Rattle.ob_ring.specs.Fetching.{after_labels};
 ghost use Rattle.ob_ring.specs.FlatTable.{FlatTable, Batch, after};
 ghost use Rattle.ob_ring.specs.Picked.{SameSeals, batch_picked};
@@ -17,7 +17,7 @@ ghost use Rattle.ob_recover.specs.Repeats.{record_places, asked_of_record, recor
 
 use crate::showing::show_batch;
 use ob_base::{Fault, Jobs, Key};
-use ob_batch::{Crew, JobsErr, run_jobs};
+use ob_cells::{Crew, JobsErr, run_jobs};
 use ob_ring::Ring;
 use ob_seal::Sealer;
 use ob_store::{Store, Watch};

@@ -6,7 +6,7 @@ ghost use Rattle.ob_store.specs.Images.{Same, Passes};
 ghost use Rattle.ob_store.specs.Calls.{Serves, IsStoreFault, Keeps};
 ghost use Rattle.ob_tables.specs.Kept.{entry_at};
 ghost use Rattle.ob_log.specs.Logs.{RecordFits};
-ghost use Rattle.ob_bucket.specs.Buckets.{Buckets};
+ghost use Rattle.ob_tables.specs.Buckets.{Buckets};
 ghost use Rattle.ob_ring.specs.Fetching.{after_labels};
 ghost use Rattle.ob_ring.specs.FlatTable.{FlatTable, Batch, after};
 ghost use Rattle.ob_ring.specs.Picked.{SameSeals, batch_picked};
@@ -16,7 +16,7 @@ ghost use Rattle.ob_recover.specs.Repeats.{record_places, asked_of_record, repea
 
 use crate::reading::read_batch;
 use ob_base::{Fault, Jobs};
-use ob_batch::Crew;
+use ob_cells::Crew;
 use ob_log::Record;
 use ob_ring::Ring;
 use ob_seal::Sealer;

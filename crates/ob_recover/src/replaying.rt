@@ -16,7 +16,7 @@ ghost use Rattle.ob_recover.specs.Repeats.{HasRepeated, IsReplayed, IsReplayOf, 
 use crate::found::Found;
 use crate::repeating::repeat_batch;
 use ob_base::{Fault, Jobs, Params};
-use ob_batch::Crew;
+use ob_cells::Crew;
 use ob_log::Record;
 use ob_ring::Ring;
 use ob_seal::Sealer;

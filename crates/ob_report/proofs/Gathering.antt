@@ -6,7 +6,7 @@ use Rattle.std.proofs.lemmas.Grind.{flat_map-append}
 use Rattle.ob_base.specs.Causes.{HasCause}
 use Rattle.ob_io.specs.Flows.{appended}
 use Rattle.ob_io.proofs.Pieces.{appended-again, appended-none, take-more}
-use Rattle.ob_io.specs.Streams.{flow}
+use Rattle.ob_io.specs.Streams.{Flow, flow}
 use Rattle.ob_report.specs.Printed.{Prints}
 use Rattle.ob_report.specs.Gathered.{Gathering, gathering, Gathers}
 
@@ -169,6 +169,19 @@ printed text old new faults now left mid (Err e) w p empty =
       all = tt;
       cause = record { later = q.cause.later; failed = q.cause.failed };
     }
+
+-- A text that wasn't gathered whole from an empty page.
+pub refused : {T U E : Type 0} (text : List ℕ) (old new : Option (List ℕ)) (faults now : ℕ) (held : List ℕ) (e : E) (result : Result U E)
+    → Gathers {T = T} text (gathering old faults []) (gathering new now held) (Err e) → result ≡ Err e → Prints text (flow old faults) (flow new now) result
+refused text old new faults now held e result p is = rw is (record {
+  printed = record { count = p.count; within = p.within; written = p.written; whole = inr p.cause.failed };
+  all = tt;
+  cause = record { later = p.cause.later; failed = p.cause.failed };
+})
+
+-- a printed text by another name
+pub same_print : {T E : Type 0} (a b : List ℕ) (before after : Flow) (result : Result T E) → a ≡ b → Prints a before after result → Prints b before after result
+same_print a b before after result same p = rw (← same) p
 
 -- Of bytes that go to a page part by part, those up to here went there, and to get room for more was refused.
 pub stopped_at : {T U E : Type 0} (bytes : List ℕ) (at : ℕ) (first mid last : Gathering) (e : E) (result : Result U E)

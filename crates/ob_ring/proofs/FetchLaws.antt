@@ -8,8 +8,8 @@ use Rattle.ob_base.specs.declared.job.Job.{Job}
 use Rattle.ob_base.specs.declared.job.Place.{Place}
 use Rattle.ob_base.specs.Tree.{path}
 use Rattle.ob_base.specs.Planned.{Planned}
-use Rattle.ob_bucket.specs.Version.{key_at}
-use Rattle.ob_bucket.specs.Buckets.{Buckets, version_at, is_lifted}
+use Rattle.ob_tables.specs.Version.{key_at}
+use Rattle.ob_tables.specs.Buckets.{Buckets, version_at, is_lifted}
 use Rattle.ob_tables.specs.declared.entry.Entry.{Entry}
 use Rattle.ob_tables.specs.Kept.{entry_at}
 use Rattle.ob_ring.specs.declared.found.Found.{Found}

@@ -9,8 +9,8 @@ use Rattle.std.proofs.lemmas.List.FromFn.{length-range_with_len}
 use Rattle.std.proofs.lemmas.List.Sums.{passes_at_first, position_or_len_is}
 use Rattle.ob_base.specs.declared.params.Params.{Params}
 use Rattle.ob_base.specs.Tree.{buckets, below, width}
-use Rattle.ob_bucket.specs.Version.{Version, HasSlots, key_at, used_at, filled}
-use Rattle.ob_bucket.specs.Buckets.{Buckets, version_at, with_version}
+use Rattle.ob_tables.specs.Version.{Version, HasSlots, key_at, used_at, filled}
+use Rattle.ob_tables.specs.Buckets.{Buckets, version_at, with_version}
 use Rattle.ob_schedule.specs.Paths.{is_one_of}
 use Rattle.ob_ring.specs.FlatTable.{FlatTable, Row, Spot, InStash, In, spot_of, is_stash, can_go, chosen, placed, fill}
 use Rattle.ob_ring.specs.Sound.{IsSound}

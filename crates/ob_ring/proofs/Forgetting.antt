@@ -3,8 +3,8 @@ use Rattle.std.specs.Prelude.{◌≡◌, ℕ, List, [], ◌∷◌, ◌++◌, Opt
 use Rattle.std.specs.declared.option.Option.TheVariants.{None, Some}
 use Rattle.std.specs.FinMap as finite
 use Rattle.std.proofs.Common.{refl}
-use Rattle.ob_bucket.specs.Version.{Version}
-use Rattle.ob_bucket.specs.Buckets.{version_at}
+use Rattle.ob_tables.specs.Version.{Version}
+use Rattle.ob_tables.specs.Buckets.{version_at}
 use Rattle.ob_ring.specs.Settling.{Rows}
 use Rattle.ob_ring.specs.Plain.{without, without_buckets}
 

@@ -8,7 +8,7 @@ use Rattle.ob_base.specs.declared.params.Params.{Params}
 use Rattle.ob_base.specs.declared.job.Job.{Job}
 use Rattle.ob_base.specs.Tree.{path}
 use Rattle.ob_base.specs.Planned.{job_at}
-use Rattle.ob_bucket.specs.Version.{Version}
+use Rattle.ob_tables.specs.Version.{Version}
 use Rattle.ob_ring.specs.FlatTable.{FlatTable, Spot, is_at, spot_of, index_in, index_shown, mark_index, lift, lift_order, reads, visit, fetch, asked_row, leaf_shown, after_place}
 use Rattle.ob_ring.specs.Picked.{Picked, holder, key_shown, lift_picked, visit_picked, visits_picked, place_picked, batch_picked, final_picked, job_of}
 use Rattle.ob_ring.specs.Fetching.{own_entry, places_of, leaf_places}

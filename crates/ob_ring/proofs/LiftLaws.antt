@@ -5,8 +5,8 @@ use Rattle.std.proofs.Common.{suc, arith, refl, sym, ap, ◌∙◌}
 use Rattle.ob_base.specs.declared.params.Params.{Params}
 use Rattle.ob_base.specs.Tree.{path, below, reversed}
 use Rattle.ob_base.specs.Planned.{Planned}
-use Rattle.ob_bucket.specs.Buckets.{Buckets, is_lifted}
-use Rattle.ob_bucket.proofs.Counting.{range_more}
+use Rattle.ob_tables.specs.Buckets.{Buckets, is_lifted}
+use Rattle.ob_tables.proofs.Counting.{range_more}
 use Rattle.ob_ring.specs.FlatTable.{FlatTable, lift, after_final}
 use Rattle.ob_ring.specs.Arrays.{AreWhole}
 use Rattle.ob_ring.specs.Picked.{Picked, Plans, lift_picked, final_picked}

@@ -9,8 +9,8 @@ use Rattle.ob_base.specs.declared.params.Params.{Params}
 use Rattle.ob_base.specs.Tree.{buckets}
 use Rattle.ob_base.proofs.TreeLaws.{one_shifted}
 use Rattle.ob_base.proofs.Bounds.{buckets_le}
-use Rattle.ob_bucket.specs.Buckets.{Buckets, is_lifted}
-use Rattle.ob_bucket.proofs.Counting.{range_more}
+use Rattle.ob_tables.specs.Buckets.{Buckets, is_lifted}
+use Rattle.ob_tables.proofs.Counting.{range_more}
 use Rattle.ob_schedule.specs.Paths.{by_falling_level}
 use Rattle.ob_ring.proofs.Appends.{append_more, append_none}
 

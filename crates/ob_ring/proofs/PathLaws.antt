@@ -10,8 +10,8 @@ use Rattle.std.proofs.Math.Nat.{mul-le-mul_right}
 use Rattle.ob_base.specs.declared.params.Params.{Params}
 use Rattle.ob_base.specs.Tree.{buckets, bucket_of, below}
 use Rattle.ob_base.specs.Planned.{Planned}
-use Rattle.ob_bucket.specs.Version.{Version, HasSlots, key_at, used_at, is_key, live_index}
-use Rattle.ob_bucket.specs.Buckets.{Buckets, version_at, with_version}
+use Rattle.ob_tables.specs.Version.{Version, HasSlots, key_at, used_at, is_key, live_index}
+use Rattle.ob_tables.specs.Buckets.{Buckets, version_at, with_version}
 use Rattle.ob_ring.specs.declared.found.Found.{Found}
 use Rattle.ob_ring.specs.FlatTable.{FlatTable, Spot, InStash, In, spot_of, leaf_of, visit, visits}
 use Rattle.ob_ring.specs.Sound.{IsSound, Placed}

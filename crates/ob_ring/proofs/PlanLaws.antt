@@ -10,13 +10,13 @@ use Rattle.ob_base.specs.declared.job.Job.{Job}
 use Rattle.ob_base.specs.Layout.{slot_cell}
 use Rattle.ob_base.specs.Tree.{buckets, width}
 use Rattle.ob_base.specs.Planned.{Planned}
-use Rattle.ob_bucket.specs.Version.{Version, HasSlots, key_at, used_at}
-use Rattle.ob_bucket.specs.Buckets.{Buckets, version_at, with_version, is_lifted, no_version}
+use Rattle.ob_tables.specs.Version.{Version, HasSlots, key_at, used_at}
+use Rattle.ob_tables.specs.Buckets.{Buckets, version_at, with_version, is_lifted, no_version}
 use Rattle.ob_ring.specs.FlatTable.{FlatTable, Spot, index_in, mark_index, lift, lift_order, reads, visit}
 use Rattle.ob_ring.specs.Order.{order_of, is_live, is_spare}
 use Rattle.ob_ring.specs.Arrays.{IsTableOf, AreWhole, Rest, arrays_of}
 use Rattle.ob_ring.specs.Picked.{Picked, Plans, SameSeals, job_of, with_jobs, index_of, lift_picked, show_picked, shown_index, shown_of, key_shown, visit_picked, IsEmptied}
-use Rattle.ob_bucket.proofs.Counting.{count_by-range_more}
+use Rattle.ob_tables.proofs.Counting.{count_by-range_more}
 use Rattle.ob_ring.proofs.Appends.{append_more, append_none, map-both}
 use Rattle.ob_ring.proofs.TableOf.{table_like, HasVersion, holder_is, order_is, shown_is, reads_are, with_used, with_lifted, mark_is, lift_is}
 

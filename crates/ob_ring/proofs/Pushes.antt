@@ -3,7 +3,7 @@ use Rattle.std.specs.Prelude.{◌≡◌, ℕ, ◌+◌, Bool, true, false, cond, 
 use Rattle.std.specs.List.{range_with_len}
 use Rattle.std.proofs.Common.{suc, arith, sym, ap, subst, ◌∙◌}
 use Rattle.std.proofs.lemmas.List.Elements.{filter-append}
-use Rattle.ob_bucket.proofs.Counting.{range_more}
+use Rattle.ob_tables.proofs.Counting.{range_more}
 use Rattle.ob_ring.proofs.Appends.{append_more, append_none}
 use Rattle.ob_ring.specs.Order.{HoldsFirst}
 

@@ -5,7 +5,7 @@ use Rattle.std.specs.List.{count_by, find, range_with_len, list_any}
 use Rattle.std.proofs.Common.{zero, suc, arith, refl, ap, ◌∙◌, inl, inr, ◌⊎◌}
 use Rattle.std.proofs.lemmas.Bool.{false≢true, cases_Bool, or_cases}
 use Rattle.std.proofs.lemmas.List.Sums.{sum_by-append}
-pub use Rattle.ob_bucket.proofs.Ranges.{count_by-range_agree, count_by-range_mark}
+pub use Rattle.ob_tables.proofs.Ranges.{count_by-range_agree, count_by-range_mark}
 use Rattle.ob_ring.proofs.Counts.{count_by-cons}
 
 -- the first number of a range that isn't marked, or all of them are

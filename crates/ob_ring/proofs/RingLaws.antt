@@ -11,8 +11,8 @@ use Rattle.ob_base.specs.declared.params.Params.{Params}
 use Rattle.ob_base.specs.declared.job.Job.{Job}
 use Rattle.ob_base.specs.Planned.{Planned}
 use Rattle.ob_base.specs.Tree.{buckets, width}
-use Rattle.ob_bucket.specs.Version.{Version, HasSlots, blank, key_at, used_at}
-use Rattle.ob_bucket.specs.Buckets.{Buckets, new_buckets, version_at, is_lifted, no_version}
+use Rattle.ob_tables.specs.Version.{Version, HasSlots, blank, key_at, used_at}
+use Rattle.ob_tables.specs.Buckets.{Buckets, new_buckets, version_at, is_lifted, no_version}
 use Rattle.ob_tables.specs.declared.entry.Entry.{Entry}
 use Rattle.ob_tables.specs.Kept.{Held, entry_at}
 use Rattle.ob_schedule.specs.Paths.{eviction_path, by_falling_level}

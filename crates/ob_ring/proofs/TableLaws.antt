@@ -11,7 +11,7 @@ use Rattle.ob_ring.specs.Sound.{IsSound, IsCounted}
 use Rattle.ob_ring.specs.News.{Marks}
 use Rattle.ob_ring.specs.Laws.{IsOrderly, StepsKeepOrder, ShownOnce, seen_in, LiftsTakeAll}
 use Rattle.std.proofs.lemmas.List.Sums.{length-filter}
-use Rattle.ob_bucket.proofs.Counting.{count_by-range_more}
+use Rattle.ob_tables.proofs.Counting.{count_by-range_more}
 use Rattle.ob_ring.proofs.Ranges.{count_by-range_agree, list_any_at}
 use Rattle.ob_ring.proofs.Members.{off_unless, one_of-filter_from}
 use Rattle.ob_ring.proofs.LiftOrder.{is_at-is, length-lift_order, unread_lift_order}

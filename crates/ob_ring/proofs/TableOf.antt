@@ -6,7 +6,7 @@ use Rattle.std.proofs.Common.{zero, suc, arith, refl, sym, ap, ◌∙◌, inl, i
 use Rattle.std.proofs.lemmas.Bool.{true≢false, cases_Bool, cases_eq, eq-eqb, and_from, or_left, or_right}
 use Rattle.ob_base.specs.declared.params.Params.{Params}
 use Rattle.ob_base.specs.Tree.{below}
-use Rattle.ob_bucket.specs.Version.{Version, HasSlots, key_at, used_at}
+use Rattle.ob_tables.specs.Version.{Version, HasSlots, key_at, used_at}
 use Rattle.ob_ring.specs.FlatTable.{FlatTable, Row, Spot, InStash, In, spot_of, is_at, live, reads, lift_order, mark_index, lift, leave, out_of}
 use Rattle.ob_ring.specs.Order.{is_key, is_live, order_of}
 use Rattle.ob_ring.specs.Arrays.{Arrays, IsTableOf, leaf_in}

@@ -3,8 +3,8 @@ use Rattle.std.specs.Prelude.{◌≡◌, ℕ, ◌<◌, ◌↔◌, Bool, List, Op
 use Rattle.std.specs.declared.option.Option.TheVariants.{None, Some}
 use Rattle.ob_base.specs.declared.params.Params.{Params}
 use Rattle.ob_base.specs.Tree.{buckets}
-use Rattle.ob_bucket.specs.Version.{HasSlots, key_at, used_at}
-use Rattle.ob_bucket.specs.Buckets.{Buckets, version_at, is_lifted}
+use Rattle.ob_tables.specs.Version.{HasSlots, key_at, used_at}
+use Rattle.ob_tables.specs.Buckets.{Buckets, version_at, is_lifted}
 use Rattle.ob_tables.specs.declared.entry.Entry.{Entry}
 use Rattle.ob_tables.specs.Kept.{entry_at}
 use Rattle.ob_ring.specs.FlatTable.{FlatTable, Row, In, spot_of}

@@ -2,9 +2,9 @@
 use Rattle.std.specs.Prelude.{◌≡◌, ◌≢◌, ℕ, ◌+◌, ◌-◌, ◌*◌, ◌%◌, ◌^◌, ◌<◌, Bool, true, false, ◌&&◌, not, List, take, drop, slice_index, Option}
 use Rattle.ob_base.specs.declared.params.Params.{Params}
 use Rattle.ob_base.specs.Tree.{width}
-use Rattle.ob_bucket.specs.Rank.{ranks_of}
-use Rattle.ob_bucket.specs.Version.{Version}
-use Rattle.ob_bucket.specs.Buckets.{Buckets, version_at, is_lifted}
+use Rattle.ob_tables.specs.Rank.{ranks_of}
+use Rattle.ob_tables.specs.Version.{Version}
+use Rattle.ob_tables.specs.Buckets.{Buckets, version_at, is_lifted}
 use Rattle.ob_schedule.specs.Paths.{is_one_of}
 use Rattle.std.specs.declared.option.Option.TheVariants.{None, Some}
 use Rattle.ob_ring.specs.declared.found.Found.{Found}

@@ -3,8 +3,8 @@ use Rattle.std.specs.Prelude.{◌≡◌, ◌≢◌, ℕ, ◌<◌, ◌≤◌, con
 use Rattle.std.specs.declared.option.Option.TheVariants.{None, Some}
 use Rattle.ob_base.specs.declared.params.Params.{Params}
 use Rattle.ob_base.specs.Tree.{buckets, bucket_of}
-use Rattle.ob_bucket.specs.Version.{key_at, used_at}
-use Rattle.ob_bucket.specs.Buckets.{Buckets, version_at}
+use Rattle.ob_tables.specs.Version.{key_at, used_at}
+use Rattle.ob_tables.specs.Buckets.{Buckets, version_at}
 use Rattle.ob_ring.specs.declared.found.Found.{Found}
 use Rattle.ob_ring.specs.FlatTable.{Spot, is_at}
 use Rattle.ob_ring.specs.Arrays.{AreWhole}

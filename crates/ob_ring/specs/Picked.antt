@@ -8,8 +8,8 @@ use Rattle.ob_base.specs.declared.job.Place.{Place}
 use Rattle.ob_base.specs.Tree.{below, path}
 use Rattle.ob_base.specs.Layout.{slot_cell}
 use Rattle.ob_base.specs.Planned.{Planned}
-use Rattle.ob_bucket.specs.Version.{Version, rank_at, key_at, next_dummy}
-use Rattle.ob_bucket.specs.Buckets.{Buckets, version_at}
+use Rattle.ob_tables.specs.Version.{Version, rank_at, key_at, next_dummy}
+use Rattle.ob_tables.specs.Buckets.{Buckets, version_at}
 use Rattle.ob_ring.specs.FlatTable.{FlatTable, Spot, InStash, In, spot_of, is_at, index_in, asked_row, index_shown, mark_index, lift, lift_order, reads, visit, fetch, leaf_shown, after_place}
 use Rattle.ob_ring.specs.declared.found.Found.{Found}
 use Rattle.ob_ring.specs.Arrays.{AreWhole, IsTableOf, arrays_of, Rest}

@@ -5,8 +5,8 @@ use Rattle.std.specs.List.{find, range_with_len}
 use Rattle.std.specs.Int.{w32, to_le_bytes}
 use Rattle.std.specs.FinMap as finite
 use Rattle.ob_base.specs.LittleEndian.{with_part}
-use Rattle.ob_bucket.specs.Version.{Version, EMPTY, key_at, rank_at}
-use Rattle.ob_bucket.specs.Buckets.{version_at}
+use Rattle.ob_tables.specs.Version.{Version, EMPTY, key_at, rank_at}
+use Rattle.ob_tables.specs.Buckets.{version_at}
 use Rattle.ob_ring.specs.Settling.{Rows}
 
 -- 96 zeros with a key's number, a value's length and the value in their places

@@ -5,7 +5,7 @@ use Rattle.std.specs.FinMap as finite
 use Rattle.ob_base.specs.declared.params.Params.{Params}
 use Rattle.ob_base.specs.Tree.{buckets}
 use Rattle.ob_base.specs.Planned.{Planned}
-use Rattle.ob_bucket.specs.Buckets.{Buckets, is_lifted}
+use Rattle.ob_tables.specs.Buckets.{Buckets, is_lifted}
 use Rattle.ob_tables.specs.declared.entry.Entry.{Entry}
 use Rattle.ob_tables.specs.Kept.{Held}
 use Rattle.ob_ring.specs.FlatTable.{FlatTable, Batch, FinalLifts, after}

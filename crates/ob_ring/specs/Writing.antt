@@ -5,7 +5,7 @@ use Rattle.std.specs.FinMap as finite
 use Rattle.ob_base.specs.declared.params.Params.{Params}
 use Rattle.ob_base.specs.declared.value.Write.{Write}
 use Rattle.ob_base.specs.Tree.{below}
-use Rattle.ob_bucket.specs.Buckets.{Buckets}
+use Rattle.ob_tables.specs.Buckets.{Buckets}
 use Rattle.ob_tables.specs.declared.entry.Entry.{Entry}
 use Rattle.ob_tables.specs.Kept.{entry_at}
 use Rattle.ob_ring.specs.FlatTable.{FlatTable, after_writes}

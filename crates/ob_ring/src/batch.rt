@@ -8,8 +8,7 @@ ghost use Rattle.ob_ring.specs.Fetching.{IsBook, kept_of, leaf_of_place, IsKeptF
 use crate::found::Found;
 use crate::path::{take_out, visit_path};
 use ob_base::{Jobs, Key, Params, Place};
-use ob_bucket::Metas;
-use ob_tables::{Book, Entry};
+use ob_tables::{Book, Entry, Metas};
 
 // The entry of the key that a place asks for.
 fn kept(book: &Book, ask: Option<Key>) -> Option<Entry>
@@ -46,10 +45,16 @@ fn fetch(
     requires ask { IfSome ask (λ k. k < p.now.keys) }
     ensures { IsFetched p.now book.old book.new metas.old metas.new ask own result }
 {
-    let key = ask?;
-    let entry = book.get(key)?;
-    book.set(key, own);
-    take_out(p, metas, key, entry.leaf)
+    match ask {
+        Some(key) => match book.get(key) {
+            Some(entry) => {
+                book.set(key, own);
+                take_out(p, metas, key, entry.leaf)
+            }
+            None => None,
+        },
+        None => None,
+    }
 }
 
 /// Plans a place of a read batch.

@@ -4,7 +4,7 @@ ghost use Rattle.std.specs.Prelude.{◌≡◌, ◌<◌, ◌≤◌, ◌+◌, ◌*
 ghost use Rattle.std.specs.List.{range_with_len};
 ghost use Rattle.ob_base.specs.Tree.{buckets, path};
 ghost use Rattle.ob_base.specs.Planned.{most_jobs};
-ghost use Rattle.ob_bucket.specs.Buckets.{is_lifted};
+ghost use Rattle.ob_tables.specs.Buckets.{is_lifted};
 ghost use Rattle.ob_schedule.specs.Paths.{eviction_path, by_falling_level};
 ghost use Rattle.ob_ring.specs.FlatTable.{after_final};
 ghost use Rattle.ob_ring.specs.Arrays.{AreWhole};
@@ -12,7 +12,7 @@ ghost use Rattle.ob_ring.specs.Picked.{Grows, Plans, final_picked};
 
 use crate::reads::lift;
 use ob_base::{Jobs, Params, bucket_of, reverse};
-use ob_bucket::Metas;
+use ob_tables::Metas;
 
 // Reads a bucket out, unless that was done.
 fn lift_standing(p: &Params, metas: &mut Metas, bucket: u32, jobs: &mut Jobs)

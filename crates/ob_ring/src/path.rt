@@ -10,7 +10,7 @@ ghost use Rattle.ob_ring.specs.Paths.{IsFound, IsTakenOut};
 use crate::found::Found;
 use crate::reads::visit;
 use ob_base::{Jobs, Key, Params, bucket_of};
-use ob_bucket::Metas;
+use ob_tables::Metas;
 
 // Where a key lies on the path of its leaf: none exactly where no bucket of the path holds it.
 pub(crate) fn find_key(p: &Params, metas: &Metas, key: Key, leaf: u32) -> Option<Found>

@@ -7,8 +7,7 @@ ghost use Rattle.ob_ring.specs.Arrays.{AreWhole};
 ghost use Rattle.ob_ring.specs.Plain.{row_plain, index_with, key_of_index, plain_for, without, without_buckets};
 
 use ob_base::{Key, Params, set_u32};
-use ob_bucket::{Meta, Metas};
-use ob_tables::Stash;
+use ob_tables::{Meta, Metas, Stash};
 
 // The number that stands for no key.
 const EMPTY: u32 = 0xFFFF_FFFF;

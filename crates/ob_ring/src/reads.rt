@@ -3,8 +3,8 @@
 ghost use Rattle.std.specs.Prelude.{◌≡◌, ℕ, ◌<◌, ◌≤◌, ◌+◌, ◌++◌, ◌∷◌, [], map, length, slice_index, cond, IfSome, Some, None};
 ghost use Rattle.std.specs.List.{count_by, range_with_len};
 ghost use Rattle.ob_base.specs.Tree.{buckets, width};
-ghost use Rattle.ob_bucket.specs.Version.{Version, HasSlots, key_at, used_at};
-ghost use Rattle.ob_bucket.specs.Buckets.{version_at};
+ghost use Rattle.ob_tables.specs.Version.{Version, HasSlots, key_at, used_at};
+ghost use Rattle.ob_tables.specs.Buckets.{version_at};
 ghost use Rattle.ob_ring.specs.FlatTable.{lift, mark_index, visit, index_in, is_at};
 ghost use Rattle.ob_ring.specs.Order.{order_of};
 ghost use Rattle.ob_ring.specs.Arrays.{AreWhole};
@@ -13,7 +13,7 @@ ghost use Rattle.ob_ring.specs.Picked.{job_of, with_jobs, Grows, Plans, lift_pic
 use crate::found::Found;
 use crate::order::lift_order;
 use ob_base::{Job, Jobs, Key, Params, slot_cell};
-use ob_bucket::{Meta, Metas};
+use ob_tables::{Meta, Metas};
 
 // The job that reads an index of a bucket.
 fn job_of(p: &Params, metas: &Metas, bucket: u32, index: u8, key: Option<Key>) -> Job

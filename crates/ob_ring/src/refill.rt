@@ -4,7 +4,7 @@ ghost use Rattle.std.specs.Prelude.{◌≡◌, ◌≢◌, ℕ, ◌<◌, ◌≤�
 ghost use Rattle.std.specs.FinMap as finite;
 ghost use Rattle.ob_base.specs.Tree.{buckets, passes, width};
 ghost use Rattle.ob_ring.specs.FlatTable.{FlatTable, in_stash, can_go, chosen, fill, stash_size};
-ghost use Rattle.ob_bucket.specs.Buckets.{is_lifted};
+ghost use Rattle.ob_tables.specs.Buckets.{is_lifted};
 ghost use Rattle.ob_schedule.specs.Paths.{by_falling_level};
 ghost use Rattle.ob_ring.specs.Sound.{IsSound};
 ghost use Rattle.ob_ring.specs.Order.{HoldsFirst};
@@ -15,8 +15,7 @@ ghost use Rattle.ob_ring.specs.Filling.{arrays_in, is_nowhere, HasStashRows, Fil
 use crate::found::Found;
 use crate::path::find_key;
 use ob_base::{Key, Params, bucket_of};
-use ob_bucket::Metas;
-use ob_tables::{Book, Stash};
+use ob_tables::{Book, Metas, Stash};
 
 // Whether the path of a leaf goes through a bucket.
 fn passes(p: &Params, bucket: u32, leaf: u32) -> bool

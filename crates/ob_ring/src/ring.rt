@@ -3,7 +3,7 @@
 ghost use Rattle.std.specs.Prelude.{◌≡◌, ℕ, ◌+◌, ◌*◌, ◌%◌, ◌^◌, ◌<◌, ◌≤◌, [], length, IfSome, IfOk, MatchResult, None, Some, slice_index, slice_index_or, filter, replicate};
 ghost use Rattle.std.specs.FinMap as finite;
 ghost use Rattle.ob_base.specs.Planned.{most_jobs, job_at};
-ghost use Rattle.ob_bucket.specs.Buckets.{is_lifted, new_buckets, version_at};
+ghost use Rattle.ob_tables.specs.Buckets.{is_lifted, new_buckets, version_at};
 ghost use Rattle.ob_schedule.specs.Paths.{by_falling_level};
 ghost use Rattle.ob_ring.specs.FlatTable.{FlatTable, Refill, Writes as WritesStep, after, stash_size};
 ghost use Rattle.ob_ring.specs.Picked.{SameSeals};
@@ -23,8 +23,7 @@ use crate::refill::{count_out, fill_all};
 use crate::settle::settle_jobs;
 use crate::writes::write_all;
 use ob_base::{Damaged, Jobs, Key, Memory, Params, StashFull, Write};
-use ob_bucket::Metas;
-use ob_tables::{Book, Stash, Tables};
+use ob_tables::{Book, Metas, Stash, Tables};
 use std::alloc::Global;
 use std::marker::Model;
 

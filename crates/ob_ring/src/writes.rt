@@ -13,8 +13,7 @@ use crate::batch::own_entry;
 use crate::found::Found;
 use crate::path::take_out;
 use ob_base::{Key, Params, Value, Write};
-use ob_bucket::Metas;
-use ob_tables::{Book, Entry, Stash};
+use ob_tables::{Book, Entry, Metas, Stash};
 
 // Takes a key out of the bucket in which it lies, if it is present and lies in one.
 fn drop_row(p: &Params, book: &Book, metas: &mut Metas, key: Key) -> Option<Found>
@@ -24,8 +23,10 @@ fn drop_row(p: &Params, book: &Book, metas: &mut Metas, key: Key) -> Option<Foun
     ensures found { IsAskFound p.now metas.old book.now (Some key) result }
     ensures taken { IsTakenOut p.now metas.old metas.new (spot_at result) }
 {
-    let entry = book.get(key)?;
-    take_out(p, metas, key, entry.leaf)
+    match book.get(key) {
+        Some(entry) => take_out(p, metas, key, entry.leaf),
+        None => None,
+    }
 }
 
 // A put's key keeps its place's entry, a del's keeps none.

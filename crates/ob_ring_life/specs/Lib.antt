@@ -1,1 +1,5 @@
+pub mod SealActs
 pub mod Acts
+pub mod Shown
+pub mod Lives
+pub mod Joined

@@ -11,10 +11,10 @@ ghost use Rattle.ob_serial.specs.VaultViews.{IsStoreEnd};
 ghost use Rattle.ob_serial.specs.Vaults.{AreBelow, AreDistinct};
 ghost use Rattle.ob_store.specs.Calls.{IsStoreFault, Serves};
 ghost use Rattle.ob_twin.specs.Opening.{GatesAre};
-ghost use Rattle.ob_ring_life.specs.Acts.{RingCallsAreActs, RingChainsLive, answer_of_end, answer_of_fetch};
+ghost use Rattle.ob_ring_life.specs.SealActs.{RingCallsAreActs, RingChainsLive, answer_of_end, answer_of_fetch};
 
 use ob_base::{Fault, Key, Params, Value, Write};
-use ob_batch::Crew;
+use ob_cells::Crew;
 use ob_end::end;
 use ob_fetch::{Run, fetch};
 use ob_seal::Keys;

@@ -7,7 +7,7 @@ use Rattle.ob_base.specs.declared.value.Write.{Write}
 use Rattle.ob_base.specs.Layout.{checkpoint_cells}
 use Rattle.ob_base.specs.Planned.{most_jobs}
 use Rattle.ob_base.specs.Tree.{buckets, width}
-use Rattle.ob_batch.specs.Jobs.{Manned}
+use Rattle.ob_cells.specs.Jobs.{Manned}
 use Rattle.ob_cells.specs.Writes.{WritesWithin}
 use Rattle.ob_end.specs.EndRuns.{IsEndReady, words_for_end}
 use Rattle.ob_fetch.specs.declared.run.Run.{Run}

@@ -2,7 +2,7 @@
 use Rattle.std.specs.Prelude.{◌≡◌, ℕ, ◌<◌, ◌≤◌, ◌^◌, false, List, length, Some}
 use Rattle.ob_base.specs.Planned.{most_jobs}
 use Rattle.ob_base.specs.declared.value.Write.{Write}
-use Rattle.ob_batch.specs.Jobs.{Manned}
+use Rattle.ob_cells.specs.Jobs.{Manned}
 use Rattle.ob_end.specs.EndRuns.{IsEndReady}
 use Rattle.ob_fetch.specs.declared.run.Run.{Run}
 use Rattle.ob_ring.specs.Writing.{write_at}

@@ -104,7 +104,7 @@ fn a_failed_call_refuses_what_made_it(rt: HostRuntime) {
         };
         let most = u64::from(write == 45);
         let went = failed_at(&rt, alloc, Fail::Write(62 + write));
-        assert_eq!(rt; went, (told, 0, most), "write {write}");
+        assert!(rt; went == (told, 0, most), "write {write}");
     }
     for sync in 0..10 {
         let told = match sync {
@@ -115,7 +115,7 @@ fn a_failed_call_refuses_what_made_it(rt: HostRuntime) {
         };
         let most = u64::from(sync == 9);
         let went = failed_at(&rt, alloc, Fail::Sync(10 + sync));
-        assert_eq!(rt; went, (told, 0, most), "sync {sync}");
+        assert!(rt; went == (told, 0, most), "sync {sync}");
     }
 }
 
@@ -131,7 +131,7 @@ const LIFTS: [u64; 4] = [49, 50, 64, 65];
 // The number of writes that come before a read of one of these cells: 62 of the format, 2 of the opening.
 fn refused_read(rt: &impl Abort, alloc: Global, cell: u64, writes: u64, told: Told) {
     let went = failed_at(rt, alloc, Fail::Read { cell, writes });
-    assert_eq!(rt; went, (told, 0, 0), "read {cell}");
+    assert!(rt; went == (told, 0, 0), "read {cell}");
 }
 
 #[test]
@@ -206,7 +206,7 @@ fn forge(rt: &impl Abort, store: &mut MemStore, plain: &[u8; 96])
     for _seal in 0..2 {
         assert!(rt; sealer.seal(0, &[0; 96]).is_ok());
     }
-    let bytes = sealer.seal(89, plain).expect(rt, "a seal");
+    let bytes = sealer.seal(89, plain).ok().expect(rt, "a seal");
     assert!(rt; store.write(89, &bytes).is_ok());
 }
 
@@ -234,6 +234,6 @@ fn a_forged_row_is_told_by_its_form(rt: HostRuntime) {
                 computed: first_byte(computed),
             }),
         };
-        assert_eq!(rt; asked.told, told);
+        assert!(rt; asked.told == told);
     }
 }

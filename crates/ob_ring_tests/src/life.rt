@@ -7,7 +7,7 @@ ghost use Rattle.ob_ring_tests.specs.Serving.{IsServing};
 use crate::serving::{Put, Step, Told, asks_of, open_run, take_step, writes_of};
 use crate::small::{new_store, small_store, test_keys};
 use ob_base::{Key, Value};
-use ob_batch::Crew;
+use ob_cells::Crew;
 use ob_fetch::Run;
 use ob_mem::MemStore;
 use ob_ring_life::{end_in_life, fetch_in_life};

@@ -110,7 +110,7 @@ fn epochs_show_what_another_implementation_shows(rt: HostRuntime) {
         let outcome = run_shown(&rt, alloc, &mut store, words, steps, parts);
         let told = Told::Done { epoch, left };
         let found = value_of(&rt, text);
-        assert_eq!(rt; outcome, Outcome { told, found });
+        assert!(rt; outcome == Outcome { told, found });
     }
 }
 
@@ -155,7 +155,7 @@ fn the_cells_after_two_epochs_are_those_of_another_implementation(rt: HostRuntim
     );
     let told = Told::Done { epoch: 2, left: 2 };
     let found = value_of(&rt, b"hi");
-    assert_eq!(rt; outcome, Outcome { told, found });
+    assert!(rt; outcome == Outcome { told, found });
     assert_eq!(rt; digest_of(&rt, &mut store), AFTER);
 }
 
@@ -192,7 +192,7 @@ fn a_stash_that_is_too_full_refuses_the_end_before_anything_is_written(rt: HostR
         &mut SinkWatch::new(&mut sink),
     );
     let told = Told::Before(Fault::StashFull { rows: 2 });
-    assert_eq!(rt; outcome.told, told);
+    assert!(rt; outcome.told == told);
     assert!(rt; ends_with(sink.written(), TOO_FULL));
     let mut left = store.crash(1000, &[]).expect(&rt, "memory");
     let mut tape = ListTape::new(alloc, &[]).expect(&rt, "memory");

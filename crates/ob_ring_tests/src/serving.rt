@@ -4,7 +4,7 @@ ghost use Rattle.std.specs.Prelude.{◌≡◌, ◌<◌, ◌≤◌, ◌∷◌, []
 ghost use Rattle.ob_ring_tests.specs.Serving.{AreFitWrites, IsServing};
 
 use ob_base::{Fault, Key, Params, Value, Write};
-use ob_batch::Crew;
+use ob_cells::Crew;
 use ob_end::end;
 use ob_fetch::{Run, fetch};
 use ob_seal::Keys;
@@ -30,7 +30,7 @@ pub enum Step {
 
 // How a run went: all its steps, with the last epoch that ended and the batches that are left; or
 // which call was refused.
-#[derive(Clone, Copy, Debug, PartialEq, Eq)]
+#[derive(Clone, Copy, PartialEq, Eq)]
 pub enum Told {
     Done { epoch: u64, left: u32 },
     Opening(Fault),
@@ -41,7 +41,7 @@ pub enum Told {
 }
 
 // How a run went, and the last value that an asked key had.
-#[derive(Clone, Copy, Debug, PartialEq, Eq)]
+#[derive(Clone, Copy, PartialEq, Eq)]
 pub struct Outcome {
     pub told: Told,
     pub found: Option<Value>,

@@ -12,9 +12,9 @@ use Rattle.ob_epoch.specs.Counts.{public_of}
 use Rattle.ob_epoch.specs.Table.{flat_of}
 use Rattle.ob_epoch.proofs.Counts.{opening_counts}
 use Rattle.ob_epoch.proofs.Reading.{tables_are_read}
-use Rattle.ob_life.specs.Bridge.{slot_read_off}
-use Rattle.ob_life.specs.Laws.{BatchFacts}
-use Rattle.ob_life.proofs.NotesLaws.{picks_scheduled, read_off}
+use Rattle.ob_ring_trace.specs.Bridge.{slot_read_off}
+use Rattle.ob_ring_trace.specs.LifeLaws.{BatchFacts}
+use Rattle.ob_ring_trace.proofs.NotesLaws.{picks_scheduled, read_off}
 use Rattle.ob_log.specs.Logs.{BatchRecord}
 use Rattle.ob_recover.specs.Repeats.{asked_of_record, table_after_records}
 use Rattle.ob_ring.specs.FlatTable.{Batch, FinalLifts, FlatTable, Shown, after, leaves_shown, picks}

@@ -1,3 +1,14 @@
+pub mod BookLaws
+pub mod EndLaws
+pub mod FreshLaws
+pub mod LabelLaws
+pub mod LifeLabels
+pub mod LifeSlots
+pub mod NotesLaws
+pub mod OneLife
+pub mod Pads
+pub mod SlotLaws
+pub mod Traces
 pub mod Orders
 pub mod Phases
 pub mod Fills

@@ -9,8 +9,8 @@ use Rattle.ob_base.specs.Tree.{below}
 use Rattle.ob_base.specs.Repeats.{Has}
 use Rattle.ob_tables.specs.Content.{Content}
 use Rattle.ob_epoch.specs.Table.{flat_of, lying_place, row_for}
-use Rattle.ob_life.specs.Life.{LifeContent, SlotFill, WordId, batch_places, book_after, leaf_of_word, leaves, lift_slots, log_slots, phase_labels, slot_fill, slots_of, table_after, table_now, with_words}
-use Rattle.ob_life.proofs.BookLaws.{IsBookOf, book_batch, kept_leaf, label_leaves, low_bits}
+use Rattle.ob_ring_trace.specs.Life.{LifeContent, SlotFill, WordId, batch_places, book_after, leaf_of_word, leaves, lift_slots, log_slots, phase_labels, slot_fill, slots_of, table_after, table_now, with_words}
+use Rattle.ob_ring_trace.proofs.BookLaws.{IsBookOf, book_batch, kept_leaf, label_leaves, low_bits}
 use Rattle.ob_log.specs.Logs.{BatchRecord}
 use Rattle.ob_recover.specs.Repeats.{asked_of_record, table_after_records}
 use Rattle.ob_ring.specs.Fetching.{own_entry}

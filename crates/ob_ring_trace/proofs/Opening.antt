@@ -13,7 +13,7 @@ use Rattle.ob_epoch.specs.Table.{flat_of}
 use Rattle.ob_epoch.specs.Counts.{public_of}
 use Rattle.ob_epoch.proofs.Counts.{opening_counts}
 use Rattle.ob_epoch.proofs.Reading.{tables_are_read}
-use Rattle.ob_life.proofs.NotesLaws.{counts_follow}
+use Rattle.ob_ring_trace.proofs.NotesLaws.{counts_follow}
 use Rattle.ob_log.specs.Logs.{BatchRecord, RecordsFit, record_at}
 use Rattle.ob_recover.specs.Finds.{finding_notes}
 use Rattle.ob_recover.specs.Repeats.{asked_of_record, record_places, repeat_notes, repeated_notes}

@@ -8,7 +8,7 @@ use mathlib.Core.Path.{fun_ext}
 use Rattle.ob_base.specs.declared.params.Params.{Params}
 use Rattle.ob_base.specs.Tree.{below, width}
 use Rattle.ob_base.specs.Layout.{LogArea, EpochTwin, GenerationTwin, check_cell, checkpoint_cells, log_cell, log_cells, log_gate, record_cells, slot_cell}
-use Rattle.ob_bucket.proofs.Counting.{range_more}
+use Rattle.ob_tables.proofs.Counting.{range_more}
 use Rattle.ob_cells.specs.Orders.{read_notes}
 use Rattle.ob_check.specs.Written.{area_of}
 use Rattle.ob_log.specs.Appends.{append_notes}

@@ -8,7 +8,7 @@ use Rattle.ob_base.specs.Tree.{below}
 use Rattle.ob_base.specs.Layout.{slot_cell}
 use Rattle.ob_base.specs.Repeats.{Has}
 use Rattle.ob_base.proofs.Repeats.{has_left, has_right}
-use Rattle.ob_bucket.specs.Buckets.{version_at}
+use Rattle.ob_tables.specs.Buckets.{version_at}
 use Rattle.ob_store.specs.declared.watch.Note.{Note}
 use Rattle.ob_store.specs.declared.watch.Note.TheVariants.{Label, Read}
 use Rattle.ob_tables.specs.Content.{Content}
@@ -20,7 +20,7 @@ use Rattle.ob_ring.specs.Picked.{Picked, job_of, place_picked}
 use Rattle.ob_ring.specs.Sound.{IsSound, IsCounted, hole_of}
 use Rattle.ob_ring.proofs.Batches.{PlaceLaw, place_law, passed, shift_range, count_more, at_next}
 use Rattle.ob_ring.proofs.JobLaws.{jobs_read_picks}
-use Rattle.ob_life.specs.Bridge.{picked_notes, picked_reads}
+use Rattle.ob_ring_trace.specs.Bridge.{picked_notes, picked_reads}
 use Rattle.ob_recover.specs.Repeats.{repeated_notes}
 use Rattle.ob_ring_trace.specs.Known.{AreSlotsOf, slot_kept}
 

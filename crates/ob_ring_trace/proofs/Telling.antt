@@ -6,8 +6,8 @@ use Rattle.std.proofs.lemmas.Bool.{eq-eqb}
 use Rattle.std.proofs.lemmas.List.{append-nil, map-append}
 use Rattle.ob_base.specs.declared.params.Params.{Params}
 use Rattle.ob_base.specs.Tree.{below}
-use Rattle.ob_batch.specs.Lanes.{ReadByLanes, reads_of_lane, reads_of_lanes}
-use Rattle.ob_bucket.specs.Version.{Version}
+use Rattle.ob_cells.specs.Lanes.{ReadByLanes, reads_of_lane, reads_of_lanes}
+use Rattle.ob_tables.specs.Version.{Version}
 use Rattle.ob_tables.specs.Content.{Content}
 use Rattle.ob_epoch.specs.Table.{flat_of}
 use Rattle.ob_log.specs.Appends.{append_notes}

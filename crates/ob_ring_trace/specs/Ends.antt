@@ -5,8 +5,8 @@ use Rattle.ob_base.specs.declared.params.Params.{Params}
 use Rattle.ob_base.specs.declared.value.Write.{Write}
 use Rattle.ob_base.specs.Layout.{checkpoint_cells, slot_cell}
 use Rattle.ob_base.specs.Tree.{width}
-use Rattle.ob_bucket.specs.Buckets.{version_at}
-use Rattle.ob_bucket.specs.Version.{Version}
+use Rattle.ob_tables.specs.Buckets.{version_at}
+use Rattle.ob_tables.specs.Version.{Version}
 use Rattle.ob_check.specs.Written.{area_of}
 use Rattle.ob_tables.specs.Content.{Content, Obeys, Rows}
 use Rattle.ob_epoch.specs.Ends.{RefillRun}
@@ -32,7 +32,7 @@ use Rattle.ob_twin.specs.Orders.{set_notes}
 use Rattle.ob_twin.specs.Register.{place_of}
 use Rattle.ob_twin.specs.declared.gates.Gates.{Gates}
 use Rattle.ob_twin.specs.declared.twin.Twin.TheVariants.{EPOCH}
-use Rattle.ob_values.specs.Epochs.{Read, after_epoch, before_refill}
+use Rattle.ob_epoch.specs.Epochs.{Read, after_epoch, before_refill}
 use Rattle.ob_ring_trace.specs.Fronts.{AreFirstNotes}
 use Rattle.ob_ring_trace.specs.Known.{fills_with_lifts, public_of_kept}
 use Rattle.ob_ring_trace.specs.Telling.{AreTold}

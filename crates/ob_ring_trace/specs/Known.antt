@@ -3,12 +3,12 @@ use Rattle.std.specs.Prelude.{◌≡◌, ℕ, ◌<◌, ◌==◌, ◌&&◌, ◌||
 use Rattle.std.specs.List.{flat_map}
 use Rattle.ob_base.specs.Repeats.{Has}
 use Rattle.ob_base.specs.declared.params.Params.{Params}
-use Rattle.ob_bucket.specs.Buckets.{version_at}
-use Rattle.ob_bucket.specs.Version.{rank_at}
+use Rattle.ob_tables.specs.Buckets.{version_at}
+use Rattle.ob_tables.specs.Version.{rank_at}
 use Rattle.ob_tables.specs.Content.{Content, Obeys}
 use Rattle.ob_epoch.specs.Counts.{public_of}
 use Rattle.ob_epoch.specs.Table.{flat_of}
-use Rattle.ob_life.specs.Bridge.{slot_read_off}
+use Rattle.ob_ring_trace.specs.Bridge.{slot_read_off}
 use Rattle.ob_log.specs.Logs.{BatchRecord, RecordsFit}
 use Rattle.ob_recover.specs.Repeats.{IsPlannerOf, asked_of_record, table_after_records}
 use Rattle.ob_ring.specs.FlatTable.{Batch, FinalLifts, FlatTable, Shown, after, leaves_shown, picks}

@@ -1,3 +1,7 @@
+pub mod Life
+pub mod Calls
+pub mod LifeLaws
+pub mod Bridge
 pub mod Known
 pub mod Fronts
 pub mod Telling

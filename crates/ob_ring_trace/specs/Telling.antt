@@ -1,6 +1,6 @@
 -- What is told of reads that lanes share, beside steps that were made one by one.
 use Rattle.std.specs.Prelude.{◌≡◌, ℕ, ◌≤◌, List, map, Option, Result, Ok, Err}
-use Rattle.ob_batch.specs.Lanes.{ReadByLanes}
+use Rattle.ob_cells.specs.Lanes.{ReadByLanes}
 use Rattle.ob_store.specs.Calls.{Notes}
 use Rattle.ob_store.specs.Lines.{Shows, Trace}
 use Rattle.ob_store.specs.Told.{IsCut, events_of}

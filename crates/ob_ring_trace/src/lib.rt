@@ -1,87 +1,16 @@
-//! What the calls of a ring store show is the public schedule, made of what the store may know.
-//! Laws of definitions; nothing here runs.
+//! What a ring store shows: its calls show the public schedule, made of what the store may know, and
+//! over every life of a store what fills it is fresh. Laws of definitions; nothing here runs.
 #![tactic(auto)]
 
-ghost use Rattle.ob_ring_trace.specs.Batches.{BatchesAreScheduled, BatchesAreTold};
-ghost use Rattle.ob_ring_trace.specs.Ends.{EndsAreScheduled, EndsAreTold, LiftsComeFirst};
-ghost use Rattle.ob_ring_trace.specs.Known.{FillsGoOn, FormatIsPublic};
-ghost use Rattle.ob_ring_trace.specs.Fronts.{CutsOfFronts};
-ghost use Rattle.ob_ring_trace.specs.Lives.{LivesShowFills};
-ghost use Rattle.ob_ring_trace.specs.Openings.{OpeningsAreCut, OpeningsAreScheduled, OpeningsAreTold, OpeningsBegin};
-ghost use Rattle.ob_ring_trace.specs.Samples.{Sampled};
-ghost use Rattle.ob_ring_trace.specs.Telling.{OneLaneInOrder};
+mod lives;
+mod schedule;
 
-/// What the store knows of a new store is the schedule's public state of one.
-pub fn format_is_public()
-    ensures { FormatIsPublic }
-{}
-
-/// The fills of more records fill the holes of the first ones alike.
-pub fn fills_go_on()
-    ensures { FillsGoOn }
-{}
-
-/// An opening's calls show the schedule's opening, and leave its public state.
-pub fn openings_are_scheduled()
-    ensures { OpeningsAreScheduled }
-{}
-
-/// What a refused opening has shown is a front of an opening.
-pub fn openings_begin()
-    ensures { OpeningsBegin }
-{}
-
-/// The first steps of a whole that were cut short are the whole, cut short.
-pub fn cuts_of_fronts()
-    ensures { CutsOfFronts }
-{}
-
-/// What is told of an opening is the schedule's, in its order where there is one lane.
-pub fn openings_are_told()
-    ensures { OpeningsAreTold }
-{}
-
-/// What is told of an opening that repeated the first batches is a front of the schedule's.
-pub fn openings_are_cut()
-    ensures { OpeningsAreCut }
-{}
-
-/// One lane makes its reads in order.
-pub fn one_lane_in_order()
-    ensures { OneLaneInOrder }
-{}
-
-/// A read batch's calls show the schedule's batch, and leave its public state.
-pub fn batches_are_scheduled()
-    ensures { BatchesAreScheduled }
-{}
-
-/// What is told of a read batch is the schedule's, in its order where there is one lane.
-pub fn batches_are_told()
-    ensures { BatchesAreTold }
-{}
-
-/// An end's calls show the schedule's end, and leave its public state.
-pub fn ends_are_scheduled()
-    ensures { EndsAreScheduled }
-{}
-
-/// What is told of an end is the schedule's, in its order where there is one lane.
-pub fn ends_are_told()
-    ensures { EndsAreTold }
-{}
-
-/// An end that was refused behind its lifts has shown the first of its notes.
-pub fn lifts_come_first()
-    ensures { LiftsComeFirst }
-{}
-
-/// What fills the holes of the schedule is what a life of the store shows there.
-pub fn lives_show_fills()
-    ensures { LivesShowFills }
-{}
-
-/// What is shown of a small store, computed from the definitions.
-pub fn sampled()
-    ensures { Sampled }
-{}
+pub use lives::{
+    attempts_agree, lifts_agree, lifts_are_scheduled, lives_are_fresh, lives_go_on, pads_differ,
+    parts_are_fresh, picks_are_scheduled,
+};
+pub use schedule::{
+    batches_are_scheduled, batches_are_told, cuts_of_fronts, ends_are_scheduled, ends_are_told,
+    fills_go_on, format_is_public, lifts_come_first, lives_show_fills, one_lane_in_order,
+    openings_are_cut, openings_are_scheduled, openings_are_told, openings_begin, sampled,
+};

@@ -8,7 +8,7 @@ use Rattle.ob_base.specs.declared.value.Write.{Write}
 use Rattle.ob_base.specs.Layout.{log_cell, record_cells}
 use Rattle.ob_cells.specs.Writes.{WritesWithin}
 use Rattle.ob_end.specs.Closings.{SameGeneration}
-use Rattle.ob_ending.specs.Lifts.{IsUndamaged}
+use Rattle.ob_end.specs.Lifts.{IsUndamaged}
 use Rattle.ob_fetch.specs.declared.run.Run.{Run}
 use Rattle.ob_fetch.specs.Fetches.{FetchDoes, FetchStands, RunIsAt}
 use Rattle.ob_log.specs.Logs.{BatchRecord}

@@ -1,22 +1,23 @@
 -- A vault holds its map, and stays sound, whatever its calls answer.
-use Rattle.std.specs.Prelude.{◌≡◌, ℕ, suc, ◌+◌, Bool, true, false, List, ◌∷◌, Option, Some, Result, Ok, Err, OnOk, OnErr}
+use Rattle.std.specs.Prelude.{◌≡◌, ℕ, suc, ◌+◌, Bool, true, false, List, ◌∷◌, Option, Some, Result, Ok, Err, OnOk, OnErr, IfErr}
 use Rattle.std.specs.Borrow.{GName}
 use Rattle.std.specs.FinMap as finite
 use Rattle.std.proofs.Common.{arith, refl, sym, ap, ◌∙◌, subst, inl, inr, ⊎_elim}
 use mathlib.Core.Path.{fun_ext}
 use Rattle.ob_base.specs.declared.fault.Fault.{Fault}
+use Rattle.ob_base.specs.declared.fault.Fault.TheVariants as fault
 use Rattle.ob_base.specs.declared.params.Params.{Params}
 use Rattle.ob_base.specs.declared.value.Write.{Write}
 use Rattle.ob_end.specs.EndRuns.{EndImages, EndStands, standing_at_end}
 use Rattle.ob_fetch.specs.declared.run.Run.{Run}
-use Rattle.ob_fetch.specs.Fetches.{AreMapValues, FetchStands}
+use Rattle.ob_fetch.specs.Fetches.{AreMapValues, FetchStands, IsFetchRefusal}
 use Rattle.ob_log.specs.Logs.{BatchRecord}
 use Rattle.ob_seal.specs.declared.keys.Keys.{Keys}
 use Rattle.ob_serial.specs.declared.vault.EndErr.{EndErr}
 use Rattle.ob_serial.specs.declared.vault.EndErr.TheVariants as end
-use Rattle.ob_serial.specs.Vaults.{End, Fetch, IsAnswer, MayStand, MayStandIn, StandAlike, Standing, StandsIn, VaultCounts, VaultState, counts_of, standing_next, standing_now, vault_next}
+use Rattle.ob_serial.specs.Vaults.{End, Fetch, IsAnswer, MayStand, MayStandIn, StandAlike, Standing, StandsIn, VaultCounts, VaultState, counts_next, counts_of, standing_next, standing_now, vault_next}
 use Rattle.ob_serial.specs.Vaults as vault
-use Rattle.ob_serial.specs.VaultViews.{end_answer, fetch_answer}
+use Rattle.ob_serial.specs.VaultViews.{IsFetchFault, end_answer, fetch_answer}
 use Rattle.ob_stand.specs.Stands.{OneOf, RingStanding, Stands, StandsRing, with_record}
 use Rattle.ob_stand.specs.Vaults.{IsRingOf, plain_writes}
 use Rattle.ob_stand.proofs.EndLaws.{end_spares}
@@ -26,8 +27,8 @@ use Rattle.ob_store.specs.Disk.{Clock, Disk, Image, NotAfter}
 use Rattle.ob_store.specs.Images.{IsSynced, LeavesOnly}
 use Rattle.ob_store.proofs.Moments.{weakened}
 use Rattle.ob_tables.specs.declared.entry.Entry.{Entry}
-use Rattle.ob_taken.specs.Values as taken
-use Rattle.ob_taken.specs.Values.{Values}
+use Rattle.ob_epoch.specs.Values as taken
+use Rattle.ob_epoch.specs.Values.{Values}
 use Rattle.ob_twin.proofs.Moves.{at_the_end}
 use Rattle.ob_ring_vault.specs.RingVaults.{RingHolds, RingServes, RingSound, counts_of_run, lent_both}
 
@@ -52,6 +53,36 @@ parts v run is = (ap (λ (k : VaultCounts). k.epoch) is, ap (λ (k : VaultCounts
 
 counts_made : {epoch epoch' left left' : ℕ} {spent spent' : Bool} → epoch ≡ epoch' → left ≡ left' → spent ≡ spent' → ◌≡◌ {A = VaultCounts} (record { epoch = epoch; left = left; spent = spent }) (record { epoch = epoch'; left = left'; spent = spent' })
 counts_made a b c = λ i. record { epoch = a i; left = b i; spent = c i }
+
+-- what a call leaves of the counts
+pub fetch_counts : (A : Type 0) (run new : Run) (asks : List (Option ℕ)) (out : List (Option (List ℕ))) (x : Result (Unit {0}) Fault) → new.epoch ≡ run.epoch → run.spent ≡ false → OnOk x ((new.left + 1 ≡ run.left) × (new.spent ≡ false))
+    → OnErr x ((new.left ≡ run.left) × (new.spent ≡ true) × A) → counts_of_run new ≡ counts_next (run.params).batches (counts_of_run run) (Fetch asks) (fetch_answer out x)
+fetch_counts A run new asks out (Ok done) epoch serving served refused = counts_made epoch (let one : new.left + 1 ≡ run.left = served.0 in omega arith) (served.1 ∙ sym serving)
+fetch_counts A run new asks out (Err f) epoch serving served refused = counts_made epoch refused.0 refused.1
+
+pub end_counts : (run new : Run) (writes : List (ℕ × Option (List ℕ))) (x : Result (Unit {0}) EndErr) → run.spent ≡ false → OnOk x ((new.epoch ≡ suc run.epoch) × (new.left ≡ (run.params).batches) × (new.spent ≡ false))
+    → OnErr x ((new.epoch ≡ run.epoch) × (new.left ≡ run.left) × (new.spent ≡ true)) → counts_of_run new ≡ counts_next (run.params).batches (counts_of_run run) (End writes) (end_answer x)
+end_counts run new writes (Ok done) serving served refused = counts_made served.0 served.1 (served.2 ∙ sym serving)
+end_counts run new writes (Err (end.Before f)) serving served refused = counts_made refused.0 refused.1 refused.2
+end_counts run new writes (Err (end.Unsure f)) serving served refused = counts_made refused.0 refused.1 refused.2
+
+-- a fetch's refusals are those of a vault's fetch
+refused_so : (f : Fault) → IsFetchRefusal f → IsFetchFault f
+refused_so fault.Memory refusal = absurd refusal
+refused_so fault.Usage refusal = absurd refusal
+refused_so (fault.BadScript line) refusal = absurd refusal
+refused_so (fault.BadParams what) refusal = absurd refusal
+refused_so fault.NotStore refusal = absurd refusal
+refused_so (fault.Damaged cell what kept computed) refusal = tt
+refused_so (fault.StoreFault unsure) refusal = refusal
+refused_so (fault.StashFull rows) refusal = absurd refusal
+refused_so (fault.Worn number) refusal = tt
+refused_so fault.SourceFault refusal = absurd refusal
+refused_so fault.SinkFault refusal = absurd refusal
+
+pub fetch_faults : (x : Result (Unit {0}) Fault) → IfErr x IsFetchRefusal → IfErr x IsFetchFault
+fetch_faults (Ok done) refusal = tt
+fetch_faults (Err f) refusal = refused_so f refusal
 
 pub serves_still : (v : VaultState) (run : Run) → counts_of v ≡ counts_of_run run → run.spent ≡ false → v.spent ≡ false
 serves_still v run is serving = (parts v run is).2 ∙ serving

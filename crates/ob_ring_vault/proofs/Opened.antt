@@ -1,11 +1,13 @@
 -- A vault over an opened store is sound.
-use Rattle.std.specs.Prelude.{◌≡◌, ℕ, suc, false}
+use Rattle.std.specs.Prelude.{◌≡◌, ◌≤◌, ℕ, suc, false}
 use Rattle.std.specs.FinMap as finite
 use Rattle.std.specs.Ordering.{nat_cmp}
-use Rattle.std.proofs.Common.{refl, sym, ap, subst, inl}
+use Rattle.std.proofs.Common.{arith, refl, sym, ap, subst, inl}
 use Rattle.ob_base.specs.declared.params.Params.{Params}
+use Rattle.ob_end.specs.EndRuns.{IsEndReady}
 use Rattle.ob_fetch.specs.Fetches.{RunIsAt, RunsAt, unlisted}
 use Rattle.ob_fetch.proofs.NextLaws.{stands_unlisted}
+use Rattle.ob_recover.specs.Fits.{IsPlannerFit}
 use Rattle.ob_recover.specs.Repeats.{IsPlannerOf, table_after_records}
 use Rattle.ob_epoch.specs.Table.{flat_of}
 use Rattle.ob_seal.specs.declared.keys.Keys.{Keys}
@@ -66,3 +68,13 @@ module _ {L : Type 0} (keys : Keys) (p : Params) (s : RingStanding) (disk : Disk
       };
       images = λ c left. (record { epoch = s.epoch; content = content }, stands_now c left, inl refl);
     }
+
+-- what an opening gives is ready for an epoch's end too
+pub ready_over : {L : Type 0} (o : Opening L) → (o.ring).p ≡ o.params → o.left ≤ (o.params).batches → IsPlannerFit o.ring → IsEndReady (run_over o)
+ready_over o params left fit = let words = o.drawn in record {
+  ready = record { params = params; rooms = (o.planned, o.placed); words = omega arith; few = left; small = o.small; generation = o.generation; table = (fit.table, fit.stands) };
+  own_words = omega arith;
+  all_words = omega arith;
+  sheet = o.spelled;
+  planner = fit;
+}

@@ -11,8 +11,8 @@ use mathlib.Core.Sum.{⊎_set}
 use Rattle.ob_base.specs.Layout.{checkpoint_cells}
 use Rattle.ob_base.specs.Planned.{most_jobs}
 use Rattle.ob_base.specs.Tree.{buckets, width}
-use Rattle.ob_bucket.specs.Buckets.{version_at}
-use Rattle.ob_bucket.specs.Version.{key_at}
+use Rattle.ob_tables.specs.Buckets.{version_at}
+use Rattle.ob_tables.specs.Version.{key_at}
 use Rattle.ob_tables.specs.Content.{FitsBook, FitsSeals}
 use Rattle.ob_tables.specs.Spelling.{slot_bytes}
 use Rattle.ob_end.specs.EndRuns.{IsEndReady}
@@ -22,9 +22,9 @@ use Rattle.ob_fetch.specs.declared.run.Run.{Run}
 use Rattle.ob_ring.specs.FlatTable.{FlatTable, In, InStash, Row, Spot, spot_of}
 use Rattle.ob_ring.specs.Ring.{Kept, StandsFor}
 use Rattle.ob_ring_trace.proofs.Once.{table_once}
-use Rattle.ob_taken.specs.Takes.{is_present}
-use Rattle.ob_taken.specs.Values.{Values}
-use Rattle.ob_values.specs.Carries.{Carries, Slots}
+use Rattle.ob_epoch.specs.Takes.{is_present}
+use Rattle.ob_epoch.specs.Values.{Values}
+use Rattle.ob_epoch.specs.Carries.{Carries, Slots}
 
 -- ---- a map that the stash's rows are of: the keys that lie in a bucket have no byte
 

@@ -8,14 +8,14 @@ use Rattle.ob_base.specs.declared.fault.Fault.{Fault}
 use Rattle.ob_base.specs.declared.fault.Fault.TheVariants as fault
 use Rattle.ob_base.specs.declared.params.Params.{Params}
 use Rattle.ob_base.specs.declared.value.Write.{Write}
-use Rattle.ob_batch.specs.Lanes.{ReadByLanes}
-use Rattle.ob_bucket.specs.Buckets.{Buckets}
+use Rattle.ob_cells.specs.Lanes.{ReadByLanes}
+use Rattle.ob_tables.specs.Buckets.{Buckets}
 use Rattle.ob_cells.specs.Writes.{Seals}
 use Rattle.ob_tables.specs.Content.{Content}
 use Rattle.ob_end.specs.Closings.{SameGeneration}
 use Rattle.ob_end.specs.EndRuns.{AreEntriesWritten, EndAnswers, EndDamage, EndDraws, EndImages, EndStands, IfEnded, IsAtContent, IsEndUndamaged, LeadsOn, TakeBucketWords, end_writes, seals_for_end, table_ended}
 use Rattle.ob_end.specs.Shown.{EndShows, end_lifts}
-use Rattle.ob_ending.specs.Lifts.{IsUndamaged}
+use Rattle.ob_end.specs.Lifts.{IsUndamaged}
 use Rattle.ob_fetch.specs.declared.run.Run.{Run}
 use Rattle.ob_fetch.specs.Fetches.{FetchAnswers, FetchDraws, FetchShows, IsFetchRefusal, IsOpenIfShown, IsWornForBatch, MovesPlanner, RunIsAt, next_batch, record_next, words_since}
 use Rattle.ob_log.specs.Appends.{IsWornOut, append_notes}

@@ -9,7 +9,7 @@ use crate::known::knows;
 use crate::lent::Lent;
 use crate::measuring::measure_all;
 use ob_base::{Fault, Key, Params, Value, Write};
-use ob_batch::Crew;
+use ob_cells::Crew;
 use ob_fetch::{Run, fetch};
 use ob_serial::{EndErr, Vault};
 use ob_store::{Store, Watch};

@@ -23,7 +23,7 @@ pub enum Step {
 }
 
 // Whether all steps were taken, or which call was refused.
-#[derive(Clone, Copy, Debug, PartialEq, Eq)]
+#[derive(Clone, Copy, PartialEq, Eq)]
 pub enum Told {
     Done,
     Fetch(Fault),

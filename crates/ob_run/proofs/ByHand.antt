@@ -18,8 +18,8 @@ use Rattle.ob_starts.specs.declared.starting.Started.TheVariants.{Away, Here}
 use Rattle.ob_starts.specs.Served.{Words}
 use Rattle.ob_starts.specs.Starts.{Each, IsAsItCame, IsJoined, stays}
 use Rattle.ob_driver.specs.Places.{StandIn, HandRound, AreHandRounds}
-use Rattle.ob_serve.specs.Crews.{CrewSteps}
-use Rattle.ob_woven.specs.Woven.{AreWoven}
+use Rattle.ob_run.specs.Crews.{CrewSteps}
+use Rattle.ob_run.specs.Woven.{AreWoven}
 use Rattle.ob_run.specs.Threaded.{is_by_hand, without_others, IsSublist}
 use Rattle.ob_run.proofs.Standing.{count, count_own, ComesInRounds}
 use Rattle.ob_run.proofs.Rounds.{EntryRound, entries_in, things_in, IsEntryRound, is_among, rounds_stand}

@@ -14,8 +14,8 @@ use Rattle.ob_session.proofs.Saying.{said_append}
 use Rattle.ob_conduct.specs.Acts.{Act}
 use Rattle.ob_conduct.specs.Rounds.{TurnRule, plan_rule, KeepRule}
 use Rattle.ob_conduct.proofs.Turning.{keeps_append, keeps_driven}
-use Rattle.ob_woven.specs.Woven.{IsEntryOf, AreWoven}
-use Rattle.ob_run.proofs.Weaving.{turn_driven, entry_turn}
+use Rattle.ob_run.specs.Woven.{IsEntryOf, AreWoven}
+use Rattle.ob_run.proofs.WovenRun.{turn_driven, entry_turn}
 
 -- ---- entries
 

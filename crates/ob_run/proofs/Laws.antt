@@ -7,8 +7,8 @@ use Rattle.ob_hall.specs.Laws.{AreOwnCalls}
 use Rattle.ob_hall.proofs.Histories.{said_own, client_alone}
 use Rattle.ob_hall.proofs.Agreeing.{numbers_rise}
 use Rattle.ob_driver.specs.Driven.{side}
-use Rattle.ob_woven.specs.Ends.{FailedRunsFail}
-use Rattle.ob_woven.proofs.Failing.{failure}
+use Rattle.ob_run.specs.Ends.{FailedRunsFail}
+use Rattle.ob_run.proofs.Failing.{failure}
 
 pub own_calls : AreOwnCalls
 own_calls opened d history at number new led named = (

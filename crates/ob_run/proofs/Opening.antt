@@ -12,7 +12,7 @@ use Rattle.ob_hall.specs.Calling.{IsReady, IsBetween}
 use Rattle.ob_driver.specs.Driven.{Side}
 use Rattle.ob_driver.specs.Drives.{IsFirstPass}
 use Rattle.ob_starts.specs.Served.{Words}
-use Rattle.ob_serve.specs.Serving.{ServeEnds}
+use Rattle.ob_run.specs.Serving.{ServeEnds}
 
 first_is : {A : Type 0} (x y : A) (xs ys : List A) → ◌≡◌ {A = List A} (x ∷ xs) (y ∷ ys) → x ≡ y
 first_is x y xs ys is = cc is

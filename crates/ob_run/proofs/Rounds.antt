@@ -8,9 +8,9 @@ use Rattle.ob_conduct.specs.Acts.{Act, Says, Halts, Rests, Takes, Delivers, Deli
 use Rattle.ob_conduct.specs.Rounds.{AreDriven, AreTurns, IsOneThing, acts_of, InRounds}
 use Rattle.ob_driver.specs.Turning.{IsOneTurn, AreActs}
 use Rattle.ob_driver.specs.Places.{StandIn}
-use Rattle.ob_woven.specs.Woven.{IsEntryOf, AreWoven}
+use Rattle.ob_run.specs.Woven.{IsEntryOf, AreWoven}
 use Rattle.ob_run.specs.Threaded.{is_by_hand, without_others}
-use Rattle.ob_run.proofs.Weaving.{turn_driven}
+use Rattle.ob_run.proofs.WovenRun.{turn_driven}
 use Rattle.ob_run.proofs.Standing.{count, ComesInRounds, IsOthers, IsWithoutOthers, stand_within, are_all}
 
 -- ---- acts without those of others

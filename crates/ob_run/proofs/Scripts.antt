@@ -10,7 +10,7 @@ use Rattle.ob_runner.specs.declared.runner.ScriptRunner.{ScriptRunner}
 use Rattle.ob_runner.specs.RunnerViews.{client_of, bound_of, MayHaveMade}
 use Rattle.ob_runner.specs.Runners.{IsNewOf, AreRunners}
 use Rattle.ob_runner.specs.Turns.{script_call, MakesCall, IsScriptTurn}
-use Rattle.ob_woven.specs.Ends.{IsQuiet}
+use Rattle.ob_run.specs.Ends.{IsQuiet}
 
 pub scripts_are_quiet : IsQuiet IsScriptTurn
 scripts_are_quiet script client said steps turn off =

@@ -37,17 +37,17 @@ use Rattle.ob_conduct.proofs.Conducting.{finish}
 use Rattle.ob_driver.specs.Driven.{Side, side, Acts}
 use Rattle.ob_driver.specs.Drives.{AreThings, IsFirstPass, RunsOut, RunFails, IsNotBegun}
 use Rattle.ob_driver.specs.Turning.{AreActs}
-use Rattle.ob_woven.specs.Woven.{Woven, HistoriesWeave}
-use Rattle.ob_woven.specs.Ends.{IsQuiet, AreQuiet, OverRunsEndOver, FailedRunsFail, IdleHallsHaveNone}
-use Rattle.ob_woven.proofs.Quiet.{steps_quiet}
+use Rattle.ob_run.specs.Woven.{Woven, HistoriesWeave}
+use Rattle.ob_run.specs.Ends.{IsQuiet, AreQuiet, OverRunsEndOver, FailedRunsFail, IdleHallsHaveNone}
+use Rattle.ob_run.proofs.Quiet.{steps_quiet}
 use Rattle.ob_starts.specs.Served.{Words, words, IsClient, IsLater}
 use Rattle.ob_starts.specs.Starts.{Each}
 use Rattle.ob_run.specs.Threaded.{is_by_hand, without_others, OthersSignedOff, HandRounds, InThreads}
-use Rattle.ob_serve.specs.Crews.{AreBack}
-use Rattle.ob_serve.specs.Serving.{ServeEnds}
+use Rattle.ob_run.specs.Crews.{AreBack}
+use Rattle.ob_run.specs.Serving.{ServeEnds}
 use Rattle.ob_run.proofs.Opening.{are_clients}
 use Rattle.ob_run.proofs.Shapes.{idle}
-use Rattle.ob_run.proofs.Weaving.{driven_is, are_kept}
+use Rattle.ob_run.proofs.WovenRun.{driven_is, are_kept}
 use Rattle.ob_run.proofs.Keeping.{IsPlanned, keeps}
 use Rattle.ob_run.proofs.Seats as seats
 use Rattle.ob_run.proofs.Hands.{here, numbers_of}

@@ -1,1 +1,5 @@
+pub mod Woven
+pub mod Ends
+pub mod Crews
+pub mod Serving
 pub mod Threaded

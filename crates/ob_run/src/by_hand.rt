@@ -18,6 +18,9 @@ use ob_store::Watch;
 use std::alloc::Global;
 use std::sync::Wait;
 
+/// Lets a desk go, of which nothing more is asked.
+pub(crate) fn let_go(_desk: Desk) {}
+
 /// Runs the clients over the vault, all by hand, from the desk as it was made.
 pub(crate) fn run_by_hand<R: Wait, V: Vault, W: Watch, U: Runner, B: Beat, O: Sink>(
     rt: &R,
@@ -50,7 +53,9 @@ pub(crate) fn run_by_hand<R: Wait, V: Vault, W: Watch, U: Runner, B: Beat, O: Si
         (run_state (scene d vault.new (W.trace watch.new)) runners.new.items
         (outflow O.Sink output.new)) result }
 {
-    serve(
+    let result = serve(
         rt, alloc, params, &mut desk, runners, vault, watch, beat, output,
-    )
+    );
+    let_go(desk);
+    result
 }

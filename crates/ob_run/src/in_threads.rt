@@ -9,31 +9,31 @@ ghost use Rattle.ob_hall.specs.Passes.{opening_of, IsPassOf, IsOutOfTurn};
 ghost use Rattle.ob_hall.specs.Opening.{ArePasses};
 ghost use Rattle.ob_hall.specs.Closing.{AreAll, IsWholeHistory};
 ghost use Rattle.ob_conduct.specs.Scenes.{scene, run_state, runner_kind};
-ghost use Rattle.ob_woven.specs.Ends.{IsQuiet};
+ghost use Rattle.ob_run.specs.Ends.{IsQuiet};
 ghost use Rattle.ob_run.specs.Threaded.{InThreads};
 
-use crate::seating::{Room, make_room, seat_all, take_apart};
+use crate::by_hand::let_go;
+use crate::seating::{seat_all, take_apart};
+use crate::serving::serve;
 use ob_base::{Fault, Memory, Params};
 use ob_desk::{Beat, Desk};
 use ob_hall::{Hall, Pass};
 use ob_io::Sink;
 use ob_serial::Vault;
-use ob_serve::serve;
 use ob_session::Runner;
 use ob_starts::Client;
 use ob_store::Watch;
 use std::alloc::Global;
-use std::mem;
 use std::sync::Wait;
 use std::thread::Threads;
 
-// A hall that none has called, the driver's pass, those of the clients, in their order, and room for
-// the clients.
+// A hall that none has called, the driver's pass, those of the clients, in their order, and room
+// for the clients with their runners.
 struct Opened<U: Runner> {
     hall: Hall,
     driver: Pass,
     passes: Vec<Pass>,
-    room: Room<U>,
+    seated: Vec<Client<U>>,
 }
 
 // A hall round the desk, for these clients.
@@ -43,20 +43,24 @@ fn open_hall<U: Runner>(alloc: Global, desk: Desk, clients: &[u32]) -> Result<Op
         × (desk ≡ new_desk setup epoch left clients.now) }
     ensures desk { IfOk result (λ o. opening_of o.hall ≡ desk) }
     ensures passes { IfOk result (λ o. ArePasses o.hall clients.now (o.driver ∷ o.passes.items)) }
-    ensures none { IfOk result (λ o. (o.room.clients.items ≡ []) × (o.room.runners.items ≡ [])
-        × (o.room.passes.items ≡ [])) }
-    ensures room { IfOk result (λ o. (length clients.now ≤ vec_capacity o.room.clients)
-        × (length clients.now ≤ vec_capacity o.room.runners)
-        × (length clients.now + 1 ≤ vec_capacity o.room.passes)) }
+    ensures none { IfOk result (λ o. o.seated.items ≡ []) }
+    ensures room { IfOk result (λ o. (length clients.now ≤ vec_capacity o.seated)
+        × (length clients.now + 1 ≤ vec_capacity o.passes)) }
 {
-    let room = make_room(alloc, clients.len())?;
-    let (hall, mut passes) = Hall::new(alloc, desk, clients)?;
+    let Ok(seated) = Vec::with_capacity(alloc, clients.len()) else {
+        let_go(desk);
+        return Err(Memory);
+    };
+    let Ok((hall, mut passes)) = Hall::new(alloc, desk, clients) else {
+        seated.destroy_empty();
+        return Err(Memory);
+    };
     let driver = passes.remove(0);
     Ok(Opened {
         hall,
         driver,
         passes,
-        room,
+        seated,
     })
 }
 
@@ -65,24 +69,23 @@ fn close_hall<U: Runner>(
     hall: Hall,
     driver: Pass,
     clients: Vec<Client<U>>,
-    mut back: Vec<U>,
     mut passes: Vec<Pass>,
     runners: &mut Vec<U>,
 )
     requires own { All (IsPassOf hall) (driver ∷ map (λ c. c.0) clients.items) }
     requires idle { All IsOutOfTurn (driver ∷ map (λ c. c.0) clients.items) }
     requires all { AreAll hall (driver ∷ map (λ c. c.0) clients.items) }
-    requires none { (back.items ≡ []) × (passes.items ≡ []) }
-    requires room { (length clients.items ≤ vec_capacity back)
+    requires none { (runners.old.items ≡ []) × (passes.items ≡ []) }
+    requires room { (length clients.items ≤ vec_capacity runners.old)
         × (length clients.items + 1 ≤ vec_capacity passes) }
     ensures runners { runners.new.items ≡ map (λ c. c.1) clients.items }
     ensures whole { (d : DeskState)
         × IsWholeHistory hall (driver ∷ map (λ c. c.0) clients.items) d }
 {
     passes.push_reserved(driver);
-    take_apart(clients, &mut back, &mut passes);
-    *runners = back;
-    let _desk = hall.close(passes);
+    take_apart(clients, runners, &mut passes);
+    let desk = hall.close(passes);
+    let_go(desk);
 }
 
 // Serves the clients of a hall that none has called, the first ones in threads, and closes it.
@@ -107,11 +110,9 @@ fn serve_hall<U: Runner + Send, R: Threads + Wait + Sync, V: Vault, W: Watch, B:
         (V.counts vault.old).left (map U.client runners.old.items) }
     requires passes { ArePasses opened.hall (map U.client runners.old.items)
         (opened.driver ∷ opened.passes.items) }
-    requires none { (opened.room.clients.items ≡ []) × (opened.room.runners.items ≡ [])
-        × (opened.room.passes.items ≡ []) }
-    requires room { (length runners.old.items ≤ vec_capacity opened.room.clients)
-        × (length runners.old.items ≤ vec_capacity opened.room.runners)
-        × (length runners.old.items + 1 ≤ vec_capacity opened.room.passes) }
+    requires none { opened.seated.items ≡ [] }
+    requires room { (length runners.old.items ≤ vec_capacity opened.seated)
+        × (length runners.old.items + 1 ≤ vec_capacity opened.passes) }
     requires below { All (λ u. U.bound u ≤ params.now.keys) runners.old.items }
     requires none_made { All (λ u. U.fits u []) runners.old.items }
     requires quiet { IsQuiet U.turn }
@@ -128,16 +129,10 @@ fn serve_hall<U: Runner + Send, R: Threads + Wait + Sync, V: Vault, W: Watch, B:
     let Opened {
         hall,
         mut driver,
-        passes,
-        room,
+        mut passes,
+        mut seated,
     } = opened;
-    let Room {
-        clients: mut seated,
-        runners: back,
-        passes: all,
-    } = room;
-    let taken = mem::replace(runners, Vec::new(alloc));
-    seat_all(taken, passes, &mut seated);
+    seat_all(runners, &mut passes, &mut seated);
     let result = serve(
         rt,
         alloc,
@@ -151,7 +146,7 @@ fn serve_hall<U: Runner + Send, R: Threads + Wait + Sync, V: Vault, W: Watch, B:
         output,
         starts,
     );
-    close_hall(hall, driver, seated, back, all, runners);
+    close_hall(hall, driver, seated, passes, runners);
     result
 }
 

@@ -6,7 +6,7 @@ ghost use Rattle.ob_serial.specs.VaultKinds.{kind_of};
 ghost use Rattle.ob_desk.specs.Desk.{DeskState, MayOpen, new_desk};
 ghost use Rattle.ob_desk.specs.Beats.{beat_kind};
 ghost use Rattle.ob_conduct.specs.Scenes.{scene, run_state, runner_kind};
-ghost use Rattle.ob_woven.specs.Ends.{IsQuiet};
+ghost use Rattle.ob_run.specs.Ends.{IsQuiet};
 ghost use Rattle.ob_run.specs.Threaded.{RunsBy};
 
 use crate::by_hand::run_by_hand;

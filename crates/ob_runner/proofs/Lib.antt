@@ -8,3 +8,4 @@ pub mod Steps
 pub mod Turns
 pub mod Scripted
 pub mod Makings
+pub mod Wants

@@ -43,16 +43,21 @@ fn copy(alloc: Global, txn: &ScriptTxn) -> Result<ScriptTxn, AllocError>
 }
 
 // Copies the transactions of one client, in order.
-fn copy_by(alloc: Global, txns: &[ScriptTxn], client: u32) -> Result<Vec<ScriptTxn>, AllocError>
-    ensures { IfOk result (λ v. script_of v.items ≡ asks_by client (script_of txns.now)) }
+fn copy_by(
+    alloc: Global,
+    own: &mut Vec<ScriptTxn>,
+    txns: &[ScriptTxn],
+    client: u32,
+) -> Result<(), AllocError>
+    requires { own.old.items ≡ [] }
+    ensures { IfOk result (λ done. script_of own.new.items ≡ asks_by client (script_of txns.now)) }
 {
-    let mut own = Vec::new(alloc);
     for txn in txns {
         if txn.client == client {
             own.push(copy(alloc, txn)?)?;
         }
     }
-    Ok(own)
+    Ok(())
 }
 
 // Memory was wanting: stops the desk.
@@ -97,7 +102,8 @@ impl ScriptRunner {
             ≡ asks_by client scripts.now.txns) }
         ensures fits { IfOk result (λ r. places.Fits (runner_state r) []) }
     {
-        let txns = copy_by(alloc, scripts.txns(), client)?;
+        let mut txns = Vec::new(alloc);
+        copy_by(alloc, &mut txns, scripts.txns(), client)?;
         Ok(ScriptRunner {
             client,
             keys: scripts.keys(),

@@ -15,9 +15,10 @@ fn runners_of(
 ) -> Result<Vec<ScriptRunner>, Memory>
     ensures { IfOk result (λ runners. AreRunnersOf scripts.now clients.now runners.items) }
 {
-    let mut runners = Vec::new(alloc);
+    let mut runners = Vec::with_capacity(alloc, clients.len())?;
     for client in clients {
-        runners.push(ScriptRunner::new(alloc, scripts, *client)?)?;
+        let runner = ScriptRunner::new(alloc, scripts, *client)?;
+        runners.push_reserved(runner);
     }
     Ok(runners)
 }

@@ -1,8 +1,8 @@
 //! Reading a script.
 
-ghost use Rattle.std.specs.Prelude.{◌≡◌, ◌<◌, ◌∷◌, [], length, take, IfOk, IfErr, IfSome, IfNone};
-ghost use Rattle.ob_script.specs.Script.{limit, lines_from, IsScript, AreSound};
-ghost use Rattle.ob_script.specs.ScriptViews.{IsRefusal};
+ghost use Rattle.std.specs.Prelude.{◌≡◌, ◌<◌, ◌∷◌, [], None, true, length, take, IfOk, IfErr, IfSome, IfNone};
+ghost use Rattle.ob_script.specs.Script.{limit, lines_from, lines_of, is_within, start, ReadsLines, IsScript, AreSound};
+ghost use Rattle.ob_script.specs.ScriptViews.{IsRefusal, state_of};
 
 use crate::reader::Reader;
 use crate::reading::cut;
@@ -43,6 +43,31 @@ fn front(bytes: &[u8]) -> &[u8]
     }
 }
 
+// Reads the lines of a script, up to the first bad one.
+fn read_lines(reader: &mut Reader, alloc: Global, keys: u32, bytes: &[u8]) -> Result<(), Fault>
+    requires { state_of reader.old ≡ start }
+    ensures within { IfOk result (λ done. is_within bytes.now ≡ true) }
+    ensures reads { IfOk result (λ done. ReadsLines keys start (lines_of bytes.now)
+        (state_of reader.new)) }
+    ensures whole { IfOk result (λ done. (state_of reader.new).open_asks ≡ None) }
+    ensures refusal { IfErr result (λ fault. IsRefusal keys bytes.now fault) }
+{
+    let all = bytes.len() <= LIMIT;
+    let mut rest = front(bytes);
+    let mut number = 1;
+    while let Some((text, after)) = next_line(all, rest) {
+        if !reader.take_text(alloc, keys, text)? {
+            return Err(Fault::BadScript { line: number });
+        }
+        rest = after;
+        number += 1;
+    }
+    if !all || reader.open_asks.is_some() {
+        return Err(Fault::BadScript { line: number });
+    }
+    Ok(())
+}
+
 /// Reads a script on keys below `keys`: lines of `client C`, `begin`, `get K`, `put K V`, `del K`,
 /// `add K I`, `commit` and `abort`, empty lines and comments (`#` and any bytes), each ended by a
 /// line feed, of which the last may be missing. Clients are from 1 to 64 and rise.
@@ -56,19 +81,9 @@ pub fn parse(alloc: Global, bytes: &[u8], keys: u32) -> Result<Scripts, Fault>
     ensures sound { IfOk result (λ scripts. AreSound scripts) }
     ensures refusal { IfErr result (λ fault. IsRefusal keys bytes.now fault) }
 {
-    let all = bytes.len() <= LIMIT;
-    let mut rest = front(bytes);
     let mut reader = Reader::new(alloc);
-    let mut number = 1;
-    while let Some((text, after)) = next_line(all, rest) {
-        if !reader.take_text(alloc, keys, text)? {
-            return Err(Fault::BadScript { line: number });
-        }
-        rest = after;
-        number += 1;
+    match read_lines(&mut reader, alloc, keys, bytes) {
+        Ok(()) => Ok(Scripts::new(keys, reader.clients, reader.done)),
+        Err(fault) => Err(fault),
     }
-    if !all || reader.open_asks.is_some() {
-        return Err(Fault::BadScript { line: number });
-    }
-    Ok(Scripts::new(keys, reader.clients, reader.done))
 }

@@ -9,7 +9,7 @@ use ob_base::{Check, Damaged, NUMBER_LIMIT, Worn, u64_at};
 use std::marker::Model;
 
 /// What a sealed cell holds. Its generation and number may be any, as far as none is expected.
-#[derive(Clone, Copy, Debug, PartialEq, Eq)]
+#[derive(Clone, Copy, PartialEq, Eq)]
 pub struct Opened {
     /// The generation of its seal.
     pub generation: u64,

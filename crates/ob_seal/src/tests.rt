@@ -3,7 +3,7 @@
 use crate::cells::{pad_of, part_at, tag_of};
 use crate::{Keys, Sealer};
 use hex::FromHex;
-use ob_base::{Check, Damaged};
+use ob_base::{Check, Fault};
 use rand_chacha::ChaCha20Rng;
 use rand_core::{SeedableRng, utils};
 use std::process::Abort;
@@ -81,11 +81,14 @@ fn expect_opened(
 ) -> Result<(), Fail> {
     let sealer = Sealer::new(&keys()?, 9);
     let sealed = bytes(sealed)?;
-    let opened = sealer.unseal(cell, Some((generation, number)), &sealed)?;
+    let opened = sealer
+        .unseal(cell, Some((generation, number)), &sealed)
+        .ok();
+    let opened = opened.ok_or("no such seal")?;
     assert_eq!(rt; opened.generation, generation);
     assert_eq!(rt; opened.number, number);
     assert_eq!(rt; opened.plain, bytes(plain)?);
-    assert!(rt; sealer.unseal(cell, None, &sealed) == Ok(opened));
+    assert!(rt; sealer.unseal(cell, None, &sealed).ok() == Some(opened));
     Ok(())
 }
 
@@ -132,7 +135,7 @@ fn expect_stamped(rt: &impl Abort, cell: u64, plain: &str, stamped: &str) -> Res
     let plain = bytes(plain)?;
     let stamped = bytes(stamped)?;
     assert_eq!(rt; sealer.stamp(cell, &plain), stamped);
-    assert!(rt; sealer.unstamp(cell, &stamped) == Ok(plain));
+    assert!(rt; sealer.unstamp(cell, &stamped).ok() == Some(plain));
     Ok(())
 }
 
@@ -163,24 +166,25 @@ fn stamped_cells_are_as_made_elsewhere(rt: HostRuntime) -> Result<(), Fail> {
 fn changed_cells_are_damaged(rt: HostRuntime) -> Result<(), Fail> {
     let mut sealer = Sealer::new(&keys()?, 2);
     let plain = [7; 96];
-    let mut cell = sealer.seal(41, &plain)?;
-    let wrong = Damaged {
+    let mut cell = sealer.seal(41, &plain).ok().ok_or("worn")?;
+    let wrong = Fault::Damaged {
         cell: 41,
         check: Check::Seal,
         kept: bytes("02000000000000000000000000000000")?,
         computed: bytes("02000000000000000100000000000000")?,
     };
-    assert!(rt; sealer.unseal(41, Some((2, 1)), &cell) == Err(wrong));
+    let told = sealer.unseal(41, Some((2, 1)), &cell).err();
+    assert!(rt; told.is_some_and(|damaged| Fault::from(damaged) == wrong));
     assert!(rt; sealer.unseal(41, Some((2, 0)), &cell).is_ok());
     cell[50] ^= 1;
     let check = sealer
         .unseal(41, Some((2, 1)), &cell)
         .err()
         .map(|d| d.check);
-    assert_eq!(rt; check, Some(Check::Tag));
+    assert!(rt; check == Some(Check::Tag));
     cell[50] ^= 1;
     let check = sealer.unseal(42, None, &cell).err().map(|d| d.check);
-    assert_eq!(rt; check, Some(Check::Tag));
+    assert!(rt; check == Some(Check::Tag));
     Ok(())
 }
 
@@ -230,8 +234,8 @@ fn seals_of_a_generation_take_24_words_each(rt: HostRuntime) -> Result<(), Fail>
     let mut words = [0; 192];
     utils::fill_bytes_via_u32(&mut stream, &mut words);
     let mut sealer = Sealer::new(&keys, 2);
-    let first = sealer.seal(13, &[0; 96])?;
-    let second = sealer.seal(15, &[0; 96])?;
+    let first = sealer.seal(13, &[0; 96]).ok().ok_or("worn")?;
+    let second = sealer.seal(15, &[0; 96]).ok().ok_or("worn")?;
     assert_eq!(rt; part_at::<96>(&first, 16), part_at::<96>(&words, 0));
     assert_eq!(rt; part_at::<96>(&second, 16), part_at::<96>(&words, 96));
     Ok(())

@@ -1,9 +1,12 @@
 //! What an epoch's record has of each transaction.
 
+ghost use Rattle.std.specs.Prelude.{◌≡◌, ⊤};
+
 use ob_base::{Fault, Op};
+use std::alloc::AllocError;
 
 /// Why a transaction was aborted. Keys are of any kind `K`.
-#[derive(Clone, Copy, Debug, PartialEq, Eq)]
+#[derive(Copy, PartialEq, Eq)]
 pub enum Why<K> {
     /// It wrote a key whose version before its own a later ticket, the reader, had read.
     Conflict { key: K, reader: u64 },
@@ -21,8 +24,18 @@ pub enum Why<K> {
     Stopped { fault: Fault },
 }
 
+impl<K: Copy> Clone for Why<K> {
+    ghost is_clone = { λ why clone. clone ≡ why };
+
+    ghost is_infallible = { λ _. ⊤ };
+
+    fn clone(&self) -> Result<Why<K>, AllocError> {
+        Ok(*self)
+    }
+}
+
 /// How a transaction ended.
-#[derive(Clone, Copy, Debug, PartialEq, Eq)]
+#[derive(Copy, PartialEq, Eq)]
 pub enum Outcome<K> {
     /// It is committed, and its epoch is durable.
     Committed,
@@ -30,6 +43,16 @@ pub enum Outcome<K> {
     Aborted { why: Why<K> },
     /// It is not known whether its epoch is durable.
     Unsure { epoch: u64 },
+}
+
+impl<K: Copy> Clone for Outcome<K> {
+    ghost is_clone = { λ outcome clone. clone ≡ outcome };
+
+    ghost is_infallible = { λ _. ⊤ };
+
+    fn clone(&self) -> Result<Outcome<K>, AllocError> {
+        Ok(*self)
+    }
 }
 
 /// A transaction: its timestamp (epoch, then ticket in the epoch, from 1), its client, its

@@ -1,5 +1,7 @@
--- For tests: two runners that have made no call, and the pass of a client of the tests' halls that has made none.
-use Rattle.std.specs.Prelude.{◌≡◌, ◌≤◌, ℕ, All, List, [], map}
+-- For tests: two runners that have made no call, the pass of a client of the tests' halls that has made none, and when a desk may be opened.
+use Rattle.std.specs.Prelude.{◌≡◌, ◌≤◌, ◌^◌, ℕ, suc, false, All, List, [], map}
+use Rattle.ob_base.specs.declared.params.Params.{Params}
+use Rattle.ob_serial.specs.Vaults.{VaultCounts}
 use Rattle.ob_hall.specs.Passes.{Steps, Hall, Pass, opening_of}
 use Rattle.ob_hall.specs.Calling.{IsReady, IsBetween}
 use Rattle.ob_driver.specs.Testing.{two_clients}
@@ -21,3 +23,10 @@ pub record IsSession (hall : Hall) (pass : Pass) : Type 0 where
   pub ready : IsReady hall pass
   pub between : IsBetween pass
   pub keys : 8 ≤ (opening_of hall).setup.params.keys
+
+-- a vault that serves, over a store of the tests
+pub record CanOpen (p : Params) (c : VaultCounts) : Type 0 where
+  pub keys : p.keys ≡ 8
+  pub serves : c.spent ≡ false
+  pub few : c.left ≤ p.batches
+  pub low : suc c.epoch ≤ 2 ^ 62

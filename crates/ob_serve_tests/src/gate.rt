@@ -1,25 +1,21 @@
 //! A client that runs while a batch is read.
 
 ghost use Rattle.std.specs.Prelude.{◌≡◌, ◌<◌, ◌≤◌, ◌+◌, ◌^◌, ℕ, List, All, length, map, IfOk, IfErr};
-ghost use Rattle.ob_mem.specs.Memory.{disk_of_store};
 ghost use Rattle.ob_runner.specs.RunnerViews.{client_of, bound_of, MayHaveMade};
 ghost use Rattle.ob_serve_tests.specs.Pairs.{IsNewPair};
 
-use crate::runs::{both, formatted, run_two, scripted};
+use crate::runs::{NEVER, run_scripts};
 use ob_base::{Fault, Key, Value, Write};
 use ob_desk::Desk;
-use ob_mem::{MemSink, MemStore};
 use ob_runner::ScriptRunner;
+use ob_script::parse;
 use ob_serial::{EndErr, Vault};
 use ob_session::{Made, Runner, Step};
 use ob_store::Watch;
 use std::alloc::Global;
-use std::process::Abort;
-use std::sync::Wait;
 use std::sync::atomic::AtomicBool;
 use std::sync::atomic::Ordering::SeqCst;
 use std::thread;
-use std::thread::Threads;
 
 /// Where fetches wait for a client.
 #[derive(Drop)]
@@ -143,20 +139,22 @@ impl<'g, U: Runner> Runner for Opens<'g, U> {
     }
 }
 
-// Each client waits for a key. The second one opens the gate when it asks again.
-const SCRIPT: &[u8] = b"client 1\nbegin\nget 5\ncommit\nclient 2\nbegin\nget 6\nput 6 b\ncommit\n";
-
-// The runner of a client whose steps open the gate, or don't.
-fn at_gate<'g>(
+/// The runner of a client's part of a script, whose steps open the gate, or don't.
+///
+/// # Errors
+/// The script is bad, or memory was wanting.
+pub fn at_gate<'g>(
     alloc: Global,
-    gate: &'g Gate,
+    script: &[u8],
     number: u32,
+    gate: &'g Gate,
     opens: bool,
 ) -> Result<Opens<'g, ScriptRunner>, Fault>
     ensures { IfOk result (λ o. IsNewPair (λ r. client_of r.runner) (λ r. bound_of r.runner)
         (λ r said. MayHaveMade r.runner said) number o) }
 {
-    let runner = scripted(alloc, SCRIPT, number)?;
+    let scripts = parse(alloc, script, 8)?;
+    let runner = ScriptRunner::new(alloc, &scripts, number)?;
     Ok(Opens {
         runner,
         gate,
@@ -164,30 +162,13 @@ fn at_gate<'g>(
     })
 }
 
-// A run of both in threads.
-#[tactic(auto, using(ob_run::proofs::Scripts::scripts_are_quiet))]
-fn run_gated<R: Threads + Wait + Sync + Abort>(
-    rt: &R,
-    alloc: Global,
-    store: &mut MemStore,
-    gate: &Gate,
-    output: &mut MemSink,
-) -> Result<(), Fault>
-    requires { (disk_of_store store.old).out ≡ 0 }
-{
-    let first = at_gate(alloc, gate, 1, false)?;
-    let second = at_gate(alloc, gate, 2, true)?;
-    let mut runners = both(alloc, first, second)?;
-    run_two(rt, alloc, store, gate, &mut runners, output, true)
-}
+// Each client waits for a key. The second one opens the gate when it asks again.
+const SCRIPT: &[u8] = b"client 1\nbegin\nget 5\ncommit\nclient 2\nbegin\nget 6\nput 6 b\ncommit\n";
 
 #[test]
 fn a_client_runs_while_a_batch_is_read(rt: HostRuntime) {
-    let alloc = rt.alloc();
-    let mut store = formatted(&rt, alloc, Vec::new(alloc));
-    let mut output = MemSink::new(alloc, 1000, Vec::new(alloc)).expect(&rt, "memory");
     let gate = Gate::new(false);
-    let ended = run_gated(&rt, alloc, &mut store, &gate, &mut output);
+    let ended = run_scripts(&rt, rt.alloc(), SCRIPT, NEVER, &gate, 1000);
     assert!(rt; ended == Ok(()));
     assert!(rt; gate.reached.load(SeqCst));
     assert!(rt; gate.open.load(SeqCst));

@@ -1,19 +1,18 @@
 //! Runs of two clients over a store in memory, and the calls of the store that fail.
 
-ghost use Rattle.std.specs.Prelude.{◌≡◌, ◌≤◌, false, IfOk};
+ghost use Rattle.std.specs.Prelude.{◌≡◌, suc, IfOk};
 ghost use Rattle.ob_mem.specs.Memory.{disk_of_store};
-ghost use Rattle.ob_runner.specs.RunnerViews.{client_of, bound_of, MayHaveMade};
-ghost use Rattle.ob_woven.specs.Ends.{IsQuiet};
-ghost use Rattle.ob_serve_tests.specs.Pairs.{IsNewPair, AreTwo};
+ghost use Rattle.ob_desk.specs.Desk.{new_desk};
+ghost use Rattle.ob_driver.specs.Testing.{two_clients};
+ghost use Rattle.ob_run.specs.Ends.{IsQuiet};
+ghost use Rattle.ob_serve_tests.specs.Pairs.{IsNewPair, AreTwo, CanOpen};
 
-use crate::gate::{Gate, Gated};
+use crate::gate::{Gate, Gated, at_gate};
 use ob_base::{Fault, Memory, Params};
 use ob_desk::{Desk, Eager};
 use ob_flat::{FlatVault, format, head, prepare};
 use ob_mem::{Fail, MemSink, MemStore};
 use ob_run::run;
-use ob_runner::ScriptRunner;
-use ob_script::parse;
 use ob_seal::Keys;
 use ob_serial::Vault;
 use ob_session::Runner;
@@ -27,14 +26,16 @@ pub fn test_keys() -> Keys {
     Keys::from_bytes(&[7; 96])
 }
 
-/// A store of eight keys, two batches of two places, two writes.
-pub fn formatted(rt: &impl Abort, alloc: Global, fails: Vec<Fail>) -> MemStore
+/// A write that no run of the tests comes to.
+pub const NEVER: Fail = Fail::Write(1000);
+
+/// A store of eight keys, two batches of two places, two writes, of which this call fails.
+pub fn formatted(rt: &impl Abort, alloc: Global, fail: Fail) -> MemStore
     ensures { (disk_of_store result).out ≡ 0 }
 {
-    let Ok(params) = Params::new(8, 2, 2, 3, 2, 2, 2, 2, 8) else {
-        assert!(rt; false, "the parameters are in range");
-        unreachable!()
-    };
+    let params = Params::new(8, 2, 2, 3, 2, 2, 2, 2, 8).expect(rt, "parameters in range");
+    let mut fails = Vec::new(alloc);
+    assert!(rt; fails.push(fail).is_ok());
     let mut store = MemStore::new(alloc, 25, fails).expect(rt, "memory");
     assert!(rt; format(&mut store, &test_keys(), &params, &mut Blind).is_ok());
     store
@@ -57,18 +58,6 @@ pub fn both<U: Runner>(alloc: Global, first: U, second: U) -> Result<Vec<U>, Mem
     Ok(runners)
 }
 
-/// The runner of a client's part of a script.
-///
-/// # Errors
-/// The script is bad, or memory was wanting.
-pub fn scripted(alloc: Global, script: &[u8], number: u32) -> Result<ScriptRunner, Fault>
-    ensures { IfOk result (λ r. IsNewPair client_of bound_of MayHaveMade number r) }
-{
-    let scripts = parse(alloc, script, 8)?;
-    let runner = ScriptRunner::new(alloc, &scripts, number)?;
-    Ok(runner)
-}
-
 /// Opens a store.
 ///
 /// # Errors
@@ -81,8 +70,29 @@ pub fn open<'a>(alloc: Global, store: &'a mut MemStore) -> Result<FlatVault<'a, 
     Ok(FlatVault::over(store, opening))
 }
 
+/// A desk of the clients 1 and 2 at a vault over a store of the tests, which serves.
+///
+/// # Errors
+/// Memory was wanting.
+pub fn desk_at<V: Vault>(
+    rt: &impl Abort,
+    alloc: Global,
+    params: &Params,
+    vault: &V,
+) -> Result<Desk, Memory>
+    ensures opens { CanOpen params.now (V.counts vault.now) }
+    ensures desk { IfOk result (λ d. d
+        ≡ new_desk (record { params = params.now }) (suc (V.counts vault.now).epoch)
+        (V.counts vault.now).left two_clients) }
+{
+    assert!(rt; params.keys == 8);
+    assert!(rt; !vault.spent());
+    assert!(rt; vault.left() <= params.batches);
+    Desk::new(alloc, params, vault.epoch() + 1, vault.left(), &[1, 2])
+}
+
 // Runs the clients 1 and 2 over a vault.
-fn run_over<R: Threads + Wait + Sync, V: Vault, U: Runner + Send>(
+fn run_over<R: Threads + Wait + Sync + Abort, V: Vault, U: Runner + Send>(
     rt: &R,
     alloc: Global,
     params: &Params,
@@ -92,43 +102,57 @@ fn run_over<R: Threads + Wait + Sync, V: Vault, U: Runner + Send>(
     threads: bool,
 ) -> Result<(), Fault>
     requires params { V.params vault.old ≡ params.now }
-    requires keys { params.now.keys ≡ 8 }
-    requires serves { (V.counts vault.old).spent ≡ false }
-    requires few { (V.counts vault.old).left ≤ params.now.batches }
     requires two { AreTwo U.client U.bound U.fits runners.old.items }
     requires quiet { IsQuiet U.turn }
 {
+    let desk = desk_at(rt, alloc, params, vault)?;
     let clients = [1, 2];
-    let desk = Desk::new(alloc, params, vault.epoch() + 1, vault.left(), &clients)?;
     run(
         rt, alloc, params, desk, &clients, runners, vault, &mut Blind, &mut Eager, output, threads,
     )
 }
 
-/// Runs the clients 1 and 2 over a store, whose fetches pass a gate.
+/// Runs the clients 1 and 2 over a new store, of which this call fails. Its fetches pass a gate.
 ///
 /// # Errors
 /// Those of the run, and of opening the store.
 pub fn run_two<R: Threads + Wait + Sync + Abort, U: Runner + Send>(
     rt: &R,
     alloc: Global,
-    store: &mut MemStore,
+    fail: Fail,
     gate: &Gate,
     runners: &mut Vec<U>,
     output: &mut MemSink,
     threads: bool,
 ) -> Result<(), Fault>
-    requires none_out { (disk_of_store store.old).out ≡ 0 }
     requires two { AreTwo U.client U.bound U.fits runners.old.items }
     requires quiet { IsQuiet U.turn }
 {
-    let vault = open(alloc, store)?;
+    let mut store = formatted(rt, alloc, fail);
+    let vault = open(alloc, &mut store)?;
     let params = vault.params();
-    assert!(rt; params.keys == 8);
-    assert!(rt; !vault.spent());
-    assert!(rt; vault.left() <= params.batches);
     let mut gated = Gated { vault, gate };
     run_over(rt, alloc, &params, &mut gated, runners, output, threads)
+}
+
+/// How a run in threads of both clients of a script ends, where this call of its store fails, the
+/// fetches pass this gate, which the second client opens, and the output has so much room.
+///
+/// # Errors
+/// Those of the run; the script is bad, or memory was wanting.
+pub fn run_scripts<R: Threads + Wait + Sync + Abort>(
+    rt: &R,
+    alloc: Global,
+    script: &[u8],
+    fail: Fail,
+    gate: &Gate,
+    room: usize,
+) -> Result<(), Fault> {
+    let mut output = MemSink::new(alloc, room, Vec::new(alloc))?;
+    let first = at_gate(alloc, script, 1, gate, false)?;
+    let second = at_gate(alloc, script, 2, gate, true)?;
+    let mut runners = both(alloc, first, second)?;
+    run_two(rt, alloc, fail, gate, &mut runners, &mut output, true)
 }
 
 // ---- faults
@@ -137,50 +161,45 @@ const SCRIPT: &[u8] =
     b"client 1\nbegin\nput 5 hi\ncommit\nbegin\nget 5\ncommit\nclient 2\nbegin\nget 6\ncommit\n";
 
 /// How a run in threads ends where this call of its store fails and the output has so much room.
-#[tactic(auto, using(ob_run::proofs::Scripts::scripts_are_quiet))]
+///
+/// # Errors
+/// Those of the run.
 pub fn ends<R: Threads + Wait + Sync + Abort>(
     rt: &R,
     alloc: Global,
     fail: Fail,
     room: usize,
 ) -> Result<(), Fault> {
-    let mut fails = Vec::new(alloc);
-    assert!(rt; fails.push(fail).is_ok());
-    let mut store = formatted(rt, alloc, fails);
-    let mut output = MemSink::new(alloc, room, Vec::new(alloc))?;
-    let first = scripted(alloc, SCRIPT, 1)?;
-    let second = scripted(alloc, SCRIPT, 2)?;
-    let mut runners = both(alloc, first, second)?;
-    let gate = Gate::new(true);
-    run_two(
-        rt,
-        alloc,
-        &mut store,
-        &gate,
-        &mut runners,
-        &mut output,
-        true,
-    )
+    run_scripts(rt, alloc, SCRIPT, fail, &Gate::new(true), room)
 }
+
+// The store failed; or it did where the end of this epoch is in doubt; or the output did.
+const FAILED: Option<Fault> = Some(Fault::StoreFault { unsure: None });
+
+const FIRST_UNSURE: Option<Fault> = Some(Fault::StoreFault { unsure: Some(1) });
+
+const SECOND_UNSURE: Option<Fault> = Some(Fault::StoreFault { unsure: Some(2) });
+
+const SINK: Option<Fault> = Some(Fault::SinkFault);
+
+// Counted from 0, the first end's last write is 31 and its last sync 15, and an end makes 11
+// writes and 4 syncs. There are two ends, or three where the second client comes late.
+const FAULTS: &[(Fail, usize, Option<Fault>)] = &[
+    (Fail::Write(30), 1000, FAILED),
+    (Fail::Write(31), 1000, FIRST_UNSURE),
+    (Fail::Write(41), 1000, FAILED),
+    (Fail::Write(42), 1000, SECOND_UNSURE),
+    (NEVER, 1000, None),
+    (Fail::Sync(14), 1000, FAILED),
+    (Fail::Sync(15), 1000, FIRST_UNSURE),
+    (Fail::Sync(19), 1000, SECOND_UNSURE),
+    (Fail::Sync(20), 0, SINK),
+    (Fail::Sync(20), 30, SINK),
+];
 
 #[test]
 fn faults_are_told_and_each_thread_ends(rt: HostRuntime) {
-    let unsure = |epoch| Err(Fault::StoreFault { unsure: epoch });
-    // Counted from 0, the first end's last write is 31 and its last sync 15, and an end makes 11
-    // writes and 4 syncs. There are two ends, or three where the second client comes late.
-    let faults = [
-        (Fail::Write(30), 1000, unsure(None)),
-        (Fail::Write(31), 1000, unsure(Some(1))),
-        (Fail::Write(41), 1000, unsure(None)),
-        (Fail::Write(42), 1000, unsure(Some(2))),
-        (Fail::Write(1000), 1000, Ok(())),
-        (Fail::Sync(14), 1000, unsure(None)),
-        (Fail::Sync(15), 1000, unsure(Some(1))),
-        (Fail::Sync(19), 1000, unsure(Some(2))),
-        (Fail::Sync(20), 0, Err(Fault::SinkFault)),
-        (Fail::Sync(20), 30, Err(Fault::SinkFault)),
-    ];
-    for (fail, room, wanted) in faults {
-        assert_eq!(&rt; ends(&rt, rt.alloc(), fail, room), wanted);
+    for (fail, room, wanted) in FAULTS {
+        assert!(&rt; ends(&rt, rt.alloc(), *fail, *room).err() == *wanted);
     }
 }

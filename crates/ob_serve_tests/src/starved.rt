@@ -6,11 +6,11 @@ ghost use Rattle.ob_session.specs.Steps.{steps_of, Leads, IsOwn};
 ghost use Rattle.ob_session.specs.Clients.{said_by, stands_after, IsOneCall};
 ghost use Rattle.ob_session.specs.Agreeing.{Agrees};
 ghost use Rattle.ob_hall.specs.Testing.{Visits};
-ghost use Rattle.ob_woven.specs.Ends.{QuietRule};
+ghost use Rattle.ob_run.specs.Ends.{QuietRule};
 ghost use Rattle.ob_serve_tests.specs.Pairs.{AreTwo};
 
 use crate::gate::Gate;
-use crate::runs::{both, formatted, run_two};
+use crate::runs::{NEVER, both, run_two};
 use ob_base::{Fault, Memory};
 use ob_desk::Desk;
 use ob_mem::MemSink;
@@ -30,7 +30,7 @@ pub struct Starved {
 
 impl Runner for Starved {
     ghost use Rattle.ob_hall.specs.Testing.{Visits};
-    ghost use Rattle.ob_woven.specs.Ends.{QuietRule};
+    ghost use Rattle.ob_run.specs.Ends.{QuietRule};
 
     ghost client = { λ v. v.client };
 
@@ -92,20 +92,11 @@ pub fn ends<R: Threads + Wait + Sync + Abort>(
     alloc: Global,
     threads: bool,
 ) -> Result<(Option<Fault>, bool, bool), Fault> {
-    let mut store = formatted(rt, alloc, Vec::new(alloc));
     let mut output = MemSink::new(alloc, 1000, Vec::new(alloc))?;
     let mut runners = starving(alloc)?;
     let gate = Gate::new(true);
-    let ended = run_two(
-        rt,
-        alloc,
-        &mut store,
-        &gate,
-        &mut runners,
-        &mut output,
-        threads,
-    );
-    assert_eq!(rt; output.written(), b"".as_slice());
+    let ended = run_two(rt, alloc, NEVER, &gate, &mut runners, &mut output, threads);
+    assert!(rt; output.written().is_empty());
     Ok((ended.err(), has_gone(&runners, 0), has_gone(&runners, 1)))
 }
 
@@ -113,8 +104,8 @@ pub fn ends<R: Threads + Wait + Sync + Abort>(
 // end.
 #[test]
 fn want_of_memory_is_told_and_the_others_sign_off(rt: HostRuntime) {
-    let alloc = rt.alloc();
-    let memory = Some(Fault::Memory);
-    assert_eq!(&rt; ends(&rt, alloc, true), Ok((memory, true, true)));
-    assert_eq!(&rt; ends(&rt, alloc, false), Ok((memory, false, true)));
+    for (threads, first_has_gone) in [(true, true), (false, false)] {
+        let wanted = (Some(Fault::Memory), first_has_gone, true);
+        assert!(&rt; ends(&rt, rt.alloc(), threads) == Ok(wanted));
+    }
 }

@@ -16,11 +16,11 @@ use Rattle.ob_twin.specs.Keyed.{tagging}
 use Rattle.ob_twin.specs.Register.{StandsAt, KeepsAt, OldOrNew}
 use Rattle.ob_twin.proofs.Frames.{register_moved}
 use Rattle.ob_start.specs.Heads.{IsHead}
-use Rattle.ob_bucket.specs.Version.{Version, key_at, rank_at, used_at}
-use Rattle.ob_bucket.specs.Buckets.{version_at}
+use Rattle.ob_tables.specs.Version.{Version, key_at, rank_at, used_at}
+use Rattle.ob_tables.specs.Buckets.{version_at}
 use Rattle.ob_schedule.specs.Paths.{is_one_of}
-use Rattle.ob_taken.specs.Goes.{Goes}
-use Rattle.ob_values.specs.Carries.{Slots}
+use Rattle.ob_epoch.specs.Goes.{Goes}
+use Rattle.ob_epoch.specs.Carries.{Slots}
 use Rattle.ob_epoch.specs.Valued.{IsSlotOf}
 use Rattle.ob_stand.specs.Stands.{RingStanding, SpellsSlot, HoldsRest, Stands, OneOf}
 use Rattle.ob_stand.specs.Spare.{SameRest, Spare, SameButIn}

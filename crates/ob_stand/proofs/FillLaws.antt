@@ -11,8 +11,8 @@ use Rattle.ob_store.specs.Images.{SameBut}
 use Rattle.ob_seal.specs.declared.keys.Keys.{Keys}
 use Rattle.ob_seal.specs.Pieces.{onward}
 use Rattle.ob_seal.specs.Seals.{sealed}
-use Rattle.ob_bucket.specs.Version.{Version, rank_at}
-use Rattle.ob_bucket.specs.Buckets.{version_at}
+use Rattle.ob_tables.specs.Version.{Version, rank_at}
+use Rattle.ob_tables.specs.Buckets.{version_at}
 use Rattle.ob_schedule.specs.Paths.{is_one_of}
 use Rattle.ob_stand.specs.Ends.{RingEnd, IsEndOf, HoldsBucket, HoldsNextCheckpoint}
 use Rattle.ob_stand.specs.Fills.{SameButBucket, SameButCheckpoint, next_gate, IsFilled, EndWritesStay}

@@ -16,7 +16,7 @@ use Rattle.ob_twin.specs.Keyed.{tagging}
 use Rattle.ob_twin.specs.Register.{StandsAt}
 use Rattle.ob_twin.proofs.Moves.{stamped-body, number-body}
 use Rattle.ob_start.proofs.Spelling.{head_is}
-use Rattle.ob_bucket.specs.Version.{EMPTY}
+use Rattle.ob_tables.specs.Version.{EMPTY}
 use Rattle.ob_tables.specs.Spelling.{checkpoint_bytes, slot_bytes}
 use Rattle.ob_stand.specs.Fresh.{Ranks, FormatsExist, fresh_content, format_image}
 

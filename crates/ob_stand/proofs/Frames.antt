@@ -13,8 +13,8 @@ use Rattle.ob_twin.specs.Register.{SameOutside}
 use Rattle.ob_twin.proofs.Frames.{register_moved}
 use Rattle.ob_start.specs.Heads.{IsHead}
 use Rattle.ob_log.specs.Logs.{BatchRecord, OpenRecords}
-use Rattle.ob_bucket.specs.Version.{rank_at}
-use Rattle.ob_bucket.specs.Buckets.{version_at}
+use Rattle.ob_tables.specs.Version.{rank_at}
+use Rattle.ob_tables.specs.Buckets.{version_at}
 use Rattle.ob_tables.specs.Content.{Content}
 use Rattle.ob_stand.specs.Stands.{RingStanding, AreKnown, HoldsRest, HoldsCheckpoint, HoldsSlots, Stands}
 use Rattle.ob_stand.specs.Spare.{SameLog, SameRest, SameReads, IsOtherHome, IsSpare, AgreeOffSpare, StandsFrame, FrameWith, with_records}

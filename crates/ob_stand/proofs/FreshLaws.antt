@@ -19,14 +19,14 @@ use Rattle.ob_store.specs.Disk.{Image}
 use Rattle.ob_seal.specs.declared.keys.Keys.{Keys}
 use Rattle.ob_seal.specs.Pieces.{onward}
 use Rattle.ob_seal.specs.Seals.{sealed}
-use Rattle.ob_bucket.specs.Version as bucket
-use Rattle.ob_bucket.specs.Version.{Version, key_at, rank_at, EMPTY}
-use Rattle.ob_bucket.specs.Buckets.{version_at, no_version}
+use Rattle.ob_tables.specs.Version as bucket
+use Rattle.ob_tables.specs.Version.{Version, key_at, rank_at, EMPTY}
+use Rattle.ob_tables.specs.Buckets.{version_at, no_version}
 use Rattle.ob_tables.specs.Content.{FitsSeals, Obeys}
 use Rattle.ob_tables.specs.Spelling.{slot_bytes}
 use Rattle.ob_tables.specs.declared.entry.Entry.{Entry}
-use Rattle.ob_values.proofs.Planned.{past_none}
-use Rattle.ob_epoch.proofs.Sampling.{none_some, no_entry}
+use Rattle.ob_epoch.proofs.Planned.{past_none}
+use Rattle.ob_epoch.proofs.ContentSampling.{none_some, no_entry}
 use Rattle.ob_stand.specs.Stands.{SpellsSlot, Stands}
 use Rattle.ob_stand.specs.Fresh.{Ranks, fresh_version, fresh_content, fresh_standing, AreRanked, IsFormatOf, FormattedStands}
 use Rattle.ob_ring.proofs.FillLaws.{none_used}

@@ -21,15 +21,15 @@ use Rattle.ob_twin.specs.Register.{StandsAt, gate_at, number_at}
 use Rattle.ob_twin.specs.Keyed.{tagging}
 use Rattle.ob_log.specs.Logs.{OpenRecords, record_at, record_bytes}
 use Rattle.ob_log.proofs.OnceLaws.{records_same}
-use Rattle.ob_bucket.specs.Version.{Version, key_at, rank_at, used_at}
-use Rattle.ob_bucket.specs.Buckets.{version_at, no_version}
+use Rattle.ob_tables.specs.Version.{Version, key_at, rank_at, used_at}
+use Rattle.ob_tables.specs.Buckets.{version_at, no_version}
 use Rattle.ob_tables.specs.Content.{Content, Obeys}
 use Rattle.ob_tables.specs.Spelling.{checkpoint_bytes, slot_bytes, value_bytes}
 use Rattle.ob_tables.proofs.TextLaws.{content_once, content_length, value_same}
 use Rattle.ob_ring.specs.FlatTable.{Spot, InStash, In, spot_of}
-use Rattle.ob_taken.specs.Takes.{is_present}
-use Rattle.ob_taken.specs.Values.{Values}
-use Rattle.ob_values.proofs.Planned.{past_none}
+use Rattle.ob_epoch.specs.Takes.{is_present}
+use Rattle.ob_epoch.specs.Values.{Values}
+use Rattle.ob_epoch.proofs.Planned.{past_none}
 use Rattle.ob_epoch.specs.Table.{flat_of}
 use Rattle.ob_epoch.proofs.Reading.{holds}
 use Rattle.ob_epoch.proofs.Standing.{contents_carry}

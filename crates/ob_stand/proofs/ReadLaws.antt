@@ -10,10 +10,10 @@ use Rattle.ob_seal.specs.Pads.{pad_of, xored}
 use Rattle.ob_seal.specs.Pieces.{onward}
 use Rattle.ob_seal.specs.Seals.{identity_bytes, tag_of, sealed, sealed_front, stamped}
 use Rattle.ob_seal.proofs.PadLemmas.{length-xored, xored_twice}
-use Rattle.ob_bucket.specs.Version.{key_at, rank_at, used_at}
-use Rattle.ob_bucket.specs.Buckets.{version_at}
+use Rattle.ob_tables.specs.Version.{key_at, rank_at, used_at}
+use Rattle.ob_tables.specs.Buckets.{version_at}
 use Rattle.ob_epoch.specs.Numbers.{IsKnown}
-use Rattle.ob_taken.specs.Values.{with_writes}
+use Rattle.ob_epoch.specs.Values.{with_writes}
 use Rattle.ob_epoch.specs.Valued.{IsSlotOf, content_with}
 use Rattle.ob_epoch.proofs.Ending.{ends_follow}
 use Rattle.ob_epoch.specs.Ends.{IsNext}

@@ -7,14 +7,14 @@ use Rattle.std.proofs.lemmas.Bool.{cases_lt}
 use Rattle.ob_base.specs.declared.params.Params.{Params}
 use Rattle.ob_base.specs.Tree.{buckets, width, below}
 use Rattle.ob_base.specs.Layout.{LogArea, CheckArea, Lies, record_cells, checkpoint_len, checkpoint_cells, log_cells, home_cells, slot_cell}
-use Rattle.ob_bucket.specs.Buckets.{version_at}
-use Rattle.ob_bucket.proofs.VersionLaws.{ranks_are}
+use Rattle.ob_tables.specs.Buckets.{version_at}
+use Rattle.ob_tables.proofs.VersionLaws.{ranks_are}
 use Rattle.ob_tables.specs.Content.{Content}
 use Rattle.ob_ring.proofs.Rows.{p0}
-use Rattle.ob_values.specs.Samples.{numbers_of}
+use Rattle.ob_epoch.specs.ValueSamples.{numbers_of}
 use Rattle.ob_epoch.specs.Idle.{idle_order, idle_run}
 use Rattle.ob_epoch.specs.Ends.{IsNext}
-use Rattle.ob_epoch.specs.Samples.{ended, formatted}
+use Rattle.ob_epoch.specs.ContentSamples.{ended, formatted}
 use Rattle.ob_epoch.specs.Valued.{content_with}
 use Rattle.ob_epoch.proofs.Idling.{idled}
 use Rattle.ob_stand.specs.Fresh.{fresh_content}

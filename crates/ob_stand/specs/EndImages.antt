@@ -8,8 +8,8 @@ use Rattle.ob_store.specs.Disk.{Image}
 use Rattle.ob_seal.specs.declared.keys.Keys.{Keys}
 use Rattle.ob_seal.specs.Pieces.{onward, piece}
 use Rattle.ob_seal.specs.Seals.{sealed}
-use Rattle.ob_bucket.specs.Version.{EMPTY}
-use Rattle.ob_bucket.specs.Buckets.{version_at}
+use Rattle.ob_tables.specs.Version.{EMPTY}
+use Rattle.ob_tables.specs.Buckets.{version_at}
 use Rattle.ob_tables.specs.Spelling.{checkpoint_bytes, slot_bytes}
 use Rattle.ob_schedule.specs.Paths.{is_one_of}
 use Rattle.ob_ring.specs.Plain.{index_with}

@@ -9,12 +9,12 @@ use Rattle.ob_seal.specs.declared.keys.Keys.{Keys}
 use Rattle.ob_twin.specs.Bodies.{open_gate}
 use Rattle.ob_twin.specs.Keyed.{tagging}
 use Rattle.ob_twin.specs.Register.{KeepsAt, OldOrNew}
-use Rattle.ob_bucket.specs.Version.{used_at}
-use Rattle.ob_bucket.specs.Buckets.{version_at}
+use Rattle.ob_tables.specs.Version.{used_at}
+use Rattle.ob_tables.specs.Buckets.{version_at}
 use Rattle.ob_tables.specs.Content.{Content}
 use Rattle.ob_schedule.specs.Paths.{is_one_of}
-use Rattle.ob_taken.specs.Values.{Values}
-use Rattle.ob_values.specs.Carries.{Slots}
+use Rattle.ob_epoch.specs.Values.{Values}
+use Rattle.ob_epoch.specs.Carries.{Slots}
 use Rattle.ob_epoch.specs.Ends.{IsNext}
 use Rattle.ob_stand.specs.Stands.{RingStanding, HoldsCheckpoint, SpellsSlot, HoldsRest, Stands, OneOf}
 use Rattle.ob_stand.specs.Spare.{Spare, SameButIn}

@@ -7,8 +7,8 @@ use Rattle.ob_store.specs.Disk.{Image}
 use Rattle.ob_store.specs.Images.{SameBut, SameOff}
 use Rattle.ob_seal.specs.declared.keys.Keys.{Keys}
 use Rattle.ob_cells.specs.Runs.{AreSealed, run_at}
-use Rattle.ob_bucket.specs.Version.{rank_at}
-use Rattle.ob_bucket.specs.Buckets.{version_at}
+use Rattle.ob_tables.specs.Version.{rank_at}
+use Rattle.ob_tables.specs.Buckets.{version_at}
 use Rattle.ob_schedule.specs.Paths.{is_one_of}
 use Rattle.ob_stand.specs.Ends.{RingEnd, IsEndOf, HoldsBucket, HoldsNextCheckpoint}
 use Rattle.ob_stand.specs.Stands.{RingStanding}

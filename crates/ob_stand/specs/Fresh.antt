@@ -13,7 +13,7 @@ use Rattle.ob_twin.specs.Bodies.{body_of, open_gate}
 use Rattle.ob_twin.specs.Keyed.{tagging}
 use Rattle.ob_twin.specs.Register.{StandsAt}
 use Rattle.ob_start.specs.Heads.{IsHead, head_cell}
-use Rattle.ob_bucket.specs.Version.{Version, AreRanks, EMPTY}
+use Rattle.ob_tables.specs.Version.{Version, AreRanks, EMPTY}
 use Rattle.ob_tables.specs.Content.{Content}
 use Rattle.ob_tables.specs.Spelling.{checkpoint_bytes, slot_bytes}
 use Rattle.ob_stand.specs.Stands.{RingStanding, HoldsCheckpoint, Stands}

@@ -6,8 +6,8 @@ use Rattle.ob_base.specs.Layout.{checkpoint_cells, record_cells, check_cell, log
 use Rattle.ob_store.specs.Disk.{Image}
 use Rattle.ob_seal.specs.declared.keys.Keys.{Keys}
 use Rattle.ob_seal.specs.Seals.{sealed}
-use Rattle.ob_bucket.specs.Version.{used_at}
-use Rattle.ob_bucket.specs.Buckets.{version_at}
+use Rattle.ob_tables.specs.Version.{used_at}
+use Rattle.ob_tables.specs.Buckets.{version_at}
 use Rattle.ob_serial.specs.Vaults.{Standing}
 use Rattle.ob_stand.specs.Stands.{RingStanding, Stands, StandsRing, cell_at}
 

@@ -6,8 +6,8 @@ use Rattle.ob_base.specs.Layout.{Lies, LogArea, CheckArea, record_cells, log_cel
 use Rattle.ob_store.specs.Disk.{Image}
 use Rattle.ob_seal.specs.declared.keys.Keys.{Keys}
 use Rattle.ob_log.specs.Logs.{BatchRecord, OpenRecords}
-use Rattle.ob_bucket.specs.Version.{used_at}
-use Rattle.ob_bucket.specs.Buckets.{version_at}
+use Rattle.ob_tables.specs.Version.{used_at}
+use Rattle.ob_tables.specs.Buckets.{version_at}
 use Rattle.ob_tables.specs.Content.{Content, Obeys}
 use Rattle.ob_stand.specs.Stands.{RingStanding, AreKnown, HoldsRest, Stands, cell_at}
 

@@ -14,12 +14,12 @@ use Rattle.ob_twin.specs.Keyed.{tagging}
 use Rattle.ob_twin.specs.Register.{StandsAt}
 use Rattle.ob_start.specs.Heads.{IsHead}
 use Rattle.ob_log.specs.Logs.{BatchRecord, OpenRecords, record_at}
-use Rattle.ob_bucket.specs.Version.{Version, rank_at, used_at}
-use Rattle.ob_bucket.specs.Buckets.{version_at}
+use Rattle.ob_tables.specs.Version.{Version, rank_at, used_at}
+use Rattle.ob_tables.specs.Buckets.{version_at}
 use Rattle.ob_tables.specs.Content.{Content, Obeys}
 use Rattle.ob_tables.specs.Spelling.{checkpoint_bytes}
-use Rattle.ob_taken.specs.Values.{Values}
-use Rattle.ob_values.specs.Carries.{Slots}
+use Rattle.ob_epoch.specs.Values.{Values}
+use Rattle.ob_epoch.specs.Carries.{Slots}
 use Rattle.ob_epoch.specs.Numbers.{IsKnown}
 use Rattle.ob_epoch.specs.Valued.{IsValued}
 use Rattle.ob_serial.specs.Vaults.{Standing}

@@ -1,5 +1,5 @@
 -- What the two registers tell.
-use Rattle.std.specs.Prelude.{◌≡◌, ◌⊎◌, ◌<◌, ◌^◌, ℕ, None, Result, Ok, Err}
+use Rattle.std.specs.Prelude.{◌≡◌, ◌⊎◌, ◌<◌, ◌^◌, ℕ, Option, Some, None, Result, Ok, Err}
 use Rattle.ob_base.specs.declared.fault.Damaged.{Damaged}
 use Rattle.ob_base.specs.declared.fault.Fault.{Fault}
 use Rattle.ob_base.specs.declared.fault.Fault.TheVariants as fault
@@ -28,6 +28,13 @@ pub record IsRegisterDamage (keys : Keys) (image : Image) (damaged : Damaged) : 
   pub generation_open : NoneOpen 1 image → ⊥
   pub epoch_open : NoneOpen 5 image → ⊥
   pub first : IsFirstTwinDamage (tagging keys) 1 image damaged ⊎ (AllWhole (tagging keys) 1 image × IsFirstTwinDamage (tagging keys) 5 image damaged)
+
+-- what is read of one: what was got of it, and damage is no refusal yet
+abbrev pub register_held : Result (Option ℕ) Fault → Result Register Fault
+register_held (Ok None) = Ok Closed
+register_held (Ok (Some n)) = Ok (Number n)
+register_held (Err (fault.Damaged cell check kept computed)) = Ok (Broken (record { cell = cell; check = check; kept = kept; computed = computed }))
+register_held (Err refused) = Err refused
 
 -- what is read of one
 abbrev pub IsRegister : Keys → ℕ → Image → Register → Type 0

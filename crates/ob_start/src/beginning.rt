@@ -13,7 +13,7 @@ ghost use Rattle.ob_start.specs.Beginning.{IsBeginFault, IsWornFault, BeginLeave
 use ob_base::{Failed, Fault, NUMBER_LIMIT};
 use ob_seal::Sealer;
 use ob_store::{Store, Watch, sync_noted};
-use ob_twin::{Gates, SetErr, Twin};
+use ob_twin::{Gates, Twin};
 
 /// Makes sure of what was written before, and begins the next generation, whose number it gives.
 ///
@@ -65,7 +65,6 @@ pub fn begin<S: Store, W: Watch>(
     }
     match Twin::GENERATION.set(store, sealer, gates, next, watch) {
         Ok(()) => Ok(next),
-        Err(SetErr::Before(fault)) => Err(fault),
-        Err(SetErr::Unsure(fault)) => Err(fault),
+        Err(_) => Err(Fault::StoreFault { unsure: None }),
     }
 }

@@ -12,7 +12,7 @@ ghost use Rattle.ob_twin.specs.Opening.{known_of, with_known, GatesAre, HasOpen}
 ghost use Rattle.ob_twin.specs.Orders.{get_notes};
 ghost use Rattle.ob_twin.specs.Got.{DoesReads};
 ghost use Rattle.ob_start.specs.Orders.{registers_notes};
-ghost use Rattle.ob_start.specs.Registers.{IsRegister, IsNumber, IsBelow, AreRegisters, IsRegistersFault, KnowsGates, HaveOpen};
+ghost use Rattle.ob_start.specs.Registers.{IsRegister, IsNumber, IsBelow, AreRegisters, IsRegistersFault, KnowsGates, HaveOpen, register_held};
 
 use ob_base::{Damaged, Fault};
 use ob_seal::Sealer;
@@ -36,7 +36,31 @@ pub struct Numbers {
     pub epoch: u64,
 }
 
-// A register's number, with its damage held back.
+// What was got of a register, with its damage held back.
+fn held_back(got: Result<Option<u64>, Fault>) -> Result<Register, Fault>
+    ensures { result ≡ register_held got }
+{
+    match got {
+        Ok(None) => Ok(Register::Closed),
+        Ok(Some(number)) => Ok(Register::Number(number)),
+        Err(
+            Fault::Damaged {
+                cell,
+                check,
+                kept,
+                computed,
+            },
+        ) => Ok(Register::Broken(Damaged {
+            cell,
+            check,
+            kept,
+            computed,
+        })),
+        Err(fault) => Err(fault),
+    }
+}
+
+// Reads a register, and holds its damage back.
 fn read_register<S: Store, W: Watch>(
     twin: Twin,
     store: &mut S,
@@ -58,24 +82,7 @@ fn read_register<S: Store, W: Watch>(
     ensures does { Does (get_notes (first_of twin)) (S.disk store.old).seen (S.disk store.new).seen
         (W.trace watch.old) (W.trace watch.new) result }
 {
-    match twin.get(store, sealer, gates, watch) {
-        Ok(None) => Ok(Register::Closed),
-        Ok(Some(number)) => Ok(Register::Number(number)),
-        Err(
-            Fault::Damaged {
-                cell,
-                check,
-                kept,
-                computed,
-            },
-        ) => Ok(Register::Broken(Damaged {
-            cell,
-            check,
-            kept,
-            computed,
-        })),
-        Err(fault) => Err(fault),
-    }
+    held_back(twin.get(store, sealer, gates, watch))
 }
 
 // What both registers tell: first whether the store is one, then the damage in the order of cells.

@@ -2,7 +2,7 @@
 use Rattle.std.proofs.Common.{◌≡◌, ◌∙◌, ℕ, ◌+◌, ◌<◌, ◌≤◌, zero, suc, Bool, true, false, ◌||◌, All, List, [], ◌∷◌, ◌++◌, length, length-append, take, drop, map, get_or, set, Option, None, Some, refl, sym, ap, subst, arith}
 use Rattle.std.specs.Prelude.{MatchOption, IfNone}
 use Rattle.std.specs.List.{list_any}
-use Rattle.std.proofs.lemmas.List.{drop_all, map-append, length-drop}
+use Rattle.std.proofs.lemmas.List.{append-nil, drop_all, map-append, length-drop}
 use Rattle.std.proofs.lemmas.List.Elements.{All-nil, All-cons, All-head, All-tail}
 use Rattle.ob_starts.specs.Starts.{Each}
 
@@ -42,6 +42,10 @@ all-at P (w ∷ xs) ys zs x is all = all-at P xs ys (xs ++ x ∷ ys) x refl (All
 pub nothing_left : {A : Type 0} (xs : List A) → length xs ≡ 0 → xs ≡ []
 nothing_left [] none = refl
 nothing_left (x ∷ xs) none = absurd (omega arith)
+
+-- A loop over a vector's items has gone over all of them.
+pub all_over : {A : Type 0} (xs rest all : List A) (len : ℕ) → xs ++ rest ≡ all → len ≡ length rest → len ≡ 0 → xs ≡ all
+all_over xs rest all len is count none = sym (append-nil xs) ∙ (ap (λ l. xs ++ l) (sym (nothing_left rest (sym count ∙ none))) ∙ is)
 
 -- ---- a loop that changes each item
 

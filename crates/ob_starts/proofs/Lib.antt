@@ -2,5 +2,4 @@ pub mod Eaching
 pub mod Joining
 pub mod Placing
 pub mod Sent
-pub mod Visiting
 pub mod Ordering

@@ -1,9 +1,10 @@
 -- Clients that were started, stepped and joined.
-use Rattle.std.proofs.Common.{◌∙◌, ◌++◌, All, List, sym, subst, inl, inr}
+use Rattle.std.proofs.Common.{◌≡◌, ◌≤◌, ◌∙◌, ◌++◌, [], ◌∷◌, All, List, sym, subst, inl, inr}
 use Rattle.ob_session.specs.Steps.{IsOwn}
 use Rattle.std.proofs.lemmas.List.Elements.{All-append}
-use Rattle.ob_hall.specs.Passes.{Hall, Pass}
-use Rattle.ob_hall.specs.Driving.{MakesSteps}
+use Rattle.ob_hall.specs.Passes.{Hall, Pass, opening_of, said_of}
+use Rattle.ob_hall.specs.Calling.{IsReady, TellsCalls}
+use Rattle.ob_hall.specs.Driving.{TurnSays, MakesStep, MakesSteps}
 use Rattle.ob_hall.proofs.Chaining.{makes_join}
 use Rattle.ob_starts.specs.declared.starting.Started.{Started}
 use Rattle.ob_starts.specs.declared.starting.Started.TheVariants.{Away, Here}
@@ -46,6 +47,33 @@ module _ {U Plan : Type 0} (w : Words U Plan) (hall : Hall) where
   placed_stepped client (Away handle) next placed stepped = subst (HasItsPlace w hall client) (sym stepped) placed
   placed_stepped client (Here now) (Here next) placed stepped = (stepped.0.is_client, later_join client now next placed.1 (inr stepped.0))
   placed_stepped client (Here now) (Away handle) placed stepped = absurd stepped
+
+  -- ---- one step
+
+  pub is_here : (one : Started U) (client : Pass × U) → one ≡ Here client → CanStep w hall one → IsClient w hall client
+  is_here one client is met = subst (CanStep w hall) is met
+
+  pub has_stepped : (a b : Pass × U) → IsClient w hall a → TellsCalls hall a.0 b.0 (TurnSays a.0.client (said_of a.0)) → MakesStep (w.turn (w.plan a.1)) a.0 b.0
+      → w.fits b.1 (said_of b.0) → w.client b.1 ≡ w.client a.1 → w.bound b.1 ≡ w.bound a.1 → w.plan b.1 ≡ w.plan a.1 → IsReady hall b.0 → IsStepped w hall (Here a) (Here b)
+  has_stepped a b is t s fits client bound plan ready = (
+    record {
+      made = record { calls = t.calls; says = t.says.0; made = t.made };
+      turns = record { new = s.step ∷ []; made = s.made; keep = (s.keeps, tt) };
+      is_client = record {
+        ready = ready;
+        named = client ∙ (is.named ∙ sym t.made.client);
+        below = subst (λ n. n ≤ (opening_of hall).setup.params.keys) (sym bound) is.below;
+        fits = fits;
+      };
+      client = client;
+      bound = bound;
+      plan = plan;
+    },
+    t,
+    s,
+  )
+
+  -- ---- all of them
 
   -- each one that is away is waited for,
   pub all_waited : (clients : List (Pass × U)) (started : List (Started U)) → All (IsClient w hall) clients → Each (HasItsPlace w hall) clients started → All (IsWaitedFor w hall) started

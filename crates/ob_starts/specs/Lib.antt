@@ -1,3 +1,2 @@
 pub mod Served
 pub mod Starts
-pub mod Testing

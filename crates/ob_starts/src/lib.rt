@@ -8,8 +8,6 @@
 mod serving;
 mod starting;
 mod stepping;
-#[cfg(test)]
-mod tests;
 
 pub use serving::{Client, run_unless, serve};
 pub use starting::{Since, Started, join_all, start_all};

@@ -94,30 +94,8 @@ fn launch<
     }
 }
 
-// Starts a client's thread. Where the system refuses it the client stays here.
-fn start<'s, E, U: Runner + Send + 's, R: Threads + Wait + Sync>(
-    scope: &Scope<'s, E>,
-    rt: &'s R,
-    hall: &'s Hall,
-    by_hand: &'s AtomicBool,
-    client: Client<U>,
-) -> Started<U>
-    requires client { IsClient (words U.client U.bound U.plan U.fits U.turn) hall.now client }
-    ensures placed { HasItsPlace (words U.client U.bound U.plan U.fits U.turn) hall.now client
-        result }
-    ensures came { IsAsItCame client result }
-{
-    let since = Since {
-        hall: Snapshot::of(hall),
-        client: Snapshot::of(&client),
-    };
-    match launch(scope, rt, hall, by_hand, since, client) {
-        Ok(handle) => Started::Away { handle },
-        Err(client) => Started::Here { client },
-    }
-}
-
-// Starts the client's thread, where it has a flag.
+// Starts the client's thread, where it has a flag. Where the system refuses it the client stays
+// here.
 fn place<'s, E, U: Runner + Send + 's, R: Threads + Wait + Sync>(
     scope: &Scope<'s, E>,
     rt: &'s R,
@@ -131,9 +109,16 @@ fn place<'s, E, U: Runner + Send + 's, R: Threads + Wait + Sync>(
     ensures came { IsAsItCame client result }
     ensures stays { IfNone flag.entry (result ≡ stays client) }
 {
-    match flag {
-        Some(by_hand) => start(scope, rt, hall, by_hand, client),
-        None => Started::Here { client },
+    let Some(by_hand) = flag else {
+        return Started::Here { client };
+    };
+    let since = Since {
+        hall: Snapshot::of(hall),
+        client: Snapshot::of(&client),
+    };
+    match launch(scope, rt, hall, by_hand, since, client) {
+        Ok(handle) => Started::Away { handle },
+        Err(client) => Started::Here { client },
     }
 }
 

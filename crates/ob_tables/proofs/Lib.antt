@@ -1,3 +1,12 @@
+pub mod Counting
+pub mod OrderLaws
+pub mod PartLaws
+pub mod RankLaws
+pub mod Ranges
+pub mod MetaRows
+pub mod SpellingLaws
+pub mod TakenLaws
+pub mod VersionLaws
 pub mod BookLaws
 pub mod RowLaws
 pub mod StashLaws

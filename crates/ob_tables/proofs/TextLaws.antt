@@ -10,11 +10,11 @@ use Rattle.ob_base.specs.declared.params.Params.{Params}
 use Rattle.ob_base.specs.Tree.{buckets}
 use Rattle.ob_base.specs.Layout.{checkpoint_len, meta_len}
 use Rattle.ob_base.proofs.Bounds.{leaves_le}
-use Rattle.ob_bucket.specs.Version.{Version, FitsFields, key_at, key_bytes, index_bytes, version_bytes}
-use Rattle.ob_bucket.specs.Buckets.{version_at, no_version}
-use Rattle.ob_bucket.proofs.PartLaws.{keys_width, index_width}
+use Rattle.ob_tables.specs.Version.{Version, FitsFields, key_at, key_bytes, index_bytes, version_bytes}
+use Rattle.ob_tables.specs.Buckets.{version_at, no_version}
+use Rattle.ob_tables.proofs.PartLaws.{keys_width, index_width}
 use Rattle.ob_base.proofs.Spelled.{split_same, le32_same, front32, front64, length-flat_map_wide, items_same}
-use Rattle.ob_bucket.proofs.SpellingLaws.{version_same}
+use Rattle.ob_tables.proofs.SpellingLaws.{version_same}
 use Rattle.ob_tables.specs.declared.entry.Entry.{Entry}
 use Rattle.ob_tables.specs.Kept.{entry_at}
 use Rattle.ob_tables.specs.Rows.{Rises, Splits}

@@ -1,3 +1,8 @@
+pub mod Buckets
+pub mod Lending
+pub mod Order
+pub mod Rank
+pub mod Version
 pub mod BookMap
 pub mod Kept
 pub mod Rows

@@ -20,8 +20,8 @@ use Rattle.ob_words.specs.Reading.{asked_by, format_asked, run_asked}
 use Rattle.ob_words.specs.Work.{AreParams, IsBadNumber, AreLanes, AreBadLanes, HasKeys, IsKeysRefused}
 use Rattle.ob_top.specs.Outside.{Outside, IsOnlyTold}
 use Rattle.ob_top.specs.Formats.{FormatTold, FormatDone}
-use Rattle.ob_ring_kind.specs.RingKind.{RingMayStop, ring_kind}
-use Rattle.ob_ring_shown.specs.Lives.{ring_lives}
+use Rattle.ob_kinds.specs.RingKind.{RingMayStop, ring_kind}
+use Rattle.ob_ring_life.specs.Lives.{ring_lives}
 use Rattle.ob_kinds.specs.Keeping.{AreStandingLaws}
 use Rattle.ob_kinds.specs.Kinds.{StoreKind}
 use Rattle.ob_kinds.specs.Lives.{LifeWords}
@@ -30,7 +30,7 @@ use Rattle.ob_conduct.specs.Acts.{calls}
 use Rattle.ob_desk.specs.Beats.{BeatKind}
 use Rattle.ob_top.specs.Runs.{Manner, manner, CameIn, IsInputRefused, EndsEarly, EndsFor, Ran, Went, RunDone}
 use Rattle.ob_top.specs.Complete.{CanFormat, CanRun, DoesWhatItCan, StopsFull}
-use Rattle.ob_ring_kind.proofs.Standing.{ring_keeps}
+use Rattle.ob_kinds.proofs.Standing.{ring_keeps}
 use Rattle.ob_top.proofs.Counted.{one_script}
 use Rattle.ob_words.proofs.Named.{no_bad_number, no_bad_lanes, one_keys, keys_stand}
 

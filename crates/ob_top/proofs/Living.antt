@@ -14,7 +14,7 @@ use Rattle.ob_pads.specs.Lives.{IsAtGeneration, LeavesUnopened, LivesOn}
 use Rattle.ob_pads.proofs.Chains.{unopened_lives, runs_join}
 use Rattle.ob_vault.specs.declared.opening.Opening.{Opening}
 use Rattle.ob_vault.specs.OpeningRuns.{IsRingOpened, OpeningLeaves}
-use Rattle.ob_ring_life.proofs.Openings.{opens_of, unopened_of}
+use Rattle.ob_ring_life.proofs.SealOpenings.{opens_of, unopened_of}
 use Rattle.ob_top.specs.Runs.{IsReadAndOpened, LivesBehind}
 
 module _ {S : Type 0} (disk : S → Disk) (only : (store : S) (c : Image) → (disk store).left_since (disk store).moment c → (disk store).may_leave c) (keys : Keys) (old mid : S) (goes : GoesOn (disk old) (disk mid)) (passes : Passes Same (disk old) (disk mid)) where

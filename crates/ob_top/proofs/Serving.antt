@@ -33,7 +33,7 @@ use Rattle.ob_kinds.specs.Kinds.{StoreKind, IsOpenedAt, opened_with}
 use Rattle.ob_kinds.specs.Lives.{LifeWords}
 use Rattle.ob_kinds.specs.Shown.{AreDrawn, IsSeenCut, public_behind, steps_phases}
 use Rattle.ob_kinds.specs.Steps.{IsAnsweredCall, Stops, IsCallOfKind}
-use Rattle.ob_kinds.specs.Laws.{AllAnswered}
+use Rattle.ob_kinds.specs.KindLaws.{AllAnswered}
 use Rattle.ob_kinds.proofs.Shapes.{answered_join as answers_join, events_join, shapes_join, answered_not_refused, refused_last}
 use Rattle.ob_script.specs.Script.{ScriptTxn, Scripts, AreSound, asks_by}
 use Rattle.ob_desk.specs.Desk.{DeskState, MayOpen, Run, new_desk}

@@ -5,7 +5,7 @@ use Rattle.ob_io.specs.Streams.{Flow}
 use Rattle.ob_kinds.specs.Kinds.{IsOpenedAt, Stands}
 use Rattle.ob_recover.specs.Fits.{IsPlannerFit}
 use Rattle.ob_recover.specs.declared.found.Found.{Found}
-use Rattle.ob_ring_kind.specs.RingKind.{GoesOnFrom, RingFound, ring_kind}
+use Rattle.ob_kinds.specs.RingKind.{GoesOnFrom, RingFound, ring_kind}
 use Rattle.ob_ring_vault.specs.RingVaults.{HasPlanned}
 use Rattle.ob_script.specs.Script.{Scripts}
 use Rattle.ob_seal.specs.declared.keys.Keys.{Keys}

@@ -10,8 +10,8 @@ ghost use Rattle.ob_pads.specs.Lives.{LivesOn};
 ghost use Rattle.ob_kinds.specs.Openings.{OpensStanding};
 ghost use Rattle.ob_kinds.specs.Kinds.{Stands, AllStand, StandsAsBefore};
 ghost use Rattle.ob_recover.specs.declared.found.Found.{Found};
-ghost use Rattle.ob_ring_kind.specs.RingKind.{GoesOnFrom, RingFound, ring_kind};
-ghost use Rattle.ob_ring_shown.specs.Lives.{ring_lives};
+ghost use Rattle.ob_kinds.specs.RingKind.{GoesOnFrom, RingFound, ring_kind};
+ghost use Rattle.ob_ring_life.specs.Lives.{ring_lives};
 ghost use Rattle.ob_ring_vault.specs.RingVaults.{HasPlanned, run_over};
 ghost use Rattle.ob_top.specs.Begun.{IsBegun, MayServe};
 ghost use Rattle.ob_desk.specs.Desk.{DeskState, MayOpen, new_desk};
@@ -271,8 +271,5 @@ pub fn run_on<R: Threads + Wait + Sync, S: Store, T: Tape, I: Source, O: Sink, B
         Ok(begun) => begun,
         Err(fault) => return Err(fault),
     };
-    match serve_on(rt, alloc, store, tape, keys, begun, output, beat, threads) {
-        Ok(()) => Ok(()),
-        Err(fault) => Err(fault),
-    }
+    serve_on(rt, alloc, store, tape, keys, begun, output, beat, threads)
 }

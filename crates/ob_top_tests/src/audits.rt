@@ -1,6 +1,6 @@
 //! Tests of `audit` by the top call.
 
-use crate::fixture::{call_without, source_of};
+use crate::fixture::{call_without, sink_of, source_of};
 use ob_mem::MemSink;
 use std::process::Abort;
 use std::sync::Wait;
@@ -19,17 +19,18 @@ const TRACE: &str = "\
     W 85/W 86/W 87/W 88/W 74/W 75/W 76/W 77/W 78/W 28/W 29/W 30/W 31/W 32/W 33/W 34/W 35/\
     W 36/W 37/W 38/W 10/W 12/S/W 7/S/W 8/S/";
 
-// What of it is replaced, by what, and the status and the output then.
-const ROWS: [(&str, &str, u8, &str); 4] = [
-    ("P 8", "P 8", 0, "fits\n"),
+// A trace, what of it is replaced, by what, and the status and the output then.
+static ROWS: [(&str, &str, &str, u8, &str); 4] = [
+    (TRACE, "P 8", "P 8", 0, "fits\n"),
     (
+        TRACE,
         "/R 42/",
         "/R 41/",
         1,
         "breaks line 113 wanted slot of bucket 0\n",
     ),
-    ("/O/", "/o/", 1, "breaks line 74 wanted start\n"),
-    ("P 8", "P 9", 1, "breaks line 1 wanted start\n"),
+    (TRACE, "/O/", "/o/", 1, "breaks line 74 wanted start\n"),
+    (TRACE, "P 8", "P 9", 1, "breaks line 1 wanted start\n"),
 ];
 
 // Audits a trace without a store and keys, of whose input this read fails and of whose output this
@@ -40,28 +41,27 @@ fn audited<R: AllocGlobal + Threads + Wait + Sync + Abort>(
     read: u64,
     write: u64,
 ) -> (u8, MemSink) {
-    let alloc = rt.alloc();
-    let writes = [write].to_vec(alloc).expect(rt, "memory");
     let mut input = source_of(rt, trace, &[read]);
-    let mut sink = MemSink::new(alloc, 1000, writes).expect(rt, "memory");
+    let mut sink = sink_of(rt, 1000, &[write]);
     let status = call_without(rt, "audit", None, &mut input, &mut sink);
     (status, sink)
 }
 
 #[test]
 fn traces_are_audited(rt: HostRuntime) {
-    let alloc = rt.alloc();
-    for (old, new, status, output) in ROWS {
-        let trace = TRACE.replace(alloc, old, new).expect(&rt, "memory");
-        let (told, sink) = audited(&rt, trace.as_str(), 9, 99);
-        assert_eq!(&rt; told, status, "{old}");
-        assert!(&rt; sink.written() == output.as_bytes(), "{old}");
+    for &(trace, old, new, wanted, output) in &ROWS {
+        let trace = trace.replace(rt.alloc(), old, new).expect(&rt, "memory");
+        let (status, sink) = audited(&rt, trace.as_str(), 9, 99);
+        assert!(&rt;
+            status == wanted && sink.written() == output.as_bytes(),
+            "{output}"
+        );
     }
 }
 
 // A trace, the read of its input and the write of its output that fail, and what was written
 // before.
-const FAILING: [(&str, u64, u64, &str); 4] = [
+static FAILING: [(&str, u64, u64, &str); 4] = [
     (TRACE, 1, 99, "fault: source\n"),
     ("O/", 9, 0, ""),
     ("O/", 9, 1, "breaks line "),
@@ -70,9 +70,11 @@ const FAILING: [(&str, u64, u64, &str); 4] = [
 
 #[test]
 fn an_audit_tells_what_failed(rt: HostRuntime) {
-    for (trace, read, write, front) in FAILING {
+    for &(trace, read, write, front) in &FAILING {
         let (status, sink) = audited(&rt, trace, read, write);
-        assert_eq!(&rt; status, 7);
-        assert!(&rt; sink.written() == front.as_bytes(), "{read} {write}");
+        assert!(&rt;
+            status == 7 && sink.written() == front.as_bytes(),
+            "{front}"
+        );
     }
 }

@@ -1,11 +1,10 @@
 //! Calls one behind the other, refusals, and the files that words call for.
 
 use crate::fixture::{
-    Call, KEYS, RUN, call_on, call_without, compare, expect_on, formatted, left_after, run_of,
-    source_of, words_of,
+    Call, KEYS, RUN, blank, call_on, call_without, compare, expect_on, formatted, left_after,
+    sink_of, source_of, words_of,
 };
 use ob_desk::Hasty;
-use ob_mem::{MemSink, MemStore};
 use ob_words::store_wanted;
 use std::process::Abort;
 use std::sync::Wait;
@@ -19,11 +18,8 @@ const TWO_EPOCHS: &str = "client 1/begin/put 5 hi/commit/begin/get 5/commit/";
 const TOLD: &str =
     "epoch 1/txn 1 client 1 committed/put 5 hi/epoch 2/txn 1 client 1 committed/get 5 = hi/";
 
-// The words of a call, its script, its status and its output.
-type Row = (&'static str, &'static str, u8, &'static str);
-
 // The next run finds what the one before left.
-const ONE_BY_ONE: &[Row] = &[
+const ONE_BY_ONE: &[Call] = &[
     (RUN, TWO_EPOCHS, 0, TOLD),
     (RUN, "", 0, ""),
     (
@@ -49,7 +45,7 @@ const ONE_BY_ONE: &[Row] = &[
 ];
 
 // Several clients share an epoch.
-const SHARED: &[Row] = &[
+const SHARED: &[Call] = &[
     (
         TURNS,
         "client 1/begin/get 7/put 5 a/commit/client 2/begin/get 5/commit",
@@ -64,7 +60,7 @@ const SHARED: &[Row] = &[
     ),
 ];
 
-const ADDED: &[Row] = &[
+const ADDED: &[Call] = &[
     (
         RUN,
         "client 1/begin/put 5 hi/add 5 1/commit",
@@ -86,7 +82,7 @@ const ADDED: &[Row] = &[
 ];
 
 // Lines that break the grammar, and values that are as long as may be or a byte longer.
-const REFUSED_LINES: &[Row] = &[
+const REFUSED_LINES: &[Call] = &[
     (RUN, "begin", 2, "fault: script line 1/"),
     (RUN, "client 65", 2, "fault: script line 1/"),
     (RUN, "client 2/client 1", 2, "fault: script line 2/"),
@@ -126,7 +122,7 @@ const REFUSED_LINES: &[Row] = &[
 ];
 
 // What is called on a new store of 8 keys: each form of a run is one.
-const LIVES: [&[Row]; 11] = [
+static LIVES: [&[Call]; 11] = [
     ONE_BY_ONE,
     SHARED,
     ADDED,
@@ -142,52 +138,66 @@ const LIVES: [&[Row]; 11] = [
 
 // Makes calls one behind the other, from a new store on, each on what a crash leaves behind the one
 // before.
-fn live<R: AllocGlobal + Threads + Wait + Sync + Abort>(rt: &R, life: &[Row]) {
+fn live<R: AllocGlobal + Threads + Wait + Sync + Abort>(rt: &R, life: &[Call]) {
     let mut store = formatted(rt, &[]);
-    for &(words, script, status, output) in life {
-        let call = Call {
-            words,
-            script,
-            status,
-            output,
-        };
+    for call in life {
         let mut next = left_after(rt, &store, 1000, None);
-        expect_on(rt, &mut next, &[], &call);
-        assert_eq!(rt; next.starved(), 0);
+        expect_on(rt, &mut next, &[], call);
+        assert!(rt; next.starved() == 0);
         store = next;
     }
 }
 
 #[test]
 fn calls_find_what_those_before_left(rt: HostRuntime) {
-    for life in LIVES {
+    for life in &LIVES {
         live(&rt, life);
     }
 }
+
+const FIRST: Call<'static> = (RUN, TWO_EPOCHS, 0, TOLD);
+
+const SECOND: Call<'static> = (
+    RUN,
+    "client 1/begin/get 5/commit/",
+    0,
+    "epoch 3/txn 1 client 1 committed/get 5 = hi/",
+);
 
 // No crash comes between these calls: what each promises is what the next one asks for.
 #[test]
 fn a_store_is_formatted_and_run_twice(rt: HostRuntime) {
     let mut store = formatted(&rt, &[]);
-    expect_on(&rt, &mut store, &[], &run_of(TWO_EPOCHS, TOLD));
-    let again = "client 1/begin/get 5/commit/";
-    let found = "epoch 3/txn 1 client 1 committed/get 5 = hi/";
-    expect_on(&rt, &mut store, &[], &run_of(again, found));
+    expect_on(&rt, &mut store, &[], &FIRST);
+    expect_on(&rt, &mut store, &[], &SECOND);
 }
+
+// A run of an empty transaction with a hasty beat: whether it has ended well.
+fn ends_hastily<R: AllocGlobal + Threads + Wait + Sync + Abort>(rt: &R, words: &str) -> bool {
+    let mut store = formatted(rt, &[]);
+    let (status, sink) = call_on(
+        rt,
+        &mut store,
+        &[],
+        &mut Hasty,
+        words,
+        "client 1/begin/commit",
+    );
+    assert!(rt; status == 0);
+    let ends_well = sink.written().ends_with(b"committed\n");
+    compare(rt, &sink, if ends_well { COMMITTED } else { ABORTED });
+    ends_well
+}
+
+const COMMITTED: &str = "epoch 1/txn 1 client 1 committed/";
+
+const ABORTED: &str = "epoch 1/txn 1 client 1 aborted epoch end/";
 
 #[test]
 fn a_hasty_beat_ends_epochs_early(rt: HostRuntime) {
-    let script = "client 1/begin/commit";
-    let committed = "epoch 1/txn 1 client 1 committed/";
-    let aborted = "epoch 1/txn 1 client 1 aborted epoch end/";
-    for words in [
-        TURNS, RUN, RUN, RUN, RUN, RUN, RUN, RUN, RUN, RUN, RUN, RUN, RUN, RUN, RUN, RUN,
-    ] {
-        let mut store = formatted(&rt, &[]);
-        let (status, sink) = call_on(&rt, &mut store, &[], &mut Hasty, words, script);
-        assert_eq!(rt; status, 0);
-        let ends_well = words == RUN && sink.written().ends_with(b"committed\n");
-        compare(&rt, &sink, if ends_well { committed } else { aborted });
+    assert!(&rt; !ends_hastily(&rt, TURNS));
+    for _ in 0..15 {
+        ends_hastily(&rt, RUN);
     }
 }
 
@@ -195,7 +205,7 @@ const SHORT: &str = "00010203";
 
 // Words that are refused without a store, the text of the key file, and the status and what is
 // told.
-const REFUSED: [(&str, Option<&str>, u8, &str); 19] = [
+static REFUSED: [(&str, Option<&str>, u8, &str); 19] = [
     ("", Some(KEYS), 2, "fault: usage/"),
     ("run", None, 2, "fault: usage/"),
     ("run S K X", Some(KEYS), 2, "fault: usage/"),
@@ -237,28 +247,37 @@ const REFUSED: [(&str, Option<&str>, u8, &str); 19] = [
     (RUN, Some(KEYS), 5, "fault: store/"),
 ];
 
+// Makes a call without a store.
+fn expect_without<R: AllocGlobal + Threads + Wait + Sync + Abort>(
+    rt: &R,
+    words: &str,
+    keys: Option<&[u8]>,
+    wanted: u8,
+    output: &str,
+) {
+    let mut input = source_of(rt, "begin", &[]);
+    let mut sink = sink_of(rt, 1000, &[]);
+    let status = call_without(rt, words, keys, &mut input, &mut sink);
+    assert!(rt; status == wanted, "{words}");
+    compare(rt, &sink, output);
+}
+
 #[test]
 fn refusals_come_in_their_order(rt: HostRuntime) {
-    for (words, keys, status, output) in REFUSED {
-        let text = keys.map(|text| text.as_bytes());
-        let mut input = source_of(&rt, "begin", &[]);
-        let mut sink = MemSink::new(rt.alloc(), 1000, Vec::new(rt.alloc())).expect(&rt, "memory");
-        let told = call_without(&rt, words, text, &mut input, &mut sink);
-        assert_eq!(rt; told, status, "{words}");
-        compare(&rt, &sink, output);
+    for &(words, keys, status, output) in &REFUSED {
+        expect_without(&rt, words, keys.map(str::as_bytes), status, output);
     }
-    let blank = Call {
-        words: RUN,
-        script: "begin",
-        status: 3,
-        output: "fault: not a store/",
-    };
-    let mut store = MemStore::new(rt.alloc(), 109, Vec::new(rt.alloc())).expect(&rt, "memory");
-    expect_on(&rt, &mut store, &[], &blank);
+    let mut store = blank(&rt, 109, &[]);
+    expect_on(
+        &rt,
+        &mut store,
+        &[],
+        &(RUN, "begin", 3, "fault: not a store/"),
+    );
 }
 
 // Words, and the files that they call for: the store's, and whether it may be made, and the keys'.
-const WANTED: [(&str, Option<(&str, bool)>, Option<&str>); 8] = [
+static WANTED: [(&str, Option<(&str, bool)>, Option<&str>); 8] = [
     ("audit", None, None),
     ("run S K", Some(("S", false)), Some("K")),
     ("run --lanes 2 S K --turns", Some(("S", false)), Some("K")),
@@ -271,7 +290,7 @@ const WANTED: [(&str, Option<(&str, bool)>, Option<&str>); 8] = [
 
 #[test]
 fn what_words_do_not_call_for_is_not_wanted(rt: HostRuntime) {
-    for (line, store, keys) in WANTED {
+    for &(line, store, keys) in &WANTED {
         let words = words_of(&rt, line);
         let paths = store_wanted(rt.alloc(), &words).expect(&rt, "memory");
         assert!(&rt; paths.store == store && paths.keys == keys, "{line}");

@@ -21,25 +21,9 @@ pub const RUN: &str = "run S K";
 pub const KEYS: &str =
     "000102030405060708090a0b0c0d0e0f101112131415161718191a1b1c1d1e1f202122232425262728292a2b2c2d2e2f303132333435363738393a3b3c3d3e3f404142434445464748494a4b4c4d4e4f505152535455565758595a5b5c5d5e5f";
 
-// The words of a call and its script, and what it has to answer: in script and output a `/` stands
-// for the end of a line.
-#[derive(Clone, Copy)]
-pub struct Call<'a> {
-    pub words: &'a str,
-    pub script: &'a str,
-    pub status: u8,
-    pub output: &'a str,
-}
-
-// A run that goes well.
-pub fn run_of<'a>(script: &'a str, output: &'a str) -> Call<'a> {
-    Call {
-        words: RUN,
-        script,
-        status: 0,
-        output,
-    }
-}
+// A call: its words, its script, and what it has to answer, its status and its output: in script
+// and output a `/` stands for the end of a line.
+pub type Call<'a> = (&'a str, &'a str, u8, &'a str);
 
 // The words of a line.
 pub fn words_of<'a, R: AllocGlobal + Abort>(rt: &R, line: &'a str) -> Vec<&'a str> {
@@ -81,7 +65,7 @@ pub fn call_on<R: AllocGlobal + Threads + Wait + Sync + Abort, S: Store, B: Beat
     let words = words_of(rt, words);
     let mut tape = ListTape::new(alloc, tape).expect(rt, "memory");
     let mut input = source_of(rt, script, &[]);
-    let mut sink = MemSink::new(alloc, 1000, Vec::new(alloc)).expect(rt, "memory");
+    let mut sink = sink_of(rt, 1000, &[]);
     let keys = Some(KEYS.as_bytes());
     let status = obladi(
         rt,
@@ -106,9 +90,10 @@ pub fn expect_on<R: AllocGlobal + Threads + Wait + Sync + Abort, S: Store>(
     requires { (S.disk store.old).out ≡ 0 }
     ensures { (S.disk store.new).out ≡ 0 }
 {
-    let (status, sink) = call_on(rt, store, tape, &mut Eager, call.words, call.script);
-    compare(rt, &sink, call.output);
-    assert_eq!(rt; status, call.status, "{}", call.script);
+    let &(words, script, wanted, output) = call;
+    let (status, sink) = call_on(rt, store, tape, &mut Eager, words, script);
+    compare(rt, &sink, output);
+    assert!(rt; status == wanted, "{script}: {status}");
 }
 
 // Makes a call without a store: its status.
@@ -125,21 +110,30 @@ pub fn call_without<R: AllocGlobal + Threads + Wait + Sync + Abort>(
     obladi(rt, &words, keys, none, &mut tape, input, sink, &mut Eager)
 }
 
+// A store of so many cells, where these calls fail.
+pub fn blank<R: AllocGlobal + Abort>(rt: &R, cells: usize, fails: &[Fail]) -> MemStore
+    ensures { (disk_of_store result).out ≡ 0 }
+{
+    let fails = fails.to_vec(rt.alloc()).expect(rt, "memory");
+    MemStore::new(rt.alloc(), cells, fails).expect(rt, "memory")
+}
+
+// A sink with so much room, whose calls of these numbers fail.
+pub fn sink_of<R: AllocGlobal + Abort>(rt: &R, room: usize, fails: &[u64]) -> MemSink {
+    let fails = fails.to_vec(rt.alloc()).expect(rt, "memory");
+    MemSink::new(rt.alloc(), room, fails).expect(rt, "memory")
+}
+
+// A format of 8 keys.
+pub const FORMATS: Call<'static> = (FORMAT, "", 0, "store of 109 cells/");
+
 // A store of 8 keys that words formatted, where these calls fail: of the format 62 writes and 10
 // syncs come before them.
 pub fn formatted<R: AllocGlobal + Threads + Wait + Sync + Abort>(rt: &R, fails: &[Fail]) -> MemStore
     ensures { (disk_of_store result).out ≡ 0 }
 {
-    let alloc = rt.alloc();
-    let fails = fails.to_vec(alloc).expect(rt, "memory");
-    let mut store = MemStore::new(alloc, 109, fails).expect(rt, "memory");
-    let format = Call {
-        words: FORMAT,
-        script: "",
-        status: 0,
-        output: "store of 109 cells/",
-    };
-    expect_on(rt, &mut store, &[], &format);
+    let mut store = blank(rt, 109, fails);
+    expect_on(rt, &mut store, &[], &FORMATS);
     store
 }
 

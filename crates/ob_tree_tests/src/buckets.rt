@@ -5,7 +5,7 @@ ghost use Rattle.ob_base.specs.Layout.{meta_len};
 ghost use Rattle.ob_base.specs.Tree.{buckets};
 
 use ob_base::Params;
-use ob_bucket::{Meta, Metas, ranks};
+use ob_tables::{Meta, Metas, ranks};
 
 #[test]
 fn slots_by_word_then_index(rt: HostRuntime) {

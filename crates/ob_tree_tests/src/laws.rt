@@ -5,28 +5,28 @@ use ob_mem::MemStore;
 // each law is the contract of a call that returns
 #[test]
 fn laws_of_taken_slots() {
-    ob_taken::picked_are_taken();
-    ob_taken::steps_only_take();
-    ob_taken::refills_move();
-    ob_taken::versions_go();
-    ob_taken::goes_further();
+    ob_epoch::picked_are_taken();
+    ob_epoch::steps_only_take();
+    ob_epoch::refills_move();
+    ob_epoch::versions_go();
+    ob_epoch::goes_further();
 }
 
 #[test]
 fn laws_of_values() {
-    ob_values::batch_carries();
-    ob_values::lifts_carry();
-    ob_values::fetch_is_answered();
-    ob_values::writes_carry();
-    ob_values::stash_counts();
-    ob_values::plain_is_spelled();
-    ob_values::refill_is_written();
-    ob_values::refill_carries();
-    ob_values::jobs_are_read();
-    ob_values::epochs_follow();
-    ob_values::buckets_go();
-    ob_values::epochs_are_met();
-    ob_values::sampled();
+    ob_epoch::batch_carries();
+    ob_epoch::lifts_carry();
+    ob_epoch::fetch_is_answered();
+    ob_epoch::writes_carry();
+    ob_epoch::stash_counts();
+    ob_epoch::plain_is_spelled();
+    ob_epoch::refill_is_written();
+    ob_epoch::refill_carries();
+    ob_epoch::jobs_are_read();
+    ob_epoch::epochs_follow();
+    ob_epoch::buckets_go();
+    ob_epoch::epochs_are_met();
+    ob_epoch::values_sampled();
 }
 
 #[test]
@@ -47,7 +47,7 @@ fn laws_of_epochs() {
     ob_epoch::opening_counts();
     ob_epoch::end_counts();
     ob_epoch::slots_rank();
-    ob_epoch::sampled();
+    ob_epoch::contents_sampled();
     ob_epoch::idled();
 }
 

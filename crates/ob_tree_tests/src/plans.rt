@@ -140,7 +140,7 @@ fn a_row_is_placed(rt: HostRuntime) {
     row[0] = 5;
     row[4] = 1;
     row[5] = 7;
-    assert!(rt; refill(&mut ring, 5) == Ok(row));
+    assert!(rt; refill(&mut ring, 5).ok() == Some(row));
     assert!(rt; ring.tables().stash.is_empty());
     ring.plan_fetch(&[Some(5), None], &[0, 0], (3, 0), &mut jobs);
     assert!(rt; reads_of(&jobs, &[(0, 2), (1, 0), (4, 2), (0, 3), (1, 2), (3, 2)]));
@@ -158,5 +158,5 @@ fn too_many_rows_are_left(rt: HostRuntime) {
     put(&mut ring, 1, value);
     put(&mut ring, 2, value);
     put(&mut ring, 3, value);
-    assert!(rt; refill(&mut ring, 3) == Err(StashFull { rows: 2 }));
+    assert!(rt; matches!(refill(&mut ring, 3), Err(StashFull { rows: 2 })));
 }

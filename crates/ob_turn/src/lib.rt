@@ -10,14 +10,12 @@
 
 mod bell;
 mod bell_calls;
-mod guard;
 mod sleepers;
 mod turn;
 mod turn_calls;
 mod turn_end;
 
 pub use bell::{Bell, BellSeat, Heard, Rising};
-pub use guard::Guard;
 pub use turn::{
     Board, Entry, Joined, OneHistory, Opened, Slot, Stage, Stepped, Turn, TurnSeat, View,
 };

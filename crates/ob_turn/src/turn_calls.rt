@@ -164,7 +164,7 @@ impl<E, T: Stepped<E>> Turn<T, E> {
     /// nobody's, so a thread that takes turn after turn goes on, and others wait at the gate. Its
     /// linearization point is the load that finds the seat's ticket served: the seat has then seen
     /// the whole history, which leads to the value. It waits for good once `2^63` tickets are
-    /// drawn. `enter` makes a guard of it.
+    /// drawn.
     pub fn take<R: Wait>(&self, rt: &R, seat: &mut TurnSeat<T, E>) -> T
         requires own { IsTurnSeat self.now seat.old }
         requires idle { IsIdle seat.old }
@@ -189,7 +189,7 @@ impl<E, T: Stepped<E>> Turn<T, E> {
     /// addition to the ticket that is served, which puts the turn's entry, the calls noted and
     /// the last one, at the end of the history. It waits for nobody and takes no memory. It wakes
     /// the caller with the next ticket, else one that lies at the gate, and makes no system call
-    /// where there is neither. `leave` does it with a guard.
+    /// where there is neither.
     pub fn put(&self, seat: &mut TurnSeat<T, E>, value: T, last: Snapshot<E>)
         requires own { IsTurnSeat self.now seat.old }
         requires inside { IsInside seat.old }
@@ -223,6 +223,9 @@ impl<E, T: Stepped<E>> Turn<T, E> {
         requires { 1 ≤ seats }
         ensures opened { IfOk result (λ r. AreSeats r.0 value seats r.1.items) }
     {
+        // Made first: a want of memory then leaves no turn to drop.
+        let sleepers = Sleepers::new(alloc, seats)?;
+        let mut places = Vec::with_capacity(alloc, seats as usize)?;
         let about = Opened {
             value: Snapshot::of(&value),
             seats,
@@ -232,18 +235,14 @@ impl<E, T: Stepped<E>> Turn<T, E> {
         let Ok((table, seat)) = Table::new(alloc, &[0, 0], slots, &about) else {
             return Err(AllocError);
         };
-        let turn = Board {
-            table,
-            sleepers: Sleepers::new(alloc, seats)?,
-        };
-        let mut places = Vec::new(alloc);
+        let turn = Board { table, sleepers };
         let mut last = seat;
         for _ in 1..seats {
             let next = turn.cut(&mut last);
-            places.push(last)?;
+            places.push_reserved(last);
             last = next;
         }
-        places.push(last)?;
+        places.push_reserved(last);
         Ok((turn, places))
     }
 

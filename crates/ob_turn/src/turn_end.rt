@@ -1,7 +1,6 @@
 //! The end of a turn: the value is given back.
 
 ghost use Rattle.std.specs.Prelude.{◌≡◌, [], ◌∷◌};
-ghost use Rattle.std.specs.List.{All};
 ghost use Rattle.ob_turn.specs.TurnCalls.{IsTurnSeat, IsIdle, HaveAll, Whole};
 
 use crate::turn::{Board, Slot, Stepped, Turn, TurnSeat};
@@ -24,21 +23,5 @@ impl<E, T: Stepped<E>> Turn<T, E> {
             Slot::Noted(_) => unreachable!(),
             Slot::Out => unreachable!(),
         }
-    }
-
-    /// The value at the end, to which the whole history leads. It takes no memory.
-    pub fn close(self, mut seats: Vec<TurnSeat<T, E>>) -> T
-        requires own { All (λ s. IsTurnSeat self s) seats.items }
-        requires idle { All (λ s. IsIdle s) seats.items }
-        requires all { HaveAll self seats.items }
-        ensures whole { Whole T.steps self seats.items result }
-    {
-        let Some(mut seat) = seats.pop() else {
-            unreachable!()
-        };
-        while let Some(other) = seats.pop() {
-            self.join(&mut seat, other);
-        }
-        self.close_with(seat)
     }
 }

@@ -1,13 +1,13 @@
 -- What is known of the gates.
-use Rattle.std.proofs.Common.{replicate, ◌≡◌, ◌⊎◌, inl, inr, ⊎_elim, ℕ, ◌+◌, ◌%◌, Bool, true, false, IsTrue, not, ◌||◌, refl, sym, ◌∙◌, subst, arith}
+use Rattle.std.proofs.Common.{replicate, ◌≡◌, ◌⊎◌, inl, inr, ⊎_elim, ℕ, ◌+◌, ◌%◌, Bool, true, false, IsTrue, not, ◌↔◌, List, ◌||◌, refl, ap, sym, ◌∙◌, subst, arith}
 use Rattle.std.proofs.lemmas.Bool.{cases_eq}
 use Rattle.ob_store.specs.Disk.{Image}
 use Rattle.ob_twin.specs.declared.gates.Gates.{Gates}
 use Rattle.ob_twin.specs.declared.gates.Open.{Open}
 use Rattle.ob_twin.specs.declared.twin.Twin.{Twin}
 use Rattle.ob_twin.specs.declared.twin.Twin.TheVariants.{GENERATION, EPOCH}
-use Rattle.ob_twin.specs.Bodies.{Tagging, closed_gate}
-use Rattle.ob_twin.specs.Register.{body_at, gate_at, place_of, IsOpen, StandsAt, SameTwo}
+use Rattle.ob_twin.specs.Bodies.{Tagging, open_gate, closed_gate}
+use Rattle.ob_twin.specs.Register.{first_of, body_at, gate_at, place_of, IsOpen, StandsAt, SameTwo}
 use Rattle.ob_twin.proofs.Moves.{closed-isnt-open}
 use Rattle.ob_twin.specs.Opening.{known_of, with_known, with_mark, is_closed_first, GatesAre}
 
@@ -82,3 +82,23 @@ none_told known first image is blank =
 pub known_again : (twin : Twin) (gates : Gates) (known : Open) → known_of twin (with_known twin gates known) ≡ known
 known_again GENERATION gates known = refl
 known_again EPOCH gates known = refl
+
+-- nothing else is told of the gates
+pub told_alone : (twin : Twin) (old new : Gates) (known : Open) → new ≡ with_known twin old known → new ≡ with_known twin old (known_of twin new)
+told_alone twin old new known is = is ∙ ap (λ (o : Open). with_known twin old o) (sym (ap (λ (gates : Gates). known_of twin gates) is ∙ known_again twin old known))
+
+pub told_nothing : (twin : Twin) (gates : Gates) → gates ≡ with_known twin gates (known_of twin gates)
+told_nothing GENERATION gates = refl
+told_nothing EPOCH gates = refl
+
+-- what was read of both gates of a register is so
+pub are_read : (twin : Twin) (old new : Gates) (first : ℕ) (image : Image) (zero one : Bool) (a b : List ℕ) → first ≡ first_of twin → new ≡ with_known twin old (record { zero = zero; one = one })
+    → a ≡ image (gate_at first 0) → b ≡ image (gate_at first 1) → (IsTrue zero ↔ a ≡ open_gate) → (IsTrue one ↔ b ≡ open_gate) → (known : Open) × (new ≡ with_known twin old known) × GatesAre known (first_of twin) image
+are_read twin old new first image zero one a b first_is is at_zero at_one opens_zero opens_one = (
+  record { zero = zero; one = one },
+  is,
+  subst (λ f. GatesAre (record { zero = zero; one = one }) f image) first_is (record {
+    zero = ((λ t. sym at_zero ∙ opens_zero.0 t), (λ o. opens_zero.1 (at_zero ∙ o)));
+    one = ((λ t. sym at_one ∙ opens_one.0 t), (λ o. opens_one.1 (at_one ∙ o)));
+  }),
+)

@@ -1,5 +1,6 @@
 pub mod Moves
 pub mod Judging
+pub mod Lent
 pub mod Gating
 pub mod Tags
 pub mod Sets

@@ -49,9 +49,18 @@ fn read_cells<S: Store, W: Watch>(
     ensures does { Does (get_notes first) (S.lane_seen lane.old) (S.lane_seen lane.new)
         (W.trace watch.old) (W.trace watch.new) result }
 {
-    read_noted(store, lane, first, &mut cells.body_zero, watch)?;
-    read_noted(store, lane, first + 1, &mut cells.gate_zero, watch)?;
-    read_noted(store, lane, first + 2, &mut cells.body_one, watch)?;
+    match read_noted(store, lane, first, &mut cells.body_zero, watch) {
+        Ok(()) => {}
+        Err(Failed) => return Err(Failed),
+    }
+    match read_noted(store, lane, first + 1, &mut cells.gate_zero, watch) {
+        Ok(()) => {}
+        Err(Failed) => return Err(Failed),
+    }
+    match read_noted(store, lane, first + 2, &mut cells.body_one, watch) {
+        Ok(()) => {}
+        Err(Failed) => return Err(Failed),
+    }
     read_noted(store, lane, first + 3, &mut cells.gate_one, watch)
 }
 

@@ -25,9 +25,9 @@ use Rattle.ob_start.specs.Registers.{HaveOpen}
 use Rattle.ob_tables.specs.Content.{Content, content_of}
 use Rattle.ob_log.specs.Logs.{BatchRecord, RecordFits, RecordsFit, record_at}
 use Rattle.ob_schedule.specs.Schedule.{Fills, Public, open_notes}
-use Rattle.ob_life.specs.Life.{LifeAct, LifeState, Open, ShowBatch, WordId, IsActAllowed, IsLife, life_step, reached}
-use Rattle.ob_life.specs.Calls.{CallLaw, Finds, Leaves, acts_of, repeated}
-use Rattle.ob_life.proofs.Pads.{life_goes_on}
+use Rattle.ob_ring_trace.specs.Life.{LifeAct, LifeState, Open, ShowBatch, WordId, IsActAllowed, IsLife, life_step, reached}
+use Rattle.ob_ring_trace.specs.Calls.{CallLaw, Finds, Leaves, acts_of, repeated}
+use Rattle.ob_ring_trace.proofs.Pads.{life_goes_on}
 use Rattle.ob_stand.specs.Stands.{OneOf, RingStanding, Stands, with_generation}
 use Rattle.ob_stand.proofs.OnceLaws.{register_once}
 use Rattle.ob_recover.specs.declared.found.Found.{Found}

@@ -7,8 +7,8 @@ use Rattle.std.proofs.Math.Nat.{mul-le-mul_right}
 use Rattle.std.proofs.Math.Seq.{set-append_seam}
 use Rattle.ob_base.specs.declared.params.Params.{Params}
 use Rattle.ob_base.specs.Tree.{below, buckets, width}
-use Rattle.ob_bucket.specs.Buckets.{no_version, version_at}
-use Rattle.ob_bucket.specs.Version.{Version, blank, filled}
+use Rattle.ob_tables.specs.Buckets.{no_version, version_at}
+use Rattle.ob_tables.specs.Version.{Version, blank, filled}
 use Rattle.ob_stand.specs.Fresh.{fresh_version}
 use Rattle.ob_vault.specs.Formats.{drawn_ranks, first_version, words_of}
 

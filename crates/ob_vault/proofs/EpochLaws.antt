@@ -6,7 +6,7 @@ use Rattle.ob_base.specs.declared.fault.Failed.{Failed}
 use Rattle.ob_base.specs.declared.fault.Fault.{Fault}
 use Rattle.ob_base.specs.declared.fault.Fault.TheVariants as fault
 use Rattle.ob_base.specs.declared.params.Params.{Params}
-use Rattle.ob_base.specs.Layout.{checkpoint_cells, home_cells, ring_cells, slot_cell}
+use Rattle.ob_base.specs.Layout.{check_cell, checkpoint_cells, home_cells, ring_cells, slot_cell}
 use Rattle.ob_base.specs.Tree.{buckets, width}
 use Rattle.ob_base.proofs.Bounds.{buckets_le, cells_le, checkpoint_cells_le, product_le, width_le}
 use Rattle.ob_store.specs.declared.event.Event.{Event}
@@ -22,12 +22,14 @@ use Rattle.ob_seal.specs.declared.keys.Keys.{Keys}
 use Rattle.ob_seal.specs.Pieces.{onward}
 use Rattle.ob_seal.specs.Seals.{sealed}
 use Rattle.ob_cells.specs.Runs.{AreSealed, run_at}
-use Rattle.ob_bucket.specs.Version.{EMPTY}
+use Rattle.ob_tables.specs.Version.{EMPTY}
 use Rattle.ob_check.specs.Written as check
 use Rattle.ob_check.specs.Written.{area_of}
+use Rattle.ob_tables.specs.Content.{Content}
 use Rattle.ob_tables.specs.Spelling.{slot_bytes}
 use Rattle.ob_start.specs.Laying.{SameHead}
-use Rattle.ob_twin.specs.Register.{SameOutside}
+use Rattle.ob_twin.specs.Reading.{NoneOpen}
+use Rattle.ob_twin.specs.Register.{SameOutside, gate_at}
 use Rattle.ob_vault.specs.Formats.{HasBlankSlots}
 
 pub some_buckets : (p : Params) → 0 < buckets p
@@ -108,3 +110,22 @@ pub held_off : (keys : Keys) (p : Params) (g : ℕ) (a b c d : Image) → HasBla
 held_off keys p g a b c d held check sync set u slot low few =
     let at = slot_cell p 0 u slot in
     set at (inr (omega arith)) ∙ sync at ∙ check at (inr (omega arith)) ∙ held u slot low few
+
+-- a checkpoint stays so too
+pub checkpoint_kept : (keys : Keys) (p : Params) (x : Content) (g first : ℕ) (a b c : Image) → check.HoldsCheckpointFrom keys p 0 x g first a → ((k : ℕ) → b k ≡ a k) → SameOutside 5 c b → check.HoldsCheckpointFrom keys p 0 x g first c
+checkpoint_kept keys p x g first a b c held sync set i low = set (area_of p 0 + i) (inr (omega arith)) ∙ sync (area_of p 0 + i) ∙ held i low
+
+-- its first seal is the one behind the slots'
+pub slots_many : (p : Params) (next b : ℕ) → next ≡ 0 → b ≡ buckets p → next + b * (p.real + p.dummies) ≡ buckets p * width p
+slots_many p next b none many = let same : b * (p.real + p.dummies) ≡ buckets p * width p = ap (λ (n : ℕ). n * width p) many in omega (arith, none, same)
+
+-- the cells before the checkpoints, behind the slots' writes, and behind a checkpoint's
+pub before_slots : (p : Params) (cell many k : ℕ) (new old : Image) → cell ≡ slot_cell p 0 0 0 → k < check_cell p 0 0 → SameOff cell many new old → new k ≡ old k
+before_slots p cell many k new old at low same = same k (inl (omega (arith, at, low)))
+
+pub before_both : (p : Params) (cell many k : ℕ) (new mid old : Image) → cell ≡ slot_cell p 0 0 0 → k < check_cell p 0 0 → SameOff (area_of p 0) (checkpoint_cells p) new mid → SameOff cell many mid old → new k ≡ old k
+before_both p cell many k new mid old at low check same = check k (inl (omega (arith, low))) ∙ before_slots p cell many k mid old at low same
+
+-- so the epoch's gates are closed still
+pub closed_still : (old new : Image) → ((k : ℕ) → k < 9 → new k ≡ old k) → NoneOpen 5 old → NoneOpen 5 new
+closed_still old new same none place low opened = none place low (sym (same (gate_at 5 place) (omega (arith, low))) ∙ opened)

@@ -18,9 +18,9 @@ use Rattle.ob_twin.proofs.Moves.{closed-isnt-open}
 use Rattle.ob_start.specs.Heads.{head_cell, IsHead}
 use Rattle.ob_start.specs.Laying.{AreShut, HasNoHead, IsTornHead, LieBehind}
 use Rattle.ob_start.proofs.Spelling.{head_is}
-use Rattle.ob_bucket.specs.Buckets.{Buckets}
-use Rattle.ob_bucket.specs.Rank.{ranks_of}
-use Rattle.ob_bucket.proofs.VersionLaws.{ranks_are}
+use Rattle.ob_tables.specs.Buckets.{Buckets}
+use Rattle.ob_tables.specs.Rank.{ranks_of}
+use Rattle.ob_tables.proofs.VersionLaws.{ranks_are}
 use Rattle.ob_tables.specs.declared.tables.Tables.{Tables}
 use Rattle.ob_check.specs.Written as check
 use Rattle.ob_check.specs.Written.{area_of}

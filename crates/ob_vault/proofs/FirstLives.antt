@@ -4,11 +4,11 @@ use Rattle.std.specs.List.{range_with_len}
 use Rattle.std.proofs.Common.{refl, sym, ap}
 use Rattle.ob_base.specs.declared.params.Params.{Params}
 use Rattle.ob_base.specs.Tree.{buckets, width}
-use Rattle.ob_bucket.specs.Buckets.{no_version, version_at}
-use Rattle.ob_bucket.specs.Version.{Version, used_at}
-use Rattle.ob_epoch.proofs.Sampling.{no_entry, none_some}
+use Rattle.ob_tables.specs.Buckets.{no_version, version_at}
+use Rattle.ob_tables.specs.Version.{Version, used_at}
+use Rattle.ob_epoch.proofs.ContentSampling.{no_entry, none_some}
 use Rattle.ob_epoch.specs.Table.{lying_place, row_for}
-use Rattle.ob_life.specs.Life.{WordId, formatted_life}
+use Rattle.ob_ring_trace.specs.Life.{WordId, formatted_life}
 use Rattle.ob_ring_trace.specs.Lives.{IsLifeAt, word_kept}
 use Rattle.ob_seal.specs.declared.keys.Keys.{Keys}
 use Rattle.ob_stand.specs.Fresh.{Ranks, fresh_content, fresh_version}

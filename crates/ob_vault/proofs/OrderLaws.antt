@@ -10,7 +10,7 @@ use Rattle.ob_base.specs.Layout.{checkpoint_cells, check_cell, slot_cell}
 use Rattle.ob_store.specs.declared.watch.Note.{Note}
 use Rattle.ob_store.specs.declared.watch.Note.TheVariants.{Write, Sync}
 use Rattle.ob_store.specs.Runs.{from_on, write_notes}
-use Rattle.ob_bucket.proofs.Counting.{range_more}
+use Rattle.ob_tables.proofs.Counting.{range_more}
 use Rattle.ob_check.specs.Written.{area_of}
 use Rattle.ob_schedule.specs.Schedule.{bucket_writes, check_cells, format_notes, writes_of}
 use Rattle.ob_start.specs.Orders.{lay_notes}

@@ -22,9 +22,9 @@ use Rattle.ob_check.specs.Written.{area_of}
 use Rattle.ob_twin.specs.Register.{StandsAt}
 use Rattle.ob_start.specs.Laying.{HasNoHead, IsTornHead}
 use Rattle.ob_start.specs.Orders.{lay_notes}
-use Rattle.ob_bucket.specs.Rank.{ranks_of}
-use Rattle.ob_bucket.specs.Buckets.{Buckets, new_buckets}
-use Rattle.ob_bucket.specs.Version.{Version, EMPTY}
+use Rattle.ob_tables.specs.Rank.{ranks_of}
+use Rattle.ob_tables.specs.Buckets.{Buckets, new_buckets}
+use Rattle.ob_tables.specs.Version.{Version, EMPTY}
 use Rattle.ob_tables.specs.declared.tables.Tables.{Tables}
 use Rattle.ob_tables.specs.Spelling.{slot_bytes}
 use Rattle.ob_schedule.specs.Schedule.{log_gates}

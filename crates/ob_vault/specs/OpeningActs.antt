@@ -14,8 +14,8 @@ use Rattle.ob_twin.specs.declared.gates.Gates.{Gates}
 use Rattle.ob_twin.specs.Opening.{GatesAre}
 use Rattle.ob_log.specs.Logs.{BatchRecord}
 use Rattle.ob_schedule.specs.Schedule.{open_notes}
-use Rattle.ob_life.specs.Life.{LifeAct, LifeState, Open, WordId, IsActAllowed, reached}
-use Rattle.ob_life.specs.Calls.{CallLaw, Finds, Leaves, LifeCall, Opened, repeated}
+use Rattle.ob_ring_trace.specs.Life.{LifeAct, LifeState, Open, WordId, IsActAllowed, reached}
+use Rattle.ob_ring_trace.specs.Calls.{CallLaw, Finds, Leaves, LifeCall, Opened, repeated}
 use Rattle.ob_stand.specs.Stands.{RingStanding, Stands}
 use Rattle.ob_ring_trace.specs.Known.{fills_of, gates_open, public_of_kept, slot_kept}
 use Rattle.ob_ring_trace.specs.Lives.{IsLifeAt}

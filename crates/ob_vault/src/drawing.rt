@@ -2,13 +2,13 @@
 
 ghost use Rattle.std.specs.Prelude.{◌≡◌, ◌≤◌, ◌<◌, ◌+◌, ◌*◌, ◌^◌, ◌++◌, [], length, map};
 ghost use Rattle.ob_base.specs.Tree.{below, buckets, width};
-ghost use Rattle.ob_bucket.specs.Buckets.{new_buckets, version_at, with_version};
-ghost use Rattle.ob_bucket.specs.Version.{blank};
+ghost use Rattle.ob_tables.specs.Buckets.{new_buckets, version_at, with_version};
+ghost use Rattle.ob_tables.specs.Version.{blank};
 ghost use Rattle.ob_stand.specs.Fresh.{fresh_version};
 ghost use Rattle.ob_vault.specs.Formats.{drawn_ranks, first_version, format_words};
 
 use ob_base::{Params, buckets};
-use ob_bucket::Metas;
+use ob_tables::Metas;
 use ob_tape::Tape;
 
 // Draws a word for each place.

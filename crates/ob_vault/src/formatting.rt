@@ -11,7 +11,7 @@ ghost use Rattle.ob_store.specs.Told.{Does};
 ghost use Rattle.ob_check.specs.Written as check;
 ghost use Rattle.ob_tables.specs.Content.{Obeys, content_of};
 ghost use Rattle.ob_schedule.specs.Schedule.{format_notes};
-ghost use Rattle.ob_life.specs.Life.{WordId, formatted_life};
+ghost use Rattle.ob_ring_trace.specs.Life.{WordId, formatted_life};
 ghost use Rattle.ob_stand.specs.Fresh.{fresh_content};
 ghost use Rattle.ob_vault.specs.OpeningActs.{AreSlotsIn, StandsInLife};
 ghost use Rattle.ob_start.specs.Laying.{SameHead};
@@ -24,14 +24,13 @@ ghost use Rattle.ob_vault.specs.Formats.{BeginsFirst, IsBlankTables, HasBlankSlo
 use crate::drawing::fill_all;
 use crate::gates::log_gates;
 use ob_base::{Failed, Fault, Memory, Params, buckets, set_u32, slot_cell};
-use ob_bucket::Metas;
 use ob_cells::{Pieces, write_sealed};
 use ob_check::Sheet;
 use ob_recover::VERSION;
 use ob_seal::{Keys, Sealer};
 use ob_start::{head_cell, lay_registers, set_first};
 use ob_store::{Store, Watch, sync_noted, write_through};
-use ob_tables::{Book, Stash, Tables};
+use ob_tables::{Book, Metas, Stash, Tables};
 use ob_tape::Tape;
 use ob_twin::Twin;
 use std::alloc::Global;
@@ -43,7 +42,7 @@ const EMPTY: u32 = 0xFFFF_FFFF;
 struct Blank;
 
 impl Pieces for Blank {
-    ghost use Rattle.ob_bucket.specs.Version.{EMPTY};
+    ghost use Rattle.ob_tables.specs.Version.{EMPTY};
     ghost use Rattle.ob_tables.specs.Spelling.{slot_bytes};
 
     ghost plain = { λ _ i. slot_bytes EMPTY [] };
@@ -59,11 +58,37 @@ impl Pieces for Blank {
 fn blank_tables(alloc: Global, p: &Params) -> Result<Tables<Metas>, Memory>
     ensures { IfOk result (IsBlankTables p.now) }
 {
+    let book = Book::new(alloc, p.keys)?;
+    let stash = Stash::new(alloc, p.keys as usize)?;
     Ok(Tables {
-        book: Book::new(alloc, p.keys)?,
+        book,
         metas: Metas::new(alloc, p)?,
-        stash: Stash::new(alloc, p.keys as usize)?,
+        stash,
         counter: 0,
+    })
+}
+
+// All that a format works in.
+struct FormatRoom {
+    gates: Vec<u64>,
+    sheet: Sheet,
+    tables: Tables<Metas>,
+}
+
+// The gates of a new store's logs, and tables without a key, with room for their checkpoint.
+fn room_for(alloc: Global, p: &Params) -> Result<FormatRoom, Memory>
+    ensures { IfOk result (λ room. (room.gates.items ≡ all_gates p.now)
+        × (length room.sheet ≡ 96 * checkpoint_cells p.now) × IsBlankTables p.now room.tables) }
+{
+    let gates = match log_gates(alloc, p) {
+        Ok(gates) => gates,
+        Err(_) => return Err(Memory),
+    };
+    let sheet = Sheet::new(alloc, p)?;
+    Ok(FormatRoom {
+        gates,
+        sheet,
+        tables: blank_tables(alloc, p)?,
     })
 }
 
@@ -102,12 +127,18 @@ fn lay_epoch<S: Store, W: Watch>(
         (W.trace watch.old) (W.trace watch.new) result }
 {
     let slots = buckets(p) as u64 * (p.real + p.dummies) as u64;
-    write_sealed(store, sealer, slot_cell(p, 0, 0, 0), slots, &Blank, watch)?;
+    match write_sealed(store, sealer, slot_cell(p, 0, 0, 0), slots, &Blank, watch) {
+        Ok(()) => {}
+        Err(failed) => return Err(failed),
+    }
     match ob_check::write(store, sealer, p, 0, tables, sheet, watch) {
         Ok(()) => {}
         Err(_) => return Err(Failed),
     }
-    sync_noted(store, watch)?;
+    match sync_noted(store, watch) {
+        Ok(()) => {}
+        Err(failed) => return Err(failed),
+    }
     set_first(Twin::EPOCH, store, sealer, 0, watch)
 }
 
@@ -148,10 +179,16 @@ fn lay<S: Store, T: Tape, W: Watch>(
     ensures does { Does (format_notes p.now) (S.disk store.old).seen (S.disk store.new).seen
         (W.trace watch.old) (W.trace watch.new) result }
 {
-    lay_registers(store, sealer, gates, watch)?;
+    match lay_registers(store, sealer, gates, watch) {
+        Ok(()) => {}
+        Err(failed) => return Err(failed),
+    }
     tape.start(1);
     fill_all(tape, p, &mut tables.metas);
-    lay_epoch(store, sealer, p, tables, sheet, watch)?;
+    match lay_epoch(store, sealer, p, tables, sheet, watch) {
+        Ok(()) => {}
+        Err(failed) => return Err(failed),
+    }
     write_through(store, 0, &head_cell(sealer, VERSION, p), watch)
 }
 
@@ -208,16 +245,12 @@ pub fn format<S: Store, T: Tape, W: Watch>(
     ensures does { Does (format_notes p.now) (S.disk store.old).seen (S.disk store.new).seen
         (W.trace watch.old) (W.trace watch.new) result }
 {
-    let gates = match log_gates(alloc, p) {
-        Ok(gates) => gates,
-        Err(_) => return Err(Fault::Memory),
-    };
-    let mut sheet = match Sheet::new(alloc, p) {
-        Ok(sheet) => sheet,
-        Err(Memory) => return Err(Fault::Memory),
-    };
-    let mut tables = match blank_tables(alloc, p) {
-        Ok(tables) => tables,
+    let FormatRoom {
+        gates,
+        mut sheet,
+        mut tables,
+    } = match room_for(alloc, p) {
+        Ok(room) => room,
         Err(Memory) => return Err(Fault::Memory),
     };
     let mut sealer = Sealer::new(keys, 1);

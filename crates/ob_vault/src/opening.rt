@@ -6,7 +6,7 @@ ghost use Rattle.ob_base.specs.Planned.{most_jobs};
 ghost use Rattle.ob_base.specs.Tree.{buckets, width};
 
 use ob_base::{Jobs, Params};
-use ob_batch::Crew;
+use ob_cells::Crew;
 use ob_check::Sheet;
 use ob_ring::Ring;
 use ob_seal::Sealer;

@@ -5,7 +5,7 @@ ghost use Rattle.ob_vault.specs.OpeningParts.{AreRooms};
 ghost use Rattle.ob_vault.specs.Openings.{words_room};
 
 use ob_base::{Jobs, Memory, Params, buckets};
-use ob_batch::Crew;
+use ob_cells::Crew;
 use ob_check::Sheet;
 use std::alloc::{AllocError, Global};
 
@@ -32,16 +32,17 @@ pub fn rooms_for<L>(alloc: Global, p: &Params, lanes: usize) -> Result<Rooms<L>,
     requires lanes { 1 ≤ lanes }
     ensures { IfOk result (AreRooms p.now lanes) }
 {
-    let jobs = Jobs::new(alloc, p)?;
-    let room = jobs.room();
     let words = match words_for(alloc, p) {
         Ok(words) => words,
         Err(_) => return Err(Memory),
     };
+    let sheet = Sheet::new(alloc, p)?;
+    let jobs = Jobs::new(alloc, p)?;
+    let crew = Crew::new(alloc, lanes, jobs.room())?;
     Ok(Rooms {
         jobs,
-        crew: Crew::new(alloc, lanes, room)?,
-        sheet: Sheet::new(alloc, p)?,
+        crew,
+        sheet,
         words,
     })
 }

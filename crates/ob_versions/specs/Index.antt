@@ -1,4 +1,4 @@
--- That the versions and marks that the code keeps are those of the works.
+-- Private: that the versions and marks that the code keeps are those of the works.
 use Rattle.std.specs.Prelude.{ℕ, ◌≡◌, List}
 use Rattle.std.specs.Option.{option_map}
 use Rattle.std.specs.declared.option.Option.{Option}

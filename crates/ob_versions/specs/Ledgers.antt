@@ -1,4 +1,4 @@
--- The works of an epoch with the index of their versions.
+-- Private: the works of an epoch with the index of their versions.
 use Rattle.std.specs.Prelude.{ℕ, suc, ◌≡◌, ◌<◌, ◌≤◌, List, [], length, true, false, slice_get}
 use Rattle.std.specs.declared.option.Option.{Option}
 use Rattle.std.specs.declared.option.Option.TheVariants.{Some}

@@ -184,7 +184,7 @@ fn put_write(
 
 impl Ledger {
     /// No transactions, and so many keys that count.
-    pub fn new(alloc: Global, keys: u32) -> Ledger
+    pub(crate) fn new(alloc: Global, keys: u32) -> Ledger
         ensures { result ≡ record { keys = keys; works = [] } }
     {
         Ledger {
@@ -198,7 +198,7 @@ impl Ledger {
     }
 
     /// Forgets all transactions.
-    pub fn clear(&mut self)
+    pub(crate) fn clear(&mut self)
         ensures { self.new ≡ record self.old { works = [] } }
     {
         self.works.clear();
@@ -207,7 +207,7 @@ impl Ledger {
     }
 
     /// Hands over what the transactions did, by ticket. None are left.
-    pub fn finish(&mut self) -> Vec<Work>
+    pub(crate) fn finish(&mut self) -> Vec<Work>
         ensures works { result.items ≡ self.old.works }
         ensures none { self.new ≡ record self.old { works = [] } }
     {
@@ -220,25 +220,26 @@ impl Ledger {
     ///
     /// # Errors
     /// Memory was wanting. All is as before.
-    pub fn begin(&mut self) -> Result<(), Memory>
+    pub(crate) fn begin(&mut self) -> Result<(), Memory>
         ensures ok { OnOk result (self.new
             ≡ record self.old { works = self.old.works ++ rules.fresh ∷ [] }) }
         ensures err { OnErr result (self.new ≡ self.old) }
     {
         self.agenda.make_room(self.works.len() as u64 + 1)?;
-        self.works.push(Work::new(self.alloc))?;
+        self.works.reserve(1)?;
+        self.works.push_reserved(Work::new(self.alloc));
         Ok(())
     }
 
     /// How many transactions have begun.
-    pub fn len(&self) -> u64
+    pub(crate) fn len(&self) -> u64
         ensures { result ≡ length self.now.works }
     {
         self.works.len() as u64
     }
 
     /// The newest version of the key at or below ticket t.
-    pub fn newest(&self, t: u64, key: Key) -> Option<Version>
+    pub(crate) fn newest(&self, t: u64, key: Key) -> Option<Version>
         ensures { result ≡ works.newest self.now.works t key }
     {
         match newest(&self.table, key, t) {
@@ -252,7 +253,7 @@ impl Ledger {
 
     /// The greatest ticket that has read what a write of the key by ticket t would cover, where
     /// that is above t.
-    pub fn reader_above(&self, t: u64, key: Key) -> Option<u64>
+    pub(crate) fn reader_above(&self, t: u64, key: Key) -> Option<u64>
         ensures { MatchOption result (covered_mark self.now.works t key ≤ t) (λ reader. (t < reader)
             × (covered_mark self.now.works t key ≡ reader)) }
     {
@@ -262,7 +263,7 @@ impl Ledger {
     }
 
     /// How many of the keys but this one have versions.
-    pub fn other_keys(&self, key: Key) -> u64
+    pub(crate) fn other_keys(&self, key: Key) -> u64
         ensures { result
             ≡ rules.count_below (rules.is_other_written self.now.works key) self.now.keys }
     {
@@ -270,7 +271,7 @@ impl Ledger {
     }
 
     /// How the ticket stands: none where it wasn't drawn.
-    pub fn fate(&self, t: u64) -> Option<Fate>
+    pub(crate) fn fate(&self, t: u64) -> Option<Fate>
         requires { 0 < t }
         ensures { result ≡ works.fate_at self.now.works t }
     {
@@ -281,7 +282,7 @@ impl Ledger {
     }
 
     /// The key of ticket t's get that isn't answered yet.
-    pub fn waiting(&self, t: u64) -> Option<Key>
+    pub(crate) fn waiting(&self, t: u64) -> Option<Key>
         requires { 0 < t }
         ensures { result ≡ works.waiting_at self.now.works t }
     {
@@ -295,7 +296,7 @@ impl Ledger {
     ///
     /// # Errors
     /// Memory was wanting. All is as before.
-    pub fn add_get(&mut self, t: u64, key: Key, version: &Version) -> Result<(), Memory>
+    pub(crate) fn add_get(&mut self, t: u64, key: Key, version: &Version) -> Result<(), Memory>
         requires in_range { (0 < t) × (t ≤ length self.old.works) }
         requires source { 0 < version.now.source
             → is_some (works.version self.old.works version.now.source key) ≡ true }
@@ -313,7 +314,7 @@ impl Ledger {
     }
 
     /// A get by ticket t that had to wait was answered with the version.
-    pub fn add_awaited(&mut self, t: u64, key: Key, version: &Version)
+    pub(crate) fn add_awaited(&mut self, t: u64, key: Key, version: &Version)
         requires in_range { (0 < t) × (t ≤ length self.old.works) }
         requires waits { works.waiting_at self.old.works t ≡ Some key }
         requires source { 0 < version.now.source
@@ -332,7 +333,7 @@ impl Ledger {
     ///
     /// # Errors
     /// Memory was wanting. All is as before.
-    pub fn wait(&mut self, t: u64, key: Key) -> Result<(), Memory>
+    pub(crate) fn wait(&mut self, t: u64, key: Key) -> Result<(), Memory>
         requires in_range { (0 < t) × (t ≤ length self.old.works) }
         ensures ok { OnOk result (self.new
             ≡ record self.old { works = works.edit (works.wait_for key) self.old.works t }) }
@@ -348,7 +349,7 @@ impl Ledger {
     /// # Errors
     /// Memory was wanting. All is as before.
     #[tactic(auto, using(ob_order::proofs::Steps::live_above, ob_order::proofs::Steps::live_within))]
-    pub fn add_write(&mut self, t: u64, key: Key, value: Option<Value>) -> Result<(), Memory>
+    pub(crate) fn add_write(&mut self, t: u64, key: Key, value: Option<Value>) -> Result<(), Memory>
         requires live { works.goes_on self.old.works t ≡ true }
         requires unread { covered_mark self.old.works t key ≤ t }
         ensures ok { OnOk result (self.new
@@ -381,7 +382,7 @@ impl Ledger {
 
     /// Aborts ticket t, which isn't aborted, and with it each that depends on it, directly or not.
     /// It looks at those that have read what goes, and takes no memory.
-    pub fn abort(&mut self, t: u64)
+    pub(crate) fn abort(&mut self, t: u64)
         requires live { works.goes_on self.old.works t ≡ true }
         requires tidy { works.Tidy self.old.works }
         ensures { self.new ≡ record self.old { works = works.aborted self.old.works t } }
@@ -408,7 +409,7 @@ impl Ledger {
     }
 
     /// Aborts all that aren't aborted, at once and none because of another.
-    pub fn stop(&mut self)
+    pub(crate) fn stop(&mut self)
         ensures { self.new ≡ record self.old { works = map works.stop_work self.old.works } }
     {
         for n in 0..self.len() {

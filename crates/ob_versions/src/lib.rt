@@ -5,5 +5,4 @@ mod cascade;
 mod ledger;
 mod order;
 
-pub use ledger::Ledger;
 pub use order::Order;

@@ -119,7 +119,6 @@ impl EpochOrder for Order {
         })
     }
 
-    #[tactic(auto, using(ob_order::proofs::Keeps::kept_none))]
     fn clear(&mut self, left: u32) {
         self.ledger.clear();
         self.queue.clear(left);

@@ -3,6 +3,6 @@ pub mod Built
 pub mod Top
 pub mod Asks
 pub mod Passed
-pub mod Operands
+pub mod CommandWords
 pub mod Named
 pub mod Numbers

@@ -1,8 +1,10 @@
 -- The commands of the program, as a parse of their words has them.
-use Rattle.std.specs.Prelude.{true, false, List, [], ◌∷◌, ◌++◌, Some, codes}
+use Rattle.std.specs.Prelude.{true, false, List, [], ◌∷◌, Some, codes, map}
 use Rattle.clap.specs.Walk.{Rule, Text}
-use Rattle.clap.specs.Simple.{App, Shape, new_rule, new_shape, on_top}
+use Rattle.clap.specs.Simple.{App, Shape, new_rule, new_shape}
 use Rattle.clap.specs.declared.builder.ArgAction.TheVariants.{SetTrue}
+use Rattle.ob_words.specs.declared.commands.Word.{Word}
+use Rattle.ob_words.specs.declared.commands.Word.TheVariants.{Operand, Valued, Flag}
 
 -- a word that has to be there, a value behind `--id`, and `--id` alone
 abbrev pub operand : Text → Rule
@@ -14,9 +16,15 @@ option id = record (new_rule id) { long = Some id }
 abbrev pub flag : Text → Rule
 flag id = record (new_rule id) { long = Some id; action = Some SetTrue }
 
--- a command with more words, in their order
-abbrev pub with_rules : App → List Rule → App
-with_rules app rules = on_top (λ s. record s { rules = s.rules ++ rules }) app
+-- what a word of a command is to the parse
+abbrev pub rule_for : Word → Rule
+rule_for (Operand id) = operand id.now
+rule_for (Valued id) = option id.now
+rule_for (Flag id) = flag id.now
+
+-- a command of this name, whose words are these
+abbrev pub shape_for : Text → List Word → Shape
+shape_for name words = record (new_shape name) { rules = map rule_for words }
 
 -- `format STORE KEYS N L Z S R BR BW E T`
 abbrev pub format_shape : Shape
@@ -35,16 +43,6 @@ run_shape = record (new_shape (codes "run")) {
 -- `audit`
 abbrev pub audit_shape : Shape
 audit_shape = new_shape (codes "audit")
-
--- each command alone
-abbrev pub format_app : App
-format_app = record { top = format_shape; subs = [] }
-
-abbrev pub run_app : App
-run_app = record { top = run_shape; subs = [] }
-
-abbrev pub audit_app : App
-audit_app = record { top = audit_shape; subs = [] }
 
 -- the first word names a command, and no word asks for help
 abbrev pub bare_shape : Shape

@@ -109,15 +109,11 @@ fn request_of<'a>(matches: &ArgMatches<'a>) -> Option<Request<'a>>
     ensures { option_map asked_of result
         ≡ option_and_then (λ p. asked_command p.0 p.1) (subcommand_rows_of matches.now) }
 {
-    let (name, found) = matches.subcommand()?;
-    if name == "format" {
-        Some(format_request(found))
-    } else if name == "run" {
-        Some(run_request(found))
-    } else if name == "audit" {
-        Some(Request::Audit)
-    } else {
-        None
+    match matches.subcommand() {
+        Some(("format", found)) => Some(format_request(found)),
+        Some(("run", found)) => Some(run_request(found)),
+        Some(("audit", _)) => Some(Request::Audit),
+        _ => None,
     }
 }
 

@@ -4,11 +4,17 @@ ghost use Rattle.std.specs.Prelude.{◌≡◌, ◌<◌, ℕ};
 ghost use Rattle.ob_base.specs.Tree.{buckets};
 
 use crate::tests::world::World;
-use ob_base::{Jobs, Key, Params};
-use ob_bucket::Meta;
+use ob_base::{Job, Jobs, Key, Params};
 use ob_plain_table::{PlaceShown, PlainTable, Read};
 use ob_ring::Ring;
-use ob_tables::Entry;
+use ob_tables::{Entry, Meta};
+
+// Whether two jobs are the same.
+fn is_same(a: &Job, b: &Job) -> bool {
+    (a.cell, a.generation, a.number) == (b.cell, b.generation, b.number)
+        && a.key == b.key
+        && a.result == b.result
+}
 
 /// Whether the jobs make these reads.
 pub(crate) fn jobs_agree(world: &World, jobs: &Jobs, reads: &[Read]) -> bool {
@@ -16,7 +22,7 @@ pub(crate) fn jobs_agree(world: &World, jobs: &Jobs, reads: &[Read]) -> bool {
         return false;
     }
     for i in 0..reads.len() {
-        if jobs.jobs()[i] != world.job_of(&reads[i]) {
+        if !is_same(&jobs.jobs()[i], &world.job_of(&reads[i])) {
             return false;
         }
     }

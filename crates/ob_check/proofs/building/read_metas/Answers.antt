@@ -1,7 +1,7 @@
 use Rattle.std.proofs.Common.{refl, ap, arith, ◌∙◌, List}
 use Rattle.ob_base.specs.Tree.{buckets}
-use Rattle.ob_bucket.specs.Version.{Version}
-use Rattle.ob_bucket.specs.Buckets.{no_version}
+use Rattle.ob_tables.specs.Version.{Version}
+use Rattle.ob_tables.specs.Buckets.{no_version}
 use Rattle.ob_check.specs.Reading.{version_in}
 use Rattle.ob_check.proofs.BuildLaws.{filled_none, filled_all, metas_more}
 use Rattle.ob_check.proofs.building.read_metas.Goals as goal

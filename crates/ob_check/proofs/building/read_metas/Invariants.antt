@@ -1,6 +1,6 @@
 use Rattle.std.proofs.Common.{◌≡◌}
 use Rattle.ob_base.specs.Tree.{buckets}
-use Rattle.ob_bucket.specs.Buckets.{no_version}
+use Rattle.ob_tables.specs.Buckets.{no_version}
 use Rattle.ob_check.specs.Reading.{version_in}
 use Rattle.ob_check.proofs.BuildLaws.{Filled}
 use Rattle.ob_check.proofs.building.read_metas.Given as goal

@@ -8,7 +8,7 @@ use Rattle.ob_cells.specs.Orders.{read_notes, reads_till, reads_end}
 use Rattle.ob_check.specs.ReadBack.{IsRefused, IsCheckRead, IsCheckReadFault}
 use Rattle.ob_check.specs.Written.{area_of}
 use Rattle.ob_check.proofs.PlaceLaws.{some_cell}
-use Rattle.ob_check.proofs.ReadLaws.{many_of, front_long, opened_to, told_all, fault_of_run, does_run, refused_fault, refused_does}
+use Rattle.ob_check.proofs.ReadLaws.{many_of, front_long, opened_to, told_all, damage_of_run, fault_of_run, does_run, refused_fault, refused_does}
 use Rattle.ob_store.specs.Calls.{IsStoreFault}
 use Rattle.ob_store.proofs.Serving.{serves_err, serves_ok}
 use Rattle.ob_check.proofs.reading.read_into.Goals as goal
@@ -96,3 +96,11 @@ pub returns-in-Err-accept-clause-serves : goal.returns-in-Err-accept-clause-serv
 returns-in-Err-accept-clause-serves g c =
     let read = c.read.ensures.serves in
     record { goes = read.goes; out = read.out; tells = tt; cause = λ blamed. absurd (subst IsStoreFault c.from.ensures blamed) }
+
+pub returns-in-Err-clause-value : goal.returns-in-Err-clause-value
+returns-in-Err-clause-value g c = λ tells.
+    damage_of_run c.args.sealer.now.keys c.args.p.now c.args.epoch (g.S.Store.disk c.args.store.now).cells c.read.new.self c.area_of-base.result (length c.args.sheet.now / 96) c.in-Err.fault
+    c.area_of-base.ensures.cell (many_of c.args.p.now (length c.args.sheet.now) c.requires.sheet) (c.in-Err.ensures.run.value tells)
+
+pub returns-in-Ok-accept-clause-obeys : goal.returns-in-Ok-accept-clause-obeys
+returns-in-Ok-accept-clause-obeys g c = (c.in-Ok-accept.ensures.1, c.in-Ok-accept.ensures.2)

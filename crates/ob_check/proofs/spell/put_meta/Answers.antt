@@ -1,5 +1,5 @@
 use Rattle.std.proofs.Common.{◌∙◌, sym}
-use Rattle.ob_bucket.specs.Version.{version_bytes}
+use Rattle.ob_tables.specs.Version.{version_bytes}
 use Rattle.ob_check.proofs.SpellLaws.{put_is, version_long}
 use Rattle.ob_check.proofs.spell.put_meta.Goals as goal
 

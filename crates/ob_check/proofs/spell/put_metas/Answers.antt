@@ -1,8 +1,8 @@
 use Rattle.std.proofs.Common.{arith, ap, ◌∙◌, List, ℕ}
 use Rattle.ob_base.specs.LittleEndian.{with_part}
 use Rattle.ob_base.specs.Layout.{meta_len}
-use Rattle.ob_bucket.specs.Version.{version_bytes}
-use Rattle.ob_bucket.specs.Buckets.{version_at, no_version}
+use Rattle.ob_tables.specs.Version.{version_bytes}
+use Rattle.ob_tables.specs.Buckets.{version_at, no_version}
 use Rattle.ob_check.specs.Fields.{bucket_place}
 use Rattle.ob_check.proofs.SpellLaws.{items_more, place_at, version_wide}
 use Rattle.ob_check.proofs.spell.put_metas.Goals as goal

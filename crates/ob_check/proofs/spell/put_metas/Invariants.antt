@@ -1,7 +1,7 @@
 use Rattle.std.specs.Prelude.{◌≡◌, take}
 use Rattle.std.specs.List.{flat_map}
 use Rattle.ob_base.specs.LittleEndian.{with_part}
-use Rattle.ob_bucket.specs.Version.{version_bytes}
+use Rattle.ob_tables.specs.Version.{version_bytes}
 use Rattle.ob_check.specs.Fields.{bucket_place}
 use Rattle.ob_check.proofs.spell.put_metas.Given as goal
 

@@ -30,3 +30,54 @@ returns-clause-refused g c = λ beat look seen may end.
     (moves_one _ c.close.new.desk c.stop.new.self c.close.new.vault _ _ _ tt c.stop.ensures (λ m. (tt, refl)))
     (stop_is c.close.new.desk c.stop.new.self SinkFault (e.same_stop ∙ read.same_stop ∙ c.requires.goes_on) c.stop.ensures.state)
     c.text.ensures.printed (rw c.in-Err-text.is at c.text.ensures.cause).failed
+
+pub fetch_rest-requires-clause-ready : goal.fetch_rest-requires-clause-ready
+fetch_rest-requires-clause-ready g c = c.requires.ready
+
+pub returns-in-Err-clause-params : goal.returns-in-Err-clause-params
+returns-in-Err-clause-params g c = c.in-Err.ensures.params
+
+pub returns-in-Err-clause-ended : goal.returns-in-Err-clause-ended
+returns-in-Err-clause-ended g c = λ beat look seen may end. tt
+
+pub close-requires-clause-params : goal.close-requires-clause-params
+close-requires-clause-params g c = c.in-Ok.ensures.params
+
+pub close-requires-clause-ready : goal.close-requires-clause-ready
+close-requires-clause-ready g c = c.in-Ok.ensures.read.1.ready
+
+pub close-requires-clause-goes_on : goal.close-requires-clause-goes_on
+close-requires-clause-goes_on g c = c.in-Ok.ensures.read.1.same_stop ∙ c.requires.goes_on
+
+pub close-requires-clause-none_left : goal.close-requires-clause-none_left
+close-requires-clause-none_left g c = c.in-Ok.ensures.none_left
+
+pub close-requires-clause-room : goal.close-requires-clause-room
+close-requires-clause-room g c = c.requires.room
+
+pub returns-in-Err-close-clause-params : goal.returns-in-Err-close-clause-params
+returns-in-Err-close-clause-params g c = c.in-Err-close.ensures.params
+
+pub returns-in-Err-close-clause-room : goal.returns-in-Err-close-clause-room
+returns-in-Err-close-clause-room g c = c.in-Err-close.ensures.room
+
+pub returns-in-Err-close-clause-ended : goal.returns-in-Err-close-clause-ended
+returns-in-Err-close-clause-ended g c = λ beat look seen may end. tt
+
+pub returns-in-Ok-text-clause-params : goal.returns-in-Ok-text-clause-params
+returns-in-Ok-text-clause-params g c = c.in-Ok-close.ensures.params
+
+pub returns-in-Ok-text-clause-room : goal.returns-in-Ok-text-clause-room
+returns-in-Ok-text-clause-room g c = c.in-Ok-close.ensures.room
+
+pub returns-in-Ok-text-clause-refused : goal.returns-in-Ok-text-clause-refused
+returns-in-Ok-text-clause-refused g c = λ beat look seen may end. tt
+
+pub returns-clause-params : goal.returns-clause-params
+returns-clause-params g c = c.in-Ok-close.ensures.params
+
+pub returns-clause-room : goal.returns-clause-room
+returns-clause-room g c = c.in-Ok-close.ensures.room
+
+pub returns-clause-ended : goal.returns-clause-ended
+returns-clause-ended g c = λ beat look seen may end. tt

@@ -1,4 +1,6 @@
-use Rattle.std.proofs.Common.{◌∙◌, refl, arith}
+use Rattle.std.proofs.Common.{◌∙◌, refl, sym, subst, arith}
+use Rattle.ob_base.specs.declared.params.Params.{Params}
+use Rattle.ob_conduct.specs.Ready.{IsBetweenActs}
 use Rattle.ob_conduct.proofs.Conducting.{going_none, going_below, going_stepped, going_heard, going_acted, done_over, done_failed, ready_new}
 use Rattle.ob_conduct.proofs.serving.run_rounds.Goals as goal
 
@@ -44,3 +46,24 @@ returns-in-Err-clause-done g c =
     done_failed _ _ _ _ _ _ _ _ _ c.requires.fresh _ _ _ _ c.in-Err.fault
     (going_stepped _ _ _ _ _ _ _ _ _ i.going c.step_all.ensures.stepped (c.step_all.ensures.ready c.args.params.now (g.V.Vault.counts c.loop.vault) i.going.ready))
     c.in-Err.ensures.failed
+
+pub step_all-requires-clause-ready : goal.step_all-requires-clause-ready
+step_all-requires-clause-ready g c = (g.V.Vault.counts c.loop.vault, subst (λ (p : Params). IsBetweenActs p c.loop.desk (g.V.Vault.counts c.loop.vault)) (sym c.loop.invariant.going.ready.params) c.loop.invariant.going.ready)
+
+pub look_and_act-requires-clause-params : goal.look_and_act-requires-clause-params
+look_and_act-requires-clause-params g c = c.loop.invariant.params
+
+pub look_and_act-requires-clause-room : goal.look_and_act-requires-clause-room
+look_and_act-requires-clause-room g c = c.loop.invariant.room
+
+pub returns-in-Ok-Over-clause-params : goal.returns-in-Ok-Over-clause-params
+returns-in-Ok-Over-clause-params g c = c.in-Ok-Over.ensures.params
+
+pub returns-in-Ok-Over-clause-beat : goal.returns-in-Ok-Over-clause-beat
+returns-in-Ok-Over-clause-beat g c = c.in-Ok-Over.ensures.anchors ∙ c.loop.invariant.beat
+
+pub returns-in-Err-clause-params : goal.returns-in-Err-clause-params
+returns-in-Err-clause-params g c = c.in-Err.ensures.params
+
+pub returns-in-Err-clause-beat : goal.returns-in-Err-clause-beat
+returns-in-Err-clause-beat g c = c.in-Err.ensures.anchors ∙ c.loop.invariant.beat

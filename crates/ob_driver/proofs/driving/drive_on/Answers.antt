@@ -53,3 +53,45 @@ returns-then-is_over-clause-done g c =
 
 pub returns-then-is_over-clause-over : goal.returns-then-is_over-clause-over
 returns-then-is_over-clause-over g c = c.in-Ok.ensures.over c.if-is_over.ensures
+
+pub step_all-ran-requires : goal.step_all-ran-requires
+step_all-ran-requires g c = record { ready = c.loop.invariant.hands }
+
+pub look_once-requires-clause-params : goal.look_once-requires-clause-params
+look_once-requires-clause-params g c = (c.loop.invariant.params, c.requires.params.1)
+
+pub look_once-requires-clause-room : goal.look_once-requires-clause-room
+look_once-requires-clause-room g c = c.loop.invariant.room
+
+pub returns-in-Err-clause-params : goal.returns-in-Err-clause-params
+returns-in-Err-clause-params g c = c.in-Err.ensures.params
+
+pub returns-in-Err-clause-room : goal.returns-in-Err-clause-room
+returns-in-Err-clause-room g c = c.in-Err.ensures.room
+
+pub returns-in-Err-clause-anchors : goal.returns-in-Err-clause-anchors
+returns-in-Err-clause-anchors g c = c.in-Err.ensures.anchors ∙ c.loop.invariant.anchors
+
+pub returns-in-Err-clause-hands : goal.returns-in-Err-clause-hands
+returns-in-Err-clause-hands g c = c.step_all-ran.ensures.ready
+
+pub returns-in-Err-clause-done : goal.returns-in-Err-clause-done
+returns-in-Err-clause-done g c = tt
+
+pub returns-in-Err-clause-over : goal.returns-in-Err-clause-over
+returns-in-Err-clause-over g c = tt
+
+pub returns-then-is_over-clause-params : goal.returns-then-is_over-clause-params
+returns-then-is_over-clause-params g c = c.in-Ok.ensures.params
+
+pub returns-then-is_over-clause-room : goal.returns-then-is_over-clause-room
+returns-then-is_over-clause-room g c = c.in-Ok.ensures.room
+
+pub returns-then-is_over-clause-anchors : goal.returns-then-is_over-clause-anchors
+returns-then-is_over-clause-anchors g c = c.in-Ok.ensures.anchors ∙ c.loop.invariant.anchors
+
+pub returns-then-is_over-clause-hands : goal.returns-then-is_over-clause-hands
+returns-then-is_over-clause-hands g c = c.step_all-ran.ensures.ready
+
+pub returns-then-is_over-clause-failed : goal.returns-then-is_over-clause-failed
+returns-then-is_over-clause-failed g c = tt

@@ -61,3 +61,51 @@ returns-in-Ok-clause-ends g c = ends_notes c.args.pass.now c.read_left.new.pass 
 
 pub returns-in-Err-clause-ends : goal.returns-in-Err-clause-ends
 returns-in-Err-clause-ends g c = ends_notes c.args.pass.now c.read_left.new.pass c.stop_inside.new.pass _ c.in-Err.ensures.refused.1.notes c.stop_inside.ensures.ends
+
+pub read_left-requires-clause-params : goal.read_left-requires-clause-params
+read_left-requires-clause-params g c = c.requires.params.0
+
+pub read_left-requires-clause-turn : goal.read_left-requires-clause-turn
+read_left-requires-clause-turn g c = c.requires.looking.turn
+
+pub read_left-requires-clause-ready : goal.read_left-requires-clause-ready
+read_left-requires-clause-ready g c = c.requires.looking.ready
+
+pub read_left-requires-clause-goes_on : goal.read_left-requires-clause-goes_on
+read_left-requires-clause-goes_on g c = c.requires.goes_on
+
+pub read_left-requires-clause-places : goal.read_left-requires-clause-places
+read_left-requires-clause-places g c = c.requires.room.asks
+
+pub read_left-requires-clause-room : goal.read_left-requires-clause-room
+read_left-requires-clause-room g c = c.requires.room.found
+
+pub close-requires-clause-params : goal.close-requires-clause-params
+close-requires-clause-params g c = (c.in-Ok.ensures.params, c.requires.params.1)
+
+pub close-requires-clause-none_left : goal.close-requires-clause-none_left
+close-requires-clause-none_left g c = c.in-Ok.ensures.none_left
+
+pub close-requires-clause-room : goal.close-requires-clause-room
+close-requires-clause-room g c = c.requires.room.writes
+
+pub stop_inside-requires : goal.stop_inside-requires
+stop_inside-requires g c = record { turn = c.in-Err.ensures.refused.1.turn }
+
+pub returns-in-Ok-clause-params : goal.returns-in-Ok-clause-params
+returns-in-Ok-clause-params g c = c.close.ensures.params
+
+pub returns-in-Ok-clause-room : goal.returns-in-Ok-clause-room
+returns-in-Ok-clause-room g c = record { asks = c.in-Ok.ensures.places; found = c.in-Ok.ensures.room; writes = c.close.ensures.room }
+
+pub returns-in-Err-clause-params : goal.returns-in-Err-clause-params
+returns-in-Err-clause-params g c = c.in-Err.ensures.params
+
+pub returns-in-Err-clause-room : goal.returns-in-Err-clause-room
+returns-in-Err-clause-room g c = record { asks = c.in-Err.ensures.places; found = c.in-Err.ensures.room; writes = c.requires.room.writes }
+
+pub returns-in-Err-clause-rests : goal.returns-in-Err-clause-rests
+returns-in-Err-clause-rests g c = tt
+
+pub returns-in-Err-clause-ended : goal.returns-in-Err-clause-ended
+returns-in-Err-clause-ended g c = λ beat look flow noted may end. tt

@@ -25,3 +25,27 @@ returns-clause-raised c = subst (λ (e : Seat (Unit {0}) Heard). Raises c.args.p
 
 pub returns-clause-ends : goal.returns-clause-ends
 returns-clause-ends c = ends_rung c.args.pass.now c.raise.new.pass c.leave.new.pass c.raise.ensures.raised.seat (ends_left c.raise.new.pass c.leave.new.pass _ c.leave.ensures.left)
+
+pub raise-requires-clause-own : goal.raise-requires-clause-own
+raise-requires-clause-own c = c.requires.turn.own
+
+pub raise-requires-clause-driver : goal.raise-requires-clause-driver
+raise-requires-clause-driver c = c.requires.raises
+
+pub raise-requires-clause-rising : goal.raise-requires-clause-rising
+raise-requires-clause-rising c = c.requires.told
+
+pub leave-requires-clause-own : goal.leave-requires-clause-own
+leave-requires-clause-own c = c.raise.ensures.own
+
+pub leave-requires-clause-inside : goal.leave-requires-clause-inside
+leave-requires-clause-inside c = (turn_rung c.args.hall.now c.args.pass.now c.raise.new.pass c.args.desk c.requires.turn c.raise.ensures.raised.seat c.raise.ensures.own).inside
+
+pub returns-clause-published : goal.returns-clause-published
+returns-clause-published c = (c.publish-record.new.self, c.publish-record.ensures)
+
+pub returns-clause-own : goal.returns-clause-own
+returns-clause-own c = c.leave.ensures.own
+
+pub returns-clause-idle : goal.returns-clause-idle
+returns-clause-idle c = c.leave.ensures.idle

@@ -1,6 +1,6 @@
-use Rattle.std.proofs.Common.{◌∙◌, sym, ap}
+use Rattle.std.proofs.Common.{◌≡◌, ◌∙◌, ◌-◌, sym, ap, arith}
 use Rattle.ob_base.specs.declared.params.Params.{Params}
-use Rattle.ob_serial.specs.Vaults.{Fetch, Values, counts_next}
+use Rattle.ob_serial.specs.Vaults.{VaultCounts, Fetch, Values, counts_next}
 use Rattle.ob_serial.specs.VaultKinds.{kind_of}
 use Rattle.ob_conduct.proofs.Batches.{batch_below, batch_distinct}
 use Rattle.ob_driver.specs.Resting.{params_of}
@@ -45,3 +45,51 @@ returns-clause-read g c = (
       (c.read_batch.ensures.room ∙ (c.requires.room ∙ sym (c.take_batch.ensures.places ∙ c.requires.places))) c.deliver_batch.ensures.delivered (rw (c.of-keys.ensures, c.of-values.ensures) at c.note-2.ensures.noted) c.note-2.ensures.own c.in-Ok.ensures.called
       (c.in-Ok.ensures.counts ∙ ap (λ (p : Params). counts_next p.batches (g.V.Vault.counts c.args.vault.now) (Fetch c.take_batch.new.asks.items) (Values c.read_batch.new.found.items)) c.requires.params),
 )
+
+pub note-requires-clause-own : goal.note-requires-clause-own
+note-requires-clause-own g c = c.requires.turn.own
+
+pub note-requires-clause-inside : goal.note-requires-clause-inside
+note-requires-clause-inside g c = c.requires.turn.inside
+
+pub read_batch-requires-clause-serves : goal.read_batch-requires-clause-serves
+read_batch-requires-clause-serves g c = c.requires.ready.serves
+
+pub read_batch-requires-clause-some_left : goal.read_batch-requires-clause-some_left
+read_batch-requires-clause-some_left g c = c.requires.some_left
+
+pub returns-in-Err-clause-params : goal.returns-in-Err-clause-params
+returns-in-Err-clause-params g c = c.in-Err.ensures.params ∙ c.requires.params
+
+pub returns-in-Err-clause-places : goal.returns-in-Err-clause-places
+returns-in-Err-clause-places g c = c.take_batch.ensures.places ∙ c.requires.places
+
+pub returns-in-Err-clause-room : goal.returns-in-Err-clause-room
+returns-in-Err-clause-room g c = c.in-Err.ensures.room ∙ c.requires.room
+
+pub returns-in-Err-clause-read : goal.returns-in-Err-clause-read
+returns-in-Err-clause-read g c = tt
+
+pub returns-in-Err-clause-less : goal.returns-in-Err-clause-less
+returns-in-Err-clause-less g c = tt
+
+pub note-requires-2-clause-own : goal.note-requires-2-clause-own
+note-requires-2-clause-own g c = c.note.ensures.own
+
+pub note-requires-2-clause-inside : goal.note-requires-2-clause-inside
+note-requires-2-clause-inside g c = c.note.ensures.noted.notes.inside
+
+pub returns-clause-params : goal.returns-clause-params
+returns-clause-params g c = c.in-Ok.ensures.params ∙ c.requires.params
+
+pub returns-clause-places : goal.returns-clause-places
+returns-clause-places g c = c.take_batch.ensures.places ∙ c.requires.places
+
+pub returns-clause-room : goal.returns-clause-room
+returns-clause-room g c = c.in-Ok.ensures.room ∙ c.requires.room
+
+pub returns-clause-less : goal.returns-clause-less
+returns-clause-less g c = let one : (g.V.Vault.counts c.read_batch.new.vault).left ≡ (g.V.Vault.counts c.args.vault.now).left - 1 = ap (λ (x : VaultCounts). x.left) c.in-Ok.ensures.counts in omega (arith, one, c.requires.some_left)
+
+pub returns-clause-refused : goal.returns-clause-refused
+returns-clause-refused g c = tt

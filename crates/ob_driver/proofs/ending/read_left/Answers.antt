@@ -30,3 +30,54 @@ pub returns-in-Err-clause-refused : goal.returns-in-Err-clause-refused
 returns-in-Err-clause-refused g c =
     let (batches, read) = c.loop-pass.invariant.read in
     (batches, refuses_behind _ _ _ _ _ _ _ _ batches _ read c.in-Err.fault c.in-Err.ensures.refused)
+
+pub read_inside-requires-clause-params : goal.read_inside-requires-clause-params
+read_inside-requires-clause-params g c = c.loop-pass.invariant.params
+
+pub read_inside-requires-clause-turn : goal.read_inside-requires-clause-turn
+read_inside-requires-clause-turn g c = c.loop-pass.invariant.read.1.turn
+
+pub read_inside-requires-clause-ready : goal.read_inside-requires-clause-ready
+read_inside-requires-clause-ready g c = c.loop-pass.invariant.read.1.ready
+
+pub read_inside-requires-clause-goes_on : goal.read_inside-requires-clause-goes_on
+read_inside-requires-clause-goes_on g c = c.loop-pass.invariant.goes_on
+
+pub read_inside-requires-clause-places : goal.read_inside-requires-clause-places
+read_inside-requires-clause-places g c = c.loop-pass.invariant.places
+
+pub read_inside-requires-clause-room : goal.read_inside-requires-clause-room
+read_inside-requires-clause-room g c = c.loop-pass.invariant.room
+
+pub loop-pass-smaller : goal.loop-pass-smaller
+loop-pass-smaller g c = c.in-Ok.ensures.less
+
+pub returns-in-Err-clause-params : goal.returns-in-Err-clause-params
+returns-in-Err-clause-params g c = c.in-Err.ensures.params
+
+pub returns-in-Err-clause-places : goal.returns-in-Err-clause-places
+returns-in-Err-clause-places g c = c.in-Err.ensures.places
+
+pub returns-in-Err-clause-room : goal.returns-in-Err-clause-room
+returns-in-Err-clause-room g c = c.in-Err.ensures.room
+
+pub returns-in-Err-clause-read : goal.returns-in-Err-clause-read
+returns-in-Err-clause-read g c = tt
+
+pub returns-in-Err-clause-none_left : goal.returns-in-Err-clause-none_left
+returns-in-Err-clause-none_left g c = tt
+
+pub returns-clause-params : goal.returns-clause-params
+returns-clause-params g c = c.loop-pass.invariant.params
+
+pub returns-clause-places : goal.returns-clause-places
+returns-clause-places g c = c.loop-pass.invariant.places
+
+pub returns-clause-room : goal.returns-clause-room
+returns-clause-room g c = c.loop-pass.invariant.room
+
+pub returns-clause-read : goal.returns-clause-read
+returns-clause-read g c = c.loop-pass.invariant.read
+
+pub returns-clause-refused : goal.returns-clause-refused
+returns-clause-refused g c = tt

@@ -12,3 +12,18 @@ returns-clause-made c = turn_made c.args.pass.now c.leave.new.pass (desk.Stop c.
 
 pub returns-clause-ends : goal.returns-clause-ends
 returns-clause-ends c = ends_left c.args.pass.now c.leave.new.pass _ c.leave.ensures.left
+
+pub leave-requires-clause-own : goal.leave-requires-clause-own
+leave-requires-clause-own c = c.requires.turn.own
+
+pub leave-requires-clause-inside : goal.leave-requires-clause-inside
+leave-requires-clause-inside c = c.requires.turn.inside
+
+pub returns-clause-ear : goal.returns-clause-ear
+returns-clause-ear c = c.leave.ensures.left.beside.ear
+
+pub returns-clause-own : goal.returns-clause-own
+returns-clause-own c = c.leave.ensures.own
+
+pub returns-clause-idle : goal.returns-clause-idle
+returns-clause-idle c = c.leave.ensures.idle

@@ -31,3 +31,15 @@ returns-clause-stand g c =
     let b = c.enter_behind-desk.ensures.behind in
     made_entered c.args.hall.now c.args.pass.now c.enter_behind-desk.new.pass c.leave.new.pass c.enter_behind-desk.result.0 c.args.turns.now c.enter_behind-desk.result.1 c.enter_behind-desk.result.1 c.enter_behind-desk.ensures.entered b
     (goes_on_ended c.enter_behind-desk.new.pass c.leave.new.pass c.enter_behind-desk.result.1 b.1 (ends_left c.enter_behind-desk.new.pass c.leave.new.pass _ c.leave.ensures.left))
+
+pub enter_behind-desk-requires-clause-own : goal.enter_behind-desk-requires-clause-own
+enter_behind-desk-requires-clause-own g c = c.requires.out.1.driver.own
+
+pub enter_behind-desk-requires-clause-idle : goal.enter_behind-desk-requires-clause-idle
+enter_behind-desk-requires-clause-idle g c = c.requires.out.1.idle
+
+pub leave-requires-clause-own : goal.leave-requires-clause-own
+leave-requires-clause-own g c = c.enter_behind-desk.ensures.own
+
+pub leave-requires-clause-inside : goal.leave-requires-clause-inside
+leave-requires-clause-inside g c = c.enter_behind-desk.ensures.entered.enters.inside

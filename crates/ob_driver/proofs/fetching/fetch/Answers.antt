@@ -1,4 +1,4 @@
-use Rattle.std.proofs.Common.{◌∙◌, sym, ap}
+use Rattle.std.proofs.Common.{◌∙◌, refl, sym, ap}
 use Rattle.ob_base.specs.declared.params.Params.{Params}
 use Rattle.ob_serial.specs.Vaults.{Fetch, Values, counts_next}
 use Rattle.ob_serial.specs.VaultKinds.{kind_of}
@@ -67,3 +67,45 @@ returns-in-Ok-clause-stand g c = goes_then c.args.pass.now c.take.new.pass c.del
 
 pub returns-in-Err-clause-stand : goal.returns-in-Err-clause-stand
 returns-in-Err-clause-stand g c = goes_then c.args.pass.now c.take.new.pass c.stop.new.pass c.args.turns.now c.stop.new.turns c.requires.turns c.take.ensures.ends c.stop.ensures.stand
+
+pub returns-in-Ok-clause-acts : goal.returns-in-Ok-clause-acts
+returns-in-Ok-clause-acts g c = refl
+
+pub take-requires-clause-turn : goal.take-requires-clause-turn
+take-requires-clause-turn g c = c.requires.looking.turn
+
+pub read_batch-requires-clause-serves : goal.read_batch-requires-clause-serves
+read_batch-requires-clause-serves g c = c.requires.looking.ready.serves
+
+pub read_batch-requires-clause-some_left : goal.read_batch-requires-clause-some_left
+read_batch-requires-clause-some_left g c = c.requires.some_left
+
+pub stop-requires-clause-idle : goal.stop-requires-clause-idle
+stop-requires-clause-idle g c = c.take.ensures.idle
+
+pub returns-in-Ok-clause-params : goal.returns-in-Ok-clause-params
+returns-in-Ok-clause-params g c = c.in-Ok.ensures.params ∙ c.requires.params
+
+pub returns-in-Ok-clause-places : goal.returns-in-Ok-clause-places
+returns-in-Ok-clause-places g c = c.take.ensures.places ∙ c.requires.places
+
+pub returns-in-Ok-clause-room : goal.returns-in-Ok-clause-room
+returns-in-Ok-clause-room g c = c.in-Ok.ensures.room ∙ c.requires.room
+
+pub returns-in-Ok-clause-refused : goal.returns-in-Ok-clause-refused
+returns-in-Ok-clause-refused g c = λ beat look flow noted may fetch. tt
+
+pub returns-in-Err-clause-params : goal.returns-in-Err-clause-params
+returns-in-Err-clause-params g c = c.in-Err.ensures.params ∙ c.requires.params
+
+pub returns-in-Err-clause-places : goal.returns-in-Err-clause-places
+returns-in-Err-clause-places g c = c.take.ensures.places ∙ c.requires.places
+
+pub returns-in-Err-clause-room : goal.returns-in-Err-clause-room
+returns-in-Err-clause-room g c = c.in-Err.ensures.room ∙ c.requires.room
+
+pub returns-in-Err-clause-acts : goal.returns-in-Err-clause-acts
+returns-in-Err-clause-acts g c = tt
+
+pub returns-in-Err-clause-fetched : goal.returns-in-Err-clause-fetched
+returns-in-Err-clause-fetched g c = λ beat look flow noted may fetch. tt

@@ -13,3 +13,24 @@ returns-clause-made c = rw c.of-batch.ensures at (turn_made c.args.pass.now c.le
 
 pub returns-clause-ends : goal.returns-clause-ends
 returns-clause-ends c = ends_left c.args.pass.now c.leave.new.pass _ c.leave.ensures.left
+
+pub take_batch-requires-clause-may : goal.take_batch-requires-clause-may
+take_batch-requires-clause-may c = c.requires.may
+
+pub take_batch-requires-clause-places : goal.take_batch-requires-clause-places
+take_batch-requires-clause-places c = c.requires.places
+
+pub leave-requires-clause-own : goal.leave-requires-clause-own
+leave-requires-clause-own c = c.requires.turn.own
+
+pub leave-requires-clause-inside : goal.leave-requires-clause-inside
+leave-requires-clause-inside c = c.requires.turn.inside
+
+pub returns-clause-taken : goal.returns-clause-taken
+returns-clause-taken c = (c.take_batch.new.desk, c.take_batch.ensures.taken)
+
+pub returns-clause-places : goal.returns-clause-places
+returns-clause-places c = c.take_batch.ensures.places
+
+pub returns-clause-ear : goal.returns-clause-ear
+returns-clause-ear c = c.leave.ensures.left.beside.ear

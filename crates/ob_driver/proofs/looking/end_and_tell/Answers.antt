@@ -1,3 +1,4 @@
+use Rattle.std.proofs.Common.{refl}
 use Rattle.ob_io.specs.Streams.{outflow}
 use Rattle.ob_serial.specs.Views.{record_of}
 use Rattle.ob_serial.specs.VaultKinds.{kind_of}
@@ -34,3 +35,51 @@ returns-clause-stand g c = goes_then c.args.pass.now c.end_epoch.new.pass c.stop
 
 pub returns-in-Err-clause-stand : goal.returns-in-Err-clause-stand
 returns-in-Err-clause-stand g c = goes_on_ended c.args.pass.now c.end_epoch.new.pass c.args.turns.now c.requires.turns c.in-Err.ensures.ends
+
+pub returns-in-Ok-text-clause-acts : goal.returns-in-Ok-text-clause-acts
+returns-in-Ok-text-clause-acts g c = refl
+
+pub end_epoch-requires-clause-params : goal.end_epoch-requires-clause-params
+end_epoch-requires-clause-params g c = c.requires.params
+
+pub end_epoch-requires-clause-looking : goal.end_epoch-requires-clause-looking
+end_epoch-requires-clause-looking g c = c.requires.looking
+
+pub end_epoch-requires-clause-goes_on : goal.end_epoch-requires-clause-goes_on
+end_epoch-requires-clause-goes_on g c = c.requires.goes_on
+
+pub end_epoch-requires-clause-room : goal.end_epoch-requires-clause-room
+end_epoch-requires-clause-room g c = c.requires.room
+
+pub returns-in-Err-clause-params : goal.returns-in-Err-clause-params
+returns-in-Err-clause-params g c = c.in-Err.ensures.params
+
+pub returns-in-Err-clause-room : goal.returns-in-Err-clause-room
+returns-in-Err-clause-room g c = c.in-Err.ensures.room
+
+pub returns-in-Err-clause-acts : goal.returns-in-Err-clause-acts
+returns-in-Err-clause-acts g c = tt
+
+pub returns-in-Err-clause-ended : goal.returns-in-Err-clause-ended
+returns-in-Err-clause-ended g c = λ beat look noted may end. tt
+
+pub returns-in-Ok-text-clause-params : goal.returns-in-Ok-text-clause-params
+returns-in-Ok-text-clause-params g c = c.in-Ok.ensures.params
+
+pub returns-in-Ok-text-clause-room : goal.returns-in-Ok-text-clause-room
+returns-in-Ok-text-clause-room g c = c.in-Ok.ensures.room
+
+pub returns-in-Ok-text-clause-refused : goal.returns-in-Ok-text-clause-refused
+returns-in-Ok-text-clause-refused g c = λ beat look noted may end. tt
+
+pub returns-clause-params : goal.returns-clause-params
+returns-clause-params g c = c.in-Ok.ensures.params
+
+pub returns-clause-room : goal.returns-clause-room
+returns-clause-room g c = c.in-Ok.ensures.room
+
+pub returns-clause-acts : goal.returns-clause-acts
+returns-clause-acts g c = tt
+
+pub returns-clause-ended : goal.returns-clause-ended
+returns-clause-ended g c = λ beat look noted may end. tt

@@ -1,10 +1,10 @@
-use Rattle.std.proofs.Common.{◌≡◌, ◌+◌, arith, subst, sym}
-use Rattle.ob_end_writes.specs.EndWrites.{all_seals, end_write_notes}
+use Rattle.std.proofs.Common.{◌≡◌, ◌+◌, arith, refl, subst, sym}
+use Rattle.ob_end.specs.EndWrites.{all_seals, end_write_notes}
 use Rattle.ob_seal.specs.declared.keys.Keys.{Keys}
 use Rattle.ob_store.specs.Calls.{IsStoreFault}
 use Rattle.ob_store.specs.Images.{LeavesOnly}
 use Rattle.ob_store.proofs.Doing.{first_more}
-use Rattle.ob_store.proofs.Serving.{on_ok, serves_err}
+use Rattle.ob_store.proofs.Serving.{on_ok, serves_err, serves_then}
 use Rattle.ob_twin.specs.Keyed.{tagging}
 use Rattle.ob_twin.specs.Opening.{is_closed_first}
 use Rattle.ob_twin.specs.Orders.{prepare_notes}
@@ -81,3 +81,81 @@ returns-in-Err-clause-moments g c = written_moments (g.S.Store.disk c.args.store
 
 pub returns-clause-moments : goal.returns-clause-moments
 returns-clause-moments g c = set_moments (g.S.Store.disk c.args.store.now) (g.S.Store.disk c.write_end.new.store) (g.S.Store.disk c.set.new.store) c.write_end.ensures.moments c.set.ensures.passes
+
+-- ---- all may be written
+
+pub write_end-requires-clause-none_out : goal.write_end-requires-clause-none_out
+write_end-requires-clause-none_out g c = c.requires.none_out
+
+pub write_end-requires-clause-params : goal.write_end-requires-clause-params
+write_end-requires-clause-params g c = c.requires.params
+
+pub write_end-requires-clause-epoch : goal.write_end-requires-clause-epoch
+write_end-requires-clause-epoch g c = c.requires.epoch
+
+pub write_end-requires-clause-generation : goal.write_end-requires-clause-generation
+write_end-requires-clause-generation g c = c.requires.generation
+
+pub write_end-requires-clause-within : goal.write_end-requires-clause-within
+write_end-requires-clause-within g c = c.requires.within
+
+pub write_end-requires-clause-room : goal.write_end-requires-clause-room
+write_end-requires-clause-room g c = c.requires.room
+
+pub write_end-requires-clause-sealed : goal.write_end-requires-clause-sealed
+write_end-requires-clause-sealed g c = c.requires.sealed
+
+pub write_end-requires-clause-obeys : goal.write_end-requires-clause-obeys
+write_end-requires-clause-obeys g c = c.requires.obeys
+
+pub write_end-requires-clause-sheet : goal.write_end-requires-clause-sheet
+write_end-requires-clause-sheet g c = c.requires.sheet
+
+pub set-requires-clause-none_out : goal.set-requires-clause-none_out
+set-requires-clause-none_out g c = (let none = c.requires.none_out in let out = c.in-Ok.ensures.serves.out in omega arith)
+
+pub set-requires-clause-small : goal.set-requires-clause-small
+set-requires-clause-small g c = c.requires.epoch
+
+-- ---- what the writes and the register say
+
+pub returns-clause-serves : goal.returns-clause-serves
+returns-clause-serves g c =
+    let first = c.in-Ok.ensures.serves in
+    serves_then (IsSetFault EPOCH c.args.epoch) (g.S.Store.disk c.args.store.now) (g.S.Store.disk c.write_end.new.store) (g.S.Store.disk c.set.new.store) c.set.result first.goes first.out first.tells c.set.ensures.serves
+
+pub returns-clause-faults : goal.returns-clause-faults
+returns-clause-faults g c = c.set.ensures.faults
+
+pub returns-clause-gates : goal.returns-clause-gates
+returns-clause-gates g c = c.set.ensures.gates
+
+pub returns-clause-tell : goal.returns-clause-tell
+returns-clause-tell g c = λ told. c.set.ensures.tell (c.in-Ok.ensures.serves.tells told)
+
+pub returns-clause-durable : goal.returns-clause-durable
+returns-clause-durable g c = λ told. c.set.ensures.durable (c.in-Ok.ensures.serves.tells told)
+
+pub returns-in-Err-clause-gates : goal.returns-in-Err-clause-gates
+returns-in-Err-clause-gates g c = refl
+
+pub returns-in-Err-clause-seals : goal.returns-in-Err-clause-seals
+returns-in-Err-clause-seals g c = record { all = tt; some = c.in-Err.ensures.seals.some }
+
+pub returns-in-Err-clause-kept : goal.returns-in-Err-clause-kept
+returns-in-Err-clause-kept g c = c.write_end.ensures.kept
+
+pub returns-in-Err-clause-room : goal.returns-in-Err-clause-room
+returns-in-Err-clause-room g c = c.write_end.ensures.room
+
+pub returns-in-Err-clause-sheet : goal.returns-in-Err-clause-sheet
+returns-in-Err-clause-sheet g c = c.write_end.ensures.sheet
+
+pub returns-clause-kept : goal.returns-clause-kept
+returns-clause-kept g c = c.write_end.ensures.kept
+
+pub returns-clause-room : goal.returns-clause-room
+returns-clause-room g c = c.write_end.ensures.room
+
+pub returns-clause-sheet : goal.returns-clause-sheet
+returns-clause-sheet g c = c.write_end.ensures.sheet

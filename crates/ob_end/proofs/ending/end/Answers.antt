@@ -1,14 +1,14 @@
 use Rattle.std.proofs.Common.{◌≡◌, ◌+◌, ◌∙◌, suc, true, Ok, Err, ap, arith, refl, subst, sym}
-use Rattle.ob_ending.specs.Lifts.{lift_cells, lift_jobs, lift_notes}
+use Rattle.ob_end.specs.Lifts.{lift_cells, lift_jobs, lift_notes}
 use Rattle.ob_ring.proofs.PlanLaws.{seals_none}
 use Rattle.ob_ring_trace.specs.Known.{fills_with_lifts, public_of_kept}
 use Rattle.ob_schedule.specs.Schedule.{end_notes}
-use Rattle.ob_end_writes.specs.EndWrites.{all_seals, end_write_notes, rows_left}
+use Rattle.ob_end.specs.EndWrites.{all_seals, end_write_notes, rows_left}
 use Rattle.ob_fetch.specs.declared.run.Run.{Run}
 use Rattle.ob_fetch.specs.Fetches.{words_since}
 use Rattle.ob_serial.specs.declared.vault.EndErr.{EndErr}
 use Rattle.ob_serial.specs.declared.vault.EndErr.TheVariants as end
-use Rattle.ob_serial.specs.VaultViews.{IsStoreEnd}
+use Rattle.ob_serial.specs.VaultViews.{IsEndFault, IsStoreEnd}
 use Rattle.ob_store.specs.Calls.{Serves, IsStoreFault}
 use Rattle.ob_store.specs.Images.{LeavesOnly}
 use Rattle.ob_twin.specs.Opening.{GatesAre, is_closed_first}
@@ -18,7 +18,7 @@ use Rattle.ob_ring.specs.Ring.{StandsFor}
 use Rattle.ob_end.specs.EndRuns.{AreEntriesWritten, EndAnswers, EndDamage, EndDoes, EndImages, IfEnded, IsAtContent, IsEndUndamaged, LeadsOn, TakeBucketWords, end_err_of, end_writes, seals_for_end, table_ended, EndDraws}
 use Rattle.ob_pads.specs.Seals.{CellsAreSealed}
 use Rattle.ob_end.proofs.ActLaws.{damage_closed, damage_made, end_moments, read_moments, sealed_closed, sealed_from, undamaged_closed}
-use Rattle.ob_end.proofs.CloseLaws.{gates_kept}
+use Rattle.ob_end.proofs.CloseLaws.{close_fault, gates_kept}
 use Rattle.ob_end.proofs.EndCases.{answers_closed, at_spent, gates_at, one_more, read_leaves, does_as, does_closed, does_made, images_closed, images_ended, if_ended, images_refused, ready_spent}
 use Rattle.ob_end.proofs.EndCases.{seals_closed, seals_ended, serves_closed, serves_ended, draws_closed, draws_made, before_blames, before_fault}
 use Rattle.ob_end.proofs.EndStage as stage
@@ -735,3 +735,86 @@ returns-in-Err-clause-faults g c = before_fault (c.args.run.now.epoch + 1) c.in-
 
 pub returns-in-Err-clause-answers : goal.returns-in-Err-clause-answers
 returns-in-Err-clause-answers g c = c.in-Err.ensures.answers
+
+-- ---- the end may be made
+
+pub make_end-requires-clause-ready : goal.make_end-requires-clause-ready
+make_end-requires-clause-ready g c = ready_spent c.args.run.now c.requires.ready
+
+pub make_end-requires-clause-crew : goal.make_end-requires-clause-crew
+make_end-requires-clause-crew g c = c.requires.crew
+
+pub make_end-requires-clause-drawn : goal.make_end-requires-clause-drawn
+make_end-requires-clause-drawn g c = c.requires.drawn
+
+pub make_end-requires-clause-small : goal.make_end-requires-clause-small
+make_end-requires-clause-small g c = c.requires.small
+
+pub make_end-requires-clause-few : goal.make_end-requires-clause-few
+make_end-requires-clause-few g c = c.requires.few
+
+pub make_end-requires-clause-keys : goal.make_end-requires-clause-keys
+make_end-requires-clause-keys g c = c.requires.keys
+
+pub make_end-requires-clause-short : goal.make_end-requires-clause-short
+make_end-requires-clause-short g c = c.requires.short
+
+pub close_epoch-requires-clause-none_out : goal.close_epoch-requires-clause-none_out
+close_epoch-requires-clause-none_out g c = (let none = c.requires.none_out in let out = c.make_end.ensures.serves.out in omega arith)
+
+-- ---- what stays of the tape and of the run
+
+pub returns-in-Err-clause-generation : goal.returns-in-Err-clause-generation
+returns-in-Err-clause-generation g c = c.make_end.ensures.generation
+
+pub returns-in-Err-clause-drawn : goal.returns-in-Err-clause-drawn
+returns-in-Err-clause-drawn g c = c.make_end.ensures.drawn
+
+pub returns-in-Err-clause-crew : goal.returns-in-Err-clause-crew
+returns-in-Err-clause-crew g c = c.make_end.ensures.crew
+
+pub returns-in-Err-clause-params : goal.returns-in-Err-clause-params
+returns-in-Err-clause-params g c = ap (λ (r : Run). r.params) c.make_end.ensures.kept
+
+pub returns-in-Err-close_epoch-clause-generation : goal.returns-in-Err-close_epoch-clause-generation
+returns-in-Err-close_epoch-clause-generation g c = c.make_end.ensures.generation
+
+pub returns-in-Err-close_epoch-clause-drawn : goal.returns-in-Err-close_epoch-clause-drawn
+returns-in-Err-close_epoch-clause-drawn g c = c.make_end.ensures.drawn
+
+pub returns-in-Err-close_epoch-clause-crew : goal.returns-in-Err-close_epoch-clause-crew
+returns-in-Err-close_epoch-clause-crew g c = c.make_end.ensures.crew
+
+pub returns-in-Err-close_epoch-clause-params : goal.returns-in-Err-close_epoch-clause-params
+returns-in-Err-close_epoch-clause-params g c = ap (λ (r : Run). r.params) c.make_end.ensures.kept
+
+pub returns-clause-generation : goal.returns-clause-generation
+returns-clause-generation g c = c.make_end.ensures.generation
+
+pub returns-clause-drawn : goal.returns-clause-drawn
+returns-clause-drawn g c = c.make_end.ensures.drawn
+
+pub returns-clause-crew : goal.returns-clause-crew
+returns-clause-crew g c = c.make_end.ensures.crew
+
+pub returns-clause-params : goal.returns-clause-params
+returns-clause-params g c = ap (λ (r : Run). r.params) c.make_end.ensures.kept
+
+pub returns-in-Err-clause-refused : goal.returns-in-Err-clause-refused
+returns-in-Err-clause-refused g c = (let kept = c.make_end.ensures.kept in (ap (λ (r : Run). r.epoch) kept, ap (λ (r : Run). r.left) kept, ap (λ (r : Run). r.spent) kept))
+
+pub returns-in-Err-close_epoch-clause-refused : goal.returns-in-Err-close_epoch-clause-refused
+returns-in-Err-close_epoch-clause-refused g c = (let kept = c.make_end.ensures.kept in (ap (λ (r : Run). r.epoch) kept, ap (λ (r : Run). r.left) kept, ap (λ (r : Run). r.spent) kept))
+
+-- ---- what it answers
+
+pub returns-in-Err-close_epoch-clause-faults : goal.returns-in-Err-close_epoch-clause-faults
+returns-in-Err-close_epoch-clause-faults g c =
+    subst (IsEndFault (c.args.run.now.epoch + 1)) (sym c.end_err.ensures)
+    (subst (λ n. IsEndFault n (end_err_of c.in-Err-close_epoch.refused)) (ap (λ (r : Run). r.epoch + 1) c.make_end.ensures.kept) (close_fault (c.make_end.new.run.epoch + 1) c.in-Err-close_epoch.refused c.in-Err-close_epoch.ensures.faults))
+
+pub returns-clause-answers : goal.returns-clause-answers
+returns-clause-answers g c = c.in-Ok.ensures.answers
+
+pub returns-clause-told : goal.returns-clause-told
+returns-clause-told g c = λ told. c.in-Ok-close_epoch.ensures.tell (c.in-Ok.ensures.serves.tells told)

@@ -1,8 +1,8 @@
 use Rattle.std.proofs.Common.{◌≡◌, ◌<◌, ◌≤◌, ◌+◌, ◌*◌, ◌^◌, ◌∙◌, suc, Err, ap, arith, length, inr, refl, subst, sym, take}
 use Rattle.ob_base.specs.declared.params.Params.{Params}
 use Rattle.ob_base.specs.Tree.{buckets, width}
-use Rattle.ob_ending.specs.Lifts.{LiftsAnswer, lift_cells, lift_notes}
-use Rattle.ob_ending.specs.Renewals.{end_seals, end_words, renewed_writes}
+use Rattle.ob_end.specs.Lifts.{LiftsAnswer, lift_cells, lift_notes}
+use Rattle.ob_end.specs.Renewals.{end_seals, end_words, renewed_writes}
 use Rattle.ob_fetch.specs.Fetches.{words_since}
 use Rattle.ob_recover.specs.Repeats.{BatchIsShown, BatchTells}
 use Rattle.ob_ring.specs.FlatTable.{FinalLifts, after}
@@ -221,3 +221,32 @@ returns-clause-words g c = c.renew.ensures.words
 
 pub returns-clause-rooms : goal.returns-clause-rooms
 returns-clause-rooms g c = c.read_lifts.ensures.rooms
+
+-- ---- what a refusal of the lifts leaves
+
+pub returns-in-Err-clause-keeps : goal.returns-in-Err-clause-keeps
+returns-in-Err-clause-keeps g c = c.read_lifts.ensures.keeps
+
+pub returns-in-Err-clause-passes : goal.returns-in-Err-clause-passes
+returns-in-Err-clause-passes g c = c.read_lifts.ensures.passes
+
+pub returns-in-Err-clause-crew : goal.returns-in-Err-clause-crew
+returns-in-Err-clause-crew g c = c.read_lifts.ensures.crew
+
+pub returns-in-Err-clause-rooms : goal.returns-in-Err-clause-rooms
+returns-in-Err-clause-rooms g c = c.read_lifts.ensures.rooms
+
+pub returns-in-Err-clause-drawn : goal.returns-in-Err-clause-drawn
+returns-in-Err-clause-drawn g c = c.requires.drawn
+
+pub returns-then-run-ge-NUMBER_LIMIT-clause-drawn : goal.returns-then-run-ge-NUMBER_LIMIT-clause-drawn
+returns-then-run-ge-NUMBER_LIMIT-clause-drawn g c = c.requires.drawn
+
+pub renew-requires-clause-drawn : goal.renew-requires-clause-drawn
+renew-requires-clause-drawn g c = c.requires.drawn
+
+pub renew-requires-clause-small : goal.renew-requires-clause-small
+renew-requires-clause-small g c = c.requires.small
+
+pub returns-clause-crew : goal.returns-clause-crew
+returns-clause-crew g c = c.read_lifts.ensures.crew

@@ -1,34 +1,30 @@
 use Rattle.std.proofs.Common.{◌≡◌, true, ◌<◌, ◌≤◌, ◌+◌, ◌-◌, ◌%◌, ◌^◌, ℕ, suc, List, [], ◌∷◌, ◌++◌, None, Option, length, Result, Ok, Err, refl, ap, sym, subst, ◌∙◌, arith, inl}
-use Rattle.std.proofs.lemmas.Result.{IfOk-from_err, err_from_is_err_and}
 use Rattle.std.proofs.lemmas.List.{length-take-le}
-use Rattle.std.specs.Prelude.{IfErr}
 use Rattle.ob_base.specs.declared.fault.Fault.{Fault}
 use Rattle.ob_base.specs.declared.fault.Fault.TheVariants.{StoreFault}
 use Rattle.ob_base.specs.declared.params.Params.{Params}
 use Rattle.ob_base.specs.Layout.{log_cell, record_cells}
 use Rattle.ob_base.specs.Planned.{most_jobs}
-use Rattle.ob_epoch.specs.Table.{buckets_of, flat_of}
-use Rattle.ob_log.specs.Appends.{HoldsRecord, append_notes}
+use Rattle.ob_log.specs.Appends.{append_notes}
 use Rattle.ob_log.specs.Logs.{OpenRecords}
-use Rattle.ob_recover.specs.Repeats.{asked_of_record, batch_cells, repeated_notes, table_after_records}
+use Rattle.ob_recover.specs.Repeats.{asked_of_record, batch_cells, repeated_notes}
 use Rattle.ob_pads.specs.Seals.{CellsAreSealed}
 use Rattle.ob_ring.specs.Ring.{Kept}
-use Rattle.ob_seal.specs.Sealing.{Sealing}
 use Rattle.ob_stand.specs.Stands.{OneOf, with_record}
-use Rattle.ob_cells.specs.Writes.{Seals}
 use Rattle.ob_log.specs.Appends.{IsWornOut}
-use Rattle.ob_store.specs.Calls.{IsStoreFault, Serves}
+use Rattle.ob_store.specs.Calls.{IsStoreFault}
 use Rattle.ob_store.specs.Disk.{Image}
 use Rattle.ob_ring_trace.proofs.Telling.{row_step}
 use Rattle.ob_store.proofs.Events.{none_noted}
-use Rattle.ob_store.proofs.Serving.{goes_same, if_err, serves_then}
+use Rattle.ob_store.proofs.Serving.{goes_same, serves_then}
 use Rattle.ob_store.proofs.Showing.{shows_none}
 use Rattle.ob_store.specs.Told.{Tells, TellsFirst}
 use Rattle.ob_tables.specs.Kept.{Held}
 use Rattle.ob_fetch.proofs.AnswerLaws.{item_got}
-use Rattle.ob_fetch.proofs.FetchLaws.{answers_as, answers_refused, begun_leaves, cells_same, does_refused, draws_refused, drawn_many, enough_left, fetch_fault, leaves_none, leaves_read, moves_as, next_is, not_worn, settled_then, tells_as, within_next, within_then}
+use Rattle.ob_fetch.proofs.FetchLaws.{answers_as, answers_refused, begun_leaves, begun_now, cells_same, does_refused, draws_refused, drawn_many, enough_left, fetch_fault, left_for}
+use Rattle.ob_fetch.proofs.FetchLaws.{worn_for, leaves_none, leaves_read, moves_as, next_is, not_worn, settled_then, tells_as, value_stood, within_next, within_then, written_still}
 use Rattle.ob_fetch.proofs.ScheduleLaws.{open_begun, open_cut, batch_room, plans_as, plans_more, begun_shown, shown_begun, shown_cut, shown_well}
-use Rattle.ob_fetch.proofs.NextLaws.{Begun, answers_then, refused_then, runs_as, runs_next, seals_listed, stands_as, stands_listed, stands_then}
+use Rattle.ob_fetch.proofs.NextLaws.{answers_then, refused_then, runs_as, runs_next, stands_as, stands_then}
 use Rattle.ob_fetch.specs.Fetches.{AreMapValues, FetchAnswers, FetchDraws, FetchStands, IsFetchRefusal, values_asked, next_batch, record_next, words_since, FetchDoes}
 use Rattle.ob_fetch.specs.declared.run.Run.{Run}
 use Rattle.ob_fetch.proofs.fetching.fetch.Goals as goal
@@ -81,140 +77,128 @@ begin_batch-requires-clause-keys_apart g c =
 
 -- ---- refused while the batch was begun
 
-pub returns-in_err-begin_batch-clause-serves : goal.returns-in_err-begin_batch-clause-serves
-returns-in_err-begin_batch-clause-serves g c =
-    let exit = err_from_is_err_and c.from_residual.result c.from_residual.ensures.1 in
-    subst (λ (x : Result (Unit {0}) Fault). Serves IsStoreFault (g.S.Store.disk c.args.store.now) (g.S.Store.disk c.begin_batch.new.store) x) (sym (exit.1 ∙ ap Err exit.2)) c.in_err-begin_batch.ensures.serves
+pub returns-in-Err-clause-serves : goal.returns-in-Err-clause-serves
+returns-in-Err-clause-serves g c = c.in-Err.ensures.serves
 
-pub returns-in_err-begin_batch-clause-faults : goal.returns-in_err-begin_batch-clause-faults
-returns-in_err-begin_batch-clause-faults g c =
-    let exit = err_from_is_err_and c.from_residual.result c.from_residual.ensures.1 in
-    let refused : c.from_residual.result ≡ Err (StoreFault None) = exit.1 ∙ ap Err (exit.2 ∙ c.in_err-begin_batch.ensures.faults) in
-    subst (λ (x : Result (Unit {0}) Fault). IfErr x IsFetchRefusal) (sym refused) refl
+pub returns-in-Err-clause-faults : goal.returns-in-Err-clause-faults
+returns-in-Err-clause-faults g c = subst IsFetchRefusal (sym c.in-Err.ensures.faults) refl
 
-pub returns-in_err-begin_batch-clause-worn : goal.returns-in_err-begin_batch-clause-worn
-returns-in_err-begin_batch-clause-worn g c =
-    let exit = err_from_is_err_and c.from_residual.result c.from_residual.ensures.1 in
-    let refused : c.from_residual.result ≡ Err (StoreFault None) = exit.1 ∙ ap Err (exit.2 ∙ c.in_err-begin_batch.ensures.faults) in
+pub returns-in-Err-clause-worn : goal.returns-in-Err-clause-worn
+returns-in-Err-clause-worn g c =
+    let refused : Err c.in-Err.fault ≡ Err (StoreFault None) = ap Err c.in-Err.ensures.faults in
     ((λ worn. absurd (subst IsWornOut refused worn)), (λ worn. absurd (enough_left c.args.run.now _ c.if-is_worn.false c.is_worn.ensures worn)))
 
-pub returns-in_err-begin_batch-clause-idle : goal.returns-in_err-begin_batch-clause-idle
-returns-in_err-begin_batch-clause-idle g c =
-    let exit = err_from_is_err_and c.from_residual.result c.from_residual.ensures.1 in
-    let refused : c.from_residual.result ≡ Err (StoreFault None) = exit.1 ∙ ap Err (exit.2 ∙ c.in_err-begin_batch.ensures.faults) in
+pub returns-in-Err-clause-idle : goal.returns-in-Err-clause-idle
+returns-in-Err-clause-idle g c =
+    let refused : Err c.in-Err.fault ≡ Err (StoreFault None) = ap Err c.in-Err.ensures.faults in
     λ worn. absurd (subst IsWornOut refused worn)
 
-pub returns-in_err-begin_batch-clause-draws : goal.returns-in_err-begin_batch-clause-draws
-returns-in_err-begin_batch-clause-draws g c =
-    let exit = err_from_is_err_and c.from_residual.result c.from_residual.ensures.1 in
-    let refused : c.from_residual.result ≡ Err (StoreFault None) = exit.1 ∙ ap Err (exit.2 ∙ c.in_err-begin_batch.ensures.faults) in
+pub returns-in-Err-clause-draws : goal.returns-in-Err-clause-draws
+returns-in-Err-clause-draws g c =
+    let refused : Err c.in-Err.fault ≡ Err (StoreFault None) = ap Err c.in-Err.ensures.faults in
     subst (λ (x : Result (Unit {0}) Fault). FetchDraws c.args.run.now.params.places (g.T.Tape.drawn c.args.tape.now) (g.T.Tape.drawn c.begin_batch.new.tape) x) (sym refused) c.begin_batch.ensures.draws
 
-pub returns-in_err-begin_batch-clause-drawn : goal.returns-in_err-begin_batch-clause-drawn
-returns-in_err-begin_batch-clause-drawn g c = ap (λ (n : ℕ). n + c.args.run.now.params.places) c.requires.drawn ∙ sym (drawn_many c.args.run.now.params.places _ _ c.begin_batch.ensures.draws)
+pub returns-in-Err-clause-drawn : goal.returns-in-Err-clause-drawn
+returns-in-Err-clause-drawn g c = ap (λ (n : ℕ). n + c.args.run.now.params.places) c.requires.drawn ∙ sym (drawn_many c.args.run.now.params.places _ _ c.begin_batch.ensures.draws)
 
-pub returns-in_err-begin_batch-clause-seals : goal.returns-in_err-begin_batch-clause-seals
-returns-in_err-begin_batch-clause-seals g c =
-    let exit = err_from_is_err_and c.from_residual.result c.from_residual.ensures.1 in
-    subst (λ (x : Result (Unit {0}) Fault). Seals (record_cells c.args.run.now.params) c.args.run.now.sealer c.begin_batch.new.sealer x) (sym (exit.1 ∙ ap Err exit.2)) c.in_err-begin_batch.ensures.seals
+pub returns-in-Err-clause-seals : goal.returns-in-Err-clause-seals
+returns-in-Err-clause-seals g c = c.in-Err.ensures.seals
 
-pub returns-in_err-begin_batch-clause-sealed : goal.returns-in_err-begin_batch-clause-sealed
-returns-in_err-begin_batch-clause-sealed g c = λ tells. IfOk-from_err c.from_residual.result _ c.from_residual.ensures.0
+pub returns-in-Err-clause-sealed : goal.returns-in-Err-clause-sealed
+returns-in-Err-clause-sealed g c = λ tells. tt
 
-pub returns-in_err-begin_batch-clause-served : goal.returns-in_err-begin_batch-clause-served
-returns-in_err-begin_batch-clause-served g c = IfOk-from_err c.from_residual.result _ c.from_residual.ensures.0
+pub returns-in-Err-clause-served : goal.returns-in-Err-clause-served
+returns-in-Err-clause-served g c = tt
 
-pub returns-in_err-begin_batch-clause-refused : goal.returns-in_err-begin_batch-clause-refused
-returns-in_err-begin_batch-clause-refused g c = if_err _ c.from_residual.result (refl, refl, refl)
+pub returns-in-Err-clause-refused : goal.returns-in-Err-clause-refused
+returns-in-Err-clause-refused g c = (refl, refl, refl)
 
-pub returns-in_err-begin_batch-clause-ready : goal.returns-in_err-begin_batch-clause-ready
-returns-in_err-begin_batch-clause-ready g c = IfOk-from_err c.from_residual.result _ c.from_residual.ensures.0
+pub returns-in-Err-clause-ready : goal.returns-in-Err-clause-ready
+returns-in-Err-clause-ready g c = tt
 
-pub returns-in_err-begin_batch-clause-fit : goal.returns-in_err-begin_batch-clause-fit
-returns-in_err-begin_batch-clause-fit g c = λ fit. IfOk-from_err c.from_residual.result _ c.from_residual.ensures.0
+pub returns-in-Err-clause-fit : goal.returns-in-Err-clause-fit
+returns-in-Err-clause-fit g c = λ fit. tt
 
-pub returns-in_err-begin_batch-clause-moves : goal.returns-in_err-begin_batch-clause-moves
-returns-in_err-begin_batch-clause-moves g c = IfOk-from_err c.from_residual.result _ c.from_residual.ensures.0
+pub returns-in-Err-clause-moves : goal.returns-in-Err-clause-moves
+returns-in-Err-clause-moves g c = tt
 
-pub returns-in_err-begin_batch-clause-answers : goal.returns-in_err-begin_batch-clause-answers
-returns-in_err-begin_batch-clause-answers g c = IfOk-from_err c.from_residual.result _ c.from_residual.ensures.0
+pub returns-in-Err-clause-answers : goal.returns-in-Err-clause-answers
+returns-in-Err-clause-answers g c = tt
 
-pub returns-in_err-begin_batch-clause-durable : goal.returns-in_err-begin_batch-clause-durable
-returns-in_err-begin_batch-clause-durable g c = λ tells. IfOk-from_err c.from_residual.result _ c.from_residual.ensures.0
+pub returns-in-Err-clause-durable : goal.returns-in-Err-clause-durable
+returns-in-Err-clause-durable g c = λ tells. tt
 
-pub returns-in_err-begin_batch-clause-onward : goal.returns-in_err-begin_batch-clause-onward
-returns-in_err-begin_batch-clause-onward g c = λ content rs was many. IfOk-from_err c.from_residual.result _ c.from_residual.ensures.0
+pub returns-in-Err-clause-onward : goal.returns-in-Err-clause-onward
+returns-in-Err-clause-onward g c = λ content rs was many. tt
 
-pub returns-in_err-begin_batch-clause-value : goal.returns-in_err-begin_batch-clause-value
-returns-in_err-begin_batch-clause-value g c =
-    let exit = err_from_is_err_and c.from_residual.result c.from_residual.ensures.1 in
-    let refused : c.from_residual.result ≡ Err (StoreFault None) = exit.1 ∙ ap Err (exit.2 ∙ c.in_err-begin_batch.ensures.faults) in
+pub returns-in-Err-clause-value : goal.returns-in-Err-clause-value
+returns-in-Err-clause-value g c =
+    let refused : Err c.in-Err.fault ≡ Err (StoreFault None) = ap Err c.in-Err.ensures.faults in
     let run = c.args.run.now in
     let r = record_next run c.args.asks.now (words_since (g.T.Tape.drawn c.args.tape.now) (g.T.Tape.drawn c.begin_batch.new.tape)) in
     λ start t seals stands tells. subst (λ (x : Result (Unit {0}) Fault). FetchAnswers run.sealer.keys run.params start.versions (g.S.Store.disk c.begin_batch.new.store).cells t r run.ring.stash.rows run.ring.stash.rows x) (sym refused) tt
 
-pub returns-in_err-begin_batch-clause-within : goal.returns-in_err-begin_batch-clause-within
-returns-in_err-begin_batch-clause-within g c =
+pub returns-in-Err-clause-within : goal.returns-in-Err-clause-within
+returns-in-Err-clause-within g c =
     within_next c.args.run.now (g.S.Store.disk c.args.store.now) (g.S.Store.disk c.begin_batch.new.store) c.begin_batch.ensures.within
 
-pub returns-in_err-begin_batch-clause-images : goal.returns-in_err-begin_batch-clause-images
-returns-in_err-begin_batch-clause-images g c =
+pub returns-in-Err-clause-images : goal.returns-in-Err-clause-images
+returns-in-Err-clause-images g c =
     let run = c.args.run.now in
     let old = g.S.Store.disk c.args.store.now in
     let mid = g.S.Store.disk c.begin_batch.new.store in
-    let r = record_next c.args.run.now c.args.asks.now (words_since (g.T.Tape.drawn c.args.tape.now) (g.T.Tape.drawn c.begin_batch.new.tape)) in
+    let words = words_since (g.T.Tape.drawn c.args.tape.now) (g.T.Tape.drawn c.begin_batch.new.tape) in
+    let r = record_next run c.args.asks.now words in
     λ s was.
-    begun_leaves run s r old mid was (record { some = c.requires.some_left; few = c.requires.ready.few; is = refl; obeys = c.begin_batch.ensures.obeys; within = (within_next run old mid c.begin_batch.ensures.within).rest was.tells })
+    begun_leaves run s r old mid was (begun_now run c.args.asks.now words old mid c.requires.some_left c.requires.ready.few c.begin_batch.ensures.obeys (within_next run old mid c.begin_batch.ensures.within) was.tells)
     (g.met.S.Store.only_now c.args.store.now) c.begin_batch.ensures.within c.begin_batch.ensures.images
 
-pub returns-in_err-begin_batch-clause-scheduled : goal.returns-in_err-begin_batch-clause-scheduled
-returns-in_err-begin_batch-clause-scheduled g c =
+pub returns-in-Err-clause-scheduled : goal.returns-in-Err-clause-scheduled
+returns-in-Err-clause-scheduled g c =
     let run = c.args.run.now in
     let p = c.args.run.now.params in
     let old = g.S.Store.disk c.args.store.now in
     let mid = g.S.Store.disk c.begin_batch.new.store in
     let r = record_next c.args.run.now c.args.asks.now (words_since (g.T.Tape.drawn c.args.tape.now) (g.T.Tape.drawn c.begin_batch.new.tape)) in
-    let first = subst (λ (e : ℕ). TellsFirst (append_notes p e (next_batch run)) old.seen mid.seen (g.W.Watch.trace c.args.watch.now) (g.W.Watch.trace c.begin_batch.new.watch)) (next_is run.epoch) c.in_err-begin_batch.ensures.does.first in
-    let exit = err_from_is_err_and c.from_residual.result c.from_residual.ensures.1 in
-    let cause = subst (λ (x : Result (Unit {0}) Fault). IfErr x (λ f. f ≡ StoreFault None)) (sym exit.1) (exit.2 ∙ c.in_err-begin_batch.ensures.faults) in
+    let first = subst (λ (e : ℕ). TellsFirst (append_notes p e (next_batch run)) old.seen mid.seen (g.W.Watch.trace c.args.watch.now) (g.W.Watch.trace c.begin_batch.new.watch)) (next_is run.epoch) c.in-Err.ensures.does.first in
     let front = shown_begun c.args.crew.now.lanes p run.sealer.generation run.gates run.ring (next_batch run) run.epoch r c.requires.ready.table.0 c.requires.ready.table.1 (batch_room run c.requires.some_left c.requires.ready.few) c.begin_batch.ensures.obeys
     old.seen mid.seen (g.W.Watch.trace c.args.watch.now) (g.W.Watch.trace c.begin_batch.new.watch) first in (
       first.shown,
       first.tells.shows,
       open_begun c.args.crew.now.lanes p run.sealer.generation run.gates run.ring (next_batch run) run.epoch r c.requires.ready.table.0 c.requires.ready.table.1 (batch_room run c.requires.some_left c.requires.ready.few) c.begin_batch.ensures.obeys
-          old.seen mid.seen (g.W.Watch.trace c.args.watch.now) (g.W.Watch.trace c.begin_batch.new.watch) g.S.Store.disk run.sealer.keys c.args.store.now c.begin_batch.new.store first c.from_residual.result,
-      λ content rs was many. begun_shown c.from_residual.result c.from_residual.ensures.0 cause c.args.crew.now.lanes (append_notes p (suc run.epoch) (next_batch run)) _ first.shown old.seen mid.seen front,
+          old.seen mid.seen (g.W.Watch.trace c.args.watch.now) (g.W.Watch.trace c.begin_batch.new.watch) g.S.Store.disk run.sealer.keys c.args.store.now c.begin_batch.new.store first (Err c.in-Err.fault),
+      λ content rs was many. begun_shown (Err c.in-Err.fault) refl c.in-Err.ensures.faults c.args.crew.now.lanes (append_notes p (suc run.epoch) (next_batch run)) _ first.shown old.seen mid.seen front,
     )
 
 -- ---- refused while the batch was read
 
-pub returns-in-Err-clause-serves : goal.returns-in-Err-clause-serves
-returns-in-Err-clause-serves g c =
+pub returns-in-Err-read_batch-clause-serves : goal.returns-in-Err-read_batch-clause-serves
+returns-in-Err-read_batch-clause-serves g c =
     let first = c.begin_batch.ensures.serves in
-    serves_then IsStoreFault _ (g.S.Store.disk c.begin_batch.new.store) _ (Err c.in-Err.fault) first.goes first.out c.in_ok-begin_batch.ensures.serves.tells c.in-Err.ensures.serves
+    serves_then IsStoreFault _ (g.S.Store.disk c.begin_batch.new.store) _ (Err c.in-Err-read_batch.fault) first.goes first.out c.in-Ok.ensures.serves.tells c.in-Err-read_batch.ensures.serves
 
-pub returns-in-Err-clause-faults : goal.returns-in-Err-clause-faults
-returns-in-Err-clause-faults g c = fetch_fault c.in-Err.fault c.in-Err.ensures.faults
+pub returns-in-Err-read_batch-clause-faults : goal.returns-in-Err-read_batch-clause-faults
+returns-in-Err-read_batch-clause-faults g c = fetch_fault c.in-Err-read_batch.fault c.in-Err-read_batch.ensures.faults
 
-pub returns-in-Err-clause-worn : goal.returns-in-Err-clause-worn
-returns-in-Err-clause-worn g c = ((λ worn. absurd (not_worn c.in-Err.fault c.in-Err.ensures.faults worn)), (λ worn. absurd (enough_left c.args.run.now _ c.if-is_worn.false c.is_worn.ensures worn)))
+pub returns-in-Err-read_batch-clause-worn : goal.returns-in-Err-read_batch-clause-worn
+returns-in-Err-read_batch-clause-worn g c = ((λ worn. absurd (not_worn c.in-Err-read_batch.fault c.in-Err-read_batch.ensures.faults worn)), (λ worn. absurd (enough_left c.args.run.now _ c.if-is_worn.false c.is_worn.ensures worn)))
 
-pub returns-in-Err-clause-idle : goal.returns-in-Err-clause-idle
-returns-in-Err-clause-idle g c = λ worn. absurd (not_worn c.in-Err.fault c.in-Err.ensures.faults worn)
+pub returns-in-Err-read_batch-clause-idle : goal.returns-in-Err-read_batch-clause-idle
+returns-in-Err-read_batch-clause-idle g c = λ worn. absurd (not_worn c.in-Err-read_batch.fault c.in-Err-read_batch.ensures.faults worn)
 
-pub returns-in-Err-clause-draws : goal.returns-in-Err-clause-draws
-returns-in-Err-clause-draws g c = draws_refused c.args.run.now.params.places _ _ c.in-Err.fault c.in-Err.ensures.faults c.begin_batch.ensures.draws
+pub returns-in-Err-read_batch-clause-draws : goal.returns-in-Err-read_batch-clause-draws
+returns-in-Err-read_batch-clause-draws g c = draws_refused c.args.run.now.params.places _ _ c.in-Err-read_batch.fault c.in-Err-read_batch.ensures.faults c.begin_batch.ensures.draws
 
-pub returns-in-Err-clause-drawn : goal.returns-in-Err-clause-drawn
-returns-in-Err-clause-drawn g c = ap (λ (n : ℕ). n + c.args.run.now.params.places) c.requires.drawn ∙ sym (drawn_many c.args.run.now.params.places _ _ c.begin_batch.ensures.draws)
+pub returns-in-Err-read_batch-clause-drawn : goal.returns-in-Err-read_batch-clause-drawn
+returns-in-Err-read_batch-clause-drawn g c = ap (λ (n : ℕ). n + c.args.run.now.params.places) c.requires.drawn ∙ sym (drawn_many c.args.run.now.params.places _ _ c.begin_batch.ensures.draws)
 
-pub returns-in-Err-clause-within : goal.returns-in-Err-clause-within
-returns-in-Err-clause-within g c =
+pub returns-in-Err-read_batch-clause-within : goal.returns-in-Err-read_batch-clause-within
+returns-in-Err-read_batch-clause-within g c =
     within_then (log_cell c.args.run.now.params (suc c.args.run.now.epoch % 2) (next_batch c.args.run.now) 0) (record_cells c.args.run.now.params + 1) (g.S.Store.disk c.args.store.now) (g.S.Store.disk c.begin_batch.new.store) (g.S.Store.disk c.read_batch.new.store)
-    (λ tells. c.in_ok-begin_batch.ensures.serves.tells tells) (within_next c.args.run.now (g.S.Store.disk c.args.store.now) (g.S.Store.disk c.begin_batch.new.store) c.begin_batch.ensures.within) c.read_batch.ensures.keeps c.read_batch.ensures.passes
+    (λ tells. c.in-Ok.ensures.serves.tells tells) (within_next c.args.run.now (g.S.Store.disk c.args.store.now) (g.S.Store.disk c.begin_batch.new.store) c.begin_batch.ensures.within) c.read_batch.ensures.keeps c.read_batch.ensures.passes
 
-pub returns-in-Err-clause-value : goal.returns-in-Err-clause-value
-returns-in-Err-clause-value g c =
+pub returns-in-Err-read_batch-clause-value : goal.returns-in-Err-read_batch-clause-value
+returns-in-Err-read_batch-clause-value g c =
     let run = c.args.run.now in
     let p = c.args.run.now.params in
     let keys = c.args.run.now.sealer.keys in
@@ -222,18 +206,18 @@ returns-in-Err-clause-value g c =
     let mid = g.S.Store.disk c.begin_batch.new.store in
     let new = g.S.Store.disk c.read_batch.new.store in
     let r = record_next c.args.run.now c.args.asks.now (words_since (g.T.Tape.drawn c.args.tape.now) (g.T.Tape.drawn c.begin_batch.new.tape)) in
-    let ks = ap (λ (x : Sealing). x.keys) c.in_ok-begin_batch.ensures.seals.all in
-    let gs = ap (λ (x : ℕ × ℕ). x.0) c.next.ensures.identity ∙ ap (λ (x : Sealing). x.generation) c.in_ok-begin_batch.ensures.seals.all in
+    let ks = c.in-Ok.ensures.seals.some.keys in
+    let gs = ap (λ (x : ℕ × ℕ). x.0) c.next.ensures.identity ∙ c.in-Ok.ensures.seals.some.generation in
     let ws = c.front.ensures ∙ c.begin_batch.ensures.words in
     λ start t seals stands tells.
-    let told = c.in_ok-begin_batch.ensures.serves.tells tells in
-    subst (λ (image : Image). FetchAnswers keys p start.versions image t r run.ring.stash.rows c.read_batch.new.ring.stash.rows (Err c.in-Err.fault)) (sym (cells_same mid new told c.read_batch.ensures.keeps))
-    (answers_refused keys p start.versions mid.cells t r run.ring.stash.rows c.read_batch.new.ring.stash.rows c.in-Err.fault c.in-Err.ensures.faults
-    (answers_as ks c.requires.ready.params gs ws (next_batch run) run.sealer.next run.drawn c.args.asks.now start.versions mid.cells t run.ring.stash.rows c.read_batch.new.ring.stash.rows (Err c.in-Err.fault)
-    (c.in-Err.ensures.value (next_batch run) run.sealer.next start t seals stands told)))
+    let told = c.in-Ok.ensures.serves.tells tells in
+    subst (λ (image : Image). FetchAnswers keys p start.versions image t r run.ring.stash.rows c.read_batch.new.ring.stash.rows (Err c.in-Err-read_batch.fault)) (sym (cells_same mid new told c.read_batch.ensures.keeps))
+    (answers_refused keys p start.versions mid.cells t r run.ring.stash.rows c.read_batch.new.ring.stash.rows c.in-Err-read_batch.fault c.in-Err-read_batch.ensures.faults
+    (answers_as ks c.requires.ready.params gs ws (next_batch run) run.sealer.next run.drawn c.args.asks.now start.versions mid.cells t run.ring.stash.rows c.read_batch.new.ring.stash.rows (Err c.in-Err-read_batch.fault)
+    (c.in-Err-read_batch.ensures.value (next_batch run) run.sealer.next start t seals stands told)))
 
-pub returns-in-Err-clause-does : goal.returns-in-Err-clause-does
-returns-in-Err-clause-does g c =
+pub returns-in-Err-read_batch-clause-does : goal.returns-in-Err-read_batch-clause-does
+returns-in-Err-read_batch-clause-does g c =
     let run = c.args.run.now in
     let p = c.args.run.now.params in
     let keys = c.args.run.now.sealer.keys in
@@ -241,35 +225,52 @@ returns-in-Err-clause-does g c =
     let mid = g.S.Store.disk c.begin_batch.new.store in
     let new = g.S.Store.disk c.read_batch.new.store in
     let r = record_next c.args.run.now c.args.asks.now (words_since (g.T.Tape.drawn c.args.tape.now) (g.T.Tape.drawn c.begin_batch.new.tape)) in
-    let ks = ap (λ (x : Sealing). x.keys) c.in_ok-begin_batch.ensures.seals.all in
-    let gs = ap (λ (x : ℕ × ℕ). x.0) c.next.ensures.identity ∙ ap (λ (x : Sealing). x.generation) c.in_ok-begin_batch.ensures.seals.all in
+    let ks = c.in-Ok.ensures.seals.some.keys in
+    let gs = ap (λ (x : ℕ × ℕ). x.0) c.next.ensures.identity ∙ c.in-Ok.ensures.seals.some.generation in
     let ws = c.front.ensures ∙ c.begin_batch.ensures.words in
     λ start t seals stands.
     does_refused g.S.Store.disk c.args.crew.now.lanes keys p (suc run.epoch) r (batch_cells p start.versions t (asked_of_record p r)) (repeated_notes p start.versions t (asked_of_record p r)) c.args.store.now c.read_batch.new.store
-    (g.W.Watch.trace c.args.watch.now) (g.W.Watch.trace c.read_batch.new.watch) c.in-Err.fault c.in-Err.ensures.faults (record {
+    (g.W.Watch.trace c.args.watch.now) (g.W.Watch.trace c.read_batch.new.watch) c.in-Err-read_batch.fault c.in-Err-read_batch.ensures.faults (record {
       between = c.begin_batch.new.store;
       shown = g.W.Watch.trace c.begin_batch.new.watch;
-      appended = subst (λ (e : ℕ). Tells (append_notes p e (next_batch run)) (append_notes p e (next_batch run)) old.seen mid.seen (g.W.Watch.trace c.args.watch.now) (g.W.Watch.trace c.begin_batch.new.watch)) (next_is run.epoch) c.in_ok-begin_batch.ensures.does.all;
+      appended = subst (λ (e : ℕ). Tells (append_notes p e (next_batch run)) (append_notes p e (next_batch run)) old.seen mid.seen (g.W.Watch.trace c.args.watch.now) (g.W.Watch.trace c.begin_batch.new.watch)) (next_is run.epoch) c.in-Ok.ensures.does.all;
       logged = λ records image tells long held left.
           subst (λ (e : ℕ). OpenRecords keys p e (records ++ r ∷ []) image) (next_is run.epoch)
-          (c.in_ok-begin_batch.ensures.open records tells long (subst (λ (e : ℕ). OpenRecords keys p e records old.cells) (sym (next_is run.epoch)) held) image left);
+          (c.in-Ok.ensures.open records tells long (subst (λ (e : ℕ). OpenRecords keys p e records old.cells) (sym (next_is run.epoch)) held) image left);
       behind = c.read_batch.ensures.passes;
       read = tells_as ks c.requires.ready.params gs ws (next_batch run) run.sealer.next run.drawn c.args.asks.now c.args.crew.now.lanes start.versions t mid.seen new.seen (g.W.Watch.trace c.begin_batch.new.watch)
-          (g.W.Watch.trace c.read_batch.new.watch) (Err c.in-Err.fault) (c.in-Err.ensures.told (next_batch run) run.sealer.next start t seals stands);
+          (g.W.Watch.trace c.read_batch.new.watch) (Err c.in-Err-read_batch.fault) (c.in-Err-read_batch.ensures.told (next_batch run) run.sealer.next start t seals stands);
     })
 
-pub returns-in-Err-clause-scheduled : goal.returns-in-Err-clause-scheduled
-returns-in-Err-clause-scheduled g c =
+pub returns-in-Err-read_batch-clause-scheduled : goal.returns-in-Err-read_batch-clause-scheduled
+returns-in-Err-read_batch-clause-scheduled g c =
     let run = c.args.run.now in
     let r = record_next c.args.run.now c.args.asks.now (words_since (g.T.Tape.drawn c.args.tape.now) (g.T.Tape.drawn c.begin_batch.new.tape)) in
     let shown = shown_cut c.args.crew.now.lanes run.params run.sealer.generation run.gates run.ring (next_batch run) run.epoch r c.requires.ready.table.0 c.requires.ready.table.1 (batch_room run c.requires.some_left c.requires.ready.few) c.begin_batch.ensures.obeys
-    g.S.Store.disk run.sealer.keys c.args.store.now c.read_batch.new.store (g.W.Watch.trace c.args.watch.now) (g.W.Watch.trace c.read_batch.new.watch) c.in-Err.fault (returns-in-Err-clause-does g c) in
+    g.S.Store.disk run.sealer.keys c.args.store.now c.read_batch.new.store (g.W.Watch.trace c.args.watch.now) (g.W.Watch.trace c.read_batch.new.watch) c.in-Err-read_batch.fault (returns-in-Err-read_batch-clause-does g c) in
     let opened = open_cut c.args.crew.now.lanes run.params run.sealer.generation run.gates run.ring (next_batch run) run.epoch r c.requires.ready.table.0 c.requires.ready.table.1 (batch_room run c.requires.some_left c.requires.ready.few) c.begin_batch.ensures.obeys
-    g.S.Store.disk run.sealer.keys c.args.store.now c.read_batch.new.store (g.W.Watch.trace c.args.watch.now) (g.W.Watch.trace c.read_batch.new.watch) c.in-Err.fault (returns-in-Err-clause-does g c) in
+    g.S.Store.disk run.sealer.keys c.args.store.now c.read_batch.new.store (g.W.Watch.trace c.args.watch.now) (g.W.Watch.trace c.read_batch.new.watch) c.in-Err-read_batch.fault (returns-in-Err-read_batch-clause-does g c) in
     (shown.notes, shown.shows, opened, shown.reads_as)
 
-pub returns-in-Err-clause-stands : goal.returns-in-Err-clause-stands
-returns-in-Err-clause-stands g c =
+pub returns-in-Err-read_batch-clause-stands : goal.returns-in-Err-read_batch-clause-stands
+returns-in-Err-read_batch-clause-stands g c =
+    let run = c.args.run.now in
+    let p = run.params in
+    let old = g.S.Store.disk c.args.store.now in
+    let mid = g.S.Store.disk c.begin_batch.new.store in
+    let new = g.S.Store.disk c.read_batch.new.store in
+    let words = words_since (g.T.Tape.drawn c.args.tape.now) (g.T.Tape.drawn c.begin_batch.new.tape) in
+    let r = record_next run c.args.asks.now words in
+    λ s was.
+    let told = c.in-Ok.ensures.serves.tells was.tells in
+    let written = written_still run.sealer.keys p run.epoch (next_batch run) r mid new told c.read_batch.ensures.keeps (c.in-Ok.ensures.written was.tells) in
+    let begun = begun_now run c.args.asks.now words old new c.requires.some_left c.requires.ready.few c.begin_batch.ensures.obeys (returns-in-Err-read_batch-clause-within g c) was.tells in
+    let value = value_stood run s old was new.cells r c.read_batch.new.ring.stash.rows (Err c.in-Err-read_batch.fault) (returns-in-Err-read_batch-clause-value g c) in
+    let then : Run = record run { sealer = c.begin_batch.new.sealer; drawn = run.drawn + p.places; spent = true; ring = c.read_batch.new.ring; jobs = c.read_batch.new.jobs; words = c.begin_batch.new.words } in
+    refused_then run s r old new was begun written then c.args.out.now c.read_batch.new.ring.stash.rows c.in-Err-read_batch.fault c.in-Err-read_batch.ensures.faults value
+
+pub returns-in-Err-read_batch-clause-images : goal.returns-in-Err-read_batch-clause-images
+returns-in-Err-read_batch-clause-images g c =
     let run = c.args.run.now in
     let p = c.args.run.now.params in
     let keys = c.args.run.now.sealer.keys in
@@ -277,46 +278,10 @@ returns-in-Err-clause-stands g c =
     let mid = g.S.Store.disk c.begin_batch.new.store in
     let new = g.S.Store.disk c.read_batch.new.store in
     let words = words_since (g.T.Tape.drawn c.args.tape.now) (g.T.Tape.drawn c.begin_batch.new.tape) in
-    let r = record_next c.args.run.now c.args.asks.now (words_since (g.T.Tape.drawn c.args.tape.now) (g.T.Tape.drawn c.begin_batch.new.tape)) in
-    let base = log_cell p (suc run.epoch % 2) (next_batch run) 0 in
-    let ks = ap (λ (x : Sealing). x.keys) c.in_ok-begin_batch.ensures.seals.all in
-    let gs = ap (λ (x : ℕ × ℕ). x.0) c.next.ensures.identity ∙ ap (λ (x : Sealing). x.generation) c.in_ok-begin_batch.ensures.seals.all in
-    let ws = c.front.ensures ∙ c.begin_batch.ensures.words in
-    let within = within_next run old mid c.begin_batch.ensures.within in
-    λ s was.
-    let told = c.in_ok-begin_batch.ensures.serves.tells was.tells in
-    let written = subst (λ (image : Image). HoldsRecord keys p (suc run.epoch) (next_batch run) r image) (sym (cells_same mid new told c.read_batch.ensures.keeps))
-    (subst (λ (e : ℕ). HoldsRecord keys p e (next_batch run) r mid.cells) (next_is run.epoch) (c.in_ok-begin_batch.ensures.written was.tells)) in
-    let start = record (buckets_of p s.content) { order = run.ring.metas.order } in
-    let t = table_after_records p (flat_of p s.content) s.records in
-    let seals = seals_listed (buckets_of p s.content) run.ring was.runs.planner.seals in
-    let stands = stands_listed run.ring t was.runs.planner.table in
-    let begun : Begun run r old new = (record {
-      some = c.requires.some_left;
-      few = c.requires.ready.few;
-      is = refl;
-      obeys = c.begin_batch.ensures.obeys;
-      within = (within_then base (record_cells p + 1) old mid new (λ tells. c.in_ok-begin_batch.ensures.serves.tells tells) within c.read_batch.ensures.keeps c.read_batch.ensures.passes).rest was.tells;
-    }) in
-    let value = subst (λ (image : Image). FetchAnswers keys p start.versions image t r run.ring.stash.rows c.read_batch.new.ring.stash.rows (Err c.in-Err.fault)) (sym (cells_same mid new told c.read_batch.ensures.keeps))
-    (answers_refused keys p start.versions mid.cells t r run.ring.stash.rows c.read_batch.new.ring.stash.rows c.in-Err.fault c.in-Err.ensures.faults
-    (answers_as ks c.requires.ready.params gs ws (next_batch run) run.sealer.next run.drawn c.args.asks.now start.versions mid.cells t run.ring.stash.rows c.read_batch.new.ring.stash.rows (Err c.in-Err.fault)
-    (c.in-Err.ensures.value (next_batch run) run.sealer.next start t seals stands told))) in
-    let then : Run = record run { sealer = c.begin_batch.new.sealer; drawn = run.drawn + p.places; spent = true; ring = c.read_batch.new.ring; jobs = c.read_batch.new.jobs; words = c.begin_batch.new.words } in
-    refused_then run s r old new was begun written then c.args.out.now c.read_batch.new.ring.stash.rows c.in-Err.fault c.in-Err.ensures.faults value
-
-pub returns-in-Err-clause-images : goal.returns-in-Err-clause-images
-returns-in-Err-clause-images g c =
-    let run = c.args.run.now in
-    let p = c.args.run.now.params in
-    let keys = c.args.run.now.sealer.keys in
-    let old = g.S.Store.disk c.args.store.now in
-    let mid = g.S.Store.disk c.begin_batch.new.store in
-    let new = g.S.Store.disk c.read_batch.new.store in
-    let r = record_next c.args.run.now c.args.asks.now (words_since (g.T.Tape.drawn c.args.tape.now) (g.T.Tape.drawn c.begin_batch.new.tape)) in
+    let r = record_next run c.args.asks.now words in
     λ s was.
     leaves_read (OneOf keys p s (with_record s r)) old mid new (g.met.S.Store.only_now c.begin_batch.new.store) (g.met.S.Store.counts_now c.begin_batch.new.store)
-    (begun_leaves run s r old mid was (record { some = c.requires.some_left; few = c.requires.ready.few; is = refl; obeys = c.begin_batch.ensures.obeys; within = (within_next run old mid c.begin_batch.ensures.within).rest was.tells })
+    (begun_leaves run s r old mid was (begun_now run c.args.asks.now words old mid c.requires.some_left c.requires.ready.few c.begin_batch.ensures.obeys (within_next run old mid c.begin_batch.ensures.within) was.tells)
     (g.met.S.Store.only_now c.args.store.now) c.begin_batch.ensures.within c.begin_batch.ensures.images) c.read_batch.ensures.passes
 
 -- ---- read
@@ -324,7 +289,7 @@ returns-in-Err-clause-images g c =
 pub returns-clause-serves : goal.returns-clause-serves
 returns-clause-serves g c =
     let first = c.begin_batch.ensures.serves in
-    serves_then IsStoreFault _ (g.S.Store.disk c.begin_batch.new.store) _ (Ok tt) first.goes first.out c.in_ok-begin_batch.ensures.serves.tells c.in-Ok.ensures.serves
+    serves_then IsStoreFault _ (g.S.Store.disk c.begin_batch.new.store) _ (Ok tt) first.goes first.out c.in-Ok.ensures.serves.tells c.in-Ok-read_batch.ensures.serves
 
 pub returns-clause-worn : goal.returns-clause-worn
 returns-clause-worn g c = ((λ worn. absurd worn), (λ worn. absurd (enough_left c.args.run.now _ c.if-is_worn.false c.is_worn.ensures worn)))
@@ -336,7 +301,7 @@ pub returns-clause-drawn : goal.returns-clause-drawn
 returns-clause-drawn g c = ap (λ (n : ℕ). n + c.args.run.now.params.places) c.requires.drawn ∙ sym (drawn_many c.args.run.now.params.places _ _ c.begin_batch.ensures.draws)
 
 pub returns-clause-fit : goal.returns-clause-fit
-returns-clause-fit g c = λ fit. c.in-Ok.ensures.fit fit
+returns-clause-fit g c = λ fit. c.in-Ok-read_batch.ensures.fit fit
 
 pub returns-clause-words : goal.returns-clause-words
 returns-clause-words g c = c.begin_batch.ensures.room
@@ -345,7 +310,7 @@ pub returns-clause-answers : goal.returns-clause-answers
 returns-clause-answers g c = c.answer_all.ensures ∙ ap (λ (st : Held). values_asked st.rows c.args.asks.now) c.tables.ensures.stash
 
 pub returns-clause-durable : goal.returns-clause-durable
-returns-clause-durable g c = λ tells. settled_then _ _ (c.in_ok-begin_batch.ensures.serves.tells tells) (c.in_ok-begin_batch.ensures.durable tells) c.read_batch.ensures.keeps c.read_batch.ensures.passes
+returns-clause-durable g c = λ tells. settled_then _ _ (c.in-Ok.ensures.serves.tells tells) (c.in-Ok.ensures.durable tells) c.read_batch.ensures.keeps c.read_batch.ensures.passes
 
 pub returns-clause-ready : goal.returns-clause-ready
 returns-clause-ready g c =
@@ -357,15 +322,15 @@ returns-clause-ready g c =
       words = omega (arith, c.begin_batch.ensures.room, ready.words);
       few = omega (arith, ready.few);
       small = ready.small;
-      generation = subst (λ (n : ℕ). n < 2 ^ 62) (sym (ap (λ (x : Sealing). x.generation) c.in_ok-begin_batch.ensures.seals.all)) ready.generation;
+      generation = subst (λ (n : ℕ). n < 2 ^ 62) (sym c.in-Ok.ensures.seals.some.generation) ready.generation;
       table = (_, e.table 0 0 ready.table.0 ready.table.1);
     }
 
 pub returns-clause-moves : goal.returns-clause-moves
 returns-clause-moves g c =
     let run = c.args.run.now in
-    let ks = ap (λ (x : Sealing). x.keys) c.in_ok-begin_batch.ensures.seals.all in
-    let gs = ap (λ (x : ℕ × ℕ). x.0) c.next.ensures.identity ∙ ap (λ (x : Sealing). x.generation) c.in_ok-begin_batch.ensures.seals.all in
+    let ks = c.in-Ok.ensures.seals.some.keys in
+    let gs = ap (λ (x : ℕ × ℕ). x.0) c.next.ensures.identity ∙ c.in-Ok.ensures.seals.some.generation in
     let ws = c.front.ensures ∙ c.begin_batch.ensures.words in
     let e = c.read_batch.ensures in
     moves_as ks c.requires.ready.params gs ws (next_batch run) run.sealer.next run.drawn c.args.asks.now run.ring c.read_batch.new.ring
@@ -374,7 +339,7 @@ returns-clause-moves g c =
 pub returns-clause-within : goal.returns-clause-within
 returns-clause-within g c =
     within_then (log_cell c.args.run.now.params (suc c.args.run.now.epoch % 2) (next_batch c.args.run.now) 0) (record_cells c.args.run.now.params + 1) (g.S.Store.disk c.args.store.now) (g.S.Store.disk c.begin_batch.new.store) (g.S.Store.disk c.read_batch.new.store)
-    (λ tells. c.in_ok-begin_batch.ensures.serves.tells tells) (within_next c.args.run.now (g.S.Store.disk c.args.store.now) (g.S.Store.disk c.begin_batch.new.store) c.begin_batch.ensures.within) c.read_batch.ensures.keeps c.read_batch.ensures.passes
+    (λ tells. c.in-Ok.ensures.serves.tells tells) (within_next c.args.run.now (g.S.Store.disk c.args.store.now) (g.S.Store.disk c.begin_batch.new.store) c.begin_batch.ensures.within) c.read_batch.ensures.keeps c.read_batch.ensures.passes
 
 pub returns-clause-value : goal.returns-clause-value
 returns-clause-value g c =
@@ -385,13 +350,13 @@ returns-clause-value g c =
     let mid = g.S.Store.disk c.begin_batch.new.store in
     let new = g.S.Store.disk c.read_batch.new.store in
     let r = record_next c.args.run.now c.args.asks.now (words_since (g.T.Tape.drawn c.args.tape.now) (g.T.Tape.drawn c.begin_batch.new.tape)) in
-    let ks = ap (λ (x : Sealing). x.keys) c.in_ok-begin_batch.ensures.seals.all in
-    let gs = ap (λ (x : ℕ × ℕ). x.0) c.next.ensures.identity ∙ ap (λ (x : Sealing). x.generation) c.in_ok-begin_batch.ensures.seals.all in
+    let ks = c.in-Ok.ensures.seals.some.keys in
+    let gs = ap (λ (x : ℕ × ℕ). x.0) c.next.ensures.identity ∙ c.in-Ok.ensures.seals.some.generation in
     let ws = c.front.ensures ∙ c.begin_batch.ensures.words in
     λ start t seals stands tells.
-    let told = c.in_ok-begin_batch.ensures.serves.tells tells in
+    let told = c.in-Ok.ensures.serves.tells tells in
     subst (λ (image : Image). FetchAnswers keys p start.versions image t r run.ring.stash.rows c.read_batch.new.ring.stash.rows (Ok tt)) (sym (cells_same mid new told c.read_batch.ensures.keeps))
-    (answers_as ks c.requires.ready.params gs ws (next_batch run) run.sealer.next run.drawn c.args.asks.now start.versions mid.cells t run.ring.stash.rows c.read_batch.new.ring.stash.rows (Ok tt) (c.in-Ok.ensures.value (next_batch run) run.sealer.next start t seals stands told))
+    (answers_as ks c.requires.ready.params gs ws (next_batch run) run.sealer.next run.drawn c.args.asks.now start.versions mid.cells t run.ring.stash.rows c.read_batch.new.ring.stash.rows (Ok tt) (c.in-Ok-read_batch.ensures.value (next_batch run) run.sealer.next start t seals stands told))
 
 pub returns-clause-does : goal.returns-clause-does
 returns-clause-does g c =
@@ -402,20 +367,20 @@ returns-clause-does g c =
     let mid = g.S.Store.disk c.begin_batch.new.store in
     let new = g.S.Store.disk c.read_batch.new.store in
     let r = record_next c.args.run.now c.args.asks.now (words_since (g.T.Tape.drawn c.args.tape.now) (g.T.Tape.drawn c.begin_batch.new.tape)) in
-    let ks = ap (λ (x : Sealing). x.keys) c.in_ok-begin_batch.ensures.seals.all in
-    let gs = ap (λ (x : ℕ × ℕ). x.0) c.next.ensures.identity ∙ ap (λ (x : Sealing). x.generation) c.in_ok-begin_batch.ensures.seals.all in
+    let ks = c.in-Ok.ensures.seals.some.keys in
+    let gs = ap (λ (x : ℕ × ℕ). x.0) c.next.ensures.identity ∙ c.in-Ok.ensures.seals.some.generation in
     let ws = c.front.ensures ∙ c.begin_batch.ensures.words in
     λ start t seals stands.
     record {
       between = c.begin_batch.new.store;
       shown = g.W.Watch.trace c.begin_batch.new.watch;
-      appended = subst (λ (e : ℕ). Tells (append_notes p e (next_batch run)) (append_notes p e (next_batch run)) old.seen mid.seen (g.W.Watch.trace c.args.watch.now) (g.W.Watch.trace c.begin_batch.new.watch)) (next_is run.epoch) c.in_ok-begin_batch.ensures.does.all;
+      appended = subst (λ (e : ℕ). Tells (append_notes p e (next_batch run)) (append_notes p e (next_batch run)) old.seen mid.seen (g.W.Watch.trace c.args.watch.now) (g.W.Watch.trace c.begin_batch.new.watch)) (next_is run.epoch) c.in-Ok.ensures.does.all;
       logged = λ records image tells long held left.
           subst (λ (e : ℕ). OpenRecords keys p e (records ++ r ∷ []) image) (next_is run.epoch)
-          (c.in_ok-begin_batch.ensures.open records tells long (subst (λ (e : ℕ). OpenRecords keys p e records old.cells) (sym (next_is run.epoch)) held) image left);
+          (c.in-Ok.ensures.open records tells long (subst (λ (e : ℕ). OpenRecords keys p e records old.cells) (sym (next_is run.epoch)) held) image left);
       behind = c.read_batch.ensures.passes;
       read = tells_as ks c.requires.ready.params gs ws (next_batch run) run.sealer.next run.drawn c.args.asks.now c.args.crew.now.lanes start.versions t mid.seen new.seen (g.W.Watch.trace c.begin_batch.new.watch)
-          (g.W.Watch.trace c.read_batch.new.watch) (Ok tt) (c.in-Ok.ensures.told (next_batch run) run.sealer.next start t seals stands);
+          (g.W.Watch.trace c.read_batch.new.watch) (Ok tt) (c.in-Ok-read_batch.ensures.told (next_batch run) run.sealer.next start t seals stands);
     }
 
 pub returns-clause-sealed : goal.returns-clause-sealed
@@ -423,8 +388,8 @@ returns-clause-sealed g c = λ tells.
     let old = g.S.Store.disk c.args.store.now in
     let mid = g.S.Store.disk c.begin_batch.new.store in
     let new = g.S.Store.disk c.read_batch.new.store in
-    let told = c.in_ok-begin_batch.ensures.serves.tells tells in
-    subst (λ (image : Image). CellsAreSealed c.args.run.now.sealer c.begin_batch.new.sealer old.cells image) (sym (cells_same mid new told c.read_batch.ensures.keeps)) (c.in_ok-begin_batch.ensures.sealed tells)
+    let told = c.in-Ok.ensures.serves.tells tells in
+    subst (λ (image : Image). CellsAreSealed c.args.run.now.sealer c.begin_batch.new.sealer old.cells image) (sym (cells_same mid new told c.read_batch.ensures.keeps)) (c.in-Ok.ensures.sealed tells)
 
 pub returns-clause-scheduled : goal.returns-clause-scheduled
 returns-clause-scheduled g c =
@@ -439,51 +404,31 @@ returns-clause-onward g c = λ content rs was many.
     let run = c.args.run.now in
     let p = c.args.run.now.params in
     let r = record_next c.args.run.now c.args.asks.now (words_since (g.T.Tape.drawn c.args.tape.now) (g.T.Tape.drawn c.begin_batch.new.tape)) in
-    plans_as (ap (λ (x : Sealing). x.generation) c.in_ok-begin_batch.ensures.seals.all) p run.gates c.read_batch.new.ring content (rs ++ r ∷ [])
+    plans_as c.in-Ok.ensures.seals.some.generation p run.gates c.read_batch.new.ring content (rs ++ r ∷ [])
     (plans_more p run.sealer.generation run.gates run.ring content rs r (next_batch run) was many (batch_room run c.requires.some_left c.requires.ready.few) c.begin_batch.ensures.obeys c.read_batch.new.ring (omega arith) (returns-clause-moves g c))
 
 pub returns-clause-stands : goal.returns-clause-stands
 returns-clause-stands g c =
     let run = c.args.run.now in
-    let p = c.args.run.now.params in
-    let keys = c.args.run.now.sealer.keys in
+    let p = run.params in
     let old = g.S.Store.disk c.args.store.now in
     let mid = g.S.Store.disk c.begin_batch.new.store in
     let new = g.S.Store.disk c.read_batch.new.store in
     let words = words_since (g.T.Tape.drawn c.args.tape.now) (g.T.Tape.drawn c.begin_batch.new.tape) in
-    let r = record_next c.args.run.now c.args.asks.now (words_since (g.T.Tape.drawn c.args.tape.now) (g.T.Tape.drawn c.begin_batch.new.tape)) in
-    let base = log_cell p (suc run.epoch % 2) (next_batch run) 0 in
-    let ks = ap (λ (x : Sealing). x.keys) c.in_ok-begin_batch.ensures.seals.all in
-    let gs = ap (λ (x : ℕ × ℕ). x.0) c.next.ensures.identity ∙ ap (λ (x : Sealing). x.generation) c.in_ok-begin_batch.ensures.seals.all in
-    let ws = c.front.ensures ∙ c.begin_batch.ensures.words in
-    let within = within_next run old mid c.begin_batch.ensures.within in
+    let r = record_next run c.args.asks.now words in
+    let ks = c.in-Ok.ensures.seals.some.keys in
+    let generation = c.in-Ok.ensures.seals.some.generation in
     λ s was.
-    let told = c.in_ok-begin_batch.ensures.serves.tells was.tells in
-    let written = subst (λ (image : Image). HoldsRecord keys p (suc run.epoch) (next_batch run) r image) (sym (cells_same mid new told c.read_batch.ensures.keeps))
-    (subst (λ (e : ℕ). HoldsRecord keys p e (next_batch run) r mid.cells) (next_is run.epoch) (c.in_ok-begin_batch.ensures.written was.tells)) in
-    let start = record (buckets_of p s.content) { order = run.ring.metas.order } in
-    let t = table_after_records p (flat_of p s.content) s.records in
-    let seals = seals_listed (buckets_of p s.content) run.ring was.runs.planner.seals in
-    let stands = stands_listed run.ring t was.runs.planner.table in
-    let begun : Begun run r old new = (record {
-      some = c.requires.some_left;
-      few = c.requires.ready.few;
-      is = refl;
-      obeys = c.begin_batch.ensures.obeys;
-      within = (within_then base (record_cells p + 1) old mid new (λ tells. c.in_ok-begin_batch.ensures.serves.tells tells) within c.read_batch.ensures.keeps c.read_batch.ensures.passes).rest was.tells;
-    }) in
-    let value = subst (λ (image : Image). FetchAnswers keys p start.versions image t r run.ring.stash.rows c.read_batch.new.ring.stash.rows (Ok tt)) (sym (cells_same mid new told c.read_batch.ensures.keeps))
-    (answers_as ks c.requires.ready.params gs ws (next_batch run) run.sealer.next run.drawn c.args.asks.now start.versions mid.cells t run.ring.stash.rows c.read_batch.new.ring.stash.rows (Ok tt) (c.in-Ok.ensures.value (next_batch run) run.sealer.next start t seals stands told)) in
-    let e = c.read_batch.ensures in
-    let moves = moves_as ks c.requires.ready.params gs ws (next_batch run) run.sealer.next run.drawn c.args.asks.now run.ring c.read_batch.new.ring
-    (record { kept = e.kept; room = e.room; entries = λ k. e.entries (next_batch run) run.sealer.next k; seals = e.seals; table = λ t stands. e.table (next_batch run) run.sealer.next t stands }) in
-    let generation = ap (λ (x : Sealing). x.generation) c.in_ok-begin_batch.ensures.seals.all in (
+    let told = c.in-Ok.ensures.serves.tells was.tells in
+    let written = written_still run.sealer.keys p run.epoch (next_batch run) r mid new told c.read_batch.ensures.keeps (c.in-Ok.ensures.written was.tells) in
+    let begun = begun_now run c.args.asks.now words old new c.requires.some_left c.requires.ready.few c.begin_batch.ensures.obeys (returns-clause-within g c) was.tells in
+    let value = value_stood run s old was new.cells r c.read_batch.new.ring.stash.rows (Ok tt) (returns-clause-value g c) in (
       record {
-        tells = c.in-Ok.ensures.serves.tells told;
-        settled = settled_then mid new told (c.in_ok-begin_batch.ensures.durable was.tells) e.keeps e.passes;
+        tells = c.in-Ok-read_batch.ensures.serves.tells told;
+        settled = returns-clause-durable g c was.tells;
         stands = stands_as ks refl (with_record s r) new.cells (stands_then run s r old new was begun written);
         runs = runs_as ks refl refl generation (run.left - 1) c.read_batch.new.ring (with_record s r) new.cells
-            (runs_next run s r old new was begun written c.read_batch.new.ring (run.left - 1) (omega (arith, c.requires.some_left)) moves value);
+            (runs_next run s r old new was begun written c.read_batch.new.ring (run.left - 1) (omega (arith, c.requires.some_left)) (returns-clause-moves g c) value);
       },
       subst (λ (o : List (Option (List ℕ))). AreMapValues s.map c.args.asks.now o) (sym (c.answer_all.ensures ∙ ap (λ (st : Held). values_asked st.rows c.args.asks.now) c.tables.ensures.stash))
           (answers_then run s r old new was begun written c.read_batch.new.ring.stash.rows value),
@@ -497,33 +442,114 @@ returns-clause-images g c =
     let old = g.S.Store.disk c.args.store.now in
     let mid = g.S.Store.disk c.begin_batch.new.store in
     let new = g.S.Store.disk c.read_batch.new.store in
-    let r = record_next c.args.run.now c.args.asks.now (words_since (g.T.Tape.drawn c.args.tape.now) (g.T.Tape.drawn c.begin_batch.new.tape)) in
+    let words = words_since (g.T.Tape.drawn c.args.tape.now) (g.T.Tape.drawn c.begin_batch.new.tape) in
+    let r = record_next run c.args.asks.now words in
     λ s was.
     leaves_read (OneOf keys p s (with_record s r)) old mid new (g.met.S.Store.only_now c.begin_batch.new.store) (g.met.S.Store.counts_now c.begin_batch.new.store)
-    (begun_leaves run s r old mid was (record { some = c.requires.some_left; few = c.requires.ready.few; is = refl; obeys = c.begin_batch.ensures.obeys; within = (within_next run old mid c.begin_batch.ensures.within).rest was.tells })
+    (begun_leaves run s r old mid was (begun_now run c.args.asks.now words old mid c.requires.some_left c.requires.ready.few c.begin_batch.ensures.obeys (within_next run old mid c.begin_batch.ensures.within) was.tells)
     (g.met.S.Store.only_now c.args.store.now) c.begin_batch.ensures.within c.begin_batch.ensures.images) c.read_batch.ensures.passes
 
-pub returns-in_err-begin_batch-clause-does : goal.returns-in_err-begin_batch-clause-does
-returns-in_err-begin_batch-clause-does g c =
+pub returns-in-Err-clause-does : goal.returns-in-Err-clause-does
+returns-in-Err-clause-does g c =
     let run = c.args.run.now in
     let p = run.params in
     let mid = g.S.Store.disk c.begin_batch.new.store in
     let r = record_next run c.args.asks.now (words_since (g.T.Tape.drawn c.args.tape.now) (g.T.Tape.drawn c.begin_batch.new.tape)) in
-    let exit = err_from_is_err_and c.from_residual.result c.from_residual.ensures.1 in
-    let refused : c.from_residual.result ≡ Err (StoreFault None) = exit.1 ∙ ap Err (exit.2 ∙ c.in_err-begin_batch.ensures.faults) in
+    let refused : Err c.in-Err.fault ≡ Err (StoreFault None) = ap Err c.in-Err.ensures.faults in
     let first = subst (λ (e : ℕ). TellsFirst (append_notes p e (next_batch run)) (g.S.Store.disk c.args.store.now).seen mid.seen (g.W.Watch.trace c.args.watch.now) (g.W.Watch.trace c.begin_batch.new.watch)) (next_is run.epoch)
-    c.in_err-begin_batch.ensures.does.first in
+    c.in-Err.ensures.does.first in
     λ start t seals stands.
     subst
     (λ (x : Result (Unit {0}) Fault). FetchDoes g.S.Store.disk c.args.crew.now.lanes run.sealer.keys p (suc run.epoch) r (batch_cells p start.versions t (asked_of_record p r)) (repeated_notes p start.versions t (asked_of_record p r)) c.args.store.now c.begin_batch.new.store
     (g.W.Watch.trace c.args.watch.now) (g.W.Watch.trace c.begin_batch.new.watch) x) (sym refused) (inl first)
 
-pub returns-in_err-begin_batch-clause-stands : goal.returns-in_err-begin_batch-clause-stands
-returns-in_err-begin_batch-clause-stands g c =
+pub returns-in-Err-clause-stands : goal.returns-in-Err-clause-stands
+returns-in-Err-clause-stands g c =
     let run = c.args.run.now in
     let p = run.params in
     let mid = g.S.Store.disk c.begin_batch.new.store in
     let r = record_next run c.args.asks.now (words_since (g.T.Tape.drawn c.args.tape.now) (g.T.Tape.drawn c.begin_batch.new.tape)) in
-    let exit = err_from_is_err_and c.from_residual.result c.from_residual.ensures.1 in
-    let refused : c.from_residual.result ≡ Err (StoreFault None) = exit.1 ∙ ap Err (exit.2 ∙ c.in_err-begin_batch.ensures.faults) in
+    let refused : Err c.in-Err.fault ≡ Err (StoreFault None) = ap Err c.in-Err.ensures.faults in
     λ s was. subst (λ (x : Result (Unit {0}) Fault). FetchStands s r c.args.asks.now mid (record run { sealer = c.begin_batch.new.sealer; drawn = run.drawn + p.places; spent = true; words = c.begin_batch.new.words }) c.args.out.now x) (sym refused) tt
+
+-- ---- the batch may be begun
+
+pub begin_batch-requires-clause-none_out : goal.begin_batch-requires-clause-none_out
+begin_batch-requires-clause-none_out g c = c.requires.none_out
+
+pub begin_batch-requires-clause-batch : goal.begin_batch-requires-clause-batch
+begin_batch-requires-clause-batch g c = batch_room c.args.run.now c.requires.some_left c.requires.ready.few
+
+pub begin_batch-requires-clause-epoch : goal.begin_batch-requires-clause-epoch
+begin_batch-requires-clause-epoch g c = omega (arith, c.requires.ready.small)
+
+pub begin_batch-requires-clause-generation : goal.begin_batch-requires-clause-generation
+begin_batch-requires-clause-generation g c = c.requires.ready.generation
+
+pub begin_batch-requires-clause-first : goal.begin_batch-requires-clause-first
+begin_batch-requires-clause-first g c = c.requires.drawn
+
+pub begin_batch-requires-clause-words_left : goal.begin_batch-requires-clause-words_left
+begin_batch-requires-clause-words_left g c = (left_for c.args.run.now _ c.if-is_worn.false c.is_worn.ensures).0
+
+pub begin_batch-requires-clause-seals_left : goal.begin_batch-requires-clause-seals_left
+begin_batch-requires-clause-seals_left g c = (left_for c.args.run.now _ c.if-is_worn.false c.is_worn.ensures).1
+
+pub begin_batch-requires-clause-room : goal.begin_batch-requires-clause-room
+begin_batch-requires-clause-room g c = c.requires.ready.words
+
+pub begin_batch-requires-clause-asks : goal.begin_batch-requires-clause-asks
+begin_batch-requires-clause-asks g c = c.requires.whole
+
+-- ---- what stays
+
+pub returns-then-is_worn-clause-worn : goal.returns-then-is_worn-clause-worn
+returns-then-is_worn-clause-worn g c = ((λ worn. worn_for c.args.run.now _ c.if-is_worn.true c.is_worn.ensures), (λ worn. tt))
+
+pub returns-in-Err-clause-generation : goal.returns-in-Err-clause-generation
+returns-in-Err-clause-generation g c = c.begin_batch.ensures.same
+
+pub returns-in-Err-clause-words : goal.returns-in-Err-clause-words
+returns-in-Err-clause-words g c = c.begin_batch.ensures.room
+
+pub returns-in-Err-read_batch-clause-generation : goal.returns-in-Err-read_batch-clause-generation
+returns-in-Err-read_batch-clause-generation g c = c.begin_batch.ensures.same
+
+pub returns-in-Err-read_batch-clause-seals : goal.returns-in-Err-read_batch-clause-seals
+returns-in-Err-read_batch-clause-seals g c = record { all = tt; some = c.in-Ok.ensures.seals.some }
+
+pub returns-in-Err-read_batch-clause-words : goal.returns-in-Err-read_batch-clause-words
+returns-in-Err-read_batch-clause-words g c = c.begin_batch.ensures.room
+
+pub returns-in-Err-read_batch-clause-crew : goal.returns-in-Err-read_batch-clause-crew
+returns-in-Err-read_batch-clause-crew g c = c.read_batch.ensures.crew
+
+pub returns-clause-generation : goal.returns-clause-generation
+returns-clause-generation g c = c.begin_batch.ensures.same
+
+pub returns-clause-seals : goal.returns-clause-seals
+returns-clause-seals g c = c.in-Ok.ensures.seals
+
+pub returns-clause-crew : goal.returns-clause-crew
+returns-clause-crew g c = c.read_batch.ensures.crew
+
+pub returns-then-is_worn-clause-kept : goal.returns-then-is_worn-clause-kept
+returns-then-is_worn-clause-kept g c = refl
+
+pub returns-then-is_worn-clause-idle : goal.returns-then-is_worn-clause-idle
+returns-then-is_worn-clause-idle g c = λ worn. (refl, refl, refl, refl)
+
+pub returns-in-Err-clause-kept : goal.returns-in-Err-clause-kept
+returns-in-Err-clause-kept g c = refl
+
+pub returns-in-Err-read_batch-clause-kept : goal.returns-in-Err-read_batch-clause-kept
+returns-in-Err-read_batch-clause-kept g c = refl
+
+pub returns-in-Err-read_batch-clause-refused : goal.returns-in-Err-read_batch-clause-refused
+returns-in-Err-read_batch-clause-refused g c = (refl, refl, refl)
+
+pub returns-clause-kept : goal.returns-clause-kept
+returns-clause-kept g c = refl
+
+pub returns-clause-idle : goal.returns-clause-idle
+returns-clause-idle g c = λ worn. absurd worn

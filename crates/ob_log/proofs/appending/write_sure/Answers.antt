@@ -1,5 +1,7 @@
+use Rattle.std.proofs.Common.{[], ◌∷◌, ◌++◌}
+use Rattle.ob_store.specs.declared.watch.Note.TheVariants.{Sync}
 use Rattle.ob_store.specs.Runs.{write_notes}
-use Rattle.ob_store.proofs.Doing.{does_sync}
+use Rattle.ob_store.proofs.Doing.{does_refused, does_sync, first_more}
 use Rattle.ob_cells.proofs.Written.{refused_run, run_synced}
 use Rattle.std.proofs.lemmas.Result.{IfOk-from_err}
 use Rattle.ob_store.specs.Calls.{IsFailed}
@@ -19,6 +21,11 @@ returns-clause-run g c =
     let e = c.sync_noted.ensures in
     run_synced c.args.base c.args.many (g.P.Pieces.plain c.args.pieces.now) c.args.sealer.now c.write_sealed.new.sealer (g.S.Store.disk c.args.store.now) mid (g.S.Store.disk c.sync_noted.new.store) c.sync_noted.result
     c.in_ok-write_sealed.ensures.run c.in_ok-write_sealed.ensures.serves.tells e.keeps e.serves.goes.later e.time e.crash
+
+pub returns-in_err-write_sealed-clause-does : goal.returns-in_err-write_sealed-clause-does
+returns-in_err-write_sealed-clause-does g c =
+    let notes = write_notes c.args.base c.args.many in
+    does_refused _ _ _ _ (notes ++ Sync ∷ []) c.from_residual.result c.from_residual.ensures.0 (first_more _ _ _ _ notes (Sync ∷ []) c.in_err-write_sealed.ensures.does.first)
 
 pub returns-clause-does : goal.returns-clause-does
 returns-clause-does g c = does_sync _ _ _ _ _ _ (write_notes c.args.base c.args.many) c.sync_noted.result c.in_ok-write_sealed.ensures.does.all c.sync_noted.ensures.told

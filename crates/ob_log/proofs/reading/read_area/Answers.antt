@@ -1,6 +1,10 @@
-use Rattle.std.proofs.Common.{Err, arith, sym, subst}
+use Rattle.std.proofs.Common.{Err, length, arith, sym, subst}
+use Rattle.ob_base.specs.declared.fault.Fault.{Fault}
 use Rattle.ob_base.proofs.Bounds.{cells_le}
-use Rattle.ob_log.specs.Reads.{AreRecordsRead}
+use Rattle.ob_store.specs.Told.{Does}
+use Rattle.ob_cells.specs.Orders.{reads_end}
+use Rattle.ob_log.specs.Reads.{AreRecordsRead, area_notes}
+use Rattle.ob_log.proofs.AreaReads.{area_read, area_cut}
 use Rattle.ob_log.proofs.Fitting.{accepted_fit, image_of, image_holds}
 use Rattle.ob_log.proofs.Opens.{area_few}
 use Rattle.ob_store.specs.Calls.{IsFailed, IsStoreFault}
@@ -42,3 +46,19 @@ pub returns-in-Err-open_records-clause-serves : goal.returns-in-Err-open_records
 returns-in-Err-open_records-clause-serves g c =
     let read = c.read_cells.ensures.serves in
     record { goes = read.goes; out = read.out; tells = tt; cause = λ blamed. absurd (subst IsStoreFault c.from.ensures blamed) }
+
+-- ---- what is told of the reads
+
+pub returns-in-Err-clause-does : goal.returns-in-Err-clause-does
+returns-in-Err-clause-does g c = area_cut c.args.p.now c.args.epoch c.log_cell-base.result (length c.args.cells.now) c.log_cell-base.ensures.cell c.requires.area _ _ _ _ c.in-Err.ensures.does.first
+
+pub returns-in-Ok-open_records-clause-does : goal.returns-in-Ok-open_records-clause-does
+returns-in-Ok-open_records-clause-does g c = area_read c.args.p.now c.args.epoch c.log_cell-base.result (length c.args.cells.now) c.log_cell-base.ensures.cell c.requires.area _ _ _ _ c.in-Ok.ensures.does.all
+
+pub returns-in-Err-open_records-clause-does : goal.returns-in-Err-open_records-clause-does
+returns-in-Err-open_records-clause-does g c =
+    let notes = area_notes c.args.p.now c.args.epoch in
+    let old = (g.S.Store.disk c.args.store.now).seen in
+    let new = (g.S.Store.disk c.read_cells.new.store).seen in
+    subst (λ (f : Fault). Does {T = Unit {0}} {E = Fault} notes old new (g.W.Watch.trace c.args.watch.now) (g.W.Watch.trace c.read_cells.new.watch) (reads_end f)) (sym c.from.ensures)
+    (area_read c.args.p.now c.args.epoch c.log_cell-base.result (length c.args.cells.now) c.log_cell-base.ensures.cell c.requires.area _ _ _ _ c.in-Ok.ensures.does.all)

@@ -1,7 +1,10 @@
+use Rattle.std.proofs.Common.{◌≢◌, List, Result, IfErr, refl, subst}
+use Rattle.ob_base.specs.declared.fault.Fault.{Fault}
 use Rattle.ob_base.specs.declared.fault.Fault.TheVariants.{Memory}
 use Rattle.ob_store.proofs.Doing.{does_err}
 use Rattle.ob_store.proofs.Events.{none_noted}
 use Rattle.ob_store.proofs.Lanes.{first_none}
+use Rattle.ob_log.specs.Logs.{BatchRecord}
 use Rattle.ob_log.specs.Reads.{area_notes}
 use Rattle.ob_log.proofs.Accepting.{accepted_back}
 use Rattle.ob_log.proofs.ReadBack.{read_back}
@@ -41,3 +44,6 @@ returns-in-Err-blank_cells-clause-keeps g c = keeps_none (g.S.Store.disk c.args.
 
 pub returns-in-Err-blank_cells-clause-passes : goal.returns-in-Err-blank_cells-clause-passes
 returns-in-Err-blank_cells-clause-passes g c = same_none (g.S.Store.disk c.args.store.now)
+
+pub returns-clause-memory : goal.returns-clause-memory
+returns-clause-memory g c = λ is. absurd (subst (λ (r : Result (List BatchRecord) Fault). IfErr r (λ told. told ≢ Memory)) is c.read_area.ensures.no_memory refl)

@@ -1,4 +1,6 @@
 use Rattle.std.proofs.Common.{◌-◌, set, sym, ap, ◌∙◌}
+use Rattle.std.proofs.lemmas.List.{set-get_or}
+use Rattle.std.proofs.lemmas.Result.{on_ok_weaker, on_err_weaker}
 use Rattle.ob_order.specs.Works as works
 use Rattle.ob_order.proofs.Tidies.{edit_set_before}
 use Rattle.ob_order.proofs.work.make_wait.Goals as goal
@@ -6,5 +8,12 @@ use Rattle.ob_order.proofs.work.make_wait.Goals as goal
 pub returns-clause-ok : goal.returns-clause-ok
 returns-clause-ok c =
     let items = c.args.list.now.items in
-    ap (λ (w : works.Work). set items (c.args.t - 1) w) c.in_ok-wait_for.ensures.ok
-    ∙ sym (edit_set_before (works.wait_for c.args.key) items c.args.t c.index_mut.result.now c.requires.t_in.0 c.requires.t_in.1 c.index_mut.ensures.value)
+    on_ok_weaker c.wait_for.result (λ told. ap (λ (w : works.Work). set items (c.args.t - 1) w) told
+    ∙ sym (edit_set_before (works.wait_for c.args.key) items c.args.t c.index_mut.result.now c.requires.t_in.0 c.requires.t_in.1 c.index_mut.ensures.value))
+    c.wait_for.ensures.ok
+
+pub returns-clause-err : goal.returns-clause-err
+returns-clause-err c =
+    let items = c.args.list.now.items in
+    on_err_weaker c.wait_for.result (λ told. ap (λ (w : works.Work). set items (c.args.t - 1) w) (told ∙ c.index_mut.ensures.value) ∙ set-get_or items (c.args.t - 1) c.index_mut.result.now)
+    c.wait_for.ensures.err

@@ -1,5 +1,6 @@
-use Rattle.std.proofs.Common.{◌-◌, set, sym, ap, ◌∙◌}
+use Rattle.std.proofs.Common.{is_some, ◌-◌, set, sym, ap, ◌∙◌}
 use Rattle.ob_order.specs.Works as works
+use Rattle.ob_order.proofs.Steps.{waits_before}
 use Rattle.ob_order.proofs.Tidies.{edit_set_before}
 use Rattle.ob_order.proofs.work.set_waiting.Goals as goal
 
@@ -8,3 +9,6 @@ returns c =
     let items = c.args.list.now.items in
     ap (λ (w : works.Work). set items (c.args.t - 1) w) c.wait_as.ensures
     ∙ sym (edit_set_before (works.with_waiting c.args.waiting) items c.args.t c.index_mut.result.now c.requires.t_in.0 c.requires.t_in.1 c.index_mut.ensures.value)
+
+pub wait_as-requires : goal.wait_as-requires
+wait_as-requires c = let r = c.requires.t_in in ap is_some (sym (waits_before c.args.list.now.items c.args.t c.index_mut.result.now r.0 r.1 c.index_mut.ensures.value)) ∙ c.requires.waits

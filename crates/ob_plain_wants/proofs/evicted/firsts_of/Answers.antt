@@ -1,8 +1,16 @@
 use Rattle.std.specs.Prelude.{cond}
 use Rattle.std.proofs.Common.{List, ℕ, [], ◌∷◌, ◌++◌, get_or, ◌∙◌, sym, ap, arith}
+use Rattle.std.proofs.lemmas.List.{take_all}
 use Rattle.ob_schedule.specs.Paths.{is_one_of}
+use Rattle.ob_schedule.specs.Holes.{firsts}
 use Rattle.ob_plain_wants.proofs.Firsts.{firsts_more}
 use Rattle.ob_plain_wants.proofs.evicted.firsts_of.Goals as goal
+
+pub loop-u-init : goal.loop-u-init
+loop-u-init c = c.new-out.ensures.items
+
+pub returns : goal.returns
+returns c = c.loop-u.invariant ∙ ap firsts (take_all c.loop-u.u-index c.args.list.now (omega (arith, c.loop-u-test.false)))
 
 pub loop-u-preserved : goal.loop-u-preserved
 loop-u-preserved c =

@@ -1,12 +1,13 @@
-use Rattle.std.specs.Prelude.{Bool, false, slice_index_or}
-use Rattle.std.proofs.Common.{◌∙◌, List, ap, arith}
-use Rattle.ob_base.specs.Tree.{buckets}
+use Rattle.std.specs.Prelude.{◌<◌, Bool, false, slice_index_or}
+use Rattle.std.proofs.Common.{◌∙◌, List, length, ap, arith}
+use Rattle.std.proofs.lemmas.List.{length-replicate, get_or-replicate}
 use Rattle.ob_plain_wants.proofs.TotalLaws.{in_place}
-use Rattle.ob_plain_wants.proofs.Within.{told_at, as_many}
 use Rattle.ob_plain_wants.proofs.marks.marks_of.Goals as goal
 
 pub returns : goal.returns
 returns c = λ u lt.
-    (let old = c.deref_mut.ensures.value ∙ c.in_ok-marks.ensures in
+    (let n = c.buckets.result in
+    let none = c.deref_mut.ensures.value ∙ c.in_ok-marks.ensures.items_if_clones_equal (λ y one. one) in
+    let within : u < n = omega (arith, lt, c.buckets.ensures.buckets) in
     ap (λ (ms : List Bool). slice_index_or ms u false) (in_place c.mark_all.new.marks _ _ (omega (arith, c.mark_all.ensures.same)))
-    ∙ c.mark_all.ensures.more u (omega (arith, lt, as_many (λ v. false) _ (buckets c.args.p.now) old)) (told_at (λ v. false) _ (buckets c.args.p.now) u false old lt))
+    ∙ c.mark_all.ensures.more u (omega (arith, within, ap (λ (ms : List Bool). length ms) none, length-replicate n false)) (ap (λ (ms : List Bool). slice_index_or ms u false) none ∙ get_or-replicate n u false false within))

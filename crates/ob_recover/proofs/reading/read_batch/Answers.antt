@@ -9,9 +9,9 @@ use Rattle.ob_ring.specs.Settling.{rows_after}
 use Rattle.ob_recover.specs.Repeats.{BatchAnswers, BatchTells, asked_of_record, batch_cells, repeated_notes, IsRepeatFault}
 use Rattle.ob_recover.proofs.FitLaws.{fit_settled}
 use Rattle.ob_recover.proofs.ShowLaws.{are_placed}
-use Rattle.ob_recover.proofs.BatchLaws.{batch_few, batch_tells, keys_low, not_settled, rows_join, settled_badly, settled_well, stands_kept}
+use Rattle.ob_recover.proofs.BatchLaws.{batch_few, batch_tells, kept_planned, kept_settled, keys_low, not_settled, rows_join, settled_badly, settled_well, stands_kept}
 use Rattle.ob_recover.specs.Repeats.{record_of}
-use Rattle.ob_bucket.specs.Buckets.{Buckets}
+use Rattle.ob_tables.specs.Buckets.{Buckets}
 use Rattle.ob_store.specs.Calls.{IsStoreFault, Serves}
 use Rattle.ob_recover.proofs.reading.read_batch.Goals as goal
 
@@ -155,3 +155,58 @@ returns-in-Err-clause-seals g c = c.plan.ensures.seals
 
 pub returns-in-Err-clause-entries : goal.returns-in-Err-clause-entries
 returns-in-Err-clause-entries g c = c.plan.ensures.entries
+
+-- ---- the batch may be planned
+
+pub plan-requires-clause-asks : goal.plan-requires-clause-asks
+plan-requires-clause-asks g c = c.requires.asks
+
+pub plan-requires-clause-words : goal.plan-requires-clause-words
+plan-requires-clause-words g c = c.requires.words
+
+pub plan-requires-clause-keys_low : goal.plan-requires-clause-keys_low
+plan-requires-clause-keys_low g c = c.requires.keys_low
+
+pub plan-requires-clause-jobs : goal.plan-requires-clause-jobs
+plan-requires-clause-jobs g c = c.requires.jobs
+
+-- ---- what stays
+
+pub returns-in-Err-clause-keeps : goal.returns-in-Err-clause-keeps
+returns-in-Err-clause-keeps g c = c.read_jobs.ensures.keeps
+
+pub returns-in-Err-clause-passes : goal.returns-in-Err-clause-passes
+returns-in-Err-clause-passes g c = c.read_jobs.ensures.passes
+
+pub returns-in-Err-clause-crew : goal.returns-in-Err-clause-crew
+returns-in-Err-clause-crew g c = c.read_jobs.ensures.crew
+
+pub returns-in-Ok-settle-clause-keeps : goal.returns-in-Ok-settle-clause-keeps
+returns-in-Ok-settle-clause-keeps g c = c.read_jobs.ensures.keeps
+
+pub returns-in-Ok-settle-clause-passes : goal.returns-in-Ok-settle-clause-passes
+returns-in-Ok-settle-clause-passes g c = c.read_jobs.ensures.passes
+
+pub returns-in-Ok-settle-clause-crew : goal.returns-in-Ok-settle-clause-crew
+returns-in-Ok-settle-clause-crew g c = c.read_jobs.ensures.crew
+
+pub returns-in-Err-settle-clause-keeps : goal.returns-in-Err-settle-clause-keeps
+returns-in-Err-settle-clause-keeps g c = c.read_jobs.ensures.keeps
+
+pub returns-in-Err-settle-clause-passes : goal.returns-in-Err-settle-clause-passes
+returns-in-Err-settle-clause-passes g c = c.read_jobs.ensures.passes
+
+pub returns-in-Err-settle-clause-crew : goal.returns-in-Err-settle-clause-crew
+returns-in-Err-settle-clause-crew g c = c.read_jobs.ensures.crew
+
+pub returns-in-Err-clause-kept : goal.returns-in-Err-clause-kept
+returns-in-Err-clause-kept g c = kept_planned c.args.ring.now c.plan.new.ring c.plan.ensures.kept
+
+pub returns-in-Err-clause-room : goal.returns-in-Err-clause-room
+returns-in-Err-clause-room g c = ap (λ (r : Kept). (r.stash).room) c.plan.ensures.kept
+
+pub returns-in-Ok-settle-clause-kept : goal.returns-in-Ok-settle-clause-kept
+returns-in-Ok-settle-clause-kept g c = kept_settled c.args.ring.now c.plan.new.ring c.settle.new.self c.plan.ensures.kept c.in-Ok-settle.ensures.kept
+
+pub returns-in-Err-settle-clause-kept : goal.returns-in-Err-settle-clause-kept
+returns-in-Err-settle-clause-kept g c = kept_settled c.args.ring.now c.plan.new.ring c.settle.new.self c.plan.ensures.kept c.in-Err-settle.ensures.kept

@@ -4,8 +4,8 @@ use Rattle.ob_base.specs.Causes.{Rose}
 use Rattle.ob_base.specs.declared.fault.Fault.TheVariants.{StoreFault}
 use Rattle.ob_base.specs.Planned.{Planned}
 use Rattle.ob_base.specs.declared.job.Job.{Job}
-use Rattle.ob_batch.specs.declared.error.JobsErr.{JobsErr}
-use Rattle.ob_batch.specs.Jobs.{AreJobsAnswered, AreSeen, IsBlamed, IsJobsErr}
+use Rattle.ob_cells.specs.declared.error.JobsErr.{JobsErr}
+use Rattle.ob_cells.specs.Jobs.{AreJobsAnswered, AreSeen, IsBlamed, IsJobsErr}
 use Rattle.ob_store.specs.Calls.{IsStoreFault}
 use Rattle.ob_store.specs.Lines.{Shows}
 use Rattle.ob_store.proofs.Serving.{serves_ok}
@@ -89,3 +89,44 @@ returns-in-Err-Job-clause-keys g c = kept_keys _ _ c.run_jobs.result c.run_jobs.
 
 pub returns-in-Ok-clause-filled : goal.returns-in-Ok-clause-filled
 returns-in-Ok-clause-filled g c = c.in-Ok.ensures.kept
+
+-- ---- what stays
+
+pub returns-in-Ok-clause-rest : goal.returns-in-Ok-clause-rest
+returns-in-Ok-clause-rest g c = c.run_jobs.ensures.rest
+
+pub returns-in-Ok-clause-crew : goal.returns-in-Ok-clause-crew
+returns-in-Ok-clause-crew g c = c.run_jobs.ensures.crew
+
+pub returns-in-Ok-clause-keeps : goal.returns-in-Ok-clause-keeps
+returns-in-Ok-clause-keeps g c = c.run_jobs.ensures.keeps
+
+pub returns-in-Ok-clause-passes : goal.returns-in-Ok-clause-passes
+returns-in-Ok-clause-passes g c = c.run_jobs.ensures.passes
+
+pub returns-in-Err-NotBegun-clause-rest : goal.returns-in-Err-NotBegun-clause-rest
+returns-in-Err-NotBegun-clause-rest g c = c.run_jobs.ensures.rest
+
+pub returns-in-Err-NotBegun-clause-crew : goal.returns-in-Err-NotBegun-clause-crew
+returns-in-Err-NotBegun-clause-crew g c = c.run_jobs.ensures.crew
+
+pub returns-in-Err-NotBegun-clause-keeps : goal.returns-in-Err-NotBegun-clause-keeps
+returns-in-Err-NotBegun-clause-keeps g c = c.run_jobs.ensures.keeps
+
+pub returns-in-Err-NotBegun-clause-passes : goal.returns-in-Err-NotBegun-clause-passes
+returns-in-Err-NotBegun-clause-passes g c = c.run_jobs.ensures.passes
+
+pub returns-in-Err-Job-clause-rest : goal.returns-in-Err-Job-clause-rest
+returns-in-Err-Job-clause-rest g c = c.run_jobs.ensures.rest
+
+pub returns-in-Err-Job-clause-crew : goal.returns-in-Err-Job-clause-crew
+returns-in-Err-Job-clause-crew g c = c.run_jobs.ensures.crew
+
+pub returns-in-Err-Job-clause-keeps : goal.returns-in-Err-Job-clause-keeps
+returns-in-Err-Job-clause-keeps g c = c.run_jobs.ensures.keeps
+
+pub returns-in-Err-Job-clause-passes : goal.returns-in-Err-Job-clause-passes
+returns-in-Err-Job-clause-passes g c = c.run_jobs.ensures.passes
+
+pub returns-in-Ok-clause-value : goal.returns-in-Ok-clause-value
+returns-in-Ok-clause-value g c = c.in-Ok.ensures.value

@@ -1,13 +1,13 @@
-use Rattle.std.proofs.Common.{Ok, Err, ◌∙◌, ap, arith, subst, sym, ◌≤◌, refl}
+use Rattle.std.proofs.Common.{Ok, Err, ◌∙◌, ap, arith, length, subst, sym, ◌≤◌, refl}
 use Rattle.ob_base.specs.declared.params.Params.{Params}
-use Rattle.ob_batch.specs.Jobs.{Manned}
+use Rattle.ob_cells.specs.Jobs.{Manned}
 use Rattle.ob_store.specs.Calls.{IsStoreFault}
 use Rattle.ob_store.proofs.Serving.{goes_then, serves_then, goes_same, serves_ok}
 use Rattle.ob_ring.specs.Ring.{Kept}
 use Rattle.ob_recover.proofs.FindLaws.{keeps_both, reads_both}
 use Rattle.ob_log.specs.Logs.{BatchRecord, RecordFits, nothing}
 use Rattle.ob_recover.proofs.ShowLaws.{get_same}
-use Rattle.ob_recover.proofs.ReplayLaws.{OneRepeat, at_record, told_by, refused_does, refused_value, repeated, none_repeated}
+use Rattle.ob_recover.proofs.ReplayLaws.{OneRepeat, at_record, all_read, all_repeated, all_told, told_by, refused_does, refused_value, repeated, none_repeated}
 use Rattle.ob_base.specs.Planned.{most_jobs}
 use Rattle.ob_store.specs.Images.{Same}
 use Rattle.ob_store.proofs.Moments.{passed_none}
@@ -161,3 +161,21 @@ returns-clause-rooms g c = (c.loop-i.invariant.room, c.loop-i.invariant.place_ro
 
 pub returns-clause-fit : goal.returns-clause-fit
 returns-clause-fit g c = c.loop-i.invariant.fit
+
+pub returns-clause-repeated : goal.returns-clause-repeated
+returns-clause-repeated g c =
+    let all : length c.args.records.now ≤ c.loop-i.i = omega (arith, c.loop-i-test.false) in
+    all_repeated c.args.sealer.now.keys c.args.ring.now c.args.crew.now.lanes c.args.records.now c.loop-i.i (g.S.Store.disk c.args.store.now) (g.S.Store.disk c.loop-i.store) (g.W.Watch.trace c.args.watch.now) (g.W.Watch.trace c.loop-i.watch) c.loop-i.ring
+    all c.loop-i.invariant.so_far
+
+pub returns-clause-value : goal.returns-clause-value
+returns-clause-value g c =
+    let all : length c.args.records.now ≤ c.loop-i.i = omega (arith, c.loop-i-test.false) in
+    all_read c.args.sealer.now.keys c.args.ring.now c.args.crew.now.lanes c.args.records.now c.loop-i.i (g.S.Store.disk c.args.store.now) (g.S.Store.disk c.loop-i.store) (g.W.Watch.trace c.args.watch.now) (g.W.Watch.trace c.loop-i.watch) c.loop-i.ring
+    all c.loop-i.invariant.so_far
+
+pub returns-clause-does : goal.returns-clause-does
+returns-clause-does g c =
+    let all : length c.args.records.now ≤ c.loop-i.i = omega (arith, c.loop-i-test.false) in
+    all_told c.args.sealer.now.keys c.args.ring.now c.args.crew.now.lanes c.args.records.now c.loop-i.i (g.S.Store.disk c.args.store.now) (g.S.Store.disk c.loop-i.store) (g.W.Watch.trace c.args.watch.now) (g.W.Watch.trace c.loop-i.watch) c.loop-i.ring
+    all c.loop-i.invariant.so_far

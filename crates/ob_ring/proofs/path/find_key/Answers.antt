@@ -3,8 +3,8 @@ use Rattle.std.specs.Prelude.{◌≡◌, ◌<◌, length}
 use Rattle.std.specs.declared.option.Option.TheVariants.{None, Some}
 use Rattle.std.proofs.lemmas.Bool.{cases_eq}
 use Rattle.ob_base.specs.Tree.{bucket_of}
-use Rattle.ob_bucket.specs.Version.{Version, HasSlots, key_at, live_index}
-use Rattle.ob_bucket.specs.Buckets.{version_at}
+use Rattle.ob_tables.specs.Version.{Version, HasSlots, key_at, live_index}
+use Rattle.ob_tables.specs.Buckets.{version_at}
 use Rattle.ob_ring.proofs.PathLaws.{found_live, none_live}
 use Rattle.ob_ring.proofs.path.find_key.Goals as goal
 
@@ -24,3 +24,6 @@ loop-level-preserved c = λ i j low. elim (cases_eq i c.loop-level.level) [
       λ e. none_live v c.args.key j none (ap (λ (w : ℕ). key_at (version_at c.args.metas.now.versions w) j) (sym here) ∙ e))
   | inr ne ↦ c.loop-level.invariant i j (omega arith)
 ]
+
+pub returns : goal.returns
+returns c = λ i j low. c.loop-level.invariant i j (omega arith)

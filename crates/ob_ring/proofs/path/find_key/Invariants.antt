@@ -1,8 +1,8 @@
 use Rattle.std.specs.Prelude.{◌≢◌, ℕ, ◌<◌}
 use Rattle.std.specs.declared.option.Option.TheVariants.{Some}
 use Rattle.ob_base.specs.Tree.{bucket_of}
-use Rattle.ob_bucket.specs.Version.{key_at}
-use Rattle.ob_bucket.specs.Buckets.{version_at}
+use Rattle.ob_tables.specs.Version.{key_at}
+use Rattle.ob_tables.specs.Buckets.{version_at}
 use Rattle.ob_ring.proofs.path.find_key.Given as goal
 
 abbrev pub invariant-loop-level : goal.invariant-loop-level

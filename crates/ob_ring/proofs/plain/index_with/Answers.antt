@@ -2,7 +2,7 @@ use Rattle.std.proofs.Common.{ℕ, suc, arith, sym, ap, ◌∙◌, length}
 use Rattle.std.specs.Prelude.{◌≡◌, ◌==◌, ◌+◌, slice_index}
 use Rattle.std.specs.List.{find, range_with_len}
 use Rattle.std.proofs.lemmas.Bool.{eq-eqb, ne_eqb}
-use Rattle.ob_bucket.proofs.Counting.{find-range_more, find-range_at}
+use Rattle.ob_tables.proofs.Counting.{find-range_more, find-range_at}
 use Rattle.ob_ring.proofs.plain.index_with.Goals as goal
 
 pub returns-then-ranks-j : goal.returns-then-ranks-j

@@ -1,5 +1,5 @@
 use Rattle.std.specs.Prelude.{◌≡◌, ℕ, ◌<◌, length, None}
-use Rattle.ob_bucket.specs.Version.{Version, key_at}
+use Rattle.ob_tables.specs.Version.{Version, key_at}
 use Rattle.ob_ring.proofs.reads.clear_keys.Given as goal
 
 -- the first n indexes are empty

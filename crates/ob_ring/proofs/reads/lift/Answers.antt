@@ -1,8 +1,8 @@
 use Rattle.std.proofs.Common.{ℕ, List, ◌∙◌, subst, sym, ap, length, take}
 use Rattle.std.specs.Prelude.{◌≡◌, ◌<◌, slice_index}
 use Rattle.ob_base.specs.Tree.{width}
-use Rattle.ob_bucket.specs.Version.{Version}
-use Rattle.ob_bucket.specs.Buckets.{version_at}
+use Rattle.ob_tables.specs.Version.{Version}
+use Rattle.ob_tables.specs.Buckets.{version_at}
 use Rattle.ob_ring.specs.Order.{order_of}
 use Rattle.ob_ring.specs.Picked.{IsEmptied}
 use Rattle.ob_ring.proofs.PlanLaws.{order_low, lifted_plans}

@@ -1,8 +1,8 @@
 use Rattle.std.proofs.Common.{ℕ, arith, ◌∙◌, subst, sym, ap}
 use Rattle.std.specs.Prelude.{◌<◌, ◌≡◌, length}
 use Rattle.ob_base.specs.Tree.{width}
-use Rattle.ob_bucket.specs.Version.{HasSlots}
-use Rattle.ob_bucket.specs.Buckets.{version_at}
+use Rattle.ob_tables.specs.Version.{HasSlots}
+use Rattle.ob_tables.specs.Buckets.{version_at}
 use Rattle.ob_ring.specs.Picked.{shown_of, job_of}
 use Rattle.ob_ring.proofs.PlanLaws.{shown_low, shown_plans}
 use Rattle.ob_ring.proofs.reads.show.Goals as goal

@@ -1,6 +1,6 @@
 use Rattle.std.proofs.Common.{◌∙◌, sym, length}
 use Rattle.std.specs.List.{count_by, range_with_len}
-use Rattle.ob_bucket.specs.Version.{used_at}
+use Rattle.ob_tables.specs.Version.{used_at}
 use Rattle.ob_ring.specs.Picked.{spot_at}
 use Rattle.ob_ring.proofs.PlanLaws.{visit_shows, visit_lifts}
 use Rattle.ob_ring.proofs.reads.visit.Goals as goal

@@ -1,6 +1,6 @@
 use Rattle.std.specs.Prelude.{◌≡◌, ◌≤◌, ℕ, Bool, List, length, take, filter, Option}
 use Rattle.ob_base.specs.declared.params.Params.{Params}
-use Rattle.ob_bucket.specs.Buckets.{Buckets}
+use Rattle.ob_tables.specs.Buckets.{Buckets}
 use Rattle.ob_tables.specs.declared.entry.Entry.{Entry}
 use Rattle.ob_ring.specs.FlatTable.{FlatTable, can_go}
 use Rattle.ob_ring.specs.Sound.{IsSound}

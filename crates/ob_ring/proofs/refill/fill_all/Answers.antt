@@ -1,4 +1,4 @@
-use Rattle.std.proofs.Common.{ℕ, arith, ◌∙◌, ap, subst, length, get_or, take, drop}
+use Rattle.std.proofs.Common.{ℕ, arith, ◌∙◌, ap, subst, length, get_or, take, drop, refl}
 use Rattle.std.specs.Prelude.{◌≡◌, ◌+◌, ◌-◌, ◌*◌}
 use Rattle.ob_ring.specs.Filling.{FillsOne, base_of, words_of}
 use Rattle.ob_ring.proofs.FillAll.{listed_within, fills_more, fills_end}
@@ -18,3 +18,21 @@ loop-i-preserved c =
 
 pub returns : goal.returns
 returns c = record { fills = fills_end c.args.p.now c.args.book.now (c.args.stash.now).rows c.args.metas.now c.loop-i.metas c.args.words.now c.args.first c.loop-i.i (omega (arith, c.loop-i-test.false, c.loop-i.auto.i-end, ap length c.order-i-end.ensures)) c.loop-i.invariant }
+
+pub fill_one-requires-clause-book : goal.fill_one-requires-clause-book
+fill_one-requires-clause-book c = c.requires.book
+
+pub fill_one-requires-clause-whole : goal.fill_one-requires-clause-whole
+fill_one-requires-clause-whole c = c.loop-i.invariant.whole
+
+pub fill_one-requires-clause-low : goal.fill_one-requires-clause-low
+fill_one-requires-clause-low c = c.requires.low
+
+pub loop-i-init : goal.loop-i-init
+loop-i-init c = record {
+  whole = c.requires.whole;
+  anew = record { anew = λ i lt. absurd (omega (arith, lt)); others = λ u no. refl };
+  lifted = refl;
+  order = refl;
+  follows = λ counter t sound has is. is;
+}

@@ -1,6 +1,6 @@
 use Rattle.std.proofs.Common.{refl}
 use Rattle.ob_vault.specs.Formats.{formatted_standing}
-use Rattle.ob_ring_life.proofs.Openings.{formatted_of}
+use Rattle.ob_ring_life.proofs.SealOpenings.{formatted_of}
 use Rattle.ob_ring_life.proofs.acts.begin_life.Goals as goal
 
 pub returns-clause-begins : goal.returns-clause-begins

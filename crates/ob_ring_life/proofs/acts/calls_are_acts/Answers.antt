@@ -1,4 +1,4 @@
-use Rattle.ob_ring_life.proofs.Calls.{is_act}
+use Rattle.ob_ring_life.proofs.SealCalls.{is_act}
 use Rattle.ob_ring_life.proofs.acts.calls_are_acts.Goals as goal
 
 pub returns : goal.returns

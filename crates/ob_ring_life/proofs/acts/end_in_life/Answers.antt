@@ -1,4 +1,4 @@
-use Rattle.ob_ring_life.proofs.Calls.{end_acts, further_of}
+use Rattle.ob_ring_life.proofs.SealCalls.{end_acts, further_of}
 use Rattle.ob_ring_life.proofs.acts.end_in_life.Goals as goal
 
 pub returns-clause-act : goal.returns-clause-act

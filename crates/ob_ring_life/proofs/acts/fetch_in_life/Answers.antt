@@ -1,6 +1,6 @@
 use Rattle.std.proofs.Common.{◌%◌, suc}
 use Rattle.ob_fetch.specs.Fetches.{next_batch}
-use Rattle.ob_ring_life.proofs.Calls.{fetch_acts}
+use Rattle.ob_ring_life.proofs.SealCalls.{fetch_acts}
 use Rattle.ob_ring_life.proofs.acts.fetch_in_life.Goals as goal
 
 pub returns-clause-act : goal.returns-clause-act

@@ -1,4 +1,4 @@
-use Rattle.ob_ring_life.proofs.Openings.{opens_of, unopened_of}
+use Rattle.ob_ring_life.proofs.SealOpenings.{opens_of, unopened_of}
 use Rattle.ob_ring_life.proofs.acts.open_in_life.Goals as goal
 
 pub returns-clause-opens : goal.returns-clause-opens

@@ -1,6 +1,6 @@
 use Rattle.ob_pads.proofs.Chains.{chain_runs}
 use Rattle.ob_serial.specs.VaultKinds.{kind_of}
-use Rattle.ob_ring_life.proofs.Calls.{is_act}
+use Rattle.ob_ring_life.proofs.SealCalls.{is_act}
 use Rattle.ob_ring_life.proofs.acts.ring_chains_are_runs.Goals as goal
 
 pub returns : goal.returns

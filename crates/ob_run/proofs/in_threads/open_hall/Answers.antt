@@ -1,10 +1,16 @@
-use Rattle.ob_hall.proofs.Seating.{few}
-use Rattle.ob_run.proofs.Opening.{taken_off}
+use Rattle.std.proofs.Common.{arith}
+use Rattle.ob_run.proofs.Opening.{taken_off, as_many}
 use Rattle.ob_run.proofs.in_threads.open_hall.Goals as goal
-
-pub make_room-requires : goal.make_room-requires
-make_room-requires g c = record { few = few c.args.clients.now c.requires.opens.3.rising c.requires.opens.3.named }
 
 pub returns-clause-passes : goal.returns-clause-passes
 returns-clause-passes g c =
-    taken_off c.in_ok-hall.hall c.args.clients.now c.in_ok-hall.passes.items c.remove-driver.result c.remove-driver.new.self.items c.in_ok-hall.ensures.passes c.remove-driver.ensures.value c.remove-driver.ensures.items
+    taken_off c.in-Ok-new.hall c.args.clients.now c.in-Ok-new.passes.items c.remove-driver.result c.remove-driver.new.self.items c.in-Ok-new.ensures.passes c.remove-driver.ensures.value c.remove-driver.ensures.items
+
+pub returns-clause-room : goal.returns-clause-room
+returns-clause-room g c =
+    let many = as_many c.in-Ok-new.hall c.args.clients.now c.remove-driver.result c.remove-driver.new.self.items (returns-clause-passes g c) in
+    let old = c.in-Ok-new.passes.ok in
+    let new = c.remove-driver.new.self.ok in
+    let one = c.remove-driver.ensures.len in
+    let kept = c.remove-driver.ensures.capacity in
+    (c.in-Ok.ensures.capacity, omega (arith, many, old.0, old.1, new.0, one, kept))

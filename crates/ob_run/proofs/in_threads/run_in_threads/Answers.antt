@@ -33,9 +33,8 @@ serve_hall-requires-clause-room g c κs within =
     let same = ap length c.requires.clients ∙ length-map c.args.runners.now.items g.U.Runner.client in
     let room = c.in-Ok.ensures.room in
     let clients = room.0 in
-    let runners = room.1 in
-    let passes = room.2 in
-    (omega (arith, same, clients), omega (arith, same, runners), omega (arith, same, passes))
+    let passes = room.1 in
+    (omega (arith, same, clients), omega (arith, same, passes))
 
 pub returns-clause-anchors : goal.returns-clause-anchors
 returns-clause-anchors g c =

@@ -1,4 +1,10 @@
+use Rattle.std.proofs.Common.{ap, arith}
+use Rattle.ob_script.specs.Script.{Scripts}
 use Rattle.ob_serve_tests.proofs.gate.at_gate.Goals as goal
 
 pub returns : goal.returns
-returns c = let e = c.in_ok-runner.ensures in record { named = e.named; below = e.below; unsaid = e.unsaid }
+returns c =
+    let e = c.in_ok-runner.ensures in
+    let keys = ap (λ (s : Scripts). s.keys) c.in_ok-scripts.ensures.script.scripts_are in
+    let bound = e.bound in
+    record { named = e.client; below = omega (arith, bound, keys); unsaid = e.fits }

@@ -1,8 +1,8 @@
-use Rattle.ob_hall.proofs.Trying.{stays_inside, its_txn}
+use Rattle.ob_calls.proofs.Inside.{stays_inside, its_txn}
 use Rattle.ob_serve_tests.proofs.sessions.put.Goals as goal
 
-pub put-done-requires-clause-inside : goal.put-done-requires-clause-inside
-put-done-requires-clause-inside g c = its_txn c.args.pass.now c.requires.inside
+pub put-requires-clause-inside : goal.put-requires-clause-inside
+put-requires-clause-inside g c = its_txn c.args.pass.now c.requires.inside
 
-pub returns-clause-inside : goal.returns-clause-inside
-returns-clause-inside g c = stays_inside c.put-done.result c.args.pass.now c.put-done.new.pass c.put-done.ensures.stands c.requires.inside
+pub returns-in-Some-clause-inside : goal.returns-in-Some-clause-inside
+returns-in-Some-clause-inside g c = stays_inside c.put.result c.args.pass.now c.put.new.pass c.put.ensures.stands c.requires.inside

@@ -1,10 +1,9 @@
-use Rattle.std.proofs.Common.{suc, inl, inr, refl, subst, Result, Ok, arith, Err, ◌+◌, ◌∙◌}
+use Rattle.std.proofs.Common.{suc, inl, inr, None, refl, Ok, arith, Err, ◌+◌, ◌∙◌}
+use Rattle.ob_base.specs.declared.fault.Fault.TheVariants.{StoreFault}
 use Rattle.ob_store.specs.Images.{Same}
 use Rattle.ob_store.proofs.Events.{none_noted}
 use Rattle.ob_store.proofs.Moments.{passed_none}
 use Rattle.ob_store.proofs.Doing.{does_all, does_err, sync_cut}
-use Rattle.ob_store.specs.Told.{Does}
-use Rattle.ob_twin.specs.declared.set_err.SetErr.{SetErr}
 use Rattle.ob_twin.specs.Keyed.{tagging}
 use Rattle.ob_twin.specs.Register.{place_of}
 use Rattle.ob_twin.specs.Opening.{is_closed_first}
@@ -12,8 +11,7 @@ use Rattle.ob_twin.specs.Orders.{set_notes}
 use Rattle.ob_store.proofs.Lanes.{first_none}
 use Rattle.ob_start.specs.Orders.{begin_notes}
 use Rattle.ob_start.proofs.Beginnings.{still, begin_does, next_stands, begins}
-use Rattle.std.specs.Prelude.{IfErr}
-use Rattle.ob_store.specs.Calls.{Serves, IsFailed, IsStoreFault}
+use Rattle.ob_store.specs.Calls.{IsFailed, IsStoreFault}
 use Rattle.ob_store.proofs.Serving.{serves_err, serves_ok, serves_then}
 use Rattle.ob_store.proofs.Keeping.{serves_none}
 use Rattle.ob_twin.specs.declared.twin.Twin.TheVariants.{GENERATION}
@@ -58,36 +56,15 @@ returns-in-Ok-set-clause-leaves g c =
     begins g.S.Store.disk c.args.sealer.now.keys c.args.generation c.args.store.now c.sync_noted.new.store c.set.new.store c.set.result
     (still (g.S.Store.disk c.args.store.now) (g.S.Store.disk c.sync_noted.new.store) e.serves.goes.later e.time e.crash) e.keeps c.in-Ok.ensures.durable c.set.ensures.old_or_new
 
-pub returns-in-Err-Before-clause-does : goal.returns-in-Err-Before-clause-does
-returns-in-Err-Before-clause-does g c =
-    let notes = begin_notes c.args.gates.now.generation (suc c.args.generation) in
-    let old = (g.S.Store.disk c.args.store.now).seen in
-    let mid = (g.S.Store.disk c.sync_noted.new.store).seen in
-    let new = (g.S.Store.disk c.set.new.store).seen in
-    let before = g.W.Watch.trace c.args.watch.now in
-    let after = g.W.Watch.trace c.set.new.watch in
-    let all = begin_does c.args.gates.now.generation c.args.generation old mid new before (g.W.Watch.trace c.sync_noted.new.watch) after c.set.result c.in-Ok.ensures.told c.set.ensures.does in
-    does_err old new before after notes c.in-Err-Before.fault (subst (λ (r : Result (Unit {0}) SetErr). Does notes old new before after r) c.in-Err-Before.is all).first
+pub returns-in-Err-set-clause-does : goal.returns-in-Err-set-clause-does
+returns-in-Err-set-clause-does g c =
+    let known = c.args.gates.now.generation in
+    does_err _ _ _ _ (begin_notes known (suc c.args.generation)) (StoreFault None) (begin_does known c.args.generation
+    (g.S.Store.disk c.args.store.now).seen (g.S.Store.disk c.sync_noted.new.store).seen (g.S.Store.disk c.set.new.store).seen (g.W.Watch.trace c.args.watch.now) (g.W.Watch.trace c.sync_noted.new.watch) (g.W.Watch.trace c.set.new.watch) (Err c.in-Err-set.field-0)
+    c.in-Ok.ensures.told c.in-Err-set.ensures.does).first
 
-pub returns-in-Err-Before-clause-leaves : goal.returns-in-Err-Before-clause-leaves
-returns-in-Err-Before-clause-leaves g c =
-    let e = c.sync_noted.ensures in
-    inr (begins g.S.Store.disk c.args.sealer.now.keys c.args.generation c.args.store.now c.sync_noted.new.store c.set.new.store c.set.result
-    (still (g.S.Store.disk c.args.store.now) (g.S.Store.disk c.sync_noted.new.store) e.serves.goes.later e.time e.crash) e.keeps c.in-Ok.ensures.durable c.set.ensures.old_or_new)
-
-pub returns-in-Err-Unsure-clause-does : goal.returns-in-Err-Unsure-clause-does
-returns-in-Err-Unsure-clause-does g c =
-    let notes = begin_notes c.args.gates.now.generation (suc c.args.generation) in
-    let old = (g.S.Store.disk c.args.store.now).seen in
-    let mid = (g.S.Store.disk c.sync_noted.new.store).seen in
-    let new = (g.S.Store.disk c.set.new.store).seen in
-    let before = g.W.Watch.trace c.args.watch.now in
-    let after = g.W.Watch.trace c.set.new.watch in
-    let all = begin_does c.args.gates.now.generation c.args.generation old mid new before (g.W.Watch.trace c.sync_noted.new.watch) after c.set.result c.in-Ok.ensures.told c.set.ensures.does in
-    does_err old new before after notes c.in-Err-Unsure.fault (subst (λ (r : Result (Unit {0}) SetErr). Does notes old new before after r) c.in-Err-Unsure.is all).first
-
-pub returns-in-Err-Unsure-clause-leaves : goal.returns-in-Err-Unsure-clause-leaves
-returns-in-Err-Unsure-clause-leaves g c =
+pub returns-in-Err-set-clause-leaves : goal.returns-in-Err-set-clause-leaves
+returns-in-Err-set-clause-leaves g c =
     let e = c.sync_noted.ensures in
     inr (begins g.S.Store.disk c.args.sealer.now.keys c.args.generation c.args.store.now c.sync_noted.new.store c.set.new.store c.set.result
     (still (g.S.Store.disk c.args.store.now) (g.S.Store.disk c.sync_noted.new.store) e.serves.goes.later e.time e.crash) e.keeps c.in-Ok.ensures.durable c.set.ensures.old_or_new)
@@ -109,32 +86,11 @@ returns-in-Ok-set-clause-serves g c =
 pub returns-in-Ok-set-clause-rest : goal.returns-in-Ok-set-clause-rest
 returns-in-Ok-set-clause-rest g c = λ tells k out. c.set.ensures.rest (c.sync_noted.ensures.keeps.tells tells) k out ∙ c.sync_noted.ensures.keeps.cells tells k
 
-pub returns-in-Err-Before-clause-serves : goal.returns-in-Err-Before-clause-serves
-returns-in-Err-Before-clause-serves g c =
+pub returns-in-Err-set-clause-serves : goal.returns-in-Err-set-clause-serves
+returns-in-Err-set-clause-serves g c =
     let synced = c.sync_noted.ensures.serves in
-    let mid = g.S.Store.disk c.sync_noted.new.store in
-    let new = g.S.Store.disk c.set.new.store in
-    let n = c.args.generation + 1 in
-    let fault = c.in-Err-Before.fault in
-    serves_then IsStoreFault _ mid _ (Err fault) synced.goes synced.out c.in-Ok.ensures.serves.tells
-    (serves_err (IsSetFault GENERATION n) IsStoreFault mid new c.in-Err-Before.field-0 fault
-    (λ told. subst (λ (r : Result (Unit {0}) SetErr). IfErr r (IsSetFault GENERATION n)) c.in-Err-Before.is c.set.ensures.faults)
-    (subst (λ (r : Result (Unit {0}) SetErr). Serves (IsSetFault GENERATION n) mid new r) c.in-Err-Before.is c.set.ensures.serves))
+    serves_then IsStoreFault _ (g.S.Store.disk c.sync_noted.new.store) _ (Err (StoreFault None)) synced.goes synced.out c.in-Ok.ensures.serves.tells
+    (serves_err (IsSetFault GENERATION (c.args.generation + 1)) IsStoreFault _ _ c.in-Err-set.field-0 (StoreFault None) (λ told. c.in-Err-set.ensures.faults) c.in-Err-set.ensures.serves)
 
-pub returns-in-Err-Before-clause-rest : goal.returns-in-Err-Before-clause-rest
-returns-in-Err-Before-clause-rest g c = λ tells k out. c.set.ensures.rest (c.sync_noted.ensures.keeps.tells tells) k out ∙ c.sync_noted.ensures.keeps.cells tells k
-
-pub returns-in-Err-Unsure-clause-serves : goal.returns-in-Err-Unsure-clause-serves
-returns-in-Err-Unsure-clause-serves g c =
-    let synced = c.sync_noted.ensures.serves in
-    let mid = g.S.Store.disk c.sync_noted.new.store in
-    let new = g.S.Store.disk c.set.new.store in
-    let n = c.args.generation + 1 in
-    let fault = c.in-Err-Unsure.fault in
-    serves_then IsStoreFault _ mid _ (Err fault) synced.goes synced.out c.in-Ok.ensures.serves.tells
-    (serves_err (IsSetFault GENERATION n) IsStoreFault mid new c.in-Err-Unsure.field-0 fault
-    (λ told. subst (λ (r : Result (Unit {0}) SetErr). IfErr r (IsSetFault GENERATION n)) c.in-Err-Unsure.is c.set.ensures.faults)
-    (subst (λ (r : Result (Unit {0}) SetErr). Serves (IsSetFault GENERATION n) mid new r) c.in-Err-Unsure.is c.set.ensures.serves))
-
-pub returns-in-Err-Unsure-clause-rest : goal.returns-in-Err-Unsure-clause-rest
-returns-in-Err-Unsure-clause-rest g c = λ tells k out. c.set.ensures.rest (c.sync_noted.ensures.keeps.tells tells) k out ∙ c.sync_noted.ensures.keeps.cells tells k
+pub returns-in-Err-set-clause-rest : goal.returns-in-Err-set-clause-rest
+returns-in-Err-set-clause-rest g c = λ tells k out. c.set.ensures.rest (c.sync_noted.ensures.keeps.tells tells) k out ∙ c.sync_noted.ensures.keeps.cells tells k

@@ -5,7 +5,8 @@ use Rattle.ob_start.specs.Orders.{registers_notes}
 use Rattle.ob_start.proofs.Noted.{reads_cut, reads_cut_then, reads_own, register_alike}
 use Rattle.std.proofs.Common.{Err, arith}
 use Rattle.ob_store.specs.Calls.{IsStoreFault}
-use Rattle.ob_store.proofs.Serving.{goes_then, serves_err, serves_then}
+use Rattle.ob_start.proofs.Holding.{generation_gates, epoch_gates, both_open}
+use Rattle.ob_store.proofs.Serving.{if_ok, goes_then, serves_err, serves_then}
 use Rattle.ob_store.proofs.Keeping.{serves_own, keeps_then, same_then}
 use Rattle.ob_start.proofs.registers.read_registers.Goals as goal
 
@@ -51,6 +52,25 @@ returns-clause-keeps g c = keeps_then _ (g.S.Store.disk c.read_register.new.stor
 
 pub returns-in-Err-read_register-clause-passes : goal.returns-in-Err-read_register-clause-passes
 returns-in-Err-read_register-clause-passes g c = same_then _ (g.S.Store.disk c.read_register.new.store) _ c.in-Ok.ensures.passes c.in-Err-read_register.ensures.passes
+
+pub returns-clause-generation : goal.returns-clause-generation
+returns-clause-generation g c = λ tells.
+    if_ok _ c.judge.result
+    (generation_gates c.args.gates.now c.read_register.new.gates c.read_register-2.new.gates (g.S.Store.disk c.args.store.now).cells (c.in-Ok.ensures.gates tells) c.in-Ok-read_register.ensures.other)
+
+pub returns-clause-epoch : goal.returns-clause-epoch
+returns-clause-epoch g c = λ tells.
+    let keeps = c.in-Ok.ensures.keeps in
+    if_ok _ c.judge.result
+    (epoch_gates c.read_register.new.gates c.read_register-2.new.gates (g.S.Store.disk c.read_register.new.store).cells (g.S.Store.disk c.args.store.now).cells (c.in-Ok-read_register.ensures.gates (keeps.tells tells)) (keeps.cells tells))
+
+pub returns-clause-some : goal.returns-clause-some
+returns-clause-some g c =
+    both_open c.in-Ok.generation c.in-Ok-read_register.epoch c.read_register.new.gates c.read_register-2.new.gates c.judge.result c.judge.ensures.numbers c.in-Ok.ensures.some c.in-Ok-read_register.ensures.some
+    c.in-Ok-read_register.ensures.other
+
+pub returns-clause-below : goal.returns-clause-below
+returns-clause-below g c = c.judge.ensures.below c.in-Ok.ensures.below c.in-Ok-read_register.ensures.below
 
 pub returns-clause-passes : goal.returns-clause-passes
 returns-clause-passes g c = same_then _ (g.S.Store.disk c.read_register.new.store) _ c.in-Ok.ensures.passes c.in-Ok-read_register.ensures.passes

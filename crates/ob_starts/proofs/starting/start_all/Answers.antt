@@ -1,8 +1,8 @@
 use Rattle.std.proofs.Common.{drop, map, ◌≡◌, ◌∷◌, [], ◌++◌, length, sym, ap, subst, ◌∙◌, append_assoc, length-append, arith}
-use Rattle.std.specs.Vec.Iter.{into_iter_items}
+use Rattle.std.specs.Vec.Iter.{into_iter_items, into_iter_len}
 use Rattle.ob_starts.specs.Served.{words, IsClient}
 use Rattle.ob_starts.specs.Starts.{Each, HasItsPlace, IsAsItCame, stays}
-use Rattle.ob_starts.proofs.Eaching.{each-length, each-snoc, all-at, later_next}
+use Rattle.ob_starts.proofs.Eaching.{each-length, each-snoc, all-at, all_over, later_next}
 use Rattle.ob_starts.proofs.starting.start_all.Goals as goal
 
 pub push_reserved-requires : goal.push_reserved-requires
@@ -41,3 +41,24 @@ place-one-requires-clause-client g c κs within =
     let at = c.loop-client in
     all-at (IsClient (words g.U.Runner.client g.U.Runner.bound g.U.Runner.plan g.U.Runner.fits g.U.Runner.turn) c.args.hall.now) at.yielded (into_iter_items c.next.new.self) c.args.clients.items c.in-Some.client
     (ap (λ l. at.yielded ++ l) (sym c.in-Some.ensures.steps.0) ∙ (at.invariant.items ∙ c.into_iter-client-iterator.ensures.into_iter_gives.0)) c.requires.clients
+
+pub returns-clause-placed : goal.returns-clause-placed
+returns-clause-placed g c =
+    let at = c.loop-client in
+    subst (λ l. Each (HasItsPlace (words g.U.Runner.client g.U.Runner.bound g.U.Runner.plan g.U.Runner.fits g.U.Runner.turn) c.args.hall.now) l at.started.items)
+    (all_over at.yielded (into_iter_items at.client-iterator) c.args.clients.items (into_iter_len at.client-iterator) (at.invariant.items ∙ c.into_iter-client-iterator.ensures.into_iter_gives.0) at.invariant.count c.in-None.ensures.steps.0)
+    at.invariant.placed
+
+pub returns-clause-came : goal.returns-clause-came
+returns-clause-came g c =
+    let at = c.loop-client in
+    subst (λ l. Each IsAsItCame l at.started.items)
+    (all_over at.yielded (into_iter_items at.client-iterator) c.args.clients.items (into_iter_len at.client-iterator) (at.invariant.items ∙ c.into_iter-client-iterator.ensures.into_iter_gives.0) at.invariant.count c.in-None.ensures.steps.0)
+    at.invariant.came
+
+pub returns-clause-others : goal.returns-clause-others
+returns-clause-others g c =
+    let at = c.loop-client in
+    subst (λ l. drop (length c.args.flags.now) at.started.items ≡ map stays (drop (length c.args.flags.now) l))
+    (all_over at.yielded (into_iter_items at.client-iterator) c.args.clients.items (into_iter_len at.client-iterator) (at.invariant.items ∙ c.into_iter-client-iterator.ensures.into_iter_gives.0) at.invariant.count c.in-None.ensures.steps.0)
+    at.invariant.others

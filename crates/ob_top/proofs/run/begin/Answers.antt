@@ -4,8 +4,8 @@ use Rattle.ob_seal.specs.Sealing.{Sealing}
 use Rattle.ob_store.specs.declared.watch.Note.TheVariants.{Read}
 use Rattle.ob_store.proofs.Serving.{goes_then}
 use Rattle.ob_top.proofs.Noted.{reads_noted}
-use Rattle.ob_ring_kind.proofs.Opening.{ring_leaves_standing, ring_opens_standing}
-use Rattle.ob_ring_kind.specs.Laws.{found_ring}
+use Rattle.ob_kinds.proofs.Opening.{ring_leaves_standing, ring_opens_standing}
+use Rattle.ob_kinds.specs.RingLaws.{found_ring}
 use Rattle.ob_top.proofs.Beginnings.{begun, may_serve, unopened}
 use Rattle.ob_top.proofs.Living.{read_lives, refused_lives, read_opened}
 use Rattle.ob_top.proofs.run.begin.Goals as goal
@@ -141,3 +141,9 @@ returns-in-Ok-prepare-clause-none_out g c = omega (arith, c.in-Ok.ensures.serves
 
 pub returns-in-Ok-prepare-clause-sound : goal.returns-in-Ok-prepare-clause-sound
 returns-in-Ok-prepare-clause-sound g c = c.in-Ok-read_script.ensures.sound
+
+pub prepare-requires-clause-none_out : goal.prepare-requires-clause-none_out
+prepare-requires-clause-none_out g c = omega (arith, c.in-Ok.ensures.serves.out, c.requires.none_out)
+
+pub prepare-requires-clause-unstarted : goal.prepare-requires-clause-unstarted
+prepare-requires-clause-unstarted g c = c.requires.unstarted

@@ -31,3 +31,15 @@ pub returns-clause-done : goal.returns-clause-done
 returns-clause-done g c =
     let new = c.in-Ok.ensures ∙ new_same c.args.params.now _ _ _ _ _ _ (let e = c.epoch.ensures.epoch in omega (arith, e)) c.left.ensures c.clients.ensures.clients in
     rw new at c.run.ensures.done
+
+pub run-requires-clause-params : goal.run-requires-clause-params
+run-requires-clause-params g c κs within = c.requires.params
+
+pub run-requires-clause-serves : goal.run-requires-clause-serves
+run-requires-clause-serves g c κs within = c.requires.serves
+
+pub returns-in-Err-clause-anchors : goal.returns-in-Err-clause-anchors
+returns-in-Err-clause-anchors g c = refl
+
+pub returns-clause-anchors : goal.returns-clause-anchors
+returns-clause-anchors g c = c.run.ensures.anchors

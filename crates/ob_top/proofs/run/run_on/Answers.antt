@@ -1,7 +1,7 @@
 use Rattle.ob_store.proofs.Serving.{goes_then}
-use Rattle.ob_ring_kind.specs.RingKind.{ring_kind}
-use Rattle.ob_ring_shown.proofs.Opening.{opened_lives}
-use Rattle.ob_ring_shown.specs.Lives.{ring_lives}
+use Rattle.ob_kinds.specs.RingKind.{ring_kind}
+use Rattle.ob_ring_life.proofs.OpenedLife.{opened_lives}
+use Rattle.ob_ring_life.specs.Lives.{ring_lives}
 use Rattle.ob_top.proofs.Beginnings.{ring_quiet}
 use Rattle.ob_top.proofs.Running.{ended_early, ran}
 use Rattle.ob_top.proofs.run.run_on.Goals as goal
@@ -9,26 +9,44 @@ use Rattle.ob_top.proofs.run.run_on.Goals as goal
 pub returns-in-Err-clause-done : goal.returns-in-Err-clause-done
 returns-in-Err-clause-done g c = ended_early ring_kind ring_quiet ring_lives (λ s. g.S.Store.disk s) _ _ c.args.keys.now _ _ _ _ _ c.in-Err.fault c.in-Err.ensures.refused c.in-Err.ensures.lives
 
-pub returns-in-Ok-serve_on-clause-done : goal.returns-in-Ok-serve_on-clause-done
-returns-in-Ok-serve_on-clause-done g c =
+pub returns-clause-done : goal.returns-clause-done
+returns-clause-done g c =
     let (f, same, b) = c.in-Ok.ensures.begun in
     ran ring_kind ring_quiet ring_lives (λ s. g.S.Store.disk s) _ _ c.args.keys.now _ c.begin.new.store _ _ _ _ _ c.in-Ok.begun.params c.in-Ok.begun.scripts f b.start c.in-Ok.begun.opening.sealer _ c.in-Ok.ensures.goes.faults b.opened b.seen
     c.in-Ok.ensures.durable b.stood c.in-Ok.ensures.left c.in-Ok.ensures.since c.in-Ok.ensures.opens
-    (λ tells word_of s here small. opened_lives c.args.keys.now c.in-Ok.begun.params word_of s (g.S.Store.disk c.args.store.now).cells f (b.opened.finds tells) here small) (c.in-Ok-serve_on.ensures.serves f b.found same b.goes_on b.planned)
+    (λ tells word_of s here small. opened_lives c.args.keys.now c.in-Ok.begun.params word_of s (g.S.Store.disk c.args.store.now).cells f (b.opened.finds tells) here small) (c.serve_on.ensures.serves f b.found same b.goes_on b.planned)
 
-pub returns-in-Err-serve_on-clause-done : goal.returns-in-Err-serve_on-clause-done
-returns-in-Err-serve_on-clause-done g c =
+pub returns-clause-goes : goal.returns-clause-goes
+returns-clause-goes g c =
     let (f, same, b) = c.in-Ok.ensures.begun in
-    ran ring_kind ring_quiet ring_lives (λ s. g.S.Store.disk s) _ _ c.args.keys.now _ c.begin.new.store _ _ _ _ _ c.in-Ok.begun.params c.in-Ok.begun.scripts f b.start c.in-Ok.begun.opening.sealer _ c.in-Ok.ensures.goes.faults b.opened b.seen
-    c.in-Ok.ensures.durable b.stood c.in-Ok.ensures.left c.in-Ok.ensures.since c.in-Ok.ensures.opens
-    (λ tells word_of s here small. opened_lives c.args.keys.now c.in-Ok.begun.params word_of s (g.S.Store.disk c.args.store.now).cells f (b.opened.finds tells) here small) (c.in-Err-serve_on.ensures.serves f b.found same b.goes_on b.planned)
+    goes_then _ _ _ c.in-Ok.ensures.goes (c.serve_on.ensures.serves f b.found same b.goes_on b.planned).goes
 
-pub returns-in-Ok-serve_on-clause-goes : goal.returns-in-Ok-serve_on-clause-goes
-returns-in-Ok-serve_on-clause-goes g c =
-    let (f, same, b) = c.in-Ok.ensures.begun in
-    goes_then _ _ _ c.in-Ok.ensures.goes (c.in-Ok-serve_on.ensures.serves f b.found same b.goes_on b.planned).goes
+pub returns-clause-none_out : goal.returns-clause-none_out
+returns-clause-none_out g c = c.serve_on.ensures.none_out
 
-pub returns-in-Err-serve_on-clause-goes : goal.returns-in-Err-serve_on-clause-goes
-returns-in-Err-serve_on-clause-goes g c =
-    let (f, same, b) = c.in-Ok.ensures.begun in
-    goes_then _ _ _ c.in-Ok.ensures.goes (c.in-Err-serve_on.ensures.serves f b.found same b.goes_on b.planned).goes
+pub begin-requires-clause-none_out : goal.begin-requires-clause-none_out
+begin-requires-clause-none_out g c = c.requires.none_out
+
+pub begin-requires-clause-unstarted : goal.begin-requires-clause-unstarted
+begin-requires-clause-unstarted g c = c.requires.unstarted
+
+pub returns-in-Err-clause-goes : goal.returns-in-Err-clause-goes
+returns-in-Err-clause-goes g c = c.in-Err.ensures.goes
+
+pub returns-in-Err-clause-none_out : goal.returns-in-Err-clause-none_out
+returns-in-Err-clause-none_out g c = c.in-Err.ensures.none_out
+
+pub serve_on-requires-clause-none_out : goal.serve_on-requires-clause-none_out
+serve_on-requires-clause-none_out g c κs within = c.in-Ok.ensures.none_out
+
+pub serve_on-requires-clause-serves : goal.serve_on-requires-clause-serves
+serve_on-requires-clause-serves g c κs within = c.in-Ok.ensures.serves
+
+pub serve_on-requires-clause-sound : goal.serve_on-requires-clause-sound
+serve_on-requires-clause-sound g c κs within = c.in-Ok.ensures.sound
+
+pub serve_on-requires-clause-runners : goal.serve_on-requires-clause-runners
+serve_on-requires-clause-runners g c κs within = c.in-Ok.ensures.runners
+
+pub serve_on-requires-clause-keys : goal.serve_on-requires-clause-keys
+serve_on-requires-clause-keys g c κs within = c.in-Ok.ensures.keys

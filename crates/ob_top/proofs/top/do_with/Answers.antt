@@ -1,5 +1,6 @@
 use Rattle.std.proofs.Common.{inl, inr, refl}
 use Rattle.ob_top.proofs.Over.{audit_words}
+use Rattle.ob_store.proofs.Serving.{goes_same}
 use Rattle.ob_top.proofs.top.do_with.Goals as goal
 
 pub returns-in-OnStore-clause-does : goal.returns-in-OnStore-clause-does
@@ -10,3 +11,27 @@ returns-in-Audit-clause-does g c = inl (audit_words _ (rw c.in-Audit.is at c.in-
 
 pub returns-in-Err-clause-does : goal.returns-in-Err-clause-does
 returns-in-Err-clause-does g c = inr (_, _, inl (_, refl, inl c.in-Err.ensures.refused, refl, refl), refl, c.finish.ensures)
+
+pub do_on-ended-requires-clause-none_out : goal.do_on-ended-requires-clause-none_out
+do_on-ended-requires-clause-none_out g c κs within = c.requires.none_out
+
+pub do_on-ended-requires-clause-unstarted : goal.do_on-ended-requires-clause-unstarted
+do_on-ended-requires-clause-unstarted g c κs within = c.requires.unstarted
+
+pub returns-in-Err-clause-goes : goal.returns-in-Err-clause-goes
+returns-in-Err-clause-goes g c = goes_same _
+
+pub returns-in-Err-clause-none_out : goal.returns-in-Err-clause-none_out
+returns-in-Err-clause-none_out g c = c.requires.none_out
+
+pub returns-in-OnStore-clause-goes : goal.returns-in-OnStore-clause-goes
+returns-in-OnStore-clause-goes g c = c.do_on-ended.ensures.goes
+
+pub returns-in-OnStore-clause-none_out : goal.returns-in-OnStore-clause-none_out
+returns-in-OnStore-clause-none_out g c = c.do_on-ended.ensures.none_out
+
+pub returns-in-Audit-clause-goes : goal.returns-in-Audit-clause-goes
+returns-in-Audit-clause-goes g c = goes_same _
+
+pub returns-in-Audit-clause-none_out : goal.returns-in-Audit-clause-none_out
+returns-in-Audit-clause-none_out g c = c.requires.none_out

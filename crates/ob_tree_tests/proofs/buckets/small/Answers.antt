@@ -1,4 +1,4 @@
-use Rattle.ob_bucket.proofs.Rows.{small_store}
+use Rattle.ob_tables.proofs.MetaRows.{small_store}
 use Rattle.ob_tree_tests.proofs.buckets.small.Goals as goal
 
 pub returns-in-Ok : goal.returns-in-Ok

@@ -4,6 +4,8 @@ use Rattle.std.proofs.lemmas.Result.{IfOk-from_err}
 use Rattle.ob_store.specs.Calls.{IsFailed}
 use Rattle.ob_store.proofs.Serving.{serves_then, if_ok}
 use Rattle.ob_store.proofs.Keeping.{serves_failed}
+use Rattle.ob_store.specs.Images.{SameBut}
+use Rattle.ob_store.proofs.Moments.{torn_once, torn_alone, passed_still}
 use Rattle.ob_twin.proofs.setting.open.Goals as goal
 
 pub returns-clause-does : goal.returns-clause-does
@@ -29,3 +31,29 @@ returns-clause-opened g c = λ tells.
 
 pub returns-clause-durable : goal.returns-clause-durable
 returns-clause-durable g c = λ tells. c.sync_noted.ensures.durable (c.in_ok-write_noted.ensures.serves.tells tells)
+
+pub returns-in_err-write_noted-clause-passes : goal.returns-in_err-write_noted-clause-passes
+returns-in_err-write_noted-clause-passes g c =
+    let written = c.write_noted.ensures in
+    torn_once c.args.gate (g.S.Store.disk c.args.store.now) (g.S.Store.disk c.write_noted.new.store) written.serves.goes.later written.time written.crash
+
+pub returns-clause-rest : goal.returns-clause-rest
+returns-clause-rest g c = λ tells k off. c.sync_noted.ensures.keeps.cells (c.in_ok-write_noted.ensures.serves.tells tells) k ∙ c.write_noted.ensures.rest tells k off
+
+pub returns-clause-passes : goal.returns-clause-passes
+returns-clause-passes g c =
+    let written = c.write_noted.ensures in
+    let synced = c.sync_noted.ensures in
+    let old = g.S.Store.disk c.args.store.now in
+    let mid = g.S.Store.disk c.write_noted.new.store in
+    passed_still (SameBut c.args.gate) old mid _ (torn_once c.args.gate old mid written.serves.goes.later written.time written.crash) synced.serves.goes.later synced.time synced.crash
+
+pub returns-in_err-write_noted-clause-any_moment : goal.returns-in_err-write_noted-clause-any_moment
+returns-in_err-write_noted-clause-any_moment g c = λ settled.
+    torn_alone c.args.gate (g.S.Store.disk c.args.store.now) (g.S.Store.disk c.write_noted.new.store) (g.met.S.Store.only_now c.args.store.now)
+    (returns-in_err-write_noted-clause-passes g c) settled
+
+pub returns-clause-any_moment : goal.returns-clause-any_moment
+returns-clause-any_moment g c = λ settled.
+    torn_alone c.args.gate (g.S.Store.disk c.args.store.now) (g.S.Store.disk c.sync_noted.new.store) (g.met.S.Store.only_now c.args.store.now)
+    (returns-clause-passes g c) settled

@@ -2,8 +2,8 @@ use Rattle.std.proofs.Common.{◌≡◌, ◌<◌, ◌≤◌, ◌+◌, ℕ, List,
 use Rattle.std.proofs.lemmas.List.{length-drop, length-take-le}
 use Rattle.ob_base.specs.Tree.{buckets, width}
 use Rattle.ob_base.proofs.Bounds.{width_le}
-use Rattle.ob_bucket.specs.Buckets.{Buckets, version_at, with_version}
-use Rattle.ob_bucket.specs.Version.{Version}
+use Rattle.ob_tables.specs.Buckets.{Buckets, version_at, with_version}
+use Rattle.ob_tables.specs.Version.{Version}
 use Rattle.ob_vault.specs.Formats.{first_version}
 use Rattle.ob_vault.proofs.DrawLaws.{filling, filling_blank, filling_next, length-filling}
 use Rattle.ob_vault.proofs.drawing.fill_all.Goals as goal

@@ -1,7 +1,7 @@
 use Rattle.std.proofs.Common.{◌≡◌, length, ap, sym, ◌∙◌}
 use Rattle.std.proofs.lemmas.List.FromFn.{length-range_with_len}
 use Rattle.ob_base.specs.Tree.{width}
-use Rattle.ob_bucket.specs.Version.{Version}
+use Rattle.ob_tables.specs.Version.{Version}
 use Rattle.ob_vault.proofs.drawing.fill_first.Goals as goal
 
 pub fill-requires-clause-words : goal.fill-requires-clause-words

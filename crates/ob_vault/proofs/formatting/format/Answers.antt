@@ -1,8 +1,8 @@
-use Rattle.std.proofs.Common.{[], sym, subst, ◌≡◌, ◌⊎◌, inl, None, refl, arith}
+use Rattle.std.proofs.Common.{[], ap, sym, subst, ◌∙◌, ◌≡◌, ◌⊎◌, inl, None, refl, arith}
 use mathlib.Core.Path.{fun_ext}
 use Rattle.ob_base.specs.declared.fault.Fault.TheVariants.{Memory, StoreFault}
 use Rattle.ob_store.specs.Disk.{Image}
-use Rattle.ob_store.proofs.Doing.{does_err, first_all, first_more, tells_none}
+use Rattle.ob_store.proofs.Doing.{does_all, does_err, first_all, first_more, tells_none}
 use Rattle.ob_seal.specs.Sealing.{Sealing}
 use Rattle.ob_schedule.specs.Schedule.{format_notes}
 use Rattle.ob_stand.specs.Stands.{Stands}
@@ -16,18 +16,6 @@ use Rattle.ob_vault.proofs.formatting.format.Goals as goal
 
 pub returns-in-Err-clause-does : goal.returns-in-Err-clause-does
 returns-in-Err-clause-does g c =
-    let seen = (g.S.Store.disk c.args.store.now).seen in
-    let trace = g.W.Watch.trace c.args.watch.now in
-    does_err seen seen trace trace (format_notes c.args.p.now) Memory (first_more seen seen trace trace [] (format_notes c.args.p.now) (first_all seen seen trace trace [] (tells_none seen trace)))
-
-pub returns-in-Err-blank_tables-clause-does : goal.returns-in-Err-blank_tables-clause-does
-returns-in-Err-blank_tables-clause-does g c =
-    let seen = (g.S.Store.disk c.args.store.now).seen in
-    let trace = g.W.Watch.trace c.args.watch.now in
-    does_err seen seen trace trace (format_notes c.args.p.now) Memory (first_more seen seen trace trace [] (format_notes c.args.p.now) (first_all seen seen trace trace [] (tells_none seen trace)))
-
-pub returns-in-Err-new-clause-does : goal.returns-in-Err-new-clause-does
-returns-in-Err-new-clause-does g c =
     let seen = (g.S.Store.disk c.args.store.now).seen in
     let trace = g.W.Watch.trace c.args.watch.now in
     does_err seen seen trace trace (format_notes c.args.p.now) Memory (first_more seen seen trace trace [] (format_notes c.args.p.now) (first_all seen seen trace trace [] (tells_none seen trace)))
@@ -57,24 +45,6 @@ returns-in-Err-clause-crash g c = λ tells. started (g.S.Store.disk c.args.store
 
 pub returns-in-Err-clause-durable_first : goal.returns-in-Err-clause-durable_first
 returns-in-Err-clause-durable_first g c = inl refl
-
-pub returns-in-Err-blank_tables-clause-serves : goal.returns-in-Err-blank_tables-clause-serves
-returns-in-Err-blank_tables-clause-serves g c = record { goes = goes_same (g.S.Store.disk c.args.store.now); out = omega arith; tells = tt; cause = λ blamed. absurd blamed }
-
-pub returns-in-Err-blank_tables-clause-crash : goal.returns-in-Err-blank_tables-clause-crash
-returns-in-Err-blank_tables-clause-crash g c = λ tells. started (g.S.Store.disk c.args.store.now) _ (λ image left. inl (image, g.met.S.Store.only_now c.args.store.now image left, λ k apart. refl))
-
-pub returns-in-Err-blank_tables-clause-durable_first : goal.returns-in-Err-blank_tables-clause-durable_first
-returns-in-Err-blank_tables-clause-durable_first g c = inl refl
-
-pub returns-in-Err-new-clause-serves : goal.returns-in-Err-new-clause-serves
-returns-in-Err-new-clause-serves g c = record { goes = goes_same (g.S.Store.disk c.args.store.now); out = omega arith; tells = tt; cause = λ blamed. absurd blamed }
-
-pub returns-in-Err-new-clause-crash : goal.returns-in-Err-new-clause-crash
-returns-in-Err-new-clause-crash g c = λ tells. started (g.S.Store.disk c.args.store.now) _ (λ image left. inl (image, g.met.S.Store.only_now c.args.store.now image left, λ k apart. refl))
-
-pub returns-in-Err-new-clause-durable_first : goal.returns-in-Err-new-clause-durable_first
-returns-in-Err-new-clause-durable_first g c = inl refl
 
 pub returns-in-Ok-lay-clause-serves : goal.returns-in-Ok-lay-clause-serves
 returns-in-Ok-lay-clause-serves g c =
@@ -107,3 +77,38 @@ returns-clause-durable_first g c = subst (λ (s : Sealing). (c.lay.new.tape ≡ 
 
 pub returns-clause-does : goal.returns-clause-does
 returns-clause-does g c = does_err _ _ _ _ (format_notes c.args.p.now) (StoreFault None) c.in-Err-lay.ensures.does.first
+
+pub returns-in-Err-clause-memory : goal.returns-in-Err-clause-memory
+returns-in-Err-clause-memory g c = λ same. (refl, refl, refl)
+
+-- ---- all may be laid
+
+pub lay-requires-clause-none_out : goal.lay-requires-clause-none_out
+lay-requires-clause-none_out g c = c.requires.none_out
+
+pub lay-requires-clause-unstarted : goal.lay-requires-clause-unstarted
+lay-requires-clause-unstarted g c = c.requires.unstarted
+
+pub lay-requires-clause-generation : goal.lay-requires-clause-generation
+lay-requires-clause-generation g c = ap (λ (s : Sealing). s.generation) c.new-sealer.ensures
+
+pub lay-requires-clause-first : goal.lay-requires-clause-first
+lay-requires-clause-first g c = ap (λ (s : Sealing). s.next) c.new-sealer.ensures
+
+pub lay-requires-clause-gates : goal.lay-requires-clause-gates
+lay-requires-clause-gates g c = c.as_slice-gates.ensures.value ∙ c.in-Ok.ensures.0
+
+pub lay-requires-clause-blank : goal.lay-requires-clause-blank
+lay-requires-clause-blank g c = c.in-Ok.ensures.2
+
+pub lay-requires-clause-sheet : goal.lay-requires-clause-sheet
+lay-requires-clause-sheet g c = c.in-Ok.ensures.1
+
+pub returns-in-Ok-lay-clause-drawn : goal.returns-in-Ok-lay-clause-drawn
+returns-in-Ok-lay-clause-drawn g c = c.in-Ok-lay.ensures.drawn
+
+pub returns-in-Ok-lay-clause-durable : goal.returns-in-Ok-lay-clause-durable
+returns-in-Ok-lay-clause-durable g c = c.in-Ok-lay.ensures.durable
+
+pub returns-in-Ok-lay-clause-does : goal.returns-in-Ok-lay-clause-does
+returns-in-Ok-lay-clause-does g c = does_all _ _ _ _ (format_notes c.args.p.now) tt c.in-Ok-lay.ensures.does.all

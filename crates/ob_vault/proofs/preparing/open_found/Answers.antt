@@ -1,4 +1,6 @@
 use Rattle.std.proofs.Common.{◌≡◌, ◌<◌, ◌≤◌, ◌^◌, ℕ, suc, Ok, Err, inl, inr, ⊎_elim, refl, sym, ap, subst, ◌∙◌, arith}
+use Rattle.ob_base.specs.Planned.{most_jobs}
+use Rattle.ob_cells.specs.Jobs.{Manned}
 use Rattle.ob_seal.specs.Sealing.{Sealing}
 use Rattle.ob_start.specs.Beginning.{BeginLeaves, BeginsFrom}
 use Rattle.ob_store.specs.Calls.{IsStoreFault}
@@ -240,3 +242,23 @@ returns-clause-does g c = record {
 
 pub returns-in-Err-clause-serves : goal.returns-in-Err-clause-serves
 returns-in-Err-clause-serves g c = serves_err IsStoreFault IsStoreFault _ _ c.in-Err.fault c.in-Err.fault (λ f. f) c.in-Err.ensures.serves
+
+-- ---- what each of them may begin with
+
+pub begin-requires-clause-none_out : goal.begin-requires-clause-none_out
+begin-requires-clause-none_out g c = c.requires.none_out
+
+pub begin-requires-clause-told : goal.begin-requires-clause-told
+begin-requires-clause-told g c = λ tells. (c.requires.gates tells).generation_gates
+
+pub replay-requires-clause-found : goal.replay-requires-clause-found
+replay-requires-clause-found g c = c.requires.obeys
+
+pub replay-requires-clause-jobs : goal.replay-requires-clause-jobs
+replay-requires-clause-jobs g c = (c.requires.rooms.planned, c.requires.rooms.placed)
+
+pub replay-requires-clause-crew : goal.replay-requires-clause-crew
+replay-requires-clause-crew g c = subst (λ (m : Manned). most_jobs c.args.p.now ≤ m.jobs) (sym c.requires.rooms.crew) (omega arith)
+
+pub returns-clause-lanes : goal.returns-clause-lanes
+returns-clause-lanes g c = ap (λ (m : Manned). m.lanes) c.in-Ok-replay.ensures.crew

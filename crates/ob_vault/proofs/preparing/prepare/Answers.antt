@@ -8,7 +8,7 @@ use Rattle.ob_store.proofs.Events.{none_noted}
 use Rattle.ob_store.proofs.Lanes.{first_none}
 use Rattle.ob_store.proofs.Moments.{passed_none}
 use Rattle.ob_store.proofs.Serving.{serves_then, goes_same, serves_err}
-use Rattle.ob_batch.specs.Jobs.{Manned}
+use Rattle.ob_cells.specs.Jobs.{Manned}
 use Rattle.ob_start.specs.Orders.{registers_notes}
 use Rattle.ob_recover.specs.Finds.{IsFoundOf}
 use Rattle.ob_stand.specs.Stands.{RingStanding, Stands}
@@ -190,3 +190,20 @@ returns-in-Err-clause-serves g c = record { goes = goes_same (g.S.Store.disk c.a
 
 pub returns-in-Err-find-clause-serves : goal.returns-in-Err-find-clause-serves
 returns-in-Err-find-clause-serves g c = serves_err IsStoreFault IsStoreFault _ _ c.in-Err-find.fault c.in-Err-find.fault (λ f. f) c.in-Err-find.ensures.serves
+
+-- ---- what was found may be opened
+
+pub open_found-requires-clause-none_out : goal.open_found-requires-clause-none_out
+open_found-requires-clause-none_out g c = (let none = c.requires.none_out in let out = c.find.ensures.serves.out in omega arith)
+
+pub open_found-requires-clause-unstarted : goal.open_found-requires-clause-unstarted
+open_found-requires-clause-unstarted g c = c.requires.unstarted
+
+pub open_found-requires-clause-obeys : goal.open_found-requires-clause-obeys
+open_found-requires-clause-obeys g c = c.in-Ok-find.ensures.obeys
+
+pub returns-in-Err-clause-tape_err : goal.returns-in-Err-clause-tape_err
+returns-in-Err-clause-tape_err g c = inl refl
+
+pub returns-in-Err-find-clause-tape_err : goal.returns-in-Err-find-clause-tape_err
+returns-in-Err-find-clause-tape_err g c = inl refl

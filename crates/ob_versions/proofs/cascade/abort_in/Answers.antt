@@ -1,10 +1,11 @@
-use Rattle.std.proofs.Common.{◌≡◌, List, ap, ◌∙◌, subst, arith, length}
+use Rattle.std.proofs.Common.{◌≡◌, List, ap, ◌∙◌, subst, arith, length, sym, ◌≤◌}
+use Rattle.ob_order.specs.Chains.{Sourced}
 use Rattle.ob_order.specs.Works.{Work, end_work, edit}
 use Rattle.ob_order.proofs.Edits.{length-edit}
 use Rattle.ob_order.proofs.Falls.{length-cascade}
-use Rattle.ob_order.proofs.Steps.{live_within}
+use Rattle.ob_order.proofs.Steps.{live_within, live_above}
 use Rattle.ob_chains.specs.Agendas.{Adds}
-use Rattle.ob_versions.specs.Ledgers.{ReadersIn, IsAbove}
+use Rattle.ob_versions.specs.Ledgers.{ReadersIn, IsAbove, HasReaders}
 use Rattle.ob_versions.proofs.Pending.{running_begins, running_on, running_ends, next_place, smaller}
 use Rattle.ob_versions.proofs.cascade.abort_in.Goals as goal
 
@@ -57,3 +58,27 @@ pub returns-clause-ready : goal.returns-clause-ready
 returns-clause-ready c =
     let l = c.loop-next in
     (running_ends c.args.list.now.items c.args.t c.args.keys l.written l.list.items l.table l.agenda c.take_least.new.self l.invariant c.in_default.ensures.least.0 c.in_default.ensures.least.1 c.take_least.ensures.room).2
+
+pub note_readers-requires-clause-in_range : goal.note_readers-requires-clause-in_range
+note_readers-requires-clause-in_range c = let live = c.requires.live in let before = c.args.list.now.items in (live_above before c.args.t live, subst (λ (ws : List Work). c.args.t ≤ length ws) (sym c.deref.ensures.value) (live_within before c.args.t live))
+
+pub note_readers-requires-clause-room : goal.note_readers-requires-clause-room
+note_readers-requires-clause-room c = subst (λ (ws : List Work). length ws ≤ c.args.agenda.now.room) (sym c.deref.ensures.value) c.requires.ready.0
+
+pub note_readers-requires-clause-sourced : goal.note_readers-requires-clause-sourced
+note_readers-requires-clause-sourced c = subst Sourced (sym c.deref.ensures.value) c.requires.kept.sourced
+
+pub note_readers-requires-clause-readers : goal.note_readers-requires-clause-readers
+note_readers-requires-clause-readers c = subst (λ (ws : List Work). HasReaders ws c.args.table.now) (sym c.deref.ensures.value) c.requires.kept.readers
+
+pub end_at-requires-clause-in_range : goal.end_at-requires-clause-in_range
+end_at-requires-clause-in_range c = let live = c.requires.live in let before = c.args.list.now.items in (live_above before c.args.t live, live_within before c.args.t live)
+
+pub end_at-requires-clause-kept : goal.end_at-requires-clause-kept
+end_at-requires-clause-kept c = c.requires.kept
+
+pub fall-requires-clause-kept : goal.fall-requires-clause-kept
+fall-requires-clause-kept c = c.loop-next.invariant.kept
+
+pub returns-clause-kept : goal.returns-clause-kept
+returns-clause-kept c = c.loop-next.invariant.kept

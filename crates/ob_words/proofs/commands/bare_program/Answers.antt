@@ -1,5 +1,5 @@
-use Rattle.std.proofs.Common.{◌≡◌, ◌∙◌, ap, codes, true, refl}
-use Rattle.clap.specs.Words.{App, Shape, app_of, new_app}
+use Rattle.std.proofs.Common.{◌≡◌, ◌∙◌, ap, true, refl}
+use Rattle.clap.specs.Words.{App, Shape, app_of}
 use Rattle.clap.specs.Simple.{on_top}
 use Rattle.ob_words.proofs.commands.bare_program.Goals as goal
 

@@ -1,4 +1,5 @@
 use Rattle.std.proofs.Common.{ℕ, ◌≤◌, ◌^◌, [], sym, ap, ◌∙◌, subst}
+use Rattle.std.proofs.lemmas.Result.{IfOk-from_err}
 use Rattle.ob_order.specs.Order.{OrderState}
 use Rattle.ob_order.specs.OrderModel.{OrderModel}
 use Rattle.ob_desk.specs.Parts.{HasGoing}
@@ -18,3 +19,12 @@ invariant_of-result c =
           (subst (λ (s : OrderState). HasGoing s.works []) (sym c.in_ok-order.ensures.state) none_listed));
       low = λ is none. subst (λ (e : ℕ). e ≤ 2 ^ 62) (sym first.epoch) c.requires.low_epoch;
     }
+
+pub returns-in_err-clients : goal.returns-in_err-clients
+returns-in_err-clients c = IfOk-from_err c.from_residual.result _ c.from_residual.ensures.0
+
+pub returns-in_err-order : goal.returns-in_err-order
+returns-in_err-order c = IfOk-from_err c.from_residual-in_err-order.result _ c.from_residual-in_err-order.ensures.0
+
+pub returns-in_err-other : goal.returns-in_err-other
+returns-in_err-other c = IfOk-from_err c.from_residual-in_err-other.result _ c.from_residual-in_err-other.ensures.0

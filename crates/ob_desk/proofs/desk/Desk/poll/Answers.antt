@@ -1,8 +1,10 @@
-use Rattle.std.proofs.Common.{refl, sym, ap, ◌∙◌, subst}
+use Rattle.std.proofs.Common.{◌≡◌, true, is_some, refl, sym, ap, ◌∙◌, subst}
+use Rattle.std.proofs.lemmas.Bool.{false≢true}
 use Rattle.ob_order.specs.OrderModel.{OrderModel}
-use Rattle.ob_desk.specs.Desk.{outcome_at}
+use Rattle.ob_order.proofs.Steps.{live_above}
+use Rattle.ob_desk.specs.Desk.{DeskState, IsLive, outcome_at, waiting_at}
 use Rattle.ob_desk.specs.Parts.{HasGoing}
-use Rattle.ob_desk.proofs.Allowed.{was_aborted}
+use Rattle.ob_desk.proofs.Allowed.{was_aborted, polled_live}
 use Rattle.ob_desk.proofs.Going.{kept_order, again_listed}
 use Rattle.ob_desk.proofs.desk.Desk.poll.Goals as goal
 
@@ -19,3 +21,19 @@ returns-in-Some c = record {
     same = refl;
   };
 }
+
+pub waiting-requires : goal.waiting-requires
+waiting-requires c =
+    let live = subst (λ (d : DeskState). IsLive d c.args.txn.now) (sym c.self.view_is) (polled_live c.args.self.now c.args.txn.now c.requires.1 (sym c.why_aborted.ensures ∙ c.in_default.is)).0 in
+    live_above c.self.inside.running.order.state.works c.args.txn.now.ticket live.goes
+
+pub returns-in_default-waiting : goal.returns-in_default-waiting
+returns-in_default-waiting c =
+    let waits = subst (λ (d : DeskState). is_some (waiting_at d.running c.args.txn.now.ticket) ≡ true) (sym c.self.view_is) (polled_live c.args.self.now c.args.txn.now c.requires.1 (sym c.why_aborted.ensures ∙ c.in_default.is)).1 in
+    absurd (false≢true (ap is_some (sym c.in_default-waiting.is ∙ c.waiting.ensures) ∙ waits))
+
+pub again-requires-clause-live : goal.again-requires-clause-live
+again-requires-clause-live c = (subst (λ (d : DeskState). IsLive d c.args.txn.now) (sym c.self.view_is) (polled_live c.args.self.now c.args.txn.now c.requires.1 (sym c.why_aborted.ensures ∙ c.in_default.is)).0).goes
+
+pub again-requires-clause-waits : goal.again-requires-clause-waits
+again-requires-clause-waits c = sym c.waiting.ensures ∙ c.in-Some-waiting.is

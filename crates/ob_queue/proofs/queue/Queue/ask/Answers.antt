@@ -1,5 +1,6 @@
 use Rattle.std.proofs.Common.{◌≡◌, ℕ, List, Option, false, nat_cmp, sym, ap, ◌∙◌, subst}
 use Rattle.std.specs.FinMap as finite
+use Rattle.std.proofs.lemmas.Result.{IfOk-from_err}
 use Rattle.ob_order.specs.Order as rules
 use Rattle.ob_order.specs.OrderModel.{OrderModel}
 use Rattle.ob_queue.specs.Queues.{state_of}
@@ -25,3 +26,6 @@ returns-clause-ok c =
     subst (λ (m : OrderModel). rules.is_asked_for m.state c.args.key ≡ false → made (state_of a.left a.flying c.push.new.self bases) ≡ record { params = m.params; state = rules.asked m.state c.args.key }) c.self.view_is
     (λ is. ap made (ap (λ ks. state_of a.left a.flying ks bases) c.in_ok-push.ensures.ok ∙ one_asked a.left a.flying a.asked bases c.args.key is c.self.invariant.0))
     (sym c.is_asked_for.ensures ∙ c.if-is_asked_for.false)
+
+pub returns-in_err-push-clause-ok : goal.returns-in_err-push-clause-ok
+returns-in_err-push-clause-ok c = IfOk-from_err c.from_residual.result _ c.from_residual.ensures.0

@@ -1,7 +1,7 @@
 use Rattle.std.proofs.Common.{ℕ, length, filter, sym, subst}
 use Rattle.std.specs.Prelude.{◌≡◌, ◌+◌, ◌*◌, ◌<◌, ◌≤◌}
 use Rattle.ob_base.specs.Tree.{width}
-use Rattle.ob_bucket.specs.Buckets.{is_lifted}
+use Rattle.ob_tables.specs.Buckets.{is_lifted}
 use Rattle.ob_schedule.specs.Paths.{by_falling_level}
 use Rattle.ob_ring.specs.FlatTable.{Refill, after, stash_size}
 use Rattle.ob_ring.specs.Ring.{Kept}

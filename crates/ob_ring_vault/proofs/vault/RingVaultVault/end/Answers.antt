@@ -2,7 +2,7 @@ use Rattle.std.proofs.Common.{suc, ◌≡◌, ◌<◌, ◌≤◌, ◌^◌, true,
 use Rattle.ob_base.specs.declared.params.Params.{Params}
 use Rattle.ob_base.specs.declared.value.Write.{Write}
 use Rattle.ob_base.specs.Planned.{most_jobs}
-use Rattle.ob_batch.specs.Jobs.{Manned}
+use Rattle.ob_cells.specs.Jobs.{Manned}
 use Rattle.ob_end.specs.EndRuns.{end_writes}
 use Rattle.ob_fetch.specs.Fetches.{words_since}
 use Rattle.ob_ring.specs.Writing.{write_at}
@@ -11,7 +11,7 @@ use Rattle.ob_twin.specs.Opening.{GatesAre}
 use Rattle.ob_ring_vault.specs.declared.known.Known.{Known}
 use Rattle.ob_ring_vault.specs.RingVaults.{running}
 use Rattle.ob_ring_vault.proofs.Callings.{end_called, first_of_three, second_of_three}
-use Rattle.ob_ring_vault.proofs.Holding.{alike_kept, end_holds, end_images, end_sound, lent_leaves, s, serves, lent_goes}
+use Rattle.ob_ring_vault.proofs.Holding.{alike_kept, end_counts, end_holds, end_images, end_sound, lent_leaves, s, serves, lent_goes}
 use Rattle.ob_ring_vault.proofs.Lending.{end_few, end_grows, end_ready, end_small, end_told}
 use Rattle.ob_ring_vault.proofs.Ready.{ready_of}
 use Rattle.ob_ring_vault.proofs.Written.{at_all, short_at, writes_plain}
@@ -184,3 +184,11 @@ returns-clause-goes g c = lent_goes _ _ _ _ c.end-result.ensures.serves.goes
 
 pub returns-clause-cause : goal.returns-clause-cause
 returns-clause-cause g c = c.end-result.ensures.serves.cause
+
+-- ---- what is counted, and how it is refused
+
+pub returns-clause-counts : goal.returns-clause-counts
+returns-clause-counts g c = end_counts c.args.self.now.run c.end-result.new.run (writes_of c.args.writes.now) c.end-result.result c.requires.serves c.end-result.ensures.served c.end-result.ensures.refused
+
+pub returns-clause-faults : goal.returns-clause-faults
+returns-clause-faults g c = c.end-result.ensures.faults

@@ -1,15 +1,18 @@
-use Rattle.std.proofs.Common.{◌+◌, ◌∙◌, ◌%◌, false, suc, ◌≡◌, ◌<◌, ◌≤◌, ◌^◌, ap, sym, subst}
+use Rattle.std.proofs.Common.{◌+◌, ◌∙◌, ◌%◌, true, false, suc, ◌≡◌, ◌<◌, ◌≤◌, ◌^◌, ap, arith, length, sym, subst}
+use Rattle.ob_base.specs.Layout.{log_cell, record_cells}
 use Rattle.ob_base.specs.declared.params.Params.{Params}
 use Rattle.ob_base.specs.Planned.{most_jobs}
-use Rattle.ob_batch.specs.Jobs.{Manned}
+use Rattle.ob_cells.specs.Jobs.{Manned}
 use Rattle.ob_fetch.specs.declared.run.Run.{Run}
 use Rattle.ob_fetch.specs.Fetches.{next_batch, record_next, words_since}
 use Rattle.ob_ring.proofs.PlanLaws.{seals_none}
+use Rattle.ob_twin.specs.Opening.{GatesAre}
+use Rattle.ob_twin.specs.declared.gates.Gates.{Gates}
 use Rattle.ob_ring_vault.specs.declared.known.Known.{Known}
 use Rattle.ob_ring_vault.specs.RingVaults.{running}
 use Rattle.ob_ring_vault.proofs.Callings.{fetch_called, fetch_moments, fetch_stood, fetch_undamaged, first_of, open_first}
-use Rattle.ob_ring_vault.proofs.Holding.{alike_kept, fetch_answered, fetch_holds, fetch_images, fetch_sound, lent_leaves, s, serves, lent_goes}
-use Rattle.ob_ring_vault.proofs.Lending.{fetch_grows, fetch_ready}
+use Rattle.ob_ring_vault.proofs.Holding.{alike_kept, fetch_answered, fetch_counts, fetch_faults, fetch_holds, fetch_images, fetch_sound, lent_leaves, s, serves, lent_goes}
+use Rattle.ob_ring_vault.proofs.Lending.{fetch_few, fetch_grows, fetch_ready, fetch_told}
 use Rattle.ob_ring_vault.proofs.Ready.{ready_of}
 use Rattle.ob_ring_vault.proofs.vault.RingVaultVault.fetch.Goals as goal
 
@@ -146,3 +149,76 @@ returns-clause-goes g c = lent_goes _ _ _ _ c.fetch-result.ensures.serves.goes
 
 pub returns-clause-cause : goal.returns-clause-cause
 returns-clause-cause g c = c.fetch-result.ensures.serves.cause
+
+-- ---- the conditions of the call
+
+pub fetch-result-requires-clause-none_out : goal.fetch-result-requires-clause-none_out
+fetch-result-requires-clause-none_out g c = c.args.self.now.lent.none_out
+
+pub fetch-result-requires-clause-generation : goal.fetch-result-requires-clause-generation
+fetch-result-requires-clause-generation g c =
+    let serving = ap (λ (k : Known). k.spent) c.args.self.now.known ∙ c.requires.serves in
+    c.args.self.now.lent.present serving ∙ ap (λ (k : Known). k.generation) c.args.self.now.known
+
+pub fetch-result-requires-clause-drawn : goal.fetch-result-requires-clause-drawn
+fetch-result-requires-clause-drawn g c =
+    let serving = ap (λ (k : Known). k.spent) c.args.self.now.known ∙ c.requires.serves in
+    sym (ap (λ (k : Known). k.drawn) c.args.self.now.known) ∙ c.args.self.now.lent.drawn serving
+
+pub fetch-result-requires-clause-few : goal.fetch-result-requires-clause-few
+fetch-result-requires-clause-few g c =
+    let serving = ap (λ (k : Known). k.spent) c.args.self.now.known ∙ c.requires.serves in
+    subst (λ n. n ≤ 2 ^ 62) (ap (λ (k : Known). k.drawn) c.args.self.now.known) (c.args.self.now.lent.small serving)
+
+pub fetch-result-requires-clause-crew : goal.fetch-result-requires-clause-crew
+fetch-result-requires-clause-crew g c = c.args.self.now.manned
+
+-- ---- what is known of the store and of the tape
+
+pub invariant_of-lent-clause-told : goal.invariant_of-lent-clause-told
+invariant_of-lent-clause-told g c =
+    let run = c.args.self.now.run in
+    let old = g.S.Store.disk c.args.self.now.lent.store.now in
+    let new = g.S.Store.disk c.fetch-result.new.store in
+    let serving = ap (λ (k : Known). k.spent) c.args.self.now.known ∙ c.requires.serves in
+    let gates : c.fetch-result.new.run.gates ≡ c.args.self.now.lent.known.gates = ap (λ (x : Run). x.gates) c.fetch-result.ensures.kept ∙ sym (ap (λ (k : Known). k.gates) c.args.self.now.known) in
+    subst (λ (k : Known). k.spent ≡ false → new.tells → GatesAre k.gates.epoch 5 new.cells) (sym c.knows-lent.ensures)
+    (λ serves. subst (λ (gs : Gates). new.tells → GatesAre gs.epoch 5 new.cells) (sym gates)
+    (fetch_told c.args.self.now.lent.known.gates (log_cell run.params (suc run.epoch % 2) (next_batch run) 0) (record_cells run.params + 1) old new (omega arith) c.fetch-result.ensures.within c.fetch-result.ensures.serves.goes.told (c.args.self.now.lent.told serving)))
+
+pub invariant_of-lent-clause-present : goal.invariant_of-lent-clause-present
+invariant_of-lent-clause-present g c =
+    let serving = ap (λ (k : Known). k.spent) c.args.self.now.known ∙ c.requires.serves in
+    subst (λ (k : Known). k.spent ≡ false → g.T.Tape.present c.fetch-result.new.tape ≡ k.generation) (sym c.knows-lent.ensures)
+    (λ serves. c.fetch-result.ensures.generation ∙ c.args.self.now.lent.present serving ∙ ap (λ (k : Known). k.generation) c.args.self.now.known ∙ sym c.fetch-result.ensures.seals.some.generation)
+
+pub invariant_of-lent-clause-drawn : goal.invariant_of-lent-clause-drawn
+invariant_of-lent-clause-drawn g c =
+    subst (λ (k : Known). k.spent ≡ false → k.drawn ≡ length (g.T.Tape.drawn c.fetch-result.new.tape)) (sym c.knows-lent.ensures) (λ serves. c.fetch-result.ensures.drawn)
+
+pub invariant_of-lent-clause-small : goal.invariant_of-lent-clause-small
+invariant_of-lent-clause-small g c =
+    let run = c.args.self.now.run in
+    let new = c.fetch-result.new.run in
+    let serving = ap (λ (k : Known). k.spent) c.args.self.now.known ∙ c.requires.serves in
+    let was = sym (ap (λ (k : Known). k.drawn) c.args.self.now.known) ∙ c.args.self.now.lent.drawn serving in
+    subst (λ (k : Known). k.spent ≡ false → k.drawn ≤ 2 ^ 62) (sym c.knows-lent.ensures)
+    (fetch_few (new.left ≡ run.left) (c.fetch-result.new.out ≡ c.args.out.now) run new (g.T.Tape.drawn c.args.self.now.lent.tape.now) (g.T.Tape.drawn c.fetch-result.new.tape) c.fetch-result.result c.fetch-result.ensures.draws c.fetch-result.ensures.worn was
+    c.fetch-result.ensures.drawn c.fetch-result.ensures.refused)
+
+pub invariant_of-self-clause-known : goal.invariant_of-self-clause-known
+invariant_of-self-clause-known g c = c.knows-lent.ensures
+
+-- ---- what is counted, and how it is refused
+
+pub returns-clause-counts : goal.returns-clause-counts
+returns-clause-counts g c =
+    let run = c.args.self.now.run in
+    let new = c.fetch-result.new.run in
+    fetch_counts (c.fetch-result.new.out ≡ c.args.out.now) run new c.args.asks.now c.fetch-result.new.out c.fetch-result.result (ap (λ (x : Run). x.epoch) c.fetch-result.ensures.kept) c.requires.serves c.fetch-result.ensures.served c.fetch-result.ensures.refused
+
+pub returns-clause-faults : goal.returns-clause-faults
+returns-clause-faults g c = fetch_faults c.fetch-result.result c.fetch-result.ensures.faults
+
+pub returns-clause-params : goal.returns-clause-params
+returns-clause-params g c = ap (λ (x : Run). x.params) c.fetch-result.ensures.kept

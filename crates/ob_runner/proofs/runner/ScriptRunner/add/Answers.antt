@@ -10,3 +10,9 @@ abort-requires-clause-end c = no_sum_aborts (runner_state c.args.self.now) c.arg
 
 pub put-requires-clause-takes : goal.put-requires-clause-takes
 put-requires-clause-takes c = sum_takes (runner_state c.args.self.now) c.args.txn.now c.args.key c.args.sum.now c.in-Some.sum c.args.next c.requires.place c.in-Some.is
+
+pub returns-in-Some : goal.returns-in-Some
+returns-in-Some c = c.put.ensures
+
+pub returns-in-None : goal.returns-in-None
+returns-in-None c = c.abort.ensures

@@ -30,3 +30,12 @@ del-requires-clause-takes c = ask_takes (runner_state c.args.self.now) c.args.de
 
 pub get-requires-in-Add-clause-takes : goal.get-requires-in-Add-clause-takes
 get-requires-in-Add-clause-takes c = ask_takes (runner_state c.args.self.now) c.args.desk.now c.args.txn.now c.args.ask.now c.args.at c.args.next c.requires.may c.requires.place c.requires.ask
+
+pub returns-in-Get : goal.returns-in-Get
+returns-in-Get c = c.get.ensures
+
+pub returns-in-Put : goal.returns-in-Put
+returns-in-Put c = c.put.ensures
+
+pub returns-in-Del : goal.returns-in-Del
+returns-in-Del c = c.del.ensures

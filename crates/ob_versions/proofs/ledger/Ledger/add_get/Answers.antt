@@ -1,4 +1,5 @@
 use Rattle.std.proofs.Common.{◌≡◌, List, true, ◌<◌, ◌≤◌, is_some, length, sym, ap, ◌∙◌, subst}
+use Rattle.std.proofs.lemmas.Result.{IfOk-from_err}
 use Rattle.ob_order.specs.Works.{Work, with_op, version}
 use Rattle.ob_versions.specs.Ledgers.{LedgerModel, IsLedger}
 use Rattle.ob_versions.proofs.Kept.{ledger_noted, ledger_got, ready_same, ready_edit}
@@ -33,3 +34,9 @@ invariant_of-self-2 c =
           (ledger_got a.keys a.written a.works.items c.note_source.new.table c.raise_mark.new.table c.args.t c.args.key c.args.version.now.value c.args.version.now.source h r.0 r.1 from c.in_ok-note_source.ensures.ok.1 m.raises m.keys m.readers),
       ready_edit _ a.works.items c.add_to.new.list.items c.args.t a.agenda ops c.self.invariant.1,
     )
+
+pub returns-in_err-note_source-clause-ok : goal.returns-in_err-note_source-clause-ok
+returns-in_err-note_source-clause-ok c = IfOk-from_err c.from_residual.result _ c.from_residual.ensures.0
+
+pub returns-in_err-add_to-clause-ok : goal.returns-in_err-add_to-clause-ok
+returns-in_err-add_to-clause-ok c = IfOk-from_err c.from_residual-in_err-add_to.result _ c.from_residual-in_err-add_to.ensures.0

@@ -1,7 +1,8 @@
 use Rattle.std.proofs.Common.{◌≡◌, List, Bool, true, false, ◌+◌, ◌≤◌, ◌&&◌, nat_lt, if◌then◌else◌, refl, sym, subst, arith}
+use Rattle.std.proofs.lemmas.Result.{IfOk-from_err}
 use Rattle.ob_order.specs.Works.{Work, goes_on}
-use Rattle.ob_versions.specs.Ledgers.{LedgerModel, IsLedger, covered_mark}
 use Rattle.ob_chains.specs.Tables.{has_links}
+use Rattle.ob_versions.specs.Ledgers.{LedgerModel, IsLedger, covered_mark}
 use Rattle.ob_versions.proofs.Kept.{ledger_room, ledger_wrote, count_most, ready_same, ready_edit}
 use Rattle.ob_versions.proofs.ledger.Ledger.add_write.Goals as goal
 
@@ -49,3 +50,9 @@ invariant_of-self-2 c =
           (ledger_wrote a.keys a.written a.works.items c.make_room.new.table c.put_write.new.table c.args.t c.args.key c.args.value _ c.in_ok-first.first c.count_where.result h live unread refl refl q.links p.bases q.keys q.first c.count_where.ensures p.readers),
       ready_edit _ a.works.items c.put_write.new.list.items c.args.t a.agenda q.ok c.self.invariant.1,
     )
+
+pub returns-in_err-make_room-clause-ok : goal.returns-in_err-make_room-clause-ok
+returns-in_err-make_room-clause-ok c = IfOk-from_err c.from_residual.result _ c.from_residual.ensures.0
+
+pub returns-in_err-first-clause-ok : goal.returns-in_err-first-clause-ok
+returns-in_err-first-clause-ok c = IfOk-from_err c.from_residual-in_err-first.result _ c.from_residual-in_err-first.ensures.0

@@ -1,4 +1,5 @@
 use Rattle.std.proofs.Common.{◌≡◌, ◌∷◌, [], ◌++◌, if◌then◌else◌, false, length, sym, ap, ◌∙◌, subst, length-append, arith}
+use Rattle.std.proofs.lemmas.Result.{IfOk-from_err}
 use Rattle.ob_order.specs.Order as rules
 use Rattle.ob_order.specs.Order.{Params, OrderState}
 use Rattle.ob_order.specs.OrderModel.{OrderModel, IsKept}
@@ -29,3 +30,9 @@ take_back-requires c =
     let queue : c.ask.new.self.state.queue ≡ o.queue ++ key ∷ [] =
     ap (λ (m : OrderModel). m.state.queue) c.in_ok-ask.ensures.ok ∙ ap (λ b. (let next : OrderState = if b then o else record o { queue = o.queue ++ key ∷ [] } in next).queue) is in
     omega (arith, ap length queue, length-append o.queue (key ∷ []))
+
+pub returns-in_err-wait-clause-ok : goal.returns-in_err-wait-clause-ok
+returns-in_err-wait-clause-ok c = IfOk-from_err c.from_residual.result _ c.from_residual.ensures.0
+
+pub returns-in_err-ask-clause-ok : goal.returns-in_err-ask-clause-ok
+returns-in_err-ask-clause-ok c = IfOk-from_err c.from_residual-in_err-ask.result _ c.from_residual-in_err-ask.ensures.0

@@ -1,4 +1,5 @@
 use Rattle.std.proofs.Common.{◌≡◌, sym, ap, ◌∙◌}
+use Rattle.std.proofs.lemmas.Result.{IfOk-from_err}
 use Rattle.ob_order.specs.Works as works
 use Rattle.ob_order.specs.Order as rules
 use Rattle.ob_order.proofs.Keeps.{kept_wrote}
@@ -13,3 +14,9 @@ invariant_of-self-2 c =
     let room : rules.other_keys a.queue.params o c.args.key ≡ a.queue.params.writes → ⊥ = λ e. c.if-other_keys-from.false (others ∙ (e ∙ (ap (λ (p : rules.Params). p.writes) (sym c.params.ensures) ∙ sym c.from.ensures))) in
     let k = kept_ledger a.queue.params (works.with_op a.ledger.works c.args.t (rules.write_op c.args.key c.args.value)) _ a.ledger c.in_ok-add_write.ensures.ok c.self.invariant.1 (kept_wrote a.queue.params o c.args.t c.args.key c.args.value c.self.invariant.0 room) in
     (k.0, k.1)
+
+pub returns-in_err-add_write-clause-reply : goal.returns-in_err-add_write-clause-reply
+returns-in_err-add_write-clause-reply c = IfOk-from_err c.from_residual.result _ c.from_residual.ensures.0
+
+pub returns-in_err-add_write-clause-ok : goal.returns-in_err-add_write-clause-ok
+returns-in_err-add_write-clause-ok c = IfOk-from_err c.from_residual.result _ c.from_residual.ensures.0

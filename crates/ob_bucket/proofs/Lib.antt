@@ -1,9 +1,0 @@
-pub mod Counting
-pub mod OrderLaws
-pub mod PartLaws
-pub mod RankLaws
-pub mod Ranges
-pub mod Rows
-pub mod SpellingLaws
-pub mod TakenLaws
-pub mod VersionLaws

@@ -1,5 +1,0 @@
-use Rattle.ob_bucket.proofs.SpellingLaws.{IndexesRead}
-use Rattle.ob_bucket.proofs.decode.read_indexes.Given as goal
-
-abbrev pub invariant-loop-j : goal.invariant-loop-j
-invariant-loop-j l = IndexesRead l.bytes l.at l.j l.ranks.items l.used.items

@@ -1,0 +1,119 @@
+//! Buckets that were filled anew, written where they then lie.
+
+ghost use Rattle.std.specs.Prelude.{◌≡◌, ◌<◌, ◌≤◌, ◌+◌, ◌%◌, ◌^◌, ℕ, length, OnOk};
+ghost use Rattle.ob_base.specs.Layout.{slot_cell};
+ghost use Rattle.ob_base.specs.Tree.{buckets, width};
+ghost use Rattle.ob_cells.specs.Writes.{Seals, WritesRun};
+ghost use Rattle.ob_pads.specs.Seals.{CellsAreSealed};
+ghost use Rattle.ob_ring.specs.Ring.{AreListedWithin};
+ghost use Rattle.ob_ring_trace.specs.Ends.{refill_notes};
+ghost use Rattle.ob_stand.specs.Ends.{RingEnd};
+ghost use Rattle.ob_stand.specs.Stands.{RingStanding};
+ghost use Rattle.ob_store.specs.Calls.{IsFailed, Serves};
+ghost use Rattle.ob_store.specs.Images.{Passes};
+ghost use Rattle.ob_store.specs.Runs.{write_notes};
+ghost use Rattle.ob_store.specs.Told.{Does};
+ghost use Rattle.ob_end.specs.EndWrites.{AreSealedFrom, FillsBuckets, IsEndOfRing, SameFirst, bucket_seals, slot_plain, version_of};
+
+use ob_base::{Failed, Params, slot_cell};
+use ob_cells::{Pieces, write_sealed};
+use ob_ring::Ring;
+use ob_seal::Sealer;
+use ob_store::{Store, Watch};
+use std::marker::Model;
+
+// The slots of a bucket of a ring.
+#[derive(Drop)]
+struct Filled<'a> {
+    ring: &'a Ring,
+    bucket: u32,
+}
+
+impl<'a> Model for Filled<'a> {
+    ghost use Rattle.std.specs.Prelude.{◌<◌, ℕ};
+    ghost use Rattle.ob_base.specs.Tree.{buckets};
+    ghost use Rattle.std.specs.Coded.{codes};
+    ghost use Rattle.ob_tables.specs.Kept.{held_code};
+    ghost use Rattle.ob_ring.specs.Ring.{Kept};
+
+    ghost Value = { Kept × ℕ };
+
+    ghost coded = { Prim.hlevel (codes, held_code) };
+
+    ghost view = { λ s. (s.ring.now, s.bucket) };
+
+    ghost invariant = { λ s. s.bucket < buckets (s.ring.now).p };
+}
+
+impl<'a> Pieces for Filled<'a> {
+    ghost use Rattle.std.specs.Prelude.{◌%◌, ◌^◌};
+    ghost use Rattle.ob_end.specs.EndWrites.{slot_plain};
+
+    ghost plain = { λ f i. slot_plain f.0 f.1 (i % 2 ^ 8) };
+
+    fn piece(&self, i: u64) -> [u8; 96] {
+        self.ring.plain_of(self.bucket, (i % 256) as u8)
+    }
+}
+
+// Writes the slots of a bucket where it lies, under the next seals.
+fn write_bucket<S: Store, W: Watch>(
+    store: &mut S,
+    sealer: &mut Sealer,
+    p: &Params,
+    ring: &Ring,
+    bucket: u32,
+    watch: &mut W,
+) -> Result<(), Failed>
+    requires none_out { (S.disk store.old).out ≡ 0 }
+    requires params { p.now ≡ ring.now.p }
+    requires bucket { bucket < buckets ring.now.p }
+    requires room { sealer.old.next + width ring.now.p ≤ 2 ^ 62 }
+    ensures serves { Serves IsFailed (S.disk store.old) (S.disk store.new) result }
+    ensures run { WritesRun (slot_cell ring.now.p (version_of ring.now bucket).home bucket 0)
+        (width ring.now.p) (λ i. slot_plain ring.now bucket (i % 2 ^ 8)) sealer.old sealer.new
+        (S.disk store.old) (S.disk store.new) result }
+    ensures does { Does (write_notes (slot_cell ring.now.p (version_of ring.now bucket).home bucket
+        0) (width ring.now.p)) (S.disk store.old).seen (S.disk store.new).seen (W.trace watch.old)
+        (W.trace watch.new) result }
+{
+    let home = ring.tables().metas.get(bucket).home();
+    let first = slot_cell(p, home, bucket, 0);
+    let many = (p.real + p.dummies) as u64;
+    write_sealed(store, sealer, first, many, &Filled { ring, bucket }, watch)
+}
+
+// Writes the listed buckets in their order.
+pub fn write_buckets<S: Store, W: Watch>(
+    store: &mut S,
+    sealer: &mut Sealer,
+    p: &Params,
+    ring: &Ring,
+    watch: &mut W,
+) -> Result<(), Failed>
+    requires none_out { (S.disk store.old).out ≡ 0 }
+    requires params { p.now ≡ ring.now.p }
+    requires within { AreListedWithin ring.now }
+    requires room { sealer.old.next + bucket_seals ring.now ≤ 2 ^ 62 }
+    requires sealed { AreSealedFrom ring.now sealer.old.generation sealer.old.next }
+    ensures serves { Serves IsFailed (S.disk store.old) (S.disk store.new) result }
+    ensures seals { Seals (bucket_seals ring.now) sealer.old sealer.new result }
+    ensures fills { (s : RingStanding) (end : RingEnd)
+        → IsEndOfRing s end sealer.old.generation ring.now
+        → FillsBuckets sealer.old.keys ring.now.p s end (S.disk store.old) (S.disk store.new) result }
+    ensures first { (S.disk store.old).tells
+        → SameFirst (S.disk store.new).cells (S.disk store.old).cells }
+    ensures moments { Passes SameFirst (S.disk store.old) (S.disk store.new) }
+    // Each cell that has changed is sealed with a number of its own, taken meanwhile.
+    ensures sealed { (S.disk store.old).tells → OnOk result (CellsAreSealed sealer.old sealer.new
+        (S.disk store.old).cells (S.disk store.new).cells) }
+    ensures does { Does (refill_notes ring.now.p ring.now.metas.versions ring.now.metas.order)
+        (S.disk store.old).seen (S.disk store.new).seen (W.trace watch.old) (W.trace watch.new)
+        result }
+{
+    for i in 0..ring.to_refill().len() {
+        let bucket = ring.to_refill()[i];
+        write_bucket(store, sealer, p, ring, bucket, watch)?;
+    }
+    Ok(())
+}

@@ -1,4 +1,0 @@
-pub mod Parts
-pub mod Shuts
-pub mod FillsAll
-pub mod Whole

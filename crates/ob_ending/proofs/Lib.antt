@@ -1,4 +1,0 @@
-pub mod LiftsFew
-pub mod LiftReads
-pub mod LiftsStand
-pub mod RenewLaws

@@ -1,4 +1,0 @@
-pub mod Life
-pub mod Calls
-pub mod Laws
-pub mod Bridge

@@ -1,0 +1,102 @@
+//! The files that the words name.
+
+ghost use Rattle.std.specs.Prelude.{◌≡◌, IfOk, None};
+
+use ob_base::{Fault, Memory};
+use ob_file::{FileStore, OpenErr, open_locked};
+use ob_io::{ReadErr, StdSource, read_all};
+use ob_words::store_wanted;
+use std::alloc::Global;
+use std::fs::File;
+
+// The most bytes that a key file may have: the digits of 96 bytes, and a line feed.
+const KEY_TEXT: usize = 193;
+
+/// The files of the words, each locked as long as this lives: the key file against writers, and the
+/// store against all.
+#[derive(Drop)]
+pub struct Files<'a> {
+    /// The key file, where it could be had.
+    pub keys: Option<File>,
+    /// The store, where it could be had.
+    pub store: Option<FileStore<&'a HostRuntime>>,
+}
+
+/// The words, and what they name.
+#[derive(Drop)]
+pub struct Named<'a> {
+    /// The words.
+    pub words: Vec<&'a str>,
+    /// Their files.
+    pub files: Files<'a>,
+    /// The key file's text, up to a byte more than keys may have: none where there is no file, or
+    /// where it can't be read.
+    pub keys: Option<Vec<u8>>,
+}
+
+fn texts_of(alloc: Global, words: &[String]) -> Result<Vec<&str>, Memory> {
+    let mut texts = Vec::new(alloc);
+    for word in words {
+        texts.push(word.as_str())?;
+    }
+    Ok(texts)
+}
+
+// Opens and locks the files that the words call for, before anything is read or written: none where
+// they call for none, or where it can't be had. Where the two are one file the key file's lock
+// refuses the store.
+fn open_files<'a>(rt: &'a HostRuntime, words: &[&str]) -> Result<Files<'a>, Fault>
+    ensures { IfOk result (λ files. files.keys ≡ None → files.store ≡ None) }
+{
+    let paths = store_wanted(rt.alloc(), words)?;
+    let (Some(keys), Some((store, create))) = (paths.keys, paths.store) else {
+        return Ok(Files {
+            keys: None,
+            store: None,
+        });
+    };
+    let Ok(keys) = open_locked(rt, keys) else {
+        return Ok(Files {
+            keys: None,
+            store: None,
+        });
+    };
+    match FileStore::open(rt, rt.alloc(), store, create) {
+        Ok(store) => Ok(Files {
+            keys: Some(keys),
+            store: Some(store),
+        }),
+        Err(OpenErr::Failed) => Ok(Files {
+            keys: Some(keys),
+            store: None,
+        }),
+        Err(OpenErr::Memory(_)) => Err(Fault::Memory),
+    }
+}
+
+// The text of a key file, up to a byte more than keys may have: none where there is no file, or
+// where it can't be read.
+fn read_keys(alloc: Global, file: Option<&File>) -> Result<Option<Vec<u8>>, Fault> {
+    let Some(file) = file else {
+        return Ok(None);
+    };
+    match read_all(alloc, &mut StdSource::new(file), KEY_TEXT) {
+        Ok(text) => Ok(Some(text)),
+        Err(ReadErr::Failed) => Ok(None),
+        Err(ReadErr::Memory) => Err(Fault::Memory),
+    }
+}
+
+/// Opens and locks the files that the words name, and then reads the key file. Without a key file
+/// no store is opened or made.
+///
+/// # Errors
+/// Memory was wanting.
+pub fn open_named<'a>(rt: &'a HostRuntime, words: &'a [String]) -> Result<Named<'a>, Fault>
+    ensures { IfOk result (λ named. named.files.keys ≡ None → named.files.store ≡ None) }
+{
+    let words = texts_of(rt.alloc(), words)?;
+    let files = open_files(rt, &words)?;
+    let keys = read_keys(rt.alloc(), files.keys.as_ref())?;
+    Ok(Named { words, files, keys })
+}

@@ -1,0 +1,9 @@
+//! What the program is handed from outside: the standard descriptors, its words, and the files that
+//! they name.
+#![tactic(auto)]
+
+mod files;
+mod process;
+
+pub use files::{Files, Named, open_named};
+pub use process::{hold_standard, words_of};

@@ -1,3 +1,0 @@
-pub mod Shown
-pub mod Lives
-pub mod Joined

@@ -1,0 +1,9 @@
+//! Tests of stores in memory and in files.
+#![tactic(auto)]
+
+#[cfg(test)]
+mod files;
+#[cfg(test)]
+mod memory;
+#[cfg(test)]
+mod steps;

@@ -1,0 +1,165 @@
+//! Planned failures, and what a crash may leave.
+
+ghost use Rattle.std.specs.Prelude.{◌≡◌};
+
+use crate::steps::Step::{NoLane, NotRead, NotSynced, NotWritten, Read, Synced, Write};
+use crate::steps::{Step, new_sink, new_store, play};
+use ob_io::{Sink, Source, put_all, read_all};
+use ob_mem::{BareStore, Fail, MemSink, MemSource, MemStore, Void};
+use ob_store::{SinkWatch, Store, write_run};
+use std::process::Abort;
+
+// Of a source of three bytes whose second read fails: how many bytes a read of two gives, and how
+// many are left then.
+const READS: [(Option<usize>, usize); 4] = [(Some(2), 1), (None, 1), (Some(1), 0), (Some(0), 0)];
+
+#[test]
+fn a_source_fails_at_the_named_calls(rt: HostRuntime) {
+    let alloc = rt.alloc();
+    let bytes = [1, 2, 3].to_vec(alloc).expect(&rt, "memory");
+    let fails = [1].to_vec(alloc).expect(&rt, "memory");
+    let mut source = MemSource::new(bytes, fails);
+    let mut piece = [0; 2];
+    for &(count, left) in &READS {
+        assert!(rt; source.read(&mut piece).ok() == count);
+        assert!(rt; source.left().len() == left);
+    }
+    assert!(rt; piece == [3, 2]);
+    assert!(rt; source.faults() == 1);
+}
+
+#[test]
+fn a_source_is_read_to_its_end(rt: HostRuntime) {
+    let alloc = rt.alloc();
+    let bytes = [7; 5000].to_vec(alloc).expect(&rt, "memory");
+    let mut source = MemSource::new(bytes, Vec::new(alloc));
+    let read = read_all(alloc, &mut source, 10_000).ok();
+    assert!(rt; read.expect(&rt, "bytes").len() == 5000);
+}
+
+// Of a sink with room for five bytes whose second write fails: what is written, and how much of it
+// is taken.
+const WRITES: [(&[u8], Option<usize>); 3] = [(b"ab", Some(2)), (b"cd", None), (b"cdef", Some(3))];
+
+#[test]
+fn a_sink_fails_at_the_named_calls_and_without_room(rt: HostRuntime) {
+    let alloc = rt.alloc();
+    let fails = [1].to_vec(alloc).expect(&rt, "memory");
+    let mut sink = MemSink::new(alloc, 5, fails).expect(&rt, "memory");
+    for &(bytes, count) in &WRITES {
+        assert!(rt; sink.write(bytes).ok() == count);
+    }
+    assert!(rt; put_all(&mut sink, b"g").is_err());
+    assert!(rt; sink.written() == b"abcde".as_slice());
+    assert!(rt; sink.faults() == 2);
+}
+
+#[test]
+fn a_void_takes_all(rt: HostRuntime) {
+    assert!(rt; put_all(&mut Void, b"abc").is_ok());
+}
+
+const PLANNED: [Fail; 4] = [
+    Fail::Write(1),
+    Fail::Sync(0),
+    Fail::Lane(1),
+    Fail::Read { cell: 2, writes: 3 },
+];
+
+// On three cells, where these calls fail.
+const FAILING: &[Step] = &[
+    Write(2, 1),
+    NotWritten(2, 2),
+    NotSynced,
+    NotWritten(3, 3),
+    NotRead(2),
+    NoLane,
+    Read(7, 0),
+];
+
+#[test]
+fn planned_calls_of_a_store_fail(rt: HostRuntime) {
+    let mut store = new_store(&rt, rt.alloc(), 3, &PLANNED);
+    play(&rt, &mut store, FAILING);
+    assert!(rt; store.faults() == 5 && store.starved() == 0);
+}
+
+// Two cells, of which the first is sure.
+const HALF_SURE: &[Step] = &[Write(0, 1), Synced, Write(1, 2), NotSynced];
+
+// The moment of a crash, and what is read then.
+const CRASHES: [(usize, &[Step]); 6] = [
+    (0, &[Read(0, 0), Read(1, 0), Read(5, 0)]),
+    (1, &[Read(0, 7), Read(1, 0), Read(5, 0)]),
+    (2, &[Read(0, 1), Read(1, 0), Read(5, 0)]),
+    (3, &[Read(0, 1), Read(1, 9), Read(5, 0)]),
+    (4, &[Read(0, 1), Read(1, 9), Read(5, 0)]),
+    (9, &[Read(0, 1), Read(1, 9), Read(5, 0)]),
+];
+
+// Makes calls on what a crash leaves that fills cells with these bytes, the second one twice.
+fn play_filled(rt: &impl Abort, store: &MemStore, moment: usize, steps: &[Step]) {
+    let fillings = [(0, [7; 128]), (1, [8; 128]), (1, [9; 128]), (5, [9; 128])];
+    let left = store.crash(moment, &fillings);
+    play(rt, &mut left.expect(rt, "memory"), steps);
+}
+
+const LAST: &[Step] = &[Read(1, 2)];
+
+#[test]
+fn a_crash_fills_what_is_not_sure(rt: HostRuntime) {
+    let mut store = new_store(&rt, rt.alloc(), 4, &[Fail::Sync(1)]);
+    play(&rt, &mut store, HALF_SURE);
+    for (moment, steps) in &CRASHES {
+        play_filled(&rt, &store, *moment, steps);
+    }
+    let left = store.crash(4, &[]);
+    play(&rt, &mut left.expect(&rt, "memory"), LAST);
+}
+
+// On a store of two cells.
+const BARE: &[Step] = &[Write(1, 5), NotWritten(2, 5), Synced, Read(1, 5)];
+
+#[test]
+fn a_bare_store_reads_what_was_written(rt: HostRuntime) {
+    let mut store = BareStore::new(rt.alloc(), 2).expect(&rt, "memory");
+    play(&rt, &mut store, BARE);
+}
+
+// What two runs leave, of which the second one's last write failed.
+const RUNS: &[Step] = &[Read(0, 0), Read(1, 5), Read(2, 7), Read(3, 8)];
+
+// Writes two runs, which is shown.
+fn write_runs(rt: &impl Abort, sink: &mut MemSink, store: &mut MemStore)
+    requires { store.old.log.out ≡ 0 }
+    ensures { store.new.log.out ≡ 0 }
+{
+    let mut watch = SinkWatch::new(sink);
+    assert!(rt; write_run(store, 1, &[[5; 128], [6; 128]], &mut watch).is_ok());
+    assert!(rt; write_run(store, 2, &[[7; 128], [8; 128], [9; 128]], &mut watch).is_err());
+}
+
+#[test]
+fn a_run_is_written_cell_by_cell(rt: HostRuntime) {
+    let mut store = new_store(&rt, rt.alloc(), 4, &[Fail::Write(3)]);
+    let mut sink = new_sink(&rt, rt.alloc(), 40);
+    write_runs(&rt, &mut sink, &mut store);
+    assert!(rt; sink.written() == b"W 1\nW 2\nW 2\nW 3\n".as_slice());
+    play(&rt, &mut store, RUNS);
+}
+
+// Whether a lane is made of a store that threads share, and whose lanes they take with them.
+fn lends_to_threads<S: Store + Sync>(store: &mut S) -> bool
+where
+    S::Lane: Send,
+{
+    store.lane().is_ok()
+}
+
+#[test]
+fn threads_read_stores_through_lanes(rt: HostRuntime) {
+    let alloc = rt.alloc();
+    assert!(rt; lends_to_threads(&mut new_store(&rt, alloc, 4, &[])));
+    let mut bare = BareStore::new(alloc, 4).expect(&rt, "memory");
+    assert!(rt; lends_to_threads(&mut bare));
+}

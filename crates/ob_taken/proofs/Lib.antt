@@ -1,4 +1,0 @@
-pub mod Taking
-pub mod Moving
-pub mod Going
-pub mod TheLaws

@@ -1,0 +1,119 @@
+-- What serving a script does to the store that a ring vault was lent, where the vault's words are those of what it runs with.
+use Rattle.std.specs.Borrow.{GName}
+use Rattle.std.proofs.Common.{◌≡◌, ◌∙◌, ◌∷◌, ◌<◌, ◌≤◌, ◌^◌, ℕ, suc, Bool, List, [], Result, sym, ap, subst, refl}
+use Rattle.std.proofs.lemmas.List.Elements.{All-weaker}
+use Rattle.ob_base.specs.declared.params.Params.{Params}
+use Rattle.ob_base.specs.declared.fault.Fault.{Fault}
+use Rattle.ob_io.specs.Streams.{Flow}
+use Rattle.ob_seal.specs.Sealing.{Sealing}
+use Rattle.ob_seal.specs.declared.keys.Keys.{Keys}
+use Rattle.ob_store.specs.Calls.{GoesOn}
+use Rattle.ob_store.specs.Disk.{Clock, Disk, Image, NotAfter}
+use Rattle.ob_store.specs.Images.{LeavesOnly}
+use Rattle.ob_store.specs.Lines.{Trace}
+use Rattle.ob_serial.specs.VaultKinds.{Kind}
+use Rattle.ob_serial.specs.Vaults.{Standing, VaultState}
+use Rattle.ob_fetch.specs.declared.run.Run.{Run}
+use Rattle.ob_stand.specs.Stands.{StandsRing}
+use Rattle.ob_recover.specs.declared.found.Found.{Found}
+use Rattle.ob_pads.proofs.Chains.{chain_runs}
+use Rattle.ob_pads.specs.Lives.{Opens}
+use Rattle.ob_ring_vault.specs.RingVaults.{HasPlanned, RingHolds, RingSound, Running, lent_both}
+use Rattle.ob_ring_life.proofs.SealCalls.{is_act}
+use Rattle.ob_kinds.specs.Kinds.{opened_with}
+use Rattle.ob_kinds.proofs.Begun.{held_with, holds_found, ring_begins_sound, ring_begun}
+use Rattle.ob_kinds.specs.RingKind.{GoesOnFrom, RingFound, ring_kind}
+use Rattle.ob_kinds.specs.RingSteps.{HasRingWords}
+use Rattle.ob_ring_life.specs.Lives.{ring_lives}
+use Rattle.ob_script.specs.Script.{ScriptTxn, Scripts, AreSound, asks_by}
+use Rattle.ob_runner.proofs.Scripted.{is_its_script}
+use Rattle.ob_runner.specs.RunnerViews.{runner_state, client_of, bound_of, plan_of, MayHaveMade}
+use Rattle.ob_runner.specs.Runners.{AreRunners, IsNewOf}
+use Rattle.ob_runner.specs.Turns.{IsScriptTurn}
+use Rattle.ob_runner.specs.declared.runner.ScriptRunner.{ScriptRunner}
+use Rattle.ob_desk.specs.Beats.{BeatKind}
+use Rattle.ob_desk.specs.Desk.{DeskState, new_desk}
+use Rattle.ob_conduct.specs.Left.{Rests}
+use Rattle.ob_conduct.specs.Scenes.{RunnerKind, run_state, runner_kind, scene}
+use Rattle.ob_run.specs.Threaded.{RunsBy}
+use Rattle.ob_outcomes.proofs.Whole.{RunsScripts}
+use Rattle.ob_top.specs.Runs.{manner, ServedOver, fault_of}
+use Rattle.ob_top.proofs.Opens.{may_open}
+use Rattle.ob_top.proofs.RingServing.{IsRingLender, ring_serves}
+
+rest_same : (a b : GName) (xs ys : List GName) → ◌≡◌ {A = List GName} (a ∷ xs) (b ∷ ys) → xs ≡ ys
+rest_same a b xs ys is = cc is
+
+abbrev script_kind : RunnerKind ScriptRunner (List ScriptTxn)
+script_kind = runner_kind client_of bound_of plan_of MayHaveMade IsScriptTurn
+
+runs_scripts : RunsScripts script_kind
+runs_scripts = record { means = λ r said fit. is_its_script (runner_state r) said fit; turns = λ script client said steps turn. turn }
+
+-- the words of a vault, told of what it runs with
+pub record IsLent {V S : Type 0} (k : Kind V) (disk : S → Disk) (runs : V → Running S) : Type 1 where
+  pub disk_is : (v : V) → (store : GName) × (tape : GName) × (k.disk v ≡ lent_both store tape (disk (runs v).store))
+  pub holds : (v : V) (u : VaultState) → RingHolds (runs v).run (disk (runs v).store) u → k.holds v u
+  pub sound : (v : V) (u : VaultState) → RingSound (runs v).run (disk (runs v).store) u → k.sound v u
+  pub stands : (v : V) (i : Image) (at : Standing) → k.stands v i at → StandsRing ((runs v).run).sealer.keys ((runs v).run).params ((runs v).run).sealer.generation i at
+  pub rests : Rests k
+
+module _ {V S : Type 0} (k : Kind V) (disk : S → Disk) (counts_now : (x : S) (t : Clock) (c : Image) → NotAfter t (disk x).moment → (disk x).may_leave c → (disk x).left_since t c)
+    (only_now : (x : S) (c : Image) → (disk x).left_since (disk x).moment c → (disk x).may_leave c) (runs : V → Running S) (words : HasRingWords k disk runs) (lent : IsLent k disk runs)
+    (keys : Keys) (p : Params) (found : Found) (f : RingFound) (first : V) (goes : GoesOnFrom keys p found f) (run_is : (runs first).run ≡ f.run) where
+  abbrev disk_of : V → Disk
+  disk_of v = disk (runs v).store
+
+  goes_on : (v w : V) → GoesOn (k.disk v) (k.disk w) → GoesOn (disk_of v) (disk_of w)
+  goes_on v w one =
+      let (a, b, v_is) = lent.disk_is v in
+      let (c, d, w_is) = lent.disk_is w in
+      let both = subst (λ (x : Disk). GoesOn x (lent_both c d (disk_of w))) v_is (subst (λ (x : Disk). GoesOn (k.disk v) x) w_is one) in
+      record { anchors = rest_same _ _ _ _ (rest_same _ _ _ _ both.anchors); faults = both.faults; later = both.later; kept = both.kept; told = both.told; leaves = both.leaves; seen = both.seen }
+
+  leaves_only : (v w : V) (P : Image → Type 0) → LeavesOnly (k.disk v) (k.disk w) P → LeavesOnly (disk_of v) (disk_of w) P
+  leaves_only v w P one =
+      let (a, b, v_is) = lent.disk_is v in
+      let (c, d, w_is) = lent.disk_is w in
+      let both = subst (λ (x : Disk). LeavesOnly x (lent_both c d (disk_of w)) P) v_is (subst (λ (x : Disk). LeavesOnly (k.disk v) x P) w_is one) in
+      record { later = both.later; each = both.each; before = both.before }
+
+  stands_found : (i : Image) (at : Standing) → k.stands first i at → StandsRing keys p f.run.sealer.generation i at
+  stands_found i at stands =
+      let by_run = subst (λ (r : Run). StandsRing r.sealer.keys r.params r.sealer.generation i at) run_is (lent.stands first i at stands) in
+      subst (λ (x : Params). StandsRing keys x f.run.sealer.generation i at) goes.params (subst (λ (x : Keys). StandsRing x f.run.params f.run.sealer.generation i at) (ap (λ (x : Sealing). x.keys) goes.sealer) by_run)
+
+  lender : IsRingLender k disk counts_now only_now runs words keys p f first
+  lender = record {
+    faults = λ v. ap (λ (x : Disk). x.faults) (lent.disk_is v).2;
+    goes = goes_on;
+    since = leaves_only;
+    now = λ v i left. subst (λ (x : Disk). x.may_leave i) (sym (lent.disk_is v).2) left;
+    stands = stands_found;
+    only = λ w i. subst (λ (x : Disk). x.left_since x.moment i → x.may_leave i) (sym (lent.disk_is w).2) (λ left. only_now (runs w).store i left);
+    rests = lent.rests;
+    holds = λ m of. (held_with f.run m, lent.holds first (held_with f.run m) (subst (λ (r : Run). RingHolds r (disk_of first) (held_with f.run m)) (sym run_is) (holds_found keys p f (disk_of first) m goes.serving of)), refl);
+    sound = λ at tells settled opened. lent.sound first (opened_with p f.run.left at) (subst (λ (r : Run). RingSound r (disk_of first) (opened_with p f.run.left at)) (sym run_is) (ring_begins_sound disk keys p f at (runs first).store goes.serving opened));
+    lives = λ w steps called. λ old opens tells.
+        chain_runs k disk (λ v. (runs v).store) (λ v. (runs v).run.sealer)
+        (λ v w call answer notes does told. is_act disk (runs v) (runs w) notes (λ image left. only_now (runs v).store image left) call answer (words.called v call answer notes w does) told)
+        keys old first w steps tells (λ told. subst (λ (s : Sealing). Opens keys (disk old) (disk_of first) s) (sym (ap (λ (r : Run). r.sealer) run_is)) (opens told)) called;
+  }
+
+-- a run that was conducted over a vault that was just made of an opening
+pub serves_lent : {V S : Type 0} (first : V) (k : Kind V) (beat : BeatKind) (threads : Bool) (p : Params) (script : Scripts) (trace : Trace) (runners : List ScriptRunner) (before : Flow) (last : V) (seen : Trace) (ran : List ScriptRunner) (after : Flow) (result : Result (Unit {0}) Fault) (epoch left : ℕ)
+    → ((new : DeskState) × RunsBy threads k script_kind beat (run_state (scene (new_desk (record { params = p }) (suc epoch) left script.clients) first trace) runners before) (run_state (scene new last seen) ran after) result)
+    → AreSound script → AreRunners script runners
+    → (disk : S → Disk) (counts_now : (x : S) (t : Clock) (c : Image) → NotAfter t (disk x).moment → (disk x).may_leave c → (disk x).left_since t c)
+    (only_now : (x : S) (c : Image) → (disk x).left_since (disk x).moment c → (disk x).may_leave c) (runs : V → Running S) → HasRingWords k disk runs → IsLent k disk runs
+    → (keys : Keys) (found : Found) (f : RingFound) (start : Run) → GoesOnFrom keys p found f → (runs first).run ≡ start → f.run ≡ start → epoch ≡ (runs first).run.epoch → left ≡ (runs first).run.left
+    → start.epoch < 2 ^ 62 → start.left ≤ p.batches → (runs first).lanes ≤ 1 → HasPlanned f.run f.content f.records → (runs first).drawn ≡ []
+    → ServedOver ring_kind ring_lives disk (manner beat threads) keys p f f.run.sealer script (runs last).drawn (runs first).store (runs last).store before after (fault_of result)
+serves_lent first k beat threads p script trace runners before last seen ran after result epoch left done sound are disk counts_now only_now runs words lent keys found f start goes is same epoch_is left_is small few lanes has none =
+    let (new, run) = done in
+    let run_is : (runs first).run ≡ f.run = is ∙ sym same in
+    let may = may_open p f.run.epoch f.run.left script (subst (λ (r : Run). r.epoch < 2 ^ 62) (sym same) small) (subst (λ (r : Run). r.left ≤ p.batches) (sym same) few) sound in
+    let planned = All-weaker (IsNewOf script) (λ r. plan_of r ≡ asks_by (client_of r) script.txns) (λ r n. n.plan) runners are.new in
+    ring_serves k disk counts_now only_now runs words keys p f first beat threads script_kind runs_scripts script sound may trace runners before (run_state (scene new last seen) ran after) result epoch left
+    are.clients_are planned (epoch_is ∙ ap (λ (r : Run). r.epoch) run_is) (left_is ∙ ap (λ (r : Run). r.left) run_is) run (lender k disk counts_now only_now runs words lent keys p found f first goes run_is)
+    (ring_begun k disk runs keys p found f first goes run_is lanes has none (λ u holds. lent.holds first u (subst (λ (r : Run). RingHolds r (disk (runs first).store) u) (sym run_is) holds)))

@@ -1,0 +1,23 @@
+use Rattle.std.proofs.Common.{◌≡◌, ◌-◌, List, Some, None, sym, ap, ◌∙◌}
+use Rattle.std.specs.Option.{option_copied, option_and_then}
+use Rattle.ob_order.specs.Works.{Work, at_ticket, waiting_at}
+use Rattle.ob_order.proofs.Steps.{at_before, looked_up}
+use Rattle.ob_versions.specs.Ledgers.{LedgerModel}
+use Rattle.ob_versions.proofs.ledger.Ledger.waiting.Goals as goal
+
+pub returns-in-Some : goal.returns-in-Some
+returns-in-Some c =
+    let t = c.args.t in
+    let list = c.deref.result.now in
+    let found : Some c.in-Some.work.now ≡ at_ticket list t = ap option_copied (sym c.in-Some.is) ∙ (looked_up list (t - 1) c.get.result c.get.ensures.lookup ∙ sym (at_before list t c.requires)) in
+    ap (λ (w : Work). w.waiting) c.work.view_is
+    ∙ (ap (option_and_then (λ (w : Work). w.waiting)) found
+    ∙ (ap (λ (ws : List Work). waiting_at ws t) c.deref.ensures.value ∙ ap (λ (d : LedgerModel). waiting_at d.works t) c.self.view_is))
+
+pub returns-in-None : goal.returns-in-None
+returns-in-None c =
+    let t = c.args.t in
+    let list = c.deref.result.now in
+    let found : None ≡ at_ticket list t = ap option_copied (sym c.in-None.is) ∙ (looked_up list (t - 1) c.get.result c.get.ensures.lookup ∙ sym (at_before list t c.requires)) in
+    ap (option_and_then (λ (w : Work). w.waiting)) found
+    ∙ (ap (λ (ws : List Work). waiting_at ws t) c.deref.ensures.value ∙ ap (λ (d : LedgerModel). waiting_at d.works t) c.self.view_is)
