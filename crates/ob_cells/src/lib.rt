@@ -1,6 +1,6 @@
 //! Sealed cells. Runs: plain bytes of 96 a cell, under seals of one generation in a row, which read
-//! back as they were written, or the first cell that breaks a rule is told. Batches of planned jobs,
-//! each of which reads a sealed cell.
+//! back as they were written, or the first cell that breaks a rule is told. Batches of planned
+//! jobs, each of which reads a sealed cell.
 #![tactic(auto)]
 
 mod bytes;

@@ -30,8 +30,8 @@ fn told(base: u64, broken: &Broken) -> Damaged
     bad_number(base + broken.place as u64 / 96, broken.kept, broken.least)
 }
 
-// The tables that the bytes tell, into fresh ones, or what the bytes are refused for. No number is
-// marked yet.
+/// The tables that the bytes tell, into fresh ones, or what the bytes are refused for. No number is
+/// marked yet.
 pub fn accept(
     p: &Params,
     base: u64,

@@ -14,7 +14,7 @@ pub struct Broken {
     pub least: u64,
 }
 
-// Tests one rule.
+/// Tests one rule.
 pub fn check(place: usize, kept: u64, obeys: bool, least: u64) -> Option<Broken>
     ensures { rule_of result
         ≡ first_broken (record { place = place; kept = kept; obeys = obeys; least = least } ∷ []) }
@@ -25,7 +25,7 @@ pub fn check(place: usize, kept: u64, obeys: bool, least: u64) -> Option<Broken>
     Some(Broken { place, kept, least })
 }
 
-// The first of two that is broken.
+/// The first of two that is broken.
 pub fn first(one: Option<Broken>, other: Option<Broken>) -> Option<Broken>
     ensures { rule_of result ≡ or_rule (rule_of one) (rule_of other) }
 {

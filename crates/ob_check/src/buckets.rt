@@ -35,7 +35,7 @@ fn check_bucket(p: &Params, bytes: &[u8], u: u32, placed: &mut [bool]) -> Option
     check_indexes(p, bytes, u, &mut taken)
 }
 
-// Tests all buckets, and marks their keys.
+/// Tests all buckets, and marks their keys.
 pub fn check_buckets(p: &Params, bytes: &[u8], placed: &mut [bool]) -> Option<Broken>
     requires long { length bytes.now ≡ checkpoint_len p.now }
     requires leaves { HaveLeaves p.now bytes.now }

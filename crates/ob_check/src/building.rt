@@ -117,7 +117,7 @@ fn read_stash(p: &Params, bytes: &[u8], stash: &mut Stash)
     }
 }
 
-// Fills tables with what the bytes tell, which break no rule.
+/// Fills tables with what the bytes tell, which break no rule.
 pub fn fill(p: &Params, bytes: &[u8], tables: Tables<Metas>) -> Tables<Metas>
     requires long { length bytes.now ≡ checkpoint_len p.now }
     requires kept { first_broken (rules p.now bytes.now) ≡ None }

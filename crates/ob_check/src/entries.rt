@@ -12,7 +12,7 @@ use crate::broken::{Broken, check, first};
 use crate::places::{entry_place, leaves};
 use ob_base::{Params, u32_at, u64_at};
 
-// Tests the counter.
+/// Tests the counter.
 pub fn check_counter(p: &Params, bytes: &[u8]) -> Option<Broken>
     requires { length bytes.now ≡ checkpoint_len p.now }
     ensures { rule_of result ≡ first_broken (counter_rules p.now bytes.now) }
@@ -45,7 +45,7 @@ fn check_entry(p: &Params, bytes: &[u8], k: u32) -> Option<Broken>
     first(one, other)
 }
 
-// Tests what is kept of each key.
+/// Tests what is kept of each key.
 pub fn check_entries(p: &Params, bytes: &[u8]) -> Option<Broken>
     requires { length bytes.now ≡ checkpoint_len p.now }
     ensures { rule_of result

@@ -15,7 +15,7 @@ use crate::marks::{least_rank, mark, may_rank};
 use crate::places::{bucket_place, index_place, key_place};
 use ob_base::{Params, u32_at};
 
-// Tests a bucket's home.
+/// Tests a bucket's home.
 pub fn check_home(p: &Params, bytes: &[u8], u: u32) -> Option<Broken>
     requires u { u < buckets p.now }
     requires long { length bytes.now ≡ checkpoint_len p.now }
@@ -131,7 +131,7 @@ fn take_rank(p: &Params, bytes: &[u8], u: u32, i: u32, taken: &mut [bool])
     mark(taken, bytes[index_place(p, u, i)] as u32);
 }
 
-// Tests the indexes of a bucket.
+/// Tests the indexes of a bucket.
 pub fn check_indexes(p: &Params, bytes: &[u8], u: u32, taken: &mut [bool]) -> Option<Broken>
     requires u { u < buckets p.now }
     requires long { length bytes.now ≡ checkpoint_len p.now }

@@ -106,7 +106,7 @@ fn check_key(p: &Params, bytes: &[u8], u: u32, placed: &mut [bool], j: u32) -> O
     None
 }
 
-// Tests the keys of a bucket, and marks them.
+/// Tests the keys of a bucket, and marks them.
 pub fn check_keys(p: &Params, bytes: &[u8], u: u32, placed: &mut [bool]) -> Option<Broken>
     requires u { u < buckets p.now }
     requires long { length bytes.now ≡ checkpoint_len p.now }

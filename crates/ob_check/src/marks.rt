@@ -8,7 +8,7 @@ ghost use Rattle.ob_check.specs.Marks.{AreMarked};
 
 use ob_base::Params;
 
-// Marks a number, if there is room for it.
+/// Marks a number, if there is room for it.
 pub fn mark(marks: &mut [bool], number: u32)
     ensures { (n : ℕ) (xs : List ℕ) → AreMarked n marks.old xs
         → AreMarked n marks.new (xs ++ number ∷ []) }
@@ -18,7 +18,7 @@ pub fn mark(marks: &mut [bool], number: u32)
     }
 }
 
-// Whether an index may have a rank, where the marked ones are taken.
+/// Whether an index may have a rank, where the marked ones are taken.
 pub fn may_rank(p: &Params, taken: &[bool], rank: u8) -> bool
     requires { width p.now ≤ length taken.now }
     ensures { (n : ℕ) (xs : List ℕ) → width p.now ≤ n → AreMarked n taken.now xs
@@ -30,7 +30,7 @@ pub fn may_rank(p: &Params, taken: &[bool], rank: u8) -> bool
     !taken[rank as usize]
 }
 
-// The least rank that isn't marked.
+/// The least rank that isn't marked.
 pub fn least_rank(p: &Params, taken: &[bool]) -> u64
     requires { width p.now ≤ length taken.now }
     ensures { (n : ℕ) (xs : List ℕ) → width p.now ≤ n → AreMarked n taken.now xs

@@ -26,7 +26,7 @@ fn check_stash(p: &Params, bytes: &[u8], placed: &[bool]) -> Option<Broken>
     check_rows(p, bytes, placed)
 }
 
-// Tests all rules in the order of the bytes: the first that is broken. No number is marked yet.
+/// Tests all rules in the order of the bytes: the first that is broken. No number is marked yet.
 pub fn check_all(p: &Params, bytes: &[u8], placed: &mut [bool]) -> Option<Broken>
     requires long { length bytes.now ≡ checkpoint_len p.now }
     requires marked { AreMarked p.now.keys placed.old (placed_in p.now bytes.now 0) }

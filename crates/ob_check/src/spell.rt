@@ -103,7 +103,7 @@ fn put_rows(p: &Params, out: &mut [u8], stash: &Stash)
     }
 }
 
-// Writes the checkpoint of the tables at an epoch.
+/// Writes the checkpoint of the tables at an epoch.
 pub fn spell(p: &Params, epoch: u64, tables: &Tables<Metas>, out: &mut [u8])
     requires long { length out.old ≡ checkpoint_len p.now }
     requires obeys { Obeys p.now (content_of tables.now) }

@@ -41,7 +41,7 @@ fn count_key(p: &Params, bytes: &[u8], placed: &[bool], k: u32, many: u32) -> u3
     many
 }
 
-// How many keys are present and lie in no bucket.
+/// How many keys are present and lie in no bucket.
 pub fn count_loose(p: &Params, bytes: &[u8], placed: &[bool]) -> u32
     requires long { length bytes.now ≡ checkpoint_len p.now }
     requires marked { AreMarked p.now.keys placed.now (placed_in p.now bytes.now (buckets p.now)) }
@@ -55,7 +55,7 @@ pub fn count_loose(p: &Params, bytes: &[u8], placed: &[bool]) -> u32
     many
 }
 
-// Tests the count of the stash's rows, of which there are to be so many.
+/// Tests the count of the stash's rows, of which there are to be so many.
 pub fn check_count(p: &Params, bytes: &[u8], loose: u32) -> Option<Broken>
     requires long { length bytes.now ≡ checkpoint_len p.now }
     requires loose { loose ≡ length (loose_keys p.now bytes.now) }
@@ -107,7 +107,7 @@ fn check_key_row(p: &Params, bytes: &[u8], placed: &[bool], k: u32, i: u32) -> R
     }
 }
 
-// Tests the stash's rows.
+/// Tests the stash's rows.
 pub fn check_rows(p: &Params, bytes: &[u8], placed: &[bool]) -> Option<Broken>
     requires long { length bytes.now ≡ checkpoint_len p.now }
     requires marked { AreMarked p.now.keys placed.now (placed_in p.now bytes.now (buckets p.now)) }

@@ -17,7 +17,7 @@ use ob_seal::Sealer;
 use ob_store::{Store, Watch};
 use ob_tables::{Metas, Tables};
 
-// The first cell of the area of an epoch.
+/// The first cell of the area of an epoch.
 pub fn area_of(p: &Params, epoch: u64) -> u64
     ensures cell { result ≡ area_of p.now epoch }
     ensures few { result + checkpoint_cells p.now < 2 ^ 64 }

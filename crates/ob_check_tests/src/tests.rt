@@ -19,8 +19,8 @@ use ob_tables::{Entry, Meta, Metas, Tables};
 use std::alloc::Global;
 use std::process::Abort;
 
-// The cells 17 to 27 of a store of 8 keys that was just formatted under the keys of the bytes 0 to 95.
-// They were made with another SHA-256 and a plain ChaCha20.
+// The cells 17 to 27 of a store of 8 keys that was just formatted under the keys of the bytes 0 to
+// 95. They were made with another SHA-256 and a plain ChaCha20.
 const FORMATTED: [&str; 11] = [
     "01000000000000002300000000000000558f0a7a99b6beb2fc9a5d961ec0aacf0f2e0d8c12e2951aea57c250128c37391fd99a5fb7b078d4fc325e0a343c5b78f05f0e50d1e1d6d776260cf98dccb1701271b34123c7c7c5269cc44192802d6e62e4e7596a66ab9831afc57178251179f8be566065d52e1a2cfe51a9a0d557b4",
     "010000000000000024000000000000008598c98b4e5a568b3de9d4eb2301b5e1651926b64e7b653d90e78737f622c210566919e95854e548d2286b4e5273ff02daee432d3ce0d20facbd3dfc7194913707de7c0bf40c37bf686f8dc4b739c0d170c44705f263ab0bb063e97f6f0ab056512d5d64d7df1fd282282c5125549752",

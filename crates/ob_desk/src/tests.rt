@@ -429,7 +429,6 @@ fn put(desk: &mut Desk, txn: &Txn, key: Key) -> Result<Answer, Memory> {
 }
 
 fn del(desk: &mut Desk, txn: &Txn, key: Key) -> Result<Answer, Memory> {
-    // The prover has to see this type named here.
     if !desk.may_access(txn, key) {
         return Ok(Answer::Not);
     }
@@ -438,7 +437,6 @@ fn del(desk: &mut Desk, txn: &Txn, key: Key) -> Result<Answer, Memory> {
 }
 
 fn commit(desk: &mut Desk, txn: &Txn) -> Answer {
-    // The prover has to see this type named here.
     if !desk.may_commit(txn) {
         return Answer::Not;
     }
@@ -446,7 +444,6 @@ fn commit(desk: &mut Desk, txn: &Txn) -> Answer {
 }
 
 fn abort(desk: &mut Desk, txn: &Txn) -> Answer {
-    // The prover has to see this type named here.
     if !desk.may_abort(txn) {
         return Answer::Not;
     }
@@ -466,7 +463,6 @@ fn settled(desk: &Desk, txn: &Txn) -> Answer {
 }
 
 fn sign_off(desk: &mut Desk, client: u32) -> Answer {
-    // The prover has to see this type named here.
     if !desk.may_sign_off(client) {
         return Answer::Not;
     }
@@ -533,7 +529,6 @@ fn ended(told: &EpochRecord<Key>, n: usize, ticket: u64) -> Option<Outcome<Key>>
 }
 
 fn publish(desk: &mut Desk) -> Answer {
-    // The prover has to see this type named here.
     if !desk.may_publish(2, 2) {
         return Answer::Not;
     }
@@ -568,13 +563,11 @@ fn look(desk: &Desk) -> Answer {
 }
 
 fn stop(desk: &mut Desk, fault: Fault) -> Answer {
-    // The prover has to see this type named here.
     desk.stop(fault);
     Answer::Yes
 }
 
 fn unsure(desk: &mut Desk, fault: Fault) -> Answer {
-    // The prover has to see this type named here.
     if !desk.is_closed() {
         return Answer::Not;
     }
@@ -591,7 +584,6 @@ fn stopped(desk: &Desk) -> Answer {
 
 // A call's answer.
 fn make(desk: &mut Desk, alloc: Global, call: Call) -> Result<Answer, Memory> {
-    // The prover has to see this type named here.
     // The prover has to see this type named here.
     let _told: Option<Value> = None;
     Ok(match call {

@@ -23,7 +23,7 @@ use Rattle.ob_stand.specs.Stands.{RingStanding, Stands}
 use Rattle.ob_store.specs.Disk.{Disk, Image}
 use Rattle.ob_tables.specs.declared.entry.Entry.{Entry}
 use Rattle.ob_tables.specs.declared.tables.Tables.{Tables}
-use Rattle.ob_epoch.specs.Values.{Values, with_writes}
+use Rattle.ob_epoch.specs.Values.{Values, with_entries}
 use Rattle.ob_epoch.specs.Runs.{slots_of}
 use Rattle.ob_end.specs.EndRuns.{IsEndMade, end_writes, rows_ended}
 use Rattle.ob_recover.specs.Fits.{IsPlannerFit}
@@ -36,7 +36,7 @@ use Rattle.ob_end.proofs.StandEnds.{is_end, the_end}
 pub record IsEndWith (s : RingStanding) (g : ℕ) (new : Kept) (ws : List (Write × Entry)) : Type 0 where
   pub end : RingEnd
   pub is : IsEndOfRing s end g new
-  pub map : end.map ≡ with_writes s.map ws
+  pub map : end.map ≡ with_entries s.map ws
 
 module _ (keys : Keys) (disk : Disk) (writes : List Write) (words : List ℕ) (g drawn next : ℕ) (ring new : Kept) (made : IsEndMade keys disk writes words g drawn next ring new)
     (low : (i : ℕ) → i < length writes → (write_at writes i).key < (ring.p).keys) (short : (i : ℕ) (value : List ℕ) → i < length writes → (write_at writes i).value ≡ Some value → length value ≤ 64)
@@ -92,7 +92,7 @@ module _ (keys : Keys) (disk : Disk) (writes : List Write) (words : List ℕ) (g
       record {
         end = the_end keys s disk.cells ring lifted new writes words g drawn next made.renews stands_at planner_at read_at lifts book made.seals table fit_ws under few_at whole;
         is = is_end keys s disk.cells ring lifted new writes words g drawn next made.renews stands_at planner_at read_at lifts book made.seals table fit_ws under few_at whole (tables.renewed_p lifted new writes words g drawn next made.renews);
-        map = ap (with_writes s.map) (sym writes_at);
+        map = ap (with_entries s.map) (sym writes_at);
       }
 
 -- ---- what the run is then at

@@ -36,7 +36,7 @@ use Rattle.ob_store.proofs.Moments.{leaves_of, then_on}
 use Rattle.ob_tables.specs.Kept.{Held, entry_at}
 use Rattle.ob_tables.specs.declared.entry.Entry.{Entry}
 use Rattle.ob_tables.specs.declared.tables.Tables.{Tables}
-use Rattle.ob_epoch.specs.Values.{Values, with_writes}
+use Rattle.ob_epoch.specs.Values.{Values, with_entries}
 use Rattle.ob_twin.specs.Opening.{is_closed_first}
 use Rattle.ob_twin.specs.Orders.{set_notes}
 use Rattle.ob_twin.specs.Register.{place_of}
@@ -214,7 +214,7 @@ module _ (run mid : Run) (disk : Disk) (writes : List Write) (words : List ℕ) 
     unfolding end
     is_end = subst (λ (x : Sealing). IsEndOfRing s the_end.end x.generation mid.ring) (sym same_sealer) the_end.is
 
-    pub map_is : end.map ≡ with_writes s.map ws
+    pub map_is : end.map ≡ with_entries s.map ws
     unfolding end
     map_is = the_end.map
 
@@ -249,12 +249,12 @@ module _ (run mid : Run) (disk : Disk) (writes : List Write) (words : List ℕ) 
 
       module _ (last : Kept) (stash : last ≡ record mid.ring { stash = last.stash }) (rows : (last.stash).rows ≡ rows_left mid.ring) where
         abbrev then : RingStanding
-        then = record { epoch = suc s.epoch; generation = s.generation; map = with_writes s.map ws; content = content_of_ring last; records = [] }
+        then = record { epoch = suc s.epoch; generation = s.generation; map = with_entries s.map ws; content = content_of_ring last; records = [] }
 
         then_is : standing_after s end ≡ then
         then_is =
             ap (λ (m : Values). record { epoch = suc s.epoch; generation = s.generation; map = m; content = end.content; records = [] }) map_is
-            ∙ ap (λ (c : Content). record { epoch = suc s.epoch; generation = s.generation; map = with_writes s.map ws; content = c; records = [] }) (is_end.content ∙ sym (content_is run.params mid.ring last stash rows mid_p))
+            ∙ ap (λ (c : Content). record { epoch = suc s.epoch; generation = s.generation; map = with_entries s.map ws; content = c; records = [] }) (is_end.content ∙ sym (content_is run.params mid.ring last stash rows mid_p))
 
         pub either_leaves : LeavesOnly mids new (OneOf (mid.sealer).keys (mid.ring).p s (standing_after s end)) → LeavesOnly disk new (OneOf (run.sealer).keys run.params s then)
         either_leaves leaves = with_reads (OneOf (run.sealer).keys run.params s then) (λ c before. inl before)
@@ -272,7 +272,7 @@ module _ (run mid : Run) (disk : Disk) (writes : List Write) (words : List ℕ) 
         runs_last later epoch left gs at all room =
             subst (λ (q : Params). RunsAt later.keys q epoch later.generation left last then new.cells) (sym same_params)
             (runs_then run.params mid.ring last stash rows mid_p obeys_at (made_laws.none_lifted (run.sealer).keys disk writes words g run.drawn (run.sealer).next run.ring mid.ring made low_at short fit small few_fit) room_at
-            later.keys s new.cells (with_writes s.map ws) epoch later.generation left (at ∙ epoch_at) (gs ∙ ap (λ (x : Sealing). x.generation) same_sealer ∙ (was.runs).generation_is) (all ∙ ap (λ (q : Params). q.batches) same_params))
+            later.keys s new.cells (with_entries s.map ws) epoch later.generation left (at ∙ epoch_at) (gs ∙ ap (λ (x : Sealing). x.generation) same_sealer ∙ (was.runs).generation_is) (all ∙ ap (λ (q : Params). q.batches) same_params))
           where
             obeys_at : Obeys run.params (content_left mid.ring)
             obeys_at = subst (λ (q : Params). Obeys q (content_left mid.ring)) mid_p obeys_left

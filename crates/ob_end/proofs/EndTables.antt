@@ -23,7 +23,7 @@ use Rattle.ob_ring.specs.FlatTable.{FlatTable, Refill, after, refill_order, stas
 use Rattle.ob_ring.specs.Laws.{IsOrderly}
 use Rattle.ob_ring.specs.Ring.{Kept, StandsFor}
 use Rattle.ob_tables.specs.declared.entry.Entry.{Entry}
-use Rattle.ob_epoch.specs.Values.{Values, with_writes}
+use Rattle.ob_epoch.specs.Values.{Values, with_entries}
 use Rattle.ob_epoch.specs.Carries.{Carries, Slots}
 use Rattle.ob_epoch.specs.ValueLaws.{AreFit}
 use Rattle.ob_epoch.specs.Refilled.{IsRefilled}
@@ -136,17 +136,17 @@ module _ (lifted renewed : Kept) (writes : List Write) (words : List ℕ) (g dra
           (record { anew = λ u j up low. slot_up slots u j up; same = λ u j down low. slot_down slots u j down })
 
       module _ (slots : Slots) (m : Values) (fit : AreFit p ws) (carries : Carries p t1 (lifted.stash).rows slots m) where
-        carries2 : Carries p t2 (renewed.stash).rows slots (with_writes m ws)
-        carries2 = subst (λ (rows : Rows). Carries p t2 rows slots (with_writes m ws)) (sym (same_rows ∙ (renews.made).values)) (writes_carry p t1 ws (lifted.stash).rows slots m fit carries)
+        carries2 : Carries p t2 (renewed.stash).rows slots (with_entries m ws)
+        carries2 = subst (λ (rows : Rows). Carries p t2 rows slots (with_entries m ws)) (sym (same_rows ∙ (renews.made).values)) (writes_carry p t1 ws (lifted.stash).rows slots m fit carries)
 
-        pub carries3 : Carries p t3 (rows_left renewed) (slots_then slots) (with_writes m ws)
-        carries3 = refill_carries p t2 (renewed.stash).rows (rows_left renewed) slots (slots_then slots) (with_writes m ws) orderly2 carries2 (refilled slots)
+        pub carries3 : Carries p t3 (rows_left renewed) (slots_then slots) (with_entries m ws)
+        carries3 = refill_carries p t2 (renewed.stash).rows (rows_left renewed) slots (slots_then slots) (with_entries m ws) orderly2 carries2 (refilled slots)
 
         -- so they obey, where no number is out of range and the stash isn't too full
         pub ends_well : g < 2 ^ 64 → FitsBook p lifted.book → ((u : ℕ) → u < buckets p → FitsSeals (version_at (lifted.metas).versions u)) → stash_size p t3 ≤ p.room
-            → IsEnd p (content_left renewed) (slots_then slots) (with_writes m ws)
+            → IsEnd p (content_left renewed) (slots_then slots) (with_entries m ws)
         ends_well small fits sealed few =
-            tables_obey p renewed.metas renewed.book (rows_left renewed) renewed.counter t3 (slots_then slots) (with_writes m ws) orderly3 table3 carries3 filled
+            tables_obey p renewed.metas renewed.book (rows_left renewed) renewed.counter t3 (slots_then slots) (with_entries m ws) orderly3 table3 carries3 filled
           where
             filled : AreTablesFilled p renewed.metas renewed.book (rows_left renewed) renewed.counter t3
             filled = record {
@@ -156,5 +156,5 @@ module _ (lifted renewed : Kept) (writes : List Write) (words : List ℕ) (g dra
               seals = renewed_fit.seals p g (lifted.metas).versions (renewed.metas).versions small seals sealed;
               low = subst (λ (q : Params). renewed.counter < 2 ^ q.levels) renewed_p ((renews.filled).rules).counter;
               standing = standing3;
-              few = (let many : finite.len (rows_left renewed) ≡ stash_size p t3 = stash_counts p t3 (rows_left renewed) (slots_then slots) (with_writes m ws) carries3 in omega (arith, many, few));
+              few = (let many : finite.len (rows_left renewed) ≡ stash_size p t3 = stash_counts p t3 (rows_left renewed) (slots_then slots) (with_entries m ws) carries3 in omega (arith, many, few));
             }

@@ -27,7 +27,7 @@ use Rattle.ob_store.specs.Disk.{Disk}
 use Rattle.ob_tables.specs.Kept.{Held, entry_at}
 use Rattle.ob_tables.specs.declared.entry.Entry.{Entry}
 use Rattle.ob_epoch.proofs.KeyLaws.{picked_are_taken}
-use Rattle.ob_epoch.specs.Values.{Values, with_writes}
+use Rattle.ob_epoch.specs.Values.{Values, with_entries}
 use Rattle.ob_epoch.specs.Carries.{Carries}
 use Rattle.ob_epoch.specs.ValueLaws.{AreFit}
 use Rattle.ob_end.specs.EndRuns.{AreFilledAnew, IsEndMade, TakeBucketWords, end_writes, rows_ended, seals_for_end, table_ended}
@@ -184,7 +184,7 @@ module _ (keys : Keys) (disk : Disk) (writes : List Write) (words : List ℕ) (g
         let room : (lifted.p).room ≡ (ring.p).room = ap (λ (q : Params). q.room) same in
         omega (arith, size, alike, room, few)
 
-    ended : IsEnd (lifted.p) (content_left new) (tables.slots_then lifted new writes words g drawn next made.renews t1 stands1 fit.slots) (with_writes m1 ws)
+    ended : IsEnd (lifted.p) (content_left new) (tables.slots_then lifted new writes words g drawn next made.renews t1 stands1 fit.slots) (with_entries m1 ws)
     ended = tables.ends_well lifted new writes words g drawn next made.renews t1 stands1 whole1 fit.slots m1 fit_writes carries1 small book1 seals1 few1
 
     pub obeys : Obeys new.p (content_left new)
@@ -203,10 +203,10 @@ module _ (keys : Keys) (disk : Disk) (writes : List Write) (words : List ℕ) (g
           stands = subst (λ (q : Params). StandsFor (record new { p = q; stash = held }) (tables.t3 lifted new writes words g drawn next made.renews t1 stands1)) (sym (tables.renewed_p lifted new writes words g drawn next made.renews))
               (record { orderly = tables.orderly3 lifted new writes words g drawn next made.renews t1 stands1; arrays = tables.table3 lifted new writes words g drawn next made.renews t1 stands1 });
           slots = tables.slots_then lifted new writes words g drawn next made.renews t1 stands1 fit.slots;
-          map = with_writes m1 ws;
-          carries = subst (λ (q : Params). Carries q (tables.t3 lifted new writes words g drawn next made.renews t1 stands1) held.rows (tables.slots_then lifted new writes words g drawn next made.renews t1 stands1 fit.slots) (with_writes m1 ws))
+          map = with_entries m1 ws;
+          carries = subst (λ (q : Params). Carries q (tables.t3 lifted new writes words g drawn next made.renews t1 stands1) held.rows (tables.slots_then lifted new writes words g drawn next made.renews t1 stands1 fit.slots) (with_entries m1 ws))
               (sym (tables.renewed_p lifted new writes words g drawn next made.renews))
-              (subst (λ rows. Carries lifted.p (tables.t3 lifted new writes words g drawn next made.renews t1 stands1) rows (tables.slots_then lifted new writes words g drawn next made.renews t1 stands1 fit.slots) (with_writes m1 ws)) (sym is)
+              (subst (λ rows. Carries lifted.p (tables.t3 lifted new writes words g drawn next made.renews t1 stands1) rows (tables.slots_then lifted new writes words g drawn next made.renews t1 stands1 fit.slots) (with_entries m1 ws)) (sym is)
               (tables.carries3 lifted new writes words g drawn next made.renews t1 stands1 whole1 fit.slots m1 fit_writes carries1));
           book = obeys.book;
           seals = obeys.seals;

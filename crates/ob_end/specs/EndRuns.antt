@@ -37,7 +37,7 @@ use Rattle.ob_store.specs.declared.event.Event.{Event}
 use Rattle.ob_store.specs.declared.watch.Note.{Note}
 use Rattle.ob_tables.specs.Kept.{entry_at}
 use Rattle.ob_tables.specs.declared.entry.Entry.{Entry}
-use Rattle.ob_epoch.specs.Values.{with_writes}
+use Rattle.ob_epoch.specs.Values.{with_entries}
 use Rattle.ob_twin.specs.declared.gates.Gates.{Gates}
 use Rattle.ob_twin.specs.declared.set_err.SetErr.{SetErr}
 use Rattle.ob_twin.specs.declared.set_err.SetErr.TheVariants as set
@@ -139,7 +139,7 @@ module _ (p : Params) (t : FlatTable) (epoch drawn : ℕ) (old new : List ℕ) w
 
 -- behind an end of it: the run's planner has the content
 abbrev pub standing_at_end : RingStanding → Run → List (Write × Entry) → RingStanding
-standing_at_end s run ws = record { epoch = suc s.epoch; generation = s.generation; map = with_writes s.map ws; content = content_of_ring run.ring; records = [] }
+standing_at_end s run ws = record { epoch = suc s.epoch; generation = s.generation; map = with_entries s.map ws; content = content_of_ring run.ring; records = [] }
 
 -- where the store stood, it stands for the next epoch, with the writes
 abbrev pub EndStands : RingStanding → List (Write × Entry) → Disk → Run → Result (Unit {0}) EndErr → Type 0

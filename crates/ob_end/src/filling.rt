@@ -83,7 +83,7 @@ fn write_bucket<S: Store, W: Watch>(
     write_sealed(store, sealer, first, many, &Filled { ring, bucket }, watch)
 }
 
-// Writes the listed buckets in their order.
+/// Writes the listed buckets in their order.
 pub fn write_buckets<S: Store, W: Watch>(
     store: &mut S,
     sealer: &mut Sealer,

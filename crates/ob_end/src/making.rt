@@ -22,7 +22,7 @@ use ob_fetch::Run;
 use ob_store::{Store, Watch};
 use ob_tape::Tape;
 
-// Reads the final lifts, makes the epoch's writes, and fills the lifted buckets anew.
+/// Reads the final lifts, makes the epoch's writes, and fills the lifted buckets anew.
 pub fn make_end<S: Store, T: Tape, W: Watch>(
     store: &mut S,
     tape: &mut T,

@@ -15,7 +15,7 @@ use ob_base::{Failed, Params, log_gate};
 use ob_store::{Store, Watch, write_noted};
 use ob_twin::closed_gate;
 
-// Writes the gates of a log area closed, in ascending order.
+/// Writes the gates of a log area closed, in ascending order.
 pub fn shut_gates<S: Store, W: Watch>(
     store: &mut S,
     p: &Params,

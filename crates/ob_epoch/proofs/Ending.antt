@@ -19,7 +19,7 @@ use Rattle.ob_ring.proofs.TableLaws.{steps_keep_order}
 use Rattle.ob_ring.proofs.Members.{IsDistinct, distinct-filter, off_unless, one_of-filter, one_of-filter_from, one_of-take}
 use Rattle.ob_ring.proofs.Refills.{distinct_levels, of_levels}
 use Rattle.ob_epoch.specs.Goes.{Goes}
-use Rattle.ob_epoch.specs.Values.{Values, with_writes}
+use Rattle.ob_epoch.specs.Values.{Values, with_entries}
 use Rattle.ob_epoch.specs.Carries.{Slots, Carries}
 use Rattle.ob_epoch.specs.Epochs.{EpochFollows, EpochGoes, Read, IsEpoch, after_batches, after_epoch, before_refill}
 use Rattle.ob_epoch.proofs.Counted.{stash_counts}
@@ -94,7 +94,7 @@ module _ (p : Params) (r : RefillRun) (c : Content) (slots slots' : Slots) (m : 
     seals = renewed_fit.seals p (r.first).0 c.versions (r.filled).versions seal seals_renewed o.seals;
     low = run.low;
     standing = λ u. refill_plans.none_lifted p r.before _ t3 u orderly run.whole_before run.table_before;
-    few = (let many : finite.len rows' ≡ stash_size p (after_epoch p (flat_of p c) bs ws) = stash_counts p (after_epoch p (flat_of p c) bs ws) rows' slots' (with_writes m ws) follows.carries in omega (arith, run.room));
+    few = (let many : finite.len rows' ≡ stash_size p (after_epoch p (flat_of p c) bs ws) = stash_counts p (after_epoch p (flat_of p c) bs ws) rows' slots' (with_entries m ws) follows.carries in omega (arith, run.room));
   }
 
   order_is : (u : ℕ) → is_one_of (r.before).order u ≡ is_one_of (refill_order p t3) u
@@ -103,9 +103,9 @@ module _ (p : Params) (r : RefillRun) (c : Content) (slots slots' : Slots) (m : 
   stands_still : (u : ℕ) → u < buckets p → is_one_of (r.before).order u ≡ false → t3.lifted u ≡ false
   stands_still u low off = off_unless (t3.lifted u) (λ up. true≢false (sym (one_of-filter_from t3.lifted (by_falling_level (p.levels + 1)) u up (bucket_listed p u low)) ∙ sym (order_is u) ∙ off))
 
-  goes_on : (u : ℕ) → u < buckets p → is_one_of (r.before).order u ≡ false → Goes m (with_writes m ws) (version_at c.versions u) (version_at (r.filled).versions u)
+  goes_on : (u : ℕ) → u < buckets p → is_one_of (r.before).order u ≡ false → Goes m (with_entries m ws) (version_at c.versions u) (version_at (r.filled).versions u)
   goes_on u low off =
-      let left : EpochGoes p (flat_of p c) (after_epoch p (flat_of p c) bs ws) m (with_writes m ws) u = buckets_go p (flat_of p c) m bs ws u read_first.orderly carried_first.low (stands_still u low off) in
+      let left : EpochGoes p (flat_of p c) (after_epoch p (flat_of p c) bs ws) m (with_entries m ws) u = buckets_go p (flat_of p c) m bs ws u read_first.orderly carried_first.low (stands_still u low off) in
       let not_taken : is_one_of (take (length (r.before).order) (r.before).order) u ≡ false = off_unless (is_one_of (take (length (r.before).order) (r.before).order) u) (λ on. true≢false (sym (one_of-take (length (r.before).order) (r.before).order u on) ∙ off)) in
       let same : version_at (r.filled).versions u ≡ version_at (r.before).versions u = (run.anew).others u not_taken in
       record {
@@ -134,8 +134,8 @@ pub ends_follow : EndsFollow
 ends_follow p r c slots slots' m bs js ws book rows' counter o known seal v ep run =
     let a : EpochFollows p (flat_of p c) rows' slots' m bs js ws = follows p r c slots slots' m bs js ws book rows' counter o known seal v ep run in
     let orderly = orderly_before p (flat_of p c) bs ws (tables_are_read p c o).orderly in
-    let end : IsEnd p (content_with r.filled book rows' counter) slots' (with_writes m ws) =
-    tables_obey p r.filled book rows' counter (after_epoch p (flat_of p c) bs ws) slots' (with_writes m ws) a.orderly run.table a.carries
+    let end : IsEnd p (content_with r.filled book rows' counter) slots' (with_entries m ws) =
+    tables_obey p r.filled book rows' counter (after_epoch p (flat_of p c) bs ws) slots' (with_entries m ws) a.orderly run.table a.carries
     (filled_then p r c slots slots' m bs js ws book rows' counter o known seal v ep run orderly) in
     record {
       obeys = end.obeys;

@@ -15,7 +15,7 @@ use Rattle.ob_ring.specs.Writing.{leaf_of_write, leaf_writes}
 use Rattle.ob_ring.proofs.Refills.{FillsLaw, refill_law, writes_keep}
 use Rattle.ob_ring.proofs.TableLaws.{used_final}
 use Rattle.ob_epoch.specs.Takes.{spots}
-use Rattle.ob_epoch.specs.Values.{Values, with_write, with_writes}
+use Rattle.ob_epoch.specs.Values.{Values, with_write, with_entries}
 use Rattle.ob_epoch.specs.Goes.{GoesFurther, StepsOnlyTake, VersionsGo}
 use Rattle.ob_epoch.proofs.Taking.{lay_there, batch_takes, final_takes}
 use Rattle.ob_epoch.proofs.Moving.{refill_move}
@@ -49,7 +49,7 @@ writes_lay : (t : FlatTable) (ws : List (ℕ × Option ℕ)) (k u j : ℕ) → s
 writes_lay t [] k u j e = e
 writes_lay t (w ∷ ws) k u j e = (write_lay (k == w.0) w.1 (t.rows k) u j (writes_lay (write t w.0 w.1) ws k u j e)).1
 
-unwritten : (t : FlatTable) (ws : List (Write × Entry)) (m : Values) (k u j : ℕ) → spot_of ((after_writes t (leaf_writes ws)).rows k) ≡ In u j → with_writes m ws k ≡ m k
+unwritten : (t : FlatTable) (ws : List (Write × Entry)) (m : Values) (k u j : ℕ) → spot_of ((after_writes t (leaf_writes ws)).rows k) ≡ In u j → with_entries m ws k ≡ m k
 unwritten t [] m k u j e = refl
 unwritten t (w ∷ ws) m k u j e =
     let off : (k == (w.0).key) ≡ false = (write_lay (k == (w.0).key) (leaf_of_write (w.0).value w.1) (t.rows k) u j (writes_lay (write t (w.0).key (leaf_of_write (w.0).value w.1)) (leaf_writes ws) k u j e)).0 in

@@ -16,7 +16,7 @@ use Rattle.ob_ring.specs.Settling.{Rows, rows_after}
 use Rattle.ob_ring.proofs.TableLaws.{steps_keep_order}
 use Rattle.ob_epoch.specs.Takes.{AreKeysLow}
 use Rattle.ob_epoch.specs.ValueLaws.{Settles}
-use Rattle.ob_epoch.specs.Values.{with_writes}
+use Rattle.ob_epoch.specs.Values.{with_entries}
 use Rattle.ob_epoch.specs.Carries.{Carries, AreRead}
 use Rattle.ob_epoch.specs.Epochs.{Read, AreAllRead, EpochsAreMet, after_batches, rows_of_batches, before_refill, rows_before_refill}
 use Rattle.ob_epoch.proofs.Epochs.{batches_done}
@@ -111,7 +111,7 @@ epochs_are_met p t rows slots m bs ws o c fit =
     let rows3 : Rows = rows_before_refill rows rs js ws in
     let done = batches_done p t rows slots m rs o c (all_read p slots t bs) in
     let l : Settles p (after p t1 FinalLifts) (rows_of_batches rows rs) slots m js = lifts_carry p t1 (rows_of_batches rows rs) slots m js done.orderly done.carries (are_read slots (final_picked p t1 (eviction_path p t1.counter))) in
-    let w : Carries p t3 rows3 slots (with_writes m ws) = writes_carry p (after p t1 FinalLifts) ws (rows_after (rows_of_batches rows rs) js) slots m fit l.carries in
+    let w : Carries p t3 rows3 slots (with_entries m ws) = writes_carry p (after p t1 FinalLifts) ws (rows_after (rows_of_batches rows rs) js) slots m fit l.carries in
     let o3 : IsOrderly p t3 = steps_keep_order p (after p t1 FinalLifts) (Writes (leaf_writes ws)) (steps_keep_order p t1 FinalLifts done.orderly) in
     record {
       batches = rs;

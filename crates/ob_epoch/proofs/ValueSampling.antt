@@ -10,7 +10,7 @@ use Rattle.ob_ring.specs.FlatTable.{Writes, after}
 use Rattle.ob_ring.specs.Ring.{empty_table}
 use Rattle.ob_ring.specs.Writing.{leaf_writes, values_after}
 use Rattle.ob_ring.proofs.Rows.{p0}
-use Rattle.ob_epoch.specs.Values.{with_writes}
+use Rattle.ob_epoch.specs.Values.{with_entries}
 use Rattle.ob_epoch.specs.Carries.{Slots, Carries}
 use Rattle.ob_epoch.specs.ValueSamples.{Sampled, puts}
 use Rattle.ob_epoch.proofs.Written.{writes_carry}
@@ -25,7 +25,7 @@ nothing_carried p slots = record {
   placed = λ k u j v e f. absurd (cc);
 }
 
-put_carried : (slots : Slots) → Carries p0 (after p0 empty_table (Writes (leaf_writes (puts 0)))) (values_after finite.empty (puts 0)) slots (with_writes (λ k. None) (puts 0))
+put_carried : (slots : Slots) → Carries p0 (after p0 empty_table (Writes (leaf_writes (puts 0)))) (values_after finite.empty (puts 0)) slots (with_entries (λ k. None) (puts 0))
 put_carried slots = writes_carry p0 empty_table (puts 0) finite.empty slots (λ k. None) (omega arith, (λ v e. short v e), tt) (nothing_carried p0 slots)
   where
     short : (v : List ℕ) → Some (113 ∷ []) ≡ Some v → length v ≤ 64

@@ -13,7 +13,7 @@ use Rattle.ob_ring.specs.Filling.{AreSealedAnew}
 use Rattle.ob_ring.specs.FlatTable.{refill_order, stash_size}
 use Rattle.ob_ring.specs.Picked.{SameSeals}
 use Rattle.ob_epoch.specs.Goes.{Goes}
-use Rattle.ob_epoch.specs.Values.{Values, with_writes}
+use Rattle.ob_epoch.specs.Values.{Values, with_entries}
 use Rattle.ob_epoch.specs.Carries.{Slots}
 use Rattle.ob_epoch.specs.Epochs.{Read, IsEpoch, after_epoch, before_refill}
 use Rattle.ob_epoch.specs.Numbers.{IsKnown, KnowsBook}
@@ -61,4 +61,4 @@ abbrev pub EndsFollow : Type 0
 EndsFollow = (p : Params) (r : RefillRun) (c : Content) (slots slots' : Slots) (m : Values) (bs : List Read) (js : List Job) (ws : List (Write × Entry)) (book : List (Option Entry)) (rows' : Rows) (counter : ℕ)
     → Obeys p c → IsKnown c (r.first).0 → (r.first).0 < 2 ^ 64 → IsValued c slots m
     → IsEpoch p (flat_of p c) c.rows rows' slots slots' bs js ws → IsRunFrom p r c book counter bs ws
-    → IsNext p c (content_with r.filled book rows' counter) slots' m (with_writes m ws) (r.first).0 (r.before).order
+    → IsNext p c (content_with r.filled book rows' counter) slots' m (with_entries m ws) (r.first).0 (r.before).order

@@ -14,7 +14,7 @@ use Rattle.ob_ring.specs.Settling.{rows_after, first_fault}
 use Rattle.ob_ring.specs.Writing.{leaf_writes, values_after}
 use Rattle.ob_epoch.specs.Goes.{OnlyLeaves}
 use Rattle.ob_epoch.specs.Takes.{AreKeysLow}
-use Rattle.ob_epoch.specs.Values.{Values, with_writes}
+use Rattle.ob_epoch.specs.Values.{Values, with_entries}
 use Rattle.ob_epoch.specs.Carries.{Slots, Carries, AreRead}
 use Rattle.ob_epoch.specs.ValueLaws.{AreFit}
 use Rattle.ob_epoch.specs.Refilled.{IsRefilled}
@@ -61,7 +61,7 @@ pub record EpochFollows (p : Params) (t : FlatTable) (rows' : Rows) (slots' : Sl
   pub faultless : AreFaultless bs
   pub fault : first_fault js ≡ None
   pub orderly : IsOrderly p (after_epoch p t bs ws)
-  pub carries : Carries p (after_epoch p t bs ws) rows' slots' (with_writes m ws)
+  pub carries : Carries p (after_epoch p t bs ws) rows' slots' (with_entries m ws)
 
 abbrev pub EpochsFollow : Type 0
 EpochsFollow = (p : Params) (t : FlatTable) (rows rows' : Rows) (slots slots' : Slots) (m : Values) (bs : List Read) (js : List Job) (ws : List (Write × Entry))
@@ -74,7 +74,7 @@ pub record EpochGoes (p : Params) (t t' : FlatTable) (m m' : Values) (u : ℕ) :
 
 abbrev pub BucketsGo : Type 0
 BucketsGo = (p : Params) (t : FlatTable) (m : Values) (bs : List Read) (ws : List (Write × Entry)) (u : ℕ) → IsOrderly p t → AreKeysLow p t
-    → (before_refill p t bs ws).lifted u ≡ false → EpochGoes p t (after_epoch p t bs ws) m (with_writes m ws) u
+    → (before_refill p t bs ws).lifted u ≡ false → EpochGoes p t (after_epoch p t bs ws) m (with_entries m ws) u
 
 -- ---- the premises can be met
 

@@ -12,7 +12,7 @@ use Rattle.ob_ring.specs.Laws.{IsOrderly}
 use Rattle.ob_ring.specs.Picked.{SameSeals}
 use Rattle.ob_ring.specs.Writing.{leaf_writes}
 use Rattle.ob_epoch.specs.Takes.{AreKeysLow, KeepsKeys}
-use Rattle.ob_epoch.specs.Values.{Values, with_writes}
+use Rattle.ob_epoch.specs.Values.{Values, with_entries}
 
 -- The version lies where it lay, as it was sealed. Indexes may have been shown since, and keys may have left.
 pub record Goes (m m' : Values) (old new : Version) : Type 0 where
@@ -45,7 +45,7 @@ pub record StepsOnlyTake : Type 0 where
   pub further : (t t1 t2 : FlatTable) (u : ℕ) → OnlyLeaves t t1 u → OnlyLeaves t1 t2 u → OnlyLeaves t t2 u
   -- a key that still lies in a bucket after an epoch's writes wasn't written
   pub unwritten : (p : Params) (t : FlatTable) (ws : List (Write × Entry)) (m : Values) (k u j : ℕ)
-      → spot_of ((after p t (Writes (leaf_writes ws))).rows k) ≡ In u j → with_writes m ws k ≡ m k
+      → spot_of ((after p t (Writes (leaf_writes ws))).rows k) ≡ In u j → with_entries m ws k ≡ m k
 
 -- so a version of the arrays that stand for the tables goes on
 abbrev pub VersionsGo : Type 0

@@ -13,7 +13,7 @@ use Rattle.ob_ring.specs.Laws.{IsOrderly}
 use Rattle.ob_ring.specs.Picked.{batch_picked, final_picked}
 use Rattle.ob_ring.specs.Settling.{rows_after, first_fault}
 use Rattle.ob_ring.specs.Writing.{leaf_writes, values_after}
-use Rattle.ob_epoch.specs.Values.{Values, with_writes}
+use Rattle.ob_epoch.specs.Values.{Values, with_entries}
 use Rattle.ob_epoch.specs.Carries.{Slots, Carries, AreRead}
 
 -- jobs that were read break no rule, and their rows join those of the stash
@@ -46,7 +46,7 @@ AreFit p (w ∷ ws) = ((w.0).key < p.keys) × ((value : List ℕ) → (w.0).valu
 
 abbrev pub WritesCarry : Type 0
 WritesCarry = (p : Params) (t : FlatTable) (ws : List (Write × Entry)) (rows : Rows) (slots : Slots) (m : Values)
-    → AreFit p ws → Carries p t rows slots m → Carries p (after p t (Writes (leaf_writes ws))) (values_after rows ws) slots (with_writes m ws)
+    → AreFit p ws → Carries p t rows slots m → Carries p (after p t (Writes (leaf_writes ws))) (values_after rows ws) slots (with_entries m ws)
 
 -- the stash has as many rows as the table has keys in it
 abbrev pub StashCounts : Type 0

@@ -10,7 +10,7 @@ use Rattle.ob_tables.specs.declared.entry.Entry.{Entry}
 use Rattle.ob_ring.specs.FlatTable.{FlatTable, In, Batch, FinalLifts, Writes, Refill, after, refill_order}
 use Rattle.ob_ring.specs.Ring.{empty_table}
 use Rattle.ob_ring.specs.Writing.{leaf_writes, values_after}
-use Rattle.ob_epoch.specs.Values.{with_writes}
+use Rattle.ob_epoch.specs.Values.{with_entries}
 use Rattle.ob_epoch.specs.Carries.{Slots, Carries}
 
 -- the numbers of the parameters
@@ -43,6 +43,6 @@ pub record Sampled : Type 0 where
   pub counter : (filled_table p 0).counter ≡ 2
   -- a table without keys carries the empty map, and after the put the map with it
   pub nothing : (slots : Slots) → Carries p empty_table finite.empty slots (λ k. None)
-  pub put : (slots : Slots) → Carries p (after p empty_table (Writes (leaf_writes (puts 0)))) (values_after finite.empty (puts 0)) slots (with_writes (λ k. None) (puts 0))
+  pub put : (slots : Slots) → Carries p (after p empty_table (Writes (leaf_writes (puts 0)))) (values_after finite.empty (puts 0)) slots (with_entries (λ k. None) (puts 0))
   pub spelled : take 6 (slot_bytes 5 (113 ∷ [])) ≡ 5 ∷ 0 ∷ 0 ∷ 0 ∷ 1 ∷ 113 ∷ []
   pub long : length (slot_bytes 5 (113 ∷ [])) ≡ 96

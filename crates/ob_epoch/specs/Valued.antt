@@ -15,7 +15,7 @@ use Rattle.ob_tables.specs.Kept.{entry_at}
 use Rattle.ob_ring.specs.Arrays.{AreWhole, IsTableOf, arrays_of, rest_of}
 use Rattle.ob_ring.specs.FlatTable.{FlatTable}
 use Rattle.ob_ring.specs.Laws.{IsOrderly}
-use Rattle.ob_epoch.specs.Values.{Values, with_writes}
+use Rattle.ob_epoch.specs.Values.{Values, with_entries}
 use Rattle.ob_epoch.specs.Carries.{Slots, Carries}
 use Rattle.ob_epoch.specs.Epochs.{Read, IsEpoch, after_epoch}
 use Rattle.ob_epoch.specs.Table.{flat_of}
@@ -69,4 +69,4 @@ ContentsFollow = (p : Params) (c : Content) (slots slots' : Slots) (m : Values) 
     → Obeys p c → IsValued c slots m → IsEpoch p (flat_of p c) c.rows rows' slots slots' bs js ws
     → IsTableOf p (arrays_of s (rest_of book counter)) (after_epoch p (flat_of p c) bs ws)
     → AreTablesFilled p s book rows' counter (after_epoch p (flat_of p c) bs ws)
-    → IsEnd p (content_with s book rows' counter) slots' (with_writes m ws)
+    → IsEnd p (content_with s book rows' counter) slots' (with_entries m ws)

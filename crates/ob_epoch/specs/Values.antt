@@ -11,6 +11,6 @@ abbrev pub with_write : Values → Write → Values
 with_write m w k = cond (k == w.key) w.value (m k)
 
 -- the writes one behind the other, each beside the entry that its place gives the key
-abbrev pub with_writes : Values → List (Write × Entry) → Values
-with_writes m [] = m
-with_writes m (w ∷ ws) = with_writes (with_write m w.0) ws
+abbrev pub with_entries : Values → List (Write × Entry) → Values
+with_entries m [] = m
+with_entries m (w ∷ ws) = with_entries (with_write m w.0) ws

@@ -1,6 +1,6 @@
-//! What an epoch does to a store's keys, values and tables: what each step takes out of buckets, where
-//! each value then lies, and the checkpoint's content behind it. Laws of definitions; nothing here
-//! runs.
+//! What an epoch does to a store's keys, values and tables: what each step takes out of buckets,
+//! where each value then lies, and the checkpoint's content behind it. Laws of definitions; nothing
+//! here runs.
 #![tactic(auto)]
 
 mod contents;

@@ -16,7 +16,7 @@ fn value_for(stash: &Stash, ask: Option<Key>) -> Option<Value>
     }
 }
 
-// Gives each place the value of its key in the stash, or none for a pad.
+/// Gives each place the value of its key in the stash, or none for a pad.
 pub fn answer_all(stash: &Stash, asks: &[Option<Key>], out: &mut [Option<Value>])
     requires room { length out.old ≡ length asks.now }
     ensures { out.new ≡ values_asked stash.now.rows asks.now }

@@ -21,7 +21,7 @@ use ob_seal::Sealer;
 use ob_store::{Store, Watch};
 use ob_tape::Tape;
 
-// Whether so many words or seals aren't left.
+/// Whether so many words or seals aren't left.
 pub fn is_worn(run: &Run) -> bool
     requires drawn { run.now.drawn ≤ 2 ^ 62 }
     ensures { MatchBool result (IsWornForBatch run.now)
@@ -33,7 +33,7 @@ pub fn is_worn(run: &Run) -> bool
     NUMBER_LIMIT - run.drawn < places || NUMBER_LIMIT - next < record_cells(&run.params)
 }
 
-// Draws the words of a batch, and keeps its record in the log.
+/// Draws the words of a batch, and keeps its record in the log.
 pub fn begin_batch<S: Store, T: Tape, W: Watch>(
     store: &mut S,
     tape: &mut T,

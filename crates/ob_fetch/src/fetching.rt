@@ -123,9 +123,9 @@ pub fn fetch<S: Store, T: Tape, W: Watch>(
         (repeated_notes run.old.params start.versions t (asked_of_record run.old.params
         (record_next run.old asks.now (words_since (T.drawn tape.old) (T.drawn tape.new)))))
         store.old store.new (W.trace watch.old) (W.trace watch.new) result }
-    // It shows the schedule's batch of what the store knows of the epoch, and refused what its answer
-    // says of it; of what the store failed in, no more than the record's notes come before that is
-    // open.
+    // It shows the schedule's batch of what the store knows of the epoch, and refused what its
+    // answer says of it; of what the store failed in, no more than the record's notes come before
+    // that is open.
     ensures scheduled { (notes : List Note) × Shows notes (W.trace watch.old) (W.trace watch.new)
         × IsOpenIfShown S.disk run.old.sealer.keys run.old.params (suc run.old.epoch)
         (record_next run.old asks.now (words_since (T.drawn tape.old) (T.drawn tape.new))) notes

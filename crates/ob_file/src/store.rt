@@ -49,8 +49,8 @@ impl<R: Files<File = File>> FileStore<R> {
     /// `create` it makes the file where there is none; it empties none. Nothing is read or written.
     ///
     /// # Errors
-    /// Memory was wanting, or the file can't be opened for reading and writing, or be locked: another
-    /// has it locked, or its file system has no locks.
+    /// Memory was wanting, or the file can't be opened for reading and writing, or be locked:
+    /// another has it locked, or its file system has no locks.
     pub fn open(rt: R, alloc: Global, path: &str, create: bool) -> Result<FileStore<R>, OpenErr>
     where
         R: Drop,

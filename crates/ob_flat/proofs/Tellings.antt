@@ -5,7 +5,7 @@ use Rattle.ob_base.specs.declared.fault.Fault.TheVariants.{Memory, Usage, BadScr
 use Rattle.ob_store.specs.declared.event.Event.{Event}
 use Rattle.ob_store.specs.declared.watch.Note.{Note}
 use Rattle.ob_store.specs.declared.watch.Note.TheVariants.{Sync}
-use Rattle.ob_store.specs.Calls.{Notes, NotesFirst}
+use Rattle.ob_store.specs.Calls.{Notes, NotesFirst, NotesReads}
 use Rattle.ob_store.specs.Lines.{Trace}
 use Rattle.ob_store.specs.Told.{events_of, Tells, IsCut, TellsFirst}
 use Rattle.ob_store.proofs.Doing.{tells_then, first_more, first_behind, first_noted, cut_none, cut_more, cut_noted}
@@ -16,7 +16,6 @@ use Rattle.ob_twin.specs.Register.{gate_at, place_of}
 use Rattle.ob_twin.specs.Opening.{is_closed_first}
 use Rattle.ob_twin.specs.Orders.{through_notes, prepare_notes, gate_notes, set_notes, SetDoes}
 use Rattle.ob_twin.specs.Got.{DoesReads}
-use Rattle.ob_flat.specs.Noting.{NotesReads}
 use Rattle.ob_flat.specs.Places.{area_of}
 use Rattle.ob_flat.specs.Orders.{rows_notes, end_notes, end_prepare_notes, end_gate_notes, end_events}
 use Rattle.ob_flat.specs.Ends.{EndTells}

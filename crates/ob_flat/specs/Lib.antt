@@ -3,7 +3,6 @@ pub mod Heads
 pub mod Standing
 pub mod Formats
 pub mod Orders
-pub mod Noting
 pub mod Openings
 pub mod Ends
 pub mod Calls

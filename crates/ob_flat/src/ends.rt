@@ -23,7 +23,7 @@ use ob_seal::Sealer;
 use ob_store::{Store, Watch, sync_noted};
 use ob_twin::{Gates, SetErr, Twin};
 
-// Writes the rows of an epoch, makes sure of them, and sets the epoch's number.
+/// Writes the rows of an epoch, makes sure of them, and sets the epoch's number.
 pub fn write_epoch<S: Store, W: Watch>(
     store: &mut S,
     sealer: &mut Sealer,
@@ -59,7 +59,8 @@ pub fn write_epoch<S: Store, W: Watch>(
         sealer.old.next values.now) (S.disk store.new).cells)) }
     ensures sealed_unsure { IfErr result (IfUnsure (sealer.new
         ≡ record sealer.old { next = sealer.old.next + length values.now })) }
-    // No cell changes but those of the epoch's register and of its rows, nor in what a crash leaves.
+    // No cell changes but those of the epoch's register and of its rows, nor in what a crash
+    // leaves.
     ensures rest { (S.disk store.old).tells
         → SameOffEpoch (length values.now) epoch (S.disk store.new).cells
         (S.disk store.old).cells }

@@ -42,7 +42,7 @@ fn is_worn(epoch: u64, sealer: &Sealer, keys: u64) -> bool
     next + keys > NUMBER_LIMIT
 }
 
-// Ends an epoch with these values.
+/// Ends an epoch with these values.
 pub fn end_held<'a, S: Store, W: Watch>(
     held: &mut Held<'a, S>,
     values: &[Option<Value>],

@@ -13,7 +13,8 @@ pub struct Opening {
     pub params: Params,
     /// Which gates of its registers are open.
     pub gates: Gates,
-    /// The sealer of the generation that began with this opening, below `2^62`. It has sealed nothing.
+    /// The sealer of the generation that began with this opening, below `2^62`. It has sealed
+    /// nothing.
     pub sealer: Sealer,
     /// The last epoch that ended, below `2^62`.
     pub epoch: u64,

@@ -13,7 +13,7 @@ pub fn cells(p: &Params) -> u64
     BODY_CELL + 2 * p.keys as u64
 }
 
-// The first row of an epoch's area, of so many keys.
+/// The first row of an epoch's area, of so many keys.
 pub fn area_of(keys: u64, epoch: u64) -> u64
     requires { keys ≤ 65536 }
     ensures area { result ≡ area_of keys epoch }

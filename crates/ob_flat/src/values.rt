@@ -9,7 +9,7 @@ ghost use Rattle.ob_flat.specs.Standing.{IsMapOf};
 
 use ob_base::{Key, Value, Write};
 
-// Reads the values of these keys.
+/// Reads the values of these keys.
 pub fn look_up(values: &[Option<Value>], asks: &[Option<Key>], out: &mut [Option<Value>])
     requires room { length out.old ≡ length asks.now }
     requires keys { AreBelow (length values.now) asks.now }
@@ -26,7 +26,7 @@ pub fn look_up(values: &[Option<Value>], asks: &[Option<Key>], out: &mut [Option
     }
 }
 
-// Does these writes to the values.
+/// Does these writes to the values.
 pub fn apply(values: &mut [Option<Value>], writes: &[Write])
     requires { All (λ w. w.key < length values.old) writes.now }
     ensures whole { length values.new ≡ length values.old }
@@ -38,7 +38,7 @@ pub fn apply(values: &mut [Option<Value>], writes: &[Write])
     }
 }
 
-// Puts the values into `next`, with these writes.
+/// Puts the values into `next`, with these writes.
 pub fn prepare_next(values: &[Option<Value>], next: &mut Vec<Option<Value>>, writes: &[Write])
     requires room { length next.old.items ≡ length values.now }
     requires keys { All (λ w. w.key < length values.now) writes.now }

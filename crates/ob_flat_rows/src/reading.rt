@@ -48,7 +48,8 @@ fn read_row<S: Store, W: Watch>(
     }
 }
 
-// Reads the rows from a cell on through a lane, in rising order, up to the first that breaks a rule.
+// Reads the rows from a cell on through a lane, in rising order, up to the first that breaks a
+// rule.
 fn read_each<S: Store, W: Watch>(
     store: &S,
     lane: &mut S::Lane,

@@ -15,7 +15,7 @@ pub struct Row {
     pub value: Option<Value>,
 }
 
-// The plain bytes of a row.
+/// The plain bytes of a row.
 pub fn row_bytes(value: &Option<Value>) -> [u8; 96]
     ensures bytes { result ≡ row_bytes value.now }
     ensures short { IsShort value.now }
@@ -29,7 +29,7 @@ pub fn row_bytes(value: &Option<Value>) -> [u8; 96]
     row
 }
 
-// The value of a row's plain bytes.
+/// The value of a row's plain bytes.
 pub fn value_in(cell: u64, plain: &[u8; 96]) -> Result<Option<Value>, Damaged>
     ensures { IsPlainRead cell plain.now result }
 {

@@ -13,6 +13,7 @@ pub enum Side {
 }
 
 impl Side {
+    /// The other side.
     pub fn other(self) -> Side
         ensures { result ≡ other self }
     {

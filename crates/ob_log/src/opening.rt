@@ -142,8 +142,8 @@ fn keep(records: &mut Vec<Record>, last: Record)
     let _ = records.push(last);
 }
 
-// The open records among the cells of an area, from its first cell on: those before the first
-// closed gate. There is room for as many as an epoch has batches.
+/// The open records among the cells of an area, from its first cell on: those before the first
+/// closed gate. There is room for as many as an epoch has batches.
 pub fn open_records(
     sealer: &Sealer,
     p: &Params,

@@ -120,7 +120,7 @@ fn read_ask(
     Ok(Some(key))
 }
 
-// What the places ask for, and their words, up to the first that breaks a rule.
+/// What the places ask for, and their words, up to the first that breaks a rule.
 pub fn read_places(
     p: &Params,
     cell: u64,

@@ -44,7 +44,7 @@ fn add_places(all: &mut Bytes, asks: &[Option<Key>], words: &[u64])
     }
 }
 
-// The bytes of a batch's record.
+/// The bytes of a batch's record.
 pub fn record_bytes(
     epoch: u64,
     batch: u32,

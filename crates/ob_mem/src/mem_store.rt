@@ -62,9 +62,9 @@ impl MemStore {
         })
     }
 
-    /// What a crash after so many of the writes and syncs leaves: in each cell that wasn't sure then
-    /// the given bytes, the last ones where several are given, else what it got last. No call of
-    /// this store is planned to fail.
+    /// What a crash after so many of the writes and syncs leaves: in each cell that wasn't sure
+    /// then the given bytes, the last ones where several are given, else what it got last. No call
+    /// of this store is planned to fail.
     ///
     /// # Errors
     /// There was no memory for the cells.

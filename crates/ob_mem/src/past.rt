@@ -90,8 +90,9 @@ impl History {
         Ok(())
     }
 
-    /// A history that begins with what a crash after so many of the calls leaves: the given bytes in
-    /// each cell that wasn't sure then, the last ones where several are given, else what it got last.
+    /// A history that begins with what a crash after so many of the calls leaves: the given bytes
+    /// in each cell that wasn't sure then, the last ones where several are given, else what it got
+    /// last.
     pub fn crash(
         &self,
         alloc: Global,

@@ -23,7 +23,8 @@ pub struct MemSink {
 }
 
 impl MemSink {
-    /// A sink with room for so many bytes. Of its writes, counted from 0, those that `fails` has fail.
+    /// A sink with room for so many bytes. Of its writes, counted from 0, those that `fails` has
+    /// fail.
     ///
     /// # Errors
     /// There was no memory for the room.
@@ -69,7 +70,8 @@ impl Sink for MemSink {
         ensures written { self.new.bytes.items
             ≡ self.old.bytes.items ++ take (count_of result) bytes.now }
         ensures cause { HasCause self.old.faults self.new.faults result }
-        // It takes as much as there is room for, and fails at the named calls and where no room is left.
+        // It takes as much as there is room for, and fails at the named calls and where no room is
+        // left.
         ensures whole { IfOk result (λ n. n
             ≡ min (length bytes.now) (self.old.room - length self.old.bytes.items)) }
         ensures fails { IsErr result ↔ (Contains self.old.fails.items self.old.calls

@@ -13,8 +13,9 @@ use ob_store::{Blind, SinkWatch, Store};
 use std::alloc::Global;
 use std::process::Abort;
 
-// The cells that an opening reads of a store of 8 keys that was just formatted under the keys of the
-// bytes 0 to 95; the others are zeros. They were made with another SHA-256 and a plain ChaCha20.
+// The cells that an opening reads of a store of 8 keys that was just formatted under the keys of
+// the bytes 0 to 95; the others are zeros. They were made with another SHA-256 and a plain
+// ChaCha20.
 const FORMATTED: [(u64, &str); 16] = [
     (
         0,

@@ -90,9 +90,9 @@ fn each_refused_call_is_the_stores(rt: HostRuntime) {
     assert!(rt; format_with(&rt, alloc, Fail::Sync(10)).is_ok());
 }
 
-// The moments of two formats, one behind the other, after which a store stands, where the cells that
-// aren't sure hold these bytes, or what they got last. Each has 72 writes and syncs: the first makes
-// the head zeros, and the last but one writes it.
+// The moments of two formats, one behind the other, after which a store stands, where the cells
+// that aren't sure hold these bytes, or what they got last. Each has 72 writes and syncs: the first
+// makes the head zeros, and the last but one writes it.
 const STANDING: [(Option<[u8; 128]>, &[usize]); 3] = [
     (None, &[71, 72, 143, 144]),
     (Some([0; 128]), &[72, 144]),

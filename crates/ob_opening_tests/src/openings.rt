@@ -31,7 +31,7 @@ pub enum Told {
     Other,
 }
 
-// Opens a store with a tape of zeros.
+/// Opens a store with a tape of zeros.
 pub fn open<W: Watch>(rt: &impl Abort, alloc: Global, store: &mut MemStore, watch: &mut W) -> Told
     requires { (disk_of_store store.old).out ≡ 0 }
 {
@@ -51,7 +51,7 @@ pub fn open<W: Watch>(rt: &impl Abort, alloc: Global, store: &mut MemStore, watc
     }
 }
 
-// A new store, where these calls fail: 62 writes and 10 syncs.
+/// A new store, where these calls fail: 62 writes and 10 syncs.
 pub fn new_store(rt: &impl Abort, alloc: Global, fails: &[Fail]) -> MemStore
     ensures { (disk_of_store result).out ≡ 0 }
 {
@@ -114,7 +114,7 @@ fn begin_batches(rt: &impl Abort, alloc: Global, store: &mut MemStore, batches: 
     }
 }
 
-// What a crash leaves where the cells that aren't sure hold these bytes, or what they got last.
+/// What a crash leaves where the cells that aren't sure hold these bytes, or what they got last.
 pub fn left_after(
     rt: &impl Abort,
     store: &MemStore,
@@ -169,6 +169,7 @@ fn open_shown(rt: &impl Abort, alloc: Global, store: &mut MemStore, told: Told, 
     compare(rt, alloc, sink.written(), parts);
 }
 
+/// An opening that went well, with so many batches left.
 pub fn opened(generation: u64, left: u32) -> Told {
     Told::Open {
         generation,

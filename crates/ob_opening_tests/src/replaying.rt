@@ -28,8 +28,8 @@ fn after_two_epochs(rt: &impl Abort, alloc: Global) -> MemStore
     store
 }
 
-// The bytes of a record that aren't 0: its epoch at 0, its batch at 8, its first word's place at 12,
-// and from 20 on for each place whether it asks for a key, the key, and its word.
+// The bytes of a record that aren't 0: its epoch at 0, its batch at 8, its first word's place at
+// 12, and from 20 on for each place whether it asks for a key, the key, and its word.
 type Spelled = &'static [(usize, u8)];
 
 fn plain_of(rt: &impl Abort, spelled: Spelled) -> [u8; 96] {

@@ -1,5 +1,6 @@
 //! The cells of a store of 8 keys after two epochs, the first of which wrote `hi` under key 5, and
-//! the second read it. They were made by another implementation, under the keys of the bytes 0 to 95.
+//! the second read it. They were made by another implementation, under the keys of the bytes 0 to
+//! 95.
 
 pub const CELLS: [&str; 109] = [
     "4f424c41444953540100000008000000020000000200000003000000020000000200000002000000020000000800000000000000000000000000000000000000000000000000000000000000000000000000000000000000000000000000000000000000000000000000000000000000097fa485d205681390120ebbd473eff6",

@@ -78,6 +78,7 @@ pub fn stand<O: EpochOrder>(order: &O, t: u64) -> Option<Stand> {
     }
 }
 
+/// A read of the ticket, where it is live.
 pub fn read<O: EpochOrder>(rt: &impl Abort, order: &mut O, t: u64, key: Key) -> Option<Got> {
     if !is_live(order, t) {
         return None;
@@ -85,6 +86,7 @@ pub fn read<O: EpochOrder>(rt: &impl Abort, order: &mut O, t: u64, key: Key) -> 
     Some(got_of(&order.read(t, key).expect(rt, "memory")))
 }
 
+/// A write of the ticket, where it is live.
 pub fn write<O: EpochOrder>(
     rt: &impl Abort,
     order: &mut O,
@@ -98,6 +100,7 @@ pub fn write<O: EpochOrder>(
     Some(put_of(&order.write(t, key, value).expect(rt, "memory")))
 }
 
+/// Aborts the ticket, where it is live.
 pub fn abort<O: EpochOrder>(order: &mut O, t: u64) {
     if is_live(order, t) {
         order.abort(t);

@@ -1,5 +1,5 @@
-//! What the outcomes in the published records show, whatever calls were made of a desk, and what a run
-//! of scripts tells of their clients, whatever the vault.
+//! What the outcomes in the published records show, whatever calls were made of a desk, and what a
+//! run of scripts tells of their clients, whatever the vault.
 #![tactic(auto)]
 
 mod outcomes;

@@ -1,5 +1,5 @@
-//! Plain programs for what one-by-one runs and vaults mean: a map in memory, transactions run one by
-//! one, and a row of calls on a vault.
+//! Plain programs for what one-by-one runs and vaults mean: a map in memory, transactions run one
+//! by one, and a row of calls on a vault.
 #![tactic(auto)]
 
 mod calls;

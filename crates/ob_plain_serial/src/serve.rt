@@ -92,7 +92,8 @@ pub fn serve_all<V: Vault, W: Watch>(
     watch: &mut W,
 ) -> Result<Vec<Reply>, Memory>
     requires { MayServeAll (V.params vault.old) (V.counts vault.old) requests.now }
-    // Over any list of calls the answers are those of a map by epochs, from the one that the vault held to the one that it holds.
+    // Over any list of calls the answers are those of a map by epochs, from the one that the vault
+    // held to the one that it holds.
     ensures law { (v : VaultState) → V.holds vault.old v
         → IfOk result (λ replies. (last : VaultState)
         × AnsweredBy v (map call_of requests.now) (map answer_of replies.items) last

@@ -154,8 +154,8 @@ impl PlainTable {
         self.visit_all(ask, own, &path, reads)
     }
 
-    /// A read batch: for each place what it asks for, or none for a pad, and the leaf that a present
-    /// key then keeps. Adds what the places show, and what they read.
+    /// A read batch: for each place what it asks for, or none for a pad, and the leaf that a
+    /// present key then keeps. Adds what the places show, and what they read.
     ///
     /// # Errors
     /// Memory was wanting.

@@ -71,9 +71,9 @@ fn find_with<S: Store, W: Watch>(
 ///
 /// # Errors
 /// Memory was wanting, behind some of the reads; or the store failed, and its count of faults rose;
-/// or, in this order, it is no store exactly where a register has no open gate; the first body under
-/// an open gate that breaks a rule is damaged, in the order of cells; or what breaks a rule first in
-/// the checkpoint's cells; or in the bodies of the log before its first closed gate.
+/// or, in this order, it is no store exactly where a register has no open gate; the first body
+/// under an open gate that breaks a rule is damaged, in the order of cells; or what breaks a rule
+/// first in the checkpoint's cells; or in the bodies of the log before its first closed gate.
 pub fn find<S: Store, W: Watch>(
     alloc: Global,
     store: &mut S,

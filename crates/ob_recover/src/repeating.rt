@@ -22,8 +22,8 @@ use ob_ring::Ring;
 use ob_seal::Sealer;
 use ob_store::{Store, Watch};
 
-// Repeats the batch of a record: plans it with the record's words under their ids, reads it, shows
-// it, and settles what was read.
+/// Repeats the batch of a record: plans it with the record's words under their ids, reads it, shows
+/// it, and settles what was read.
 pub fn repeat_batch<S: Store, W: Watch>(
     store: &mut S,
     crew: &mut Crew<S::Lane>,

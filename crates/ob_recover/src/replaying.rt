@@ -90,8 +90,8 @@ pub fn replay<S: Store, W: Watch>(
     ensures replayed { IfOk result (λ r. IsReplayed p.now found r.0 r.1) }
     // Whatever the store tells, the planner's numbers are in range, and it carries some map.
     ensures fit { IfOk result (λ r. IsPlannerFit r.0) }
-    // Where the store stands for what was found, at whatever generation, the planner has its map, and
-    // nothing is damaged.
+    // Where the store stands for what was found, at whatever generation, the planner has its map,
+    // and nothing is damaged.
     ensures stands { (s : RingStanding) → (S.disk store.old).tells
         → Stands sealer.now.keys p.now s (S.disk store.old).cells → KeepsWhatStood s found
         → ReplaysStanding sealer.now.keys p.now (S.disk store.old).cells s result }

@@ -48,7 +48,7 @@ fn show_place<W: Watch>(jobs: &Jobs, i: usize, watch: &mut W)
     show_reads(&jobs.jobs()[place.first as usize..end], watch);
 }
 
-// Shows a batch that was read: before each place's reads its label.
+/// Shows a batch that was read: before each place's reads its label.
 pub fn show_batch<W: Watch>(jobs: &Jobs, watch: &mut W)
     requires placed { ArePlaced jobs.now }
     ensures { Shows (placed_notes jobs.now (length jobs.now.places)) (W.trace watch.old)

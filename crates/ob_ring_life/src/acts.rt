@@ -139,14 +139,15 @@ pub fn end_in_life<S: Store, T: Tape, W: Watch>(
     end(store, tape, crew, run, writes, watch)
 }
 
-/// Each call of a ring vault, a fetch or an end, whatever it answers, is an act of its store's life,
-/// by what the call says of itself.
+/// Each call of a ring vault, a fetch or an end, whatever it answers, is an act of its store's
+/// life, by what the call says of itself.
 pub fn calls_are_acts<S: Store>()
     ensures { RingCallsAreActs (λ store. S.disk store) }
 {}
 
-/// An opening and the calls of a ring vault over it are a run in a life of the store: so no two seals
-/// of a store's life have the same generation and number, over all openings, calls and crashes.
+/// An opening and the calls of a ring vault over it are a run in a life of the store: so no two
+/// seals of a store's life have the same generation and number, over all openings, calls and
+/// crashes.
 pub fn ring_chains_are_runs<V: Vault, S: Store>()
     ensures { RingChainsLive (kind_of V.Vault) (λ store. S.disk store) }
 {}

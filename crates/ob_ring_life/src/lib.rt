@@ -1,6 +1,6 @@
 //! The calls on a ring store as acts of its life: so no generation and number seals twice, what all
-//! its runs draw and show is fresh, and each run goes on with the life that its store stood for, over
-//! any number of openings, calls and crashes.
+//! its runs draw and show is fresh, and each run goes on with the life that its store stood for,
+//! over any number of openings, calls and crashes.
 #![tactic(auto)]
 
 mod acts;

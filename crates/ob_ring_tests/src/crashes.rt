@@ -21,7 +21,8 @@ const HI: &[Put] = &[Put {
     text: b"hi",
 }];
 
-// An epoch that puts key 5: behind the format 46 writes and 10 syncs, its opening's 2 and 3 among them.
+// An epoch that puts key 5: behind the format 46 writes and 10 syncs, its opening's 2 and 3 among
+// them.
 const EPOCH: &[Step] = &[PADS, PADS, Step::End(HI)];
 
 // The epoch of what a crash left.
@@ -72,8 +73,8 @@ fn a_crash_leaves_one_of_two_epochs_whole(rt: HostRuntime) {
     }
 }
 
-// How the epoch goes where this call fails, and the least and the greatest epoch that a crash may leave
-// then.
+// How the epoch goes where this call fails, and the least and the greatest epoch that a crash may
+// leave then.
 fn failed_at(rt: &impl Abort, alloc: Global, fail: Fail) -> (Told, u64, u64) {
     let mut store = new_store(rt, alloc, &[fail]);
     let outcome = run_on(rt, alloc, &mut store, &[], EPOCH, &mut Blind);
@@ -119,7 +120,8 @@ fn a_failed_call_refuses_what_made_it(rt: HostRuntime) {
     }
 }
 
-// The cells that are read behind the head, in order: those of the opening, of two batches, of the lifts.
+// The cells that are read behind the head, in order: those of the opening, of two batches, of the
+// lifts.
 const FOUND: [u64; 23] = [
     1, 2, 3, 4, 5, 6, 7, 8, 17, 18, 19, 20, 21, 22, 23, 24, 25, 26, 27, 13, 14, 15, 16,
 ];
@@ -128,7 +130,8 @@ const BATCHES: [u64; 15] = [41, 46, 56, 42, 47, 57, 43, 39, 40, 48, 44, 45, 58, 
 
 const LIFTS: [u64; 4] = [49, 50, 64, 65];
 
-// The number of writes that come before a read of one of these cells: 62 of the format, 2 of the opening.
+// The number of writes that come before a read of one of these cells: 62 of the format, 2 of the
+// opening.
 fn refused_read(rt: &impl Abort, alloc: Global, cell: u64, writes: u64, told: Told) {
     let went = failed_at(rt, alloc, Fail::Read { cell, writes });
     assert!(rt; went == (told, 0, 0), "read {cell}");

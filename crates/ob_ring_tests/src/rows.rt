@@ -69,8 +69,8 @@ fn run_shown(
     outcome
 }
 
-// The words of the tape, zeros behind them; the steps; the epoch and the batches left then; the value
-// that was asked for; and what is shown.
+// The words of the tape, zeros behind them; the steps; the epoch and the batches left then; the
+// value that was asked for; and what is shown.
 const ROWS: [(&[u64], &[Step], (u64, u32), &[u8], &[&[u8]]); 4] = [
     (
         &[],
@@ -114,8 +114,8 @@ fn epochs_show_what_another_implementation_shows(rt: HostRuntime) {
     }
 }
 
-// The SHA-256 digest of all 109 cells of the small store after two epochs under the keys of the bytes
-// 0 to 95, as another implementation made it.
+// The SHA-256 digest of all 109 cells of the small store after two epochs under the keys of the
+// bytes 0 to 95, as another implementation made it.
 const AFTER: [u8; 32] = [
     0x7d, 0xe8, 0xe8, 0x94, 0x92, 0x2a, 0x2c, 0x61, 0x4e, 0x85, 0x9f, 0x22, 0x2c, 0x63, 0x8a, 0x5f,
     0x1e, 0x86, 0x23, 0x33, 0xb9, 0x36, 0x7e, 0x62, 0xf8, 0x70, 0xdf, 0xb8, 0xa5, 0x3a, 0x3a, 0xfd,
@@ -237,8 +237,8 @@ fn has_part(all: &[u8], part: &[u8]) -> bool {
     false
 }
 
-// The lifts don't depend on what the end writes: an end that is begun again behind a crash reads them
-// in the same order, whichever key it puts.
+// The lifts don't depend on what the end writes: an end that is begun again behind a crash reads
+// them in the same order, whichever key it puts.
 #[test]
 fn lifts_are_planned_before_the_writes(rt: HostRuntime) {
     let alloc = rt.alloc();

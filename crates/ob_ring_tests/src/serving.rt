@@ -47,7 +47,7 @@ pub struct Outcome {
     pub found: Option<Value>,
 }
 
-// Opens a store for a run.
+/// Opens a store for a run.
 pub fn open_run<S: Store, T: Tape, W: Watch>(
     alloc: Global,
     store: &mut S,
@@ -93,7 +93,7 @@ pub fn open_run<S: Store, T: Tape, W: Watch>(
     Ok((run, crew))
 }
 
-// The asks of a batch of at most two places.
+/// The asks of a batch of at most two places.
 pub fn asks_of(key: Option<Key>) -> [Option<Key>; 2]
     ensures { result ≡ key ∷ None ∷ [] }
 {
@@ -135,7 +135,7 @@ fn ask<S: Store, T: Tape, W: Watch>(
     }
 }
 
-// The writes of at most four puts of keys below these.
+/// The writes of at most four puts of keys below these.
 pub fn writes_of(puts: &[Put], keys: u32) -> Option<[Write; 4]>
     requires { 0 < keys }
     ensures few { IfSome result (λ writes. length puts.now ≤ 4) }
@@ -162,7 +162,7 @@ pub fn writes_of(puts: &[Put], keys: u32) -> Option<[Write; 4]>
     Some(writes)
 }
 
-// Takes a step, where it may be taken.
+/// Takes a step, where it may be taken.
 pub fn take_step<S: Store, T: Tape, W: Watch>(
     store: &mut S,
     tape: &mut T,
@@ -203,7 +203,7 @@ pub fn take_step<S: Store, T: Tape, W: Watch>(
     }
 }
 
-// Opens a store, and takes these steps.
+/// Opens a store, and takes these steps.
 pub fn run_steps<S: Store, T: Tape, W: Watch>(
     alloc: Global,
     store: &mut S,

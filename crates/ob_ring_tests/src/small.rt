@@ -13,7 +13,7 @@ use ob_vault::format;
 use std::alloc::Global;
 use std::process::Abort;
 
-// The bytes 0 to 95.
+/// The bytes 0 to 95.
 pub fn key_bytes() -> [u8; 96] {
     let mut bytes = [0; 96];
     for i in 0..96 {
@@ -22,15 +22,17 @@ pub fn key_bytes() -> [u8; 96] {
     bytes
 }
 
+/// The keys of these bytes.
 pub fn test_keys() -> Keys {
     Keys::from_bytes(&key_bytes())
 }
 
+/// A store of 8 keys in a tree of four leaves.
 pub fn small_store(rt: &impl Abort) -> Params {
     Params::new(8, 2, 2, 3, 2, 2, 2, 2, 8).expect(rt, "parameters")
 }
 
-// A new store of these parameters, of so many cells, where these calls fail.
+/// A new store of these parameters, of so many cells, where these calls fail.
 pub fn store_of(
     rt: &impl Abort,
     alloc: Global,
@@ -47,14 +49,14 @@ pub fn store_of(
     store
 }
 
-// A new small store, where these calls fail: its format has 62 writes and 10 syncs.
+/// A new small store, where these calls fail: its format has 62 writes and 10 syncs.
 pub fn new_store(rt: &impl Abort, alloc: Global, fails: &[Fail]) -> MemStore
     ensures { (disk_of_store result).out ≡ 0 }
 {
     store_of(rt, alloc, &small_store(rt), 109, fails)
 }
 
-// A run of the small store on a tape of these words, and of zeros behind them.
+/// A run of the small store on a tape of these words, and of zeros behind them.
 pub fn run_on<W: Watch>(
     rt: &impl Abort,
     alloc: Global,
@@ -71,7 +73,7 @@ pub fn run_on<W: Watch>(
     run_steps(alloc, store, &mut tape, &test_keys(), &p, steps, watch)
 }
 
-// What a crash leaves where the cells that aren't sure hold these bytes, or what they got last.
+/// What a crash leaves where the cells that aren't sure hold these bytes, or what they got last.
 pub fn left_after(
     rt: &impl Abort,
     store: &MemStore,

@@ -1,5 +1,5 @@
-//! What a ring store shows: its calls show the public schedule, made of what the store may know, and
-//! over every life of a store what fills it is fresh. Laws of definitions; nothing here runs.
+//! What a ring store shows: its calls show the public schedule, made of what the store may know,
+//! and over every life of a store what fills it is fresh. Laws of definitions; nothing here runs.
 #![tactic(auto)]
 
 mod lives;

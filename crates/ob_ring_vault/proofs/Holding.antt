@@ -181,9 +181,9 @@ module _ (run : Run) (old : Disk) (v : VaultState) (holds : RingHolds run old v)
     abbrev then : RingStanding
     then = standing_at_end s new ws
 
-    map_then : (k : ℕ) → taken.with_writes s.map ws k ≡ finite.get (vault.with_writes v.content writes) k
+    map_then : (k : ℕ) → taken.with_entries s.map ws k ≡ finite.get (vault.with_writes v.content writes) k
     map_then k =
-        ap (λ (m : Values). taken.with_writes m ws k) (fun_ext serves.map)
+        ap (λ (m : Values). taken.with_entries m ws k) (fun_ext serves.map)
         ∙ writes_agree v.content ws k
         ∙ ap (λ (l : List (ℕ × Option (List ℕ))). finite.get (vault.with_writes v.content l) k) plain
 

@@ -15,7 +15,7 @@ pub struct Known {
     pub spent: bool,
 }
 
-// That of a run.
+/// That of a run.
 pub fn knows(run: &Run) -> Known
     ensures { result ≡ kept_of_run run.now }
 {

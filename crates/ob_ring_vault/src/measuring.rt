@@ -15,7 +15,7 @@ fn measure(write: &Write)
     }
 }
 
-// Each of them.
+/// Each of them.
 pub fn measure_all(writes: &[Write])
     ensures { (i : ℕ) → i < length writes.now → HasShortValue (write_at writes.now i) }
 {

@@ -16,9 +16,9 @@ use ob_store::{Store, Watch};
 use ob_tape::Tape;
 use ob_vault::Opening;
 
-/// A map by epochs over a ring store and a tape that are lent. Which cells a fetch and the end of an
-/// epoch read and write is fixed by the parameters and by random words: it tells nothing of the keys.
-/// Neither takes memory.
+/// A map by epochs over a ring store and a tape that are lent. Which cells a fetch and the end of
+/// an epoch read and write is fixed by the parameters and by random words: it tells nothing of the
+/// keys. Neither takes memory.
 #[derive(Drop)]
 pub struct RingVault<'a, S: Store, T: Tape> {
     lent: Lent<'a, S, T>,

@@ -93,7 +93,8 @@ fn are_from(replies: &[Reply], wanted: &[Reply], place: usize, many: usize) -> b
     true
 }
 
-// What a crash leaves at this moment: in the cells that aren't sure what they got last, or other bytes.
+// What a crash leaves at this moment: in the cells that aren't sure what they got last, or other
+// bytes.
 fn left_after(
     rt: &impl Abort,
     alloc: Global,
@@ -123,8 +124,8 @@ fn calls_behind(p: &Params, epoch: u64, left: u32) -> u64 {
         .saturating_add(batches.saturating_sub(u64::from(left)))
 }
 
-// Opens what a crash left, and makes the calls of two epochs from where it stands on: they are answered
-// as without a crash.
+// Opens what a crash left, and makes the calls of two epochs from where it stands on: they are
+// answered as without a crash.
 fn serve_on(
     rt: &impl Abort,
     alloc: Global,
@@ -168,8 +169,8 @@ const EPOCHS: u32 = 50;
 
 const CRASHES: usize = 20;
 
-// A ring store that crashes at so many moments of these calls; each time another opening of what is left
-// serves on.
+// A ring store that crashes at so many moments of these calls; each time another opening of what is
+// left serves on.
 fn crash_often(
     rt: &impl Abort,
     alloc: Global,

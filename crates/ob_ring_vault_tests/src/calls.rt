@@ -93,7 +93,7 @@ fn are_low(keys: u32, writes: &[Write]) -> bool
     true
 }
 
-// Whether a vault with so many batches left takes this batch.
+/// Whether a vault with so many batches left takes this batch.
 pub fn may_fetch(p: &Params, left: u32, asks: &[Option<Key>]) -> bool
     ensures some_left { result ≡ true → 0 < left }
     ensures whole { result ≡ true → length asks.now ≡ p.now.places }
@@ -103,7 +103,7 @@ pub fn may_fetch(p: &Params, left: u32, asks: &[Option<Key>]) -> bool
     left > 0 && asks.len() == p.places as usize && are_below(p.keys, asks) && are_distinct(asks)
 }
 
-// Whether it ends its epoch with these writes.
+/// Whether it ends its epoch with these writes.
 pub fn may_end(p: &Params, left: u32, writes: &[Write]) -> bool
     ensures none_left { result ≡ true → left ≡ 0 }
     ensures few { result ≡ true → length writes.now ≤ p.now.writes }
@@ -135,7 +135,7 @@ fn left_after(batches: u32, left: u32, request: &Request) -> u32
     }
 }
 
-// Whether it takes these calls one behind the other.
+/// Whether it takes these calls one behind the other.
 pub fn may_serve_all(p: &Params, left: u32, requests: &[Request]) -> bool
     ensures { result ≡ true → (epoch : ℕ)
         → MayServeAll p.now (record { epoch = epoch; left = left; spent = false }) requests.now }

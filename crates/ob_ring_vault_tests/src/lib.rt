@@ -1,4 +1,5 @@
-//! Tests of the ring vault: what its calls show, refusals, another opening, runs beside a plain vault.
+//! Tests of the ring vault: what its calls show, refusals, another opening, runs beside a plain
+//! vault.
 #![tactic(auto)]
 
 #[cfg(test)]

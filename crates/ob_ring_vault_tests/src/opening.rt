@@ -24,7 +24,7 @@ use ob_vault::{format, prepare};
 use std::alloc::Global;
 use std::process::Abort;
 
-// The bytes 0 to 95.
+/// The bytes 0 to 95.
 pub fn test_keys() -> Keys {
     let mut bytes = [0; 96];
     for i in 0..96 {
@@ -33,13 +33,13 @@ pub fn test_keys() -> Keys {
     Keys::from_bytes(&bytes)
 }
 
-// The parameters with these numbers.
+/// The parameters with these numbers.
 pub fn params_of(rt: &impl Abort, numbers: [u32; 9]) -> Params {
     let [n, l, z, s, r, br, bw, e, t] = numbers;
     Params::new(n, l, z, s, r, br, bw, e, t).expect(rt, "parameters")
 }
 
-// A new ring store in memory, where these calls fail.
+/// A new ring store in memory, where these calls fail.
 pub fn new_store<W: Watch>(
     rt: &impl Abort,
     alloc: Global,
@@ -56,7 +56,7 @@ pub fn new_store<W: Watch>(
     store
 }
 
-// A vault over a store that is opened. Where that stood it is sound, with what stood.
+/// A vault over a store that is opened. Where that stood it is sound, with what stood.
 pub fn open_ring<'a, S: Store, T: Tape, W: Watch>(
     alloc: Global,
     store: &'a mut S,
@@ -79,8 +79,8 @@ pub fn open_ring<'a, S: Store, T: Tape, W: Watch>(
     }
 }
 
-// Makes calls on a ring vault, up to the first that it refuses: the answers are those of a map by
-// epochs, from the one that it held to the one that it holds.
+/// Makes calls on a ring vault, up to the first that it refuses: the answers are those of a map by
+/// epochs, from the one that it held to the one that it holds.
 pub fn serve_ring<S: Store, T: Tape, W: Watch>(
     rt: &impl Abort,
     alloc: Global,
@@ -99,8 +99,8 @@ pub fn serve_ring<S: Store, T: Tape, W: Watch>(
     serve_all(alloc, vault, requests, watch)
 }
 
-// Opens a store, and makes calls on a ring vault over it. Where it stood, the answers are those of a
-// map by epochs, from the one that it stood for.
+/// Opens a store, and makes calls on a ring vault over it. Where it stood, the answers are those of
+/// a map by epochs, from the one that it stood for.
 pub fn serve_store<S: Store, T: Tape, W: Watch>(
     rt: &impl Abort,
     alloc: Global,

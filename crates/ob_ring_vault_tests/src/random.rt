@@ -21,7 +21,7 @@ impl Random {
         self.state.wrapping_mul(0x2545_F491_4F6C_DD1D)
     }
 
-    // A number below this one.
+    /// A number below this one.
     pub fn below(&mut self, many: u32) -> u32
         requires { 0 < many }
         ensures { result < many }
@@ -84,7 +84,7 @@ fn add_epoch(
     calls.push(Request::End(writes)).expect(rt, "memory");
 }
 
-// The calls of so many epochs.
+/// The calls of so many epochs.
 pub fn calls_of(
     rt: &impl Abort,
     alloc: Global,

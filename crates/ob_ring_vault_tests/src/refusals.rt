@@ -101,8 +101,8 @@ fn told_without_bytes(told: Told) -> Told {
     }
 }
 
-// The trouble, the refusal of the small store's epoch, the batches that are left then, and the epoch and
-// the batches left that another opening finds, where it isn't refused.
+// The trouble, the refusal of the small store's epoch, the batches that are left then, and the
+// epoch and the batches left that another opening finds, where it isn't refused.
 const ROWS: [(Trouble, Told, u32, Option<(u64, u32)>); 7] = [
     (
         Trouble::Fails(&[Fail::Write(64)]),

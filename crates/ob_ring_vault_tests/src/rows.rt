@@ -44,8 +44,8 @@ fn compare(rt: &impl Abort, alloc: Global, shown: &[u8], parts: &[&[u8]]) {
     assert!(rt; shown == all.as_slice());
 }
 
-// The words of the tape, zeros behind them; the steps; what they show; the epoch that ended last; and
-// what key 5 has in the next one, behind another opening.
+// The words of the tape, zeros behind them; the steps; what they show; the epoch that ended last;
+// and what key 5 has in the next one, behind another opening.
 const ROWS: [(&[u64], &[Step], &[&[u8]], u64, &[u8]); 3] = [
     (&[], ONE_EPOCH, &[FIRST_EPOCH], 1, b""),
     (&[], TWO_EPOCHS, &[FIRST_EPOCH, SECOND_EPOCH], 2, b"hi"),

@@ -99,7 +99,7 @@ fn end_with<S: Store, T: Tape, W: Watch>(
     end(rt, vault, &writes[..puts.len()], watch)
 }
 
-// Takes steps up to the first that is refused: how that went, and the last value that was found.
+/// Takes steps up to the first that is refused: how that went, and the last value that was found.
 pub fn take_steps<S: Store, T: Tape, W: Watch>(
     rt: &impl Abort,
     vault: &mut RingVault<'_, S, T>,

@@ -1,5 +1,5 @@
-//! A run of the clients over a vault, each in a thread of its own or all by hand, with the driver of
-//! epochs beside them; what a hall's whole history is then, and how it ends.
+//! A run of the clients over a vault, each in a thread of its own or all by hand, with the driver
+//! of epochs beside them; what a hall's whole history is then, and how it ends.
 #![tactic(auto)]
 
 mod beside;

@@ -1,4 +1,5 @@
-//! Tests of the driver beside clients whose steps are made by hand, and of scripts by threads and by hand.
+//! Tests of the driver beside clients whose steps are made by hand, and of scripts by threads and
+//! by hand.
 #![tactic(auto)]
 
 #[cfg(test)]

@@ -12,7 +12,7 @@ use crate::integers::integer_of;
 use crate::line::{Ask, Ending, Line};
 use ob_base::{Key, MOST_CLIENTS, Value};
 
-// What stands before the first such byte, and what behind it.
+/// What stands before the first such byte, and what behind it.
 pub fn cut(bytes: &[u8], at: u8) -> Option<(&[u8], &[u8])>
     ensures { option_map (λ p. (p.0.now, p.1.now)) result ≡ cut at bytes.now }
 {

@@ -127,7 +127,8 @@ pub trait Vault {
             → holds self.new (vault_next v (End (writes_of writes.now)) (end_answer result)) }
         ensures sound { (v : VaultState) → sound self.old v
             → sound self.new (vault_next v (End (writes_of writes.now)) (end_answer result)) }
-        // A crash at any moment of it leaves an image of what the vault held, or of what it then holds.
+        // A crash at any moment of it leaves an image of what the vault held, or of what it then
+        // holds.
         ensures images { (v : VaultState) → sound self.old v
             → LeavesOnly (disk self.old) (disk self.new)
             (StandsIn (stands self.old) (MayStandIn v (End (writes_of writes.now)))) }

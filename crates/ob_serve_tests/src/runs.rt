@@ -22,6 +22,7 @@ use std::process::Abort;
 use std::sync::Wait;
 use std::thread::Threads;
 
+/// Keys of 96 bytes of 7.
 pub fn test_keys() -> Keys {
     Keys::from_bytes(&[7; 96])
 }

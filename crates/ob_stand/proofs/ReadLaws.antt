@@ -13,7 +13,7 @@ use Rattle.ob_seal.proofs.PadLemmas.{length-xored, xored_twice}
 use Rattle.ob_tables.specs.Version.{key_at, rank_at, used_at}
 use Rattle.ob_tables.specs.Buckets.{version_at}
 use Rattle.ob_epoch.specs.Numbers.{IsKnown}
-use Rattle.ob_epoch.specs.Values.{with_writes}
+use Rattle.ob_epoch.specs.Values.{with_entries}
 use Rattle.ob_epoch.specs.Valued.{IsSlotOf, content_with}
 use Rattle.ob_epoch.proofs.Ending.{ends_follow}
 use Rattle.ob_epoch.specs.Ends.{IsNext}
@@ -60,4 +60,4 @@ runs_end keys p s image r slots bs js ws book rows counter stands same epoch run
     let small = stands.generation.small in
     let known : IsKnown s.content (r.first).0 = subst (IsKnown s.content) (sym same) stands.holds.known in
     let next = ends_follow p r s.content (slots_in keys p s.content image) slots s.map bs js ws book rows counter stands.holds.obeys known (omega arith) (stands_valued keys p s image stands) epoch run in
-    subst (λ g. IsNext p s.content (content_with r.filled book rows counter) slots s.map (with_writes s.map ws) g (r.before).order) same next
+    subst (λ g. IsNext p s.content (content_with r.filled book rows counter) slots s.map (with_entries s.map ws) g (r.before).order) same next

@@ -42,4 +42,4 @@ pub writes_agree : WritesAgree
 writes_agree m [] k = refl
 writes_agree m (w ∷ ws) k =
     let now : Map nat_cmp = after_op nat_cmp m (write_op w.0.key w.0.value) in
-    ap (λ (f : Values). taken.with_writes f ws k) (λ i q. one_write m w.0.key w.0.value q i) ∙ writes_agree now ws k
+    ap (λ (f : Values). taken.with_entries f ws k) (λ i q. one_write m w.0.key w.0.value q i) ∙ writes_agree now ws k

@@ -9,7 +9,7 @@ use Rattle.ob_seal.specs.Pads.{pad_of, xored}
 use Rattle.ob_seal.specs.Seals.{sealed}
 use Rattle.ob_tables.specs.Content.{Content, Rows}
 use Rattle.ob_tables.specs.declared.entry.Entry.{Entry}
-use Rattle.ob_epoch.specs.Values.{with_writes}
+use Rattle.ob_epoch.specs.Values.{with_entries}
 use Rattle.ob_epoch.specs.Carries.{Slots}
 use Rattle.ob_epoch.specs.Epochs.{Read, IsEpoch}
 use Rattle.ob_epoch.specs.Runs.{Plains, slots_of}
@@ -39,7 +39,7 @@ StandsValued = (keys : Keys) (p : Params) (s : RingStanding) (image : Image) →
 -- the end that a run of the planner's calls leads to
 abbrev pub end_of_run : RingStanding → RefillRun → List (Option Entry) → Rows → ℕ → Slots → List (Write × Entry) → RingEnd
 end_of_run s r book rows counter slots ws =
-    record { content = content_with r.filled book rows counter; map = with_writes s.map ws; slots = slots; order = (r.before).order }
+    record { content = content_with r.filled book rows counter; map = with_entries s.map ws; slots = slots; order = (r.before).order }
 
 -- From an image that stands: a run of the planner's calls, which read the image's slots and sealed in its generation, leads to an end.
 abbrev pub RunsEnd : Type 0

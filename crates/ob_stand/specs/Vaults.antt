@@ -28,4 +28,4 @@ plain_writes ws = map (λ w. (w.0.key, w.0.value)) ws
 
 -- the writes of an epoch make of the values what they make of a vault's map
 abbrev pub WritesAgree : Type 0
-WritesAgree = (m : Map nat_cmp) (ws : List (Write × Entry)) (k : ℕ) → taken.with_writes (λ k. finite.get m k) ws k ≡ finite.get (vault.with_writes m (plain_writes ws)) k
+WritesAgree = (m : Map nat_cmp) (ws : List (Write × Entry)) (k : ℕ) → taken.with_entries (λ k. finite.get m k) ws k ≡ finite.get (vault.with_writes m (plain_writes ws)) k

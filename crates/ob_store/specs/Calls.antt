@@ -1,5 +1,5 @@
 -- What every call over a store keeps, and what each single call does.
-use Rattle.std.specs.Prelude.{◌≡◌, ◌<◌, ◌≤◌, ◌↔◌, ℕ, ◌+◌, ◌-◌, ◌^◌, min, List, [], ◌++◌, length, take, slice_index_or, Option, Some, None, Result, IfErr, OnOk}
+use Rattle.std.specs.Prelude.{◌≡◌, ◌<◌, ◌≤◌, ◌↔◌, ℕ, ◌+◌, ◌-◌, ◌^◌, min, List, [], ◌++◌, length, take, slice_index_or, Option, Some, None, Result, Err, IfErr, OnOk}
 use Rattle.ob_base.specs.declared.fault.Failed.{Failed}
 use Rattle.ob_base.specs.declared.fault.Fault.{Fault}
 use Rattle.ob_base.specs.declared.fault.Fault.TheVariants.{StoreFault}
@@ -70,6 +70,11 @@ IsFailed failed = Unit {0}
 abbrev pub IsStoreFault : Fault → Type 0
 IsStoreFault (StoreFault unsure) = Unit {0}
 IsStoreFault _ = ⊥
+
+-- all the events of a call that only reads come behind the earlier ones, unless the store failed: then the first of them
+abbrev pub NotesReads : {V : Type 0} → List Event → Option (List Event) → Option (List Event) → Result V Fault → Type 0
+NotesReads events old new (Err (StoreFault unsure)) = NotesFirst events old new
+NotesReads events old new _ = Notes events old new
 
 -- each cell is as before
 pub record Keeps (old new : Disk) : Type 0 where

@@ -1,6 +1,6 @@
 //! What the planner keeps. Buckets: the permutation of their slots, and what is known of each.
-//! Tables: which leaf each key has, and the rows that lie in no bucket. And what a checkpoint keeps of
-//! them: their content at an epoch's end, its rules, and its text.
+//! Tables: which leaf each key has, and the rows that lie in no bucket. And what a checkpoint keeps
+//! of them: their content at an epoch's end, its rules, and its text.
 #![tactic(auto)]
 
 mod book;

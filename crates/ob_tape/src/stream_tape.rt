@@ -12,7 +12,8 @@ use std::marker::Model;
 /// A tape over ChaCha20 with a 64-bit counter and a 64-bit stream number: a generation's word at
 /// place i is the pair i of the words of that stream, the low half first.
 ///
-/// Contracts see the key as eight words, the generation in force, and how many words of it are drawn.
+/// Contracts see the key as eight words, the generation in force, and how many words of it are
+/// drawn.
 #[derive(Drop)]
 pub struct ChaChaTape {
     generator: ChaCha20Rng,

@@ -1,4 +1,5 @@
-//! Tests of the top call with many clients, each in a thread of its own: their reports are replayed.
+//! Tests of the top call with many clients, each in a thread of its own: their reports are
+//! replayed.
 #![tactic(auto)]
 
 #[cfg(test)]

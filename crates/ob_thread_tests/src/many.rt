@@ -86,8 +86,8 @@ fn many_clients<R: AllocGlobal>(rt: &R, each: u8) -> Result<String, Broken> {
     Ok(script)
 }
 
-// How many transactions a run of such a script, by these words, reports, of which the committed ones
-// replay one by one.
+// How many transactions a run of such a script, by these words, reports, of which the committed
+// ones replay one by one.
 fn many_told<R: AllocGlobal + Threads + Wait + Sync + Abort>(
     rt: &R,
     words: &[&str],

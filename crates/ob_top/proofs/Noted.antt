@@ -2,13 +2,13 @@
 use Rattle.std.proofs.Common.{List, Option, Result, Ok, Err}
 use Rattle.ob_base.specs.declared.fault.Fault.{Fault}
 use Rattle.ob_base.specs.declared.fault.Fault.TheVariants.{Memory, Usage, BadScript, BadParams, NotStore, Damaged, StoreFault, StashFull, Worn, SourceFault, SinkFault}
+use Rattle.ob_store.specs.Calls.{NotesReads}
 use Rattle.ob_store.specs.declared.event.Event.{Event}
 use Rattle.ob_store.specs.declared.watch.Note.{Note}
 use Rattle.ob_store.specs.Lines.{Trace}
 use Rattle.ob_store.specs.Told.{events_of}
 use Rattle.ob_store.proofs.Doing.{first_noted}
 use Rattle.ob_twin.specs.Got.{DoesReads}
-use Rattle.ob_top.specs.Noting.{NotesReads}
 
 -- reads that may have failed
 pub reads_noted : {V : Type 0} (notes : List Note) (a b : Option (List Event)) (k l : Trace) (r : Result V Fault) → DoesReads notes a b k l r → NotesReads (events_of notes) a b r

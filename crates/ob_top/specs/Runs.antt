@@ -16,7 +16,7 @@ use Rattle.ob_store.specs.declared.event.Event.{Event}
 use Rattle.ob_store.specs.declared.event.Event.TheVariants as event
 use Rattle.ob_store.specs.Disk.{Disk, Image}
 use Rattle.ob_store.specs.Images.{IsSynced, LeavesOnly, Passes, Same}
-use Rattle.ob_store.specs.Calls.{GoesOn, Keeps, Notes, IsStoreFault}
+use Rattle.ob_store.specs.Calls.{GoesOn, Keeps, Notes, IsStoreFault, NotesReads}
 use Rattle.ob_serial.specs.Serial.{EpochRecord, Map, OneByOne, AreInOrder, committed_of}
 use Rattle.ob_serial.specs.Vaults.{VaultCall, VaultAnswer, VaultState, Standing, StandsIn}
 use Rattle.ob_pads.specs.Lives.{Opens, LivesOn}
@@ -28,7 +28,6 @@ use Rattle.ob_kinds.specs.Shown.{AreDrawn, IsSeenCut, public_behind, steps_phase
 use Rattle.ob_desk.specs.Desk.{DeskState, MayOpen, Run, new_desk}
 use Rattle.ob_desk.specs.Beats.{BeatKind}
 use Rattle.ob_script.specs.Script.{Scripts, IsScript, IsFirstBad, limit}
-use Rattle.ob_top.specs.Noting.{NotesReads}
 use Rattle.ob_conduct.specs.Acts.{Act, calls, history, fault_told}
 use Rattle.ob_conduct.specs.Moves.{IsSaid}
 use Rattle.ob_conduct.specs.Records.{IsWritten, IsOver, contents}

@@ -91,7 +91,7 @@ fn each_failing_read_of_an_opening_is_told(rt: HostRuntime) {
     }
 }
 
-// Changes a bit of a cell.
+/// Changes a bit of a cell.
 pub fn flip<R: Abort>(rt: &R, store: &mut MemStore, cell: u64)
     requires { (disk_of_store store.old).out ≡ 0 }
     ensures { (disk_of_store store.new).out ≡ 0 }

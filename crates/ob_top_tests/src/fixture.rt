@@ -25,7 +25,7 @@ pub const KEYS: &str =
 // and output a `/` stands for the end of a line.
 pub type Call<'a> = (&'a str, &'a str, u8, &'a str);
 
-// The words of a line.
+/// The words of a line.
 pub fn words_of<'a, R: AllocGlobal + Abort>(rt: &R, line: &'a str) -> Vec<&'a str> {
     let mut words = Vec::new(rt.alloc());
     for word in line.split(' ') {
@@ -34,7 +34,7 @@ pub fn words_of<'a, R: AllocGlobal + Abort>(rt: &R, line: &'a str) -> Vec<&'a st
     words
 }
 
-// An input of this script, of which the reads of these numbers fail.
+/// An input of this script, of which the reads of these numbers fail.
 pub fn source_of<R: AllocGlobal + Abort>(rt: &R, script: &str, fails: &[u64]) -> MemSource {
     let alloc = rt.alloc();
     let lines = script.replace(alloc, "/", "\n").expect(rt, "memory");
@@ -42,14 +42,14 @@ pub fn source_of<R: AllocGlobal + Abort>(rt: &R, script: &str, fails: &[u64]) ->
     MemSource::new(bytes, fails.to_vec(alloc).expect(rt, "memory"))
 }
 
-// Asserts that just this was written.
+/// Asserts that just this was written.
 pub fn compare<R: AllocGlobal + Abort>(rt: &R, sink: &MemSink, output: &str) {
     let wanted = output.replace(rt.alloc(), "/", "\n").expect(rt, "memory");
     assert!(rt; sink.written() == wanted.as_bytes(), "{output}");
 }
 
-// Makes a call over a store, with a tape of these words and of zeros behind them: its status, and
-// the output.
+/// Makes a call over a store, with a tape of these words and of zeros behind them: its status, and
+/// the output.
 pub fn call_on<R: AllocGlobal + Threads + Wait + Sync + Abort, S: Store, B: Beat>(
     rt: &R,
     store: &mut S,
@@ -80,7 +80,7 @@ pub fn call_on<R: AllocGlobal + Threads + Wait + Sync + Abort, S: Store, B: Beat
     (status, sink)
 }
 
-// Makes a call over a store, and compares what it answers.
+/// Makes a call over a store, and compares what it answers.
 pub fn expect_on<R: AllocGlobal + Threads + Wait + Sync + Abort, S: Store>(
     rt: &R,
     store: &mut S,
@@ -96,7 +96,7 @@ pub fn expect_on<R: AllocGlobal + Threads + Wait + Sync + Abort, S: Store>(
     assert!(rt; status == wanted, "{script}: {status}");
 }
 
-// Makes a call without a store: its status.
+/// Makes a call without a store: its status.
 pub fn call_without<R: AllocGlobal + Threads + Wait + Sync + Abort>(
     rt: &R,
     words: &str,
@@ -110,7 +110,7 @@ pub fn call_without<R: AllocGlobal + Threads + Wait + Sync + Abort>(
     obladi(rt, &words, keys, none, &mut tape, input, sink, &mut Eager)
 }
 
-// A store of so many cells, where these calls fail.
+/// A store of so many cells, where these calls fail.
 pub fn blank<R: AllocGlobal + Abort>(rt: &R, cells: usize, fails: &[Fail]) -> MemStore
     ensures { (disk_of_store result).out ≡ 0 }
 {
@@ -118,7 +118,7 @@ pub fn blank<R: AllocGlobal + Abort>(rt: &R, cells: usize, fails: &[Fail]) -> Me
     MemStore::new(rt.alloc(), cells, fails).expect(rt, "memory")
 }
 
-// A sink with so much room, whose calls of these numbers fail.
+/// A sink with so much room, whose calls of these numbers fail.
 pub fn sink_of<R: AllocGlobal + Abort>(rt: &R, room: usize, fails: &[u64]) -> MemSink {
     let fails = fails.to_vec(rt.alloc()).expect(rt, "memory");
     MemSink::new(rt.alloc(), room, fails).expect(rt, "memory")
@@ -127,8 +127,8 @@ pub fn sink_of<R: AllocGlobal + Abort>(rt: &R, room: usize, fails: &[u64]) -> Me
 // A format of 8 keys.
 pub const FORMATS: Call<'static> = (FORMAT, "", 0, "store of 109 cells/");
 
-// A store of 8 keys that words formatted, where these calls fail: of the format 62 writes and 10
-// syncs come before them.
+/// A store of 8 keys that words formatted, where these calls fail: of the format 62 writes and 10
+/// syncs come before them.
 pub fn formatted<R: AllocGlobal + Threads + Wait + Sync + Abort>(rt: &R, fails: &[Fail]) -> MemStore
     ensures { (disk_of_store result).out ≡ 0 }
 {
@@ -137,8 +137,8 @@ pub fn formatted<R: AllocGlobal + Threads + Wait + Sync + Abort>(rt: &R, fails: 
     store
 }
 
-// What a crash at this moment leaves of a store of 109 cells: in those that aren't sure what they
-// got last, or this byte throughout.
+/// What a crash at this moment leaves of a store of 109 cells: in those that aren't sure what they
+/// got last, or this byte throughout.
 pub fn left_after<R: Abort>(
     rt: &R,
     store: &MemStore,

@@ -30,7 +30,7 @@ fn note(events: &mut Vec<Event>, lost: &mut bool, more: &[Event]) {
     }
 }
 
-// What is noted of this store from now on.
+/// What is noted of this store from now on.
 pub fn noted(alloc: Global, store: MemStore) -> Noting
     ensures { result.store ≡ store }
 {

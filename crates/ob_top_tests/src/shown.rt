@@ -49,7 +49,7 @@ fn compare_events<R: AllocGlobal + Abort>(rt: &R, noting: &Noting, events: &Even
     compare(rt, &lines_of(rt, noting), all.as_str());
 }
 
-// Makes a call over a store, and compares what it answers and what it asks of the store.
+/// Makes a call over a store, and compares what it answers and what it asks of the store.
 pub fn expect_events<R: AllocGlobal + Threads + Wait + Sync + Abort>(
     rt: &R,
     store: MemStore,

@@ -27,7 +27,7 @@ pub fn is_open(gate: &[u8; 128]) -> bool
     *gate == [0xA5; 128]
 }
 
-// The number of a body, its first 8 bytes.
+/// The number of a body, its first 8 bytes.
 #[tactic(auto, unfolding(crate::specs::Bodies::number_of))]
 pub fn number_of(body: &[u8; 128]) -> u64
     ensures { result ≡ number_of body.now }
@@ -37,7 +37,7 @@ pub fn number_of(body: &[u8; 128]) -> u64
     u64::from_le_bytes(word)
 }
 
-// The plain bytes of a body.
+/// The plain bytes of a body.
 #[tactic(auto, unfolding(crate::specs::Bodies::plain_of))]
 pub fn plain_of(n: u64) -> [u8; 112]
     ensures { result ≡ plain_of n }

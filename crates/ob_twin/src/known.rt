@@ -25,7 +25,7 @@ pub fn set_known(twin: Twin, gates: &mut Gates, known: Open)
     }
 }
 
-// The gate of this place is known to be open too.
+/// The gate of this place is known to be open too.
 pub fn with_mark(known: Open, place: u64) -> Open
     ensures { result ≡ with_mark known place }
 {
@@ -39,7 +39,7 @@ pub fn with_mark(known: Open, place: u64) -> Open
     }
 }
 
-// Whether the gate of a place is to be closed before its body is written.
+/// Whether the gate of a place is to be closed before its body is written.
 pub fn is_closed_first(known: Open, place: u64) -> bool
     ensures { result ≡ is_closed_first known place }
 {

@@ -11,7 +11,7 @@ use ob_base::{Params, buckets};
 use ob_tables::Metas;
 use ob_tape::Tape;
 
-// Draws a word for each place.
+/// Draws a word for each place.
 pub fn draw_words<T: Tape>(tape: &mut T, words: &mut [u64])
     requires room { length (T.drawn tape.old) + length words.old ≤ 2 ^ 62 }
     ensures drawn { T.drawn tape.new ≡ T.drawn tape.old ++ words.new }
@@ -42,7 +42,7 @@ fn fill_first<T: Tape>(tape: &mut T, p: &Params, metas: &mut Metas, bucket: u32,
     metas.get_mut(bucket).fill(0, 1, base, &[], words);
 }
 
-// Gives each bucket its first version, in rising number.
+/// Gives each bucket its first version, in rising number.
 pub fn fill_all<T: Tape>(tape: &mut T, p: &Params, metas: &mut Metas)
     requires none { T.drawn tape.old ≡ [] }
     requires blank { metas.old ≡ new_buckets p.now }

@@ -18,7 +18,7 @@ fn push_gates(p: &Params, area: u8, gates: &mut Vec<u64>) -> Result<(), AllocErr
     Ok(())
 }
 
-// The gates of both log areas, in rising order.
+/// The gates of both log areas, in rising order.
 pub fn log_gates(alloc: Global, p: &Params) -> Result<Vec<u64>, AllocError>
     ensures { IfOk result (λ gates. gates.items ≡ all_gates p.now) }
 {

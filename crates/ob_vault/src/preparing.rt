@@ -147,15 +147,15 @@ pub fn prepare<S: Store, T: Tape, W: Watch>(
     ensures tape_err { OnErr result ((tape.new ≡ tape.old)
         ⊎ StartsTape S.disk keys.now p.now store.old store.new (T.present tape.new)
         (T.drawn tape.new)) }
-    // But for a store that failed and for a batch that is damaged in the generation begun, a refused
-    // opening wrote nothing.
+    // But for a store that failed and for a batch that is damaged in the generation begun, a
+    // refused opening wrote nothing.
     ensures unwritten { IfErr result (RefusedWrites S.disk keys.now p.now store.old store.new
         tape.old tape.new (T.present tape.new) (T.drawn tape.new)) }
     ensures does_err { IfErr result (RefusedDoes keys.now lanes p.now (S.disk store.old)
         (S.disk store.new) (W.trace watch.old) (W.trace watch.new)) }
-    // Of a store whose life has reached this state, perhaps with an act in flight, the acts are what
-    // was found of that, the next generation, and a repeat of each batch of the log; the first of
-    // them where it was refused.
+    // Of a store whose life has reached this state, perhaps with an act in flight, the acts are
+    // what was found of that, the next generation, and a repeat of each batch of the log; the first
+    // of them where it was refused.
     ensures acts { (word_of : WordId → ℕ) (s : LifeState) (pending : Option LifeAct)
         → (S.disk store.old).tells
         → IsLeftAt keys.now p.now word_of s pending (S.disk store.old).cells

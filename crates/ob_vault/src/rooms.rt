@@ -27,7 +27,7 @@ fn words_for(alloc: Global, p: &Params) -> Result<Vec<u64>, AllocError>
     Ok(vec![in alloc; 0; few.max(all)]?)
 }
 
-// The room of an opening.
+/// The room of an opening.
 pub fn rooms_for<L>(alloc: Global, p: &Params, lanes: usize) -> Result<Rooms<L>, Memory>
     requires lanes { 1 ≤ lanes }
     ensures { IfOk result (AreRooms p.now lanes) }

@@ -18,8 +18,8 @@ pub fn forms_are_read()
     ensures audit { asked_by (codes "audit" ∷ []) ≡ Some audit_asked }
 {}
 
-/// Words that name no command, or that are fewer than a command's name and its operands, are refused,
-/// whatever they are; so is a plain word behind `audit`.
+/// Words that name no command, or that are fewer than a command's name and its operands, are
+/// refused, whatever they are; so is a plain word behind `audit`.
 pub fn others_are_refused()
     ensures none { asked_by [] ≡ None }
     ensures name { (word : List ℕ) (rest : List (List ℕ)) → IsNoName word

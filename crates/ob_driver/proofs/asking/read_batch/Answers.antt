@@ -46,7 +46,8 @@ pub returns-clause-counts : goal.returns-clause-counts
 returns-clause-counts g c =
     let long : c.args.found.now.len ≡ length c.fetch.new.out = omega (arith, c.as_mut_slice.ensures.len) in
     subst
-    (λ (keys : List (Option ℕ)). g.V.Vault.counts c.fetch.new.self ≡ counts_next (g.V.Vault.params c.args.vault.now).batches (g.V.Vault.counts c.args.vault.now) (Fetch keys) (fetch_answer (take c.args.found.now.len (c.fetch.new.out ++ drop (length c.fetch.new.out) c.args.found.now.items)) c.fetch.result)) c.as_slice.ensures.value
+    (λ (keys : List (Option ℕ)). g.V.Vault.counts c.fetch.new.self ≡ counts_next (g.V.Vault.params c.args.vault.now).batches (g.V.Vault.counts c.args.vault.now) (Fetch keys)
+    (fetch_answer (take c.args.found.now.len (c.fetch.new.out ++ drop (length c.fetch.new.out) c.args.found.now.items)) c.fetch.result)) c.as_slice.ensures.value
     (subst (λ (values : List (Option Value)). g.V.Vault.counts c.fetch.new.self ≡ counts_next (g.V.Vault.params c.args.vault.now).batches (g.V.Vault.counts c.args.vault.now) (Fetch c.as_slice.result.now) (fetch_answer values c.fetch.result))
     (sym (slice_back c.args.found.now.len c.fetch.new.out c.args.found.now.items long)) c.fetch.ensures.counts)
 

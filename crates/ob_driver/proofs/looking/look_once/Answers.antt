@@ -104,30 +104,42 @@ end_and_tell-requires-clause-turns g c =
 
 pub returns-in-Fetch-clause-acted : goal.returns-in-Fetch-clause-acted
 returns-in-Fetch-clause-acted g c =
-    let f = looks_on c.args.hall.now c.args.pass.now c.enter_behind-desk.new.pass c.enter_behind-desk.result.0 (g.V.Vault.counts c.args.vault.now) c.requires.rests.at c.enter_behind-desk.ensures.own c.enter_behind-desk.ensures.entered c.note.new.pass c.look-look.result (sym c.in_default.is ∙ c.stopped-fault.ensures.0) (rw c.in_default.is at c.note.ensures.noted) c.note.ensures.own c.note-in-Fetch.new.pass c.look-look.ensures.0 c.note-in-Fetch.ensures.noted c.note-in-Fetch.ensures.own in
+    let f = looks_on c.args.hall.now c.args.pass.now c.enter_behind-desk.new.pass c.enter_behind-desk.result.0 (g.V.Vault.counts c.args.vault.now) c.requires.rests.at c.enter_behind-desk.ensures.own
+    c.enter_behind-desk.ensures.entered c.note.new.pass c.look-look.result (sym c.in_default.is ∙ c.stopped-fault.ensures.0) (rw c.in_default.is at c.note.ensures.noted) c.note.ensures.own
+    c.note-in-Fetch.new.pass c.look-look.ensures.0 c.note-in-Fetch.ensures.noted c.note-in-Fetch.ensures.own in
     if_ok_at c.fetch.result _ rounds.Acted _
-    (λ done. done_from (kind_of g.V.Vault) (beat_kind g.B.Beat.passes g.B.Beat.exact) c.args.hall.now c.args.pass.now c.note-in-Fetch.new.pass c.args.vault.now (g.W.Watch.trace c.args.watch.now) (outflow g.O.Sink c.args.output.now) (g.V.Vault.counts c.args.vault.now) _ (g.V.Vault.counts c.fetch.new.vault) rounds.Acted f.entries f.raised f.place done)
+    (λ done. done_from (kind_of g.V.Vault) (beat_kind g.B.Beat.passes g.B.Beat.exact) c.args.hall.now c.args.pass.now c.note-in-Fetch.new.pass c.args.vault.now (g.W.Watch.trace c.args.watch.now)
+    (outflow g.O.Sink c.args.output.now) (g.V.Vault.counts c.args.vault.now) _ (g.V.Vault.counts c.fetch.new.vault) rounds.Acted f.entries f.raised f.place done)
     (c.fetch.ensures.fetched (beat_kind g.B.Beat.passes g.B.Beat.exact) c.look-look.result (outflow g.O.Sink c.args.output.now) f.noted c.in-Fetch.ensures.may.0 c.in-Fetch.ensures.may.1) c.fetch.ensures.acts
 
 pub returns-in-Fetch-clause-failed : goal.returns-in-Fetch-clause-failed
 returns-in-Fetch-clause-failed g c =
-    let f = looks_on c.args.hall.now c.args.pass.now c.enter_behind-desk.new.pass c.enter_behind-desk.result.0 (g.V.Vault.counts c.args.vault.now) c.requires.rests.at c.enter_behind-desk.ensures.own c.enter_behind-desk.ensures.entered c.note.new.pass c.look-look.result (sym c.in_default.is ∙ c.stopped-fault.ensures.0) (rw c.in_default.is at c.note.ensures.noted) c.note.ensures.own c.note-in-Fetch.new.pass c.look-look.ensures.0 c.note-in-Fetch.ensures.noted c.note-in-Fetch.ensures.own in
+    let f = looks_on c.args.hall.now c.args.pass.now c.enter_behind-desk.new.pass c.enter_behind-desk.result.0 (g.V.Vault.counts c.args.vault.now) c.requires.rests.at c.enter_behind-desk.ensures.own
+    c.enter_behind-desk.ensures.entered c.note.new.pass c.look-look.result (sym c.in_default.is ∙ c.stopped-fault.ensures.0) (rw c.in_default.is at c.note.ensures.noted) c.note.ensures.own
+    c.note-in-Fetch.new.pass c.look-look.ensures.0 c.note-in-Fetch.ensures.noted c.note-in-Fetch.ensures.own in
     if_err c.fetch.result _ _
-    (λ fault fails. fails_from (kind_of g.V.Vault) (beat_kind g.B.Beat.passes g.B.Beat.exact) c.args.hall.now c.args.pass.now c.note-in-Fetch.new.pass c.args.vault.now (g.W.Watch.trace c.args.watch.now) (outflow g.O.Sink c.args.output.now) (g.V.Vault.counts c.args.vault.now) _ fault f.entries f.raised f.place fails)
+    (λ fault fails. fails_from (kind_of g.V.Vault) (beat_kind g.B.Beat.passes g.B.Beat.exact) c.args.hall.now c.args.pass.now c.note-in-Fetch.new.pass c.args.vault.now
+    (g.W.Watch.trace c.args.watch.now) (outflow g.O.Sink c.args.output.now) (g.V.Vault.counts c.args.vault.now) _ fault f.entries f.raised f.place fails)
     (c.fetch.ensures.refused (beat_kind g.B.Beat.passes g.B.Beat.exact) c.look-look.result (outflow g.O.Sink c.args.output.now) f.noted c.in-Fetch.ensures.may.0 c.in-Fetch.ensures.may.1)
 
 pub returns-in-End-clause-acted : goal.returns-in-End-clause-acted
 returns-in-End-clause-acted g c =
-    let f = looks_on c.args.hall.now c.args.pass.now c.enter_behind-desk.new.pass c.enter_behind-desk.result.0 (g.V.Vault.counts c.args.vault.now) c.requires.rests.at c.enter_behind-desk.ensures.own c.enter_behind-desk.ensures.entered c.note.new.pass c.look-look.result (sym c.in_default.is ∙ c.stopped-fault.ensures.0) (rw c.in_default.is at c.note.ensures.noted) c.note.ensures.own c.note-in-End.new.pass c.look-look.ensures.0 c.note-in-End.ensures.noted c.note-in-End.ensures.own in
+    let f = looks_on c.args.hall.now c.args.pass.now c.enter_behind-desk.new.pass c.enter_behind-desk.result.0 (g.V.Vault.counts c.args.vault.now) c.requires.rests.at c.enter_behind-desk.ensures.own
+    c.enter_behind-desk.ensures.entered c.note.new.pass c.look-look.result (sym c.in_default.is ∙ c.stopped-fault.ensures.0) (rw c.in_default.is at c.note.ensures.noted) c.note.ensures.own
+    c.note-in-End.new.pass c.look-look.ensures.0 c.note-in-End.ensures.noted c.note-in-End.ensures.own in
     if_ok_at c.end_and_tell.result _ rounds.Acted _
-    (λ done. done_from (kind_of g.V.Vault) (beat_kind g.B.Beat.passes g.B.Beat.exact) c.args.hall.now c.args.pass.now c.note-in-End.new.pass c.args.vault.now (g.W.Watch.trace c.args.watch.now) (outflow g.O.Sink c.args.output.now) (g.V.Vault.counts c.args.vault.now) _ (g.V.Vault.counts c.end_and_tell.new.vault) rounds.Acted f.entries f.raised f.place done)
+    (λ done. done_from (kind_of g.V.Vault) (beat_kind g.B.Beat.passes g.B.Beat.exact) c.args.hall.now c.args.pass.now c.note-in-End.new.pass c.args.vault.now (g.W.Watch.trace c.args.watch.now)
+    (outflow g.O.Sink c.args.output.now) (g.V.Vault.counts c.args.vault.now) _ (g.V.Vault.counts c.end_and_tell.new.vault) rounds.Acted f.entries f.raised f.place done)
     (c.end_and_tell.ensures.ended (beat_kind g.B.Beat.passes g.B.Beat.exact) c.look-look.result f.noted c.in-End.ensures.may.0 c.in-End.ensures.may.1) c.end_and_tell.ensures.acts
 
 pub returns-in-End-clause-failed : goal.returns-in-End-clause-failed
 returns-in-End-clause-failed g c =
-    let f = looks_on c.args.hall.now c.args.pass.now c.enter_behind-desk.new.pass c.enter_behind-desk.result.0 (g.V.Vault.counts c.args.vault.now) c.requires.rests.at c.enter_behind-desk.ensures.own c.enter_behind-desk.ensures.entered c.note.new.pass c.look-look.result (sym c.in_default.is ∙ c.stopped-fault.ensures.0) (rw c.in_default.is at c.note.ensures.noted) c.note.ensures.own c.note-in-End.new.pass c.look-look.ensures.0 c.note-in-End.ensures.noted c.note-in-End.ensures.own in
+    let f = looks_on c.args.hall.now c.args.pass.now c.enter_behind-desk.new.pass c.enter_behind-desk.result.0 (g.V.Vault.counts c.args.vault.now) c.requires.rests.at c.enter_behind-desk.ensures.own
+    c.enter_behind-desk.ensures.entered c.note.new.pass c.look-look.result (sym c.in_default.is ∙ c.stopped-fault.ensures.0) (rw c.in_default.is at c.note.ensures.noted) c.note.ensures.own
+    c.note-in-End.new.pass c.look-look.ensures.0 c.note-in-End.ensures.noted c.note-in-End.ensures.own in
     if_err c.end_and_tell.result _ _
-    (λ fault fails. fails_from (kind_of g.V.Vault) (beat_kind g.B.Beat.passes g.B.Beat.exact) c.args.hall.now c.args.pass.now c.note-in-End.new.pass c.args.vault.now (g.W.Watch.trace c.args.watch.now) (outflow g.O.Sink c.args.output.now) (g.V.Vault.counts c.args.vault.now) _ fault f.entries f.raised f.place fails)
+    (λ fault fails. fails_from (kind_of g.V.Vault) (beat_kind g.B.Beat.passes g.B.Beat.exact) c.args.hall.now c.args.pass.now c.note-in-End.new.pass c.args.vault.now (g.W.Watch.trace c.args.watch.now)
+    (outflow g.O.Sink c.args.output.now) (g.V.Vault.counts c.args.vault.now) _ fault f.entries f.raised f.place fails)
     (c.end_and_tell.ensures.refused (beat_kind g.B.Beat.passes g.B.Beat.exact) c.look-look.result f.noted c.in-End.ensures.may.0 c.in-End.ensures.may.1)
 
 pub returns-in-Fetch-clause-stand : goal.returns-in-Fetch-clause-stand

@@ -45,7 +45,9 @@ returns-in-Ok-read-clause-read c =
 
 pub returns-in-Err-read-clause-read : goal.returns-in-Err-read-clause-read
 returns-in-Err-read-clause-read c =
-    let first : first_out_of_range c.number_at.result c.number_at-2.result c.number_at-3.result c.number_at-4.result c.number_at-5.result c.number_at-6.result c.number_at-7.result c.number_at-8.result c.number_at-9.result ≡ first_bad c.args.bytes.now = λ i. first_out_of_range (c.number_at.ensures i) (c.number_at-2.ensures i) (c.number_at-3.ensures i) (c.number_at-4.ensures i) (c.number_at-5.ensures i) (c.number_at-6.ensures i) (c.number_at-7.ensures i) (c.number_at-8.ensures i) (c.number_at-9.ensures i) in
+    let first : first_out_of_range c.number_at.result c.number_at-2.result c.number_at-3.result c.number_at-4.result c.number_at-5.result c.number_at-6.result c.number_at-7.result c.number_at-8.result
+    c.number_at-9.result ≡ first_bad c.args.bytes.now = λ i. first_out_of_range (c.number_at.ensures i) (c.number_at-2.ensures i) (c.number_at-3.ensures i) (c.number_at-4.ensures i)
+    (c.number_at-5.ensures i) (c.number_at-6.ensures i) (c.number_at-7.ensures i) (c.number_at-8.ensures i) (c.number_at-9.ensures i) in
     let number : c.number_at-number.result ≡ head_number_at c.args.bytes.now c.place_of.result = c.number_at-number.ensures in
     subst (λ (f : Fault). IsHeadRead c.args.sealer.now.keys c.args.version c.args.bytes.now (Err f)) (sym c.from-in-Err-read.ensures) (
       c.if-not-is_marked.ensures.0 refl,

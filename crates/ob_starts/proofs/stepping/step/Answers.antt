@@ -29,7 +29,8 @@ returns-in-Away-clause-ran g c = subst (λ x. false ≡ ran_here x) (sym c.in-Aw
 pub returns-in-Ran-clause-stepped : goal.returns-in-Ran-clause-stepped
 returns-in-Ran-clause-stepped g c =
     subst (λ x. IsStepped (words g.U.Runner.client g.U.Runner.bound g.U.Runner.plan g.U.Runner.fits g.U.Runner.turn) c.args.hall.now x (Here (c.take_turn.new.pass, c.take_turn.new.runner))) (sym c.in-Here.is)
-    (has_stepped (words g.U.Runner.client g.U.Runner.bound g.U.Runner.plan g.U.Runner.fits g.U.Runner.turn) c.args.hall.now c.in-Here.client (c.take_turn.new.pass, c.take_turn.new.runner) (is_here (words g.U.Runner.client g.U.Runner.bound g.U.Runner.plan g.U.Runner.fits g.U.Runner.turn) c.args.hall.now c.args.started.now c.in-Here.client c.in-Here.is c.requires.met)
+    (has_stepped (words g.U.Runner.client g.U.Runner.bound g.U.Runner.plan g.U.Runner.fits g.U.Runner.turn) c.args.hall.now c.in-Here.client (c.take_turn.new.pass, c.take_turn.new.runner)
+    (is_here (words g.U.Runner.client g.U.Runner.bound g.U.Runner.plan g.U.Runner.fits g.U.Runner.turn) c.args.hall.now c.args.started.now c.in-Here.client c.in-Here.is c.requires.met)
     c.take_turn.ensures.one_history c.take_turn.ensures.turn c.take_turn.ensures.fits c.take_turn.ensures.client c.take_turn.ensures.bound c.take_turn.ensures.plan c.take_turn.ensures.ready)
 
 pub returns-in-Ran-clause-ordered : goal.returns-in-Ran-clause-ordered
