@@ -59,7 +59,8 @@ fn drive_on<R: Wait, V: Vault, W: Watch, B: Beat, O: Sink, H: Hands>(
     output: &mut O,
     room: &mut Room,
 ) -> Result<(), Fault>
-    requires params { (V.params vault.old ≡ params_of hall.now) × (params.now ≡ params_of hall.now) }
+    requires params { (V.params vault.old ≡ params_of hall.now)
+        × (params.now ≡ params_of hall.now) }
     requires rests { IsBetweenTurns hall.now pass.old (V.counts vault.old) }
     requires room { HasRoom (params_of hall.now) room.old }
     requires hands { H.ready hall.now hands.old }

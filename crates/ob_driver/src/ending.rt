@@ -172,7 +172,8 @@ fn close<V: Vault, W: Watch>(
     watch: &mut W,
     writes: &mut Vec<Write>,
 ) -> Result<EpochRecord<Key>, Fault>
-    requires params { (V.params vault.old ≡ params_of hall.now) × (params.now ≡ params_of hall.now) }
+    requires params { (V.params vault.old ≡ params_of hall.now)
+        × (params.now ≡ params_of hall.now) }
     requires turn { IsInTurn hall.now pass.old desk }
     requires ready { IsBetweenActs (params_of hall.now) desk (V.counts vault.old) }
     requires goes_on { desk.stop ≡ None }
@@ -190,8 +191,8 @@ fn close<V: Vault, W: Watch>(
     ensures raised { OnOk result
         (Raises pass.old.ear pass.new.ear (suc (V.counts vault.old).epoch)) }
     ensures ear { OnErr result (pass.new.ear ≡ pass.old.ear) }
-    ensures refused { IfErr result (λ fault. EndRefused (kind_of V.Vault) desk.running.epoch pass.old
-        (scene desk vault.old (W.trace watch.old)) fault pass.new
+    ensures refused { IfErr result (λ fault. EndRefused (kind_of V.Vault) desk.running.epoch
+        pass.old (scene desk vault.old (W.trace watch.old)) fault pass.new
         (scene desk vault.new (W.trace watch.new))) }
     ensures ends { EndsItsTurn pass.old pass.new }
     ensures own { IsPassOf hall.now pass.new }
@@ -232,7 +233,8 @@ pub fn end_epoch<V: Vault, W: Watch>(
     watch: &mut W,
     room: &mut Room,
 ) -> Result<EpochRecord<Key>, Fault>
-    requires params { (V.params vault.old ≡ params_of hall.now) × (params.now ≡ params_of hall.now) }
+    requires params { (V.params vault.old ≡ params_of hall.now)
+        × (params.now ≡ params_of hall.now) }
     requires looking { IsLooking hall.now pass.old desk (V.counts vault.old) }
     requires goes_on { desk.stop ≡ None }
     requires room { HasRoom (params_of hall.now) room.old }

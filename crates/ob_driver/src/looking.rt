@@ -42,7 +42,8 @@ fn end_and_tell<R: Wait, V: Vault, W: Watch, O: Sink>(
     room: &mut Room,
     turns: &mut u64,
 ) -> Result<Round, Fault>
-    requires params { (V.params vault.old ≡ params_of hall.now) × (params.now ≡ params_of hall.now) }
+    requires params { (V.params vault.old ≡ params_of hall.now)
+        × (params.now ≡ params_of hall.now) }
     requires looking { IsLooking hall.now pass.old desk (V.counts vault.old) }
     requires goes_on { desk.stop ≡ None }
     requires room { HasRoom (params_of hall.now) room.old }
@@ -94,7 +95,8 @@ pub fn look_once<R: Wait, V: Vault, W: Watch, B: Beat, O: Sink>(
     room: &mut Room,
     turns: &mut u64,
 ) -> Result<Round, Fault>
-    requires params { (V.params vault.old ≡ params_of hall.now) × (params.now ≡ params_of hall.now) }
+    requires params { (V.params vault.old ≡ params_of hall.now)
+        × (params.now ≡ params_of hall.now) }
     requires rests { IsBetweenTurns hall.now pass.old (V.counts vault.old) }
     requires room { HasRoom (params_of hall.now) room.old }
     ensures params { V.params vault.new ≡ params_of hall.now }

@@ -100,7 +100,8 @@ pub fn write_buckets<S: Store, W: Watch>(
     ensures seals { Seals (bucket_seals ring.now) sealer.old sealer.new result }
     ensures fills { (s : RingStanding) (end : RingEnd)
         → IsEndOfRing s end sealer.old.generation ring.now
-        → FillsBuckets sealer.old.keys ring.now.p s end (S.disk store.old) (S.disk store.new) result }
+        → FillsBuckets sealer.old.keys ring.now.p s end (S.disk store.old) (S.disk store.new)
+        result }
     ensures first { (S.disk store.old).tells
         → SameFirst (S.disk store.new).cells (S.disk store.old).cells }
     ensures moments { Passes SameFirst (S.disk store.old) (S.disk store.new) }

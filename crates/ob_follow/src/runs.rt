@@ -120,7 +120,8 @@ impl Runs {
     /// Puts writes of so many cells behind the others, which change nothing.
     pub fn push_writes(&mut self, first: u64, many: u64) -> Result<(), AllocError>
         requires { first + many ≤ 2 ^ 63 }
-        ensures { OnOk result (self.new ≡ self.old ++ kept (writes_of (range_with_len first many))) }
+        ensures { OnOk result (self.new
+            ≡ self.old ++ kept (writes_of (range_with_len first many))) }
     {
         if many == 0 {
             return Ok(());

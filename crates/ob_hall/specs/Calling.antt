@@ -39,7 +39,9 @@ pub record IsIn (pass : Pass) (x : Txn) : Type 0 where
   pub kept : last_of_pass pass ≡ Some x
   pub open_is : MayGoOn told
 
--- These calls of the pass, one behind the other, are its new entries in the one history: that begins with what the pass had seen, is legal from the desk that the hall was made with, and ends with the last of these entries; and of the pass's own entries it has those that it had made and these, each once. Entries of others stand between.
+-- These calls of the pass, one behind the other, are its new entries in the one history: that begins with what the pass had seen,
+-- is legal from the desk that the hall was made with, and ends with the last of these entries; and of the pass's own entries it has
+-- those that it had made and these, each once. Entries of others stand between.
 pub record MakesCalls (hall : Hall) (before after : Pass) (calls : Steps) : Type 0 where
   pub goes_on : IsPrefix (history_of before) (history_of after)
   pub legal : (d : DeskState) × IsLegal hall (history_of after) d

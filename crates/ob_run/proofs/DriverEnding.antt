@@ -82,7 +82,8 @@ module _ {V U Plan H : Type 0} (k : Kind V) (beat : BeatKind) (w : Words U Plan)
       (λ acts r. record { first = f first; placed = placed; came = came; stayed = stayed; rounds = told_in_rounds f (CrewSteps w hall) first last old.pass new.pass acts r }) old c new next result ends
 
 -- and so all ended, where those that were away are joined
-pub ends_back : {V U Plan : Type 0} (k : Kind V) (beat : BeatKind) (w : Words U Plan) (hall : Hall) (starts flags : ℕ) (clients taken : List (Pass × U)) (last : List (Started U)) (back : List (Pass × U)) (old : Side V) (c : VaultCounts) (new : Side V) (next : VaultCounts) (result : Result (Unit {0}) Fault)
+pub ends_back : {V U Plan : Type 0} (k : Kind V) (beat : BeatKind) (w : Words U Plan) (hall : Hall) (starts flags : ℕ) (clients taken : List (Pass × U)) (last : List (Started U))
+    (back : List (Pass × U)) (old : Side V) (c : VaultCounts) (new : Side V) (next : VaultCounts) (result : Result (Unit {0}) Fault)
     → flags ≡ starts → taken ≡ clients → Each (IsJoined w hall) last back → DriverEnds k beat hall (AreOut w hall flags taken last old.pass new.pass) old c new next result → ServeEnds k beat w hall starts old c clients new next back result
 ends_back k beat w hall starts flags clients taken last back old c new next result many same joined ends =
     all_ends k beat w hall starts old c clients new next back result

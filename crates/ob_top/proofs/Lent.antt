@@ -101,7 +101,8 @@ module _ {V S : Type 0} (k : Kind V) (disk : S → Disk) (counts_now : (x : S) (
   }
 
 -- a run that was conducted over a vault that was just made of an opening
-pub serves_lent : {V S : Type 0} (first : V) (k : Kind V) (beat : BeatKind) (threads : Bool) (p : Params) (script : Scripts) (trace : Trace) (runners : List ScriptRunner) (before : Flow) (last : V) (seen : Trace) (ran : List ScriptRunner) (after : Flow) (result : Result (Unit {0}) Fault) (epoch left : ℕ)
+pub serves_lent : {V S : Type 0} (first : V) (k : Kind V) (beat : BeatKind) (threads : Bool) (p : Params) (script : Scripts) (trace : Trace) (runners : List ScriptRunner)
+    (before : Flow) (last : V) (seen : Trace) (ran : List ScriptRunner) (after : Flow) (result : Result (Unit {0}) Fault) (epoch left : ℕ)
     → ((new : DeskState) × RunsBy threads k script_kind beat (run_state (scene (new_desk (record { params = p }) (suc epoch) left script.clients) first trace) runners before) (run_state (scene new last seen) ran after) result)
     → AreSound script → AreRunners script runners
     → (disk : S → Disk) (counts_now : (x : S) (t : Clock) (c : Image) → NotAfter t (disk x).moment → (disk x).may_leave c → (disk x).left_since t c)

@@ -101,8 +101,8 @@ fn begin<S: Store, T: Tape, I: Source>(
         × IsBegun keys.now begun.params begun.scripts (S.disk store.old) (S.disk store.new)
         (inflow I.Source input.old) f) }
     ensures refused { IfErr result
-        (λ fault. EndsEarly ring_kind ring_lives keys.now (S.disk store.old) (S.disk store.new) S.disk
-        (inflow I.Source input.old) (inflow I.Source input.new) fault) }
+        (λ fault. EndsEarly ring_kind ring_lives keys.now (S.disk store.old) (S.disk store.new)
+        S.disk (inflow I.Source input.old) (inflow I.Source input.new) fault) }
     ensures opens { IfOk result (λ begun. IsReadAndOpened S.disk keys.now store.old store.new
         begun.opening.sealer) }
     ensures lives { (S.disk store.new).tells
@@ -213,8 +213,8 @@ fn serve_on<R: Threads + Wait + Sync, S: Store, T: Tape, O: Sink, B: Beat>(
     ensures none_out { (S.disk store.new).out ≡ 0 }
     ensures serves { (f : RingFound) (found : Found) → f.run ≡ run_over begun.opening
         → GoesOnFrom keys.now begun.params found f → HasPlanned f.run f.content f.records
-        → ServedOver ring_kind ring_lives S.disk (manner (beat_kind B.passes B.exact) threads) keys.now
-        begun.params f begun.opening.sealer begun.scripts (T.drawn tape.new) store.old store.new
+        → ServedOver ring_kind ring_lives S.disk (manner (beat_kind B.passes B.exact) threads)
+        keys.now begun.params f begun.opening.sealer begun.scripts (T.drawn tape.new) store.old store.new
         (outflow O.Sink output.old) (outflow O.Sink output.new) (fault_of result) }
 {
     let Begun {

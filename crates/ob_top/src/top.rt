@@ -198,7 +198,8 @@ pub fn obladi<
         keys.entry store.entry
         store.exit
         (outside (inflow I.Source input.old) (outflow O.Sink output.old))
-        (outside (inflow I.Source input.new) (outflow O.Sink output.new)) result (T.drawn tape.new) }
+        (outside (inflow I.Source input.new) (outflow O.Sink output.new)) result
+        (T.drawn tape.new) }
     // What is asked for is done, where nothing stands against it but want of memory.
     ensures complete { Completes S.disk (map (λ w. w.now) words.entry.now) keys.entry
         (outside (inflow I.Source input.old) (outflow O.Sink output.old))

@@ -194,7 +194,8 @@ impl Twin {
             → IsGates self gates.old gates.new (S.disk store.old).cells result }
         // Whatever the store tells, a number stands under a gate that is known to be open, and of
         // the other register's gates nothing is told.
-        ensures some { IfOk result (λ number. IfSome number (λ n. HasOpen (known_of self gates.new))) }
+        ensures some { IfOk result
+            (λ number. IfSome number (λ n. HasOpen (known_of self gates.new))) }
         ensures other { gates.new ≡ with_known self gates.old (known_of self gates.new) }
         ensures keeps { Keeps (S.disk store.old) (S.disk store.new) }
         ensures crash { Shrinks (S.disk store.old) (S.disk store.new) }
