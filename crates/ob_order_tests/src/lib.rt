@@ -1,12 +1,10 @@
-//! Tests of ordering: works, keys in a queue, chains, versions, and the plain order.
+//! Tests of ordering: works, keys in a queue, chains, and versions.
 #![tactic(auto)]
 
 #[cfg(test)]
 mod calls;
 #[cfg(test)]
 mod chains;
-#[cfg(test)]
-mod plain;
 #[cfg(test)]
 mod queues;
 #[cfg(test)]
