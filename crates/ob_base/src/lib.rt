@@ -28,6 +28,3 @@ pub use op::Op;
 pub use params::Params;
 pub use tree::{bucket_of, buckets, reverse};
 pub use value::{Key, Value, Write};
-
-#[cfg(test)]
-mod tests;

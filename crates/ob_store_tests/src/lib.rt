@@ -1,6 +1,8 @@
-//! Tests of stores in memory and in files.
+//! Tests of parameters and layouts, and of stores in memory and in files.
 #![tactic(auto)]
 
+#[cfg(test)]
+mod base;
 #[cfg(test)]
 mod files;
 #[cfg(test)]
