@@ -12,9 +12,6 @@ pub use copy::{put_all, read_all};
 use ob_base::Failed;
 pub use standard::{StdSink, StdSource};
 
-#[cfg(test)]
-mod tests;
-
 /// Bytes that come in.
 pub trait Source {
     /// What is left, where the source tells.

@@ -1,4 +1,4 @@
-//! Tests of parameters and layouts, and of stores in memory and in files.
+//! Tests of parameters and layouts, of streams, and of stores in memory and in files.
 #![tactic(auto)]
 
 #[cfg(test)]
@@ -9,3 +9,5 @@ mod files;
 mod memory;
 #[cfg(test)]
 mod steps;
+#[cfg(test)]
+mod streams;
