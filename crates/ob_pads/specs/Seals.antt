@@ -1,10 +1,13 @@
 -- Pads, and what a sealer seals between two moments.
-use Rattle.std.specs.Prelude.{◌≡◌, ◌⊎◌, ◌≤◌, ◌<◌, ◌+◌, ◌-◌, ℕ, zero, suc, List, [], ◌∷◌, Option, Some, None}
+use Rattle.std.specs.Prelude.{◌≡◌, ◌⊎◌, ◌≤◌, ◌<◌, ◌+◌, ◌-◌, ℕ, zero, suc, List, [], ◌∷◌, Option, Some, None, Result, Ok, Err}
+use Rattle.ob_base.specs.declared.fault.Fault.{Fault}
 use Rattle.ob_store.specs.Disk.{Image}
 use Rattle.ob_seal.specs.Sealing.{Sealing}
 use Rattle.ob_seal.specs.Seals.{sealed}
 use Rattle.ob_twin.specs.Bodies.{open_gate, closed_gate}
 use Rattle.ob_serial.specs.Vaults.{VaultAnswer, Values, Ended, RefusedBy, DoubtBy}
+use Rattle.ob_serial.specs.declared.vault.EndErr.{EndErr}
+use Rattle.ob_serial.specs.declared.vault.EndErr.TheVariants as end
 
 -- the generation and the number of a seal
 abbrev pub Pad : Type 0
@@ -54,3 +57,13 @@ SealsBy (Values values) was now old new = CellsAreSealed was now old new
 SealsBy Ended was now old new = CellsAreSealed was now old new
 SealsBy (DoubtBy fault) was now old new = CellsAreSealed was now old new
 SealsBy (RefusedBy fault) was now old new = Unit {0}
+
+-- how a fetch is answered, and how an end is
+abbrev pub answer_of_fetch : List (Option (List ℕ)) → Result (Unit {0}) Fault → VaultAnswer
+answer_of_fetch out (Ok done) = Values out
+answer_of_fetch out (Err refused) = RefusedBy refused
+
+abbrev pub answer_of_end : Result (Unit {0}) EndErr → VaultAnswer
+answer_of_end (Ok done) = Ended
+answer_of_end (Err (end.Before refused)) = RefusedBy refused
+answer_of_end (Err (end.Unsure refused)) = DoubtBy refused

@@ -6,7 +6,7 @@ use Rattle.ob_base.specs.Layout.{log_cell, record_cells}
 use Rattle.ob_cells.specs.Runs.{IsFurther}
 use Rattle.ob_cells.specs.Writes.{WritesWithin}
 use Rattle.ob_pads.specs.Lives.{Answers, IsAtGeneration}
-use Rattle.ob_pads.specs.Seals.{CellsAreSealed, SealerGoesOn, SealsBy}
+use Rattle.ob_pads.specs.Seals.{CellsAreSealed, SealerGoesOn, SealsBy, answer_of_end, answer_of_fetch}
 use Rattle.ob_ring_vault.specs.RingVaults.{KeepsRun, RingCalled, Running}
 use Rattle.ob_seal.specs.Sealing.{Sealing}
 use Rattle.ob_serial.specs.Vaults.{VaultAnswer, VaultCall, DoubtBy, End, Ended, Fetch, RefusedBy, Values}
@@ -21,7 +21,6 @@ use Rattle.ob_twin.specs.Keyed.{tagging}
 use Rattle.ob_twin.proofs.Frames.{register_moved}
 use Rattle.ob_end.specs.Closings.{SameGeneration}
 use Rattle.ob_end.specs.EndRuns.{IfEnded}
-use Rattle.ob_ring_life.specs.SealActs.{answer_of_end, answer_of_fetch}
 
 module _ (p : Params) (area batch : ℕ) (old new : Disk) (only : (c : Image) → old.left_since old.moment c → old.may_leave c) (was now : Sealing) (goes : GoesOn old new) (tells : new.tells) (further : IsFurther (record_cells p) was now)
     (within : WritesWithin (log_cell p area batch 0) (record_cells p + 1) old new) where

@@ -1,25 +1,12 @@
 -- The calls of a ring store, as acts of its life.
-use Rattle.std.specs.Prelude.{ℕ, List, map, Option, Result, Ok, Err}
-use Rattle.ob_base.specs.declared.fault.Fault.{Fault}
+use Rattle.std.specs.Prelude.{List, map}
 use Rattle.ob_pads.specs.Lives.{Answers, LivesOn, Opens}
 use Rattle.ob_ring_vault.specs.RingVaults.{RingCalled, Running}
 use Rattle.ob_seal.specs.declared.keys.Keys.{Keys}
 use Rattle.ob_serial.specs.VaultKinds.{AllCalled, Kind}
-use Rattle.ob_serial.specs.Vaults.{VaultAnswer, VaultCall, Values, Ended, RefusedBy, DoubtBy}
-use Rattle.ob_serial.specs.declared.vault.EndErr.{EndErr}
-use Rattle.ob_serial.specs.declared.vault.EndErr.TheVariants as end
+use Rattle.ob_serial.specs.Vaults.{VaultAnswer, VaultCall}
 use Rattle.ob_store.specs.Disk.{Disk}
 use Rattle.ob_store.specs.declared.watch.Note.{Note}
-
--- how a fetch is answered, and how an end is
-abbrev pub answer_of_fetch : List (Option (List ℕ)) → Result (Unit {0}) Fault → VaultAnswer
-answer_of_fetch out (Ok done) = Values out
-answer_of_fetch out (Err refused) = RefusedBy refused
-
-abbrev pub answer_of_end : Result (Unit {0}) EndErr → VaultAnswer
-answer_of_end (Ok done) = Ended
-answer_of_end (Err (end.Before refused)) = RefusedBy refused
-answer_of_end (Err (end.Unsure refused)) = DoubtBy refused
 
 -- A call of a ring vault, as its own words tell it, is an act, where the store tells its cells behind it.
 abbrev pub RingCallsAreActs : {S : Type 0} → (S → Disk) → Type 0

@@ -5,13 +5,14 @@ ghost use Rattle.ob_base.specs.Planned.{most_jobs};
 ghost use Rattle.ob_end.specs.EndRuns.{IsEndReady};
 ghost use Rattle.ob_fetch.specs.Fetches.{IsRunReady};
 ghost use Rattle.ob_pads.specs.Lives.{Answers, IsFormattedStore, LeavesUnopened, Opens};
+ghost use Rattle.ob_pads.specs.Seals.{answer_of_end, answer_of_fetch};
 ghost use Rattle.ob_ring.specs.Writing.{write_at};
 ghost use Rattle.ob_serial.specs.VaultKinds.{kind_of};
 ghost use Rattle.ob_serial.specs.VaultViews.{IsStoreEnd};
 ghost use Rattle.ob_serial.specs.Vaults.{AreBelow, AreDistinct};
 ghost use Rattle.ob_store.specs.Calls.{IsStoreFault, Serves};
 ghost use Rattle.ob_twin.specs.Opening.{GatesAre};
-ghost use Rattle.ob_ring_life.specs.SealActs.{RingCallsAreActs, RingChainsLive, answer_of_end, answer_of_fetch};
+ghost use Rattle.ob_ring_life.specs.SealActs.{RingCallsAreActs, RingChainsLive};
 
 use ob_base::{Fault, Key, Params, Value, Write};
 use ob_cells::Crew;
