@@ -7,6 +7,3 @@ mod sealer;
 
 pub use keys::Keys;
 pub use sealer::{Opened, Sealer};
-
-#[cfg(test)]
-mod tests;
