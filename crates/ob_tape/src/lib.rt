@@ -8,6 +8,3 @@ mod tape;
 pub use list_tape::ListTape;
 pub use stream_tape::ChaChaTape;
 pub use tape::Tape;
-
-#[cfg(test)]
-mod tests;
