@@ -1,4 +1,5 @@
 pub mod NextLaws
+pub mod ActLaws
 pub mod AnswerLaws
 pub mod LogLaws
 pub mod FetchLaws

@@ -1,16 +1,18 @@
 -- What a fetch of a ring store draws, keeps in the log, shows and answers.
-use Rattle.std.specs.Prelude.{◌≡◌, ◌⊎◌, ℕ, ◌+◌, ◌-◌, ◌<◌, ◌≤◌, ◌^◌, List, [], ◌∷◌, ◌++◌, map, drop, length, slice_get, Option, None, Some, Result, Ok, Err}
+use Rattle.std.specs.Prelude.{◌≡◌, ◌⊎◌, ◌↔◌, ℕ, true, false, ◌+◌, ◌-◌, ◌<◌, ◌≤◌, ◌^◌, List, [], ◌∷◌, ◌++◌, map, drop, length, slice_get, Option, None, Some, Result, Ok, Err, OnOk, OnErr}
 use Rattle.std.specs.FinMap as finite
 use Rattle.ob_base.specs.declared.params.Params.{Params}
 use Rattle.ob_base.specs.declared.fault.Fault.{Fault}
 use Rattle.ob_base.specs.declared.fault.Fault.TheVariants as fault
 use Rattle.ob_base.specs.Layout.{record_cells}
 use Rattle.ob_base.specs.Planned.{most_jobs}
+use Rattle.ob_cells.specs.Jobs.{Manned}
 use Rattle.ob_tables.specs.Version.{Version}
 use Rattle.ob_tables.specs.Content.{Rows}
 use Rattle.ob_epoch.specs.Table.{flat_of}
-use Rattle.ob_log.specs.Appends.{append_notes}
+use Rattle.ob_log.specs.Appends.{IsWornOut, append_notes}
 use Rattle.ob_log.specs.Logs.{BatchRecord, OpenRecords}
+use Rattle.ob_recover.specs.Fits.{IsPlannerFit}
 use Rattle.ob_recover.specs.Repeats.{AreRepeated, BatchIsRead, BatchTells, IsBatchDamage, IsPlannerOf, asked_of_record, record_of, record_places}
 use Rattle.ob_ring.specs.Fetching.{after_labels}
 use Rattle.ob_ring.specs.FlatTable.{Batch, FlatTable, after}
@@ -19,9 +21,9 @@ use Rattle.ob_ring.specs.Ring.{Kept, StandsFor}
 use Rattle.ob_ring_trace.specs.Telling.{IsFrontShown, IsRowShown}
 use Rattle.ob_seal.specs.declared.keys.Keys.{Keys}
 use Rattle.ob_stand.specs.Reads.{plains_in, slots_in}
-use Rattle.ob_stand.specs.Stands.{RingStanding, Stands, with_record}
+use Rattle.ob_stand.specs.Stands.{OneOf, RingStanding, Stands, with_record}
 use Rattle.ob_store.specs.Disk.{Disk, Image}
-use Rattle.ob_store.specs.Images.{IsSynced, Passes, Same}
+use Rattle.ob_store.specs.Images.{IsSynced, LeavesOnly, Passes, Same}
 use Rattle.ob_store.specs.Lines.{Trace}
 use Rattle.ob_store.specs.Told.{IsCut, Tells, TellsFirst}
 use Rattle.ob_store.specs.declared.event.Event.{Event}
@@ -84,6 +86,17 @@ pub record IsRunReady (run : Run) : Type 0 where
   pub generation : (run.sealer).generation < 2 ^ 62
   pub table : (t : FlatTable) × StandsFor run.ring t
 
+-- A call may be made on the run, and another behind it: no lane of its store is out; it is ready and serves; its crew has room for the jobs
+-- of a plan; its tape is in the generation that it seals with; and the words drawn of that are counted, and at most 2^62.
+pub record MayGoOn (disk : Disk) (present : ℕ) (words : List ℕ) (manned : Manned) (run : Run) : Type 0 where
+  pub none_out : disk.out ≡ 0
+  pub ready : IsRunReady run
+  pub serves : run.spent ≡ false
+  pub crew : most_jobs run.params ≤ manned.jobs
+  pub generation : present ≡ (run.sealer).generation
+  pub drawn : run.drawn ≡ length words
+  pub few : run.drawn ≤ 2 ^ 62
+
 -- the planner, with no bucket listed: right after an end it still lists those that were filled
 abbrev pub unlisted : Kept → Kept
 unlisted ring = record ring { metas = record ring.metas { order = [] } }
@@ -120,6 +133,22 @@ IsFetchRefusal (fault.StoreFault unsure) = unsure ≡ None
 IsFetchRefusal (fault.Damaged cell check kept computed) = Unit {0}
 IsFetchRefusal (fault.Worn number) = number ≡ 2 ^ 62
 IsFetchRefusal _ = ⊥
+
+-- It is refused as worn exactly where too few numbers are left for a batch, and then nothing was done, but that the run is spent.
+pub record FetchWears {S T W : Type 0} (old new : Run) (store store' : S) (tape tape' : T) (watch watch' : W) (result : Result (Unit {0}) Fault) : Type 0 where
+  pub worn : IsWornOut result ↔ IsWornForBatch old
+  pub idle : IsWornOut result → (store' ≡ store) × (tape' ≡ tape) × (watch' ≡ watch) × (new ≡ record old { spent = true })
+
+-- Of the run nothing else changes than these; its room for words stays; and whatever the store tells, a planner that fits goes on fitting.
+pub record FetchKeeps (old new : Run) (result : Result (Unit {0}) Fault) : Type 0 where
+  pub kept : new ≡ record old { sealer = new.sealer; drawn = new.drawn; left = new.left; spent = new.spent; ring = new.ring; jobs = new.jobs; words = new.words }
+  pub words : length (new.words).items ≡ length (old.words).items
+  pub fit : IsPlannerFit old.ring → OnOk result (IsPlannerFit new.ring)
+
+-- One batch less is left, and the run serves on; or it was refused: as many are left, the run is spent, and nothing was answered.
+pub record FetchCounts (old new : Run) (out out' : List (Option (List ℕ))) (result : Result (Unit {0}) Fault) : Type 0 where
+  pub served : OnOk result ((new.left + 1 ≡ old.left) × (new.spent ≡ false))
+  pub refused : OnErr result ((new.left ≡ old.left) × (new.spent ≡ true) × (out' ≡ out))
 
 -- no word is drawn where numbers are worn, and else one for each place, whatever is answered
 abbrev pub FetchDraws : ℕ → List ℕ → List ℕ → Result (Unit {0}) Fault → Type 0
@@ -182,3 +211,8 @@ FetchStands s r asks disk run out (Ok done) = RunIsAt run (with_record s r) disk
 FetchStands s r asks disk run out (Err (fault.StoreFault unsure)) = Unit {0}
 FetchStands s r asks disk run out (Err (fault.Worn number)) = Unit {0}
 FetchStands s r asks disk run out (Err _) = ⊥
+
+-- So it is for each standing that the run was at; and a crash at any moment leaves what stood, or that with the record.
+pub record FetchOfStanding (old new : Run) (before behind : Disk) (r : BatchRecord) (asks : List (Option ℕ)) (out : List (Option (List ℕ))) (result : Result (Unit {0}) Fault) : Type 0 where
+  pub stands : (s : RingStanding) → RunIsAt old s before → FetchStands s r asks behind new out result
+  pub images : (s : RingStanding) → RunIsAt old s before → LeavesOnly before behind (OneOf (old.sealer).keys old.params s (with_record s r))

@@ -2,14 +2,13 @@
 
 ghost use Rattle.std.specs.Prelude.{◌≡◌, ◌↔◌, ◌<◌, ◌≤◌, ◌+◌, ◌%◌, ◌^◌, ℕ, suc, false, true, List, [], ◌∷◌, ◌++◌, length, OnOk, OnErr, IfErr};
 ghost use Rattle.ob_base.specs.Layout.{log_cell, record_cells};
-ghost use Rattle.ob_base.specs.Planned.{most_jobs};
 ghost use Rattle.ob_tables.specs.Buckets.{Buckets};
 ghost use Rattle.ob_cells.specs.Writes.{Seals, WritesWithin};
 ghost use Rattle.ob_tables.specs.Content.{Content};
-ghost use Rattle.ob_log.specs.Appends.{IsWornOut, append_notes};
+ghost use Rattle.ob_log.specs.Appends.{append_notes};
 ghost use Rattle.ob_log.specs.Logs.{BatchRecord};
-ghost use Rattle.ob_pads.specs.Seals.{CellsAreSealed};
-ghost use Rattle.ob_recover.specs.Fits.{IsPlannerFit};
+ghost use Rattle.ob_pads.specs.Lives.{Answers};
+ghost use Rattle.ob_pads.specs.Seals.{CellsAreSealed, answer_of_fetch};
 ghost use Rattle.ob_recover.specs.Repeats.{asked_of_record, batch_cells, repeated_notes};
 ghost use Rattle.ob_ring.specs.FlatTable.{FlatTable};
 ghost use Rattle.ob_ring.specs.Picked.{SameSeals};
@@ -17,12 +16,11 @@ ghost use Rattle.ob_ring.specs.Ring.{StandsFor};
 ghost use Rattle.ob_ring_trace.specs.Known.{PlansFrom, fills_of, public_of_kept};
 ghost use Rattle.ob_schedule.specs.Schedule.{batch_notes};
 ghost use Rattle.ob_serial.specs.Vaults.{AreBelow, AreDistinct};
-ghost use Rattle.ob_stand.specs.Stands.{OneOf, RingStanding, with_record};
 ghost use Rattle.ob_store.specs.Calls.{IsStoreFault, Serves};
-ghost use Rattle.ob_store.specs.Images.{IsSynced, LeavesOnly};
+ghost use Rattle.ob_store.specs.Images.{IsSynced};
 ghost use Rattle.ob_store.specs.Lines.{Shows};
 ghost use Rattle.ob_store.specs.declared.watch.Note.{Note};
-ghost use Rattle.ob_fetch.specs.Fetches.{FetchAnswers, FetchDoes, FetchDraws, FetchShows, FetchStands, RunIsAt, IsFetchRefusal, IsOpenIfShown, IsRunReady, IsWornForBatch, MovesPlanner, values_asked, next_batch, record_next, words_since};
+ghost use Rattle.ob_fetch.specs.Fetches.{FetchAnswers, FetchCounts, FetchDoes, FetchDraws, FetchKeeps, FetchOfStanding, FetchShows, FetchWears, IsFetchRefusal, IsOpenIfShown, MayGoOn, MovesPlanner, values_asked, next_batch, record_next, words_since};
 
 use crate::answering::answer_all;
 use crate::beginning::{begin_batch, is_worn};
@@ -56,50 +54,35 @@ pub fn fetch<S: Store, T: Tape, W: Watch>(
     out: &mut [Option<Value>],
     watch: &mut W,
 ) -> Result<(), Fault>
-    requires none_out { (S.disk store.old).out ≡ 0 }
-    requires ready { IsRunReady run.old }
-    requires serves { run.old.spent ≡ false }
+    requires goes_on { MayGoOn (S.disk store.old) (T.present tape.old) (T.drawn tape.old) crew.old
+        run.old }
     requires some_left { 0 < run.old.left }
-    requires crew { most_jobs run.old.params ≤ crew.old.jobs }
-    requires generation { T.present tape.old ≡ run.old.sealer.generation }
-    requires drawn { run.old.drawn ≡ length (T.drawn tape.old) }
-    requires few { run.old.drawn ≤ 2 ^ 62 }
     requires whole { length asks.now ≡ run.old.params.places }
     requires room { length out.old ≡ run.old.params.places }
     requires keys { AreBelow run.old.params.keys asks.now }
     requires distinct { AreDistinct asks.now }
     ensures serves { Serves IsStoreFault (S.disk store.old) (S.disk store.new) result }
     ensures faults { IfErr result IsFetchRefusal }
-    ensures worn { IsWornOut result ↔ IsWornForBatch run.old }
-    ensures idle { IsWornOut result → (store.new ≡ store.old) × (tape.new ≡ tape.old)
-        × (watch.new ≡ watch.old) × (run.new ≡ record run.old { spent = true }) }
+    // It is worn exactly where numbers are, and then nothing was done.
+    ensures wears { FetchWears run.old run.new store.old store.new tape.old tape.new watch.old
+        watch.new result }
     // It draws a word for each place, and no other, unless numbers are worn.
     ensures draws { FetchDraws run.old.params.places (T.drawn tape.old) (T.drawn tape.new) result }
     ensures generation { T.present tape.new ≡ T.present tape.old }
     ensures drawn { run.new.drawn ≡ length (T.drawn tape.new) }
-    // Of the run nothing else changes than these.
-    ensures kept { run.new
-        ≡ record run.old {
-          sealer = run.new.sealer;
-          drawn = run.new.drawn;
-          left = run.new.left;
-          spent = run.new.spent;
-          ring = run.new.ring;
-          jobs = run.new.jobs;
-          words = run.new.words;
-        } }
+    ensures keeps { FetchKeeps run.old run.new result }
     ensures seals { Seals (record_cells run.old.params) run.old.sealer run.new.sealer result }
     // Each cell that has changed is a gate, or is sealed with a number of its own, taken meanwhile.
     ensures sealed { (S.disk store.old).tells
         → OnOk result (CellsAreSealed run.old.sealer run.new.sealer (S.disk store.old).cells
         (S.disk store.new).cells) }
-    ensures served { OnOk result ((run.new.left + 1 ≡ run.old.left) × (run.new.spent ≡ false)) }
-    ensures refused { OnErr result ((run.new.left ≡ run.old.left) × (run.new.spent ≡ true)
-        × (out.new ≡ out.old)) }
-    ensures ready { OnOk result (IsRunReady run.new) }
-    // Whatever the store tells, a planner that fits goes on fitting.
-    ensures fit { IsPlannerFit run.old.ring → OnOk result (IsPlannerFit run.new.ring) }
-    ensures words { length run.new.words.items ≡ length run.old.words.items }
+    // It is an act of the store's life.
+    ensures act { (S.disk store.new).tells
+        → Answers (S.disk store.old) (S.disk store.new) run.old.sealer run.new.sealer
+        (answer_of_fetch out.new result) }
+    ensures counts { FetchCounts run.old run.new out.old out.new result }
+    ensures goes_on { OnOk result (MayGoOn (S.disk store.new) (T.present tape.new)
+        (T.drawn tape.new) crew.new run.new) }
     ensures crew { crew.new ≡ crew.old }
     ensures moves { OnOk result (MovesPlanner run.old.params (record_next run.old asks.now
         (words_since (T.drawn tape.old) (T.drawn tape.new))) run.old.ring run.new.ring) }
@@ -146,16 +129,11 @@ pub fn fetch<S: Store, T: Tape, W: Watch>(
         → OnOk result (PlansFrom run.new.params run.new.sealer.generation run.new.gates
         run.new.ring c (rs ++ record_next run.old asks.now
         (words_since (T.drawn tape.old) (T.drawn tape.new)) ∷ [])) }
-    // Where the store stood, the answers are the map's, and it stands with the record.
-    ensures stands { (s : RingStanding) → RunIsAt run.old s (S.disk store.old)
-        → FetchStands s (record_next run.old asks.now
-        (words_since (T.drawn tape.old) (T.drawn tape.new))) asks.now (S.disk store.new) run.new
-        out.new result }
-    // A crash at any moment of it leaves what stood, or that with the record.
-    ensures images { (s : RingStanding) → RunIsAt run.old s (S.disk store.old)
-        → LeavesOnly (S.disk store.old) (S.disk store.new)
-        (OneOf run.old.sealer.keys run.old.params s (with_record s (record_next run.old asks.now
-        (words_since (T.drawn tape.old) (T.drawn tape.new))))) }
+    // Where the store stood, the answers are the map's, and it stands with the record; a crash at
+    // any moment of it leaves what stood, or that with the record.
+    ensures standing { FetchOfStanding run.old run.new (S.disk store.old) (S.disk store.new)
+        (record_next run.old asks.now (words_since (T.drawn tape.old) (T.drawn tape.new)))
+        asks.now out.new result }
 {
     run.spent = true;
     if is_worn(run) {
