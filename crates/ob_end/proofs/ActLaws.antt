@@ -1,31 +1,39 @@
--- What an end seals, leaves of the register of generations, and tells damaged.
-use Rattle.std.specs.Prelude.{◌≡◌, ℕ, List, Err}
-use Rattle.std.proofs.Common.{◌∙◌, ap, arith, inl, inr, sym, subst}
+-- What an end seals, leaves of the register of generations, and tells damaged; and an end as an act of its store's life.
+use Rattle.std.specs.Prelude.{◌≡◌, ℕ, ◌≤◌, ◌^◌, List, length, Result, Ok, Err}
+use Rattle.std.proofs.Common.{◌∙◌, ap, arith, inl, inr, length-append, sym, subst}
 use mathlib.Core.Path.{fun_ext}
 use Rattle.ob_base.specs.declared.fault.Fault.{Fault}
 use Rattle.ob_base.specs.declared.params.Params.{Params}
+use Rattle.ob_base.specs.declared.value.Write.{Write}
 use Rattle.ob_tables.specs.Version.{Version}
+use Rattle.ob_tables.specs.declared.entry.Entry.{Entry}
 use Rattle.ob_cells.specs.Runs.{IsFurther}
 use Rattle.ob_end.specs.Lifts.{IsUndamaged}
 use Rattle.ob_end.specs.EndWrites.{SameFirst}
 use Rattle.ob_fetch.specs.declared.run.Run.{Run}
 use Rattle.ob_fetch.specs.Fetches.{RunIsAt, RunsAt}
-use Rattle.ob_pads.specs.Seals.{CellsAreSealed}
+use Rattle.ob_pads.specs.Lives.{Answers, IsAtGeneration}
+use Rattle.ob_pads.specs.Seals.{CellsAreSealed, SealsBy, answer_of_end}
 use Rattle.ob_pads.proofs.Sealing.{none_sealed, sealed_join}
 use Rattle.ob_ring.specs.FlatTable.{FlatTable}
 use Rattle.ob_seal.specs.Sealing.{Sealing}
 use Rattle.ob_seal.specs.declared.keys.Keys.{Keys}
+use Rattle.ob_serial.specs.declared.vault.EndErr.{EndErr}
+use Rattle.ob_serial.specs.declared.vault.EndErr.TheVariants as end
 use Rattle.ob_stand.specs.Stands.{RingStanding, Stands}
+use Rattle.ob_store.specs.Calls.{GoesOn}
 use Rattle.ob_store.specs.Disk.{Disk, Image}
 use Rattle.ob_store.specs.Images.{Passes, Same}
-use Rattle.ob_store.proofs.Moments.{passed_then, passes_so}
+use Rattle.ob_store.proofs.Moments.{leaves_of, passed_then, passes_so}
+use Rattle.ob_twin.proofs.Frames.{register_moved}
+use Rattle.ob_twin.specs.Keyed.{tagging}
 use Rattle.ob_twin.specs.Refused.{IsSetFault}
 use Rattle.ob_twin.specs.Register.{SameOutside}
 use Rattle.ob_twin.specs.declared.set_err.SetErr.{SetErr}
 use Rattle.ob_twin.specs.declared.set_err.SetErr.TheVariants as set
 use Rattle.ob_twin.specs.declared.twin.Twin.TheVariants.{EPOCH}
 use Rattle.ob_end.specs.Closings.{IfWritten, SameGeneration}
-use Rattle.ob_end.specs.EndRuns.{EndDamage, IfEnded, IsEndUndamaged, MakeDamage, end_err_of}
+use Rattle.ob_end.specs.EndRuns.{DrawsForEnd, EndDamage, IfEnded, IsEndUndamaged, MakeDamage, MayEndEpoch, end_err_of}
 
 -- ---- what is sealed
 
@@ -66,6 +74,39 @@ read_moments old mid passes = passes_so Same SameGeneration old mid (λ c d same
 
 pub end_moments : (old mid new : Disk) → Passes Same old mid → Passes SameGeneration mid new → Passes SameGeneration old new
 end_moments old mid new first last = passed_then SameGeneration old mid new join (read_moments old mid first) last
+
+-- ---- the act
+
+pub further_same : (n : ℕ) (was now : Sealing) → now ≡ was → IsFurther n was now
+further_same n was now same =
+    let next : now.next ≡ was.next = ap (λ (s : Sealing). s.next) same in
+    record { keys = ap (λ (s : Sealing). s.keys) same; generation = ap (λ (s : Sealing). s.generation) same; on = omega (arith, next); within = omega (arith, next) }
+
+module _ {n : ℕ} (old new : Disk) (only : (c : Image) → old.left_since old.moment c → old.may_leave c) (was now : Sealing) (goes : GoesOn old new) (tells : new.tells) (further : IsFurther n was now) (moments : Passes SameGeneration old new) where
+  abbrev stood : Image → Type 0
+  stood = IsAtGeneration was.keys was.generation
+
+  kept : (c d : Image) → SameGeneration c d → stood d → stood c
+  kept c d same stands = register_moved (tagging was.keys) 1 was.generation c d (λ k from to. same k to) stands
+
+  end_seals : (r : Result (Unit {0}) EndErr) → IfEnded (CellsAreSealed was now old.cells new.cells) r → SealsBy (answer_of_end r) was now old.cells new.cells
+  end_seals (Ok done) sealed = sealed
+  end_seals (Err (end.Before f)) sealed = tt
+  end_seals (Err (end.Unsure f)) sealed = sealed
+
+  pub end_acts : (r : Result (Unit {0}) EndErr) → IfEnded (CellsAreSealed was now old.cells new.cells) r → Answers old new was now (answer_of_end r)
+  end_acts r sealed = record {
+    goes = goes;
+    tells = tells;
+    further = record { keys = further.keys; generation = further.generation; on = further.on };
+    seals = end_seals r sealed;
+    images = λ all. leaves_of SameGeneration stood stood old new moments only all (λ c d stands step. kept c d step stands) (λ c stands. stands);
+  }
+
+-- no more words than there are were drawn
+pub few_drawn : (p : Params) (t : FlatTable) (epoch drawn next : ℕ) (ws : List (Write × Entry)) (now : ℕ) (old new : List ℕ) → MayEndEpoch p t epoch drawn next ws → DrawsForEnd p t epoch drawn old new → drawn ≡ length old → now ≡ length new → now ≤ 2 ^ 62
+few_drawn p t epoch drawn next ws now old new may draws was is =
+    let words = ap (λ (l : List ℕ). length l) draws.words in let many = draws.many_are in let few = (may.has).words in omega (arith, few, was, is, words, many, length-append {A = ℕ})
 
 -- ---- damage
 

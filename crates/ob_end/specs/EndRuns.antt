@@ -1,5 +1,5 @@
 -- What the end of an epoch needs of a run, answers, draws and leaves.
-use Rattle.std.specs.Prelude.{◌≡◌, ◌⊎◌, ℕ, suc, ◌+◌, ◌*◌, ◌<◌, ◌≤◌, ◌^◌, Bool, true, false, List, [], take, drop, length, slice_index, Option, Result, Ok, Err}
+use Rattle.std.specs.Prelude.{◌≡◌, ◌⊎◌, ℕ, suc, ◌+◌, ◌*◌, ◌<◌, ◌≤◌, ◌^◌, Bool, true, false, List, [], take, drop, length, slice_index, Option, Result, Ok, Err, OnErr, OnOk}
 use Rattle.std.specs.declared.option.Option.TheVariants.{None}
 use Rattle.ob_base.specs.declared.fault.Fault.{Fault}
 use Rattle.ob_base.specs.declared.fault.Fault.TheVariants as fault
@@ -186,6 +186,14 @@ pub record TakeBucketWords (p : Params) (t : FlatTable) (words : List ℕ) (gene
   pub within : (u : ℕ) → (after p t FinalLifts).lifted u ≡ true → u < buckets p
   pub filled : AreFilledAnew p (refill_order p (after p t FinalLifts)) old.metas new.metas (drop p.writes words) (generation, next)
 
+-- Once all was written, but maybe for the register, the table is lifted, written and filled anew; a put's key has its own place's word, and
+-- the lifted buckets have the words behind those; and what the planner then keeps is a content that obeys the rules of a checkpoint.
+pub record EndTables (old new : Run) (ws : List (Write × Entry)) (words : List ℕ) (result : Result (Unit {0}) EndErr) : Type 0 where
+  pub table : (t : FlatTable) → StandsFor old.ring t → IfEnded (StandsFor new.ring (table_ended old.params t ws)) result
+  pub entries : IfEnded (AreEntriesWritten ws old.ring new.ring) result
+  pub filled : (t : FlatTable) → StandsFor old.ring t → IfEnded (TakeBucketWords old.params t words (old.sealer).generation (old.sealer).next old.ring new.ring) result
+  pub content : IfEnded (IsAtContent old.params new.ring) result
+
 -- ---- what the store knows of it
 
 -- Behind an end the planner is at the beginning of the next epoch, and what the store then knows of it is what the schedule's end leaves.
@@ -225,6 +233,18 @@ EndDamage keys p versions image t _ = Unit {0}
 abbrev pub IsEndUndamaged : Result (Unit {0}) EndErr → Type 0
 IsEndUndamaged (Err (end.Before refused)) = IsUndamaged (Err refused)
 IsEndUndamaged _ = Unit {0}
+
+-- What is answered follows from the table; of damage it is what comes first of the lifts, where the store tells its cells, and nothing where
+-- it stood.
+pub record EndAnswered (run : Run) (before behind : Disk) (ws : List (Write × Entry)) (result : Result (Unit {0}) EndErr) : Type 0 where
+  pub answers : (t : FlatTable) → StandsFor run.ring t → EndAnswers run.params t run.epoch run.drawn (run.sealer).next ws result
+  pub damage : (start : Buckets) (t : FlatTable) → SameSeals start (run.ring).metas → StandsFor run.ring t → before.tells → EndDamage (run.sealer).keys run.params start.versions behind.cells t result
+  pub undamaged : (s : RingStanding) → RunIsAt run s before → IsEndUndamaged result
+
+-- The next epoch runs, with all its batches, and the run serves on; or it was refused: the epoch runs on, and the run is spent.
+pub record EndCounts (old new : Run) (result : Result (Unit {0}) EndErr) : Type 0 where
+  pub served : OnOk result ((new.epoch ≡ suc old.epoch) × (new.left ≡ (old.params).batches) × (new.spent ≡ false))
+  pub refused : OnErr result ((new.epoch ≡ old.epoch) × (new.left ≡ old.left) × (new.spent ≡ true))
 
 -- the lifts were read and shown, or, of a store that failed or where numbers are worn, nothing was
 abbrev pub MakeTells : ℕ → List ℕ → List Note → Option (List Event) → Option (List Event) → Trace → Trace → Result (Unit {0}) Fault → Type 0

@@ -1,15 +1,15 @@
 //! The end of an epoch.
 
-ghost use Rattle.std.specs.Prelude.{◌≡◌, ◌<◌, ◌≤◌, ◌+◌, ◌^◌, ℕ, List, Some, suc, false, true, length, IfErr, OnErr, OnOk};
-ghost use Rattle.ob_base.specs.Planned.{most_jobs};
+ghost use Rattle.std.specs.Prelude.{◌≡◌, ◌<◌, ◌≤◌, ◌+◌, ℕ, List, Some, suc, length, IfErr, OnOk};
 ghost use Rattle.ob_tables.specs.Buckets.{Buckets};
 ghost use Rattle.ob_cells.specs.Writes.{Seals};
 ghost use Rattle.ob_end.specs.EndWrites.{end_write_notes};
 ghost use Rattle.ob_tables.specs.Content.{Content};
 ghost use Rattle.ob_end.specs.Lifts.{lift_cells, lift_notes};
-ghost use Rattle.ob_fetch.specs.Fetches.{RunIsAt, words_since};
+ghost use Rattle.ob_fetch.specs.Fetches.{MayGoOn, RunIsAt, words_since};
 ghost use Rattle.ob_log.specs.Logs.{BatchRecord};
-ghost use Rattle.ob_pads.specs.Seals.{CellsAreSealed};
+ghost use Rattle.ob_pads.specs.Lives.{Answers};
+ghost use Rattle.ob_pads.specs.Seals.{CellsAreSealed, answer_of_end};
 ghost use Rattle.ob_ring.specs.FlatTable.{FlatTable};
 ghost use Rattle.ob_ring.specs.Picked.{SameSeals};
 ghost use Rattle.ob_ring.specs.Ring.{StandsFor};
@@ -26,7 +26,7 @@ ghost use Rattle.ob_store.specs.declared.watch.Note.{Note};
 ghost use Rattle.ob_twin.specs.Opening.{GatesAre, is_closed_first};
 ghost use Rattle.ob_twin.specs.Register.{place_of};
 ghost use Rattle.ob_end.specs.Closings.{SameGeneration};
-ghost use Rattle.ob_end.specs.EndRuns.{AreEntriesWritten, EndAnswers, EndDamage, EndDoes, EndDraws, EndImages, EndStands, IfEnded, IsAtContent, IsEndReady, IsEndUndamaged, LeadsOn, TakeBucketWords, end_err_of, end_writes, seals_for_end, table_ended};
+ghost use Rattle.ob_end.specs.EndRuns.{EndAnswered, EndCounts, EndDoes, EndDraws, EndImages, EndStands, EndTables, IfEnded, IsEndReady, LeadsOn, end_err_of, end_writes, seals_for_end};
 ghost use Rattle.ob_end.specs.Shown.{EndShows, end_lifts};
 
 use crate::closing::close_epoch;
@@ -71,14 +71,10 @@ pub fn end<S: Store, T: Tape, W: Watch>(
     writes: &[Write],
     watch: &mut W,
 ) -> Result<(), EndErr>
-    requires none_out { (S.disk store.old).out ≡ 0 }
+    requires goes_on { MayGoOn (S.disk store.old) (T.present tape.old) (T.drawn tape.old) crew.old
+        run.old }
     requires ready { IsEndReady run.old }
-    requires serves { run.old.spent ≡ false }
     requires none_left { run.old.left ≡ 0 }
-    requires crew { most_jobs run.old.params ≤ crew.old.jobs }
-    requires generation { T.present tape.old ≡ run.old.sealer.generation }
-    requires drawn { run.old.drawn ≡ length (T.drawn tape.old) }
-    requires small { run.old.drawn ≤ 2 ^ 62 }
     requires told { (S.disk store.old).tells
         → GatesAre run.old.gates.epoch 5 (S.disk store.old).cells }
     requires few { length writes.now ≤ run.old.params.writes }
@@ -88,27 +84,19 @@ pub fn end<S: Store, T: Tape, W: Watch>(
         → (write_at writes.now i).value ≡ Some value → length value ≤ 64 }
     ensures serves { Serves IsStoreEnd (S.disk store.old) (S.disk store.new) result }
     ensures faults { IfErr result (IsEndFault (run.old.epoch + 1)) }
-    ensures answers { (t : FlatTable) → StandsFor run.old.ring t
-        → EndAnswers run.old.params t run.old.epoch run.old.drawn run.old.sealer.next
+    // Exactly when each answer comes; of damage what comes first of the lifts.
+    ensures answered { EndAnswered run.old (S.disk store.old) (S.disk store.new)
         (end_writes run.old.params writes.now (words_since (T.drawn tape.old) (T.drawn tape.new))
         run.old.sealer.generation run.old.drawn) result }
-    // Where the store tells its cells, what is damaged first of the lifts; where it stood, nothing.
-    ensures damage { (start : Buckets) (t : FlatTable) → SameSeals start run.old.ring.metas
-        → StandsFor run.old.ring t → (S.disk store.old).tells
-        → EndDamage run.old.sealer.keys run.old.params start.versions (S.disk store.new).cells t
-        result }
-    ensures undamaged { (s : RingStanding) → RunIsAt run.old s (S.disk store.old)
-        → IsEndUndamaged result }
     ensures draws { (t : FlatTable) → StandsFor run.old.ring t
         → EndDraws run.old.params t run.old.epoch run.old.drawn (T.drawn tape.old)
         (T.drawn tape.new) result }
     ensures generation { T.present tape.new ≡ T.present tape.old }
     ensures drawn { run.new.drawn ≡ length (T.drawn tape.new) }
     ensures params { run.new.params ≡ run.old.params }
-    ensures served { OnOk result ((run.new.epoch ≡ suc run.old.epoch)
-        × (run.new.left ≡ run.old.params.batches) × (run.new.spent ≡ false)) }
-    ensures refused { OnErr result ((run.new.epoch ≡ run.old.epoch)
-        × (run.new.left ≡ run.old.left) × (run.new.spent ≡ true)) }
+    ensures counts { EndCounts run.old run.new result }
+    ensures goes_on { OnOk result (MayGoOn (S.disk store.new) (T.present tape.new)
+        (T.drawn tape.new) crew.new run.new) }
     ensures ready { OnOk result (IsEndReady run.new) }
     ensures crew { crew.new ≡ crew.old }
     ensures seals { (t : FlatTable) → StandsFor run.old.ring t
@@ -120,22 +108,17 @@ pub fn end<S: Store, T: Tape, W: Watch>(
     // own, taken meanwhile.
     ensures sealed { (S.disk store.old).tells → IfEnded (CellsAreSealed run.old.sealer
         run.new.sealer (S.disk store.old).cells (S.disk store.new).cells) result }
+    // It is an act of the store's life.
+    ensures act { (S.disk store.new).tells
+        → Answers (S.disk store.old) (S.disk store.new) run.old.sealer run.new.sealer
+        (answer_of_end result) }
     // Neither the head nor the register of generations is written.
     ensures moments { Passes SameGeneration (S.disk store.old) (S.disk store.new) }
-    ensures table { (t : FlatTable) → StandsFor run.old.ring t
-        → IfEnded (StandsFor run.new.ring (table_ended run.old.params t
-        (end_writes run.old.params writes.now (words_since (T.drawn tape.old) (T.drawn tape.new))
-        run.old.sealer.generation run.old.drawn))) result }
-    // A put's key has its own place's word, and the lifted buckets have the words behind those.
-    ensures entries { IfEnded (AreEntriesWritten (end_writes run.old.params writes.now
+    // Once all was written: a put's key has its own place's word, and the lifted buckets have the
+    // words behind those.
+    ensures tables { EndTables run.old run.new (end_writes run.old.params writes.now
         (words_since (T.drawn tape.old) (T.drawn tape.new)) run.old.sealer.generation run.old.drawn)
-        run.old.ring run.new.ring) result }
-    ensures filled { (t : FlatTable) → StandsFor run.old.ring t
-        → IfEnded (TakeBucketWords run.old.params t
-        (words_since (T.drawn tape.old) (T.drawn tape.new)) run.old.sealer.generation
-        run.old.sealer.next run.old.ring run.new.ring) result }
-    // What the planner then keeps is a content that obeys the rules of a checkpoint.
-    ensures content { IfEnded (IsAtContent run.old.params run.new.ring) result }
+        (words_since (T.drawn tape.old) (T.drawn tape.new)) result }
     // The lifts of the table, the buckets as these lie then, the checkpoint, the gates, and the
     // register.
     ensures does { (start : Buckets) (t : FlatTable) → SameSeals start run.old.ring.metas

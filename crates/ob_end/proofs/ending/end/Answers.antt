@@ -1,4 +1,6 @@
-use Rattle.std.proofs.Common.{◌≡◌, ◌+◌, ◌∙◌, suc, true, Ok, Err, ap, arith, refl, subst, sym}
+use Rattle.std.proofs.Common.{◌≡◌, ◌≤◌, ◌+◌, ◌∙◌, suc, true, Ok, Err, ap, arith, refl, subst, sym}
+use Rattle.ob_base.specs.Planned.{most_jobs}
+use Rattle.ob_cells.specs.Jobs.{Manned}
 use Rattle.ob_end.specs.Lifts.{lift_cells, lift_jobs, lift_notes}
 use Rattle.ob_ring.proofs.PlanLaws.{seals_none}
 use Rattle.ob_ring_trace.specs.Known.{fills_with_lifts, public_of_kept}
@@ -15,9 +17,9 @@ use Rattle.ob_twin.specs.Opening.{GatesAre, is_closed_first}
 use Rattle.ob_twin.specs.Register.{place_of}
 use Rattle.ob_twin.specs.declared.gates.Gates.{Gates}
 use Rattle.ob_ring.specs.Ring.{StandsFor}
-use Rattle.ob_end.specs.EndRuns.{AreEntriesWritten, EndAnswers, EndDamage, EndDoes, EndImages, IfEnded, IsAtContent, IsEndUndamaged, LeadsOn, TakeBucketWords, end_err_of, end_writes, seals_for_end, table_ended, EndDraws}
+use Rattle.ob_end.specs.EndRuns.{AreEntriesWritten, EndAnswers, EndDamage, EndDoes, EndDraws, EndImages, IfEnded, IsAtContent, IsEndUndamaged, LeadsOn, TakeBucketWords, end_err_of, end_writes, seals_for_end, table_ended}
 use Rattle.ob_pads.specs.Seals.{CellsAreSealed}
-use Rattle.ob_end.proofs.ActLaws.{damage_closed, damage_made, end_moments, read_moments, sealed_closed, sealed_from, undamaged_closed}
+use Rattle.ob_end.proofs.ActLaws.{damage_closed, damage_made, end_acts, end_moments, few_drawn, further_same, read_moments, sealed_closed, sealed_from, undamaged_closed}
 use Rattle.ob_end.proofs.CloseLaws.{close_fault, gates_kept}
 use Rattle.ob_end.proofs.EndCases.{answers_closed, at_spent, gates_at, one_more, read_leaves, does_as, does_closed, does_made, images_closed, images_ended, if_ended, images_refused, ready_spent}
 use Rattle.ob_end.proofs.EndCases.{seals_closed, seals_ended, serves_closed, serves_ended, draws_closed, draws_made, before_blames, before_fault}
@@ -150,19 +152,6 @@ returns-in-Err-close_epoch-clause-serves g c =
     let new = g.S.Store.disk c.close_epoch.new.store in
     subst (λ (e : EndErr). Serves {T = Unit {0}} {E = EndErr} IsStoreEnd old new (Err e)) (sym c.end_err.ensures)
     (serves_closed old mids new (mid.epoch + 1) c.in-Err-close_epoch.refused c.in-Ok.ensures.serves c.in-Err-close_epoch.ensures.serves c.in-Err-close_epoch.ensures.faults)
-
-pub returns-in-Err-close_epoch-clause-answers : goal.returns-in-Err-close_epoch-clause-answers
-returns-in-Err-close_epoch-clause-answers g c = λ t stands.
-    let run = c.args.run.now in
-    let run1 : Run = record run { spent = true } in
-    let mid = c.make_end.new.run in
-    let old = g.S.Store.disk c.args.store.now in
-    let mids = g.S.Store.disk c.make_end.new.store in
-    let words = words_since (g.T.Tape.drawn c.args.tape.now) (g.T.Tape.drawn c.make_end.new.tape) in
-    let kept = c.make_end.ensures.kept in
-    let ws = end_writes run.params c.args.writes.now words run.sealer.generation run.drawn in
-    subst (λ (e : EndErr). EndAnswers run.params t run.epoch run.drawn run.sealer.next ws (Err e)) (sym c.end_err.ensures)
-    (answers_closed run.params t run.epoch run.drawn run.sealer.next (mid.epoch + 1) ws c.in-Err-close_epoch.refused (c.in-Ok.ensures.answers t stands) c.in-Err-close_epoch.ensures.faults)
 
 pub returns-in-Err-close_epoch-clause-seals : goal.returns-in-Err-close_epoch-clause-seals
 returns-in-Err-close_epoch-clause-seals g c = λ t stands.
@@ -527,25 +516,6 @@ returns-clause-onward g c = λ kept_content rs from.
     subst (λ (gates : Gates). LeadsOn run.params run.sealer.generation kept_content rs run.epoch run.gates last gates) (sym (c.in-Ok-close_epoch.ensures.gates ∙ gates_at run1 mid kept))
     (stage.leads_then run1 mid old writes words kept ready made low short may kept_content rs from last c.close_epoch.ensures.kept c.in-Ok-close_epoch.ensures.rows c.close_epoch.ensures.room)
 
-pub returns-in-Err-clause-damage : goal.returns-in-Err-clause-damage
-returns-in-Err-clause-damage g c = λ start t seals stands tells.
-    let run = c.args.run.now in
-    damage_made run.sealer.keys run.params start.versions t (g.S.Store.disk c.args.store.now).cells (g.S.Store.disk c.make_end.new.store).cells c.in-Err.fault (c.make_end.ensures.keeps.cells tells) (c.in-Err.ensures.damage start t seals stands tells)
-
-pub returns-in-Err-close_epoch-clause-damage : goal.returns-in-Err-close_epoch-clause-damage
-returns-in-Err-close_epoch-clause-damage g c = λ start t seals stands tells.
-    let run = c.args.run.now in
-    let image = (g.S.Store.disk c.close_epoch.new.store).cells in
-    subst (λ (e : EndErr). EndDamage run.sealer.keys run.params start.versions image t (Err e)) (sym c.end_err.ensures)
-    (damage_closed run.sealer.keys run.params start.versions t image (c.make_end.new.run.epoch + 1) c.in-Err-close_epoch.refused c.in-Err-close_epoch.ensures.faults)
-
-pub returns-in-Err-clause-undamaged : goal.returns-in-Err-clause-undamaged
-returns-in-Err-clause-undamaged g c = λ s at. c.in-Err.ensures.undamaged s (at_spent c.args.run.now s (g.S.Store.disk c.args.store.now) at)
-
-pub returns-in-Err-close_epoch-clause-undamaged : goal.returns-in-Err-close_epoch-clause-undamaged
-returns-in-Err-close_epoch-clause-undamaged g c = λ s at.
-    subst (λ (e : EndErr). IsEndUndamaged (Err e)) (sym c.end_err.ensures) (undamaged_closed (c.make_end.new.run.epoch + 1) c.in-Err-close_epoch.refused c.in-Err-close_epoch.ensures.faults)
-
 pub returns-in-Err-clause-sealed : goal.returns-in-Err-clause-sealed
 returns-in-Err-clause-sealed g c = λ tells. tt
 
@@ -580,161 +550,11 @@ returns-in-Err-close_epoch-clause-moments g c = end_moments (g.S.Store.disk c.ar
 pub returns-clause-moments : goal.returns-clause-moments
 returns-clause-moments g c = end_moments (g.S.Store.disk c.args.store.now) (g.S.Store.disk c.make_end.new.store) (g.S.Store.disk c.close_epoch.new.store) c.make_end.ensures.passes c.close_epoch.ensures.moments
 
-pub returns-in-Err-clause-table : goal.returns-in-Err-clause-table
-returns-in-Err-clause-table g c = λ t stands. tt
-
-pub returns-in-Err-close_epoch-clause-table : goal.returns-in-Err-close_epoch-clause-table
-returns-in-Err-close_epoch-clause-table g c = λ t stands.
-    let run = c.args.run.now in
-    let run1 : Run = record run { spent = true } in
-    let mid = c.make_end.new.run in
-    let old = g.S.Store.disk c.args.store.now in
-    let words = words_since (g.T.Tape.drawn c.args.tape.now) (g.T.Tape.drawn c.make_end.new.tape) in
-    let kept = c.make_end.ensures.kept in
-    let writes = c.args.writes.now in
-    let ready = ready_spent run c.requires.ready in
-    let made = c.in-Ok.ensures.made in
-    let low = c.requires.keys in
-    let short = c.requires.short in
-    let may = c.in-Ok.ensures.answers in
-    subst (λ (e : EndErr). IfEnded (StandsFor c.close_epoch.new.ring (table_ended run.params t (end_writes run.params writes words run.sealer.generation run.drawn))) (Err e)) (sym c.end_err.ensures)
-    (if_ended (StandsFor c.close_epoch.new.ring (table_ended run.params t (end_writes run.params writes words run.sealer.generation run.drawn))) c.in-Err-close_epoch.refused
-    (stage.table_last run1 mid old writes words kept ready made low short may c.close_epoch.new.ring c.close_epoch.ensures.kept t stands))
-
-pub returns-clause-table : goal.returns-clause-table
-returns-clause-table g c = λ t stands.
-    let run = c.args.run.now in
-    let run1 : Run = record run { spent = true } in
-    let mid = c.make_end.new.run in
-    let old = g.S.Store.disk c.args.store.now in
-    let words = words_since (g.T.Tape.drawn c.args.tape.now) (g.T.Tape.drawn c.make_end.new.tape) in
-    let kept = c.make_end.ensures.kept in
-    let writes = c.args.writes.now in
-    let ready = ready_spent run c.requires.ready in
-    let made = c.in-Ok.ensures.made in
-    let low = c.requires.keys in
-    let short = c.requires.short in
-    let may = c.in-Ok.ensures.answers in
-    stage.table_last run1 mid old writes words kept ready made low short may c.close_epoch.new.ring c.close_epoch.ensures.kept t stands
-
-pub returns-in-Err-clause-entries : goal.returns-in-Err-clause-entries
-returns-in-Err-clause-entries g c = tt
-
-pub returns-in-Err-close_epoch-clause-entries : goal.returns-in-Err-close_epoch-clause-entries
-returns-in-Err-close_epoch-clause-entries g c =
-    let run = c.args.run.now in
-    let run1 : Run = record run { spent = true } in
-    let mid = c.make_end.new.run in
-    let old = g.S.Store.disk c.args.store.now in
-    let words = words_since (g.T.Tape.drawn c.args.tape.now) (g.T.Tape.drawn c.make_end.new.tape) in
-    let kept = c.make_end.ensures.kept in
-    let writes = c.args.writes.now in
-    let ready = ready_spent run c.requires.ready in
-    let made = c.in-Ok.ensures.made in
-    let low = c.requires.keys in
-    let short = c.requires.short in
-    let may = c.in-Ok.ensures.answers in
-    subst (λ (e : EndErr). IfEnded (AreEntriesWritten (end_writes run.params writes words run.sealer.generation run.drawn) run.ring c.close_epoch.new.ring) (Err e)) (sym c.end_err.ensures)
-    (if_ended (AreEntriesWritten (end_writes run.params writes words run.sealer.generation run.drawn) run.ring c.close_epoch.new.ring) c.in-Err-close_epoch.refused (stage.entries_last run1 mid old writes words kept ready made low short may c.close_epoch.new.ring c.close_epoch.ensures.kept))
-
-pub returns-clause-entries : goal.returns-clause-entries
-returns-clause-entries g c =
-    let run = c.args.run.now in
-    let run1 : Run = record run { spent = true } in
-    let mid = c.make_end.new.run in
-    let old = g.S.Store.disk c.args.store.now in
-    let words = words_since (g.T.Tape.drawn c.args.tape.now) (g.T.Tape.drawn c.make_end.new.tape) in
-    let kept = c.make_end.ensures.kept in
-    let writes = c.args.writes.now in
-    let ready = ready_spent run c.requires.ready in
-    let made = c.in-Ok.ensures.made in
-    let low = c.requires.keys in
-    let short = c.requires.short in
-    let may = c.in-Ok.ensures.answers in
-    stage.entries_last run1 mid old writes words kept ready made low short may c.close_epoch.new.ring c.close_epoch.ensures.kept
-
-pub returns-in-Err-clause-filled : goal.returns-in-Err-clause-filled
-returns-in-Err-clause-filled g c = λ t stands. tt
-
-pub returns-in-Err-close_epoch-clause-filled : goal.returns-in-Err-close_epoch-clause-filled
-returns-in-Err-close_epoch-clause-filled g c = λ t stands.
-    let run = c.args.run.now in
-    let run1 : Run = record run { spent = true } in
-    let mid = c.make_end.new.run in
-    let old = g.S.Store.disk c.args.store.now in
-    let words = words_since (g.T.Tape.drawn c.args.tape.now) (g.T.Tape.drawn c.make_end.new.tape) in
-    let kept = c.make_end.ensures.kept in
-    let writes = c.args.writes.now in
-    let ready = ready_spent run c.requires.ready in
-    let made = c.in-Ok.ensures.made in
-    let low = c.requires.keys in
-    let short = c.requires.short in
-    let may = c.in-Ok.ensures.answers in
-    subst (λ (e : EndErr). IfEnded (TakeBucketWords run.params t words run.sealer.generation run.sealer.next run.ring c.close_epoch.new.ring) (Err e)) (sym c.end_err.ensures)
-    (if_ended (TakeBucketWords run.params t words run.sealer.generation run.sealer.next run.ring c.close_epoch.new.ring) c.in-Err-close_epoch.refused (stage.filled_last run1 mid old writes words kept ready made low short may c.close_epoch.new.ring c.close_epoch.ensures.kept t stands))
-
-pub returns-clause-filled : goal.returns-clause-filled
-returns-clause-filled g c = λ t stands.
-    let run = c.args.run.now in
-    let run1 : Run = record run { spent = true } in
-    let mid = c.make_end.new.run in
-    let old = g.S.Store.disk c.args.store.now in
-    let words = words_since (g.T.Tape.drawn c.args.tape.now) (g.T.Tape.drawn c.make_end.new.tape) in
-    let kept = c.make_end.ensures.kept in
-    let writes = c.args.writes.now in
-    let ready = ready_spent run c.requires.ready in
-    let made = c.in-Ok.ensures.made in
-    let low = c.requires.keys in
-    let short = c.requires.short in
-    let may = c.in-Ok.ensures.answers in
-    stage.filled_last run1 mid old writes words kept ready made low short may c.close_epoch.new.ring c.close_epoch.ensures.kept t stands
-
-pub returns-in-Err-clause-content : goal.returns-in-Err-clause-content
-returns-in-Err-clause-content g c = tt
-
-pub returns-in-Err-close_epoch-clause-content : goal.returns-in-Err-close_epoch-clause-content
-returns-in-Err-close_epoch-clause-content g c =
-    let run = c.args.run.now in
-    let run1 : Run = record run { spent = true } in
-    let mid = c.make_end.new.run in
-    let old = g.S.Store.disk c.args.store.now in
-    let words = words_since (g.T.Tape.drawn c.args.tape.now) (g.T.Tape.drawn c.make_end.new.tape) in
-    let kept = c.make_end.ensures.kept in
-    let writes = c.args.writes.now in
-    let ready = ready_spent run c.requires.ready in
-    let made = c.in-Ok.ensures.made in
-    let low = c.requires.keys in
-    let short = c.requires.short in
-    let may = c.in-Ok.ensures.answers in
-    let last = c.close_epoch.new.ring in
-    subst (λ (e : EndErr). IfEnded (IsAtContent run.params last) (Err e)) (sym c.end_err.ensures)
-    (sealed_closed ((last.stash).rows ≡ rows_left mid.ring) (IsAtContent run.params last) c.in-Err-close_epoch.refused
-    (λ rows. stage.content_last run1 mid old writes words kept ready made low short may last c.close_epoch.ensures.kept rows) c.in-Err-close_epoch.ensures.rows)
-
-pub returns-clause-content : goal.returns-clause-content
-returns-clause-content g c =
-    let run = c.args.run.now in
-    let run1 : Run = record run { spent = true } in
-    let mid = c.make_end.new.run in
-    let old = g.S.Store.disk c.args.store.now in
-    let words = words_since (g.T.Tape.drawn c.args.tape.now) (g.T.Tape.drawn c.make_end.new.tape) in
-    let kept = c.make_end.ensures.kept in
-    let writes = c.args.writes.now in
-    let ready = ready_spent run c.requires.ready in
-    let made = c.in-Ok.ensures.made in
-    let low = c.requires.keys in
-    let short = c.requires.short in
-    let may = c.in-Ok.ensures.answers in
-    stage.content_last run1 mid old writes words kept ready made low short may c.close_epoch.new.ring c.close_epoch.ensures.kept c.in-Ok-close_epoch.ensures.rows
-
 pub returns-in-Err-clause-serves : goal.returns-in-Err-clause-serves
 returns-in-Err-clause-serves g c = serves_err IsStoreFault IsStoreEnd _ _ c.in-Err.fault (end.Before c.in-Err.fault) (before_blames c.in-Err.fault) c.in-Err.ensures.serves
 
 pub returns-in-Err-clause-faults : goal.returns-in-Err-clause-faults
 returns-in-Err-clause-faults g c = before_fault (c.args.run.now.epoch + 1) c.in-Err.fault c.in-Err.ensures.faults
-
-pub returns-in-Err-clause-answers : goal.returns-in-Err-clause-answers
-returns-in-Err-clause-answers g c = c.in-Err.ensures.answers
 
 -- ---- the end may be made
 
@@ -742,13 +562,13 @@ pub make_end-requires-clause-ready : goal.make_end-requires-clause-ready
 make_end-requires-clause-ready g c = ready_spent c.args.run.now c.requires.ready
 
 pub make_end-requires-clause-crew : goal.make_end-requires-clause-crew
-make_end-requires-clause-crew g c = c.requires.crew
+make_end-requires-clause-crew g c = c.requires.goes_on.crew
 
 pub make_end-requires-clause-drawn : goal.make_end-requires-clause-drawn
-make_end-requires-clause-drawn g c = c.requires.drawn
+make_end-requires-clause-drawn g c = c.requires.goes_on.drawn
 
 pub make_end-requires-clause-small : goal.make_end-requires-clause-small
-make_end-requires-clause-small g c = c.requires.small
+make_end-requires-clause-small g c = c.requires.goes_on.few
 
 pub make_end-requires-clause-few : goal.make_end-requires-clause-few
 make_end-requires-clause-few g c = c.requires.few
@@ -760,7 +580,7 @@ pub make_end-requires-clause-short : goal.make_end-requires-clause-short
 make_end-requires-clause-short g c = c.requires.short
 
 pub close_epoch-requires-clause-none_out : goal.close_epoch-requires-clause-none_out
-close_epoch-requires-clause-none_out g c = (let none = c.requires.none_out in let out = c.make_end.ensures.serves.out in omega arith)
+close_epoch-requires-clause-none_out g c = (let none = c.requires.goes_on.none_out in let out = c.make_end.ensures.serves.out in omega arith)
 
 -- ---- what stays of the tape and of the run
 
@@ -800,11 +620,166 @@ returns-clause-crew g c = c.make_end.ensures.crew
 pub returns-clause-params : goal.returns-clause-params
 returns-clause-params g c = ap (λ (r : Run). r.params) c.make_end.ensures.kept
 
-pub returns-in-Err-clause-refused : goal.returns-in-Err-clause-refused
-returns-in-Err-clause-refused g c = (let kept = c.make_end.ensures.kept in (ap (λ (r : Run). r.epoch) kept, ap (λ (r : Run). r.left) kept, ap (λ (r : Run). r.spent) kept))
+-- ---- what is answered, counted and kept, and the act
 
-pub returns-in-Err-close_epoch-clause-refused : goal.returns-in-Err-close_epoch-clause-refused
-returns-in-Err-close_epoch-clause-refused g c = (let kept = c.make_end.ensures.kept in (ap (λ (r : Run). r.epoch) kept, ap (λ (r : Run). r.left) kept, ap (λ (r : Run). r.spent) kept))
+pub returns-in-Err-clause-answered : goal.returns-in-Err-clause-answered
+returns-in-Err-clause-answered g c =
+    let run = c.args.run.now in
+    let at = c.in-Err.ensures in
+    record {
+      answers = at.answers;
+      damage = λ start t seals stands tells.
+          damage_made run.sealer.keys run.params start.versions t (g.S.Store.disk c.args.store.now).cells (g.S.Store.disk c.make_end.new.store).cells c.in-Err.fault (c.make_end.ensures.keeps.cells tells) (at.damage start t seals stands tells);
+      undamaged = λ s was. at.undamaged s (at_spent run s (g.S.Store.disk c.args.store.now) was);
+    }
+
+pub returns-in-Err-clause-counts : goal.returns-in-Err-clause-counts
+returns-in-Err-clause-counts g c =
+    let kept = c.make_end.ensures.kept in
+    record { served = tt; refused = (ap (λ (r : Run). r.epoch) kept, ap (λ (r : Run). r.left) kept, ap (λ (r : Run). r.spent) kept) }
+
+pub returns-in-Err-clause-goes_on : goal.returns-in-Err-clause-goes_on
+returns-in-Err-clause-goes_on g c = tt
+
+pub returns-in-Err-clause-tables : goal.returns-in-Err-clause-tables
+returns-in-Err-clause-tables g c = record { table = λ t stands. tt; entries = tt; filled = λ t stands. tt; content = tt }
+
+pub returns-in-Err-clause-seals : goal.returns-in-Err-clause-seals
+returns-in-Err-clause-seals g c = λ t stands.
+    let same = ap (λ (r : Run). r.sealer) c.make_end.ensures.kept in
+    record { all = tt; some = further_same (seals_for_end c.args.run.now.params t) c.args.run.now.sealer c.make_end.new.run.sealer same }
+
+pub returns-in-Err-clause-act : goal.returns-in-Err-clause-act
+returns-in-Err-clause-act g c = λ tells.
+    let run = c.args.run.now in
+    let table = c.requires.ready.ready.table in
+    let serves = returns-in-Err-clause-serves g c in
+    end_acts (g.S.Store.disk c.args.store.now) (g.S.Store.disk c.make_end.new.store) (g.met.S.Store.only_now c.args.store.now) run.sealer c.make_end.new.run.sealer serves.goes tells (returns-in-Err-clause-seals g c table.0 table.1).some
+    (returns-in-Err-clause-moments g c) (Err (end.Before c.in-Err.fault)) (returns-in-Err-clause-sealed g c (serves.goes.told tells))
+
+pub returns-in-Err-close_epoch-clause-answered : goal.returns-in-Err-close_epoch-clause-answered
+returns-in-Err-close_epoch-clause-answered g c =
+    let run = c.args.run.now in
+    let words = words_since (g.T.Tape.drawn c.args.tape.now) (g.T.Tape.drawn c.make_end.new.tape) in
+    let ws = end_writes run.params c.args.writes.now words run.sealer.generation run.drawn in
+    let image = (g.S.Store.disk c.close_epoch.new.store).cells in
+    let next = c.make_end.new.run.epoch + 1 in
+    let refused = c.in-Err-close_epoch.refused in
+    let faults = c.in-Err-close_epoch.ensures.faults in
+    record {
+      answers = λ t stands.
+          subst (λ (e : EndErr). EndAnswers run.params t run.epoch run.drawn run.sealer.next ws (Err e)) (sym c.end_err.ensures)
+          (answers_closed run.params t run.epoch run.drawn run.sealer.next next ws refused (c.in-Ok.ensures.answers t stands) faults);
+      damage = λ start t seals stands tells.
+          subst (λ (e : EndErr). EndDamage run.sealer.keys run.params start.versions image t (Err e)) (sym c.end_err.ensures) (damage_closed run.sealer.keys run.params start.versions t image next refused faults);
+      undamaged = λ s was. subst (λ (e : EndErr). IsEndUndamaged (Err e)) (sym c.end_err.ensures) (undamaged_closed next refused faults);
+    }
+
+pub returns-in-Err-close_epoch-clause-counts : goal.returns-in-Err-close_epoch-clause-counts
+returns-in-Err-close_epoch-clause-counts g c =
+    let kept = c.make_end.ensures.kept in
+    record { served = tt; refused = (ap (λ (r : Run). r.epoch) kept, ap (λ (r : Run). r.left) kept, ap (λ (r : Run). r.spent) kept) }
+
+pub returns-in-Err-close_epoch-clause-goes_on : goal.returns-in-Err-close_epoch-clause-goes_on
+returns-in-Err-close_epoch-clause-goes_on g c = tt
+
+pub returns-in-Err-close_epoch-clause-tables : goal.returns-in-Err-close_epoch-clause-tables
+returns-in-Err-close_epoch-clause-tables g c =
+    let run = c.args.run.now in
+    let run1 : Run = record run { spent = true } in
+    let mid = c.make_end.new.run in
+    let old = g.S.Store.disk c.args.store.now in
+    let words = words_since (g.T.Tape.drawn c.args.tape.now) (g.T.Tape.drawn c.make_end.new.tape) in
+    let kept = c.make_end.ensures.kept in
+    let writes = c.args.writes.now in
+    let ready = ready_spent run c.requires.ready in
+    let made = c.in-Ok.ensures.made in
+    let low = c.requires.keys in
+    let short = c.requires.short in
+    let may = c.in-Ok.ensures.answers in
+    let last = c.close_epoch.new.ring in
+    let same = c.close_epoch.ensures.kept in
+    let refused = c.in-Err-close_epoch.refused in
+    let ws = end_writes run.params writes words run.sealer.generation run.drawn in
+    record {
+      table = λ t stands.
+          subst (λ (e : EndErr). IfEnded (StandsFor last (table_ended run.params t ws)) (Err e)) (sym c.end_err.ensures)
+          (if_ended (StandsFor last (table_ended run.params t ws)) refused (stage.table_last run1 mid old writes words kept ready made low short may last same t stands));
+      entries =
+          subst (λ (e : EndErr). IfEnded (AreEntriesWritten ws run.ring last) (Err e)) (sym c.end_err.ensures) (if_ended (AreEntriesWritten ws run.ring last) refused (stage.entries_last run1 mid old writes words kept ready made low short may last same));
+      filled = λ t stands.
+          subst (λ (e : EndErr). IfEnded (TakeBucketWords run.params t words run.sealer.generation run.sealer.next run.ring last) (Err e)) (sym c.end_err.ensures)
+          (if_ended (TakeBucketWords run.params t words run.sealer.generation run.sealer.next run.ring last) refused (stage.filled_last run1 mid old writes words kept ready made low short may last same t stands));
+      content =
+          subst (λ (e : EndErr). IfEnded (IsAtContent run.params last) (Err e)) (sym c.end_err.ensures)
+          (sealed_closed ((last.stash).rows ≡ rows_left mid.ring) (IsAtContent run.params last) refused (λ rows. stage.content_last run1 mid old writes words kept ready made low short may last same rows) c.in-Err-close_epoch.ensures.rows);
+    }
+
+pub returns-in-Err-close_epoch-clause-act : goal.returns-in-Err-close_epoch-clause-act
+returns-in-Err-close_epoch-clause-act g c = λ tells.
+    let run = c.args.run.now in
+    let table = c.requires.ready.ready.table in
+    let serves = returns-in-Err-close_epoch-clause-serves g c in
+    end_acts (g.S.Store.disk c.args.store.now) (g.S.Store.disk c.close_epoch.new.store) (g.met.S.Store.only_now c.args.store.now) run.sealer c.close_epoch.new.sealer serves.goes tells (returns-in-Err-close_epoch-clause-seals g c table.0 table.1).some
+    (returns-in-Err-close_epoch-clause-moments g c) (Err c.end_err.result) (returns-in-Err-close_epoch-clause-sealed g c (serves.goes.told tells))
+
+pub returns-clause-answered : goal.returns-clause-answered
+returns-clause-answered g c = record { answers = c.in-Ok.ensures.answers; damage = λ start t seals stands tells. tt; undamaged = λ s was. tt }
+
+pub returns-clause-counts : goal.returns-clause-counts
+returns-clause-counts g c =
+    let kept = c.make_end.ensures.kept in
+    let same : c.make_end.new.run.epoch ≡ c.args.run.now.epoch = ap (λ (r : Run). r.epoch) kept in
+    record { served = (omega (arith, same), ap (λ (r : Run). r.params.batches) kept, refl); refused = tt }
+
+pub returns-clause-goes_on : goal.returns-clause-goes_on
+returns-clause-goes_on g c =
+    let run = c.args.run.now in
+    let was = c.requires.goes_on in
+    let fit = c.requires.ready.planner in
+    let kept = c.make_end.ensures.kept in
+    let generation = (returns-clause-seals g c fit.table fit.stands).some.generation in
+    let draws = c.in-Ok.ensures.draws fit.table fit.stands in
+    record {
+      none_out = omega (arith, was.none_out, (returns-clause-serves g c).out);
+      ready = (returns-clause-ready g c).ready;
+      serves = refl;
+      crew = subst (λ (m : Manned). most_jobs c.make_end.new.run.params ≤ m.jobs) (sym c.make_end.ensures.crew) (subst (λ (r : Run). most_jobs r.params ≤ c.args.crew.now.jobs) (sym kept) was.crew);
+      generation = c.make_end.ensures.generation ∙ was.generation ∙ sym generation;
+      drawn = c.make_end.ensures.drawn;
+      few = few_drawn run.params fit.table run.epoch run.drawn run.sealer.next _ c.make_end.new.run.drawn (g.T.Tape.drawn c.args.tape.now) (g.T.Tape.drawn c.make_end.new.tape) (c.in-Ok.ensures.answers fit.table fit.stands) draws was.drawn c.make_end.ensures.drawn;
+    }
+
+pub returns-clause-tables : goal.returns-clause-tables
+returns-clause-tables g c =
+    let run = c.args.run.now in
+    let run1 : Run = record run { spent = true } in
+    let mid = c.make_end.new.run in
+    let old = g.S.Store.disk c.args.store.now in
+    let words = words_since (g.T.Tape.drawn c.args.tape.now) (g.T.Tape.drawn c.make_end.new.tape) in
+    let kept = c.make_end.ensures.kept in
+    let writes = c.args.writes.now in
+    let ready = ready_spent run c.requires.ready in
+    let made = c.in-Ok.ensures.made in
+    let low = c.requires.keys in
+    let short = c.requires.short in
+    let may = c.in-Ok.ensures.answers in
+    let last = c.close_epoch.new.ring in
+    let same = c.close_epoch.ensures.kept in
+    record {
+      table = λ t stands. stage.table_last run1 mid old writes words kept ready made low short may last same t stands;
+      entries = stage.entries_last run1 mid old writes words kept ready made low short may last same;
+      filled = λ t stands. stage.filled_last run1 mid old writes words kept ready made low short may last same t stands;
+      content = stage.content_last run1 mid old writes words kept ready made low short may last same c.in-Ok-close_epoch.ensures.rows;
+    }
+
+pub returns-clause-act : goal.returns-clause-act
+returns-clause-act g c = λ tells.
+    let run = c.args.run.now in
+    let table = c.requires.ready.ready.table in
+    let serves = returns-clause-serves g c in
+    end_acts (g.S.Store.disk c.args.store.now) (g.S.Store.disk c.close_epoch.new.store) (g.met.S.Store.only_now c.args.store.now) run.sealer c.close_epoch.new.sealer serves.goes tells (returns-clause-seals g c table.0 table.1).some
+    (returns-clause-moments g c) (Ok tt) (returns-clause-sealed g c (serves.goes.told tells))
 
 -- ---- what it answers
 
@@ -812,9 +787,6 @@ pub returns-in-Err-close_epoch-clause-faults : goal.returns-in-Err-close_epoch-c
 returns-in-Err-close_epoch-clause-faults g c =
     subst (IsEndFault (c.args.run.now.epoch + 1)) (sym c.end_err.ensures)
     (subst (λ n. IsEndFault n (end_err_of c.in-Err-close_epoch.refused)) (ap (λ (r : Run). r.epoch + 1) c.make_end.ensures.kept) (close_fault (c.make_end.new.run.epoch + 1) c.in-Err-close_epoch.refused c.in-Err-close_epoch.ensures.faults))
-
-pub returns-clause-answers : goal.returns-clause-answers
-returns-clause-answers g c = c.in-Ok.ensures.answers
 
 pub returns-clause-told : goal.returns-clause-told
 returns-clause-told g c = λ told. c.in-Ok-close_epoch.ensures.tell (c.in-Ok.ensures.serves.tells told)
