@@ -1,29 +1,47 @@
 -- What a vault's run knows of what it was lent goes on to hold, as long as it serves.
-use Rattle.std.specs.Prelude.{◌≡◌, ◌↔◌, ℕ, ◌+◌, ◌*◌, ◌<◌, ◌≤◌, ◌^◌, Bool, true, false, List, ◌++◌, drop, length, Result, Ok, Err, OnOk, OnErr}
-use Rattle.std.proofs.Common.{arith, length-append, sym, ap, ◌∙◌, subst, inl, inr, ⊎_elim}
+use Rattle.std.specs.Prelude.{◌≡◌, ℕ, ◌*◌, ◌<◌, ◌≤◌, ◌^◌, Bool, true, false, List, ◌++◌, drop, length, Result, Ok, Err, OnOk, OnErr}
+use Rattle.std.proofs.Common.{arith, sym, ap, ◌∙◌, subst, inl, ⊎_elim}
 use Rattle.std.proofs.Math.Seq.{drop-length}
 use Rattle.std.proofs.lemmas.List.{append-nil}
-use Rattle.std.proofs.lemmas.Bool.{cases_lt, true≢false}
+use Rattle.std.proofs.lemmas.Bool.{true≢false}
 use Rattle.ob_base.specs.Layout.{checkpoint_cells}
+use Rattle.ob_base.specs.Planned.{most_jobs}
 use Rattle.ob_base.specs.Tree.{buckets, width}
 use Rattle.ob_base.specs.declared.fault.Fault.{Fault}
 use Rattle.ob_base.specs.declared.fault.Fault.TheVariants as fault
 use Rattle.ob_base.specs.declared.params.Params.{Params}
-use Rattle.ob_base.specs.declared.value.Write.{Write}
+use Rattle.ob_cells.specs.Jobs.{Manned}
 use Rattle.ob_cells.specs.Writes.{WritesWithin}
-use Rattle.ob_end.specs.EndRuns.{DrawsForEnd, EndAnswers, EndDraws, HasWords, IsEndReady}
+use Rattle.ob_end.specs.EndRuns.{DrawsForEnd, EndDraws, HasWords, IsEndReady}
 use Rattle.ob_end.proofs.CloseLaws.{gates_kept}
 use Rattle.ob_fetch.specs.declared.run.Run.{Run}
-use Rattle.ob_fetch.specs.Fetches.{FetchDraws, IsRunReady, IsWornForBatch, words_since}
-use Rattle.ob_log.specs.Appends.{IsWornOut}
+use Rattle.ob_fetch.specs.Fetches.{FetchDraws, IsRunReady, MayGoOn, words_since}
 use Rattle.ob_recover.specs.Fits.{IsPlannerFit}
 use Rattle.ob_ring.specs.FlatTable.{FlatTable}
 use Rattle.ob_serial.specs.declared.vault.EndErr.{EndErr}
 use Rattle.ob_serial.specs.declared.vault.EndErr.TheVariants as end
 use Rattle.ob_store.specs.Disk.{Disk}
-use Rattle.ob_tables.specs.declared.entry.Entry.{Entry}
 use Rattle.ob_twin.specs.Opening.{GatesAre}
 use Rattle.ob_twin.specs.declared.gates.Gates.{Gates}
+use Rattle.ob_ring_vault.specs.Knowns.{kept_of_run}
+use Rattle.ob_ring_vault.specs.declared.known.Known.{Known}
+
+-- ---- a call
+
+-- it may be made on what the vault was lent, as its run knows that
+pub may_go_on : (disk : Disk) (present : ℕ) (words : List ℕ) (manned : Manned) (run : Run) (known : Known) → known ≡ kept_of_run run → disk.out ≡ 0 → IsEndReady run → run.spent ≡ false → most_jobs run.params ≤ manned.jobs
+    → (known.spent ≡ false → present ≡ known.generation) → (known.spent ≡ false → known.drawn ≡ length words) → (known.spent ≡ false → known.drawn ≤ 2 ^ 62) → MayGoOn disk present words manned run
+may_go_on disk present words manned run known is none ready serves crew at drawn few =
+    let serving = ap (λ (k : Known). k.spent) is ∙ serves in
+    record {
+      none_out = none;
+      ready = ready.ready;
+      serves = serves;
+      crew = crew;
+      generation = at serving ∙ ap (λ (k : Known). k.generation) is;
+      drawn = sym (ap (λ (k : Known). k.drawn) is) ∙ drawn serving;
+      few = subst (λ n. n ≤ 2 ^ 62) (ap (λ (k : Known). k.drawn) is) (few serving);
+    }
 
 -- ---- a fetch
 
@@ -36,44 +54,29 @@ module _ (run new : Run) (kept : new ≡ record run { sealer = new.sealer; drawn
   same_params : new.params ≡ run.params
   same_params = ap (λ (x : Run). x.params) kept
 
-  pub fetch_ready : (A B : Type 0) (x : Result (Unit {0}) Fault) → IsEndReady run → OnOk x (IsRunReady new) → length (new.words).items ≡ length (run.words).items → OnOk x (IsPlannerFit new.ring) → OnErr x (A × (new.spent ≡ true) × B)
-      → new.spent ≡ false → ∥ IsEndReady new ∥₁
-  fetch_ready A B (Ok done) is ready many fit refused serves = ∣ record {
+  pub fetch_ready : IsEndReady run → IsRunReady new → length (new.words).items ≡ length (run.words).items → IsPlannerFit new.ring → ∥ IsEndReady new ∥₁
+  fetch_ready is ready many fit = ∣ record {
     ready = ready;
     own_words = subst (λ (q : Params). q.writes ≤ length (new.words).items) (sym same_params) (let room = is.own_words in omega (arith, room, many));
     all_words = subst (λ (q : Params). buckets q * width q ≤ length (new.words).items) (sym same_params) (let room = is.all_words in omega (arith, room, many));
     sheet = ap (λ (x : Run). length x.sheet) kept ∙ is.sheet ∙ ap (λ (q : Params). 96 * checkpoint_cells q) (sym same_params);
     planner = fit;
   } ∣₁
-  fetch_ready A B (Err f) is ready many fit refused serves = absurd (true≢false (sym refused.1 ∙ serves))
 
-pub fetch_few : (A B : Type 0) (run new : Run) (old now : List ℕ) (x : Result (Unit {0}) Fault) → FetchDraws (run.params).places old now x → IsWornOut x ↔ IsWornForBatch run → run.drawn ≡ length old → new.drawn ≡ length now → OnErr x (A × (new.spent ≡ true) × B)
-    → new.spent ≡ false → new.drawn ≤ 2 ^ 62
-fetch_few A B run new old now (Ok done) draws worn was is refused serves = elim (cases_lt (2 ^ 62) (run.drawn + (run.params).places)) [
-  | inl more ↦ absurd (worn.1 (inl more))
-  | inr few ↦ (let words = ap (λ (l : List ℕ). length l) draws.words in let many = draws.many_are in omega (arith, few, was, is, words, many, length-append {A = ℕ}))
-]
-fetch_few A B run new old now (Err f) draws worn was is refused serves = absurd (true≢false (sym refused.1 ∙ serves))
+-- what holds where it went well holds of a run that serves on
+pub fetch_went : (A B P : Type 0) (spent : Bool) (x : Result (Unit {0}) Fault) → OnOk x P → OnErr x (A × (spent ≡ true) × B) → spent ≡ false → P
+fetch_went A B P spent (Ok done) holds refused serves = holds
+fetch_went A B P spent (Err f) holds refused serves = absurd (true≢false (sym refused.1 ∙ serves))
 
 -- ---- an end
 
-pub end_told : (A B : Type 0) (known : Gates) (spent : Bool) (old new : Disk) (x : Result (Unit {0}) EndErr) → (old.tells → OnOk x (GatesAre known.epoch 5 new.cells)) → OnErr x (A × B × (spent ≡ true)) → (new.tells → old.tells) → spent ≡ false → new.tells → GatesAre known.epoch 5 new.cells
-end_told A B known spent old new (Ok done) told refused back serves tells = told (back tells)
-end_told A B known spent old new (Err e) told refused back serves tells = absurd (true≢false (sym refused.2 ∙ serves))
-
-pub end_ready : (A B : Type 0) (new : Run) (x : Result (Unit {0}) EndErr) → OnOk x (IsEndReady new) → OnErr x (A × B × (new.spent ≡ true)) → new.spent ≡ false → ∥ IsEndReady new ∥₁
-end_ready A B new (Ok done) ready refused serves = ∣ ready ∣₁
-end_ready A B new (Err e) ready refused serves = absurd (true≢false (sym refused.2 ∙ serves))
+pub end_went : (A B P : Type 0) (spent : Bool) (x : Result (Unit {0}) EndErr) → OnOk x P → OnErr x (A × B × (spent ≡ true)) → spent ≡ false → P
+end_went A B P spent (Ok done) holds refused serves = holds
+end_went A B P spent (Err e) holds refused serves = absurd (true≢false (sym refused.2 ∙ serves))
 
 pub end_small : (A B : Type 0) (run new : Run) (x : Result (Unit {0}) EndErr) → run.epoch < 2 ^ 62 → OnOk x (IsEndReady new) → OnErr x ((new.epoch ≡ run.epoch) × A × B) → new.epoch < 2 ^ 62
 end_small A B run new (Ok done) was ready refused = (ready.ready).small
 end_small A B run new (Err e) was ready refused = let same : new.epoch ≡ run.epoch = refused.0 in omega (arith, was, same)
-
-pub end_few : (A B : Type 0) (run new : Run) (t : FlatTable) (old now : List ℕ) (ws : List (Write × Entry)) (x : Result (Unit {0}) EndErr) → EndDraws run.params t run.epoch run.drawn old now x → EndAnswers run.params t run.epoch run.drawn (run.sealer).next ws x
-    → run.drawn ≡ length old → new.drawn ≡ length now → OnErr x (A × B × (new.spent ≡ true)) → new.spent ≡ false → new.drawn ≤ 2 ^ 62
-end_few A B run new t old now ws (Ok done) draws may was is refused serves =
-    let words = ap (λ (l : List ℕ). length l) draws.words in let many = draws.many_are in let few = (may.has).words in omega (arith, few, was, is, words, many, length-append {A = ℕ})
-end_few A B run new t old now ws (Err e) draws may was is refused serves = absurd (true≢false (sym refused.2 ∙ serves))
 
 -- ---- the words drawn stand behind those before
 
