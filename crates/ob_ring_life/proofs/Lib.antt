@@ -1,4 +1,3 @@
-pub mod SealOpenings
 pub mod SealCalls
 pub mod Calls
 pub mod Chains

@@ -1,49 +1,18 @@
 -- Calls of a ring store as acts.
-use Rattle.std.proofs.Common.{inl, ℕ, ◌+◌, List, Option, Result, Ok, Err, OnOk, arith}
-use Rattle.ob_base.specs.declared.params.Params.{Params}
-use Rattle.ob_base.specs.declared.fault.Fault.{Fault}
-use Rattle.ob_base.specs.Layout.{log_cell, record_cells}
-use Rattle.ob_cells.specs.Runs.{IsFurther}
-use Rattle.ob_cells.specs.Writes.{WritesWithin}
+use Rattle.std.proofs.Common.{List}
 use Rattle.ob_pads.specs.Lives.{Answers, IsAtGeneration}
-use Rattle.ob_pads.specs.Seals.{CellsAreSealed, SealerGoesOn, SealsBy, answer_of_end, answer_of_fetch}
+use Rattle.ob_pads.specs.Seals.{CellsAreSealed, SealerGoesOn, SealsBy}
 use Rattle.ob_ring_vault.specs.RingVaults.{KeepsRun, RingCalled, Running}
 use Rattle.ob_seal.specs.Sealing.{Sealing}
 use Rattle.ob_serial.specs.Vaults.{VaultAnswer, VaultCall, DoubtBy, End, Ended, Fetch, RefusedBy, Values}
-use Rattle.ob_serial.specs.declared.vault.EndErr.{EndErr}
-use Rattle.ob_serial.specs.declared.vault.EndErr.TheVariants as end
 use Rattle.ob_store.specs.Calls.{GoesOn}
 use Rattle.ob_store.specs.Disk.{Disk, Image}
-use Rattle.ob_store.specs.Images.{Passes, SameOff}
+use Rattle.ob_store.specs.Images.{Passes}
 use Rattle.ob_store.specs.declared.watch.Note.{Note}
 use Rattle.ob_store.proofs.Moments.{leaves_of}
 use Rattle.ob_twin.specs.Keyed.{tagging}
 use Rattle.ob_twin.proofs.Frames.{register_moved}
 use Rattle.ob_end.specs.Closings.{SameGeneration}
-use Rattle.ob_end.specs.EndRuns.{IfEnded}
-
-module _ (p : Params) (area batch : ℕ) (old new : Disk) (only : (c : Image) → old.left_since old.moment c → old.may_leave c) (was now : Sealing) (goes : GoesOn old new) (tells : new.tells) (further : IsFurther (record_cells p) was now)
-    (within : WritesWithin (log_cell p area batch 0) (record_cells p + 1) old new) where
-  abbrev at : Image → Type 0
-  at = IsAtGeneration was.keys was.generation
-
-  moved : (c d : Image) → SameOff (log_cell p area batch 0) (record_cells p + 1) c d → at d → at c
-  moved c d same stands = register_moved (tagging was.keys) 1 was.generation c d (λ k from to. same k (inl (omega (arith, to)))) stands
-
-  fetch_seals : (out : List (Option (List ℕ))) (r : Result (Unit {0}) Fault) → OnOk r (CellsAreSealed was now old.cells new.cells) → SealsBy (answer_of_fetch out r) was now old.cells new.cells
-  fetch_seals out (Ok done) sealed = sealed
-  fetch_seals out (Err f) sealed = tt
-
-  pub fetch_acts : (out : List (Option (List ℕ))) (r : Result (Unit {0}) Fault) → OnOk r (CellsAreSealed was now old.cells new.cells) → Answers old new was now (answer_of_fetch out r)
-  fetch_acts out r sealed = record {
-    goes = goes;
-    tells = tells;
-    further = record { keys = further.keys; generation = further.generation; on = further.on };
-    seals = fetch_seals out r sealed;
-    images = λ all. leaves_of (SameOff (log_cell p area batch 0) (record_cells p + 1)) at at old new within.passes only all (λ c d stands step. moved c d step stands) (λ c stands. stands);
-  }
-
--- ---- an end, and every call of a vault
 
 module _ (old new : Disk) (only : (c : Image) → old.left_since old.moment c → old.may_leave c) (was now : Sealing) (goes : GoesOn old new) (tells : new.tells) (further : SealerGoesOn was now) (moments : Passes SameGeneration old new) where
   abbrev stood : Image → Type 0
@@ -60,17 +29,6 @@ module _ (old new : Disk) (only : (c : Image) → old.left_since old.moment c �
     seals = seals;
     images = λ all. leaves_of SameGeneration stood stood old new moments only all (λ c d stands step. kept c d step stands) (λ c stands. stands);
   }
-
-  end_seals : (r : Result (Unit {0}) EndErr) → IfEnded (CellsAreSealed was now old.cells new.cells) r → SealsBy (answer_of_end r) was now old.cells new.cells
-  end_seals (Ok done) sealed = sealed
-  end_seals (Err (end.Before f)) sealed = tt
-  end_seals (Err (end.Unsure f)) sealed = sealed
-
-  pub end_acts : (r : Result (Unit {0}) EndErr) → IfEnded (CellsAreSealed was now old.cells new.cells) r → Answers old new was now (answer_of_end r)
-  end_acts r sealed = acts_by (answer_of_end r) (end_seals r sealed)
-
-pub further_of : (n : ℕ) (was now : Sealing) → IsFurther n was now → SealerGoesOn was now
-further_of n was now further = record { keys = further.keys; generation = further.generation; on = further.on }
 
 module _ {S : Type 0} (disk : S → Disk) (old new : Running S) (notes : List Note) where
   pub kept_by : (call : VaultCall) (answer : VaultAnswer) → RingCalled disk old new notes call answer → KeepsRun disk old new notes

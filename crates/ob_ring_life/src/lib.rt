@@ -7,9 +7,7 @@ mod acts;
 mod lives;
 mod runs;
 
-pub use acts::{
-    begin_life, calls_are_acts, end_in_life, fetch_in_life, open_in_life, ring_chains_are_runs,
-};
+pub use acts::{calls_are_acts, ring_chains_are_runs};
 pub use lives::{calls_are_lives, calls_show_lives, chains_are_lives, openings_are_lives};
 pub use runs::{
     drawn_is_shown, formats_begin, openings_go_on, openings_stop, runs_are_lives,

@@ -10,3 +10,4 @@ pub mod FaultLaws
 pub mod StoodLaws
 pub mod WholeLaws
 pub mod PlanLaws
+pub mod PadLaws

@@ -9,6 +9,7 @@ ghost use Rattle.ob_store.specs.Images.{IsSynced, Passes, LeavesOnly};
 ghost use Rattle.ob_store.specs.Calls.{Serves, IsFailed, IsStoreFault};
 ghost use Rattle.ob_store.specs.Told.{Does};
 ghost use Rattle.ob_check.specs.Written as check;
+ghost use Rattle.ob_pads.specs.Lives.{IsFormattedStore};
 ghost use Rattle.ob_tables.specs.Content.{Obeys, content_of};
 ghost use Rattle.ob_schedule.specs.Schedule.{format_notes};
 ghost use Rattle.ob_ring_trace.specs.Life.{WordId, formatted_life};
@@ -230,6 +231,9 @@ pub fn format<S: Store, T: Tape, W: Watch>(
         → AreSlotsIn p.now (fresh_content p.now (drawn_ranks p.now (T.drawn tape.new))) slot
         → (S.disk store.new).may_leave c
         → StandsInLife keys.now p.now word_of (formatted_life slot) c) }
+    // A life over its pads begins, at generation 1.
+    ensures act { (S.disk store.old).tells → (S.disk store.old).leaves
+        → OnOk result (IsFormattedStore S.disk keys.now store.new) }
     ensures durable { (S.disk store.old).tells → OnOk result (IsSynced (S.disk store.new)) }
     // Its seals are the first ones of generation 1: the slots' in rising number, then the
     // checkpoint's.

@@ -1,7 +1,8 @@
 //! Opening a ring store.
 
-ghost use Rattle.std.specs.Prelude.{◌≡◌, ◌⊎◌, ◌≤◌, ℕ, suc, Err, IfOk, IfErr, OnOk, OnErr, Option, is_ok};
+ghost use Rattle.std.specs.Prelude.{◌≡◌, ◌⊎◌, ◌≤◌, ℕ, suc, Err, IfOk, IfErr, MatchResult, OnOk, OnErr, Option, is_ok};
 ghost use Rattle.ob_store.specs.Calls.{Serves, IsStoreFault};
+ghost use Rattle.ob_pads.specs.Lives.{LeavesUnopened, Opens};
 ghost use Rattle.ob_stand.specs.Stands.{RingStanding, Stands};
 ghost use Rattle.ob_recover.specs.Finds.{IsFoundInRing, ObeysFound};
 ghost use Rattle.ob_twin.specs.Keyed.{tagging};
@@ -161,6 +162,10 @@ pub fn prepare<S: Store, T: Tape, W: Watch>(
         → IsLeftAt keys.now p.now word_of s pending (S.disk store.old).cells
         → OpensInLife keys.now lanes p.now word_of s pending (S.disk store.old)
         (S.disk store.new) (W.trace watch.old) (W.trace watch.new) (is_ok result) }
+    // In the store's life over its pads it is an act that gives a sealer, or that opens nothing.
+    ensures act { (S.disk store.new).tells → MatchResult result
+        (λ opening. Opens keys.now (S.disk store.old) (S.disk store.new) opening.sealer)
+        (λ refused. LeavesUnopened keys.now (S.disk store.old) (S.disk store.new)) }
 {
     let mut rooms: Rooms<S::Lane> = match rooms_for(alloc, p, lanes) {
         Ok(rooms) => rooms,

@@ -21,6 +21,7 @@ use Rattle.ob_vault.specs.OpeningActs.{OpensInLife}
 use Rattle.ob_vault.proofs.ActLaws.{all_acts, found_acts, opens_nothing, reads_told}
 use Rattle.ob_vault.proofs.FaultLaws.{all_does, all_faults, all_refusals, all_writes, find_does, find_fault, find_refusal, find_standing, find_writes}
 use Rattle.ob_vault.proofs.OpenedLaws.{found_same}
+use Rattle.ob_vault.proofs.PadLaws.{act_of, unopened_by}
 use Rattle.ob_vault.proofs.StoodLaws.{all_standing}
 use Rattle.ob_vault.proofs.WholeLaws.{all_leaves, all_opened, all_tapes, tape_of}
 use Rattle.ob_vault.proofs.preparing.prepare.Goals as goal
@@ -207,3 +208,21 @@ returns-in-Err-clause-tape_err g c = inl refl
 
 pub returns-in-Err-find-clause-tape_err : goal.returns-in-Err-find-clause-tape_err
 returns-in-Err-find-clause-tape_err g c = inl refl
+
+-- ---- an act of the store's life over its pads
+
+pub returns-in-Err-clause-act : goal.returns-in-Err-clause-act
+returns-in-Err-clause-act g c = λ tells.
+    let store = c.args.store.now in
+    unopened_by g.S.Store.disk c.args.keys.now c.args.p.now store store (g.met.S.Store.only_now store) (goes_same (g.S.Store.disk store)) tells (returns-in-Err-clause-leaves g c)
+
+pub returns-in-Err-find-clause-act : goal.returns-in-Err-find-clause-act
+returns-in-Err-find-clause-act g c = λ tells.
+    let store = c.args.store.now in
+    unopened_by g.S.Store.disk c.args.keys.now c.args.p.now store c.find.new.store (g.met.S.Store.only_now store) c.in-Err-find.ensures.serves.goes tells (returns-in-Err-find-clause-leaves g c)
+
+pub returns-clause-act : goal.returns-clause-act
+returns-clause-act g c = λ tells.
+    let store = c.args.store.now in
+    act_of g.S.Store.disk c.args.keys.now c.args.p.now store c.open_found.new.store (g.met.S.Store.only_now store) (returns-clause-serves g c).goes tells c.args.lanes (g.W.Watch.trace c.args.watch.now) (g.W.Watch.trace c.open_found.new.watch)
+    c.open_found.result (returns-clause-opened g c) (returns-clause-leaves g c)

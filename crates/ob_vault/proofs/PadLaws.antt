@@ -1,6 +1,6 @@
--- Openings of a ring store as acts.
+-- A format and an opening as acts of the store's life over its pads.
 use Rattle.std.proofs.Common.{◌≡◌, ◌⊎◌, inl, inr, ⊎_elim, ℕ, suc, Result, Ok, Err, OnOk, OnErr, sym, ap, ◌∙◌, subst}
-use Rattle.std.specs.Prelude.{IfOk}
+use Rattle.std.specs.Prelude.{IfOk, MatchResult}
 use mathlib.Core.Path.{fun_ext}
 use Rattle.ob_base.specs.declared.params.Params.{Params}
 use Rattle.ob_base.specs.declared.fault.Fault.{Fault}
@@ -14,10 +14,10 @@ use Rattle.ob_seal.specs.declared.keys.Keys.{Keys}
 use Rattle.ob_twin.specs.Keyed.{tagging}
 use Rattle.ob_twin.specs.Register.{OldOrNew}
 use Rattle.ob_pads.specs.Lives.{IsAtGeneration, IsFormattedStore, LeavesUnopened, Opens}
-use Rattle.ob_recover.proofs.FindLaws.{number_found}
 use Rattle.ob_stand.specs.Stands.{RingStanding, Stands}
 use Rattle.ob_vault.specs.OpeningRuns.{IsRingOpened, OpeningLeaves, OpensFrom}
 use Rattle.ob_vault.specs.declared.opening.Opening.{Opening}
+use Rattle.ob_vault.proofs.OpenedLaws.{generation_is}
 
 module _ {S : Type 0} (disk : S → Disk) (keys : Keys) (p : Params) (old new : S) (only : (c : Image) → (disk old).left_since (disk old).moment c → (disk old).may_leave c) where
   -- what an act that gives out no sealer leaves, from a generation on
@@ -46,7 +46,7 @@ module _ {S : Type 0} (disk : S → Disk) (keys : Keys) (p : Params) (old new : 
     opened_of most before later o is begins =
         let found_in = (is.told told).found_in in
         let here : (g : ℕ) → IsAtGeneration keys g (disk old).cells → (is.found).generation ≡ g =
-        λ g stands. number_found keys 1 (disk old).cells g (is.found).generation stands (found_in.registers).generation_whole (found_in.registers).generation_counts in
+        λ g stands. generation_is keys p (disk old).cells is.found g found_in stands in
         record {
           goes = goes;
           tells = tells;
@@ -62,13 +62,21 @@ module _ {S : Type 0} (disk : S → Disk) (keys : Keys) (p : Params) (old new : 
     opens_of most before later (Ok o) is begins = opened_of most before later o is begins
     opens_of most before later (Err f) is begins = tt
 
-    pub unopened_of : {L : Type 0} (r : Result (Opening L) Fault) → OpeningLeaves disk keys p old new r → OnErr r (LeavesUnopened keys (disk old) (disk new))
-    unopened_of (Ok o) begins = tt
-    unopened_of (Err f) begins = record {
+    pub unopened_by : Passes Same (disk old) (disk new) ⊎ OpensFrom disk keys p old new → LeavesUnopened keys (disk old) (disk new)
+    unopened_by leaves = record {
       goes = goes;
       tells = tells;
-      crash = λ g stands. ⊎_elim (λ passes. reads_leave g (disk new) passes) (λ begun. begun_leaves g told stands begun) begins;
+      crash = λ g stands. ⊎_elim (λ passes. reads_leave g (disk new) passes) (λ begun. begun_leaves g told stands begun) leaves;
     }
+
+    pub unopened_of : {L : Type 0} (r : Result (Opening L) Fault) → OpeningLeaves disk keys p old new r → OnErr r (LeavesUnopened keys (disk old) (disk new))
+    unopened_of (Ok o) leaves = tt
+    unopened_of (Err f) leaves = unopened_by leaves
+
+    pub act_of : {L : Type 0} (most : ℕ) (before later : Trace) (r : Result (Opening L) Fault) → IfOk r (IsRingOpened disk keys most p old new before later) → OpeningLeaves disk keys p old new r
+        → MatchResult r (λ o. Opens keys (disk old) (disk new) o.sealer) (λ refused. LeavesUnopened keys (disk old) (disk new))
+    act_of most before later (Ok o) is begins = opened_of most before later o is begins
+    act_of most before later (Err f) is leaves = unopened_by leaves
 
 -- a store that was formatted stands at generation 1
 module _ {S : Type 0} (disk : S → Disk) (keys : Keys) (p : Params) (old new : S) (goes : GoesOn (disk old) (disk new)) (told : (disk old).tells) (leaves : (disk old).leaves) (s : RingStanding) (one : s.generation ≡ 1) where
