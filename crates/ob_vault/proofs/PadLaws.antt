@@ -1,5 +1,5 @@
 -- A format and an opening as acts of the store's life over its pads.
-use Rattle.std.proofs.Common.{◌≡◌, ◌⊎◌, inl, inr, ⊎_elim, ℕ, suc, Result, Ok, Err, OnOk, OnErr, sym, ap, ◌∙◌, subst}
+use Rattle.std.proofs.Common.{◌≡◌, ◌⊎◌, inl, inr, ⊎_elim, ℕ, suc, List, Result, Ok, Err, sym, ap, ◌∙◌, subst}
 use Rattle.std.specs.Prelude.{IfOk, MatchResult}
 use mathlib.Core.Path.{fun_ext}
 use Rattle.ob_base.specs.declared.params.Params.{Params}
@@ -14,7 +14,8 @@ use Rattle.ob_seal.specs.declared.keys.Keys.{Keys}
 use Rattle.ob_twin.specs.Keyed.{tagging}
 use Rattle.ob_twin.specs.Register.{OldOrNew}
 use Rattle.ob_pads.specs.Lives.{IsAtGeneration, IsFormattedStore, LeavesUnopened, Opens}
-use Rattle.ob_stand.specs.Stands.{RingStanding, Stands}
+use Rattle.ob_stand.specs.Stands.{Stands}
+use Rattle.ob_vault.specs.Formats.{formatted_standing}
 use Rattle.ob_vault.specs.OpeningRuns.{IsRingOpened, OpeningLeaves, OpensFrom}
 use Rattle.ob_vault.specs.declared.opening.Opening.{Opening}
 use Rattle.ob_vault.proofs.OpenedLaws.{generation_is}
@@ -58,10 +59,6 @@ module _ {S : Type 0} (disk : S → Disk) (keys : Keys) (p : Params) (old new : 
           crash = λ g stands. begun_leaves g told stands begins;
         }
 
-    pub opens_of : {L : Type 0} (most : ℕ) (before later : Trace) (r : Result (Opening L) Fault) → IfOk r (IsRingOpened disk keys most p old new before later) → OpeningLeaves disk keys p old new r → IfOk r (λ o. Opens keys (disk old) (disk new) o.sealer)
-    opens_of most before later (Ok o) is begins = opened_of most before later o is begins
-    opens_of most before later (Err f) is begins = tt
-
     pub unopened_by : Passes Same (disk old) (disk new) ⊎ OpensFrom disk keys p old new → LeavesUnopened keys (disk old) (disk new)
     unopened_by leaves = record {
       goes = goes;
@@ -69,17 +66,12 @@ module _ {S : Type 0} (disk : S → Disk) (keys : Keys) (p : Params) (old new : 
       crash = λ g stands. ⊎_elim (λ passes. reads_leave g (disk new) passes) (λ begun. begun_leaves g told stands begun) leaves;
     }
 
-    pub unopened_of : {L : Type 0} (r : Result (Opening L) Fault) → OpeningLeaves disk keys p old new r → OnErr r (LeavesUnopened keys (disk old) (disk new))
-    unopened_of (Ok o) leaves = tt
-    unopened_of (Err f) leaves = unopened_by leaves
-
     pub act_of : {L : Type 0} (most : ℕ) (before later : Trace) (r : Result (Opening L) Fault) → IfOk r (IsRingOpened disk keys most p old new before later) → OpeningLeaves disk keys p old new r
         → MatchResult r (λ o. Opens keys (disk old) (disk new) o.sealer) (λ refused. LeavesUnopened keys (disk old) (disk new))
     act_of most before later (Ok o) is begins = opened_of most before later o is begins
     act_of most before later (Err f) is leaves = unopened_by leaves
 
 -- a store that was formatted stands at generation 1
-module _ {S : Type 0} (disk : S → Disk) (keys : Keys) (p : Params) (old new : S) (goes : GoesOn (disk old) (disk new)) (told : (disk old).tells) (leaves : (disk old).leaves) (s : RingStanding) (one : s.generation ≡ 1) where
-  pub formatted_of : (r : Result (Unit {0}) Fault) → OnOk r ((disk old).tells → (disk new).tells) → OnOk r ((c : Image) → (disk new).may_leave c → Stands keys p s c) → OnOk r (IsFormattedStore disk keys new)
-  formatted_of (Ok done) tells images = record { tells = tells told; leaves = goes.leaves.0 leaves; images = λ c left. subst (λ n. IsAtGeneration keys n c) one (images c left).generation }
-  formatted_of (Err f) tells images = tt
+pub formatted_store : {S : Type 0} (disk : S → Disk) (keys : Keys) (p : Params) (drawn : List ℕ) (new : S) → (disk new).tells → (disk new).leaves
+    → ((c : Image) → (disk new).may_leave c → Stands keys p (formatted_standing p drawn) c) → IsFormattedStore disk keys new
+formatted_store disk keys p drawn new tells leaves images = record { tells = tells; leaves = leaves; images = λ c left. (images c left).generation }

@@ -1,4 +1,4 @@
-use Rattle.std.proofs.Common.{[], Ok, ap, sym, subst, ◌∙◌, ◌≡◌, ◌⊎◌, inl, None, refl, arith}
+use Rattle.std.proofs.Common.{[], ap, sym, subst, ◌∙◌, ◌≡◌, ◌⊎◌, inl, None, refl, arith}
 use mathlib.Core.Path.{fun_ext}
 use Rattle.ob_base.specs.declared.fault.Fault.TheVariants.{Memory, StoreFault}
 use Rattle.ob_store.specs.Disk.{Image}
@@ -8,7 +8,7 @@ use Rattle.ob_schedule.specs.Schedule.{format_notes}
 use Rattle.ob_stand.specs.Stands.{Stands}
 use Rattle.ob_vault.specs.Formats.{formatted_standing, BeginsFirst, IsRingLaid, RingFormatLeaves}
 use Rattle.ob_vault.proofs.FirstLives.{first_stands}
-use Rattle.ob_vault.proofs.PadLaws.{formatted_of}
+use Rattle.ob_vault.proofs.PadLaws.{formatted_store}
 use Rattle.ob_store.specs.Calls.{IsFailed, IsStoreFault}
 use Rattle.ob_store.specs.Images.{LeavesOnly}
 use Rattle.ob_store.proofs.Moments.{started}
@@ -40,9 +40,8 @@ returns-in-Ok-lay-clause-life g c = λ tells word_of slot image are left.
 
 pub returns-in-Ok-lay-clause-act : goal.returns-in-Ok-lay-clause-act
 returns-in-Ok-lay-clause-act g c = λ tells leaves.
-    let p = c.args.p.now in
     let serves = c.in-Ok-lay.ensures.serves in
-    formatted_of g.S.Store.disk c.args.keys.now p c.args.store.now c.lay.new.store serves.goes tells leaves (formatted_standing p (g.T.Tape.drawn c.lay.new.tape)) refl (Ok tt) serves.tells (returns-in-Ok-lay-clause-images g c tells)
+    formatted_store g.S.Store.disk c.args.keys.now c.args.p.now (g.T.Tape.drawn c.lay.new.tape) c.lay.new.store (serves.tells tells) (serves.goes.leaves.0 leaves) (returns-in-Ok-lay-clause-images g c tells)
 
 pub returns-in-Err-clause-serves : goal.returns-in-Err-clause-serves
 returns-in-Err-clause-serves g c = record { goes = goes_same (g.S.Store.disk c.args.store.now); out = omega arith; tells = tt; cause = λ blamed. absurd blamed }
