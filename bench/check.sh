@@ -2,6 +2,7 @@
 # Measures a checkpoint of 65,536 keys (33,163 cells) written, and read, beside as many cells sealed,
 # and opened, in the same program; and a batch of 1,000 jobs beside 1,000 cells opened. Each key lies
 # in the bucket of its leaf. The store is in memory, on one thread.
+# The set of 65,536 keys is one for measuring: with all keys present its stash gets too full (docs/OPERATING).
 # It needs rt, and writes only to a temporary folder. Times are of the processor.
 set -euo pipefail
 top=$(cd "$(dirname "$0")/.." && pwd)

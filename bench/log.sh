@@ -2,6 +2,7 @@
 # Measures an append of a record of 64 places (9 body cells) beside 9 cells sealed, and a read of 16
 # open records of 64 places beside 144 cells opened, in the same program. Each place asks for a key.
 # The store is in memory, on one thread.
+# The set of 65,536 keys is one for measuring: with all keys present its stash gets too full (docs/OPERATING).
 # It needs rt, and writes only to a temporary folder. Times are of the processor.
 set -euo pipefail
 top=$(cd "$(dirname "$0")/.." && pwd)

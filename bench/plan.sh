@@ -3,6 +3,7 @@
 # 65,536 keys, levels 0 to 14, 4 real and 6 dummy slots, 64 places a batch. Each epoch puts 256 keys
 # more, and the batches ask for keys that were put. It needs rt, and writes only to a temporary
 # folder. Nothing is read or settled: planning alone is timed.
+# The set of 65,536 keys is one for measuring: with all keys present its stash gets too full (docs/OPERATING).
 set -euo pipefail
 top=$(cd "$(dirname "$0")/.." && pwd)
 work=$(mktemp -d)

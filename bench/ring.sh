@@ -10,6 +10,7 @@
 # the room that was made has been used.
 # What is aimed at: 1.5 of the seals and opens; 9 times the plain vault's epoch at 256 keys and 1.0 at
 # 65,536; filling at most 3 times the sealing where all keys are present; 32 MB, and no growth.
+# The set of 65,536 keys is one for measuring: with all keys present its stash gets too full (docs/OPERATING).
 # It needs rt and GNU time, and writes only to a temporary folder. Times are of the processor.
 set -euo pipefail
 top=$(cd "$(dirname "$0")/.." && pwd)

@@ -5,6 +5,7 @@
 # the store's cells. Then what a store takes of levels 0 to 16 with 16 real and 32 dummy slots.
 # What is aimed at: 1.3 of the seals and of the opens, no longer than the plain store's, 32 MB.
 # The stores are in memory, on one thread, without a record.
+# The set of 65,536 keys is one for measuring: with all keys present its stash gets too full (docs/OPERATING).
 # It needs rt and GNU time, and writes only to a temporary folder. Times are of the processor, those in
 # the kernel (which hands out the pages of memory) apart.
 set -euo pipefail
