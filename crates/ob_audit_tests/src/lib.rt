@@ -2,10 +2,10 @@
 #![tactic(auto)]
 
 #[cfg(test)]
-mod follow;
-#[cfg(test)]
 mod lines;
 #[cfg(test)]
 mod random;
+#[cfg(test)]
+mod recipes;
 #[cfg(test)]
 mod traces;

@@ -1,83 +1,52 @@
-//! Tests: lines are read, and what an audit answers is written.
+//! Tests: lines are read.
 
-use ob_audit::{Audit, line_of, verdict_text};
-use ob_follow::{Line, Wanted};
-use ob_mem::MemSink;
+use ob_audit::line_of;
+use ob_follow::Line;
 use ob_store::Note;
 
-// Texts that spell no line.
-const BAD: [&str; 14] = [
-    "",
-    "P 9 2 2 3 2 2 2 2 8",
-    "P 8 2 2 3 2 2 2 2 08",
-    "P 8 2 2 3 2 2 2 2 8 ",
-    "P 8 2 2 3 2 2 2 8",
-    "W 0\r",
-    "W 00",
-    "W",
-    "W ",
-    "w 0",
-    "W +1",
-    "W 18446744073709551616",
-    "S ",
-    "R  1",
+// Texts, and the letter and the number of the line that each spells; a `?` where it spells none.
+static LINES: [(&str, u8, u64); 20] = [
+    ("", b'?', 0),
+    ("P 9 2 2 3 2 2 2 2 8", b'?', 0),
+    ("P 8 2 2 3 2 2 2 2 08", b'?', 0),
+    ("P 8 2 2 3 2 2 2 2 8 ", b'?', 0),
+    ("P 8 2 2 3 2 2 2 8", b'?', 0),
+    ("W 0\r", b'?', 0),
+    ("W 00", b'?', 0),
+    ("W", b'?', 0),
+    ("W ", b'?', 0),
+    ("w 0", b'?', 0),
+    ("W +1", b'?', 0),
+    ("W 18446744073709551616", b'?', 0),
+    ("S ", b'?', 0),
+    ("R  1", b'?', 0),
+    ("W 18446744073709551615", b'W', 18446744073709551615),
+    ("R 7", b'R', 7),
+    ("L 0", b'L', 0),
+    ("S", b'S', 0),
+    ("O", b'O', 0),
+    ("P 8 2 2 3 2 2 2 2 8", b'P', 8),
 ];
 
-#[test]
-fn lines_are_read(rt: HostRuntime) {
-    for text in BAD {
-        assert!(rt; matches!(line_of(text.as_bytes()), Line::Bad), "{text}");
+// A line's letter and its number; of a first line the number of keys.
+fn spelled(line: Line) -> (u8, u64) {
+    match line {
+        Line::Start(p) => (b'P', u64::from(p.keys)),
+        Line::Open => (b'O', 0),
+        Line::Note(Note::Label(leaf)) => (b'L', leaf),
+        Line::Note(Note::Read(cell)) => (b'R', cell),
+        Line::Note(Note::Write(cell)) => (b'W', cell),
+        Line::Note(Note::Sync) => (b'S', 0),
+        Line::Bad => (b'?', 0),
     }
-    let last = line_of(b"W 18446744073709551615");
-    assert!(rt; matches!(last, Line::Note(Note::Write(18446744073709551615))));
-    assert!(rt; matches!(line_of(b"L 0"), Line::Note(Note::Label(0))));
-    assert!(rt; matches!(line_of(b"S"), Line::Note(Note::Sync)));
-    assert!(rt; matches!(line_of(b"O"), Line::Open));
-    assert!(rt; matches!(line_of(b"P 8 2 2 3 2 2 2 2 8"), Line::Start(_)));
 }
 
 #[test]
-fn answers_are_written(rt: HostRuntime) {
-    let breaks = |line: u64, wanted: Wanted| Audit::Breaks {
-        line,
-        wanted,
-        found: Line::Bad,
-    };
-    let answers = [
-        (Audit::Fits, "fits\n"),
-        (
-            breaks(113, Wanted::Slot { bucket: 0 }),
-            "breaks line 113 wanted slot of bucket 0\n",
-        ),
-        (breaks(108, Wanted::Label), "breaks line 108 wanted label\n"),
-        (
-            breaks(173, Wanted::Line(Note::Sync)),
-            "breaks line 173 wanted S\n",
-        ),
-        (breaks(1, Wanted::Start), "breaks line 1 wanted start\n"),
-        (
-            breaks(
-                187,
-                Wanted::Either {
-                    first: 17,
-                    second: 28,
-                },
-            ),
-            "breaks line 187 wanted R 17 or R 28\n",
-        ),
-        (
-            breaks(139, Wanted::LabelOr { cell: 13 }),
-            "breaks line 139 wanted label or W 13\n",
-        ),
-        (
-            breaks(165, Wanted::EitherWrite { gate: 4, body: 3 }),
-            "breaks line 165 wanted W 4 or W 3\n",
-        ),
-        (breaks(2, Wanted::End), "breaks line 2 wanted end\n"),
-    ];
-    for (answer, text) in answers {
-        let mut sink = MemSink::new(rt.alloc(), 100, Vec::new(rt.alloc())).expect(&rt, "memory");
-        assert!(rt; verdict_text(&answer, &mut sink).is_ok());
-        assert!(rt; sink.written() == text.as_bytes(), "{text}");
+fn lines_are_read(rt: HostRuntime) {
+    for &(text, letter, number) in &LINES {
+        assert!(rt;
+            spelled(line_of(text.as_bytes())) == (letter, number),
+            "{text}"
+        );
     }
 }

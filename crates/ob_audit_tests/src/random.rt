@@ -1,21 +1,23 @@
 //! Tests: at places of traces that are drawn at random just those lines may stand that are wanted.
 
-use crate::follow::{is_same, small, trace_of};
+use crate::recipes::trace_of;
+use ob_audit::line_of;
 use ob_base::Params;
 use ob_follow::{Line, Wanted};
 use ob_plain_follow::FollowPlain;
 use ob_store::Note;
 use std::alloc::{AllocError, Global};
+use std::process::Abort;
 
 // Traces in which no epoch has ended for sure, so that each bucket lies in its first home.
-const TRACES: [&str; 6] = [
-    "lines 1-177",
-    "lines 1-73;lines 1-73;lines 74-177",
-    "lines 1-111;opens;W 4;S;W 3;S;W 4;S;L 0;R 41;R 46;R 56;L 0;R 42;R 47;R 57;W 15;S;W 16;S;L 2;\
-     R 43;R 39;R 40;R 50",
-    "lines 1-111;opens;W 4;opens;W 3;S;W 4;S;L 0;R 41;R 46",
-    "lines 1-106;opens;W 4;S;W 3;S;W 4;S;W 13;S;W 14;S;L 3;R 40;R 50;R 71;L 1",
-    "lines 1-176;O;R 0-8;R 28;O;R 0-8;R 17",
+static TRACES: [&str; 6] = [
+    "1-177",
+    "1-73;1-73;74-177",
+    "1-111;74-99;W 4;S;W 3;S;W 4;S;L 0;R 41;R 46;R 56;L 0;R 42;R 47;R 57;W 15;S;W 16;S;L 2;R 43;\
+     R 39;R 40;R 50",
+    "1-111;74-99;W 4;74-99;W 3;S;W 4;S;L 0;R 41;R 46",
+    "1-106;74-99;W 4;S;W 3;S;W 4;S;W 13;S;W 14;S;L 3;R 40;R 50;R 71;L 1",
+    "1-176;74-83;R 28;74-84",
 ];
 
 // A label, a read or a write of a low number.
@@ -28,14 +30,22 @@ fn candidate(i: u64) -> Note {
     }
 }
 
+fn is_read(line: &Line, cell: u64) -> bool {
+    match *line {
+        Line::Note(Note::Read(read)) => read == cell,
+        _ => false,
+    }
+}
+
 // Whether the cell is a slot of a bucket's first home that none of these lines has read.
 fn is_fresh(lines: &[Line], bucket: u32, cell: u64) -> bool {
     let first = 39 + 5 * bucket as u64;
-    let is_read = |line: &Line| match *line {
-        Line::Note(Note::Read(read)) => read == cell,
-        _ => false,
-    };
-    first <= cell && cell < first + 5 && !lines.iter().any(is_read)
+    for line in lines {
+        if is_read(line, cell) {
+            return false;
+        }
+    }
+    first <= cell && cell < first + 5
 }
 
 // Whether the line is one of those that are wanted behind these.
@@ -52,82 +62,101 @@ fn is_named(wanted: Wanted, lines: &[Line], note: Note) -> bool {
     }
 }
 
-// What is known behind these lines, if each may stand where it does.
-fn behind(alloc: Global, p: &Params, lines: &[Line]) -> Result<Option<FollowPlain>, AllocError> {
-    let mut known = FollowPlain::new(alloc, p)?;
-    for line in lines.iter().skip(1) {
-        if known.next(alloc, line)?.is_some() {
-            return Ok(None);
-        }
+// A number for what is wanted beside a note, and the numbers that it tells.
+fn told(wanted: Wanted) -> (u8, u64, u64) {
+    match wanted {
+        Wanted::Start => (0, 0, 0),
+        Wanted::Label => (1, 0, 0),
+        Wanted::End => (2, 0, 0),
+        Wanted::Slot { bucket } => (3, u64::from(bucket), 0),
+        Wanted::LabelOr { cell } => (4, cell, 0),
+        Wanted::Either { first, second } => (5, first, second),
+        Wanted::EitherWrite { gate, body } => (6, gate, body),
+        Wanted::Line(Note::Label(leaf)) => (7, leaf, 0),
+        Wanted::Line(Note::Read(cell)) => (8, cell, 0),
+        Wanted::Line(Note::Write(cell)) => (9, cell, 0),
+        Wanted::Line(Note::Sync) => (10, 0, 0),
     }
-    Ok(Some(known))
 }
 
-// Whether the note may stand behind these lines just where it is one of those that are wanted; else
-// the same is wanted as before.
-fn is_told(
-    alloc: Global,
+// What is known behind these lines, each of which may stand where it does.
+fn behind<R: AllocGlobal + Abort>(rt: &R, p: &Params, lines: &[Line]) -> FollowPlain {
+    let mut known = FollowPlain::new(rt.alloc(), p).expect(rt, "memory");
+    for line in lines.iter().skip(1) {
+        let refused = known.next(rt.alloc(), line).expect(rt, "memory");
+        assert!(rt; refused.is_none());
+    }
+    known
+}
+
+// A note that isn't wanted is refused for the same as before; one that is wanted may stand there.
+fn expect_told<R: AllocGlobal + Abort>(
+    rt: &R,
     p: &Params,
     lines: &[Line],
     known: &mut FollowPlain,
     wanted: Wanted,
     note: Note,
-) -> Result<bool, AllocError> {
+) {
     let line = Line::Note(note);
-    if !is_named(wanted, lines, note) {
-        return match known.next(alloc, &line)? {
-            Some(again) => Ok(is_same(again, wanted)),
-            None => Ok(false),
-        };
-    }
-    match behind(alloc, p, lines)? {
-        Some(mut again) => Ok(again.next(alloc, &line)?.is_none()),
-        None => Ok(false),
+    if is_named(wanted, lines, note) {
+        let refused = behind(rt, p, lines)
+            .next(rt.alloc(), &line)
+            .expect(rt, "memory");
+        assert!(rt; refused.is_none());
+    } else {
+        match known.next(rt.alloc(), &line).expect(rt, "memory") {
+            Some(again) => assert!(rt; told(again) == told(wanted)),
+            None => assert!(rt; false),
+        }
     }
 }
 
-// Whether of many notes just those may stand behind these lines that are wanted, and the next line
-// is one of them.
-fn are_told(
-    alloc: Global,
+// Of many notes just those may stand behind these lines that are wanted, and the next line is one
+// of them.
+fn expect_all_told<R: AllocGlobal + Abort>(
+    rt: &R,
     p: &Params,
     lines: &[Line],
     next: Option<&Line>,
-) -> Result<bool, AllocError> {
-    let Some(mut known) = behind(alloc, p, lines)? else {
-        return Ok(false);
-    };
-    let Some(wanted) = known.next(alloc, &Line::Bad)? else {
-        return Ok(false);
-    };
+) {
+    let mut known = behind(rt, p, lines);
+    let refused = known.next(rt.alloc(), &Line::Bad).expect(rt, "memory");
+    let wanted = refused.expect(rt, "a refused line");
     for i in 0..330 {
-        if !is_told(alloc, p, lines, &mut known, wanted, candidate(i))? {
-            return Ok(false);
-        }
+        expect_told(rt, p, lines, &mut known, wanted, candidate(i));
     }
-    match next {
-        Some(Line::Note(note)) => Ok(is_named(wanted, lines, *note)),
-        _ => Ok(true),
+    if let Some(Line::Note(note)) = next {
+        assert!(rt; is_named(wanted, lines, *note));
     }
 }
 
-// The same behind a front of a trace, which is drawn by a number.
-fn are_told_at(alloc: Global, p: &Params, recipe: &str, number: u64) -> Result<bool, AllocError> {
-    let lines = trace_of(alloc, p, recipe)?;
-    if lines.is_empty() {
-        return Ok(false);
+// The lines of a recipe.
+fn lines_of(alloc: Global, recipe: &str) -> Result<Vec<Line>, AllocError> {
+    let trace = trace_of(alloc, recipe)?;
+    let mut lines = Vec::new(alloc);
+    for text in trace.lines() {
+        lines.push(line_of(text.as_bytes()))?;
     }
+    Ok(lines)
+}
+
+// The same behind a front of a trace, which is drawn by a number.
+fn expect_told_at<R: AllocGlobal + Abort>(rt: &R, p: &Params, number: u64) {
+    let recipe = TRACES[(number % 6) as usize];
+    let lines = lines_of(rt.alloc(), recipe).expect(rt, "memory");
+    assert!(rt; lines.len() > 10, "{recipe}");
     let drawn = number.wrapping_mul(11400714819323198485) >> 32;
     let front = 1 + drawn as usize % lines.len();
-    are_told(alloc, p, &lines[..front], lines.get(front))
+    expect_all_told(rt, p, &lines[..front], lines.get(front));
 }
 
 #[test]
 fn just_the_wanted_lines_may_stand(rt: HostRuntime) {
-    let p = small().expect(&rt, "parameters in range");
-    for number in 0..90u64 {
-        let recipe = TRACES[(number % 6) as usize];
-        let told = are_told_at(rt.alloc(), &p, recipe, number).expect(&rt, "memory");
-        assert!(rt; told, "{recipe}, {number}");
+    let p = Params::new(8, 2, 2, 3, 2, 2, 2, 2, 8)
+        .ok()
+        .expect(&rt, "parameters in range");
+    for number in 0..90 {
+        expect_told_at(&rt, &p, number);
     }
 }
