@@ -1,5 +1,8 @@
 //! Worked cases of a desk: calls as data, each with the answer that is wanted.
 
+// They stand here, and not in a crate of tests: whether a call may be made depends on who has asked
+// to commit and on the key that a get waits for, and no public call tells of these.
+
 use crate::{Beat, Begun, Desk, Done, Eager, Got, Hasty, Look, Txn};
 use ob_base::{Fault, Key, Memory, Params, Value, Write};
 use ob_serial::{EpochRecord, Outcome, Why};
