@@ -35,11 +35,11 @@ opening_counts p c epoch gates o =
 
 -- ---- an end
 
-fills_counter : (p : Params) (t : FlatTable) (us : List ℕ) → (fills p t us).counter ≡ t.counter
+pub fills_counter : (p : Params) (t : FlatTable) (us : List ℕ) → (fills p t us).counter ≡ t.counter
 fills_counter p t [] = refl
 fills_counter p t (u ∷ us) = fills_counter p (fill p t u) us
 
-writes_counter : (t : FlatTable) (ws : List (ℕ × Option ℕ)) → (after_writes t ws).counter ≡ t.counter
+pub writes_counter : (t : FlatTable) (ws : List (ℕ × Option ℕ)) → (after_writes t ws).counter ≡ t.counter
 writes_counter t [] = refl
 writes_counter t (w ∷ ws) = writes_counter (write t w.0 w.1) ws
 

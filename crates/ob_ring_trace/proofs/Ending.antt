@@ -49,14 +49,14 @@ either_counter : (b : Bool) (x y : FlatTable) (n : ℕ) → x.counter ≡ n → 
 either_counter true x y n e f = e
 either_counter false x y n e f = f
 
-visits_counter : (p : Params) (t : FlatTable) (own : Spot) (us : List ℕ) → (visits p t own us).counter ≡ t.counter
+pub visits_counter : (p : Params) (t : FlatTable) (own : Spot) (us : List ℕ) → (visits p t own us).counter ≡ t.counter
 visits_counter p t own [] = refl
 visits_counter p t own (u ∷ us) =
     let t1 : FlatTable = mark_index t u (index_shown p t own u) in
     visits_counter p (visit p t own u) own us
     ∙ either_counter (t.lifted u) t (cond (reads p t u + 1 == p.dummies) (lift t1 u) t1) t.counter refl (either_counter (reads p t u + 1 == p.dummies) (lift t1 u) t1 t.counter refl refl)
 
-batch_counter : (p : Params) (t : FlatTable) (asked : List (Option ℕ × ℕ)) → (after_batch p t asked).counter ≡ t.counter
+pub batch_counter : (p : Params) (t : FlatTable) (asked : List (Option ℕ × ℕ)) → (after_batch p t asked).counter ≡ t.counter
 batch_counter p t [] = refl
 batch_counter p t (a ∷ rest) = batch_counter p (after_place p t a.0 a.1) rest ∙ visits_counter p (fetch t a.0 a.1) (spot_of (asked_row t a.0)) (path p (leaf_shown t a.0 a.1))
 

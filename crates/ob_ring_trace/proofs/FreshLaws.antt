@@ -24,7 +24,7 @@ labels_formatted p word_of slot = record {
   named = λ l h. absurd h;
 }
 
-slots_formatted : (p : Params) (word_of : WordId → ℕ) (slot : ℕ → ℕ → ℕ) → 0 < p.dummies → ((u : ℕ) → IsRanking (p.real + p.dummies) (slot u)) → AreSlotsSound p word_of (formatted_life slot)
+pub slots_formatted : (p : Params) (word_of : WordId → ℕ) (slot : ℕ → ℕ → ℕ) → 0 < p.dummies → ((u : ℕ) → IsRanking (p.real + p.dummies) (slot u)) → AreSlotsSound p word_of (formatted_life slot)
 slots_formatted p word_of slot some ranked = record {
   count = λ u. 0;
   seen = record { shown = λ u j. false; next = λ u. 0 };
@@ -66,7 +66,7 @@ lives_are_fresh p word_of slot acts some ranked life =
 -- ---- attempts
 
 module _ (p : Params) (word_of : WordId → ℕ) where
-  phase_labels_more : (e b : ℕ) (book : ℕ → Option WordId) (log more : List LifeBatch) (n : ℕ) → n < length log → phase_labels p word_of e b book (log ++ more) n ≡ phase_labels p word_of e b book log n
+  pub phase_labels_more : (e b : ℕ) (book : ℕ → Option WordId) (log more : List LifeBatch) (n : ℕ) → n < length log → phase_labels p word_of e b book (log ++ more) n ≡ phase_labels p word_of e b book log n
   phase_labels_more e b book [] more n h = absurd (omega arith)
   phase_labels_more e b book (r ∷ log) more zero h = refl
   phase_labels_more e b book (r ∷ log) more (suc n) h = phase_labels_more e (b + 1) (book_after book (batch_places r)) log more n (omega arith)

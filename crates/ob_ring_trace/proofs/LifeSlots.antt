@@ -26,7 +26,7 @@ use Rattle.ob_ring_trace.proofs.EndLaws.{EndLaw, end_law, count_ended, up_of}
 use Rattle.ob_ring_trace.proofs.SlotLaws.{AreSlotsApart, slots_step, slots_end, seen_ended}
 
 module _ (p : Params) (word_of : WordId → ℕ) where
-  leaf_low : (w : WordId) → leaf_of_word p word_of w < 2 ^ p.levels
+  pub leaf_low : (w : WordId) → leaf_of_word p word_of w < 2 ^ p.levels
   leaf_low w = mod-lt (word_of w) (pow_pos p.levels)
 
   leaves_low : (places : List (Option ℕ × WordId)) → AreLow p (leaves p word_of places)
@@ -37,7 +37,7 @@ module _ (p : Params) (word_of : WordId → ℕ) where
   put_low w None e = rw e (pow_pos p.levels)
   put_low w (Some x) e = rw e (leaf_low x)
 
-  puts_low : (ws : List (ℕ × Option WordId)) → ArePutsLow p (map (leaf_write p word_of) ws)
+  pub puts_low : (ws : List (ℕ × Option WordId)) → ArePutsLow p (map (leaf_write p word_of) ws)
   puts_low [] = tt
   puts_low (w ∷ ws) = (put_low w w.1 refl, puts_low ws)
 
