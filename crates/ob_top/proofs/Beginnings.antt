@@ -23,8 +23,7 @@ use Rattle.ob_start.specs.Heads.{IsHead}
 use Rattle.ob_store.proofs.Serving.{rose_later}
 use Rattle.ob_schedule.specs.Schedule.{format_notes}
 use Rattle.ob_store.specs.Told.{events_of}
-use Rattle.ob_ring_life.proofs.SealOpenings.{formatted_of}
-use Rattle.ob_store.specs.Calls.{GoesOn, IsStoreFault, Notes, NotesFirst}
+use Rattle.ob_store.specs.Calls.{IsStoreFault, Notes, NotesFirst}
 use Rattle.ob_store.specs.Disk.{Disk, Image}
 use Rattle.ob_store.specs.Images.{IsSynced}
 use Rattle.ob_store.specs.Lines.{Trace}
@@ -103,13 +102,6 @@ pub formatted : {S : Type 0} (disk : S → Disk) (keys : Keys) (p : Params) (dra
     → ((disk old).tells → (c : Image) → (disk new).may_leave c → stand.Stands keys p (formatted_standing p drawn) c) → ((disk old).tells → IsSynced (disk new)) → ((disk old).tells → (disk old).leaves → IsFormattedStore disk keys new)
     → ((disk old).tells → RingFormatted keys p (disk new)) → IsFormatted ring_kind ring_lives disk keys p old new
 formatted disk keys p drawn old new seen stands images durable begins life = record { made = (ring_formats disk).made keys p drawn old new seen stands images durable; begins = begins; begins_life = life }
-
--- as the call tells it
-pub whole_formatted : {S : Type 0} (disk : S → Disk) (keys : Keys) (p : Params) (drawn : List ℕ) (old new : S) → GoesOn (disk old) (disk new) → ((disk old).tells → (disk new).tells) → Notes (events_of (format_notes p)) (disk old).seen (disk new).seen
-    → ((disk old).tells → stand.Stands keys p (formatted_standing p drawn) (disk new).cells) → ((disk old).tells → (c : Image) → (disk new).may_leave c → stand.Stands keys p (formatted_standing p drawn) c) → ((disk old).tells → IsSynced (disk new))
-    → ((disk old).tells → RingFormatted keys p (disk new)) → IsFormatted ring_kind ring_lives disk keys p old new
-whole_formatted disk keys p drawn old new goes told seen stands images durable life =
-    formatted disk keys p drawn old new seen stands images durable (λ tells leaves. formatted_of disk keys p old new goes tells leaves (formatted_standing p drawn) refl (Ok tt) told (images tells)) life
 
 -- one that was refused
 pub format_refused : {S : Type 0} (disk : S → Disk) (keys : Keys) (p : Params) (old new : S) (before : Flow) (refused : Fault) → IsFormatFault refused → (IsStoreFault refused → Rose (disk old).faults (disk new).faults) → (refused ≡ fault.Memory → new ≡ old)

@@ -102,13 +102,13 @@ pub returns-in-Err-prepare-clause-lives : goal.returns-in-Err-prepare-clause-liv
 returns-in-Err-prepare-clause-lives g c =
     let head = c.in-Ok.ensures in
     let e = c.in-Err-prepare.ensures in
-    refused_lives (λ s. g.S.Store.disk s) g.met.S.Store.only_now c.args.keys.now c.args.store.now c.head.new.store head.serves.goes head.passes _ c.in-Ok.params c.prepare.new.store e.serves.goes c.prepare.result c.in-Err-prepare.fault e.leaves
+    refused_lives (λ s. g.S.Store.disk s) g.met.S.Store.only_now c.args.keys.now c.args.store.now c.head.new.store head.serves.goes head.passes c.prepare.new.store e.serves.goes e.act
 
 pub returns-in-Ok-prepare-clause-opens : goal.returns-in-Ok-prepare-clause-opens
 returns-in-Ok-prepare-clause-opens g c =
     let head = c.in-Ok.ensures in
     let e = c.in-Ok-prepare.ensures in
-    read_opened (λ s. g.S.Store.disk s) g.met.S.Store.only_now c.args.keys.now c.args.store.now c.head.new.store head.serves.goes head.passes _ c.in-Ok.params c.prepare.new.store e.serves.goes _ _ c.in-Ok-prepare.opening e.opened e.leaves
+    read_opened (λ s. g.S.Store.disk s) g.met.S.Store.only_now c.args.keys.now c.args.store.now c.head.new.store head.serves.goes head.passes c.prepare.new.store e.serves.goes c.in-Ok-prepare.opening.sealer e.act
 
 -- ---- the store goes on, and no lane of it is out
 
