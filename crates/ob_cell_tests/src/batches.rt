@@ -12,18 +12,45 @@ use std::process::Abort;
 
 // Three cells of a store of 74 cells that was formatted under the keys of the bytes 0 to 95. They
 // were made with another SHA-256 and a plain ChaCha20.
-const CELLS: [(u64, &str); 3] = [
+const CELLS: [(u64, [u128; 8]); 3] = [
     (
         41,
-        "010000000000000002000000000000006ddef560b1708db7f9b62fe9995e69152cd9c984c81cdb7eab7ebb02b6206d3c3cd6f90218ef0de29682720696e58ee5173c7fee4b886b0564d9b005d1e05a86a440ab436f3a9024b182d04eb8ed25a3cf9dc66e4f4e6d1e0e76799d5be070294c91f24f5489c00d27471191ee482bed",
+        [
+            0x01000000000000000200000000000000,
+            0x6ddef560b1708db7f9b62fe9995e6915,
+            0x2cd9c984c81cdb7eab7ebb02b6206d3c,
+            0x3cd6f90218ef0de29682720696e58ee5,
+            0x173c7fee4b886b0564d9b005d1e05a86,
+            0xa440ab436f3a9024b182d04eb8ed25a3,
+            0xcf9dc66e4f4e6d1e0e76799d5be07029,
+            0x4c91f24f5489c00d27471191ee482bed,
+        ],
     ),
     (
         46,
-        "0100000000000000070000000000000079362cb850f6c5499b2c3ace6b8c836102eda26e023aa1b1172c875e91adfaf101ac62e1ce316e2aaa3c6796c9f530e2711290f8c0ec8f128abcf1a19204d0acb57e007ba363fc9141cec1a4205f0180a0226d2e1cabe00963516153e42828a73764bee2f7a6fa566a4ff99a91896dcb",
+        [
+            0x01000000000000000700000000000000,
+            0x79362cb850f6c5499b2c3ace6b8c8361,
+            0x02eda26e023aa1b1172c875e91adfaf1,
+            0x01ac62e1ce316e2aaa3c6796c9f530e2,
+            0x711290f8c0ec8f128abcf1a19204d0ac,
+            0xb57e007ba363fc9141cec1a4205f0180,
+            0xa0226d2e1cabe00963516153e42828a7,
+            0x3764bee2f7a6fa566a4ff99a91896dcb,
+        ],
     ),
     (
         56,
-        "01000000000000001100000000000000c4f3ff900ae3d34cf0b2ccee631a99d6db86f713680863d0e42a87c182f3a7c63a945c0c3df777307c766bbcc658c3e9ce9d8f61b00feb3bc01ac2ed394da30ee5f6e339a5e5f5831055e1284275a53b17255f8eda56340e200b98f7b8d89ab07b8bc05ab892e6ea7e58655fd0e0779c",
+        [
+            0x01000000000000001100000000000000,
+            0xc4f3ff900ae3d34cf0b2ccee631a99d6,
+            0xdb86f713680863d0e42a87c182f3a7c6,
+            0x3a945c0c3df777307c766bbcc658c3e9,
+            0xce9d8f61b00feb3bc01ac2ed394da30e,
+            0xe5f6e339a5e5f5831055e1284275a53b,
+            0x17255f8eda56340e200b98f7b8d89ab0,
+            0x7b8bc05ab892e6ea7e58655fd0e0779c,
+        ],
     ),
 ];
 
@@ -32,12 +59,12 @@ fn store_of(rt: &impl Abort, alloc: Global, fails: &[Fail], broken: u64) -> MemS
     ensures { result.log.out ≡ 0 }
 {
     let mut store = new_store(rt, alloc, 74, fails);
-    for &(cell, digits) in &CELLS {
-        let mut bytes = spelled(rt, digits);
-        if cell == broken {
+    for (cell, words) in &CELLS {
+        let mut bytes = spelled(words);
+        if *cell == broken {
             bytes[100] ^= 1;
         }
-        assert!(rt; store.write(cell, &bytes).is_ok());
+        assert!(rt; store.write(*cell, &bytes).is_ok());
     }
     store
 }

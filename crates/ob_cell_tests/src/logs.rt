@@ -386,18 +386,45 @@ fn a_crash_leaves_a_prefix(rt: HostRuntime) {
 }
 
 // The cells were made by another implementation.
-const CELLS: [(u64, &str); 3] = [
+const CELLS: [(u64, [u128; 8]); 3] = [
     (
         13,
-        "0200000000000000000000000000000055b275d14c65d8174ac3a499cf3e8406a93cc77ac646cbca748e9e7b6a9e75049af88e38d3a574fd7e507ecb2ae983245ac338934071cb6eefcfbdb4235499d2a9a3fe55e7eaac6ecb4f3f70ccce61b5c490ac2b84b34fe1bda721d1cda42cf580135fb4f26bc748790546d93985ba0c",
+        [
+            0x02000000000000000000000000000000,
+            0x55b275d14c65d8174ac3a499cf3e8406,
+            0xa93cc77ac646cbca748e9e7b6a9e7504,
+            0x9af88e38d3a574fd7e507ecb2ae98324,
+            0x5ac338934071cb6eefcfbdb4235499d2,
+            0xa9a3fe55e7eaac6ecb4f3f70ccce61b5,
+            0xc490ac2b84b34fe1bda721d1cda42cf5,
+            0x80135fb4f26bc748790546d93985ba0c,
+        ],
     ),
     (
         15,
-        "0200000000000000010000000000000091195ab77c7de85b20e99188e3c4862541d96da2c49321b9eb9891f8284c86ddd3414db3947900a9634cbbfdd97b36cefc0fa2cfb767e40d2dc333740989362d71dedcccd3ffc3714ceebfce26a614732ebf7f31a8ef883fd3140287464232bc1227b76369c2508a955f09506148166c",
+        [
+            0x02000000000000000100000000000000,
+            0x91195ab77c7de85b20e99188e3c48625,
+            0x41d96da2c49321b9eb9891f8284c86dd,
+            0xd3414db3947900a9634cbbfdd97b36ce,
+            0xfc0fa2cfb767e40d2dc333740989362d,
+            0x71dedcccd3ffc3714ceebfce26a61473,
+            0x2ebf7f31a8ef883fd3140287464232bc,
+            0x1227b76369c2508a955f09506148166c,
+        ],
     ),
     (
         9,
-        "02000000000000002600000000000000ad01369810b7edf47ead3828e3cfd7d02b3c527f7d74147d3fea0103fdc2a77c69aedbb7085a2693748c4b150aed86bb0e377ce0769f99d7698493b2cc7a2d3e5abe4bf3b16d8fbc9720fe4dd6bba0c0d4a829f9e5c474825bf50b50f4ea09975c65a230a7367acc19181ab5dd369ff3",
+        [
+            0x02000000000000002600000000000000,
+            0xad01369810b7edf47ead3828e3cfd7d0,
+            0x2b3c527f7d74147d3fea0103fdc2a77c,
+            0x69aedbb7085a2693748c4b150aed86bb,
+            0x0e377ce0769f99d7698493b2cc7a2d3e,
+            0x5abe4bf3b16d8fbc9720fe4dd6bba0c0,
+            0xd4a829f9e5c474825bf50b50f4ea0997,
+            0x5c65a230a7367acc19181ab5dd369ff3,
+        ],
     ),
 ];
 
@@ -410,17 +437,17 @@ fn with_records(rt: &impl Abort, alloc: Global, p: &Params) -> MemStore
 }
 
 // Whether a cell has these bytes, before its open gate.
-fn is_spelled(rt: &impl Abort, store: &mut MemStore, cell: u64, digits: &str) -> bool {
+fn is_spelled(rt: &impl Abort, store: &mut MemStore, cell: u64, words: &[u128; 8]) -> bool {
     assert!(rt; cell < 200);
-    cell_of(store, cell).ok() == Some(spelled(rt, digits))
+    cell_of(store, cell).ok() == Some(spelled(words))
         && cell_of(store, cell + 1).ok() == Some([0xA5; 128])
 }
 
 #[test]
 fn records_are_spelled(rt: HostRuntime) {
     let mut store = with_records(&rt, rt.alloc(), &params(&rt, 8, 2));
-    for (cell, digits) in &CELLS {
-        assert!(rt; is_spelled(&rt, &mut store, *cell, digits), "{cell}");
+    for (cell, words) in &CELLS {
+        assert!(rt; is_spelled(&rt, &mut store, *cell, words), "{cell}");
     }
 }
 

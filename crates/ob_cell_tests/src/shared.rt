@@ -4,7 +4,6 @@ ghost use Rattle.std.specs.Prelude.{◌≡◌, ℕ};
 ghost use Rattle.ob_mem.specs.Replay.{zeros};
 ghost use Rattle.ob_mem.specs.Memory.{disk_of_store};
 
-use hex::FromHex;
 use ob_base::{Check, Fault, Params};
 use ob_mem::{Fail, MemSink, MemStore};
 use ob_seal::{Keys, Sealer};
@@ -67,11 +66,13 @@ pub fn sealed_as(cell: u64, seal: (u64, u64), plain: &[u8; 96]) -> [u8; 128] {
     bytes
 }
 
-/// The bytes of a cell, as they are spelled in hexadecimal digits.
-pub fn spelled(rt: &impl Abort, digits: &str) -> [u8; 128] {
-    <[u8; 128] as FromHex>::from_hex(digits)
-        .ok()
-        .expect(rt, "digits")
+/// The bytes of a cell, 16 a number, the high one first.
+pub fn spelled(words: &[u128; 8]) -> [u8; 128] {
+    let mut bytes = [0; 128];
+    for i in 0..8 {
+        bytes[16 * i..16 * i + 16].copy_from_slice(&words[i].to_be_bytes());
+    }
+    bytes
 }
 
 /// What is told of a damaged cell, where both are two numbers of 64 bits, low byte first.
