@@ -10,7 +10,6 @@ use ob_seal::{Keys, Sealer};
 use ob_store::{Blind, Store};
 use std::alloc::Global;
 use std::process::Abort;
-use std::test::Fail as Broken;
 
 // A sealer under the keys of the bytes 0 to 95.
 fn test_sealer(generation: u64) -> Sealer
@@ -44,29 +43,28 @@ const TAGS: [u128; 8] = [
     0xb10593c9d4d5491aaffabe4ffd781a87,
 ];
 
-#[test]
-fn rows_are_sealed_in_a_row(rt: HostRuntime) -> Result<(), Broken> {
-    let alloc = rt.alloc();
-    let mut store = MemStore::new(alloc, 25, Vec::new(alloc))?;
+// Writes the rows of eight keys from cell 17 on, where key 5 has `hi`.
+fn with_rows(rt: &impl Abort, alloc: Global) -> MemStore {
+    let mut store = MemStore::new(alloc, 25, Vec::new(alloc)).expect(rt, "memory");
     let mut values = [None; 8];
     values[5] = Value::new(b"hi");
     let mut sealer = test_sealer(2);
     assert!(rt; write_rows(&mut store, &mut sealer, 17, &values, &mut Blind).is_ok());
-    assert_eq!(rt; sealer.next(), (2, 8));
+    assert!(rt; sealer.next() == (2, 8));
+    store
+}
+
+#[test]
+fn rows_are_sealed_in_a_row(rt: HostRuntime) {
+    let mut store = with_rows(&rt, rt.alloc());
     for i in 0..8 {
         let bytes = bytes_in(&rt, &mut store, 17 + i as u64);
         assert!(rt; bytes[112..] == TAGS[i].to_be_bytes()[..], "row {i}");
     }
-    Ok(())
 }
 
-// Two rows of values of 64 and of no bytes under these seals, as they are read from cell 3 on.
-fn read_back(
-    rt: &impl Abort,
-    alloc: Global,
-    first: u64,
-    second: u64,
-) -> Result<Option<Value>, Fault> {
+// Two rows of values of 64 and of no bytes, under seals of these generations, from cell 3 on.
+fn with_two(rt: &impl Abort, alloc: Global, first: u64, second: u64) -> MemStore {
     let mut store = MemStore::new(alloc, 9, Vec::new(alloc)).expect(rt, "memory");
     let long = [Value::new(&[7; 64])];
     let empty = [Value::new(&[])];
@@ -76,22 +74,30 @@ fn read_back(
         sealer = test_sealer(second);
     }
     assert!(rt; write_rows(&mut store, &mut sealer, 4, &empty, &mut Blind).is_ok());
+    store
+}
+
+// Whether they are read as they were written.
+fn are_read(rt: &impl Abort, alloc: Global, first: u64, second: u64) -> Result<bool, Fault> {
+    let wanted = [Value::new(&[7; 64]), Value::new(&[])];
     let mut values = [None, None].to_vec(alloc).expect(rt, "memory");
-    read_values(&mut store, &test_sealer(0), 3, &mut values, &mut Blind)?;
-    assert!(rt; values[0] == long[0]);
-    Ok(values[1])
+    let mut store = with_two(rt, alloc, first, second);
+    match read_values(&mut store, &test_sealer(0), 3, &mut values, &mut Blind) {
+        Ok(()) => Ok(values.as_slice() == wanted.as_slice()),
+        Err(fault) => Err(fault),
+    }
 }
 
 #[test]
-fn each_row_has_the_seal_behind_the_one_before(rt: HostRuntime) -> Result<(), Broken> {
-    assert!(rt; read_back(&rt, rt.alloc(), 5, 5) == Ok(Value::new(&[])));
+fn each_row_has_the_seal_behind_the_one_before(rt: HostRuntime) {
+    assert!(rt; are_read(&rt, rt.alloc(), 5, 5) == Ok(true));
     let mut kept = [0; 16];
     kept[0] = 6;
     let mut computed = [0; 16];
     computed[0] = 5;
     computed[8] = 1;
     assert!(rt;
-        read_back(&rt, rt.alloc(), 5, 6)
+        are_read(&rt, rt.alloc(), 5, 6)
             == Err(Fault::Damaged {
                 cell: 4,
                 check: Check::Seal,
@@ -99,5 +105,4 @@ fn each_row_has_the_seal_behind_the_one_before(rt: HostRuntime) -> Result<(), Br
                 computed,
             })
     );
-    Ok(())
 }

@@ -11,6 +11,3 @@ pub use calls::{Reply, Request};
 pub use map::PlainMap;
 pub use plain::one_by_one;
 pub use serve::serve_all;
-
-#[cfg(test)]
-mod tests;
