@@ -1,0 +1,23 @@
+//! Tests of turns, bells and halls, alone and by threads: clients' calls, and clients' threads.
+#![tactic(auto)]
+
+#[cfg(test)]
+mod asking;
+#[cfg(test)]
+mod bells;
+#[cfg(test)]
+mod calls;
+#[cfg(test)]
+mod driver;
+#[cfg(test)]
+mod halls;
+#[cfg(test)]
+mod scripts;
+#[cfg(test)]
+mod shared;
+#[cfg(test)]
+mod starts;
+#[cfg(test)]
+mod turns;
+#[cfg(test)]
+mod visitor;

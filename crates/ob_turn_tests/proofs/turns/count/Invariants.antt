@@ -1,6 +1,0 @@
-use Rattle.std.proofs.Common.{◌≡◌}
-use Rattle.ob_turn.specs.TurnCalls.{IsTurnSeat, IsIdle}
-use Rattle.ob_turn_tests.proofs.turns.count.Given as goal
-
-abbrev pub invariant-loop : goal.invariant-loop
-invariant-loop g l = IsTurnSeat l.fn.turn l.seat × IsIdle l.seat × (l.seat.me.0.parts ≡ l.fn.seat.me.0.parts)
