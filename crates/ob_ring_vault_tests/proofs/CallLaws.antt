@@ -48,3 +48,7 @@ pub next_taken : (p : Params) (left left' : ℕ) (x : Request) (xs : List Reques
     → ((epoch : ℕ) → MayServeAll p (serving epoch left') (drop (i + 1) xs)) → (epoch : ℕ) → MayServeAll p (serving epoch left) (drop i xs)
 next_taken p left left' x xs i lt is may left_is all epoch =
     subst (λ (l : List Request). MayServeAll p (serving epoch left) l) (sym (drop_more xs i x lt ∙ ap (λ y. y ∷ drop (i + 1) xs) (sym is))) (may epoch, rest_taken p left left' x (drop (i + 1) xs) left_is all epoch)
+
+-- of a vault with these counts
+pub all_taken : (p q : Params) (v : VaultCounts) (left : ℕ) (xs : List Request) → q ≡ p → left ≡ v.left → v.spent ≡ false → ((epoch : ℕ) → MayServeAll p (serving epoch left) xs) → MayServeAll q v xs
+all_taken p q v left xs same is serves may = subst (λ (r : Params). MayServeAll r v xs) (sym same) (subst (λ (w : VaultCounts). MayServeAll p w xs) (λ i. record { epoch = v.epoch; left = is i; spent = sym serves i }) (may v.epoch))

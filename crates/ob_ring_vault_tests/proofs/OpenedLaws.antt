@@ -1,7 +1,7 @@
 -- A vault over an opened store is at what stood.
-use Rattle.std.specs.Prelude.{◌≡◌, ◌+◌, ◌-◌, false, length, None}
+use Rattle.std.specs.Prelude.{◌≡◌, ◌+◌, ◌-◌, false, length, None, Result, Ok, IfOk}
 use Rattle.std.specs.Ordering.{nat_cmp}
-use Rattle.std.proofs.Common.{ap, arith}
+use Rattle.std.proofs.Common.{ap, arith, subst}
 use Rattle.ob_base.specs.declared.params.Params.{Params}
 use Rattle.ob_ring_vault.specs.RingVaults.{opened_ring}
 use Rattle.ob_ring_vault_tests.specs.Opened.{opened_ring_at}
@@ -18,3 +18,7 @@ module _ {L : Type 0} (p : Params) (s : RingStanding) (content : Map nat_cmp) (o
 
   pub opened_is : opened_ring o s content ≡ opened_ring_at p s content
   opened_is = λ i. record { batches = batches_are i; epoch = s.epoch; content = content; left = left_are i; spent = false; doubt = None }
+
+-- what a result says, said of what it holds
+pub answers_of : {R F V : Type 0} (r : Result R F) (x : R) (A B : R → V → Type 0) → r ≡ Ok x → IfOk r (λ y. (last : V) × A y last × B y last) → (last : V) × A x last
+answers_of {R} {F} {V} r x A B is told = let got = subst (λ (q : Result R F). IfOk q (λ y. (last : V) × A y last × B y last)) is told in (got.0, got.1)

@@ -3,13 +3,12 @@
 ghost use Rattle.std.specs.Prelude.{◌≡◌};
 ghost use Rattle.ob_mem.specs.Memory.{disk_of_store};
 
-use crate::calls::may_serve_all;
-use crate::opening::{new_store, open_ring, params_of, serve_ring, serve_store, test_keys};
+use crate::opening::{new_store, open_ring, params_of, serve, serve_store, test_keys};
 use crate::random::{Random, calls_of};
 use ob_base::{Params, Value, ring_cells};
 use ob_flat::FlatVault;
 use ob_mem::MemStore;
-use ob_plain_serial::{Reply, Request, serve_all};
+use ob_plain_serial::{Reply, Request};
 use ob_serial::Vault;
 use ob_store::{Blind, Note, Watch};
 use ob_tape::ChaChaTape;
@@ -54,9 +53,10 @@ fn plain_replies(rt: &impl Abort, alloc: Global, p: &Params, calls: &[Request]) 
     assert!(rt; ob_flat::format(&mut store, &keys, p, &mut Blind).is_ok());
     let opened = ob_flat::prepare(alloc, &mut store, &keys, p, &mut Blind);
     let mut vault = FlatVault::over(&mut store, opened.ok().expect(rt, "an opening"));
-    assert!(rt; !vault.spent());
-    assert!(rt; may_serve_all(&vault.params(), vault.left(), calls));
-    serve_all(alloc, &mut vault, calls, &mut Blind).expect(rt, "memory")
+    let held = vault.params();
+    let replies = serve(rt, alloc, &mut vault, &held, calls, &mut Blind);
+    let _store = vault.into_store();
+    replies.expect(rt, "memory")
 }
 
 fn are_same_values(one: &[Option<Value>], other: &[Option<Value>]) -> bool {
@@ -116,45 +116,49 @@ fn left_after(
     store.crash(moment, &fillings).expect(rt, "memory")
 }
 
-// The calls that an opened vault has behind it, of so many batches an epoch.
-fn calls_behind(p: &Params, epoch: u64, left: u32) -> u64 {
+// Where among these calls a vault stands that was opened at an epoch, with batches that are left,
+// and the calls of two epochs from there on.
+fn part_behind<'a>(
+    rt: &impl Abort,
+    calls: &'a [Request],
+    p: &Params,
+    epoch: u64,
+    left: u32,
+) -> (usize, &'a [Request]) {
     let batches = u64::from(p.batches);
-    epoch
-        .saturating_mul(batches + 1)
-        .saturating_add(batches.saturating_sub(u64::from(left)))
+    let begun = batches.saturating_sub(u64::from(left));
+    let place = epoch.saturating_mul(batches + 1).saturating_add(begun);
+    assert!(rt; place <= calls.len() as u64);
+    let place = place as usize;
+    let many = (calls.len() - place).min(2 * (p.batches as usize + 1));
+    (place, &calls[place..place + many])
 }
 
-// Opens what a crash left, and makes the calls of two epochs from where it stands on: they are
-// answered as without a crash.
-fn serve_on(
+// Opens what a crash left, and makes the calls of two epochs from where it stands on; whether they
+// are answered as without a crash.
+fn serves_on(
     rt: &impl Abort,
     alloc: Global,
     left: &mut MemStore,
     p: &Params,
     calls: &[Request],
     wanted: &[Reply],
-)
+) -> bool
     requires { (disk_of_store left.old).out ≡ 0 }
 {
     let mut tape = new_tape();
-    let opened = open_ring(alloc, left, &mut tape, &test_keys(), p, &mut Blind);
-    let mut vault = opened.ok().expect(rt, "an opening");
-    let place = calls_behind(p, vault.epoch(), vault.left());
-    assert!(rt; place <= calls.len() as u64);
-    let place = place as usize;
-    let many = (calls.len() - place).min(2 * (p.batches as usize + 1));
-    let replies = serve_ring(
-        rt,
-        alloc,
-        &mut vault,
-        &calls[place..place + many],
-        &mut Blind,
-    )
-    .expect(rt, "memory");
-    assert!(rt; are_from(&replies, wanted, place, many));
+    match open_ring(alloc, left, &mut tape, &test_keys(), p, &mut Blind) {
+        Ok(mut vault) => {
+            let (place, part) = part_behind(rt, calls, p, vault.epoch(), vault.left());
+            let replies = serve(rt, alloc, &mut vault, p, part, &mut Blind);
+            let _lent = vault.into_lent();
+            are_from(&replies.expect(rt, "memory"), wanted, place, part.len())
+        }
+        Err(_) => false,
+    }
 }
 
-const SETS: [[u32; 9]; 8] = [
+const SETS: &[[u32; 9]] = &[
     [8, 2, 2, 3, 2, 2, 2, 2, 8],
     [1, 1, 1, 1, 1, 1, 1, 1, 1],
     [4, 1, 2, 1, 1, 1, 4, 1, 4],
@@ -169,6 +173,25 @@ const EPOCHS: u32 = 50;
 
 const CRASHES: usize = 20;
 
+// Makes all of these calls on a new ring store; whether they are answered so.
+fn serves_all<W: Watch>(
+    rt: &impl Abort,
+    alloc: Global,
+    store: &mut MemStore,
+    p: &Params,
+    calls: &[Request],
+    wanted: &[Reply],
+    watch: &mut W,
+) -> bool
+    requires { (disk_of_store store.old).out ≡ 0 }
+{
+    let mut tape = new_tape();
+    match serve_store(rt, alloc, store, &mut tape, &test_keys(), p, calls, watch) {
+        Ok(served) => are_from(&served.replies, wanted, 0, calls.len()),
+        Err(_) => false,
+    }
+}
+
 // A ring store that crashes at so many moments of these calls; each time another opening of what is
 // left serves on.
 fn crash_often(
@@ -182,20 +205,7 @@ fn crash_often(
     let mut count = Count { made: 0 };
     let mut store = new_store(rt, alloc, p, &[], &mut count);
     let formatted = count.made;
-    let mut tape = new_tape();
-    let replies = serve_store(
-        rt,
-        alloc,
-        &mut store,
-        &mut tape,
-        &test_keys(),
-        p,
-        calls,
-        &mut count,
-    )
-    .ok()
-    .expect(rt, "an opening");
-    assert!(rt; are_from(&replies, wanted, 0, calls.len()));
+    assert!(rt; serves_all(rt, alloc, &mut store, p, calls, wanted, &mut count));
     let part = count.made.saturating_sub(formatted) / CRASHES;
     for i in 0..CRASHES {
         let within = random.below(part.min(1_000_000) as u32 + 1) as usize;
@@ -203,7 +213,7 @@ fn crash_often(
             .saturating_add(part.saturating_mul(i))
             .saturating_add(within);
         let mut left = left_after(rt, alloc, &store, moment, ring_cells(p), random);
-        serve_on(rt, alloc, &mut left, p, calls, wanted);
+        assert!(rt; serves_on(rt, alloc, &mut left, p, calls, wanted));
     }
 }
 
@@ -212,7 +222,7 @@ fn a_ring_vault_answers_as_a_plain_one_and_after_each_crash(rt: HostRuntime) {
     let alloc = rt.alloc();
     let mut random = Random { state: 1 };
     for numbers in SETS {
-        let p = params_of(&rt, numbers);
+        let p = params_of(&rt, *numbers);
         let calls = calls_of(&rt, alloc, &mut random, &p, EPOCHS);
         let wanted = plain_replies(&rt, alloc, &p, &calls);
         assert_eq!(rt; wanted.len(), calls.len());

@@ -1,14 +1,14 @@
 //! Ring stores, opened, and vaults over them.
 
-ghost use Rattle.std.specs.Prelude.{◌≡◌, ℕ, map, IfOk};
+ghost use Rattle.std.specs.Prelude.{◌≡◌, ℕ, map, true, IfOk};
 ghost use Rattle.std.specs.FinMap as finite;
 ghost use Rattle.std.specs.Ordering.{nat_cmp};
 ghost use Rattle.ob_mem.specs.Memory.{disk_of_store};
-ghost use Rattle.ob_ring_vault.specs.RingVaults.{RingHolds, RingSound};
+ghost use Rattle.ob_ring_vault.specs.RingVaults.{RingSound};
 ghost use Rattle.ob_ring_vault_tests.specs.Opened.{opened_ring_at};
 ghost use Rattle.ob_serial.specs.Serial.{Map};
 ghost use Rattle.ob_serial.specs.Vaults.{VaultState};
-ghost use Rattle.ob_plain_serial.specs.VaultRuns.{AnsweredBy, answer_of, call_of};
+ghost use Rattle.ob_plain_serial.specs.VaultRuns.{AnsweredBy, MayServeAll, answer_of, call_of};
 ghost use Rattle.ob_stand.specs.Stands.{RingStanding, Stands};
 
 use crate::calls::may_serve_all;
@@ -79,53 +79,89 @@ pub fn open_ring<'a, S: Store, T: Tape, W: Watch>(
     }
 }
 
-/// Makes calls on a ring vault, up to the first that it refuses: the answers are those of a map by
+// Whether a vault takes these calls one behind the other.
+fn takes<V: Vault>(vault: &V, p: &Params, requests: &[Request]) -> bool
+    requires { V.params vault.now ≡ p.now }
+    ensures { result ≡ true → MayServeAll (V.params vault.now) (V.counts vault.now) requests.now }
+{
+    if vault.spent() {
+        return false;
+    }
+    let many = vault.left();
+    may_serve_all(p, many, requests)
+}
+
+/// Makes calls on a vault, up to the first that it refuses: the answers are those of a map by
 /// epochs, from the one that it held to the one that it holds.
-pub fn serve_ring<S: Store, T: Tape, W: Watch>(
+pub fn serve<V: Vault, W: Watch>(
     rt: &impl Abort,
     alloc: Global,
-    vault: &mut RingVault<'_, S, T>,
+    vault: &mut V,
+    p: &Params,
     requests: &[Request],
     watch: &mut W,
 ) -> Result<Vec<Reply>, Memory>
-    ensures law { (v : VaultState)
-        → RingSound vault.old.run (S.disk vault.old.lent.store.now) v
+    requires { V.params vault.old ≡ p.now }
+    ensures law { (v : VaultState) → V.holds vault.old v
         → IfOk result (λ replies. (last : VaultState)
         × AnsweredBy v (map call_of requests.now) (map answer_of replies.items) last
-        × RingHolds vault.new.run (S.disk vault.new.lent.store.now) last) }
+        × V.holds vault.new last) }
 {
-    assert!(rt; !vault.spent());
-    assert!(rt; may_serve_all(&vault.params(), vault.left(), requests));
+    assert!(rt; takes(vault, p, requests));
     serve_all(alloc, vault, requests, watch)
+}
+
+/// How calls behind an opening went.
+#[derive(Drop)]
+pub struct Served<'a, S> {
+    pub store: &'a mut S,
+    pub generation: u64,
+    // The epoch that ended last before the calls, and the batches that were left.
+    pub began: (u64, u32),
+    pub replies: Vec<Reply>,
+    // The same behind the calls, and whether one was refused.
+    pub stands: (u64, u32, bool),
 }
 
 /// Opens a store, and makes calls on a ring vault over it. Where it stood, the answers are those of
 /// a map by epochs, from the one that it stood for.
-pub fn serve_store<S: Store, T: Tape, W: Watch>(
+pub fn serve_store<'a, S: Store, T: Tape, W: Watch>(
     rt: &impl Abort,
     alloc: Global,
-    store: &mut S,
-    tape: &mut T,
+    store: &'a mut S,
+    tape: &'a mut T,
     keys: &Keys,
     p: &Params,
     requests: &[Request],
     watch: &mut W,
-) -> Result<Vec<Reply>, Fault>
+) -> Result<Served<'a, S>, Fault>
     requires none_out { (S.disk store.old).out ≡ 0 }
     requires unstarted { T.present tape.old ≡ 0 }
+    ensures none_out { IfOk result (λ served. (S.disk served.store.now).out ≡ 0) }
     ensures law { (s : RingStanding) (content : Map nat_cmp)
-        → (S.disk store.old).tells → Stands keys.now p.now s (S.disk store.old).cells
+        → (S.disk store.entry.now).tells → Stands keys.now p.now s (S.disk store.entry.now).cells
         → ((k : ℕ) → s.map k ≡ finite.get content k)
-        → IfOk result (λ replies. (last : VaultState)
+        → IfOk result (λ served. (last : VaultState)
         × AnsweredBy (opened_ring_at p.now s content) (map call_of requests.now)
-        (map answer_of replies.items) last) }
+        (map answer_of served.replies.items) last) }
 {
     let mut vault = match open_ring(alloc, store, tape, keys, p, watch) {
         Ok(vault) => vault,
         Err(fault) => return Err(fault),
     };
-    match serve_ring(rt, alloc, &mut vault, requests, watch) {
-        Ok(replies) => Ok(replies),
+    let generation = vault.generation();
+    let began = (vault.epoch(), vault.left());
+    let answer = serve(rt, alloc, &mut vault, p, requests, watch);
+    let stands = (vault.epoch(), vault.left(), vault.spent());
+    let (store, _) = vault.into_lent();
+    match answer {
+        Ok(replies) => Ok(Served {
+            store,
+            generation,
+            began,
+            replies,
+            stands,
+        }),
         Err(Memory) => Err(Fault::Memory),
     }
 }

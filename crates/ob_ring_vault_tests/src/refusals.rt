@@ -3,11 +3,10 @@
 ghost use Rattle.std.specs.Prelude.{◌≡◌};
 ghost use Rattle.ob_mem.specs.Memory.{disk_of_store};
 
-use crate::opening::{new_store, open_ring, params_of, test_keys};
-use crate::steps::{Put, Step, Told, take_steps};
+use crate::opening::{new_store, params_of, serve_store, test_keys};
+use crate::steps::{Put, Step, Told, requests_of, told_by};
 use ob_base::{Check, Fault, Params};
 use ob_mem::{Fail, MemStore};
-use ob_serial::Vault;
 use ob_store::{Blind, Store};
 use ob_tape::ListTape;
 use std::alloc::Global;
@@ -36,24 +35,7 @@ const NARROW: [u32; 9] = [4, 1, 2, 1, 1, 1, 4, 1, 1];
 
 const FAILED: Fault = Fault::StoreFault { unsure: None };
 
-// The first slot of the first batch is torn, without its bytes.
-const TORN_IN_BATCH: Fault = Fault::Damaged {
-    cell: 41,
-    check: Check::Tag,
-    kept: [0; 16],
-    computed: [0; 16],
-};
-
-// The first slot of the final lifts is.
-const TORN_IN_LIFTS: Fault = Fault::Damaged {
-    cell: 49,
-    check: Check::Tag,
-    kept: [0; 16],
-    computed: [0; 16],
-};
-
 // What comes over a store behind its format (62 writes, 10 syncs; its opening has 2 and 3).
-#[derive(Clone, Copy)]
 enum Trouble {
     // These calls fail.
     Fails(&'static [Fail]),
@@ -61,127 +43,201 @@ enum Trouble {
     Flips(u64),
 }
 
-// A new store over which this comes.
-fn troubled(rt: &impl Abort, alloc: Global, p: &Params, trouble: Trouble) -> MemStore
-    ensures { (disk_of_store result).out ≡ 0 }
+// How a call is refused.
+enum Refusal {
+    // Nothing was changed.
+    Before(Fault),
+    // This cell was torn, and nothing was changed.
+    Torn(u64),
+    // The epoch may have ended.
+    Unsure(Fault),
+}
+
+// Changes a bit of a cell.
+fn flip(rt: &impl Abort, store: &mut MemStore, cell: u64)
+    requires { (disk_of_store store.old).out ≡ 0 }
+    ensures { (disk_of_store store.new).out ≡ 0 }
 {
-    let cell = match trouble {
-        Trouble::Fails(fails) => return new_store(rt, alloc, p, fails, &mut Blind),
-        Trouble::Flips(cell) => cell,
-    };
-    let mut store = new_store(rt, alloc, p, &[], &mut Blind);
     let mut lane = store.lane().expect(rt, "a lane");
     let mut bytes = [0; 128];
     assert!(rt; store.read(&mut lane, cell, &mut bytes).is_ok());
     store.absorb(lane);
     bytes[40] ^= 4;
     assert!(rt; store.write(cell, &bytes).is_ok());
-    store
 }
 
-// The same without the bytes of a damaged cell.
-fn without_bytes(fault: Fault) -> Fault {
-    match fault {
-        Fault::Damaged { cell, check, .. } => Fault::Damaged {
-            cell,
-            check,
-            kept: [0; 16],
-            computed: [0; 16],
+// A new store over which this comes.
+fn troubled(rt: &impl Abort, alloc: Global, p: &Params, trouble: &Trouble) -> MemStore
+    ensures { (disk_of_store result).out ≡ 0 }
+{
+    match trouble {
+        Trouble::Fails(fails) => new_store(rt, alloc, p, fails, &mut Blind),
+        Trouble::Flips(cell) => {
+            let mut store = new_store(rt, alloc, p, &[], &mut Blind);
+            flip(rt, &mut store, *cell);
+            store
+        }
+    }
+}
+
+// Whether answers tell just this refusal.
+fn is_refused_so(told: Told, refusal: &Refusal) -> bool {
+    match refusal {
+        Refusal::Before(fault) => told.refused == Some(*fault) && told.doubt.is_none(),
+        Refusal::Unsure(fault) => told.doubt == Some(*fault) && told.refused.is_none(),
+        Refusal::Torn(torn) => match told.refused {
+            Some(Fault::Damaged { cell, check, .. }) => cell == *torn && check == Check::Tag,
+            _ => false,
         },
-        other => other,
     }
 }
 
-fn told_without_bytes(told: Told) -> Told {
-    match told {
-        Told::Done => Told::Done,
-        Told::Fetch(fault) => Told::Fetch(without_bytes(fault)),
-        Told::Before(fault) => Told::Before(without_bytes(fault)),
-        Told::Unsure(fault) => Told::Unsure(without_bytes(fault)),
-    }
+// What comes over a store; how many calls are then answered, how the last of these is refused, and
+// the batches that are left; and the epoch and the batches left that another opening finds, where
+// it isn't refused.
+struct Row {
+    trouble: Trouble,
+    answered: usize,
+    refusal: Refusal,
+    left: u32,
+    again: Option<(u64, u32)>,
 }
 
-// The trouble, the refusal of the small store's epoch, the batches that are left then, and the
-// epoch and the batches left that another opening finds, where it isn't refused.
-const ROWS: [(Trouble, Told, u32, Option<(u64, u32)>); 7] = [
-    (
-        Trouble::Fails(&[Fail::Write(64)]),
-        Told::Fetch(FAILED),
-        2,
-        Some((0, 2)),
-    ),
-    (
-        Trouble::Fails(&[Fail::Read {
+// Of the small store's epoch.
+const ROWS: &[Row] = &[
+    Row {
+        trouble: Trouble::Fails(&[Fail::Write(64)]),
+        answered: 1,
+        refusal: Refusal::Before(FAILED),
+        left: 2,
+        again: Some((0, 2)),
+    },
+    Row {
+        trouble: Trouble::Fails(&[Fail::Read {
             cell: 41,
             writes: 66,
         }]),
-        Told::Fetch(FAILED),
-        2,
-        Some((0, 1)),
-    ),
-    (
-        Trouble::Fails(&[Fail::Write(68)]),
-        Told::Before(FAILED),
-        0,
-        Some((0, 0)),
-    ),
-    (
-        Trouble::Fails(&[Fail::Sync(18)]),
-        Told::Before(FAILED),
-        0,
-        Some((0, 0)),
-    ),
-    (
-        Trouble::Fails(&[Fail::Sync(19)]),
-        Told::Unsure(Fault::StoreFault { unsure: Some(1) }),
-        0,
-        Some((1, 2)),
-    ),
-    (Trouble::Flips(41), Told::Fetch(TORN_IN_BATCH), 2, None),
-    (
-        Trouble::Flips(49),
-        Told::Before(TORN_IN_LIFTS),
-        0,
-        Some((0, 0)),
-    ),
+        answered: 1,
+        refusal: Refusal::Before(FAILED),
+        left: 2,
+        again: Some((0, 1)),
+    },
+    Row {
+        trouble: Trouble::Fails(&[Fail::Write(68)]),
+        answered: 3,
+        refusal: Refusal::Before(FAILED),
+        left: 0,
+        again: Some((0, 0)),
+    },
+    Row {
+        trouble: Trouble::Fails(&[Fail::Sync(18)]),
+        answered: 3,
+        refusal: Refusal::Before(FAILED),
+        left: 0,
+        again: Some((0, 0)),
+    },
+    Row {
+        trouble: Trouble::Fails(&[Fail::Sync(19)]),
+        answered: 3,
+        refusal: Refusal::Unsure(Fault::StoreFault { unsure: Some(1) }),
+        left: 0,
+        again: Some((1, 2)),
+    },
+    // The first slot of the first batch is torn, or the first slot of the final lifts.
+    Row {
+        trouble: Trouble::Flips(41),
+        answered: 1,
+        refusal: Refusal::Torn(41),
+        left: 2,
+        again: None,
+    },
+    Row {
+        trouble: Trouble::Flips(49),
+        answered: 3,
+        refusal: Refusal::Torn(49),
+        left: 0,
+        again: Some((0, 0)),
+    },
 ];
+
+const FULL: Row = Row {
+    trouble: Trouble::Fails(&[]),
+    answered: 2,
+    refusal: Refusal::Before(Fault::StashFull { rows: 2 }),
+    left: 0,
+    again: Some((0, 0)),
+};
+
+// The epoch that ended last in a store, and the batches that are left, if it can be opened.
+fn found_again(
+    rt: &impl Abort,
+    alloc: Global,
+    store: &mut MemStore,
+    p: &Params,
+) -> Option<(u64, u32)>
+    requires { (disk_of_store store.old).out ≡ 0 }
+{
+    let mut tape = ListTape::new(alloc, &[]).expect(rt, "memory");
+    match serve_store(
+        rt,
+        alloc,
+        store,
+        &mut tape,
+        &test_keys(),
+        p,
+        &[],
+        &mut Blind,
+    ) {
+        Ok(next) => Some(next.began),
+        Err(_) => None,
+    }
+}
+
+// Opens a store over which a row's trouble comes, makes these calls on a tape of these words, and
+// opens the store again; whether all is as the row says.
+fn plays_so(
+    rt: &impl Abort,
+    alloc: Global,
+    p: &Params,
+    words: &[u64],
+    steps: &[Step],
+    row: &Row,
+) -> bool {
+    let calls = requests_of(rt, alloc, p, steps);
+    let mut tape = ListTape::new(alloc, words).expect(rt, "memory");
+    let mut store = troubled(rt, alloc, p, &row.trouble);
+    match serve_store(
+        rt,
+        alloc,
+        &mut store,
+        &mut tape,
+        &test_keys(),
+        p,
+        &calls,
+        &mut Blind,
+    ) {
+        Ok(first) => {
+            let answered = first.replies.len() == row.answered;
+            let refused = is_refused_so(told_by(&first.replies), &row.refusal);
+            let spent = first.stands == (0, row.left, true);
+            let again = found_again(rt, alloc, first.store, p) == row.again;
+            answered && refused && spent && again
+        }
+        Err(_) => false,
+    }
+}
 
 #[test]
 fn a_refusal_leaves_a_vault_spent_and_another_opening_serves(rt: HostRuntime) {
-    let alloc = rt.alloc();
-    let keys = test_keys();
     let p = params_of(&rt, SMALL);
-    for (trouble, refusal, left, again) in ROWS {
-        let mut store = troubled(&rt, alloc, &p, trouble);
-        let mut tape = ListTape::new(alloc, &[]).expect(&rt, "memory");
-        let opened = open_ring(alloc, &mut store, &mut tape, &keys, &p, &mut Blind);
-        let mut vault = opened.ok().expect(&rt, "an opening");
-        let (told, _) = take_steps(&rt, &mut vault, EPOCH, &mut Blind);
-        assert!(rt; told_without_bytes(told) == refusal);
-        assert_eq!(rt;
-            (vault.epoch(), vault.left(), vault.spent()),
-            (0, left, true)
-        );
-        let (store, _) = vault.into_lent();
-        let mut tape = ListTape::new(alloc, &[]).expect(&rt, "memory");
-        let found = match open_ring(alloc, store, &mut tape, &keys, &p, &mut Blind) {
-            Ok(vault) => Some((vault.epoch(), vault.left())),
-            Err(_) => None,
-        };
-        assert_eq!(rt; found, again);
+    for row in ROWS {
+        assert!(rt; plays_so(&rt, rt.alloc(), &p, &[], EPOCH, row));
     }
 }
 
 #[test]
 fn a_stash_that_is_too_full_leaves_a_vault_spent(rt: HostRuntime) {
-    let alloc = rt.alloc();
-    let keys = test_keys();
     let p = params_of(&rt, NARROW);
-    let mut store = new_store(&rt, alloc, &p, &[], &mut Blind);
-    let mut tape = ListTape::new(alloc, &[0, 1, 1, 1, 1]).expect(&rt, "memory");
-    let opened = open_ring(alloc, &mut store, &mut tape, &keys, &p, &mut Blind);
-    let mut vault = opened.ok().expect(&rt, "an opening");
-    let (told, _) = take_steps(&rt, &mut vault, &[PADS, Step::End(FOUR)], &mut Blind);
-    assert!(rt; told == Told::Before(Fault::StashFull { rows: 2 }));
-    assert_eq!(rt; (vault.epoch(), vault.left(), vault.spent()), (0, 0, true));
+    let steps = [PADS, Step::End(FOUR)];
+    assert!(rt; plays_so(&rt, rt.alloc(), &p, &[0, 1, 1, 1, 1], &steps, &FULL));
 }

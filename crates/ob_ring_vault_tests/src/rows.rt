@@ -3,12 +3,11 @@
 ghost use Rattle.std.specs.Prelude.{◌≡◌};
 ghost use Rattle.ob_mem.specs.Memory.{disk_of_store};
 
-use crate::opening::{new_store, open_ring, params_of, test_keys};
-use crate::shown::{FIRST_EPOCH, LEAF_ONE, SECOND_EPOCH};
-use crate::steps::{Put, Step, Told, take_steps};
+use crate::opening::{new_store, params_of, serve_store, test_keys};
+use crate::shown::{FIRST_EPOCH, LEAF_ONE, OPENED, SECOND_EPOCH};
+use crate::steps::{Put, Step, requests_of, told_by};
 use ob_base::{Params, Value};
 use ob_mem::{MemSink, MemStore};
-use ob_serial::Vault;
 use ob_store::{Blind, SinkWatch};
 use ob_tape::ListTape;
 use std::alloc::Global;
@@ -27,81 +26,107 @@ const ONE_EPOCH: &[Step] = &[PADS, PADS, Step::End(&[])];
 
 const TWO_EPOCHS: &[Step] = &[PADS, PADS, Step::End(HI), FIVE, PADS, Step::End(&[])];
 
-// The value of these bytes, if there are any.
-fn value_of(text: &[u8]) -> Option<Value> {
-    match text.len() {
-        0 => None,
-        _ => Value::new(text),
-    }
-}
-
-// Asserts that just these parts were shown, one behind the other.
-fn compare(rt: &impl Abort, alloc: Global, shown: &[u8], parts: &[&[u8]]) {
-    let mut all = Vec::new(alloc);
+// Whether just these parts were shown, one behind the other.
+fn is_made_of(shown: &[u8], parts: &[&[u8]]) -> bool {
+    let mut rest = shown;
     for part in parts {
-        all.extend_from_slice(part).expect(rt, "memory");
+        match rest.strip_prefix(*part) {
+            Some(behind) => rest = behind,
+            None => return false,
+        }
     }
-    assert!(rt; shown == all.as_slice());
+    rest.is_empty()
 }
 
-// The words of the tape, zeros behind them; the steps; what they show; the epoch that ended last;
-// and what key 5 has in the next one, behind another opening.
-const ROWS: [(&[u64], &[Step], &[&[u8]], u64, &[u8]); 3] = [
-    (&[], ONE_EPOCH, &[FIRST_EPOCH], 1, b""),
-    (&[], TWO_EPOCHS, &[FIRST_EPOCH, SECOND_EPOCH], 2, b"hi"),
-    (
-        &[0, 0, 0, 0, 1],
-        TWO_EPOCHS,
-        &[FIRST_EPOCH, LEAF_ONE],
-        2,
-        b"hi",
-    ),
+// The words of a tape, zeros behind them; calls; what they show; the epoch that ended last; and
+// what key 5 has in the next one, behind another opening.
+struct Row {
+    words: &'static [u64],
+    steps: &'static [Step],
+    parts: &'static [&'static [u8]],
+    epoch: u64,
+    text: &'static [u8],
+}
+
+const ROWS: &[Row] = &[
+    Row {
+        words: &[],
+        steps: ONE_EPOCH,
+        parts: &[OPENED, FIRST_EPOCH],
+        epoch: 1,
+        text: b"",
+    },
+    Row {
+        words: &[],
+        steps: TWO_EPOCHS,
+        parts: &[OPENED, FIRST_EPOCH, SECOND_EPOCH],
+        epoch: 2,
+        text: b"hi",
+    },
+    Row {
+        words: &[0, 0, 0, 0, 1],
+        steps: TWO_EPOCHS,
+        parts: &[OPENED, FIRST_EPOCH, LEAF_ONE],
+        epoch: 2,
+        text: b"hi",
+    },
 ];
 
-// Opens a store again, on a new tape: this epoch ended last, and key 5 has this.
-fn serve_again(
+// Opens a store again and asks for key 5: this epoch ended last, and the key has this.
+fn finds_again(
     rt: &impl Abort,
     alloc: Global,
     store: &mut MemStore,
     p: &Params,
     epoch: u64,
-    wanted: &Option<Value>,
-)
+    wanted: Option<Value>,
+) -> bool
     requires { (disk_of_store store.old).out ≡ 0 }
 {
+    let keys = test_keys();
+    let calls = requests_of(rt, alloc, p, &[FIVE]);
     let mut tape = ListTape::new(alloc, &[]).expect(rt, "memory");
-    let opened = open_ring(alloc, store, &mut tape, &test_keys(), p, &mut Blind);
-    let mut vault = opened.ok().expect(rt, "an opening");
-    assert_eq!(rt; (vault.generation(), vault.epoch()), (3, epoch));
-    let (told, found) = take_steps(rt, &mut vault, &[FIVE], &mut Blind);
-    assert!(rt; told == Told::Done);
-    assert!(rt; found == *wanted);
+    match serve_store(rt, alloc, store, &mut tape, &keys, p, &calls, &mut Blind) {
+        Ok(next) => {
+            let before = next.generation == 3 && next.began == (epoch, 2);
+            let found = told_by(&next.replies).found;
+            before && next.stands == (epoch, 1, false) && found == wanted
+        }
+        Err(_) => false,
+    }
+}
+
+// Makes a row's calls over a new store, and asks for key 5 behind another opening; whether all is as
+// the row says.
+fn plays_so(rt: &impl Abort, alloc: Global, p: &Params, row: &Row) -> bool {
+    let keys = test_keys();
+    let wanted = Value::new(row.text);
+    let wanted = if row.text.is_empty() { None } else { wanted };
+    let calls = requests_of(rt, alloc, p, row.steps);
+    let mut sink = MemSink::new(alloc, 4000, Vec::new(alloc)).expect(rt, "memory");
+    let mut watch = SinkWatch::new(&mut sink);
+    let mut tape = ListTape::new(alloc, row.words).expect(rt, "memory");
+    let mut store = new_store(rt, alloc, p, &[], &mut Blind);
+    match serve_store(
+        rt, alloc, &mut store, &mut tape, &keys, p, &calls, &mut watch,
+    ) {
+        Ok(first) => {
+            let before = first.generation == 2 && first.began == (0, 2);
+            let whole = first.replies.len() == calls.len();
+            let after = first.stands == (row.epoch, 2, false);
+            let found = told_by(&first.replies).found == wanted;
+            let shown = is_made_of(sink.written(), row.parts);
+            let again = finds_again(rt, alloc, first.store, p, row.epoch, wanted);
+            before && whole && after && found && shown && again
+        }
+        Err(_) => false,
+    }
 }
 
 #[test]
 fn a_ring_vault_shows_what_another_implementation_shows(rt: HostRuntime) {
-    let alloc = rt.alloc();
     let p = params_of(&rt, [8, 2, 2, 3, 2, 2, 2, 2, 8]);
-    for (words, steps, parts, epoch, text) in ROWS {
-        let wanted = value_of(text);
-        let mut store = new_store(&rt, alloc, &p, &[], &mut Blind);
-        let mut tape = ListTape::new(alloc, words).expect(&rt, "memory");
-        let opened = open_ring(alloc, &mut store, &mut tape, &test_keys(), &p, &mut Blind);
-        let mut vault = opened.ok().expect(&rt, "an opening");
-        assert_eq!(rt;
-            (vault.generation(), vault.epoch(), vault.left()),
-            (2, 0, 2)
-        );
-        let mut sink = MemSink::new(alloc, 2000, Vec::new(alloc)).expect(&rt, "memory");
-        let (told, found) = take_steps(&rt, &mut vault, steps, &mut SinkWatch::new(&mut sink));
-        assert!(rt; told == Told::Done);
-        assert!(rt; found == wanted);
-        compare(&rt, alloc, sink.written(), parts);
-        assert_eq!(rt;
-            (vault.epoch(), vault.left(), vault.spent()),
-            (epoch, 2, false)
-        );
-        let (store, _) = vault.into_lent();
-        serve_again(&rt, alloc, store, &p, epoch, &wanted);
+    for row in ROWS {
+        assert!(rt; plays_so(&rt, rt.alloc(), &p, row));
     }
 }

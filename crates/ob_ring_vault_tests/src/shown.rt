@@ -1,5 +1,10 @@
 //! What a ring vault shows of the small store, as another implementation showed it.
 
+// A first opening, behind the read of the head.
+pub const OPENED: &[u8] = b"\
+    R 1\nR 2\nR 3\nR 4\nR 5\nR 6\nR 7\nR 8\nR 17\nR 18\nR 19\nR 20\nR 21\nR 22\nR 23\nR 24\n\
+    R 25\nR 26\nR 27\nR 13\nR 14\nR 15\nR 16\nS\nW 1\nS\nW 2\nS\n";
+
 // An epoch of two batches of pads, on a tape of zeros.
 pub const FIRST_EPOCH: &[u8] = b"\
     W 13\nS\nW 14\nS\nL 0\nR 41\nR 46\nR 56\nL 0\nR 42\nR 47\nR 57\nW 15\nS\nW 16\nS\nL 0\n\
