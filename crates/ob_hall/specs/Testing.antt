@@ -1,4 +1,4 @@
--- What the halls and clients of tests are.
+-- For tests: what their halls and clients are.
 use Rattle.std.specs.Prelude.{◌≡◌, ℕ, suc, All, Bool, true, false, length, List, [], ◌∷◌}
 use Rattle.ob_desk.specs.Desk as desk
 use Rattle.ob_desk.specs.declared.calls.Txn.{Txn}

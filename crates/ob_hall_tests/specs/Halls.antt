@@ -1,4 +1,4 @@
--- What the passes of the tests' halls are, before their work and behind it.
+-- For tests: what the passes of their halls are, before their work and behind it.
 use Rattle.std.specs.Prelude.{◌≡◌, ◌+◌, ℕ, zero, suc, Bool, All, true, false, List, [], ◌∷◌, length}
 use Rattle.ob_hall.specs.Passes.{Hall, Pass, opening_of, callers_of, pass_place, entries_by, calls_in, said_of, raised_by, may_raise, IsPassOf, IsOutOfTurn}
 use Rattle.ob_hall.specs.Rounds.{rounds_of, rounds_behind}
