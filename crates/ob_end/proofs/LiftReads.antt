@@ -13,7 +13,9 @@ use Rattle.ob_tables.specs.Content.{Rows}
 use Rattle.ob_tables.specs.Kept.{Held}
 use Rattle.ob_epoch.proofs.Calling.{plans_are_read}
 use Rattle.ob_recover.proofs.RepeatLaws.{jobs_run, jobs_same}
+use Rattle.ob_recover.proofs.ShowLaws.{none_placed}
 use Rattle.ob_recover.specs.Repeats.{BatchTells, IsRepeatFault, JobsAnswer, RowsJoin}
+use Rattle.ob_recover.specs.Shows.{placed_notes}
 use Rattle.ob_ring.specs.FlatTable.{FlatTable}
 use Rattle.ob_ring.specs.Picked.{SameSeals, final_picked, job_of}
 use Rattle.ob_ring.specs.Ring.{IsLifting, Kept}
@@ -34,17 +36,7 @@ length-map : {X Y : Type 0} (f : X → Y) (xs : List X) → length (map f xs) �
 length-map f [] = refl
 length-map f (x ∷ xs) = ap suc (length-map f xs)
 
--- the reads of jobs that were read are those of the jobs before
-pub filled_notes : (old new : List Job) (plain : ℕ → List ℕ) → AreFilled old new plain → map (λ j. note.Read j.cell) new ≡ map (λ j. note.Read j.cell) old
-filled_notes [] [] plain filled = refl
-filled_notes [] (n ∷ ns) plain filled = (let many = filled.many in absurd (omega arith))
-filled_notes (o ∷ os) [] plain filled = (let many = filled.many in absurd (omega arith))
-filled_notes (o ∷ os) (n ∷ ns) plain filled =
-    let many = filled.many in
-    let rest : AreFilled os ns (λ i. plain (suc i)) = record { many = omega arith; each = λ i lt. filled.each (suc i) (omega arith) } in
-    ap (λ (j : Job). note.Read j.cell ∷ map (λ (j : Job). note.Read j.cell) ns) (filled.each 0 (omega arith)) ∙ ap (λ (l : List Note). note.Read o.cell ∷ l) (filled_notes os ns (λ i. plain (suc i)) rest)
-
--- so are their keys
+-- the keys of jobs that were read are those of the jobs before
 filled_keys : (p : Params) (versions : List Version) (qs : List Picked) (new : List Job) (plain : ℕ → List ℕ) → AreFilled (map (job_of p versions) qs) new plain → map (λ j. j.key) new ≡ map (λ q. q.key) qs
 filled_keys p versions [] [] plain filled = refl
 filled_keys p versions [] (n ∷ ns) plain filled = (let many = filled.many in absurd (omega arith))
@@ -110,11 +102,12 @@ module _ (keys : Keys) (image : Image) (old mid : Kept) (now : Planned) (js : Li
   not_lifted rows rows' SinkFault fault answer = absurd fault
 
 -- what is told of them is that of the table's lifts
-pub lifts_tell : (most : ℕ) (old mid : Kept) (now : Planned) (start : Buckets) (t : FlatTable) → SameSeals start old.metas → IsLifting old mid now t → (a b : Option (List Event)) (k l : Trace) (result : Result (Unit {0}) Fault)
-    → BatchTells most (cells_of now.jobs) (map (λ j. note.Read j.cell) now.jobs) a b k l result → BatchTells most (lift_cells old.p start.versions t) (lift_notes old.p start.versions t) a b k l result
-lifts_tell most old mid now start t seals planned a b k l result told =
+pub lifts_tell : (most : ℕ) (old mid : Kept) (now : Planned) → now.places ≡ [] → (start : Buckets) (t : FlatTable) → SameSeals start old.metas → IsLifting old mid now t → (a b : Option (List Event)) (k l : Trace) (result : Result (Unit {0}) Fault)
+    → BatchTells most (cells_of now.jobs) (placed_notes now (length now.places)) a b k l result → BatchTells most (lift_cells old.p start.versions t) (lift_notes old.p start.versions t) a b k l result
+lifts_tell most old mid now none start t seals planned a b k l result told =
     subst (λ (js : List Job). BatchTells most (cells_of js) (map (λ j. note.Read j.cell) js) a b k l result)
-    (planned.jobs ∙ jobs_same old.p start old.metas (lifts_picked old.p t) seals) told
+    (planned.jobs ∙ jobs_same old.p start old.metas (lifts_picked old.p t) seals)
+    (subst (λ (ns : List Note). BatchTells most (cells_of now.jobs) ns a b k l result) (none_placed now none) told)
 
 -- ---- what stays of a planner
 

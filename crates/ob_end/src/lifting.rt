@@ -1,63 +1,24 @@
 //! The final lifts of an epoch.
 
-ghost use Rattle.std.specs.Prelude.{◌≡◌, ◌<◌, ◌≤◌, ◌+◌, ◌%◌, ◌^◌, ℕ, List, [], length, map, IfErr, IfSome, OnOk};
-ghost use Rattle.ob_base.specs.Planned.{most_jobs, job_at};
+ghost use Rattle.std.specs.Prelude.{◌≡◌, ◌≤◌, ◌+◌, ◌%◌, ◌^◌, ℕ, IfErr, OnOk};
+ghost use Rattle.ob_base.specs.Planned.{most_jobs};
 ghost use Rattle.ob_store.specs.Images.{Same, Passes};
 ghost use Rattle.ob_store.specs.Calls.{Serves, IsStoreFault, Keeps};
-ghost use Rattle.ob_store.specs.declared.watch.Note.TheVariants as note;
-ghost use Rattle.ob_cells.specs.Jobs.{AreFilled, cells_of};
 ghost use Rattle.ob_tables.specs.Buckets.{Buckets};
 ghost use Rattle.ob_ring.specs.FlatTable.{FlatTable, FinalLifts, after};
 ghost use Rattle.ob_ring.specs.Picked.{SameSeals};
 ghost use Rattle.ob_ring.specs.Ring.{IsListed, StandsFor};
-ghost use Rattle.ob_recover.specs.Repeats.{BatchTells, IsRepeatFault, JobsAnswer, HaveKeysOf, RowsJoin};
+ghost use Rattle.ob_recover.specs.Repeats.{BatchTells, IsRepeatFault, RowsJoin};
 ghost use Rattle.ob_fetch.specs.Fetches.{RunsAt};
 ghost use Rattle.ob_stand.specs.Stands.{RingStanding, Stands};
 ghost use Rattle.ob_end.specs.Lifts.{IsUndamaged, LiftsAnswer, lift_cells, lift_notes, lifts_picked};
 
 use ob_base::{Fault, Jobs};
-use ob_cells::{Crew, JobsErr, run_jobs};
-use ob_recover::show_reads;
+use ob_cells::Crew;
+use ob_recover::read_jobs;
 use ob_ring::Ring;
 use ob_seal::Sealer;
 use ob_store::{Store, Watch};
-
-// Reads these jobs, and shows them once they were read, also where one failed.
-fn read_jobs<S: Store, W: Watch>(
-    store: &mut S,
-    crew: &mut Crew<S::Lane>,
-    sealer: &Sealer,
-    jobs: &mut Jobs,
-    watch: &mut W,
-) -> Result<(), Fault>
-    requires few { length jobs.old.jobs ≤ crew.old.jobs }
-    ensures serves { Serves IsStoreFault (S.disk store.old) (S.disk store.new) result }
-    ensures value { (S.disk store.old).tells
-        → JobsAnswer sealer.now.keys (S.disk store.old).cells jobs.old.jobs jobs.new.jobs result }
-    ensures faults { IfErr result IsRepeatFault }
-    ensures rest { jobs.new ≡ record jobs.old { jobs = jobs.new.jobs } }
-    ensures keys { HaveKeysOf jobs.old.jobs jobs.new.jobs }
-    ensures filled { OnOk result ((plain : ℕ → List ℕ)
-        × AreFilled jobs.old.jobs jobs.new.jobs plain) }
-    ensures crew { crew.new ≡ crew.old }
-    ensures keeps { Keeps (S.disk store.old) (S.disk store.new) }
-    ensures passes { Passes Same (S.disk store.old) (S.disk store.new) }
-    ensures told { BatchTells crew.old.lanes (cells_of jobs.old.jobs)
-        (map (λ j. note.Read j.cell) jobs.old.jobs) (S.disk store.old).seen
-        (S.disk store.new).seen (W.trace watch.old) (W.trace watch.new) result }
-{
-    match run_jobs(store, crew, sealer, jobs) {
-        Ok(()) => {
-            show_reads(jobs.jobs(), watch);
-            Ok(())
-        }
-        Err(JobsErr::NotBegun(fault)) => Err(fault),
-        Err(JobsErr::Job(fault)) => {
-            show_reads(jobs.jobs(), watch);
-            Err(fault)
-        }
-    }
-}
 
 /// Reads out the buckets of the paths that are evicted next, those that aren't lifted yet: plans
 /// them, reads them, shows the reads, and settles what was read. It takes no memory.

@@ -24,6 +24,11 @@ Asked = List (Option ℕ × ℕ)
 abbrev asked_at : Asked → ℕ → Option ℕ × ℕ
 asked_at asked i = get_or asked i (None, 0)
 
+none_of : {X : Type 0} (n : ℕ) (xs : List X) → length xs ≤ 0 → take n xs ≡ []
+none_of zero xs few = refl
+none_of (suc n) [] few = refl
+none_of (suc n) (x ∷ xs) few = absurd (omega arith)
+
 -- the place of an index: the leaf that it shows, and the jobs of the places before it
 place_from : (p : Params) (n : ℕ) (t : FlatTable) (asked : Asked) (i : ℕ) (d : Place) → i < length asked
     → get_or (places_from p n t asked) i d ≡ record { leaf = leaf_shown (after_batch p t (take i asked)) (asked_at asked i).0 (asked_at asked i).1; first = n + length (batch_picked p t (take i asked)) }
@@ -156,8 +161,18 @@ module _ (p : Params) (versions : List Version) (t : FlatTable) (asked : Asked) 
       ∙ ap (λ (ns : List Note). note.Label (leaf_shown (after_batch p t (take i asked)) (asked_at asked i).0 (asked_at asked i).1) ∷ ns)
       (ap (λ (js : List Job). map (λ (j : Job). note.Read j.cell) js) (own_jobs i lt) ∙ map_twice job (λ (j : Job). note.Read j.cell) (own i))
 
+  -- no job stands before the first place
+  none_before : take (shown_place_at s 0).first s.jobs ≡ []
+  none_before = elim (cases_lt 0 (length asked)) [
+    | inl some ↦ ap (λ (pl : Place). take pl.first s.jobs) (place_is 0 some)
+    | inr none ↦ (let zeros : 0 ≡ length asked = omega arith in
+        let all : 0 ≡ length (before (length asked)) = ap (λ (n : ℕ). length (before n)) zeros in
+        let many : length s.jobs ≡ length (before (length asked)) = many_jobs ∙ ap length (sym all_before) in
+        none_of (shown_place_at s 0).first s.jobs (omega (arith, all, many)))
+  ]
+
   shown_to : (n : ℕ) → n ≤ length asked → placed_notes s n ≡ repeated_notes p versions t (take n asked)
-  shown_to zero le = refl
+  shown_to zero le = ap (λ (js : List Job). map (λ (j : Job). note.Read j.cell) js) none_before
   shown_to (suc n) le =
       let low : n < length asked = omega arith in
       ap (λ (ns : List Note). ns ++ notes_of_place s n) (shown_to n (omega arith)) ∙ ap (λ (ns : List Note). repeated_notes p versions t (take n asked) ++ ns) (place_shows n low)
@@ -168,6 +183,27 @@ module _ (p : Params) (versions : List Version) (t : FlatTable) (asked : Asked) 
   pub batch_shows : placed_notes s (length s.places) ≡ repeated_notes p versions t asked
   batch_shows =
       ap (λ (n : ℕ). placed_notes s n) many_places ∙ shown_to (length asked) (omega arith) ∙ ap (λ (xs : Asked). repeated_notes p versions t xs) (take_all (length asked) asked (omega arith))
+
+-- where there is no place, all jobs are read
+pub none_placed : (s : Planned) → s.places ≡ [] → placed_notes s (length s.places) ≡ map (λ j. note.Read j.cell) s.jobs
+none_placed s none =
+    ap (λ (l : List Place). placed_notes s (length l)) none
+    ∙ ap (λ (l : List Place). map (λ (j : Job). note.Read j.cell) (take (get_or l 0 (record { leaf = 0; first = length s.jobs })).first s.jobs)) none
+    ∙ ap (λ (js : List Job). map (λ (j : Job). note.Read j.cell) js) (take_all (length s.jobs) s.jobs (omega arith))
+
+pub none_are_placed : (s : Planned) → s.places ≡ [] → ArePlaced s
+none_are_placed s none i lt = let many : length s.places ≡ 0 = ap length none in absurd (omega arith)
+
+-- there are as many jobs as stand before the first place
+pub front_room : (s : Planned) → ArePlaced s → (shown_place_at s 0).first ≤ length s.jobs
+front_room s placed = elim (cases_lt 0 (length s.places)) [
+  | inl some ↦ (let at = placed 0 some in omega (arith, at.0, at.1))
+  | inr none ↦ (let out : shown_place_at s 0 ≡ record { leaf = 0; first = length s.jobs } = behind s.places none in let same : (shown_place_at s 0).first ≡ length s.jobs = ap (λ (pl : Place). pl.first) out in omega (arith, same))
+]
+  where
+    behind : (l : List Place) → length l ≤ 0 → get_or l 0 (record { leaf = 0; first = length s.jobs }) ≡ record { leaf = 0; first = length s.jobs }
+    behind [] few = refl
+    behind (x ∷ l) few = absurd (omega arith)
 
 -- one place more
 pub placed_more : (s : Planned) (n : ℕ) → placed_notes s (n + 1) ≡ placed_notes s n ++ notes_of_place s n
@@ -249,7 +285,9 @@ filled_shows old new plain n rest filled = all n
         ∙ ap (λ (l : List Note). note.Label (shown_place_at old i).leaf ∷ l) (sym (part_is (shown_place_at old i).first (place_end old i - (shown_place_at old i).first) old.jobs))
 
     all : (m : ℕ) → placed_notes new m ≡ placed_notes old m
-    all zero = refl
+    all zero =
+        map_take read_note (shown_place_at new 0).first new.jobs ∙ ap (λ (l : List Note). take (shown_place_at new 0).first l) notes
+        ∙ ap (λ (pl : Place). take pl.first (map read_note old.jobs)) (place_same 0) ∙ sym (map_take read_note (shown_place_at old 0).first old.jobs)
     all (suc m) = ap (λ (l : List Note). l ++ notes_of_place new m) (all m) ∙ ap (λ (l : List Note). placed_notes old m ++ l) (one m)
 
 -- the place that is read

@@ -1,5 +1,5 @@
--- Private: what is shown of a batch's jobs, place by place.
-use Rattle.std.specs.Prelude.{◌<◌, ◌≤◌, ℕ, zero, suc, ◌+◌, ◌-◌, List, [], ◌∷◌, ◌++◌, length, map, take, drop, slice_index_or}
+-- What is shown of planned jobs, place by place.
+use Rattle.std.specs.Prelude.{◌<◌, ◌≤◌, ℕ, zero, suc, ◌+◌, ◌-◌, List, ◌∷◌, ◌++◌, length, map, take, drop, slice_index_or}
 use Rattle.ob_base.specs.declared.job.Place.{Place}
 use Rattle.ob_base.specs.Planned.{Planned}
 use Rattle.ob_store.specs.declared.watch.Note.{Note}
@@ -20,7 +20,7 @@ ArePlaced s = (i : ℕ) → i < length s.places → ((shown_place_at s i).first 
 abbrev pub notes_of_place : Planned → ℕ → List Note
 notes_of_place s i = Label (shown_place_at s i).leaf ∷ map (λ j. Read j.cell) (take (place_end s i - (shown_place_at s i).first) (drop (shown_place_at s i).first s.jobs))
 
--- the first n places
+-- the jobs before the first place, and the first n places
 abbrev pub placed_notes : Planned → ℕ → List Note
-placed_notes s zero = []
+placed_notes s zero = map (λ j. Read j.cell) (take (shown_place_at s 0).first s.jobs)
 placed_notes s (suc n) = placed_notes s n ++ notes_of_place s n

@@ -13,6 +13,5 @@ mod showing;
 pub use finding::find;
 pub use found::Found;
 pub use heads::{VERSION, head};
-pub use reading::read_batch;
+pub use reading::{read_batch, read_jobs};
 pub use replaying::replay;
-pub use showing::show_reads;

@@ -15,15 +15,20 @@ ghost use Rattle.ob_recover.specs.Fits.{IsPlannerFit};
 ghost use Rattle.ob_recover.specs.Shows.{ArePlaced, placed_notes};
 ghost use Rattle.ob_recover.specs.Repeats.{record_places, asked_of_record, record_of, repeated_notes, batch_cells, BatchAnswers, BatchTells, IsRepeatFault, JobsAnswer, HaveKeysOf, RowsJoin};
 
-use crate::showing::show_batch;
+use crate::showing::show_jobs;
 use ob_base::{Fault, Jobs, Key};
 use ob_cells::{Crew, JobsErr, run_jobs};
 use ob_ring::Ring;
 use ob_seal::Sealer;
 use ob_store::{Store, Watch};
 
-// Reads the jobs of a planned batch, and shows them once they were read, also where one failed.
-fn read_jobs<S: Store, W: Watch>(
+/// Reads planned jobs, and shows them once they were read, also where one failed: those before the
+/// first place, and before each place's reads its label.
+///
+/// # Errors
+/// The store failed, and its count of faults rose; or the first job, in the order planned, whose
+/// cell's tag or seal is wrong.
+pub fn read_jobs<S: Store, W: Watch>(
     store: &mut S,
     crew: &mut Crew<S::Lane>,
     sealer: &Sealer,
@@ -49,12 +54,12 @@ fn read_jobs<S: Store, W: Watch>(
 {
     match run_jobs(store, crew, sealer, jobs) {
         Ok(()) => {
-            show_batch(jobs, watch);
+            show_jobs(jobs, watch);
             Ok(())
         }
         Err(JobsErr::NotBegun(fault)) => Err(fault),
         Err(JobsErr::Job(fault)) => {
-            show_batch(jobs, watch);
+            show_jobs(jobs, watch);
             Err(fault)
         }
     }

@@ -1,4 +1,4 @@
-//! What a repeated batch shows.
+//! What jobs show that were read.
 
 ghost use Rattle.std.specs.Prelude.{◌≡◌, ◌<◌, ◌≤◌, length, map};
 ghost use Rattle.ob_store.specs.declared.watch.Note.TheVariants as note;
@@ -48,12 +48,33 @@ fn show_place<W: Watch>(jobs: &Jobs, i: usize, watch: &mut W)
     show_reads(&jobs.jobs()[place.first as usize..end], watch);
 }
 
-/// Shows a batch that was read: before each place's reads its label.
-pub fn show_batch<W: Watch>(jobs: &Jobs, watch: &mut W)
+// How many jobs stand before the first place.
+fn front_of(jobs: &Jobs) -> usize
+    ensures { result ≡ (shown_place_at jobs.now 0).first }
+{
+    match jobs.places().get(0) {
+        Some(place) => place.first as usize,
+        None => jobs.jobs().len(),
+    }
+}
+
+// Shows the reads of the jobs before the first place.
+fn show_front<W: Watch>(jobs: &Jobs, watch: &mut W)
+    requires placed { ArePlaced jobs.now }
+    ensures { Shows (placed_notes jobs.now 0) (W.trace watch.old) (W.trace watch.new) }
+{
+    let front = front_of(jobs);
+    show_reads(&jobs.jobs()[..front], watch);
+}
+
+/// Shows jobs that were read: those before the first place, and before each place's reads its
+/// label.
+pub fn show_jobs<W: Watch>(jobs: &Jobs, watch: &mut W)
     requires placed { ArePlaced jobs.now }
     ensures { Shows (placed_notes jobs.now (length jobs.now.places)) (W.trace watch.old)
         (W.trace watch.new) }
 {
+    show_front(jobs, watch);
     for i in 0..jobs.places().len() {
         show_place(jobs, i, watch);
     }

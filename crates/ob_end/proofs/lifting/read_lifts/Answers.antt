@@ -5,6 +5,7 @@ use Rattle.ob_base.specs.Planned.{job_at, Planned}
 use Rattle.ob_ring.specs.Ring.{Kept, IsListed}
 use Rattle.ob_ring.specs.Settling.{rows_after}
 use Rattle.ob_recover.proofs.BatchLaws.{keys_low, stands_kept}
+use Rattle.ob_recover.proofs.ShowLaws.{none_are_placed}
 use Rattle.ob_recover.specs.Repeats.{BatchTells, IsRepeatFault}
 use Rattle.ob_end.proofs.LiftReads.{kept_planned, kept_settled, lifted_badly, lifted_well, lifts_tell, not_lifted, planned_few, rows_join}
 use Rattle.ob_end.proofs.LiftsStand.{undamaged}
@@ -13,8 +14,11 @@ use Rattle.ob_ring.specs.Picked.{SameSeals}
 use Rattle.ob_store.specs.Calls.{IsStoreFault, Serves}
 use Rattle.ob_end.proofs.lifting.read_lifts.Goals as goal
 
-pub read_jobs-requires : goal.read_jobs-requires
-read_jobs-requires g c =
+pub read_jobs-requires-clause-placed : goal.read_jobs-requires-clause-placed
+read_jobs-requires-clause-placed g c = none_are_placed c.plan_lifts.new.jobs c.plan_lifts.ensures.places
+
+pub read_jobs-requires-clause-few : goal.read_jobs-requires-clause-few
+read_jobs-requires-clause-few g c =
     let ring = c.args.ring.now in
     let planned = c.plan_lifts.ensures.planned c.requires.stands.0 c.requires.stands.1 in
     let few = planned_few ring.p c.requires.stands.0 ring.metas.versions c.plan_lifts.new.jobs.jobs planned.jobs in
@@ -28,7 +32,7 @@ returns-in-Err-clause-value g c = λ start t seals stands tells.
 
 pub returns-in-Err-clause-told : goal.returns-in-Err-clause-told
 returns-in-Err-clause-told g c = λ start t seals stands.
-    lifts_tell c.args.crew.now.lanes c.args.ring.now c.plan_lifts.new.self c.plan_lifts.new.jobs start t seals (c.plan_lifts.ensures.planned t stands) _ _ _ _ (Err c.in-Err.fault) c.in-Err.ensures.told
+    lifts_tell c.args.crew.now.lanes c.args.ring.now c.plan_lifts.new.self c.plan_lifts.new.jobs c.plan_lifts.ensures.places start t seals (c.plan_lifts.ensures.planned t stands) _ _ _ _ (Err c.in-Err.fault) c.in-Err.ensures.told
 
 pub returns-in-Err-clause-sound : goal.returns-in-Err-clause-sound
 returns-in-Err-clause-sound g c = λ s epoch generation left tells stands runs.
@@ -61,7 +65,7 @@ returns-in-Ok-settle-clause-joins g c = λ t stands.
 
 pub returns-in-Ok-settle-clause-told : goal.returns-in-Ok-settle-clause-told
 returns-in-Ok-settle-clause-told g c = λ start t seals stands.
-    lifts_tell c.args.crew.now.lanes c.args.ring.now c.plan_lifts.new.self c.plan_lifts.new.jobs start t seals (c.plan_lifts.ensures.planned t stands) _ _ _ _ (Ok tt) c.in-Ok.ensures.told
+    lifts_tell c.args.crew.now.lanes c.args.ring.now c.plan_lifts.new.self c.plan_lifts.new.jobs c.plan_lifts.ensures.places start t seals (c.plan_lifts.ensures.planned t stands) _ _ _ _ (Ok tt) c.in-Ok.ensures.told
 
 pub returns-in-Err-settle-clause-value : goal.returns-in-Err-settle-clause-value
 returns-in-Err-settle-clause-value g c = λ start t seals stands tells.
@@ -81,7 +85,7 @@ returns-in-Err-settle-clause-told g c = λ start t seals stands.
     let p = c.args.ring.now.p in
     subst (λ (f : Fault). BatchTells c.args.crew.now.lanes (lift_cells p start.versions t) (lift_notes p start.versions t) (g.S.Store.disk c.args.store.now).seen (g.S.Store.disk c.read_jobs.new.store).seen
     (g.W.Watch.trace c.args.watch.now) (g.W.Watch.trace c.read_jobs.new.watch) (Err f)) (sym c.from.ensures)
-    (lifts_tell c.args.crew.now.lanes c.args.ring.now c.plan_lifts.new.self c.plan_lifts.new.jobs start t seals (c.plan_lifts.ensures.planned t stands) _ _ _ _ (Ok tt) c.in-Ok.ensures.told)
+    (lifts_tell c.args.crew.now.lanes c.args.ring.now c.plan_lifts.new.self c.plan_lifts.new.jobs c.plan_lifts.ensures.places start t seals (c.plan_lifts.ensures.planned t stands) _ _ _ _ (Ok tt) c.in-Ok.ensures.told)
 
 pub returns-in-Err-clause-serves : goal.returns-in-Err-clause-serves
 returns-in-Err-clause-serves g c = c.in-Err.ensures.serves

@@ -17,7 +17,7 @@ use Rattle.ob_recover.proofs.reading.read_jobs.Goals as goal
 pub returns-in-Ok-clause-told : goal.returns-in-Ok-clause-told
 returns-in-Ok-clause-told g c = (
   c.in-Ok.ensures.seen,
-  filled_batch c.args.jobs.now c.run_jobs.new.jobs c.in-Ok.ensures.kept.0 _ _ c.run_jobs.ensures.rest c.in-Ok.ensures.kept.1 c.show_batch.ensures,
+  filled_batch c.args.jobs.now c.run_jobs.new.jobs c.in-Ok.ensures.kept.0 _ _ c.run_jobs.ensures.rest c.in-Ok.ensures.kept.1 c.show_jobs.ensures,
 )
 
 pub returns-in-Ok-clause-serves : goal.returns-in-Ok-clause-serves
@@ -75,7 +75,7 @@ returns-in-Err-Job-clause-told g c =
     let all = c.run_jobs.ensures.rest ∙ ap (λ (js : List Job). record c.args.jobs.now { jobs = js }) c.in-Err-Job.ensures.kept in
     failing_tells _ _ _ _ _ _ _ c.in-Err-Job.fault read (
       subst (λ (e : JobsErr). AreSeen c.args.crew.now.lanes c.args.jobs.now.jobs (g.S.Store.disk c.args.store.now).seen (g.S.Store.disk c.run_jobs.new.store).seen (Err e)) is c.in-Err-Job.ensures.seen,
-      subst (λ (jobs : Planned). Shows (placed_notes jobs (length jobs.places)) (g.W.Watch.trace c.args.watch.now) (g.W.Watch.trace c.show_batch-in-Err-Job.new.watch)) all c.show_batch-in-Err-Job.ensures,
+      subst (λ (jobs : Planned). Shows (placed_notes jobs (length jobs.places)) (g.W.Watch.trace c.args.watch.now) (g.W.Watch.trace c.show_jobs-in-Err-Job.new.watch)) all c.show_jobs-in-Err-Job.ensures,
     )
 
 pub returns-in-Ok-clause-keys : goal.returns-in-Ok-clause-keys
