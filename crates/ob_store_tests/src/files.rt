@@ -1,6 +1,6 @@
 //! Stores in files of a folder of the tests' own.
 
-ghost use Rattle.std.specs.Prelude.{◌≡◌};
+ghost use Rattle.std.specs.Prelude.{◌≡◌, IfSome};
 
 use crate::files::Call::{
     Borrow, Close, Lane, Make, NoLane, NoReader, NotMade, NotMadeAt, NotOpened, Open, Play,
@@ -51,13 +51,17 @@ enum Call {
     Remove,
 }
 
-// The path of a file of this process that isn't there yet, in the folder for such files.
-fn fresh_path(rt: &impl Abort, host: &HostRuntime, test: &str, name: &str) -> String {
+// The path of a file of this name and of this process, in the folder for such files.
+fn path_of(rt: &impl Abort, host: &HostRuntime, name: &str) -> String {
     let folder = env::temp_dir(host).ok().expect(rt, "a folder");
-    let folder = folder.to_string_lossy();
     let id = process::id(host.process());
-    let path = format!(in host.alloc(); "{folder}/obladi_{test}_{name}_{id}");
-    let path = path.ok().expect(rt, "memory");
+    let path = format!(in host.alloc(); "{}/obladi_{name}_{id}", folder.to_string_lossy());
+    path.ok().expect(rt, "memory")
+}
+
+// The same of a file that isn't there yet.
+fn fresh_path(rt: &impl Abort, host: &HostRuntime, name: &str) -> String {
+    let path = path_of(rt, host, name);
     let _ = fs::remove_file(host, path.as_str());
     path
 }
@@ -76,19 +80,8 @@ fn fails_to_open(host: &HostRuntime, path: &str, create: bool) -> bool {
     matches!(opened(host, path, create), Err(OpenErr::Failed))
 }
 
-fn plays(rt: &impl Abort, room: &mut Room, steps: &[Step]) -> bool {
-    play(rt, room.store.as_mut().expect(rt, "a store"), steps);
-    true
-}
-
-fn has_lane(room: &mut Room) -> bool {
-    match &mut room.store {
-        Some(store) => store.lane().is_ok(),
-        None => false,
-    }
-}
-
-fn lends_to<S: Store>(store: &mut S, other: &mut S) -> bool
+// Whether a store takes a lane that another one made, behind a write to that one.
+fn borrows<S: Store>(store: &mut S, other: &mut S) -> bool
     requires { (S.disk other.old).out ≡ 0 }
 {
     if other.write(0, &[2; 128]).is_err() {
@@ -101,13 +94,31 @@ fn lends_to<S: Store>(store: &mut S, other: &mut S) -> bool
     true
 }
 
-fn has_borrowed(room: &mut Room) -> bool {
-    match (
-        &mut room.store,
-        opened(room.host, room.other.as_str(), true),
-    ) {
-        (Some(store), Ok(mut other)) => lends_to(store, &mut other),
+// Whether a call on a store goes so, beside another one.
+fn serves<S: Store + Drop>(rt: &impl Abort, store: &mut S, other: Option<S>, call: &Call) -> bool
+    requires store { (S.disk store.old).out ≡ 0 }
+    requires other { IfSome other (λ s. (S.disk s).out ≡ 0) }
+{
+    match (call, other) {
+        (Play(steps), _) => {
+            play(rt, store, steps);
+            true
+        }
+        (Lane, _) => store.lane().is_ok(),
+        (NoLane, _) => store.lane().is_err(),
+        (Borrow, Some(mut other)) => borrows(store, &mut other),
         _ => false,
+    }
+}
+
+fn is_served(rt: &impl Abort, room: &mut Room, call: &Call) -> bool {
+    let other = match call {
+        Borrow => opened(room.host, room.other.as_str(), true).ok(),
+        _ => None,
+    };
+    match &mut room.store {
+        Some(store) => serves(rt, store, other, call),
+        None => false,
     }
 }
 
@@ -129,42 +140,42 @@ fn has_readers(host: &HostRuntime, path: &str) -> bool {
     is_kept
 }
 
-fn is_put(room: &Room) -> bool {
-    fs::write(room.host, room.other.as_str(), "abc").is_ok()
+fn is_renamed(host: &HostRuntime, path: &str, other: &str) -> bool {
+    fs::rename(host, other, path).is_ok()
 }
 
-fn is_renamed(room: &Room) -> bool {
-    fs::rename(room.host, room.other.as_str(), room.path.as_str()).is_ok()
+// Whether a call on the files goes so.
+fn goes_beside(host: &HostRuntime, path: &str, other: &str, call: &Call) -> bool {
+    match *call {
+        NotOpened => fails_to_open(host, path, false),
+        NotMade => fails_to_open(host, path, true),
+        NotMadeAt(path) => fails_to_open(host, path, true),
+        NoReader => open_locked(host, path).is_err(),
+        Readers => has_readers(host, path),
+        Replace => fs::write(host, other, "abc").is_ok() && is_renamed(host, path, other),
+        Rename => is_renamed(host, path, other),
+        Remove => fs::remove_file(host, path).is_ok(),
+        _ => false,
+    }
 }
 
 // Whether a call goes so.
 fn goes(rt: &impl Abort, room: &mut Room, call: &Call) -> bool {
-    let host = room.host;
     match *call {
         Open => opens(room, false),
         Make => opens(room, true),
-        NotOpened => fails_to_open(host, room.path.as_str(), false),
-        NotMade => fails_to_open(host, room.path.as_str(), true),
-        NotMadeAt(path) => fails_to_open(host, path, true),
-        Play(steps) => plays(rt, room, steps),
-        Lane => has_lane(room),
-        NoLane => !has_lane(room),
-        Borrow => has_borrowed(room),
         Close => closes(room),
-        NoReader => open_locked(host, room.path.as_str()).is_err(),
-        Readers => has_readers(host, room.path.as_str()),
-        Replace => is_put(room) && is_renamed(room),
-        Rename => is_renamed(room),
-        Remove => fs::remove_file(host, room.path.as_str()).is_ok(),
+        Play(_) | Lane | NoLane | Borrow => is_served(rt, room, call),
+        _ => goes_beside(room.host, room.path.as_str(), room.other.as_str(), call),
     }
 }
 
-// Makes calls one behind the other.
-fn run(rt: &impl Abort, host: &HostRuntime, test: &str, calls: &[Call]) {
+// Makes calls one behind the other, on files of these names.
+fn run(rt: &impl Abort, host: &HostRuntime, name: &str, other: &str, calls: &[Call]) {
     let mut room = Room {
         host,
-        path: fresh_path(rt, host, test, "own"),
-        other: fresh_path(rt, host, test, "other"),
+        path: fresh_path(rt, host, name),
+        other: fresh_path(rt, host, other),
         store: None,
     };
     for i in 0..calls.len() {
@@ -180,7 +191,7 @@ const KEEPS: &[Call] = &[Make, Play(KEPT), Close, Make, Play(&[Read(3, 7)]), Rem
 
 #[test]
 fn a_file_keeps_its_cells(rt: HostRuntime) {
-    run(&rt, &rt, "keeps", KEEPS);
+    run(&rt, &rt, "keeps", "other_keeps", KEEPS);
 }
 
 const FOUR: &[Step] = &[Write(0, 0), Write(1, 1), Write(2, 2), Write(3, 3), Turns];
@@ -189,7 +200,7 @@ const TWO_LANES: &[Call] = &[Make, Play(FOUR), Remove];
 
 #[test]
 fn two_lanes_read_by_turns(rt: HostRuntime) {
-    run(&rt, &rt, "lanes", TWO_LANES);
+    run(&rt, &rt, "lanes", "other_lanes", TWO_LANES);
 }
 
 const FIRST: &[Step] = &[Write(0, 4), Read(0, 4)];
@@ -201,14 +212,14 @@ const KEEPS_OWN: &[Call] = &[Make, Borrow, Play(FIRST), Rename, Play(THEN), Remo
 
 #[test]
 fn a_lane_is_kept_for_its_own_store(rt: HostRuntime) {
-    run(&rt, &rt, "kept", KEEPS_OWN);
+    run(&rt, &rt, "kept", "other_kept", KEEPS_OWN);
 }
 
 const SHORT: &[Call] = &[Replace, Open, Play(&[Front(0, *b"abc")]), Remove];
 
 #[test]
 fn a_file_that_is_short_reads_as_zeros_behind(rt: HostRuntime) {
-    run(&rt, &rt, "short", SHORT);
+    run(&rt, &rt, "short", "other_short", SHORT);
 }
 
 // No place of a file is so far.
@@ -232,7 +243,7 @@ const FAILS: &[Call] = &[
 
 #[test]
 fn what_cannot_be_done_fails(rt: HostRuntime) {
-    run(&rt, &rt, "none", FAILS);
+    run(&rt, &rt, "none", "other_none", FAILS);
 }
 
 const WRITE: Call = Play(&[Write(0, 5)]);
@@ -242,7 +253,7 @@ const ALONE: &[Call] = &[Make, WRITE, NotMade, NoReader, Close, Readers, Open, R
 
 #[test]
 fn a_file_is_one_stores_alone(rt: HostRuntime) {
-    run(&rt, &rt, "locked", ALONE);
+    run(&rt, &rt, "locked", "other_locked", ALONE);
 }
 
 // Where another file has its name, a lane isn't made.
@@ -250,5 +261,5 @@ const REPLACED: &[Call] = &[Make, Replace, NoLane, Remove];
 
 #[test]
 fn a_lane_is_of_the_file_that_was_opened(rt: HostRuntime) {
-    run(&rt, &rt, "named", REPLACED);
+    run(&rt, &rt, "named", "other_named", REPLACED);
 }

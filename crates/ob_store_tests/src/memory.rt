@@ -7,20 +7,25 @@ use crate::steps::{Step, new_sink, new_store, play};
 use ob_io::{Sink, Source, put_all, read_all};
 use ob_mem::{BareStore, Fail, MemSink, MemSource, MemStore, Void};
 use ob_store::{SinkWatch, Store, write_run};
+use std::alloc::Global;
 use std::process::Abort;
 
 // Of a source of three bytes whose second read fails: how many bytes a read of two gives, and how
 // many are left then.
-const READS: [(Option<usize>, usize); 4] = [(Some(2), 1), (None, 1), (Some(1), 0), (Some(0), 0)];
+const READS: &[(Option<usize>, usize)] = &[(Some(2), 1), (None, 1), (Some(1), 0), (Some(0), 0)];
+
+// A source of these bytes whose reads of these numbers fail.
+fn new_source(rt: &impl Abort, alloc: Global, bytes: &[u8], fails: &[u64]) -> MemSource {
+    let bytes = bytes.to_vec(alloc).expect(rt, "memory");
+    let fails = fails.to_vec(alloc).expect(rt, "memory");
+    MemSource::new(bytes, fails)
+}
 
 #[test]
 fn a_source_fails_at_the_named_calls(rt: HostRuntime) {
-    let alloc = rt.alloc();
-    let bytes = [1, 2, 3].to_vec(alloc).expect(&rt, "memory");
-    let fails = [1].to_vec(alloc).expect(&rt, "memory");
-    let mut source = MemSource::new(bytes, fails);
+    let mut source = new_source(&rt, rt.alloc(), &[1, 2, 3], &[1]);
     let mut piece = [0; 2];
-    for &(count, left) in &READS {
+    for &(count, left) in READS {
         assert!(rt; source.read(&mut piece).ok() == count);
         assert!(rt; source.left().len() == left);
     }
@@ -30,23 +35,19 @@ fn a_source_fails_at_the_named_calls(rt: HostRuntime) {
 
 #[test]
 fn a_source_is_read_to_its_end(rt: HostRuntime) {
-    let alloc = rt.alloc();
-    let bytes = [7; 5000].to_vec(alloc).expect(&rt, "memory");
-    let mut source = MemSource::new(bytes, Vec::new(alloc));
-    let read = read_all(alloc, &mut source, 10_000).ok();
+    let mut source = new_source(&rt, rt.alloc(), &[7; 5000], &[]);
+    let read = read_all(rt.alloc(), &mut source, 10_000).ok();
     assert!(rt; read.expect(&rt, "bytes").len() == 5000);
 }
 
 // Of a sink with room for five bytes whose second write fails: what is written, and how much of it
 // is taken.
-const WRITES: [(&[u8], Option<usize>); 3] = [(b"ab", Some(2)), (b"cd", None), (b"cdef", Some(3))];
+const WRITES: &[(&[u8], Option<usize>)] = &[(b"ab", Some(2)), (b"cd", None), (b"cdef", Some(3))];
 
 #[test]
 fn a_sink_fails_at_the_named_calls_and_without_room(rt: HostRuntime) {
-    let alloc = rt.alloc();
-    let fails = [1].to_vec(alloc).expect(&rt, "memory");
-    let mut sink = MemSink::new(alloc, 5, fails).expect(&rt, "memory");
-    for &(bytes, count) in &WRITES {
+    let mut sink = new_sink(&rt, rt.alloc(), 5, &[1]);
+    for &(bytes, count) in WRITES {
         assert!(rt; sink.write(bytes).ok() == count);
     }
     assert!(rt; put_all(&mut sink, b"g").is_err());
@@ -88,7 +89,7 @@ fn planned_calls_of_a_store_fail(rt: HostRuntime) {
 const HALF_SURE: &[Step] = &[Write(0, 1), Synced, Write(1, 2), NotSynced];
 
 // The moment of a crash, and what is read then.
-const CRASHES: [(usize, &[Step]); 6] = [
+const CRASHES: &[(usize, &[Step])] = &[
     (0, &[Read(0, 0), Read(1, 0), Read(5, 0)]),
     (1, &[Read(0, 7), Read(1, 0), Read(5, 0)]),
     (2, &[Read(0, 1), Read(1, 0), Read(5, 0)]),
@@ -110,7 +111,7 @@ const LAST: &[Step] = &[Read(1, 2)];
 fn a_crash_fills_what_is_not_sure(rt: HostRuntime) {
     let mut store = new_store(&rt, rt.alloc(), 4, &[Fail::Sync(1)]);
     play(&rt, &mut store, HALF_SURE);
-    for (moment, steps) in &CRASHES {
+    for (moment, steps) in CRASHES {
         play_filled(&rt, &store, *moment, steps);
     }
     let left = store.crash(4, &[]);
@@ -142,7 +143,7 @@ fn write_runs(rt: &impl Abort, sink: &mut MemSink, store: &mut MemStore)
 #[test]
 fn a_run_is_written_cell_by_cell(rt: HostRuntime) {
     let mut store = new_store(&rt, rt.alloc(), 4, &[Fail::Write(3)]);
-    let mut sink = new_sink(&rt, rt.alloc(), 40);
+    let mut sink = new_sink(&rt, rt.alloc(), 40, &[]);
     write_runs(&rt, &mut sink, &mut store);
     assert!(rt; sink.written() == b"W 1\nW 2\nW 2\nW 3\n".as_slice());
     play(&rt, &mut store, RUNS);

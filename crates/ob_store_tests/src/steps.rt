@@ -126,7 +126,8 @@ pub fn new_store(rt: &impl Abort, alloc: Global, cells: usize, fails: &[Fail]) -
     MemStore::new(alloc, cells, fails).expect(rt, "memory")
 }
 
-/// A sink that takes so many bytes, and doesn't fail.
-pub fn new_sink(rt: &impl Abort, alloc: Global, room: usize) -> MemSink {
-    MemSink::new(alloc, room, Vec::new(alloc)).expect(rt, "memory")
+/// A sink that takes so many bytes, and whose writes of these numbers fail.
+pub fn new_sink(rt: &impl Abort, alloc: Global, room: usize, fails: &[u64]) -> MemSink {
+    let fails = fails.to_vec(alloc).expect(rt, "memory");
+    MemSink::new(alloc, room, fails).expect(rt, "memory")
 }
