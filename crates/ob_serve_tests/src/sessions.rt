@@ -1,6 +1,6 @@
 //! Two sessions in threads, beside the driver with no client of its own.
 
-ghost use Rattle.std.specs.Prelude.{◌≡◌, ◌≤◌, ◌<◌, All, IfOk};
+ghost use Rattle.std.specs.Prelude.{◌≡◌, ◌≤◌, ◌<◌, All};
 ghost use Rattle.ob_hall.specs.Passes.{opening_of};
 ghost use Rattle.ob_hall.specs.Calling.{IsReady, IsBetween};
 ghost use Rattle.ob_hall.specs.Testing.{IsInTxn, IsInTxnOrNot};
@@ -10,7 +10,7 @@ ghost use denote.Param.Send.{IsSync};
 
 use crate::runs::{NEVER, desk_at, formatted, open};
 use crate::starved::Starved;
-use ob_base::{Fault, Key, Memory, Params, Value};
+use ob_base::{Fault, Key, Params, Value};
 use ob_calls::Refused;
 use ob_desk::{Begun, Eager};
 use ob_hall::{Hall, Pass};
@@ -261,26 +261,20 @@ struct Opened {
 }
 
 // A hall round a new desk at this vault.
-fn open_hall<V: Vault>(
-    rt: &impl Abort,
-    alloc: Global,
-    params: &Params,
-    vault: &V,
-) -> Result<Opened, Memory>
-    ensures driver { IfOk result
-        (λ o. IsFirstPass o.hall o.driver params.now (V.counts vault.now)) }
-    ensures sessions { IfOk result (λ o. All (IsSession o.hall) o.sessions.items) }
+fn open_hall<V: Vault>(rt: &impl Abort, alloc: Global, params: &Params, vault: &V) -> Opened
+    ensures driver { IsFirstPass result.hall result.driver params.now (V.counts vault.now) }
+    ensures sessions { All (IsSession result.hall) result.sessions.items }
 {
-    let desk = desk_at(rt, alloc, params, vault)?;
+    let desk = desk_at(rt, alloc, params, vault);
     let Ok((hall, mut sessions)) = Hall::new(alloc, desk, &[1, 2]) else {
-        return Err(Memory);
+        panic!(rt; "no memory")
     };
     let driver = sessions.remove(0);
-    Ok(Opened {
+    Opened {
         hall,
         driver,
         sessions,
-    })
+    }
 }
 
 // Drives the epochs of a hall with no client of the driver's own.
@@ -341,11 +335,9 @@ fn run_sessions<R: Threads + Wait + Sync + Abort>(
     output: &mut MemSink,
 ) -> Result<(), Fault> {
     let mut store = formatted(rt, alloc, NEVER);
-    let mut vault = open(alloc, &mut store)?;
+    let mut vault = open(rt, alloc, &mut store);
     let params = vault.params();
-    let Ok(mut opened) = open_hall(rt, alloc, &params, &vault) else {
-        return Err(Fault::Memory);
-    };
+    let mut opened = open_hall(rt, alloc, &params, &vault);
     run_beside(
         rt,
         alloc,
@@ -368,7 +360,7 @@ fn two_sessions_are_served(rt: HostRuntime) {
     let mut output = MemSink::new(alloc, 1000, Vec::new(alloc)).expect(&rt, "memory");
     let clock = Clock::new();
     let ended = run_sessions(&rt, alloc, &clock, &mut output);
-    assert!(rt; ended == Ok(()));
-    assert_eq!(rt; clock.right.load(SeqCst), 9);
-    assert_eq!(rt; output.written(), LINES);
+    assert!(rt; ended.is_ok());
+    assert!(rt; clock.right.load(SeqCst) == 9);
+    assert!(rt; output.written() == LINES);
 }

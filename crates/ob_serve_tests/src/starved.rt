@@ -1,6 +1,6 @@
 //! A client that finds no memory.
 
-ghost use Rattle.std.specs.Prelude.{◌≡◌, ◌++◌, List, All, false, IfOk};
+ghost use Rattle.std.specs.Prelude.{◌≡◌, ◌++◌, List, All, false};
 ghost use Rattle.ob_desk.specs.Desk.{Call, Reply};
 ghost use Rattle.ob_session.specs.Steps.{steps_of, Leads, IsOwn};
 ghost use Rattle.ob_session.specs.Clients.{said_by, stands_after, IsOneCall};
@@ -11,7 +11,7 @@ ghost use Rattle.ob_serve_tests.specs.Pairs.{AreTwo};
 
 use crate::gate::Gate;
 use crate::runs::{NEVER, both, run_two};
-use ob_base::{Fault, Memory};
+use ob_base::Fault;
 use ob_desk::Desk;
 use ob_mem::MemSink;
 use ob_session::{Made, Runner, Said, Step};
@@ -62,9 +62,9 @@ impl Runner for Starved {
 }
 
 // Both clients, of which the first one finds no memory.
-fn starving(alloc: Global) -> Result<Vec<Starved>, Memory>
-    ensures { IfOk result (λ v. AreTwo (λ r. r.client) (λ r. 0)
-        (λ r said. Visits r.client r.gone said) v.items) }
+fn starving(rt: &impl Abort, alloc: Global) -> Vec<Starved>
+    ensures { AreTwo (λ r. r.client) (λ r. 0) (λ r said. Visits r.client r.gone said)
+        result.items }
 {
     let first = Starved {
         client: 1,
@@ -76,7 +76,7 @@ fn starving(alloc: Global) -> Result<Vec<Starved>, Memory>
         starved: false,
         gone: false,
     };
-    both(alloc, first, second)
+    both(rt, alloc, first, second)
 }
 
 fn has_gone(runners: &[Starved], at: usize) -> bool {
@@ -91,21 +91,22 @@ pub fn ends<R: Threads + Wait + Sync + Abort>(
     rt: &R,
     alloc: Global,
     threads: bool,
-) -> Result<(Option<Fault>, bool, bool), Fault> {
-    let mut output = MemSink::new(alloc, 1000, Vec::new(alloc))?;
-    let mut runners = starving(alloc)?;
+) -> (Option<Fault>, bool, bool) {
+    let Ok(mut output) = MemSink::new(alloc, 1000, Vec::new(alloc)) else {
+        panic!(rt; "no memory")
+    };
+    let mut runners = starving(rt, alloc);
     let gate = Gate::new(true);
     let ended = run_two(rt, alloc, NEVER, &gate, &mut runners, &mut output, threads);
     assert!(rt; output.written().is_empty());
-    Ok((ended.err(), has_gone(&runners, 0), has_gone(&runners, 1)))
+    (ended.err(), has_gone(&runners, 0), has_gone(&runners, 1))
 }
 
 // By hand the desk is found stopped behind a round; in threads each client makes its steps to the
 // end.
 #[test]
 fn want_of_memory_is_told_and_the_others_sign_off(rt: HostRuntime) {
-    for (threads, first_has_gone) in [(true, true), (false, false)] {
-        let wanted = (Some(Fault::Memory), first_has_gone, true);
-        assert!(&rt; ends(&rt, rt.alloc(), threads) == Ok(wanted));
-    }
+    let fault = Some(Fault::Memory);
+    assert!(&rt; ends(&rt, rt.alloc(), true) == (fault, true, true));
+    assert!(&rt; ends(&rt, rt.alloc(), false) == (fault, false, true));
 }

@@ -5,24 +5,24 @@ use Rattle.ob_serve_tests.proofs.Pairing.{below_all}
 use Rattle.ob_serve_tests.proofs.runs.run_over.Goals as goal
 
 pub run-requires-clause-serves : goal.run-requires-clause-serves
-run-requires-clause-serves g c κs within = c.in_ok-desk.ensures.opens.serves
+run-requires-clause-serves g c κs within = c.desk_at-desk.ensures.opens.serves
 
 pub run-requires-clause-clients : goal.run-requires-clause-clients
 run-requires-clause-clients g c κs within = sym c.requires.two.named
 
 pub run-requires-clause-fresh : goal.run-requires-clause-fresh
 run-requires-clause-fresh g c κs within =
-    c.in_ok-desk.ensures.desk
+    c.desk_at-desk.ensures.desk
     ∙ ap (λ (xs : List ℕ). new_desk (record { params = c.args.params.now }) (suc (g.V.Vault.counts c.args.vault.now).epoch) (g.V.Vault.counts c.args.vault.now).left xs) (sym c.requires.two.named)
 
 pub run-requires-clause-opens : goal.run-requires-clause-opens
 run-requires-clause-opens g c κs within =
     subst (MayOpen (record { params = c.args.params.now }) (suc (g.V.Vault.counts c.args.vault.now).epoch) (g.V.Vault.counts c.args.vault.now).left) (sym c.requires.two.named)
-    (two_open _ _ _ 1 2 c.in_ok-desk.ensures.opens.few c.in_ok-desk.ensures.opens.low refl refl)
+    (two_open _ _ _ 1 2 c.desk_at-desk.ensures.opens.few c.desk_at-desk.ensures.opens.low refl refl)
 
 pub run-requires-clause-below : goal.run-requires-clause-below
 run-requires-clause-below g c κs within =
-    below_all g.U.Runner.client g.U.Runner.bound g.U.Runner.fits c.args.runners.now.items c.args.params.now.keys c.in_ok-desk.ensures.opens.keys c.requires.two
+    below_all g.U.Runner.client g.U.Runner.bound g.U.Runner.fits c.args.runners.now.items c.args.params.now.keys c.desk_at-desk.ensures.opens.keys c.requires.two
 
 pub run-requires-clause-none_made : goal.run-requires-clause-none_made
 run-requires-clause-none_made g c κs within = c.requires.two.unsaid

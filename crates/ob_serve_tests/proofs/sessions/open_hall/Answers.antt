@@ -9,15 +9,15 @@ new-requires g c = record {
     record { params = c.args.params.now },
     _,
     _,
-    two_open (record { params = c.args.params.now }) _ _ 1 2 c.in_ok-desk.ensures.opens.few c.in_ok-desk.ensures.opens.low refl refl,
-    c.in_ok-desk.ensures.desk,
+    two_open (record { params = c.args.params.now }) _ _ 1 2 c.desk_at-desk.ensures.opens.few c.desk_at-desk.ensures.opens.low refl refl,
+    c.desk_at-desk.ensures.desk,
   );
 }
 
 pub returns-clause-driver : goal.returns-clause-driver
 returns-clause-driver g c =
-    driver_first c.in-Ok.hall c.args.params.now _ c.in-Ok.sessions.items c.in-Ok.ensures.passes (c.in-Ok.ensures.desk ∙ c.in_ok-desk.ensures.desk) c.in_ok-desk.ensures.opens c.remove-driver.result c.remove-driver.ensures.value
+    driver_first c.in-Ok.hall c.args.params.now _ c.in-Ok.sessions.items c.in-Ok.ensures.passes (c.in-Ok.ensures.desk ∙ c.desk_at-desk.ensures.desk) c.desk_at-desk.ensures.opens c.remove-driver.result c.remove-driver.ensures.value
 
 pub returns-clause-sessions : goal.returns-clause-sessions
 returns-clause-sessions g c =
-    sessions_are c.in-Ok.hall c.args.params.now _ c.in-Ok.sessions.items c.in-Ok.ensures.passes (c.in-Ok.ensures.desk ∙ c.in_ok-desk.ensures.desk) c.in_ok-desk.ensures.opens _ c.remove-driver.ensures.items
+    sessions_are c.in-Ok.hall c.args.params.now _ c.in-Ok.sessions.items c.in-Ok.ensures.passes (c.in-Ok.ensures.desk ∙ c.desk_at-desk.ensures.desk) c.desk_at-desk.ensures.opens _ c.remove-driver.ensures.items
