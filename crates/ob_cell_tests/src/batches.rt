@@ -12,7 +12,7 @@ use std::process::Abort;
 
 // Three cells of a store of 74 cells that was formatted under the keys of the bytes 0 to 95. They
 // were made with another SHA-256 and a plain ChaCha20.
-const CELLS: [(u64, [u128; 8]); 3] = [
+const CELLS: &[(u64, [u128; 8])] = &[
     (
         41,
         [
@@ -59,7 +59,7 @@ fn store_of(rt: &impl Abort, alloc: Global, fails: &[Fail], broken: u64) -> MemS
     ensures { result.log.out ≡ 0 }
 {
     let mut store = new_store(rt, alloc, 74, fails);
-    for (cell, words) in &CELLS {
+    for (cell, words) in CELLS {
         let mut bytes = spelled(words);
         if *cell == broken {
             bytes[100] ^= 1;
@@ -72,12 +72,15 @@ fn store_of(rt: &impl Abort, alloc: Global, fails: &[Fail], broken: u64) -> MemS
 // Jobs of the three cells: the first one's number, and the others' true ones.
 fn jobs_of(rt: &impl Abort, alloc: Global, number: u64) -> Jobs {
     let mut jobs = Jobs::new(alloc, &params(rt, 8, 2)).expect(rt, "memory");
-    for (cell, number) in [(41, number), (46, 7), (56, 17)] {
+    assert!(rt; jobs.room() == 18);
+    let cells = [41, 46, 56];
+    let numbers = [number, 7, 17];
+    for i in 0..3 {
         assert!(rt; jobs.jobs().len() < jobs.room());
         jobs.push(Job {
-            cell,
+            cell: cells[i],
             generation: 1,
-            number,
+            number: numbers[i],
             key: None,
             result: None,
         });

@@ -278,7 +278,7 @@ const FORGED: &[Row] = &[
 // How many places a batch has, the calls that fail, those that are made, and what is shown.
 struct Series(u32, &'static [Fail], &'static [Row], &'static str);
 
-const SERIES: [Series; 5] = [
+const SERIES: &[Series] = &[
     Series(
         2,
         &[],
@@ -313,66 +313,55 @@ fn play(rt: &impl Abort, alloc: Global, series: &Series) {
 
 #[test]
 fn calls_answer(rt: HostRuntime) {
-    for series in &SERIES {
+    for series in SERIES {
         play(&rt, rt.alloc(), series);
     }
 }
 
-// What an append answers and shows where this call fails.
-fn append_with(fail: Option<Fail>) -> (Answer, &'static str) {
-    match fail {
-        None => (Ok(0), "W 13\nS\nW 14\nS\n"),
-        Some(Fail::Write(0) | Fail::Sync(0)) => (Err(STORE_FAULT), "W 13\n"),
-        Some(_) => (Err(STORE_FAULT), "W 13\nS\nW 14\n"),
-    }
-}
+// The calls that fail at an append, what it answers, and what it shows.
+struct Append(&'static [Fail], Answer, &'static str);
 
-// The call that fails at an append, if one does; the moment of a crash; and how many records are
-// open where that leaves in their cells that aren't sure what they got last, zeros, or A5 in every
-// byte.
-type Crash = (Option<Fail>, usize, usize, usize, Option<usize>);
+const WHOLE: Append = Append(&[], Ok(0), "W 13\nS\nW 14\nS\n");
 
-const CRASHES: [Crash; 9] = [
-    (None, 0, 0, 0, Some(0)),
-    (None, 1, 0, 0, Some(0)),
-    (None, 2, 0, 0, Some(0)),
-    (None, 3, 1, 0, Some(1)),
-    (None, 4, 1, 1, Some(1)),
-    (Some(Fail::Write(0)), 4, 0, 0, None),
-    (Some(Fail::Sync(0)), 4, 0, 0, None),
-    (Some(Fail::Write(1)), 4, 1, 0, None),
-    (Some(Fail::Sync(1)), 4, 1, 0, None),
+// The body isn't written, or not made sure of; or the gate.
+const NO_BODY: Append = Append(&[Fail::Write(0)], Err(STORE_FAULT), "W 13\n");
+
+const NO_BODY_SURE: Append = Append(&[Fail::Sync(0)], Err(STORE_FAULT), "W 13\n");
+
+const NO_GATE: Append = Append(&[Fail::Write(1)], Err(STORE_FAULT), "W 13\nS\nW 14\n");
+
+const NO_GATE_SURE: Append = Append(&[Fail::Sync(1)], Err(STORE_FAULT), "W 13\nS\nW 14\n");
+
+// An append; the moment of a crash; and how many records are open where that leaves in their cells
+// that aren't sure what they got last, zeros, or A5 in every byte.
+struct Crash(Append, usize, usize, usize, Option<usize>);
+
+const CRASHES: &[Crash] = &[
+    Crash(WHOLE, 0, 0, 0, Some(0)),
+    Crash(WHOLE, 1, 0, 0, Some(0)),
+    Crash(WHOLE, 2, 0, 0, Some(0)),
+    Crash(WHOLE, 3, 1, 0, Some(1)),
+    Crash(WHOLE, 4, 1, 1, Some(1)),
+    Crash(NO_BODY, 4, 0, 0, None),
+    Crash(NO_BODY_SURE, 4, 0, 0, None),
+    Crash(NO_GATE, 4, 1, 0, None),
+    Crash(NO_GATE_SURE, 4, 1, 0, None),
 ];
 
-// A store after an append at which this call fails.
-fn with_append(rt: &impl Abort, alloc: Global, p: &Params, fail: Option<Fail>) -> MemStore {
-    let (answer, shown) = append_with(fail);
-    let calls = [(Call::Append((1, 0, 0), None, &FIRST), answer)];
-    match fail {
-        None => played(rt, alloc, p, &[], &calls, shown),
-        Some(fail) => played(rt, alloc, p, &[fail], &calls, shown),
-    }
-}
-
-// What a crash leaves, and in the body and the gate of the first record this byte.
-fn left_with(rt: &impl Abort, store: &MemStore, moment: usize, filling: Option<u8>) -> MemStore {
-    match filling {
-        None => left_after(rt, store, moment, &[]),
-        Some(byte) => left_after(rt, store, moment, &[(13, byte), (14, byte)]),
-    }
-}
-
-// What a read of the open records answers after an append at which this call fails, and a crash.
+// What a read of the open records answers after an append and a crash, which leaves this byte in
+// the body and the gate, where they aren't sure.
 fn read_after(rt: &impl Abort, alloc: Global, crash: &Crash, filling: Option<u8>) -> Answer {
+    let Crash(Append(fails, answer, shown), moment, ..) = crash;
     let p = params(rt, 8, 2);
-    let store = with_append(rt, alloc, &p, crash.0);
-    let mut left = left_with(rt, &store, crash.1, filling);
+    let calls = [(Call::Append((1, 0, 0), None, &FIRST), *answer)];
+    let store = played(rt, alloc, &p, fails, &calls, shown);
+    let mut left = left_after(rt, &store, *moment, &[13, 14], filling);
     count_open(alloc, &p, &mut left, &test_sealer(2), &mut Blind)
 }
 
 // Whether so many records are open after a crash.
 fn opens_so(rt: &impl Abort, alloc: Global, crash: &Crash) -> bool {
-    let &(_, _, last, zeros, open) = crash;
+    let &Crash(_, _, last, zeros, open) = crash;
     read_after(rt, alloc, crash, None) == Ok(last)
         && read_after(rt, alloc, crash, Some(0)) == Ok(zeros)
         && (open == None || read_after(rt, alloc, crash, Some(0xA5)).ok() == open)
@@ -380,13 +369,13 @@ fn opens_so(rt: &impl Abort, alloc: Global, crash: &Crash) -> bool {
 
 #[test]
 fn a_crash_leaves_a_prefix(rt: HostRuntime) {
-    for crash in &CRASHES {
-        assert!(rt; opens_so(&rt, rt.alloc(), crash), "{}", crash.1);
+    for i in 0..CRASHES.len() {
+        assert!(rt; opens_so(&rt, rt.alloc(), &CRASHES[i]), "crash {i}");
     }
 }
 
 // The cells were made by another implementation.
-const CELLS: [(u64, [u128; 8]); 3] = [
+const CELLS: &[(u64, [u128; 8])] = &[
     (
         13,
         [
@@ -446,7 +435,7 @@ fn is_spelled(rt: &impl Abort, store: &mut MemStore, cell: u64, words: &[u128; 8
 #[test]
 fn records_are_spelled(rt: HostRuntime) {
     let mut store = with_records(&rt, rt.alloc(), &params(&rt, 8, 2));
-    for (cell, words) in &CELLS {
+    for (cell, words) in CELLS {
         assert!(rt; is_spelled(&rt, &mut store, *cell, words), "{cell}");
     }
 }
@@ -475,7 +464,7 @@ fn records_are_told(rt: HostRuntime) {
 
 // The keys of the store; the epoch, the batch, and the kind and key of two places in the first
 // body; and what is told.
-const BROKEN: [(u32, [u8; 6], Check, u64, u64); 10] = [
+const BROKEN: &[(u32, [u8; 6], Check, u64, u64)] = &[
     (8, [3, 0, 0, 0, 0, 0], Check::Epoch, 3, 1),
     (8, [1, 1, 0, 0, 0, 0], Check::Form, 1, 0),
     (8, [1, 0, 2, 0, 0, 0], Check::Form, 2, 0),
@@ -490,7 +479,7 @@ const BROKEN: [(u32, [u8; 6], Check, u64, u64); 10] = [
 
 #[test]
 fn the_first_broken_rule_is_told(rt: HostRuntime) {
-    for &(keys, numbers, check, kept, least) in &BROKEN {
+    for &(keys, numbers, check, kept, least) in BROKEN {
         let calls = [
             (Call::Forge(13, 0, numbers), Ok(0)),
             (Call::Fill(14, 0xA5), Ok(0)),

@@ -104,7 +104,7 @@ fn read_with(rt: &impl Abort, alloc: Global, cell: u64, bytes: &[u8; 128]) -> (R
 
 // A cell of the run that is sealed anew, under a generation and a number; the first cell that
 // breaks a rule then, and the generation and number that it has and those that it should have.
-const SEALED_ANEW: [(u64, (u64, u64), u64, (u64, u64), (u64, u64)); 3] = [
+const SEALED_ANEW: &[(u64, (u64, u64), u64, (u64, u64), (u64, u64))] = &[
     (41, (1, 3), 41, (1, 3), (1, 2)),
     (41, (2, 2), 41, (2, 2), (1, 2)),
     (39, (7, 0), 40, (1, 1), (7, 1)),
@@ -112,7 +112,7 @@ const SEALED_ANEW: [(u64, (u64, u64), u64, (u64, u64), (u64, u64)); 3] = [
 
 #[test]
 fn the_first_cell_that_breaks_a_rule_is_told(rt: HostRuntime) {
-    for &(cell, sealed, at, kept, computed) in &SEALED_ANEW {
+    for &(cell, sealed, at, kept, computed) in SEALED_ANEW {
         let bytes = sealed_as(cell, sealed, &[7; 96]);
         let (read, reads) = read_with(&rt, rt.alloc(), cell, &bytes);
         let told = damaged(at, Check::Seal, kept, computed);
@@ -130,7 +130,7 @@ fn a_seal_is_of_its_cell_alone(rt: HostRuntime) {
     assert!(rt; read == Ok(FIRST) && reads == 4);
 }
 
-const NOT_READ: [Fail; 2] = [
+const NOT_READ: &[Fail] = &[
     Fail::Lane(0),
     Fail::Read {
         cell: 41,
@@ -148,7 +148,7 @@ fn fails(rt: &impl Abort, alloc: Global, fail: Fail) -> bool {
 
 #[test]
 fn a_failing_read_is_told(rt: HostRuntime) {
-    for fail in &NOT_READ {
+    for fail in NOT_READ {
         assert!(rt; fails(&rt, rt.alloc(), *fail));
     }
 }

@@ -25,17 +25,26 @@ pub fn new_sink(rt: &impl Abort, alloc: Global, room: usize) -> MemSink {
 }
 
 /// What a crash of a store leaves after so many calls: in each of these cells that isn't sure then,
-/// this byte throughout, else what it got last.
-pub fn left_after(rt: &impl Abort, store: &MemStore, moment: usize, fills: &[(u64, u8)]) -> MemStore
+/// this byte throughout, or what it got last.
+pub fn left_after(
+    rt: &impl Abort,
+    store: &MemStore,
+    moment: usize,
+    cells: &[u64],
+    filling: Option<u8>,
+) -> MemStore
     ensures { (disk_of_store result).out ≡ 0 }
 {
-    let many = fills.len();
-    assert!(rt; many <= 4);
-    let mut cells = [(0, [0; 128]); 4];
-    for i in 0..many {
-        cells[i] = (fills[i].0, [fills[i].1; 128]);
+    assert!(rt; cells.len() <= 4);
+    let mut fills = [(0, [filling.unwrap_or(0); 128]); 4];
+    for i in 0..cells.len() {
+        fills[i].0 = cells[i];
     }
-    store.crash(moment, &cells[..many]).expect(rt, "memory")
+    let left = match filling {
+        None => store.crash(moment, &[]),
+        Some(_) => store.crash(moment, &fills[..cells.len()]),
+    };
+    left.expect(rt, "memory")
 }
 
 /// The parameters of a store with so many keys and two read batches of so many places.

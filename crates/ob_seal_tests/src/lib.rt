@@ -1,6 +1,8 @@
-//! Tests of seals, stamps, pads and keys, and of tapes.
+//! Tests of seals, stamps, pads and keys, of tapes, and of registers.
 #![tactic(auto)]
 
+#[cfg(test)]
+mod registers;
 #[cfg(test)]
 mod seals;
 #[cfg(test)]

@@ -1,9 +1,51 @@
-//! What tests of cells share: keys, sealers, how a cell is spelled, and how damage is told.
+//! What tests of cells share: stores, keys, sealers, what a crash leaves, how damage is told.
 
-ghost use Rattle.std.specs.Prelude.{◌≡◌};
+ghost use Rattle.std.specs.Prelude.{◌≡◌, ℕ};
+ghost use Rattle.ob_mem.specs.Replay.{zeros};
+ghost use Rattle.ob_mem.specs.Memory.{disk_of_store};
 
 use ob_base::{Check, Fault};
+use ob_mem::{Fail, MemSink, MemStore};
 use ob_seal::{Keys, Sealer};
+use std::alloc::Global;
+use std::process::Abort;
+
+/// So many cells of zeros, where these calls fail.
+pub fn new_store(rt: &impl Abort, alloc: Global, cells: usize, fails: &[Fail]) -> MemStore
+    ensures out { (disk_of_store result).out ≡ 0 }
+    ensures blank { (k : ℕ) → (disk_of_store result).cells k ≡ zeros }
+{
+    let fails = fails.to_vec(alloc).expect(rt, "memory");
+    MemStore::new(alloc, cells, fails).expect(rt, "memory")
+}
+
+/// A sink that takes so many bytes, and doesn't fail.
+pub fn new_sink(rt: &impl Abort, alloc: Global, room: usize) -> MemSink {
+    MemSink::new(alloc, room, Vec::new(alloc)).expect(rt, "memory")
+}
+
+/// What a crash of a store leaves after so many calls: in each of these cells that isn't sure then,
+/// this byte throughout, or what it got last.
+pub fn left_after(
+    rt: &impl Abort,
+    store: &MemStore,
+    moment: usize,
+    cells: &[u64],
+    filling: Option<u8>,
+) -> MemStore
+    ensures { (disk_of_store result).out ≡ 0 }
+{
+    assert!(rt; cells.len() <= 4);
+    let mut fills = [(0, [filling.unwrap_or(0); 128]); 4];
+    for i in 0..cells.len() {
+        fills[i].0 = cells[i];
+    }
+    let left = match filling {
+        None => store.crash(moment, &[]),
+        Some(_) => store.crash(moment, &fills[..cells.len()]),
+    };
+    left.expect(rt, "memory")
+}
 
 /// The keys of the bytes 0 to 95.
 pub fn test_keys() -> Keys {

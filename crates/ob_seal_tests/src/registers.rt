@@ -19,13 +19,7 @@ type Got = Result<Option<u64>, Fault>;
 // The epoch register's number after a crash of a store, which leaves in its cells, where they
 // aren't sure, this byte throughout, or what they got last.
 fn number_after(rt: &impl Abort, store: &MemStore, moment: usize, filling: Option<u8>) -> Got {
-    let mut left = match filling {
-        None => left_after(rt, store, moment, &[]),
-        Some(byte) => {
-            let fills = [(5, byte), (6, byte), (7, byte), (8, byte)];
-            left_after(rt, store, moment, &fills)
-        }
-    };
+    let mut left = left_after(rt, store, moment, &[5, 6, 7, 8], filling);
     Twin::EPOCH.get(&mut left, &ZeroTag, &mut Gates::new(), &mut Blind)
 }
 
@@ -49,7 +43,7 @@ fn refused_at(store: &mut MemStore) -> (u64, bool)
 // last, zeros, or A5 in every byte. The first set has six calls, the second four, the third six.
 type Numbers = (usize, Option<u64>, Option<u64>, Option<u64>);
 
-const NUMBERS: [Numbers; 12] = [
+const NUMBERS: &[Numbers] = &[
     (0, None, None, None),
     (6, Some(0), Some(0), Some(0)),
     (7, Some(0), Some(0), Some(0)),
@@ -76,14 +70,14 @@ fn stands_at(rt: &impl Abort, store: &MemStore, numbers: &Numbers) -> bool {
 fn a_crash_leaves_old_or_new(rt: HostRuntime) {
     let mut store = new_store(&rt, rt.alloc(), 20, &[]);
     assert!(rt; refused_at(&mut store) == (3, false));
-    for numbers in &NUMBERS {
+    for numbers in NUMBERS {
         assert!(rt; stands_at(&rt, &store, numbers), "at {}", numbers.0);
     }
     assert!(rt; store.starved() == 0);
 }
 
 // The call that fails, the set that is refused, and whether before its gate.
-const REFUSED: [(Fail, u64, bool); 16] = [
+const REFUSED: &[(Fail, u64, bool)] = &[
     (Fail::Write(0), 0, true),
     (Fail::Sync(0), 0, true),
     (Fail::Write(1), 0, true),
@@ -104,7 +98,7 @@ const REFUSED: [(Fail, u64, bool); 16] = [
 
 #[test]
 fn a_failing_call_is_told(rt: HostRuntime) {
-    for &(fail, at, before) in &REFUSED {
+    for &(fail, at, before) in REFUSED {
         let mut store = new_store(&rt, rt.alloc(), 20, &[fail]);
         assert!(rt; refused_at(&mut store) == (at, before), "set {at}");
     }
