@@ -7,6 +7,8 @@ mod finding;
 #[cfg(test)]
 mod formats;
 #[cfg(test)]
+mod new_store;
+#[cfg(test)]
 mod openings;
 #[cfg(test)]
 mod replaying;

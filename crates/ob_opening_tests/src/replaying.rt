@@ -1,15 +1,16 @@
 //! Recorded batches that ask for keys, repeated: what they read stands in the stash.
 
 ghost use Rattle.std.specs.Prelude.{◌≡◌};
+ghost use Rattle.ob_mem.specs.Memory.{disk_of_store};
+ghost use Rattle.ob_recover.specs.Finds.{ObeysFound};
 
-use crate::small::{small_store, test_keys};
+use crate::small::{blank_store, small_store, test_keys, write_digits};
 use crate::two_epochs::CELLS;
-use hex::FromHex;
-use ob_base::Jobs;
+use ob_base::{Jobs, Params};
 use ob_cells::Crew;
 use ob_check::Sheet;
 use ob_mem::MemStore;
-use ob_recover::{find, replay};
+use ob_recover::{Found, find, replay};
 use ob_ring::Ring;
 use ob_seal::Sealer;
 use ob_store::{Blind, Store};
@@ -18,12 +19,11 @@ use std::process::Abort;
 
 // The store after two epochs.
 fn after_two_epochs(rt: &impl Abort, alloc: Global) -> MemStore
-    ensures { result.log.out ≡ 0 }
+    ensures { (disk_of_store result).out ≡ 0 }
 {
-    let mut store = MemStore::new(alloc, 109, Vec::new(alloc)).expect(rt, "memory");
+    let mut store = blank_store(rt, alloc, &[]);
     for i in 0..109 {
-        let bytes = <[u8; 128] as FromHex>::from_hex(CELLS[i]).expect(rt, "digits");
-        assert!(rt; store.write(i as u64, &bytes).is_ok());
+        write_digits(rt, &mut store, i as u64, CELLS, 256 * i);
     }
     store
 }
@@ -43,8 +43,8 @@ fn plain_of(rt: &impl Abort, spelled: Spelled) -> [u8; 96] {
 
 // Writes records, one a cell, under the first seals of generation 3, and opens their gates.
 fn record_batches(rt: &impl Abort, store: &mut MemStore, records: &[Spelled])
-    requires { store.old.log.out ≡ 0 }
-    ensures { store.new.log.out ≡ 0 }
+    requires { (disk_of_store store.old).out ≡ 0 }
+    ensures { (disk_of_store store.new).out ≡ 0 }
 {
     let mut sealer = Sealer::new(&test_keys(), 3);
     let mut cell = 13;
@@ -59,32 +59,53 @@ fn record_batches(rt: &impl Abort, store: &mut MemStore, records: &[Spelled])
     }
 }
 
-// The planner behind the batches that stand in the log.
-fn replayed(rt: &impl Abort, alloc: Global, store: &mut MemStore) -> (Ring, u32)
-    requires { store.old.log.out ≡ 0 }
+// What is found in the store after two epochs.
+fn found_in(rt: &impl Abort, alloc: Global, store: &mut MemStore, p: &Params) -> Found
+    ensures { ObeysFound p.now result }
 {
-    let keys = test_keys();
-    let p = small_store(rt);
-    let mut sheet = Sheet::new(alloc, &p).expect(rt, "memory");
-    let found = find(alloc, store, &keys, &p, &mut sheet, &mut Blind).expect(rt, "a store");
+    let mut sheet = Sheet::new(alloc, p).expect(rt, "memory");
+    let found = find(alloc, store, &test_keys(), p, &mut sheet, &mut Blind).expect(rt, "a store");
     assert!(rt; (found.generation, found.epoch) == (2, 2));
+    found
+}
+
+// Whether the stash has the row of key 5; it has no other.
+fn holds_five(rt: &impl Abort, ring: &Ring) -> bool {
+    let stash = &ring.tables().stash;
+    let holds = match stash.get(5) {
+        Some(value) => value.as_slice() == b"hi".as_slice(),
+        None => false,
+    };
+    assert!(rt; stash.len() == usize::from(holds));
+    holds
+}
+
+// How many batches are left behind those that stand in the log, and whether the stash then has the
+// row of key 5, and no other.
+fn replayed(rt: &impl Abort, alloc: Global, store: &mut MemStore) -> (u32, bool) {
+    let p = small_store(rt);
     let mut jobs = Jobs::new(alloc, &p).expect(rt, "memory");
     let mut crew = Crew::new(alloc, 1, jobs.room()).expect(rt, "memory");
-    let sealer = Sealer::new(&keys, 3);
-    replay(store, &mut crew, &sealer, &p, &mut jobs, found, &mut Blind).expect(rt, "a planner")
+    let sealer = Sealer::new(&test_keys(), 3);
+    let found = found_in(rt, alloc, store, &p);
+    match replay(store, &mut crew, &sealer, &p, &mut jobs, found, &mut Blind) {
+        Ok((ring, left)) => (left, holds_five(rt, &ring)),
+        Err(_) => (9, false),
+    }
 }
 
 // The key 5 asked for by the first place of batch 0, or by the second of batch 1.
 const FIRST: Spelled = &[(0, 3), (20, 1), (21, 5)];
 
 const SECOND: Spelled = &[(0, 3), (8, 1), (12, 2), (33, 1), (34, 5)];
+
 // The key 6, which was never written, and no key.
 const ABSENT: Spelled = &[(0, 3), (20, 1), (21, 6)];
 
 const PADS: Spelled = &[(0, 3)];
 
 // Records; how many batches are left behind them; whether the stash then has the row of key 5.
-const ROWS: [(&[Spelled], u32, bool); 6] = [
+const ROWS: &[(&[Spelled], u32, bool)] = &[
     (&[], 2, false),
     (&[FIRST], 1, true),
     (&[FIRST, SECOND], 0, true),
@@ -95,17 +116,9 @@ const ROWS: [(&[Spelled], u32, bool); 6] = [
 
 #[test]
 fn a_key_that_is_asked_for_stands_in_the_stash(rt: HostRuntime) {
-    let alloc = rt.alloc();
     for (records, left, holds) in ROWS {
-        let mut store = after_two_epochs(&rt, alloc);
+        let mut store = after_two_epochs(&rt, rt.alloc());
         record_batches(&rt, &mut store, records);
-        let (ring, batches) = replayed(&rt, alloc, &mut store);
-        assert_eq!(rt; batches, left);
-        let stash = &ring.tables().stash;
-        assert!(rt; stash.len() == usize::from(holds));
-        match stash.get(5) {
-            Some(value) => assert!(rt; holds && value.as_slice() == b"hi".as_slice()),
-            None => assert!(rt; !holds),
-        }
+        assert!(rt; replayed(&rt, rt.alloc(), &mut store) == (*left, *holds));
     }
 }

@@ -1,5 +1,6 @@
 use Rattle.std.proofs.Common.{◌≡◌}
+use Rattle.ob_mem.specs.Memory.{disk_of_store}
 use Rattle.ob_opening_tests.proofs.finding.formatted.Given as goal
 
-abbrev pub invariant-loop-cell : goal.invariant-loop-cell
-invariant-loop-cell g l = l.store.log.out ≡ 0
+abbrev pub invariant-loop-i : goal.invariant-loop-i
+invariant-loop-i g l = (disk_of_store l.store).out ≡ 0
