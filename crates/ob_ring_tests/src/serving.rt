@@ -1,6 +1,7 @@
 //! A run over a ring store: its opening, and steps one behind the other.
 
-ghost use Rattle.std.specs.Prelude.{◌≡◌, ◌<◌, ◌≤◌, ◌∷◌, [], length, IfOk, IfSome, OnOk, None};
+ghost use Rattle.std.specs.Prelude.{◌≡◌, ◌<◌, ◌≤◌, ◌∷◌, [], ℕ, List, length, IfOk, IfSome, OnOk, None, Some};
+ghost use Rattle.ob_ring.specs.Writing.{write_at};
 ghost use Rattle.ob_ring_tests.specs.Serving.{AreFitWrites, IsServing};
 
 use ob_base::{Fault, Key, Params, Value, Write};
@@ -30,7 +31,7 @@ pub enum Step {
 
 // How a run went: all its steps, with the last epoch that ended and the batches that are left; or
 // which call was refused.
-#[derive(Clone, Copy, PartialEq, Eq)]
+#[derive(Clone, Copy, PartialEq)]
 pub enum Told {
     Done { epoch: u64, left: u32 },
     Opening(Fault),
@@ -41,14 +42,14 @@ pub enum Told {
 }
 
 // How a run went, and the last value that an asked key had.
-#[derive(Clone, Copy, PartialEq, Eq)]
+#[derive(Clone, Copy)]
 pub struct Outcome {
     pub told: Told,
     pub found: Option<Value>,
 }
 
-/// Opens a store for a run.
-pub fn open_run<S: Store, T: Tape, W: Watch>(
+// Opens a store for a run.
+fn open_run<S: Store, T: Tape, W: Watch>(
     alloc: Global,
     store: &mut S,
     tape: &mut T,
@@ -93,8 +94,8 @@ pub fn open_run<S: Store, T: Tape, W: Watch>(
     Ok((run, crew))
 }
 
-/// The asks of a batch of at most two places.
-pub fn asks_of(key: Option<Key>) -> [Option<Key>; 2]
+// The asks of a batch of at most two places.
+fn asks_of(key: Option<Key>) -> [Option<Key>; 2]
     ensures { result ≡ key ∷ None ∷ [] }
 {
     [key, None]
@@ -108,7 +109,7 @@ fn ask<S: Store, T: Tape, W: Watch>(
     run: &mut Run,
     key: Option<Key>,
     watch: &mut W,
-) -> Result<Option<Value>, Fault>
+) -> Result<Option<Value>, Told>
     requires serving { IsServing (S.disk store.old) (T.present tape.old) (T.drawn tape.old)
         run.old crew.old }
     requires some_left { 0 < run.old.left }
@@ -131,12 +132,40 @@ fn ask<S: Store, T: Tape, W: Watch>(
         watch,
     ) {
         Ok(()) => Ok(out[0]),
-        Err(fault) => Err(fault),
+        Err(fault) => Err(Told::Fetch(fault)),
     }
 }
 
-/// The writes of at most four puts of keys below these.
-pub fn writes_of(puts: &[Put], keys: u32) -> Option<[Write; 4]>
+// Ends the epoch with these writes.
+fn end_with<S: Store, T: Tape, W: Watch>(
+    store: &mut S,
+    tape: &mut T,
+    crew: &mut Crew<S::Lane>,
+    run: &mut Run,
+    writes: &[Write],
+    watch: &mut W,
+) -> Result<Option<Value>, Told>
+    requires serving { IsServing (S.disk store.old) (T.present tape.old) (T.drawn tape.old)
+        run.old crew.old }
+    requires none_left { run.old.left ≡ 0 }
+    requires few { length writes.now ≤ run.old.params.writes }
+    requires keys { (i : ℕ) → i < length writes.now
+        → (write_at writes.now i).key < run.old.params.keys }
+    requires short { (i : ℕ) (value : List ℕ) → i < length writes.now
+        → (write_at writes.now i).value ≡ Some value → length value ≤ 64 }
+    ensures out { (S.disk store.new).out ≤ (S.disk store.old).out }
+    ensures serving { OnOk result (IsServing (S.disk store.new) (T.present tape.new)
+        (T.drawn tape.new) run.new crew.new) }
+{
+    match end(store, tape, crew, run, writes, watch) {
+        Ok(()) => Ok(None),
+        Err(EndErr::Before(fault)) => Err(Told::Before(fault)),
+        Err(EndErr::Unsure(fault)) => Err(Told::Unsure(fault)),
+    }
+}
+
+// The writes of at most four puts of keys below these.
+fn writes_of(puts: &[Put], keys: u32) -> Option<[Write; 4]>
     requires { 0 < keys }
     ensures few { IfSome result (λ writes. length puts.now ≤ 4) }
     ensures fit { IfSome result (AreFitWrites keys) }
@@ -162,8 +191,8 @@ pub fn writes_of(puts: &[Put], keys: u32) -> Option<[Write; 4]>
     Some(writes)
 }
 
-/// Takes a step, where it may be taken.
-pub fn take_step<S: Store, T: Tape, W: Watch>(
+// Takes a step, where it may be taken.
+fn take_step<S: Store, T: Tape, W: Watch>(
     store: &mut S,
     tape: &mut T,
     crew: &mut Crew<S::Lane>,
@@ -182,10 +211,7 @@ pub fn take_step<S: Store, T: Tape, W: Watch>(
             if run.left == 0 || run.params.places > 2 || key.unwrap_or(0) >= run.params.keys {
                 return Err(Told::Misuse);
             }
-            match ask(store, tape, crew, run, key, watch) {
-                Ok(value) => Ok(value),
-                Err(fault) => Err(Told::Fetch(fault)),
-            }
+            ask(store, tape, crew, run, key, watch)
         }
         Step::End(puts) => {
             let Some(writes) = writes_of(puts, run.params.keys) else {
@@ -194,13 +220,35 @@ pub fn take_step<S: Store, T: Tape, W: Watch>(
             if run.left != 0 || puts.len() > run.params.writes as usize {
                 return Err(Told::Misuse);
             }
-            match end(store, tape, crew, run, &writes[..puts.len()], watch) {
-                Ok(()) => Ok(None),
-                Err(EndErr::Before(fault)) => Err(Told::Before(fault)),
-                Err(EndErr::Unsure(fault)) => Err(Told::Unsure(fault)),
-            }
+            end_with(store, tape, crew, run, &writes[..puts.len()], watch)
         }
     }
+}
+
+// Takes these steps, up to the first that isn't taken.
+fn take_steps<S: Store, T: Tape, W: Watch>(
+    store: &mut S,
+    tape: &mut T,
+    crew: &mut Crew<S::Lane>,
+    run: &mut Run,
+    steps: &[Step],
+    watch: &mut W,
+) -> Outcome
+    requires serving { IsServing (S.disk store.old) (T.present tape.old) (T.drawn tape.old)
+        run.old crew.old }
+    ensures { (S.disk store.new).out ≡ 0 }
+{
+    let mut found: Option<Value> = None;
+    for i in 0..steps.len() {
+        match take_step(store, tape, crew, run, steps[i], watch) {
+            Ok(None) => {}
+            Ok(Some(value)) => found = Some(value),
+            Err(told) => return Outcome { told, found },
+        }
+    }
+    let (epoch, left) = (run.epoch, run.left);
+    let told = Told::Done { epoch, left };
+    Outcome { told, found }
 }
 
 /// Opens a store, and takes these steps.
@@ -217,26 +265,11 @@ pub fn run_steps<S: Store, T: Tape, W: Watch>(
     requires unstarted { T.present tape.old ≡ 0 }
     ensures { (S.disk store.new).out ≡ 0 }
 {
-    let mut found: Option<Value> = None;
-    let (mut run, mut crew) = match open_run(alloc, store, tape, keys, p, watch) {
-        Ok(opened) => opened,
-        Err(fault) => {
-            return Outcome {
-                told: Told::Opening(fault),
-                found,
-            };
-        }
-    };
-    for i in 0..steps.len() {
-        match take_step(store, tape, &mut crew, &mut run, steps[i], watch) {
-            Ok(None) => {}
-            Ok(Some(value)) => found = Some(value),
-            Err(told) => return Outcome { told, found },
-        }
+    match open_run(alloc, store, tape, keys, p, watch) {
+        Ok((mut run, mut crew)) => take_steps(store, tape, &mut crew, &mut run, steps, watch),
+        Err(fault) => Outcome {
+            told: Told::Opening(fault),
+            found: None,
+        },
     }
-    let told = Told::Done {
-        epoch: run.epoch,
-        left: run.left,
-    };
-    Outcome { told, found }
 }

@@ -13,18 +13,13 @@ use ob_vault::format;
 use std::alloc::Global;
 use std::process::Abort;
 
-/// The bytes 0 to 95.
-pub fn key_bytes() -> [u8; 96] {
+/// The keys of the bytes 0 to 95.
+pub fn test_keys() -> Keys {
     let mut bytes = [0; 96];
     for i in 0..96 {
         bytes[i] = i as u8;
     }
-    bytes
-}
-
-/// The keys of these bytes.
-pub fn test_keys() -> Keys {
-    Keys::from_bytes(&key_bytes())
+    Keys::from_bytes(&bytes)
 }
 
 /// A store of 8 keys in a tree of four leaves.
@@ -56,11 +51,12 @@ pub fn new_store(rt: &impl Abort, alloc: Global, fails: &[Fail]) -> MemStore
     store_of(rt, alloc, &small_store(rt), 109, fails)
 }
 
-/// A run of the small store on a tape of these words, and of zeros behind them.
+/// A run of a store on a tape of these words, and of zeros behind them.
 pub fn run_on<W: Watch>(
     rt: &impl Abort,
     alloc: Global,
     store: &mut MemStore,
+    p: &Params,
     words: &[u64],
     steps: &[Step],
     watch: &mut W,
@@ -69,25 +65,27 @@ pub fn run_on<W: Watch>(
     ensures { (disk_of_store store.new).out ≡ 0 }
 {
     let mut tape = ListTape::new(alloc, words).expect(rt, "memory");
-    let p = small_store(rt);
-    run_steps(alloc, store, &mut tape, &test_keys(), &p, steps, watch)
+    run_steps(alloc, store, &mut tape, &test_keys(), p, steps, watch)
 }
 
-/// What a crash leaves where the cells that aren't sure hold these bytes, or what they got last.
-pub fn left_after(
-    rt: &impl Abort,
-    store: &MemStore,
-    moment: usize,
-    filling: Option<[u8; 128]>,
-) -> MemStore
+/// A run of the small store on a tape of zeros, which nobody watches.
+pub fn run(rt: &impl Abort, alloc: Global, store: &mut MemStore, steps: &[Step]) -> Outcome
+    requires { (disk_of_store store.old).out ≡ 0 }
+    ensures { (disk_of_store store.new).out ≡ 0 }
+{
+    run_on(rt, alloc, store, &small_store(rt), &[], steps, &mut Blind)
+}
+
+/// What a crash leaves where the cells that aren't sure hold this byte, or what they got last.
+pub fn left_after(rt: &impl Abort, store: &MemStore, moment: usize, filling: Option<u8>) -> MemStore
     ensures { (disk_of_store result).out ≡ 0 }
 {
     let left = match filling {
         None => store.crash(moment, &[]),
-        Some(bytes) => {
-            let mut fillings = [(0, bytes); 109];
+        Some(byte) => {
+            let mut fillings = [(0, [byte; 128]); 109];
             for i in 0..109 {
-                fillings[i] = (i as u64, bytes);
+                fillings[i] = (i as u64, [byte; 128]);
             }
             store.crash(moment, &fillings)
         }
