@@ -120,8 +120,8 @@ fn a_failed_call_refuses_what_made_it(rt: HostRuntime) {
     }
 }
 
-// The cells that are read behind the head, in order, those of the opening, of two batches and of
-// the lifts; the writes before: 62 of the format, 2 of the opening and 2 of each batch's record; and
+// The cells that are read behind the head, in order: those of the opening, of two batches and of
+// the lifts; the writes before (62 of the format, 2 of the opening, 2 of each batch's record); and
 // how a read that fails is told.
 struct Reads {
     cells: &'static [u64],

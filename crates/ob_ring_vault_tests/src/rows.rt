@@ -96,8 +96,8 @@ fn finds_again(
     }
 }
 
-// Makes a row's calls over a new store, and asks for key 5 behind another opening; whether all is as
-// the row says.
+// Makes a row's calls over a new store, and asks for key 5 behind another opening; whether all is
+// as the row says.
 fn plays_so(rt: &impl Abort, alloc: Global, p: &Params, row: &Row) -> bool {
     let keys = test_keys();
     let wanted = Value::new(row.text);
