@@ -1,8 +1,8 @@
-//! Tests of the driver beside clients whose steps are made by hand, and of scripts by threads and
-//! by hand.
+//! Tests of scripts' runners, call by call over a desk; and of runs of scripts over a store: by
+//! hand, in threads, and by hand beside the driver.
 #![tactic(auto)]
 
 #[cfg(test)]
-mod driving;
+mod runs;
 #[cfg(test)]
-mod scripts;
+mod steps;

@@ -1,6 +1,0 @@
-use Rattle.ob_runner.specs.RunnerViews.{runner_state}
-use Rattle.ob_runner_tests.specs.Served.{IsRunnerServed}
-use Rattle.ob_runner_tests.proofs.scripts.play.Given as goal
-
-abbrev pub invariant-loop-turn : goal.invariant-loop-turn
-invariant-loop-turn g l = IsRunnerServed (runner_state l.runner) l.desk
