@@ -18,41 +18,26 @@ pub const AGAIN: &str = "\
     R 27/R 13/R 14/R 15/R 16/S/W 4/S/W 3/S/W 4/S/";
 
 // An epoch of two batches of pads, on a tape of zeros: its first batch's record,
-const FIRST_RECORD: &str = "W 13/S/W 14/S/";
+pub const FIRST_RECORD: &str = "W 13/S/W 14/S/";
 
 // that batch,
-const FIRST_BATCH: &str = "R 41/R 46/R 56/R 42/R 47/R 57/";
+pub const FIRST_BATCH: &str = "R 41/R 46/R 56/R 42/R 47/R 57/";
 
 // the second one's record,
-const SECOND_RECORD: &str = "W 15/S/W 16/S/";
+pub const SECOND_RECORD: &str = "W 15/S/W 16/S/";
 
 // that batch and the final lifts,
-const LATER_READS: &str = "\
+pub const LATER_READS: &str = "\
     R 43/R 39/R 40/R 48/R 44/R 45/R 58/R 54/R 55/R 49/R 50/R 64/R 65/";
 
 // what is written at the epoch's end,
-const REFILL: &str = "\
+pub const REFILL: &str = "\
     W 89/W 90/W 91/W 92/W 93/W 99/W 100/W 101/W 102/W 103/W 79/W 80/W 81/W 82/W 83/W 84/W 85/\
     W 86/W 87/W 88/W 74/W 75/W 76/W 77/W 78/W 28/W 29/W 30/W 31/W 32/W 33/W 34/W 35/W 36/W 37/\
     W 38/W 10/W 12/S/";
 
 // and the epoch's register.
-const REGISTER: &str = "W 7/S/W 8/S/";
-
-pub const EPOCH: &[&str] = &[
-    FIRST_RECORD,
-    FIRST_BATCH,
-    SECOND_RECORD,
-    LATER_READS,
-    REFILL,
-    REGISTER,
-];
-
-// The same behind a crash that left the first batch's record,
-pub const WITH_FIRST: &[&str] = &[FIRST_BATCH, SECOND_RECORD, LATER_READS, REFILL, REGISTER];
-
-// and behind one that left both.
-pub const WITH_BOTH: &[&str] = &[FIRST_BATCH, LATER_READS, REFILL, REGISTER];
+pub const REGISTER: &str = "W 7/S/W 8/S/";
 
 // The epoch behind it: its first batch asks for key 5, which was put at the first epoch's end.
 pub const SECOND_EPOCH: &str = "\

@@ -1,20 +1,24 @@
 //! Tests of the top call over a ring store: words, outputs, statuses and events, faults and
-//! crashes, and audits of a trace.
+//! crashes, audits of a trace, and many clients in threads, whose reports are replayed.
 #![tactic(auto)]
 
 #[cfg(test)]
-mod audits;
+mod alone;
 #[cfg(test)]
-mod calls;
+mod answers;
+#[cfg(test)]
+mod audits;
 #[cfg(test)]
 mod events;
 #[cfg(test)]
 mod faults;
 #[cfg(test)]
-mod fixture;
+mod many;
 #[cfg(test)]
 mod noting;
 #[cfg(test)]
-mod refused;
+mod playing;
+#[cfg(test)]
+mod replay;
 #[cfg(test)]
 mod shown;

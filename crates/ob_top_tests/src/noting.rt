@@ -14,20 +14,12 @@ use ob_mem::{MemLane, MemStore};
 use ob_store::{Event, Store};
 use std::alloc::Global;
 
-// A store in memory, and the calls on it, a lane's reads where it was absorbed. Without memory for
-// one it is lost.
+// A store in memory, and the calls on it, a lane's reads where it was absorbed. Those for which
+// there is no memory are missing.
 #[derive(Drop)]
 pub struct Noting {
     pub store: MemStore,
     pub events: Vec<Event>,
-    pub lost: bool,
-}
-
-// Adds calls to those noted, or tells that they are lost.
-fn note(events: &mut Vec<Event>, lost: &mut bool, more: &[Event]) {
-    if events.extend_from_slice(more).is_err() {
-        *lost = true;
-    }
 }
 
 /// What is noted of this store from now on.
@@ -37,7 +29,6 @@ pub fn noted(alloc: Global, store: MemStore) -> Noting
     Noting {
         store,
         events: Vec::new(alloc),
-        lost: false,
     }
 }
 
@@ -65,17 +56,17 @@ impl Store for Noting {
     }
 
     fn absorb(&mut self, lane: MemLane) {
-        note(&mut self.events, &mut self.lost, &lane.events);
+        let _noted = self.events.extend_from_slice(&lane.events);
         self.store.absorb(lane);
     }
 
     fn write(&mut self, cell: u64, bytes: &[u8; 128]) -> Result<(), Failed> {
-        note(&mut self.events, &mut self.lost, &[Event::Write(cell)]);
+        let _noted = self.events.extend_from_slice(&[Event::Write(cell)]);
         self.store.write(cell, bytes)
     }
 
     fn sync(&mut self) -> Result<(), Failed> {
-        note(&mut self.events, &mut self.lost, &[Event::Sync]);
+        let _noted = self.events.extend_from_slice(&[Event::Sync]);
         self.store.sync()
     }
 }

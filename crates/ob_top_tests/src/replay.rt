@@ -1,12 +1,11 @@
 //! A report, replayed transaction by transaction.
 
 use std::process::Abort;
-use std::test::Fail as Broken;
 
 /// What the committed transactions of a report leave, line by line.
 #[derive(Drop)]
 struct Replay<'a> {
-    values: Vec<Option<&'a str>>,
+    values: [Option<&'a str>; 16],
     // By client, the number behind that of its last transaction that put anything.
     next: [u64; 65],
     // Whether the lines are those of a committed transaction.
@@ -14,23 +13,32 @@ struct Replay<'a> {
     txns: u64,
 }
 
+fn number_of<R: Abort>(rt: &R, text: &str) -> u64 {
+    text.parse::<u64>().ok().expect(rt, "a number")
+}
+
 // Takes a put's value, which tells its client and the number of the transaction: a client's come in
 // order.
-fn take_turn<R: Abort>(rt: &R, next: &mut [u64; 65], rest: &str) {
-    let (_, value) = rest.split_once(' ').expect(rt, "a key");
+fn take_turn<R: Abort>(rt: &R, next: &mut [u64; 65], value: &str) {
     let (client, number) = value.split_once('x').expect(rt, "a client");
-    let client = client.parse::<usize>().ok().expect(rt, "a number");
-    let number = number.parse::<u64>().ok().expect(rt, "a number");
-    assert!(rt; client < 65 && number < 50, "{rest}");
-    assert!(rt; next[client] <= number, "{rest}");
+    let client = number_of(rt, client) as usize;
+    let number = number_of(rt, number);
+    assert!(rt; client < 65, "{value}");
+    assert!(rt; number < 50 && next[client] <= number);
     next[client] = number.saturating_add(1);
 }
 
-// Takes an operation's line of a committed transaction: a get finds what the earlier ones left.
+// Takes an operation's line: a get of a committed transaction finds what the earlier ones left.
 fn take_op<'a, R: Abort>(rt: &R, replay: &mut Replay<'a>, name: &str, rest: &'a str) {
     let (key, value) = rest.split_once(' ').expect(rt, "a key");
-    let at = key.parse::<usize>().ok().expect(rt, "a number");
-    assert!(rt; at < replay.values.len(), "{rest}");
+    if name == "put" {
+        take_turn(rt, &mut replay.next, value);
+    }
+    if !replay.counts {
+        return;
+    }
+    let at = number_of(rt, key) as usize;
+    assert!(rt; at < 16, "{rest}");
     if name == "put" {
         replay.values[at] = Some(value);
     } else {
@@ -41,27 +49,20 @@ fn take_op<'a, R: Abort>(rt: &R, replay: &mut Replay<'a>, name: &str, rest: &'a 
 
 fn take_line<'a, R: Abort>(rt: &R, replay: &mut Replay<'a>, line: &'a str) {
     let (name, rest) = line.split_once(' ').expect(rt, "a word");
-    if name == "txn" {
-        replay.counts = rest.ends_with(" committed");
-        replay.txns = replay.txns.saturating_add(1);
-        return;
-    }
-    if name == "put" {
-        take_turn(rt, &mut replay.next, rest);
-    }
-    if name != "epoch" && replay.counts {
-        take_op(rt, replay, name, rest);
+    match name {
+        "epoch" => {}
+        "txn" => {
+            replay.counts = rest.ends_with(" committed");
+            replay.txns = replay.txns.saturating_add(1);
+        }
+        _ => take_op(rt, replay, name, rest),
     }
 }
 
 /// Replays a report's committed transactions on 16 keys one by one: how many transactions it tells.
-pub fn replayed<R: AllocGlobal + Abort>(rt: &R, report: &str) -> Result<u64, Broken> {
-    let mut values = Vec::new(rt.alloc());
-    for _ in 0..16 {
-        values.push(None)?;
-    }
+pub fn replayed<R: Abort>(rt: &R, report: &str) -> u64 {
     let mut replay = Replay {
-        values,
+        values: [None; 16],
         next: [0; 65],
         counts: false,
         txns: 0,
@@ -69,5 +70,5 @@ pub fn replayed<R: AllocGlobal + Abort>(rt: &R, report: &str) -> Result<u64, Bro
     for line in report.lines() {
         take_line(rt, &mut replay, line);
     }
-    Ok(replay.txns)
+    replay.txns
 }
