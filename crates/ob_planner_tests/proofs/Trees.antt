@@ -1,12 +1,8 @@
--- The numbers of buckets of the small trees.
+-- The number of buckets of a tiny tree.
 use Rattle.std.specs.Prelude.{◌≡◌, ℕ, ◌+◌, ◌-◌, ◌^◌}
 use Rattle.std.proofs.Common.{ap}
 use Rattle.ob_base.specs.declared.params.Params.{Params}
 use Rattle.ob_base.specs.Tree.{buckets}
-
-pub seven : (p : Params) → p.levels ≡ 2 → buckets p ≡ 7
-unfolding buckets
-seven p e = ap (λ (l : ℕ). 2 ^ (l + 1) - 1) e
 
 pub three : (p : Params) → p.levels ≡ 1 → buckets p ≡ 3
 unfolding buckets
