@@ -1,111 +1,86 @@
 //! Words, good and bad.
 
-use crate::fixture::compare;
+use crate::fixture::{compare, push};
 use ob_words::{Request, WordsErr, read_words};
-use std::alloc::AllocError;
 use std::process::Abort;
 
-// Words, and what they ask for: each operand in brackets.
-static READ: [(&[&str], &str); 15] = [
-    (&["audit"], "audit"),
-    (&["run", "S", "K"], "run [S] [K]"),
-    (&["run", "S", "K", "--turns"], "run [S] [K] turns"),
-    (&["run", "S", "K", "--lanes", "1"], "run [S] [K] lanes [1]"),
+// Words with a blank between two, and what they ask for: each operand in brackets.
+static WORDS: [(&str, &str); 44] = [
+    ("audit", "audit"),
+    ("run S K", "run [S] [K]"),
+    ("run S K --turns", "run [S] [K] turns"),
+    ("run S K --lanes 1", "run [S] [K] lanes [1]"),
+    ("run S K --turns --lanes 16", "run [S] [K] lanes [16] turns"),
+    ("run S K --lanes 16 --turns", "run [S] [K] lanes [16] turns"),
+    ("run S K --lanes x", "run [S] [K] lanes [x]"),
     (
-        &["run", "S", "K", "--turns", "--lanes", "16"],
-        "run [S] [K] lanes [16] turns",
-    ),
-    (
-        &["run", "S", "K", "--lanes", "16", "--turns"],
-        "run [S] [K] lanes [16] turns",
-    ),
-    (&["run", "S", "K", "--lanes", "x"], "run [S] [K] lanes [x]"),
-    (
-        &[
-            "format", "S", "K", "8", "2", "3", "4", "5", "6", "7", "9", "1",
-        ],
+        "format S K 8 2 3 4 5 6 7 9 1",
         "format [S] [K] [8] [2] [3] [4] [5] [6] [7] [9] [1]",
     ),
     // What a parse takes beside the forms: a value behind `=`, options before and between operands,
     // and behind `--` words that begin with `-`. An operand may be empty.
-    (&["run", "S", "K", "--lanes=2"], "run [S] [K] lanes [2]"),
-    (&["run", "--lanes", "2", "S", "K"], "run [S] [K] lanes [2]"),
-    (&["run", "S", "--turns", "K"], "run [S] [K] turns"),
-    (&["run", "--", "S", "K"], "run [S] [K]"),
-    (
-        &["run", "--turns", "--", "-S", "--lanes"],
-        "run [-S] [--lanes] turns",
-    ),
-    (&["run", "", "K"], "run [] [K]"),
-    (&["run", "-", "K"], "run [-] [K]"),
+    ("run S K --lanes=2", "run [S] [K] lanes [2]"),
+    ("run --lanes 2 S K", "run [S] [K] lanes [2]"),
+    ("run S --turns K", "run [S] [K] turns"),
+    ("run -- S K", "run [S] [K]"),
+    ("run --turns -- -S --lanes", "run [-S] [--lanes] turns"),
+    ("run  K", "run [] [K]"),
+    ("run - K", "run [-] [K]"),
+    // Others are refused.
+    ("", "refused"),
+    ("run", "refused"),
+    ("run S", "refused"),
+    ("runs S K", "refused"),
+    ("ru S K", "refused"),
+    ("S K run", "refused"),
+    ("run S K X", "refused"),
+    ("run S K -- X", "refused"),
+    ("format S K 8 2 2 3 2 2 2 2", "refused"),
+    ("format S K 8 2 2 3 2 2 2 2 8 9", "refused"),
+    ("format S K 8 2 2 3 2 2 2 -2 8", "refused"),
+    ("format S K 8 2 2 3 2 2 2 2 8 --turns", "refused"),
+    ("audit x", "refused"),
+    ("audit --turns", "refused"),
+    ("drill 1", "refused"),
+    ("run S K --trace F", "refused"),
+    ("--help", "refused"),
+    ("-h", "refused"),
+    ("help", "refused"),
+    ("help run", "refused"),
+    ("run --help", "refused"),
+    ("run S K --turns --turns", "refused"),
+    ("run S K --turns=true", "refused"),
+    ("run S K --lanes", "refused"),
+    ("run S K --lanes 2 --lanes 3", "refused"),
+    ("run S K --lanes -2", "refused"),
+    ("run S -k", "refused"),
+    ("run S K --turn", "refused"),
+    ("run S K --nothing", "refused"),
 ];
 
-// Words that are refused.
-static REFUSED: [&[&str]; 29] = [
-    &[""],
-    &["run"],
-    &["run", "S"],
-    &["runs", "S", "K"],
-    &["ru", "S", "K"],
-    &["S", "K", "run"],
-    &["run", "S", "K", "X"],
-    &["run", "S", "K", "--", "X"],
-    &["format", "S", "K", "8", "2", "2", "3", "2", "2", "2", "2"],
-    &[
-        "format", "S", "K", "8", "2", "2", "3", "2", "2", "2", "2", "8", "9",
-    ],
-    &[
-        "format", "S", "K", "8", "2", "2", "3", "2", "2", "2", "-2", "8",
-    ],
-    &[
-        "format", "S", "K", "8", "2", "2", "3", "2", "2", "2", "2", "8", "--turns",
-    ],
-    &["audit", "x"],
-    &["audit", "--turns"],
-    &["drill", "1"],
-    &["run", "S", "K", "--trace", "F"],
-    &["--help"],
-    &["-h"],
-    &["help"],
-    &["help", "run"],
-    &["run", "--help"],
-    &["run", "S", "K", "--turns", "--turns"],
-    &["run", "S", "K", "--turns=true"],
-    &["run", "S", "K", "--lanes"],
-    &["run", "S", "K", "--lanes", "2", "--lanes", "3"],
-    &["run", "S", "K", "--lanes", "-2"],
-    &["run", "S", "-k"],
-    &["run", "S", "K", "--turn"],
-    &["run", "S", "K", "--nothing"],
-];
-
-// Spells a format: its files and numbers, each in brackets.
-fn push_format(text: &mut String, words: &[&str]) -> Result<(), AllocError> {
-    text.push_str("format")?;
-    for word in words {
-        write!(text, " [{word}]")?;
+// Spells a word and what belongs to it, in brackets.
+fn push_words<R: Abort>(rt: &R, text: &mut String, word: &str, operands: &[&str]) {
+    push(rt, text, word);
+    for operand in operands {
+        push(rt, text, " [");
+        push(rt, text, operand);
+        push(rt, text, "]");
     }
-    Ok(())
 }
 
 // Spells a run: its files, its lanes where they are given, and whether it is in turns.
-fn push_run<'t>(
-    text: &mut String,
-    store: &'t str,
-    keys: &'t str,
-    lanes: Option<&'t str>,
-    turns: bool,
-) -> Result<(), AllocError> {
-    let (before, lanes, after) = match lanes {
-        Some(lanes) => (" lanes [", lanes, "]"),
-        None => ("", "", ""),
-    };
-    let end = if turns { " turns" } else { "" };
-    write!(text, "run [{store}] [{keys}]{before}{lanes}{after}{end}")
+fn push_run<R: Abort>(rt: &R, text: &mut String, files: &[&str], lanes: Option<&str>, turns: bool) {
+    push_words(rt, text, "run", files);
+    if let Some(lanes) = lanes {
+        push_words(rt, text, " lanes", &[lanes]);
+    }
+    if turns {
+        push(rt, text, " turns");
+    }
 }
 
 // Spells what the words ask for.
-fn push_request(text: &mut String, request: &Request<'_>) -> Result<(), AllocError> {
+fn push_request<R: Abort>(rt: &R, text: &mut String, request: &Request<'_>) {
     match *request {
         Request::Format {
             store,
@@ -119,43 +94,51 @@ fn push_request(text: &mut String, request: &Request<'_>) -> Result<(), AllocErr
             bw,
             e,
             t,
-        } => push_format(text, &[store, keys, n, l, z, s, r, br, bw, e, t]),
+        } => push_words(
+            rt,
+            text,
+            "format",
+            &[store, keys, n, l, z, s, r, br, bw, e, t],
+        ),
         Request::Run {
             store,
             keys,
             lanes,
             turns,
-        } => push_run(text, store, keys, lanes, turns),
-        Request::Audit => text.push_str("audit"),
+        } => push_run(rt, text, &[store, keys], lanes, turns),
+        Request::Audit => push(rt, text, "audit"),
     }
 }
 
-fn expect<R: AllocGlobal + Abort>(rt: &R, words: &[&str], wanted: &str) {
+fn expect<R: AllocGlobal + Abort>(rt: &R, name: &str, words: &[&str], wanted: &str) {
     let mut text = String::new(rt.alloc());
-    let done = match read_words(rt.alloc(), words) {
-        Ok(request) => push_request(&mut text, &request),
-        Err(WordsErr::Usage) => text.push_str("refused"),
-        Err(WordsErr::Memory) => text.push_str("out of memory"),
-    };
-    done.expect(rt, "memory");
-    compare(rt, text.as_str(), text.as_bytes(), wanted);
-}
-
-#[test]
-fn words_are_read_as_what_they_say(rt: HostRuntime) {
-    for (words, wanted) in &READ {
-        expect(&rt, words, wanted);
+    match read_words(rt.alloc(), words) {
+        Ok(request) => push_request(rt, &mut text, &request),
+        Err(WordsErr::Usage) => push(rt, &mut text, "refused"),
+        Err(WordsErr::Memory) => push(rt, &mut text, "out of memory"),
     }
+    compare(rt, name, text.as_bytes(), wanted);
+}
+
+fn expect_row<R: AllocGlobal + Abort>(rt: &R, words: &str, wanted: &str) {
+    let mut all = [""; 16];
+    let mut many = 0;
+    for word in words.split(' ') {
+        assert!(rt; many < 16);
+        all[many] = word;
+        many += 1;
+    }
+    expect(rt, words, &all[..many.min(16)], wanted);
 }
 
 #[test]
-fn other_words_are_refused(rt: HostRuntime) {
-    for words in &REFUSED {
-        expect(&rt, words, "refused");
+fn words_are_read_or_refused(rt: HostRuntime) {
+    for &(words, wanted) in &WORDS {
+        expect_row(&rt, words, wanted);
     }
 }
 
 #[test]
 fn no_words_are_refused(rt: HostRuntime) {
-    expect(&rt, &[], "refused");
+    expect(&rt, "no words", &[], "refused");
 }

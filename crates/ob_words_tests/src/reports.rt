@@ -8,7 +8,7 @@ use ob_serial::{EpochRecord, Outcome, TxnRecord, Why};
 use std::process::Abort;
 
 // An operation: a put, a get of the client's own value, a get that found nothing, or a delete.
-#[derive(Clone, Copy)]
+#[derive(Drop)]
 enum Done {
     Put(Key, &'static str),
     Got(Key, &'static str),
@@ -16,8 +16,8 @@ enum Done {
     Del(Key),
 }
 
-fn op_of<R: Abort>(rt: &R, done: Done) -> Op<Key> {
-    match done {
+fn op_of<R: Abort>(rt: &R, done: &Done) -> Op<Key> {
+    match *done {
         Done::Put(key, text) => Op::Put {
             key,
             value: value_of(rt, text),
@@ -46,7 +46,7 @@ fn ops_of<R: AllocGlobal + Abort>(rt: &R, all: &[Done]) -> Vec<Op<Key>> {
     let mut ops = Vec::new(rt.alloc());
     for done in all {
         ops.reserve(1).expect(rt, "memory");
-        ops.push_reserved(op_of(rt, *done));
+        ops.push_reserved(op_of(rt, done));
     }
     ops
 }
@@ -93,29 +93,25 @@ fn expect_record<R: AllocGlobal + Abort>(rt: &R, row: &Row) {
     expect_lines(rt, &sink, row.1);
 }
 
-static EACH_OPERATION: Row = (
-    &[(
-        2,
-        3,
-        Outcome::Committed,
-        &[
-            Done::Put(5, "hi"),
-            Done::Got(5, "hi"),
-            Done::Absent(4294967295),
-            Done::Put(0, ""),
-            Done::Got(0, ""),
-            Done::Del(17),
-        ],
-    )],
-    "epoch 1/txn 2 client 3 committed/put 5 hi/get 5 = hi/get 4294967295 absent/put 0 /get 0 = /del 17/",
-);
-
-#[test]
-fn each_operation_has_its_line(rt: HostRuntime) {
-    expect_record(&rt, &EACH_OPERATION);
-}
-
-static EACH_OUTCOME: [Row; 7] = [
+static RECORDS: [Row; 9] = [
+    // Each operation has its line.
+    (
+        &[(
+            2,
+            3,
+            Outcome::Committed,
+            &[
+                Done::Put(5, "hi"),
+                Done::Got(5, "hi"),
+                Done::Absent(4294967295),
+                Done::Put(0, ""),
+                Done::Got(0, ""),
+                Done::Del(17),
+            ],
+        )],
+        "epoch 1/txn 2 client 3 committed/put 5 hi/get 5 = hi/get 4294967295 absent/put 0 /get 0 = /del 17/",
+    ),
+    // Each outcome has its words.
     (
         &[(
             2,
@@ -172,33 +168,28 @@ static EACH_OUTCOME: [Row; 7] = [
         &[(2, 3, Outcome::Committed, &[])],
         "epoch 1/txn 2 client 3 committed/",
     ),
+    // Transactions follow each other.
+    (
+        &[
+            (
+                2,
+                3,
+                Outcome::Aborted {
+                    why: Why::ReadsFull { queued: 0, left: 0 },
+                },
+                &[Done::Absent(0)],
+            ),
+            (3, 64, Outcome::Committed, &[Done::Put(3, "x")]),
+        ],
+        "epoch 1/txn 2 client 3 aborted reads full queued 0 left 0/get 0 absent/txn 3 client 64 committed/put 3 x/",
+    ),
 ];
 
 #[test]
-fn each_outcome_has_its_words(rt: HostRuntime) {
-    for row in &EACH_OUTCOME {
+fn records_have_their_lines(rt: HostRuntime) {
+    for row in &RECORDS {
         expect_record(&rt, row);
     }
-}
-
-static TWO_TXNS: Row = (
-    &[
-        (
-            2,
-            3,
-            Outcome::Aborted {
-                why: Why::ReadsFull { queued: 0, left: 0 },
-            },
-            &[Done::Absent(0)],
-        ),
-        (3, 64, Outcome::Committed, &[Done::Put(3, "x")]),
-    ],
-    "epoch 1/txn 2 client 3 aborted reads full queued 0 left 0/get 0 absent/txn 3 client 64 committed/put 3 x/",
-);
-
-#[test]
-fn transactions_follow_each_other(rt: HostRuntime) {
-    expect_record(&rt, &TWO_TXNS);
 }
 
 static FAULTS: [(Fault, u8, &str); 12] = [
@@ -292,24 +283,33 @@ fn expect_front<R: AllocGlobal + Abort>(
     rt: &R,
     record: &EpochRecord<Key>,
     call: u64,
-    whole: &MemSink,
+    whole: &[u8],
 ) {
     let mut sink = sink_of(rt, 10_000, &[call]);
     assert!(rt; text(record, &mut sink).is_err() && sink.faults() == 1);
     let front = sink.written();
-    assert!(rt; front.len() as u64 == call.wrapping_mul(4096));
-    assert!(rt; whole.written().starts_with(front));
+    assert!(rt; front.len() as u64 == call.wrapping_mul(4096) && whole.starts_with(front));
+}
+
+// A record is written in so many bytes and calls.
+fn expect_calls<R: AllocGlobal + Abort>(
+    rt: &R,
+    record: &EpochRecord<Key>,
+    bytes: usize,
+    calls: u64,
+) {
+    let mut whole = sink_of(rt, 10_000, &[calls]);
+    assert!(rt; text(record, &mut whole).is_ok());
+    assert!(rt; whole.written().len() == bytes);
+    for call in 0..calls {
+        expect_front(rt, record, call, whole.written());
+    }
 }
 
 fn expect_pages<R: AllocGlobal + Abort>(rt: &R, puts: u32, bytes: usize, calls: u64) {
     let puts = many_puts(rt, puts);
     let record = record_of(rt, &[(2, 3, Outcome::Committed, &puts)]);
-    let mut whole = sink_of(rt, 10_000, &[calls]);
-    assert!(rt; text(&record, &mut whole).is_ok());
-    assert!(rt; whole.written().len() == bytes);
-    for call in 0..calls {
-        expect_front(rt, &record, call, &whole);
-    }
+    expect_calls(rt, &record, bytes, calls);
 }
 
 #[test]
@@ -319,13 +319,17 @@ fn a_report_is_written_in_pages(rt: HostRuntime) {
     }
 }
 
+// A sink without room for a line has the front of it.
+fn expect_cut<R: AllocGlobal + Abort>(rt: &R, fault: &Fault, room: usize, line: &[u8]) {
+    let mut sink = sink_of(rt, room, &[]);
+    assert!(rt; fault_text(fault, &mut sink).is_err());
+    assert!(rt; sink.written().len() == room && line.starts_with(sink.written()));
+}
+
 #[test]
 fn a_sink_without_room_has_a_front(rt: HostRuntime) {
-    let line = b"fault: damaged cell 41 seal\n".as_slice();
-    let fault = damaged(Check::Seal);
-    for room in 0..line.len() {
-        let mut sink = sink_of(&rt, room, &[]);
-        assert!(&rt; fault_text(&fault, &mut sink).is_err());
-        assert!(&rt; sink.written() == &line[..room]);
+    let line = b"fault: damaged cell 41 seal\n";
+    for room in 0..28 {
+        expect_cut(&rt, &damaged(Check::Seal), room, line);
     }
 }

@@ -1,9 +1,8 @@
 //! Scripts, good and bad, line by line.
 
-use crate::fixture::compare;
+use crate::fixture::{compare, push};
 use ob_base::Fault;
 use ob_script::{Ask, Ending, LIMIT, ScriptTxn, Scripts, parse};
-use std::alloc::AllocError;
 use std::fmt::Display;
 use std::process::Abort;
 
@@ -13,78 +12,78 @@ const KEYS: u32 = 8;
 // So many comments of one byte fill a script that begins with a line of nine bytes.
 const COMMENTS: u64 = 524_283;
 
-// Adds a number and what stands behind it, each between texts.
-fn push<D: Display + Drop>(
+// Adds a number between texts.
+fn push_number<R: Abort, D: Display + Drop>(
+    rt: &R,
     all: &mut String,
     before: &str,
-    number: u64,
-    between: &str,
-    rest: D,
+    number: D,
     after: &str,
-) -> Result<(), AllocError> {
-    write!(all, "{before}{number}{between}{rest}{after}")
+) {
+    write!(all, "{before}{number}{after}").expect(rt, "memory");
 }
 
 // Spells an operation, and a blank behind it.
-fn push_ask(all: &mut String, ask: &Ask) -> Result<(), AllocError> {
+fn push_ask<R: Abort>(rt: &R, all: &mut String, ask: &Ask) {
     match ask {
-        Ask::Get { key } => push(all, "get ", u64::from(*key), " ", "", ""),
+        Ask::Get { key } => push_number(rt, all, "get ", *key, " "),
         Ask::Put { key, value } => {
-            let text = str::from_utf8(value.as_slice()).unwrap_or("?");
-            push(all, "put ", u64::from(*key), " [", text, "] ")
+            push_number(rt, all, "put ", *key, " [");
+            push(rt, all, str::from_utf8(value.as_slice()).unwrap_or("?"));
+            push(rt, all, "] ");
         }
-        Ask::Del { key } => push(all, "del ", u64::from(*key), " ", "", ""),
-        Ask::Add { key, amount } => push(all, "add ", u64::from(*key), " ", *amount, " "),
+        Ask::Del { key } => push_number(rt, all, "del ", *key, " "),
+        Ask::Add { key, amount } => {
+            push_number(rt, all, "add ", *key, " ");
+            push_number(rt, all, "", *amount, " ");
+        }
     }
 }
 
 // Spells a transaction: its client, its operations, and a `.` where it commits or a `!` where it
 // aborts.
-fn push_txn(all: &mut String, txn: &ScriptTxn) -> Result<(), AllocError> {
-    push(all, "", u64::from(txn.client), ":", "", "")?;
+fn push_txn<R: Abort>(rt: &R, all: &mut String, txn: &ScriptTxn) {
+    push_number(rt, all, "", txn.client, ":");
     for ask in &txn.asks {
-        push_ask(all, ask)?;
+        push_ask(rt, all, ask);
     }
-    all.push_str(match txn.ending {
-        Ending::Commit => ".",
-        Ending::Abort => "!",
-    })
+    match txn.ending {
+        Ending::Commit => push(rt, all, "."),
+        Ending::Abort => push(rt, all, "!"),
+    }
 }
 
 // Spells what was read: each client and a blank, then each transaction.
-fn push_scripts(all: &mut String, scripts: &Scripts) -> Result<(), AllocError> {
+fn push_scripts<R: Abort>(rt: &R, all: &mut String, scripts: &Scripts) {
     for client in scripts.clients() {
-        push(all, "", u64::from(*client), " ", "", "")?;
+        push_number(rt, all, "", *client, " ");
     }
     for txn in scripts.txns() {
-        push_txn(all, txn)?;
+        push_txn(rt, all, txn);
     }
-    Ok(())
 }
 
 // Parses a script, and compares what it asks for, or the line that is told where it is refused.
 fn expect<R: AllocGlobal + Abort>(rt: &R, name: &str, script: &[u8], wanted: &str) {
     let mut all = String::new(rt.alloc());
-    let done = match parse(rt.alloc(), script, KEYS) {
-        Ok(scripts) => push_scripts(&mut all, &scripts),
-        Err(Fault::BadScript { line }) => push(&mut all, "bad line ", line, "", "", ""),
-        Err(_) => all.push_str("another fault"),
-    };
-    done.expect(rt, "memory");
+    match parse(rt.alloc(), script, KEYS) {
+        Ok(scripts) => push_scripts(rt, &mut all, &scripts),
+        Err(Fault::BadScript { line }) => push_number(rt, &mut all, "bad line ", line, ""),
+        Err(_) => push(rt, &mut all, "another fault"),
+    }
     compare(rt, name, all.as_bytes(), wanted);
 }
 
-// A script with a `/` for each line end, and what is told of it.
-type Row = (&'static str, &'static str);
-
-fn expect_all<R: AllocGlobal + Abort>(rt: &R, rows: &[Row]) {
+fn expect_all<R: AllocGlobal + Abort>(rt: &R, rows: &[(&str, &str)]) {
     for (script, wanted) in rows {
         let lines = script.replace(rt.alloc(), "/", "\n").expect(rt, "memory");
         expect(rt, script, lines.as_bytes(), wanted);
     }
 }
 
-static READ: [Row; 5] = [
+// Scripts with a `/` for each line end, and what is told of them.
+static SCRIPTS: [(&str, &str); 71] = [
+    // Scripts that are read.
     ("", ""),
     ("client 64", "64 "),
     ("client 1/begin/commit/", "1 1:."),
@@ -96,14 +95,7 @@ static READ: [Row; 5] = [
         "client 2/begin/put 0 /put 1  a b /commit",
         "2 2:put 0 [] put 1 [ a b ] .",
     ),
-];
-
-#[test]
-fn a_script_is_read(rt: HostRuntime) {
-    expect_all(&rt, &READ);
-}
-
-static OPERATIONS: [Row; 3] = [
+    // An operation is one of four.
     ("client 1/begin/del 7/abort/", "1 1:del 7 !"),
     (
         "client 1/begin/add 0 0/add 1 7/add 2 -10/commit/",
@@ -113,14 +105,7 @@ static OPERATIONS: [Row; 3] = [
         "client 1/begin/add 0 -9223372036854775808/add 0 9223372036854775807/abort/",
         "1 1:add 0 -9223372036854775808 add 0 9223372036854775807 !",
     ),
-];
-
-#[test]
-fn an_operation_is_one_of_four(rt: HostRuntime) {
-    expect_all(&rt, &OPERATIONS);
-}
-
-static CLIENTS: [Row; 4] = [
+    // Clients' numbers rise.
     (
         "client 1/begin/get 0/commit/client 3/client 9/begin/abort/begin/commit/",
         "1 3 9 1:get 0 .9:!9:.",
@@ -128,14 +113,7 @@ static CLIENTS: [Row; 4] = [
     ("client 3/begin/commit/client 3/", "bad line 4"),
     ("client 3/client 2/", "bad line 2"),
     ("client 64/client 65/", "bad line 2"),
-];
-
-#[test]
-fn clients_rise(rt: HostRuntime) {
-    expect_all(&rt, &CLIENTS);
-}
-
-static EMPTY: [Row; 8] = [
+    // Empty lines and comments mean nothing.
     ("/", ""),
     ("#", ""),
     (
@@ -147,15 +125,7 @@ static EMPTY: [Row; 8] = [
     ("client 3/begin/ # a/commit/", "bad line 3"),
     ("client 3/begin/ /commit/", "bad line 3"),
     ("client 3\r/begin/commit/", "bad line 1"),
-];
-
-#[test]
-fn empty_lines_and_comments_mean_nothing(rt: HostRuntime) {
-    expect_all(&rt, &EMPTY);
-    expect(&rt, "bytes", b"#\xff\x00\nclient 3\n", "3 ");
-}
-
-static BAD: [Row; 44] = [
+    // The first bad line is named.
     ("begin/", "bad line 1"),
     ("commit/", "bad line 1"),
     ("get 1/", "bad line 1"),
@@ -206,27 +176,12 @@ static BAD: [Row; 44] = [
     ("client 1/begin/commit/commit/", "bad line 4"),
     ("client 1/begin/commit /", "bad line 3"),
     ("client 1/begin/Abort/", "bad line 3"),
-];
-
-#[test]
-fn the_first_bad_line_is_named(rt: HostRuntime) {
-    expect_all(&rt, &BAD);
-}
-
-static OPEN: [Row; 4] = [
+    // An open transaction names the line behind the last.
     ("client 1/begin/get 5/", "bad line 4"),
     ("client 1/begin/get 5", "bad line 4"),
     ("client 1/begin/#", "bad line 4"),
     ("client 1/begin//", "bad line 4"),
-];
-
-#[test]
-fn an_open_transaction_names_the_line_behind_the_last(rt: HostRuntime) {
-    expect_all(&rt, &OPEN);
-}
-
-// Values of 64 bytes and of 65, and one of a byte that may not stand there.
-static VALUES: [Row; 3] = [
+    // Values of 64 bytes and of 65, and one of a byte that may not stand there.
     (
         "client 1/begin/put 5 0123456789abcdef0123456789abcdef0123456789abcdef0123456789abcd ~/commit/",
         "1 1:put 5 [0123456789abcdef0123456789abcdef0123456789abcdef0123456789abcd ~] .",
@@ -239,8 +194,13 @@ static VALUES: [Row; 3] = [
 ];
 
 #[test]
-fn a_value_has_up_to_64_bytes(rt: HostRuntime) {
-    expect_all(&rt, &VALUES);
+fn scripts_are_read_or_their_first_bad_line_is_named(rt: HostRuntime) {
+    expect_all(&rt, &SCRIPTS);
+}
+
+#[test]
+fn a_comment_has_any_bytes(rt: HostRuntime) {
+    expect(&rt, "bytes", b"#\xff\x00\nclient 3\n", "3 ");
 }
 
 // A line of nine bytes, then comments of one byte up to two bytes before the limit, and more bytes.
@@ -251,6 +211,18 @@ fn long_script<R: AllocGlobal + Abort>(rt: &R, first: &[u8], last: &[u8]) -> Vec
     }
     bytes.extend_from_slice(last).expect(rt, "memory");
     bytes
+}
+
+fn expect_long<R: AllocGlobal + Abort>(
+    rt: &R,
+    first: &[u8],
+    last: &[u8],
+    len: usize,
+    wanted: &str,
+) {
+    let long = long_script(rt, first, last);
+    assert!(rt; long.len() == len);
+    expect(rt, "a long script", &long, wanted);
 }
 
 // The first line and the last bytes of a long script, how long it is, and what is told of it: the
@@ -265,8 +237,6 @@ static LONG: [(&[u8], &[u8], usize, &str); 4] = [
 #[test]
 fn a_script_has_up_to_a_limit_of_bytes(rt: HostRuntime) {
     for &(first, last, len, wanted) in &LONG {
-        let long = long_script(&rt, first, last);
-        assert!(&rt; long.len() == len);
-        expect(&rt, "a long script", &long, wanted);
+        expect_long(&rt, first, last, len, wanted);
     }
 }
