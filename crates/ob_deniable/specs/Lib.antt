@@ -1,0 +1,5 @@
+pub mod Moved
+pub mod Works
+pub mod Words
+pub mod Telling
+pub mod Samples
