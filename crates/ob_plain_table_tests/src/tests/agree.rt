@@ -127,6 +127,13 @@ pub(crate) fn tables_agree(p: &Params, world: &World, ring: &Ring, plain: &Plain
         && buckets_agree(p, ring, plain)
 }
 
+/// Whether both tables are the same, with the values in the stash.
+pub(crate) fn all_agree(p: &Params, world: &World, ring: &Ring, plain: &PlainTable) -> bool
+    requires { ring.now.p ≡ p.now }
+{
+    tables_agree(p, world, ring, plain) && stash_agrees(world, ring, plain)
+}
+
 /// Whether the ring's list of buckets to be filled is this.
 pub(crate) fn orders_agree(ring: &Ring, order: &[u64]) -> bool {
     if ring.to_refill().len() != order.len() {

@@ -1,19 +1,22 @@
 //! An epoch of both.
 
-ghost use Rattle.std.specs.Prelude.{◌≡◌, ℕ, ◌<◌, OnOk, IfOk, IfSome, None, slice_index_or, length, true};
+ghost use Rattle.std.specs.Prelude.{◌≡◌, ℕ, ◌<◌, IfSome, None, slice_index_or, length, true};
 ghost use Rattle.ob_base.specs.Planned.{most_jobs, job_at};
 ghost use Rattle.ob_base.specs.Tree.{buckets, width};
 ghost use Rattle.ob_ring.specs.Ring.{IsListed, AreListedWithin};
 ghost use Rattle.ob_ring.specs.Writing.{write_at};
 ghost use Rattle.ob_plain_table.specs.PlainTable.{HasRows};
 
-use crate::tests::agree::{jobs_agree, orders_agree, places_agree, stash_agrees, tables_agree};
+use crate::tests::agree::{
+    all_agree, jobs_agree, orders_agree, places_agree, stash_agrees, tables_agree,
+};
 use crate::tests::draws;
 use crate::tests::world::World;
-use ob_base::{Job, Jobs, Key, Memory, Params, Value, Write};
+use ob_base::{Job, Jobs, Key, Params, Value, Write};
 use ob_plain_table::PlainTable;
 use ob_ring::Ring;
 use std::alloc::Global;
+use std::process::Abort;
 
 // Whether it is a key below a number, or none.
 fn is_low(key: Option<Key>, keys: u32) -> bool
@@ -61,36 +64,28 @@ fn writes_are_low(writes: &[Write], keys: u32) -> bool
     true
 }
 
-// Each place of a batch with its word's leaf.
-fn places_of(
-    world: &World,
-    asks: &[Option<Key>],
-    words: &[u64],
-) -> Result<Vec<(Option<Key>, u32)>, Memory> {
-    let mut places = Vec::new(world.alloc);
-    for i in 0..asks.len() {
-        if i < words.len() {
-            places.push((asks[i], world.leaf_of(words[i])))?;
-        }
-    }
-    Ok(places)
-}
-
-// Each present key that a place asks for is bound to the place's word.
+// Each place of a batch with its word's leaf; each present key that a place asks for is bound to
+// the place's word.
 fn bind_asked(
+    rt: &impl Abort,
     world: &mut World,
     plain: &PlainTable,
     asks: &[Option<Key>],
     words: &[u64],
     first: (u64, u64),
-) {
+) -> Vec<(Option<Key>, u32)> {
+    let mut places = Vec::new(world.alloc);
     for i in 0..asks.len() {
+        assert!(rt; i < words.len());
+        let place = (asks[i], world.leaf_of(words[i]));
+        places.push(place).expect(rt, "memory");
         if let Some(key) = asks[i] {
-            if plain.row(key).is_some() && i < words.len() {
+            if plain.row(key).is_some() {
                 world.bind(key, Some(words[i]), first, i);
             }
         }
     }
+    places
 }
 
 // Each job reads its cell.
@@ -103,81 +98,93 @@ fn read_cells(world: &World, jobs: &mut Jobs)
     }
 }
 
-// The planned cells are read and settled; whether they held what they should.
-fn settle(p: &Params, world: &World, ring: &mut Ring, jobs: &mut Jobs) -> bool
+// The planned cells are read and settled: they hold what they should.
+fn settle(rt: &impl Abort, p: &Params, world: &World, ring: &mut Ring, jobs: &mut Jobs)
     requires { ring.old.p ≡ p.now }
     ensures ring { ring.new ≡ record ring.old { stash = ring.new.stash } }
     ensures jobs { (jobs.new.room ≡ jobs.old.room) × (jobs.new.place_room ≡ jobs.old.place_room) }
 {
     read_cells(world, jobs);
-    jobs_are_low(jobs.jobs(), p.keys) && ring.settle(jobs).is_ok()
+    assert!(rt; jobs_are_low(jobs.jobs(), p.keys));
+    assert!(rt; ring.settle(jobs).is_ok());
 }
 
-// A read batch in both; whether they agree.
-fn fetch(
+// A read batch is planned in both, which agree.
+fn plan_batch(
+    rt: &impl Abort,
     p: &Params,
     world: &mut World,
     ring: &mut Ring,
     jobs: &mut Jobs,
     plain: &mut PlainTable,
-) -> Result<bool, Memory>
+)
     requires ring { ring.old.p ≡ p.now }
     requires jobs { (jobs.old.room ≡ most_jobs p.now) × (jobs.old.place_room ≡ p.now.places) }
     requires plain { HasRows plain.old × (plain.old.params ≡ p.now) }
     ensures ring { ring.new.p ≡ p.now }
     ensures jobs { (jobs.new.room ≡ jobs.old.room) × (jobs.new.place_room ≡ jobs.old.place_room) }
-    ensures plain { OnOk result (HasRows plain.new × (plain.new.params ≡ p.now)) }
+    ensures plain { HasRows plain.new × (plain.new.params ≡ p.now) }
 {
-    let asks = draws::asks(world)?;
-    let (words, first) = world.draw(asks.len())?;
-    let places = places_of(world, &asks, &words)?;
     let many = p.places as usize;
-    if asks.len() != many || words.len() != many || !asks_are_low(&asks, p.keys) {
-        return Ok(false);
-    }
+    let asks = draws::asks(rt, world);
+    let (words, first) = world.draw(rt, many);
+    assert!(rt; asks.len() == many && words.len() == many);
+    assert!(rt; asks_are_low(&asks, p.keys));
     ring.plan_fetch(&asks, &words, first, jobs);
-    bind_asked(world, plain, &asks, &words, first);
+    let places = bind_asked(rt, world, plain, &asks, &words, first);
     let mut shown = Vec::new(world.alloc);
     let mut reads = Vec::new(world.alloc);
-    plain.fetch(&places, &mut shown, &mut reads)?;
-    let planned = jobs_agree(world, jobs, &reads) && places_agree(jobs, &shown);
-    let settled = settle(p, world, ring, jobs);
-    Ok(
-        planned
-            && settled
-            && tables_agree(p, world, ring, plain)
-            && stash_agrees(world, ring, plain),
-    )
+    plain
+        .fetch(&places, &mut shown, &mut reads)
+        .expect(rt, "memory");
+    assert!(rt; jobs_agree(world, jobs, &reads));
+    assert!(rt; places_agree(jobs, &shown));
 }
 
-// The lifts at an epoch's end in both; whether they agree.
+// A read batch in both, which agree.
+fn fetch(
+    rt: &impl Abort,
+    p: &Params,
+    world: &mut World,
+    ring: &mut Ring,
+    jobs: &mut Jobs,
+    plain: &mut PlainTable,
+)
+    requires ring { ring.old.p ≡ p.now }
+    requires jobs { (jobs.old.room ≡ most_jobs p.now) × (jobs.old.place_room ≡ p.now.places) }
+    requires plain { HasRows plain.old × (plain.old.params ≡ p.now) }
+    ensures ring { ring.new.p ≡ p.now }
+    ensures jobs { (jobs.new.room ≡ jobs.old.room) × (jobs.new.place_room ≡ jobs.old.place_room) }
+    ensures plain { HasRows plain.new × (plain.new.params ≡ p.now) }
+{
+    plan_batch(rt, p, world, ring, jobs, plain);
+    settle(rt, p, world, ring, jobs);
+    assert!(rt; all_agree(p, world, ring, plain));
+}
+
+// The lifts at an epoch's end in both, which agree.
 fn lift(
+    rt: &impl Abort,
     p: &Params,
     world: &World,
     ring: &mut Ring,
     jobs: &mut Jobs,
     plain: &mut PlainTable,
-) -> Result<bool, Memory>
+)
     requires ring { ring.old.p ≡ p.now }
     requires jobs { (jobs.old.room ≡ most_jobs p.now) × (jobs.old.place_room ≡ p.now.places) }
     requires plain { HasRows plain.old × (plain.old.params ≡ p.now) }
     ensures ring { ring.new.p ≡ p.now }
     ensures listed { IsListed ring.new }
     ensures jobs { (jobs.new.room ≡ jobs.old.room) × (jobs.new.place_room ≡ jobs.old.place_room) }
-    ensures plain { OnOk result (HasRows plain.new × (plain.new.params ≡ p.now)) }
+    ensures plain { HasRows plain.new × (plain.new.params ≡ p.now) }
 {
     ring.plan_lifts(jobs);
     let mut reads = Vec::new(world.alloc);
-    let done = plain.final_lifts(&mut reads);
-    let planned = jobs_agree(world, jobs, &reads);
-    let settled = settle(p, world, ring, jobs);
-    done?;
-    Ok(
-        planned
-            && settled
-            && tables_agree(p, world, ring, plain)
-            && stash_agrees(world, ring, plain),
-    )
+    plain.final_lifts(&mut reads).expect(rt, "memory");
+    assert!(rt; jobs_agree(world, jobs, &reads));
+    settle(rt, p, world, ring, jobs);
+    assert!(rt; all_agree(p, world, ring, plain));
 }
 
 // The plain table makes the writes, and what is known of the keys follows.
@@ -210,28 +217,22 @@ fn write_plain(
     }
 }
 
-// An epoch's writes in both; whether they agree.
-fn write(
-    p: &Params,
-    world: &mut World,
-    ring: &mut Ring,
-    plain: &mut PlainTable,
-) -> Result<bool, Memory>
+// An epoch's writes in both, which agree.
+fn write(rt: &impl Abort, p: &Params, world: &mut World, ring: &mut Ring, plain: &mut PlainTable)
     requires ring { ring.old.p ≡ p.now }
     requires listed { IsListed ring.old }
     requires plain { HasRows plain.old × (plain.old.params ≡ p.now) }
     ensures ring { ring.new.p ≡ p.now }
     ensures listed { IsListed ring.new }
-    ensures plain { OnOk result (HasRows plain.new × (plain.new.params ≡ p.now)) }
+    ensures plain { HasRows plain.new × (plain.new.params ≡ p.now) }
 {
-    let writes = draws::writes(world)?;
-    let (words, first) = world.draw(p.writes as usize)?;
-    if words.len() < writes.len() || !writes_are_low(&writes, p.keys) {
-        return Ok(false);
-    }
+    let writes = draws::writes(rt, world);
+    let (words, first) = world.draw(rt, p.writes as usize);
+    assert!(rt; writes.len() <= words.len());
+    assert!(rt; writes_are_low(&writes, p.keys));
     ring.apply_writes(&writes, &words, first);
     write_plain(p, world, plain, &writes, &words, first);
-    Ok(tables_agree(p, world, ring, plain) && stash_agrees(world, ring, plain))
+    assert!(rt; all_agree(p, world, ring, plain));
 }
 
 // The 96 bytes of a slot that holds a key's row, or none.
@@ -303,133 +304,103 @@ fn note_filled(p: &Params, world: &mut World, order: &[u64], words: &[u64], firs
     }
 }
 
-/// How a run ends: both agree to the end, both refuse a refill with the same number of rows, or
-/// they differ.
-#[derive(Clone, Copy, Debug, PartialEq, Eq)]
-pub(crate) enum Ends {
-    Agree,
-    Full,
-    Differ,
+// The filled buckets are written, as they should be, and their rows leave the stash.
+fn write_filled(
+    rt: &impl Abort,
+    p: &Params,
+    world: &mut World,
+    ring: &mut Ring,
+    plain: &PlainTable,
+    order: &[u64],
+)
+    requires ring { ring.old.p ≡ p.now }
+    requires within { AreListedWithin ring.old }
+    ensures ring { ring.new.p ≡ p.now }
+{
+    assert!(rt; write_buckets(p, world, ring, plain, order));
+    ring.forget_written();
+    assert!(rt; stash_agrees(world, ring, plain));
 }
 
-// What both say of the rows that are left after a refill.
-fn leftover(p: &Params, left: usize, refused: Option<u64>) -> Ends {
-    let room = p.room as usize;
-    match refused {
-        Some(rows) if rows == left as u64 && left > room => Ends::Full,
-        None if left <= room => Ends::Agree,
-        _ => Ends::Differ,
-    }
-}
-
-// The refill in both.
+// The refill in both, which agree; whether both refuse it with the same number of rows.
 fn refill(
+    rt: &impl Abort,
     p: &Params,
     world: &mut World,
     ring: &mut Ring,
     plain: &mut PlainTable,
-) -> Result<Ends, Memory>
+) -> bool
     requires ring { ring.old.p ≡ p.now }
     requires listed { IsListed ring.old }
     requires plain { HasRows plain.old × (plain.old.params ≡ p.now) }
     ensures ring { ring.new.p ≡ p.now }
-    ensures plain { OnOk result (HasRows plain.new × (plain.new.params ≡ p.now)) }
+    ensures plain { HasRows plain.new × (plain.new.params ≡ p.now) }
 {
-    let order = plain.refill_order()?;
+    let order = plain.refill_order().expect(rt, "memory");
+    assert!(rt; orders_agree(ring, &order));
     let width = (p.real + p.dummies) as usize;
     let many = ring.to_refill().len().checked_mul(width);
-    let (words, first) = world.draw(order.len().wrapping_mul(width))?;
-    if !orders_agree(ring, &order) || many != Some(words.len()) {
-        return Ok(Ends::Differ);
-    }
+    let (words, first) = world.draw(rt, order.len().wrapping_mul(width));
+    assert!(rt; many == Some(words.len()));
     let refused = match ring.refill(&words, first) {
         Ok(()) => None,
         Err(full) => Some(full.rows),
     };
-    plain.refill()?;
+    plain.refill().expect(rt, "memory");
     note_filled(p, world, &order, &words, first);
-    let ends = leftover(p, plain.stash_size(), refused);
-    if !tables_agree(p, world, ring, plain) {
-        return Ok(Ends::Differ);
+    assert!(rt; tables_agree(p, world, ring, plain));
+    let left = plain.stash_size();
+    let is_full = left > p.room as usize;
+    assert!(rt; refused == if is_full { Some(left as u64) } else { None });
+    if !is_full {
+        write_filled(rt, p, world, ring, plain, &order);
     }
-    if ends == Ends::Agree {
-        let written = write_buckets(p, world, ring, plain, &order);
-        ring.forget_written();
-        if !written || !stash_agrees(world, ring, plain) {
-            return Ok(Ends::Differ);
-        }
-    }
-    Ok(ends)
+    is_full
 }
 
-// The read batches of an epoch in both; whether they agree.
-fn fetch_all(
+// An epoch in both, which agree; whether both refuse its refill.
+fn epoch(
+    rt: &impl Abort,
     p: &Params,
     world: &mut World,
     ring: &mut Ring,
     jobs: &mut Jobs,
     plain: &mut PlainTable,
-) -> Result<bool, Memory>
+) -> bool
     requires ring { ring.old.p ≡ p.now }
     requires jobs { (jobs.old.room ≡ most_jobs p.now) × (jobs.old.place_room ≡ p.now.places) }
     requires plain { HasRows plain.old × (plain.old.params ≡ p.now) }
     ensures ring { ring.new.p ≡ p.now }
     ensures jobs { (jobs.new.room ≡ jobs.old.room) × (jobs.new.place_room ≡ jobs.old.place_room) }
-    ensures plain { OnOk result (HasRows plain.new × (plain.new.params ≡ p.now)) }
+    ensures plain { HasRows plain.new × (plain.new.params ≡ p.now) }
 {
     for _batch in 0..p.batches {
-        if !fetch(p, world, ring, jobs, plain)? {
-            return Ok(false);
-        }
+        fetch(rt, p, world, ring, jobs, plain);
     }
-    Ok(true)
-}
-
-// An epoch in both.
-fn epoch(
-    p: &Params,
-    world: &mut World,
-    ring: &mut Ring,
-    jobs: &mut Jobs,
-    plain: &mut PlainTable,
-) -> Result<Ends, Memory>
-    requires ring { ring.old.p ≡ p.now }
-    requires jobs { (jobs.old.room ≡ most_jobs p.now) × (jobs.old.place_room ≡ p.now.places) }
-    requires plain { HasRows plain.old × (plain.old.params ≡ p.now) }
-    ensures ring { ring.new.p ≡ p.now }
-    ensures jobs { (jobs.new.room ≡ jobs.old.room) × (jobs.new.place_room ≡ jobs.old.place_room) }
-    ensures plain { OnOk result (HasRows plain.new × (plain.new.params ≡ p.now)) }
-{
-    if !fetch_all(p, world, ring, jobs, plain)? {
-        return Ok(Ends::Differ);
-    }
-    if !lift(p, world, ring, jobs, plain)? {
-        return Ok(Ends::Differ);
-    }
-    if !write(p, world, ring, plain)? {
-        return Ok(Ends::Differ);
-    }
-    refill(p, world, ring, plain)
+    lift(rt, p, world, ring, jobs, plain);
+    write(rt, p, world, ring, plain);
+    refill(rt, p, world, ring, plain)
 }
 
 /// Runs so many epochs of random batches and writes in both programs, and compares each call's
-/// plan and the tables that it leaves.
+/// plan and the tables that it leaves, up to the first refill that both refuse; whether one was.
 pub(crate) fn run(
+    rt: &impl Abort,
     alloc: Global,
     p: &Params,
     seed: u64,
     limit: u64,
     epochs: u32,
-) -> Result<Ends, Memory> {
-    let mut world = World::new(alloc, p, seed, limit)?;
-    let mut ring = Ring::empty(alloc, p)?;
-    let mut jobs = Jobs::new(alloc, p)?;
-    let mut plain = PlainTable::new(alloc, p)?;
+) -> bool {
+    let mut world = World::new(rt, alloc, p, seed, limit);
+    let mut ring = Ring::empty(alloc, p).expect(rt, "memory");
+    let mut jobs = Jobs::new(alloc, p).expect(rt, "memory");
+    let mut plain = PlainTable::new(alloc, p).expect(rt, "memory");
+    let mut is_full = false;
     for _epoch in 0..epochs {
-        let ends = epoch(p, &mut world, &mut ring, &mut jobs, &mut plain)?;
-        if ends != Ends::Agree {
-            return Ok(ends);
+        if !is_full {
+            is_full = epoch(rt, p, &mut world, &mut ring, &mut jobs, &mut plain);
         }
     }
-    Ok(Ends::Agree)
+    is_full
 }

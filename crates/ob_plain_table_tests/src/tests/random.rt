@@ -3,16 +3,12 @@
 ghost use Rattle.std.specs.Prelude.{◌<◌};
 
 /// Words that follow from a seed (a xorshift generator).
-#[derive(Clone, Copy)]
+#[derive(Drop)]
 pub(crate) struct Random {
-    state: u64,
+    pub(crate) state: u64,
 }
 
 impl Random {
-    pub(crate) fn new(seed: u64) -> Random {
-        Random { state: seed }
-    }
-
     pub(crate) fn word(&mut self) -> u64 {
         self.state ^= self.state >> 12;
         self.state ^= self.state << 25;

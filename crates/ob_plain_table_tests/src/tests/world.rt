@@ -1,12 +1,13 @@
 //! Cells as a table from slots to rows.
 
-ghost use Rattle.std.specs.Prelude.{◌≡◌, IfOk};
+ghost use Rattle.std.specs.Prelude.{◌≡◌};
 
 use crate::tests::random::Random;
-use ob_base::{Job, Key, Memory, Params, Value, Write, slot_cell};
+use ob_base::{Job, Key, Params, Value, Write, slot_cell};
 use ob_plain_table::{Read, Row, Spot};
 use ob_tables::Entry;
 use std::alloc::Global;
+use std::process::Abort;
 
 /// The generation in which everything is sealed.
 pub(crate) const GENERATION: u64 = 2;
@@ -29,11 +30,13 @@ fn put<T: Drop>(items: &mut [T], i: usize, item: T) {
 // How many of the words are less than that of an index, or the same at a lesser index.
 fn rank(words: &[u64], index: usize) -> usize {
     let own = at(words, index, 0);
-    words
-        .iter()
-        .enumerate()
-        .filter(|(i, word)| **word < own || (**word == own && *i < index))
-        .count()
+    let mut many = 0usize;
+    for i in 0..words.len() {
+        if words[i] < own || (words[i] == own && i < index) {
+            many = many.wrapping_add(1);
+        }
+    }
+    many
 }
 
 /// What is known without either program: each bucket's words, home and seal, what the cells hold,
@@ -56,33 +59,34 @@ pub(crate) struct World {
 }
 
 impl World {
-    pub(crate) fn new(alloc: Global, p: &Params, seed: u64, limit: u64) -> Result<World, Memory>
-        ensures { IfOk result (λ w. w.p ≡ p.now) }
+    pub(crate) fn new(rt: &impl Abort, alloc: Global, p: &Params, seed: u64, limit: u64) -> World
+        ensures { result.p ≡ p.now }
     {
         // The prover has to see this type named here.
         let _told: Option<Value> = None;
         let width = (p.real + p.dummies) as usize;
         let buckets = (2usize << p.levels) - 1;
+        let keys = p.keys as usize;
         let mut words = Vec::new(alloc);
         for _bucket in 0..buckets {
             for index in 0..width {
-                words.push(index as u64)?;
+                words.push(index as u64).expect(rt, "memory");
             }
         }
-        Ok(World {
+        World {
             alloc,
             p: *p,
-            random: Random::new(seed),
+            random: Random { state: seed },
             limit,
             drawn: 0,
             first_cell: slot_cell(p, 0, 0, 0),
             words,
-            homes: vec![in alloc; 0; buckets]?,
-            seals: vec![in alloc; (0, 0); buckets]?,
-            cells: vec![in alloc; [0; 96]; 2 * buckets * width]?,
-            values: vec![in alloc; None; p.keys as usize]?,
-            entries: vec![in alloc; None; p.keys as usize]?,
-        })
+            homes: vec![in alloc; 0; buckets].expect(rt, "memory"),
+            seals: vec![in alloc; (0, 0); buckets].expect(rt, "memory"),
+            cells: vec![in alloc; [0; 96]; 2 * buckets * width].expect(rt, "memory"),
+            values: vec![in alloc; None; keys].expect(rt, "memory"),
+            entries: vec![in alloc; None; keys].expect(rt, "memory"),
+        }
     }
 
     pub(crate) fn width(&self) -> usize {
@@ -144,23 +148,20 @@ impl World {
     }
 
     /// So many words, and the id of the first.
-    pub(crate) fn draw(&mut self, many: usize) -> Result<(Vec<u64>, (u64, u64)), Memory> {
+    pub(crate) fn draw(&mut self, rt: &impl Abort, many: usize) -> (Vec<u64>, (u64, u64)) {
         let mut words = Vec::new(self.alloc);
         for _i in 0..many {
-            words.push(self.word())?;
+            let word = self.random.word();
+            let word = if self.limit == 0 {
+                word
+            } else {
+                word % self.limit
+            };
+            words.push(word).expect(rt, "memory");
         }
         let first = (GENERATION, self.drawn);
         self.drawn = self.drawn.wrapping_add(many as u64);
-        Ok((words, first))
-    }
-
-    fn word(&mut self) -> u64 {
-        let word = self.random.word();
-        if self.limit == 0 {
-            word
-        } else {
-            word % self.limit
-        }
+        (words, first)
     }
 
     /// A word's low bits, as many as the tree has levels.
@@ -168,19 +169,14 @@ impl World {
         (word % (1 << self.p.levels)) as u32
     }
 
-    // The entry of the i-th of these words.
-    fn entry_of(&self, word: u64, first: (u64, u64), i: usize) -> Entry {
-        Entry {
-            generation: first.0,
-            index: first.1.wrapping_add(i as u64),
-            leaf: self.leaf_of(word),
-        }
-    }
-
-    /// The key is bound to a word, or to none.
+    /// The key is bound to the i-th of some words, or to none.
     pub(crate) fn bind(&mut self, key: Key, word: Option<u64>, first: (u64, u64), i: usize) {
         let entry = match word {
-            Some(word) => Some(self.entry_of(word, first, i)),
+            Some(word) => Some(Entry {
+                generation: first.0,
+                index: first.1.wrapping_add(i as u64),
+                leaf: self.leaf_of(word),
+            }),
             None => None,
         };
         put(&mut self.entries, key as usize, entry);
