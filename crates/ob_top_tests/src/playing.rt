@@ -206,42 +206,18 @@ fn take<R: AllocGlobal + Threads + Wait + Sync + Abort>(rt: &R, store: &mut Noti
 {
     let eager = &mut Eager;
     match *step {
-        Step::Call(words, script, status, output) => expect(
-            rt,
-            store,
-            &[],
-            eager,
-            words,
-            script,
-            status,
-            output,
-            output,
-        ),
-        Step::Run(script, status, output) => expect(
-            rt,
-            store,
-            &[],
-            eager,
-            RUN,
-            script,
-            status,
-            output,
-            output,
-        ),
-        Step::Taped(tape, script, status, output) => expect(
-            rt, store, tape, eager, RUN, script, status, output, output,
-        ),
-        Step::Hasty(words, script, output, other) => expect(
-            rt,
-            store,
-            &[],
-            &mut Hasty,
-            words,
-            script,
-            0,
-            output,
-            other,
-        ),
+        Step::Call(words, script, status, told) => {
+            expect(rt, store, &[], eager, words, script, status, told, told)
+        }
+        Step::Run(script, status, told) => {
+            expect(rt, store, &[], eager, RUN, script, status, told, told)
+        }
+        Step::Taped(tape, script, status, told) => {
+            expect(rt, store, tape, eager, RUN, script, status, told, told)
+        }
+        Step::Hasty(words, script, told, other) => {
+            expect(rt, store, &[], &mut Hasty, words, script, 0, told, other)
+        }
         Step::Crash(moment, filling) => *store = left_after(rt, store, moment, filling),
         Step::Flip(cell) => flip(rt, &mut store.store, cell),
         Step::Asked(text) => {
