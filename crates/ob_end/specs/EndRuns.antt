@@ -242,7 +242,7 @@ pub record EndAnswered (run : Run) (before behind : Disk) (ws : List (Write × E
   pub undamaged : (s : RingStanding) → RunIsAt run s before → IsEndUndamaged result
 
 -- The next epoch runs, with all its batches, and the run serves on; or it was refused: the epoch runs on, and the run is spent.
-pub record EndCounts (old new : Run) (result : Result (Unit {0}) EndErr) : Type 0 where
+pub record EndRunCounts (old new : Run) (result : Result (Unit {0}) EndErr) : Type 0 where
   pub served : OnOk result ((new.epoch ≡ suc old.epoch) × (new.left ≡ (old.params).batches) × (new.spent ≡ false))
   pub refused : OnErr result ((new.epoch ≡ old.epoch) × (new.left ≡ old.left) × (new.spent ≡ true))
 

@@ -26,7 +26,7 @@ ghost use Rattle.ob_store.specs.declared.watch.Note.{Note};
 ghost use Rattle.ob_twin.specs.Opening.{GatesAre, is_closed_first};
 ghost use Rattle.ob_twin.specs.Register.{place_of};
 ghost use Rattle.ob_end.specs.Closings.{SameGeneration};
-ghost use Rattle.ob_end.specs.EndRuns.{EndAnswered, EndCounts, EndDoes, EndDraws, EndImages, EndStands, EndTables, IfEnded, IsEndReady, LeadsOn, end_err_of, end_writes, seals_for_end};
+ghost use Rattle.ob_end.specs.EndRuns.{EndAnswered, EndRunCounts, EndDoes, EndDraws, EndImages, EndStands, EndTables, IfEnded, IsEndReady, LeadsOn, end_err_of, end_writes, seals_for_end};
 ghost use Rattle.ob_end.specs.Shown.{EndShows, end_lifts};
 
 use crate::closing::close_epoch;
@@ -94,7 +94,7 @@ pub fn end<S: Store, T: Tape, W: Watch>(
     ensures generation { T.present tape.new ≡ T.present tape.old }
     ensures drawn { run.new.drawn ≡ length (T.drawn tape.new) }
     ensures params { run.new.params ≡ run.old.params }
-    ensures counts { EndCounts run.old run.new result }
+    ensures counts { EndRunCounts run.old run.new result }
     ensures goes_on { OnOk result (MayGoOn (S.disk store.new) (T.present tape.new)
         (T.drawn tape.new) crew.new run.new) }
     ensures ready { OnOk result (IsEndReady run.new) }
