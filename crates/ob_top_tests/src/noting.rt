@@ -14,12 +14,20 @@ use ob_mem::{MemLane, MemStore};
 use ob_store::{Event, Store};
 use std::alloc::Global;
 
-// A store in memory, and the calls on it, a lane's reads where it was absorbed. Those for which
-// there is no memory are missing.
+// A store in memory, and the calls on it, a lane's reads where it was absorbed. Without memory for
+// one it is lost.
 #[derive(Drop)]
 pub struct Noting {
     pub store: MemStore,
     pub events: Vec<Event>,
+    pub lost: bool,
+}
+
+// Adds calls to those noted, or tells that they are lost.
+fn note(events: &mut Vec<Event>, lost: &mut bool, more: &[Event]) {
+    if events.extend_from_slice(more).is_err() {
+        *lost = true;
+    }
 }
 
 /// What is noted of this store from now on.
@@ -29,6 +37,7 @@ pub fn noted(alloc: Global, store: MemStore) -> Noting
     Noting {
         store,
         events: Vec::new(alloc),
+        lost: false,
     }
 }
 
@@ -56,17 +65,17 @@ impl Store for Noting {
     }
 
     fn absorb(&mut self, lane: MemLane) {
-        let _noted = self.events.extend_from_slice(&lane.events);
+        note(&mut self.events, &mut self.lost, &lane.events);
         self.store.absorb(lane);
     }
 
     fn write(&mut self, cell: u64, bytes: &[u8; 128]) -> Result<(), Failed> {
-        let _noted = self.events.extend_from_slice(&[Event::Write(cell)]);
+        note(&mut self.events, &mut self.lost, &[Event::Write(cell)]);
         self.store.write(cell, bytes)
     }
 
     fn sync(&mut self) -> Result<(), Failed> {
-        let _noted = self.events.extend_from_slice(&[Event::Sync]);
+        note(&mut self.events, &mut self.lost, &[Event::Sync]);
         self.store.sync()
     }
 }

@@ -221,7 +221,8 @@ fn take<R: AllocGlobal + Threads + Wait + Sync + Abort>(rt: &R, store: &mut Noti
         Step::Crash(moment, filling) => *store = left_after(rt, store, moment, filling),
         Step::Flip(cell) => flip(rt, &mut store.store, cell),
         Step::Asked(text) => {
-            assert!(rt; is_told(rt, &lines_of(rt, &store.events), text));
+            let told = is_told(rt, &lines_of(rt, &store.events), text);
+            assert!(rt; told && !store.lost);
         }
     }
 }
