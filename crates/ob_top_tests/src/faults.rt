@@ -76,8 +76,8 @@ static UNSURE: [Step; 2] = [
     Step::Run(ONE_EPOCH, 5, "fault: store, epoch 1 unsure/"),
 ];
 
-// A run of one epoch where this call fails: the epoch is in doubt, and the images of the store where
-// its gate isn't zeros have ended it; or it isn't, and none has.
+// A run of one epoch where this call fails: the epoch is in doubt, and the images of the store
+// where its gate isn't zeros have ended it; or it isn't, and none has.
 fn failing<R: AllocGlobal + Threads + Wait + Sync + Abort>(rt: &R, fail: Fail, unsure: bool) {
     let told: &[Step] = if unsure { &UNSURE } else { &STORE };
     let failed = play(rt, &(109, &[fail], told));
