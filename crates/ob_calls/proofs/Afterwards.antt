@@ -20,7 +20,7 @@ use Rattle.ob_session.proofs.Lasts.{last_of-append, on_last-same}
 use Rattle.ob_calls.specs.declared.calls.Refused.{Refused}
 use Rattle.ob_calls.specs.declared.calls.Refused.TheVariants as refused
 use Rattle.ob_hall.specs.Passes.{Steps, Hall, Pass, said_of}
-use Rattle.ob_hall.specs.Calling.{IsBetween, IsIn, MayGoOn, MakesCalls, TellsCalls, IsLastTold, HasNotSignedOff}
+use Rattle.ob_hall.specs.Calling.{IsBetween, IsIn, IsStillOpen, MakesCalls, TellsCalls, IsLastTold, HasNotSignedOff}
 use Rattle.ob_calls.specs.Saying.{BeginSays, IsNamed, last_begun, WriteSays, BeginStands, StaysIn}
 use Rattle.ob_session.proofs.Saying.{told_push}
 use Rattle.ob_hall.proofs.Chaining.{said_more, said_one, next_told}
@@ -84,7 +84,7 @@ begin_stands hall a b (Err memory) i t kept named = between_same a b (same_said 
 pub is_last : (pass : Pass) (x : Txn) (i : IsIn pass x) → IsLastTold pass x i.told
 is_last pass x i = record { last = i.last; named = i.named; client = i.client }
 
-pub in_next : (a b : Pass) (x : Txn) (told : Told) → IsIn a x → IsLastTold b x told → b.last ≡ a.last → MayGoOn told → IsIn b x
+pub in_next : (a b : Pass) (x : Txn) (told : Told) → IsIn a x → IsLastTold b x told → b.last ≡ a.last → IsStillOpen told → IsIn b x
 in_next a b x told i is last on = record { told = told; last = is.last; named = is.named; client = is.client; kept = last ∙ i.kept; open_is = on }
 
 pub in_same : (a b : Pass) (x : Txn) → IsIn a x → said_of b ≡ said_of a → b.client ≡ a.client → b.last ≡ a.last → IsIn b x
@@ -98,7 +98,7 @@ in_same a b x i same client last = record {
 }
 
 -- answered once more, it may go on where it might
-pub on_answered : (t : Told) (op : Op ℕ) → MayGoOn t → MayGoOn (clients.answered op t)
+pub on_answered : (t : Told) (op : Op ℕ) → IsStillOpen t → IsStillOpen (clients.answered op t)
 on_answered t op (inl aborted) = inl aborted
 on_answered t op (inr (none, unasked, free)) = inr (none, unasked, refl)
 

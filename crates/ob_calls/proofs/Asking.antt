@@ -20,7 +20,7 @@ use Rattle.ob_session.specs.Agreeing.{Agrees, IsTxnKnown, IsLastKnown}
 use Rattle.ob_calls.specs.declared.calls.Refused.{Refused}
 use Rattle.ob_calls.specs.declared.calls.Refused.TheVariants as refused
 use Rattle.ob_hall.specs.Passes.{Steps, Hall, Pass, said_of, EntersTurn}
-use Rattle.ob_hall.specs.Calling.{IsReady, IsBetween, IsIn, MayGoOn, MakesCalls, TellsCalls, HasNotSignedOff}
+use Rattle.ob_hall.specs.Calling.{IsReady, IsBetween, IsIn, IsStillOpen, MakesCalls, TellsCalls, HasNotSignedOff}
 use Rattle.ob_calls.specs.Saying.{StaysIn}
 use Rattle.ob_calls.specs.Waiting.{HasBegun, IsWaiting, AskSays, GotStands, Gets, GetSays, IsGetAnswer, CommitSays}
 use Rattle.ob_hall.proofs.Allowed.{last_is}
@@ -45,7 +45,7 @@ known_waiting d t key known waits unasked none =
 not_live : (d : DeskState) (t : Told) (o : Outcome ℕ) → IsLastKnown d (Some t) → t.ended ≡ Some o → IsLive d t.txn → ⊥
 not_live d t o known over = (subst (λ (e : Option (Outcome ℕ)). IsTxnKnown d t.txn t.waiting t.asked e) over known).1
 
-goes_on : (d : DeskState) (t : Told) → IsLastKnown d (Some t) → IsLive d t.txn → MayGoOn t → (t.ended ≡ None) × (t.asked ≡ false)
+goes_on : (d : DeskState) (t : Told) → IsLastKnown d (Some t) → IsLive d t.txn → IsStillOpen t → (t.ended ≡ None) × (t.asked ≡ false)
 goes_on d t known live (inl (why, is)) = absurd (not_live d t (AbortedBy why) known is live)
 goes_on d t known live (inr (none, unasked, free)) = (none, unasked)
 

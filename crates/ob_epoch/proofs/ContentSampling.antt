@@ -16,7 +16,7 @@ use Rattle.ob_tables.specs.declared.entry.Entry.{Entry}
 use Rattle.ob_tables.specs.Kept.{entry_at}
 use Rattle.ob_ring.proofs.Rows.{p0}
 use Rattle.ob_epoch.specs.Numbers.{IsKnown}
-use Rattle.ob_epoch.specs.ContentSamples.{Sampled, end_version, ended, format_version, formatted, slots, unused, values}
+use Rattle.ob_epoch.specs.ContentSamples.{ContentsSampled, end_version, ended, format_version, formatted, slots, unused, values}
 use Rattle.ob_epoch.specs.Valued.{IsValued}
 
 -- ---- a version
@@ -224,7 +224,7 @@ formatted_valued = record {
   slots_are = λ u j k e. absurd (none_some (key_at (version_at formatted.versions u) j) k (formatted_key u j) e);
 }
 
-pub sampled : Sampled
+pub sampled : ContentsSampled
 unfolding buckets
 sampled = record {
   p = p0;

@@ -12,7 +12,7 @@ use Rattle.ob_ring.specs.Writing.{leaf_writes, values_after}
 use Rattle.ob_ring.proofs.Rows.{p0}
 use Rattle.ob_epoch.specs.Values.{with_entries}
 use Rattle.ob_epoch.specs.Carries.{Slots, Carries}
-use Rattle.ob_epoch.specs.ValueSamples.{Sampled, puts}
+use Rattle.ob_epoch.specs.ValueSamples.{ValuesSampled, puts}
 use Rattle.ob_epoch.proofs.Written.{writes_carry}
 
 nothing_carried : (p : Params) (slots : Slots) → Carries p empty_table finite.empty slots (λ k. None)
@@ -31,7 +31,7 @@ put_carried slots = writes_carry p0 empty_table (puts 0) finite.empty slots (λ 
     short : (v : List ℕ) → Some (113 ∷ []) ≡ Some v → length v ≤ 64
     short v e = let same : 113 ∷ [] ≡ v = cc in rw (← same) (omega arith)
 
-pub sampled : Sampled
+pub sampled : ValuesSampled
 sampled = record {
   p = p0;
   numbers = refl;

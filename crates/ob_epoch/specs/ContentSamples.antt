@@ -59,7 +59,7 @@ abbrev pub marks_in : FlatTable → List (List Bool)
 marks_in t = map (λ u. map (t.used u) (below 5)) (below 7)
 
 -- what the definitions give for them
-pub record Sampled : Type 0 where
+pub record ContentsSampled : Type 0 where
   pub p : Params
   pub numbers : numbers_of p ≡ 8 ∷ 2 ∷ 2 ∷ 3 ∷ 2 ∷ 2 ∷ 2 ∷ 2 ∷ 8 ∷ []
   -- after the format

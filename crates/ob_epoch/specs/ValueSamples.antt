@@ -34,7 +34,7 @@ abbrev pub filled_table : Params → ℕ → FlatTable
 filled_table p leaf = after p (written_table p leaf) Refill
 
 -- what these steps give
-pub record Sampled : Type 0 where
+pub record ValuesSampled : Type 0 where
   pub p : Params
   pub numbers : numbers_of p ≡ 8 ∷ 2 ∷ 2 ∷ 3 ∷ 2 ∷ 2 ∷ 2 ∷ 2 ∷ 8 ∷ []
   pub lifted : refill_order p (written_table p 0) ≡ 3 ∷ 5 ∷ 1 ∷ 2 ∷ 0 ∷ []

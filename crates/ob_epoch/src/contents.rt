@@ -8,7 +8,7 @@ ghost use Rattle.ob_epoch.specs.Ends.{EndsFollow};
 ghost use Rattle.ob_epoch.specs.Idle.{Idled};
 ghost use Rattle.ob_epoch.specs.Numbers.{RenewedFit, StepsRenew};
 ghost use Rattle.ob_epoch.specs.Plans.{RefillPlans};
-ghost use Rattle.ob_epoch.specs.ContentSamples.{Sampled};
+ghost use Rattle.ob_epoch.specs.ContentSamples.{ContentsSampled};
 ghost use Rattle.ob_epoch.specs.Table.{RingsStand, TablesAreRead};
 ghost use Rattle.ob_epoch.specs.Valued.{ContentsCarry, ContentsFollow, TablesObey};
 
@@ -101,7 +101,7 @@ pub fn slots_rank()
 
 /// The contents of a small store, computed from the definitions.
 pub fn contents_sampled()
-    ensures { Sampled }
+    ensures { ContentsSampled }
 {}
 
 /// An end of the small store that changes nothing meets all that is asked of an end.

@@ -6,7 +6,7 @@ ghost use Rattle.ob_epoch.specs.Epochs.{BucketsGo, EpochsAreMet, EpochsFollow};
 ghost use Rattle.ob_epoch.specs.ValueLaws.{BatchCarries, FetchIsAnswered, LiftsCarry, StashCounts, WritesCarry};
 ghost use Rattle.ob_epoch.specs.Refilled.{PlainIsSpelled, RefillCarries, RefillIsWritten};
 ghost use Rattle.ob_epoch.specs.Runs.{JobsAreRead};
-ghost use Rattle.ob_epoch.specs.ValueSamples.{Sampled};
+ghost use Rattle.ob_epoch.specs.ValueSamples.{ValuesSampled};
 
 /// Where each job of a batch was read, none breaks a rule, and the stash and the buckets have the
 /// map's values as before.
@@ -77,5 +77,5 @@ pub fn epochs_are_met()
 
 /// An epoch of a small store, computed from the definitions.
 pub fn values_sampled()
-    ensures { Sampled }
+    ensures { ValuesSampled }
 {}

@@ -6,7 +6,7 @@ use Rattle.ob_desk.specs.Desk.{Call, Reply, DeskState, IsLast, IsFree, HasNotAsk
 use Rattle.ob_desk.specs.declared.calls.Txn.{Txn}
 use Rattle.ob_session.specs.Clients.{Told, told_of, last_of}
 use Rattle.ob_session.specs.Agreeing.{Agrees, IsTxnKnown, IsLastKnown}
-use Rattle.ob_hall.specs.Calling.{MayGoOn}
+use Rattle.ob_hall.specs.Calling.{IsStillOpen}
 
 -- ---- in a transaction
 
@@ -17,14 +17,14 @@ last_is d number said x t agrees is named client = record {
   last = agrees.last ∙ (ap (λ (o : Option Told). option_map (λ t. t.txn) o) is ∙ ap (λ (y : Txn). Some y) named);
 }
 
-known_free : (d : DeskState) (t : Told) → IsLastKnown d (Some t) → MayGoOn t → IsFree d t.txn
+known_free : (d : DeskState) (t : Told) → IsLastKnown d (Some t) → IsStillOpen t → IsFree d t.txn
 known_free d t known (inl (why, is)) = let k = subst (λ (e : Option (Outcome ℕ)). IsTxnKnown d t.txn t.waiting t.asked e) is known in inl (why, k.0)
 known_free d t known (inr (none, unasked, free)) =
     let k = subst (λ (e : Option (Outcome ℕ)). IsTxnKnown d t.txn t.waiting t.asked e) none known in
     let h = subst (λ (b : Bool). IsTxnKnown d t.txn t.waiting b None) unasked k in
     (subst (λ (w : Option ℕ). IsTxnKnown d t.txn w false None) free h).1
 
-pub is_free : (d : DeskState) (number : ℕ) (said : List (Call × Reply)) (x : Txn) (t : Told) → Agrees d number said → last_of (told_of said) ≡ Some t → t.txn ≡ x → MayGoOn t → IsFree d x
+pub is_free : (d : DeskState) (number : ℕ) (said : List (Call × Reply)) (x : Txn) (t : Told) → Agrees d number said → last_of (told_of said) ≡ Some t → t.txn ≡ x → IsStillOpen t → IsFree d x
 is_free d number said x t agrees is named on = subst (IsFree d) named (known_free d t (subst (IsLastKnown d) is agrees.known) on)
 
 pub not_asked : (d : DeskState) (x : Txn) → IsFree d x → HasNotAsked d x

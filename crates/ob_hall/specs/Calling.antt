@@ -27,8 +27,8 @@ pub record IsBetween (pass : Pass) : Type 0 where
   pub over : (t : Told) → last_of (told_of (said_of pass)) ≡ Some t → IsTxnOver t
 
 -- The transaction was told to be aborted; or it wasn't told how it ended, hasn't asked to commit, and waits for no key.
-abbrev pub MayGoOn : Told → Type 0
-MayGoOn t = ((why : Why ℕ) × (t.ended ≡ Some (AbortedBy why))) ⊎ ((t.ended ≡ None) × (t.asked ≡ false) × (t.waiting ≡ None))
+abbrev pub IsStillOpen : Told → Type 0
+IsStillOpen t = ((why : Why ℕ) × (t.ended ≡ Some (AbortedBy why))) ⊎ ((t.ended ≡ None) × (t.asked ≡ false) × (t.waiting ≡ None))
 
 -- The client's last transaction is this one, in which it may go on.
 pub record IsIn (pass : Pass) (x : Txn) : Type 0 where
@@ -37,7 +37,7 @@ pub record IsIn (pass : Pass) (x : Txn) : Type 0 where
   pub named : told.txn ≡ x
   pub client : x.client ≡ pass.client
   pub kept : last_of_pass pass ≡ Some x
-  pub open_is : MayGoOn told
+  pub open_is : IsStillOpen told
 
 -- These calls of the pass, one behind the other, are its new entries in the one history: that begins with what the pass had seen,
 -- is legal from the desk that the hall was made with, and ends with the last of these entries; and of the pass's own entries it has

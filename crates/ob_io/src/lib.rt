@@ -2,7 +2,6 @@
 #![tactic(auto)]
 
 mod copy;
-mod standard;
 
 ghost use Rattle.std.specs.Prelude.{◌≡◌, ◌<◌, ◌≤◌, ℕ, List, Option, length, take, IfOk, OnErr};
 ghost use Rattle.ob_base.specs.Causes.{HasCause};
@@ -10,7 +9,6 @@ ghost use Rattle.ob_io.specs.Flows.{appended, prepended, count_of, IsAtEnd};
 
 pub use copy::{put_all, read_all};
 use ob_base::Failed;
-pub use standard::{StdSink, StdSource};
 
 /// Bytes that come in.
 pub trait Source {

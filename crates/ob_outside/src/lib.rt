@@ -4,6 +4,8 @@
 
 mod files;
 mod process;
+mod streams;
 
 pub use files::{Files, Named, open_named};
 pub use process::{hold_standard, words_of};
+pub use streams::{StdSink, StdSource};

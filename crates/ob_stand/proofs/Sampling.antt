@@ -18,7 +18,7 @@ use Rattle.ob_epoch.specs.ContentSamples.{ended, formatted}
 use Rattle.ob_epoch.specs.Valued.{content_with}
 use Rattle.ob_epoch.proofs.Idling.{idled}
 use Rattle.ob_stand.specs.Fresh.{fresh_content}
-use Rattle.ob_stand.specs.Samples.{IdleEnd, IsAmong, Sampled, ranks_in_order, sample_numbers}
+use Rattle.ob_stand.specs.Samples.{IdleEnd, IsAmong, ImagesSampled, ranks_in_order, sample_numbers}
 use Rattle.ob_stand.specs.Spare.{IsOtherHome, IsSpare}
 
 -- a store without keys, by its numbers
@@ -168,7 +168,7 @@ idle = record {
   follows = subst (λ c. IsNext idled.p c (content_with idle_run.filled formatted.book idled.rows_then 2) idled.slots_then (λ k. None) (λ k. None) 2 idle_order) (sym (fresh_of idled.p idled.numbers)) idled.next;
 }
 
-pub sampled : Sampled
+pub sampled : ImagesSampled
 sampled = record {
   p = p0;
   numbers = refl;

@@ -33,7 +33,7 @@ pub record IdleEnd : Type 0 where
   pub follows : IsEndOf p (with_generation (fresh_standing p ranks_in_order) 2) (record { content = content; map = λ k. None; slots = slots; order = idle_order })
 
 -- what the definitions give for the store
-pub record Sampled : Type 0 where
+pub record ImagesSampled : Type 0 where
   pub p : Params
   pub numbers : numbers_of p ≡ sample_numbers
   pub ranked : AreRanked p ranks_in_order

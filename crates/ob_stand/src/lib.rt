@@ -10,7 +10,7 @@ ghost use Rattle.ob_stand.specs.Fresh.{FormatsExist, FormattedStands};
 ghost use Rattle.ob_stand.specs.Once.{RingStandsOnce, StandsKnown, StandsOnce};
 ghost use Rattle.ob_stand.specs.Opens.{OpenBegins, OpensLeave};
 ghost use Rattle.ob_stand.specs.Reads.{RunsEnd, SealedAreOpened, StandsValued};
-ghost use Rattle.ob_stand.specs.Samples.{Sampled};
+ghost use Rattle.ob_stand.specs.Samples.{ImagesSampled};
 ghost use Rattle.ob_stand.specs.Sound.{StoresAreSound};
 ghost use Rattle.ob_stand.specs.Spare.{AgreeOffSpare, FrameWith, StandsFrame};
 ghost use Rattle.ob_stand.specs.Vaults.{RingStands, WritesAgree};
@@ -156,5 +156,5 @@ pub fn writes_agree()
 /// The spare cells of a small store, and an end that changes nothing, computed from the
 /// definitions.
 pub fn sampled()
-    ensures { Sampled }
+    ensures { ImagesSampled }
 {}

@@ -1,6 +1,7 @@
 //! Readers and writers of std that halt, fail, or take few bytes.
 
-use ob_io::{ReadErr, StdSink, StdSource, put_all, read_all};
+use ob_io::{ReadErr, put_all, read_all};
+use ob_outside::{StdSink, StdSource};
 use std::alloc::Global;
 use std::io::{self, ErrorKind, Read, Write};
 
