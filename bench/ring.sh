@@ -17,7 +17,7 @@ top=$(cd "$(dirname "$0")/.." && pwd)
 source "$top/bench/common.sh"
 bench_crate ring_bench ob_base ob_io ob_store ob_mem ob_tape ob_seal ob_twin ob_cells ob_start \
     ob_log ob_flat_rows ob_tables ob_schedule ob_ring ob_ring_trace ob_epoch ob_check ob_serial \
-    ob_plain_serial ob_stand ob_recover ob_pads ob_vault ob_fetch ob_end ob_ring_vault ob_flat <<'PROGRAM'
+    ob_plain_serial ob_stand ob_recover ob_pads ob_opening ob_fetch ob_end ob_ring_vault ob_flat <<'PROGRAM'
 //! Runs epochs of a ring vault (a to d) or of a plain one (A to C) in memory, or plans the ring's alone
 //! (e to h): the first byte of the input says which, and the second how many rounds.
 #![tactic(auto)]
@@ -73,7 +73,7 @@ fn open_ring<'a, S: Store, T: Tape>(
     requires none_out { (S.disk store.old).out ≡ 0 }
     requires unstarted { T.present tape.old ≡ 0 }
 {
-    match ob_vault::prepare(alloc, store, tape, keys, p, 1, &mut Blind) {
+    match ob_opening::prepare(alloc, store, tape, keys, p, 1, &mut Blind) {
         Ok(opening) => Some(RingVault::over(store, tape, opening)),
         Err(_) => None,
     }
@@ -84,7 +84,7 @@ fn on_ring(clock: &impl CpuClock, alloc: Global, what: u8, rounds: u32) -> Optio
     let keys = Keys::from_bytes(&[7; 96]);
     let mut store = BareStore::new(alloc, ring_cells(&p) as usize).ok()?;
     let mut tape = ChaChaTape::new(&[7; 32]);
-    ob_vault::format(alloc, &mut store, &mut tape, &keys, &p, &mut Blind).ok()?;
+    ob_opening::format(alloc, &mut store, &mut tape, &keys, &p, &mut Blind).ok()?;
     let mut tape = ChaChaTape::new(&[7; 32]);
     let mut vault = open_ring(alloc, &mut store, &mut tape, &keys, &p)?;
     let p = vault.params();

@@ -13,7 +13,7 @@ top=$(cd "$(dirname "$0")/.." && pwd)
 source "$top/bench/common.sh"
 bench_crate ring_open_bench ob_base ob_io ob_store ob_mem ob_tape ob_seal ob_twin ob_cells ob_start \
     ob_log ob_flat_rows ob_tables ob_schedule ob_ring ob_ring_trace ob_epoch ob_check ob_serial \
-    ob_stand ob_recover ob_vault ob_flat <<'PROGRAM'
+    ob_stand ob_recover ob_opening ob_flat <<'PROGRAM'
 //! Makes a ring store, and formats it again (f), opens it (p), or seals (s) or opens (o) as many
 //! cells; makes a plain store of as many keys, and opens it (q) or not (k); makes a larger ring
 //! store, and opens it (c) or not (b): the first byte of the input says what, any other makes the
@@ -38,13 +38,13 @@ const OPENS: u64 = 33163;
 // Whether a ring store of these parameters was made.
 fn make(alloc: Global, store: &mut BareStore, keys: &Keys, p: &Params) -> bool {
     let mut tape = ChaChaTape::new(&[7; 32]);
-    ob_vault::format(alloc, store, &mut tape, keys, p, &mut Blind).is_ok()
+    ob_opening::format(alloc, store, &mut tape, keys, p, &mut Blind).is_ok()
 }
 
 // Whether it was opened.
 fn open(alloc: Global, store: &mut BareStore, keys: &Keys, p: &Params) -> bool {
     let mut tape = ChaChaTape::new(&[7; 32]);
-    ob_vault::prepare(alloc, store, &mut tape, keys, p, 1, &mut Blind).is_ok()
+    ob_opening::prepare(alloc, store, &mut tape, keys, p, 1, &mut Blind).is_ok()
 }
 
 fn make_all(alloc: Global, store: &mut BareStore, keys: &Keys, p: &Params) -> u64 {

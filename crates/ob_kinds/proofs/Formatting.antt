@@ -9,7 +9,7 @@ use Rattle.ob_stand.proofs.VaultLaws.{ring_stands}
 use Rattle.ob_stand.specs.Stands.{Stands, StandsRing}
 use Rattle.ob_store.proofs.Moments.{weakened}
 use Rattle.ob_store.specs.Disk.{Disk, Image}
-use Rattle.ob_vault.specs.Formats.{RingFormatLeaves, formatted_standing}
+use Rattle.ob_opening.specs.Formats.{RingFormatLeaves, formatted_standing}
 use Rattle.ob_kinds.specs.RingLaws.{RingFormats}
 use Rattle.ob_kinds.specs.RingKind.{ring_kind}
 

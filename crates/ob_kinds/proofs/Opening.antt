@@ -26,11 +26,11 @@ use Rattle.ob_store.specs.Lines.{Trace}
 use Rattle.ob_store.specs.Told.{events_of}
 use Rattle.ob_store.specs.declared.event.Event.{Event}
 use Rattle.ob_store.specs.declared.event.Event.TheVariants as event
-use Rattle.ob_vault.specs.OpeningActs.{AreGatesIn}
-use Rattle.ob_vault.specs.OpeningRuns.{IsRingOpened, OpensFrom}
-use Rattle.ob_vault.specs.Openings.{OpensWhatStood}
-use Rattle.ob_vault.specs.Openings as vault
-use Rattle.ob_vault.specs.declared.opening.Opening.{Opening}
+use Rattle.ob_opening.specs.OpeningActs.{AreGatesIn}
+use Rattle.ob_opening.specs.OpeningRuns.{IsRingOpened, OpensFrom}
+use Rattle.ob_opening.specs.Openings.{OpensWhatStood}
+use Rattle.ob_opening.specs.Openings as vault
+use Rattle.ob_opening.specs.declared.opening.Opening.{Opening}
 use Rattle.ob_kinds.proofs.Founding.{found_is_standing}
 use Rattle.ob_kinds.proofs.Phasing.{phased}
 use Rattle.ob_kinds.specs.RingKind.{GoesOnFrom, IsRingFound, RingFound, ring_kind}

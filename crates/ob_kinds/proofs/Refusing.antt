@@ -32,9 +32,9 @@ use Rattle.ob_store.specs.Told.{events_of}
 use Rattle.ob_store.specs.declared.event.Event.{Event}
 use Rattle.ob_store.specs.declared.event.Event.TheVariants as event
 use Rattle.ob_store.specs.declared.watch.Note.{Note}
-use Rattle.ob_vault.specs.OpeningRuns as vault
-use Rattle.ob_vault.specs.OpeningRuns.{BeginsFirst, IsReadAlone, OpensPart, ReadsAll, RefusedDoes, RefusedWrites, RepeatsBehind}
-use Rattle.ob_vault.specs.Openings.{IsOpenFault, IsOpenRefusal}
+use Rattle.ob_opening.specs.OpeningRuns as vault
+use Rattle.ob_opening.specs.OpeningRuns.{BeginsFirst, IsReadAlone, OpensPart, ReadsAll, RefusedDoes, RefusedWrites, RepeatsBehind}
+use Rattle.ob_opening.specs.Openings.{IsOpenFault, IsOpenRefusal}
 use Rattle.ob_kinds.specs.RingLaws.{RingRefuses}
 use Rattle.ob_kinds.specs.Seen.{OpensInPart, ReadsFirst, RingMayBegin, RingOpensPartly}
 

@@ -23,7 +23,7 @@ use Rattle.ob_twin.specs.Keyed.{tagging}
 use Rattle.ob_twin.specs.Register.{StandsAt}
 use Rattle.ob_twin.specs.Reading.{AllWhole, Counts}
 use Rattle.ob_twin.proofs.Judging.{number_read}
-use Rattle.ob_vault.specs.Openings.{IsOpenFault}
+use Rattle.ob_opening.specs.Openings.{IsOpenFault}
 use Rattle.ob_kinds.specs.Causes.{IsRingWorn, RingLasts, seals_an_epoch, words_an_epoch}
 use Rattle.ob_kinds.specs.Hidden.{RingHidden}
 use Rattle.ob_kinds.specs.RingKind.{IsRingFound, IsRingMap, IsRingRefusal, RingCauses, RingFound, RingMayStop, ring_kind}

@@ -24,9 +24,9 @@ use Rattle.ob_start.specs.Heads.{IsHead, IsHeadFault, IsHeadRead}
 use Rattle.ob_store.specs.Disk.{Disk, Image}
 use Rattle.ob_store.specs.Told.{events_of}
 use Rattle.ob_twin.specs.declared.gates.Gates.{Gates}
-use Rattle.ob_vault.specs.Formats.{RingFormatLeaves}
-use Rattle.ob_vault.specs.OpeningActs.{AreGatesIn}
-use Rattle.ob_vault.specs.Openings.{IsOpenFault, IsOpenRefusal, IsStandingRefusal, fresh_sealer}
+use Rattle.ob_opening.specs.Formats.{RingFormatLeaves}
+use Rattle.ob_opening.specs.OpeningActs.{AreGatesIn}
+use Rattle.ob_opening.specs.Openings.{IsOpenFault, IsOpenRefusal, IsStandingRefusal, fresh_sealer}
 use Rattle.ob_kinds.specs.Causes.{IsRingWorn, IsSlotDamage, RingLasts}
 use Rattle.ob_kinds.specs.Hidden.{IsOfTape, RingCut, RingDraws, RingHidden}
 use Rattle.ob_kinds.specs.Seen.{RingMayBegin, RingOpensPartly, RingPublic, opening_phases, ring_next, ring_phases}

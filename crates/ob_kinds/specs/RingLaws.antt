@@ -28,11 +28,11 @@ use Rattle.ob_store.specs.Told.{events_of}
 use Rattle.ob_store.specs.declared.event.Event.TheVariants as event
 use Rattle.ob_store.specs.declared.watch.Note.{Note}
 use Rattle.ob_store.specs.declared.watch.Note.TheVariants as note
-use Rattle.ob_vault.specs.Formats.{RingFormatLeaves, formatted_standing}
-use Rattle.ob_vault.specs.OpeningActs.{AreGatesIn}
-use Rattle.ob_vault.specs.OpeningRuns.{IsRingOpened, OpensFrom, RefusedDoes, RefusedWrites}
-use Rattle.ob_vault.specs.Openings.{IsOpenFault, IsOpenRefusal, IsStandingRefusal, OpensWhatStood}
-use Rattle.ob_vault.specs.declared.opening.Opening.{Opening}
+use Rattle.ob_opening.specs.Formats.{RingFormatLeaves, formatted_standing}
+use Rattle.ob_opening.specs.OpeningActs.{AreGatesIn}
+use Rattle.ob_opening.specs.OpeningRuns.{IsRingOpened, OpensFrom, RefusedDoes, RefusedWrites}
+use Rattle.ob_opening.specs.Openings.{IsOpenFault, IsOpenRefusal, IsStandingRefusal, OpensWhatStood}
+use Rattle.ob_opening.specs.declared.opening.Opening.{Opening}
 use Rattle.ob_kinds.specs.Hidden.{IsOfTape, RingHidden}
 use Rattle.ob_kinds.specs.RingKind.{GoesOnFrom, IsRingFound, IsRingRefusal, RingFound, ring_hidden, ring_kind, ring_public}
 use Rattle.ob_kinds.specs.RingSteps.{HasRingWords, RingAt}

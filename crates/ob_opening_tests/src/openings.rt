@@ -7,10 +7,10 @@ use crate::small::{READ, Told, blank_store, flip, small_store, test_keys, told_b
 use ob_base::{Fault, Key, Params, set_u64};
 use ob_log::append;
 use ob_mem::{Fail, MemSink, MemStore};
+use ob_opening::{format, prepare};
 use ob_seal::Sealer;
 use ob_store::{Blind, SinkWatch, Store, Watch};
 use ob_tape::ListTape;
-use ob_vault::{format, prepare};
 use std::alloc::Global;
 use std::process::Abort;
 

@@ -40,7 +40,7 @@ use Rattle.ob_store.specs.declared.watch.Note.{Note}
 use Rattle.ob_tables.specs.Kept.{entry_at}
 use Rattle.ob_tables.specs.declared.entry.Entry.{Entry}
 use Rattle.ob_twin.proofs.Moves.{at_the_end}
-use Rattle.ob_vault.specs.OpeningActs.{StandsInLife}
+use Rattle.ob_opening.specs.OpeningActs.{StandsInLife}
 use Rattle.ob_ring_life.specs.Acts.{AreTapeWords, IsBatchSmall, IsCallInLife, IsLeftWithin, RunsInLife, id_write}
 use Rattle.ob_ring_life.proofs.Fetching.{at_standing, none_pending, same_act, settled_stands}
 use Rattle.ob_ring_life.proofs.Ids.{Fits, records_fit, records_ids}

@@ -25,7 +25,7 @@ use Rattle.ob_store.proofs.Moments.{started, weakened}
 use Rattle.ob_store.specs.Told.{IsCut}
 use Rattle.ob_store.specs.declared.watch.Note.{Note}
 use Rattle.ob_twin.proofs.Moves.{at_the_end}
-use Rattle.ob_vault.specs.OpeningActs.{StandsInLife}
+use Rattle.ob_opening.specs.OpeningActs.{StandsInLife}
 use Rattle.ob_ring_life.specs.Acts.{AreBatchesSmall, AreTapeWords, IsBatchSmall, IsCallInLife, IsLeftWithin, RunsInLife}
 
 -- ---- lists and acts

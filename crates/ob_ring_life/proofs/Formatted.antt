@@ -13,9 +13,9 @@ use Rattle.ob_ring_trace.specs.Life.{WordId, formatted_life}
 use Rattle.ob_seal.specs.declared.keys.Keys.{Keys}
 use Rattle.ob_stand.specs.Fresh.{AreRanked, fresh_content, fresh_version}
 use Rattle.ob_store.specs.Disk.{Disk, Image}
-use Rattle.ob_vault.proofs.FirstLaws.{are_ranked}
-use Rattle.ob_vault.specs.Formats.{drawn_ranks, format_words}
-use Rattle.ob_vault.specs.OpeningActs.{AreSlotsIn, StandsInLife}
+use Rattle.ob_opening.proofs.FirstLaws.{are_ranked}
+use Rattle.ob_opening.specs.Formats.{drawn_ranks, format_words}
+use Rattle.ob_opening.specs.OpeningActs.{AreSlotsIn, StandsInLife}
 use Rattle.ob_ring_life.specs.Lives.{RingFormatted}
 
 module _ (p : Params) (drawn : List ℕ) (many : length drawn ≡ format_words p) where

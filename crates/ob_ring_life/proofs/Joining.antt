@@ -11,7 +11,7 @@ use Rattle.ob_ring_trace.specs.Life.{IsLife, LifeAct, LifeState, Open, ShowBatch
 use Rattle.ob_ring_life.specs.Acts.{AreBatchesSmall}
 use Rattle.ob_seal.specs.declared.keys.Keys.{Keys}
 use Rattle.ob_store.specs.Disk.{Disk, Image}
-use Rattle.ob_vault.specs.OpeningActs.{IsLeftAt, StandsInLife}
+use Rattle.ob_opening.specs.OpeningActs.{IsLeftAt, StandsInLife}
 use Rattle.ob_ring_life.proofs.Whole.{reached_join, whole_run}
 use Rattle.ob_ring_life.specs.Joined.{AreGiven, AreParts, AreRunsFrom, IsPart, RunPart, RunsAreOneLife, Served, Stopped, begun_at}
 use Rattle.ob_ring_life.specs.Lives.{IsNextInLife, IsRunInLife, IsStoppedInLife, opening_acts}

@@ -30,7 +30,7 @@ use Rattle.ob_serial.specs.Vaults.{DoubtBy, End, Ended, Fetch, RefusedBy, Values
 use Rattle.ob_stand.specs.Stands.{RingStanding}
 use Rattle.ob_store.specs.Disk.{Clock, Disk, Image, NotAfter}
 use Rattle.ob_store.specs.declared.watch.Note.{Note}
-use Rattle.ob_vault.specs.OpeningActs.{StandsInLife}
+use Rattle.ob_opening.specs.OpeningActs.{StandsInLife}
 use Rattle.ob_ring_life.proofs.DrawnChains.{GoesOn, all_on, drawn_shown, tape_before}
 use Rattle.ob_ring_life.proofs.Cutting.{cut_batch, cut_end}
 use Rattle.ob_ring_life.specs.Lives.{AreActsOf, AreFirstActs, IsCutInLife, IsLeftInLife, RingGoesOn}

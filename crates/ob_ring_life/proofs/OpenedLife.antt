@@ -24,7 +24,7 @@ use Rattle.ob_seal.specs.Sealing.{Sealing}
 use Rattle.ob_seal.specs.declared.keys.Keys.{Keys}
 use Rattle.ob_stand.specs.Stands.{RingStanding}
 use Rattle.ob_store.specs.Disk.{Image}
-use Rattle.ob_vault.specs.OpeningActs.{StandsInLife}
+use Rattle.ob_opening.specs.OpeningActs.{StandsInLife}
 use Rattle.ob_ring_life.proofs.Batches.{has_phase}
 use Rattle.ob_ring_life.specs.Lives.{IsOpenedInLife}
 

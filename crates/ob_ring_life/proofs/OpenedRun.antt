@@ -12,9 +12,9 @@ use Rattle.ob_ring_vault.proofs.Opened.{opened_at}
 use Rattle.ob_seal.specs.declared.keys.Keys.{Keys}
 use Rattle.ob_stand.specs.Stands.{with_generation}
 use Rattle.ob_store.specs.Disk.{Disk, Image}
-use Rattle.ob_vault.specs.OpeningActs.{StandsInLife}
-use Rattle.ob_vault.specs.Openings.{IsOpenedAt}
-use Rattle.ob_vault.specs.declared.opening.Opening.{Opening}
+use Rattle.ob_opening.specs.OpeningActs.{StandsInLife}
+use Rattle.ob_opening.specs.Openings.{IsOpenedAt}
+use Rattle.ob_opening.specs.declared.opening.Opening.{Opening}
 use Rattle.ob_ring_life.specs.Acts.{AreBatchesSmall, RunsInLife}
 
 -- what an act that shows a batch again leaves as it was

@@ -9,7 +9,7 @@ use Rattle.ob_kinds.specs.RingLaws.{ReadsHead}
 use Rattle.ob_seal.specs.declared.keys.Keys.{Keys}
 use Rattle.ob_store.specs.Disk.{Disk, Image}
 use Rattle.ob_store.specs.Lines.{Trace}
-use Rattle.ob_vault.specs.OpeningActs.{IsLeftAt, OpensInLife, StandsInLife, opening_call}
+use Rattle.ob_opening.specs.OpeningActs.{IsLeftAt, OpensInLife, StandsInLife, opening_call}
 use Rattle.ob_ring_life.proofs.OpenedLife.{repeats_live}
 use Rattle.ob_ring_life.specs.Lives.{IsStoppedInLife, opening_acts}
 

@@ -15,7 +15,7 @@ use Rattle.ob_schedule.specs.Schedule.{Fills}
 use Rattle.ob_seal.specs.declared.keys.Keys.{Keys}
 use Rattle.ob_serial.specs.Vaults.{VaultCall}
 use Rattle.ob_store.specs.Disk.{Disk, Image}
-use Rattle.ob_vault.specs.OpeningActs.{IsLeftAt, StandsInLife}
+use Rattle.ob_opening.specs.OpeningActs.{IsLeftAt, StandsInLife}
 use Rattle.ob_ring_life.specs.Lives.{GoesOnInLife, IsLeftInLife, IsNextInLife, IsOpenedInLife, IsRunInLife, RingBegins, RingGoesOn, opening_acts}
 
 pub reached_join : (p : Params) (word_of : WordId → ℕ) (s : LifeState) (xs ys : List LifeAct) → reached p word_of s (xs ++ ys) ≡ reached p word_of (reached p word_of s xs) ys

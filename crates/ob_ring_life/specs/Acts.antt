@@ -25,9 +25,9 @@ use Rattle.ob_store.specs.Images.{LeavesOnly}
 use Rattle.ob_store.specs.Told.{IsCut}
 use Rattle.ob_store.specs.declared.watch.Note.{Note}
 use Rattle.ob_tables.specs.declared.entry.Entry.{Entry}
-use Rattle.ob_vault.specs.OpeningActs.{IsLeftAt, StandsInLife}
-use Rattle.ob_vault.specs.Openings.{IsOpenedAt}
-use Rattle.ob_vault.specs.declared.opening.Opening.{Opening}
+use Rattle.ob_opening.specs.OpeningActs.{IsLeftAt, StandsInLife}
+use Rattle.ob_opening.specs.Openings.{IsOpenedAt}
+use Rattle.ob_opening.specs.declared.opening.Opening.{Opening}
 
 -- ---- a run in a life
 

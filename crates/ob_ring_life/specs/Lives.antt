@@ -27,8 +27,8 @@ use Rattle.ob_serial.specs.Vaults.{End, Fetch, VaultAnswer, VaultCall}
 use Rattle.ob_stand.specs.Fresh.{fresh_content}
 use Rattle.ob_store.specs.Disk.{Disk, Image}
 use Rattle.ob_store.specs.Lines.{Trace}
-use Rattle.ob_vault.specs.Formats.{drawn_ranks, format_words}
-use Rattle.ob_vault.specs.OpeningActs.{AreSlotsIn, IsLeftAt, OpensInLife, StandsInLife}
+use Rattle.ob_opening.specs.Formats.{drawn_ranks, format_words}
+use Rattle.ob_opening.specs.OpeningActs.{AreSlotsIn, IsLeftAt, OpensInLife, StandsInLife}
 use Rattle.ob_ring_life.specs.Shown.{AreFilledBy, AreShownBy, IsInLife}
 
 -- ---- a format

@@ -9,9 +9,9 @@ use crate::small::{left_after, new_store, run_on, small_store, store_of, test_ke
 use ob_base::{Fault, Params, Value};
 use ob_cells::read_cells;
 use ob_mem::{MemSink, MemStore};
+use ob_opening::format;
 use ob_store::{Blind, SinkWatch};
 use ob_tape::ChaChaTape;
-use ob_vault::format;
 use sha2::{Digest, Sha256};
 use std::alloc::Global;
 use std::process::Abort;

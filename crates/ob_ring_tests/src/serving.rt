@@ -8,11 +8,11 @@ use ob_base::{Fault, Key, Params, Value, Write};
 use ob_cells::Crew;
 use ob_end::end;
 use ob_fetch::{Run, fetch};
+use ob_opening::{Opening, prepare};
 use ob_seal::Keys;
 use ob_serial::EndErr;
 use ob_store::{Store, Watch};
 use ob_tape::Tape;
-use ob_vault::{Opening, prepare};
 use std::alloc::Global;
 
 // A key and the value that it gets.

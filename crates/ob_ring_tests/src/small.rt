@@ -6,10 +6,10 @@ ghost use Rattle.ob_mem.specs.Memory.{disk_of_store};
 use crate::serving::{Outcome, Step, run_steps};
 use ob_base::Params;
 use ob_mem::{Fail, MemStore};
+use ob_opening::format;
 use ob_seal::Keys;
 use ob_store::{Blind, Watch};
 use ob_tape::ListTape;
-use ob_vault::format;
 use std::alloc::Global;
 use std::process::Abort;
 

@@ -16,8 +16,8 @@ use Rattle.ob_serial.specs.Serial.{Map}
 use Rattle.ob_stand.specs.Stands.{RingStanding, Stands, StandsRing, with_generation}
 use Rattle.ob_stand.proofs.VaultLaws.{ring_stands}
 use Rattle.ob_store.specs.Disk.{Disk, Image}
-use Rattle.ob_vault.specs.declared.opening.Opening.{Opening}
-use Rattle.ob_vault.specs.Openings.{IsOpenedAt}
+use Rattle.ob_opening.specs.declared.opening.Opening.{Opening}
+use Rattle.ob_opening.specs.Openings.{IsOpenedAt}
 use Rattle.ob_ring_vault.specs.RingVaults.{RingSound, opened_ring, run_over}
 
 module _ {L : Type 0} (keys : Keys) (p : Params) (s : RingStanding) (disk : Disk) (o : Opening L) (tells : disk.tells) (opened : IsOpenedAt keys p s disk o) where

@@ -41,7 +41,7 @@ use Rattle.ob_store.specs.Images.{LeavesOnly, Passes, Same}
 use Rattle.ob_store.specs.Told.{events_of}
 use Rattle.ob_store.specs.declared.watch.Note.{Note}
 use Rattle.ob_tables.specs.declared.entry.Entry.{Entry}
-use Rattle.ob_vault.specs.declared.opening.Opening.{Opening}
+use Rattle.ob_opening.specs.declared.opening.Opening.{Opening}
 
 -- a disk with two references more
 abbrev pub lent_both : GName → GName → Disk → Disk

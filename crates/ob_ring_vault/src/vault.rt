@@ -11,10 +11,10 @@ use crate::measuring::measure_all;
 use ob_base::{Fault, Key, Params, Value, Write};
 use ob_cells::Crew;
 use ob_fetch::{Run, fetch};
+use ob_opening::Opening;
 use ob_serial::{EndErr, Vault};
 use ob_store::{Store, Watch};
 use ob_tape::Tape;
-use ob_vault::Opening;
 
 /// A map by epochs over a ring store and a tape that are lent. Which cells a fetch and the end of
 /// an epoch read and write is fixed by the parameters and by random words: it tells nothing of the
@@ -42,7 +42,7 @@ impl<'a, S: Store, T: Tape> RingVault<'a, S, T> {
     ghost use Rattle.ob_serial.specs.Serial.{Map};
     ghost use Rattle.ob_stand.specs.Stands.{RingStanding};
     ghost use Rattle.ob_twin.specs.Opening.{GatesAre};
-    ghost use Rattle.ob_vault.specs.Openings.{IsOpenedAt};
+    ghost use Rattle.ob_opening.specs.Openings.{IsOpenedAt};
 
     /// A vault over a store that `prepare` opened, with the tape that it started, at the place of
     /// the running epoch that the opening found.

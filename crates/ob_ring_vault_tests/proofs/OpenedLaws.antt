@@ -7,7 +7,7 @@ use Rattle.ob_ring_vault.specs.RingVaults.{opened_ring}
 use Rattle.ob_ring_vault_tests.specs.Opened.{opened_ring_at}
 use Rattle.ob_serial.specs.Serial.{Map}
 use Rattle.ob_stand.specs.Stands.{RingStanding}
-use Rattle.ob_vault.specs.declared.opening.Opening.{Opening}
+use Rattle.ob_opening.specs.declared.opening.Opening.{Opening}
 
 module _ {L : Type 0} (p : Params) (s : RingStanding) (content : Map nat_cmp) (o : Opening L) (params : o.params ≡ p) (left : o.left + length s.records ≡ p.batches) where
   batches_are : (o.params).batches ≡ p.batches

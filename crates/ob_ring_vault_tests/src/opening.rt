@@ -14,13 +14,13 @@ ghost use Rattle.ob_stand.specs.Stands.{RingStanding, Stands};
 use crate::calls::may_serve_all;
 use ob_base::{Fault, Memory, Params, ring_cells};
 use ob_mem::{Fail, MemStore};
+use ob_opening::{format, prepare};
 use ob_plain_serial::{Reply, Request, serve_all};
 use ob_ring_vault::RingVault;
 use ob_seal::Keys;
 use ob_serial::Vault;
 use ob_store::{Store, Watch};
 use ob_tape::{ListTape, Tape};
-use ob_vault::{format, prepare};
 use std::alloc::Global;
 use std::process::Abort;
 

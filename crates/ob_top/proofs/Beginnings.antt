@@ -27,12 +27,12 @@ use Rattle.ob_store.specs.Calls.{IsStoreFault, Notes, NotesFirst}
 use Rattle.ob_store.specs.Disk.{Disk, Image}
 use Rattle.ob_store.specs.Images.{IsSynced}
 use Rattle.ob_store.specs.Lines.{Trace}
-use Rattle.ob_vault.proofs.PlanLaws.{opened_plans}
-use Rattle.ob_vault.specs.OpeningActs.{IsLeftAt, OpensInLife}
-use Rattle.ob_vault.specs.Formats.{IsFormatFault, formatted_standing}
-use Rattle.ob_vault.specs.OpeningRuns.{IsAtStart, IsRingOpened, OpeningLeaves, RefusedDoes, RefusedWrites}
-use Rattle.ob_vault.specs.Openings.{IsOpenFault, IsOpenRefusal, IsStandingRefusal, OpensWhatStood}
-use Rattle.ob_vault.specs.declared.opening.Opening.{Opening}
+use Rattle.ob_opening.proofs.PlanLaws.{opened_plans}
+use Rattle.ob_opening.specs.OpeningActs.{IsLeftAt, OpensInLife}
+use Rattle.ob_opening.specs.Formats.{IsFormatFault, formatted_standing}
+use Rattle.ob_opening.specs.OpeningRuns.{IsAtStart, IsRingOpened, OpeningLeaves, RefusedDoes, RefusedWrites}
+use Rattle.ob_opening.specs.Openings.{IsOpenFault, IsOpenRefusal, IsStandingRefusal, OpensWhatStood}
+use Rattle.ob_opening.specs.declared.opening.Opening.{Opening}
 use Rattle.ob_top.proofs.Running.{IsQuiet}
 use Rattle.ob_top.specs.Begun.{IsBegun, MayServe}
 use Rattle.ob_top.specs.Formats.{FormatEnds, IsFormatted}

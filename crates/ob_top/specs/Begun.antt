@@ -14,7 +14,7 @@ use Rattle.ob_store.specs.Calls.{Notes}
 use Rattle.ob_store.specs.Disk.{Disk}
 use Rattle.ob_twin.specs.Opening.{GatesAre}
 use Rattle.ob_twin.specs.declared.gates.Gates.{Gates}
-use Rattle.ob_vault.specs.declared.opening.Opening.{Opening}
+use Rattle.ob_opening.specs.declared.opening.Opening.{Opening}
 use Rattle.ob_top.specs.Runs.{IsOpened, begin_events}
 
 -- This was found: the run goes on from it, with a planner that has shown its batches; the head's read and the opening were seen; and where

@@ -11,11 +11,11 @@ ghost use Rattle.ob_top.specs.Runs.{fault_of};
 
 use ob_base::{Failed, Fault, Params, ring_cells};
 use ob_io::Sink;
+use ob_opening::format;
 use ob_report::size_text;
 use ob_seal::Keys;
 use ob_store::{Blind, Store};
 use ob_tape::Tape;
-use ob_vault::format;
 use std::alloc::Global;
 
 /// Makes an empty store of these parameters, and then tells how many cells it has. The tape, which
