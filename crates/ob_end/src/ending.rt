@@ -34,9 +34,9 @@ use crate::making::make_end;
 use ob_base::Write;
 use ob_cells::Crew;
 use ob_fetch::Run;
+use ob_seal::Tape;
 use ob_serial::EndErr;
 use ob_store::{Store, Watch};
-use ob_tape::Tape;
 use ob_twin::SetErr;
 
 fn end_err(refused: SetErr) -> EndErr

@@ -19,8 +19,8 @@ use crate::renewing::renew;
 use ob_base::{Fault, NUMBER_LIMIT, Write};
 use ob_cells::Crew;
 use ob_fetch::Run;
+use ob_seal::Tape;
 use ob_store::{Store, Watch};
-use ob_tape::Tape;
 
 /// Reads the final lifts, makes the epoch's writes, and fills the lifted buckets anew.
 pub fn make_end<S: Store, T: Tape, W: Watch>(

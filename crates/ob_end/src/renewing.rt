@@ -11,8 +11,7 @@ ghost use Rattle.ob_end.specs.Renewals.{HasItsRows, RenewAnswers, Renews, end_se
 use ob_base::{Fault, NUMBER_LIMIT, Params, StashFull, Write, checkpoint_cells};
 use ob_fetch::{draw_front, front};
 use ob_ring::Ring;
-use ob_seal::Sealer;
-use ob_tape::Tape;
+use ob_seal::{Sealer, Tape};
 
 // What is answered of the filled buckets, where so many seals are needed from this number on.
 fn judge(filled: Result<(), StashFull>, next: u64, seals: u64) -> Result<(), Fault>

@@ -17,9 +17,8 @@ use crate::drawing::{draw_front, front};
 use crate::run::Run;
 use ob_base::{Fault, Key, NUMBER_LIMIT, Params, record_cells};
 use ob_log::append;
-use ob_seal::Sealer;
+use ob_seal::{Sealer, Tape};
 use ob_store::{Store, Watch};
-use ob_tape::Tape;
 
 /// Whether so many words or seals aren't left.
 pub fn is_worn(run: &Run) -> bool

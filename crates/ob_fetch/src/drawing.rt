@@ -2,7 +2,7 @@
 
 ghost use Rattle.std.specs.Prelude.{◌≡◌, ◌≤◌, ◌+◌, ◌^◌, ◌++◌, length, take};
 
-use ob_tape::Tape;
+use ob_seal::Tape;
 
 /// Draws so many words, and keeps them at the front.
 pub fn draw_front<T: Tape>(tape: &mut T, words: &mut Vec<u64>, many: usize)

@@ -29,8 +29,8 @@ use crate::run::Run;
 use ob_base::{Fault, Key, NUMBER_LIMIT, Value};
 use ob_cells::Crew;
 use ob_recover::read_batch;
+use ob_seal::Tape;
 use ob_store::{Store, Watch};
-use ob_tape::Tape;
 
 /// Fetches the next batch of the epoch that runs: draws a word for each place, keeps the batch's
 /// record in the log, plans the batch, reads its slots and shows them, and gives each place the

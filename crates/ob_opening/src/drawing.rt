@@ -8,8 +8,8 @@ ghost use Rattle.ob_stand.specs.Fresh.{fresh_version};
 ghost use Rattle.ob_opening.specs.Formats.{drawn_ranks, first_version, format_words};
 
 use ob_base::{Params, buckets};
+use ob_seal::Tape;
 use ob_tables::Metas;
-use ob_tape::Tape;
 
 /// Draws a word for each place.
 pub fn draw_words<T: Tape>(tape: &mut T, words: &mut [u64])

@@ -28,11 +28,10 @@ use ob_base::{Failed, Fault, Memory, Params, buckets, set_u32, slot_cell};
 use ob_cells::{Pieces, write_sealed};
 use ob_check::Sheet;
 use ob_recover::VERSION;
-use ob_seal::{Keys, Sealer};
+use ob_seal::{Keys, Sealer, Tape};
 use ob_start::{head_cell, lay_registers, set_first};
 use ob_store::{Store, Watch, sync_noted, write_through};
 use ob_tables::{Book, Metas, Stash, Tables};
-use ob_tape::Tape;
 use ob_twin::Twin;
 use std::alloc::Global;
 

@@ -17,10 +17,9 @@ use crate::opening::Opening;
 use crate::rooms::{Rooms, rooms_for};
 use ob_base::{Fault, Memory, Params};
 use ob_recover::{Found, find, replay};
-use ob_seal::{Keys, Sealer};
+use ob_seal::{Keys, Sealer, Tape};
 use ob_start::begin;
 use ob_store::{Store, Watch};
-use ob_tape::Tape;
 use std::alloc::Global;
 
 // Begins the next generation, and shows each recorded batch again.

@@ -8,9 +8,8 @@ use ob_base::{Fault, Key, Params, set_u64};
 use ob_log::append;
 use ob_mem::{Fail, MemSink, MemStore};
 use ob_opening::{format, prepare};
-use ob_seal::Sealer;
+use ob_seal::{ListTape, Sealer};
 use ob_store::{Blind, SinkWatch, Store, Watch};
-use ob_tape::ListTape;
 use std::alloc::Global;
 use std::process::Abort;
 

@@ -9,10 +9,9 @@ use ob_cells::Crew;
 use ob_end::end;
 use ob_fetch::{Run, fetch};
 use ob_opening::{Opening, prepare};
-use ob_seal::Keys;
+use ob_seal::{Keys, Tape};
 use ob_serial::EndErr;
 use ob_store::{Store, Watch};
-use ob_tape::Tape;
 use std::alloc::Global;
 
 // A key and the value that it gets.

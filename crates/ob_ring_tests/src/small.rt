@@ -7,9 +7,8 @@ use crate::serving::{Outcome, Step, run_steps};
 use ob_base::Params;
 use ob_mem::{Fail, MemStore};
 use ob_opening::format;
-use ob_seal::Keys;
+use ob_seal::{Keys, ListTape};
 use ob_store::{Blind, Watch};
-use ob_tape::ListTape;
 use std::alloc::Global;
 use std::process::Abort;
 

@@ -4,8 +4,8 @@ ghost use Rattle.std.specs.Prelude.{◌≡◌, ◌≤◌, ◌^◌, false, length
 ghost use Rattle.ob_twin.specs.Opening.{GatesAre};
 
 use crate::known::Known;
+use ob_seal::Tape;
 use ob_store::Store;
-use ob_tape::Tape;
 
 // A store and a tape that are lent, with what the vault's run knows of them: a fact about them may
 // not stand beside memory, so this part of the run is kept here too.

@@ -12,9 +12,9 @@ use ob_base::{Fault, Key, Params, Value, Write};
 use ob_cells::Crew;
 use ob_fetch::{Run, fetch};
 use ob_opening::Opening;
+use ob_seal::Tape;
 use ob_serial::{EndErr, Vault};
 use ob_store::{Store, Watch};
-use ob_tape::Tape;
 
 /// A map by epochs over a ring store and a tape that are lent. Which cells a fetch and the end of
 /// an epoch read and write is fixed by the parameters and by random words: it tells nothing of the

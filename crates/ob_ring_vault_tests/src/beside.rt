@@ -9,9 +9,9 @@ use ob_base::{Params, Value, ring_cells};
 use ob_flat::FlatVault;
 use ob_mem::MemStore;
 use ob_plain_serial::{Reply, Request};
+use ob_seal::ChaChaTape;
 use ob_serial::Vault;
 use ob_store::{Blind, Note, Watch};
-use ob_tape::ChaChaTape;
 use std::alloc::Global;
 use std::process::Abort;
 

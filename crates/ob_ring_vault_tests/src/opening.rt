@@ -17,10 +17,9 @@ use ob_mem::{Fail, MemStore};
 use ob_opening::{format, prepare};
 use ob_plain_serial::{Reply, Request, serve_all};
 use ob_ring_vault::RingVault;
-use ob_seal::Keys;
+use ob_seal::{Keys, ListTape, Tape};
 use ob_serial::Vault;
 use ob_store::{Store, Watch};
-use ob_tape::{ListTape, Tape};
 use std::alloc::Global;
 use std::process::Abort;
 

@@ -7,8 +7,8 @@ use crate::opening::{new_store, params_of, serve_store, test_keys};
 use crate::steps::{Put, Step, Told, requests_of, told_by};
 use ob_base::{Check, Fault, Params};
 use ob_mem::{Fail, MemStore};
+use ob_seal::ListTape;
 use ob_store::{Blind, Store};
-use ob_tape::ListTape;
 use std::alloc::Global;
 use std::process::Abort;
 

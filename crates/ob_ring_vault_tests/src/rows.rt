@@ -8,8 +8,8 @@ use crate::shown::{FIRST_EPOCH, LEAF_ONE, OPENED, SECOND_EPOCH};
 use crate::steps::{Put, Step, requests_of, told_by};
 use ob_base::{Params, Value};
 use ob_mem::{MemSink, MemStore};
+use ob_seal::ListTape;
 use ob_store::{Blind, SinkWatch};
-use ob_tape::ListTape;
 use std::alloc::Global;
 use std::process::Abort;
 

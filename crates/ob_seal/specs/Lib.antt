@@ -4,3 +4,4 @@ pub mod Pieces
 pub mod Seals
 pub mod Sealing
 pub mod Damage
+pub mod Draws

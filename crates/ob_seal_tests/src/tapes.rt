@@ -3,7 +3,7 @@
 ghost use Rattle.std.specs.Prelude.{◌≡◌, ◌<◌};
 
 use crate::shared::{test_keys, test_sealer};
-use ob_tape::{ChaChaTape, ListTape, Tape};
+use ob_seal::{ChaChaTape, ListTape, Tape};
 
 // The first eight words of a generation.
 fn first_words<T: Tape>(tape: &mut T, generation: u64) -> [u64; 8]

@@ -13,9 +13,8 @@ use ob_base::{Failed, Fault, Params, ring_cells};
 use ob_io::Sink;
 use ob_opening::format;
 use ob_report::size_text;
-use ob_seal::Keys;
+use ob_seal::{Keys, Tape};
 use ob_store::{Blind, Store};
-use ob_tape::Tape;
 use std::alloc::Global;
 
 /// Makes an empty store of these parameters, and then tells how many cells it has. The tape, which

@@ -3,7 +3,7 @@
 use crate::playing::{KEYS, RUN, Text, is_told, sink_of, source_of, words_of};
 use ob_desk::Eager;
 use ob_mem::MemStore;
-use ob_tape::ListTape;
+use ob_seal::ListTape;
 use ob_top::obladi;
 use ob_words::store_wanted;
 use std::process::Abort;

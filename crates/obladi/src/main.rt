@@ -6,7 +6,7 @@ use ob_base::Fault;
 use ob_desk::Eager;
 use ob_io::Sink;
 use ob_outside::{Named, StdSink, StdSource, hold_standard, open_named, words_of};
-use ob_tape::ChaChaTape;
+use ob_seal::ChaChaTape;
 use ob_top::{finish, obladi};
 use ob_words::tape_key;
 use std::alloc::AllocGlobal;

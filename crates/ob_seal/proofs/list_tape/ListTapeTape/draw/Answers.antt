@@ -1,7 +1,7 @@
 use Rattle.std.proofs.Common.{◌≡◌, ◌<◌, ◌^◌, arith, rules}
 use Rattle.std.proofs.lemmas.List.FromFn.{length-map-range_with_len, map-range_with_len_more}
-use Rattle.ob_tape.specs.Draws.{list_word}
-use Rattle.ob_tape.proofs.list_tape.ListTapeTape.draw.Goals as goal
+use Rattle.ob_seal.specs.Draws.{list_word}
+use Rattle.ob_seal.proofs.list_tape.ListTapeTape.draw.Goals as goal
 
 pub invariant_of-self : goal.invariant_of-self
 invariant_of-self c =

@@ -2,7 +2,7 @@
 
 ghost use Rattle.std.specs.Prelude.{◌≡◌, ◌+◌, ◌<◌, ◌^◌, [], ◌∷◌, ◌++◌, length};
 ghost use Rattle.rand_chacha.specs.ChaCha.{key_of};
-ghost use Rattle.ob_tape.specs.Draws.{stream_word, stream_drawn};
+ghost use Rattle.ob_seal.specs.Draws.{stream_word, stream_drawn};
 
 use crate::Tape;
 use rand_chacha::ChaCha20Rng;
@@ -21,7 +21,7 @@ pub struct ChaChaTape {
 
 impl Model for ChaChaTape {
     ghost use Rattle.std.specs.Prelude.{◌≡◌, ◌≤◌, ◌/◌, ◌%◌, ◌^◌};
-    ghost use Rattle.ob_tape.specs.Draws.{StreamPlace};
+    ghost use Rattle.ob_seal.specs.Draws.{StreamPlace};
 
     ghost Value = { StreamPlace };
 

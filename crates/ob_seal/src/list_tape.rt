@@ -1,7 +1,7 @@
 //! A tape of given words.
 
 ghost use Rattle.std.specs.Prelude.{◌≡◌, ◌+◌, ◌<◌, ◌^◌, [], ◌∷◌, ◌++◌, length, IfOk};
-ghost use Rattle.ob_tape.specs.Draws.{list_word, list_drawn};
+ghost use Rattle.ob_seal.specs.Draws.{list_word, list_drawn};
 
 use crate::Tape;
 use ob_base::Memory;
@@ -20,7 +20,7 @@ pub struct ListTape {
 
 impl Model for ListTape {
     ghost use Rattle.std.specs.Prelude.{◌≤◌, ◌^◌};
-    ghost use Rattle.ob_tape.specs.Draws.{ListPlace};
+    ghost use Rattle.ob_seal.specs.Draws.{ListPlace};
 
     ghost Value = { ListPlace };
 

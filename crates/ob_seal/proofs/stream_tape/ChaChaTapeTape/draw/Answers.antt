@@ -2,8 +2,8 @@ use Rattle.std.proofs.Common.{◌≡◌, ◌<◌, ◌*◌, ◌+◌, ◌/◌, ◌
 use Rattle.std.proofs.lemmas.List.FromFn.{length-map-range_with_len, map-range_with_len_more}
 use Rattle.rand_chacha.specs.ChaCha.{ChaCha, next_word}
 use Rattle.rand_core.specs.Steps.{u64_via_u32}
-use Rattle.ob_tape.specs.Draws.{stream_word}
-use Rattle.ob_tape.proofs.stream_tape.ChaChaTapeTape.draw.Goals as goal
+use Rattle.ob_seal.specs.Draws.{stream_word}
+use Rattle.ob_seal.proofs.stream_tape.ChaChaTapeTape.draw.Goals as goal
 
 -- a pair of words at an even place is the word of half that place, and leaves the next even place
 pair_at : (g : ChaCha) (i : ℕ) → g.word_pos ≡ 2 * i → i < 2 ^ 62
