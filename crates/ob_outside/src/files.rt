@@ -2,9 +2,10 @@
 
 ghost use Rattle.std.specs.Prelude.{◌≡◌, IfOk, None};
 
+use crate::locking::open_locked;
+use crate::store::{FileStore, OpenErr};
 use crate::streams::StdSource;
 use ob_base::{Fault, Memory};
-use ob_file::{FileStore, OpenErr, open_locked};
 use ob_io::{ReadErr, read_all};
 use ob_words::store_wanted;
 use std::alloc::Global;

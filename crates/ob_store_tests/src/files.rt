@@ -8,7 +8,7 @@ use crate::files::Call::{
 };
 use crate::steps::Step::{Front, NotRead, NotWritten, Read, Synced, Turns, Write};
 use crate::steps::{Step, play};
-use ob_file::{FileStore, OpenErr, open_locked};
+use ob_outside::{FileStore, OpenErr, open_locked};
 use ob_store::Store;
 use std::process::Abort;
 use std::{env, fs, process};

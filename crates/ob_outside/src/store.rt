@@ -2,10 +2,10 @@
 
 ghost use Rattle.std.specs.Prelude.{◌≡◌, ◌≤◌, IfOk, None};
 ghost use Rattle.ob_store.specs.Disk.{silent};
-ghost use Rattle.ob_file.specs.Counts.{CountsFault, with_more};
+ghost use Rattle.ob_outside.specs.Counts.{CountsFault, with_more};
 
 use crate::cell::{read_cell, sync_file, write_cell};
-use crate::opening::{Node, open_cells};
+use crate::locking::{Node, open_cells};
 use ob_base::Failed;
 use ob_store::Store;
 use std::alloc::{AllocError, Global};
