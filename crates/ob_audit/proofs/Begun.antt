@@ -3,7 +3,7 @@ use Rattle.std.proofs.Common.{◌≡◌, ◌≢◌, ◌≤◌, ◌<◌, ◌+◌,
 use Rattle.std.proofs.Math.Seq.{take-append-add}
 use Rattle.std.proofs.lemmas.Bool.{ne_eqb}
 use Rattle.std.proofs.lemmas.List.{append-nil, take_all, length-take, take-append-le}
-use Rattle.ob_follow.specs.Follow.{Follow}
+use Rattle.ob_schedule.specs.Follow.{Follow}
 use Rattle.ob_audit.specs.Traces.{with_first, lines_in, TakesNext, Admitted}
 use Rattle.ob_audit.specs.Reader.{prefixed, TakesText}
 

@@ -3,11 +3,11 @@ use Rattle.std.proofs.Common.{◌≡◌, ◌≤◌, ℕ, List, length, take, Opt
 use Rattle.std.specs.Global.{Box}
 use Rattle.std.specs.Prelude.{MatchOption}
 use Rattle.std.proofs.lemmas.List.{length-take, take_all}
-use Rattle.ob_follow.specs.declared.line.Line.{Line}
-use Rattle.ob_follow.specs.declared.line.Wanted.{Wanted}
-use Rattle.ob_follow.specs.declared.line.Wanted.TheVariants as W
-use Rattle.ob_follow.specs.Follow.{Follow, TakesLine}
-use Rattle.ob_follow.specs.Names.{RefusesLine}
+use Rattle.ob_schedule.specs.declared.line.Line.{Line}
+use Rattle.ob_schedule.specs.declared.line.Wanted.{Wanted}
+use Rattle.ob_schedule.specs.declared.line.Wanted.TheVariants as W
+use Rattle.ob_schedule.specs.Follow.{Follow, TakesLine}
+use Rattle.ob_schedule.specs.Names.{RefusesLine}
 use Rattle.ob_plain_follow.specs.declared.follow.FollowPlain.{FollowPlain}
 use Rattle.ob_plain_follow.specs.Plain.{follow_of}
 use Rattle.ob_audit.specs.Spelling.{SpellsLine, IsLineOf}

@@ -4,8 +4,8 @@ use Rattle.std.specs.Prelude.{option_map}
 use Rattle.std.specs.Fmt.{decimal}
 use Rattle.ob_base.specs.declared.params.Params.{Params}
 use Rattle.ob_store.specs.declared.watch.Note.TheVariants as N
-use Rattle.ob_follow.specs.declared.line.Line.{Line}
-use Rattle.ob_follow.specs.declared.line.Line.TheVariants as L
+use Rattle.ob_schedule.specs.declared.line.Line.{Line}
+use Rattle.ob_schedule.specs.declared.line.Line.TheVariants as L
 use Rattle.ob_audit.specs.Spelling.{numbers_text, IsLineSpelled, IsLineInRange}
 
 head_is : (a b : ℕ) (xs ys : List ℕ) → a ∷ xs ≡ b ∷ ys → a ≡ b

@@ -3,9 +3,9 @@ use Rattle.std.proofs.Common.{◌≡◌, ◌≢◌, ◌≤◌, ◌<◌, ◌+◌,
 use Rattle.std.specs.Global.{Box}
 use Rattle.std.proofs.lemmas.List.{append-nil, length-take-le, take_more_set, length-set}
 use Rattle.ob_plain_follow.specs.declared.follow.FollowPlain.{FollowPlain}
-use Rattle.ob_follow.specs.declared.line.Line.TheVariants as L
-use Rattle.ob_follow.specs.declared.line.Wanted.TheVariants as W
-use Rattle.ob_follow.specs.Follow.{Follow}
+use Rattle.ob_schedule.specs.declared.line.Line.TheVariants as L
+use Rattle.ob_schedule.specs.declared.line.Wanted.TheVariants as W
+use Rattle.ob_schedule.specs.Follow.{Follow}
 use Rattle.ob_audit.specs.declared.reader.Reader.{Reader}
 use Rattle.ob_audit.specs.declared.verdict.Audit.{Audit}
 use Rattle.ob_audit.specs.declared.verdict.Audit.TheVariants.{Breaks}

@@ -4,8 +4,8 @@ use Rattle.ob_base.specs.declared.params.Params.{Params}
 use Rattle.ob_store.specs.declared.watch.Note.{Note}
 use Rattle.ob_store.specs.declared.watch.Note.TheVariants as N
 use Rattle.ob_store.specs.Lines.{line_of, start_line, open_line}
-use Rattle.ob_follow.specs.declared.line.Line.{Line}
-use Rattle.ob_follow.specs.declared.line.Line.TheVariants as L
+use Rattle.ob_schedule.specs.declared.line.Line.{Line}
+use Rattle.ob_schedule.specs.declared.line.Line.TheVariants as L
 
 abbrev pub note_text : Note → List ℕ
 note_text (N.Label x) = 76 ∷ 32 ∷ decimal x

@@ -4,12 +4,12 @@ use Rattle.ob_base.specs.Causes.{Rose}
 use Rattle.ob_base.specs.declared.fault.Fault.{Fault}
 use Rattle.ob_base.specs.declared.fault.Fault.TheVariants.{Memory, SourceFault}
 use Rattle.ob_io.specs.Flows.{IsInput}
-use Rattle.ob_follow.specs.declared.line.Line.{Line}
-use Rattle.ob_follow.specs.declared.line.Line.TheVariants as L
-use Rattle.ob_follow.specs.declared.line.Wanted.{Wanted}
-use Rattle.ob_follow.specs.declared.line.Wanted.TheVariants as W
-use Rattle.ob_follow.specs.Follow.{Follow, TakesLine, started}
-use Rattle.ob_follow.specs.Names.{RefusesLine}
+use Rattle.ob_schedule.specs.declared.line.Line.{Line}
+use Rattle.ob_schedule.specs.declared.line.Line.TheVariants as L
+use Rattle.ob_schedule.specs.declared.line.Wanted.{Wanted}
+use Rattle.ob_schedule.specs.declared.line.Wanted.TheVariants as W
+use Rattle.ob_schedule.specs.Follow.{Follow, TakesLine, started}
+use Rattle.ob_schedule.specs.Names.{RefusesLine}
 use Rattle.ob_audit.specs.declared.verdict.Audit.{Audit}
 use Rattle.ob_audit.specs.declared.verdict.Audit.TheVariants.{Fits, Breaks}
 use Rattle.ob_audit.specs.Spelling.{IsLineOf}

@@ -1,7 +1,7 @@
 -- What an audit writes.
 use Rattle.std.specs.Prelude.{ℕ, List, [], ◌∷◌, ◌++◌, codes, decimal}
-use Rattle.ob_follow.specs.declared.line.Wanted.{Wanted}
-use Rattle.ob_follow.specs.declared.line.Wanted.TheVariants as W
+use Rattle.ob_schedule.specs.declared.line.Wanted.{Wanted}
+use Rattle.ob_schedule.specs.declared.line.Wanted.TheVariants as W
 use Rattle.ob_audit.specs.declared.verdict.Audit.{Audit}
 use Rattle.ob_audit.specs.declared.verdict.Audit.TheVariants.{Fits, Breaks}
 use Rattle.ob_audit.specs.Spelling.{note_text}

@@ -6,7 +6,7 @@ ghost use Rattle.ob_audit.specs.Spelling.{IsLineSpelled, IsLineInRange, IsLineOf
 
 use crate::numbers::{first_small, number_of, small_of};
 use ob_base::Params;
-use ob_follow::Line;
+use ob_schedule::Line;
 use ob_store::Note;
 
 /// The most bytes of a line, without its line feed.

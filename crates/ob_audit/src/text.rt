@@ -9,8 +9,8 @@ ghost use Rattle.ob_audit.specs.Verdict.{wanted_text, verdict_text};
 use crate::verdict::Audit;
 use itoa::Buffer;
 use ob_base::Failed;
-use ob_follow::Wanted;
 use ob_io::{Sink, put_all};
+use ob_schedule::Wanted;
 use ob_store::Note;
 
 // Writes a text and a number.

@@ -1,6 +1,6 @@
 //! What an audit answers.
 
-use ob_follow::{Line, Wanted};
+use ob_schedule::{Line, Wanted};
 
 /// What an audit answers.
 #[derive(Clone, Copy)]

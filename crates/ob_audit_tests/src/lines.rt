@@ -1,7 +1,7 @@
 //! Tests: lines are read.
 
 use ob_audit::line_of;
-use ob_follow::Line;
+use ob_schedule::Line;
 use ob_store::Note;
 
 // Texts, and the letter and the number of the line that each spells; a `?` where it spells none.

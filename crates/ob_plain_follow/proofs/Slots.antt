@@ -7,12 +7,12 @@ use Rattle.ob_base.specs.Layout.{slot_cell}
 use Rattle.ob_store.specs.declared.watch.Note.{Note}
 use Rattle.ob_store.specs.declared.watch.Note.TheVariants as N
 use Rattle.ob_schedule.specs.Holes.{Hole}
-use Rattle.ob_follow.specs.declared.line.Line.TheVariants as L
-use Rattle.ob_follow.specs.declared.line.Wanted.{Wanted}
-use Rattle.ob_follow.specs.Sides.{side_number}
-use Rattle.ob_follow.specs.Follow.{Follow, MayShow, ShowsSlot}
-use Rattle.ob_follow.specs.Names.{RefusesLine, wanted_next}
-use Rattle.ob_follow.proofs.Exact.{refuses}
+use Rattle.ob_schedule.specs.declared.line.Line.TheVariants as L
+use Rattle.ob_schedule.specs.declared.line.Wanted.{Wanted}
+use Rattle.ob_schedule.specs.Sides.{side_number}
+use Rattle.ob_schedule.specs.Follow.{Follow, MayShow, ShowsSlot}
+use Rattle.ob_schedule.specs.Names.{RefusesLine, wanted_next}
+use Rattle.ob_schedule.proofs.Exact.{refuses}
 use Rattle.ob_plain_follow.specs.Plain.{Took}
 
 pub none_some : (x : ℕ) → None ≡ Some x → ⊥

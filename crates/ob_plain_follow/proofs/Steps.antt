@@ -2,9 +2,9 @@
 use Rattle.std.specs.Prelude.{◌≡◌, ◌≤◌, false, nat_lt, List, ◌++◌, OnOk, Result, Ok, Err}
 use Rattle.std.proofs.Common.{refl, ◌∙◌, append_assoc}
 use Rattle.std.proofs.lemmas.Bool.{le-ltb}
-use Rattle.ob_follow.specs.declared.want.Want.{Want}
-use Rattle.ob_follow.specs.Wants.{end_wants, end_holes}
-use Rattle.ob_follow.specs.Follow.{Follow, next_step}
+use Rattle.ob_schedule.specs.declared.want.Want.{Want}
+use Rattle.ob_schedule.specs.Wants.{end_wants, end_holes}
+use Rattle.ob_schedule.specs.Follow.{Follow, next_step}
 
 abbrev pub last_step : Follow → Follow
 last_step f = record f { holes = end_holes f.params f.stands f.leaves; wants = end_wants f.params f.stands f.leaves }

@@ -5,8 +5,8 @@ use Rattle.ob_schedule.specs.Holes.{Hole}
 use Rattle.ob_plain_follow.specs.declared.follow.FollowPlain.{FollowPlain}
 use Rattle.ob_plain_wants.specs.Shown.{standing_of}
 use Rattle.ob_plain_wants.specs.Visits.{hole_of_visit}
-use Rattle.ob_follow.specs.declared.want.Want.{Want}
-use Rattle.ob_follow.specs.Follow.{Follow, TakesNote, ShowsSlot, ShowsLabel, taken_up}
+use Rattle.ob_schedule.specs.declared.want.Want.{Want}
+use Rattle.ob_schedule.specs.Follow.{Follow, TakesNote, ShowsSlot, ShowsLabel, taken_up}
 
 abbrev pub follow_of : FollowPlain → Follow
 follow_of f =

@@ -7,14 +7,14 @@ use Rattle.ob_base.specs.Layout.{GenerationTwin, EpochTwin}
 use Rattle.ob_store.specs.declared.watch.Note.{Note}
 use Rattle.ob_store.specs.declared.watch.Note.TheVariants.{Write, Sync}
 use Rattle.ob_schedule.specs.Schedule.{writes_of, reads_of, log_gates, check_cells, bucket_writes, set_twin, format_notes}
-use Rattle.ob_follow.specs.declared.want.Change.TheVariants.{Keeps, Formats}
-use Rattle.ob_follow.specs.declared.want.Want.{Want}
-use Rattle.ob_follow.specs.declared.want.Want.TheVariants.{Fixed}
-use Rattle.ob_follow.specs.declared.want.Side.{Side}
-use Rattle.ob_follow.specs.declared.want.Register.{Register}
-use Rattle.ob_follow.specs.declared.want.Register.TheVariants.{Generation, Epoch}
-use Rattle.ob_follow.specs.Wants.{kept, setting, format_front, register_wants}
-use Rattle.ob_follow.specs.Follow.{format_wants, started}
+use Rattle.ob_schedule.specs.declared.want.Change.TheVariants.{Keeps, Formats}
+use Rattle.ob_schedule.specs.declared.want.Want.{Want}
+use Rattle.ob_schedule.specs.declared.want.Want.TheVariants.{Fixed}
+use Rattle.ob_schedule.specs.declared.want.Side.{Side}
+use Rattle.ob_schedule.specs.declared.want.Register.{Register}
+use Rattle.ob_schedule.specs.declared.want.Register.TheVariants.{Generation, Epoch}
+use Rattle.ob_schedule.specs.Wants.{kept, setting, format_front, register_wants}
+use Rattle.ob_schedule.specs.Follow.{format_wants, started}
 
 writes_joined : (xs ys : List ℕ) → writes_of (xs ++ ys) ≡ writes_of xs ++ writes_of ys
 writes_joined [] ys = refl

@@ -18,12 +18,12 @@ use Rattle.ob_plain_wants.specs.declared.visit.Visit.{Visit}
 use Rattle.ob_plain_wants.specs.Visits.{hole_of_visit}
 use Rattle.ob_plain_wants.specs.declared.occasion.Occasion.{Occasion}
 use Rattle.ob_plain_wants.specs.Occasions.{holes_on}
-use Rattle.ob_follow.specs.Sides.{other, side_number}
-use Rattle.ob_follow.specs.declared.want.Change.TheVariants.{Keeps}
-use Rattle.ob_follow.specs.declared.want.Want.{Want}
-use Rattle.ob_follow.specs.declared.want.Want.TheVariants.{Fixed, Place}
-use Rattle.ob_follow.specs.Wants.{kept, places}
-use Rattle.ob_follow.specs.Standing.{StandingKnown}
+use Rattle.ob_schedule.specs.Sides.{other, side_number}
+use Rattle.ob_schedule.specs.declared.want.Change.TheVariants.{Keeps}
+use Rattle.ob_schedule.specs.declared.want.Want.{Want}
+use Rattle.ob_schedule.specs.declared.want.Want.TheVariants.{Fixed, Place}
+use Rattle.ob_schedule.specs.Wants.{kept, places}
+use Rattle.ob_schedule.specs.Standing.{StandingKnown}
 use Rattle.ob_plain_wants.specs.Marked.{writes_marked}
 
 range_more : (a n j : ℕ) → a + n ≡ j → range_with_len a (suc n) ≡ range_with_len a n ++ j ∷ []

@@ -9,11 +9,11 @@ use Rattle.ob_base.specs.Layout.{LogArea, slot_cell, check_cell, log_cell, log_g
 use Rattle.ob_store.specs.declared.watch.Note.{Note}
 use Rattle.ob_store.specs.declared.watch.Note.TheVariants.{Write}
 use Rattle.ob_schedule.specs.Schedule.{writes_of, bucket_writes, check_cells, region_cells}
-use Rattle.ob_follow.specs.declared.want.Change.TheVariants.{Keeps}
-use Rattle.ob_follow.specs.declared.want.Want.{Want}
-use Rattle.ob_follow.specs.declared.want.Want.TheVariants.{Fixed}
-use Rattle.ob_follow.specs.Wants.{kept}
-use Rattle.ob_follow.specs.declared.want.Side.{Side}
+use Rattle.ob_schedule.specs.declared.want.Change.TheVariants.{Keeps}
+use Rattle.ob_schedule.specs.declared.want.Want.{Want}
+use Rattle.ob_schedule.specs.declared.want.Want.TheVariants.{Fixed}
+use Rattle.ob_schedule.specs.Wants.{kept}
+use Rattle.ob_schedule.specs.declared.want.Side.{Side}
 use Rattle.ob_plain_wants.proofs.Lists.{below_up, homes_more}
 
 pub kept_both : (xs ys : List Note) → kept (xs ++ ys) ≡ kept xs ++ kept ys

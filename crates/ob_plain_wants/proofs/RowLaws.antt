@@ -9,7 +9,7 @@ use Rattle.std.proofs.lemmas.List.{get_or_past}
 use Rattle.std.proofs.lemmas.List.FromFn.{get_or-map-range_with_len, length-map-range_with_len}
 use Rattle.ob_base.specs.Tree.{below}
 use Rattle.ob_schedule.specs.Holes.{Hole}
-use Rattle.ob_follow.specs.Standing.{StandingKnown, with_slot, with_label}
+use Rattle.ob_schedule.specs.Standing.{StandingKnown, with_slot, with_label}
 use Rattle.ob_plain_wants.specs.Rows.{in_rows, kept_number, has_bit}
 
 -- a place of a row is told by its index

@@ -11,9 +11,9 @@ use Rattle.ob_base.specs.declared.params.Params.{Params}
 use Rattle.ob_base.specs.Tree.{below, buckets}
 use Rattle.ob_schedule.specs.Paths.{by_falling_level}
 use Rattle.ob_schedule.specs.Schedule.{bucket_writes, counts_now}
-use Rattle.ob_follow.specs.Sides.{other, side_number}
-use Rattle.ob_follow.specs.Standing.{StandingKnown, public_known, is_lifted, count_after}
-use Rattle.ob_follow.specs.Wants.{writes_anew}
+use Rattle.ob_schedule.specs.Sides.{other, side_number}
+use Rattle.ob_schedule.specs.Standing.{StandingKnown, public_known, is_lifted, count_after}
+use Rattle.ob_schedule.specs.Wants.{writes_anew}
 use Rattle.ob_plain_wants.specs.Marked.{writes_marked}
 use Rattle.ob_plain_wants.proofs.RowLaws.{index_at}
 

@@ -1,7 +1,7 @@
 -- What the lists of a stop's findings stand for.
 use Rattle.std.specs.Prelude.{slice_index, slice_index_or}
-use Rattle.ob_follow.specs.declared.want.Side.TheVariants.{Even}
-use Rattle.ob_follow.specs.Standing.{StandingKnown}
+use Rattle.ob_schedule.specs.declared.want.Side.TheVariants.{Even}
+use Rattle.ob_schedule.specs.Standing.{StandingKnown}
 use Rattle.ob_plain_wants.specs.Rows.{in_rows, kept_number, has_bit}
 use Rattle.ob_plain_wants.specs.Seen.{label_shown}
 use Rattle.ob_plain_wants.specs.declared.standing.StandingPlain.{StandingPlain}

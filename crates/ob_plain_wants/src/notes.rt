@@ -7,20 +7,20 @@ ghost use Rattle.ob_base.specs.Layout.{slot_cell, check_cell, log_cell, log_gate
 ghost use Rattle.ob_store.specs.declared.watch.Note.{Note};
 ghost use Rattle.ob_store.specs.declared.watch.Note.TheVariants.{Sync};
 ghost use Rattle.ob_schedule.specs.Schedule.{writes_of, reads_of, check_cells, log_gates, bucket_writes, region_cells, set_twin, format_notes, gate_cell, body_cell};
-ghost use Rattle.ob_follow.specs.Sides.{side_number, register_region};
-ghost use Rattle.ob_follow.specs.Wants.{kept, format_front};
+ghost use Rattle.ob_schedule.specs.Sides.{side_number, register_region};
+ghost use Rattle.ob_schedule.specs.Wants.{kept, format_front};
 
 use crate::standing::cell_at;
 use ob_base::{
     EPOCH_CELL, GENERATION_CELL, Params, buckets, check_cell, checkpoint_cells, log_cell,
     record_cells,
 };
-use ob_follow::{Change, Register, Runs, Side, Want};
+use ob_schedule::{Change, Register, Runs, Side, Want};
 use ob_store::Note;
 use std::alloc::AllocError;
 
 /// A cell of a checkpoint, wherever it would lie.
-#[tactic(auto, using(ob_base::proofs::Bounds::cells_le, ob_follow::proofs::Determined::some_checks))]
+#[tactic(auto, using(ob_base::proofs::Bounds::cells_le, ob_schedule::proofs::Determined::some_checks))]
 pub fn check_at(p: &Params, side: Side, i: u32) -> u64
     ensures cell { result ≡ check_cell p.now (side_number side) i }
     ensures few { result < 2 ^ 40 }

@@ -4,11 +4,11 @@ ghost use Rattle.std.specs.Prelude.{◌≡◌, ◌<◌, ◌++◌, IfOk, OnOk, No
 ghost use Rattle.ob_base.specs.Tree.{below, buckets};
 ghost use Rattle.ob_base.specs.Layout.{slot_cell};
 ghost use Rattle.ob_schedule.specs.Schedule.{counts_now};
-ghost use Rattle.ob_follow.specs.Sides.{side_number, other};
+ghost use Rattle.ob_schedule.specs.Sides.{side_number, other};
 ghost use Rattle.ob_plain_wants.specs.Visits.{hole_of_visit};
 ghost use Rattle.ob_plain_wants.specs.Seen.{label_shown};
-ghost use Rattle.ob_follow.specs.Standing.{standing_formatted, public_known, is_lifted, with_slot, with_label, standing_ended};
-ghost use Rattle.ob_follow.specs.Follow.{with_gate, next_side};
+ghost use Rattle.ob_schedule.specs.Standing.{standing_formatted, public_known, is_lifted, with_slot, with_label, standing_ended};
+ghost use Rattle.ob_schedule.specs.Follow.{with_gate, next_side};
 
 use crate::evicted::{evicted_buckets, next_counter};
 use crate::leaves::Leaves;
@@ -17,7 +17,7 @@ use crate::rows::{at_or, has_bit, index_of, put_at, set_bit};
 use crate::seen::SeenLabel;
 use crate::visit::Visit;
 use ob_base::{Params, buckets, slot_cell};
-use ob_follow::{Gate, Register, Side};
+use ob_schedule::{Gate, Register, Side};
 use std::alloc::{AllocError, Global};
 
 /// What a stop finds: what the last end left, and what was shown and logged since.

@@ -7,8 +7,8 @@ ghost use Rattle.ob_schedule.specs.Schedule.{counts_now};
 ghost use Rattle.ob_plain_wants.specs.Visits.{hole_of_visit};
 ghost use Rattle.ob_plain_wants.specs.Occasions.{holes_on};
 ghost use Rattle.ob_plain_wants.specs.Shown.{standing_of};
-ghost use Rattle.ob_follow.specs.Standing.{public_known};
-ghost use Rattle.ob_follow.specs.Wants.{end_holes};
+ghost use Rattle.ob_schedule.specs.Standing.{public_known};
+ghost use Rattle.ob_schedule.specs.Wants.{end_holes};
 
 use crate::evicted::{evicted_buckets, firsts_of};
 use crate::leaves::Leaves;

@@ -6,8 +6,8 @@ ghost use Rattle.ob_base.specs.declared.params.Params.{Params};
 ghost use Rattle.ob_schedule.specs.Paths.{by_falling_level};
 ghost use Rattle.ob_plain_wants.specs.Marked.{writes_marked};
 ghost use Rattle.ob_plain_wants.specs.Shown.{standing_of};
-ghost use Rattle.ob_follow.specs.Follow.{started};
-ghost use Rattle.ob_follow.specs.Wants.{kept, setting, sets, record_wants, register_wants, places, found_wants, writes_anew, end_wants};
+ghost use Rattle.ob_schedule.specs.Follow.{started};
+ghost use Rattle.ob_schedule.specs.Wants.{kept, setting, sets, record_wants, register_wants, places, found_wants, writes_anew, end_wants};
 
 use crate::leaves::Leaves;
 use crate::notes::{
@@ -17,7 +17,7 @@ use crate::notes::{
 use crate::rows::at_or;
 use crate::standing::StandingPlain;
 use ob_base::Params;
-use ob_follow::{Change, Gate, Register, Runs, Side, Want};
+use ob_schedule::{Change, Gate, Register, Runs, Side, Want};
 use ob_store::Note;
 use std::alloc::{AllocError, Global};
 

@@ -1,3 +1,10 @@
 pub mod Paths
 pub mod Holes
 pub mod Schedule
+pub mod Follow
+pub mod Laws
+pub mod Names
+pub mod Sides
+pub mod Standing
+pub mod Wants
+pub mod Runs

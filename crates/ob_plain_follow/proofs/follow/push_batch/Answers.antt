@@ -1,5 +1,5 @@
 use Rattle.std.proofs.Common.{refl}
-use Rattle.ob_follow.specs.Wants.{record_wants, places}
+use Rattle.ob_schedule.specs.Wants.{record_wants, places}
 use Rattle.ob_plain_follow.proofs.Steps.{both_put}
 use Rattle.ob_plain_follow.proofs.follow.push_batch.Goals as goal
 

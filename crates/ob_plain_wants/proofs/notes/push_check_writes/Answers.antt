@@ -1,7 +1,7 @@
 use Rattle.std.specs.Prelude.{ℕ, List}
 use Rattle.std.proofs.Common.{ap}
 use Rattle.ob_schedule.specs.Schedule.{writes_of}
-use Rattle.ob_follow.specs.Sides.{side_number}
+use Rattle.ob_schedule.specs.Sides.{side_number}
 use Rattle.ob_plain_wants.proofs.Pushed.{same_notes, checks_run}
 use Rattle.ob_plain_wants.proofs.notes.push_check_writes.Goals as goal
 

@@ -2,7 +2,7 @@ use Rattle.std.proofs.Common.{◌++◌}
 use Rattle.std.proofs.lemmas.Result.{on_ok_weaker}
 use Rattle.ob_base.specs.Tree.{below, buckets}
 use Rattle.ob_schedule.specs.Schedule.{writes_of, bucket_writes, check_cells}
-use Rattle.ob_follow.specs.Wants.{format_front}
+use Rattle.ob_schedule.specs.Wants.{format_front}
 use Rattle.ob_plain_wants.proofs.Formats.{set_epoch, format_made}
 use Rattle.ob_plain_wants.proofs.Pushed.{then_kept}
 use Rattle.ob_plain_wants.proofs.notes.push_format.Goals as goal

@@ -2,7 +2,7 @@ use Rattle.std.proofs.Common.{List, ◌++◌, ◌∙◌, ap}
 use Rattle.std.proofs.lemmas.Result.{on_ok_weaker}
 use Rattle.ob_store.specs.declared.watch.Note.{Note}
 use Rattle.ob_schedule.specs.Schedule.{writes_of, log_gates}
-use Rattle.ob_follow.specs.Wants.{kept}
+use Rattle.ob_schedule.specs.Wants.{kept}
 use Rattle.ob_plain_wants.proofs.Formats.{first_notes, set_generation, front_made}
 use Rattle.ob_plain_wants.proofs.Pushed.{then_kept}
 use Rattle.ob_plain_wants.proofs.notes.push_front.Goals as goal

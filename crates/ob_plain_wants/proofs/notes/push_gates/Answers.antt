@@ -1,4 +1,4 @@
-use Rattle.ob_follow.specs.Sides.{side_number}
+use Rattle.ob_schedule.specs.Sides.{side_number}
 use Rattle.ob_plain_wants.proofs.Pushed.{gates_more}
 use Rattle.ob_plain_wants.proofs.notes.push_gates.Goals as goal
 

@@ -2,8 +2,8 @@ use Rattle.std.proofs.Common.{◌≡◌, ◌++◌, map}
 use Rattle.ob_base.specs.Tree.{below}
 use Rattle.ob_base.specs.Layout.{log_gate}
 use Rattle.ob_schedule.specs.Schedule.{writes_of}
-use Rattle.ob_follow.specs.Sides.{side_number}
-use Rattle.ob_follow.specs.Wants.{kept}
+use Rattle.ob_schedule.specs.Sides.{side_number}
+use Rattle.ob_schedule.specs.Wants.{kept}
 use Rattle.ob_plain_wants.proofs.notes.push_gates.Given as goal
 
 abbrev pub invariant-loop-batch : goal.invariant-loop-batch

@@ -1,5 +1,5 @@
 use Rattle.std.proofs.Common.{◌≡◌, ◌++◌, take}
-use Rattle.ob_follow.specs.Wants.{kept}
+use Rattle.ob_schedule.specs.Wants.{kept}
 use Rattle.ob_plain_wants.proofs.notes.push_kept.Given as goal
 
 abbrev pub invariant-loop-note : goal.invariant-loop-note

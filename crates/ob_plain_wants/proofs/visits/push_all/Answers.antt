@@ -2,7 +2,7 @@ use Rattle.std.specs.Prelude.{map}
 use Rattle.std.proofs.Common.{ℕ, List, ◌++◌, ◌∙◌, ap, sym, get_or, append_assoc, arith}
 use Rattle.ob_schedule.specs.Holes.{Hole}
 use Rattle.ob_schedule.specs.Schedule.{counts_now}
-use Rattle.ob_follow.specs.Standing.{public_known}
+use Rattle.ob_schedule.specs.Standing.{public_known}
 use Rattle.ob_plain_wants.specs.Occasions.{holes_on}
 use Rattle.ob_plain_wants.specs.Shown.{standing_of}
 use Rattle.ob_plain_wants.specs.Visits.{hole_of_visit}

@@ -1,7 +1,7 @@
 use Rattle.std.specs.Prelude.{◌≡◌, ◌++◌, map, take}
 use Rattle.std.specs.List.{flat_map}
 use Rattle.ob_schedule.specs.Schedule.{counts_now}
-use Rattle.ob_follow.specs.Standing.{public_known}
+use Rattle.ob_schedule.specs.Standing.{public_known}
 use Rattle.ob_plain_wants.specs.Occasions.{holes_on}
 use Rattle.ob_plain_wants.specs.Shown.{standing_of}
 use Rattle.ob_plain_wants.specs.Visits.{hole_of_visit}

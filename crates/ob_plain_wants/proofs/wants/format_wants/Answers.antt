@@ -1,8 +1,8 @@
 use Rattle.std.proofs.Common.{◌++◌, ◌∷◌, [], ◌∙◌}
 use Rattle.ob_store.specs.declared.watch.Note.TheVariants.{Sync}
-use Rattle.ob_follow.specs.declared.want.Change.TheVariants.{Formats}
-use Rattle.ob_follow.specs.declared.want.Want.TheVariants.{Fixed}
-use Rattle.ob_follow.specs.Wants.{kept}
+use Rattle.ob_schedule.specs.declared.want.Change.TheVariants.{Formats}
+use Rattle.ob_schedule.specs.declared.want.Want.TheVariants.{Fixed}
+use Rattle.ob_schedule.specs.Wants.{kept}
 use Rattle.ob_plain_wants.proofs.Formats.{wants_made}
 use Rattle.ob_plain_wants.proofs.wants.format_wants.Goals as goal
 

@@ -2,9 +2,9 @@ use Rattle.std.proofs.Common.{◌∷◌, [], ◌+◌}
 use Rattle.ob_store.specs.declared.watch.Note.TheVariants.{Sync}
 use Rattle.ob_schedule.specs.Paths.{by_falling_level}
 use Rattle.ob_schedule.specs.Schedule.{writes_of, check_cells, log_gates}
-use Rattle.ob_follow.specs.declared.want.Register.TheVariants.{Epoch}
-use Rattle.ob_follow.specs.Sides.{other, side_number}
-use Rattle.ob_follow.specs.Wants.{sets, writes_anew}
+use Rattle.ob_schedule.specs.declared.want.Register.TheVariants.{Epoch}
+use Rattle.ob_schedule.specs.Sides.{other, side_number}
+use Rattle.ob_schedule.specs.Wants.{sets, writes_anew}
 use Rattle.ob_plain_wants.specs.Shown.{standing_of}
 use Rattle.ob_plain_wants.proofs.Pushed.{end_put}
 use Rattle.ob_plain_wants.proofs.wants.push_end.Goals as goal

@@ -1,7 +1,7 @@
 use Rattle.std.proofs.Common.{◌-◌, ◌++◌, ◌∷◌, [], ◌+◌, ◌∙◌, List, ap, sym}
 use Rattle.std.specs.List.{range_with_len}
 use Rattle.ob_store.specs.declared.watch.Note.{Note}
-use Rattle.ob_follow.specs.Wants.{kept}
+use Rattle.ob_schedule.specs.Wants.{kept}
 use Rattle.ob_plain_wants.specs.Marked.{writes_marked}
 use Rattle.ob_plain_wants.specs.Shown.{standing_of}
 use Rattle.ob_plain_wants.proofs.Lists.{anew_more}

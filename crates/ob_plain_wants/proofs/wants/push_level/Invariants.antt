@@ -1,6 +1,6 @@
 use Rattle.std.specs.Prelude.{◌≡◌, ◌++◌, ◌-◌}
 use Rattle.std.specs.List.{range_with_len}
-use Rattle.ob_follow.specs.Wants.{kept}
+use Rattle.ob_schedule.specs.Wants.{kept}
 use Rattle.ob_plain_wants.specs.Marked.{writes_marked}
 use Rattle.ob_plain_wants.specs.Shown.{standing_of}
 use Rattle.ob_plain_wants.proofs.wants.push_level.Given as goal

@@ -1,6 +1,6 @@
 use Rattle.std.specs.Prelude.{◌≡◌, ◌++◌, ◌+◌, ℕ}
 use Rattle.ob_schedule.specs.Paths.{by_falling_level}
-use Rattle.ob_follow.specs.Wants.{kept}
+use Rattle.ob_schedule.specs.Wants.{kept}
 use Rattle.ob_plain_wants.specs.Marked.{writes_marked}
 use Rattle.ob_plain_wants.specs.Shown.{standing_of}
 use Rattle.ob_plain_wants.proofs.wants.push_levels.Given as goal

@@ -1,5 +1,5 @@
 use Rattle.std.specs.Prelude.{◌≡◌, ◌++◌, drop}
-use Rattle.ob_follow.specs.Wants.{places}
+use Rattle.ob_schedule.specs.Wants.{places}
 use Rattle.ob_plain_wants.proofs.wants.push_places.Given as goal
 
 abbrev pub invariant-loop-place : goal.invariant-loop-place

@@ -1,5 +1,5 @@
 use Rattle.std.proofs.Common.{◌∙◌, ap, List, take, drop}
-use Rattle.ob_follow.specs.declared.want.Want.{Want}
+use Rattle.ob_schedule.specs.declared.want.Want.{Want}
 use Rattle.ob_plain_wants.proofs.Formats.{rest_taken}
 use Rattle.ob_plain_wants.proofs.Pushed.{all_told}
 use Rattle.ob_plain_wants.proofs.wants.push_sets.Goals as goal

@@ -1,8 +1,8 @@
 use Rattle.std.specs.Prelude.{drop, false}
 use Rattle.std.proofs.Common.{◌++◌, ◌∙◌}
 use Rattle.std.proofs.lemmas.Result.{on_ok_weaker}
-use Rattle.ob_follow.specs.Wants.{places}
-use Rattle.ob_follow.specs.Follow.{shows_label}
+use Rattle.ob_schedule.specs.Wants.{places}
+use Rattle.ob_schedule.specs.Follow.{shows_label}
 use Rattle.ob_plain_follow.specs.Plain.{follow_of}
 use Rattle.ob_plain_follow.proofs.follow.FollowPlain.repeat.Goals as goal
 

@@ -1,6 +1,6 @@
 use Rattle.std.proofs.Common.{◌∙◌, ap}
-use Rattle.ob_follow.specs.declared.want.Side.{Side}
-use Rattle.ob_follow.specs.Wants.{setting}
+use Rattle.ob_schedule.specs.declared.want.Side.{Side}
+use Rattle.ob_schedule.specs.Wants.{setting}
 use Rattle.ob_plain_follow.proofs.follow.FollowPlain.setting.Goals as goal
 
 pub returns : goal.returns

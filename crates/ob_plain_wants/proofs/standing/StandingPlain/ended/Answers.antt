@@ -2,10 +2,10 @@ use Rattle.std.specs.Prelude.{◌++◌, slice_index, slice_index_or, cond, nat_l
 use Rattle.std.proofs.Common.{◌∙◌, ℕ}
 use Rattle.ob_base.specs.Tree.{below, buckets}
 use Rattle.ob_schedule.specs.Schedule.{counts_now}
-use Rattle.ob_follow.specs.declared.want.Gate.TheVariants.{Open}
-use Rattle.ob_follow.specs.declared.want.Side.TheVariants.{Even}
-use Rattle.ob_follow.specs.Sides.{other}
-use Rattle.ob_follow.specs.Standing.{is_lifted, public_known}
+use Rattle.ob_schedule.specs.declared.want.Gate.TheVariants.{Open}
+use Rattle.ob_schedule.specs.declared.want.Side.TheVariants.{Even}
+use Rattle.ob_schedule.specs.Sides.{other}
+use Rattle.ob_schedule.specs.Standing.{is_lifted, public_known}
 use Rattle.ob_plain_wants.specs.Rows.{in_rows, kept_number, has_bit}
 use Rattle.ob_plain_wants.specs.Seen.{label_shown}
 use Rattle.ob_schedule.specs.Holes.{Hole}

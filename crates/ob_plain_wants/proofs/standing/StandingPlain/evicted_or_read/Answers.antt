@@ -2,7 +2,7 @@ use Rattle.std.specs.Prelude.{◌||◌, false, nat_le, slice_index_or}
 use Rattle.std.proofs.Common.{[], ◌≡◌, ◌∙◌, ℕ, map, ap, arith}
 use Rattle.ob_base.specs.Tree.{below, buckets}
 use Rattle.ob_schedule.specs.Schedule.{counts_now}
-use Rattle.ob_follow.specs.Standing.{public_known}
+use Rattle.ob_schedule.specs.Standing.{public_known}
 use Rattle.ob_plain_wants.specs.Shown.{standing_of}
 use Rattle.ob_plain_wants.proofs.Lists.{one_behind}
 use Rattle.ob_plain_wants.proofs.standing.StandingPlain.evicted_or_read.Goals as goal

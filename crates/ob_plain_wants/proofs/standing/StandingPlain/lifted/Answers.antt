@@ -4,7 +4,7 @@ use Rattle.std.proofs.lemmas.Result.{IfOk-weaker}
 use Rattle.ob_base.specs.Tree.{below, buckets}
 use Rattle.ob_schedule.specs.Paths.{is_one_of}
 use Rattle.ob_schedule.specs.Schedule.{counts_now}
-use Rattle.ob_follow.specs.Standing.{is_lifted, public_known}
+use Rattle.ob_schedule.specs.Standing.{is_lifted, public_known}
 use Rattle.ob_plain_wants.specs.Shown.{standing_of}
 use Rattle.ob_plain_wants.proofs.Within.{same_below}
 use Rattle.ob_plain_wants.proofs.standing.StandingPlain.lifted.Goals as goal

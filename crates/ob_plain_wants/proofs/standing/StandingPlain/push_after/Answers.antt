@@ -3,8 +3,8 @@ use Rattle.std.proofs.Common.{◌≡◌, sym, append-nil, arith}
 use Rattle.std.proofs.lemmas.Result.{IfOk-from_err}
 use Rattle.ob_base.specs.Tree.{buckets}
 use Rattle.ob_schedule.specs.Schedule.{counts_now}
-use Rattle.ob_follow.specs.Sides.{other}
-use Rattle.ob_follow.specs.Standing.{public_known}
+use Rattle.ob_schedule.specs.Sides.{other}
+use Rattle.ob_schedule.specs.Standing.{public_known}
 use Rattle.ob_plain_wants.specs.Shown.{standing_of}
 use Rattle.ob_plain_wants.proofs.Lists.{one_behind}
 use Rattle.ob_plain_wants.proofs.standing.StandingPlain.push_after.Goals as goal

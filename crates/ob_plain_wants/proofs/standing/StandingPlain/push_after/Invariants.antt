@@ -1,8 +1,8 @@
 use Rattle.std.specs.Prelude.{◌≡◌, ◌++◌, cond, false, map, nat_le, slice_index, slice_index_or}
 use Rattle.ob_base.specs.Tree.{below}
 use Rattle.ob_schedule.specs.Schedule.{counts_now}
-use Rattle.ob_follow.specs.Sides.{other}
-use Rattle.ob_follow.specs.Standing.{public_known}
+use Rattle.ob_schedule.specs.Sides.{other}
+use Rattle.ob_schedule.specs.Standing.{public_known}
 use Rattle.ob_plain_wants.specs.Shown.{standing_of}
 use Rattle.ob_plain_wants.proofs.standing.StandingPlain.push_after.Given as goal
 
