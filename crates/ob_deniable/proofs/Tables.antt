@@ -17,7 +17,7 @@ use Rattle.ob_ring_trace.proofs.BookLaws.{IsBookOf, book_batch, book_end, label_
 use Rattle.ob_ring_trace.proofs.EndLaws.{EndLaw, end_law, ended_table, up_of, count_ended}
 use Rattle.ob_ring_trace.proofs.LifeSlots.{AreSlotsSound, puts_low}
 use Rattle.ob_ring_trace.proofs.Ending.{batch_counter}
-use Rattle.ob_epoch.proofs.Counts.{fills_counter, writes_counter}
+use Rattle.ob_stand.proofs.Counts.{fills_counter, writes_counter}
 use Rattle.ob_deniable.proofs.Shapes.{AreLogsAlike}
 
 -- ---- the counter

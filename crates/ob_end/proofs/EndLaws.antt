@@ -7,8 +7,8 @@ use Rattle.ob_tables.specs.Buckets.{Buckets, is_lifted}
 use Rattle.ob_tables.specs.Content.{Obeys, Rows}
 use Rattle.ob_end.specs.EndWrites.{IsEndOfRing, content_left, rows_left}
 use Rattle.ob_end.specs.Lifts.{LiftsAreRead}
-use Rattle.ob_epoch.specs.Table.{buckets_of, flat_of}
-use Rattle.ob_epoch.proofs.Reading.{rings_stand}
+use Rattle.ob_stand.specs.Table.{buckets_of, flat_of}
+use Rattle.ob_stand.proofs.Reading.{rings_stand}
 use Rattle.ob_fetch.specs.Fetches.{RunsAt, unlisted}
 use Rattle.ob_fetch.proofs.NextLaws.{seals_listed, stands_listed}
 use Rattle.ob_recover.proofs.RepeatLaws.{repeated_none}
@@ -23,8 +23,8 @@ use Rattle.ob_stand.specs.Stands.{RingStanding, Stands}
 use Rattle.ob_store.specs.Disk.{Disk, Image}
 use Rattle.ob_tables.specs.declared.entry.Entry.{Entry}
 use Rattle.ob_tables.specs.declared.tables.Tables.{Tables}
-use Rattle.ob_epoch.specs.Values.{Values, with_entries}
-use Rattle.ob_epoch.specs.Runs.{slots_of}
+use Rattle.ob_stand.specs.Values.{Values, with_entries}
+use Rattle.ob_stand.specs.Runs.{slots_of}
 use Rattle.ob_end.specs.EndRuns.{IsEndMade, end_writes, rows_ended}
 use Rattle.ob_recover.specs.Fits.{IsPlannerFit}
 use Rattle.ob_end.proofs.EndTables as tables

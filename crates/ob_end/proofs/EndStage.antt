@@ -10,8 +10,8 @@ use Rattle.ob_tables.specs.Content.{Content, Obeys}
 use Rattle.ob_end.specs.EndWrites.{AreSealedFrom, IsEndOfRing, all_seals, content_left, end_write_notes, rows_left}
 use Rattle.ob_end.specs.Lifts.{lift_notes}
 use Rattle.ob_tables.specs.Buckets.{Buckets, is_lifted}
-use Rattle.ob_epoch.proofs.Reading.{rings_stand}
-use Rattle.ob_epoch.specs.Table.{flat_of}
+use Rattle.ob_stand.proofs.Reading.{rings_stand}
+use Rattle.ob_stand.specs.Table.{flat_of}
 use Rattle.ob_fetch.specs.declared.run.Run.{Run}
 use Rattle.ob_fetch.specs.Fetches.{RunIsAt, RunsAt}
 use Rattle.ob_fetch.proofs.FetchLaws.{cells_same, settled_then}
@@ -36,7 +36,7 @@ use Rattle.ob_store.proofs.Moments.{leaves_of, then_on}
 use Rattle.ob_tables.specs.Kept.{Held, entry_at}
 use Rattle.ob_tables.specs.declared.entry.Entry.{Entry}
 use Rattle.ob_tables.specs.declared.tables.Tables.{Tables}
-use Rattle.ob_epoch.specs.Values.{Values, with_entries}
+use Rattle.ob_stand.specs.Values.{Values, with_entries}
 use Rattle.ob_twin.specs.Opening.{is_closed_first}
 use Rattle.ob_twin.specs.Orders.{set_notes}
 use Rattle.ob_twin.specs.Register.{place_of}

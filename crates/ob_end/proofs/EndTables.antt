@@ -10,27 +10,27 @@ use Rattle.ob_tables.specs.Version.{rank_at}
 use Rattle.ob_tables.specs.Content.{FitsBook, FitsSeals, Rows}
 use Rattle.ob_end.specs.EndWrites.{content_left, rows_left, slot_plain, version_of}
 use Rattle.ob_end.specs.Renewals.{Renews, renewed_writes, table_behind_writes}
-use Rattle.ob_epoch.specs.Numbers.{RenewsBook, RenewsSeals}
-use Rattle.ob_epoch.specs.Plans.{AreAllWhole}
-use Rattle.ob_epoch.specs.Valued.{AreTablesFilled, IsEnd}
-use Rattle.ob_epoch.proofs.Calling.{calls_join}
-use Rattle.ob_epoch.proofs.Numbers.{renewed_fit, steps_renew}
-use Rattle.ob_epoch.proofs.Plans.{refill_plans}
-use Rattle.ob_epoch.proofs.Standing.{tables_obey}
+use Rattle.ob_stand.specs.Numbers.{RenewsBook, RenewsSeals}
+use Rattle.ob_stand.specs.Plans.{AreAllWhole}
+use Rattle.ob_stand.specs.Valued.{AreTablesFilled, IsEnd}
+use Rattle.ob_stand.proofs.Calling.{calls_join}
+use Rattle.ob_stand.proofs.Numbers.{renewed_fit, steps_renew}
+use Rattle.ob_stand.proofs.Plans.{refill_plans}
+use Rattle.ob_stand.proofs.Standing.{tables_obey}
 use Rattle.ob_ring.specs.Arrays.{AreWhole, IsTableOf, arrays_of, rest_of}
 use Rattle.ob_ring.specs.Filling.{AreSealedAnew}
 use Rattle.ob_ring.specs.FlatTable.{FlatTable, Refill, after, refill_order, stash_size}
 use Rattle.ob_ring.specs.Laws.{IsOrderly}
 use Rattle.ob_ring.specs.Ring.{Kept, StandsFor}
 use Rattle.ob_tables.specs.declared.entry.Entry.{Entry}
-use Rattle.ob_epoch.specs.Values.{Values, with_entries}
-use Rattle.ob_epoch.specs.Carries.{Carries, Slots}
-use Rattle.ob_epoch.specs.ValueLaws.{AreFit}
-use Rattle.ob_epoch.specs.Refilled.{IsRefilled}
-use Rattle.ob_epoch.proofs.Counted.{stash_counts}
-use Rattle.ob_epoch.proofs.Planned.{refill_is_written}
-use Rattle.ob_epoch.proofs.Refilling.{refill_carries}
-use Rattle.ob_epoch.proofs.Written.{writes_carry}
+use Rattle.ob_stand.specs.Values.{Values, with_entries}
+use Rattle.ob_stand.specs.Carries.{Carries, Slots}
+use Rattle.ob_stand.specs.ValueLaws.{AreFit}
+use Rattle.ob_stand.specs.Refilled.{IsRefilled}
+use Rattle.ob_stand.proofs.Counted.{stash_counts}
+use Rattle.ob_stand.proofs.Planned.{refill_is_written}
+use Rattle.ob_stand.proofs.Refilling.{refill_carries}
+use Rattle.ob_stand.proofs.Written.{writes_carry}
 
 module _ (lifted renewed : Kept) (writes : List Write) (words : List ℕ) (g drawn next : ℕ) (renews : Renews writes words g drawn next lifted renewed) where
   abbrev pub p : Params

@@ -11,7 +11,7 @@ use Rattle.ob_cells.specs.Runs.{AreSealed, IsFurther, run_at}
 use Rattle.ob_cells.specs.Writes.{Seals, WritesRun}
 use Rattle.ob_cells.proofs.Written.{sealing_on}
 use Rattle.ob_tables.specs.Content.{Content}
-use Rattle.ob_epoch.proofs.Plans.{listed_at as found_at}
+use Rattle.ob_stand.proofs.Plans.{listed_at as found_at}
 use Rattle.ob_ring.specs.Ring.{Kept}
 use Rattle.ob_ring.proofs.FillLaws.{at_member}
 use Rattle.ob_schedule.specs.Paths.{is_one_of}

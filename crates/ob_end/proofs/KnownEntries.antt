@@ -3,8 +3,8 @@ use Rattle.std.specs.Prelude.{◌≡◌, ◌⊎◌, ℕ, suc, ◌≤◌, Bool, t
 use Rattle.std.proofs.Common.{arith, subst, inl, inr}
 use Rattle.ob_base.specs.declared.params.Params.{Params}
 use Rattle.ob_base.specs.Tree.{below}
-use Rattle.ob_epoch.specs.Numbers.{IsKnownEntry}
-use Rattle.ob_epoch.proofs.Numbers.{own_is}
+use Rattle.ob_stand.specs.Numbers.{IsKnownEntry}
+use Rattle.ob_stand.proofs.Numbers.{own_is}
 use Rattle.ob_log.specs.Logs.{BatchRecord}
 use Rattle.ob_recover.specs.Repeats.{entries_after_records, record_places}
 use Rattle.ob_ring.specs.Fetching.{after_labels, own_entry}

@@ -11,7 +11,7 @@ use Rattle.ob_tables.specs.Buckets.{Buckets}
 use Rattle.ob_tables.specs.Version.{Version}
 use Rattle.ob_tables.specs.Content.{Rows}
 use Rattle.ob_tables.specs.Kept.{Held}
-use Rattle.ob_epoch.proofs.Calling.{plans_are_read}
+use Rattle.ob_stand.proofs.Calling.{plans_are_read}
 use Rattle.ob_recover.proofs.RepeatLaws.{jobs_run, jobs_same}
 use Rattle.ob_recover.proofs.ShowLaws.{none_placed}
 use Rattle.ob_recover.specs.Repeats.{BatchTells, IsRepeatFault, JobsAnswer, RowsJoin}

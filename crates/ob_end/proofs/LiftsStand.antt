@@ -6,7 +6,7 @@ use Rattle.ob_base.specs.declared.fault.Fault.TheVariants.{Memory, Usage, BadScr
 use Rattle.ob_base.specs.declared.params.Params.{Params}
 use Rattle.ob_tables.specs.Buckets.{Buckets}
 use Rattle.ob_tables.specs.Content.{Rows}
-use Rattle.ob_epoch.specs.Table.{buckets_of, flat_of}
+use Rattle.ob_stand.specs.Table.{buckets_of, flat_of}
 use Rattle.ob_fetch.specs.Fetches.{RunsAt}
 use Rattle.ob_fetch.proofs.NextLaws.{seals_listed, stands_listed}
 use Rattle.ob_recover.specs.Repeats.{table_after_records}

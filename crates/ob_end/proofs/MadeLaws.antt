@@ -11,10 +11,10 @@ use Rattle.ob_tables.specs.Buckets.{is_lifted, version_at}
 use Rattle.ob_tables.specs.Version.{Version}
 use Rattle.ob_tables.specs.Content.{FitsBook, FitsSeals, Obeys}
 use Rattle.ob_end.specs.EndWrites.{AreSealedFrom, all_seals, content_left, rows_left}
-use Rattle.ob_epoch.specs.Plans.{AreAllWhole}
-use Rattle.ob_epoch.specs.Valued.{IsEnd}
-use Rattle.ob_epoch.proofs.Calling.{calls_join, writes_are_fit}
-use Rattle.ob_epoch.proofs.Plans.{refill_plans}
+use Rattle.ob_stand.specs.Plans.{AreAllWhole}
+use Rattle.ob_stand.specs.Valued.{IsEnd}
+use Rattle.ob_stand.proofs.Calling.{calls_join, writes_are_fit}
+use Rattle.ob_stand.proofs.Plans.{refill_plans}
 use Rattle.ob_ring.specs.Arrays.{IsTableOf, arrays_of, rest_of}
 use Rattle.ob_ring.specs.Filling.{base_of}
 use Rattle.ob_ring.specs.Laws.{IsOrderly}
@@ -26,10 +26,10 @@ use Rattle.ob_seal.specs.declared.keys.Keys.{Keys}
 use Rattle.ob_store.specs.Disk.{Disk}
 use Rattle.ob_tables.specs.Kept.{Held, entry_at}
 use Rattle.ob_tables.specs.declared.entry.Entry.{Entry}
-use Rattle.ob_epoch.proofs.KeyLaws.{picked_are_taken}
-use Rattle.ob_epoch.specs.Values.{Values, with_entries}
-use Rattle.ob_epoch.specs.Carries.{Carries}
-use Rattle.ob_epoch.specs.ValueLaws.{AreFit}
+use Rattle.ob_stand.proofs.KeyLaws.{picked_are_taken}
+use Rattle.ob_stand.specs.Values.{Values, with_entries}
+use Rattle.ob_stand.specs.Carries.{Carries}
+use Rattle.ob_stand.specs.ValueLaws.{AreFit}
 use Rattle.ob_end.specs.EndRuns.{AreFilledAnew, IsEndMade, TakeBucketWords, end_writes, rows_ended, seals_for_end, table_ended}
 use Rattle.ob_recover.specs.Fits.{IsPlannerFit}
 use Rattle.ob_end.proofs.EndTables as tables

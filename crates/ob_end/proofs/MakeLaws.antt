@@ -16,7 +16,7 @@ use Rattle.ob_tables.specs.Buckets.{is_lifted}
 use Rattle.ob_tables.specs.Version.{Version}
 use Rattle.ob_end.specs.Lifts.{IsUndamaged, LiftsAnswer}
 use Rattle.ob_end.specs.Renewals.{RenewAnswers, end_seals, end_words, refill_words, renewed_writes, table_behind_writes}
-use Rattle.ob_epoch.proofs.Calling.{calls_join}
+use Rattle.ob_stand.proofs.Calling.{calls_join}
 use Rattle.ob_fetch.specs.Fetches.{DrawsWords}
 use Rattle.ob_tables.specs.Content.{Rows}
 use Rattle.ob_recover.specs.Repeats.{BatchIsShown, BatchTells, IsRepeatFault}

@@ -5,11 +5,11 @@ use Rattle.ob_base.specs.declared.params.Params.{Params}
 use Rattle.ob_base.specs.declared.value.Write.{Write}
 use Rattle.ob_tables.specs.Content.{Content}
 use Rattle.ob_end.specs.Renewals.{Renews}
-use Rattle.ob_epoch.specs.Ends.{IsRunFrom, RefillRun}
-use Rattle.ob_epoch.specs.Numbers.{KnowsBook}
-use Rattle.ob_epoch.specs.Table.{buckets_of, flat_of}
-use Rattle.ob_epoch.proofs.Calling.{calls_join}
-use Rattle.ob_epoch.proofs.Numbers.{steps_renew}
+use Rattle.ob_stand.specs.EpochEnds.{IsRunFrom, RefillRun}
+use Rattle.ob_stand.specs.Numbers.{KnowsBook}
+use Rattle.ob_stand.specs.Table.{buckets_of, flat_of}
+use Rattle.ob_stand.proofs.Calling.{calls_join}
+use Rattle.ob_stand.proofs.Numbers.{steps_renew}
 use Rattle.ob_fetch.specs.Fetches.{unlisted}
 use Rattle.ob_fetch.proofs.NextLaws.{seals_listed}
 use Rattle.ob_log.specs.Logs.{BatchRecord}
@@ -24,7 +24,7 @@ use Rattle.ob_ring_trace.specs.Ends.{RefillsFrom}
 use Rattle.ob_stand.specs.Stands.{AreKnown}
 use Rattle.ob_tables.specs.Kept.{entry_at}
 use Rattle.ob_tables.specs.declared.entry.Entry.{Entry}
-use Rattle.ob_epoch.specs.Epochs.{Read, after_epoch, before_refill}
+use Rattle.ob_stand.specs.Epochs.{Read, after_epoch, before_refill}
 use Rattle.ob_end.proofs.EndTables as made
 use Rattle.ob_end.proofs.KnownEntries.{entries_known}
 

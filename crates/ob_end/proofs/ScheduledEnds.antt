@@ -10,8 +10,8 @@ use Rattle.ob_check.specs.Written.{area_of}
 use Rattle.ob_tables.specs.Content.{Content, Obeys}
 use Rattle.ob_end.specs.EndWrites.{content_left, end_write_notes, rows_left}
 use Rattle.ob_end.specs.Lifts.{lift_notes}
-use Rattle.ob_epoch.specs.Ends.{RefillRun}
-use Rattle.ob_epoch.specs.Table.{buckets_of, flat_of}
+use Rattle.ob_stand.specs.EpochEnds.{RefillRun}
+use Rattle.ob_stand.specs.Table.{buckets_of, flat_of}
 use Rattle.ob_fetch.specs.Fetches.{unlisted}
 use Rattle.ob_fetch.proofs.NextLaws.{seals_listed, stands_listed}
 use Rattle.ob_log.specs.Logs.{BatchRecord, RecordsFit}
@@ -38,7 +38,7 @@ use Rattle.ob_twin.specs.Opening.{is_closed_first}
 use Rattle.ob_twin.specs.Orders.{set_notes}
 use Rattle.ob_twin.specs.Register.{place_of}
 use Rattle.ob_twin.specs.declared.gates.Gates.{Gates}
-use Rattle.ob_epoch.specs.Epochs.{Read}
+use Rattle.ob_stand.specs.Epochs.{Read}
 use Rattle.ob_end.specs.EndRuns.{IsEndMade, LeadsOn, end_writes, rows_ended}
 use Rattle.ob_end.specs.Shown.{before_gate, end_lifts}
 use Rattle.ob_end.proofs.Rows.{before_closes, behind_lifts}

@@ -7,8 +7,8 @@ use Rattle.ob_tables.specs.Content.{Content, Rows}
 use Rattle.ob_end.specs.EndWrites.{IsEndOfRing, rows_left}
 use Rattle.ob_end.specs.Lifts.{LiftsAreRead}
 use Rattle.ob_end.specs.Renewals.{Renews, renewed_writes}
-use Rattle.ob_epoch.specs.Plans.{AreAllWhole}
-use Rattle.ob_epoch.specs.Table.{flat_of}
+use Rattle.ob_stand.specs.Plans.{AreAllWhole}
+use Rattle.ob_stand.specs.Table.{flat_of}
 use Rattle.ob_fetch.specs.Fetches.{unlisted}
 use Rattle.ob_recover.proofs.RepeatLaws.{tables_are}
 use Rattle.ob_recover.specs.Repeats.{AreRepeated, IsPlannerOf, table_after_records}
@@ -26,10 +26,10 @@ use Rattle.ob_stand.specs.Stands.{AreKnown, RingStanding, Stands}
 use Rattle.ob_stand.proofs.ReadLaws.{runs_end}
 use Rattle.ob_store.specs.Disk.{Image}
 use Rattle.ob_tables.specs.declared.entry.Entry.{Entry}
-use Rattle.ob_epoch.specs.Carries.{AreRead, Slots}
-use Rattle.ob_epoch.specs.Epochs.{IsEpoch, after_epoch, before_refill, rows_before_refill}
-use Rattle.ob_epoch.specs.ValueLaws.{AreFit}
-use Rattle.ob_epoch.specs.Refilled.{IsRefilled}
+use Rattle.ob_stand.specs.Carries.{AreRead, Slots}
+use Rattle.ob_stand.specs.Epochs.{IsEpoch, after_epoch, before_refill, rows_before_refill}
+use Rattle.ob_stand.specs.ValueLaws.{AreFit}
+use Rattle.ob_stand.specs.Refilled.{IsRefilled}
 use Rattle.ob_end.proofs.EndTables as made
 use Rattle.ob_end.proofs.RunLaws as runs
 

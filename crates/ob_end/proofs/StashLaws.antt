@@ -11,10 +11,10 @@ use Rattle.ob_ring.specs.Filling.{HasStashRows}
 use Rattle.ob_ring.specs.FlatTable.{FlatTable, FinalLifts, Row, Spot, InStash, In, after, in_stash, is_stash, spot_of}
 use Rattle.ob_ring.specs.Ring.{Kept, StandsFor}
 use Rattle.ob_ring.specs.Settling.{Rows}
-use Rattle.ob_epoch.proofs.KeyLaws.{picked_are_taken}
-use Rattle.ob_epoch.specs.Takes.{is_present}
-use Rattle.ob_epoch.specs.Values.{Values}
-use Rattle.ob_epoch.specs.Carries.{Carries, Slots}
+use Rattle.ob_stand.proofs.KeyLaws.{picked_are_taken}
+use Rattle.ob_stand.specs.Takes.{is_present}
+use Rattle.ob_stand.specs.Values.{Values}
+use Rattle.ob_stand.specs.Carries.{Carries, Slots}
 use Rattle.ob_recover.specs.Fits.{IsPlannerFit}
 use Rattle.ob_recover.proofs.JoinLaws.{carries_then, joined, map_then}
 

@@ -12,7 +12,7 @@ use Rattle.ob_tables.specs.Version.{Version}
 use Rattle.ob_tables.specs.Content.{Content, Obeys}
 use Rattle.ob_end.specs.Lifts.{IsLiftDamage, IsUndamaged, LiftsAreRead, lifts_picked}
 use Rattle.ob_end.specs.Renewals.{Renews}
-use Rattle.ob_epoch.specs.Table.{flat_of}
+use Rattle.ob_stand.specs.Table.{flat_of}
 use Rattle.ob_fetch.specs.declared.run.Run.{Run}
 use Rattle.ob_fetch.specs.Fetches.{DrawsWords, IsRunReady, RunIsAt}
 use Rattle.ob_log.specs.Logs.{BatchRecord}
@@ -37,11 +37,11 @@ use Rattle.ob_store.specs.declared.event.Event.{Event}
 use Rattle.ob_store.specs.declared.watch.Note.{Note}
 use Rattle.ob_tables.specs.Kept.{entry_at}
 use Rattle.ob_tables.specs.declared.entry.Entry.{Entry}
-use Rattle.ob_epoch.specs.Values.{with_entries}
+use Rattle.ob_stand.specs.Values.{with_entries}
 use Rattle.ob_twin.specs.declared.gates.Gates.{Gates}
 use Rattle.ob_twin.specs.declared.set_err.SetErr.{SetErr}
 use Rattle.ob_twin.specs.declared.set_err.SetErr.TheVariants as set
-use Rattle.ob_epoch.specs.Runs.{slots_of}
+use Rattle.ob_stand.specs.Runs.{slots_of}
 use Rattle.ob_end.specs.Closings.{CloseDoes}
 
 -- ---- what a run keeps at all times, whatever its store tells

@@ -10,7 +10,7 @@ use Rattle.ob_tables.specs.Version.{Version, rank_at}
 use Rattle.ob_tables.specs.Buckets.{version_at}
 use Rattle.ob_check.specs.Written.{area_of}
 use Rattle.ob_tables.specs.Content.{Content, Rows}
-use Rattle.ob_epoch.specs.Valued.{content_with}
+use Rattle.ob_stand.specs.Valued.{content_with}
 use Rattle.ob_ring.specs.Filling.{base_of}
 use Rattle.ob_ring.specs.Plain.{index_with, key_of_index, plain_for, without_buckets}
 use Rattle.ob_ring.specs.Ring.{Kept}

@@ -17,8 +17,8 @@ use Rattle.ob_stand.specs.Reads.{plains_in}
 use Rattle.ob_store.specs.Disk.{Image}
 use Rattle.ob_store.specs.declared.watch.Note.{Note}
 use Rattle.ob_store.specs.declared.watch.Note.TheVariants as note
-use Rattle.ob_epoch.specs.Carries.{Slots, AreRead}
-use Rattle.ob_epoch.specs.Runs.{slots_of}
+use Rattle.ob_stand.specs.Carries.{Slots, AreRead}
+use Rattle.ob_stand.specs.Runs.{slots_of}
 
 -- what the table's final lifts pick, and the jobs of that before they are read
 abbrev pub lifts_picked : Params → FlatTable → List Picked

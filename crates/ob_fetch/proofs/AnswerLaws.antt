@@ -13,10 +13,10 @@ use Rattle.ob_ring.specs.Fetching.{leaf_places, own_entry}
 use Rattle.ob_ring.specs.FlatTable.{FlatTable, asks_for}
 use Rattle.ob_ring.specs.Laws.{IsOrderly}
 use Rattle.ob_tables.specs.declared.entry.Entry.{Entry}
-use Rattle.ob_epoch.specs.Values.{Values}
-use Rattle.ob_epoch.proofs.Steps.{fetch_is_answered}
-use Rattle.ob_epoch.specs.Carries.{Slots, Carries}
-use Rattle.ob_epoch.specs.ValueLaws.{is_asked}
+use Rattle.ob_stand.specs.Values.{Values}
+use Rattle.ob_stand.proofs.Steps.{fetch_is_answered}
+use Rattle.ob_stand.specs.Carries.{Slots, Carries}
+use Rattle.ob_stand.specs.ValueLaws.{is_asked}
 use Rattle.ob_fetch.specs.Fetches.{AreMapValues, values_asked, row_asked}
 
 -- an item of a list, by two names

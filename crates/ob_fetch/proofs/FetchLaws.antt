@@ -10,7 +10,7 @@ use Rattle.ob_tables.specs.Buckets.{Buckets}
 use Rattle.ob_tables.specs.Version.{Version}
 use Rattle.ob_cells.specs.Writes.{WritesWithin}
 use Rattle.ob_tables.specs.Content.{Rows}
-use Rattle.ob_epoch.specs.Table.{buckets_of, flat_of}
+use Rattle.ob_stand.specs.Table.{buckets_of, flat_of}
 use Rattle.ob_log.specs.Appends.{HoldsOneOf, HoldsRecord, IsAppendFault, IsWornOut, append_notes}
 use Rattle.ob_log.specs.Logs.{BatchRecord, OpenRecords, RecordObeys}
 use Rattle.ob_recover.specs.Repeats.{BatchAnswers, BatchTells, IsRepeatFault, asked_of_record, batch_cells, record_of, repeated_notes, table_after_records}

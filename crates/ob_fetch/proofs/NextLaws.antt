@@ -8,7 +8,7 @@ use Rattle.ob_base.specs.declared.fault.Fault.TheVariants.{Memory, Usage, BadScr
 use Rattle.ob_base.specs.declared.params.Params.{Params}
 use Rattle.ob_tables.specs.Buckets.{Buckets}
 use Rattle.ob_tables.specs.Content.{Content, Rows}
-use Rattle.ob_epoch.specs.Table.{buckets_of, flat_of}
+use Rattle.ob_stand.specs.Table.{buckets_of, flat_of}
 use Rattle.ob_log.specs.Appends.{HoldsRecord}
 use Rattle.ob_log.specs.Logs.{BatchRecord, RecordObeys}
 use Rattle.ob_recover.proofs.RepeatLaws.{entries_more, repeated_more, table_more}
@@ -28,7 +28,7 @@ use Rattle.ob_store.specs.Disk.{Disk, Image}
 use Rattle.ob_store.specs.Images.{SameOff}
 use Rattle.ob_tables.specs.Kept.{entry_at}
 use Rattle.ob_tables.specs.declared.entry.Entry.{Entry}
-use Rattle.ob_epoch.specs.Carries.{Carries, Slots}
+use Rattle.ob_stand.specs.Carries.{Carries, Slots}
 use Rattle.ob_fetch.proofs.AnswerLaws.{answered}
 use Rattle.ob_fetch.proofs.LogLaws.{open_more, slots_kept}
 use Rattle.ob_fetch.specs.Fetches.{AreMapValues, FetchAnswers, FetchStands, RunIsAt, MovesPlanner, RunsAt, values_asked, next_batch, unlisted}

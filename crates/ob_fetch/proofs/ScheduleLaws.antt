@@ -8,7 +8,7 @@ use Rattle.ob_base.specs.declared.fault.Fault.TheVariants.{Memory, Usage, BadScr
 use Rattle.ob_base.specs.declared.params.Params.{Params}
 use Rattle.ob_tables.specs.Buckets.{Buckets}
 use Rattle.ob_tables.specs.Content.{Content}
-use Rattle.ob_epoch.specs.Table.{buckets_of, flat_of}
+use Rattle.ob_stand.specs.Table.{buckets_of, flat_of}
 use Rattle.ob_log.specs.Appends.{append_notes}
 use Rattle.ob_log.specs.Logs.{BatchRecord, RecordFits, RecordObeys, RecordsFit}
 use Rattle.ob_recover.specs.Repeats.{BatchIsShown, NoneIsShown, asked_of_record, batch_cells, place_notes, repeated_notes, table_after_records}

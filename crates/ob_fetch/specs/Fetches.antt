@@ -9,7 +9,7 @@ use Rattle.ob_base.specs.Planned.{most_jobs}
 use Rattle.ob_cells.specs.Jobs.{Manned}
 use Rattle.ob_tables.specs.Version.{Version}
 use Rattle.ob_tables.specs.Content.{Rows}
-use Rattle.ob_epoch.specs.Table.{flat_of}
+use Rattle.ob_stand.specs.Table.{flat_of}
 use Rattle.ob_log.specs.Appends.{IsWornOut, append_notes}
 use Rattle.ob_log.specs.Logs.{BatchRecord, OpenRecords}
 use Rattle.ob_recover.specs.Fits.{IsPlannerFit}
@@ -29,8 +29,8 @@ use Rattle.ob_store.specs.Told.{IsCut, Tells, TellsFirst}
 use Rattle.ob_store.specs.declared.event.Event.{Event}
 use Rattle.ob_store.specs.declared.watch.Note.{Note}
 use Rattle.ob_tables.specs.Kept.{entry_at}
-use Rattle.ob_epoch.specs.Values.{Values}
-use Rattle.ob_epoch.specs.Runs.{slots_of}
+use Rattle.ob_stand.specs.Values.{Values}
+use Rattle.ob_stand.specs.Runs.{slots_of}
 use Rattle.ob_fetch.specs.declared.run.Run.{Run}
 
 -- ---- what is drawn

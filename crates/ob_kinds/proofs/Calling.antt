@@ -12,7 +12,7 @@ use Rattle.ob_tables.specs.Content.{Content, Obeys}
 use Rattle.ob_end.specs.EndRuns.{IsWornForEnd, LeadsOn, seals_for_end, standing_at_end, table_ended, words_for_end}
 use Rattle.ob_end.specs.Shown.{EndShows, before_gate, end_lifts, up_to_gate}
 use Rattle.ob_end.specs.Lifts.{IsLiftDamage}
-use Rattle.ob_epoch.specs.Table.{buckets_of, flat_of}
+use Rattle.ob_stand.specs.Table.{buckets_of, flat_of}
 use Rattle.ob_fetch.proofs.NextLaws.{seals_listed, stands_listed}
 use Rattle.ob_fetch.specs.Fetches.{DrawsWords, FetchShows, IsWornForBatch, RunIsAt, next_batch, words_since}
 use Rattle.ob_kinds.specs.Phases.{Shape, Fetches, Ends, events_of_phases}

@@ -10,7 +10,7 @@ use Rattle.ob_cells.specs.Orders.{read_notes}
 use Rattle.ob_base.specs.Layout.{checkpoint_cells}
 use Rattle.ob_check.specs.Written.{area_of}
 use Rattle.ob_tables.specs.Content.{content_of}
-use Rattle.ob_epoch.specs.Table.{flat_of}
+use Rattle.ob_stand.specs.Table.{flat_of}
 use Rattle.ob_log.specs.Logs.{BatchRecord}
 use Rattle.ob_log.specs.Reads.{area_notes}
 use Rattle.ob_recover.specs.Finds.{IsFoundInRing, finding_notes}

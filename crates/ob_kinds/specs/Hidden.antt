@@ -10,7 +10,7 @@ use Rattle.ob_tables.specs.Rank.{ranks_of}
 use Rattle.ob_tables.specs.Content.{Content, Obeys}
 use Rattle.ob_end.specs.EndRuns.{end_writes, table_ended, words_for_end}
 use Rattle.ob_end.specs.Shown.{before_gate, end_lifts, up_to_gate}
-use Rattle.ob_epoch.specs.Table.{flat_of}
+use Rattle.ob_stand.specs.Table.{flat_of}
 use Rattle.ob_kinds.specs.Phases.{Ends, Fetches}
 use Rattle.ob_log.specs.Logs.{BatchRecord, RecordsFit}
 use Rattle.ob_recover.specs.Repeats.{entries_after_records, table_after_records}

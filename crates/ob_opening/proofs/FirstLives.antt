@@ -6,8 +6,8 @@ use Rattle.ob_base.specs.declared.params.Params.{Params}
 use Rattle.ob_base.specs.Tree.{buckets, width}
 use Rattle.ob_tables.specs.Buckets.{no_version, version_at}
 use Rattle.ob_tables.specs.Version.{Version, used_at}
-use Rattle.ob_epoch.proofs.ContentSampling.{no_entry, none_some}
-use Rattle.ob_epoch.specs.Table.{lying_place, row_for}
+use Rattle.ob_stand.proofs.ContentSampling.{no_entry, none_some}
+use Rattle.ob_stand.specs.Table.{lying_place, row_for}
 use Rattle.ob_ring_trace.specs.Life.{WordId, formatted_life}
 use Rattle.ob_ring_trace.specs.Lives.{IsLifeAt, word_kept}
 use Rattle.ob_seal.specs.declared.keys.Keys.{Keys}

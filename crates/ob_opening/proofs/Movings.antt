@@ -17,7 +17,7 @@ use Rattle.ob_cells.specs.Jobs.{IsFirstFailing, IsPlainOf}
 use Rattle.ob_tables.specs.Version.{Version, rank_at}
 use Rattle.ob_tables.specs.Buckets.{version_at}
 use Rattle.ob_tables.specs.Content.{Content, Rows}
-use Rattle.ob_epoch.specs.Table.{flat_of}
+use Rattle.ob_stand.specs.Table.{flat_of}
 use Rattle.ob_log.specs.Logs.{BatchRecord}
 use Rattle.ob_ring.specs.FlatTable.{FlatTable}
 use Rattle.ob_ring.specs.Picked.{Picked, batch_picked, job_of}
@@ -27,8 +27,8 @@ use Rattle.ob_stand.proofs.Frames.{stands_all}
 use Rattle.ob_twin.specs.Keyed.{tagging}
 use Rattle.ob_twin.specs.Register.{KeepsAt, SameOutside}
 use Rattle.ob_twin.proofs.Frames.{register_moved}
-use Rattle.ob_epoch.specs.Carries.{Slots}
-use Rattle.ob_epoch.specs.Runs.{slots_of}
+use Rattle.ob_stand.specs.Carries.{Slots}
+use Rattle.ob_stand.specs.Runs.{slots_of}
 use Rattle.ob_recover.specs.Repeats.{AreRepeated, IsBatchDamage, IsRepeatDamage, IsRepeatRowDamage, asked_of_record, table_after_records}
 
 -- ---- slots

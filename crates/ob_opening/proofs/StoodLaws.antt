@@ -8,7 +8,7 @@ use Rattle.ob_seal.specs.declared.keys.Keys.{Keys}
 use Rattle.ob_twin.specs.Keyed.{tagging}
 use Rattle.ob_twin.specs.Register.{StandsAt}
 use Rattle.ob_tables.specs.Content.{Content}
-use Rattle.ob_epoch.specs.Table.{flat_of}
+use Rattle.ob_stand.specs.Table.{flat_of}
 use Rattle.ob_log.specs.Logs.{BatchRecord}
 use Rattle.ob_stand.specs.Reads.{slots_in}
 use Rattle.ob_stand.specs.Stands.{RingStanding, Stands, with_generation}

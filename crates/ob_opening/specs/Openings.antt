@@ -14,8 +14,8 @@ use Rattle.ob_twin.specs.Reading.{NoneOpen}
 use Rattle.ob_twin.specs.Register.{SameOutside}
 use Rattle.ob_start.specs.Beginning.{gates_begun}
 use Rattle.ob_tables.specs.Content.{content_of}
-use Rattle.ob_epoch.specs.Table.{flat_of}
-use Rattle.ob_epoch.specs.Carries.{Carries}
+use Rattle.ob_stand.specs.Table.{flat_of}
+use Rattle.ob_stand.specs.Carries.{Carries}
 use Rattle.ob_stand.specs.Reads.{slots_in}
 use Rattle.ob_stand.specs.Stands.{RingStanding, Stands, with_generation}
 use Rattle.ob_recover.specs.declared.found.Found.{Found}

@@ -28,7 +28,7 @@ use Rattle.ob_log.specs.Logs.{BatchRecord}
 use Rattle.ob_cells.specs.Jobs as jobs
 use Rattle.ob_cells.specs.Jobs.{AreFilled, AreJobsRead, AreKept, AreSeen, IsFirstFailing, cells_of}
 use Rattle.ob_cells.specs.declared.error.JobsErr.{JobsErr}
-use Rattle.ob_epoch.proofs.Calling.{plans_are_read}
+use Rattle.ob_stand.proofs.Calling.{plans_are_read}
 use Rattle.ob_stand.specs.Reads.{plains_in}
 use Rattle.ob_recover.specs.Repeats.{record_of, record_places, asked_of_record, batch_cells, batch_jobs, repeated_notes, BatchAnswers, BatchIsShown, BatchTells, HaveKeysOf, IsRepeatFault, JobsAnswer, RowsJoin}
 use Rattle.ob_recover.specs.Shows.{placed_notes}

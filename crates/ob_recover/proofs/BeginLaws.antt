@@ -11,8 +11,8 @@ use Rattle.ob_tables.specs.Kept.{entry_at}
 use Rattle.ob_tables.specs.Content.{Obeys, content_of}
 use Rattle.ob_ring.specs.Ring.{IsRing, StandsFor}
 use Rattle.ob_check.specs.Fresh.{AreIdle}
-use Rattle.ob_epoch.specs.Table.{flat_of, ring_of}
-use Rattle.ob_epoch.proofs.Reading.{rings_stand}
+use Rattle.ob_stand.specs.Table.{flat_of, ring_of}
+use Rattle.ob_stand.proofs.Reading.{rings_stand}
 use Rattle.ob_recover.proofs.RepeatLaws.{past}
 
 low_present : (book : List (Option Entry)) (n k : ℕ) → length book ≡ n → entry_at book k ≢ None → k < n

@@ -10,12 +10,12 @@ use Rattle.ob_tables.specs.Version.{IsWhole, key_at}
 use Rattle.ob_check.specs.Fresh.{AreIdle}
 use Rattle.ob_tables.specs.Content.{Content, FitsBook, FitsSeals, IsKeyOf, Obeys, content_of}
 use Rattle.ob_tables.specs.Spelling.{slot_bytes}
-use Rattle.ob_epoch.specs.Plans.{AreAllWhole}
-use Rattle.ob_epoch.specs.Table.{flat_of, ring_of}
-use Rattle.ob_epoch.specs.Valued.{IsSlotOf, IsValued}
-use Rattle.ob_epoch.proofs.Numbers.{steps_renew}
-use Rattle.ob_epoch.proofs.Plans.{refill_plans}
-use Rattle.ob_epoch.proofs.Standing.{contents_carry}
+use Rattle.ob_stand.specs.Plans.{AreAllWhole}
+use Rattle.ob_stand.specs.Table.{flat_of, ring_of}
+use Rattle.ob_stand.specs.Valued.{IsSlotOf, IsValued}
+use Rattle.ob_stand.proofs.Numbers.{steps_renew}
+use Rattle.ob_stand.proofs.Plans.{refill_plans}
+use Rattle.ob_stand.proofs.Standing.{contents_carry}
 use Rattle.ob_recover.specs.Fits.{IsPlannerFit}
 use Rattle.ob_recover.specs.Repeats.{RowsJoin, asked_of_record, record_of, record_places}
 use Rattle.ob_recover.proofs.BeginLaws.{ring_stands}
@@ -27,9 +27,9 @@ use Rattle.ob_ring.specs.Ring.{IsRing, Kept, StandsFor}
 use Rattle.ob_tables.specs.Kept.{entry_at}
 use Rattle.ob_tables.specs.declared.entry.Entry.{Entry}
 use Rattle.ob_tables.specs.declared.tables.Tables.{Tables}
-use Rattle.ob_epoch.proofs.KeyLaws.{picked_are_taken}
-use Rattle.ob_epoch.specs.Values.{Values}
-use Rattle.ob_epoch.specs.Carries.{Carries, Slots}
+use Rattle.ob_stand.proofs.KeyLaws.{picked_are_taken}
+use Rattle.ob_stand.specs.Values.{Values}
+use Rattle.ob_stand.specs.Carries.{Carries, Slots}
 
 -- ---- over a batch
 

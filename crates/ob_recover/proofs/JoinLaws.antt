@@ -12,10 +12,10 @@ use Rattle.ob_base.specs.declared.fault.Damaged.{Damaged}
 use Rattle.ob_ring.specs.FlatTable.{FlatTable, Row, Spot, InStash, In, spot_of, asks_for}
 use Rattle.ob_ring.specs.Picked.{Picked}
 use Rattle.ob_ring.specs.Settling.{Rows, row_value, len_field, key_field, row_fault, long_row, other_key, fault_at, job_damage, or_else, first_fault, with_row, rows_after}
-use Rattle.ob_epoch.specs.Takes.{is_present, spots, is_picked, AreOwn, Takes, KeepsKeys}
-use Rattle.ob_epoch.specs.Values.{Values}
-use Rattle.ob_epoch.specs.Carries.{Carries, Slots}
-use Rattle.ob_epoch.proofs.Carrying.{get_insert}
+use Rattle.ob_stand.specs.Takes.{is_present, spots, is_picked, AreOwn, Takes, KeepsKeys}
+use Rattle.ob_stand.specs.Values.{Values}
+use Rattle.ob_stand.specs.Carries.{Carries, Slots}
+use Rattle.ob_stand.proofs.Carrying.{get_insert}
 use Rattle.ob_recover.specs.Repeats.{RowsJoin}
 
 some_not : {X : Type 0} (x : X) → Some x ≡ None → ⊥

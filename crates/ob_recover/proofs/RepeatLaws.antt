@@ -23,10 +23,10 @@ use Rattle.ob_ring.specs.Settling.{first_fault, rows_after}
 use Rattle.ob_log.specs.Logs.{BatchRecord}
 use Rattle.ob_cells.specs.Jobs.{AreJobsRead}
 use Rattle.ob_cells.specs.Lanes.{ReadByLanes}
-use Rattle.ob_epoch.specs.Carries.{Slots, AreRead}
-use Rattle.ob_epoch.specs.Epochs.{Read, after_batches, rows_of_batches, AreAllRead, AreFaultless}
-use Rattle.ob_epoch.specs.Runs.{AreRun, Plains}
-use Rattle.ob_epoch.specs.Table.{flat_of}
+use Rattle.ob_stand.specs.Carries.{Slots, AreRead}
+use Rattle.ob_stand.specs.Epochs.{Read, after_batches, rows_of_batches, AreAllRead, AreFaultless}
+use Rattle.ob_stand.specs.Runs.{AreRun, Plains}
+use Rattle.ob_stand.specs.Table.{flat_of}
 use Rattle.ob_stand.specs.Reads.{plains_in}
 use Rattle.ob_stand.proofs.ReadLaws.{sealed_are_opened}
 use Rattle.ob_recover.specs.Repeats.{record_places, asked_of_record, table_after_records, entries_after_records, repeated_notes, batch_cells, repeat_notes, repeat_cells, ReadInTurn, BatchIsRead, AreRepeated, RepeatsTold, BatchIsShown}

@@ -23,7 +23,7 @@ use Rattle.ob_ring.specs.FlatTable.{FlatTable, Batch, after}
 use Rattle.ob_ring.specs.Picked.{SameSeals, batch_picked}
 use Rattle.ob_ring.specs.Ring.{Kept, StandsFor}
 use Rattle.ob_log.specs.Logs.{BatchRecord, record_at, nothing}
-use Rattle.ob_epoch.specs.Table.{flat_of}
+use Rattle.ob_stand.specs.Table.{flat_of}
 use Rattle.ob_stand.specs.Reads.{slots_in}
 use Rattle.ob_recover.specs.Repeats.{record_places, asked_of_record, table_after_records, entries_after_records, repeated_notes, batch_cells, BatchAnswers, BatchTells, AllRowsJoin, AreRepeated, HasRepeated}
 use Rattle.ob_recover.specs.Repeats.{IsRepeatDamage, IsRepeatFault, RepeatsTold, RowsJoin, RepeatsFirst, RepeatDoes, RepeatsAnswer, content_of_ring}

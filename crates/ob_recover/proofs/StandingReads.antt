@@ -34,16 +34,16 @@ use Rattle.ob_ring.specs.Fetching.{leaf_places, own_entry}
 use Rattle.std.proofs.lemmas.Nat.{mod_below, pow_pos}
 use Rattle.ob_log.specs.Logs.{BatchRecord}
 use Rattle.ob_cells.specs.Jobs.{IsPlainOf, IsFirstFailing}
-use Rattle.ob_epoch.specs.Takes.{AreKeysLow}
-use Rattle.ob_epoch.specs.Values.{Values}
-use Rattle.ob_epoch.proofs.KeyLaws.{steps_only_take}
-use Rattle.ob_epoch.proofs.Taking.{batch_present}
-use Rattle.ob_epoch.specs.Carries.{AreRead, Slots, Carries}
-use Rattle.ob_epoch.specs.Epochs.{Read, AreAllRead, after_batches, rows_of_batches}
-use Rattle.ob_epoch.proofs.Steps.{batch_carries, lifts_carry}
-use Rattle.ob_epoch.specs.Table.{flat_of, lying_place, ring_of, row_for}
-use Rattle.ob_epoch.proofs.Reading.{tables_are_read}
-use Rattle.ob_epoch.proofs.Standing.{contents_carry}
+use Rattle.ob_stand.specs.Takes.{AreKeysLow}
+use Rattle.ob_stand.specs.Values.{Values}
+use Rattle.ob_stand.proofs.KeyLaws.{steps_only_take}
+use Rattle.ob_stand.proofs.Taking.{batch_present}
+use Rattle.ob_stand.specs.Carries.{AreRead, Slots, Carries}
+use Rattle.ob_stand.specs.Epochs.{Read, AreAllRead, after_batches, rows_of_batches}
+use Rattle.ob_stand.proofs.Steps.{batch_carries, lifts_carry}
+use Rattle.ob_stand.specs.Table.{flat_of, lying_place, ring_of, row_for}
+use Rattle.ob_stand.proofs.Reading.{tables_are_read}
+use Rattle.ob_stand.proofs.Standing.{contents_carry}
 use Rattle.ob_stand.specs.Reads.{slots_in}
 use Rattle.ob_stand.specs.Stands.{RingStanding, Stands}
 use Rattle.ob_stand.proofs.ReadLaws.{stands_valued}

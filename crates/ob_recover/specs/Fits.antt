@@ -3,11 +3,11 @@ use Rattle.std.specs.Prelude.{ℕ, ◌<◌}
 use Rattle.ob_base.specs.Tree.{buckets}
 use Rattle.ob_tables.specs.Buckets.{version_at}
 use Rattle.ob_tables.specs.Content.{FitsBook, FitsSeals}
-use Rattle.ob_epoch.specs.Plans.{AreAllWhole}
+use Rattle.ob_stand.specs.Plans.{AreAllWhole}
 use Rattle.ob_ring.specs.FlatTable.{FlatTable}
 use Rattle.ob_ring.specs.Ring.{Kept, StandsFor}
-use Rattle.ob_epoch.specs.Values.{Values}
-use Rattle.ob_epoch.specs.Carries.{Carries, Slots}
+use Rattle.ob_stand.specs.Values.{Values}
+use Rattle.ob_stand.specs.Carries.{Carries, Slots}
 
 -- The planner's numbers are in range, and the rows of its stash are those of some map, with some bytes in the slots.
 pub record IsPlannerFit (ring : Kept) : Type 0 where

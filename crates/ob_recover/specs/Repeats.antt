@@ -25,10 +25,10 @@ use Rattle.ob_ring.specs.Settling.{first_fault, rows_after}
 use Rattle.ob_log.specs.Logs.{BatchRecord}
 use Rattle.ob_cells.specs.Jobs.{IsFirstFailing, AreJobsRead}
 use Rattle.ob_cells.specs.Lanes.{ReadByLanes}
-use Rattle.ob_epoch.specs.Carries.{Slots, AreRead, Carries}
-use Rattle.ob_epoch.specs.Epochs.{Read, AreAllRead, AreFaultless, rows_of_batches}
-use Rattle.ob_epoch.specs.Runs.{slots_of}
-use Rattle.ob_epoch.specs.Table.{buckets_of, flat_of, ring_of}
+use Rattle.ob_stand.specs.Carries.{Slots, AreRead, Carries}
+use Rattle.ob_stand.specs.Epochs.{Read, AreAllRead, AreFaultless, rows_of_batches}
+use Rattle.ob_stand.specs.Runs.{slots_of}
+use Rattle.ob_stand.specs.Table.{buckets_of, flat_of, ring_of}
 use Rattle.ob_stand.specs.Reads.{plains_in, slots_in}
 use Rattle.ob_stand.specs.Stands.{RingStanding}
 use Rattle.ob_recover.specs.declared.found.Found.{Found}

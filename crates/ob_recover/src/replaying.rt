@@ -5,7 +5,7 @@ ghost use Rattle.ob_base.specs.Planned.{most_jobs};
 ghost use Rattle.ob_tables.specs.Content.{content_of};
 ghost use Rattle.ob_store.specs.Images.{Same, Passes};
 ghost use Rattle.ob_store.specs.Calls.{Serves, IsStoreFault, Keeps};
-ghost use Rattle.ob_epoch.specs.Table.{flat_of};
+ghost use Rattle.ob_stand.specs.Table.{flat_of};
 ghost use Rattle.ob_log.specs.Logs.{RecordsFit};
 ghost use Rattle.ob_ring.specs.Ring.{StandsFor};
 ghost use Rattle.ob_stand.specs.Stands.{RingStanding, Stands};

@@ -12,8 +12,8 @@ use Rattle.ob_tables.specs.Buckets.{version_at}
 use Rattle.ob_tables.specs.Rank.{IsRanking}
 use Rattle.ob_tables.specs.Content.{Content}
 use Rattle.ob_end.specs.EndRuns.{AreEntriesWritten, EndImages, IsAtContent, MayEndEpoch, TakeBucketWords, standing_at_end, table_ended, words_for_end}
-use Rattle.ob_epoch.proofs.Counts.{slots_rank}
-use Rattle.ob_epoch.specs.Table.{flat_of}
+use Rattle.ob_stand.proofs.Counts.{slots_rank}
+use Rattle.ob_stand.specs.Table.{flat_of}
 use Rattle.ob_fetch.specs.Fetches.{DrawsWords, RunIsAt, words_since}
 use Rattle.ob_fetch.proofs.NextLaws.{stands_listed}
 use Rattle.ob_ring_trace.specs.Life.{AreDrawn, Append, End as EndAct, IsActAllowed, LifeAct, LifeBatch, LifeState, ShowLifts, WordId, book_now, book_after_log, is_table_lifted, life_step, table_now}

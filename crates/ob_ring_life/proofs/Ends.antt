@@ -10,7 +10,7 @@ use Rattle.ob_base.specs.declared.value.Write.{Write}
 use Rattle.ob_tables.specs.Buckets.{version_at}
 use Rattle.ob_tables.specs.Rank.{IsRanking}
 use Rattle.ob_end.specs.EndRuns.{end_writes, words_for_end}
-use Rattle.ob_epoch.proofs.Counts.{slots_rank}
+use Rattle.ob_stand.proofs.Counts.{slots_rank}
 use Rattle.ob_ring_trace.specs.Life.{AreDrawn, End as EndAct, IsLife, LifeAct, LifeBatch, LifeState, ShowLifts, SlotFill, WordId, book_after_log, book_now, is_table_lifted, lift_slots, life_step, reached, table_now}
 use Rattle.ob_log.specs.Logs.{BatchRecord, RecordsFit}
 use Rattle.ob_recover.specs.Repeats.{entries_after_records}

@@ -7,8 +7,8 @@ use Rattle.ob_base.specs.declared.params.Params.{Params}
 use Rattle.ob_base.specs.Repeats.{Has}
 use Rattle.ob_base.proofs.Repeats.{has_left, has_right}
 use Rattle.ob_tables.specs.Content.{Content, Obeys}
-use Rattle.ob_epoch.specs.Counts.{public_of}
-use Rattle.ob_epoch.specs.Table.{flat_of}
+use Rattle.ob_stand.specs.Counts.{public_of}
+use Rattle.ob_stand.specs.Table.{flat_of}
 use Rattle.ob_log.specs.Logs.{BatchRecord, RecordsFit, record_at}
 use Rattle.ob_log.specs.Appends.{append_notes}
 use Rattle.ob_recover.specs.Repeats.{asked_of_record, repeated_notes, table_after_records}

@@ -8,11 +8,11 @@ use Rattle.ob_base.specs.Layout.{EpochTwin, slot_cell}
 use Rattle.ob_tables.specs.Buckets.{version_at}
 use Rattle.ob_tables.specs.Version.{Version}
 use Rattle.ob_tables.specs.Content.{Content, Obeys, Rows}
-use Rattle.ob_epoch.specs.Counts.{IsEndPublic, lifted_and_written, public_of}
-use Rattle.ob_epoch.specs.Ends.{RefillRun}
-use Rattle.ob_epoch.specs.Table.{flat_of}
-use Rattle.ob_epoch.specs.Valued.{content_with}
-use Rattle.ob_epoch.proofs.Counts.{end_counts}
+use Rattle.ob_stand.specs.Counts.{IsEndPublic, lifted_and_written, public_of}
+use Rattle.ob_stand.specs.EpochEnds.{RefillRun}
+use Rattle.ob_stand.specs.Table.{flat_of}
+use Rattle.ob_stand.specs.Valued.{content_with}
+use Rattle.ob_stand.proofs.Counts.{end_counts}
 use Rattle.ob_log.specs.Logs.{BatchRecord}
 use Rattle.ob_recover.specs.Repeats.{asked_of_record, table_after_records}
 use Rattle.ob_ring.specs.Arrays.{IsTableOf, arrays_of, rest_of}
@@ -36,7 +36,7 @@ use Rattle.ob_twin.specs.Opening.{HasOpen, with_mark}
 use Rattle.ob_twin.specs.Register.{place_of}
 use Rattle.ob_twin.specs.declared.gates.Gates.{Gates}
 use Rattle.ob_twin.specs.declared.gates.Open.{Open}
-use Rattle.ob_epoch.specs.Epochs.{Read, after_batches, before_refill}
+use Rattle.ob_stand.specs.Epochs.{Read, after_batches, before_refill}
 use Rattle.ob_ring_trace.specs.Ends.{RefillsFrom, EndIsScheduled, EndsAreScheduled, LiftsComeFirst, closing_notes, gates_ended, lifts_notes, refill_notes}
 use Rattle.ob_ring_trace.specs.Known.{AreSlotsOf, fills_with_lifts, gates_open, public_of_kept, slot_kept}
 use Rattle.ob_ring_trace.proofs.Fills.{RecordsLead, content_leads, lifts_own}

@@ -8,10 +8,10 @@ use Rattle.ob_base.specs.Tree.{below}
 use Rattle.ob_base.specs.Repeats.{Has}
 use Rattle.ob_base.proofs.Repeats.{has_left, has_right}
 use Rattle.ob_tables.specs.Content.{Content, Obeys}
-use Rattle.ob_epoch.specs.Counts.{public_of}
-use Rattle.ob_epoch.specs.Table.{flat_of}
-use Rattle.ob_epoch.proofs.Counts.{opening_counts}
-use Rattle.ob_epoch.proofs.Reading.{tables_are_read}
+use Rattle.ob_stand.specs.Counts.{public_of}
+use Rattle.ob_stand.specs.Table.{flat_of}
+use Rattle.ob_stand.proofs.Counts.{opening_counts}
+use Rattle.ob_stand.proofs.Reading.{tables_are_read}
 use Rattle.ob_ring_trace.specs.Bridge.{slot_read_off}
 use Rattle.ob_ring_trace.specs.LifeLaws.{BatchFacts}
 use Rattle.ob_ring_trace.proofs.NotesLaws.{picks_scheduled, read_off}

@@ -7,7 +7,7 @@ use Rattle.ob_base.specs.Layout.{EpochTwin, GenerationTwin}
 use Rattle.ob_base.specs.Tree.{buckets, width}
 use Rattle.ob_tables.specs.Buckets.{no_version, version_at}
 use Rattle.ob_tables.specs.Version.{Version}
-use Rattle.ob_epoch.specs.Counts.{marks_of}
+use Rattle.ob_stand.specs.Counts.{marks_of}
 use Rattle.ob_schedule.specs.Schedule.{gate_cell}
 use Rattle.ob_stand.specs.Fresh.{Ranks, fresh_content, fresh_version}
 use Rattle.ob_ring_trace.specs.Known.{FormatIsPublic, format_gates, gates_open}

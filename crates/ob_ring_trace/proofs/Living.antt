@@ -8,7 +8,7 @@ use Rattle.ob_base.specs.declared.params.Params.{Params}
 use Rattle.ob_base.specs.Tree.{below}
 use Rattle.ob_base.specs.Repeats.{Has}
 use Rattle.ob_tables.specs.Content.{Content}
-use Rattle.ob_epoch.specs.Table.{flat_of, lying_place, row_for}
+use Rattle.ob_stand.specs.Table.{flat_of, lying_place, row_for}
 use Rattle.ob_ring_trace.specs.Life.{LifeContent, SlotFill, WordId, batch_places, book_after, leaf_of_word, leaves, lift_slots, log_slots, phase_labels, slot_fill, slots_of, table_after, table_now, with_words}
 use Rattle.ob_ring_trace.proofs.BookLaws.{IsBookOf, book_batch, kept_leaf, label_leaves, low_bits}
 use Rattle.ob_log.specs.Logs.{BatchRecord}

@@ -9,7 +9,7 @@ use Rattle.ob_base.specs.Tree.{below}
 use Rattle.ob_cells.specs.Lanes.{ReadByLanes, reads_of_lane, reads_of_lanes}
 use Rattle.ob_tables.specs.Version.{Version}
 use Rattle.ob_tables.specs.Content.{Content}
-use Rattle.ob_epoch.specs.Table.{flat_of}
+use Rattle.ob_stand.specs.Table.{flat_of}
 use Rattle.ob_log.specs.Appends.{append_notes}
 use Rattle.ob_log.specs.Logs.{BatchRecord}
 use Rattle.ob_recover.specs.Repeats.{ReadInTurn, RepeatsTold, asked_of_record, batch_cells, place_notes, repeat_cells, repeat_notes, repeated_notes, table_after_records}

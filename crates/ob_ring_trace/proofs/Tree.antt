@@ -7,8 +7,8 @@ use Rattle.ob_base.specs.declared.params.Params.{Params}
 use Rattle.ob_base.specs.Repeats.{Has}
 use Rattle.ob_base.specs.Tree.{buckets, path, width}
 use Rattle.ob_tables.specs.Content.{Content, Obeys}
-use Rattle.ob_epoch.specs.Counts.{public_of}
-use Rattle.ob_epoch.specs.Table.{flat_of, lying_place, row_for}
+use Rattle.ob_stand.specs.Counts.{public_of}
+use Rattle.ob_stand.specs.Table.{flat_of, lying_place, row_for}
 use Rattle.ob_log.specs.Logs.{BatchRecord}
 use Rattle.ob_recover.specs.Repeats.{asked_of_record, table_after_records}
 use Rattle.ob_recover.proofs.StandingReads.{asked_low}

@@ -2,7 +2,7 @@
 use Rattle.std.specs.Prelude.{◌≡◌, ℕ, suc, List, [], ◌∷◌, ◌++◌, length, Option}
 use Rattle.ob_base.specs.declared.params.Params.{Params}
 use Rattle.ob_tables.specs.Content.{Content, Obeys}
-use Rattle.ob_epoch.specs.Table.{flat_of}
+use Rattle.ob_stand.specs.Table.{flat_of}
 use Rattle.ob_log.specs.Appends.{append_notes}
 use Rattle.ob_log.specs.Logs.{BatchRecord, RecordsFit}
 use Rattle.ob_recover.specs.Repeats.{BatchIsShown, asked_of_record, batch_cells, repeated_notes, table_after_records}

@@ -9,9 +9,9 @@ use Rattle.ob_tables.specs.Buckets.{version_at}
 use Rattle.ob_tables.specs.Version.{Version}
 use Rattle.ob_check.specs.Written.{area_of}
 use Rattle.ob_tables.specs.Content.{Content, Obeys, Rows}
-use Rattle.ob_epoch.specs.Ends.{RefillRun}
-use Rattle.ob_epoch.specs.Table.{flat_of}
-use Rattle.ob_epoch.specs.Valued.{content_with}
+use Rattle.ob_stand.specs.EpochEnds.{RefillRun}
+use Rattle.ob_stand.specs.Table.{flat_of}
+use Rattle.ob_stand.specs.Valued.{content_with}
 use Rattle.ob_log.specs.Logs.{BatchRecord, RecordsFit}
 use Rattle.ob_recover.specs.Repeats.{BatchIsShown, asked_of_record, table_after_records}
 use Rattle.ob_ring.specs.Arrays.{AreWhole, IsTableOf, arrays_of, rest_of}
@@ -32,7 +32,7 @@ use Rattle.ob_twin.specs.Orders.{set_notes}
 use Rattle.ob_twin.specs.Register.{place_of}
 use Rattle.ob_twin.specs.declared.gates.Gates.{Gates}
 use Rattle.ob_twin.specs.declared.twin.Twin.TheVariants.{EPOCH}
-use Rattle.ob_epoch.specs.Epochs.{Read, after_epoch, before_refill}
+use Rattle.ob_stand.specs.Epochs.{Read, after_epoch, before_refill}
 use Rattle.ob_ring_trace.specs.Fronts.{AreFirstNotes}
 use Rattle.ob_ring_trace.specs.Known.{fills_with_lifts, public_of_kept}
 use Rattle.ob_ring_trace.specs.Telling.{AreTold}

@@ -6,8 +6,8 @@ use Rattle.ob_base.specs.declared.params.Params.{Params}
 use Rattle.ob_tables.specs.Buckets.{version_at}
 use Rattle.ob_tables.specs.Version.{rank_at}
 use Rattle.ob_tables.specs.Content.{Content, Obeys}
-use Rattle.ob_epoch.specs.Counts.{public_of}
-use Rattle.ob_epoch.specs.Table.{flat_of}
+use Rattle.ob_stand.specs.Counts.{public_of}
+use Rattle.ob_stand.specs.Table.{flat_of}
 use Rattle.ob_ring_trace.specs.Bridge.{slot_read_off}
 use Rattle.ob_log.specs.Logs.{BatchRecord, RecordsFit}
 use Rattle.ob_recover.specs.Repeats.{IsPlannerOf, asked_of_record, table_after_records}

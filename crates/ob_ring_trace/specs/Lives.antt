@@ -4,7 +4,7 @@ use Rattle.ob_base.specs.Repeats.{Has}
 use Rattle.ob_base.specs.declared.params.Params.{Params}
 use Rattle.ob_base.specs.Tree.{buckets, width}
 use Rattle.ob_tables.specs.Content.{Content, Obeys}
-use Rattle.ob_epoch.specs.Table.{flat_of}
+use Rattle.ob_stand.specs.Table.{flat_of}
 use Rattle.ob_ring_trace.specs.Life.{LifeBatch, LifeState, SlotFill, WordId, leaf_of_word, lift_slots, log_slots, phase_labels, table_now}
 use Rattle.ob_log.specs.Logs.{BatchRecord, RecordsFit}
 use Rattle.ob_recover.specs.Repeats.{table_after_records}

@@ -1,12 +1,12 @@
 -- The small store, computed from the definitions: what is shown of it, and with which fills.
 use Rattle.std.specs.Prelude.{◌≡◌, ℕ, ◌*◌, true, false, List, [], ◌∷◌, ◌++◌, replicate, map, None}
 use Rattle.ob_base.specs.declared.params.Params.{Params}
-use Rattle.ob_epoch.specs.ContentSamples.{formatted}
+use Rattle.ob_stand.specs.ContentSamples.{formatted}
 use Rattle.ob_log.specs.Logs.{BatchRecord}
 use Rattle.ob_store.specs.declared.watch.Note.{Note}
 use Rattle.ob_store.specs.declared.watch.Note.TheVariants.{Label, Read, Write, Sync}
 use Rattle.ob_twin.specs.declared.gates.Gates.{Gates}
-use Rattle.ob_epoch.specs.ValueSamples.{numbers_of}
+use Rattle.ob_stand.specs.ValueSamples.{numbers_of}
 use Rattle.ob_ring_trace.specs.Batches.{logged_notes}
 use Rattle.ob_ring_trace.specs.Ends.{lifts_notes}
 use Rattle.ob_ring_trace.specs.Known.{public_of_kept}

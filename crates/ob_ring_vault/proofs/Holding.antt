@@ -27,8 +27,8 @@ use Rattle.ob_store.specs.Disk.{Clock, Disk, Image, NotAfter}
 use Rattle.ob_store.specs.Images.{IsSynced, LeavesOnly}
 use Rattle.ob_store.proofs.Moments.{weakened}
 use Rattle.ob_tables.specs.declared.entry.Entry.{Entry}
-use Rattle.ob_epoch.specs.Values as taken
-use Rattle.ob_epoch.specs.Values.{Values}
+use Rattle.ob_stand.specs.Values as taken
+use Rattle.ob_stand.specs.Values.{Values}
 use Rattle.ob_twin.proofs.Moves.{at_the_end}
 use Rattle.ob_ring_vault.specs.RingVaults.{RingHolds, RingServes, RingSound, counts_of_run, lent_both}
 

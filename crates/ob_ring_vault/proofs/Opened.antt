@@ -9,7 +9,7 @@ use Rattle.ob_fetch.specs.Fetches.{RunIsAt, RunsAt, unlisted}
 use Rattle.ob_fetch.proofs.NextLaws.{stands_unlisted}
 use Rattle.ob_recover.specs.Fits.{IsPlannerFit}
 use Rattle.ob_recover.specs.Repeats.{IsPlannerOf, table_after_records}
-use Rattle.ob_epoch.specs.Table.{flat_of}
+use Rattle.ob_stand.specs.Table.{flat_of}
 use Rattle.ob_seal.specs.declared.keys.Keys.{Keys}
 use Rattle.ob_seal.specs.Sealing.{Sealing}
 use Rattle.ob_serial.specs.Serial.{Map}

@@ -17,14 +17,14 @@ use Rattle.ob_tables.specs.Content.{FitsBook, FitsSeals}
 use Rattle.ob_tables.specs.Spelling.{slot_bytes}
 use Rattle.ob_end.specs.EndRuns.{IsEndReady}
 use Rattle.ob_recover.specs.Fits.{IsPlannerFit}
-use Rattle.ob_epoch.specs.Plans.{AreAllWhole}
+use Rattle.ob_stand.specs.Plans.{AreAllWhole}
 use Rattle.ob_fetch.specs.declared.run.Run.{Run}
 use Rattle.ob_ring.specs.FlatTable.{FlatTable, In, InStash, Row, Spot, spot_of}
 use Rattle.ob_ring.specs.Ring.{Kept, StandsFor}
 use Rattle.ob_ring_trace.proofs.Once.{table_once}
-use Rattle.ob_epoch.specs.Takes.{is_present}
-use Rattle.ob_epoch.specs.Values.{Values}
-use Rattle.ob_epoch.specs.Carries.{Carries, Slots}
+use Rattle.ob_stand.specs.Takes.{is_present}
+use Rattle.ob_stand.specs.Values.{Values}
+use Rattle.ob_stand.specs.Carries.{Carries, Slots}
 
 -- ---- a map that the stash's rows are of: the keys that lie in a bucket have no byte
 

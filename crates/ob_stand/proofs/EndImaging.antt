@@ -17,7 +17,7 @@ use Rattle.ob_tables.specs.Version.{Version, rank_at}
 use Rattle.ob_tables.specs.Buckets.{version_at}
 use Rattle.ob_tables.specs.Spelling.{checkpoint_bytes}
 use Rattle.ob_schedule.specs.Paths.{is_one_of}
-use Rattle.ob_epoch.proofs.Planned.{index_of_rank}
+use Rattle.ob_stand.proofs.Planned.{index_of_rank}
 use Rattle.ob_stand.specs.EndImages.{EndsExist, end_image, home_then, is_in, plain_of_index, slot_then}
 use Rattle.ob_stand.specs.Ends.{RingEnd, IsEndOf}
 use Rattle.ob_stand.specs.Spare.{Spare, SameButIn}

@@ -19,9 +19,9 @@ use Rattle.ob_start.specs.Heads.{IsHead}
 use Rattle.ob_tables.specs.Version.{Version, key_at, rank_at, used_at}
 use Rattle.ob_tables.specs.Buckets.{version_at}
 use Rattle.ob_schedule.specs.Paths.{is_one_of}
-use Rattle.ob_epoch.specs.Goes.{Goes}
-use Rattle.ob_epoch.specs.Carries.{Slots}
-use Rattle.ob_epoch.specs.Valued.{IsSlotOf}
+use Rattle.ob_stand.specs.Goes.{Goes}
+use Rattle.ob_stand.specs.Carries.{Slots}
+use Rattle.ob_stand.specs.Valued.{IsSlotOf}
 use Rattle.ob_stand.specs.Stands.{RingStanding, SpellsSlot, HoldsRest, Stands, OneOf}
 use Rattle.ob_stand.specs.Spare.{SameRest, Spare, SameButIn}
 use Rattle.ob_stand.specs.Ends.{RingEnd, standing_after, IsEndOf, IsEndWritten, EndWritesSpare, EndFillsSpare, EndSpares, EndIsHeld, EndSets, Ending, EndLeaves}

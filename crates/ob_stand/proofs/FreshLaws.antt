@@ -25,8 +25,8 @@ use Rattle.ob_tables.specs.Buckets.{version_at, no_version}
 use Rattle.ob_tables.specs.Content.{FitsSeals, Obeys}
 use Rattle.ob_tables.specs.Spelling.{slot_bytes}
 use Rattle.ob_tables.specs.declared.entry.Entry.{Entry}
-use Rattle.ob_epoch.proofs.Planned.{past_none}
-use Rattle.ob_epoch.proofs.ContentSampling.{none_some, no_entry}
+use Rattle.ob_stand.proofs.Planned.{past_none}
+use Rattle.ob_stand.proofs.ContentSampling.{none_some, no_entry}
 use Rattle.ob_stand.specs.Stands.{SpellsSlot, Stands}
 use Rattle.ob_stand.specs.Fresh.{Ranks, fresh_version, fresh_content, fresh_standing, AreRanked, IsFormatOf, FormattedStands}
 use Rattle.ob_ring.proofs.FillLaws.{none_used}

@@ -27,12 +27,12 @@ use Rattle.ob_tables.specs.Content.{Content, Obeys}
 use Rattle.ob_tables.specs.Spelling.{checkpoint_bytes, slot_bytes, value_bytes}
 use Rattle.ob_tables.proofs.TextLaws.{content_once, content_length, value_same}
 use Rattle.ob_ring.specs.FlatTable.{Spot, InStash, In, spot_of}
-use Rattle.ob_epoch.specs.Takes.{is_present}
-use Rattle.ob_epoch.specs.Values.{Values}
-use Rattle.ob_epoch.proofs.Planned.{past_none}
-use Rattle.ob_epoch.specs.Table.{flat_of}
-use Rattle.ob_epoch.proofs.Reading.{holds}
-use Rattle.ob_epoch.proofs.Standing.{contents_carry}
+use Rattle.ob_stand.specs.Takes.{is_present}
+use Rattle.ob_stand.specs.Values.{Values}
+use Rattle.ob_stand.proofs.Planned.{past_none}
+use Rattle.ob_stand.specs.Table.{flat_of}
+use Rattle.ob_stand.proofs.Reading.{holds}
+use Rattle.ob_stand.proofs.Standing.{contents_carry}
 use Rattle.ob_serial.specs.Vaults.{Standing}
 use Rattle.ob_stand.specs.Stands.{HoldsCheckpoint, HoldsSlots, ring_standing, cell_at}
 use Rattle.ob_stand.specs.Once.{StandsOnce, RingStandsOnce, StandsKnown}

@@ -12,11 +12,11 @@ use Rattle.ob_seal.specs.Seals.{identity_bytes, tag_of, sealed, sealed_front, st
 use Rattle.ob_seal.proofs.PadLemmas.{length-xored, xored_twice}
 use Rattle.ob_tables.specs.Version.{key_at, rank_at, used_at}
 use Rattle.ob_tables.specs.Buckets.{version_at}
-use Rattle.ob_epoch.specs.Numbers.{IsKnown}
-use Rattle.ob_epoch.specs.Values.{with_entries}
-use Rattle.ob_epoch.specs.Valued.{IsSlotOf, content_with}
-use Rattle.ob_epoch.proofs.Ending.{ends_follow}
-use Rattle.ob_epoch.specs.Ends.{IsNext}
+use Rattle.ob_stand.specs.Numbers.{IsKnown}
+use Rattle.ob_stand.specs.Values.{with_entries}
+use Rattle.ob_stand.specs.Valued.{IsSlotOf, content_with}
+use Rattle.ob_stand.proofs.Ending.{ends_follow}
+use Rattle.ob_stand.specs.EpochEnds.{IsNext}
 use Rattle.ob_stand.specs.Reads.{SealedAreOpened, StandsValued, RunsEnd, slots_in}
 use Rattle.ob_stand.specs.Stands.{RingStanding, Stands, cell_at}
 use Rattle.ob_stand.proofs.OnceLaws.{bucket_low, index_low}

@@ -11,12 +11,12 @@ use Rattle.ob_tables.specs.Buckets.{version_at}
 use Rattle.ob_tables.proofs.VersionLaws.{ranks_are}
 use Rattle.ob_tables.specs.Content.{Content}
 use Rattle.ob_ring.proofs.Rows.{p0}
-use Rattle.ob_epoch.specs.ValueSamples.{numbers_of}
-use Rattle.ob_epoch.specs.Idle.{idle_order, idle_run}
-use Rattle.ob_epoch.specs.Ends.{IsNext}
-use Rattle.ob_epoch.specs.ContentSamples.{ended, formatted}
-use Rattle.ob_epoch.specs.Valued.{content_with}
-use Rattle.ob_epoch.proofs.Idling.{idled}
+use Rattle.ob_stand.specs.ValueSamples.{numbers_of}
+use Rattle.ob_stand.specs.Idle.{idle_order, idle_run}
+use Rattle.ob_stand.specs.EpochEnds.{IsNext}
+use Rattle.ob_stand.specs.ContentSamples.{ended, formatted}
+use Rattle.ob_stand.specs.Valued.{content_with}
+use Rattle.ob_stand.proofs.Idling.{idled}
 use Rattle.ob_stand.specs.Fresh.{fresh_content}
 use Rattle.ob_stand.specs.Samples.{IdleEnd, IsAmong, ImagesSampled, ranks_in_order, sample_numbers}
 use Rattle.ob_stand.specs.Spare.{IsOtherHome, IsSpare}

@@ -8,8 +8,8 @@ use Rattle.std.specs.FinMap.{get-insert, get-remove}
 use Rattle.std.proofs.Common.{refl, sym, ap, ◌∙◌, subst, ⊎_elim}
 use Rattle.std.proofs.lemmas.Bool.{cases_eq, eq-eqb, ne_eqb}
 use Rattle.ob_tables.proofs.RowLaws.{ties, differs}
-use Rattle.ob_epoch.specs.Values as taken
-use Rattle.ob_epoch.specs.Values.{Values, with_write}
+use Rattle.ob_stand.specs.Values as taken
+use Rattle.ob_stand.specs.Values.{Values, with_write}
 use Rattle.ob_serial.specs.Serial.{Map, after_op}
 use Rattle.ob_base.specs.Writes.{write_op}
 use Rattle.ob_serial.specs.Vaults.{Standing}

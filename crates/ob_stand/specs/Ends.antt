@@ -13,9 +13,9 @@ use Rattle.ob_tables.specs.Version.{used_at}
 use Rattle.ob_tables.specs.Buckets.{version_at}
 use Rattle.ob_tables.specs.Content.{Content}
 use Rattle.ob_schedule.specs.Paths.{is_one_of}
-use Rattle.ob_epoch.specs.Values.{Values}
-use Rattle.ob_epoch.specs.Carries.{Slots}
-use Rattle.ob_epoch.specs.Ends.{IsNext}
+use Rattle.ob_stand.specs.Values.{Values}
+use Rattle.ob_stand.specs.Carries.{Slots}
+use Rattle.ob_stand.specs.EpochEnds.{IsNext}
 use Rattle.ob_stand.specs.Stands.{RingStanding, HoldsCheckpoint, SpellsSlot, HoldsRest, Stands, OneOf}
 use Rattle.ob_stand.specs.Spare.{Spare, SameButIn}
 

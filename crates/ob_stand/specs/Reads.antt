@@ -9,13 +9,13 @@ use Rattle.ob_seal.specs.Pads.{pad_of, xored}
 use Rattle.ob_seal.specs.Seals.{sealed}
 use Rattle.ob_tables.specs.Content.{Content, Rows}
 use Rattle.ob_tables.specs.declared.entry.Entry.{Entry}
-use Rattle.ob_epoch.specs.Values.{with_entries}
-use Rattle.ob_epoch.specs.Carries.{Slots}
-use Rattle.ob_epoch.specs.Epochs.{Read, IsEpoch}
-use Rattle.ob_epoch.specs.Runs.{Plains, slots_of}
-use Rattle.ob_epoch.specs.Ends.{RefillRun, IsRunFrom}
-use Rattle.ob_epoch.specs.Table.{flat_of}
-use Rattle.ob_epoch.specs.Valued.{IsValued, content_with}
+use Rattle.ob_stand.specs.Values.{with_entries}
+use Rattle.ob_stand.specs.Carries.{Slots}
+use Rattle.ob_stand.specs.Epochs.{Read, IsEpoch}
+use Rattle.ob_stand.specs.Runs.{Plains, slots_of}
+use Rattle.ob_stand.specs.EpochEnds.{RefillRun, IsRunFrom}
+use Rattle.ob_stand.specs.Table.{flat_of}
+use Rattle.ob_stand.specs.Valued.{IsValued, content_with}
 use Rattle.ob_stand.specs.Ends.{RingEnd, IsEndOf}
 use Rattle.ob_stand.specs.Stands.{RingStanding, Stands}
 

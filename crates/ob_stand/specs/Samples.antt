@@ -3,10 +3,10 @@ use Rattle.std.specs.Prelude.{◌≡◌, ◌⊎◌, ◌↔◌, ◌≤◌, ℕ, L
 use Rattle.std.specs.declared.option.Option.TheVariants.{None}
 use Rattle.ob_base.specs.declared.params.Params.{Params}
 use Rattle.ob_tables.specs.Content.{Content}
-use Rattle.ob_epoch.specs.Carries.{Slots}
-use Rattle.ob_epoch.specs.ValueSamples.{numbers_of}
-use Rattle.ob_epoch.specs.Idle.{idle_order}
-use Rattle.ob_epoch.specs.ContentSamples.{ended, formatted}
+use Rattle.ob_stand.specs.Carries.{Slots}
+use Rattle.ob_stand.specs.ValueSamples.{numbers_of}
+use Rattle.ob_stand.specs.Idle.{idle_order}
+use Rattle.ob_stand.specs.ContentSamples.{ended, formatted}
 use Rattle.ob_stand.specs.Ends.{IsEndOf}
 use Rattle.ob_stand.specs.Fresh.{Ranks, AreRanked, fresh_content, fresh_standing}
 use Rattle.ob_stand.specs.Spare.{IsSpare}

@@ -6,7 +6,7 @@ use Rattle.ob_store.specs.Images.{IsSynced, LeavesOnly}
 use Rattle.ob_seal.specs.declared.keys.Keys.{Keys}
 use Rattle.ob_log.specs.Logs.{BatchRecord}
 use Rattle.ob_tables.specs.Content.{Content}
-use Rattle.ob_epoch.specs.Values.{Values}
+use Rattle.ob_stand.specs.Values.{Values}
 use Rattle.ob_stand.specs.Stands.{RingStanding, Stands, OneOf}
 
 -- an epoch with its map and the content of its checkpoint

@@ -18,10 +18,10 @@ use Rattle.ob_tables.specs.Version.{Version, rank_at, used_at}
 use Rattle.ob_tables.specs.Buckets.{version_at}
 use Rattle.ob_tables.specs.Content.{Content, Obeys}
 use Rattle.ob_tables.specs.Spelling.{checkpoint_bytes}
-use Rattle.ob_epoch.specs.Values.{Values}
-use Rattle.ob_epoch.specs.Carries.{Slots}
-use Rattle.ob_epoch.specs.Numbers.{IsKnown}
-use Rattle.ob_epoch.specs.Valued.{IsValued}
+use Rattle.ob_stand.specs.Values.{Values}
+use Rattle.ob_stand.specs.Carries.{Slots}
+use Rattle.ob_stand.specs.Numbers.{IsKnown}
+use Rattle.ob_stand.specs.Valued.{IsValued}
 use Rattle.ob_serial.specs.Vaults.{Standing}
 
 -- The last epoch that ended and the generation of the last run, the map after the epoch, what its checkpoint keeps, and the records of

@@ -7,7 +7,7 @@ use Rattle.ob_base.specs.declared.value.Write.{Write}
 use Rattle.ob_store.specs.Disk.{Image}
 use Rattle.ob_seal.specs.declared.keys.Keys.{Keys}
 use Rattle.ob_tables.specs.declared.entry.Entry.{Entry}
-use Rattle.ob_epoch.specs.Values as taken
+use Rattle.ob_stand.specs.Values as taken
 use Rattle.ob_serial.specs.Serial.{Map}
 use Rattle.ob_serial.specs.Vaults as vault
 use Rattle.ob_serial.specs.Vaults.{Standing}

@@ -1,7 +1,7 @@
 use Rattle.std.proofs.Common.{◌≤◌, List, Ok, Err, ap, arith, length, subst, sym, ◌∙◌}
 use Rattle.ob_base.specs.Planned.{most_jobs}
 use Rattle.ob_log.specs.Logs.{BatchRecord, RecordsFit}
-use Rattle.ob_epoch.specs.Table.{flat_of}
+use Rattle.ob_stand.specs.Table.{flat_of}
 use Rattle.ob_ring.specs.Ring.{Kept, StandsFor}
 use Rattle.ob_recover.specs.Repeats.{content_of_ring}
 use Rattle.ob_recover.specs.Fits.{IsPlannerFit}

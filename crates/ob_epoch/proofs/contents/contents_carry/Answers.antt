@@ -1,5 +1,0 @@
-use Rattle.ob_epoch.proofs.Standing as laws
-use Rattle.ob_epoch.proofs.contents.contents_carry.Goals as goal
-
-pub returns : goal.returns
-returns c = laws.contents_carry

@@ -1,5 +1,0 @@
-use Rattle.ob_epoch.proofs.Numbers as laws
-use Rattle.ob_epoch.proofs.contents.renewed_fit.Goals as goal
-
-pub returns : goal.returns
-returns c = laws.renewed_fit

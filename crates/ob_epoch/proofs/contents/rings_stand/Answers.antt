@@ -1,5 +1,0 @@
-use Rattle.ob_epoch.proofs.Reading as laws
-use Rattle.ob_epoch.proofs.contents.rings_stand.Goals as goal
-
-pub returns : goal.returns
-returns c = laws.rings_stand

@@ -1,5 +1,0 @@
-use Rattle.ob_epoch.proofs.Meeting as laws
-use Rattle.ob_epoch.proofs.values.epochs_are_met.Goals as goal
-
-pub returns : goal.returns
-returns c = laws.epochs_are_met

@@ -1,5 +1,0 @@
-use Rattle.ob_epoch.proofs.Epochs as laws
-use Rattle.ob_epoch.proofs.values.epochs_follow.Goals as goal
-
-pub returns : goal.returns
-returns c = laws.epochs_follow

@@ -1,5 +1,0 @@
-use Rattle.ob_epoch.proofs.Steps as laws
-use Rattle.ob_epoch.proofs.values.fetch_is_answered.Goals as goal
-
-pub returns : goal.returns
-returns c = laws.fetch_is_answered

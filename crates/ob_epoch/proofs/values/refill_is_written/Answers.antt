@@ -1,5 +1,0 @@
-use Rattle.ob_epoch.proofs.Planned as laws
-use Rattle.ob_epoch.proofs.values.refill_is_written.Goals as goal
-
-pub returns : goal.returns
-returns c = laws.refill_is_written

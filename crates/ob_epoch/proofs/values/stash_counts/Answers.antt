@@ -1,5 +1,0 @@
-use Rattle.ob_epoch.proofs.Counted as laws
-use Rattle.ob_epoch.proofs.values.stash_counts.Goals as goal
-
-pub returns : goal.returns
-returns c = laws.stash_counts

@@ -1,5 +1,0 @@
-use Rattle.ob_stand.proofs.Laws as laws
-use Rattle.ob_stand.proofs.end_writes_stay.Goals as goal
-
-pub returns : goal.returns
-returns c = laws.end_writes_stay
