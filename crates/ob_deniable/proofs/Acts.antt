@@ -4,8 +4,8 @@ use Rattle.std.proofs.Common.{zero, suc, arith, refl, sym, ap, subst, ◌∙◌,
 use Rattle.std.proofs.lemmas.Bool.{false≢true, cases_lt, cases_eq}
 use Rattle.std.proofs.lemmas.List.{map-append, length-map}
 use Rattle.ob_base.specs.declared.params.Params.{Params}
-use Rattle.ob_ring_trace.specs.Life.{WordId, LifeBatch, LifeState, LifeAct, Open, Append, ShowBatch, ShowLifts, End, LabelFill, SlotFill, IsActAllowed, IsLife, batch_places, book_after, phase_labels, life_labels, labels_shown, slots_shown, life_step, table_now, book_now}
-use Rattle.ob_ring_trace.proofs.LifeSlots.{AreSlotsSound, slots_keep}
+use Rattle.ob_recover.specs.Life.{WordId, LifeBatch, LifeState, LifeAct, Open, Append, ShowBatch, ShowLifts, End, LabelFill, SlotFill, IsActAllowed, IsLife, batch_places, book_after, phase_labels, life_labels, labels_shown, slots_shown, life_step, table_now, book_now}
+use Rattle.ob_recover.proofs.LifeSlots.{AreSlotsSound, slots_keep}
 use Rattle.ob_deniable.specs.Works.{LifeWork, Opens, Logs, Shows, Lifts, Ends, VersionSlots, acts_of, SameShape}
 use Rattle.ob_deniable.proofs.Pairs.{rows_split}
 use Rattle.ob_deniable.proofs.Shapes.{label_name, SameHoles, logs_push, logs_long, names_shown}

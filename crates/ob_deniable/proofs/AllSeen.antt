@@ -3,7 +3,7 @@ use Rattle.std.specs.Prelude.{◌≡◌, ℕ, ◌+◌, ◌<◌, List, [], ◌∷
 use Rattle.std.proofs.Common.{refl, sym, ap, ◌∙◌}
 use Rattle.std.proofs.lemmas.List.{length-map}
 use Rattle.ob_base.specs.declared.params.Params.{Params}
-use Rattle.ob_ring_trace.specs.Life.{WordId, LifeBatch, LifeState, Open, Append, ShowBatch, ShowLifts, End, LabelFill, SlotFill, IsLife, labels_shown, slots_shown, life_step, leaf_of_word, formatted_life}
+use Rattle.ob_recover.specs.Life.{WordId, LifeBatch, LifeState, Open, Append, ShowBatch, ShowLifts, End, LabelFill, SlotFill, IsLife, labels_shown, slots_shown, life_step, leaf_of_word, formatted_life}
 use Rattle.ob_deniable.specs.Works.{LifeWork, Opens, Logs, Shows, Lifts, Ends, VersionSlots, acts_of, SameShape, SeenHole, Leaf, Place, seen_label, seen_slot, seen_of_acts}
 use Rattle.ob_deniable.specs.Telling.{ActFills, leaf_fill, fills_of_acts, SeenIsAll}
 use Rattle.ob_deniable.proofs.Pairs.{cons_head, cons_tail, nil_cons, rows_split}

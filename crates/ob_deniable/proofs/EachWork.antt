@@ -2,7 +2,7 @@
 use Rattle.std.specs.Prelude.{◌≡◌, ℕ, ◌+◌, ◌≤◌, ◌==◌, cond, false, List, [], ◌∷◌}
 use Rattle.std.proofs.Common.{arith, refl, ap, ◌∙◌}
 use Rattle.std.proofs.lemmas.Bool.{eq-eqb, ne_eqb}
-use Rattle.ob_ring_trace.specs.Life.{LifeAct, Open, Append, ShowBatch, ShowLifts, End}
+use Rattle.ob_recover.specs.Life.{LifeAct, Open, Append, ShowBatch, ShowLifts, End}
 use Rattle.ob_deniable.specs.Works.{LifeWork, Opens, Logs, Shows, Lifts, Ends, VersionSlots, acts_of}
 use Rattle.ob_deniable.specs.Telling.{LivesAreWorks}
 

@@ -4,9 +4,9 @@ use Rattle.std.proofs.Common.{refl, sym, ap, subst, ◌∙◌, inl, arith}
 use Rattle.std.proofs.lemmas.Bool.{lt-leb}
 use Rattle.ob_base.specs.declared.params.Params.{Params}
 use Rattle.ob_base.specs.Repeats.{Has}
-use Rattle.ob_ring_trace.specs.Life.{WordId, LifeState, SlotFill, life_labels, formatted_life}
-use Rattle.ob_ring_trace.proofs.EndLaws.{none_counted}
-use Rattle.ob_ring_trace.proofs.FreshLaws.{slots_formatted}
+use Rattle.ob_recover.specs.Life.{WordId, LifeState, SlotFill, life_labels, formatted_life}
+use Rattle.ob_recover.proofs.EndLaws.{none_counted}
+use Rattle.ob_recover.proofs.FreshLaws.{slots_formatted}
 use Rattle.ob_deniable.specs.Moved.{PermutesBelow, Undo}
 use Rattle.ob_deniable.specs.Works.{own_slots, LifeWork, Opens, Logs, Shows, Lifts, Ends, VersionSlots, acts_of, HasShapeOf, SameShape, AreWritesDrawn, IsLifeOf, seen_of_work, words_moved, slots_moved, Exchange, Inverts, LivesExchange}
 use Rattle.ob_deniable.specs.Telling.{IsFormatRanked}

@@ -4,8 +4,8 @@ use Rattle.std.proofs.Common.{refl, sym, ap, subst, ◌∙◌}
 use Rattle.std.proofs.lemmas.Bool.{eqb-true, eq-eqb, and_parts, and_from}
 use Rattle.ob_base.specs.declared.params.Params.{Params}
 use Rattle.ob_base.specs.Repeats.{Has}
-use Rattle.ob_ring_trace.specs.Life.{WordId, LabelFill, HolesAreFresh, life_labels, life_slots, leaf_of_word, formatted_life}
-use Rattle.ob_ring_trace.proofs.FreshLaws.{lives_are_fresh}
+use Rattle.ob_recover.specs.Life.{WordId, LabelFill, HolesAreFresh, life_labels, life_slots, leaf_of_word, formatted_life}
+use Rattle.ob_recover.proofs.FreshLaws.{lives_are_fresh}
 use Rattle.ob_deniable.specs.Works.{LifeWork, own_slots, labels_in, IsShown, VersionSlots, acts_of, SameShape, IsLifeOf, words_moved}
 use Rattle.ob_deniable.proofs.Swaps.{IsEquality, exchanged, turned, IsMatching, side_by_side, has_paired, exchanged_undo, exchanged_each, exchanged_stays}
 use Rattle.ob_deniable.proofs.Pairs.{has_mapped, mapped_has, names_paired, rows_equal, turned_paired}

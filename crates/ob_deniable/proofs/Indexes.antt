@@ -6,9 +6,9 @@ use Rattle.std.proofs.lemmas.List.{map-append, length-map}
 use Rattle.ob_tables.specs.Rank.{IsRanking}
 use Rattle.ob_base.specs.declared.params.Params.{Params}
 use Rattle.ob_base.specs.Repeats.{Has}
-use Rattle.ob_ring_trace.specs.Life.{WordId, LifeState, LifeAct, LabelFill, SlotFill, HolesAreFresh, life_labels, life_slots, slots_shown, life_step, formatted_life}
-use Rattle.ob_ring_trace.proofs.FreshLaws.{lives_are_fresh, slots_formatted}
-use Rattle.ob_ring_trace.proofs.LifeSlots.{AreSlotsSound}
+use Rattle.ob_recover.specs.Life.{WordId, LifeState, LifeAct, LabelFill, SlotFill, HolesAreFresh, life_labels, life_slots, slots_shown, life_step, formatted_life}
+use Rattle.ob_recover.proofs.FreshLaws.{lives_are_fresh, slots_formatted}
+use Rattle.ob_recover.proofs.LifeSlots.{AreSlotsSound}
 use Rattle.ob_deniable.specs.Moved.{Undo}
 use Rattle.ob_deniable.specs.Works.{own_slots, LifeWork, VersionSlots, Leaf, Place, acts_of, IsLifeOf, slots_moved, seen_label}
 use Rattle.ob_deniable.proofs.Swaps.{IsEquality, swapped, exchanged, turned, IsMatching, side_by_side, has_paired, exchanged_undo, exchanged_each}

@@ -5,7 +5,7 @@ use Rattle.std.proofs.lemmas.List.{map-append, length-map}
 use Rattle.ob_tables.specs.Rank.{IsRanking}
 use Rattle.ob_base.specs.declared.params.Params.{Params}
 use Rattle.ob_ring.specs.FlatTable.{FinalLifts, Writes, Refill, after}
-use Rattle.ob_ring_trace.specs.Life.{WordId, LifeBatch, LifeState, Open, Append, ShowBatch, ShowLifts, End, LabelFill, AreDrawn, IsLife, is_table_lifted, leaf_write, life_labels, labels_shown, life_step, table_after, table_now, book_now}
+use Rattle.ob_recover.specs.Life.{WordId, LifeBatch, LifeState, Open, Append, ShowBatch, ShowLifts, End, LabelFill, AreDrawn, IsLife, is_table_lifted, leaf_write, life_labels, labels_shown, life_step, table_after, table_now, book_now}
 use Rattle.ob_deniable.specs.Works.{own_slots, LifeWork, Opens, Logs, Shows, Lifts, Ends, VersionSlots, acts_of, SameShape}
 use Rattle.ob_deniable.proofs.Pairs.{rows_split}
 use Rattle.ob_deniable.proofs.Shapes.{label_name, names_shown}

@@ -7,10 +7,10 @@ use Rattle.ob_base.specs.Repeats.{Has}
 use Rattle.ob_base.proofs.Repeats.{has_cases}
 use Rattle.ob_schedule.specs.Paths.{eviction_path}
 use Rattle.ob_ring.specs.FlatTable.{FlatTable, Shown, FinalLifts, Writes, Refill, after, after_batch, batch_shown, final_shown}
-use Rattle.ob_ring_trace.specs.Life.{WordId, LifeBatch, LifeContent, LifeState, LifeAct, Open, Append, ShowBatch, ShowLifts, End, LabelFill, SlotFill, IsLife, batch_places, book_after_log, book_written}
-use Rattle.ob_ring_trace.specs.Life.{is_table_lifted, leaf_write, leaves, phase_slots, lift_slots, slot_fill, slots_of, labels_shown, slots_shown, life_slots, life_step, phase_labels, table_after}
-use Rattle.ob_ring_trace.specs.Life.{table_now}
-use Rattle.ob_ring_trace.proofs.LifeSlots.{AreSlotsSound, slots_keep, life_planned}
+use Rattle.ob_recover.specs.Life.{WordId, LifeBatch, LifeContent, LifeState, LifeAct, Open, Append, ShowBatch, ShowLifts, End, LabelFill, SlotFill, IsLife, batch_places, book_after_log, book_written}
+use Rattle.ob_recover.specs.Life.{is_table_lifted, leaf_write, leaves, phase_slots, lift_slots, slot_fill, slots_of, labels_shown, slots_shown, life_slots, life_step, phase_labels, table_after}
+use Rattle.ob_recover.specs.Life.{table_now}
+use Rattle.ob_recover.proofs.LifeSlots.{AreSlotsSound, slots_keep, life_planned}
 use Rattle.ob_deniable.specs.Works.{own_slots, LifeWork, Opens, Logs, Shows, Lifts, Ends, VersionSlots, acts_of, SeenHole, Place, seen_label, seen_slot, seen_of_acts}
 use Rattle.ob_deniable.proofs.Pairs.{has_mapped}
 use Rattle.ob_deniable.proofs.Acts.{rows}

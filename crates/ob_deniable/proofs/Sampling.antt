@@ -2,7 +2,7 @@
 use Rattle.std.specs.Prelude.{◌≡◌, ℕ, ◌<◌, [], ◌∷◌, map, length, slice_index}
 use Rattle.std.proofs.Common.{refl, ap, ◌∙◌, arith}
 use Rattle.ob_ring.proofs.Rows.{p0}
-use Rattle.ob_ring_trace.specs.Life.{WordId, LabelFill, leaf_of_word}
+use Rattle.ob_recover.specs.Life.{WordId, LabelFill, leaf_of_word}
 use Rattle.ob_deniable.specs.Works.{VersionSlots, own_slots, SameShape, AreWritesDrawn, IsLifeOf, labels_in, seen_of_work, slots_moved, words_moved, Exchange}
 use Rattle.ob_deniable.specs.Samples.{word, asking, padding, asking_again, padding_again, stray, ended_once, begun_again, tape, leaves_in, places_in, all_of, Sampled}
 use Rattle.ob_deniable.proofs.Swaps.{all_swapped, exchanged}

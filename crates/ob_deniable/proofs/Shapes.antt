@@ -5,7 +5,7 @@ use Rattle.std.proofs.lemmas.List.{map-append}
 use Rattle.ob_tables.specs.Rank.{IsRanking}
 use Rattle.ob_base.specs.declared.params.Params.{Params}
 use Rattle.ob_ring.specs.FlatTable.{after_label}
-use Rattle.ob_ring_trace.specs.Life.{WordId, LifeBatch, LifeState, Open, Append, ShowBatch, ShowLifts, End, LabelFill, AreDrawn, IsLife, next_word, with_words, batch_places, labels_of, book_after, book_after_log, book_written, phase_labels, life_labels, labels_shown, life_step}
+use Rattle.ob_recover.specs.Life.{WordId, LifeBatch, LifeState, Open, Append, ShowBatch, ShowLifts, End, LabelFill, AreDrawn, IsLife, next_word, with_words, batch_places, labels_of, book_after, book_after_log, book_written, phase_labels, life_labels, labels_shown, life_step}
 use Rattle.ob_deniable.specs.Works.{LifeWork, Opens, Logs, Shows, Lifts, Ends, VersionSlots, acts_of, SameShape, AreWritesDrawn}
 
 -- each version's slots are a ranking, filled or not

@@ -12,11 +12,11 @@ use Rattle.ob_ring.specs.FlatTable.{refill_order}
 use Rattle.ob_ring.specs.News.{Marks}
 use Rattle.ob_ring.specs.Sound.{IsSound, IsCounted, hole_of}
 use Rattle.ob_ring.proofs.Batches.{BatchLaw, batch_law, FinalLaw, final_law, final_holes_law}
-use Rattle.ob_ring_trace.specs.Life.{WordId, LifeBatch, LifeContent, LifeState, LabelFill, SlotFill, batch_places, labels_of, book_after, book_after_log, book_written, leaf_of_word, leaf_write, leaves, phase_labels, phase_slots, lift_slots, slots_of, table_after, table_now, book_now}
-use Rattle.ob_ring_trace.proofs.BookLaws.{IsBookOf, book_batch, book_end, label_leaves}
-use Rattle.ob_ring_trace.proofs.EndLaws.{EndLaw, end_law, ended_table, up_of, count_ended}
-use Rattle.ob_ring_trace.proofs.LifeSlots.{AreSlotsSound, puts_low}
-use Rattle.ob_ring_trace.proofs.Ending.{batch_counter}
+use Rattle.ob_recover.specs.Life.{WordId, LifeBatch, LifeContent, LifeState, LabelFill, SlotFill, batch_places, labels_of, book_after, book_after_log, book_written, leaf_of_word, leaf_write, leaves, phase_labels, phase_slots, lift_slots, slots_of, table_after, table_now, book_now}
+use Rattle.ob_recover.proofs.BookLaws.{IsBookOf, book_batch, book_end, label_leaves}
+use Rattle.ob_recover.proofs.EndLaws.{EndLaw, end_law, ended_table, up_of, count_ended}
+use Rattle.ob_recover.proofs.LifeSlots.{AreSlotsSound, puts_low}
+use Rattle.ob_recover.proofs.Ending.{batch_counter}
 use Rattle.ob_stand.proofs.Counts.{fills_counter, writes_counter}
 use Rattle.ob_deniable.proofs.Shapes.{AreLogsAlike}
 

@@ -6,7 +6,7 @@ use Rattle.std.proofs.lemmas.List.{get_or_past}
 use Rattle.std.proofs.lemmas.List.FromFn.{length-map-range_with_len, get_or-map-range_with_len}
 use Rattle.ob_base.specs.declared.params.Params.{Params}
 use Rattle.ob_tables.specs.Rank.{ranks_of}
-use Rattle.ob_ring_trace.specs.Life.{WordId}
+use Rattle.ob_recover.specs.Life.{WordId}
 use Rattle.ob_deniable.specs.Moved.{PermutesBelow, AreMoved}
 use Rattle.ob_deniable.specs.Works.{LifeWork, VersionSlots, IsLifeOf, seen_of_work, words_moved, slots_moved, Exchange}
 use Rattle.ob_deniable.specs.Words.{SlotWords, AreUntied, slots_of_words, slot_words_moved, WordsExchange}

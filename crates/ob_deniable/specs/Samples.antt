@@ -2,7 +2,7 @@
 use Rattle.std.specs.Prelude.{◌≡◌, ℕ, ◌+◌, ◌*◌, List, [], ◌∷◌, ◌++◌, Option, None, Some}
 use Rattle.ob_base.specs.declared.params.Params.{Params}
 use Rattle.ob_stand.specs.ValueSamples.{numbers_of}
-use Rattle.ob_ring_trace.specs.Life.{WordId}
+use Rattle.ob_recover.specs.Life.{WordId}
 use Rattle.ob_deniable.specs.Works.{LifeWork, Opens, Logs, Shows, Lifts, Ends, own_slots, SameShape, SeenHole, Leaf, Place, IsLifeOf, seen_of_work, words_moved, Exchange}
 
 abbrev pub word : ℕ → ℕ → WordId

@@ -2,7 +2,7 @@
 use Rattle.std.specs.Prelude.{◌≡◌, ℕ, ◌+◌, ◌<◌, List, [], ◌∷◌, map}
 use Rattle.ob_tables.specs.Rank.{IsRanking}
 use Rattle.ob_base.specs.declared.params.Params.{Params}
-use Rattle.ob_ring_trace.specs.Life.{WordId, LifeAct, LifeState, LabelFill, SlotFill, labels_shown, slots_shown, life_step, leaf_of_word, formatted_life}
+use Rattle.ob_recover.specs.Life.{WordId, LifeAct, LifeState, LabelFill, SlotFill, labels_shown, slots_shown, life_step, leaf_of_word, formatted_life}
 use Rattle.ob_deniable.specs.Works.{LifeWork, VersionSlots, SameShape, IsLifeOf, acts_of, seen_of_work}
 
 -- a label hole, and the leaf that it shows

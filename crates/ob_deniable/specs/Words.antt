@@ -3,7 +3,7 @@ use Rattle.std.specs.Prelude.{◌≡◌, ℕ, ◌+◌, List, map, length, slice_
 use Rattle.std.specs.List.{range_with_len}
 use Rattle.ob_base.specs.declared.params.Params.{Params}
 use Rattle.ob_tables.specs.Rank.{ranks_of}
-use Rattle.ob_ring_trace.specs.Life.{WordId}
+use Rattle.ob_recover.specs.Life.{WordId}
 use Rattle.ob_deniable.specs.Moved.{HasNoTie}
 use Rattle.ob_deniable.specs.Works.{LifeWork, SeenHole, VersionSlots, IsLifeOf, seen_of_work, words_moved, Exchange}
 

@@ -3,7 +3,7 @@ use Rattle.std.specs.Prelude.{◌≡◌, ℕ, ◌+◌, ◌<◌, List, [], ◌∷
 use Rattle.ob_base.specs.Repeats.{Has}
 use Rattle.ob_tables.specs.Rank.{IsRanking}
 use Rattle.ob_base.specs.declared.params.Params.{Params}
-use Rattle.ob_ring_trace.specs.Life.{WordId, LifeAct, Open, Append, ShowBatch, ShowLifts, End, LifeState, LabelFill, SlotFill, AreDrawn, IsLife, life_labels, leaf_of_word, labels_shown, slots_shown, life_step, formatted_life}
+use Rattle.ob_recover.specs.Life.{WordId, LifeAct, Open, Append, ShowBatch, ShowLifts, End, LifeState, LabelFill, SlotFill, AreDrawn, IsLife, life_labels, leaf_of_word, labels_shown, slots_shown, life_step, formatted_life}
 use Rattle.ob_deniable.specs.Moved.{PermutesBelow, Undo}
 
 -- What a life's acts say but for the effects of words: an opening, a record of what is asked for with its first word, a batch shown, lifts shown, an end.

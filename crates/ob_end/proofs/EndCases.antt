@@ -12,7 +12,7 @@ use Rattle.ob_fetch.specs.Fetches.{RunIsAt}
 use Rattle.ob_recover.specs.Repeats.{BatchIsShown}
 use Rattle.ob_ring.specs.FlatTable.{FlatTable}
 use Rattle.ob_ring.specs.Ring.{Kept}
-use Rattle.ob_ring_trace.specs.Ends.{gates_ended}
+use Rattle.ob_recover.specs.Ends.{gates_ended}
 use Rattle.ob_seal.specs.Sealing.{Sealing}
 use Rattle.ob_seal.specs.declared.keys.Keys.{Keys}
 use Rattle.ob_serial.specs.VaultViews.{IsEndFault, IsStoreEnd}

@@ -21,8 +21,8 @@ use Rattle.ob_recover.specs.Repeats.{content_of_ring, table_after_records}
 use Rattle.ob_ring.specs.FlatTable.{FlatTable}
 use Rattle.ob_ring.specs.Ring.{Kept, StandsFor}
 use Rattle.ob_ring.specs.Writing.{entries_after, write_at}
-use Rattle.ob_ring_trace.specs.Ends.{gates_ended}
-use Rattle.ob_ring_trace.specs.Known.{PlansFrom, fills_with_lifts, public_of_kept}
+use Rattle.ob_recover.specs.Ends.{gates_ended}
+use Rattle.ob_recover.specs.Known.{PlansFrom, fills_with_lifts, public_of_kept}
 use Rattle.ob_schedule.specs.Schedule.{end_notes}
 use Rattle.ob_seal.specs.Sealing.{Sealing}
 use Rattle.ob_seal.specs.declared.keys.Keys.{Keys}

@@ -20,7 +20,7 @@ use Rattle.ob_ring.specs.FlatTable.{FlatTable, FinalLifts, Refill, Writes, after
 use Rattle.ob_ring.specs.Picked.{SameSeals}
 use Rattle.ob_ring.specs.Ring.{Kept, StandsFor}
 use Rattle.ob_ring.specs.Writing.{leaf_writes}
-use Rattle.ob_ring_trace.specs.Ends.{RefillsFrom}
+use Rattle.ob_recover.specs.Ends.{RefillsFrom}
 use Rattle.ob_stand.specs.Stands.{AreKnown}
 use Rattle.ob_tables.specs.Kept.{entry_at}
 use Rattle.ob_tables.specs.declared.entry.Entry.{Entry}

@@ -21,11 +21,11 @@ use Rattle.ob_ring.specs.Picked.{Picked, final_picked, job_of}
 use Rattle.ob_ring.specs.Ring.{Kept, StandsFor}
 use Rattle.ob_ring.specs.Writing.{write_at}
 use Rattle.ob_ring.proofs.PlanLaws.{job_same}
-use Rattle.ob_ring_trace.specs.Ends.{EndIsScheduled, closing_notes, ending_notes, gates_ended, refill_notes}
-use Rattle.ob_ring_trace.specs.Fronts.{AreFirstNotes}
-use Rattle.ob_ring_trace.specs.Known.{PlansFrom, fills_with_lifts, public_of_kept}
-use Rattle.ob_ring_trace.proofs.Ending.{ends_are_scheduled, lifts_are}
-use Rattle.ob_ring_trace.proofs.Once.{table_once}
+use Rattle.ob_recover.specs.Ends.{EndIsScheduled, closing_notes, ending_notes, gates_ended, refill_notes}
+use Rattle.ob_recover.specs.Fronts.{AreFirstNotes}
+use Rattle.ob_recover.specs.Known.{PlansFrom, fills_with_lifts, public_of_kept}
+use Rattle.ob_recover.proofs.Ending.{ends_are_scheduled, lifts_are}
+use Rattle.ob_recover.proofs.Once.{table_once}
 use Rattle.ob_schedule.specs.Paths.{eviction_path}
 use Rattle.ob_schedule.specs.Schedule.{Fills, Public, after_end, end_notes, log_gates, writes_of}
 use Rattle.ob_seal.specs.declared.keys.Keys.{Keys}

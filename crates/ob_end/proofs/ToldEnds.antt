@@ -5,9 +5,9 @@ use Rattle.ob_base.specs.declared.fault.Fault.{Fault}
 use Rattle.ob_base.specs.declared.fault.Fault.TheVariants as fault
 use Rattle.ob_base.specs.declared.job.Job.{Job}
 use Rattle.ob_recover.specs.Repeats.{BatchIsShown, NoneIsShown}
-use Rattle.ob_ring_trace.specs.Fronts.{AreFirstNotes}
-use Rattle.ob_ring_trace.specs.Telling.{IsFrontShown, IsRowShown}
-use Rattle.ob_ring_trace.proofs.Telling.{front_all, front_as, front_more, front_none, front_step, front_then, row_as, row_read, row_step, row_then}
+use Rattle.ob_recover.specs.Fronts.{AreFirstNotes}
+use Rattle.ob_recover.specs.Telling.{IsFrontShown, IsRowShown}
+use Rattle.ob_recover.proofs.Telling.{front_all, front_as, front_more, front_none, front_step, front_then, row_as, row_read, row_step, row_then}
 use Rattle.ob_serial.specs.declared.vault.EndErr.{EndErr}
 use Rattle.ob_serial.specs.declared.vault.EndErr.TheVariants as end
 use Rattle.ob_store.specs.Calls.{Notes}

@@ -23,7 +23,7 @@ use Rattle.ob_ring.specs.FlatTable.{FlatTable, FinalLifts, Refill, Writes, after
 use Rattle.ob_ring.specs.Picked.{SameSeals}
 use Rattle.ob_ring.specs.Ring.{IsListed, IsRing, Kept, StandsFor}
 use Rattle.ob_ring.specs.Writing.{entries_after, leaf_writes, writes_of}
-use Rattle.ob_ring_trace.specs.Known.{PlansFrom, public_of_kept}
+use Rattle.ob_recover.specs.Known.{PlansFrom, public_of_kept}
 use Rattle.ob_schedule.specs.Paths.{is_one_of}
 use Rattle.ob_schedule.specs.Schedule.{after_end}
 use Rattle.ob_seal.specs.declared.keys.Keys.{Keys}

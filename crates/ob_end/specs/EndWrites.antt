@@ -14,7 +14,7 @@ use Rattle.ob_stand.specs.Valued.{content_with}
 use Rattle.ob_ring.specs.Filling.{base_of}
 use Rattle.ob_ring.specs.Plain.{index_with, key_of_index, plain_for, without_buckets}
 use Rattle.ob_ring.specs.Ring.{Kept}
-use Rattle.ob_ring_trace.specs.Ends.{refill_notes}
+use Rattle.ob_recover.specs.Ends.{refill_notes}
 use Rattle.ob_schedule.specs.Paths.{is_one_of}
 use Rattle.ob_schedule.specs.Schedule.{log_gates, writes_of}
 use Rattle.ob_seal.specs.declared.keys.Keys.{Keys}

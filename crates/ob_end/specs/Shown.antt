@@ -2,7 +2,7 @@
 use Rattle.std.specs.Prelude.{◌≡◌, ◌⊎◌, ℕ, ◌-◌, ◌≤◌, List, [], take, length, Option, Result, Ok, Err}
 use Rattle.ob_base.specs.declared.fault.Fault.TheVariants as fault
 use Rattle.ob_base.specs.declared.params.Params.{Params}
-use Rattle.ob_ring_trace.specs.Telling.{IsFrontShown, IsRowShown}
+use Rattle.ob_recover.specs.Telling.{IsFrontShown, IsRowShown}
 use Rattle.ob_schedule.specs.Holes.{final_holes}
 use Rattle.ob_schedule.specs.Schedule.{Fills, Public, counts_now, hole_reads}
 use Rattle.ob_serial.specs.declared.vault.EndErr.{EndErr}

@@ -6,7 +6,7 @@ ghost use Rattle.ob_base.specs.Tree.{buckets, width};
 ghost use Rattle.ob_cells.specs.Writes.{Seals, WritesRun};
 ghost use Rattle.ob_pads.specs.Seals.{CellsAreSealed};
 ghost use Rattle.ob_ring.specs.Ring.{AreListedWithin};
-ghost use Rattle.ob_ring_trace.specs.Ends.{refill_notes};
+ghost use Rattle.ob_recover.specs.Ends.{refill_notes};
 ghost use Rattle.ob_stand.specs.Ends.{RingEnd};
 ghost use Rattle.ob_stand.specs.Stands.{RingStanding};
 ghost use Rattle.ob_store.specs.Calls.{IsFailed, Serves};

@@ -16,11 +16,11 @@ use Rattle.ob_ring.specs.FlatTable.{FlatTable, after_place, leaf_shown}
 use Rattle.ob_ring.specs.Picked.{SameSeals, place_picked}
 use Rattle.ob_ring.specs.Ring.{Kept, StandsFor}
 use Rattle.ob_ring.proofs.PlanLaws.{job_same}
-use Rattle.ob_ring_trace.specs.Known.{PlansFrom, fills_of, public_of_kept}
-use Rattle.ob_ring_trace.specs.Telling.{IsFrontShown, IsRowShown}
-use Rattle.ob_ring_trace.proofs.Batch.{batches_are_scheduled}
-use Rattle.ob_ring_trace.proofs.Once.{table_once}
-use Rattle.ob_ring_trace.proofs.Telling.{batch_read, front_as, front_none, front_step, front_then, row_as, row_read, row_step, row_then}
+use Rattle.ob_recover.specs.Known.{PlansFrom, fills_of, public_of_kept}
+use Rattle.ob_recover.specs.Telling.{IsFrontShown, IsRowShown}
+use Rattle.ob_recover.proofs.Batch.{batches_are_scheduled}
+use Rattle.ob_recover.proofs.Once.{table_once}
+use Rattle.ob_recover.proofs.Telling.{batch_read, front_as, front_none, front_step, front_then, row_as, row_read, row_step, row_then}
 use Rattle.ob_schedule.specs.Schedule.{batch_notes}
 use Rattle.ob_seal.specs.declared.keys.Keys.{Keys}
 use Rattle.ob_store.specs.Disk.{Disk}

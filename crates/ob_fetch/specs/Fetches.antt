@@ -18,7 +18,7 @@ use Rattle.ob_ring.specs.Fetching.{after_labels}
 use Rattle.ob_ring.specs.FlatTable.{Batch, FlatTable, after}
 use Rattle.ob_ring.specs.Picked.{SameSeals}
 use Rattle.ob_ring.specs.Ring.{Kept, StandsFor}
-use Rattle.ob_ring_trace.specs.Telling.{IsFrontShown, IsRowShown}
+use Rattle.ob_recover.specs.Telling.{IsFrontShown, IsRowShown}
 use Rattle.ob_seal.specs.declared.keys.Keys.{Keys}
 use Rattle.ob_stand.specs.Reads.{plains_in, slots_in}
 use Rattle.ob_stand.specs.Stands.{OneOf, RingStanding, Stands, with_record}

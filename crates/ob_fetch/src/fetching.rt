@@ -13,7 +13,7 @@ ghost use Rattle.ob_recover.specs.Repeats.{asked_of_record, batch_cells, repeate
 ghost use Rattle.ob_ring.specs.FlatTable.{FlatTable};
 ghost use Rattle.ob_ring.specs.Picked.{SameSeals};
 ghost use Rattle.ob_ring.specs.Ring.{StandsFor};
-ghost use Rattle.ob_ring_trace.specs.Known.{PlansFrom, fills_of, public_of_kept};
+ghost use Rattle.ob_recover.specs.Known.{PlansFrom, fills_of, public_of_kept};
 ghost use Rattle.ob_schedule.specs.Schedule.{batch_notes};
 ghost use Rattle.ob_serial.specs.Vaults.{AreBelow, AreDistinct};
 ghost use Rattle.ob_store.specs.Calls.{IsStoreFault, Serves};

@@ -23,10 +23,10 @@ use Rattle.ob_recover.specs.Repeats.{IsBatchDamage, content_of_ring, table_after
 use Rattle.ob_ring.specs.FlatTable.{FlatTable}
 use Rattle.ob_ring.specs.Picked.{SameSeals}
 use Rattle.ob_ring.specs.Ring.{StandsFor}
-use Rattle.ob_ring_trace.proofs.Batch.{batches_are_scheduled}
-use Rattle.ob_ring_trace.proofs.Orders.{record_written}
-use Rattle.ob_ring_trace.specs.Known.{PlansFrom, fills_of, fills_with_lifts, public_of_kept}
-use Rattle.ob_ring_trace.specs.Telling.{IsFrontShown, IsRowShown}
+use Rattle.ob_recover.proofs.Batch.{batches_are_scheduled}
+use Rattle.ob_recover.proofs.Orders.{record_written}
+use Rattle.ob_recover.specs.Known.{PlansFrom, fills_of, fills_with_lifts, public_of_kept}
+use Rattle.ob_recover.specs.Telling.{IsFrontShown, IsRowShown}
 use Rattle.ob_ring_vault.specs.RingVaults.{EndCalled, FetchCalled, HasPlanned, KeepsRun, Running, record_of_fetch, words_of_call, write_from, writes_of_end}
 use Rattle.ob_schedule.specs.Schedule.{Fills, Public, after_end, after_phase, batch_leaves, batch_notes, end_notes, record_notes}
 use Rattle.std.proofs.lemmas.Bool.{cases_lt}

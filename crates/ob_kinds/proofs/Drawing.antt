@@ -9,8 +9,8 @@ use Rattle.ob_recover.specs.Repeats.{content_of_ring, entries_after_records}
 use Rattle.ob_ring.specs.FlatTable.{FlatTable}
 use Rattle.ob_ring.specs.Ring.{StandsFor}
 use Rattle.ob_ring.specs.Writing.{entries_after}
-use Rattle.ob_ring_trace.proofs.Once.{table_once}
-use Rattle.ob_ring_trace.specs.Known.{fills_of, fills_with_lifts}
+use Rattle.ob_recover.proofs.Once.{table_once}
+use Rattle.ob_recover.specs.Known.{fills_of, fills_with_lifts}
 use Rattle.ob_ring_vault.specs.RingVaults.{EndCalled, HasPlanned, KeepsRun, Running, record_of_fetch, words_of_call}
 use Rattle.ob_store.specs.Disk.{Disk}
 use Rattle.ob_store.specs.declared.watch.Note.{Note}

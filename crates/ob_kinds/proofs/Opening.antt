@@ -8,7 +8,7 @@ use Rattle.ob_kinds.specs.Phases.{events_of_phases}
 use Rattle.ob_log.specs.Logs.{BatchRecord}
 use Rattle.ob_recover.specs.Finds.{IsFoundInRing}
 use Rattle.ob_recover.specs.declared.found.Found.{Found}
-use Rattle.ob_ring_trace.specs.Known.{fills_of, gates_open, public_of_kept}
+use Rattle.ob_recover.specs.Known.{fills_of, gates_open, public_of_kept}
 use Rattle.ob_ring_vault.proofs.Opened.{opened_at as run_is_at}
 use Rattle.ob_kinds.specs.RingLaws.{RingLeavesStanding, RingOpens, RingOpensAt, RingOpensStanding, found_ring}
 use Rattle.ob_schedule.specs.Schedule.{open_notes}

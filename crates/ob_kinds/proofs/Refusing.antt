@@ -16,8 +16,8 @@ use Rattle.ob_log.specs.Reads.{area_notes}
 use Rattle.ob_recover.specs.Finds.{IsFoundInRing, finding_notes}
 use Rattle.ob_recover.specs.Repeats.{ReadInTurn, asked_of_record, batch_cells, repeat_cells, repeat_notes, repeated_notes}
 use Rattle.ob_ring.specs.FlatTable.{Batch, FlatTable, after}
-use Rattle.ob_ring_trace.proofs.Telling.{batch_read, one_lane_in_order}
-use Rattle.ob_ring_trace.specs.Openings.{began_notes}
+use Rattle.ob_recover.proofs.Telling.{batch_read, one_lane_in_order}
+use Rattle.ob_recover.specs.ShownOpenings.{began_notes}
 use Rattle.ob_seal.specs.declared.keys.Keys.{Keys}
 use Rattle.ob_stand.specs.Stands.{Stands}
 use Rattle.ob_start.specs.Orders.{registers_notes}

@@ -17,7 +17,7 @@ use Rattle.ob_recover.specs.Repeats.{entries_after_records, table_after_records}
 use Rattle.ob_ring.specs.Filling.{words_of}
 use Rattle.ob_ring.specs.FlatTable.{FinalLifts, FlatTable, after, refill_order}
 use Rattle.ob_ring.specs.Writing.{entries_after}
-use Rattle.ob_ring_trace.specs.Known.{fills_of, fills_with_lifts}
+use Rattle.ob_recover.specs.Known.{fills_of, fills_with_lifts}
 use Rattle.ob_ring_vault.specs.RingVaults.{write_from}
 use Rattle.ob_schedule.specs.Paths.{is_one_of}
 use Rattle.ob_schedule.specs.Schedule.{Fills, record_notes}

@@ -14,7 +14,7 @@ use Rattle.ob_log.specs.Logs.{BatchRecord}
 use Rattle.ob_recover.specs.Finds.{IsFoundInRing}
 use Rattle.ob_recover.specs.Repeats.{IsPlannerOf}
 use Rattle.ob_recover.specs.declared.found.Found.{Found}
-use Rattle.ob_ring_trace.specs.Known.{public_of_kept}
+use Rattle.ob_recover.specs.Known.{public_of_kept}
 use Rattle.ob_schedule.specs.Schedule.{Fills, format_notes}
 use Rattle.ob_seal.specs.declared.keys.Keys.{Keys}
 use Rattle.ob_serial.specs.Serial.{Map}

@@ -12,7 +12,7 @@ use Rattle.ob_kinds.specs.Phases.{Shape, Ends, Fetches, events_of_phases}
 use Rattle.ob_kinds.specs.Steps.{IsCallOfKind}
 use Rattle.ob_recover.specs.Finds.{IsFoundInRing}
 use Rattle.ob_recover.specs.declared.found.Found.{Found}
-use Rattle.ob_ring_trace.specs.Fronts.{AreFirstNotes}
+use Rattle.ob_recover.specs.Fronts.{AreFirstNotes}
 use Rattle.ob_ring_vault.specs.RingVaults.{HasPlanned, RingHolds, RingSound, Running, run_over}
 use Rattle.ob_schedule.specs.Schedule.{Fills, format_notes, gate_cell, record_notes}
 use Rattle.ob_seal.specs.declared.keys.Keys.{Keys}

@@ -8,7 +8,7 @@ use Rattle.ob_tables.specs.Content.{Content}
 use Rattle.ob_fetch.specs.declared.run.Run.{Run}
 use Rattle.ob_fetch.specs.Fetches.{RunIsAt}
 use Rattle.ob_log.specs.Logs.{BatchRecord}
-use Rattle.ob_ring_trace.specs.Known.{public_of_kept}
+use Rattle.ob_recover.specs.Known.{public_of_kept}
 use Rattle.ob_ring_vault.specs.RingVaults.{HasPlanned, RingCalled, RingHolds, Running}
 use Rattle.ob_seal.specs.declared.keys.Keys.{Keys}
 use Rattle.ob_serial.specs.Serial.{Map}

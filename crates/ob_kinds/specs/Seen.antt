@@ -8,8 +8,8 @@ use Rattle.ob_kinds.specs.Phases.{Phase, Reads, Writes, Syncs, Shape, Fetches, E
 use Rattle.ob_log.specs.Logs.{BatchRecord}
 use Rattle.ob_recover.specs.Finds.{IsFoundInRing, finding_notes}
 use Rattle.ob_recover.specs.declared.found.Found.{Found}
-use Rattle.ob_ring_trace.specs.Known.{fills_of, gates_open, public_of_kept}
-use Rattle.ob_ring_trace.specs.Openings.{began_notes, opening_notes}
+use Rattle.ob_recover.specs.Known.{fills_of, gates_open, public_of_kept}
+use Rattle.ob_recover.specs.ShownOpenings.{began_notes, opening_notes}
 use Rattle.ob_schedule.specs.Schedule.{Fills, Public, after_end, after_phase, batch_leaves, batch_notes, end_notes, open_notes}
 use Rattle.ob_seal.specs.declared.keys.Keys.{Keys}
 use Rattle.ob_store.specs.Calls.{Notes, NotesFirst}

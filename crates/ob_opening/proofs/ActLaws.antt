@@ -25,21 +25,21 @@ use Rattle.ob_start.specs.Registers.{HaveOpen}
 use Rattle.ob_tables.specs.Content.{Content, content_of}
 use Rattle.ob_log.specs.Logs.{BatchRecord, RecordFits, RecordsFit, record_at}
 use Rattle.ob_schedule.specs.Schedule.{Fills, Public, open_notes}
-use Rattle.ob_ring_trace.specs.Life.{LifeAct, LifeState, Open, ShowBatch, WordId, IsActAllowed, IsLife, life_step, reached}
-use Rattle.ob_ring_trace.specs.Calls.{CallLaw, Finds, Leaves, acts_of, repeated}
-use Rattle.ob_ring_trace.proofs.Pads.{life_goes_on}
+use Rattle.ob_recover.specs.Life.{LifeAct, LifeState, Open, ShowBatch, WordId, IsActAllowed, IsLife, life_step, reached}
+use Rattle.ob_recover.specs.Calls.{CallLaw, Finds, Leaves, acts_of, repeated}
+use Rattle.ob_recover.proofs.Pads.{life_goes_on}
 use Rattle.ob_stand.specs.Stands.{OneOf, RingStanding, Stands, with_generation}
 use Rattle.ob_stand.proofs.OnceLaws.{register_once}
 use Rattle.ob_recover.specs.declared.found.Found.{Found}
 use Rattle.ob_recover.specs.Finds.{FindDoes, FindsPart, IsFoundInRing, IsFoundOf, ObeysFound, finding_notes}
 use Rattle.ob_recover.specs.Repeats.{RepeatsFirst, RepeatsTold}
 use Rattle.ob_recover.proofs.FindLaws.{number_found}
-use Rattle.ob_ring_trace.specs.Fronts.{AreFirstNotes}
-use Rattle.ob_ring_trace.specs.Known.{fills_of, gates_open, public_of_kept}
-use Rattle.ob_ring_trace.specs.Lives.{IsLifeAt, life_batch}
-use Rattle.ob_ring_trace.specs.Telling.{AreTold}
-use Rattle.ob_ring_trace.proofs.Opening.{cuts_of_fronts, openings_are_scheduled, openings_begin}
-use Rattle.ob_ring_trace.proofs.Telling.{openings_are_told}
+use Rattle.ob_recover.specs.Fronts.{AreFirstNotes}
+use Rattle.ob_recover.specs.Known.{fills_of, gates_open, public_of_kept}
+use Rattle.ob_recover.specs.Lives.{IsLifeAt, life_batch}
+use Rattle.ob_recover.specs.Telling.{AreTold}
+use Rattle.ob_recover.proofs.ShownOpening.{cuts_of_fronts, openings_are_scheduled, openings_begin}
+use Rattle.ob_recover.proofs.Telling.{openings_are_told}
 use Rattle.ob_opening.specs.OpeningActs.{AreGatesIn, HasNotBegun, HasShown, IsLeftAt, OpensInLife, StandsInLife, notes_of_opening, opening_call}
 use Rattle.ob_opening.specs.OpeningRuns.{BeginsAt, OpeningLeaves, OpensFrom, begun_notes, next_notes}
 use Rattle.ob_opening.specs.OpeningParts.{FoundDoes, FoundRefused}

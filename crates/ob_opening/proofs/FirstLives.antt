@@ -8,8 +8,8 @@ use Rattle.ob_tables.specs.Buckets.{no_version, version_at}
 use Rattle.ob_tables.specs.Version.{Version, used_at}
 use Rattle.ob_stand.proofs.ContentSampling.{no_entry, none_some}
 use Rattle.ob_stand.specs.Table.{lying_place, row_for}
-use Rattle.ob_ring_trace.specs.Life.{WordId, formatted_life}
-use Rattle.ob_ring_trace.specs.Lives.{IsLifeAt, word_kept}
+use Rattle.ob_recover.specs.Life.{WordId, formatted_life}
+use Rattle.ob_recover.specs.Lives.{IsLifeAt, word_kept}
 use Rattle.ob_seal.specs.declared.keys.Keys.{Keys}
 use Rattle.ob_stand.specs.Fresh.{Ranks, fresh_content, fresh_version}
 use Rattle.ob_stand.specs.Stands.{Stands}

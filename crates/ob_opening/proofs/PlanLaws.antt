@@ -7,7 +7,7 @@ use Rattle.ob_log.specs.Logs.{BatchRecord}
 use Rattle.ob_recover.specs.declared.found.Found.{Found}
 use Rattle.ob_recover.specs.Repeats.{IsPlannerOf}
 use Rattle.ob_ring.specs.Ring.{Kept}
-use Rattle.ob_ring_trace.specs.Known.{PlansFrom}
+use Rattle.ob_recover.specs.Known.{PlansFrom}
 use Rattle.ob_seal.specs.declared.keys.Keys.{Keys}
 use Rattle.ob_start.specs.Registers.{HaveOpen}
 use Rattle.ob_store.specs.Disk.{Disk}

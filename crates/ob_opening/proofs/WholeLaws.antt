@@ -15,10 +15,10 @@ use Rattle.ob_twin.specs.Register.{StandsAt}
 use Rattle.ob_recover.specs.declared.found.Found.{Found}
 use Rattle.ob_tables.specs.Content.{content_of}
 use Rattle.ob_recover.specs.Finds.{IsFoundInRing, finding_notes}
-use Rattle.ob_ring_trace.specs.Known.{public_of_kept}
-use Rattle.ob_ring_trace.proofs.Telling.{openings_are_told}
+use Rattle.ob_recover.specs.Known.{public_of_kept}
+use Rattle.ob_recover.proofs.Telling.{openings_are_told}
 use Rattle.ob_start.specs.Registers.{HaveOpen}
-use Rattle.ob_ring_trace.proofs.Opening.{openings_are_scheduled}
+use Rattle.ob_recover.proofs.ShownOpening.{openings_are_scheduled}
 use Rattle.ob_twin.specs.declared.gates.Gates.{Gates}
 use Rattle.ob_opening.specs.declared.opening.Opening.{Opening}
 use Rattle.ob_opening.specs.OpeningParts.{FoundDoes, FoundRefused}

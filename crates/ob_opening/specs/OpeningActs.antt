@@ -14,12 +14,12 @@ use Rattle.ob_twin.specs.declared.gates.Gates.{Gates}
 use Rattle.ob_twin.specs.Opening.{GatesAre}
 use Rattle.ob_log.specs.Logs.{BatchRecord}
 use Rattle.ob_schedule.specs.Schedule.{open_notes}
-use Rattle.ob_ring_trace.specs.Life.{LifeAct, LifeState, Open, WordId, IsActAllowed, reached}
-use Rattle.ob_ring_trace.specs.Calls.{CallLaw, Finds, Leaves, LifeCall, Opened, repeated}
+use Rattle.ob_recover.specs.Life.{LifeAct, LifeState, Open, WordId, IsActAllowed, reached}
+use Rattle.ob_recover.specs.Calls.{CallLaw, Finds, Leaves, LifeCall, Opened, repeated}
 use Rattle.ob_stand.specs.Stands.{RingStanding, Stands}
-use Rattle.ob_ring_trace.specs.Known.{fills_of, gates_open, public_of_kept, slot_kept}
-use Rattle.ob_ring_trace.specs.Lives.{IsLifeAt}
-use Rattle.ob_ring_trace.specs.Telling.{AreTold}
+use Rattle.ob_recover.specs.Known.{fills_of, gates_open, public_of_kept, slot_kept}
+use Rattle.ob_recover.specs.Lives.{IsLifeAt}
+use Rattle.ob_recover.specs.Telling.{AreTold}
 
 -- ---- where a run stopped
 

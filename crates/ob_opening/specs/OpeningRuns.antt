@@ -19,8 +19,8 @@ use Rattle.ob_tables.specs.Content.{content_of}
 use Rattle.ob_stand.specs.Stands.{OneOf, RingStanding, Stands, with_generation}
 use Rattle.ob_log.specs.Logs.{BatchRecord}
 use Rattle.ob_schedule.specs.Schedule.{Fills, Public, after_open, open_notes}
-use Rattle.ob_ring_trace.specs.Known.{fills_of, gates_open, public_of_kept}
-use Rattle.ob_ring_trace.specs.Telling.{AreTold}
+use Rattle.ob_recover.specs.Known.{fills_of, gates_open, public_of_kept}
+use Rattle.ob_recover.specs.Telling.{AreTold}
 use Rattle.ob_start.specs.Registers.{HaveOpen}
 use Rattle.ob_recover.specs.declared.found.Found.{Found}
 use Rattle.ob_recover.specs.Finds.{FindsPart, IsFoundInRing, finding_notes}

@@ -12,7 +12,7 @@ ghost use Rattle.ob_check.specs.Written as check;
 ghost use Rattle.ob_pads.specs.Lives.{IsFormattedStore};
 ghost use Rattle.ob_tables.specs.Content.{Obeys, content_of};
 ghost use Rattle.ob_schedule.specs.Schedule.{format_notes};
-ghost use Rattle.ob_ring_trace.specs.Life.{WordId, formatted_life};
+ghost use Rattle.ob_recover.specs.Life.{WordId, formatted_life};
 ghost use Rattle.ob_stand.specs.Fresh.{fresh_content};
 ghost use Rattle.ob_opening.specs.OpeningActs.{AreSlotsIn, StandsInLife};
 ghost use Rattle.ob_start.specs.Laying.{SameHead};

@@ -7,7 +7,7 @@ ghost use Rattle.ob_stand.specs.Stands.{RingStanding, Stands};
 ghost use Rattle.ob_recover.specs.Finds.{IsFoundInRing, ObeysFound};
 ghost use Rattle.ob_twin.specs.Keyed.{tagging};
 ghost use Rattle.ob_twin.specs.Register.{StandsAt};
-ghost use Rattle.ob_ring_trace.specs.Life.{LifeAct, LifeState, WordId};
+ghost use Rattle.ob_recover.specs.Life.{LifeAct, LifeState, WordId};
 ghost use Rattle.ob_opening.specs.OpeningActs.{IsLeftAt, OpensInLife};
 ghost use Rattle.ob_opening.specs.Openings.{IsOpeningOf, IsToldOpening, IsOpenFault, IsOpenRefusal, OpensWhatStood};
 ghost use Rattle.ob_opening.specs.OpeningParts.{AreRooms, FoundDoes, FoundRefused, FoundStays, IsFoundFault, IsFoundRefusal};

@@ -2,3 +2,15 @@ pub mod Finds
 pub mod Fits
 pub mod Repeats
 pub mod Shows
+pub mod Life
+pub mod Calls
+pub mod LifeLaws
+pub mod Bridge
+pub mod Known
+pub mod Fronts
+pub mod Telling
+pub mod ShownOpenings
+pub mod Batches
+pub mod Ends
+pub mod Lives
+pub mod Samples

@@ -5,14 +5,14 @@ use Rattle.std.proofs.lemmas.List.{append-nil, get_or-append-add, length-map, ma
 use Rattle.ob_base.specs.Repeats.{Has}
 use Rattle.ob_base.specs.declared.params.Params.{Params}
 use Rattle.ob_base.proofs.Repeats.{has_left, has_right}
-use Rattle.ob_ring_trace.specs.Life.{Append, IsLife, LabelFill, LifeAct, LifeBatch, LifeContent, LifeState, ShowBatch, SlotFill, WordId, leaf_of_word, leaves, life_step, log_slots, phase_labels, phase_slots, reached, slots_of, batch_places}
+use Rattle.ob_recover.specs.Life.{Append, IsLife, LabelFill, LifeAct, LifeBatch, LifeContent, LifeState, ShowBatch, SlotFill, WordId, leaf_of_word, leaves, life_step, log_slots, phase_labels, phase_slots, reached, slots_of, batch_places}
 use Rattle.ob_log.specs.Logs.{BatchRecord, RecordsFit}
 use Rattle.ob_fetch.proofs.LogLaws.{more_at}
 use Rattle.ob_ring.specs.FlatTable.{FlatTable, after_batch, batch_shown}
 use Rattle.ob_ring_life.specs.Acts.{AreBatchesSmall, AreTapeWords, IsBatchSmall}
 use Rattle.ob_kinds.specs.Hidden.{DrawsBatch, RingHidden}
-use Rattle.ob_ring_trace.proofs.Opening.{AreWide}
-use Rattle.ob_ring_trace.specs.Lives.{AreWordsOf, IsLifeAt, life_batch}
+use Rattle.ob_recover.proofs.ShownOpening.{AreWide}
+use Rattle.ob_recover.specs.Lives.{AreWordsOf, IsLifeAt, life_batch}
 use Rattle.ob_schedule.specs.Schedule.{Fills, batch_leaves}
 use Rattle.ob_serial.specs.Vaults.{Fetch}
 use Rattle.ob_ring_life.proofs.Wide.{ShowFills, wide_show}

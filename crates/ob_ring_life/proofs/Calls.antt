@@ -1,6 +1,6 @@
 -- Each call of a ring vault, by what it answered.
 use Rattle.std.specs.Prelude.{ℕ, List}
-use Rattle.ob_ring_trace.specs.Life.{LifeState, WordId}
+use Rattle.ob_recover.specs.Life.{LifeState, WordId}
 use Rattle.ob_ring_vault.specs.RingVaults.{RingCalled, Running}
 use Rattle.ob_serial.specs.Vaults.{DoubtBy, End, Ended, Fetch, RefusedBy, Values, VaultAnswer, VaultCall}
 use Rattle.ob_store.specs.Disk.{Clock, Disk, Image, NotAfter}

@@ -4,8 +4,8 @@ use Rattle.std.proofs.Common.{arith, length-append, refl, sym, ap, subst, ◌∙
 use Rattle.std.proofs.lemmas.List.{append-nil, get_or_append_left}
 use Rattle.ob_base.specs.declared.params.Params.{Params}
 use Rattle.ob_fetch.specs.Fetches.{words_since}
-use Rattle.ob_ring_trace.proofs.Pads.{life_goes_on}
-use Rattle.ob_ring_trace.specs.Life.{IsLife, LifeAct, LifeState, WordId, life_step, reached}
+use Rattle.ob_recover.proofs.Pads.{life_goes_on}
+use Rattle.ob_recover.specs.Life.{IsLife, LifeAct, LifeState, WordId, life_step, reached}
 use Rattle.ob_ring_life.specs.SealActs.{IsRingVault}
 use Rattle.ob_ring_life.proofs.SealCalls.{kept_by}
 use Rattle.ob_ring_vault.specs.RingVaults.{Running}

@@ -4,12 +4,12 @@ use Rattle.std.proofs.Common.{refl, sym, ap, subst, ◌∙◌}
 use Rattle.std.proofs.lemmas.List.{append-nil, length-map}
 use Rattle.ob_base.specs.Repeats.{Has}
 use Rattle.ob_base.specs.declared.params.Params.{Params}
-use Rattle.ob_ring_trace.specs.Life.{LifeBatch, LifeState, ShowLifts, SlotFill, WordId, lift_slots, table_now}
+use Rattle.ob_recover.specs.Life.{LifeBatch, LifeState, ShowLifts, SlotFill, WordId, lift_slots, table_now}
 use Rattle.ob_ring_life.specs.Acts.{AreTapeWords}
 use Rattle.ob_kinds.specs.Hidden.{DrawsBatch, IsOfTape, RingHidden}
-use Rattle.ob_ring_trace.proofs.Living.{lives_show_fills}
-use Rattle.ob_ring_trace.specs.Known.{fills_with_lifts}
-use Rattle.ob_ring_trace.specs.Lives.{LifeShowsFills, life_batch}
+use Rattle.ob_recover.proofs.Living.{lives_show_fills}
+use Rattle.ob_recover.specs.Known.{fills_with_lifts}
+use Rattle.ob_recover.specs.Lives.{LifeShowsFills, life_batch}
 use Rattle.ob_schedule.specs.Schedule.{Fills}
 use Rattle.ob_serial.specs.Vaults.{End, Fetch}
 use Rattle.ob_ring_life.proofs.Batches as batches

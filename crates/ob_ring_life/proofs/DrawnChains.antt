@@ -5,9 +5,9 @@ use Rattle.std.proofs.lemmas.List.{append-nil, append_assoc, get_or_append_left}
 use Rattle.ob_base.specs.declared.params.Params.{Params}
 use Rattle.ob_kinds.specs.Phases.{Shape}
 use Rattle.ob_kinds.specs.Shown.{AreDrawn}
-use Rattle.ob_ring_trace.proofs.FreshLaws.{lives_are_fresh}
-use Rattle.ob_ring_trace.proofs.Pads.{life_goes_on}
-use Rattle.ob_ring_trace.specs.Life.{IsLife, LifeAct, LifeState, WordId, formatted_life, life_step, reached}
+use Rattle.ob_recover.proofs.FreshLaws.{lives_are_fresh}
+use Rattle.ob_recover.proofs.Pads.{life_goes_on}
+use Rattle.ob_recover.specs.Life.{IsLife, LifeAct, LifeState, WordId, formatted_life, life_step, reached}
 use Rattle.ob_ring_life.specs.Acts.{AreTapeWords}
 use Rattle.ob_kinds.specs.Hidden.{RingDraws, RingHidden}
 use Rattle.ob_kinds.specs.RingKind.{ring_kind}

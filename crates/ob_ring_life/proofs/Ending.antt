@@ -16,16 +16,16 @@ use Rattle.ob_stand.proofs.Counts.{slots_rank}
 use Rattle.ob_stand.specs.Table.{flat_of}
 use Rattle.ob_fetch.specs.Fetches.{DrawsWords, RunIsAt, words_since}
 use Rattle.ob_fetch.proofs.NextLaws.{stands_listed}
-use Rattle.ob_ring_trace.specs.Life.{AreDrawn, Append, End as EndAct, IsActAllowed, LifeAct, LifeBatch, LifeState, ShowLifts, WordId, book_now, book_after_log, is_table_lifted, life_step, table_now}
+use Rattle.ob_recover.specs.Life.{AreDrawn, Append, End as EndAct, IsActAllowed, LifeAct, LifeBatch, LifeState, ShowLifts, WordId, book_now, book_after_log, is_table_lifted, life_step, table_now}
 use Rattle.ob_log.specs.Logs.{BatchRecord, OpenRecords, RecordsFit}
 use Rattle.ob_recover.specs.Repeats.{content_of_ring, table_after_records}
 use Rattle.ob_ring.proofs.Members.{off_unless, one_of-filter}
 use Rattle.ob_ring.specs.FlatTable.{FinalLifts, FlatTable, Refill, Writes, after, refill_order}
 use Rattle.ob_ring.specs.Ring.{StandsFor}
-use Rattle.ob_ring_trace.proofs.Living.{lives_show_fills}
-use Rattle.ob_ring_trace.proofs.Once.{table_once}
-use Rattle.ob_ring_trace.specs.Known.{slot_kept}
-use Rattle.ob_ring_trace.specs.Lives.{IsLifeAt, life_batch, word_kept}
+use Rattle.ob_recover.proofs.Living.{lives_show_fills}
+use Rattle.ob_recover.proofs.Once.{table_once}
+use Rattle.ob_recover.specs.Known.{slot_kept}
+use Rattle.ob_recover.specs.Lives.{IsLifeAt, life_batch, word_kept}
 use Rattle.ob_ring_vault.specs.RingVaults.{EndCalled, Running, write_from, writes_of_end}
 use Rattle.ob_schedule.specs.Paths.{by_falling_level, is_one_of}
 use Rattle.ob_seal.specs.declared.keys.Keys.{Keys}

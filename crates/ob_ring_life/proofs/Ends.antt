@@ -11,7 +11,7 @@ use Rattle.ob_tables.specs.Buckets.{version_at}
 use Rattle.ob_tables.specs.Rank.{IsRanking}
 use Rattle.ob_end.specs.EndRuns.{end_writes, words_for_end}
 use Rattle.ob_stand.proofs.Counts.{slots_rank}
-use Rattle.ob_ring_trace.specs.Life.{AreDrawn, End as EndAct, IsLife, LifeAct, LifeBatch, LifeState, ShowLifts, SlotFill, WordId, book_after_log, book_now, is_table_lifted, lift_slots, life_step, reached, table_now}
+use Rattle.ob_recover.specs.Life.{AreDrawn, End as EndAct, IsLife, LifeAct, LifeBatch, LifeState, ShowLifts, SlotFill, WordId, book_after_log, book_now, is_table_lifted, lift_slots, life_step, reached, table_now}
 use Rattle.ob_log.specs.Logs.{BatchRecord, RecordsFit}
 use Rattle.ob_recover.specs.Repeats.{entries_after_records}
 use Rattle.ob_ring.proofs.Members.{off_unless, one_of-filter}
@@ -20,9 +20,9 @@ use Rattle.ob_ring_life.proofs.Ids.{Fits, records_fit, records_ids}
 use Rattle.ob_ring_life.proofs.Writing.{AreAllFit, leaves_ids, writes_drawn, writes_fit, written_fit, written_ids}
 use Rattle.ob_ring_life.specs.Acts.{AreTapeWords, id_write}
 use Rattle.ob_kinds.specs.Hidden.{DrawsEnd, RingHidden, table_hidden}
-use Rattle.ob_ring_trace.proofs.Living.{lives_show_fills}
-use Rattle.ob_ring_trace.specs.Known.{slot_kept}
-use Rattle.ob_ring_trace.specs.Lives.{IsLifeAt, LifeShowsFills, life_batch, word_kept}
+use Rattle.ob_recover.proofs.Living.{lives_show_fills}
+use Rattle.ob_recover.specs.Known.{slot_kept}
+use Rattle.ob_recover.specs.Lives.{IsLifeAt, LifeShowsFills, life_batch, word_kept}
 use Rattle.ob_ring_vault.specs.RingVaults.{write_from}
 use Rattle.ob_schedule.specs.Paths.{by_falling_level, is_one_of}
 use Rattle.ob_schedule.specs.Schedule.{Fills}

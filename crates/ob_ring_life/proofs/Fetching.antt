@@ -11,10 +11,10 @@ use Rattle.ob_base.specs.declared.params.Params.{Params}
 use Rattle.ob_fetch.specs.declared.run.Run.{Run}
 use Rattle.ob_fetch.proofs.LogLaws.{more_at}
 use Rattle.ob_fetch.specs.Fetches.{DrawsWords, IsOpenBetween, RunIsAt, next_batch, words_since}
-use Rattle.ob_ring_trace.specs.Life.{Append, IsActAllowed, LifeAct, LifeBatch, LifeState, ShowBatch, WordId, life_step}
+use Rattle.ob_recover.specs.Life.{Append, IsActAllowed, LifeAct, LifeBatch, LifeState, ShowBatch, WordId, life_step}
 use Rattle.ob_log.specs.Appends.{append_notes}
 use Rattle.ob_log.specs.Logs.{BatchRecord, OpenRecords}
-use Rattle.ob_ring_trace.specs.Lives.{AreWordsOf, IsLifeAt, life_batch}
+use Rattle.ob_recover.specs.Lives.{AreWordsOf, IsLifeAt, life_batch}
 use Rattle.ob_ring_vault.specs.RingVaults.{FetchCalled, Running, record_of_fetch}
 use Rattle.ob_seal.specs.declared.keys.Keys.{Keys}
 use Rattle.ob_serial.specs.Vaults.{Fetch}

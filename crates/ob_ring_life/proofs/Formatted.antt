@@ -9,7 +9,7 @@ use Rattle.ob_tables.specs.Buckets.{no_version, version_at}
 use Rattle.ob_tables.specs.Rank.{IsRanking}
 use Rattle.ob_tables.specs.Version.{Version, rank_at}
 use Rattle.ob_stand.proofs.Counts.{slots_rank}
-use Rattle.ob_ring_trace.specs.Life.{WordId, formatted_life}
+use Rattle.ob_recover.specs.Life.{WordId, formatted_life}
 use Rattle.ob_seal.specs.declared.keys.Keys.{Keys}
 use Rattle.ob_stand.specs.Fresh.{AreRanked, fresh_content, fresh_version}
 use Rattle.ob_store.specs.Disk.{Disk, Image}

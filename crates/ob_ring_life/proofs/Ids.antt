@@ -6,12 +6,12 @@ use mathlib.Core.Path.{fun_ext}
 use Rattle.ob_base.specs.Repeats.{Has}
 use Rattle.ob_base.specs.Tree.{below}
 use Rattle.ob_base.specs.declared.params.Params.{Params}
-use Rattle.ob_ring_trace.specs.Life.{WordId, batch_places, book_after, book_after_log, leaf_of_word, with_words}
+use Rattle.ob_recover.specs.Life.{WordId, batch_places, book_after, book_after_log, leaf_of_word, with_words}
 use Rattle.ob_log.specs.Logs.{BatchRecord}
 use Rattle.ob_recover.specs.Repeats.{entries_after_records, record_places}
 use Rattle.ob_ring.specs.Fetching.{after_labels, own_entry}
 use Rattle.ob_ring.specs.FlatTable.{after_label, asks_for, rebound}
-use Rattle.ob_ring_trace.specs.Lives.{AreWordsOf, life_batch, word_kept}
+use Rattle.ob_recover.specs.Lives.{AreWordsOf, life_batch, word_kept}
 use Rattle.ob_tables.specs.declared.entry.Entry.{Entry}
 
 -- ---- lists

@@ -4,10 +4,10 @@ use Rattle.std.proofs.Common.{refl, sym, ap, subst, ◌∙◌, inl, inr, ⊎_eli
 use Rattle.std.proofs.lemmas.List.{append-nil}
 use mathlib.Core.Path.{fun_ext}
 use Rattle.ob_base.specs.declared.params.Params.{Params}
-use Rattle.ob_ring_trace.proofs.FreshLaws.{lives_are_fresh}
-use Rattle.ob_ring_trace.proofs.Pads.{life_goes_on}
-use Rattle.ob_ring_trace.specs.Calls.{repeated}
-use Rattle.ob_ring_trace.specs.Life.{IsLife, LifeAct, LifeState, Open, ShowBatch, WordId, formatted_life, life_step, reached}
+use Rattle.ob_recover.proofs.FreshLaws.{lives_are_fresh}
+use Rattle.ob_recover.proofs.Pads.{life_goes_on}
+use Rattle.ob_recover.specs.Calls.{repeated}
+use Rattle.ob_recover.specs.Life.{IsLife, LifeAct, LifeState, Open, ShowBatch, WordId, formatted_life, life_step, reached}
 use Rattle.ob_ring_life.specs.Acts.{AreBatchesSmall}
 use Rattle.ob_seal.specs.declared.keys.Keys.{Keys}
 use Rattle.ob_store.specs.Disk.{Disk, Image}

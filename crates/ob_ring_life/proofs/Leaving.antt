@@ -8,8 +8,8 @@ use Rattle.ob_fetch.specs.Fetches.{words_since}
 use Rattle.ob_fetch.specs.declared.run.Run.{Run}
 use Rattle.ob_kinds.specs.Phases.{Shape}
 use Rattle.ob_kinds.specs.Shown.{AreDrawn}
-use Rattle.ob_ring_trace.specs.Calls.{acts_of}
-use Rattle.ob_ring_trace.specs.Life.{Append, IsActAllowed, LifeAct, LifeState, WordId, reached}
+use Rattle.ob_recover.specs.Calls.{acts_of}
+use Rattle.ob_recover.specs.Life.{Append, IsActAllowed, LifeAct, LifeState, WordId, reached}
 use Rattle.ob_log.specs.Logs.{BatchRecord}
 use Rattle.ob_recover.specs.Repeats.{content_of_ring}
 use Rattle.ob_ring_life.proofs.Calls.{call_lives}
@@ -20,8 +20,8 @@ use Rattle.ob_kinds.specs.RingKind.{RingFound, ring_hidden, ring_kind}
 use Rattle.ob_kinds.specs.RingSteps.{HasRingWords, RingAt, RunIsAtHidden}
 use Rattle.ob_kinds.specs.Seen.{RingPublic}
 use Rattle.ob_ring_life.proofs.SealCalls.{kept_by}
-use Rattle.ob_ring_trace.specs.Known.{slot_kept}
-use Rattle.ob_ring_trace.specs.Lives.{IsLifeAt, life_batch}
+use Rattle.ob_recover.specs.Known.{slot_kept}
+use Rattle.ob_recover.specs.Lives.{IsLifeAt, life_batch}
 use Rattle.ob_ring_vault.specs.RingVaults.{KeepsRun, RingCalled, Running, record_of_fetch, write_from, writes_of_end}
 use Rattle.ob_schedule.specs.Schedule.{Fills}
 use Rattle.ob_seal.specs.declared.keys.Keys.{Keys}

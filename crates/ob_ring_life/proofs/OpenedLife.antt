@@ -7,8 +7,8 @@ use Rattle.ob_base.proofs.Repeats.{has_cases}
 use Rattle.ob_base.specs.Repeats.{Has}
 use Rattle.ob_base.specs.declared.params.Params.{Params}
 use Rattle.ob_tables.specs.Content.{Content, Obeys}
-use Rattle.ob_ring_trace.specs.Calls.{repeated}
-use Rattle.ob_ring_trace.specs.Life.{IsLife, LabelFill, LifeBatch, LifeState, Open, ShowBatch, SlotFill, WordId, leaf_of_word, life_labels, life_slots, life_step, log_slots, phase_labels, phase_slots, reached}
+use Rattle.ob_recover.specs.Calls.{repeated}
+use Rattle.ob_recover.specs.Life.{IsLife, LabelFill, LifeBatch, LifeState, Open, ShowBatch, SlotFill, WordId, leaf_of_word, life_labels, life_slots, life_step, log_slots, phase_labels, phase_slots, reached}
 use Rattle.ob_log.specs.Logs.{BatchRecord, RecordsFit}
 use Rattle.ob_recover.specs.Finds.{IsFoundOf}
 use Rattle.ob_ring_life.proofs.Ending.{records_fit_of}
@@ -16,9 +16,9 @@ use Rattle.ob_ring_life.proofs.OpenedRun.{IsFurther, further, moved}
 use Rattle.ob_ring_life.specs.Acts.{AreBatchesSmall}
 use Rattle.ob_kinds.proofs.Founding.{found_is_standing}
 use Rattle.ob_kinds.specs.RingKind.{IsRingFound, RingFound}
-use Rattle.ob_ring_trace.proofs.Living.{lives_show_fills}
-use Rattle.ob_ring_trace.specs.Known.{fills_of}
-use Rattle.ob_ring_trace.specs.Lives.{IsLifeAt, LifeShowsFills, life_batch}
+use Rattle.ob_recover.proofs.Living.{lives_show_fills}
+use Rattle.ob_recover.specs.Known.{fills_of}
+use Rattle.ob_recover.specs.Lives.{IsLifeAt, LifeShowsFills, life_batch}
 use Rattle.ob_schedule.specs.Schedule.{Fills, batch_leaves}
 use Rattle.ob_seal.specs.Sealing.{Sealing}
 use Rattle.ob_seal.specs.declared.keys.Keys.{Keys}

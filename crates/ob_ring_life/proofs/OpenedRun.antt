@@ -3,10 +3,10 @@ use Rattle.std.specs.Prelude.{◌≡◌, ℕ, zero, suc, ◌+◌, List, ◌∷�
 use Rattle.std.proofs.Common.{arith, refl, sym, ap, subst, ◌∙◌}
 use Rattle.ob_base.specs.declared.params.Params.{Params}
 use Rattle.ob_tables.specs.Content.{Content}
-use Rattle.ob_ring_trace.specs.Calls.{repeated}
-use Rattle.ob_ring_trace.specs.Life.{LifeBatch, LifeState, Open, ShowBatch, WordId, life_step, reached}
+use Rattle.ob_recover.specs.Calls.{repeated}
+use Rattle.ob_recover.specs.Life.{LifeBatch, LifeState, Open, ShowBatch, WordId, life_step, reached}
 use Rattle.ob_log.specs.Logs.{BatchRecord}
-use Rattle.ob_ring_trace.specs.Lives.{IsLifeAt}
+use Rattle.ob_recover.specs.Lives.{IsLifeAt}
 use Rattle.ob_ring_vault.specs.RingVaults.{run_over}
 use Rattle.ob_ring_vault.proofs.Opened.{opened_at}
 use Rattle.ob_seal.specs.declared.keys.Keys.{Keys}

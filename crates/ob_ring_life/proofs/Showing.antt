@@ -3,12 +3,12 @@ use Rattle.std.specs.Prelude.{◌≡◌, ℕ, List, [], ◌∷◌, ◌++◌, map
 use Rattle.std.proofs.Common.{arith, refl, subst}
 use Rattle.ob_base.specs.declared.params.Params.{Params}
 use Rattle.ob_fetch.specs.Fetches.{RunIsAt, next_batch}
-use Rattle.ob_ring_trace.specs.Life.{Append, LifeState, WordId, life_step}
+use Rattle.ob_recover.specs.Life.{Append, LifeState, WordId, life_step}
 use Rattle.ob_log.specs.Logs.{BatchRecord, RecordsFit}
-use Rattle.ob_ring_trace.proofs.Living.{lives_show_fills}
-use Rattle.ob_ring_trace.specs.Known.{fills_of, fills_with_lifts, public_of_kept}
-use Rattle.ob_ring_trace.specs.Lives.{LifeShowsFills, life_batch}
-use Rattle.ob_ring_trace.specs.Telling.{IsRowShown}
+use Rattle.ob_recover.proofs.Living.{lives_show_fills}
+use Rattle.ob_recover.specs.Known.{fills_of, fills_with_lifts, public_of_kept}
+use Rattle.ob_recover.specs.Lives.{LifeShowsFills, life_batch}
+use Rattle.ob_recover.specs.Telling.{IsRowShown}
 use Rattle.ob_ring_vault.specs.RingVaults.{EndCalled, FetchCalled, HasPlanned, Running, record_of_fetch, write_from}
 use Rattle.ob_schedule.specs.Schedule.{batch_notes, end_notes}
 use Rattle.ob_stand.specs.Stands.{RingStanding, with_record}

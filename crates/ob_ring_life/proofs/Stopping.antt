@@ -2,8 +2,8 @@
 use Rattle.std.specs.Prelude.{◌≡◌, ◌⊎◌, ℕ, suc, Bool, List, [], ◌∷◌, ◌++◌, length, Some, None}
 use Rattle.std.proofs.Common.{arith, sym, ap, subst, ◌∙◌, inl, inr}
 use Rattle.ob_base.specs.declared.params.Params.{Params}
-use Rattle.ob_ring_trace.specs.Calls.{Finds, acts_of}
-use Rattle.ob_ring_trace.specs.Life.{IsActAllowed, IsLife, LifeAct, LifeState, Open, WordId, life_step, reached}
+use Rattle.ob_recover.specs.Calls.{Finds, acts_of}
+use Rattle.ob_recover.specs.Life.{IsActAllowed, IsLife, LifeAct, LifeState, Open, WordId, life_step, reached}
 use Rattle.ob_ring_life.proofs.Fetching.{none_pending, same_act}
 use Rattle.ob_kinds.specs.RingLaws.{ReadsHead}
 use Rattle.ob_seal.specs.declared.keys.Keys.{Keys}

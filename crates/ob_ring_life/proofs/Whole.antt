@@ -5,9 +5,9 @@ use Rattle.ob_base.proofs.Repeats.{has_push}
 use Rattle.ob_base.specs.Repeats.{Has}
 use Rattle.ob_base.specs.declared.params.Params.{Params}
 use Rattle.ob_kinds.specs.Phases.{Shape}
-use Rattle.ob_ring_trace.proofs.FreshLaws.{lives_are_fresh}
-use Rattle.ob_ring_trace.proofs.Pads.{life_goes_on}
-use Rattle.ob_ring_trace.specs.Life.{Append, End, IsLife, LifeAct, LifeBatch, LifeState, Open, ShowBatch, ShowLifts, WordId, formatted_life, life_step, reached}
+use Rattle.ob_recover.proofs.FreshLaws.{lives_are_fresh}
+use Rattle.ob_recover.proofs.Pads.{life_goes_on}
+use Rattle.ob_recover.specs.Life.{Append, End, IsLife, LifeAct, LifeBatch, LifeState, Open, ShowBatch, ShowLifts, WordId, formatted_life, life_step, reached}
 use Rattle.ob_ring_life.specs.Acts.{AreBatchesSmall, AreTapeWords, IsBatchSmall}
 use Rattle.ob_kinds.specs.Hidden.{RingHidden}
 use Rattle.ob_kinds.specs.RingKind.{RingFound, ring_hidden}

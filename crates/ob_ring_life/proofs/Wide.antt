@@ -9,8 +9,8 @@ use Rattle.ob_base.specs.Tree.{below}
 use Rattle.ob_base.specs.Repeats.{Has}
 use Rattle.ob_tables.specs.Content.{Content, Obeys}
 use Rattle.ob_stand.specs.Table.{flat_of, lying_place, row_for}
-use Rattle.ob_ring_trace.specs.Life.{LifeContent, LifeState, SlotFill, WordId, batch_places, book_after, leaf_of_word, leaves, log_slots, phase_labels, slot_fill, slots_of, with_words}
-use Rattle.ob_ring_trace.proofs.BookLaws.{IsBookOf, book_batch, kept_leaf, label_leaves, low_bits}
+use Rattle.ob_recover.specs.Life.{LifeContent, LifeState, SlotFill, WordId, batch_places, book_after, leaf_of_word, leaves, log_slots, phase_labels, slot_fill, slots_of, with_words}
+use Rattle.ob_recover.proofs.BookLaws.{IsBookOf, book_batch, kept_leaf, label_leaves, low_bits}
 use Rattle.ob_log.specs.Logs.{BatchRecord}
 use Rattle.ob_recover.specs.Repeats.{asked_of_record}
 use Rattle.ob_ring.specs.Fetching.{own_entry}
@@ -18,11 +18,11 @@ use Rattle.ob_ring.specs.FlatTable.{Batch, FlatTable, Shown, after, after_batch,
 use Rattle.ob_schedule.specs.Schedule.{Fills, batch_leaves}
 use Rattle.ob_tables.specs.Kept.{entry_at}
 use Rattle.ob_tables.specs.declared.entry.Entry.{Entry}
-use Rattle.ob_ring_trace.specs.Known.{AreSlotsOf, fills_of, leaves_of_records, picks_of_records, slot_kept}
-use Rattle.ob_ring_trace.specs.Lives.{AreWordsOf, IsLifeAt, life_batch, word_kept}
-use Rattle.ob_ring_trace.proofs.Tree.{records_in_tree}
-use Rattle.ob_ring_trace.proofs.Fills.{fills_own, items_of}
-use Rattle.ob_ring_trace.proofs.Opening.{AreWide, asked_long, leaves_long}
+use Rattle.ob_recover.specs.Known.{AreSlotsOf, fills_of, leaves_of_records, picks_of_records, slot_kept}
+use Rattle.ob_recover.specs.Lives.{AreWordsOf, IsLifeAt, life_batch, word_kept}
+use Rattle.ob_recover.proofs.Tree.{records_in_tree}
+use Rattle.ob_recover.proofs.Fills.{fills_own, items_of}
+use Rattle.ob_recover.proofs.ShownOpening.{AreWide, asked_long, leaves_long}
 
 -- ---- places
 

@@ -4,11 +4,11 @@ use Rattle.std.specs.List.{range_with_len}
 use Rattle.std.proofs.Common.{arith, refl, sym, ap, subst, ◌∙◌}
 use Rattle.ob_base.specs.declared.params.Params.{Params}
 use Rattle.ob_base.specs.declared.value.Write.{Write}
-use Rattle.ob_ring_trace.specs.Life.{AreDrawn, IsPutOf, WordId, book_written, leaf_of_put, leaf_write}
+use Rattle.ob_recover.specs.Life.{AreDrawn, IsPutOf, WordId, book_written, leaf_of_put, leaf_write}
 use Rattle.ob_ring.specs.Fetching.{own_entry}
 use Rattle.ob_ring.specs.Writing.{entries_after, entry_of, leaf_of_write, leaf_writes, with_entry, write_at, writes_of}
 use Rattle.ob_ring_life.specs.Acts.{id_write}
-use Rattle.ob_ring_trace.specs.Lives.{word_kept}
+use Rattle.ob_recover.specs.Lives.{word_kept}
 use Rattle.ob_tables.specs.declared.entry.Entry.{Entry}
 use Rattle.ob_ring_life.proofs.Ids.{Fits, kept_cond, own_fits}
 

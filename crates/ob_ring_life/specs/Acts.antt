@@ -5,15 +5,15 @@ use Rattle.ob_base.specs.declared.params.Params.{Params}
 use Rattle.ob_base.specs.declared.value.Write.{Write}
 use Rattle.ob_fetch.specs.declared.run.Run.{Run}
 use Rattle.ob_fetch.specs.Fetches.{RunIsAt, next_batch}
-use Rattle.ob_ring_trace.specs.Calls.{CallLaw, Ended as EndOf, Fetched, LifeCall, acts_of, repeated}
-use Rattle.ob_ring_trace.specs.Life.{Append, IsLife, LifeAct, LifeBatch, LifeState, Open, WordId, life_step, reached}
+use Rattle.ob_recover.specs.Calls.{CallLaw, Ended as EndOf, Fetched, LifeCall, acts_of, repeated}
+use Rattle.ob_recover.specs.Life.{Append, IsLife, LifeAct, LifeBatch, LifeState, Open, WordId, life_step, reached}
 use Rattle.ob_log.specs.Appends.{append_notes}
 use Rattle.ob_recover.specs.Repeats.{content_of_ring}
 use Rattle.ob_ring.specs.Writing.{entry_of}
 use Rattle.ob_ring_life.specs.SealActs.{IsRingVault}
-use Rattle.ob_ring_trace.specs.Known.{fills_of, fills_with_lifts, public_of_kept, slot_kept}
-use Rattle.ob_ring_trace.specs.Lives.{IsLifeAt, LifeShowsFills, life_batch, word_kept}
-use Rattle.ob_ring_trace.specs.Telling.{IsRowShown}
+use Rattle.ob_recover.specs.Known.{fills_of, fills_with_lifts, public_of_kept, slot_kept}
+use Rattle.ob_recover.specs.Lives.{IsLifeAt, LifeShowsFills, life_batch, word_kept}
+use Rattle.ob_recover.specs.Telling.{IsRowShown}
 use Rattle.ob_ring_vault.specs.RingVaults.{HasPlanned, RingCalled, Running, record_of_fetch, run_over, write_from, writes_of_end}
 use Rattle.ob_schedule.specs.Schedule.{batch_notes, end_notes}
 use Rattle.ob_seal.specs.declared.keys.Keys.{Keys}

@@ -3,7 +3,7 @@ use Rattle.std.specs.Prelude.{◌≡◌, ℕ, ◌<◌, List, [], ◌∷◌, ◌+
 use Rattle.std.specs.Ordering.{nat_cmp}
 use Rattle.ob_base.specs.declared.params.Params.{Params}
 use Rattle.ob_kinds.specs.Phases.{Shape}
-use Rattle.ob_ring_trace.specs.Life.{HolesAreFresh, IsLife, LifeAct, LifeState, WordId, formatted_life, life_labels, life_slots, reached}
+use Rattle.ob_recover.specs.Life.{HolesAreFresh, IsLife, LifeAct, LifeState, WordId, formatted_life, life_labels, life_slots, reached}
 use Rattle.ob_ring_life.specs.Acts.{AreTapeWords}
 use Rattle.ob_kinds.specs.Hidden.{RingHidden}
 use Rattle.ob_kinds.specs.RingKind.{IsRingMap, RingFound, ring_hidden}

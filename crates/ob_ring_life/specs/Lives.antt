@@ -9,15 +9,15 @@ use Rattle.ob_tables.specs.Rank.{IsRanking}
 use Rattle.ob_kinds.specs.Lives.{LifeWords}
 use Rattle.ob_kinds.specs.Phases.{Shape}
 use Rattle.ob_kinds.specs.Shown.{AreDrawn}
-use Rattle.ob_ring_trace.specs.Calls.{repeated}
-use Rattle.ob_ring_trace.specs.Life.{Append, End as EndAct, HolesAreFresh, IsLife, LifeAct, LifeBatch, LifeState, Open, ShowBatch, ShowLifts, SlotFill, WordId, formatted_life, leaf_of_word, life_labels, life_slots, reached}
+use Rattle.ob_recover.specs.Calls.{repeated}
+use Rattle.ob_recover.specs.Life.{Append, End as EndAct, HolesAreFresh, IsLife, LifeAct, LifeBatch, LifeState, Open, ShowBatch, ShowLifts, SlotFill, WordId, formatted_life, leaf_of_word, life_labels, life_slots, reached}
 use Rattle.ob_ring_life.specs.Acts.{AreBatchesSmall, AreTapeWords, IsBatchSmall}
 use Rattle.ob_kinds.specs.Hidden.{RingDrawsCut, RingHidden}
 use Rattle.ob_kinds.specs.RingLaws.{ReadsHead}
 use Rattle.ob_kinds.specs.RingKind.{IsRingFound, IsRingMap, RingFound, ring_hidden, ring_kind}
 use Rattle.ob_kinds.specs.RingSteps.{HasRingWords, RingAt}
 use Rattle.ob_kinds.specs.Seen.{RingPublic}
-use Rattle.ob_ring_trace.specs.Known.{fills_of}
+use Rattle.ob_recover.specs.Known.{fills_of}
 use Rattle.ob_ring_vault.specs.RingVaults.{Running}
 use Rattle.ob_schedule.specs.Schedule.{Fills, batch_leaves}
 use Rattle.ob_seal.specs.declared.keys.Keys.{Keys}

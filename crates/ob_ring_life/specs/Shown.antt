@@ -6,12 +6,12 @@ use Rattle.ob_tables.specs.Rank.{IsRanking}
 use Rattle.ob_tables.specs.Content.{Obeys}
 use Rattle.ob_kinds.specs.Phases.{Shape}
 use Rattle.ob_kinds.specs.Shown.{AreDrawn}
-use Rattle.ob_ring_trace.specs.Life.{HolesAreFresh, IsLife, LifeAct, LifeState, SlotFill, WordId, formatted_life, leaf_of_word, life_labels, life_slots, reached}
+use Rattle.ob_recover.specs.Life.{HolesAreFresh, IsLife, LifeAct, LifeState, SlotFill, WordId, formatted_life, leaf_of_word, life_labels, life_slots, reached}
 use Rattle.ob_log.specs.Logs.{RecordsFit}
 use Rattle.ob_ring_life.specs.Acts.{AreBatchesSmall, AreTapeWords}
 use Rattle.ob_kinds.specs.Hidden.{RingHidden}
 use Rattle.ob_kinds.specs.RingKind.{ring_kind}
-use Rattle.ob_ring_trace.specs.Lives.{IsLifeAt}
+use Rattle.ob_recover.specs.Lives.{IsLifeAt}
 use Rattle.ob_schedule.specs.Schedule.{Fills, batch_leaves}
 use Rattle.ob_serial.specs.Vaults.{End, Fetch, VaultCall}
 

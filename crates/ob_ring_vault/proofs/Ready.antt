@@ -21,7 +21,7 @@ use Rattle.ob_stand.specs.Plans.{AreAllWhole}
 use Rattle.ob_fetch.specs.declared.run.Run.{Run}
 use Rattle.ob_ring.specs.FlatTable.{FlatTable, In, InStash, Row, Spot, spot_of}
 use Rattle.ob_ring.specs.Ring.{Kept, StandsFor}
-use Rattle.ob_ring_trace.proofs.Once.{table_once}
+use Rattle.ob_recover.proofs.Once.{table_once}
 use Rattle.ob_stand.specs.Takes.{is_present}
 use Rattle.ob_stand.specs.Values.{Values}
 use Rattle.ob_stand.specs.Carries.{Carries, Slots}

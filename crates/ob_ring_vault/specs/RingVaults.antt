@@ -25,8 +25,8 @@ use Rattle.ob_recover.specs.Repeats.{asked_of_record, batch_cells}
 use Rattle.ob_ring.specs.FlatTable.{FlatTable}
 use Rattle.ob_ring.specs.Picked.{SameSeals}
 use Rattle.ob_ring.specs.Ring.{StandsFor}
-use Rattle.ob_ring_trace.specs.Ends.{gates_ended}
-use Rattle.ob_ring_trace.specs.Known.{PlansFrom, fills_of, fills_with_lifts, public_of_kept}
+use Rattle.ob_recover.specs.Ends.{gates_ended}
+use Rattle.ob_recover.specs.Known.{PlansFrom, fills_of, fills_with_lifts, public_of_kept}
 use Rattle.ob_schedule.specs.Schedule.{batch_notes, end_notes}
 use Rattle.ob_seal.specs.declared.keys.Keys.{Keys}
 use Rattle.ob_serial.specs.Serial.{Map}

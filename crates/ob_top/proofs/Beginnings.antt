@@ -12,7 +12,7 @@ use Rattle.ob_kinds.proofs.Opening.{opens_or_not, ring_leaves_standing, ring_ope
 use Rattle.ob_kinds.proofs.Refusing.{ring_refuses}
 use Rattle.ob_kinds.specs.RingLaws.{ReadsHead, found_ring}
 use Rattle.ob_kinds.specs.RingKind.{ring_kind}
-use Rattle.ob_ring_trace.specs.Life.{LifeState, WordId}
+use Rattle.ob_recover.specs.Life.{LifeState, WordId}
 use Rattle.ob_ring_life.proofs.Stopping.{stops_in_life}
 use Rattle.ob_ring_life.specs.Lives.{RingFormatted, ring_lives}
 use Rattle.ob_script.specs.Script.{Scripts}

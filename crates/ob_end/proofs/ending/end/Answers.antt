@@ -3,7 +3,7 @@ use Rattle.ob_base.specs.Planned.{most_jobs}
 use Rattle.ob_cells.specs.Jobs.{Manned}
 use Rattle.ob_end.specs.Lifts.{lift_cells, lift_jobs, lift_notes}
 use Rattle.ob_ring.proofs.PlanLaws.{seals_none}
-use Rattle.ob_ring_trace.specs.Known.{fills_with_lifts, public_of_kept}
+use Rattle.ob_recover.specs.Known.{fills_with_lifts, public_of_kept}
 use Rattle.ob_schedule.specs.Schedule.{end_notes}
 use Rattle.ob_end.specs.EndWrites.{all_seals, end_write_notes, rows_left}
 use Rattle.ob_fetch.specs.declared.run.Run.{Run}

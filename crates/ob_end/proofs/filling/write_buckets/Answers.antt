@@ -5,7 +5,7 @@ use Rattle.std.proofs.lemmas.Result.{IfOk-from_err}
 use Rattle.ob_base.specs.Layout.{slot_cell}
 use Rattle.ob_base.specs.Tree.{buckets, width}
 use Rattle.ob_tables.specs.Buckets.{version_at}
-use Rattle.ob_ring_trace.specs.Ends.{refill_notes}
+use Rattle.ob_recover.specs.Ends.{refill_notes}
 use Rattle.ob_store.specs.Runs.{write_notes}
 use Rattle.ob_store.specs.Calls.{IsFailed}
 use Rattle.ob_store.specs.Told.{Tells}

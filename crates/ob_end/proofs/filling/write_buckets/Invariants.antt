@@ -1,6 +1,6 @@
 use Rattle.std.proofs.Common.{take}
 use Rattle.ob_store.specs.Told.{Tells}
-use Rattle.ob_ring_trace.specs.Ends.{refill_notes}
+use Rattle.ob_recover.specs.Ends.{refill_notes}
 use Rattle.ob_end.proofs.FillsAll.{Filling}
 use Rattle.ob_end.proofs.filling.write_buckets.Given as goal
 

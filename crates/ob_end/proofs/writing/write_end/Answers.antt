@@ -6,7 +6,7 @@ use Rattle.ob_base.specs.Layout.{checkpoint_cells}
 use Rattle.ob_cells.specs.Writes.{WritesWithin}
 use Rattle.ob_check.specs.Written.{area_of}
 use Rattle.ob_tables.specs.Content.{content_of, Content, Obeys}
-use Rattle.ob_ring_trace.specs.Ends.{refill_notes}
+use Rattle.ob_recover.specs.Ends.{refill_notes}
 use Rattle.ob_schedule.specs.Schedule.{log_gates, writes_of}
 use Rattle.ob_stand.specs.Ends.{IsEndOf}
 use Rattle.ob_store.specs.Runs.{write_notes}

@@ -16,7 +16,7 @@ use Rattle.ob_stand.specs.Stands.{OneOf, with_record}
 use Rattle.ob_log.specs.Appends.{IsWornOut}
 use Rattle.ob_store.specs.Calls.{IsStoreFault}
 use Rattle.ob_store.specs.Disk.{Image}
-use Rattle.ob_ring_trace.proofs.Telling.{row_step}
+use Rattle.ob_recover.proofs.Telling.{row_step}
 use Rattle.ob_store.proofs.Events.{none_noted}
 use Rattle.ob_store.proofs.Serving.{goes_same, serves_then}
 use Rattle.ob_store.proofs.Showing.{shows_none}

@@ -1,0 +1,5 @@
+use Rattle.ob_recover.proofs.Telling as laws
+use Rattle.ob_recover.proofs.schedule.one_lane_in_order.Goals as goal
+
+pub returns : goal.returns
+returns c = laws.one_lane_in_order

@@ -1,0 +1,5 @@
+use Rattle.ob_recover.proofs.ShownOpening as laws
+use Rattle.ob_recover.proofs.schedule.openings_begin.Goals as goal
+
+pub returns : goal.returns
+returns c = laws.openings_begin

@@ -1,5 +1,0 @@
-use Rattle.ob_ring_trace.proofs.Batch as laws
-use Rattle.ob_ring_trace.proofs.schedule.batches_are_scheduled.Goals as goal
-
-pub returns : goal.returns
-returns c = laws.batches_are_scheduled

@@ -1,5 +1,0 @@
-use Rattle.ob_ring_trace.proofs.Living as laws
-use Rattle.ob_ring_trace.proofs.schedule.lives_show_fills.Goals as goal
-
-pub returns : goal.returns
-returns c = laws.lives_show_fills
