@@ -15,7 +15,7 @@ use Rattle.ob_turn.specs.History.{longer, LeadsFromOpening, TellsOf, TellsSeats}
 use Rattle.ob_turn.specs.TurnCalls as turns
 use Rattle.ob_turn.specs.TurnCalls.{TurnSeat, HaveAll, Whole}
 use Rattle.ob_turn.specs.TurnRule.{both_views, joined_of}
-use Rattle.ob_turn.proofs.Closing.{all_left, all_right, last_of}
+use Rattle.ob_turn.proofs.TurnClosing.{all_left, all_right, last_of}
 use Rattle.ob_turn.proofs.Prefixes.{prefix_self, prefix_trans, longer-left}
 use Rattle.ob_hall.specs.Turns.{IsTurn}
 use Rattle.ob_hall.specs.Passes.{Steps, Hall, Pass, opening_of, raised_by, may_raise, callers_of, IsPassOf, IsOutOfTurn}

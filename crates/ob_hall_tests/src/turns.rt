@@ -7,8 +7,7 @@ ghost use Rattle.ob_turn.specs.History.{entry};
 ghost use Rattle.ob_turn.specs.TurnCalls.{IsTurnSeat, IsIdle, IsSame};
 
 use ob_base::Memory;
-use ob_guard::{Guard, close};
-use ob_turn::{Stepped, Turn, TurnSeat};
+use ob_turn::{Guard, Stepped, Turn, TurnSeat, close};
 use std::alloc::Global;
 use std::marker::Model;
 use std::snapshot::Snapshot;

@@ -1,5 +1,5 @@
 pub mod BellSteps
-pub mod Closing
+pub mod TurnClosing
 pub mod Cuts
 pub mod Entries
 mod Entering

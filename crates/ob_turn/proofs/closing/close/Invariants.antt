@@ -1,6 +1,6 @@
 use Rattle.std.proofs.Common.{length}
-use Rattle.ob_turn.proofs.Closing.{IsGathering}
-use Rattle.ob_guard.proofs.closing.close.Given as goal
+use Rattle.ob_turn.proofs.TurnClosing.{IsGathering}
+use Rattle.ob_turn.proofs.closing.close.Given as goal
 
 abbrev pub invariant-loop-other : goal.invariant-loop-other
 invariant-loop-other g l = IsGathering g.T.Stepped.steps l.fn.turn.table.shared.table_id l.fn.seats.items l.seats.items l.seat

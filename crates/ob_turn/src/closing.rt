@@ -3,7 +3,7 @@
 ghost use Rattle.std.specs.List.{All};
 ghost use Rattle.ob_turn.specs.TurnCalls.{IsTurnSeat, IsIdle, HaveAll, Whole};
 
-use ob_turn::{Stepped, Turn, TurnSeat};
+use crate::turn::{Stepped, Turn, TurnSeat};
 
 /// The value at the end, to which the whole history leads. It takes no memory.
 pub fn close<E, T: Stepped<E>>(turn: Turn<T, E>, mut seats: Vec<TurnSeat<T, E>>) -> T

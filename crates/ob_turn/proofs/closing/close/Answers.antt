@@ -1,8 +1,8 @@
 use Rattle.std.proofs.Common.{subst, rules}
 use Rattle.ob_turn.specs.TurnCalls.{IsIdle, TurnSeat}
-use Rattle.ob_turn.proofs.Closing.{begins, goes_on, ends, last_of}
+use Rattle.ob_turn.proofs.TurnClosing.{begins, goes_on, ends, last_of}
 use Rattle.std.specs.List.{All}
-use Rattle.ob_guard.proofs.closing.close.Goals as goal
+use Rattle.ob_turn.proofs.closing.close.Goals as goal
 
 pub loop-other-init : goal.loop-other-init
 loop-other-init g c = begins g.T.Stepped.steps _ _ _ _ c.in-Some.ensures.items c.requires.own c.requires.idle

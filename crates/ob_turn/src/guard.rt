@@ -4,7 +4,7 @@ ghost use Rattle.std.specs.Prelude.{◌≡◌, ◌++◌, [], ◌∷◌};
 ghost use Rattle.ob_turn.specs.History.{IsAt};
 ghost use Rattle.ob_turn.specs.TurnCalls.{IsTurnSeat, IsIdle, IsInside, Enters, NotesCall, EndsTurn};
 
-use ob_turn::{Stepped, Turn, TurnSeat};
+use crate::turn::{Stepped, Turn, TurnSeat};
 use std::snapshot::Snapshot;
 use std::sync::Wait;
 
