@@ -11,7 +11,7 @@ use Rattle.ob_seal.specs.Pieces.{onward}
 use Rattle.ob_twin.specs.Keyed.{tagging}
 use Rattle.ob_twin.specs.Register.{KeepsAt, OldOrNew}
 use Rattle.ob_serial.specs.Vaults.{Standing}
-use Rattle.ob_flat_rows.specs.Rows.{IsRow, AreRows}
+use Rattle.ob_flat.specs.Rows.{IsRow, AreRows}
 use Rattle.ob_flat.specs.Places.{area_of}
 use Rattle.ob_flat.specs.Standing.{HasSealedRows, StandsFlat}
 use Rattle.ob_flat.specs.Ends.{EndsFrom, StandsAtOne}

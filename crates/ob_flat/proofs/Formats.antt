@@ -13,7 +13,7 @@ use Rattle.ob_seal.specs.Pieces.{onward}
 use Rattle.ob_twin.specs.Keyed.{tagging}
 use Rattle.ob_twin.specs.Register.{StandsAt}
 use Rattle.ob_twin.proofs.Frames.{register_moved}
-use Rattle.ob_flat_rows.specs.Rows.{IsRow, AreRows, row_cells}
+use Rattle.ob_flat.specs.Rows.{IsRow, AreRows, row_cells}
 use Rattle.ob_start.specs.Laying.{SameHead, HasNoHead, IsTornHead}
 use Rattle.ob_start.proofs.Spelling.{head_is}
 use Rattle.ob_flat.specs.Places.{area_of}

@@ -8,7 +8,7 @@ use Rattle.ob_store.specs.Images.{SameOff, Passes, Shrinks, Elapses}
 use Rattle.ob_store.specs.Calls.{Serves, IsFailed, Keeps}
 use Rattle.ob_store.proofs.Moments.{passed_none, passed_then, passed_still, passes_so}
 use Rattle.ob_store.proofs.Serving.{serves_then, if_ok}
-use Rattle.ob_flat_rows.specs.Writes.{RowsWritten}
+use Rattle.ob_flat.specs.Writes.{RowsWritten}
 use Rattle.ob_twin.specs.Register.{SameOutside}
 use Rattle.ob_twin.specs.declared.set_err.SetErr.{SetErr}
 use Rattle.ob_twin.specs.declared.set_err.SetErr.TheVariants.{Before, Unsure}

@@ -1,3 +1,5 @@
+pub mod RowCells
+pub mod RowReads
 pub mod Moved
 pub mod Areas
 pub mod Frames
@@ -8,3 +10,5 @@ pub mod Formats
 pub mod Opens
 pub mod Opened
 pub mod Tellings
+pub mod Openings
+pub mod Calls

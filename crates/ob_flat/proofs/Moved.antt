@@ -13,8 +13,8 @@ use Rattle.ob_twin.proofs.Frames.{register_moved}
 use Rattle.ob_serial.specs.Vaults.{Standing}
 use Rattle.ob_serial.specs.Serial.{Map}
 use Rattle.ob_seal.specs.Sealing.{Sealing}
-use Rattle.ob_flat_rows.specs.Rows.{IsRow, AreRows, AreShort, row_cells}
-use Rattle.ob_flat_rows.proofs.Cells.{rows_are}
+use Rattle.ob_flat.specs.Rows.{IsRow, AreRows, AreShort, row_cells}
+use Rattle.ob_flat.proofs.RowCells.{rows_are}
 use Rattle.ob_flat.specs.Places.{area_of}
 use Rattle.ob_flat.specs.Heads.{IsHead}
 use Rattle.ob_flat.specs.Standing.{HasSealedRows, StandsFlat}

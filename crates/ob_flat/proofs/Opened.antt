@@ -11,10 +11,10 @@ use Rattle.ob_twin.specs.Reading.{AllWhole, Counts}
 use Rattle.ob_twin.proofs.Judging.{number_read}
 use Rattle.ob_serial.specs.Vaults.{Standing}
 use Rattle.ob_flat.specs.Places.{area_of}
-use Rattle.ob_flat_rows.specs.Rows.{AreRows}
+use Rattle.ob_flat.specs.Rows.{AreRows}
 use Rattle.ob_cells.specs.Reads.{IsCellFault}
-use Rattle.ob_flat_rows.specs.Reads.{AreRowsRead, IsFirstRowDamage}
-use Rattle.ob_flat_rows.proofs.Cells.{row_same}
+use Rattle.ob_flat.specs.Reads.{AreRowsRead, IsFirstRowDamage}
+use Rattle.ob_flat.proofs.RowCells.{row_same}
 use Rattle.ob_start.specs.Registers.{Found}
 use Rattle.ob_start.specs.Beginning.{IsBeginFault}
 use Rattle.ob_flat.specs.Standing.{IsMapOf, StandsFlat}

@@ -21,7 +21,7 @@ use Rattle.ob_serial.specs.declared.vault.EndErr.{EndErr}
 use Rattle.ob_serial.specs.declared.vault.EndErr.TheVariants as end
 use Rattle.ob_serial.specs.Vaults.{Standing, RefusedBy}
 use Rattle.ob_serial.specs.VaultViews.{end_answer}
-use Rattle.ob_flat_rows.specs.Rows.{row_cells}
+use Rattle.ob_flat.specs.Rows.{row_cells}
 use Rattle.ob_flat.specs.Places.{area_of}
 use Rattle.ob_flat.specs.Standing.{StandsFlat}
 use Rattle.ob_flat.specs.Orders.{end_events, end_gate_notes}

@@ -12,7 +12,7 @@ use Rattle.ob_store.specs.Told.{events_of, IsCut}
 use Rattle.ob_seal.specs.declared.keys.Keys.{Keys}
 use Rattle.ob_seal.specs.Sealing.{Sealing}
 use Rattle.ob_cells.specs.Runs.{IsFurther}
-use Rattle.ob_flat_rows.specs.Rows.{row_cells}
+use Rattle.ob_flat.specs.Rows.{row_cells}
 use Rattle.ob_twin.specs.declared.gates.Open.{Open}
 use Rattle.ob_twin.specs.Register.{place_of}
 use Rattle.ob_twin.specs.Opening.{with_mark}

@@ -3,7 +3,7 @@ use Rattle.std.specs.Prelude.{◌⊎◌, ℕ, replicate, None}
 use Rattle.ob_store.specs.Disk.{Disk, Image}
 use Rattle.ob_store.specs.Calls.{Holds}
 use Rattle.ob_seal.specs.declared.keys.Keys.{Keys}
-use Rattle.ob_flat_rows.specs.Rows.{row_cells}
+use Rattle.ob_flat.specs.Rows.{row_cells}
 use Rattle.ob_twin.specs.Keyed.{tagging}
 use Rattle.ob_twin.specs.Register.{StandsAt}
 use Rattle.ob_start.specs.Laying.{HasNoHead, IsTornHead}

@@ -1,3 +1,6 @@
+pub mod Rows
+pub mod Reads
+pub mod Writes
 pub mod Places
 pub mod Heads
 pub mod Standing
@@ -6,3 +9,4 @@ pub mod Orders
 pub mod Openings
 pub mod Ends
 pub mod Calls
+pub mod Acts

@@ -11,8 +11,8 @@ use Rattle.ob_store.specs.Lines.{Trace}
 use Rattle.ob_store.specs.Told.{Tells, TellsFirst}
 use Rattle.ob_seal.specs.declared.keys.Keys.{Keys}
 use Rattle.ob_seal.specs.Sealing.{Sealing}
-use Rattle.ob_flat_rows.specs.Rows.{AreRows}
-use Rattle.ob_flat_rows.specs.Reads.{IsFirstRowDamage}
+use Rattle.ob_flat.specs.Rows.{AreRows}
+use Rattle.ob_flat.specs.Reads.{IsFirstRowDamage}
 use Rattle.ob_twin.specs.declared.gates.Open.{Open}
 use Rattle.ob_twin.specs.Keyed.{tagging}
 use Rattle.ob_twin.specs.Register.{StandsAt}

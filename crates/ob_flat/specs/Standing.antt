@@ -10,7 +10,7 @@ use Rattle.ob_twin.specs.Keyed.{tagging}
 use Rattle.ob_twin.specs.Register.{StandsAt}
 use Rattle.ob_serial.specs.Serial.{Map}
 use Rattle.ob_serial.specs.Vaults.{Standing}
-use Rattle.ob_flat_rows.specs.Rows.{IsRow}
+use Rattle.ob_flat.specs.Rows.{IsRow}
 use Rattle.ob_flat.specs.Places.{area_of}
 use Rattle.ob_flat.specs.Heads.{IsHead}
 

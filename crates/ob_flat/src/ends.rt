@@ -5,7 +5,7 @@ ghost use Rattle.ob_base.specs.declared.params.Params.{Params};
 ghost use Rattle.ob_store.specs.Images.{IsSynced, LeavesOnly, Passes};
 ghost use Rattle.ob_store.specs.Calls.{Serves, Holds};
 ghost use Rattle.ob_cells.specs.Runs.{IsFurther};
-ghost use Rattle.ob_flat_rows.specs.Rows.{row_cells};
+ghost use Rattle.ob_flat.specs.Rows.{row_cells};
 ghost use Rattle.ob_twin.specs.declared.twin.Twin.TheVariants.{EPOCH};
 ghost use Rattle.ob_twin.specs.Register.{place_of};
 ghost use Rattle.ob_twin.specs.Opening.{GatesAre, with_mark};
@@ -17,8 +17,8 @@ ghost use Rattle.ob_flat.specs.Standing.{StandsFlat};
 ghost use Rattle.ob_flat.specs.Calls.{SameOffEpoch};
 
 use crate::places::area_of;
+use crate::writing::write_rows;
 use ob_base::{Failed, Fault, Value};
-use ob_flat_rows::write_rows;
 use ob_seal::Sealer;
 use ob_store::{Store, Watch, sync_noted};
 use ob_twin::{Gates, SetErr, Twin};

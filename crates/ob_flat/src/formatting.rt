@@ -7,7 +7,7 @@ ghost use Rattle.ob_store.specs.Disk.{Image};
 ghost use Rattle.ob_store.specs.Images.{IsSynced, Passes, LeavesOnly};
 ghost use Rattle.ob_store.specs.Calls.{Serves, IsFailed, IsStoreFault, Holds};
 ghost use Rattle.ob_store.specs.Told.{Does};
-ghost use Rattle.ob_flat_rows.specs.Rows.{row_cells};
+ghost use Rattle.ob_flat.specs.Rows.{row_cells};
 ghost use Rattle.ob_twin.specs.Keyed.{tagging};
 ghost use Rattle.ob_twin.specs.Register.{StandsAt};
 ghost use Rattle.ob_twin.specs.Reading.{NoneOpen};
@@ -19,8 +19,8 @@ ghost use Rattle.ob_flat.specs.Standing.{StandsFlat};
 ghost use Rattle.ob_flat.specs.Orders.{format_notes, rows_notes};
 
 use crate::heads::VERSION;
+use crate::writing::write_blanks;
 use ob_base::{BODY_CELL, Failed, Fault, Params};
-use ob_flat_rows::write_blanks;
 use ob_seal::{Keys, Sealer};
 use ob_start::{head_cell, lay_registers, set_first};
 use ob_store::{Store, Watch, sync_noted, write_through};

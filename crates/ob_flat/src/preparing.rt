@@ -8,8 +8,8 @@ ghost use Rattle.ob_flat.specs.Openings.{IsOpenFault, IsOpening};
 
 use crate::opening::Opening;
 use crate::places::area_of;
+use crate::reading::read_values;
 use ob_base::{Fault, Params, Value};
-use ob_flat_rows::read_values;
 use ob_seal::{Keys, Sealer};
 use ob_start::{begin, read_registers};
 use ob_store::{Store, Watch};

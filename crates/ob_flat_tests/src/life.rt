@@ -1,8 +1,9 @@
 //! The calls on a plain store in memory as acts of its life.
 
 use ob_base::Params;
-use ob_flat::FlatVault;
-use ob_flat_life::{begin_life, calls_are_acts, flat_chains_are_runs, head_in_life, open_in_life};
+use ob_flat::{
+    FlatVault, begin_life, calls_are_acts, flat_chains_are_runs, head_in_life, open_in_life,
+};
 use ob_mem::MemStore;
 use ob_pads::{pads_are_fresh, runs_join};
 use ob_seal::Keys;

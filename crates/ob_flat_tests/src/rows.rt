@@ -4,7 +4,7 @@ ghost use Rattle.std.specs.Prelude.{◌≡◌};
 ghost use Rattle.ob_mem.specs.Memory.{disk_of_store};
 
 use ob_base::{Check, Fault, Value};
-use ob_flat_rows::{read_values, write_rows};
+use ob_flat::{read_values, write_rows};
 use ob_mem::MemStore;
 use ob_seal::{Keys, Sealer};
 use ob_store::{Blind, Store};

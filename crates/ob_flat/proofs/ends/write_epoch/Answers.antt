@@ -8,7 +8,7 @@ use Rattle.ob_store.proofs.Moments.{weakened}
 use Rattle.ob_store.proofs.Serving.{if_ok, on_ok}
 use Rattle.ob_store.proofs.Doing.{tells_then, first_more, first_behind, sync_cut}
 use Rattle.ob_seal.specs.declared.keys.Keys.{Keys}
-use Rattle.ob_flat_rows.specs.Rows.{row_cells}
+use Rattle.ob_flat.specs.Rows.{row_cells}
 use Rattle.ob_twin.specs.Keyed.{tagging}
 use Rattle.ob_twin.specs.Register.{StandsAt, IsPut}
 use Rattle.ob_twin.specs.Refused.{SetLeaves}

@@ -5,8 +5,8 @@ use Rattle.ob_store.proofs.Serving.{on_ok, goes_then, serves_then, if_ok}
 use Rattle.ob_store.proofs.Doing.{does_refused, does_then, first_more, first_behind}
 use Rattle.ob_twin.specs.Orders.{through_notes, set_notes}
 use Rattle.ob_seal.specs.declared.keys.Keys.{Keys}
-use Rattle.ob_flat_rows.specs.Rows.{row_cells}
-use Rattle.ob_flat_rows.proofs.Cells.{blanks_short}
+use Rattle.ob_flat.specs.Rows.{row_cells}
+use Rattle.ob_flat.proofs.RowCells.{blanks_short}
 use Rattle.ob_start.specs.Orders.{lay_notes}
 use Rattle.ob_start.proofs.Clearing.{no_head_left}
 use Rattle.ob_flat.specs.Heads.{head_cell}

@@ -4,7 +4,7 @@ use Rattle.ob_twin.specs.declared.twin.Twin.TheVariants.{EPOCH}
 use Rattle.ob_twin.specs.Refused.{IsSetFault}
 use Rattle.ob_flat.specs.Ends.{EndsFrom, EndTells, IfUnsure}
 use Rattle.ob_store.specs.Calls.{Holds}
-use Rattle.ob_flat_rows.specs.Rows.{row_cells}
+use Rattle.ob_flat.specs.Rows.{row_cells}
 use Rattle.ob_flat.specs.Places.{area_of}
 use Rattle.ob_flat.proofs.Refusals.{none_done, refused_leaves, refused_tells}
 use Rattle.ob_flat.proofs.Frames.{none_pass}

@@ -5,9 +5,9 @@ use Rattle.ob_store.specs.Told.{Tells, TellsFirst}
 use Rattle.ob_store.proofs.Doing.{tells_then, first_more, first_behind, first_all}
 use Rattle.ob_seal.specs.Sealing.{Sealing}
 use Rattle.ob_cells.specs.Orders.{read_notes}
-use Rattle.ob_flat_rows.specs.Rows.{AreRows}
-use Rattle.ob_flat_rows.specs.Reads.{AreRowsRead}
-use Rattle.ob_flat_rows.proofs.RowReads.{read_alike}
+use Rattle.ob_flat.specs.Rows.{AreRows}
+use Rattle.ob_flat.specs.Reads.{AreRowsRead}
+use Rattle.ob_flat.proofs.RowReads.{read_alike}
 use Rattle.ob_start.specs.declared.registers.Numbers.{Numbers}
 use Rattle.ob_start.specs.Orders.{registers_notes, begin_notes}
 use Rattle.ob_start.proofs.Noted.{reads_front}
