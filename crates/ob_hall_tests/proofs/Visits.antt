@@ -6,11 +6,11 @@ use Rattle.ob_session.specs.Clients.{IsOneCall}
 use Rattle.ob_hall.specs.Passes.{Hall, Pass, said_of}
 use Rattle.ob_hall.specs.Calling.{IsReady}
 use Rattle.ob_hall.specs.Testing.{Visits}
-use Rattle.ob_starts.specs.declared.starting.Started.{Started}
-use Rattle.ob_starts.specs.Served.{Words, words, IsClient, IsLater, StepsToSignOff}
-use Rattle.ob_starts.specs.Starts.{Each, HasItsPlace, IsStepped, IsJoined}
-use Rattle.ob_starts.proofs.Eaching.{each-all, each-length}
-use Rattle.ob_starts.proofs.Placing.{still_placed, all_back}
+use Rattle.ob_threads.specs.declared.starting.Started.{Started}
+use Rattle.ob_threads.specs.Served.{Words, words, IsClient, IsLater, StepsToSignOff}
+use Rattle.ob_threads.specs.Starts.{Each, HasItsPlace, IsStepped, IsJoined}
+use Rattle.ob_threads.proofs.Eaching.{each-all, each-length}
+use Rattle.ob_threads.proofs.Placing.{still_placed, all_back}
 use Rattle.ob_hall_tests.specs.Halls.{IsFresh, IsVisiting}
 
 pub fresh_visiting : (hall : Hall) (pass : Pass) (client : ℕ) (gone : Bool) → IsFresh hall pass → client ≡ pass.client → gone ≡ false → IsVisiting hall pass client gone

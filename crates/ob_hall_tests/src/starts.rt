@@ -2,8 +2,8 @@
 
 ghost use Rattle.std.specs.Prelude.{◌≡◌, ◌≤◌, All, [], length, vec_capacity};
 ghost use Rattle.ob_hall.specs.Calling.{IsReady};
-ghost use Rattle.ob_starts.specs.Served.{words};
-ghost use Rattle.ob_starts.specs.Starts.{Each, CanStep, IsStepped};
+ghost use Rattle.ob_threads.specs.Served.{words};
+ghost use Rattle.ob_threads.specs.Starts.{Each, CanStep, IsStepped};
 ghost use Rattle.ob_hall_tests.specs.Halls.{AreStarting, AreDone, IsVisiting};
 ghost use denote.Param.Send.{IsSync};
 
@@ -11,7 +11,7 @@ use crate::halls::{closed, opened};
 use crate::visitor::Visitor;
 use ob_hall::{Hall, Pass};
 use ob_session::Runner;
-use ob_starts::{Client, Started, join_all, run_unless, start_all, step_all};
+use ob_threads::{Client, Started, join_all, run_unless, start_all, step_all};
 use std::alloc::Global;
 use std::process::Abort;
 use std::sync::Wait;

@@ -13,10 +13,10 @@ use Rattle.ob_hall.specs.Closing.{HasPass}
 use Rattle.ob_hall.proofs.Numbers.{one_place}
 use Rattle.ob_conduct.specs.Acts.{Act}
 use Rattle.ob_conduct.specs.Rounds.{InRounds}
-use Rattle.ob_starts.specs.declared.starting.Started.{Started}
-use Rattle.ob_starts.specs.declared.starting.Started.TheVariants.{Away, Here}
-use Rattle.ob_starts.specs.Served.{Words}
-use Rattle.ob_starts.specs.Starts.{Each, IsAsItCame, IsJoined, stays}
+use Rattle.ob_threads.specs.declared.starting.Started.{Started}
+use Rattle.ob_threads.specs.declared.starting.Started.TheVariants.{Away, Here}
+use Rattle.ob_threads.specs.Served.{Words}
+use Rattle.ob_threads.specs.Starts.{Each, IsAsItCame, IsJoined, stays}
 use Rattle.ob_driver.specs.Places.{StandIn, HandRound, AreHandRounds}
 use Rattle.ob_run.specs.Crews.{CrewSteps}
 use Rattle.ob_run.specs.Woven.{AreWoven}

@@ -11,10 +11,10 @@ use Rattle.ob_driver.specs.Driven.{Side}
 use Rattle.ob_driver.specs.Drives.{RunsOut, RunFails}
 use Rattle.ob_driver.specs.Places.{HandRound, AreHandRounds, AreInRounds}
 use Rattle.ob_driver.proofs.Joining.{runs_out_also, run_fails_also}
-use Rattle.ob_starts.specs.declared.starting.Started.{Started}
-use Rattle.ob_starts.specs.Served.{Words, IsClient, IsLater}
-use Rattle.ob_starts.specs.Starts.{Each, HasItsPlace, IsAsItCame, IsWaitedFor, IsJoined, stays}
-use Rattle.ob_starts.proofs.Placing.{all_waited, all_back}
+use Rattle.ob_threads.specs.declared.starting.Started.{Started}
+use Rattle.ob_threads.specs.Served.{Words, IsClient, IsLater}
+use Rattle.ob_threads.specs.Starts.{Each, HasItsPlace, IsAsItCame, IsWaitedFor, IsJoined, stays}
+use Rattle.ob_threads.proofs.Placing.{all_waited, all_back}
 use Rattle.ob_run.specs.Crews.{CrewSteps, AreOut, AreBack}
 use Rattle.ob_run.specs.Serving.{DriverEnds, ServeEnds}
 use Rattle.ob_run.proofs.Meeting.{rounds_kept}

@@ -19,9 +19,9 @@ use Rattle.ob_driver.specs.Driven.{Side}
 use Rattle.ob_driver.specs.Drives.{IsFirstPass}
 use Rattle.ob_run.specs.Woven.{HistoriesWeave}
 use Rattle.ob_run.specs.Ends.{IsQuiet, OverRunsEndOver, FailedRunsFail, IdleHallsHaveNone}
-use Rattle.ob_starts.specs.Served.{Words, words, IsClient, IsLater}
-use Rattle.ob_starts.specs.Starts.{Each}
-use Rattle.ob_starts.proofs.Eaching.{each-length}
+use Rattle.ob_threads.specs.Served.{Words, words, IsClient, IsLater}
+use Rattle.ob_threads.specs.Starts.{Each}
+use Rattle.ob_threads.proofs.Eaching.{each-length}
 use Rattle.ob_run.specs.Serving.{ServeEnds}
 use Rattle.ob_run.specs.Threaded.{InThreads}
 use Rattle.ob_run.proofs.Opening.{first_pass, are_clients, are_ready, as_many, driver_back}

@@ -8,10 +8,10 @@ use Rattle.ob_turn.specs.History.{entries_of}
 use Rattle.ob_turn.proofs.Prefixes.{prefix_trans}
 use Rattle.ob_hall.specs.Turns.{client_numbers}
 use Rattle.ob_hall.specs.Passes.{Steps, Hall, Pass, opening_of, pass_place, history_of, entries_by}
-use Rattle.ob_starts.specs.declared.starting.Started.{Started}
-use Rattle.ob_starts.specs.declared.starting.Started.TheVariants.{Away, Here}
-use Rattle.ob_starts.specs.Served.{Words}
-use Rattle.ob_starts.specs.Starts.{Each, IsStepped, AreOrdered}
+use Rattle.ob_threads.specs.declared.starting.Started.{Started}
+use Rattle.ob_threads.specs.declared.starting.Started.TheVariants.{Away, Here}
+use Rattle.ob_threads.specs.Served.{Words}
+use Rattle.ob_threads.specs.Starts.{Each, IsStepped, AreOrdered}
 use Rattle.ob_driver.specs.Places.{StandIn}
 use Rattle.ob_run.proofs.Keeping.{of_append}
 use Rattle.ob_run.proofs.Standing.{count, count_more, count_own}

@@ -4,12 +4,12 @@ use Rattle.ob_turn.specs.declared.turn.Entry.{Entry}
 use Rattle.ob_hall.specs.Passes.{Steps, Hall, Pass, history_of}
 use Rattle.ob_conduct.specs.Acts.{Act}
 use Rattle.ob_driver.specs.Places.{HandRound, AreHandRounds, AreInRounds}
-use Rattle.ob_starts.specs.declared.starting.Started.{Started}
-use Rattle.ob_starts.specs.declared.starting.Started.TheVariants.{Away, Here}
-use Rattle.ob_starts.specs.Served.{Words, IsLater}
-use Rattle.ob_starts.specs.Starts.{Each, HasItsPlace, CanStep, IsStepped}
-use Rattle.ob_starts.proofs.Eaching.{each-all}
-use Rattle.ob_starts.proofs.Placing.{still_placed}
+use Rattle.ob_threads.specs.declared.starting.Started.{Started}
+use Rattle.ob_threads.specs.declared.starting.Started.TheVariants.{Away, Here}
+use Rattle.ob_threads.specs.Served.{Words, IsLater}
+use Rattle.ob_threads.specs.Starts.{Each, HasItsPlace, CanStep, IsStepped}
+use Rattle.ob_threads.proofs.Eaching.{each-all}
+use Rattle.ob_threads.proofs.Placing.{still_placed}
 use Rattle.ob_run.specs.Crews.{CrewSteps}
 
 module _ {U Plan : Type 0} (w : Words U Plan) (hall : Hall) where

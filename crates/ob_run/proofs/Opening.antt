@@ -11,7 +11,7 @@ use Rattle.ob_hall.specs.Opening.{IsFreshPass, AreClients, ArePasses}
 use Rattle.ob_hall.specs.Calling.{IsReady, IsBetween}
 use Rattle.ob_driver.specs.Driven.{Side}
 use Rattle.ob_driver.specs.Drives.{IsFirstPass}
-use Rattle.ob_starts.specs.Served.{Words}
+use Rattle.ob_threads.specs.Served.{Words}
 use Rattle.ob_run.specs.Serving.{ServeEnds}
 
 first_is : {A : Type 0} (x y : A) (xs ys : List A) → ◌≡◌ {A = List A} (x ∷ xs) (y ∷ ys) → x ≡ y

@@ -15,8 +15,8 @@ use Rattle.ob_hall.specs.Calling.{IsReady, IsBetween}
 use Rattle.ob_hall.specs.Driving.{StepRule, AreSteps}
 use Rattle.ob_hall.specs.Laws.{AreOwnCalls}
 use Rattle.ob_conduct.specs.Scenes.{RunnerKind, runner_kind, seat_of}
-use Rattle.ob_starts.specs.Served.{Words, words, IsClient, IsLater}
-use Rattle.ob_starts.specs.Starts.{Each}
+use Rattle.ob_threads.specs.Served.{Words, words, IsClient, IsLater}
+use Rattle.ob_threads.specs.Starts.{Each}
 use Rattle.ob_run.specs.Threaded.{is_by_hand}
 use Rattle.ob_run.proofs.Keeping.{IsPlanned}
 use Rattle.ob_run.proofs.ByHand.{IsNewHere}

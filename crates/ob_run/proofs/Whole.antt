@@ -40,8 +40,8 @@ use Rattle.ob_driver.specs.Turning.{AreActs}
 use Rattle.ob_run.specs.Woven.{Woven, HistoriesWeave}
 use Rattle.ob_run.specs.Ends.{IsQuiet, AreQuiet, OverRunsEndOver, FailedRunsFail, IdleHallsHaveNone}
 use Rattle.ob_run.proofs.Quiet.{steps_quiet}
-use Rattle.ob_starts.specs.Served.{Words, words, IsClient, IsLater}
-use Rattle.ob_starts.specs.Starts.{Each}
+use Rattle.ob_threads.specs.Served.{Words, words, IsClient, IsLater}
+use Rattle.ob_threads.specs.Starts.{Each}
 use Rattle.ob_run.specs.Threaded.{is_by_hand, without_others, OthersSignedOff, HandRounds, InThreads}
 use Rattle.ob_run.specs.Crews.{AreBack}
 use Rattle.ob_run.specs.Serving.{ServeEnds}

@@ -3,9 +3,9 @@ use Rattle.std.specs.Prelude.{◌≡◌, ℕ, List, drop, map}
 use Rattle.ob_hall.specs.Passes.{Hall, Pass}
 use Rattle.ob_conduct.specs.Acts.{Act}
 use Rattle.ob_driver.specs.Places.{AreInRounds}
-use Rattle.ob_starts.specs.declared.starting.Started.{Started}
-use Rattle.ob_starts.specs.Served.{Words}
-use Rattle.ob_starts.specs.Starts.{Each, HasItsPlace, IsAsItCame, IsStepped, IsJoined, AreOrdered, stays}
+use Rattle.ob_threads.specs.declared.starting.Started.{Started}
+use Rattle.ob_threads.specs.Served.{Words}
+use Rattle.ob_threads.specs.Starts.{Each, HasItsPlace, IsAsItCame, IsStepped, IsJoined, AreOrdered, stays}
 
 -- Each client that is here made one step, and those that are away stayed. The turns of these steps stand one behind the other, and behind the first n; up to the last of them there are m.
 abbrev pub CrewSteps : {U Plan : Type 0} → Words U Plan → Hall → ℕ → List (Started U) → List (Started U) → ℕ → Type 0

@@ -8,7 +8,7 @@ use Rattle.ob_hall.specs.Passes.{Hall, Pass}
 use Rattle.ob_conduct.specs.Acts.{Act}
 use Rattle.ob_driver.specs.Driven.{Side}
 use Rattle.ob_driver.specs.Drives.{RunsOut, RunFails, IsNotBegun}
-use Rattle.ob_starts.specs.Served.{Words}
+use Rattle.ob_threads.specs.Served.{Words}
 use Rattle.ob_run.specs.Crews.{AreBack}
 
 -- where the driver's run was answered so, with acts of which this is so, too

@@ -1,14 +1,14 @@
 //! The clients of a hall, in threads of their own or by hand.
 
 ghost use Rattle.std.specs.Prelude.{All};
-ghost use Rattle.ob_starts.specs.Served.{words};
-ghost use Rattle.ob_starts.specs.Starts.{CanStep};
+ghost use Rattle.ob_threads.specs.Served.{words};
+ghost use Rattle.ob_threads.specs.Starts.{CanStep};
 ghost use Rattle.ob_run.specs.Crews.{CrewSteps};
 
 use ob_driver::{Hands, Room};
 use ob_hall::Hall;
 use ob_session::Runner;
-use ob_starts::{Client, Started, step_all};
+use ob_threads::{Client, Started, step_all};
 use std::sync::Wait;
 
 /// Clients that were started, in order. They are joined and never let go.
@@ -40,8 +40,8 @@ fn step_each<U: Runner, R: Wait>(
 
 impl<U: Runner> Hands for Crew<U> {
     ghost use Rattle.std.specs.Prelude.{All};
-    ghost use Rattle.ob_starts.specs.Served.{words};
-    ghost use Rattle.ob_starts.specs.Starts.{CanStep};
+    ghost use Rattle.ob_threads.specs.Served.{words};
+    ghost use Rattle.ob_threads.specs.Starts.{CanStep};
     ghost use Rattle.ob_run.specs.Crews.{CrewSteps};
 
     ghost ready = { λ hall crew.

@@ -7,8 +7,8 @@ use Rattle.ob_driver.specs.Driven.{side}
 use Rattle.ob_run.proofs.Entries.{histories_weave}
 use Rattle.ob_run.proofs.Over.{over_runs}
 use Rattle.ob_run.proofs.Idle.{idle_halls}
-use Rattle.ob_starts.specs.Served.{words, IsLater}
-use Rattle.ob_starts.proofs.Eaching.{each-length}
+use Rattle.ob_threads.specs.Served.{words, IsLater}
+use Rattle.ob_threads.proofs.Eaching.{each-length}
 use Rattle.ob_run.proofs.Opening.{first_pass, as_many}
 use Rattle.ob_run.proofs.Laws.{own_calls, failed_runs}
 use Rattle.ob_run.proofs.HallServing.{clients, handed_back, in_threads}

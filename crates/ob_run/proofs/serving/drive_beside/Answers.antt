@@ -3,7 +3,7 @@ use Rattle.ob_io.specs.Streams.{outflow}
 use Rattle.ob_serial.specs.VaultKinds.{kind_of}
 use Rattle.ob_desk.specs.Beats.{beat_kind}
 use Rattle.ob_driver.specs.Driven.{side}
-use Rattle.ob_starts.specs.Served.{words}
+use Rattle.ob_threads.specs.Served.{words}
 use Rattle.ob_run.proofs.DriverEnding.{ends_told}
 use Rattle.ob_run.proofs.serving.drive_beside.Goals as goal
 

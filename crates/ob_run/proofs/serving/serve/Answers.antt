@@ -4,9 +4,9 @@ use Rattle.ob_io.specs.Streams.{outflow}
 use Rattle.ob_serial.specs.VaultKinds.{kind_of}
 use Rattle.ob_desk.specs.Beats.{beat_kind}
 use Rattle.ob_driver.specs.Driven.{side}
-use Rattle.ob_starts.specs.Served.{words, IsClient}
-use Rattle.ob_starts.specs.Starts.{HasItsPlace}
-use Rattle.ob_starts.proofs.Eaching.{each-length}
+use Rattle.ob_threads.specs.Served.{words, IsClient}
+use Rattle.ob_threads.specs.Starts.{HasItsPlace}
+use Rattle.ob_threads.proofs.Eaching.{each-length}
 use Rattle.ob_run.proofs.Meeting.{back_same}
 use Rattle.ob_run.proofs.DriverEnding.{ends_back, crew_waited, crew_back}
 use Rattle.ob_run.proofs.serving.serve.Goals as goal

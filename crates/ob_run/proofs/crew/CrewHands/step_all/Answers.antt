@@ -1,4 +1,4 @@
-use Rattle.ob_starts.specs.Served.{words}
+use Rattle.ob_threads.specs.Served.{words}
 use Rattle.ob_run.proofs.Meeting.{still_met}
 use Rattle.ob_run.proofs.crew.CrewHands.step_all.Goals as goal
 

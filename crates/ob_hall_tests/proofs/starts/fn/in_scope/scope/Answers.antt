@@ -1,10 +1,10 @@
 use Rattle.std.specs.Prelude.{vec_capacity}
 use Rattle.std.proofs.Common.{◌≤◌, ◌∙◌, All, length, refl, sym, ap, subst}
 use Rattle.ob_hall_tests.specs.declared.visitor.Visitor.{Visitor}
-use Rattle.ob_starts.specs.Served.{IsClient}
-use Rattle.ob_starts.specs.Starts.{Each, HasItsPlace, IsWaitedFor, IsJoined}
-use Rattle.ob_starts.proofs.Eaching.{each-length}
-use Rattle.ob_starts.proofs.Placing.{all_met, all_waited, still_placed}
+use Rattle.ob_threads.specs.Served.{IsClient}
+use Rattle.ob_threads.specs.Starts.{Each, HasItsPlace, IsWaitedFor, IsJoined}
+use Rattle.ob_threads.proofs.Eaching.{each-length}
+use Rattle.ob_threads.proofs.Placing.{all_met, all_waited, still_placed}
 use Rattle.ob_hall_tests.proofs.Visits.{visits, are_clients, all_ready}
 use Rattle.ob_hall_tests.proofs.starts.fn.in_scope.scope.Goals as goal
 

@@ -4,9 +4,9 @@ use Rattle.ob_io.specs.Streams.{outflow}
 use Rattle.ob_serial.specs.VaultKinds.{kind_of}
 use Rattle.ob_desk.specs.Beats.{beat_kind}
 use Rattle.ob_driver.specs.Driven.{side}
-use Rattle.ob_starts.specs.Served.{words, IsClient}
-use Rattle.ob_starts.specs.Starts.{Each, HasItsPlace, IsAsItCame, stays}
-use Rattle.ob_starts.proofs.Placing.{all_met}
+use Rattle.ob_threads.specs.Served.{words, IsClient}
+use Rattle.ob_threads.specs.Starts.{Each, HasItsPlace, IsAsItCame, stays}
+use Rattle.ob_threads.proofs.Placing.{all_met}
 use Rattle.ob_run.proofs.DriverEnding.{placed_last, ends_out}
 use Rattle.ob_run.proofs.beside.fn.in_scope.scope.Goals as goal
 

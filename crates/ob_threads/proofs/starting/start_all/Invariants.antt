@@ -1,9 +1,9 @@
 use Rattle.std.proofs.Common.{◌≡◌, ◌≤◌, ◌++◌, length, drop, map}
 use Rattle.std.specs.Prelude.{vec_capacity}
 use Rattle.std.specs.Vec.Iter.{into_iter_items, into_iter_len}
-use Rattle.ob_starts.specs.Served.{words}
-use Rattle.ob_starts.specs.Starts.{Each, HasItsPlace, IsAsItCame, stays}
-use Rattle.ob_starts.proofs.starting.start_all.Given as goal
+use Rattle.ob_threads.specs.Served.{words}
+use Rattle.ob_threads.specs.Starts.{Each, HasItsPlace, IsAsItCame, stays}
+use Rattle.ob_threads.proofs.starting.start_all.Given as goal
 
 -- the clients so far have their places, and there is room for the others
 abbrev pub invariant-loop-client : goal.invariant-loop-client

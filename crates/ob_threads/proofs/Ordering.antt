@@ -1,9 +1,9 @@
 -- The turns of a round, one behind the other.
 use Rattle.std.proofs.Common.{◌≡◌, ℕ, ◌+◌, ◌<◌, zero, suc, List, [], ◌∷◌, length, take, set, sym, subst, arith}
 use Rattle.ob_hall.specs.Passes.{history_of}
-use Rattle.ob_starts.specs.declared.starting.Started.{Started}
-use Rattle.ob_starts.specs.declared.starting.Started.TheVariants.{Away, Here}
-use Rattle.ob_starts.specs.Starts.{AreOrdered}
+use Rattle.ob_threads.specs.declared.starting.Started.{Started}
+use Rattle.ob_threads.specs.declared.starting.Started.TheVariants.{Away, Here}
+use Rattle.ob_threads.specs.Starts.{AreOrdered}
 
 module _ {U : Type 0} where
   ordered_next : (n k m i : ℕ) (now : List (Started U)) (y : Started U) → i < length now → AreOrdered n (take i now) k → AreOrdered k (y ∷ []) m → AreOrdered n (take (suc i) (set now i y)) m

@@ -1,9 +1,9 @@
 use Rattle.std.proofs.Common.{◌≡◌, ◌∷◌, [], false, refl, sym, subst}
-use Rattle.ob_starts.specs.declared.starting.Started.TheVariants.{Here}
-use Rattle.ob_starts.specs.Served.{words}
-use Rattle.ob_starts.specs.Starts.{IsStepped, AreOrdered, ran_here}
-use Rattle.ob_starts.proofs.Placing.{is_here, has_stepped}
-use Rattle.ob_starts.proofs.stepping.step.Goals as goal
+use Rattle.ob_threads.specs.declared.starting.Started.TheVariants.{Here}
+use Rattle.ob_threads.specs.Served.{words}
+use Rattle.ob_threads.specs.Starts.{IsStepped, AreOrdered, ran_here}
+use Rattle.ob_threads.proofs.Placing.{is_here, has_stepped}
+use Rattle.ob_threads.proofs.stepping.step.Goals as goal
 
 pub take_turn-requires-clause-ready : goal.take_turn-requires-clause-ready
 take_turn-requires-clause-ready g c = (is_here (words g.U.Runner.client g.U.Runner.bound g.U.Runner.plan g.U.Runner.fits g.U.Runner.turn) c.args.hall.now c.args.started.now c.in-Here.client c.in-Here.is c.requires.met).ready

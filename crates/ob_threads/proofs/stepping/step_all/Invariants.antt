@@ -1,8 +1,8 @@
 use Rattle.std.proofs.Common.{◌≡◌, take, drop}
 use Rattle.std.specs.List.{list_any}
-use Rattle.ob_starts.specs.Served.{words}
-use Rattle.ob_starts.specs.Starts.{Each, IsStepped, AreOrdered, ran_here}
-use Rattle.ob_starts.proofs.stepping.step_all.Given as goal
+use Rattle.ob_threads.specs.Served.{words}
+use Rattle.ob_threads.specs.Starts.{Each, IsStepped, AreOrdered, ran_here}
+use Rattle.ob_threads.proofs.stepping.step_all.Given as goal
 
 -- the first ones have made their steps, and the others none
 abbrev pub invariant-loop-one : goal.invariant-loop-one

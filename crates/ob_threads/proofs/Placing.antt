@@ -6,12 +6,12 @@ use Rattle.ob_hall.specs.Passes.{Hall, Pass, opening_of, said_of}
 use Rattle.ob_hall.specs.Calling.{IsReady, TellsCalls}
 use Rattle.ob_hall.specs.Driving.{TurnSays, MakesStep, MakesSteps}
 use Rattle.ob_hall.proofs.Chaining.{makes_join}
-use Rattle.ob_starts.specs.declared.starting.Started.{Started}
-use Rattle.ob_starts.specs.declared.starting.Started.TheVariants.{Away, Here}
-use Rattle.ob_starts.specs.Served.{Words, IsClient, MakesOwnSteps, IsLater}
-use Rattle.ob_starts.specs.Starts.{Each, HasItsPlace, IsWaitedFor, CanStep, IsStepped, IsJoined}
-use Rattle.ob_starts.proofs.Joining.{steps_join}
-use Rattle.ob_starts.proofs.Eaching.{each-all, each-through}
+use Rattle.ob_threads.specs.declared.starting.Started.{Started}
+use Rattle.ob_threads.specs.declared.starting.Started.TheVariants.{Away, Here}
+use Rattle.ob_threads.specs.Served.{Words, IsClient, MakesOwnSteps, IsLater}
+use Rattle.ob_threads.specs.Starts.{Each, HasItsPlace, IsWaitedFor, CanStep, IsStepped, IsJoined}
+use Rattle.ob_threads.proofs.Joining.{steps_join}
+use Rattle.ob_threads.proofs.Eaching.{each-all, each-through}
 
 module _ {U Plan : Type 0} (w : Words U Plan) (hall : Hall) where
   goes_on_join : (a b c : Pass × U) → MakesOwnSteps w hall a b → MakesOwnSteps w hall b c → MakesOwnSteps w hall a c

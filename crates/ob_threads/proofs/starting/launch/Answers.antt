@@ -3,8 +3,8 @@ use denote.Param.{param}
 use denote.Param.Send.{param_send, arg_send, shr_send}
 use denote.Ref.{ShrRef}
 use Rattle.std.specs.contracts.sync.atomic.AtomicBool as AtomicBool
-use Rattle.ob_starts.proofs.Sent.{four_sent, client_row, client_sent, back_sent, back_row, hall_row, whole_hall_shared, flag_shared}
-use Rattle.ob_starts.proofs.starting.launch.Goals as goal
+use Rattle.ob_threads.proofs.Sent.{four_sent, client_row, client_sent, back_sent, back_row, hall_row, whole_hall_shared, flag_shared}
+use Rattle.ob_threads.proofs.starting.launch.Goals as goal
 
 pub spawn_with-requires-send-F : goal.spawn_with-requires-send-F
 spawn_with-requires-send-F g c κs within = param_send 2 _

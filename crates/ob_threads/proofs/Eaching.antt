@@ -4,7 +4,7 @@ use Rattle.std.specs.Prelude.{MatchOption, IfNone}
 use Rattle.std.specs.List.{list_any}
 use Rattle.std.proofs.lemmas.List.{append-nil, drop_all, map-append, length-drop}
 use Rattle.std.proofs.lemmas.List.Elements.{All-nil, All-cons, All-head, All-tail}
-use Rattle.ob_starts.specs.Starts.{Each}
+use Rattle.ob_threads.specs.Starts.{Each}
 
 module _ {A B : Type 0} (r : A → B → Type 0) where
   pub each-length : (xs : List A) (ys : List B) → Each r xs ys → length ys ≡ length xs

@@ -1,7 +1,7 @@
 //! A client's steps, until its sign-off.
 
 ghost use Rattle.std.specs.Prelude.{◌≡◌, MatchBool};
-ghost use Rattle.ob_starts.specs.Served.{words, IsClient, StepsToSignOff};
+ghost use Rattle.ob_threads.specs.Served.{words, IsClient, StepsToSignOff};
 
 use ob_hall::{Hall, Pass, drive};
 use ob_session::Runner;

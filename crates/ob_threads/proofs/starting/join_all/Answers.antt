@@ -1,9 +1,9 @@
 use Rattle.std.proofs.Common.{◌∷◌, [], ◌++◌, length, sym, ap, subst, ◌∙◌, append_assoc, length-append, arith}
 use Rattle.std.specs.Vec.Iter.{into_iter_items, into_iter_len}
-use Rattle.ob_starts.specs.Served.{words}
-use Rattle.ob_starts.specs.Starts.{Each, IsJoined}
-use Rattle.ob_starts.proofs.Eaching.{each-length, each-snoc, all_over}
-use Rattle.ob_starts.proofs.starting.join_all.Goals as goal
+use Rattle.ob_threads.specs.Served.{words}
+use Rattle.ob_threads.specs.Starts.{Each, IsJoined}
+use Rattle.ob_threads.proofs.Eaching.{each-length, each-snoc, all_over}
+use Rattle.ob_threads.proofs.starting.join_all.Goals as goal
 
 pub push_reserved-requires : goal.push_reserved-requires
 push_reserved-requires g c =

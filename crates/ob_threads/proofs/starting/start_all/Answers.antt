@@ -1,9 +1,9 @@
 use Rattle.std.proofs.Common.{drop, map, ◌≡◌, ◌∷◌, [], ◌++◌, length, sym, ap, subst, ◌∙◌, append_assoc, length-append, arith}
 use Rattle.std.specs.Vec.Iter.{into_iter_items, into_iter_len}
-use Rattle.ob_starts.specs.Served.{words, IsClient}
-use Rattle.ob_starts.specs.Starts.{Each, HasItsPlace, IsAsItCame, stays}
-use Rattle.ob_starts.proofs.Eaching.{each-length, each-snoc, all-at, all_over, later_next}
-use Rattle.ob_starts.proofs.starting.start_all.Goals as goal
+use Rattle.ob_threads.specs.Served.{words, IsClient}
+use Rattle.ob_threads.specs.Starts.{Each, HasItsPlace, IsAsItCame, stays}
+use Rattle.ob_threads.proofs.Eaching.{each-length, each-snoc, all-at, all_over, later_next}
+use Rattle.ob_threads.proofs.starting.start_all.Goals as goal
 
 pub push_reserved-requires : goal.push_reserved-requires
 push_reserved-requires g c =

@@ -6,9 +6,9 @@ use Rattle.ob_hall.specs.Driving.{TurnSays, MakesStep}
 use Rattle.ob_session.specs.Clients.{stands_after}
 use Rattle.ob_session.specs.declared.runner.Step.{Step}
 use Rattle.ob_session.specs.declared.runner.Step.TheVariants as stands
-use Rattle.ob_starts.specs.declared.starting.Started.{Started}
-use Rattle.ob_starts.specs.declared.starting.Started.TheVariants.{Away, Here}
-use Rattle.ob_starts.specs.Served.{Words, IsClient, MakesOwnSteps, StepsToSignOff, IsLater}
+use Rattle.ob_threads.specs.declared.starting.Started.{Started}
+use Rattle.ob_threads.specs.declared.starting.Started.TheVariants.{Away, Here}
+use Rattle.ob_threads.specs.Served.{Words, IsClient, MakesOwnSteps, StepsToSignOff, IsLater}
 
 -- the two lists are equally long, and each item of the one is so to the other's in its place
 abbrev pub Each : {A B : Type 0} → (A → B → Type 0) → List A → List B → Type 0

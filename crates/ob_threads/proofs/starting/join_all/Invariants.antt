@@ -1,9 +1,9 @@
 use Rattle.std.proofs.Common.{◌≡◌, ◌≤◌, ◌++◌, length}
 use Rattle.std.specs.Prelude.{vec_capacity}
 use Rattle.std.specs.Vec.Iter.{into_iter_items, into_iter_len}
-use Rattle.ob_starts.specs.Served.{words}
-use Rattle.ob_starts.specs.Starts.{Each, IsJoined}
-use Rattle.ob_starts.proofs.starting.join_all.Given as goal
+use Rattle.ob_threads.specs.Served.{words}
+use Rattle.ob_threads.specs.Starts.{Each, IsJoined}
+use Rattle.ob_threads.proofs.starting.join_all.Given as goal
 
 -- the first ones are joined, and there is room for the others
 abbrev pub invariant-loop-one : goal.invariant-loop-one

@@ -1,11 +1,11 @@
 use Rattle.std.proofs.Common.{◌∙◌, ◌<◌, ◌≤◌, ◌||◌, get_or, length, take, sym, ap, subst}
 use Rattle.std.specs.List.{list_any}
 use Rattle.std.proofs.lemmas.List.{take_all}
-use Rattle.ob_starts.specs.Served.{words}
-use Rattle.ob_starts.specs.Starts.{Each, CanStep, IsStepped, AreOrdered, ran_here}
-use Rattle.ob_starts.proofs.Eaching.{one_more, any_more, still_there}
-use Rattle.ob_starts.proofs.Ordering.{ordered_more}
-use Rattle.ob_starts.proofs.stepping.step_all.Goals as goal
+use Rattle.ob_threads.specs.Served.{words}
+use Rattle.ob_threads.specs.Starts.{Each, CanStep, IsStepped, AreOrdered, ran_here}
+use Rattle.ob_threads.proofs.Eaching.{one_more, any_more, still_there}
+use Rattle.ob_threads.proofs.Ordering.{ordered_more}
+use Rattle.ob_threads.proofs.stepping.step_all.Goals as goal
 
 pub step-ran-requires : goal.step-ran-requires
 step-ran-requires g c =

@@ -1,8 +1,8 @@
 //! A client in a thread of its own, or by hand.
 
 ghost use Rattle.std.specs.Prelude.{◌≡◌, ◌≤◌, false, All, [], length, drop, map, vec_capacity, IfOk, IfErr, IfNone};
-ghost use Rattle.ob_starts.specs.Served.{words, IsClient};
-ghost use Rattle.ob_starts.specs.Starts.{Each, ComesBack, IsByHand, HasItsPlace, IsAsItCame, IsWaitedFor, IsJoined, stays};
+ghost use Rattle.ob_threads.specs.Served.{words, IsClient};
+ghost use Rattle.ob_threads.specs.Starts.{Each, ComesBack, IsByHand, HasItsPlace, IsAsItCame, IsWaitedFor, IsJoined, stays};
 
 use crate::serving::{Client, run_unless, serve};
 use ob_hall::Hall;
@@ -21,8 +21,8 @@ pub struct Since<U> {
 }
 
 impl<U: Runner> Promise<(Client<U>, bool)> for Since<U> {
-    ghost use Rattle.ob_starts.specs.Served.{words};
-    ghost use Rattle.ob_starts.specs.Starts.{Each, ComesBack, IsByHand, HasItsPlace, IsWaitedFor, IsJoined};
+    ghost use Rattle.ob_threads.specs.Served.{words};
+    ghost use Rattle.ob_threads.specs.Starts.{Each, ComesBack, IsByHand, HasItsPlace, IsWaitedFor, IsJoined};
 
     ghost kept_by = { λ p back.
         ComesBack (words U.client U.bound U.plan U.fits U.turn) p.hall.value p.client.value back };

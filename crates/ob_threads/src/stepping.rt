@@ -2,8 +2,8 @@
 
 ghost use Rattle.std.specs.Prelude.{◌≡◌, [], ◌∷◌, All};
 ghost use Rattle.std.specs.List.{list_any};
-ghost use Rattle.ob_starts.specs.Served.{words};
-ghost use Rattle.ob_starts.specs.Starts.{Each, CanStep, IsStepped, AreOrdered, ran_here};
+ghost use Rattle.ob_threads.specs.Served.{words};
+ghost use Rattle.ob_threads.specs.Starts.{Each, CanStep, IsStepped, AreOrdered, ran_here};
 
 use crate::starting::Started;
 use ob_hall::{Hall, take_turn};
