@@ -12,11 +12,11 @@ trap 'rm -rf "$work"' EXIT
 epochs=200
 looks=2000000
 mkdir -p "$work/crates/desk_bench/src"
-for crate in ob_base ob_io ob_store ob_serial ob_order ob_queue ob_chains ob_versions ob_desk; do
+for crate in ob_base ob_io ob_store ob_serial ob_order ob_queue ob_key_versions ob_versions ob_desk; do
     cp -r "$top/crates/$crate" "$work/crates/"
     rm -rf "$work/crates/$crate/must-fail"
 done
-{ grep -E '^(ob_base|ob_io|ob_store|ob_serial|ob_order|ob_queue|ob_chains|ob_versions|ob_desk):' "$top/crates.txt"; echo 'desk_bench: ob_base ob_order ob_versions ob_serial ob_desk'; } >"$work/crates.txt"
+{ grep -E '^(ob_base|ob_io|ob_store|ob_serial|ob_order|ob_queue|ob_key_versions|ob_versions|ob_desk):' "$top/crates.txt"; echo 'desk_bench: ob_base ob_order ob_versions ob_serial ob_desk'; } >"$work/crates.txt"
 git -C "$work" init -q
 # The questions whether a call may be made, which tests ask, are asked here too.
 sed -i 's/^#\[cfg(test)\]$/ /' "$work/crates/ob_desk/src/desk.rt"

@@ -1,14 +1,14 @@
 //! Version chains, agendas and tables on small cases.
 
 use ob_base::{Key, Op, Value};
-use ob_chains::agenda::Agenda;
-use ob_chains::chain::Link;
-use ob_chains::readers::add_readers;
-use ob_chains::table::{
+use ob_key_versions::agenda::Agenda;
+use ob_key_versions::chain::Link;
+use ob_key_versions::readers::add_readers;
+use ob_key_versions::table::{
     Table, has_versions, make_room, mark_of_base, newest, note, put, raise, raise_base,
     reader_above, take,
 };
-use ob_chains::unlink::{count_where, unlink, written_key};
+use ob_key_versions::unlink::{count_where, unlink, written_key};
 use std::alloc::Global;
 use std::collections::HashMap;
 use std::process::Abort;

@@ -8,9 +8,9 @@ use Rattle.ob_order.specs.Order.{count_below, is_written, is_other_written}
 use Rattle.ob_order.proofs.Counts.{count_same}
 use Rattle.ob_order.proofs.Newest.{by_option, newest_own, newest_lower, held_goes}
 use Rattle.ob_order.proofs.Steps.{goes_on_range}
-use Rattle.ob_chains.specs.declared.chain.Chain.{Chain}
-use Rattle.ob_chains.specs.Tables.{link_at, has_links}
-use Rattle.ob_chains.proofs.Counted.{bit, beside, count_out, count_in, links_none, links_some}
+use Rattle.ob_key_versions.specs.declared.chain.Chain.{Chain}
+use Rattle.ob_key_versions.specs.Tables.{link_at, has_links}
+use Rattle.ob_key_versions.proofs.Counted.{bit, beside, count_out, count_in, links_none, links_some}
 use Rattle.ob_versions.specs.Index.{IsIndex}
 use Rattle.ob_versions.proofs.Indexed.{none_newest}
 

@@ -12,9 +12,9 @@ use Rattle.ob_order.proofs.Newest.{by_option, newest_own, newest_lower, version-
 use Rattle.ob_order.proofs.Falls.{fallen_edit}
 use Rattle.ob_order.proofs.Links.{conflict_alike, mark_at_put}
 use Rattle.ob_order.proofs.Counts.{other_written, own_written}
-use Rattle.ob_chains.specs.declared.chain.Link.{Link}
-use Rattle.ob_chains.specs.Chains.{IsNewest}
-use Rattle.ob_chains.specs.Tables.{raised}
+use Rattle.ob_key_versions.specs.declared.chain.Link.{Link}
+use Rattle.ob_key_versions.specs.Chains.{IsNewest}
+use Rattle.ob_key_versions.specs.Tables.{raised}
 use Rattle.ob_versions.specs.Index.{IsIndex}
 use Rattle.ob_versions.proofs.Marks.{mark_other, mark_here, mark_same_ops}
 

@@ -10,16 +10,16 @@ use Rattle.ob_order.specs.Order.{fresh, write_op, count_below, is_other_written}
 use Rattle.ob_order.proofs.Counts.{count_same}
 use Rattle.ob_order.proofs.Edits.{length-edit, at_edit_same}
 use Rattle.ob_order.proofs.Newest.{by_option}
-use Rattle.ob_chains.specs.declared.chain.Link.{Link}
-use Rattle.ob_chains.specs.declared.chain.Chain.{Chain}
-use Rattle.ob_chains.specs.Chains.{IsNewest, link_in, has_reader}
-use Rattle.ob_chains.specs.Tables.{chain_at, link_at, base_mark, has_links, is_reader, SameLinks, SameBases, SameKeys, SameReaders, IsMarkRaised}
-use Rattle.ob_chains.specs.Agendas.{AgendaModel}
+use Rattle.ob_key_versions.specs.declared.chain.Link.{Link}
+use Rattle.ob_key_versions.specs.declared.chain.Chain.{Chain}
+use Rattle.ob_key_versions.specs.Chains.{IsNewest, link_in, has_reader}
+use Rattle.ob_key_versions.specs.Tables.{chain_at, link_at, base_mark, has_links, is_reader, SameLinks, SameBases, SameKeys, SameReaders, IsMarkRaised}
+use Rattle.ob_key_versions.specs.Agendas.{AgendaModel}
 use Rattle.ob_versions.specs.Index.{IsIndex}
 use Rattle.ob_versions.specs.Ledgers.{LedgerModel, IsLedger, IsReadyAgenda, NotesReader, covered_mark}
 use Rattle.ob_versions.proofs.Marks.{mark_begun, mark_same_ops, ops_edit, version_edit, version_begun}
 use Rattle.ob_versions.proofs.Indexed.{version_from, newest_is, IsCovered, covered_is, index_moved, index_got, index_got_base, index_wrote, index_ended}
-use Rattle.ob_chains.proofs.Counted.{count_moved, count_stays}
+use Rattle.ob_key_versions.proofs.Counted.{count_moved, count_stays}
 use Rattle.ob_versions.proofs.Counted.{others_counted}
 use Rattle.ob_versions.proofs.Sources.{sourced_none, sourced_begun, sourced_same_ops, sourced_got, sourced_wrote}
 use Rattle.ob_versions.proofs.Readers.{readers_none, readers_begun, readers_moved, readers_noted, readers_edit, readers_got, readers_wrote}

@@ -10,9 +10,9 @@ use Rattle.ob_order.proofs.Newest.{by_option}
 use Rattle.ob_order.proofs.Falls.{Fallen, fallen_ended, fallen_cascade, fallen_then, went_on_before, length-cascade}
 use Rattle.ob_order.proofs.Tidies.{cascade_more, fall_idle}
 use Rattle.ob_order.proofs.Steps.{item}
-use Rattle.ob_chains.specs.declared.chain.Chain.{Chain}
-use Rattle.ob_chains.specs.Tables.{is_reader}
-use Rattle.ob_chains.specs.Agendas.{AgendaModel, has_ticket, Adds, IsReaderAbove}
+use Rattle.ob_key_versions.specs.declared.chain.Chain.{Chain}
+use Rattle.ob_key_versions.specs.Tables.{is_reader}
+use Rattle.ob_key_versions.specs.Agendas.{AgendaModel, has_ticket, Adds, IsReaderAbove}
 use Rattle.ob_versions.specs.Ledgers.{IsLedger, IsReadyAgenda, HasReaders, ReadersIn, IsAbove}
 
 -- ---- who is noted

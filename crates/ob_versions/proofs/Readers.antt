@@ -8,9 +8,9 @@ use Rattle.ob_order.specs.Order.{fresh, write_op}
 use Rattle.ob_order.proofs.Edits.{at_edit_same, at_edit_other, length-edit, slice_get-push}
 use Rattle.ob_order.proofs.Newest.{by_option, with_op_cases}
 use Rattle.ob_order.proofs.Falls.{ops_at}
-use Rattle.ob_chains.specs.declared.chain.Chain.{Chain}
-use Rattle.ob_chains.specs.Chains.{has_reader}
-use Rattle.ob_chains.specs.Tables.{chain_at, is_reader, SameReaders}
+use Rattle.ob_key_versions.specs.declared.chain.Chain.{Chain}
+use Rattle.ob_key_versions.specs.Chains.{has_reader}
+use Rattle.ob_key_versions.specs.Tables.{chain_at, is_reader, SameReaders}
 use Rattle.ob_versions.specs.Ledgers.{HasReaders, NotesReader}
 
 -- a key with readers has room for its chain

@@ -5,7 +5,7 @@ use Rattle.std.specs.declared.option.Option.{Option}
 use Rattle.std.specs.declared.option.Option.TheVariants.{Some}
 use Rattle.ob_order.specs.Works.{Work, version, mark}
 use Rattle.ob_order.specs.Chains.{IsMark}
-use Rattle.ob_chains.specs.declared.chain.Link.{Link}
+use Rattle.ob_key_versions.specs.declared.chain.Link.{Link}
 
 -- these links, by key and ticket, are the versions with their marks, and these the marks of the values that the epoch began with
 pub record IsIndex (ws : List Work) (links : ℕ → ℕ → Option Link) (base : ℕ → ℕ) : Type 0 where

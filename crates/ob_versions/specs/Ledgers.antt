@@ -6,9 +6,9 @@ use Rattle.std.specs.HashMap as hash
 use Rattle.ob_order.specs.Works.{Get, Work, at_ticket, waiting_at, mark, source_of, newest}
 use Rattle.ob_order.specs.Order.{count_below}
 use Rattle.ob_order.specs.Chains.{Sourced}
-use Rattle.ob_chains.specs.declared.chain.Chain.{Chain}
-use Rattle.ob_chains.specs.Tables.{link_at, base_mark, has_links, is_reader}
-use Rattle.ob_chains.specs.Agendas.{AgendaModel, has_ticket}
+use Rattle.ob_key_versions.specs.declared.chain.Chain.{Chain}
+use Rattle.ob_key_versions.specs.Tables.{link_at, base_mark, has_links, is_reader}
+use Rattle.ob_key_versions.specs.Agendas.{AgendaModel, has_ticket}
 use Rattle.ob_versions.specs.Index.{IsIndex}
 
 -- what callers see of a ledger: the number of keys, and the works by ticket

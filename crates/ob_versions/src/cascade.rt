@@ -3,14 +3,14 @@
 ghost use Rattle.std.specs.Prelude.{◌≡◌, ℕ, ◌+◌, ◌-◌, ◌<◌, ◌≤◌, length, true, false, if◌then◌else◌, get_or, set, None};
 ghost use Rattle.ob_order.specs.Works as works;
 ghost use Rattle.ob_order.specs.Chains.{Sourced};
-ghost use Rattle.ob_chains.specs.Agendas.{Adds};
+ghost use Rattle.ob_key_versions.specs.Agendas.{Adds};
 ghost use Rattle.ob_versions.specs.Ledgers.{IsLedger, IsReadyAgenda, HasReaders, ReadersIn, IsAbove};
 
 use ob_base::Key;
-use ob_chains::agenda::Agenda;
-use ob_chains::readers::add_readers_of;
-use ob_chains::table::Table;
-use ob_chains::unlink::unlink_at;
+use ob_key_versions::agenda::Agenda;
+use ob_key_versions::readers::add_readers_of;
+use ob_key_versions::table::Table;
+use ob_key_versions::unlink::unlink_at;
 use ob_order::{Fate, Work, end_in, fall_in, fell_on};
 
 /// Whether the work at a place isn't aborted.

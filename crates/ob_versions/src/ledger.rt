@@ -4,17 +4,17 @@ ghost use Rattle.std.specs.Prelude.{◌≡◌, ℕ, ◌+◌, ◌-◌, ◌<◌, �
 ghost use Rattle.ob_order.specs.Works as works;
 ghost use Rattle.ob_order.specs.Order as rules;
 ghost use Rattle.std.specs.Option.{option_map, unwrap_or};
-ghost use Rattle.ob_chains.specs.Tables.{chain_at, link_at, has_links, is_reader, SameLinks, SameBases, SameKeys, SameReaders, IsMarkRaised};
+ghost use Rattle.ob_key_versions.specs.Tables.{chain_at, link_at, has_links, is_reader, SameLinks, SameBases, SameKeys, SameReaders, IsMarkRaised};
 ghost use Rattle.ob_versions.specs.Ledgers.{covered_mark, NotesReader};
 
 use crate::cascade::{abort_in, end_at, goes_on_at};
 use ob_base::{Key, Memory, Op, Value};
-use ob_chains::agenda::Agenda;
-use ob_chains::chain::Link;
-use ob_chains::table::{
+use ob_key_versions::agenda::Agenda;
+use ob_key_versions::chain::Link;
+use ob_key_versions::table::{
     Table, has_versions, make_room, mark_of_base, newest, note, put, raise, raise_base,
 };
-use ob_chains::unlink::count_where;
+use ob_key_versions::unlink::count_where;
 use ob_order::{Fate, Version, Work, add_awaited, add_to, make_wait, set_waiting};
 use std::alloc::Global;
 use std::collections::HashMap;

@@ -4,7 +4,7 @@ use Rattle.ob_order.specs.Works.{Work, end_work, edit}
 use Rattle.ob_order.proofs.Edits.{length-edit}
 use Rattle.ob_order.proofs.Falls.{length-cascade}
 use Rattle.ob_order.proofs.Steps.{live_within, live_above}
-use Rattle.ob_chains.specs.Agendas.{Adds}
+use Rattle.ob_key_versions.specs.Agendas.{Adds}
 use Rattle.ob_versions.specs.Ledgers.{ReadersIn, IsAbove, HasReaders}
 use Rattle.ob_versions.proofs.Pending.{running_begins, running_on, running_ends, next_place, smaller}
 use Rattle.ob_versions.proofs.cascade.abort_in.Goals as goal

@@ -3,7 +3,7 @@ use Rattle.std.proofs.lemmas.Bool.{false≢true}
 use Rattle.ob_order.specs.Chains.{Sourced}
 use Rattle.ob_order.specs.Works as works
 use Rattle.ob_order.specs.Works.{Work}
-use Rattle.ob_chains.specs.Agendas.{Adds}
+use Rattle.ob_key_versions.specs.Agendas.{Adds}
 use Rattle.ob_versions.specs.Ledgers.{HasReaders, ReadersIn, IsAbove}
 use Rattle.ob_versions.proofs.Falling.{fallen_to}
 use Rattle.ob_versions.proofs.cascade.fall.Goals as goal

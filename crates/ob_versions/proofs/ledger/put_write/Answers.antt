@@ -2,8 +2,8 @@ use Rattle.std.proofs.Common.{◌≡◌, ℕ, List, true, is_some, length, sym, 
 use Rattle.std.proofs.lemmas.Result.{IfOk-from_err}
 use Rattle.ob_order.specs.Works.{Op, Work, with_op, waiting_at, wait_for, with_waiting, edit}
 use Rattle.ob_order.proofs.Edits.{length-edit}
-use Rattle.ob_chains.specs.declared.chain.Link.{Link}
-use Rattle.ob_chains.specs.Tables.{link_at}
+use Rattle.ob_key_versions.specs.declared.chain.Link.{Link}
+use Rattle.ob_key_versions.specs.Tables.{link_at}
 use Rattle.ob_versions.proofs.Kept.{op_after_wait, restored, waits_then}
 use Rattle.ob_versions.proofs.ledger.put_write.Goals as goal
 

@@ -1,7 +1,7 @@
 use Rattle.std.proofs.Common.{◌≡◌, List, Bool, true, false, ◌+◌, ◌≤◌, ◌&&◌, nat_lt, if◌then◌else◌, refl, sym, subst, arith}
 use Rattle.std.proofs.lemmas.Result.{IfOk-from_err}
 use Rattle.ob_order.specs.Works.{Work, goes_on}
-use Rattle.ob_chains.specs.Tables.{has_links}
+use Rattle.ob_key_versions.specs.Tables.{has_links}
 use Rattle.ob_versions.specs.Ledgers.{LedgerModel, IsLedger, covered_mark}
 use Rattle.ob_versions.proofs.Kept.{ledger_room, ledger_wrote, count_most, ready_same, ready_edit}
 use Rattle.ob_versions.proofs.ledger.Ledger.add_write.Goals as goal
