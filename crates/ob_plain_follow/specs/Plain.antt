@@ -3,8 +3,8 @@ use Rattle.std.specs.Prelude.{◌≡◌, ℕ, Bool, true, false, List, [], ◌�
 use Rattle.ob_store.specs.declared.watch.Note.{Note}
 use Rattle.ob_schedule.specs.Holes.{Hole}
 use Rattle.ob_plain_follow.specs.declared.follow.FollowPlain.{FollowPlain}
-use Rattle.ob_plain_wants.specs.Shown.{standing_of}
-use Rattle.ob_plain_wants.specs.Visits.{hole_of_visit}
+use Rattle.ob_wants.specs.Shown.{standing_of}
+use Rattle.ob_wants.specs.Visits.{hole_of_visit}
 use Rattle.ob_schedule.specs.declared.want.Want.{Want}
 use Rattle.ob_schedule.specs.Follow.{Follow, TakesNote, ShowsSlot, ShowsLabel, taken_up}
 

@@ -9,20 +9,20 @@ ghost use Rattle.ob_schedule.specs.Sides.{side_number, other};
 ghost use Rattle.ob_schedule.specs.declared.want.Change.TheVariants.{Settles, EndsEpoch};
 ghost use Rattle.ob_store.specs.declared.watch.Note.TheVariants.{Label};
 ghost use Rattle.ob_schedule.specs.Standing.{with_slot};
-ghost use Rattle.ob_plain_wants.specs.Visits.{hole_of_visit};
-ghost use Rattle.ob_plain_wants.specs.Shown.{standing_of};
+ghost use Rattle.ob_wants.specs.Visits.{hole_of_visit};
+ghost use Rattle.ob_wants.specs.Shown.{standing_of};
 ghost use Rattle.ob_schedule.specs.Wants.{places, record_wants, setting, found_wants};
 ghost use Rattle.ob_schedule.specs.Follow.{TakesLine, started, opened, taken_up, next_step, changed, shows_label, repeated_batch, newer_or_same, next_side, opened_wants};
 ghost use Rattle.ob_schedule.specs.Names.{RefusesLine, wanted_next, wanted_slot, wanted_want};
 
 use ob_base::Params;
-use ob_plain_wants::{
+use ob_schedule::{Change, Gate, Line, Register, Runs, Side, Want, Wanted};
+use ob_store::Note;
+use ob_wants::{
     Leaves, StandingPlain, Visit, body_of, cell_at, check_at, final_visits, format_wants,
     place_visits, push_end, push_found, push_places, push_record, push_registers, record_at,
     set_wants, shown_label,
 };
-use ob_schedule::{Change, Gate, Line, Register, Runs, Side, Want, Wanted};
-use ob_store::Note;
 use std::alloc::{AllocError, Global};
 use std::collections::VecDeque;
 

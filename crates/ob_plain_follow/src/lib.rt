@@ -5,4 +5,4 @@
 mod follow;
 
 pub use follow::FollowPlain;
-pub use ob_plain_wants::{Leaves, StandingPlain, Visit};
+pub use ob_wants::{Leaves, StandingPlain, Visit};

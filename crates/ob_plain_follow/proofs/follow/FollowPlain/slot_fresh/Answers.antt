@@ -1,5 +1,5 @@
 use Rattle.ob_plain_follow.specs.Plain.{follow_of}
-use Rattle.ob_plain_wants.specs.Visits.{hole_of_visit}
+use Rattle.ob_wants.specs.Visits.{hole_of_visit}
 use Rattle.ob_plain_follow.proofs.Slots.{not_in, none_some}
 use Rattle.ob_plain_follow.proofs.follow.FollowPlain.slot_fresh.Goals as goal
 

@@ -1,9 +1,0 @@
-use Rattle.std.specs.Prelude.{ℕ, List}
-use Rattle.std.proofs.Common.{ap}
-use Rattle.ob_schedule.specs.Schedule.{writes_of}
-use Rattle.ob_schedule.specs.Sides.{side_number}
-use Rattle.ob_plain_wants.proofs.Pushed.{same_notes, checks_run}
-use Rattle.ob_plain_wants.proofs.notes.push_check_writes.Goals as goal
-
-pub returns : goal.returns
-returns c = same_notes c.push_writes.result _ c.args.wants.now _ _ (ap (λ (cs : List ℕ). writes_of cs) (checks_run c.args.p.now (side_number c.args.side) c.checkpoint_cells.result c.check_at.result c.check_at.ensures.cell c.checkpoint_cells.ensures.cells)) c.push_writes.ensures
