@@ -17,7 +17,7 @@ top=$(cd "$(dirname "$0")/.." && pwd)
 source "$top/bench/common.sh"
 bench_crate ring_bench ob_base ob_io ob_store ob_mem ob_seal ob_twin ob_cells ob_start ob_log \
     ob_flat ob_tables ob_schedule ob_ring ob_recover ob_stand ob_check ob_serial ob_plain_serial \
-    ob_pads ob_opening ob_fetch ob_end ob_ring_vault <<'PROGRAM'
+    ob_pads ob_opening ob_fetch ob_end ob_vault <<'PROGRAM'
 //! Runs epochs of a ring vault (a to d) or of a plain one (A to C) in memory, or plans the ring's alone
 //! (e to h): the first byte of the input says which, and the second how many rounds.
 #![tactic(auto)]
@@ -36,7 +36,7 @@ use ob_base::{Jobs, Params, ring_cells};
 use ob_flat::FlatVault;
 use ob_mem::BareStore;
 use ob_ring::Ring;
-use ob_ring_vault::RingVault;
+use ob_vault::RingVault;
 use ob_seal::Keys;
 use ob_store::{Blind, Store};
 use ob_seal::{ChaChaTape, Tape};

@@ -3,7 +3,7 @@ use Rattle.std.specs.Prelude.{◌≡◌, ◌+◌, ◌-◌, false, length, None, 
 use Rattle.std.specs.Ordering.{nat_cmp}
 use Rattle.std.proofs.Common.{ap, arith, subst}
 use Rattle.ob_base.specs.declared.params.Params.{Params}
-use Rattle.ob_ring_vault.specs.RingVaults.{opened_ring}
+use Rattle.ob_vault.specs.RingVaults.{opened_ring}
 use Rattle.ob_ring_vault_tests.specs.Opened.{opened_ring_at}
 use Rattle.ob_serial.specs.Serial.{Map}
 use Rattle.ob_stand.specs.Stands.{RingStanding}

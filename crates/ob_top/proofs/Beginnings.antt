@@ -7,14 +7,14 @@ use Rattle.ob_base.specs.declared.fault.Fault.TheVariants as fault
 use Rattle.ob_base.specs.declared.params.Params.{Params}
 use Rattle.ob_io.specs.Streams.{Flow}
 use Rattle.ob_pads.specs.Lives.{IsFormattedStore}
-use Rattle.ob_kinds.proofs.Formatting.{ring_formats}
-use Rattle.ob_kinds.proofs.Opening.{opens_or_not, ring_leaves_standing, ring_opens, ring_opens_at}
-use Rattle.ob_kinds.proofs.Refusing.{ring_refuses}
-use Rattle.ob_kinds.specs.RingLaws.{ReadsHead, found_ring}
-use Rattle.ob_kinds.specs.RingKind.{ring_kind}
+use Rattle.ob_vault.proofs.Formatting.{ring_formats}
+use Rattle.ob_vault.proofs.Opening.{opens_or_not, ring_leaves_standing, ring_opens, ring_opens_at}
+use Rattle.ob_vault.proofs.Refusing.{ring_refuses}
+use Rattle.ob_vault.specs.RingLaws.{ReadsHead, found_ring}
+use Rattle.ob_vault.specs.RingKind.{ring_kind}
 use Rattle.ob_recover.specs.Life.{LifeState, WordId}
-use Rattle.ob_ring_life.proofs.Stopping.{stops_in_life}
-use Rattle.ob_ring_life.specs.Lives.{RingFormatted, ring_lives}
+use Rattle.ob_vault.proofs.Stopping.{stops_in_life}
+use Rattle.ob_vault.specs.Lives.{RingFormatted, ring_lives}
 use Rattle.ob_script.specs.Script.{Scripts}
 use Rattle.ob_seal.specs.declared.keys.Keys.{Keys}
 use Rattle.ob_stand.specs.Stands as stand

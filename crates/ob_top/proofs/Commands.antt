@@ -17,8 +17,8 @@ use Rattle.ob_words.specs.declared.work.Command.TheVariants.{Format, Run}
 use Rattle.ob_words.specs.Work.{AreParams, IsBadNumber, AreLanes, AreBadLanes, IsCommandOf, IsOutOfRange, IsRefusedFor, HasKeys, IsKeysRefused}
 use Rattle.ob_top.specs.Outside.{Outside, IsFinished, IsOnlyTold}
 use Rattle.ob_top.specs.Formats.{FormatDone}
-use Rattle.ob_kinds.specs.RingKind.{ring_kind}
-use Rattle.ob_ring_life.specs.Lives.{ring_lives}
+use Rattle.ob_vault.specs.RingKind.{ring_kind}
+use Rattle.ob_vault.specs.Lives.{ring_lives}
 use Rattle.ob_top.specs.Runs.{manner, RunOn, RunDone}
 use Rattle.ob_top.specs.Top.{AskForSomething, CommandDoes, IsRefusedWithout}
 use Rattle.ob_top.proofs.Beginnings.{ring_quiet}

@@ -20,17 +20,17 @@ use Rattle.ob_words.specs.Reading.{asked_by, format_asked, run_asked}
 use Rattle.ob_words.specs.Work.{AreParams, IsBadNumber, AreLanes, AreBadLanes, HasKeys, IsKeysRefused}
 use Rattle.ob_top.specs.Outside.{Outside, IsOnlyTold}
 use Rattle.ob_top.specs.Formats.{FormatTold, FormatDone}
-use Rattle.ob_kinds.specs.RingKind.{RingMayStop, ring_kind}
-use Rattle.ob_ring_life.specs.Lives.{ring_lives}
-use Rattle.ob_kinds.specs.Keeping.{AreStandingLaws}
-use Rattle.ob_kinds.specs.Kinds.{StoreKind}
-use Rattle.ob_kinds.specs.Lives.{LifeWords}
-use Rattle.ob_kinds.specs.Phases.{Shape, shapes}
+use Rattle.ob_vault.specs.RingKind.{RingMayStop, ring_kind}
+use Rattle.ob_vault.specs.Lives.{ring_lives}
+use Rattle.ob_vault.specs.Keeping.{AreStandingLaws}
+use Rattle.ob_vault.specs.Kinds.{StoreKind}
+use Rattle.ob_vault.specs.KindLives.{LifeWords}
+use Rattle.ob_vault.specs.Phases.{Shape, shapes}
 use Rattle.ob_conduct.specs.Acts.{calls}
 use Rattle.ob_desk.specs.Beats.{BeatKind}
 use Rattle.ob_top.specs.Runs.{Manner, manner, CameIn, IsInputRefused, EndsEarly, EndsFor, Ran, Went, RunDone}
 use Rattle.ob_top.specs.Complete.{CanFormat, CanRun, DoesWhatItCan, StopsFull}
-use Rattle.ob_kinds.proofs.Standing.{ring_keeps}
+use Rattle.ob_vault.proofs.Standing.{ring_keeps}
 use Rattle.ob_top.proofs.Counted.{one_script}
 use Rattle.ob_words.proofs.Named.{no_bad_number, no_bad_lanes, one_keys, keys_stand}
 

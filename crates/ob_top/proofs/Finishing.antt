@@ -22,9 +22,9 @@ use Rattle.ob_store.proofs.Serving.{rose_later}
 use Rattle.ob_serial.specs.Serial.{EpochRecord}
 use Rattle.ob_top.specs.Outside.{Outside, LineTold, IsFinished}
 use Rattle.ob_top.specs.Formats.{FormatEnds, FormatTold, FormatDone}
-use Rattle.ob_kinds.specs.Kinds.{StoreKind}
-use Rattle.ob_kinds.specs.Lives.{LifeWords}
-use Rattle.ob_kinds.specs.Phases.{Shape, shapes}
+use Rattle.ob_vault.specs.Kinds.{StoreKind}
+use Rattle.ob_vault.specs.KindLives.{LifeWords}
+use Rattle.ob_vault.specs.Phases.{Shape, shapes}
 use Rattle.ob_conduct.specs.Acts.{calls}
 use Rattle.ob_top.specs.Runs.{Manner, EndsEarly, EndsFor, Ran, Went, RunOn, RunDone}
 use Rattle.ob_top.proofs.Running.{IsQuiet}

@@ -18,13 +18,13 @@ use Rattle.ob_stand.specs.Stands.{StandsRing}
 use Rattle.ob_recover.specs.declared.found.Found.{Found}
 use Rattle.ob_pads.proofs.Chains.{chain_runs}
 use Rattle.ob_pads.specs.Lives.{Opens}
-use Rattle.ob_ring_vault.specs.RingVaults.{HasPlanned, RingHolds, RingSound, Running, lent_both}
-use Rattle.ob_ring_life.proofs.SealCalls.{is_act}
-use Rattle.ob_kinds.specs.Kinds.{opened_with}
-use Rattle.ob_kinds.proofs.Begun.{held_with, holds_found, ring_begins_sound, ring_begun}
-use Rattle.ob_kinds.specs.RingKind.{GoesOnFrom, RingFound, ring_kind}
-use Rattle.ob_kinds.specs.RingSteps.{HasRingWords}
-use Rattle.ob_ring_life.specs.Lives.{ring_lives}
+use Rattle.ob_vault.specs.RingVaults.{HasPlanned, RingHolds, RingSound, Running, lent_both}
+use Rattle.ob_vault.proofs.SealCalls.{is_act}
+use Rattle.ob_vault.specs.Kinds.{opened_with}
+use Rattle.ob_vault.proofs.Begun.{held_with, holds_found, ring_begins_sound, ring_begun}
+use Rattle.ob_vault.specs.RingKind.{GoesOnFrom, RingFound, ring_kind}
+use Rattle.ob_vault.specs.RingSteps.{HasRingWords}
+use Rattle.ob_vault.specs.Lives.{ring_lives}
 use Rattle.ob_script.specs.Script.{ScriptTxn, Scripts, AreSound, asks_by}
 use Rattle.ob_runner.proofs.Scripted.{is_its_script}
 use Rattle.ob_runner.specs.RunnerViews.{runner_state, client_of, bound_of, plan_of, MayHaveMade}

@@ -10,16 +10,16 @@ use Rattle.ob_schedule.specs.Schedule.{Fills}
 use Rattle.ob_store.specs.Lines.{Trace}
 use Rattle.ob_serial.specs.VaultKinds.{Called, Kind}
 use Rattle.ob_serial.specs.Vaults.{VaultAnswer, VaultCall}
-use Rattle.ob_ring_vault.specs.RingVaults.{Running}
-use Rattle.ob_kinds.specs.RingKind.{RingFound, ring_hidden, ring_kind, ring_public}
-use Rattle.ob_kinds.specs.RingSteps.{HasRingWords, RingAt}
-use Rattle.ob_kinds.specs.Phases.{Shape}
-use Rattle.ob_kinds.specs.Shown.{AreDrawn}
-use Rattle.ob_kinds.specs.Hidden.{IsOfTape, RingHidden}
-use Rattle.ob_kinds.specs.Seen.{RingPublic}
-use Rattle.ob_ring_life.proofs.Leaving.{goes_on_none, goes_on_refused}
-use Rattle.ob_ring_life.specs.Lives.{RingGoesOn, ring_lives}
-use Rattle.ob_kinds.proofs.Calling.{RingBehind, ring_does, words_are_of_tape}
+use Rattle.ob_vault.specs.RingVaults.{Running}
+use Rattle.ob_vault.specs.RingKind.{RingFound, ring_hidden, ring_kind, ring_public}
+use Rattle.ob_vault.specs.RingSteps.{HasRingWords, RingAt}
+use Rattle.ob_vault.specs.Phases.{Shape}
+use Rattle.ob_vault.specs.KindShown.{AreDrawn}
+use Rattle.ob_vault.specs.Hidden.{IsOfTape, RingHidden}
+use Rattle.ob_vault.specs.Seen.{RingPublic}
+use Rattle.ob_vault.proofs.Leaving.{goes_on_none, goes_on_refused}
+use Rattle.ob_vault.specs.Lives.{RingGoesOn, ring_lives}
+use Rattle.ob_vault.proofs.Calling.{RingBehind, ring_does, words_are_of_tape}
 use Rattle.ob_script.specs.Script.{ScriptTxn, Scripts, AreSound, asks_by}
 use Rattle.ob_desk.specs.Desk.{MayOpen, new_desk}
 use Rattle.ob_conduct.specs.Scenes.{scene, RunState, run_state, RunnerKind}

@@ -12,10 +12,10 @@ use Rattle.ob_store.specs.Images.{LeavesOnly, IsSynced}
 use Rattle.ob_store.proofs.Moments.{then_on, weakened}
 use Rattle.ob_serial.specs.Vaults.{Standing, StandsIn}
 use Rattle.ob_pads.specs.Lives.{LivesOn}
-use Rattle.ob_kinds.specs.Phases.{Shape, shapes}
-use Rattle.ob_kinds.specs.Lives.{LifeWords}
-use Rattle.ob_kinds.specs.Openings.{OpensStanding}
-use Rattle.ob_kinds.specs.Kinds.{StoreKind, Stands, AllStand, StandsAsBefore, IsOpenedAt, opened_with}
+use Rattle.ob_vault.specs.Phases.{Shape, shapes}
+use Rattle.ob_vault.specs.KindLives.{LifeWords}
+use Rattle.ob_vault.specs.Openings.{OpensStanding}
+use Rattle.ob_vault.specs.Kinds.{StoreKind, Stands, AllStand, StandsAsBefore, IsOpenedAt, opened_with}
 use Rattle.ob_conduct.specs.Acts.{calls}
 use Rattle.ob_conduct.specs.Left.{IsLeftStanding}
 use Rattle.ob_store.specs.Calls.{Notes}

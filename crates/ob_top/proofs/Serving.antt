@@ -28,13 +28,13 @@ use Rattle.ob_serial.specs.declared.vault.EndErr.{EndErr}
 use Rattle.ob_serial.specs.declared.vault.EndErr.TheVariants.{Before, Unsure}
 use Rattle.ob_serial.specs.Vaults.{Standing, StandsIn, VaultCall, Fetch, End, VaultAnswer, Values, Ended, RefusedBy, DoubtBy}
 use Rattle.ob_serial.specs.VaultKinds.{Kind, Called, AllCalled, ended_of, ended_by}
-use Rattle.ob_kinds.specs.Phases.{Shape, Fetches, Ends, answered, events_of_phases, shape_of, shapes, refused}
-use Rattle.ob_kinds.specs.Kinds.{StoreKind, IsOpenedAt, opened_with}
-use Rattle.ob_kinds.specs.Lives.{LifeWords}
-use Rattle.ob_kinds.specs.Shown.{AreDrawn, IsSeenCut, public_behind, steps_phases}
-use Rattle.ob_kinds.specs.Steps.{IsAnsweredCall, Stops, IsCallOfKind}
-use Rattle.ob_kinds.specs.KindLaws.{AllAnswered}
-use Rattle.ob_kinds.proofs.Shapes.{answered_join as answers_join, events_join, shapes_join, answered_not_refused, refused_last}
+use Rattle.ob_vault.specs.Phases.{Shape, Fetches, Ends, answered, events_of_phases, shape_of, shapes, refused}
+use Rattle.ob_vault.specs.Kinds.{StoreKind, IsOpenedAt, opened_with}
+use Rattle.ob_vault.specs.KindLives.{LifeWords}
+use Rattle.ob_vault.specs.KindShown.{AreDrawn, IsSeenCut, public_behind, steps_phases}
+use Rattle.ob_vault.specs.Steps.{IsAnsweredCall, Stops, IsCallOfKind}
+use Rattle.ob_vault.specs.KindLaws.{AllAnswered}
+use Rattle.ob_vault.proofs.Shapes.{answered_join as answers_join, events_join, shapes_join, answered_not_refused, refused_last}
 use Rattle.ob_script.specs.Script.{ScriptTxn, Scripts, AreSound, asks_by}
 use Rattle.ob_desk.specs.Desk.{DeskState, MayOpen, Run, new_desk}
 use Rattle.ob_conduct.specs.Acts.{Act, Says, Halts, Rests as Looked, Takes, Delivers, DeliverFails, FetchFails, Closes, Publishes, Refuses, Unprinted, calls, history, vault_calls, rest_fetches, fault_in, fault_told, records as records_of_acts}

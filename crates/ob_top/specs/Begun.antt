@@ -2,11 +2,11 @@
 use Rattle.std.specs.Prelude.{ℕ, ◌≡◌, ◌≤◌, List, length}
 use Rattle.ob_base.specs.declared.params.Params.{Params}
 use Rattle.ob_io.specs.Streams.{Flow}
-use Rattle.ob_kinds.specs.Kinds.{IsOpenedAt, Stands}
+use Rattle.ob_vault.specs.Kinds.{IsOpenedAt, Stands}
 use Rattle.ob_recover.specs.Fits.{IsPlannerFit}
 use Rattle.ob_recover.specs.declared.found.Found.{Found}
-use Rattle.ob_kinds.specs.RingKind.{GoesOnFrom, RingFound, ring_kind}
-use Rattle.ob_ring_vault.specs.RingVaults.{HasPlanned}
+use Rattle.ob_vault.specs.RingKind.{GoesOnFrom, RingFound, ring_kind}
+use Rattle.ob_vault.specs.RingVaults.{HasPlanned}
 use Rattle.ob_script.specs.Script.{Scripts}
 use Rattle.ob_seal.specs.declared.keys.Keys.{Keys}
 use Rattle.ob_serial.specs.Vaults.{Standing}

@@ -7,11 +7,11 @@ use Rattle.ob_seal.specs.declared.keys.Keys.{Keys}
 use Rattle.ob_store.specs.Disk.{Disk}
 use Rattle.ob_serial.specs.Vaults.{Standing}
 use Rattle.ob_script.specs.Script.{Scripts, IsScript, limit}
-use Rattle.ob_kinds.specs.Kinds.{StoreKind}
+use Rattle.ob_vault.specs.Kinds.{StoreKind}
 use Rattle.ob_words.specs.Reading.{asked_by, format_asked, run_asked, audit_asked}
 use Rattle.ob_words.specs.Work.{AreParams, AreLanes, HasKeys}
 use Rattle.ob_top.specs.Outside.{Outside, Left, OfStore}
-use Rattle.ob_kinds.specs.RingKind.{ring_kind}
+use Rattle.ob_vault.specs.RingKind.{ring_kind}
 
 module _ (words : List (List ℕ)) (text : Option (Bor (List ℕ))) (old new : Disk) (before after : Outside) where
   -- A store can be made: the words ask for `format`, with numbers in range; the keys are keys; and no count of faults rose, the store's

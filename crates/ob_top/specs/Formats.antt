@@ -14,9 +14,9 @@ use Rattle.ob_store.specs.Disk.{Disk}
 use Rattle.ob_store.specs.Images.{LeavesOnly}
 use Rattle.ob_store.specs.Calls.{NotesFirst}
 use Rattle.ob_pads.specs.Lives.{IsFormattedStore}
-use Rattle.ob_kinds.specs.Kinds.{StoreKind}
-use Rattle.ob_kinds.specs.Formats.{MakesEmpty}
-use Rattle.ob_kinds.specs.Lives.{LifeWords}
+use Rattle.ob_vault.specs.Kinds.{StoreKind}
+use Rattle.ob_vault.specs.Formats.{MakesEmpty}
+use Rattle.ob_vault.specs.KindLives.{LifeWords}
 use Rattle.ob_top.specs.Outside.{Outside}
 
 -- An empty store was made, and a life of it begins.

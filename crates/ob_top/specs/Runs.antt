@@ -20,11 +20,11 @@ use Rattle.ob_store.specs.Calls.{GoesOn, Keeps, Notes, IsStoreFault, NotesReads}
 use Rattle.ob_serial.specs.Serial.{EpochRecord, Map, OneByOne, AreInOrder, committed_of}
 use Rattle.ob_serial.specs.Vaults.{VaultCall, VaultAnswer, VaultState, Standing, StandsIn}
 use Rattle.ob_pads.specs.Lives.{Opens, LivesOn}
-use Rattle.ob_kinds.specs.Phases.{Reads, Shape, answered, events_of_phases, shapes, refused}
-use Rattle.ob_kinds.specs.Lives.{LifeWords}
-use Rattle.ob_kinds.specs.Openings.{OpensStanding}
-use Rattle.ob_kinds.specs.Kinds.{StoreKind, Stands, AllStand, StandsAsBefore, IsOpenedAt, opened_with}
-use Rattle.ob_kinds.specs.Shown.{AreDrawn, IsSeenCut, public_behind, steps_phases}
+use Rattle.ob_vault.specs.Phases.{Reads, Shape, answered, events_of_phases, shapes, refused}
+use Rattle.ob_vault.specs.KindLives.{LifeWords}
+use Rattle.ob_vault.specs.Openings.{OpensStanding}
+use Rattle.ob_vault.specs.Kinds.{StoreKind, Stands, AllStand, StandsAsBefore, IsOpenedAt, opened_with}
+use Rattle.ob_vault.specs.KindShown.{AreDrawn, IsSeenCut, public_behind, steps_phases}
 use Rattle.ob_desk.specs.Desk.{DeskState, MayOpen, Run, new_desk}
 use Rattle.ob_desk.specs.Beats.{BeatKind}
 use Rattle.ob_script.specs.Script.{Scripts, IsScript, IsFirstBad, limit}

@@ -18,8 +18,8 @@ use Rattle.ob_words.specs.Work.{AreParams, IsBadNumber, AreLanes, AreBadLanes, A
 use Rattle.ob_top.specs.Outside.{Outside, Left, OfStore, IsOnlyTold}
 use Rattle.ob_top.specs.Audits.{AuditDone}
 use Rattle.ob_top.specs.Formats.{FormatEnds, FormatDone}
-use Rattle.ob_kinds.specs.RingKind.{ring_kind}
-use Rattle.ob_ring_life.specs.Lives.{ring_lives}
+use Rattle.ob_vault.specs.RingKind.{ring_kind}
+use Rattle.ob_vault.specs.Lives.{ring_lives}
 use Rattle.ob_top.specs.Runs.{manner, RunOn, RunDone}
 
 -- The words ask for something over a store, and the numbers are in range.

@@ -4,8 +4,8 @@ ghost use Rattle.std.specs.Prelude.{◌≡◌};
 ghost use Rattle.ob_io.specs.Streams.{outflow};
 ghost use Rattle.ob_store.specs.Images.{LeavesOnly};
 ghost use Rattle.ob_store.specs.Calls.{GoesOn};
-ghost use Rattle.ob_kinds.specs.RingKind.{ring_kind};
-ghost use Rattle.ob_ring_life.specs.Lives.{ring_lives};
+ghost use Rattle.ob_vault.specs.RingKind.{ring_kind};
+ghost use Rattle.ob_vault.specs.Lives.{ring_lives};
 ghost use Rattle.ob_top.specs.Formats.{FormatEnds};
 ghost use Rattle.ob_top.specs.Runs.{fault_of};
 

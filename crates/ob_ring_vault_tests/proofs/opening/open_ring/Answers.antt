@@ -1,5 +1,5 @@
 use Rattle.std.proofs.Common.{subst}
-use Rattle.ob_ring_vault.specs.RingVaults.{RingSound}
+use Rattle.ob_vault.specs.RingVaults.{RingSound}
 use Rattle.ob_serial.specs.Vaults.{VaultState}
 use Rattle.ob_ring_vault_tests.proofs.OpenedLaws.{opened_is}
 use Rattle.ob_ring_vault_tests.proofs.opening.open_ring.Goals as goal

@@ -6,8 +6,8 @@ use Rattle.ob_io.specs.Flows.{appended}
 use Rattle.ob_io.specs.Streams.{outflow}
 use Rattle.ob_report.specs.Printed.{IsPrinted}
 use Rattle.ob_report.specs.Sizes.{size_line}
-use Rattle.ob_kinds.proofs.Formatting.{ring_formats}
-use Rattle.ob_ring_life.proofs.Formatted.{formats}
+use Rattle.ob_vault.proofs.Formatting.{ring_formats}
+use Rattle.ob_vault.proofs.Formatted.{formats}
 use Rattle.ob_top.proofs.Beginnings.{format_refused, formatted}
 use Rattle.ob_top.proofs.format.format_on.Goals as goal
 

@@ -4,8 +4,8 @@ use Rattle.ob_seal.specs.Sealing.{Sealing}
 use Rattle.ob_store.specs.declared.watch.Note.TheVariants.{Read}
 use Rattle.ob_store.proofs.Serving.{goes_then}
 use Rattle.ob_top.proofs.Noted.{reads_noted}
-use Rattle.ob_kinds.proofs.Opening.{ring_leaves_standing, ring_opens_standing}
-use Rattle.ob_kinds.specs.RingLaws.{found_ring}
+use Rattle.ob_vault.proofs.Opening.{ring_leaves_standing, ring_opens_standing}
+use Rattle.ob_vault.specs.RingLaws.{found_ring}
 use Rattle.ob_top.proofs.Beginnings.{begun, may_serve, unopened}
 use Rattle.ob_top.proofs.Living.{read_lives, refused_lives, read_opened}
 use Rattle.ob_top.proofs.run.begin.Goals as goal

@@ -1,7 +1,7 @@
 use Rattle.ob_store.proofs.Serving.{goes_then}
-use Rattle.ob_kinds.specs.RingKind.{ring_kind}
-use Rattle.ob_ring_life.proofs.OpenedLife.{opened_lives}
-use Rattle.ob_ring_life.specs.Lives.{ring_lives}
+use Rattle.ob_vault.specs.RingKind.{ring_kind}
+use Rattle.ob_vault.proofs.OpenedLife.{opened_lives}
+use Rattle.ob_vault.specs.Lives.{ring_lives}
 use Rattle.ob_top.proofs.Beginnings.{ring_quiet}
 use Rattle.ob_top.proofs.Running.{ended_early, ran}
 use Rattle.ob_top.proofs.run.run_on.Goals as goal

@@ -3,9 +3,9 @@ use Rattle.std.specs.Borrow.{GName}
 use Rattle.ob_base.specs.declared.params.Params.{Params}
 use Rattle.ob_cells.specs.Jobs.{Manned}
 use Rattle.ob_fetch.specs.declared.run.Run.{Run}
-use Rattle.ob_kinds.specs.RingKind.{ring_kind}
-use Rattle.ob_ring_life.specs.Lives.{ring_lives}
-use Rattle.ob_ring_vault.specs.RingVaults.{run_over, running}
+use Rattle.ob_vault.specs.RingKind.{ring_kind}
+use Rattle.ob_vault.specs.Lives.{ring_lives}
+use Rattle.ob_vault.specs.RingVaults.{run_over, running}
 use Rattle.ob_top.proofs.Lent.{serves_lent}
 use Rattle.ob_top.proofs.Serving.{renamed}
 use Rattle.ob_top.proofs.run.serve_on.Goals as goal

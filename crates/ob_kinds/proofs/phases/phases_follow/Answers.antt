@@ -1,5 +1,0 @@
-use Rattle.ob_kinds.proofs.Shapes as shapes
-use Rattle.ob_kinds.proofs.phases.phases_follow.Goals as goal
-
-pub returns : goal.returns
-returns c = shapes.events_join

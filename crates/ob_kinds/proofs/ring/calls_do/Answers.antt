@@ -1,9 +1,0 @@
-use Rattle.ob_serial.specs.VaultKinds.{kind_of}
-use Rattle.ob_kinds.proofs.Calling.{ring_calls_do, words_are_of_tape}
-use Rattle.ob_kinds.proofs.ring.calls_do.Goals as goal
-
-pub returns-clause-calls : goal.returns-clause-calls
-returns-clause-calls g c = ring_calls_do (kind_of g.V.Vault) (λ store. g.S.Store.disk store)
-
-pub returns-clause-words : goal.returns-clause-words
-returns-clause-words g c = words_are_of_tape (kind_of g.V.Vault) (λ store. g.S.Store.disk store)

@@ -1,5 +1,0 @@
-use Rattle.ob_kinds.proofs.Formatting.{ring_formats}
-use Rattle.ob_kinds.proofs.ring.formats_are_told.Goals as goal
-
-pub returns : goal.returns
-returns g c = ring_formats (λ store. g.S.Store.disk store)

@@ -1,5 +1,0 @@
-use Rattle.ob_kinds.proofs.Refusing.{ring_refuses}
-use Rattle.ob_kinds.proofs.ring.refusals_are_told.Goals as goal
-
-pub returns : goal.returns
-returns g c = ring_refuses _ (λ store. g.S.Store.disk store)

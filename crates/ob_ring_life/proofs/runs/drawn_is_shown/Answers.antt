@@ -1,5 +1,0 @@
-use Rattle.ob_ring_life.proofs.DrawnChains.{drawn_shown}
-use Rattle.ob_ring_life.proofs.runs.drawn_is_shown.Goals as goal
-
-pub returns : goal.returns
-returns c = drawn_shown

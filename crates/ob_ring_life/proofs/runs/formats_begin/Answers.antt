@@ -1,5 +1,0 @@
-use Rattle.ob_ring_life.proofs.Formatted.{formats}
-use Rattle.ob_ring_life.proofs.runs.formats_begin.Goals as goal
-
-pub returns : goal.returns
-returns g c = λ keys p drawn new many life. formats p drawn many keys (g.S.Store.disk new) life

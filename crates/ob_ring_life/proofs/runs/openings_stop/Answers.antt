@@ -1,6 +1,0 @@
-use Rattle.ob_ring_life.proofs.Stopping.{stops_in_life}
-use Rattle.ob_ring_life.proofs.runs.openings_stop.Goals as goal
-
-pub returns : goal.returns
-returns g c = λ keys most p old mid new before after answered head acts tells word_of s here each.
-    stops_in_life keys most p (g.S.Store.disk old) (g.S.Store.disk mid) (g.S.Store.disk new) before after answered head word_of s (λ at. acts word_of s (head.keeps.tells tells) at) tells here each

@@ -1,5 +1,0 @@
-use Rattle.ob_ring_life.proofs.Joining.{runs_are_one_life}
-use Rattle.ob_ring_life.proofs.runs.runs_are_one_life.Goals as goal
-
-pub returns : goal.returns
-returns g c = λ keys p made parts formatted from word_of given. runs_are_one_life (λ x. g.S.Store.disk x) keys p made parts formatted from word_of given

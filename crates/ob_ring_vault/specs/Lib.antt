@@ -1,2 +1,0 @@
-pub mod Knowns
-pub mod RingVaults

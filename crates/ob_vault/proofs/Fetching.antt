@@ -1,0 +1,340 @@
+-- A fetch as a call of a life.
+use Rattle.std.specs.Prelude.{◌≡◌, ◌⊎◌, ℕ, suc, ◌+◌, ◌<◌, ◌≤◌, ◌^◌, true, false, List, [], ◌∷◌, ◌++◌, length, slice_index, Option, None, Some, Result, Ok, Err}
+use Rattle.std.proofs.Common.{arith, length-append, refl, sym, ap, subst, ◌∙◌, inl, inr, ⊎_elim}
+use Rattle.std.proofs.lemmas.Bool.{cases_lt, false≢true}
+use Rattle.std.proofs.lemmas.List.{get_or-append-add, length-map, map-append}
+use mathlib.Core.Path.{fun_ext}
+use Rattle.ob_base.specs.Repeats.{Has}
+use Rattle.ob_base.specs.declared.fault.Fault.{Fault}
+use Rattle.ob_base.specs.declared.fault.Fault.TheVariants as fault
+use Rattle.ob_base.specs.declared.params.Params.{Params}
+use Rattle.ob_fetch.specs.declared.run.Run.{Run}
+use Rattle.ob_fetch.proofs.LogLaws.{more_at}
+use Rattle.ob_fetch.specs.Fetches.{DrawsWords, IsOpenBetween, RunIsAt, next_batch, words_since}
+use Rattle.ob_recover.specs.Life.{Append, IsActAllowed, LifeAct, LifeBatch, LifeState, ShowBatch, WordId, life_step}
+use Rattle.ob_log.specs.Appends.{append_notes}
+use Rattle.ob_log.specs.Logs.{BatchRecord, OpenRecords}
+use Rattle.ob_recover.specs.Lives.{AreWordsOf, IsLifeAt, life_batch}
+use Rattle.ob_vault.specs.RingVaults.{FetchCalled, Running, record_of_fetch}
+use Rattle.ob_seal.specs.declared.keys.Keys.{Keys}
+use Rattle.ob_serial.specs.Vaults.{Fetch}
+use Rattle.ob_stand.specs.Stands.{OneOf, RingStanding, Stands, with_record}
+use Rattle.ob_store.specs.Disk.{Clock, Disk, Image, NotAfter}
+use Rattle.ob_store.specs.Images.{LeavesOnly}
+use Rattle.ob_store.proofs.Moments.{started, weakened}
+use Rattle.ob_store.specs.Told.{IsCut}
+use Rattle.ob_store.specs.declared.watch.Note.{Note}
+use Rattle.ob_twin.proofs.Moves.{at_the_end}
+use Rattle.ob_opening.specs.OpeningActs.{StandsInLife}
+use Rattle.ob_vault.specs.Acts.{AreBatchesSmall, AreTapeWords, IsBatchSmall, IsCallInLife, IsLeftWithin, RunsInLife}
+
+-- ---- lists and acts
+
+has_more : {A : Type 0} (xs : List A) (y x : A) → Has (xs ++ y ∷ []) x → Has xs x ⊎ (y ≡ x)
+has_more [] y x (inl is) = inr is
+has_more [] y x (inr none) = absurd none
+has_more (z ∷ xs) y x (inl is) = inl (inl is)
+has_more (z ∷ xs) y x (inr has) = ⊎_elim (λ (h : Has xs x). inl (inr h)) (λ (is : y ≡ x). inr is) (has_more xs y x has)
+
+pub same_act : (a b : LifeAct) → ◌≡◌ {A = Option LifeAct} (Some a) (Some b) → a ≡ b
+same_act a b e = cc
+
+same_batch : (a b : LifeBatch) → Append a ≡ Append b → a ≡ b
+same_batch a b e = cc
+
+batch_apart : (b : LifeBatch) → ◌≡◌ {A = Option LifeAct} (Some ShowBatch) (Some (Append b)) → ⊥
+batch_apart b e = cc
+
+pub none_pending : (A : Type 0) (a : LifeAct) → ◌≡◌ {A = Option LifeAct} None (Some a) → A
+none_pending A a e = absurd (cc)
+
+-- ---- what an image stands for
+
+module _ (keys : Keys) (p : Params) (word_of : WordId → ℕ) where
+  -- an image of this standing, where the life is at it
+  pub at_standing : (st : RingStanding) (s : LifeState) (c : Image) → Stands keys p st c → st.epoch ≡ s.epoch → st.generation ≡ s.generation → IsLifeAt p word_of st.content st.records s → StandsInLife keys p word_of s c
+  at_standing st s c stands epoch generation life = record { standing = st; stands = stands; epoch = epoch; generation = generation; life = life }
+
+-- of a settled store every image is the one that it tells
+pub settled_stands : (run : Run) (keys : Keys) (p : Params) (st : RingStanding) (disk : Disk) (c : Image) → RunIsAt run st disk → (run.sealer).keys ≡ keys → run.params ≡ p → disk.may_leave c → Stands keys p st c
+settled_stands run keys p st disk c at same params left =
+    subst (λ (i : Image). Stands keys p st i) (sym (fun_ext (λ k. at.settled c left k)))
+    (subst (λ (q : Params). Stands keys q st disk.cells) params (subst (λ (x : Keys). Stands x run.params st disk.cells) same at.stands))
+
+-- ---- the call
+
+module _ {S : Type 0} (disk : S → Disk) (word_of : WordId → ℕ) (s : LifeState) (old new : Running S) (notes : List Note) (asks : List (Option ℕ)) (runs : RunsInLife word_of s old.run (disk old.store))
+    (tape : AreTapeWords word_of ((old.run).sealer).generation new.drawn) where
+  abbrev p : Params
+  p = (old.run).params
+
+  abbrev keys : Keys
+  keys = ((old.run).sealer).keys
+
+  abbrev st : RingStanding
+  st = runs.standing
+
+  abbrev r : BatchRecord
+  r = record_of_fetch disk old new notes asks
+
+  abbrev b : LifeBatch
+  b = life_batch r
+
+  -- the life once the record is in its log
+  abbrev logged : LifeState
+  logged = life_step p word_of s (Append b)
+
+  under : ((old.run).sealer).generation ≡ s.generation
+  under = ((runs.at).runs).generation_is ∙ runs.generation
+
+  log_many : length s.log ≡ length st.records
+  log_many = ap (λ (log : List LifeBatch). length log) (runs.life).log ∙ length-map st.records life_batch
+
+  stands_old : (c : Image) → Stands keys p st c → StandsInLife keys p word_of s c
+  stands_old c stands = at_standing keys p word_of st s c stands runs.epoch runs.generation runs.life
+
+  module _ (some_left : 0 < (old.run).left) where
+    allowed : IsActAllowed p word_of s (Append b)
+    allowed = (
+      (let left = ((runs.at).runs).left_are in let many = log_many in omega (arith, left, many, some_left)),
+      under,
+      (let drawn = runs.drawn in omega (arith, drawn)),
+    )
+
+  -- ---- where its words were drawn
+
+  module _ (was_drawn : (old.run).drawn ≡ length old.drawn) (whole : length asks ≡ p.places) (draws : DrawsWords p.places old.drawn new.drawn) where
+    abbrev words : List ℕ
+    words = words_since old.drawn new.drawn
+
+    many : length new.drawn ≡ (old.run).drawn + p.places
+    many = let ends = ap (λ (l : List ℕ). length l) draws.words in let some = draws.many_are in omega (arith, ends, some, was_drawn, length-append {A = ℕ})
+
+    words_of_record : AreWordsOf word_of r
+    words_of_record i lt =
+        tape ((old.run).drawn + i) (let all = many in omega (arith, all, lt, whole))
+        ∙ ap (λ (l : List ℕ). slice_index l ((old.run).drawn + i)) draws.words
+        ∙ ap (λ n. slice_index (old.drawn ++ words) (n + i)) was_drawn
+        ∙ get_or-append-add old.drawn words i 0
+
+    -- the life that has the record too
+    pub life_more : (t : LifeState) → t.content ≡ s.content → t.log ≡ s.log ++ b ∷ [] → IsLifeAt p word_of st.content (st.records ++ r ∷ []) t
+    life_more t content log = record {
+      table = (λ i. (content i).table) ∙ (runs.life).table;
+      slots = λ u j low few. (λ i. (content i).slot u j) ∙ (runs.life).slots u j low few;
+      book = λ k. (λ i. (content i).book k) ∙ (runs.life).book k;
+      kept = (runs.life).kept;
+      log = log ∙ ap (λ (l : List LifeBatch). l ++ b ∷ []) (runs.life).log ∙ sym (map-append life_batch st.records (r ∷ []));
+      words = λ x has. ⊎_elim (λ (old_one : Has st.records x). (runs.life).words x old_one) (λ (is : r ≡ x). subst (AreWordsOf word_of) is words_of_record) (has_more st.records r x has);
+    }
+
+    stands_more : (t : LifeState) (c : Image) → t.content ≡ s.content → t.log ≡ s.log ++ b ∷ [] → t.epoch ≡ s.epoch → t.generation ≡ s.generation → Stands keys p (with_record st r) c → StandsInLife keys p word_of t c
+    stands_more t c content log epoch generation stands = at_standing keys p word_of (with_record st r) t c stands (runs.epoch ∙ sym epoch) (runs.generation ∙ sym generation) (life_more t content log)
+
+    module _ (words_left : (old.run).drawn + p.places ≤ 2 ^ 62) where
+      small_batch : IsBatchSmall b
+      small_batch = omega (arith, words_left, whole)
+
+      small_more : AreBatchesSmall (s.log ++ b ∷ [])
+      small_more x has = ⊎_elim (λ (old_one : Has s.log x). runs.small x old_one) (λ (is : b ≡ x). subst IsBatchSmall is small_batch) (has_more s.log b x has)
+
+      by_one : (c : Image) → OneOf keys p st (with_record st r) c → StandsInLife keys p word_of s c ⊎ ((a : LifeAct) × (Some (Append b) ≡ Some a) × StandsInLife keys p word_of (life_step p word_of s a) c)
+      by_one c one = ⊎_elim
+          (λ (was : Stands keys p st c). inl (stands_old c was))
+          (λ (more : Stands keys p (with_record st r) c). inr (Append b, refl, stands_more logged c refl refl refl refl more))
+          one
+
+      -- at each moment of it the record is in flight
+      within : 0 < (old.run).left → LeavesOnly (disk old.store) (disk new.store) (OneOf keys p st (with_record st r)) → LeavesOnly (disk old.store) (disk new.store) (IsLeftWithin disk word_of old new notes s (Fetch asks))
+      within some_left all = weakened (disk old.store) (disk new.store) (OneOf keys p st (with_record st r)) (IsLeftWithin disk word_of old new notes s (Fetch asks))
+          (λ c one. record {
+            made = [];
+            rest = Append b ∷ ShowBatch ∷ [];
+            pending = Some (Append b);
+            acts = refl;
+            left = record {
+              allowed = λ a e. subst (λ (x : LifeAct). IsActAllowed p word_of s x) (same_act (Append b) a e) (allowed some_left);
+              stands = λ i same. by_one i (subst (OneOf keys p st (with_record st r)) same one);
+            };
+          })
+          all
+
+      -- the record is in flight, and no more was shown than its writes
+      module _ (some_left : 0 < (old.run).left) (written : (done : List Note) × IsCut (append_notes p (suc (old.run).epoch) (next_batch old.run)) done notes) (all : LeavesOnly (disk old.store) (disk new.store) (OneOf keys p st (with_record st r)))
+          (images : (c : Image) → (disk new.store).may_leave c → OneOf keys p st (with_record st r) c) where
+        leaves_one : (c : Image) → (disk new.store).may_leave c → StandsInLife keys p word_of s c ⊎ ((a : LifeAct) × (Some (Append b) ≡ Some a) × StandsInLife keys p word_of (life_step p word_of s a) c)
+        leaves_one c left = by_one c (images c left)
+
+        in_flight : IsCallInLife disk word_of old new notes s (Fetch asks) false
+        in_flight = record {
+          made = [];
+          in_flight = Some (Append b);
+          law = record {
+            is_life = tt;
+            whole = λ yes. absurd (false≢true yes);
+            part = inr (Append b ∷ ShowBatch ∷ [], refl, inr (Append b, ShowBatch ∷ [], refl, refl));
+            leaves = λ was. leaves_one;
+          };
+          shown = λ x e. written;
+          left = λ c left. record {
+            allowed = λ a e. subst (λ (x : LifeAct). IsActAllowed p word_of s x) (same_act (Append b) a e) (allowed some_left);
+            stands = λ i same. leaves_one i (subst (disk new.store).may_leave same left);
+          };
+          moments = within some_left all;
+          small = (runs.small, λ x e. subst IsBatchSmall (same_batch b x (same_act (Append b) (Append x) e)) small_batch);
+          onward = λ yes. absurd (false≢true yes);
+        }
+
+      -- the record is open, and its batch in flight
+      module _ (some_left : 0 < (old.run).left) (opened : IsOpenBetween disk keys p (suc (old.run).epoch) r old.store new.store) (all : LeavesOnly (disk old.store) (disk new.store) (OneOf keys p st (with_record st r)))
+          (images : (c : Image) → (disk new.store).may_leave c → OneOf keys p st (with_record st r) c) where
+        log_at : (c : Image) → (disk new.store).may_leave c → OpenRecords keys p (suc st.epoch) (st.records ++ r ∷ []) c
+        log_at c left =
+            let back = (opened.behind).now c left in
+            let batch : length st.records ≡ next_batch old.run = (let all = ((runs.at).runs).left_are in omega (arith, all)) in
+            let epoch = ((runs.at).runs).epoch_is in
+            subst (λ n. OpenRecords keys p (suc n) (st.records ++ r ∷ []) c) epoch
+            (subst (λ (i : Image). OpenRecords keys p (suc (old.run).epoch) (st.records ++ r ∷ []) i) (sym back.2)
+            (opened.logged st.records back.0 (runs.at).tells batch (subst (λ n. OpenRecords keys p (suc n) st.records (disk old.store).cells) (sym epoch) (((runs.at).stands).holds).log) back.1))
+
+        has_record : (c : Image) → (disk new.store).may_leave c → Stands keys p (with_record st r) c
+        has_record c left = ⊎_elim
+            (λ (was : Stands keys p st c). record {
+              generation = was.generation;
+              epoch = was.epoch;
+              holds = record {
+                head = (was.holds).head;
+                checkpoint = (was.holds).checkpoint;
+                obeys = (was.holds).obeys;
+                slots = (was.holds).slots;
+                log = log_at c left;
+                known = (was.holds).known;
+                records_known = more_at st.records r (λ x n. x.generation ≤ st.generation) (was.holds).records_known (let same = ((runs.at).runs).generation_is in omega (arith, same));
+              };
+            })
+            (λ (more : Stands keys p (with_record st r) c). more)
+            (images c left)
+
+        stands_logged : (c : Image) → (disk new.store).may_leave c → StandsInLife keys p word_of logged c
+        stands_logged c left = stands_more logged c refl refl refl refl (has_record c left)
+
+        batch_allowed : IsActAllowed p word_of logged ShowBatch
+        batch_allowed = let begun = runs.begun in omega (arith, begun, length-append {A = LifeBatch})
+
+        batch_in_flight : IsCallInLife disk word_of old new notes s (Fetch asks) false
+        batch_in_flight = record {
+          made = Append b ∷ [];
+          in_flight = Some ShowBatch;
+          law = record {
+            is_life = (allowed some_left, tt);
+            whole = λ yes. absurd (false≢true yes);
+            part = inr (ShowBatch ∷ [], refl, inr (ShowBatch, [], refl, refl));
+            leaves = λ was c left. inl (stands_logged c left);
+          };
+          shown = λ x e. absurd (batch_apart x e);
+          left = λ c left. record {
+            allowed = λ a e. subst (λ (x : LifeAct). IsActAllowed p word_of logged x) (same_act ShowBatch a e) batch_allowed;
+            stands = λ i same. inl (stands_logged i (subst (disk new.store).may_leave same left));
+          };
+          moments = within some_left all;
+          small = (small_more, λ x e. absurd (batch_apart x e));
+          onward = λ yes. absurd (false≢true yes);
+        }
+
+      -- ---- it was answered
+
+      module _ (some_left : 0 < (old.run).left) (all : LeavesOnly (disk old.store) (disk new.store) (OneOf keys p st (with_record st r)))
+          (then : RunIsAt new.run (with_record st r) (disk new.store)) (same_keys : ((new.run).sealer).keys ≡ keys) (params : (new.run).params ≡ p) (drawn : (new.run).drawn ≡ length new.drawn) where
+        abbrev shown : LifeState
+        shown = life_step p word_of logged ShowBatch
+
+        stands_then : (c : Image) → (disk new.store).may_leave c → StandsInLife keys p word_of shown c
+        stands_then c left = stands_more shown c refl refl refl refl (settled_stands new.run keys p (with_record st r) (disk new.store) c then same_keys params left)
+
+        pub answered : IsCallInLife disk word_of old new notes s (Fetch asks) true
+        answered = record {
+          made = Append b ∷ ShowBatch ∷ [];
+          in_flight = None;
+          law = record {
+            is_life = (allowed some_left, ((let begun = runs.begun in omega (arith, begun, length-append {A = LifeBatch})), tt));
+            whole = λ yes. (refl, refl);
+            part = inr ([], refl, inl refl);
+            leaves = λ was c left. inl (stands_then c left);
+          };
+          shown = λ x e. none_pending _ (Append x) e;
+          left = λ c left. record {
+            allowed = λ a e. none_pending (IsActAllowed p word_of shown a) a e;
+            stands = λ i same. inl (stands_then i (subst (disk new.store).may_leave same left));
+          };
+          moments = within some_left all;
+          small = (small_more, λ x e. none_pending (IsBatchSmall x) (Append x) e);
+          onward = λ yes. record {
+            standing = with_record st r;
+            at = then;
+            epoch = runs.epoch;
+            generation = runs.generation;
+            life = subst (λ (q : Params). IsLifeAt q word_of st.content (st.records ++ r ∷ []) shown) (sym params) (life_more shown refl refl);
+            small = small_more;
+            drawn = (let all = many in omega (arith, all, drawn, whole));
+            begun = (let begun = runs.begun in omega (arith, begun, length-append {A = LifeBatch}));
+          };
+        }
+
+  -- ---- it was worn out: the store is the same
+
+  idle_called : ((c : Image) → (disk old.store).left_since (disk old.store).moment c → (disk old.store).may_leave c) → new.store ≡ old.store → IsCallInLife disk word_of old new notes s (Fetch asks) false
+  idle_called only same =
+      let stays = λ (c : Image) (left : (disk new.store).may_leave c).
+      stands_old c (settled_stands old.run keys p st (disk old.store) c runs.at refl refl (subst (λ (x : S). (disk x).may_leave c) same left)) in
+      record {
+        made = [];
+        in_flight = None;
+        law = record { is_life = tt; whole = λ yes. absurd (false≢true yes); part = inl (refl, refl); leaves = λ was c left. inl (stays c left) };
+        shown = λ x e. none_pending _ (Append x) e;
+        left = λ c left. record { allowed = λ a e. none_pending (IsActAllowed p word_of s a) a e; stands = λ i is. inl (stays i (subst (disk new.store).may_leave is left)) };
+        moments = subst (λ (x : S). LeavesOnly (disk old.store) (disk x) (IsLeftWithin disk word_of old new notes s (Fetch asks))) (sym same)
+            (started (disk old.store) (IsLeftWithin disk word_of old new notes s (Fetch asks)) (λ c since. record {
+              made = [];
+              rest = Append b ∷ ShowBatch ∷ [];
+              pending = None;
+              acts = refl;
+              left = record {
+                allowed = λ a e. none_pending (IsActAllowed p word_of s a) a e;
+                stands = λ i is. inl (stands_old i (settled_stands old.run keys p st (disk old.store) i runs.at refl refl (subst (disk old.store).may_leave is (only c since))));
+              };
+            }));
+        small = (runs.small, λ x e. none_pending (IsBatchSmall x) (Append x) e);
+        onward = λ yes. absurd (false≢true yes);
+      }
+
+  -- ---- by its answer
+
+  pub fetch_ok : FetchCalled disk old new notes asks (Ok tt) → IsCallInLife disk word_of old new notes s (Fetch asks) true
+  fetch_ok is =
+      answered (is.run).was_drawn is.whole is.draws
+      (⊎_elim (λ (more : 2 ^ 62 < (old.run).drawn + p.places). absurd ((is.worn).1 (inl more))) (λ few. few) (cases_lt (2 ^ 62) ((old.run).drawn + p.places)))
+      is.some_left (is.images st runs.at) (is.stands st runs.at) (is.run).keys (is.run).params (is.run).drawn
+
+  module _ (counts_now : (t : Clock) (c : Image) → NotAfter t (disk new.store).moment → (disk new.store).may_leave c → (disk new.store).left_since t c)
+      (only_now : (c : Image) → (disk old.store).left_since (disk old.store).moment c → (disk old.store).may_leave c) where
+    images_then : (x : Result (Unit {0}) Fault) → FetchCalled disk old new notes asks x → (c : Image) → (disk new.store).may_leave c → OneOf keys p st (with_record st r) c
+    images_then x is = at_the_end (disk old.store) (disk new.store) (OneOf keys p st (with_record st r)) counts_now (is.images st runs.at)
+
+    pub fetch_err : (f : Fault) → FetchCalled disk old new notes asks (Err f) → IsCallInLife disk word_of old new notes s (Fetch asks) false
+    fetch_err fault.Memory is = absurd is.refusal
+    fetch_err fault.Usage is = absurd is.refusal
+    fetch_err (fault.BadScript line) is = absurd is.refusal
+    fetch_err (fault.BadParams what) is = absurd is.refusal
+    fetch_err fault.NotStore is = absurd is.refusal
+    fetch_err (fault.Damaged cell what kept computed) is = absurd (is.undamaged st runs.at)
+    fetch_err (fault.StoreFault unsure) is =
+        let few : (old.run).drawn + p.places ≤ 2 ^ 62 = ⊎_elim (λ (more : 2 ^ 62 < (old.run).drawn + p.places). absurd ((is.worn).1 (inl more))) (λ few. few) (cases_lt (2 ^ 62) ((old.run).drawn + p.places)) in
+        let images = images_then (Err (fault.StoreFault unsure)) is in
+        ⊎_elim
+        (λ (written : (done : List Note) × IsCut (append_notes p (suc (old.run).epoch) (next_batch old.run)) done notes). in_flight (is.run).was_drawn is.whole is.draws few is.some_left written (is.images st runs.at) images)
+        (λ (opened : IsOpenBetween disk keys p (suc (old.run).epoch) r old.store new.store). batch_in_flight (is.run).was_drawn is.whole is.draws few is.some_left opened (is.images st runs.at) images)
+        is.shown
+    fetch_err (fault.StashFull rows) is = absurd is.refusal
+    fetch_err (fault.Worn number) is = idle_called only_now (is.idle tt)
+    fetch_err fault.SourceFault is = absurd is.refusal
+    fetch_err fault.SinkFault is = absurd is.refusal

@@ -1,0 +1,191 @@
+-- What a store is left as, where a life is.
+use Rattle.std.specs.Prelude.{◌≡◌, ◌⊎◌, ℕ, ◌+◌, ◌<◌, List, [], ◌∷◌, ◌++◌, map, length, Option, Some, None}
+use Rattle.std.proofs.Common.{arith, refl, sym, ap, subst, ◌∙◌, inl, inr}
+use Rattle.std.proofs.lemmas.Option.{same_Some}
+use Rattle.ob_base.specs.declared.params.Params.{Params}
+use Rattle.ob_tables.specs.Content.{Content}
+use Rattle.ob_fetch.specs.Fetches.{words_since}
+use Rattle.ob_fetch.specs.declared.run.Run.{Run}
+use Rattle.ob_vault.specs.Phases.{Shape}
+use Rattle.ob_vault.specs.KindShown.{AreDrawn}
+use Rattle.ob_recover.specs.Calls.{acts_of}
+use Rattle.ob_recover.specs.Life.{Append, IsActAllowed, LifeAct, LifeState, WordId, reached}
+use Rattle.ob_log.specs.Logs.{BatchRecord}
+use Rattle.ob_recover.specs.Repeats.{content_of_ring}
+use Rattle.ob_vault.proofs.Calls.{call_lives}
+use Rattle.ob_vault.proofs.Fetching.{at_standing, none_pending, settled_stands}
+use Rattle.ob_vault.specs.Acts.{AreTapeWords, IsBatchSmall, IsCallInLife, RunsInLife, id_write, is_answered, life_call}
+use Rattle.ob_vault.specs.Hidden.{RingDrawsCut, RingHidden}
+use Rattle.ob_vault.specs.RingKind.{RingFound, ring_hidden, ring_kind}
+use Rattle.ob_vault.specs.RingSteps.{HasRingWords, RingAt, RunIsAtHidden}
+use Rattle.ob_vault.specs.Seen.{RingPublic}
+use Rattle.ob_vault.proofs.SealCalls.{kept_by}
+use Rattle.ob_recover.specs.Known.{slot_kept}
+use Rattle.ob_recover.specs.Lives.{IsLifeAt, life_batch}
+use Rattle.ob_vault.specs.RingVaults.{KeepsRun, RingCalled, Running, record_of_fetch, write_from, writes_of_end}
+use Rattle.ob_schedule.specs.Schedule.{Fills}
+use Rattle.ob_seal.specs.declared.keys.Keys.{Keys}
+use Rattle.ob_serial.specs.VaultKinds.{Called, Kind}
+use Rattle.ob_serial.specs.Vaults.{DoubtBy, End, Ended, Fetch, RefusedBy, Values, VaultAnswer, VaultCall}
+use Rattle.ob_stand.specs.Stands.{RingStanding}
+use Rattle.ob_store.specs.Disk.{Clock, Disk, Image, NotAfter}
+use Rattle.ob_store.specs.declared.watch.Note.{Note}
+use Rattle.ob_opening.specs.OpeningActs.{StandsInLife}
+use Rattle.ob_vault.proofs.DrawnChains.{GoesOn, all_on, drawn_shown, tape_before}
+use Rattle.ob_vault.proofs.Cutting.{cut_batch, cut_end}
+use Rattle.ob_vault.specs.Lives.{AreActsOf, AreFirstActs, IsCutInLife, IsLeftInLife, RingGoesOn}
+use Rattle.ob_vault.specs.Shown.{AreOfLife, IsInLife}
+
+module _ {V S : Type 0} (k : Kind V) (disk : S → Disk) (runs : V → Running S) (words : HasRingWords k disk runs)
+    (counts_now : (x : S) (t : Clock) (c : Image) → NotAfter t (disk x).moment → (disk x).may_leave c → (disk x).left_since t c) (only_now : (x : S) (c : Image) → (disk x).left_since (disk x).moment c → (disk x).may_leave c)
+    (keys : Keys) (p : Params) (f : RingFound) (opened : Disk) where
+  module _ (q : RingPublic) (h : RingHidden) (n : ℕ) (v : V) (at : RingAt k disk runs keys p f opened q h n v) (word_of : WordId → ℕ) (s : LifeState) (here : IsInLife p word_of h s) (lies : RunIsAtHidden (runs v).run h.content h.records (disk (runs v).store)) where
+    abbrev run : Run
+    run = (runs v).run
+
+    abbrev st : RingStanding
+    st = lies.standing
+
+    epoch : st.epoch ≡ s.epoch
+    epoch = sym ((lies.at).runs).epoch_is ∙ at.epoch_hidden ∙ sym here.epoch
+
+    generation : st.generation ≡ s.generation
+    generation = sym ((lies.at).runs).generation_is ∙ at.generation ∙ sym here.generation
+
+    life : IsLifeAt p word_of st.content st.records s
+    life = subst (λ (c : Content). IsLifeAt p word_of c st.records s) (sym lies.content) (subst (λ (rs : List BatchRecord). IsLifeAt p word_of h.content rs s) (sym lies.records) here.life)
+
+    -- ---- behind calls that were all answered
+
+    stands_here : (c : Image) → (disk (runs v).store).may_leave c → StandsInLife keys p word_of s c
+    stands_here c left = at_standing keys p word_of st s c (settled_stands run keys p st (disk (runs v).store) c lies.at at.keys_are at.params left) epoch generation life
+
+    pub at_rest : IsLeftInLife keys p word_of s None (disk (runs v).store)
+    at_rest = record {
+      made = [];
+      in_flight = None;
+      first = (refl, refl);
+      is_life = tt;
+      images = λ c left. record { allowed = λ a e. none_pending (IsActAllowed p word_of s a) a e; stands = λ i same. inl (stands_here i (subst (disk (runs v).store).may_leave same left)) };
+      small = (here.small, λ b e. none_pending (IsBatchSmall b) (Append b) e);
+    }
+
+    -- ---- behind one that was refused
+
+    module _ (call : VaultCall) (answer : VaultAnswer) (w : V) (one : Called k v call answer w) (tape : AreTapeWords word_of h.generation (runs w).drawn) where
+      does : RingCalled disk (runs v) (runs w) one.notes call answer
+      does = words.called v call answer one.notes w one.called
+
+      kept : KeepsRun disk (runs v) (runs w) one.notes
+      kept = kept_by disk (runs v) (runs w) one.notes call answer does
+
+      runs_here : RunsInLife word_of s run (disk (runs v).store)
+      runs_here = record {
+        standing = st;
+        at = lies.at;
+        epoch = epoch;
+        generation = generation;
+        life = subst (λ (x : Params). IsLifeAt x word_of st.content st.records s) (sym at.params) life;
+        small = here.small;
+        drawn = here.drawn ∙ ap (λ (l : List ℕ). length l) (sym at.tape) ∙ sym kept.was_drawn;
+        begun = here.begun;
+      }
+
+      made : IsCallInLife disk word_of (runs v) (runs w) one.notes s call (is_answered answer)
+      made = call_lives disk word_of s (runs v) (runs w) one.notes (λ t c. counts_now (runs w).store t c) (λ c. only_now (runs v).store c) call answer runs_here
+          (subst (λ g. AreTapeWords word_of g (runs w).drawn) (sym at.generation) tape) does
+
+      acts_are : (a : VaultCall) → AreActsOf a (acts_of (life_call disk word_of (runs v) (runs w) one.notes a))
+      acts_are (Fetch asks) = (life_batch (record_of_fetch disk (runs v) (runs w) one.notes asks), refl, refl)
+      acts_are (End ws) = (map id_write (writes_of_end disk (runs v) (runs w) one.notes (map write_from ws)), ((runs w).run).drawn, slot_kept (content_of_ring ((runs w).run).ring), refl)
+
+      first_of : (done : List LifeAct) (in_flight : Option LifeAct)
+          → ((done ≡ []) × (in_flight ≡ None)) ⊎ ((rest : List LifeAct) × (acts_of (life_call disk word_of (runs v) (runs w) one.notes call) ≡ done ++ rest) × ((in_flight ≡ None) ⊎ ((a : LifeAct) × (more : List LifeAct) × (in_flight ≡ Some a) × (rest ≡ a ∷ more))))
+          → AreFirstActs (Some call) done in_flight
+      first_of done in_flight (inl (none, idle)) =
+          (acts_of (life_call disk word_of (runs v) (runs w) one.notes call), subst (λ (l : List LifeAct). AreActsOf call (l ++ acts_of (life_call disk word_of (runs v) (runs w) one.notes call))) (sym none) (acts_are call), inl idle)
+      first_of done in_flight (inr (rest, are, flight)) = (rest, subst (λ (l : List LifeAct). AreActsOf call l) are (acts_are call), flight)
+
+      left_so : IsLeftInLife (run.sealer).keys run.params word_of s (Some call) (disk (runs w).store)
+      left_so = record {
+        made = made.made;
+        in_flight = made.in_flight;
+        first = first_of made.made made.in_flight (made.law).part;
+        is_life = (made.law).is_life;
+        images = made.left;
+        small = made.small;
+      }
+
+      pub at_refusal : IsLeftInLife keys p word_of s (Some call) (disk (runs w).store)
+      at_refusal = subst (λ (x : Keys). IsLeftInLife x p word_of s (Some call) (disk (runs w).store)) at.keys_are
+          (subst (λ (x : Params). IsLeftInLife (run.sealer).keys x word_of s (Some call) (disk (runs w).store)) at.params left_so)
+
+  -- ---- from what was found on
+
+  module _ (calls : List VaultCall) (steps : List (Shape × Fills)) (q : RingPublic) (h : RingHidden) (n : ℕ) (v : V) (drawn : AreDrawn ring_kind p (ring_hidden f) calls steps h) (at : RingAt k disk runs keys p f opened q h n v) where
+    on : GoesOn (ring_hidden f) h
+    on = all_on p (ring_hidden f) h calls steps drawn
+
+    fetch_left : (asks : List (Option ℕ)) (answer : VaultAnswer) (w : V) (notes : List Note) → RingCalled disk (runs v) (runs w) notes (Fetch asks) answer → 0 < ((runs v).run).left
+    fetch_left asks (Values out) w notes is = is.some_left
+    fetch_left asks (RefusedBy fault) w notes is = is.some_left
+    fetch_left asks Ended w notes is = absurd is
+    fetch_left asks (DoubtBy fault) w notes is = absurd is
+
+    end_left : (ws : List (ℕ × Option (List ℕ))) (answer : VaultAnswer) (w : V) (notes : List Note) → RingCalled disk (runs v) (runs w) notes (End ws) answer → ((runs v).run).left ≡ 0
+    end_left ws Ended w notes is = is.none_left
+    end_left ws (RefusedBy fault) w notes is = is.none_left
+    end_left ws (DoubtBy fault) w notes is = is.none_left
+    end_left ws (Values out) w notes is = absurd is
+
+    own_words : (word_of : WordId → ℕ) (later : List ℕ) → later ≡ h.words ++ words_since (runs v).drawn later → AreTapeWords word_of (ring_hidden f).generation later → AreTapeWords word_of h.generation h.words
+    own_words word_of later grown tape = tape_before word_of h (record h { words = later }) (record { more = words_since (runs v).drawn later; words = grown; generation = refl })
+        (subst (λ g. AreTapeWords word_of g later) (sym on.generation) tape)
+
+    none_cut : (call : VaultCall) → ◌≡◌ {A = Option VaultCall} None (Some call) → ⊥
+    none_cut call e = cc e
+
+    some_left : (run_left : ℕ) → run_left + length h.records ≡ p.batches → 0 < run_left → length h.records < p.batches
+    some_left run_left all some = omega (arith, all, some)
+
+    none_left : (run_left : ℕ) → run_left + length h.records ≡ p.batches → run_left ≡ 0 → length h.records ≡ p.batches
+    none_left run_left all none = omega (arith, all, none)
+
+    -- the call's holes, as the life shows them
+    cut_by : (word_of : WordId → ℕ) (t : LifeState) → IsInLife p word_of h t → (call : VaultCall) (answer : VaultAnswer) (w : V) → Called k v call answer w → (c : Fills) → RingDrawsCut p h call c (runs w).drawn → AreTapeWords word_of h.generation (runs w).drawn
+        → IsCutInLife p word_of t call c
+    cut_by word_of t here (Fetch asks) answer w one c (behind, d, of_tape) tape =
+        cut_batch p word_of t h here asks c behind d (runs w).drawn of_tape (some_left ((runs v).run).left at.left (fetch_left asks answer w one.notes (words.called v (Fetch asks) answer one.notes w one.called))) tape
+    cut_by word_of t here (End ws) answer w one c is tape =
+        cut_end p word_of t h here ws c is (none_left ((runs v).run).left at.left (end_left ws answer w one.notes (words.called v (End ws) answer one.notes w one.called)))
+
+    pub goes_on_none : RingGoesOn keys p f opened calls steps h None (runs v).drawn (disk (runs v).store)
+    goes_on_none word_of s here tape =
+        let l : AreOfLife p word_of s calls steps h =
+        drawn_shown p word_of s (ring_hidden f) h calls steps here drawn (subst (λ (ws : List ℕ). AreTapeWords word_of h.generation ws) at.tape (subst (λ g. AreTapeWords word_of g (runs v).drawn) (sym on.generation) tape)) in
+        record {
+          acts = l.acts;
+          is_life = l.is_life;
+          shown = l.shown;
+          then = l.then;
+          fresh = l.fresh;
+          cut = λ call c none draws. absurd (none_cut call none);
+          left = λ m is. at_rest q h n v at word_of (reached p word_of s l.acts) l.then (at.stands m is);
+        }
+
+    pub goes_on_refused : (call : VaultCall) (answer : VaultAnswer) (w : V) → Called k v call answer w → RingGoesOn keys p f opened calls steps h (Some call) (runs w).drawn (disk (runs w).store)
+    goes_on_refused call answer w one word_of s here tape =
+        let kept : KeepsRun disk (runs v) (runs w) one.notes = kept_by disk (runs v) (runs w) one.notes call answer (words.called v call answer one.notes w one.called) in
+        let grown : (runs w).drawn ≡ h.words ++ words_since (runs v).drawn (runs w).drawn = kept.grows ∙ ap (λ (ws : List ℕ). ws ++ words_since (runs v).drawn (runs w).drawn) at.tape in
+        let l : AreOfLife p word_of s calls steps h = drawn_shown p word_of s (ring_hidden f) h calls steps here drawn (own_words word_of (runs w).drawn grown tape) in
+        record {
+          acts = l.acts;
+          is_life = l.is_life;
+          shown = l.shown;
+          then = l.then;
+          fresh = l.fresh;
+          cut = λ other c same draws. subst (λ (x : VaultCall). IsCutInLife p word_of (reached p word_of s l.acts) x c) (same_Some call other same)
+              (cut_by word_of (reached p word_of s l.acts) l.then call answer w one c (subst (λ (x : VaultCall). RingDrawsCut p h x c (runs w).drawn) (sym (same_Some call other same)) draws)
+              (subst (λ g. AreTapeWords word_of g (runs w).drawn) (sym on.generation) tape));
+          left = λ m is. at_refusal q h n v at word_of (reached p word_of s l.acts) l.then (at.stands m is) call answer w one (subst (λ g. AreTapeWords word_of g (runs w).drawn) (sym on.generation) tape);
+        }

@@ -1,0 +1,71 @@
+-- A whole run is a part of a life.
+use Rattle.std.specs.Prelude.{◌≡◌, ℕ, List, [], ◌∷◌, ◌++◌, Option, Some}
+use Rattle.std.proofs.Common.{refl, sym, subst, ◌∙◌, ⊎_elim}
+use Rattle.ob_base.proofs.Repeats.{has_push}
+use Rattle.ob_base.specs.Repeats.{Has}
+use Rattle.ob_base.specs.declared.params.Params.{Params}
+use Rattle.ob_vault.specs.Phases.{Shape}
+use Rattle.ob_recover.proofs.FreshLaws.{lives_are_fresh}
+use Rattle.ob_recover.proofs.Pads.{life_goes_on}
+use Rattle.ob_recover.specs.Life.{Append, End, IsLife, LifeAct, LifeBatch, LifeState, Open, ShowBatch, ShowLifts, WordId, formatted_life, life_step, reached}
+use Rattle.ob_vault.specs.Acts.{AreBatchesSmall, AreTapeWords, IsBatchSmall}
+use Rattle.ob_vault.specs.Hidden.{RingHidden}
+use Rattle.ob_vault.specs.RingKind.{RingFound, ring_hidden}
+use Rattle.ob_schedule.specs.Schedule.{Fills}
+use Rattle.ob_seal.specs.declared.keys.Keys.{Keys}
+use Rattle.ob_serial.specs.Vaults.{VaultCall}
+use Rattle.ob_store.specs.Disk.{Disk, Image}
+use Rattle.ob_opening.specs.OpeningActs.{IsLeftAt, StandsInLife}
+use Rattle.ob_vault.specs.Lives.{GoesOnInLife, IsLeftInLife, IsNextInLife, IsOpenedInLife, IsRunInLife, RingBegins, RingGoesOn, opening_acts}
+
+pub reached_join : (p : Params) (word_of : WordId → ℕ) (s : LifeState) (xs ys : List LifeAct) → reached p word_of s (xs ++ ys) ≡ reached p word_of (reached p word_of s xs) ys
+reached_join p word_of s [] ys = refl
+reached_join p word_of s (x ∷ xs) ys = reached_join p word_of (life_step p word_of s x) xs ys
+
+-- the log's batches stay small
+small_step : (p : Params) (word_of : WordId → ℕ) (t : LifeState) (a : LifeAct) → AreBatchesSmall t.log → ((b : LifeBatch) → Some a ≡ Some (Append b) → IsBatchSmall b) → AreBatchesSmall (life_step p word_of t a).log
+small_step p word_of t (Open g) small own = small
+small_step p word_of t (Append r) small own = λ b has. ⊎_elim (λ (was : Has t.log b). small b was) (λ (is : r ≡ b). subst IsBatchSmall is (own r refl)) (has_push t.log r b has)
+small_step p word_of t ShowBatch small own = small
+small_step p word_of t ShowLifts small own = small
+small_step p word_of t (End ws drawn slot) small own = λ b none. absurd none
+
+module _ (keys : Keys) (p : Params) (word_of : WordId → ℕ) (s : LifeState) (acts : List LifeAct) (life : IsLife p word_of s acts) where
+  -- behind these acts and some more
+  pub behind_more : (more : List LifeAct) (c : Image) → IsLife p word_of (reached p word_of s acts) more → StandsInLife keys p word_of (reached p word_of (reached p word_of s acts) more) c
+      → AreBatchesSmall (reached p word_of (reached p word_of s acts) more).log → IsNextInLife keys p word_of s acts c
+  behind_more more c on stands small = record {
+    more = more;
+    is_life = life_goes_on p word_of s acts more life on;
+    stands = subst (λ (t : LifeState). StandsInLife keys p word_of t c) (sym (reached_join p word_of s acts more)) stands;
+    small = subst (λ (t : LifeState). AreBatchesSmall t.log) (sym (reached_join p word_of s acts more)) small;
+  }
+
+  pub next_of : (refused : Option VaultCall) (new : Disk) (l : IsLeftInLife keys p word_of (reached p word_of s acts) refused new) (c : Image) → new.may_leave c → IsNextInLife keys p word_of s acts c
+  next_of refused new l c left =
+      let t : LifeState = reached p word_of s acts in
+      let at : IsLeftAt keys p word_of (reached p word_of t l.made) l.in_flight c = l.images c left in
+      ⊎_elim
+      (λ (stands : StandsInLife keys p word_of (reached p word_of t l.made) c). behind_more l.made c l.is_life stands (l.small).0)
+      (λ (one : (a : LifeAct) × (l.in_flight ≡ Some a) × StandsInLife keys p word_of (life_step p word_of (reached p word_of t l.made) a) c).
+      behind_more (l.made ++ one.0 ∷ []) c (life_goes_on p word_of t l.made (one.0 ∷ []) l.is_life (at.allowed one.0 one.1, tt))
+      (subst (λ (u : LifeState). StandsInLife keys p word_of u c) (sym (reached_join p word_of t l.made (one.0 ∷ []))) one.2)
+      (subst (λ (u : LifeState). AreBatchesSmall u.log) (sym (reached_join p word_of t l.made (one.0 ∷ []))) (small_step p word_of (reached p word_of t l.made) one.0 (l.small).0 (λ b e. (l.small).1 b (one.1 ∙ e)))))
+      (at.stands c refl)
+
+pub whole_run : (keys : Keys) (p : Params) (image : Image) (f : RingFound) (opened new : Disk) (calls : List VaultCall) (steps : List (Shape × Fills)) (behind : RingHidden) (refused : Option VaultCall) (words : List ℕ)
+    → RingBegins keys p image f → RingGoesOn keys p f opened calls steps behind refused words new → (word_of : WordId → ℕ) (s : LifeState) → StandsInLife keys p word_of s image → AreBatchesSmall s.log → AreTapeWords word_of (ring_hidden f).generation words
+    → IsRunInLife keys p word_of s f opened calls steps behind refused words new
+whole_run keys p image f opened new calls steps behind refused words begins goes_on word_of s here small tape =
+    let o : IsOpenedInLife p word_of f s = begins word_of s here small in
+    let g : GoesOnInLife keys p word_of (reached p word_of s (opening_acts s)) f opened calls steps behind refused words new = goes_on word_of (reached p word_of s (opening_acts s)) o.then tape in
+    let whole : IsLife p word_of s (opening_acts s ++ g.acts) = life_goes_on p word_of s (opening_acts s) g.acts o.is_life g.is_life in
+    record {
+      goes = g;
+      is_life = whole;
+      leads = reached_join p word_of s (opening_acts s) g.acts;
+      fresh = λ slot before some ranked life at. lives_are_fresh p word_of slot (before ++ (opening_acts s ++ g.acts)) some ranked
+          (life_goes_on p word_of (formatted_life slot) before (opening_acts s ++ g.acts) life (subst (λ (t : LifeState). IsLife p word_of t (opening_acts s ++ g.acts)) (sym at) whole));
+      next = λ m is c left. next_of keys p word_of s (opening_acts s ++ g.acts) whole refused new
+          (subst (λ (t : LifeState). IsLeftInLife keys p word_of t refused new) (sym (reached_join p word_of s (opening_acts s) g.acts)) (g.left m is)) c left;
+    }

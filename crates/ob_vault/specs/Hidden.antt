@@ -1,0 +1,139 @@
+-- What a ring store's vault keeps to itself, and what fills the holes of its calls.
+use Rattle.std.specs.Prelude.{◌≡◌, ◌⊎◌, ℕ, suc, ◌+◌, ◌%◌, ◌^◌, ◌<◌, ◌≤◌, true, false, List, [], ◌∷◌, ◌++◌, length, map, take, drop, slice_index, Option, None, Some}
+use Rattle.ob_base.specs.declared.fault.Fault.{Fault}
+use Rattle.ob_base.specs.declared.fault.Fault.TheVariants as fault
+use Rattle.ob_base.specs.declared.params.Params.{Params}
+use Rattle.ob_base.specs.declared.value.Write.{Write}
+use Rattle.ob_base.specs.Tree.{buckets}
+use Rattle.ob_tables.specs.Buckets.{version_at}
+use Rattle.ob_tables.specs.Rank.{ranks_of}
+use Rattle.ob_tables.specs.Content.{Content, Obeys}
+use Rattle.ob_end.specs.EndRuns.{end_writes, table_ended, words_for_end}
+use Rattle.ob_end.specs.Shown.{before_gate, end_lifts, up_to_gate}
+use Rattle.ob_stand.specs.Table.{flat_of}
+use Rattle.ob_vault.specs.Phases.{Ends, Fetches}
+use Rattle.ob_log.specs.Logs.{BatchRecord, RecordsFit}
+use Rattle.ob_recover.specs.Repeats.{entries_after_records, table_after_records}
+use Rattle.ob_ring.specs.Filling.{words_of}
+use Rattle.ob_ring.specs.FlatTable.{FinalLifts, FlatTable, after, refill_order}
+use Rattle.ob_ring.specs.Writing.{entries_after}
+use Rattle.ob_recover.specs.Known.{fills_of, fills_with_lifts}
+use Rattle.ob_vault.specs.RingVaults.{write_from}
+use Rattle.ob_schedule.specs.Paths.{is_one_of}
+use Rattle.ob_schedule.specs.Schedule.{Fills, record_notes}
+use Rattle.ob_serial.specs.Vaults.{End, Fetch, VaultCall}
+use Rattle.ob_store.specs.Told.{events_of}
+use Rattle.ob_store.specs.declared.event.Event.{Event}
+use Rattle.ob_tables.specs.Kept.{entry_at}
+use Rattle.ob_vault.specs.Seen.{RingPublic, ring_notes}
+
+-- The last epoch that ended, the content of its checkpoint, the records since, the generation, and the words of that which were drawn so
+-- far.
+pub record RingHidden : Type 0 where
+  pub epoch : ℕ
+  pub content : Content
+  pub records : List BatchRecord
+  pub generation : ℕ
+  pub words : List ℕ
+
+-- the planner's table behind the records
+abbrev pub table_hidden : Params → RingHidden → FlatTable
+table_hidden p h = table_after_records p (flat_of p h.content) h.records
+
+-- ---- a batch
+
+-- The record of the next batch, which asks for these keys: its words stand behind those drawn before, and the first one's id is the
+-- generation and how many those are.
+pub record IsNextRecord (h : RingHidden) (asks : List (Option ℕ)) (r : BatchRecord) : Type 0 where
+  pub batch : r.batch ≡ length h.records
+  pub generation : r.generation ≡ h.generation
+  pub first : r.first ≡ length h.words
+  pub asked : r.asks ≡ asks
+
+abbrev pub with_next : RingHidden → BatchRecord → RingHidden
+with_next h r = record h { records = h.records ++ r ∷ []; words = h.words ++ r.words }
+
+-- It asks for a key, or for none, at each place, and draws a word for each, which there are; and its holes are filled by the leaves and the slots that its record shows behind
+-- those before it.
+pub record DrawsBatch (p : Params) (h : RingHidden) (asks : List (Option ℕ)) (f : Fills) (behind : RingHidden) : Type 0 where
+  pub next : BatchRecord
+  pub is_next : IsNextRecord h asks next
+  pub whole : length asks ≡ p.places
+  pub many : length next.words ≡ p.places
+  pub few : length h.words + p.places ≤ 2 ^ 62
+  pub fills : f ≡ fills_of p h.content (h.records ++ next ∷ [])
+  pub behind_is : behind ≡ with_next h next
+
+-- ---- an end
+
+-- The content that an end leaves, of these writes and these words: the table is lifted, written and filled anew; the i-th write's key
+-- keeps the i-th word, with its id, a del's none; the lifted buckets, in the order of the refill, take the words behind those of the
+-- writes, so that their slots are the ranks of these; and the other buckets' slots stay.
+pub record IsContentEnded (p : Params) (h : RingHidden) (writes : List Write) (words : List ℕ) (ended : Content) : Type 0 where
+  pub obeys : Obeys p ended
+  pub table : flat_of p ended ≡ table_ended p (table_hidden p h) (end_writes p writes words h.generation (length h.words))
+  pub entries : (k : ℕ) → entry_at ended.book k
+      ≡ entries_after (entries_after_records p (λ i. entry_at (h.content).book i) h.records) (end_writes p writes words h.generation (length h.words)) k
+  pub within : (u : ℕ) → (after p (table_hidden p h) FinalLifts).lifted u ≡ true → u < buckets p
+  pub ranks : (i : ℕ) → i < length (refill_order p (after p (table_hidden p h) FinalLifts))
+      → (version_at ended.versions (slice_index (refill_order p (after p (table_hidden p h) FinalLifts)) i)).ranks ≡ ranks_of (words_of p (drop p.writes words) i)
+  pub others : (u : ℕ) → is_one_of (refill_order p (after p (table_hidden p h) FinalLifts)) u ≡ false → (version_at ended.versions u).ranks ≡ (version_at (h.content).versions u).ranks
+
+-- It comes behind all batches of its epoch. Its lifts are filled by the slots of the content that the epoch began with; and the words that
+-- it draws, of which there are so many, make the content behind it.
+pub record DrawsEnd (p : Params) (h : RingHidden) (writes : List Write) (f : Fills) (behind : RingHidden) : Type 0 where
+  pub all : length h.records ≡ p.batches
+  pub few_writes : length writes ≤ p.writes
+  pub words : List ℕ
+  pub many : length words ≡ words_for_end p (table_hidden p h)
+  pub few : length h.words + words_for_end p (table_hidden p h) ≤ 2 ^ 62
+  pub fills : f ≡ fills_with_lifts p h.content h.records
+  pub ended : IsContentEnded p h writes words behind.content
+  pub epoch : behind.epoch ≡ suc h.epoch
+  pub none : behind.records ≡ []
+  pub generation : behind.generation ≡ h.generation
+  pub grows : behind.words ≡ h.words ++ words
+
+-- ---- calls
+
+-- the records of an answered batch are those of an epoch: each asks for keys that are keys, for each once at most
+abbrev pub RingDraws : Params → RingHidden → VaultCall → Fills → RingHidden → Type 0
+RingDraws p h (Fetch asks) f behind = DrawsBatch p h asks f behind × RecordsFit p behind.records
+RingDraws p h (End writes) f behind = DrawsEnd p h (map write_from writes) f behind
+
+-- its words are the first of those that the tape has given in this generation
+abbrev pub IsOfTape : RingHidden → List ℕ → Type 0
+IsOfTape h words = (more : List ℕ) × (words ≡ h.words ++ more)
+
+-- The fills of a call that was cut off are those of the call: a batch's are of words that the tape has given.
+abbrev pub RingDrawsCut : Params → RingHidden → VaultCall → Fills → (words : List ℕ) → Type 0
+RingDrawsCut p h (Fetch asks) f words = (behind : RingHidden) × DrawsBatch p h asks f behind × IsOfTape behind words
+RingDrawsCut p h (End writes) f words = f ≡ fills_with_lifts p h.content h.records
+
+-- ---- what is seen of a call that was cut off
+
+-- the first ones of these, and no more
+abbrev pub AreFirst : List Event → List Event → Type 0
+AreFirst all more = (k : ℕ) × (more ≡ take k all)
+
+-- Of a batch that its store refused, the first of its record's events, or all of the batch's; where a slot is damaged, all of them.
+abbrev pub BatchCut : Params → RingPublic → Fills → Fault → List Event → Type 0
+BatchCut p q f (fault.StoreFault None) more = AreFirst (events_of (record_notes p (((q.known).epoch + 1) % 2) q.shown)) more ⊎ (more ≡ events_of (ring_notes p q Fetches f))
+BatchCut p q f (fault.Damaged cell check kept computed) more = more ≡ events_of (ring_notes p q Fetches f)
+BatchCut p q f _ more = ⊥
+
+-- Of an end that its store refused, the first events before the write that opens its register's gate; one that is left in doubt made that
+-- write, with the sync behind it or without. A damaged slot, or a full stash, is told behind all reads of the lifts and before any write.
+abbrev pub EndCut : Params → RingPublic → Fills → Fault → List Event → Type 0
+EndCut p q f (fault.StoreFault None) more = AreFirst (events_of (before_gate (ring_notes p q Ends f))) more
+EndCut p q f (fault.StoreFault (Some epoch)) more = (more ≡ events_of (up_to_gate (ring_notes p q Ends f))) ⊎ (more ≡ events_of (ring_notes p q Ends f))
+EndCut p q f (fault.Damaged cell check kept computed) more = more ≡ events_of (end_lifts p q.known f)
+EndCut p q f (fault.StashFull rows) more = more ≡ events_of (end_lifts p q.known f)
+EndCut p q f (fault.Worn number) more = (more ≡ []) ⊎ (more ≡ events_of (end_lifts p q.known f))
+EndCut p q f _ more = ⊥
+
+-- What is seen goes by the fault, its holes filled as the call's; a batch for which numbers are worn draws no word, and shows nothing.
+abbrev pub RingCut : Params → RingPublic → RingHidden → VaultCall → Fills → (words : List ℕ) → Fault → List Event → Type 0
+RingCut p q h (Fetch asks) f words (fault.Worn number) more = more ≡ []
+RingCut p q h (Fetch asks) f words refused more = RingDrawsCut p h (Fetch asks) f words × BatchCut p q f refused more
+RingCut p q h (End writes) f words refused more = RingDrawsCut p h (End writes) f words × EndCut p q f refused more

@@ -1,0 +1,78 @@
+-- Any row of runs over a store that was formatted, with crashes between them, is one life.
+use Rattle.std.specs.Prelude.{◌≡◌, ℕ, ◌<◌, List, [], ◌∷◌, ◌++◌, Option}
+use Rattle.std.specs.Ordering.{nat_cmp}
+use Rattle.ob_base.specs.declared.params.Params.{Params}
+use Rattle.ob_vault.specs.Phases.{Shape}
+use Rattle.ob_recover.specs.Life.{HolesAreFresh, IsLife, LifeAct, LifeState, WordId, formatted_life, life_labels, life_slots, reached}
+use Rattle.ob_vault.specs.Acts.{AreTapeWords}
+use Rattle.ob_vault.specs.Hidden.{RingHidden}
+use Rattle.ob_vault.specs.RingKind.{IsRingMap, RingFound, ring_hidden}
+use Rattle.ob_schedule.specs.Schedule.{Fills}
+use Rattle.ob_seal.specs.declared.keys.Keys.{Keys}
+use Rattle.ob_serial.specs.Serial.{Map}
+use Rattle.ob_serial.specs.Vaults.{VaultCall}
+use Rattle.ob_store.specs.Disk.{Disk, Image}
+use Rattle.ob_store.specs.Images.{IsSynced}
+use Rattle.ob_vault.specs.Lives.{IsRunInLife, RingBegins, RingFormatted, RingGoesOn, RingStops, opening_acts}
+
+-- A run: over this store it found that; the store was opened, calls drew this and hid that, one more may have been refused, and the tape
+-- gave these words; it left this store. Or its opening was refused.
+pub data RunPart (S : Type 0) : Type 0 where
+  Served : (old : S) (found : RingFound) (opened : S) (calls : List VaultCall) (steps : List (Shape × Fills)) (behind : RingHidden) (refused : Option VaultCall) (words : List ℕ) (new : S) → RunPart S
+  Stopped : (old new : S) → RunPart S
+
+-- the store as the run found it, and as it left it
+abbrev pub begun_at : {S : Type 0} → RunPart S → S
+begun_at (Served old found opened calls steps behind refused words new) = old
+begun_at (Stopped old new) = old
+
+abbrev pub left_at : {S : Type 0} → RunPart S → S
+left_at (Served old found opened calls steps behind refused words new) = new
+left_at (Stopped old new) = new
+
+-- the tape of each run gave the words of the generation that it began
+abbrev pub AreGiven : {S : Type 0} → (WordId → ℕ) → List (RunPart S) → Type 0
+AreGiven word_of [] = Unit {0}
+AreGiven word_of (Served old found opened calls steps behind refused words new ∷ parts) = AreTapeWords word_of (ring_hidden found).generation words × AreGiven word_of parts
+AreGiven word_of (Stopped old new ∷ parts) = AreGiven word_of parts
+
+module _ {S : Type 0} (disk : S → Disk) (keys : Keys) (p : Params) where
+  -- what `run` says of each: where it found a map; or, of a store for which no write waited, where its opening was refused
+  abbrev pub IsRunTold : RunPart S → Type 0
+  IsRunTold (Served old found opened calls steps behind refused words new) =
+      RingBegins keys p (disk old).cells found × RingGoesOn keys p found (disk opened) calls steps behind refused words (disk new) × ((m : Map nat_cmp) × IsRingMap keys p (disk opened) found m)
+  IsRunTold (Stopped old new) = IsSynced (disk old) × RingStops keys p (disk old) (disk new)
+
+  -- Each is told so, and begins at an image that a crash might have left: the first at one of these, each later one at one of the run
+  -- before.
+  abbrev pub AreRunsFrom : (Image → Type 0) → List (RunPart S) → Type 0
+  AreRunsFrom may_leave [] = Unit {0}
+  AreRunsFrom may_leave (part ∷ parts) = may_leave (disk (begun_at part)).cells × IsRunTold part × AreRunsFrom (disk (left_at part)).may_leave parts
+
+  module _ (word_of : WordId → ℕ) where
+    -- The acts of a run: the opening's, those of its calls, which show what fills its holes, and what the next one found of a call that was
+    -- refused. Or the first acts of an opening.
+    abbrev pub IsPart : LifeState → RunPart S → List LifeAct → Type 0
+    IsPart s (Served old found opened calls steps behind refused words new) acts = (run : IsRunInLife keys p word_of s found (disk opened) calls steps behind refused words (disk new))
+        × (more : List LifeAct) × (acts ≡ (opening_acts s ++ run.goes.acts) ++ more)
+    IsPart s (Stopped old new) acts = (rest : List LifeAct) × (opening_acts s ≡ acts ++ rest)
+
+    -- the runs' acts, one behind the other
+    abbrev pub AreParts : LifeState → List (RunPart S) → List LifeAct → Type 0
+    AreParts s [] acts = acts ≡ []
+    AreParts s (part ∷ parts) acts = (first : List LifeAct) × (later : List LifeAct) × (acts ≡ first ++ later) × IsPart s part first × AreParts (reached p word_of s first) parts later
+
+    -- From the format on they are one life, in which no word is shown in two holes, no slot of a bucket's filling either, and a hole that is
+    -- shown again is filled as before.
+    pub record IsOneLife (parts : List (RunPart S)) : Type 0 where
+      pub slot : ℕ → ℕ → ℕ
+      pub acts : List LifeAct
+      pub is_life : IsLife p word_of (formatted_life slot) acts
+      pub parts_are : AreParts (formatted_life slot) parts acts
+      pub fresh : 0 < p.dummies → HolesAreFresh (life_labels p word_of (formatted_life slot) acts) (life_slots p word_of (formatted_life slot) acts)
+
+-- ---- the law
+
+abbrev pub RunsAreOneLife : {S : Type 0} → (S → Disk) → Type 0
+RunsAreOneLife {S} disk = (keys : Keys) (p : Params) (made : S) (parts : List (RunPart S)) → RingFormatted keys p (disk made) → AreRunsFrom disk keys p (disk made).may_leave parts
+    → (word_of : WordId → ℕ) → AreGiven word_of parts → IsOneLife disk keys p word_of parts

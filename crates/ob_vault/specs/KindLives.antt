@@ -1,0 +1,19 @@
+-- The words of a kind of store in which its runs are parts of one life.
+use Rattle.std.specs.Prelude.{ℕ, List, Option}
+use Rattle.ob_base.specs.declared.params.Params.{Params}
+use Rattle.ob_seal.specs.declared.keys.Keys.{Keys}
+use Rattle.ob_store.specs.Disk.{Disk, Image}
+use Rattle.ob_serial.specs.Vaults.{VaultCall}
+use Rattle.ob_vault.specs.Phases.{Shape}
+use Rattle.ob_vault.specs.Kinds.{StoreKind}
+
+pub record LifeWords (store : StoreKind) : Type 1 where
+  -- a life of the store begins, whatever crashes
+  pub formatted : Keys → Params → Disk → Type 0
+  -- An opening of a store with these cells found this: the life goes on with the opening's acts, which show what it showed.
+  pub begins : Keys → Params → Image → store.Found → Type 0
+  -- One that was refused made some of those acts, and left the store so.
+  pub stops : Keys → Params → (old new : Disk) → Type 0
+  -- And from what was found on, over the store as it was opened, with these calls, which drew this and hid that, and with one more, where
+  -- that was refused; a tape has given these words, and the store was left so.
+  pub goes_on : Keys → Params → store.Found → (opened : Disk) → List VaultCall → List (Shape × store.Drawn) → (behind : store.Hidden) → Option VaultCall → (words : List ℕ) → (new : Disk) → Type 0

@@ -1,0 +1,26 @@
+-- The calls of a ring store, as acts of its life.
+use Rattle.std.specs.Prelude.{List, map}
+use Rattle.ob_pads.specs.Lives.{Answers, LivesOn, Opens}
+use Rattle.ob_vault.specs.RingVaults.{RingCalled, Running}
+use Rattle.ob_seal.specs.declared.keys.Keys.{Keys}
+use Rattle.ob_serial.specs.VaultKinds.{AllCalled, Kind}
+use Rattle.ob_serial.specs.Vaults.{VaultAnswer, VaultCall}
+use Rattle.ob_store.specs.Disk.{Disk}
+use Rattle.ob_store.specs.declared.watch.Note.{Note}
+
+-- A call of a ring vault, as its own words tell it, is an act, where the store tells its cells behind it.
+abbrev pub RingCallsAreActs : {S : Type 0} → (S → Disk) → Type 0
+RingCallsAreActs {S} disk = (old new : Running S) (notes : List Note) (call : VaultCall) (answer : VaultAnswer) → RingCalled disk old new notes call answer → (disk new.store).tells
+    → Answers (disk old.store) (disk new.store) (old.run).sealer (new.run).sealer answer
+
+-- the vault's own words are those of a ring vault, which runs so
+abbrev pub IsRingVault : {V S : Type 0} → Kind V → (S → Disk) → (V → Running S) → Type 0
+IsRingVault {V} kind disk runs = (v w : V) (call : VaultCall) (answer : VaultAnswer) (notes : List Note) → kind.called v call answer notes w → RingCalled disk (runs v) (runs w) notes call answer
+
+-- An opening, and the chain of calls of the vault over it, are a run in the life of the store that was opened, where the last store tells
+-- its cells.
+abbrev pub RingChainsLive : {V S : Type 0} → Kind V → (S → Disk) → Type 0
+RingChainsLive {V} {S} kind disk = (runs : V → Running S) → IsRingVault kind disk runs
+    → (keys : Keys) (old : S) (first last : V) (steps : List (VaultCall × VaultAnswer)) → (disk (runs last).store).tells
+    → ((disk (runs first).store).tells → Opens keys (disk old) (disk (runs first).store) ((runs first).run).sealer) → AllCalled kind first steps last
+    → LivesOn disk keys old (runs last).store (map (λ s. s.1) steps)
