@@ -8,8 +8,8 @@ use Rattle.ob_schedule.specs.declared.line.Wanted.{Wanted}
 use Rattle.ob_schedule.specs.declared.line.Wanted.TheVariants as W
 use Rattle.ob_schedule.specs.Follow.{Follow, TakesLine}
 use Rattle.ob_schedule.specs.Names.{RefusesLine}
-use Rattle.ob_plain_follow.specs.declared.follow.FollowPlain.{FollowPlain}
-use Rattle.ob_plain_follow.specs.Plain.{follow_of}
+use Rattle.ob_follow.specs.declared.follow.FollowPlain.{FollowPlain}
+use Rattle.ob_follow.specs.Plain.{follow_of}
 use Rattle.ob_audit.specs.Spelling.{SpellsLine, IsLineOf}
 use Rattle.ob_audit.specs.Traces.{TakesFirst, TakesNext, RefusesNext}
 use Rattle.ob_audit.specs.Reader.{known_behind}

@@ -2,7 +2,7 @@
 use Rattle.std.proofs.Common.{◌≡◌, ◌≢◌, ◌≤◌, ◌<◌, ◌+◌, ◌-◌, ℕ, List, [], ◌∷◌, ◌++◌, length, take, Option, None, slice_set, refl, sym, ap, ◌∙◌, subst, inl, inr, arith, append_assoc, length-append}
 use Rattle.std.specs.Global.{Box}
 use Rattle.std.proofs.lemmas.List.{append-nil, length-take-le, take_more_set, length-set}
-use Rattle.ob_plain_follow.specs.declared.follow.FollowPlain.{FollowPlain}
+use Rattle.ob_follow.specs.declared.follow.FollowPlain.{FollowPlain}
 use Rattle.ob_schedule.specs.declared.line.Line.TheVariants as L
 use Rattle.ob_schedule.specs.declared.line.Wanted.TheVariants as W
 use Rattle.ob_schedule.specs.Follow.{Follow}

@@ -1,8 +1,8 @@
 -- Private: what has been read of a trace.
 use Rattle.std.specs.Global.{Box}
 use Rattle.std.specs.Prelude.{◌≡◌, ◌+◌, ℕ, List, [], ◌∷◌, ◌++◌, length, take, Option, Some, None, option_map}
-use Rattle.ob_plain_follow.specs.declared.follow.FollowPlain.{FollowPlain}
-use Rattle.ob_plain_follow.specs.Plain.{follow_of}
+use Rattle.ob_follow.specs.declared.follow.FollowPlain.{FollowPlain}
+use Rattle.ob_follow.specs.Plain.{follow_of}
 use Rattle.ob_schedule.specs.Follow.{Follow}
 use Rattle.ob_schedule.specs.declared.line.Line.{Line}
 use Rattle.ob_schedule.specs.declared.line.Wanted.{Wanted}

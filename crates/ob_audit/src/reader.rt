@@ -1,6 +1,6 @@
 //! What has been read of a trace.
 
-use ob_plain_follow::FollowPlain;
+use ob_follow::FollowPlain;
 
 /// The most bytes of a line that are kept: one more than a line has.
 pub(crate) const KEPT: usize = 97;

@@ -3,7 +3,7 @@
 ghost use Rattle.std.specs.Prelude.{◌≡◌, ◌≢◌, ◌≤◌, ◌<◌, ◌+◌, ◌++◌, ◌∷◌, ◌^◌, [], ℕ, List, IfOk, IfErr, Some, None, take, length, MatchOption};
 ghost use Rattle.ob_io.specs.Flows.{prepended, IsFrontTaken};
 ghost use Rattle.ob_schedule.specs.Follow.{Follow};
-ghost use Rattle.ob_plain_follow.specs.Plain.{follow_of};
+ghost use Rattle.ob_follow.specs.Plain.{follow_of};
 ghost use Rattle.ob_audit.specs.Traces.{TakesFirst, TakesNext, RefusesNext, IsVerdict, IsAudited, IsAuditFault};
 ghost use Rattle.ob_audit.specs.Reader.{HasReadLines, TakesText, RefusesText, IsSettled, known_behind};
 
@@ -11,8 +11,8 @@ use crate::lines::line_of;
 use crate::reader::{KEPT, Reader};
 use crate::verdict::Audit;
 use ob_base::{Failed, Fault};
+use ob_follow::FollowPlain;
 use ob_io::Source;
-use ob_plain_follow::FollowPlain;
 use ob_schedule::{Line, Wanted};
 use std::alloc::{AllocError, Global};
 

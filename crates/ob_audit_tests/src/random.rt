@@ -3,7 +3,7 @@
 use crate::recipes::trace_of;
 use ob_audit::line_of;
 use ob_base::Params;
-use ob_plain_follow::FollowPlain;
+use ob_follow::FollowPlain;
 use ob_schedule::{Line, Wanted};
 use ob_store::Note;
 use std::alloc::{AllocError, Global};

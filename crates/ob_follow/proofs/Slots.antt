@@ -13,7 +13,7 @@ use Rattle.ob_schedule.specs.Sides.{side_number}
 use Rattle.ob_schedule.specs.Follow.{Follow, MayShow, ShowsSlot}
 use Rattle.ob_schedule.specs.Names.{RefusesLine, wanted_next}
 use Rattle.ob_schedule.proofs.Exact.{refuses}
-use Rattle.ob_plain_follow.specs.Plain.{Took}
+use Rattle.ob_follow.specs.Plain.{Took}
 
 pub none_some : (x : ℕ) → None ≡ Some x → ⊥
 none_some x e = cc

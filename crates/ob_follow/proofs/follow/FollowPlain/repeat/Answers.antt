@@ -3,8 +3,8 @@ use Rattle.std.proofs.Common.{◌++◌, ◌∙◌}
 use Rattle.std.proofs.lemmas.Result.{on_ok_weaker}
 use Rattle.ob_schedule.specs.Wants.{places}
 use Rattle.ob_schedule.specs.Follow.{shows_label}
-use Rattle.ob_plain_follow.specs.Plain.{follow_of}
-use Rattle.ob_plain_follow.proofs.follow.FollowPlain.repeat.Goals as goal
+use Rattle.ob_follow.specs.Plain.{follow_of}
+use Rattle.ob_follow.proofs.follow.FollowPlain.repeat.Goals as goal
 
 pub returns : goal.returns
 returns c =

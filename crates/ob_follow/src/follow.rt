@@ -61,7 +61,7 @@ fn push_batch(p: &Params, side: Side, batch: u32, wants: &mut Runs) -> Result<()
 }
 
 impl FollowPlain {
-    ghost use Rattle.ob_plain_follow.specs.Plain.{follow_of, Took, TookWant, SlotTaken, LabelTaken};
+    ghost use Rattle.ob_follow.specs.Plain.{follow_of, Took, TookWant, SlotTaken, LabelTaken};
 
     /// What is known behind the first line of a format.
     pub fn new(alloc: Global, p: &Params) -> Result<FollowPlain, AllocError>

@@ -1,10 +1,10 @@
 use Rattle.std.proofs.Common.{◌++◌, ◌∙◌}
 use Rattle.std.proofs.lemmas.Result.{on_ok_weaker}
 use Rattle.ob_schedule.specs.Wants.{end_wants}
-use Rattle.ob_plain_follow.specs.Plain.{follow_of}
+use Rattle.ob_follow.specs.Plain.{follow_of}
 use Rattle.ob_wants.specs.Shown.{standing_of}
-use Rattle.ob_plain_follow.proofs.Steps.{step_end}
-use Rattle.ob_plain_follow.proofs.follow.FollowPlain.begin_end.Goals as goal
+use Rattle.ob_follow.proofs.Steps.{step_end}
+use Rattle.ob_follow.proofs.follow.FollowPlain.begin_end.Goals as goal
 
 pub returns : goal.returns
 returns c =

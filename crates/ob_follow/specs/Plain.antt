@@ -2,7 +2,7 @@
 use Rattle.std.specs.Prelude.{◌≡◌, ℕ, Bool, true, false, List, [], ◌∷◌, map, Option, Some, None, option_map}
 use Rattle.ob_store.specs.declared.watch.Note.{Note}
 use Rattle.ob_schedule.specs.Holes.{Hole}
-use Rattle.ob_plain_follow.specs.declared.follow.FollowPlain.{FollowPlain}
+use Rattle.ob_follow.specs.declared.follow.FollowPlain.{FollowPlain}
 use Rattle.ob_wants.specs.Shown.{standing_of}
 use Rattle.ob_wants.specs.Visits.{hole_of_visit}
 use Rattle.ob_schedule.specs.declared.want.Want.{Want}

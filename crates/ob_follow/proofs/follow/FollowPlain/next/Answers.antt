@@ -1,7 +1,7 @@
 use Rattle.std.proofs.Common.{refl}
-use Rattle.ob_plain_follow.specs.Plain.{follow_of}
-use Rattle.ob_plain_follow.proofs.Slots.{refuses_bad}
-use Rattle.ob_plain_follow.proofs.follow.FollowPlain.next.Goals as goal
+use Rattle.ob_follow.specs.Plain.{follow_of}
+use Rattle.ob_follow.proofs.Slots.{refuses_bad}
+use Rattle.ob_follow.proofs.follow.FollowPlain.next.Goals as goal
 
 pub returns-in-Ok : goal.returns-in-Ok
 returns-in-Ok c = rw c.in-Start.is c.in-Ok.ensures
