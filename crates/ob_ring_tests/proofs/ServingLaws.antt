@@ -11,7 +11,7 @@ use Rattle.ob_cells.specs.Jobs.{Manned}
 use Rattle.ob_cells.specs.Writes.{WritesWithin}
 use Rattle.ob_end.specs.EndRuns.{IsEndReady, words_for_end}
 use Rattle.ob_fetch.specs.declared.run.Run.{Run}
-use Rattle.ob_fetch.specs.Fetches.{DrawsWords, IsRunReady, IsWornForBatch}
+use Rattle.ob_fetch.specs.Fetches.{DrawsWords, IsRunReady, IsWornForBatch, MayGoOn}
 use Rattle.ob_fetch.proofs.FetchLaws.{drawn_many}
 use Rattle.ob_recover.specs.Fits.{IsPlannerFit}
 use Rattle.ob_ring.specs.FlatTable.{FlatTable}
@@ -23,6 +23,18 @@ use Rattle.ob_twin.specs.Opening.{GatesAre}
 use Rattle.ob_twin.proofs.Frames.{gates_moved}
 use Rattle.ob_ring.specs.Writing.{write_at}
 use Rattle.ob_ring_tests.specs.Serving.{AreFitWrites, IsServing}
+
+-- so a call may be made
+pub goes_on : (disk : Disk) (present : ℕ) (drawn : List ℕ) (run : Run) (crew : Manned) → IsServing disk present drawn run crew → MayGoOn disk present drawn crew run
+goes_on disk present drawn run crew was = record {
+  none_out = (let o = was.out in omega (arith, o));
+  ready = (was.ready).ready;
+  serves = was.serves;
+  crew = was.crew_is;
+  generation = was.generation;
+  drawn = was.drawn_are;
+  few = was.few;
+}
 
 -- ---- after a batch
 
