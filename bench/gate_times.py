@@ -17,6 +17,7 @@ TICK = os.sysconf("SC_CLK_TCK")
 LOOK = 0.5
 KINDS = ["library", "crate of tests", "tests inside of a crate", "edits: a crate once more", "edits: each",
          "compiler and linker", "running tests and programs", "rt itself"]
+OWN = (KINDS[-1], None)
 
 
 def stat_of(pid):
@@ -77,10 +78,12 @@ class Run:
         for pid in below & alive.keys():
             parent, own, _ = alive[pid]
             if pid not in self.seen:
-                told = ("rt itself", None) if pid == self.root else kind_of(*words_of(pid))
-                of = self.seen.get(parent)
-                self.seen[pid] = [told or (of[0] if of else ("rt itself", None)), 0, self.child_of(pid, parent)]
+                self.seen[pid] = [OWN, 0, self.child_of(pid, parent)]
             one = self.seen[pid]
+            if one[0] == OWN and pid != self.root:
+                # A process that was seen before it became another program is asked again.
+                of = self.seen.get(parent)
+                one[0] = kind_of(*words_of(pid)) or (of[0] if of else OWN)
             if own > one[1]:
                 self.used[one[0]] += own - one[1]
                 busy[one[0]] += own - one[1]
