@@ -11,6 +11,7 @@ use Rattle.ob_seal.specs.declared.keys.Keys.{Keys}
 use Rattle.ob_store.specs.Disk.{Disk}
 use Rattle.ob_store.specs.Calls.{IsStoreFault}
 use Rattle.ob_serial.specs.Serial.{EpochRecord}
+use Rattle.ob_serial.specs.Vaults.{VaultCall}
 use Rattle.ob_script.specs.Script.{Scripts, IsScript, IsFirstBad, limit}
 use Rattle.ob_script.proofs.OneReading.{not_both}
 use Rattle.ob_outcomes.proofs.Counting.{few_txns, few_epochs}
@@ -25,7 +26,7 @@ use Rattle.ob_vault.specs.Lives.{ring_lives}
 use Rattle.ob_vault.specs.Keeping.{AreStandingLaws}
 use Rattle.ob_vault.specs.Kinds.{StoreKind}
 use Rattle.ob_vault.specs.KindLives.{LifeWords}
-use Rattle.ob_vault.specs.Phases.{Shape, shapes}
+use Rattle.ob_vault.specs.Phases.{Shape, refused, shapes}
 use Rattle.ob_conduct.specs.Acts.{calls}
 use Rattle.ob_desk.specs.Beats.{BeatKind}
 use Rattle.ob_top.specs.Runs.{Manner, manner, CameIn, IsInputRefused, EndsEarly, EndsFor, Ran, Went, RunDone}
@@ -125,25 +126,27 @@ module _ (store : StoreKind) (laws : AreStandingLaws store) (life : LifeWords st
         (r.stood can.at can.tells (can.generation, subst (λ (q : Params). store.stands can.keys q can.generation (disk old).cells can.at) (sym same) can.stands)).content
 
     -- a fault of the kind is one that may stop it even so
-    may_stop : (f : Fault) (r : Ran store life disk by drawn can.keys old new before after records (Some f)) (h : store.Hidden) (so_far : List Shape) → store.causes can.keys r.p r.found (disk r.between) (disk new) h so_far (length records) f → store.may_stop can.p f
-    may_stop f r h so_far cause =
-        laws.serves can.keys can.p can.generation (length script.txns) (length records) r.found (disk r.between) (disk new) h so_far f can.at.content
+    may_stop : (f : Fault) (r : Ran store life disk by drawn can.keys old new before after records (Some f)) (h : store.Hidden) (so_far : List Shape) (call : Option VaultCall)
+        → store.causes can.keys r.p r.found (disk r.between) (disk new) h so_far (length records) call drawn f → store.may_stop can.p f
+    may_stop f r h so_far call cause =
+        laws.serves can.keys can.p can.generation (length script.txns) (length records) r.found (disk r.between) (disk new) h so_far call drawn f can.at.content
         (subst (λ e. store.lasts can.p can.generation e (length script.txns)) (sym (ran_epoch (Some f) r)) can.lasts) (ran_few (Some f) r) (ran_map (Some f) r)
-        (subst (λ (q : Params). store.causes can.keys q r.found (disk r.between) (disk new) h so_far (length records) f) (one_p r.p r.opened.head) cause)
+        (subst (λ (q : Params). store.causes can.keys q r.found (disk r.between) (disk new) h so_far (length records) call drawn f) (one_p r.p r.opened.head) cause)
 
-    ran_fault : (f : Fault) (r : Ran store life disk by drawn can.keys old new before after records (Some f)) (h : store.Hidden) (so_far : List Shape) → EndsFor store can.keys r.p r.found (disk r.between) h so_far (length records) (disk old) (disk new) before.output after.output (Some f)
+    ran_fault : (f : Fault) (r : Ran store life disk by drawn can.keys old new before after records (Some f)) (h : store.Hidden) (so_far : List Shape) (call : Option VaultCall)
+        → EndsFor store can.keys r.p r.found (disk r.between) h so_far (length records) call drawn (disk old) (disk new) before.output after.output (Some f)
         → (status_of (Some f) ≡ 9) ⊎ store.may_stop can.p f
-    ran_fault fault.Memory r h so_far cause = inl refl
-    ran_fault fault.SinkFault r h so_far cause = absurd (can.output_holds cause)
-    ran_fault (fault.StoreFault unsure) r h so_far cause = absurd (can.store_holds cause.0)
-    ran_fault (fault.Worn number) r h so_far cause = inr (may_stop (fault.Worn number) r h so_far cause)
-    ran_fault fault.Usage r h so_far cause = inr (may_stop fault.Usage r h so_far cause)
-    ran_fault (fault.BadScript line) r h so_far cause = inr (may_stop (fault.BadScript line) r h so_far cause)
-    ran_fault (fault.BadParams field) r h so_far cause = inr (may_stop (fault.BadParams field) r h so_far cause)
-    ran_fault fault.NotStore r h so_far cause = inr (may_stop fault.NotStore r h so_far cause)
-    ran_fault (fault.Damaged cell check kept computed) r h so_far cause = inr (may_stop (fault.Damaged cell check kept computed) r h so_far cause)
-    ran_fault (fault.StashFull rows) r h so_far cause = inr (may_stop (fault.StashFull rows) r h so_far cause)
-    ran_fault fault.SourceFault r h so_far cause = inr (may_stop fault.SourceFault r h so_far cause)
+    ran_fault fault.Memory r h so_far call cause = inl refl
+    ran_fault fault.SinkFault r h so_far call cause = absurd (can.output_holds cause)
+    ran_fault (fault.StoreFault unsure) r h so_far call cause = absurd (can.store_holds cause.0)
+    ran_fault (fault.Worn number) r h so_far call cause = inr (may_stop (fault.Worn number) r h so_far call cause)
+    ran_fault fault.Usage r h so_far call cause = inr (may_stop fault.Usage r h so_far call cause)
+    ran_fault (fault.BadScript line) r h so_far call cause = inr (may_stop (fault.BadScript line) r h so_far call cause)
+    ran_fault (fault.BadParams field) r h so_far call cause = inr (may_stop (fault.BadParams field) r h so_far call cause)
+    ran_fault fault.NotStore r h so_far call cause = inr (may_stop fault.NotStore r h so_far call cause)
+    ran_fault (fault.Damaged cell check kept computed) r h so_far call cause = inr (may_stop (fault.Damaged cell check kept computed) r h so_far call cause)
+    ran_fault (fault.StashFull rows) r h so_far call cause = inr (may_stop (fault.StashFull rows) r h so_far call cause)
+    ran_fault fault.SourceFault r h so_far call cause = inr (may_stop fault.SourceFault r h so_far call cause)
 
     -- it answers 0, or 9, or tells of a fault that may stop it even so
     abbrev pub Answers : ℕ → Type 0
@@ -156,7 +159,7 @@ module _ (store : StoreKind) (laws : AreStandingLaws store) (life : LifeWords st
     answers : (status : ℕ) (f : Option Fault) → status ≡ status_of f → Went store life disk by drawn can.keys old new before after records f → Answers status
     answers status None is ran = inl is
     answers status (Some f) is (inl (none, ended, lives)) = inr (inl (is ∙ early f ended))
-    answers status (Some f) is (inr ran) = by_fault status f is (ran_fault f ran ran.traced.behind (shapes (calls ran.is_served.served.acts)) ran.cause)
+    answers status (Some f) is (inr ran) = by_fault status f is (ran_fault f ran ran.traced.behind (shapes (calls ran.is_served.served.acts)) (refused (calls ran.is_served.served.acts)) ran.cause)
 
   pub run_answers : (by : Manner) (drawn : List ℕ) (status : ℕ) → RunDone store life disk by drawn can.keys old new before after status → (status ≡ 0) ⊎ ((status ≡ 9) ⊎ ((f : Fault) × store.may_stop can.p f × (status ≡ status_of (Some f))))
   run_answers by drawn status d = answers by drawn d.records status d.fault d.status_is d.went

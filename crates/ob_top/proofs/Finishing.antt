@@ -20,11 +20,12 @@ use Rattle.ob_store.specs.Images.{LeavesOnly}
 use Rattle.ob_store.specs.Calls.{NotesFirst, IsStoreFault}
 use Rattle.ob_store.proofs.Serving.{rose_later}
 use Rattle.ob_serial.specs.Serial.{EpochRecord}
+use Rattle.ob_serial.specs.Vaults.{VaultCall}
 use Rattle.ob_top.specs.Outside.{Outside, LineTold, IsFinished}
 use Rattle.ob_top.specs.Formats.{FormatEnds, FormatTold, FormatDone}
 use Rattle.ob_vault.specs.Kinds.{StoreKind}
 use Rattle.ob_vault.specs.KindLives.{LifeWords}
-use Rattle.ob_vault.specs.Phases.{Shape, shapes}
+use Rattle.ob_vault.specs.Phases.{Shape, refused, shapes}
 use Rattle.ob_conduct.specs.Acts.{calls}
 use Rattle.ob_top.specs.Runs.{Manner, EndsEarly, EndsFor, Ran, Went, RunOn, RunDone}
 use Rattle.ob_top.proofs.Running.{IsQuiet}
@@ -62,7 +63,7 @@ module _ (store : StoreKind) (quiet : IsQuiet store) (life : LifeWords store) wh
     early_on fault early = subst (λ (f : Flow). EndsEarly store life keys (disk old) (disk new) disk before.input f fault) (sym input) early
 
     ran_on : (records : List (EpochRecord ℕ)) (fault : Option Fault) (r : Ran store life disk by words keys old new before mid records fault) → EndsFor store keys r.p r.found (disk r.between) r.traced.behind (shapes (calls r.is_served.served.acts))
-        (length records) (disk old) (disk new) before.output after.output
+        (length records) (refused (calls r.is_served.served.acts)) words (disk old) (disk new) before.output after.output
         fault → Ran store life disk by words keys old new before after records fault
     ran_on records fault r cause = record {
       p = r.p;
@@ -138,25 +139,26 @@ module _ (store : StoreKind) (quiet : IsQuiet store) (life : LifeWords store) wh
           no_fault : Some fault ≡ None → ⊥
           no_fault is = cc is
 
-      went_other : (fault : Fault) (records : List (EpochRecord ℕ)) → ((p : Params) (found : store.Found) (opened : Disk) (h : store.Hidden) (so_far : List Shape) (n : ℕ) → EndsFor store keys p found opened h so_far n (disk old) (disk new) before.output mid.output (Some fault)
-          → EndsFor store keys p found opened h so_far n (disk old) (disk new) before.output after.output (Some fault))
+      went_other : (fault : Fault) (records : List (EpochRecord ℕ)) → ((p : Params) (found : store.Found) (opened : Disk) (h : store.Hidden) (so_far : List Shape) (n : ℕ) (call : Option VaultCall)
+          → EndsFor store keys p found opened h so_far n call words (disk old) (disk new) before.output mid.output (Some fault)
+          → EndsFor store keys p found opened h so_far n call words (disk old) (disk new) before.output after.output (Some fault))
           → Went store life disk by words keys old new before mid records (Some fault) → Went store life disk by words keys old new before after records (Some fault)
       went_other fault records same (inl (none, early, lives)) = inl (none, early_on fault early, lives)
-      went_other fault records same (inr ran) = inr (ran_on records (Some fault) ran (same ran.p ran.found (disk ran.between) ran.traced.behind (shapes (calls ran.is_served.served.acts)) (length records) ran.cause))
+      went_other fault records same (inr ran) = inr (ran_on records (Some fault) ran (same ran.p ran.found (disk ran.between) ran.traced.behind (shapes (calls ran.is_served.served.acts)) (length records) (refused (calls ran.is_served.served.acts)) ran.cause))
 
       pub run_done : (fault : Option Fault) → RunOn store life disk by words keys old new before mid fault → IsFinished mid.output after.output fault status → RunDone store life disk by words keys old new before after status
       run_done None r f = done_whole r f
       run_done (Some SinkFault) r f = done_sink r f
-      run_done (Some Memory) r f = done_other Memory r.records r.reported.bytes r.reported.later f.line f.status_is (went_other Memory r.records (λ p found opened h so_far n cause. cause) r.went)
-      run_done (Some Usage) r f = done_other Usage r.records r.reported.bytes r.reported.later f.line f.status_is (went_other Usage r.records (λ p found opened h so_far n cause. cause) r.went)
-      run_done (Some (BadScript line)) r f = done_other (BadScript line) r.records r.reported.bytes r.reported.later f.line f.status_is (went_other (BadScript line) r.records (λ p found opened h so_far n cause. cause) r.went)
-      run_done (Some (BadParams field)) r f = done_other (BadParams field) r.records r.reported.bytes r.reported.later f.line f.status_is (went_other (BadParams field) r.records (λ p found opened h so_far n cause. cause) r.went)
-      run_done (Some NotStore) r f = done_other NotStore r.records r.reported.bytes r.reported.later f.line f.status_is (went_other NotStore r.records (λ p found opened h so_far n cause. cause) r.went)
-      run_done (Some (Damaged cell check kept computed)) r f = done_other (Damaged cell check kept computed) r.records r.reported.bytes r.reported.later f.line f.status_is (went_other (Damaged cell check kept computed) r.records (λ p found opened h so_far n cause. cause) r.went)
-      run_done (Some (StoreFault unsure)) r f = done_other (StoreFault unsure) r.records r.reported.bytes r.reported.later f.line f.status_is (went_other (StoreFault unsure) r.records (λ p found opened h so_far n cause. cause) r.went)
-      run_done (Some (StashFull rows)) r f = done_other (StashFull rows) r.records r.reported.bytes r.reported.later f.line f.status_is (went_other (StashFull rows) r.records (λ p found opened h so_far n cause. cause) r.went)
-      run_done (Some (Worn number)) r f = done_other (Worn number) r.records r.reported.bytes r.reported.later f.line f.status_is (went_other (Worn number) r.records (λ p found opened h so_far n cause. cause) r.went)
-      run_done (Some SourceFault) r f = done_other SourceFault r.records r.reported.bytes r.reported.later f.line f.status_is (went_other SourceFault r.records (λ p found opened h so_far n cause. cause) r.went)
+      run_done (Some Memory) r f = done_other Memory r.records r.reported.bytes r.reported.later f.line f.status_is (went_other Memory r.records (λ p found opened h so_far n call cause. cause) r.went)
+      run_done (Some Usage) r f = done_other Usage r.records r.reported.bytes r.reported.later f.line f.status_is (went_other Usage r.records (λ p found opened h so_far n call cause. cause) r.went)
+      run_done (Some (BadScript line)) r f = done_other (BadScript line) r.records r.reported.bytes r.reported.later f.line f.status_is (went_other (BadScript line) r.records (λ p found opened h so_far n call cause. cause) r.went)
+      run_done (Some (BadParams field)) r f = done_other (BadParams field) r.records r.reported.bytes r.reported.later f.line f.status_is (went_other (BadParams field) r.records (λ p found opened h so_far n call cause. cause) r.went)
+      run_done (Some NotStore) r f = done_other NotStore r.records r.reported.bytes r.reported.later f.line f.status_is (went_other NotStore r.records (λ p found opened h so_far n call cause. cause) r.went)
+      run_done (Some (Damaged cell check kept computed)) r f = done_other (Damaged cell check kept computed) r.records r.reported.bytes r.reported.later f.line f.status_is (went_other (Damaged cell check kept computed) r.records (λ p found opened h so_far n call cause. cause) r.went)
+      run_done (Some (StoreFault unsure)) r f = done_other (StoreFault unsure) r.records r.reported.bytes r.reported.later f.line f.status_is (went_other (StoreFault unsure) r.records (λ p found opened h so_far n call cause. cause) r.went)
+      run_done (Some (StashFull rows)) r f = done_other (StashFull rows) r.records r.reported.bytes r.reported.later f.line f.status_is (went_other (StashFull rows) r.records (λ p found opened h so_far n call cause. cause) r.went)
+      run_done (Some (Worn number)) r f = done_other (Worn number) r.records r.reported.bytes r.reported.later f.line f.status_is (went_other (Worn number) r.records (λ p found opened h so_far n call cause. cause) r.went)
+      run_done (Some SourceFault) r f = done_other SourceFault r.records r.reported.bytes r.reported.later f.line f.status_is (went_other SourceFault r.records (λ p found opened h so_far n call cause. cause) r.went)
 
   module _ {S : Type 0} (disk : S → Disk) (keys : Keys) (p : Params) (old new : S) (before mid after : Flow) where
     -- a format that did nothing

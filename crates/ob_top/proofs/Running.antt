@@ -10,9 +10,9 @@ use Rattle.ob_io.specs.Streams.{Flow}
 use Rattle.ob_store.specs.Disk.{Disk}
 use Rattle.ob_store.specs.Images.{LeavesOnly, IsSynced}
 use Rattle.ob_store.proofs.Moments.{then_on, weakened}
-use Rattle.ob_serial.specs.Vaults.{Standing, StandsIn}
+use Rattle.ob_serial.specs.Vaults.{Standing, StandsIn, VaultCall}
 use Rattle.ob_pads.specs.Lives.{LivesOn}
-use Rattle.ob_vault.specs.Phases.{Shape, shapes}
+use Rattle.ob_vault.specs.Phases.{Shape, refused, shapes}
 use Rattle.ob_vault.specs.KindLives.{LifeWords}
 use Rattle.ob_vault.specs.Openings.{OpensStanding}
 use Rattle.ob_vault.specs.Kinds.{StoreKind, Stands, AllStand, StandsAsBefore, IsOpenedAt, opened_with}
@@ -58,9 +58,9 @@ module _ (store : StoreKind) (quiet : IsQuiet store) (life : LifeWords store) wh
     went = inl (refl, early, lives);
   }
 
-  module _ (keys : Keys) (p : Params) (found : store.Found) (h : store.Hidden) (so_far : List Shape) (n : ℕ) (old mid new : Disk) (before after : Flow) (later : old.faults ≤ mid.faults) where
+  module _ (keys : Keys) (p : Params) (found : store.Found) (h : store.Hidden) (so_far : List Shape) (n : ℕ) (call : Option VaultCall) (words : List ℕ) (old mid new : Disk) (before after : Flow) (later : old.faults ≤ mid.faults) where
     -- the store's count rose since an earlier moment too
-    pub cause_since : (fault : Option Fault) → EndsFor store keys p found mid h so_far n mid new before after fault → EndsFor store keys p found mid h so_far n old new before after fault
+    pub cause_since : (fault : Option Fault) → EndsFor store keys p found mid h so_far n call words mid new before after fault → EndsFor store keys p found mid h so_far n call words old new before after fault
     cause_since None cause = cause
     cause_since (Some Memory) cause = cause
     cause_since (Some SinkFault) cause = cause
@@ -116,7 +116,7 @@ module _ (store : StoreKind) (quiet : IsQuiet store) (life : LifeWords store) wh
       opened = opened;
       between = between;
       is_served = s.is_served;
-      cause = cause_since keys p found s.traced.behind (shapes (calls s.is_served.served.acts)) (length s.records) (disk old) (disk between) (disk new) output output_new later fault s.cause;
+      cause = cause_since keys p found s.traced.behind (shapes (calls s.is_served.served.acts)) (length s.records) (refused (calls s.is_served.served.acts)) words (disk old) (disk between) (disk new) output output_new later fault s.cause;
       events = s.events;
       traced = s.traced;
       seen = joined (begin_events store p found start) s.events (disk old).seen (disk between).seen (disk new).seen seen s.seen;

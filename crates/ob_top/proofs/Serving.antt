@@ -165,7 +165,7 @@ module _ {V S : Type 0} (k : Kind V) (store : StoreKind) (disk : S → Disk) (st
       pub reported : IsReported before after records fault
       pub events : List Event
       pub traced : IsTraced store p (store.public p found) (store.hidden p found) (tape_of last) asked fault events
-      pub cause : EndsFor store under p found (disk (store_of start)) traced.behind (shapes asked) (length records) (disk (store_of first)) (disk (store_of last)) before after fault
+      pub cause : EndsFor store under p found (disk (store_of start)) traced.behind (shapes asked) (length records) (refused asked) (tape_of last) (disk (store_of first)) (disk (store_of last)) before after fault
       pub seen : Notes events (disk (store_of first)).seen (disk (store_of last)).seen
       pub goes_on : life.goes_on under p found (disk (store_of start)) (answered asked) traced.steps traced.behind (refused asked) (tape_of last) (disk (store_of last))
 
@@ -174,7 +174,7 @@ module _ {V S : Type 0} (k : Kind V) (store : StoreKind) (disk : S → Disk) (st
 
     -- no call was refused
     ends_alone : (asked : List (VaultCall × VaultAnswer)) → AllCalled k first asked last → AreAnswered asked → (fault : Option Fault) →
-        ((h : store.Hidden) → EndsFor store under p found (disk (store_of start)) h (shapes asked) (length records) (disk (store_of first)) (disk (store_of last)) before after fault)
+        ((h : store.Hidden) → EndsFor store under p found (disk (store_of start)) h (shapes asked) (length records) (refused asked) (tape_of last) (disk (store_of first)) (disk (store_of last)) before after fault)
         → IsReported before after records fault → Ending asked fault
     ends_alone asked chain all fault cause reported =
         let b = behind (store.public p found) (store.hidden p found) [] 0 first asked last begun chain all in
@@ -205,18 +205,18 @@ module _ {V S : Type 0} (k : Kind V) (store : StoreKind) (disk : S → Disk) (st
       -- the vault refused a call
       cause_of : (so_far : List Shape) (n : ℕ) (call : VaultCall) (fault : Fault) (mid : V) (q : store.Public) (h : store.Hidden) → Stops store under p found (disk (store_of start)) (disk (store_of mid)) (disk (store_of last)) (tape_of last) q h so_far n call
           fault → so_far ≡ so_far → n ≡ length records
-          → (IsStoreFault fault → Rose (k.disk first).faults (k.disk last).faults) → EndsFor store under p found (disk (store_of start)) h so_far (length records) (disk (store_of first)) (disk (store_of last)) before after (Some fault)
+          → (IsStoreFault fault → Rose (k.disk first).faults (k.disk last).faults) → EndsFor store under p found (disk (store_of start)) h so_far (length records) (Some call) (tape_of last) (disk (store_of first)) (disk (store_of last)) before after (Some fault)
       cause_of so_far n call (StoreFault unsure) mid q h s same is rose = (rises (rose tt), subst (λ m. (unsure ≡ None) ⊎ (unsure ≡ Some (suc (store.epoch found + m)))) is s.why)
       cause_of so_far n call Memory mid q h s same is rose = tt
       cause_of so_far n call SinkFault mid q h s same is rose = absurd s.why
-      cause_of so_far n call (Worn number) mid q h s same is rose = subst (λ m. store.causes under p found (disk (store_of start)) (disk (store_of last)) h so_far m (Worn number)) is s.why
-      cause_of so_far n call Usage mid q h s same is rose = subst (λ m. store.causes under p found (disk (store_of start)) (disk (store_of last)) h so_far m Usage) is s.why
-      cause_of so_far n call (BadScript line) mid q h s same is rose = subst (λ m. store.causes under p found (disk (store_of start)) (disk (store_of last)) h so_far m (BadScript line)) is s.why
-      cause_of so_far n call (BadParams field) mid q h s same is rose = subst (λ m. store.causes under p found (disk (store_of start)) (disk (store_of last)) h so_far m (BadParams field)) is s.why
-      cause_of so_far n call NotStore mid q h s same is rose = subst (λ m. store.causes under p found (disk (store_of start)) (disk (store_of last)) h so_far m NotStore) is s.why
-      cause_of so_far n call (Damaged cell check kept computed) mid q h s same is rose = subst (λ m. store.causes under p found (disk (store_of start)) (disk (store_of last)) h so_far m (Damaged cell check kept computed)) is s.why
-      cause_of so_far n call (StashFull rows) mid q h s same is rose = subst (λ m. store.causes under p found (disk (store_of start)) (disk (store_of last)) h so_far m (StashFull rows)) is s.why
-      cause_of so_far n call SourceFault mid q h s same is rose = subst (λ m. store.causes under p found (disk (store_of start)) (disk (store_of last)) h so_far m SourceFault) is s.why
+      cause_of so_far n call (Worn number) mid q h s same is rose = subst (λ m. store.causes under p found (disk (store_of start)) (disk (store_of last)) h so_far m (Some call) (tape_of last) (Worn number)) is s.why
+      cause_of so_far n call Usage mid q h s same is rose = subst (λ m. store.causes under p found (disk (store_of start)) (disk (store_of last)) h so_far m (Some call) (tape_of last) Usage) is s.why
+      cause_of so_far n call (BadScript line) mid q h s same is rose = subst (λ m. store.causes under p found (disk (store_of start)) (disk (store_of last)) h so_far m (Some call) (tape_of last) (BadScript line)) is s.why
+      cause_of so_far n call (BadParams field) mid q h s same is rose = subst (λ m. store.causes under p found (disk (store_of start)) (disk (store_of last)) h so_far m (Some call) (tape_of last) (BadParams field)) is s.why
+      cause_of so_far n call NotStore mid q h s same is rose = subst (λ m. store.causes under p found (disk (store_of start)) (disk (store_of last)) h so_far m (Some call) (tape_of last) NotStore) is s.why
+      cause_of so_far n call (Damaged cell check kept computed) mid q h s same is rose = subst (λ m. store.causes under p found (disk (store_of start)) (disk (store_of last)) h so_far m (Some call) (tape_of last) (Damaged cell check kept computed)) is s.why
+      cause_of so_far n call (StashFull rows) mid q h s same is rose = subst (λ m. store.causes under p found (disk (store_of start)) (disk (store_of last)) h so_far m (Some call) (tape_of last) (StashFull rows)) is s.why
+      cause_of so_far n call SourceFault mid q h s same is rose = subst (λ m. store.causes under p found (disk (store_of start)) (disk (store_of last)) h so_far m (Some call) (tape_of last) SourceFault) is s.why
 
       -- the output doesn't fail a vault's call
       all_reported : (store_fault : Fault) (so_far : List Shape) (n : ℕ) (call : VaultCall) (q : store.Public) (h : store.Hidden) (a b : Disk) → Stops store under p found (disk (store_of start)) a b (tape_of last) q h so_far n call store_fault
@@ -247,8 +247,9 @@ module _ {V S : Type 0} (k : Kind V) (store : StoreKind) (disk : S → Disk) (st
           let was_cut : refused (front ++ (call, answer) ∷ []) ≡ Some call = refused_last front (call, answer) (all_answered front all) ∙ is in
           let calls_front : answered (front ++ (call, answer) ∷ []) ≡ answered front = answers_join front ((call, answer) ∷ []) ∙ ap (λ (l : List VaultCall). answered front ++ l) none_answered ∙ append-nil (answered front) in
           record {
-            cause = subst (λ (l : List Shape). EndsFor store under p found (disk (store_of start)) b.kept l (length records) (disk (store_of first)) (disk (store_of last)) before after (Some fault)) (sym as_front)
-                (cause_of (shapes front) (0 + length (ended_of front)) call fault mid q b.kept s refl (none_before (length (ended_of front)) ∙ counted (ended_of front) records wrote) cause);
+            cause = subst (λ (l : List Shape). EndsFor store under p found (disk (store_of start)) b.kept l (length records) (refused (front ++ (call, answer) ∷ [])) (tape_of last) (disk (store_of first)) (disk (store_of last)) before after (Some fault)) (sym as_front)
+                (subst (λ (o : Option VaultCall). EndsFor store under p found (disk (store_of start)) b.kept (shapes front) (length records) o (tape_of last) (disk (store_of first)) (disk (store_of last)) before after (Some fault)) (sym was_cut)
+                (cause_of (shapes front) (0 + length (ended_of front)) call fault mid q b.kept s refl (none_before (length (ended_of front)) ∙ counted (ended_of front) records wrote) cause));
             reported = all_reported fault (shapes front) (0 + length (ended_of front)) call q b.kept (disk (store_of mid)) (disk (store_of last)) s written;
             events = events_of_phases (steps_phases store p (store.public p found) b.taken) ++ s.more;
             traced = record {
@@ -430,7 +431,7 @@ module _ {V S : Type 0} (k : Kind V) (store : StoreKind) (disk : S → Disk) (st
       abbrev TracesLife : List Act → List Event → Type 0
       TracesLife xs events = (t : IsTraced store p (store.public p found) (store.hidden p found) (tape_of last) (calls xs) (fault_of result) events)
           × life.goes_on under p found (disk (store_of start)) (answered (calls xs)) t.steps t.behind (refused (calls xs)) (tape_of last) (disk (store_of last))
-          × EndsFor store under p found (disk (store_of start)) t.behind (shapes (calls xs)) (length records) (disk (store_of start)) (disk (store_of last)) before after (fault_of result)
+          × EndsFor store under p found (disk (store_of start)) t.behind (shapes (calls xs)) (length records) (refused (calls xs)) (tape_of last) (disk (store_of start)) (disk (store_of last)) before after (fault_of result)
 
       -- what serving does
       pub serves : At (store.public p found) (store.hidden p found) [] 0 start → ServedOver store life disk (manner beat threads) under p found sealing script (tape_of last) (store_of start) (store_of last) before after (fault_of result)

@@ -121,13 +121,13 @@ pub record IsOpened (store : StoreKind) (keys : Keys) (old : Disk) (before : Flo
   pub starts : old.tells → store.starts keys p old.cells found start
 
 -- Why serving ended: the script did; memory was wanting; the output failed; the store failed, perhaps at the last write or sync of the
--- end of the epoch behind n; or the vault refused for a cause of its kind, from what was hidden behind calls of these shapes.
-abbrev pub EndsFor : (store : StoreKind) → Keys → Params → store.Found → (opened : Disk) → store.Hidden → List Shape → ℕ → Disk → Disk → Flow → Flow → Option Fault → Type 0
-EndsFor store keys p found opened h behind n old new before after None = Unit {0}
-EndsFor store keys p found opened h behind n old new before after (Some Memory) = Unit {0}
-EndsFor store keys p found opened h behind n old new before after (Some SinkFault) = Rose before.faults after.faults
-EndsFor store keys p found opened h behind n old new before after (Some (StoreFault unsure)) = Rose old.faults new.faults × ((unsure ≡ None) ⊎ (unsure ≡ Some (suc (store.epoch found + n))))
-EndsFor store keys p found opened h behind n old new before after (Some fault) = store.causes keys p found opened new h behind n fault
+-- end of the epoch behind n; or the vault refused this call for a cause of its kind, from what was hidden behind calls of these shapes.
+abbrev pub EndsFor : (store : StoreKind) → Keys → Params → store.Found → (opened : Disk) → store.Hidden → List Shape → ℕ → Option VaultCall → (words : List ℕ) → Disk → Disk → Flow → Flow → Option Fault → Type 0
+EndsFor store keys p found opened h behind n call words old new before after None = Unit {0}
+EndsFor store keys p found opened h behind n call words old new before after (Some Memory) = Unit {0}
+EndsFor store keys p found opened h behind n call words old new before after (Some SinkFault) = Rose before.faults after.faults
+EndsFor store keys p found opened h behind n call words old new before after (Some (StoreFault unsure)) = Rose old.faults new.faults × ((unsure ≡ None) ⊎ (unsure ≡ Some (suc (store.epoch found + n))))
+EndsFor store keys p found opened h behind n call words old new before after (Some fault) = store.causes keys p found opened new h behind n call words fault
 
 -- How serving ended. Without a fault each client has signed off, nothing waits, and the desk isn't stopped; else the driver's last act,
 -- behind which there are clients' turns alone, tells of the fault, or nothing was done for want of memory.
@@ -232,7 +232,7 @@ pub record ServedOver (store : StoreKind) (life : LifeWords store) {S : Type 0} 
   pub reported : IsReported before after records fault
   pub events : List Event
   pub traced : IsTraced store p (store.public p found) (store.hidden p found) words (calls is_served.served.acts) fault events
-  pub cause : EndsFor store keys p found (disk old) traced.behind (shapes (calls is_served.served.acts)) (length records) (disk old) (disk new) before after fault
+  pub cause : EndsFor store keys p found (disk old) traced.behind (shapes (calls is_served.served.acts)) (length records) (refused (calls is_served.served.acts)) words (disk old) (disk new) before after fault
   pub seen : Notes events (disk old).seen (disk new).seen
   pub goes : GoesOn (disk old) (disk new)
   pub left : (at : Standing) → (disk old).tells → IsSynced (disk old) → IsOpenedAt store keys p at found (disk old) → IsLeftOnDisk store keys p found at script records fault disk (disk old) (disk new)
@@ -254,7 +254,7 @@ module _ (store : StoreKind) (life : LifeWords store) {S : Type 0} (disk : S →
     -- the trace is that of the opening, and then that of the vault's calls
     pub events : List Event
     pub traced : IsTraced store p (store.public p found) (store.hidden p found) words (calls is_served.served.acts) fault events
-    pub cause : EndsFor store keys p found (disk between) traced.behind (shapes (calls is_served.served.acts)) (length records) (disk old) (disk new) before.output after.output fault
+    pub cause : EndsFor store keys p found (disk between) traced.behind (shapes (calls is_served.served.acts)) (length records) (refused (calls is_served.served.acts)) words (disk old) (disk new) before.output after.output fault
     pub seen : Notes (begin_events store p found start ++ events) (disk old).seen (disk new).seen
     pub opening_seen : Notes (begin_events store p found start) (disk old).seen (disk between).seen
     pub serving_seen : Notes events (disk between).seen (disk new).seen

@@ -179,7 +179,7 @@ module _ {V S : Type 0} (k : Kind V) (disk : S → Disk) (runs : V → Running S
 
     -- a call that was refused, and showed this
     stopped : (call : VaultCall) (fills : Fills) (refused : Fault) (shown : List Note) (more : List Event) → RingCut p q h call fills new.drawn refused more → Notes more (disk old.store).seen (disk new.store).seen
-        → KeepsRun disk old new shown → IsRefusalWhy ring_kind keys p f opened (disk new.store) h so_far n refused → Stops ring_kind keys p f opened (disk old.store) (disk new.store) new.drawn q h so_far n call refused
+        → KeepsRun disk old new shown → IsRefusalWhy ring_kind keys p f opened (disk new.store) h so_far n (Some call) new.drawn refused → Stops ring_kind keys p f opened (disk old.store) (disk new.store) new.drawn q h so_far n call refused
     stopped call fills refused shown more is_cut seen keeps why = record {
       more = more;
       cut = (fills, is_cut);
@@ -242,7 +242,7 @@ module _ {V S : Type 0} (k : Kind V) (disk : S → Disk) (runs : V → Running S
       batch_worn one (inr past) = inr (inr (batch_past (old.run).left (record_cells p) (buckets p * width p + checkpoint_cells p) ((old.run).sealer).next (suc n * seals_an_epoch p) (2 ^ 62) one.some_left at.seals
           (subst (λ (x : Params). 2 ^ 62 < ((old.run).sealer).next + record_cells x) at.params past)))
 
-      batch_why : (refused : Fault) → FetchCalled disk old new notes asks (Err refused) → IsRefusalWhy ring_kind keys p f opened (disk new.store) h so_far n refused
+      batch_why : (refused : Fault) → FetchCalled disk old new notes asks (Err refused) → IsRefusalWhy ring_kind keys p f opened (disk new.store) h so_far n (Some (Fetch asks)) new.drawn refused
       batch_why (fault.StoreFault unsure) one = inl one.refusal
       batch_why (fault.Worn number) one =
           (one.refusal, batch_worn (subst (λ m. FetchCalled disk old new notes asks (Err (fault.Worn m))) one.refusal one) (one.worn.0 tt))
@@ -366,9 +366,22 @@ module _ {V S : Type 0} (k : Kind V) (disk : S → Disk) (runs : V → Running S
       end_worn (inr (inr (has, few, past))) = inr (inr (end_past (seals_for_end params t) (old.run).left (record_cells p) (buckets p * width p + checkpoint_cells p) ((old.run).sealer).next (suc n * seals_an_epoch p) (2 ^ 62)
           (subst (λ (x : Params). seals_for_end params t ≤ buckets x * width x + checkpoint_cells x) at.params (seals_few params t)) at.seals past))
 
-      end_why : (refused : Fault) → EndCalled disk old new notes writes (Err (Before refused)) → IsRefusalWhy ring_kind keys p f opened (disk new.store) h so_far n refused
+    -- ---- an end that was refused, or left in doubt
+
+    module _ (asked : List (ℕ × Option (List ℕ))) (notes : List Note) where
+      abbrev writes : List Write
+      writes = map write_from asked
+
+      abbrev Refused : Fault → Type 0
+      Refused refused = EndCalled disk old new notes writes (Err (Before refused))
+
+      -- why it was refused
+      abbrev EndIsWhy : Fault → Type 0
+      EndIsWhy refused = IsRefusalWhy ring_kind keys p f opened (disk new.store) h so_far n (Some (End asked)) new.drawn refused
+
+      end_why : (refused : Fault) → Refused refused → EndIsWhy refused
       end_why (fault.StoreFault unsure) one = inl one.refusal
-      end_why (fault.Worn number) one = let (is, worn) = one.answers t stands in (is, end_worn worn)
+      end_why (fault.Worn number) one = let (is, worn) = one.answers t stands in (is, end_worn writes notes worn)
       end_why (fault.StashFull rows) one =
           let (has, are, past) = one.answers t stands in
           let ended = table_ended params t (writes_of_end disk old new notes writes) in (
@@ -396,17 +409,11 @@ module _ {V S : Type 0} (k : Kind V) (disk : S → Disk) (runs : V → Running S
       end_why fault.SinkFault one = absurd one.refusal
 
       -- only its store leaves one in doubt
-      doubt_why : (refused : Fault) → EndCalled disk old new notes writes (Err (Unsure refused)) → IsRefusalWhy ring_kind keys p f opened (disk new.store) h so_far n refused
-      doubt_why refused one = subst (λ (x : Fault). IsRefusalWhy ring_kind keys p f opened (disk new.store) h so_far n x) (sym one.refusal) (inr (ap Some (one_behind (old.run).epoch ∙ ap suc at.epoch)))
+      doubt_why : (refused : Fault) → EndCalled disk old new notes writes (Err (Unsure refused)) → EndIsWhy refused
+      doubt_why refused one = subst EndIsWhy (sym one.refusal) (inr (ap Some (one_behind (old.run).epoch ∙ ap suc at.epoch)))
         where
           one_behind : (i : ℕ) → i + 1 ≡ suc i
           one_behind i = omega arith
-
-    -- ---- an end that was refused, or left in doubt
-
-    module _ (asked : List (ℕ × Option (List ℕ))) (notes : List Note) where
-      abbrev Refused : Fault → Type 0
-      Refused refused = EndCalled disk old new notes (map write_from asked) (Err (Before refused))
 
       abbrev EndStops : Fault → Type 0
       EndStops refused = Stops ring_kind keys p f opened (disk old.store) (disk new.store) new.drawn q h so_far n (End asked) refused
@@ -417,9 +424,6 @@ module _ {V S : Type 0} (k : Kind V) (disk : S → Disk) (runs : V → Running S
       abbrev lifts : List Note
       lifts = end_lifts p q.known fills
 
-      why_of : (refused : Fault) → Refused refused → IsRefusalWhy ring_kind keys p f opened (disk new.store) h so_far n refused
-      why_of refused one = end_why (map write_from asked) notes refused one
-
       -- the lifts were read
       lifts_seen : IsRowShown old.lanes (end_lifts params (public_of_kept params c rs (old.run).epoch (old.run).gates) (fills_with_lifts params c rs)) notes (disk old.store).seen (disk new.store).seen
           → Notes (events_of lifts) (disk old.store).seen (disk new.store).seen
@@ -428,22 +432,22 @@ module _ {V S : Type 0} (k : Kind V) (disk : S → Disk) (runs : V → Running S
       store_stops_end : Refused (fault.StoreFault None) → EndStops (fault.StoreFault None)
       store_stops_end one =
           let (m, few, seen) = first_seen (before_gate end_row) (before_gate (ring_notes p q Ends fills)) notes (ap (λ (l : List Note). before_gate l) end_is) (one.scheduled c rs at.planned) in
-          stopped (End asked) fills (fault.StoreFault None) notes (take m (events_of (before_gate (ring_notes p q Ends fills)))) (refl, (m, refl)) seen one.run (why_of (fault.StoreFault None) one)
+          stopped (End asked) fills (fault.StoreFault None) notes (take m (events_of (before_gate (ring_notes p q Ends fills)))) (refl, (m, refl)) seen one.run (end_why (fault.StoreFault None) one)
 
       worn_stops : (number : ℕ) → Refused (fault.Worn number) → EndStops (fault.Worn number)
       worn_stops number one = by_part (one.scheduled c rs at.planned)
         where
           by_part : EndShows old.lanes (end_lifts params (public_of_kept params c rs (old.run).epoch (old.run).gates) (fills_with_lifts params c rs)) end_row notes (disk old.store).seen (disk new.store).seen (Err (Before (fault.Worn number))) → EndStops (fault.Worn number)
-          by_part (inl none) = stopped (End asked) fills (fault.Worn number) notes [] (refl, inl refl) (none.in_order at.one_lane) one.run (why_of (fault.Worn number) one)
-          by_part (inr row) = stopped (End asked) fills (fault.Worn number) notes (events_of lifts) (refl, inr refl) (lifts_seen row) one.run (why_of (fault.Worn number) one)
+          by_part (inl none) = stopped (End asked) fills (fault.Worn number) notes [] (refl, inl refl) (none.in_order at.one_lane) one.run (end_why (fault.Worn number) one)
+          by_part (inr row) = stopped (End asked) fills (fault.Worn number) notes (events_of lifts) (refl, inr refl) (lifts_seen row) one.run (end_why (fault.Worn number) one)
 
       end_stops : (refused : Fault) → Refused refused → EndStops refused
       end_stops (fault.StoreFault unsure) one =
           subst (λ (u : Option ℕ). EndStops (fault.StoreFault u)) (sym one.refusal) (store_stops_end (subst (λ (u : Option ℕ). Refused (fault.StoreFault u)) one.refusal one))
       end_stops (fault.Damaged cell check kept computed) one =
-          stopped (End asked) fills (fault.Damaged cell check kept computed) notes (events_of lifts) (refl, refl) (lifts_seen (one.scheduled c rs at.planned)) one.run (why_of (fault.Damaged cell check kept computed) one)
+          stopped (End asked) fills (fault.Damaged cell check kept computed) notes (events_of lifts) (refl, refl) (lifts_seen (one.scheduled c rs at.planned)) one.run (end_why (fault.Damaged cell check kept computed) one)
       end_stops (fault.StashFull rows) one =
-          stopped (End asked) fills (fault.StashFull rows) notes (events_of lifts) (refl, refl) (lifts_seen (one.scheduled c rs at.planned)) one.run (why_of (fault.StashFull rows) one)
+          stopped (End asked) fills (fault.StashFull rows) notes (events_of lifts) (refl, refl) (lifts_seen (one.scheduled c rs at.planned)) one.run (end_why (fault.StashFull rows) one)
       end_stops (fault.Worn number) one = worn_stops number one
       end_stops fault.Memory one = absurd one.refusal
       end_stops fault.Usage one = absurd one.refusal
@@ -460,10 +464,10 @@ module _ {V S : Type 0} (k : Kind V) (disk : S → Disk) (runs : V → Running S
           by_part : Notes (events_of (up_to_gate end_row)) (disk old.store).seen (disk new.store).seen ⊎ Notes (events_of end_row) (disk old.store).seen (disk new.store).seen → EndStops (fault.StoreFault (Some epoch))
           by_part (inl seen) =
               stopped (End asked) fills (fault.StoreFault (Some epoch)) notes (events_of (up_to_gate (ring_notes p q Ends fills))) (refl, inl refl)
-              (subst (λ (l : List Note). Notes (events_of (up_to_gate l)) (disk old.store).seen (disk new.store).seen) end_is seen) one.run (doubt_why (map write_from asked) notes (fault.StoreFault (Some epoch)) one)
+              (subst (λ (l : List Note). Notes (events_of (up_to_gate l)) (disk old.store).seen (disk new.store).seen) end_is seen) one.run (doubt_why (fault.StoreFault (Some epoch)) one)
           by_part (inr seen) =
               stopped (End asked) fills (fault.StoreFault (Some epoch)) notes (events_of (ring_notes p q Ends fills)) (refl, inr refl)
-              (subst (λ (l : List Note). Notes (events_of l) (disk old.store).seen (disk new.store).seen) end_is seen) one.run (doubt_why (map write_from asked) notes (fault.StoreFault (Some epoch)) one)
+              (subst (λ (l : List Note). Notes (events_of l) (disk old.store).seen (disk new.store).seen) end_is seen) one.run (doubt_why (fault.StoreFault (Some epoch)) one)
 
       doubt_stops : (refused : Fault) → EndCalled disk old new notes (map write_from asked) (Err (Unsure refused)) → EndStops refused
       doubt_stops refused one =

@@ -14,7 +14,7 @@ use Rattle.ob_base.specs.declared.params.Params.{Params}
 use Rattle.ob_vault.specs.Keeping.{AreStandingLaws}
 use Rattle.ob_seal.specs.declared.keys.Keys.{Keys}
 use Rattle.ob_serial.specs.Serial.{Map}
-use Rattle.ob_serial.specs.Vaults.{Standing}
+use Rattle.ob_serial.specs.Vaults.{Standing, VaultCall}
 use Rattle.ob_stand.specs.Stands.{StandsRing, ring_standing}
 use Rattle.ob_start.specs.Heads.{IsHead, IsHeadFault, IsHeadRead, first_bad, numbers_in, numbers_of}
 use Rattle.ob_store.specs.Calls.{IsStoreFault}
@@ -132,19 +132,19 @@ not_worn p g epoch n m (generations, epochs, words, seals) few (inr (inl past)) 
 not_worn p g epoch n m (generations, epochs, words, seals) few (inr (inr past)) =
     let more : suc m * seals_an_epoch p ≤ suc n * seals_an_epoch p = mul-le-mul_right (seals_an_epoch p) (omega (arith, few)) in omega (arith, more, seals, past)
 
-serves : (keys : Keys) (p : Params) (g n m : ℕ) (f : RingFound) (opened now : Disk) (h : RingHidden) (refused : Fault) (map : Map nat_cmp) → RingLasts p g (f.run).epoch n → m ≤ n → IsRingMap keys p opened f map → RingCauses keys p f opened now h m refused
+serves : (keys : Keys) (p : Params) (g n m : ℕ) (f : RingFound) (opened now : Disk) (h : RingHidden) (call : Option VaultCall) (words : List ℕ) (refused : Fault) (map : Map nat_cmp) → RingLasts p g (f.run).epoch n → m ≤ n → IsRingMap keys p opened f map → RingCauses keys p f opened now h m call words refused
     → RingMayStop p refused
-serves keys p g n m f opened now h (fault.Worn number) map lasts few is (worn_is, worn) = absurd (not_worn p g (f.run).epoch n m lasts few worn)
-serves keys p g n m f opened now h (fault.StashFull rows) map lasts few is cause = cause
-serves keys p g n m f opened now h (fault.Damaged cell check kept computed) map lasts few is (slot, none) = absurd (none map is)
-serves keys p g n m f opened now h (fault.StoreFault unsure) map lasts few is cause = absurd cause
-serves keys p g n m f opened now h fault.Memory map lasts few is cause = absurd cause
-serves keys p g n m f opened now h fault.NotStore map lasts few is cause = absurd cause
-serves keys p g n m f opened now h fault.Usage map lasts few is cause = absurd cause
-serves keys p g n m f opened now h (fault.BadScript line) map lasts few is cause = absurd cause
-serves keys p g n m f opened now h (fault.BadParams field) map lasts few is cause = absurd cause
-serves keys p g n m f opened now h fault.SourceFault map lasts few is cause = absurd cause
-serves keys p g n m f opened now h fault.SinkFault map lasts few is cause = absurd cause
+serves keys p g n m f opened now h call words (fault.Worn number) map lasts few is (worn_is, worn) = absurd (not_worn p g (f.run).epoch n m lasts few worn)
+serves keys p g n m f opened now h call words (fault.StashFull rows) map lasts few is cause = cause
+serves keys p g n m f opened now h call words (fault.Damaged cell check kept computed) map lasts few is (slot, none) = absurd (none map is)
+serves keys p g n m f opened now h call words (fault.StoreFault unsure) map lasts few is cause = absurd cause
+serves keys p g n m f opened now h call words fault.Memory map lasts few is cause = absurd cause
+serves keys p g n m f opened now h call words fault.NotStore map lasts few is cause = absurd cause
+serves keys p g n m f opened now h call words fault.Usage map lasts few is cause = absurd cause
+serves keys p g n m f opened now h call words (fault.BadScript line) map lasts few is cause = absurd cause
+serves keys p g n m f opened now h call words (fault.BadParams field) map lasts few is cause = absurd cause
+serves keys p g n m f opened now h call words fault.SourceFault map lasts few is cause = absurd cause
+serves keys p g n m f opened now h call words fault.SinkFault map lasts few is cause = absurd cause
 
 pub ring_keeps : AreStandingLaws ring_kind
 ring_keeps = record {
@@ -153,5 +153,5 @@ ring_keeps = record {
   reads_head = reads_head;
   opens = λ keys p g image at n refused is lasts kind r. opens keys p g image at refused is lasts.0 kind r;
   finds = finds;
-  serves = λ keys p g n m found opened now h behind refused map lasts few is cause. serves keys p g n m found opened now h refused map lasts few is cause;
+  serves = λ keys p g n m found opened now h behind call words refused map lasts few is cause. serves keys p g n m found opened now h call words refused map lasts few is cause;
 }

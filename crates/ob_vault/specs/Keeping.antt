@@ -1,5 +1,5 @@
 -- Private: what a run over a store that stands may be refused for.
-use Rattle.std.specs.Prelude.{ℕ, ◌≡◌, ◌⊎◌, ◌≤◌, List, Err}
+use Rattle.std.specs.Prelude.{ℕ, ◌≡◌, ◌⊎◌, ◌≤◌, List, Option, Err}
 use Rattle.std.specs.Ordering.{nat_cmp}
 use Rattle.ob_base.specs.declared.params.Params.{Params}
 use Rattle.ob_base.specs.declared.fault.Fault.{Fault}
@@ -8,7 +8,7 @@ use Rattle.ob_seal.specs.declared.keys.Keys.{Keys}
 use Rattle.ob_store.specs.Disk.{Disk, Image}
 use Rattle.ob_store.specs.Calls.{IsStoreFault}
 use Rattle.ob_serial.specs.Serial.{Map}
-use Rattle.ob_serial.specs.Vaults.{Standing}
+use Rattle.ob_serial.specs.Vaults.{Standing, VaultCall}
 use Rattle.ob_vault.specs.Phases.{Shape}
 use Rattle.ob_vault.specs.Kinds.{StoreKind}
 
@@ -23,5 +23,5 @@ pub record AreStandingLaws (store : StoreKind) : Type 1 where
       → IsStoreFault refused ⊎ (refused ≡ Memory)
   pub finds : (keys : Keys) (p : Params) (g : ℕ) (image : Image) (at : Standing) (found : store.Found) → store.stands keys p g image at → store.finds keys p image found → store.epoch found ≡ at.epoch
   -- then a call is refused for what may refuse one even so
-  pub serves : (keys : Keys) (p : Params) (g n m : ℕ) (found : store.Found) (opened now : Disk) (h : store.Hidden) (behind : List Shape) (refused : Fault) (map : Map nat_cmp) → store.lasts p g (store.epoch found) n → m ≤ n
-      → store.is_map keys p opened found map → store.causes keys p found opened now h behind m refused → store.may_stop p refused
+  pub serves : (keys : Keys) (p : Params) (g n m : ℕ) (found : store.Found) (opened now : Disk) (h : store.Hidden) (behind : List Shape) (call : Option VaultCall) (words : List ℕ) (refused : Fault) (map : Map nat_cmp) → store.lasts p g (store.epoch found) n → m ≤ n
+      → store.is_map keys p opened found map → store.causes keys p found opened now h behind m call words refused → store.may_stop p refused

@@ -1,5 +1,5 @@
 -- A kind of store, as the layers above a vault see it.
-use Rattle.std.specs.Prelude.{ℕ, ◌≡◌, ◌⊎◌, ◌≤◌, false, List, None, Result}
+use Rattle.std.specs.Prelude.{ℕ, ◌≡◌, ◌⊎◌, ◌≤◌, false, List, Option, None, Result}
 use Rattle.std.specs.Ordering.{nat_cmp}
 use Rattle.ob_base.specs.declared.params.Params.{Params}
 use Rattle.ob_base.specs.declared.fault.Fault.{Fault}
@@ -58,9 +58,9 @@ pub record StoreKind : Type 1 where
   pub is_of_tape : Hidden → (words : List ℕ) → Type 0
   -- What may be seen of a call that was refused with this fault, or left in doubt by it, once a tape had given these words.
   pub cut : Params → Public → Hidden → VaultCall → Drawn → (words : List ℕ) → Fault → List Event → Type 0
-  -- Why a vault refuses a call from what is hidden, behind these and so many epochs that ended, besides its store: the disk was this one
-  -- once it was opened, and this one behind the call.
-  pub causes : Keys → Params → Found → (opened now : Disk) → Hidden → List Shape → ℕ → Fault → Type 0
+  -- Why a vault refuses this call from what is hidden, behind these and so many epochs that ended, besides its store: the disk was this one
+  -- once it was opened, and this one behind the call; and a tape had then given these words.
+  pub causes : Keys → Params → Found → (opened now : Disk) → Hidden → List Shape → ℕ → Option VaultCall → (words : List ℕ) → Fault → Type 0
   -- from this generation and this epoch on so many more epochs can end without a number that comes to its end
   pub lasts : Params → ℕ → ℕ → ℕ → Type 0
   -- what may refuse a call even so, where the store stood

@@ -1,5 +1,5 @@
 -- A ring store, as a kind of store.
-use Rattle.std.specs.Prelude.{ℕ, suc, ◌≡◌, ◌+◌, ◌^◌, ◌<◌, ◌≤◌, false, List, [], length, Ok}
+use Rattle.std.specs.Prelude.{ℕ, suc, ◌≡◌, ◌+◌, ◌^◌, ◌<◌, ◌≤◌, false, List, [], length, Option, Ok}
 use Rattle.std.specs.FinMap as finite
 use Rattle.std.specs.Ordering.{nat_cmp}
 use Rattle.ob_base.specs.declared.fault.Fault.{Fault}
@@ -18,6 +18,7 @@ use Rattle.ob_recover.specs.Known.{public_of_kept}
 use Rattle.ob_schedule.specs.Schedule.{Fills, format_notes}
 use Rattle.ob_seal.specs.declared.keys.Keys.{Keys}
 use Rattle.ob_serial.specs.Serial.{Map}
+use Rattle.ob_serial.specs.Vaults.{VaultCall}
 use Rattle.ob_stand.specs.Stands.{RingStanding, Stands, StandsRing}
 use Rattle.ob_start.specs.Beginning.{gates_begun}
 use Rattle.ob_start.specs.Heads.{IsHead, IsHeadFault, IsHeadRead}
@@ -82,13 +83,13 @@ RingMayStop p (fault.StashFull rows) = (p.room < rows) × (rows ≤ p.keys)
 RingMayStop p _ = ⊥
 
 -- A number is worn; more rows are left in the stash than it may keep; or a slot is damaged, and no map was found.
-abbrev pub RingCauses : Keys → Params → RingFound → (opened now : Disk) → RingHidden → ℕ → Fault → Type 0
-RingCauses keys p f opened now h n (fault.Worn number) = (number ≡ 2 ^ 62) × IsRingWorn p (f.run).epoch n
-RingCauses keys p f opened now h n (fault.StashFull rows) = RingMayStop p (fault.StashFull rows)
-RingCauses keys p f opened now h n (fault.Damaged cell check kept computed) =
+abbrev pub RingCauses : Keys → Params → RingFound → (opened now : Disk) → RingHidden → ℕ → Option VaultCall → (words : List ℕ) → Fault → Type 0
+RingCauses keys p f opened now h n call words (fault.Worn number) = (number ≡ 2 ^ 62) × IsRingWorn p (f.run).epoch n
+RingCauses keys p f opened now h n call words (fault.StashFull rows) = RingMayStop p (fault.StashFull rows)
+RingCauses keys p f opened now h n call words (fault.Damaged cell check kept computed) =
     (now.tells → IsSlotDamage keys p now.cells h (record { cell = cell; check = check; kept = kept; computed = computed }))
     × ((m : Map nat_cmp) → IsRingMap keys p opened f m → ⊥)
-RingCauses keys p f opened now h n _ = ⊥
+RingCauses keys p f opened now h n call words _ = ⊥
 
 abbrev pub ring_public : Params → RingFound → RingPublic
 ring_public p f = record { known = public_of_kept p f.content f.records (f.run).epoch (f.run).gates; shown = length f.records }
@@ -130,7 +131,7 @@ ring_kind = record {
   draws = RingDraws;
   is_of_tape = IsOfTape;
   cut = RingCut;
-  causes = λ keys p f opened now h behind n fault. RingCauses keys p f opened now h n fault;
+  causes = λ keys p f opened now h behind n call words fault. RingCauses keys p f opened now h n call words fault;
   lasts = RingLasts;
   may_stop = RingMayStop;
 }

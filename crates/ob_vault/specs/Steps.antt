@@ -1,5 +1,5 @@
 -- What a call of a vault shows, in the words of its kind of store.
-use Rattle.std.specs.Prelude.{◌≡◌, ◌⊎◌, ◌+◌, ℕ, suc, List, [], ◌∷◌, ◌++◌, Some, None}
+use Rattle.std.specs.Prelude.{◌≡◌, ◌⊎◌, ◌+◌, ℕ, suc, List, [], ◌∷◌, ◌++◌, Option, Some, None}
 use Rattle.ob_base.specs.declared.params.Params.{Params}
 use Rattle.ob_base.specs.declared.fault.Fault.{Fault}
 use Rattle.ob_base.specs.declared.fault.Fault.TheVariants.{StoreFault, SinkFault}
@@ -12,18 +12,18 @@ use Rattle.ob_vault.specs.Phases.{Shape, shape_of, events_of_phases}
 use Rattle.ob_vault.specs.Kinds.{StoreKind}
 use Rattle.ob_vault.specs.KindShown.{IsSeenCut}
 
--- Why a vault refuses: its store failed, perhaps at the last write or sync of the epoch behind n; or for a cause of its kind.
-abbrev pub IsRefusalWhy : (store : StoreKind) → Keys → Params → store.Found → (opened now : Disk) → store.Hidden → List Shape → ℕ → Fault → Type 0
-IsRefusalWhy store keys p found opened now h so_far n (StoreFault unsure) = (unsure ≡ None) ⊎ (unsure ≡ Some (suc (store.epoch found + n)))
-IsRefusalWhy store keys p found opened now h so_far n SinkFault = ⊥
-IsRefusalWhy store keys p found opened now h so_far n fault = store.causes keys p found opened now h so_far n fault
+-- Why a vault refuses a call: its store failed, perhaps at the last write or sync of the epoch behind n; or for a cause of its kind.
+abbrev pub IsRefusalWhy : (store : StoreKind) → Keys → Params → store.Found → (opened now : Disk) → store.Hidden → List Shape → ℕ → Option VaultCall → (words : List ℕ) → Fault → Type 0
+IsRefusalWhy store keys p found opened now h so_far n call words (StoreFault unsure) = (unsure ≡ None) ⊎ (unsure ≡ Some (suc (store.epoch found + n)))
+IsRefusalWhy store keys p found opened now h so_far n call words SinkFault = ⊥
+IsRefusalWhy store keys p found opened now h so_far n call words fault = store.causes keys p found opened now h so_far n call words fault
 
 -- A call that was refused, behind calls of these shapes and so many epochs; a tape has then given these words.
 pub record Stops (store : StoreKind) (keys : Keys) (p : Params) (found : store.Found) (opened old new : Disk) (words : List ℕ) (q : store.Public) (h : store.Hidden) (so_far : List Shape) (n : ℕ) (call : VaultCall) (fault : Fault) : Type 0 where
   pub more : List Event
   pub cut : IsSeenCut store p q h (Some call) words (Some fault) more
   pub seen : Notes more old.seen new.seen
-  pub why : IsRefusalWhy store keys p found opened new h so_far n fault
+  pub why : IsRefusalWhy store keys p found opened new h so_far n (Some call) words fault
   pub of_tape : store.is_of_tape h words
 
 -- A call that was answered, what it drew, and where the vault then is.
