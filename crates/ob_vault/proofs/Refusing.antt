@@ -1,18 +1,12 @@
 -- An opening of a ring store that was refused, in the words of its kind of store.
 use Rattle.std.proofs.Common.{◌≡◌, ◌∙◌, ◌⊎◌, ◌≤◌, ℕ, List, [], ◌∷◌, ◌++◌, length, take, Option, refl, sym, ap, subst, inl, inr, arith}
-use Rattle.std.proofs.Common.{length-append}
-use Rattle.std.proofs.lemmas.List.{take-append-le}
 use Rattle.ob_base.specs.declared.fault.Fault.{Fault}
 use Rattle.ob_base.specs.declared.fault.Fault.TheVariants as fault
 use Rattle.ob_base.specs.declared.params.Params.{Params}
 use Rattle.ob_tables.specs.Version.{Version}
-use Rattle.ob_cells.specs.Orders.{read_notes}
-use Rattle.ob_base.specs.Layout.{checkpoint_cells}
-use Rattle.ob_check.specs.Written.{area_of}
 use Rattle.ob_tables.specs.Content.{content_of}
 use Rattle.ob_stand.specs.Table.{flat_of}
 use Rattle.ob_log.specs.Logs.{BatchRecord}
-use Rattle.ob_log.specs.Reads.{area_notes}
 use Rattle.ob_recover.specs.Finds.{IsFoundInRing, finding_notes}
 use Rattle.ob_recover.specs.Repeats.{ReadInTurn, asked_of_record, batch_cells, repeat_cells, repeat_notes, repeated_notes}
 use Rattle.ob_ring.specs.FlatTable.{Batch, FlatTable, after}
@@ -21,6 +15,7 @@ use Rattle.ob_recover.specs.ShownOpenings.{began_notes}
 use Rattle.ob_seal.specs.declared.keys.Keys.{Keys}
 use Rattle.ob_stand.specs.Stands.{Stands}
 use Rattle.ob_start.specs.Orders.{registers_notes}
+use Rattle.ob_start.specs.Registers as start
 use Rattle.ob_store.proofs.Doing.{events_join, first_noted}
 use Rattle.ob_store.proofs.Events.{joined, joined_first}
 use Rattle.ob_store.proofs.Moments.{passed_then}
@@ -40,10 +35,6 @@ use Rattle.ob_vault.specs.Seen.{OpensInPart, ReadsFirst, RingMayBegin, RingOpens
 
 -- ---- events in order
 
--- the first events of a row are those of a longer one
-first_more : (xs ys : List Event) (a b : Option (List Event)) → NotesFirst xs a b → NotesFirst (xs ++ ys) a b
-first_more xs ys a b (n, few, noted) = (n, omega (arith, few, length-append xs ys), subst (λ (l : List Event). Notes l a b) (sym (take-append-le n xs ys few)) noted)
-
 -- one lane reads the records' batches in their order
 repeats_in_order : (p : Params) (versions : List Version) (t : FlatTable) (rs : List BatchRecord) (a b : Option (List Event)) → ReadInTurn 1 (repeat_cells p versions t rs) a b → Notes (events_of (repeat_notes p versions t rs)) a b
 repeats_in_order p versions t [] a b none = none
@@ -60,16 +51,21 @@ module _ (keys : Keys) (p : Params) (old mid new : Disk) (before after : Trace) 
   behind_head : (row : List Event) → NotesFirst row mid.seen new.seen → NotesFirst (event.Read 0 ∷ row) old.seen new.seen
   behind_head row first = joined_first (event.Read 0 ∷ []) row old.seen mid.seen new.seen head first
 
-  by_registers : NotesFirst (events_of registers_notes) mid.seen new.seen → ReadsFirst p old new
-  by_registers first = (
-    0,
-    behind_head (events_of (finding_notes p 0)) (subst (λ (l : List Event). NotesFirst l mid.seen new.seen) (sym (events_join registers_notes (read_notes (area_of p 0) (checkpoint_cells p) ++ area_notes p 1)))
-        (first_more (events_of registers_notes) (events_of (read_notes (area_of p 0) (checkpoint_cells p) ++ area_notes p 1)) mid.seen new.seen first)),
-  )
+  by_registers : NotesFirst (events_of registers_notes) mid.seen new.seen → ReadsFirst keys p old new
+  by_registers first = inl (behind_head (events_of registers_notes) first)
 
-  by_reads : vault.ReadsFirst keys p mid new before after → ReadsFirst p old new
+  -- the head's read leaves the registers
+  have_still : (generation epoch : ℕ) → (mid.tells → start.Found keys mid.cells generation epoch) → old.tells → start.Found keys old.cells generation epoch
+  have_still generation epoch have tells = subst (λ (i : Image). start.Found keys i generation epoch) (λ i k. keeps.cells tells k i) (have (keeps.tells tells))
+
+  by_reads : vault.ReadsFirst keys p mid new before after → ReadsFirst keys p old new
   by_reads (inl registers) = by_registers (first_noted registers_notes mid.seen new.seen before after registers)
-  by_reads (inr part) = (part.epoch, behind_head (events_of (finding_notes p part.epoch)) (first_noted (finding_notes p part.epoch) mid.seen new.seen before after part.told))
+  by_reads (inr part) = inr (record {
+    generation = part.generation;
+    epoch = part.epoch;
+    registers = have_still part.generation part.epoch part.registers;
+    seen = behind_head (events_of (finding_notes p part.epoch)) (first_noted (finding_notes p part.epoch) mid.seen new.seen before after part.told);
+  })
 
   all_first : (row : List Event) (a b : Option (List Event)) → Notes row a b → NotesFirst row a b
   all_first row a b noted = (length row, omega arith, subst (λ (l : List Event). Notes l a b) (sym (take_all row)) noted)
@@ -107,7 +103,7 @@ module _ (keys : Keys) (p : Params) (old mid new : Disk) (before after : Trace) 
                   (repeats_in_order p (content_of (part.found).tables).versions (flat_of p (content_of (part.found).tables)) (take count (part.found).records) r.seen new.seen ((r.repeats).told).seen))),
             )
 
-    either : vault.ReadsFirst keys p mid new before after ⊎ OpensPart keys 1 p mid new before after refused → ReadsFirst p old new ⊎ OpensInPart keys p old new
+    either : vault.ReadsFirst keys p mid new before after ⊎ OpensPart keys 1 p mid new before after refused → ReadsFirst keys p old new ⊎ OpensInPart keys p old new
     either (inl reads) = inl (by_reads reads)
     either (inr part) = inr (by_part part part.told)
 
@@ -116,7 +112,12 @@ module _ (keys : Keys) (p : Params) (old mid new : Disk) (before after : Trace) 
   partly (fault.Damaged cell check kept computed) is does = either (fault.Damaged cell check kept computed) does
   partly fault.NotStore is does = by_registers (all_first (events_of registers_notes) mid.seen new.seen does.seen)
   partly fault.Memory is does = by_reads does
-  partly (fault.Worn number) is does = ((does.found).epoch, behind_head (events_of (finding_notes p (does.found).epoch)) (all_first (events_of (finding_notes p (does.found).epoch)) mid.seen new.seen (does.told).seen))
+  partly (fault.Worn number) is does = inr (record {
+    generation = (does.found).generation;
+    epoch = (does.found).epoch;
+    registers = have_still (does.found).generation (does.found).epoch (λ tells. (does.found_in tells).registers);
+    seen = behind_head (events_of (finding_notes p (does.found).epoch)) (all_first (events_of (finding_notes p (does.found).epoch)) mid.seen new.seen (does.told).seen);
+  })
   partly fault.Usage is does = absurd is
   partly (fault.BadScript line) is does = absurd is
   partly (fault.BadParams field) is does = absurd is

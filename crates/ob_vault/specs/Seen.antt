@@ -12,6 +12,8 @@ use Rattle.ob_recover.specs.Known.{fills_of, gates_open, public_of_kept}
 use Rattle.ob_recover.specs.ShownOpenings.{began_notes, opening_notes}
 use Rattle.ob_schedule.specs.Schedule.{Fills, Public, after_end, after_phase, batch_leaves, batch_notes, end_notes, open_notes}
 use Rattle.ob_seal.specs.declared.keys.Keys.{Keys}
+use Rattle.ob_start.specs.Orders.{registers_notes}
+use Rattle.ob_start.specs.Registers as start
 use Rattle.ob_store.specs.Calls.{Notes, NotesFirst}
 use Rattle.ob_store.specs.Disk.{Disk}
 use Rattle.ob_store.specs.Told.{events_of}
@@ -42,15 +44,23 @@ pub record OpensInPart (keys : Keys) (p : Params) (old new : Disk) : Type 0 wher
       ⊎ ((count : ℕ) × (count ≤ length found.records)
       × Notes (event.Read 0 ∷ events_of (opening_notes p (content_of found.tables) (take count found.records) found.epoch found.gates found.generation)) old.seen new.seen)
 
--- some of the first reads of all that is found
-abbrev pub ReadsFirst : Params → Disk → Disk → Type 0
-ReadsFirst p old new = (epoch : ℕ) × NotesFirst (event.Read 0 ∷ events_of (finding_notes p epoch)) old.seen new.seen
+-- some of the first reads of all that is found, with the checkpoint and the log of the epoch that the registers have, where the store tells its
+-- cells
+pub record FindsFirst (keys : Keys) (p : Params) (old new : Disk) : Type 0 where
+  pub generation : ℕ
+  pub epoch : ℕ
+  pub registers : old.tells → start.Found keys old.cells generation epoch
+  pub seen : NotesFirst (event.Read 0 ∷ events_of (finding_notes p epoch)) old.seen new.seen
+
+-- some of these, or of the registers' reads alone
+abbrev pub ReadsFirst : Keys → Params → Disk → Disk → Type 0
+ReadsFirst keys p old new = NotesFirst (event.Read 0 ∷ events_of registers_notes) old.seen new.seen ⊎ FindsFirst keys p old new
 
 -- An opening that was refused showed some of the first reads; where its store failed or something was damaged it may have gone on.
 abbrev pub RingOpensPartly : Keys → Params → Disk → Disk → Fault → Type 0
-RingOpensPartly keys p old new (fault.StoreFault unsure) = ReadsFirst p old new ⊎ OpensInPart keys p old new
-RingOpensPartly keys p old new (fault.Damaged cell check kept computed) = ReadsFirst p old new ⊎ OpensInPart keys p old new
-RingOpensPartly keys p old new refused = ReadsFirst p old new
+RingOpensPartly keys p old new (fault.StoreFault unsure) = ReadsFirst keys p old new ⊎ OpensInPart keys p old new
+RingOpensPartly keys p old new (fault.Damaged cell check kept computed) = ReadsFirst keys p old new ⊎ OpensInPart keys p old new
+RingOpensPartly keys p old new refused = ReadsFirst keys p old new
 
 -- refused so, it may have begun the next generation
 abbrev pub RingMayBegin : Fault → Type 0
