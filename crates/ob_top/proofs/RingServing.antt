@@ -15,7 +15,7 @@ use Rattle.ob_vault.specs.RingKind.{RingFound, ring_hidden, ring_kind, ring_publ
 use Rattle.ob_vault.specs.RingSteps.{HasRingWords, RingAt}
 use Rattle.ob_vault.specs.Phases.{Shape}
 use Rattle.ob_vault.specs.KindShown.{AreDrawn}
-use Rattle.ob_vault.specs.Hidden.{IsOfTape, RingHidden}
+use Rattle.ob_vault.specs.Hidden.{IsTapeBehind, RingHidden}
 use Rattle.ob_vault.specs.Seen.{RingPublic}
 use Rattle.ob_vault.proofs.Leaving.{goes_on_none, goes_on_refused}
 use Rattle.ob_vault.specs.Lives.{RingGoesOn, ring_lives}
@@ -31,8 +31,8 @@ use Rattle.ob_top.proofs.Serving.{IsLender, serves_on}
 
 module _ {V S : Type 0} (k : Kind V) (disk : S → Disk) (counts_now : (x : S) (t : Clock) (c : Image) → NotAfter t (disk x).moment → (disk x).may_leave c → (disk x).left_since t c)
     (only_now : (x : S) (c : Image) → (disk x).left_since (disk x).moment c → (disk x).may_leave c) (runs : V → Running S) (words : HasRingWords k disk runs) (keys : Keys) (p : Params) (f : RingFound) (first : V) where
-  pub tells : (q : RingPublic) (h : RingHidden) (so_far : List Shape) (n : ℕ) (v : V) → RingBehind k disk runs words keys p f (disk (runs first).store) q h so_far n v → IsOfTape h (runs v).drawn
-  tells q h so_far n v at = words_are_of_tape k disk runs keys p f first q h n v at
+  pub tells : (q : RingPublic) (h : RingHidden) (so_far : List Shape) (n : ℕ) (v : V) → RingBehind k disk runs words keys p f (disk (runs first).store) q h so_far n v → (fault : Option Fault) → IsTapeBehind p h None (runs v).drawn fault
+  tells q h so_far n v at fault = words_are_of_tape k disk runs keys p f first q h n v at fault
 
   pub at_rest : (calls : List VaultCall) (steps : List (Shape × Fills)) (q : RingPublic) (h : RingHidden) (so_far : List Shape) (n : ℕ) (v : V) → AreDrawn ring_kind p (ring_hidden f) calls steps h → RingBehind k disk runs words keys p f (disk (runs first).store) q h so_far n v
       → RingGoesOn keys p f (disk (runs first).store) calls steps h None (runs v).drawn (disk (runs v).store)

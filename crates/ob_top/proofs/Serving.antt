@@ -82,7 +82,7 @@ all_answered ((End writes, DoubtBy fault) ∷ steps) are = absurd are
 module _ {V S : Type 0} (k : Kind V) (store : StoreKind) (disk : S → Disk) (store_of : V → S) (under : Keys) (p : Params) (found : store.Found) (start : V) (At : store.Public → store.Hidden → List Shape → ℕ → V → Type 0) (tape_of : V → List ℕ)
     (does : (q : store.Public) (h : store.Hidden) (so_far : List Shape) (n : ℕ) (v : V) (call : VaultCall) (answer : VaultAnswer) (w : V) → At q h so_far n v → Called k v call answer w
     → IsCallOfKind store under p found (disk (store_of start)) At (disk (store_of v)) (disk (store_of w)) (tape_of w) w q h so_far n call answer)
-    (tells : (q : store.Public) (h : store.Hidden) (so_far : List Shape) (n : ℕ) (v : V) → At q h so_far n v → store.is_of_tape h (tape_of v)) (life : LifeWords store)
+    (tells : (q : store.Public) (h : store.Hidden) (so_far : List Shape) (n : ℕ) (v : V) → At q h so_far n v → (fault : Option Fault) → store.is_of_tape p h None (tape_of v) fault) (life : LifeWords store)
     (at_rest : (calls : List VaultCall) (taken : List (Shape × store.Drawn)) (q : store.Public) (h : store.Hidden) (so_far : List Shape) (n : ℕ) (v : V) → AreDrawn store p (store.hidden p found) calls taken h → At q h so_far n v
     → life.goes_on under p found (disk (store_of start)) calls taken h None (tape_of v) (disk (store_of v)))
     (at_stop : (calls : List VaultCall) (taken : List (Shape × store.Drawn)) (q : store.Public) (h : store.Hidden) (so_far : List Shape) (n : ℕ) (v : V) → AreDrawn store p (store.hidden p found) calls taken h → At q h so_far n v
@@ -188,7 +188,8 @@ module _ {V S : Type 0} (k : Kind V) (store : StoreKind) (disk : S → Disk) (st
             shapes_are = b.shapes_are;
             behind = b.kept;
             drawn = b.drawn;
-            of_tape = tells (public_behind store p (store.public p found) b.taken) b.kept (shapes asked) (0 + length (ended_of asked)) last b.at;
+            of_tape = subst (λ (o : Option VaultCall). store.is_of_tape p b.kept o (tape_of last) fault) (sym none)
+                (tells (public_behind store p (store.public p found) b.taken) b.kept (shapes asked) (0 + length (ended_of asked)) last b.at fault);
             more = [];
             cut = none_cut (public_behind store p (store.public p found) b.taken) b.kept (refused asked) fault none;
             events_are = refl;
@@ -257,7 +258,7 @@ module _ {V S : Type 0} (k : Kind V) (store : StoreKind) (disk : S → Disk) (st
               shapes_are = b.shapes_are ∙ sym as_front;
               behind = b.kept;
               drawn = subst (λ (l : List VaultCall). AreDrawn store p (store.hidden p found) l b.taken b.kept) (sym calls_front) b.drawn;
-              of_tape = s.of_tape;
+              of_tape = subst (λ (o : Option VaultCall). store.is_of_tape p b.kept o (tape_of last) (Some fault)) (sym was_cut) s.of_tape;
               more = s.more;
               cut = subst (λ (o : Option VaultCall). IsSeenCut store p q b.kept o (tape_of last) (Some fault) s.more) (sym was_cut) s.cut;
               events_are = refl;

@@ -42,13 +42,14 @@ begin_events store p found start = events_of_phases (Reads (0 ∷ []) ∷ store.
 
 -- What is seen of serving: the phases of the vault's calls, and of one that was refused what its fault allows. It depends on the parameters,
 -- on what is public of the vault, on how the calls follow one another, and on what they draw; on no key, no value and no write. What they
--- draw is, call by call, what is to be drawn behind the calls before it; and its words are the first of those that the tape has given.
+-- draw is, call by call, what is to be drawn behind the calls before it; and its words, with those of a call that was refused, are those that
+-- the tape has given.
 pub record IsTraced (store : StoreKind) (p : Params) (q : store.Public) (h : store.Hidden) (words : List ℕ) (asked : List (VaultCall × VaultAnswer)) (fault : Option Fault) (events : List Event) : Type 0 where
   pub steps : List (Shape × store.Drawn)
   pub shapes_are : map (λ s. s.0) steps ≡ shapes asked
   pub behind : store.Hidden
   pub drawn : AreDrawn store p h (answered asked) steps behind
-  pub of_tape : store.is_of_tape behind words
+  pub of_tape : store.is_of_tape p behind (refused asked) words fault
   pub more : List Event
   pub cut : IsSeenCut store p (public_behind store p q steps) behind (refused asked) words fault more
   pub events_are : events ≡ events_of_phases (steps_phases store p q steps) ++ more

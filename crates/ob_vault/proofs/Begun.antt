@@ -56,6 +56,7 @@ module _ {V S : Type 0} (k : Kind V) (disk : S → Disk) (runs : V → Running S
     shown = refl;
     generation = ap (λ (r : Run). (r.sealer).generation) run_is;
     tape = none;
+    sealed = ap (λ (r : Run). (r.sealer).next) run_is ∙ sealed_none;
     left = ap (λ (r : Run). r.left + length f.records) run_is ∙ goes.left;
     epoch = ap (λ (r : Run). r.epoch) run_is ∙ none_more (f.run).epoch;
     epoch_hidden = ap (λ (r : Run). r.epoch) run_is;

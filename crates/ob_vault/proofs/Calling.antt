@@ -9,12 +9,12 @@ use Rattle.ob_base.specs.declared.params.Params.{Params}
 use Rattle.ob_base.specs.declared.value.Write.{Write}
 use Rattle.ob_tables.specs.Buckets.{Buckets}
 use Rattle.ob_tables.specs.Content.{Content, Obeys}
-use Rattle.ob_end.specs.EndRuns.{IsWornForEnd, LeadsOn, seals_for_end, standing_at_end, table_ended, words_for_end}
+use Rattle.ob_end.specs.EndRuns.{EndDraws, IsWornForEnd, LeadsOn, MakeAnswers, end_writes, seals_for_end, standing_at_end, words_for_end}
 use Rattle.ob_end.specs.Shown.{EndShows, before_gate, end_lifts, up_to_gate}
 use Rattle.ob_end.specs.Lifts.{IsLiftDamage}
 use Rattle.ob_stand.specs.Table.{buckets_of, flat_of}
 use Rattle.ob_fetch.proofs.NextLaws.{seals_listed, stands_listed}
-use Rattle.ob_fetch.specs.Fetches.{DrawsWords, FetchShows, IsWornForBatch, RunIsAt, next_batch, words_since}
+use Rattle.ob_fetch.specs.Fetches.{DrawsWords, FetchDraws, FetchShows, IsWornForBatch, RunIsAt, next_batch, words_since}
 use Rattle.ob_vault.specs.Phases.{Shape, Fetches, Ends, events_of_phases}
 use Rattle.ob_vault.specs.Steps.{IsCallOfKind, IsRefusalWhy, Stops}
 use Rattle.ob_log.specs.Appends.{IsWornOut, append_notes}
@@ -36,6 +36,7 @@ use Rattle.ob_seal.specs.declared.keys.Keys.{Keys}
 use Rattle.ob_serial.specs.Serial.{Map}
 use Rattle.ob_serial.specs.VaultKinds.{Called, Kind}
 use Rattle.ob_serial.specs.Vaults.{DoubtBy, End, Ended, Fetch, RefusedBy, Values, VaultAnswer, VaultCall, VaultState, vault_next}
+use Rattle.ob_serial.specs.declared.vault.EndErr.{EndErr}
 use Rattle.ob_serial.specs.declared.vault.EndErr.TheVariants.{Before, Unsure}
 use Rattle.ob_stand.specs.Stands.{RingStanding, with_record}
 use Rattle.ob_store.proofs.Doing.{cut_noted}
@@ -45,11 +46,12 @@ use Rattle.ob_store.specs.Told.{events_of}
 use Rattle.ob_store.specs.declared.event.Event.{Event}
 use Rattle.ob_store.specs.declared.watch.Note.{Note}
 use Rattle.ob_twin.specs.declared.gates.Gates.{Gates}
-use Rattle.ob_vault.proofs.Bounds.{batch_past, end_past, less_left, one_more, rows_few, seals_few, words_few}
+use Rattle.ob_vault.proofs.Bounds.{batch_past, end_past, less_left, one_more, seals_few, words_few}
+use Rattle.ob_vault.proofs.Naming.{answers_named, draws_named}
 use Rattle.ob_vault.proofs.Phasing.{phased}
-use Rattle.ob_vault.specs.Causes.{IsRingWorn, seals_an_epoch, words_an_epoch}
+use Rattle.ob_vault.specs.Causes.{IsCallWorn, IsRingWorn, record_hidden, seals_an_epoch, words_an_epoch, writes_hidden}
 use Rattle.ob_vault.proofs.Drawing.{draws_batch, draws_end, ended, grown}
-use Rattle.ob_vault.specs.Hidden.{IsNextRecord, RingCut, RingDrawsCut, RingHidden, with_next}
+use Rattle.ob_vault.specs.Hidden.{IsTapeBehind, RingCut, RingDrawsCut, RingHidden, table_hidden, with_next}
 use Rattle.ob_vault.specs.RingLaws.{RingCallsDo, RingWordsAreOfTape}
 use Rattle.ob_vault.specs.RingKind.{IsRingMap, RingFound, ring_kind}
 use Rattle.ob_vault.specs.RingSteps.{HasRingWords, RingAt, RunIsAtHidden}
@@ -99,6 +101,13 @@ module _ {V S : Type 0} (k : Kind V) (disk : S → Disk) (runs : V → Running S
     -- where no batch is left all were shown
     all_shown : (old.run).left ≡ 0 → length rs ≡ params.batches
     all_shown none = omega (arith, at.left, none, ap (λ (x : Params). x.batches) at.params)
+
+    -- so many words are hidden
+    drawn_hidden : (notes : List Note) → KeepsRun disk old new notes → (old.run).drawn ≡ length h.words
+    drawn_hidden notes keeps = keeps.was_drawn ∙ ap (λ (l : List ℕ). length l) at.tape
+
+    table_is : t ≡ table_hidden p h
+    table_is = ap (λ (x : Params). table_hidden x h) at.params
 
     -- ---- what is held
 
@@ -178,14 +187,14 @@ module _ {V S : Type 0} (k : Kind V) (disk : S → Disk) (runs : V → Running S
         ∙ ap (λ (x : Public). end_lifts p x (fills_with_lifts p c rs)) at.known
 
     -- a call that was refused, and showed this
-    stopped : (call : VaultCall) (fills : Fills) (refused : Fault) (shown : List Note) (more : List Event) → RingCut p q h call fills new.drawn refused more → Notes more (disk old.store).seen (disk new.store).seen
-        → KeepsRun disk old new shown → IsRefusalWhy ring_kind keys p f opened (disk new.store) h so_far n (Some call) new.drawn refused → Stops ring_kind keys p f opened (disk old.store) (disk new.store) new.drawn q h so_far n call refused
-    stopped call fills refused shown more is_cut seen keeps why = record {
+    stopped : (call : VaultCall) (fills : Fills) (refused : Fault) (more : List Event) → RingCut p q h call fills new.drawn refused more → Notes more (disk old.store).seen (disk new.store).seen
+        → IsTapeBehind p h (Some call) new.drawn (Some refused) → IsRefusalWhy ring_kind keys p f opened (disk new.store) h so_far n (Some call) new.drawn refused → Stops ring_kind keys p f opened (disk old.store) (disk new.store) new.drawn q h so_far n call refused
+    stopped call fills refused more is_cut seen of_tape why = record {
       more = more;
       cut = (fills, is_cut);
       seen = seen;
       why = why;
-      of_tape = (_, grown disk old new shown p h at.params at.planned at.generation at.tape keeps);
+      of_tape = of_tape;
     }
 
     -- ---- a batch
@@ -201,7 +210,7 @@ module _ {V S : Type 0} (k : Kind V) (disk : S → Disk) (runs : V → Running S
       fit one = subst (λ (x : Params). RecordsFit x then) ((one.run).params ∙ at.params) (one.onward c rs at.planned is_next).fit
 
       fetched_at : FetchCalled disk old new notes asks (Ok tt) → ((m : Map nat_cmp) → IsRingMap keys p opened f m → (u : VaultState) × k.holds w u × (u.spent ≡ false))
-          → RingAt k disk runs keys p f opened (ring_next p q Fetches (fills_of p c then)) (with_next h r) n w
+          → RingAt k disk runs keys p f opened (ring_next p q Fetches (fills_of p c then)) (with_next p h r) n w
       fetched_at one holds =
           let params_are : (new.run).params ≡ p = (one.run).params ∙ at.params in
           let planned : HasPlanned new.run c then = one.onward c rs at.planned is_next in
@@ -223,6 +232,7 @@ module _ {V S : Type 0} (k : Kind V) (disk : S → Disk) (runs : V → Running S
             shown = length-append rs (r ∷ []) ∙ one_longer (length rs) ∙ ap suc at.shown;
             generation = (one.run).generation ∙ at.generation;
             tape = grown disk old new notes p h at.params at.planned at.generation at.tape one.run;
+            sealed = sealed ∙ ap (λ m. m + record_cells p) at.sealed;
             left = omega (arith, one.left, at.left, length-append rs (r ∷ []));
             epoch = one.epoch ∙ at.epoch;
             epoch_hidden = one.epoch ∙ at.epoch_hidden;
@@ -235,7 +245,12 @@ module _ {V S : Type 0} (k : Kind V) (disk : S → Disk) (runs : V → Running S
           one_longer : (i : ℕ) → i + 1 ≡ suc i
           one_longer i = omega arith
 
-      -- why one is refused
+      -- ---- why one is refused
+
+      worn_hidden : FetchCalled disk old new notes asks (Err (fault.Worn (2 ^ 62))) → IsWornForBatch old.run → IsCallWorn p h (Some (Fetch asks)) new.drawn
+      worn_hidden one (inl past) = inl (subst (λ (m : ℕ). 2 ^ 62 < m + p.places) (drawn_hidden notes one.run) (subst (λ (x : Params). 2 ^ 62 < (old.run).drawn + x.places) at.params past))
+      worn_hidden one (inr past) = inr (subst (λ (m : ℕ). 2 ^ 62 < m + record_cells p) at.sealed (subst (λ (x : Params). 2 ^ 62 < ((old.run).sealer).next + record_cells x) at.params past))
+
       batch_worn : FetchCalled disk old new notes asks (Err (fault.Worn (2 ^ 62))) → IsWornForBatch old.run → IsRingWorn p (f.run).epoch n
       batch_worn one (inl past) = inr (inl (batch_past (old.run).left p.places (p.writes + buckets p * width p) (old.run).drawn (suc n * words_an_epoch p) (2 ^ 62) one.some_left at.words
           (subst (λ (x : Params). 2 ^ 62 < (old.run).drawn + x.places) at.params past)))
@@ -245,22 +260,32 @@ module _ {V S : Type 0} (k : Kind V) (disk : S → Disk) (runs : V → Running S
       batch_why : (refused : Fault) → FetchCalled disk old new notes asks (Err refused) → IsRefusalWhy ring_kind keys p f opened (disk new.store) h so_far n (Some (Fetch asks)) new.drawn refused
       batch_why (fault.StoreFault unsure) one = inl one.refusal
       batch_why (fault.Worn number) one =
-          (one.refusal, batch_worn (subst (λ m. FetchCalled disk old new notes asks (Err (fault.Worn m))) one.refusal one) (one.worn.0 tt))
+          let same = subst (λ m. FetchCalled disk old new notes asks (Err (fault.Worn m))) one.refusal one in
+          (one.refusal, worn_hidden same (one.worn.0 tt), batch_worn same (one.worn.0 tt))
       batch_why (fault.Damaged cell check kept computed) one = (
         λ tells. record {
           obeys = subst (λ (x : Params). Obeys x c) at.params (at.planned).obeys;
-          read = inl (r, (asks, next_one), told (one.answers start t start_seals stands (((one.run).goes).told tells)));
+          read = told (one.answers start t start_seals stands (((one.run).goes).told tells));
         },
         none_damaged (λ s was. one.undamaged s was),
       )
         where
-          next_one : IsNextRecord h asks r
-          next_one = record { batch = sym is_next; generation = at.generation; first = (one.run).was_drawn ∙ ap (λ (l : List ℕ). length l) at.tape; asked = refl }
+          -- its record is that of what is hidden
+          next_is : r ≡ record_hidden h asks new.drawn
+          next_is = λ i. record {
+            batch = (sym is_next) i;
+            generation = (at.generation) i;
+            number = (at.sealed) i;
+            first = (drawn_hidden notes one.run) i;
+            asks = asks;
+            words = words_since ((at.tape) i) new.drawn;
+          }
 
           told : IsBatchDamage ((old.run).sealer).keys params c.versions (disk new.store).cells t r (record { cell = cell; check = check; kept = kept; computed = computed })
-              → IsBatchDamage keys p c.versions (disk new.store).cells (table_after_records p (flat_of p c) rs) r (record { cell = cell; check = check; kept = kept; computed = computed })
-          told is = subst (λ (x : Params). IsBatchDamage keys x c.versions (disk new.store).cells (table_after_records x (flat_of x c) rs) r (record { cell = cell; check = check; kept = kept; computed = computed })) at.params
-              (subst (λ (x : Keys). IsBatchDamage x params c.versions (disk new.store).cells t r (record { cell = cell; check = check; kept = kept; computed = computed })) at.keys_are is)
+              → IsBatchDamage keys p c.versions (disk new.store).cells (table_hidden p h) (record_hidden h asks new.drawn) (record { cell = cell; check = check; kept = kept; computed = computed })
+          told is = subst (λ (x : BatchRecord). IsBatchDamage keys p c.versions (disk new.store).cells (table_hidden p h) x (record { cell = cell; check = check; kept = kept; computed = computed })) next_is
+              (subst (λ (x : Params). IsBatchDamage keys x c.versions (disk new.store).cells (table_after_records x (flat_of x c) rs) r (record { cell = cell; check = check; kept = kept; computed = computed })) at.params
+              (subst (λ (x : Keys). IsBatchDamage x params c.versions (disk new.store).cells t r (record { cell = cell; check = check; kept = kept; computed = computed })) at.keys_are is))
       batch_why fault.Memory one = absurd one.refusal
       batch_why fault.Usage one = absurd one.refusal
       batch_why (fault.BadScript line) one = absurd one.refusal
@@ -274,11 +299,19 @@ module _ {V S : Type 0} (k : Kind V) (disk : S → Disk) (runs : V → Running S
       words_left : {result : Result (Unit {0}) Fault} → FetchCalled disk old new notes asks result → (IsWornOut result → ⊥) → (old.run).drawn + params.places ≤ 2 ^ 62
       words_left one not = ⊎_elim (λ (lt : 2 ^ 62 < (old.run).drawn + params.places). absurd (not ((one.worn).1 (inl lt)))) (λ le. le) (cases_lt (2 ^ 62) ((old.run).drawn + params.places))
 
+      -- and so are the seals of its record
+      seals_left : {result : Result (Unit {0}) Fault} → FetchCalled disk old new notes asks result → (IsWornOut result → ⊥) → ((old.run).sealer).next + record_cells params ≤ 2 ^ 62
+      seals_left one not = ⊎_elim (λ (lt : 2 ^ 62 < ((old.run).sealer).next + record_cells params). absurd (not ((one.worn).1 (inr lt)))) (λ le. le) (cases_lt (2 ^ 62) (((old.run).sealer).next + record_cells params))
+
+      -- the words that it drew, behind those of what is hidden
+      batch_tape : (refused : Fault) → FetchCalled disk old new notes asks (Err refused) → FetchDraws p.places h.words new.drawn (Err refused)
+      batch_tape refused one = subst (λ (l : List ℕ). FetchDraws p.places l new.drawn (Err refused)) at.tape (subst (λ (x : Params). FetchDraws x.places old.drawn new.drawn (Err refused)) at.params one.draws)
+
       -- one that was refused drew a word for each place
       drawing : {result : Result (Unit {0}) Fault} → FetchCalled disk old new notes asks result → length (words_of_call disk old new notes) ≡ params.places → (IsWornOut result → ⊥) → RingDrawsCut p h (Fetch asks) (fills_of p c then) new.drawn
       drawing one many not = (
-        with_next h r,
-        draws_batch disk old new notes p h at.params at.planned at.generation at.tape one.run asks one.whole is_next many (words_left one not),
+        with_next p h r,
+        draws_batch disk old new notes p h at.params at.planned at.generation at.tape one.run asks one.whole is_next many (words_left one not) at.sealed (seals_left one not),
         ([], grown disk old new notes p h at.params at.planned at.generation at.tape one.run ∙ sym (append-nil _)),
       )
 
@@ -297,18 +330,19 @@ module _ {V S : Type 0} (k : Kind V) (disk : S → Disk) (runs : V → Running S
           by_part : FetchShows old.lanes (append_notes params (suc (old.run).epoch) (next_batch old.run)) (batch_row then) notes (disk old.store).seen (disk new.store).seen (Err (fault.StoreFault None)) → BatchStops (fault.StoreFault None)
           by_part (inl front) =
               let (m, few, seen) = first_seen _ (record_notes p (((q.known).epoch + 1) % 2) q.shown) notes record_is front in
-              stopped (Fetch asks) (fills_of p c then) (fault.StoreFault None) notes (take m (events_of (record_notes p (((q.known).epoch + 1) % 2) q.shown))) (draws, inl (m, refl)) seen one.run (batch_why (fault.StoreFault None) one)
+              stopped (Fetch asks) (fills_of p c then) (fault.StoreFault None) (take m (events_of (record_notes p (((q.known).epoch + 1) % 2) q.shown))) (draws, inl (m, refl)) seen (batch_tape (fault.StoreFault None) one) (batch_why (fault.StoreFault None) one)
           by_part (inr row) =
-              stopped (Fetch asks) (fills_of p c then) (fault.StoreFault None) notes batch_events (draws, inr refl) (all_seen (batch_row then) (ring_notes p q Fetches (fills_of p c then)) notes (batch_is then) row) one.run (batch_why (fault.StoreFault None) one)
+              stopped (Fetch asks) (fills_of p c then) (fault.StoreFault None) batch_events (draws, inr refl) (all_seen (batch_row then) (ring_notes p q Fetches (fills_of p c then)) notes (batch_is then) row) (batch_tape (fault.StoreFault None) one) (batch_why (fault.StoreFault None) one)
 
       batch_stops : (refused : Fault) → FetchCalled disk old new notes asks (Err refused) → BatchStops refused
       batch_stops (fault.StoreFault unsure) one =
           subst (λ (u : Option ℕ). BatchStops (fault.StoreFault u)) (sym one.refusal) (store_stops (subst (λ (u : Option ℕ). FetchCalled disk old new notes asks (Err (fault.StoreFault u))) one.refusal one))
       batch_stops (fault.Damaged cell check kept computed) one =
-          stopped (Fetch asks) (fills_of p c then) (fault.Damaged cell check kept computed) notes batch_events (drawing one (one.draws).many_are (λ none. none), refl)
-          (all_seen (batch_row then) (ring_notes p q Fetches (fills_of p c then)) notes (batch_is then) (one.scheduled c rs at.planned is_next)) one.run (batch_why (fault.Damaged cell check kept computed) one)
+          stopped (Fetch asks) (fills_of p c then) (fault.Damaged cell check kept computed) batch_events (drawing one (one.draws).many_are (λ none. none), refl)
+          (all_seen (batch_row then) (ring_notes p q Fetches (fills_of p c then)) notes (batch_is then) (one.scheduled c rs at.planned is_next))
+          (batch_tape (fault.Damaged cell check kept computed) one) (batch_why (fault.Damaged cell check kept computed) one)
       batch_stops (fault.Worn number) one =
-          stopped (Fetch asks) (fills_of p c then) (fault.Worn number) notes [] refl ((one.scheduled c rs at.planned is_next).in_order at.one_lane) one.run (batch_why (fault.Worn number) one)
+          stopped (Fetch asks) (fills_of p c then) (fault.Worn number) [] refl ((one.scheduled c rs at.planned is_next).in_order at.one_lane) (batch_tape (fault.Worn number) one) (batch_why (fault.Worn number) one)
       batch_stops fault.Memory one = absurd one.refusal
       batch_stops fault.Usage one = absurd one.refusal
       batch_stops (fault.BadScript line) one = absurd one.refusal
@@ -345,6 +379,7 @@ module _ {V S : Type 0} (k : Kind V) (disk : S → Disk) (runs : V → Running S
             shown = refl;
             generation = refl;
             tape = refl;
+            sealed = refl;
             left = omega (arith, batches);
             epoch = one.epoch ∙ ap suc at.epoch ∙ next_epoch (f.run).epoch n;
             epoch_hidden = refl;
@@ -379,19 +414,29 @@ module _ {V S : Type 0} (k : Kind V) (disk : S → Disk) (runs : V → Running S
       abbrev EndIsWhy : Fault → Type 0
       EndIsWhy refused = IsRefusalWhy ring_kind keys p f opened (disk new.store) h so_far n (Some (End asked)) new.drawn refused
 
+      -- its writes, of what is hidden
+      writes_are : (result : Result (Unit {0}) EndErr) → EndCalled disk old new notes writes result → writes_of_end disk old new notes writes ≡ writes_hidden p h asked new.drawn
+      writes_are result one = λ i. end_writes ((at.params) i) writes (words_since ((at.tape) i) new.drawn) ((at.generation) i) ((drawn_hidden notes one.run) i)
+
+      answers_hidden : (refused : Fault) → Refused refused → MakeAnswers p (table_hidden p h) h.epoch (length h.words) h.seals (writes_hidden p h asked new.drawn) (Err refused)
+      answers_hidden refused one =
+          answers_named params p t (table_hidden p h) (old.run).epoch h.epoch (old.run).drawn (length h.words) ((old.run).sealer).next h.seals (writes_of_end disk old new notes writes) (writes_hidden p h asked new.drawn) refused
+          at.params table_is at.epoch_hidden (drawn_hidden notes one.run) at.sealed (writes_are (Err (Before refused)) one) (one.answers t stands)
+
+      -- the words that it drew, behind those of what is hidden
+      end_tape : (refused : EndErr) → EndCalled disk old new notes writes (Err refused) → EndDraws p (table_hidden p h) h.epoch (length h.words) h.words new.drawn (Err refused)
+      end_tape refused one =
+          draws_named params p t (table_hidden p h) (old.run).epoch h.epoch (old.run).drawn (length h.words) old.drawn h.words new.drawn refused
+          at.params table_is at.epoch_hidden (drawn_hidden notes one.run) at.tape (one.draws t stands)
+
       end_why : (refused : Fault) → Refused refused → EndIsWhy refused
       end_why (fault.StoreFault unsure) one = inl one.refusal
-      end_why (fault.Worn number) one = let (is, worn) = one.answers t stands in (is, end_worn writes notes worn)
-      end_why (fault.StashFull rows) one =
-          let (has, are, past) = one.answers t stands in
-          let ended = table_ended params t (writes_of_end disk old new notes writes) in (
-            subst (λ (x : Params). x.room < rows) at.params (omega (arith, are, past)),
-            subst (λ (x : Params). rows ≤ x.keys) at.params (omega (arith, are, rows_few params ended)),
-          )
+      end_why (fault.Worn number) one = let (is, worn) = answers_hidden (fault.Worn number) one in let (same, past) = one.answers t stands in (is, worn, end_worn writes notes past)
+      end_why (fault.StashFull rows) one = answers_hidden (fault.StashFull rows) one
       end_why (fault.Damaged cell check kept computed) one = (
         λ tells. record {
           obeys = subst (λ (x : Params). Obeys x c) at.params (at.planned).obeys;
-          read = inr (told (one.damage start t start_seals stands (((one.run).goes).told tells)));
+          read = told (one.damage start t start_seals stands (((one.run).goes).told tells));
         },
         none_damaged (λ s was. one.undamaged s was),
       )
@@ -432,22 +477,22 @@ module _ {V S : Type 0} (k : Kind V) (disk : S → Disk) (runs : V → Running S
       store_stops_end : Refused (fault.StoreFault None) → EndStops (fault.StoreFault None)
       store_stops_end one =
           let (m, few, seen) = first_seen (before_gate end_row) (before_gate (ring_notes p q Ends fills)) notes (ap (λ (l : List Note). before_gate l) end_is) (one.scheduled c rs at.planned) in
-          stopped (End asked) fills (fault.StoreFault None) notes (take m (events_of (before_gate (ring_notes p q Ends fills)))) (refl, (m, refl)) seen one.run (end_why (fault.StoreFault None) one)
+          stopped (End asked) fills (fault.StoreFault None) (take m (events_of (before_gate (ring_notes p q Ends fills)))) (refl, (m, refl)) seen (end_tape (Before (fault.StoreFault None)) one) (end_why (fault.StoreFault None) one)
 
       worn_stops : (number : ℕ) → Refused (fault.Worn number) → EndStops (fault.Worn number)
       worn_stops number one = by_part (one.scheduled c rs at.planned)
         where
           by_part : EndShows old.lanes (end_lifts params (public_of_kept params c rs (old.run).epoch (old.run).gates) (fills_with_lifts params c rs)) end_row notes (disk old.store).seen (disk new.store).seen (Err (Before (fault.Worn number))) → EndStops (fault.Worn number)
-          by_part (inl none) = stopped (End asked) fills (fault.Worn number) notes [] (refl, inl refl) (none.in_order at.one_lane) one.run (end_why (fault.Worn number) one)
-          by_part (inr row) = stopped (End asked) fills (fault.Worn number) notes (events_of lifts) (refl, inr refl) (lifts_seen row) one.run (end_why (fault.Worn number) one)
+          by_part (inl none) = stopped (End asked) fills (fault.Worn number) [] (refl, inl refl) (none.in_order at.one_lane) (end_tape (Before (fault.Worn number)) one) (end_why (fault.Worn number) one)
+          by_part (inr row) = stopped (End asked) fills (fault.Worn number) (events_of lifts) (refl, inr refl) (lifts_seen row) (end_tape (Before (fault.Worn number)) one) (end_why (fault.Worn number) one)
 
       end_stops : (refused : Fault) → Refused refused → EndStops refused
       end_stops (fault.StoreFault unsure) one =
           subst (λ (u : Option ℕ). EndStops (fault.StoreFault u)) (sym one.refusal) (store_stops_end (subst (λ (u : Option ℕ). Refused (fault.StoreFault u)) one.refusal one))
       end_stops (fault.Damaged cell check kept computed) one =
-          stopped (End asked) fills (fault.Damaged cell check kept computed) notes (events_of lifts) (refl, refl) (lifts_seen (one.scheduled c rs at.planned)) one.run (end_why (fault.Damaged cell check kept computed) one)
+          stopped (End asked) fills (fault.Damaged cell check kept computed) (events_of lifts) (refl, refl) (lifts_seen (one.scheduled c rs at.planned)) (end_tape (Before (fault.Damaged cell check kept computed)) one) (end_why (fault.Damaged cell check kept computed) one)
       end_stops (fault.StashFull rows) one =
-          stopped (End asked) fills (fault.StashFull rows) notes (events_of lifts) (refl, refl) (lifts_seen (one.scheduled c rs at.planned)) one.run (end_why (fault.StashFull rows) one)
+          stopped (End asked) fills (fault.StashFull rows) (events_of lifts) (refl, refl) (lifts_seen (one.scheduled c rs at.planned)) (end_tape (Before (fault.StashFull rows)) one) (end_why (fault.StashFull rows) one)
       end_stops (fault.Worn number) one = worn_stops number one
       end_stops fault.Memory one = absurd one.refusal
       end_stops fault.Usage one = absurd one.refusal
@@ -463,11 +508,11 @@ module _ {V S : Type 0} (k : Kind V) (disk : S → Disk) (runs : V → Running S
         where
           by_part : Notes (events_of (up_to_gate end_row)) (disk old.store).seen (disk new.store).seen ⊎ Notes (events_of end_row) (disk old.store).seen (disk new.store).seen → EndStops (fault.StoreFault (Some epoch))
           by_part (inl seen) =
-              stopped (End asked) fills (fault.StoreFault (Some epoch)) notes (events_of (up_to_gate (ring_notes p q Ends fills))) (refl, inl refl)
-              (subst (λ (l : List Note). Notes (events_of (up_to_gate l)) (disk old.store).seen (disk new.store).seen) end_is seen) one.run (doubt_why (fault.StoreFault (Some epoch)) one)
+              stopped (End asked) fills (fault.StoreFault (Some epoch)) (events_of (up_to_gate (ring_notes p q Ends fills))) (refl, inl refl)
+              (subst (λ (l : List Note). Notes (events_of (up_to_gate l)) (disk old.store).seen (disk new.store).seen) end_is seen) (end_tape (Unsure (fault.StoreFault (Some epoch))) one) (doubt_why (fault.StoreFault (Some epoch)) one)
           by_part (inr seen) =
-              stopped (End asked) fills (fault.StoreFault (Some epoch)) notes (events_of (ring_notes p q Ends fills)) (refl, inr refl)
-              (subst (λ (l : List Note). Notes (events_of l) (disk old.store).seen (disk new.store).seen) end_is seen) one.run (doubt_why (fault.StoreFault (Some epoch)) one)
+              stopped (End asked) fills (fault.StoreFault (Some epoch)) (events_of (ring_notes p q Ends fills)) (refl, inr refl)
+              (subst (λ (l : List Note). Notes (events_of l) (disk old.store).seen (disk new.store).seen) end_is seen) (end_tape (Unsure (fault.StoreFault (Some epoch))) one) (doubt_why (fault.StoreFault (Some epoch)) one)
 
       doubt_stops : (refused : Fault) → EndCalled disk old new notes (map write_from asked) (Err (Unsure refused)) → EndStops refused
       doubt_stops refused one =
@@ -481,9 +526,9 @@ module _ {V S : Type 0} (k : Kind V) (disk : S → Disk) (runs : V → Running S
       let rs' = then q h so_far n v w at asks one.notes in
       record {
         drawn = fills_of p h.content rs';
-        behind = with_next h (r q h so_far n v w at asks one.notes);
+        behind = with_next p h (r q h so_far n v w at asks one.notes);
         draws = (
-          draws_batch disk (runs v) (runs w) one.notes p h at.params at.planned at.generation at.tape is.run asks is.whole (is_next q h so_far n v w at) (is.draws).many_are (words_left q h so_far n v w at asks one.notes is (λ none. none)),
+          draws_batch disk (runs v) (runs w) one.notes p h at.params at.planned at.generation at.tape is.run asks is.whole (is_next q h so_far n v w at) (is.draws).many_are (words_left q h so_far n v w at asks one.notes is (λ none. none)) at.sealed (seals_left q h so_far n v w at asks one.notes is (λ none. none)),
           fit q h so_far n v w at asks one.notes is,
         );
         seen = whole_row q h so_far n v w at (batch_row q h so_far n v w at rs') one.notes Fetches (fills_of p h.content rs') (batch_is q h so_far n v w at rs') (is.scheduled h.content h.records at.planned (is_next q h so_far n v w at));
@@ -494,7 +539,7 @@ module _ {V S : Type 0} (k : Kind V) (disk : S → Disk) (runs : V → Running S
       record {
         drawn = fills_with_lifts p h.content h.records;
         behind = ended disk (runs v) (runs w) one.notes p h at.params at.planned at.generation at.tape is.run (map write_from writes) is;
-        draws = draws_end disk (runs v) (runs w) one.notes p h at.params at.planned at.generation at.tape is.run (map write_from writes) is (all_shown q h so_far n v w at is.none_left) at.epoch_hidden;
+        draws = draws_end disk (runs v) (runs w) one.notes p h at.params at.planned at.generation at.tape is.run (map write_from writes) is (all_shown q h so_far n v w at is.none_left) at.epoch_hidden at.sealed;
         seen = whole_row q h so_far n v w at (end_row q h so_far n v w at) one.notes Ends (fills_with_lifts p h.content h.records) (end_is q h so_far n v w at) (is.scheduled h.content h.records at.planned);
         at = ended_at q h so_far n v w at (map write_from writes) one.notes is (held_on q h so_far n v w at (End writes) Ended one (λ u. refl));
       }
@@ -512,4 +557,4 @@ pub ring_calls_do : {V S : Type 0} (k : Kind V) (disk : S → Disk) → RingCall
 ring_calls_do k disk runs words keys p f first q h so_far n v call answer w at one = ring_does k disk runs words keys p f (disk (runs first).store) q h so_far n v call answer w at one
 
 pub words_are_of_tape : {V S : Type 0} (k : Kind V) (disk : S → Disk) → RingWordsAreOfTape k disk
-words_are_of_tape k disk runs keys p f first q h n v at = ([], at.tape ∙ sym (append-nil h.words))
+words_are_of_tape k disk runs keys p f first q h n v at refused = at.tape

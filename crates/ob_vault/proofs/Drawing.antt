@@ -1,8 +1,9 @@
 -- What a call of a vault over a ring store draws, from what it keeps to itself.
-use Rattle.std.proofs.Common.{◌≡◌, ◌∙◌, ◌+◌, ◌^◌, ◌≤◌, ℕ, suc, List, [], ◌++◌, ◌∷◌, length, Option, Ok, refl, sym, ap, subst}
+use Rattle.std.proofs.Common.{◌≡◌, ◌∙◌, ◌+◌, ◌^◌, ◌<◌, ◌≤◌, ℕ, suc, List, [], ◌++◌, ◌∷◌, length, Option, Ok, refl, sym, ap, subst}
+use Rattle.ob_base.specs.Layout.{record_cells}
 use Rattle.ob_base.specs.declared.params.Params.{Params}
 use Rattle.ob_base.specs.declared.value.Write.{Write}
-use Rattle.ob_end.specs.EndRuns.{end_writes, table_ended, words_for_end}
+use Rattle.ob_end.specs.EndRuns.{end_writes, seals_for_end, table_ended, words_for_end}
 use Rattle.ob_fetch.proofs.NextLaws.{stands_listed}
 use Rattle.ob_fetch.specs.Fetches.{next_batch}
 use Rattle.ob_recover.specs.Repeats.{content_of_ring, entries_after_records}
@@ -12,6 +13,7 @@ use Rattle.ob_ring.specs.Writing.{entries_after}
 use Rattle.ob_recover.proofs.Once.{table_once}
 use Rattle.ob_recover.specs.Known.{fills_of, fills_with_lifts}
 use Rattle.ob_vault.specs.RingVaults.{EndCalled, HasPlanned, KeepsRun, Running, record_of_fetch, words_of_call}
+use Rattle.ob_seal.specs.Sealing.{Sealing}
 use Rattle.ob_store.specs.Disk.{Disk}
 use Rattle.ob_store.specs.declared.watch.Note.{Note}
 use Rattle.ob_tables.specs.Kept.{entry_at}
@@ -33,13 +35,15 @@ module _ {S : Type 0} (disk : S → Disk) (old new : Running S) (notes : List No
   -- ---- a batch
 
   pub draws_batch : (asks : List (Option ℕ)) → length asks ≡ (old.run).params.places → length h.records ≡ next_batch old.run → length drawn ≡ (old.run).params.places → (old.run).drawn + (old.run).params.places ≤ 2 ^ 62
-      → DrawsBatch p h asks (fills_of p h.content (h.records ++ record_of_fetch disk old new notes asks ∷ [])) (with_next h (record_of_fetch disk old new notes asks))
-  draws_batch asks whole is_next many few = record {
+      → ((old.run).sealer).next ≡ h.seals → ((old.run).sealer).next + record_cells (old.run).params ≤ 2 ^ 62
+      → DrawsBatch p h asks (fills_of p h.content (h.records ++ record_of_fetch disk old new notes asks ∷ [])) (with_next p h (record_of_fetch disk old new notes asks))
+  draws_batch asks whole is_next many few sealed few_seals = record {
     next = record_of_fetch disk old new notes asks;
     is_next = record { batch = sym is_next; generation = generation; first = many_before; asked = refl };
     whole = whole ∙ ap (λ (x : Params). x.places) params;
     many = many ∙ ap (λ (x : Params). x.places) params;
     few = subst (λ (n : ℕ). n + p.places ≤ 2 ^ 62) many_before (subst (λ (x : Params). (old.run).drawn + x.places ≤ 2 ^ 62) params few);
+    few_seals = subst (λ (n : ℕ). n + record_cells p ≤ 2 ^ 62) sealed (subst (λ (x : Params). ((old.run).sealer).next + record_cells x ≤ 2 ^ 62) params few_seals);
     fills = refl;
     behind_is = refl;
   }
@@ -57,7 +61,7 @@ module _ {S : Type 0} (disk : S → Disk) (old new : Running S) (notes : List No
 
   module _ (writes : List Write) (one : EndCalled disk old new notes writes (Ok tt)) where
     abbrev pub ended : RingHidden
-    ended = record { epoch = (new.run).epoch; content = content_of_ring (new.run).ring; records = []; generation = ((new.run).sealer).generation; words = new.drawn }
+    ended = record { epoch = (new.run).epoch; content = content_of_ring (new.run).ring; records = []; generation = ((new.run).sealer).generation; words = new.drawn; seals = ((new.run).sealer).next }
 
     writes_same : end_writes own writes drawn ((old.run).sealer).generation (old.run).drawn ≡ end_writes own writes drawn h.generation (length h.words)
     writes_same = ap (λ (g : ℕ). end_writes own writes drawn g (old.run).drawn) generation ∙ ap (λ (n : ℕ). end_writes own writes drawn h.generation n) many_before
@@ -74,17 +78,20 @@ module _ {S : Type 0} (disk : S → Disk) (old new : Running S) (notes : List No
       others = λ u not. (one.filled t stands).filled.ranks u not ∙ ((planned.planner).seals).ranks u;
     }
 
-    pub draws_end : length h.records ≡ own.batches → (old.run).epoch ≡ h.epoch → DrawsEnd p h writes (fills_with_lifts p h.content h.records) ended
-    draws_end all epoch = subst (λ (x : Params). DrawsEnd x h writes (fills_with_lifts x h.content h.records) ended) params (record {
+    pub draws_end : length h.records ≡ own.batches → (old.run).epoch ≡ h.epoch → ((old.run).sealer).next ≡ h.seals → DrawsEnd p h writes (fills_with_lifts p h.content h.records) ended
+    draws_end all epoch sealed = subst (λ (x : Params). DrawsEnd x h writes (fills_with_lifts x h.content h.records) ended) params (record {
       all = all;
+      epochs = subst (λ (n : ℕ). suc n < 2 ^ 62) epoch ((one.answers t stands).has).epochs;
       few_writes = one.few;
       words = drawn;
       many = (one.draws t stands).many_are;
       few = subst (λ (n : ℕ). n + words_for_end own t ≤ 2 ^ 62) many_before ((one.answers t stands).has).words;
+      few_seals = subst (λ (n : ℕ). n + seals_for_end own t ≤ 2 ^ 62) sealed (one.answers t stands).seals;
       fills = refl;
       ended = content_ended;
       epoch = one.epoch ∙ ap suc epoch;
       none = refl;
       generation = keeps.generation ∙ generation;
       grows = grown;
+      sealed = ap (λ (x : Sealing). x.next) (one.seals t stands).all ∙ ap (λ (n : ℕ). n + seals_for_end own t) sealed;
     })

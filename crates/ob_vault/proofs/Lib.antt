@@ -5,6 +5,7 @@ pub mod Opened
 pub mod Ready
 pub mod Written
 pub mod Shapes
+pub mod Naming
 pub mod Phasing
 pub mod Bounds
 pub mod Drawing

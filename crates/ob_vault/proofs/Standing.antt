@@ -11,10 +11,11 @@ use Rattle.ob_base.specs.declared.fault.Field.{Field}
 use Rattle.ob_base.specs.declared.fault.Fault.{Fault}
 use Rattle.ob_base.specs.declared.fault.Fault.TheVariants as fault
 use Rattle.ob_base.specs.declared.params.Params.{Params}
+use Rattle.ob_end.specs.EndRuns.{table_ended}
 use Rattle.ob_vault.specs.Keeping.{AreStandingLaws}
 use Rattle.ob_seal.specs.declared.keys.Keys.{Keys}
 use Rattle.ob_serial.specs.Serial.{Map}
-use Rattle.ob_serial.specs.Vaults.{Standing, VaultCall}
+use Rattle.ob_serial.specs.Vaults.{End, Fetch, Standing, VaultCall}
 use Rattle.ob_stand.specs.Stands.{StandsRing, ring_standing}
 use Rattle.ob_start.specs.Heads.{IsHead, IsHeadFault, IsHeadRead, first_bad, numbers_in, numbers_of}
 use Rattle.ob_store.specs.Calls.{IsStoreFault}
@@ -24,8 +25,9 @@ use Rattle.ob_twin.specs.Register.{StandsAt}
 use Rattle.ob_twin.specs.Reading.{AllWhole, Counts}
 use Rattle.ob_twin.proofs.Judging.{number_read}
 use Rattle.ob_opening.specs.Openings.{IsOpenFault}
-use Rattle.ob_vault.specs.Causes.{IsRingWorn, RingLasts, seals_an_epoch, words_an_epoch}
-use Rattle.ob_vault.specs.Hidden.{RingHidden}
+use Rattle.ob_vault.proofs.Bounds.{rows_few}
+use Rattle.ob_vault.specs.Causes.{IsRingWorn, IsStashFull, RingLasts, seals_an_epoch, words_an_epoch, writes_hidden}
+use Rattle.ob_vault.specs.Hidden.{RingHidden, table_hidden}
 use Rattle.ob_vault.specs.RingKind.{IsRingFound, IsRingMap, IsRingRefusal, RingCauses, RingFound, RingMayStop, ring_kind}
 
 -- ---- the head
@@ -132,10 +134,19 @@ not_worn p g epoch n m (generations, epochs, words, seals) few (inr (inl past)) 
 not_worn p g epoch n m (generations, epochs, words, seals) few (inr (inr past)) =
     let more : suc m * seals_an_epoch p ≤ suc n * seals_an_epoch p = mul-le-mul_right (seals_an_epoch p) (omega (arith, few)) in omega (arith, more, seals, past)
 
+-- an end leaves at most the keys of the store
+full_may_stop : (p : Params) (h : RingHidden) (call : Option VaultCall) (words : List ℕ) (rows : ℕ) → IsStashFull p h call words rows → RingMayStop p (fault.StashFull rows)
+full_may_stop p h None words rows full = absurd full
+full_may_stop p h (Some (Fetch asks)) words rows full = absurd full
+full_may_stop p h (Some (End writes)) words rows (has, are, past) = (
+  omega (arith, are, past),
+  omega (arith, are, rows_few p (table_ended p (table_hidden p h) (writes_hidden p h writes words))),
+)
+
 serves : (keys : Keys) (p : Params) (g n m : ℕ) (f : RingFound) (opened now : Disk) (h : RingHidden) (call : Option VaultCall) (words : List ℕ) (refused : Fault) (map : Map nat_cmp) → RingLasts p g (f.run).epoch n → m ≤ n → IsRingMap keys p opened f map → RingCauses keys p f opened now h m call words refused
     → RingMayStop p refused
-serves keys p g n m f opened now h call words (fault.Worn number) map lasts few is (worn_is, worn) = absurd (not_worn p g (f.run).epoch n m lasts few worn)
-serves keys p g n m f opened now h call words (fault.StashFull rows) map lasts few is cause = cause
+serves keys p g n m f opened now h call words (fault.Worn number) map lasts few is (worn_is, too_few, worn) = absurd (not_worn p g (f.run).epoch n m lasts few worn)
+serves keys p g n m f opened now h call words (fault.StashFull rows) map lasts few is cause = full_may_stop p h call words rows cause
 serves keys p g n m f opened now h call words (fault.Damaged cell check kept computed) map lasts few is (slot, none) = absurd (none map is)
 serves keys p g n m f opened now h call words (fault.StoreFault unsure) map lasts few is cause = absurd cause
 serves keys p g n m f opened now h call words fault.Memory map lasts few is cause = absurd cause

@@ -1,15 +1,17 @@
 -- What a ring store's vault keeps to itself, and what fills the holes of its calls.
-use Rattle.std.specs.Prelude.{◌≡◌, ◌⊎◌, ℕ, suc, ◌+◌, ◌%◌, ◌^◌, ◌<◌, ◌≤◌, true, false, List, [], ◌∷◌, ◌++◌, length, map, take, drop, slice_index, Option, None, Some}
+use Rattle.std.specs.Prelude.{◌≡◌, ◌⊎◌, ℕ, suc, ◌+◌, ◌%◌, ◌^◌, ◌<◌, ◌≤◌, true, false, List, [], ◌∷◌, ◌++◌, length, map, take, drop, slice_index, Option, None, Some, Err}
 use Rattle.ob_base.specs.declared.fault.Fault.{Fault}
 use Rattle.ob_base.specs.declared.fault.Fault.TheVariants as fault
 use Rattle.ob_base.specs.declared.params.Params.{Params}
 use Rattle.ob_base.specs.declared.value.Write.{Write}
+use Rattle.ob_base.specs.Layout.{record_cells}
 use Rattle.ob_base.specs.Tree.{buckets}
 use Rattle.ob_tables.specs.Buckets.{version_at}
 use Rattle.ob_tables.specs.Rank.{ranks_of}
 use Rattle.ob_tables.specs.Content.{Content, Obeys}
-use Rattle.ob_end.specs.EndRuns.{end_writes, table_ended, words_for_end}
+use Rattle.ob_end.specs.EndRuns.{EndDraws, end_writes, seals_for_end, table_ended, words_for_end}
 use Rattle.ob_end.specs.Shown.{before_gate, end_lifts, up_to_gate}
+use Rattle.ob_fetch.specs.Fetches.{FetchDraws}
 use Rattle.ob_stand.specs.Table.{flat_of}
 use Rattle.ob_vault.specs.Phases.{Ends, Fetches}
 use Rattle.ob_log.specs.Logs.{BatchRecord, RecordsFit}
@@ -22,19 +24,22 @@ use Rattle.ob_vault.specs.RingVaults.{write_from}
 use Rattle.ob_schedule.specs.Paths.{is_one_of}
 use Rattle.ob_schedule.specs.Schedule.{Fills, record_notes}
 use Rattle.ob_serial.specs.Vaults.{End, Fetch, VaultCall}
+use Rattle.ob_serial.specs.declared.vault.EndErr.{EndErr}
+use Rattle.ob_serial.specs.declared.vault.EndErr.TheVariants.{Before, Unsure}
 use Rattle.ob_store.specs.Told.{events_of}
 use Rattle.ob_store.specs.declared.event.Event.{Event}
 use Rattle.ob_tables.specs.Kept.{entry_at}
 use Rattle.ob_vault.specs.Seen.{RingPublic, ring_notes}
 
--- The last epoch that ended, the content of its checkpoint, the records since, the generation, and the words of that which were drawn so
--- far.
+-- The last epoch that ended, the content of its checkpoint, the records since, the generation, and of that the words which were drawn so
+-- far, and how many seals were made.
 pub record RingHidden : Type 0 where
   pub epoch : ℕ
   pub content : Content
   pub records : List BatchRecord
   pub generation : ℕ
   pub words : List ℕ
+  pub seals : ℕ
 
 -- the planner's table behind the records
 abbrev pub table_hidden : Params → RingHidden → FlatTable
@@ -50,19 +55,21 @@ pub record IsNextRecord (h : RingHidden) (asks : List (Option ℕ)) (r : BatchRe
   pub first : r.first ≡ length h.words
   pub asked : r.asks ≡ asks
 
-abbrev pub with_next : RingHidden → BatchRecord → RingHidden
-with_next h r = record h { records = h.records ++ r ∷ []; words = h.words ++ r.words }
+-- behind it a seal more is made for each cell of the record
+abbrev pub with_next : Params → RingHidden → BatchRecord → RingHidden
+with_next p h r = record h { records = h.records ++ r ∷ []; words = h.words ++ r.words; seals = h.seals + record_cells p }
 
--- It asks for a key, or for none, at each place, and draws a word for each, which there are; and its holes are filled by the leaves and the slots that its record shows behind
--- those before it.
+-- It asks for a key, or for none, at each place, and draws a word for each, which there are, as there are the seals of its record; and its
+-- holes are filled by the leaves and the slots that its record shows behind those before it.
 pub record DrawsBatch (p : Params) (h : RingHidden) (asks : List (Option ℕ)) (f : Fills) (behind : RingHidden) : Type 0 where
   pub next : BatchRecord
   pub is_next : IsNextRecord h asks next
   pub whole : length asks ≡ p.places
   pub many : length next.words ≡ p.places
   pub few : length h.words + p.places ≤ 2 ^ 62
+  pub few_seals : h.seals + record_cells p ≤ 2 ^ 62
   pub fills : f ≡ fills_of p h.content (h.records ++ next ∷ [])
-  pub behind_is : behind ≡ with_next h next
+  pub behind_is : behind ≡ with_next p h next
 
 -- ---- an end
 
@@ -79,20 +86,23 @@ pub record IsContentEnded (p : Params) (h : RingHidden) (writes : List Write) (w
       → (version_at ended.versions (slice_index (refill_order p (after p (table_hidden p h) FinalLifts)) i)).ranks ≡ ranks_of (words_of p (drop p.writes words) i)
   pub others : (u : ℕ) → is_one_of (refill_order p (after p (table_hidden p h) FinalLifts)) u ≡ false → (version_at ended.versions u).ranks ≡ (version_at (h.content).versions u).ranks
 
--- It comes behind all batches of its epoch. Its lifts are filled by the slots of the content that the epoch began with; and the words that
--- it draws, of which there are so many, make the content behind it.
+-- It comes behind all batches of its epoch, and there is such an epoch. Its lifts are filled by the slots of the content that the epoch began
+-- with; the words that it draws, of which there are so many, make the content behind it; and the seals that it makes are left too.
 pub record DrawsEnd (p : Params) (h : RingHidden) (writes : List Write) (f : Fills) (behind : RingHidden) : Type 0 where
   pub all : length h.records ≡ p.batches
+  pub epochs : suc h.epoch < 2 ^ 62
   pub few_writes : length writes ≤ p.writes
   pub words : List ℕ
   pub many : length words ≡ words_for_end p (table_hidden p h)
   pub few : length h.words + words_for_end p (table_hidden p h) ≤ 2 ^ 62
+  pub few_seals : h.seals + seals_for_end p (table_hidden p h) ≤ 2 ^ 62
   pub fills : f ≡ fills_with_lifts p h.content h.records
   pub ended : IsContentEnded p h writes words behind.content
   pub epoch : behind.epoch ≡ suc h.epoch
   pub none : behind.records ≡ []
   pub generation : behind.generation ≡ h.generation
   pub grows : behind.words ≡ h.words ++ words
+  pub sealed : behind.seals ≡ h.seals + seals_for_end p (table_hidden p h)
 
 -- ---- calls
 
@@ -100,6 +110,19 @@ pub record DrawsEnd (p : Params) (h : RingHidden) (writes : List Write) (f : Fil
 abbrev pub RingDraws : Params → RingHidden → VaultCall → Fills → RingHidden → Type 0
 RingDraws p h (Fetch asks) f behind = DrawsBatch p h asks f behind × RecordsFit p behind.records
 RingDraws p h (End writes) f behind = DrawsEnd p h (map write_from writes) f behind
+
+-- an end that was refused with this fault, or left in doubt where that tells of an epoch
+abbrev pub refusal_of : Fault → EndErr
+refusal_of (fault.StoreFault (Some epoch)) = Unsure (fault.StoreFault (Some epoch))
+refusal_of refused = Before refused
+
+-- The tape has given the words of the calls that were answered, and of the one that was refused behind them those that it drew. It has
+-- given none behind those.
+abbrev pub IsTapeBehind : Params → RingHidden → Option VaultCall → (words : List ℕ) → Option Fault → Type 0
+IsTapeBehind p h None words refused = words ≡ h.words
+IsTapeBehind p h (Some call) words None = words ≡ h.words
+IsTapeBehind p h (Some (Fetch asks)) words (Some refused) = FetchDraws p.places h.words words (Err refused)
+IsTapeBehind p h (Some (End writes)) words (Some refused) = EndDraws p (table_hidden p h) h.epoch (length h.words) h.words words (Err (refusal_of refused))
 
 -- its words are the first of those that the tape has given in this generation
 abbrev pub IsOfTape : RingHidden → List ℕ → Type 0

@@ -51,11 +51,12 @@ pub record StoreKind : Type 1 where
   pub phases : Params → Public → Shape → Drawn → List Phase
   pub next : Params → Public → Shape → Drawn → Public
   -- What fills the holes depends on: what a vault keeps to itself, as an opening leaves it; what a call with these keys, or these writes,
-  -- draws from there, and what is kept behind it; and that the words in it are the first of these, which a tape gave.
+  -- draws from there, and what is kept behind it; and that the words in it, with those of a call that was then refused so, are these, which
+  -- a tape gave.
   pub Hidden : Type 0
   pub hidden : Params → Found → Hidden
   pub draws : Params → Hidden → VaultCall → Drawn → Hidden → Type 0
-  pub is_of_tape : Hidden → (words : List ℕ) → Type 0
+  pub is_of_tape : Params → Hidden → Option VaultCall → (words : List ℕ) → Option Fault → Type 0
   -- What may be seen of a call that was refused with this fault, or left in doubt by it, once a tape had given these words.
   pub cut : Params → Public → Hidden → VaultCall → Drawn → (words : List ℕ) → Fault → List Event → Type 0
   -- Why a vault refuses this call from what is hidden, behind these and so many epochs that ended, besides its store: the disk was this one

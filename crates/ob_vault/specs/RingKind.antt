@@ -28,8 +28,8 @@ use Rattle.ob_twin.specs.declared.gates.Gates.{Gates}
 use Rattle.ob_opening.specs.Formats.{RingFormatLeaves}
 use Rattle.ob_opening.specs.OpeningActs.{AreGatesIn}
 use Rattle.ob_opening.specs.Openings.{IsOpenFault, IsOpenRefusal, IsStandingRefusal, fresh_sealer}
-use Rattle.ob_vault.specs.Causes.{IsRingWorn, IsSlotDamage, RingLasts}
-use Rattle.ob_vault.specs.Hidden.{IsOfTape, RingCut, RingDraws, RingHidden}
+use Rattle.ob_vault.specs.Causes.{IsCallWorn, IsRingWorn, IsSlotDamage, IsStashFull, RingLasts}
+use Rattle.ob_vault.specs.Hidden.{IsTapeBehind, RingCut, RingDraws, RingHidden}
 use Rattle.ob_vault.specs.Seen.{RingMayBegin, RingOpensPartly, RingPublic, opening_phases, ring_next, ring_phases}
 
 -- the number of its version in the head
@@ -82,21 +82,22 @@ abbrev pub RingMayStop : Params → Fault → Type 0
 RingMayStop p (fault.StashFull rows) = (p.room < rows) × (rows ≤ p.keys)
 RingMayStop p _ = ⊥
 
--- A number is worn; more rows are left in the stash than it may keep; or a slot is damaged, and no map was found.
+-- Numbers are worn for this call, and an epoch more would pass them; this end would leave more rows in the stash than that may keep; or a
+-- slot is damaged that this call reads, and no map was found.
 abbrev pub RingCauses : Keys → Params → RingFound → (opened now : Disk) → RingHidden → ℕ → Option VaultCall → (words : List ℕ) → Fault → Type 0
-RingCauses keys p f opened now h n call words (fault.Worn number) = (number ≡ 2 ^ 62) × IsRingWorn p (f.run).epoch n
-RingCauses keys p f opened now h n call words (fault.StashFull rows) = RingMayStop p (fault.StashFull rows)
+RingCauses keys p f opened now h n call words (fault.Worn number) = (number ≡ 2 ^ 62) × IsCallWorn p h call words × IsRingWorn p (f.run).epoch n
+RingCauses keys p f opened now h n call words (fault.StashFull rows) = IsStashFull p h call words rows
 RingCauses keys p f opened now h n call words (fault.Damaged cell check kept computed) =
-    (now.tells → IsSlotDamage keys p now.cells h (record { cell = cell; check = check; kept = kept; computed = computed }))
+    (now.tells → IsSlotDamage keys p now.cells h call words (record { cell = cell; check = check; kept = kept; computed = computed }))
     × ((m : Map nat_cmp) → IsRingMap keys p opened f m → ⊥)
 RingCauses keys p f opened now h n call words _ = ⊥
 
 abbrev pub ring_public : Params → RingFound → RingPublic
 ring_public p f = record { known = public_of_kept p f.content f.records (f.run).epoch (f.run).gates; shown = length f.records }
 
--- what was found, and no word of the generation
+-- what was found, and no word and no seal of the generation
 abbrev pub ring_hidden : RingFound → RingHidden
-ring_hidden f = record { epoch = (f.run).epoch; content = f.content; records = f.records; generation = ((f.run).sealer).generation; words = [] }
+ring_hidden f = record { epoch = (f.run).epoch; content = f.content; records = f.records; generation = ((f.run).sealer).generation; words = []; seals = 0 }
 
 abbrev pub ring_kind : StoreKind
 ring_kind = record {
@@ -129,7 +130,7 @@ ring_kind = record {
   Hidden = RingHidden;
   hidden = λ p f. ring_hidden f;
   draws = RingDraws;
-  is_of_tape = IsOfTape;
+  is_of_tape = IsTapeBehind;
   cut = RingCut;
   causes = λ keys p f opened now h behind n call words fault. RingCauses keys p f opened now h n call words fault;
   lasts = RingLasts;

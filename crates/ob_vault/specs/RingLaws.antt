@@ -1,5 +1,5 @@
 -- Laws of a ring store, in the words of its kind of store.
-use Rattle.std.specs.Prelude.{ℕ, ◌≡◌, ◌⊎◌, ◌+◌, ◌%◌, ◌≤◌, false, List, [], ◌∷◌, ◌++◌, Ok}
+use Rattle.std.specs.Prelude.{ℕ, ◌≡◌, ◌⊎◌, ◌+◌, ◌%◌, ◌≤◌, false, List, [], ◌∷◌, ◌++◌, Option, None, Ok}
 use Rattle.ob_base.specs.Layout.{EpochTwin}
 use Rattle.ob_base.specs.declared.fault.Fault.{Fault}
 use Rattle.ob_base.specs.declared.params.Params.{Params}
@@ -33,7 +33,7 @@ use Rattle.ob_opening.specs.OpeningActs.{AreGatesIn}
 use Rattle.ob_opening.specs.OpeningRuns.{IsRingOpened, OpensFrom, RefusedDoes, RefusedWrites}
 use Rattle.ob_opening.specs.Openings.{IsOpenFault, IsOpenRefusal, IsStandingRefusal, OpensWhatStood}
 use Rattle.ob_opening.specs.declared.opening.Opening.{Opening}
-use Rattle.ob_vault.specs.Hidden.{IsOfTape, RingHidden}
+use Rattle.ob_vault.specs.Hidden.{IsTapeBehind, RingHidden}
 use Rattle.ob_vault.specs.RingKind.{GoesOnFrom, IsRingFound, IsRingRefusal, RingFound, ring_hidden, ring_kind, ring_public}
 use Rattle.ob_vault.specs.RingSteps.{HasRingWords, RingAt}
 use Rattle.ob_vault.specs.Seen.{RingMayBegin, RingOpensPartly, RingPublic, phases_of, ring_notes}
@@ -59,10 +59,10 @@ RingCallsDo {V} {S} k disk = (runs : V → Running S) → HasRingWords k disk ru
     → RingAt k disk runs keys p f (disk (runs first).store) q h n v → Called k v call answer w
     → IsCallOfKind ring_kind keys p f (disk (runs first).store) (λ q' h' so_far' n' v'. RingAt k disk runs keys p f (disk (runs first).store) q' h' n' v') (disk (runs v).store) (disk (runs w).store) (runs w).drawn w q h so_far n call answer
 
--- The words hidden are those that the tape gave.
+-- The words hidden are those that the tape gave, and all of them.
 abbrev pub RingWordsAreOfTape : {V S : Type 0} → Kind V → (S → Disk) → Type 0
 RingWordsAreOfTape {V} {S} k disk = (runs : V → Running S) (keys : Keys) (p : Params) (f : RingFound) (first : V) (q : RingPublic) (h : RingHidden) (n : ℕ) (v : V)
-    → RingAt k disk runs keys p f (disk (runs first).store) q h n v → IsOfTape h (runs v).drawn
+    → RingAt k disk runs keys p f (disk (runs first).store) q h n v → (refused : Option Fault) → IsTapeBehind p h None (runs v).drawn refused
 
 -- And so the calls of one that was just opened begin, where its planner has shown the batches of what was found, and no word was drawn.
 abbrev pub RingCallsBegin : {V S : Type 0} → Kind V → (S → Disk) → Type 0

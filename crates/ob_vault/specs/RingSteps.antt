@@ -36,8 +36,8 @@ pub record RunIsAtHidden (run : Run) (c : Content) (rs : List BatchRecord) (disk
 
 module _ {V S : Type 0} (k : Kind V) (disk : S → Disk) (runs : V → Running S) (keys : Keys) (p : Params) (f : RingFound) (opened : Disk) where
   -- Behind so many epochs that ended. It reads by one lane. Its planner has shown the batches of the records that are hidden from the
-  -- content on, what is public of it is what the store may know of these, and the words are those that its tape gave. What its epoch may
-  -- still draw and seal stays within that of an epoch more. Where a map was found, it holds one, and what is hidden stands.
+  -- content on, what is public of it is what the store may know of these, the words are those that its tape gave, and the seals are counted.
+  -- What its epoch may still draw and seal stays within that of an epoch more. Where a map was found, it holds one, and what is hidden stands.
   pub record RingAt (q : RingPublic) (h : RingHidden) (n : ℕ) (v : V) : Type 0 where
     pub params : ((runs v).run).params ≡ p
     pub keys_are : (((runs v).run).sealer).keys ≡ keys
@@ -47,6 +47,7 @@ module _ {V S : Type 0} (k : Kind V) (disk : S → Disk) (runs : V → Running S
     pub shown : length h.records ≡ q.shown
     pub generation : (((runs v).run).sealer).generation ≡ h.generation
     pub tape : (runs v).drawn ≡ h.words
+    pub sealed : (((runs v).run).sealer).next ≡ h.seals
     pub left : ((runs v).run).left + length h.records ≡ p.batches
     pub epoch : ((runs v).run).epoch ≡ (f.run).epoch + n
     pub epoch_hidden : ((runs v).run).epoch ≡ h.epoch

@@ -24,7 +24,7 @@ pub record Stops (store : StoreKind) (keys : Keys) (p : Params) (found : store.F
   pub cut : IsSeenCut store p q h (Some call) words (Some fault) more
   pub seen : Notes more old.seen new.seen
   pub why : IsRefusalWhy store keys p found opened new h so_far n (Some call) words fault
-  pub of_tape : store.is_of_tape h words
+  pub of_tape : store.is_of_tape p h (Some call) words (Some fault)
 
 -- A call that was answered, what it drew, and where the vault then is.
 pub record IsAnsweredCall {V : Type 0} (store : StoreKind) (p : Params) (At : store.Public → store.Hidden → List Shape → ℕ → V → Type 0) (old new : Disk) (w : V) (q : store.Public) (h : store.Hidden) (so_far : List Shape) (call : VaultCall) (n : ℕ) : Type 0 where
