@@ -101,6 +101,14 @@ module _ (store : StoreKind) (laws : AreStandingLaws store) (life : LifeWords st
       by_memory f (laws.opens can.keys can.p can.generation (disk old).cells can.at (length script.txns) f can.stands can.lasts opening.kind
       (subst (λ (q : Params). store.refuses can.keys q (disk old).cells f) (one_p opening.p opening.head) (opening.read can.tells))) (λ is. can.store_holds (opening.cause is))
 
+  -- a run was stopped by a fault that may do that even so
+  pub record StopsFor (by : Manner) (drawn : List ℕ) (status : ℕ) : Type 0 where
+    pub told : Fault
+    pub may : store.may_stop can.p told
+    pub status_is : status ≡ status_of (Some told)
+    pub records : List (EpochRecord ℕ)
+    pub ran : Ran store life disk by drawn can.keys old new before after records (Some told)
+
   module _ (by : Manner) (drawn : List ℕ) (records : List (EpochRecord ℕ)) where
     ran_keys : (f : Option Fault) (r : Ran store life disk by drawn can.keys old new before after records f) → r.p.keys ≡ can.p.keys
     ran_keys f r = many_keys r.p r.opened.head
@@ -150,18 +158,18 @@ module _ (store : StoreKind) (laws : AreStandingLaws store) (life : LifeWords st
 
     -- it answers 0, or 9, or tells of a fault that may stop it even so
     abbrev pub Answers : ℕ → Type 0
-    Answers status = (status ≡ 0) ⊎ ((status ≡ 9) ⊎ ((f : Fault) × store.may_stop can.p f × (status ≡ status_of (Some f))))
+    Answers status = (status ≡ 0) ⊎ ((status ≡ 9) ⊎ StopsFor by drawn status)
 
-    by_fault : (status : ℕ) (f : Fault) → status ≡ status_of (Some f) → (status_of (Some f) ≡ 9) ⊎ store.may_stop can.p f → Answers status
-    by_fault status f is (inl nine) = inr (inl (is ∙ nine))
-    by_fault status f is (inr may) = inr (inr (f, may, is))
+    by_fault : (status : ℕ) (f : Fault) → status ≡ status_of (Some f) → Ran store life disk by drawn can.keys old new before after records (Some f) → (status_of (Some f) ≡ 9) ⊎ store.may_stop can.p f → Answers status
+    by_fault status f is ran (inl nine) = inr (inl (is ∙ nine))
+    by_fault status f is ran (inr may) = inr (inr (record { told = f; may = may; status_is = is; records = records; ran = ran }))
 
     answers : (status : ℕ) (f : Option Fault) → status ≡ status_of f → Went store life disk by drawn can.keys old new before after records f → Answers status
     answers status None is ran = inl is
     answers status (Some f) is (inl (none, ended, lives)) = inr (inl (is ∙ early f ended))
-    answers status (Some f) is (inr ran) = by_fault status f is (ran_fault f ran ran.traced.behind (shapes (calls ran.is_served.served.acts)) (refused (calls ran.is_served.served.acts)) ran.cause)
+    answers status (Some f) is (inr ran) = by_fault status f is ran (ran_fault f ran ran.traced.behind (shapes (calls ran.is_served.served.acts)) (refused (calls ran.is_served.served.acts)) ran.cause)
 
-  pub run_answers : (by : Manner) (drawn : List ℕ) (status : ℕ) → RunDone store life disk by drawn can.keys old new before after status → (status ≡ 0) ⊎ ((status ≡ 9) ⊎ ((f : Fault) × store.may_stop can.p f × (status ≡ status_of (Some f))))
+  pub run_answers : (by : Manner) (drawn : List ℕ) (status : ℕ) → RunDone store life disk by drawn can.keys old new before after status → (status ≡ 0) ⊎ ((status ≡ 9) ⊎ StopsFor by drawn status)
   run_answers by drawn status d = answers by drawn d.records status d.fault d.status_is d.went
 
 -- ---- both
@@ -188,32 +196,45 @@ module _ {S : Type 0} (disk : S → Disk) (beat : BeatKind) (drawn : List ℕ) (
   format_whole can (inr (inr (p, are, inl (f, refused, (kept, told))))) = absurd (keys_stand text can.keys f can.has refused)
   format_whole can (inr (inr (p, are, inr (keys, has, d)))) = ⊎_elim (λ none. inl (d.status_is ∙ none)) (λ nine. inr (d.status_is ∙ nine)) (format_fault disk keys p old new before after d.fault d.told can.store_holds can.output_holds)
 
-  run_whole : (script : Scripts) (can : CanRun words text (disk old) (disk new) before after ring_kind script) → RunTells can.lanes can.turns → (status ≡ 0) ⊎ ((status ≡ 9) ⊎ StopsFull disk words text before after status can.p)
-  run_whole script can (inl (kept, told)) = inr (inl told.status_is)
-  run_whole script can (inr (inl (bad, (kept, told)))) = absurd (no_bad_lanes can.lanes can.k can.in_range bad)
-  run_whole script can (inr (inr (k, are, inl (f, refused, (kept, told))))) = absurd (keys_stand text can.keys f can.has refused)
-  run_whole script can (inr (inr (k, are, inr (keys, has, d)))) =
-      by_stop can.p status (run_answers ring_kind ring_keeps ring_lives disk words text old new before after script can (manner beat (not can.turns)) drawn status
-      (subst (λ (k : Keys). RunDone ring_kind ring_lives disk (manner beat (not can.turns)) drawn k old new before after status) (one_keys text keys can.keys has can.has) d))
-    where
-      by_stop : (p : Params) (s : ℕ) → (s ≡ 0) ⊎ ((s ≡ 9) ⊎ ((f : Fault) × RingMayStop p f × (s ≡ status_of (Some f)))) → (s ≡ 0) ⊎ ((s ≡ 9) ⊎ ((s ≡ 6) × (p.room < p.keys)))
-      by_stop p s (inl none) = inl none
-      by_stop p s (inr (inl nine)) = inr (inl nine)
-      by_stop p s (inr (inr (fault.StashFull rows, (past, few), is))) = inr (inr (is, omega (arith, past, few)))
-      by_stop p s (inr (inr (fault.Memory, may, is))) = absurd may
-      by_stop p s (inr (inr (fault.Usage, may, is))) = absurd may
-      by_stop p s (inr (inr (fault.BadScript line, may, is))) = absurd may
-      by_stop p s (inr (inr (fault.BadParams field, may, is))) = absurd may
-      by_stop p s (inr (inr (fault.NotStore, may, is))) = absurd may
-      by_stop p s (inr (inr (fault.Damaged cell check kept computed, may, is))) = absurd may
-      by_stop p s (inr (inr (fault.StoreFault unsure, may, is))) = absurd may
-      by_stop p s (inr (inr (fault.Worn number, may, is))) = absurd may
-      by_stop p s (inr (inr (fault.SourceFault, may, is))) = absurd may
-      by_stop p s (inr (inr (fault.SinkFault, may, is))) = absurd may
+  module _ (script : Scripts) (can : CanRun words text (disk old) (disk new) before after ring_kind script) where
+    abbrev by : Manner
+    by = manner beat (not can.turns)
+
+    abbrev Full : Type 0
+    Full = StopsFull disk beat drawn words text before after status by can.keys can.p old new
+
+    by_stop : (f : Fault) → RingMayStop can.p f → status ≡ status_of (Some f) → (records : List (EpochRecord ℕ)) → Ran ring_kind ring_lives disk by drawn can.keys old new before after records (Some f) → Full
+    by_stop (fault.StashFull rows) (past, few) is records ran = record { status_is = is; fewer = omega (arith, past, few); records = records; rows = rows; ran = ran }
+    by_stop fault.Memory may is records ran = absurd may
+    by_stop fault.Usage may is records ran = absurd may
+    by_stop (fault.BadScript line) may is records ran = absurd may
+    by_stop (fault.BadParams field) may is records ran = absurd may
+    by_stop fault.NotStore may is records ran = absurd may
+    by_stop (fault.Damaged cell check kept computed) may is records ran = absurd may
+    by_stop (fault.StoreFault unsure) may is records ran = absurd may
+    by_stop (fault.Worn number) may is records ran = absurd may
+    by_stop fault.SourceFault may is records ran = absurd may
+    by_stop fault.SinkFault may is records ran = absurd may
+
+    abbrev Stopped : Type 0
+    Stopped = StopsFor ring_kind ring_keeps ring_lives disk words text old new before after script can by drawn status
+
+    by_answer : (status ≡ 0) ⊎ ((status ≡ 9) ⊎ Stopped) → (status ≡ 0) ⊎ ((status ≡ 9) ⊎ Full)
+    by_answer (inl none) = inl none
+    by_answer (inr (inl nine)) = inr (inl nine)
+    by_answer (inr (inr s)) = inr (inr (by_stop s.told s.may s.status_is s.records s.ran))
+
+    run_whole : RunTells can.lanes can.turns → (status ≡ 0) ⊎ ((status ≡ 9) ⊎ Full)
+    run_whole (inl (kept, told)) = inr (inl told.status_is)
+    run_whole (inr (inl (bad, (kept, told)))) = absurd (no_bad_lanes can.lanes can.k can.in_range bad)
+    run_whole (inr (inr (k, are, inl (f, refusal, (kept, told))))) = absurd (keys_stand text can.keys f can.has refusal)
+    run_whole (inr (inr (k, are, inr (keys, has, d)))) =
+        by_answer (run_answers ring_kind ring_keeps ring_lives disk words text old new before after script can by drawn status
+        (subst (λ (k : Keys). RunDone ring_kind ring_lives disk by drawn k old new before after status) (one_keys text keys can.keys has can.has) d))
 
   pub completes : ((store keys : List ℕ) (numbers : List (List ℕ)) → asked_by words ≡ Some (format_asked store keys numbers) → FormatTells numbers)
       → ((store keys : List ℕ) (lanes : Option (List ℕ)) (turns : Bool) → asked_by words ≡ Some (run_asked store keys lanes turns) → RunTells lanes turns)
-      → DoesWhatItCan disk words text before after status old new
+      → DoesWhatItCan disk beat drawn words text before after status old new
   completes format run = (
     λ can. format_whole can (format can.store_path can.keys_path can.numbers can.asked),
     λ script can. run_whole script can (run can.store_path can.keys_path can.lanes can.turns can.asked),

@@ -1,16 +1,21 @@
 -- When a command must do what it is asked for.
-use Rattle.std.specs.Prelude.{ℕ, ◌≡◌, ◌⊎◌, ◌+◌, ◌<◌, Bool, List, length, take, Option, Some}
+use Rattle.std.specs.Prelude.{ℕ, ◌≡◌, ◌⊎◌, ◌+◌, ◌<◌, Bool, not, List, length, take, Option, Some}
 use Rattle.std.specs.Borrow.{Bor, MutBor}
 use Rattle.ob_base.specs.declared.params.Params.{Params}
+use Rattle.ob_base.specs.declared.fault.Fault.TheVariants.{StashFull}
 use Rattle.ob_base.specs.Causes.{Rose}
+use Rattle.ob_desk.specs.Beats.{BeatKind}
 use Rattle.ob_seal.specs.declared.keys.Keys.{Keys}
 use Rattle.ob_store.specs.Disk.{Disk}
+use Rattle.ob_serial.specs.Serial.{EpochRecord}
 use Rattle.ob_serial.specs.Vaults.{Standing}
 use Rattle.ob_script.specs.Script.{Scripts, IsScript, limit}
 use Rattle.ob_vault.specs.Kinds.{StoreKind}
 use Rattle.ob_words.specs.Reading.{asked_by, format_asked, run_asked, audit_asked}
 use Rattle.ob_words.specs.Work.{AreParams, AreLanes, HasKeys}
 use Rattle.ob_top.specs.Outside.{Outside, Left, OfStore}
+use Rattle.ob_top.specs.Runs.{Manner, Ran, manner}
+use Rattle.ob_vault.specs.Lives.{ring_lives}
 use Rattle.ob_vault.specs.RingKind.{ring_kind}
 
 module _ (words : List (List ℕ)) (text : Option (Bor (List ℕ))) (old new : Disk) (before after : Outside) where
@@ -55,16 +60,23 @@ module _ (words : List (List ℕ)) (text : Option (Bor (List ℕ))) (old new : D
     -- even if each transaction ends an epoch
     pub lasts : store.lasts p generation at.epoch (length script.txns)
 
-module _ {S : Type 0} (disk : S → Disk) (words : List (List ℕ)) (text : Option (Bor (List ℕ))) (before after : Outside) (status : ℕ) where
-  -- more rows than the stash may keep would be left, which comes only where the store may hold more keys than that
-  abbrev pub StopsFull : Params → Type 0
-  StopsFull p = (status ≡ 6) × (p.room < p.keys)
+-- behind the run the tape has given the words `drawn` of its generation
+module _ {S : Type 0} (disk : S → Disk) (beat : BeatKind) (drawn : List ℕ) (words : List (List ℕ)) (text : Option (Bor (List ℕ))) (before after : Outside) (status : ℕ) where
+  -- The script was run up to an end that would leave more rows in the stash than that may keep, as the run's cause tells. That comes only
+  -- where the store may hold more keys than that.
+  pub record StopsFull (by : Manner) (keys : Keys) (p : Params) (old new : S) : Type 0 where
+    pub status_is : status ≡ 6
+    pub fewer : p.room < p.keys
+    pub records : List (EpochRecord ℕ)
+    pub rows : ℕ
+    pub ran : Ran ring_kind ring_lives disk by drawn keys old new before after records (Some (StashFull rows))
 
   -- What can be done is done, but for want of memory, or of room in the stash: `FormatDoes` and `RunDoes` say what that comes to.
   abbrev pub DoesWhatItCan : S → S → Type 0
   DoesWhatItCan old new =
       (CanFormat words text (disk old) (disk new) before after → (status ≡ 0) ⊎ (status ≡ 9))
-      × ((script : Scripts) (can : CanRun words text (disk old) (disk new) before after ring_kind script) → (status ≡ 0) ⊎ ((status ≡ 9) ⊎ StopsFull can.p))
+      × ((script : Scripts) (can : CanRun words text (disk old) (disk new) before after ring_kind script) → (status ≡ 0)
+      ⊎ ((status ≡ 9) ⊎ StopsFull (manner beat (not can.turns)) can.keys can.p old new))
 
   abbrev pub Completes : Option (MutBor S) → Left S → Type 0
   Completes entry exit = OfStore entry exit (Unit {0}) DoesWhatItCan

@@ -201,7 +201,8 @@ pub fn obladi<
         (outside (inflow I.Source input.new) (outflow O.Sink output.new)) result
         (T.drawn tape.new) }
     // What is asked for is done, where nothing stands against it but want of memory.
-    ensures complete { Completes S.disk (map (λ w. w.now) words.entry.now) keys.entry
+    ensures complete { Completes S.disk (beat_kind B.passes B.exact) (T.drawn tape.new)
+        (map (λ w. w.now) words.entry.now) keys.entry
         (outside (inflow I.Source input.old) (outflow O.Sink output.old))
         (outside (inflow I.Source input.new) (outflow O.Sink output.new)) result store.entry
         store.exit }
