@@ -404,34 +404,34 @@ module _ {V S : Type 0} (k : Kind V) (disk : S → Disk) (runs : V → Running S
     -- ---- an end that was refused, or left in doubt
 
     module _ (asked : List (ℕ × Option (List ℕ))) (notes : List Note) where
-      abbrev writes : List Write
-      writes = map write_from asked
+      abbrev own : List Write
+      own = map write_from asked
 
       abbrev Refused : Fault → Type 0
-      Refused refused = EndCalled disk old new notes writes (Err (Before refused))
+      Refused refused = EndCalled disk old new notes own (Err (Before refused))
 
       -- why it was refused
       abbrev EndIsWhy : Fault → Type 0
       EndIsWhy refused = IsRefusalWhy ring_kind keys p f opened (disk new.store) h so_far n (Some (End asked)) new.drawn refused
 
       -- its writes, of what is hidden
-      writes_are : (result : Result (Unit {0}) EndErr) → EndCalled disk old new notes writes result → writes_of_end disk old new notes writes ≡ writes_hidden p h asked new.drawn
-      writes_are result one = λ i. end_writes ((at.params) i) writes (words_since ((at.tape) i) new.drawn) ((at.generation) i) ((drawn_hidden notes one.run) i)
+      writes_are : (result : Result (Unit {0}) EndErr) → EndCalled disk old new notes own result → writes_of_end disk old new notes own ≡ writes_hidden p h asked new.drawn
+      writes_are result one = λ i. end_writes ((at.params) i) own (words_since ((at.tape) i) new.drawn) ((at.generation) i) ((drawn_hidden notes one.run) i)
 
       answers_hidden : (refused : Fault) → Refused refused → MakeAnswers p (table_hidden p h) h.epoch (length h.words) h.seals (writes_hidden p h asked new.drawn) (Err refused)
       answers_hidden refused one =
-          answers_named params p t (table_hidden p h) (old.run).epoch h.epoch (old.run).drawn (length h.words) ((old.run).sealer).next h.seals (writes_of_end disk old new notes writes) (writes_hidden p h asked new.drawn) refused
+          answers_named params p t (table_hidden p h) (old.run).epoch h.epoch (old.run).drawn (length h.words) ((old.run).sealer).next h.seals (writes_of_end disk old new notes own) (writes_hidden p h asked new.drawn) refused
           at.params table_is at.epoch_hidden (drawn_hidden notes one.run) at.sealed (writes_are (Err (Before refused)) one) (one.answers t stands)
 
       -- the words that it drew, behind those of what is hidden
-      end_tape : (refused : EndErr) → EndCalled disk old new notes writes (Err refused) → EndDraws p (table_hidden p h) h.epoch (length h.words) h.words new.drawn (Err refused)
+      end_tape : (refused : EndErr) → EndCalled disk old new notes own (Err refused) → EndDraws p (table_hidden p h) h.epoch (length h.words) h.words new.drawn (Err refused)
       end_tape refused one =
           draws_named params p t (table_hidden p h) (old.run).epoch h.epoch (old.run).drawn (length h.words) old.drawn h.words new.drawn refused
           at.params table_is at.epoch_hidden (drawn_hidden notes one.run) at.tape (one.draws t stands)
 
       end_why : (refused : Fault) → Refused refused → EndIsWhy refused
       end_why (fault.StoreFault unsure) one = inl one.refusal
-      end_why (fault.Worn number) one = let (is, worn) = answers_hidden (fault.Worn number) one in let (same, past) = one.answers t stands in (is, worn, end_worn writes notes past)
+      end_why (fault.Worn number) one = let (is, worn) = answers_hidden (fault.Worn number) one in let (same, past) = one.answers t stands in (is, worn, end_worn own notes past)
       end_why (fault.StashFull rows) one = answers_hidden (fault.StashFull rows) one
       end_why (fault.Damaged cell check kept computed) one = (
         λ tells. record {
@@ -454,7 +454,7 @@ module _ {V S : Type 0} (k : Kind V) (disk : S → Disk) (runs : V → Running S
       end_why fault.SinkFault one = absurd one.refusal
 
       -- only its store leaves one in doubt
-      doubt_why : (refused : Fault) → EndCalled disk old new notes writes (Err (Unsure refused)) → EndIsWhy refused
+      doubt_why : (refused : Fault) → EndCalled disk old new notes own (Err (Unsure refused)) → EndIsWhy refused
       doubt_why refused one = subst EndIsWhy (sym one.refusal) (inr (ap Some (one_behind (old.run).epoch ∙ ap suc at.epoch)))
         where
           one_behind : (i : ℕ) → i + 1 ≡ suc i
@@ -490,7 +490,8 @@ module _ {V S : Type 0} (k : Kind V) (disk : S → Disk) (runs : V → Running S
       end_stops (fault.StoreFault unsure) one =
           subst (λ (u : Option ℕ). EndStops (fault.StoreFault u)) (sym one.refusal) (store_stops_end (subst (λ (u : Option ℕ). Refused (fault.StoreFault u)) one.refusal one))
       end_stops (fault.Damaged cell check kept computed) one =
-          stopped (End asked) fills (fault.Damaged cell check kept computed) (events_of lifts) (refl, refl) (lifts_seen (one.scheduled c rs at.planned)) (end_tape (Before (fault.Damaged cell check kept computed)) one) (end_why (fault.Damaged cell check kept computed) one)
+          stopped (End asked) fills (fault.Damaged cell check kept computed) (events_of lifts) (refl, refl) (lifts_seen (one.scheduled c rs at.planned))
+          (end_tape (Before (fault.Damaged cell check kept computed)) one) (end_why (fault.Damaged cell check kept computed) one)
       end_stops (fault.StashFull rows) one =
           stopped (End asked) fills (fault.StashFull rows) (events_of lifts) (refl, refl) (lifts_seen (one.scheduled c rs at.planned)) (end_tape (Before (fault.StashFull rows)) one) (end_why (fault.StashFull rows) one)
       end_stops (fault.Worn number) one = worn_stops number one
@@ -528,7 +529,8 @@ module _ {V S : Type 0} (k : Kind V) (disk : S → Disk) (runs : V → Running S
         drawn = fills_of p h.content rs';
         behind = with_next p h (r q h so_far n v w at asks one.notes);
         draws = (
-          draws_batch disk (runs v) (runs w) one.notes p h at.params at.planned at.generation at.tape is.run asks is.whole (is_next q h so_far n v w at) (is.draws).many_are (words_left q h so_far n v w at asks one.notes is (λ none. none)) at.sealed (seals_left q h so_far n v w at asks one.notes is (λ none. none)),
+          draws_batch disk (runs v) (runs w) one.notes p h at.params at.planned at.generation at.tape is.run asks is.whole (is_next q h so_far n v w at) (is.draws).many_are
+          (words_left q h so_far n v w at asks one.notes is (λ none. none)) at.sealed (seals_left q h so_far n v w at asks one.notes is (λ none. none)),
           fit q h so_far n v w at asks one.notes is,
         );
         seen = whole_row q h so_far n v w at (batch_row q h so_far n v w at rs') one.notes Fetches (fills_of p h.content rs') (batch_is q h so_far n v w at rs') (is.scheduled h.content h.records at.planned (is_next q h so_far n v w at));

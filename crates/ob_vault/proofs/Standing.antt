@@ -143,7 +143,8 @@ full_may_stop p h (Some (End writes)) words rows (has, are, past) = (
   omega (arith, are, rows_few p (table_ended p (table_hidden p h) (writes_hidden p h writes words))),
 )
 
-serves : (keys : Keys) (p : Params) (g n m : ℕ) (f : RingFound) (opened now : Disk) (h : RingHidden) (call : Option VaultCall) (words : List ℕ) (refused : Fault) (map : Map nat_cmp) → RingLasts p g (f.run).epoch n → m ≤ n → IsRingMap keys p opened f map → RingCauses keys p f opened now h m call words refused
+serves : (keys : Keys) (p : Params) (g n m : ℕ) (f : RingFound) (opened now : Disk) (h : RingHidden) (call : Option VaultCall) (words : List ℕ) (refused : Fault) (map : Map nat_cmp)
+    → RingLasts p g (f.run).epoch n → m ≤ n → IsRingMap keys p opened f map → RingCauses keys p f opened now h m call words refused
     → RingMayStop p refused
 serves keys p g n m f opened now h call words (fault.Worn number) map lasts few is (worn_is, too_few, worn) = absurd (not_worn p g (f.run).epoch n m lasts few worn)
 serves keys p g n m f opened now h call words (fault.StashFull rows) map lasts few is cause = full_may_stop p h call words rows cause
