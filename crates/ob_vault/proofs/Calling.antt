@@ -9,7 +9,7 @@ use Rattle.ob_base.specs.declared.params.Params.{Params}
 use Rattle.ob_base.specs.declared.value.Write.{Write}
 use Rattle.ob_tables.specs.Buckets.{Buckets}
 use Rattle.ob_tables.specs.Content.{Content, Obeys}
-use Rattle.ob_end.specs.EndRuns.{EndDraws, IsWornForEnd, LeadsOn, MakeAnswers, end_writes, seals_for_end, standing_at_end, words_for_end}
+use Rattle.ob_end.specs.EndRuns.{EndAnswers, EndDraws, IsWornForEnd, LeadsOn, end_writes, seals_for_end, standing_at_end, words_for_end}
 use Rattle.ob_end.specs.Shown.{EndShows, before_gate, end_lifts, up_to_gate}
 use Rattle.ob_end.specs.Lifts.{IsLiftDamage}
 use Rattle.ob_stand.specs.Table.{buckets_of, flat_of}
@@ -49,9 +49,9 @@ use Rattle.ob_twin.specs.declared.gates.Gates.{Gates}
 use Rattle.ob_vault.proofs.Bounds.{batch_past, end_past, less_left, one_more, seals_few, words_few}
 use Rattle.ob_vault.proofs.Naming.{answers_named, draws_named}
 use Rattle.ob_vault.proofs.Phasing.{phased}
-use Rattle.ob_vault.specs.Causes.{IsCallWorn, IsRingWorn, record_hidden, seals_an_epoch, words_an_epoch, writes_hidden}
+use Rattle.ob_vault.specs.Causes.{IsCallWorn, IsRingWorn, record_hidden, seals_an_epoch, words_an_epoch}
 use Rattle.ob_vault.proofs.Drawing.{draws_batch, draws_end, ended, grown}
-use Rattle.ob_vault.specs.Hidden.{IsTapeBehind, RingCut, RingDrawsCut, RingHidden, table_hidden, with_next}
+use Rattle.ob_vault.specs.Hidden.{IsTapeBehind, RingCut, RingDrawsCut, RingHidden, table_hidden, with_next, writes_hidden}
 use Rattle.ob_vault.specs.RingLaws.{RingCallsDo, RingWordsAreOfTape}
 use Rattle.ob_vault.specs.RingKind.{IsRingMap, RingFound, ring_kind}
 use Rattle.ob_vault.specs.RingSteps.{HasRingWords, RingAt, RunIsAtHidden}
@@ -418,10 +418,10 @@ module _ {V S : Type 0} (k : Kind V) (disk : S → Disk) (runs : V → Running S
       writes_are : (result : Result (Unit {0}) EndErr) → EndCalled disk old new notes own result → writes_of_end disk old new notes own ≡ writes_hidden p h asked new.drawn
       writes_are result one = λ i. end_writes ((at.params) i) own (words_since ((at.tape) i) new.drawn) ((at.generation) i) ((drawn_hidden notes one.run) i)
 
-      answers_hidden : (refused : Fault) → Refused refused → MakeAnswers p (table_hidden p h) h.epoch (length h.words) h.seals (writes_hidden p h asked new.drawn) (Err refused)
+      answers_hidden : (refused : EndErr) → EndCalled disk old new notes own (Err refused) → EndAnswers p (table_hidden p h) h.epoch (length h.words) h.seals (writes_hidden p h asked new.drawn) (Err refused)
       answers_hidden refused one =
           answers_named params p t (table_hidden p h) (old.run).epoch h.epoch (old.run).drawn (length h.words) ((old.run).sealer).next h.seals (writes_of_end disk old new notes own) (writes_hidden p h asked new.drawn) refused
-          at.params table_is at.epoch_hidden (drawn_hidden notes one.run) at.sealed (writes_are (Err (Before refused)) one) (one.answers t stands)
+          at.params table_is at.epoch_hidden (drawn_hidden notes one.run) at.sealed (writes_are (Err refused) one) (one.answers t stands)
 
       -- the words that it drew, behind those of what is hidden
       end_tape : (refused : EndErr) → EndCalled disk old new notes own (Err refused) → EndDraws p (table_hidden p h) h.epoch (length h.words) h.words new.drawn (Err refused)
@@ -431,8 +431,8 @@ module _ {V S : Type 0} (k : Kind V) (disk : S → Disk) (runs : V → Running S
 
       end_why : (refused : Fault) → Refused refused → EndIsWhy refused
       end_why (fault.StoreFault unsure) one = inl one.refusal
-      end_why (fault.Worn number) one = let (is, worn) = answers_hidden (fault.Worn number) one in let (same, past) = one.answers t stands in (is, worn, end_worn own notes past)
-      end_why (fault.StashFull rows) one = answers_hidden (fault.StashFull rows) one
+      end_why (fault.Worn number) one = let (is, worn) = answers_hidden (Before (fault.Worn number)) one in let (same, past) = one.answers t stands in (is, worn, end_worn own notes past)
+      end_why (fault.StashFull rows) one = answers_hidden (Before (fault.StashFull rows)) one
       end_why (fault.Damaged cell check kept computed) one = (
         λ tells. record {
           obeys = subst (λ (x : Params). Obeys x c) at.params (at.planned).obeys;
@@ -477,23 +477,23 @@ module _ {V S : Type 0} (k : Kind V) (disk : S → Disk) (runs : V → Running S
       store_stops_end : Refused (fault.StoreFault None) → EndStops (fault.StoreFault None)
       store_stops_end one =
           let (m, few, seen) = first_seen (before_gate end_row) (before_gate (ring_notes p q Ends fills)) notes (ap (λ (l : List Note). before_gate l) end_is) (one.scheduled c rs at.planned) in
-          stopped (End asked) fills (fault.StoreFault None) (take m (events_of (before_gate (ring_notes p q Ends fills)))) (refl, (m, refl)) seen (end_tape (Before (fault.StoreFault None)) one) (end_why (fault.StoreFault None) one)
+          stopped (End asked) fills (fault.StoreFault None) (take m (events_of (before_gate (ring_notes p q Ends fills)))) (refl, (m, refl), answers_hidden (Before (fault.StoreFault None)) one) seen (end_tape (Before (fault.StoreFault None)) one) (end_why (fault.StoreFault None) one)
 
       worn_stops : (number : ℕ) → Refused (fault.Worn number) → EndStops (fault.Worn number)
       worn_stops number one = by_part (one.scheduled c rs at.planned)
         where
           by_part : EndShows old.lanes (end_lifts params (public_of_kept params c rs (old.run).epoch (old.run).gates) (fills_with_lifts params c rs)) end_row notes (disk old.store).seen (disk new.store).seen (Err (Before (fault.Worn number))) → EndStops (fault.Worn number)
-          by_part (inl none) = stopped (End asked) fills (fault.Worn number) [] (refl, inl refl) (none.in_order at.one_lane) (end_tape (Before (fault.Worn number)) one) (end_why (fault.Worn number) one)
-          by_part (inr row) = stopped (End asked) fills (fault.Worn number) (events_of lifts) (refl, inr refl) (lifts_seen row) (end_tape (Before (fault.Worn number)) one) (end_why (fault.Worn number) one)
+          by_part (inl none) = stopped (End asked) fills (fault.Worn number) [] (refl, inl refl, answers_hidden (Before (fault.Worn number)) one) (none.in_order at.one_lane) (end_tape (Before (fault.Worn number)) one) (end_why (fault.Worn number) one)
+          by_part (inr row) = stopped (End asked) fills (fault.Worn number) (events_of lifts) (refl, inr refl, answers_hidden (Before (fault.Worn number)) one) (lifts_seen row) (end_tape (Before (fault.Worn number)) one) (end_why (fault.Worn number) one)
 
       end_stops : (refused : Fault) → Refused refused → EndStops refused
       end_stops (fault.StoreFault unsure) one =
           subst (λ (u : Option ℕ). EndStops (fault.StoreFault u)) (sym one.refusal) (store_stops_end (subst (λ (u : Option ℕ). Refused (fault.StoreFault u)) one.refusal one))
       end_stops (fault.Damaged cell check kept computed) one =
-          stopped (End asked) fills (fault.Damaged cell check kept computed) (events_of lifts) (refl, refl) (lifts_seen (one.scheduled c rs at.planned))
+          stopped (End asked) fills (fault.Damaged cell check kept computed) (events_of lifts) (refl, refl, answers_hidden (Before (fault.Damaged cell check kept computed)) one) (lifts_seen (one.scheduled c rs at.planned))
           (end_tape (Before (fault.Damaged cell check kept computed)) one) (end_why (fault.Damaged cell check kept computed) one)
       end_stops (fault.StashFull rows) one =
-          stopped (End asked) fills (fault.StashFull rows) (events_of lifts) (refl, refl) (lifts_seen (one.scheduled c rs at.planned)) (end_tape (Before (fault.StashFull rows)) one) (end_why (fault.StashFull rows) one)
+          stopped (End asked) fills (fault.StashFull rows) (events_of lifts) (refl, refl, answers_hidden (Before (fault.StashFull rows)) one) (lifts_seen (one.scheduled c rs at.planned)) (end_tape (Before (fault.StashFull rows)) one) (end_why (fault.StashFull rows) one)
       end_stops (fault.Worn number) one = worn_stops number one
       end_stops fault.Memory one = absurd one.refusal
       end_stops fault.Usage one = absurd one.refusal
@@ -509,10 +509,10 @@ module _ {V S : Type 0} (k : Kind V) (disk : S → Disk) (runs : V → Running S
         where
           by_part : Notes (events_of (up_to_gate end_row)) (disk old.store).seen (disk new.store).seen ⊎ Notes (events_of end_row) (disk old.store).seen (disk new.store).seen → EndStops (fault.StoreFault (Some epoch))
           by_part (inl seen) =
-              stopped (End asked) fills (fault.StoreFault (Some epoch)) (events_of (up_to_gate (ring_notes p q Ends fills))) (refl, inl refl)
+              stopped (End asked) fills (fault.StoreFault (Some epoch)) (events_of (up_to_gate (ring_notes p q Ends fills))) (refl, inl refl, answers_hidden (Unsure (fault.StoreFault (Some epoch))) one)
               (subst (λ (l : List Note). Notes (events_of (up_to_gate l)) (disk old.store).seen (disk new.store).seen) end_is seen) (end_tape (Unsure (fault.StoreFault (Some epoch))) one) (doubt_why (fault.StoreFault (Some epoch)) one)
           by_part (inr seen) =
-              stopped (End asked) fills (fault.StoreFault (Some epoch)) (events_of (ring_notes p q Ends fills)) (refl, inr refl)
+              stopped (End asked) fills (fault.StoreFault (Some epoch)) (events_of (ring_notes p q Ends fills)) (refl, inr refl, answers_hidden (Unsure (fault.StoreFault (Some epoch))) one)
               (subst (λ (l : List Note). Notes (events_of l) (disk old.store).seen (disk new.store).seen) end_is seen) (end_tape (Unsure (fault.StoreFault (Some epoch))) one) (doubt_why (fault.StoreFault (Some epoch)) one)
 
       doubt_stops : (refused : Fault) → EndCalled disk old new notes (map write_from asked) (Err (Unsure refused)) → EndStops refused

@@ -26,8 +26,8 @@ use Rattle.ob_twin.specs.Reading.{AllWhole, Counts}
 use Rattle.ob_twin.proofs.Judging.{number_read}
 use Rattle.ob_opening.specs.Openings.{IsOpenFault}
 use Rattle.ob_vault.proofs.Bounds.{rows_few}
-use Rattle.ob_vault.specs.Causes.{IsRingWorn, IsStashFull, RingLasts, seals_an_epoch, words_an_epoch, writes_hidden}
-use Rattle.ob_vault.specs.Hidden.{RingHidden, table_hidden}
+use Rattle.ob_vault.specs.Causes.{IsRingWorn, IsStashFull, RingLasts, seals_an_epoch, words_an_epoch}
+use Rattle.ob_vault.specs.Hidden.{RingHidden, table_hidden, writes_hidden}
 use Rattle.ob_vault.specs.RingKind.{IsRingFound, IsRingMap, IsRingRefusal, RingCauses, RingFound, RingMayStop, ring_kind}
 
 -- ---- the head

@@ -1,12 +1,11 @@
 -- Why a vault over a ring store refuses a call, besides its store.
-use Rattle.std.specs.Prelude.{ℕ, suc, ◌≡◌, ◌⊎◌, ◌+◌, ◌*◌, ◌^◌, ◌<◌, ◌≤◌, List, length, map, Option, None, Some}
+use Rattle.std.specs.Prelude.{ℕ, suc, ◌≡◌, ◌⊎◌, ◌+◌, ◌*◌, ◌^◌, ◌<◌, ◌≤◌, List, length, Option, None, Some}
 use Rattle.ob_base.specs.Layout.{checkpoint_cells, record_cells}
 use Rattle.ob_base.specs.Tree.{buckets, width}
 use Rattle.ob_base.specs.declared.fault.Damaged.{Damaged}
 use Rattle.ob_base.specs.declared.params.Params.{Params}
-use Rattle.ob_base.specs.declared.value.Write.{Write}
 use Rattle.ob_tables.specs.Content.{Obeys}
-use Rattle.ob_end.specs.EndRuns.{HasWords, IsWornForEnd, end_writes, rows_ended}
+use Rattle.ob_end.specs.EndRuns.{HasWords, IsWornForEnd, rows_ended}
 use Rattle.ob_end.specs.Lifts.{IsLiftDamage}
 use Rattle.ob_fetch.specs.Fetches.{words_since}
 use Rattle.ob_log.specs.Logs.{BatchRecord}
@@ -14,9 +13,7 @@ use Rattle.ob_recover.specs.Repeats.{IsBatchDamage, record_of}
 use Rattle.ob_seal.specs.declared.keys.Keys.{Keys}
 use Rattle.ob_serial.specs.Vaults.{End, Fetch, VaultCall}
 use Rattle.ob_store.specs.Disk.{Image}
-use Rattle.ob_tables.specs.declared.entry.Entry.{Entry}
-use Rattle.ob_vault.specs.Hidden.{RingHidden, table_hidden}
-use Rattle.ob_vault.specs.RingVaults.{write_from}
+use Rattle.ob_vault.specs.Hidden.{RingHidden, table_hidden, writes_hidden}
 
 -- ---- numbers
 
@@ -40,23 +37,19 @@ RingLasts p generation epoch n = (suc generation < 2 ^ 62) × (suc (epoch + n) <
 -- ---- a call that was refused, from what is hidden, where a tape has then given these words
 
 module _ (p : Params) (h : RingHidden) where
-  -- the writes of an end, with the entries that its words give
-  abbrev pub writes_hidden : List (ℕ × Option (List ℕ)) → (words : List ℕ) → List (Write × Entry)
-  writes_hidden writes words = end_writes p (map write_from writes) (words_since h.words words) h.generation (length h.words)
-
   -- Too few numbers are left for it: for a batch words, one for each place, or seals, one for each cell of its record; for an end epochs, or
   -- else words, or else, where the stash isn't too full, seals.
   abbrev pub IsCallWorn : Option VaultCall → (words : List ℕ) → Type 0
   IsCallWorn None words = ⊥
   IsCallWorn (Some (Fetch asks)) words = (2 ^ 62 < length h.words + p.places) ⊎ (2 ^ 62 < h.seals + record_cells p)
-  IsCallWorn (Some (End writes)) words = IsWornForEnd p (table_hidden p h) h.epoch (length h.words) h.seals (writes_hidden writes words)
+  IsCallWorn (Some (End writes)) words = IsWornForEnd p (table_hidden p h) h.epoch (length h.words) h.seals (writes_hidden p h writes words)
 
   -- It is an end that would leave so many rows in the stash, more than that may keep.
   abbrev pub IsStashFull : Option VaultCall → (words : List ℕ) → (rows : ℕ) → Type 0
   IsStashFull None words rows = ⊥
   IsStashFull (Some (Fetch asks)) words rows = ⊥
   IsStashFull (Some (End writes)) words rows = HasWords p (table_hidden p h) h.epoch (length h.words)
-      × (rows ≡ rows_ended p (table_hidden p h) (writes_hidden writes words)) × (p.room < rows_ended p (table_hidden p h) (writes_hidden writes words))
+      × (rows ≡ rows_ended p (table_hidden p h) (writes_hidden p h writes words)) × (p.room < rows_ended p (table_hidden p h) (writes_hidden p h writes words))
 
 -- ---- slots
 

@@ -9,9 +9,9 @@ use Rattle.ob_base.specs.Tree.{buckets}
 use Rattle.ob_tables.specs.Buckets.{version_at}
 use Rattle.ob_tables.specs.Rank.{ranks_of}
 use Rattle.ob_tables.specs.Content.{Content, Obeys}
-use Rattle.ob_end.specs.EndRuns.{EndDraws, end_writes, seals_for_end, table_ended, words_for_end}
+use Rattle.ob_end.specs.EndRuns.{EndAnswers, EndDraws, end_writes, seals_for_end, table_ended, words_for_end}
 use Rattle.ob_end.specs.Shown.{before_gate, end_lifts, up_to_gate}
-use Rattle.ob_fetch.specs.Fetches.{FetchDraws}
+use Rattle.ob_fetch.specs.Fetches.{FetchDraws, words_since}
 use Rattle.ob_stand.specs.Table.{flat_of}
 use Rattle.ob_vault.specs.Phases.{Ends, Fetches}
 use Rattle.ob_log.specs.Logs.{BatchRecord, RecordsFit}
@@ -29,6 +29,7 @@ use Rattle.ob_serial.specs.declared.vault.EndErr.TheVariants.{Before, Unsure}
 use Rattle.ob_store.specs.Told.{events_of}
 use Rattle.ob_store.specs.declared.event.Event.{Event}
 use Rattle.ob_tables.specs.Kept.{entry_at}
+use Rattle.ob_tables.specs.declared.entry.Entry.{Entry}
 use Rattle.ob_vault.specs.Seen.{RingPublic, ring_notes}
 
 -- The last epoch that ended, the content of its checkpoint, the records since, the generation, and of that the words which were drawn so
@@ -111,6 +112,10 @@ abbrev pub RingDraws : Params → RingHidden → VaultCall → Fills → RingHid
 RingDraws p h (Fetch asks) f behind = DrawsBatch p h asks f behind × RecordsFit p behind.records
 RingDraws p h (End writes) f behind = DrawsEnd p h (map write_from writes) f behind
 
+-- the writes of an end, with the entries that its words give, where a tape has then given these
+abbrev pub writes_hidden : Params → RingHidden → List (ℕ × Option (List ℕ)) → (words : List ℕ) → List (Write × Entry)
+writes_hidden p h writes words = end_writes p (map write_from writes) (words_since h.words words) h.generation (length h.words)
+
 -- an end that was refused with this fault, or left in doubt where that tells of an epoch
 abbrev pub refusal_of : Fault → EndErr
 refusal_of (fault.StoreFault (Some epoch)) = Unsure (fault.StoreFault (Some epoch))
@@ -155,8 +160,12 @@ EndCut p q f (fault.StashFull rows) more = more ≡ events_of (end_lifts p q.kno
 EndCut p q f (fault.Worn number) more = (more ≡ []) ⊎ (more ≡ events_of (end_lifts p q.known f))
 EndCut p q f _ more = ⊥
 
+-- An end is refused so, or left in doubt, where its numbers, its table and its writes let it be, in the order in which these are looked at.
+abbrev pub IsEndAnswer : Params → RingHidden → List (ℕ × Option (List ℕ)) → (words : List ℕ) → Fault → Type 0
+IsEndAnswer p h writes words refused = EndAnswers p (table_hidden p h) h.epoch (length h.words) h.seals (writes_hidden p h writes words) (Err (refusal_of refused))
+
 -- What is seen goes by the fault, its holes filled as the call's; a batch for which numbers are worn draws no word, and shows nothing.
 abbrev pub RingCut : Params → RingPublic → RingHidden → VaultCall → Fills → (words : List ℕ) → Fault → List Event → Type 0
 RingCut p q h (Fetch asks) f words (fault.Worn number) more = more ≡ []
 RingCut p q h (Fetch asks) f words refused more = RingDrawsCut p h (Fetch asks) f words × BatchCut p q f refused more
-RingCut p q h (End writes) f words refused more = RingDrawsCut p h (End writes) f words × EndCut p q f refused more
+RingCut p q h (End writes) f words refused more = RingDrawsCut p h (End writes) f words × EndCut p q f refused more × IsEndAnswer p h writes words refused
