@@ -1,6 +1,7 @@
 -- What a store holds as it is formatted.
 use Rattle.std.proofs.Common.{◌≡◌, ◌≢◌, ◌⊎◌, ⊎_elim, inl, inr, ℕ, zero, suc, ◌+◌, ◌*◌, ◌<◌, ◌≤◌, ◌^◌, List, [], ◌∷◌, ◌++◌, map, take, drop, length, get_or, refl, sym, ◌∙◌, ap, subst, arith, length-append}
 use Rattle.std.proofs.Math.Nat.{mul-le-mul_right}
+use Rattle.std.proofs.lemmas.List.{get_or_append_left, get_or-append-add}
 use Rattle.std.proofs.lemmas.List.FromFn.{get_or-map-range_with_len, length-map-range_with_len}
 use Rattle.ob_base.specs.declared.params.Params.{Params}
 use Rattle.ob_base.specs.Tree.{below, buckets, width}
@@ -29,7 +30,7 @@ use Rattle.ob_schedule.specs.Schedule.{log_gates}
 use Rattle.ob_stand.specs.Fresh.{AreRanked, Ranks, fresh_content, fresh_version}
 use Rattle.ob_stand.specs.Stands.{HoldsCheckpoint, Stands}
 use Rattle.ob_stand.proofs.FreshLaws.{formatted_stands}
-use Rattle.ob_opening.specs.Formats.{RingFormatLeaves, HasBlankSlots, IsBlankTables, IsRingLaid, all_gates, drawn_ranks, format_words, formatted_standing, words_of}
+use Rattle.ob_opening.specs.Formats.{RingFormatLeaves, HasBlankSlots, HasClosedLogs, IsBlankTables, IsRingLaid, all_gates, drawn_ranks, format_words, formatted_standing, words_of}
 
 -- ---- the words
 
@@ -70,18 +71,25 @@ length-log_gates p area = length-map-range_with_len (λ b. log_cell p area b (re
 gate_in : (p : Params) (area b : ℕ) → b < p.batches → get_or (log_gates p area) b 0 ≡ log_gate p area b
 gate_in p area b low = get_or-map-range_with_len (λ i. log_cell p area i (record_cells p)) 0 p.batches b b 0 low (omega arith)
 
-get_or-behind : (xs ys : List ℕ) (i d : ℕ) → get_or (xs ++ ys) (length xs + i) d ≡ get_or ys i d
-get_or-behind [] ys i d = let e : 0 + i ≡ i = omega arith in ap (λ (n : ℕ). get_or ys n d) e
-get_or-behind (x ∷ xs) ys i d = let e : suc (length xs) + i ≡ suc (length xs + i) = omega arith in ap (λ (n : ℕ). get_or (x ∷ (xs ++ ys)) n d) e ∙ get_or-behind xs ys i d
+-- the gate of a batch in the first log area, and in the second
+first_gate : (p : Params) (b : ℕ) → b < p.batches → get_or (all_gates p) b 0 ≡ log_gate p 0 b
+first_gate p b low = get_or_append_left (log_gates p 0) (log_gates p 1) 0 b (omega (arith, low, length-log_gates p 0)) ∙ gate_in p 0 b low
 
--- the gate of a batch in the second log area
 second_gate : (p : Params) (b : ℕ) → b < p.batches → get_or (all_gates p) (length (log_gates p 0) + b) 0 ≡ log_gate p 1 b
-second_gate p b low = get_or-behind (log_gates p 0) (log_gates p 1) b 0 ∙ gate_in p 1 b low
+second_gate p b low = get_or-append-add (log_gates p 0) (log_gates p 1) b 0 ∙ gate_in p 1 b low
 
-pub gates_shut : (p : Params) (image : Image) → AreShut (all_gates p) image → (b : ℕ) → b < p.batches → image (log_gate p 1 b) ≢ open_gate
-gates_shut p image shut b low opened =
-    let few : length (log_gates p 0) + b < length (all_gates p) = omega (arith, length-append (log_gates p 0) (log_gates p 1), length-log_gates p 1) in
-    closed-isnt-open (sym (ap image (sym (second_gate p b low)) ∙ shut (length (log_gates p 0) + b) few) ∙ opened)
+pub gates_closed : (p : Params) (image : Image) → AreShut (all_gates p) image → HasClosedLogs p image
+gates_closed p image shut zero b either low =
+    let few : b < length (all_gates p) = omega (arith, low, length-append (log_gates p 0) (log_gates p 1), length-log_gates p 0) in
+    ap image (sym (first_gate p b low)) ∙ shut b few
+gates_closed p image shut (suc zero) b either low =
+    let few : length (log_gates p 0) + b < length (all_gates p) = omega (arith, low, length-append (log_gates p 0) (log_gates p 1), length-log_gates p 1) in
+    ap image (sym (second_gate p b low)) ∙ shut (length (log_gates p 0) + b) few
+gates_closed p image shut (suc (suc area)) b either low = absurd (omega (arith, either))
+
+-- the next epoch's are shut, then
+next_shut : (p : Params) (image : Image) → HasClosedLogs p image → (b : ℕ) → b < p.batches → image (log_gate p 1 b) ≢ open_gate
+next_shut p image closed b low opened = closed-isnt-open (sym (closed 1 b (omega arith) low) ∙ opened)
 
 -- each lies behind the registers
 gates_behind_both : (n : ℕ) (xs ys : List ℕ) → LieBehind n xs → LieBehind n ys → LieBehind n (xs ++ ys)
@@ -102,11 +110,16 @@ gates_behind p = gates_behind_both 8 (log_gates p 0) (log_gates p 1) (area_behin
 pub begins_sure : (keys : Keys) (a : Disk) → StandsAt (tagging keys) 1 a.cells 1 → IsSynced a → (c : Image) → a.may_leave c → StandsAt (tagging keys) 1 c 1
 begins_sure keys a stands synced c left = register_moved (tagging keys) 1 1 c a.cells (λ k from to. synced c left k) stands
 
-log_within : (p : Params) (n : ℕ) → n < p.batches → log_gate p 1 n < check_cell p 0 0
+-- they lie behind the registers and before the checkpoints
+log_behind : (p : Params) (area n : ℕ) → 9 ≤ log_gate p area n
+log_behind p area n = omega arith
+
+log_within : (p : Params) (area n : ℕ) → area < 2 → n < p.batches → log_gate p area n < check_cell p 0 0
 unfolding log_cells
-log_within p n low =
+log_within p area n either low =
     let rows : (n + 1) * (record_cells p + 1) ≤ p.batches * (record_cells p + 1) = mul-le-mul_right (record_cells p + 1) (omega arith) in
-    omega (arith, rows)
+    let areas : area * (p.batches * (record_cells p + 1)) ≤ 1 * (p.batches * (record_cells p + 1)) = mul-le-mul_right (p.batches * (record_cells p + 1)) (omega arith) in
+    omega (arith, rows, areas)
 
 -- ---- all but the head
 
@@ -135,11 +148,8 @@ module _ (keys : Keys) (p : Params) (drawn : List ℕ) (many : length drawn ≡ 
     epoch = register_moved (tagging keys) 5 0 c b (λ k from to. same k (omega arith)) epoch;
     checkpoint = λ i lt. same (area_of p 0 + i) (omega arith) ∙ checkpoint i lt;
     slots = λ u slot lu ls. same (slot_cell p 0 u slot) (omega arith) ∙ slots u slot lu ls;
-    shut = λ n lt opened. gates_shut p a gates n lt (sym (same (log_gate p 1 n) (omega arith) ∙ log (log_gate p 1 n) (omega arith) (gate_low n lt)) ∙ opened);
+    closed = λ area n either lt. same (log_gate p area n) (omega (arith, log_behind p area n)) ∙ log (log_gate p area n) (log_behind p area n) (log_within p area n either lt) ∙ gates_closed p a gates area n either lt;
   }
-    where
-      gate_low : (n : ℕ) → n < p.batches → log_gate p 1 n < check_cell p 0 0
-      gate_low n lt = log_within p n lt
 
   -- with the head it stands
   pub formatted : (c : Image) → IsRingLaid keys p drawn c → c 0 ≡ head_cell keys 1 p → Stands keys p (formatted_standing p drawn) c
@@ -149,7 +159,7 @@ module _ (keys : Keys) (p : Params) (drawn : List ℕ) (many : length drawn ≡ 
     epoch = laid_so.epoch;
     checkpoint = checkpoint_of keys p (fresh_content p (drawn_ranks p drawn)) c laid_so.checkpoint;
     slots = laid_so.slots;
-    shut = laid_so.shut;
+    shut = next_shut p c laid_so.closed;
   })
 
 -- ---- what a crash leaves meanwhile

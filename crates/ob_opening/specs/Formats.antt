@@ -1,5 +1,5 @@
 -- A new ring store: what its format draws, writes and leaves.
-use Rattle.std.specs.Prelude.{◌≡◌, ◌≢◌, ◌⊎◌, ◌<◌, ℕ, ◌+◌, ◌*◌, true, List, [], ◌∷◌, ◌++◌, replicate, take, drop, None, Result, Ok, Err}
+use Rattle.std.specs.Prelude.{◌≡◌, ◌⊎◌, ◌<◌, ℕ, ◌+◌, ◌*◌, true, List, [], ◌∷◌, ◌++◌, replicate, take, drop, None, Result, Ok, Err}
 use Rattle.ob_base.specs.declared.params.Params.{Params}
 use Rattle.ob_base.specs.declared.fault.Fault.{Fault}
 use Rattle.ob_base.specs.declared.fault.Fault.TheVariants as fault
@@ -14,7 +14,7 @@ use Rattle.ob_store.specs.Calls.{GoesOn, Notes}
 use Rattle.ob_store.specs.Told.{events_of}
 use Rattle.ob_seal.specs.declared.keys.Keys.{Keys}
 use Rattle.ob_seal.specs.Seals.{sealed}
-use Rattle.ob_twin.specs.Bodies.{open_gate}
+use Rattle.ob_twin.specs.Bodies.{closed_gate}
 use Rattle.ob_twin.specs.Keyed.{tagging}
 use Rattle.ob_twin.specs.Orders.{set_notes}
 use Rattle.ob_check.specs.Written as check
@@ -53,6 +53,12 @@ first_version p u words = fresh_version p (λ v. ranks_of words) u
 abbrev pub formatted_standing : Params → List ℕ → RingStanding
 formatted_standing p drawn = fresh_standing p (drawn_ranks p drawn)
 
+-- ---- its logs
+
+-- each gate of both logs has the bytes of a closed one, whatever the cell had before
+abbrev pub HasClosedLogs : Params → Image → Type 0
+HasClosedLogs p image = (area batch : ℕ) → area < 2 → batch < p.batches → image (log_gate p area batch) ≡ closed_gate
+
 -- ---- what a crash leaves
 
 -- A new store, but for its head, which may hold anything. Its seals are the first ones of generation 1: the slots', then the
@@ -62,7 +68,7 @@ pub record IsRingLaid (keys : Keys) (p : Params) (drawn : List ℕ) (image : Ima
   pub epoch : StandsAt (tagging keys) 5 image 0
   pub checkpoint : check.HoldsCheckpointFrom keys p 0 (fresh_content p (drawn_ranks p drawn)) 1 (buckets p * width p) image
   pub slots : (u slot : ℕ) → u < buckets p → slot < width p → image (slot_cell p 0 u slot) ≡ sealed keys (slot_cell p 0 u slot) 1 (u * width p + slot) (slot_bytes EMPTY [])
-  pub shut : (b : ℕ) → b < p.batches → image (log_gate p 1 b) ≢ open_gate
+  pub closed : HasClosedLogs p image
 
 -- Until the first sync only the head is torn. From then on until the head is written the image is no store. Then all but the head
 -- is made.

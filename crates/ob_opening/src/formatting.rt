@@ -20,7 +20,7 @@ ghost use Rattle.ob_stand.specs.Stands.{Stands};
 ghost use Rattle.ob_twin.specs.Keyed.{tagging};
 ghost use Rattle.ob_twin.specs.Reading.{NoneOpen};
 ghost use Rattle.ob_twin.specs.Register.{StandsAt};
-ghost use Rattle.ob_opening.specs.Formats.{BeginsFirst, IsBlankTables, HasBlankSlots, IsRingLaid, FormatBegins, RingFormatLeaves, IsFormatFault, all_gates, drawn_ranks, epoch_notes, format_words, formatted_standing};
+ghost use Rattle.ob_opening.specs.Formats.{BeginsFirst, IsBlankTables, HasBlankSlots, HasClosedLogs, IsRingLaid, FormatBegins, RingFormatLeaves, IsFormatFault, all_gates, drawn_ranks, epoch_notes, format_words, formatted_standing};
 
 use crate::drawing::fill_all;
 use crate::gates::log_gates;
@@ -238,6 +238,9 @@ pub fn format<S: Store, T: Tape, W: Watch>(
     // checkpoint's.
     ensures laid { (S.disk store.old).tells
         → OnOk result (IsRingLaid keys.now p.now (T.drawn tape.new) (S.disk store.new).cells) }
+    // Each gate of both logs has the bytes of a closed one.
+    ensures closed { (S.disk store.old).tells
+        → OnOk result (HasClosedLogs p.now (S.disk store.new).cells) }
     // A crash at any moment leaves a torn head, no store, or all but the head.
     ensures crash { (S.disk store.old).tells
         → LeavesOnly (S.disk store.old) (S.disk store.new) (RingFormatLeaves keys.now p.now

@@ -65,6 +65,9 @@ returns-in-Ok-lay-clause-stands g c =
 pub returns-in-Ok-lay-clause-laid : goal.returns-in-Ok-lay-clause-laid
 returns-in-Ok-lay-clause-laid g c = λ tells. subst (λ (s : Sealing). IsRingLaid s.keys c.args.p.now (g.T.Tape.drawn c.lay.new.tape) (g.S.Store.disk c.lay.new.store).cells) c.new-sealer.ensures (c.in-Ok-lay.ensures.laid tells)
 
+pub returns-in-Ok-lay-clause-closed : goal.returns-in-Ok-lay-clause-closed
+returns-in-Ok-lay-clause-closed g c = λ tells. (returns-in-Ok-lay-clause-laid g c tells).closed
+
 pub returns-in-Ok-lay-clause-durable_first : goal.returns-in-Ok-lay-clause-durable_first
 returns-in-Ok-lay-clause-durable_first g c = subst (λ (s : Sealing). BeginsFirst g.S.Store.disk s.keys c.args.p.now c.args.store.now c.lay.new.store) c.new-sealer.ensures c.in-Ok-lay.ensures.begins
 
