@@ -9,6 +9,7 @@ pub mod Turning
 pub mod Stepping
 pub mod Going
 pub mod Behind
+pub mod Told
 pub mod Conducting
 pub mod Leaving
 pub mod Quitting
