@@ -27,6 +27,8 @@ use Rattle.ob_vault.specs.Kinds.{StoreKind}
 use Rattle.ob_vault.specs.KindLives.{LifeWords}
 use Rattle.ob_vault.specs.Phases.{Shape, refused, shapes}
 use Rattle.ob_conduct.specs.Acts.{calls}
+use Rattle.ob_conduct.specs.Records.{LinesStand}
+use Rattle.ob_conduct.proofs.Told.{cut_printed}
 use Rattle.ob_top.specs.Runs.{Manner, EndsEarly, EndsFor, Ran, Went, RunOn, RunDone}
 use Rattle.ob_top.proofs.Running.{IsQuiet}
 
@@ -90,13 +92,17 @@ module _ (store : StoreKind) (quiet : IsQuiet store) (life : LifeWords store) wh
     module _ (status : ℕ) where
       done_whole : (r : RunOn store life disk by words keys old new before mid None) → IsFinished mid.output after.output None status → RunDone store life disk by words keys old new before after status
       done_whole r f =
-          let bytes : after.output.bytes ≡ appended before.output.bytes (report decimal r.records) = ap (λ (o : Flow). o.bytes) f.line ∙ r.reported.bytes in
+          let bytes : after.output.bytes ≡ appended before.output.bytes (report decimal r.records) = ap (λ (o : Flow). o.bytes) f.line ∙ r.lines.0.bytes in
           record {
             fault = None;
             status_is = f.status_is;
             records = r.records;
             output_is = whole before.output after.output (report decimal r.records ++ []) (bytes ∙ ap (λ (l : List ℕ). appended before.output.bytes l) (sym (append-nil (report decimal r.records))));
             all_written = λ is. bytes;
+            whole = r.whole;
+            written = mid.output;
+            lines = r.lines;
+            line = f.line;
             went = ran_on r.records None r.went r.went.cause;
           }
 
@@ -116,8 +122,12 @@ module _ (store : StoreKind) (quiet : IsQuiet store) (life : LifeWords store) wh
         status_is = f.status_is;
         records = r.records;
         output_is = subst (λ (o : Flow). IsPrinted before.output o (report decimal r.records ++ fault_line (Some SinkFault))) (sym f.line)
-            (front before.output mid.output (report decimal r.records) (fault_line (Some SinkFault)) r.reported (sink_rose r.records r.went));
+            (front before.output mid.output (report decimal r.records) (fault_line (Some SinkFault)) (cut_printed r.records before.output mid.output r.lines.0) (sink_rose r.records r.went));
         all_written = λ is. absurd (no_fault is);
+        whole = r.whole;
+        written = mid.output;
+        lines = r.lines;
+        line = f.line;
         went = sink_went r.records f.line r.went;
       }
         where
@@ -125,14 +135,18 @@ module _ (store : StoreKind) (quiet : IsQuiet store) (life : LifeWords store) wh
           no_fault is = cc is
 
       -- any other fault, behind the whole report
-      done_other : (fault : Fault) (records : List (EpochRecord ℕ)) → mid.output.bytes ≡ appended before.output.bytes (report decimal records) → before.output.faults ≤ mid.output.faults
+      done_other : (fault : Fault) (records : List (EpochRecord ℕ)) (whole : ℕ) → LinesStand (Some fault) records whole before.output mid.output → LineTold mid.output after.output (Some fault) → mid.output.bytes ≡ appended before.output.bytes (report decimal records) → before.output.faults ≤ mid.output.faults
           → IsPrinted mid.output after.output (fault_line (Some fault)) → status ≡ status_of (Some fault) → Went store life disk by words keys old new before after records (Some fault) → RunDone store life disk by words keys old new before after status
-      done_other fault records bytes later line status_is went = record {
+      done_other fault records whole lines told bytes later line status_is went = record {
         fault = Some fault;
         status_is = status_is;
         records = records;
         output_is = behind before.output mid.output after.output (report decimal records) (fault_line (Some fault)) bytes later line;
         all_written = λ is. absurd (no_fault is);
+        whole = whole;
+        written = mid.output;
+        lines = lines;
+        line = told;
         went = went;
       }
         where
@@ -149,16 +163,16 @@ module _ (store : StoreKind) (quiet : IsQuiet store) (life : LifeWords store) wh
       pub run_done : (fault : Option Fault) → RunOn store life disk by words keys old new before mid fault → IsFinished mid.output after.output fault status → RunDone store life disk by words keys old new before after status
       run_done None r f = done_whole r f
       run_done (Some SinkFault) r f = done_sink r f
-      run_done (Some Memory) r f = done_other Memory r.records r.reported.bytes r.reported.later f.line f.status_is (went_other Memory r.records (λ p found opened h so_far n call cause. cause) r.went)
-      run_done (Some Usage) r f = done_other Usage r.records r.reported.bytes r.reported.later f.line f.status_is (went_other Usage r.records (λ p found opened h so_far n call cause. cause) r.went)
-      run_done (Some (BadScript line)) r f = done_other (BadScript line) r.records r.reported.bytes r.reported.later f.line f.status_is (went_other (BadScript line) r.records (λ p found opened h so_far n call cause. cause) r.went)
-      run_done (Some (BadParams field)) r f = done_other (BadParams field) r.records r.reported.bytes r.reported.later f.line f.status_is (went_other (BadParams field) r.records (λ p found opened h so_far n call cause. cause) r.went)
-      run_done (Some NotStore) r f = done_other NotStore r.records r.reported.bytes r.reported.later f.line f.status_is (went_other NotStore r.records (λ p found opened h so_far n call cause. cause) r.went)
-      run_done (Some (Damaged cell check kept computed)) r f = done_other (Damaged cell check kept computed) r.records r.reported.bytes r.reported.later f.line f.status_is (went_other (Damaged cell check kept computed) r.records (λ p found opened h so_far n call cause. cause) r.went)
-      run_done (Some (StoreFault unsure)) r f = done_other (StoreFault unsure) r.records r.reported.bytes r.reported.later f.line f.status_is (went_other (StoreFault unsure) r.records (λ p found opened h so_far n call cause. cause) r.went)
-      run_done (Some (StashFull rows)) r f = done_other (StashFull rows) r.records r.reported.bytes r.reported.later f.line f.status_is (went_other (StashFull rows) r.records (λ p found opened h so_far n call cause. cause) r.went)
-      run_done (Some (Worn number)) r f = done_other (Worn number) r.records r.reported.bytes r.reported.later f.line f.status_is (went_other (Worn number) r.records (λ p found opened h so_far n call cause. cause) r.went)
-      run_done (Some SourceFault) r f = done_other SourceFault r.records r.reported.bytes r.reported.later f.line f.status_is (went_other SourceFault r.records (λ p found opened h so_far n call cause. cause) r.went)
+      run_done (Some Memory) r f = done_other Memory r.records r.whole r.lines f.line r.lines.0.bytes r.lines.0.later f.line f.status_is (went_other Memory r.records (λ p found opened h so_far n call cause. cause) r.went)
+      run_done (Some Usage) r f = done_other Usage r.records r.whole r.lines f.line r.lines.0.bytes r.lines.0.later f.line f.status_is (went_other Usage r.records (λ p found opened h so_far n call cause. cause) r.went)
+      run_done (Some (BadScript line)) r f = done_other (BadScript line) r.records r.whole r.lines f.line r.lines.0.bytes r.lines.0.later f.line f.status_is (went_other (BadScript line) r.records (λ p found opened h so_far n call cause. cause) r.went)
+      run_done (Some (BadParams field)) r f = done_other (BadParams field) r.records r.whole r.lines f.line r.lines.0.bytes r.lines.0.later f.line f.status_is (went_other (BadParams field) r.records (λ p found opened h so_far n call cause. cause) r.went)
+      run_done (Some NotStore) r f = done_other NotStore r.records r.whole r.lines f.line r.lines.0.bytes r.lines.0.later f.line f.status_is (went_other NotStore r.records (λ p found opened h so_far n call cause. cause) r.went)
+      run_done (Some (Damaged cell check kept computed)) r f = done_other (Damaged cell check kept computed) r.records r.whole r.lines f.line r.lines.0.bytes r.lines.0.later f.line f.status_is (went_other (Damaged cell check kept computed) r.records (λ p found opened h so_far n call cause. cause) r.went)
+      run_done (Some (StoreFault unsure)) r f = done_other (StoreFault unsure) r.records r.whole r.lines f.line r.lines.0.bytes r.lines.0.later f.line f.status_is (went_other (StoreFault unsure) r.records (λ p found opened h so_far n call cause. cause) r.went)
+      run_done (Some (StashFull rows)) r f = done_other (StashFull rows) r.records r.whole r.lines f.line r.lines.0.bytes r.lines.0.later f.line f.status_is (went_other (StashFull rows) r.records (λ p found opened h so_far n call cause. cause) r.went)
+      run_done (Some (Worn number)) r f = done_other (Worn number) r.records r.whole r.lines f.line r.lines.0.bytes r.lines.0.later f.line f.status_is (went_other (Worn number) r.records (λ p found opened h so_far n call cause. cause) r.went)
+      run_done (Some SourceFault) r f = done_other SourceFault r.records r.whole r.lines f.line r.lines.0.bytes r.lines.0.later f.line f.status_is (went_other SourceFault r.records (λ p found opened h so_far n call cause. cause) r.went)
 
   module _ {S : Type 0} (disk : S → Disk) (keys : Keys) (p : Params) (old new : S) (before mid after : Flow) where
     -- a format that did nothing

@@ -37,7 +37,8 @@ use Rattle.ob_conduct.specs.Left.{Rests}
 use Rattle.ob_conduct.specs.Scenes.{RunnerKind, run_state, runner_kind, scene}
 use Rattle.ob_run.specs.Threaded.{RunsBy}
 use Rattle.ob_outcomes.proofs.Whole.{RunsScripts}
-use Rattle.ob_top.specs.Runs.{manner, ServedOver, fault_of}
+use Rattle.ob_conduct.specs.Records.{fault_of}
+use Rattle.ob_top.specs.Runs.{manner, ServedOver}
 use Rattle.ob_top.proofs.Opens.{may_open}
 use Rattle.ob_top.proofs.RingServing.{IsRingLender, ring_serves}
 

@@ -1,5 +1,5 @@
 -- How what was begun and what was served join into a run.
-use Rattle.std.proofs.Common.{◌≤◌, ◌⊎◌, ℕ, List, [], length, map, Option, Some, None, refl, inl, inr, arith}
+use Rattle.std.proofs.Common.{◌≤◌, ◌⊎◌, ℕ, List, [], length, map, Option, Some, None, refl, inl, inr, subst, arith}
 use Rattle.ob_base.specs.declared.params.Params.{Params}
 use Rattle.ob_seal.specs.declared.keys.Keys.{Keys}
 use Rattle.ob_seal.specs.Sealing.{Sealing}
@@ -16,7 +16,8 @@ use Rattle.ob_vault.specs.Phases.{Shape, refused, shapes}
 use Rattle.ob_vault.specs.KindLives.{LifeWords}
 use Rattle.ob_vault.specs.Openings.{OpensStanding}
 use Rattle.ob_vault.specs.Kinds.{StoreKind, Stands, AllStand, StandsAsBefore, IsOpenedAt, opened_with}
-use Rattle.ob_conduct.specs.Acts.{calls}
+use Rattle.ob_conduct.specs.Acts.{Act, calls}
+use Rattle.ob_conduct.proofs.Told.{Stand, stand_unless}
 use Rattle.ob_conduct.specs.Left.{IsLeftStanding}
 use Rattle.ob_store.specs.Calls.{Notes}
 use Rattle.ob_store.proofs.Events.{joined}
@@ -24,7 +25,7 @@ use Rattle.ob_store.proofs.Serving.{rose_later}
 use Rattle.ob_serial.specs.Serial.{EpochRecord}
 use Rattle.ob_script.specs.Script.{Scripts}
 use Rattle.ob_top.specs.Outside.{Outside, outside}
-use Rattle.ob_top.specs.Runs.{Manner, EndsEarly, IsOpened, EndsFor, IsReported, IsLeftOnDisk, LeftByWholeRun, IsReadAndOpened, ServedOver, Ran, Went, RunOn, begin_events}
+use Rattle.ob_top.specs.Runs.{Manner, EndsEarly, IsOpened, EndsFor, IsLeftOnDisk, LeftByWholeRun, IsReadAndOpened, ServedOver, Ran, Went, RunOn, begin_events}
 use Rattle.ob_top.proofs.Living.{whole_lives}
 
 -- the output is no cause of a head's or an opening's refusal
@@ -33,28 +34,24 @@ pub record IsQuiet (store : StoreKind) : Type 0 where
   pub opening : store.open_fault SinkFault → ⊥
 
 module _ (store : StoreKind) (quiet : IsQuiet store) (life : LifeWords store) where
-  -- an early end has printed nothing, which is the report of no records
-  pub early_reported : {S : Type 0} (disk : S → Disk) (keys : Keys) (old new : Disk) (before after output : Flow) (fault : Fault) → EndsEarly store life keys old new disk before after fault → IsReported output output [] (Some fault)
-  early_reported disk keys old new before after output SinkFault (inl head) = absurd (quiet.head head.kind)
-  early_reported disk keys old new before after output SinkFault (inr (inl input)) = absurd input.refused
-  early_reported disk keys old new before after output SinkFault (inr (inr opening)) = absurd (quiet.opening opening.kind)
-  early_reported disk keys old new before after output Memory early = record { bytes = appended-none output.bytes; later = omega arith }
-  early_reported disk keys old new before after output Usage early = record { bytes = appended-none output.bytes; later = omega arith }
-  early_reported disk keys old new before after output (BadScript line) early = record { bytes = appended-none output.bytes; later = omega arith }
-  early_reported disk keys old new before after output (BadParams field) early = record { bytes = appended-none output.bytes; later = omega arith }
-  early_reported disk keys old new before after output NotStore early = record { bytes = appended-none output.bytes; later = omega arith }
-  early_reported disk keys old new before after output (Damaged cell check kept computed) early = record { bytes = appended-none output.bytes; later = omega arith }
-  early_reported disk keys old new before after output (StoreFault unsure) early = record { bytes = appended-none output.bytes; later = omega arith }
-  early_reported disk keys old new before after output (StashFull rows) early = record { bytes = appended-none output.bytes; later = omega arith }
-  early_reported disk keys old new before after output (Worn number) early = record { bytes = appended-none output.bytes; later = omega arith }
-  early_reported disk keys old new before after output SourceFault early = record { bytes = appended-none output.bytes; later = omega arith }
+  -- an early end isn't the output's
+  early_other : {S : Type 0} (disk : S → Disk) (keys : Keys) (old new : Disk) (before after : Flow) → EndsEarly store life keys old new disk before after SinkFault → ⊥
+  early_other disk keys old new before after (inl head) = quiet.head head.kind
+  early_other disk keys old new before after (inr (inl input)) = input.refused
+  early_other disk keys old new before after (inr (inr opening)) = quiet.opening opening.kind
+
+  -- so it has printed nothing, which is the report of no records
+  early_stand : {S : Type 0} (disk : S → Disk) (keys : Keys) (old new : Disk) (before after output : Flow) (fault : Fault) → EndsEarly store life keys old new disk before after fault → Stand [] output output (Some fault)
+  early_stand disk keys old new before after output fault early =
+      stand_unless [] output output fault (λ is. early_other disk keys old new before after (subst (λ (f : Fault). EndsEarly store life keys old new disk before after f) is early)) (record { bytes = appended-none output.bytes; later = omega arith })
 
   pub ended_early : {S : Type 0} (disk : S → Disk) (by : Manner) (words : List ℕ) (keys : Keys) (old new : S) (before after output : Flow) (fault : Fault) → EndsEarly store life keys (disk old) (disk new) disk before after fault → ((disk new).tells → LivesOn disk keys old new [])
       → RunOn store life disk by words keys old new
       (outside before output) (outside after output) (Some fault)
   ended_early disk by words keys old new before after output fault early lives = record {
     records = [];
-    reported = early_reported disk keys (disk old) (disk new) before after output fault early;
+    whole = (early_stand disk keys (disk old) (disk new) before after output fault early).0;
+    lines = (early_stand disk keys (disk old) (disk new) before after output fault early).1;
     went = inl (refl, early, lives);
   }
 
@@ -80,11 +77,12 @@ module _ (store : StoreKind) (quiet : IsQuiet store) (life : LifeWords store) wh
   went_of disk by words keys old new before after records (Some fault) ran = inr ran
 
   -- What a crash leaves of the opening and of the serving.
-  left_both : {S : Type 0} (disk : S → Disk) (keys : Keys) (old mid new : Disk) (p : Params) (found : store.Found) (at : Standing) (script : Scripts) (records : List (EpochRecord ℕ)) (fault : Option Fault)
-      → LeavesOnly old mid (StandsAsBefore store keys p old) → IsLeftOnDisk store keys p found at script records fault disk mid new → LeftByWholeRun store keys p found at script records fault disk old mid new
-  left_both disk keys old mid new p found at script records fault first l = record {
+  left_both : {S : Type 0} (disk : S → Disk) (keys : Keys) (old mid new : Disk) (p : Params) (found : store.Found) (at : Standing) (script : Scripts) (records : List (EpochRecord ℕ)) (fault : Option Fault) (acts : List Act)
+      → LeavesOnly old mid (StandsAsBefore store keys p old) → IsLeftOnDisk store keys p found at script records fault acts disk mid new → LeftByWholeRun store keys p found at script records fault acts disk old mid new
+  left_both disk keys old mid new p found at script records fault acts first l = record {
     next = l.next;
     is_next = l.is_next;
+    closed = l.closed;
     opening = first;
     stages = l.stages;
     since = then_on old mid new (λ c. StandsAsBefore store keys p old c ⊎ StandsIn (store.stands keys p (store.generation found)) (IsLeftStanding (opened_with p (store.left p found) at) records l.next) c)
@@ -107,7 +105,8 @@ module _ (store : StoreKind) (quiet : IsQuiet store) (life : LifeWords store) wh
       → RunOn store life disk by words keys old new (outside input output) (outside input_new output_new) fault
   ran disk by words keys old between new input input_new output output_new p script found start sealing fault later opened seen durable stood before opens begun found_so s = record {
     records = s.records;
-    reported = s.reported;
+    whole = s.whole;
+    lines = s.lines;
     went = went_of disk by words keys old new (outside input output) (outside input_new output_new) s.records fault (record {
       p = p;
       script = script;
@@ -125,7 +124,7 @@ module _ (store : StoreKind) (quiet : IsQuiet store) (life : LifeWords store) wh
       opens = opens;
       stood = stood;
       left = λ at tells stands all. let (told, settled) = durable tells in
-          left_both disk keys (disk old) (disk between) (disk new) p found at script s.records fault (before at tells stands all) (s.left at told settled (stood at tells stands));
+          left_both disk keys (disk old) (disk between) (disk new) p found at script s.records fault s.is_served.served.acts (before at tells stands all) (s.left at told settled (stood at tells stands));
       lives = whole_lives disk keys old between new sealing (map (λ s. s.1) (calls s.is_served.served.acts)) s.goes begun s.lives;
       opens_life = found_so;
       goes_on = s.goes_on;

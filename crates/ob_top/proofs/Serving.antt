@@ -4,14 +4,11 @@ use Rattle.std.proofs.Common.{◌≡◌, ◌+◌, ◌∙◌, ◌⊎◌, ℕ, suc
 use Rattle.std.proofs.lemmas.List.{append-nil, append_assoc}
 use Rattle.std.proofs.lemmas.Option.{same_Some}
 use Rattle.std.specs.Ordering.{nat_cmp}
-use Rattle.std.specs.Prelude.{decimal}
 use Rattle.ob_base.specs.declared.params.Params.{Params}
 use Rattle.ob_base.specs.declared.fault.Fault.{Fault}
 use Rattle.ob_base.specs.declared.fault.Fault.TheVariants.{Memory, Usage, BadScript, BadParams, NotStore, Damaged, StoreFault, StashFull, Worn, SourceFault, SinkFault}
 use Rattle.ob_base.specs.Causes.{Rose}
 use Rattle.ob_io.specs.Streams.{Flow}
-use Rattle.ob_report.specs.Printed.{IsPrinted}
-use Rattle.ob_report.specs.Report.{report}
 use Rattle.ob_store.specs.declared.event.Event.{Event}
 use Rattle.ob_store.specs.Disk.{Disk, Image}
 use Rattle.ob_store.specs.Images.{LeavesOnly, IsSynced}
@@ -39,7 +36,7 @@ use Rattle.ob_script.specs.Script.{ScriptTxn, Scripts, AreSound, asks_by}
 use Rattle.ob_desk.specs.Desk.{DeskState, MayOpen, Run, new_desk}
 use Rattle.ob_conduct.specs.Acts.{Act, Says, Halts, Rests as Looked, Takes, Delivers, DeliverFails, FetchFails, Closes, Publishes, Refuses, Unprinted, calls, history, vault_calls, rest_fetches, fault_in, fault_told, records as records_of_acts}
 use Rattle.ob_conduct.specs.Scenes.{scene, RunState, run_state, RunnerKind}
-use Rattle.ob_conduct.specs.Records.{IsWritten, AreAnswered, AreWritten, HoldsMap, contents}
+use Rattle.ob_conduct.specs.Records.{AreAnswered, AreWritten, HoldsMap, contents, fault_of}
 use Rattle.ob_conduct.specs.Moves.{Failure, IsReason, AreLines}
 use Rattle.ob_conduct.specs.Conducted.{Conducted, RunEnds}
 use Rattle.ob_run.specs.Threaded.{RunsBy, AreShaped}
@@ -47,14 +44,14 @@ use Rattle.ob_run.proofs.Shapes.{runs_shaped}
 use Rattle.ob_conduct.specs.Left.{Rests, OnlyNow, IsLeftStanding, TellsDoubt, IsNextOf, IsThisOrNext, Stages, next_at}
 use Rattle.ob_conduct.proofs.Leaving.{run_leaves}
 use Rattle.ob_conduct.proofs.Moving.{goes_all, called}
-use Rattle.ob_conduct.proofs.Acting.{written_none, answered_rest}
+use Rattle.ob_conduct.proofs.Acting.{answered_rest}
 use Rattle.ob_conduct.proofs.Going.{answered_join}
 use Rattle.ob_conduct.proofs.Behind.{asks_before}
 use Rattle.ob_conduct.proofs.Conducting.{due_epoch, due_in_order, due_one_by_one}
 use Rattle.ob_outcomes.specs.Served.{IsServed, ClientsServedAll}
 use Rattle.ob_outcomes.proofs.Whole.{RunsScripts, is_served, its_acts, its_desk, all_served, next_served}
 use Rattle.ob_desk.specs.Beats.{BeatKind}
-use Rattle.ob_top.specs.Runs.{Manner, manner, EndsWith, EndsFor, IsTraced, IsReported, IsLeftOnDisk, StagedFrom, IsNextEpoch, ComesNext, ServedOver, LivesBehind, fault_of}
+use Rattle.ob_top.specs.Runs.{Manner, manner, EndsWith, EndsFor, IsTraced, IsLeftOnDisk, StagedFrom, IsNextEpoch, ComesNext, ServedOver, LivesBehind}
 
 -- an end that was refused ended nothing
 none_ended : (writes : List (ℕ × Option (List ℕ))) (refused : EndErr) → ended_by (End writes, end_answer (Err refused)) ≡ []
@@ -162,7 +159,6 @@ module _ {V S : Type 0} (k : Kind V) (store : StoreKind) (disk : S → Disk) (st
 
     -- How it ended, after these calls: why, what was written, and what was seen.
     pub record Ending (asked : List (VaultCall × VaultAnswer)) (fault : Option Fault) : Type 0 where
-      pub reported : IsReported before after records fault
       pub events : List Event
       pub traced : IsTraced store p (store.public p found) (store.hidden p found) (tape_of last) asked fault events
       pub cause : EndsFor store under p found (disk (store_of start)) traced.behind (shapes asked) (length records) (refused asked) (tape_of last) (disk (store_of first)) (disk (store_of last)) before after fault
@@ -175,13 +171,12 @@ module _ {V S : Type 0} (k : Kind V) (store : StoreKind) (disk : S → Disk) (st
     -- no call was refused
     ends_alone : (asked : List (VaultCall × VaultAnswer)) → AllCalled k first asked last → AreAnswered asked → (fault : Option Fault) →
         ((h : store.Hidden) → EndsFor store under p found (disk (store_of start)) h (shapes asked) (length records) (refused asked) (tape_of last) (disk (store_of first)) (disk (store_of last)) before after fault)
-        → IsReported before after records fault → Ending asked fault
-    ends_alone asked chain all fault cause reported =
+        → Ending asked fault
+    ends_alone asked chain all fault cause =
         let b = behind (store.public p found) (store.hidden p found) [] 0 first asked last begun chain all in
         let none : refused asked ≡ None = answered_not_refused asked (all_answered asked all) in
         record {
           cause = cause b.kept;
-          reported = reported;
           events = events_of_phases (steps_phases store p (store.public p found) b.taken) ++ [];
           traced = record {
             steps = b.taken;
@@ -219,27 +214,12 @@ module _ {V S : Type 0} (k : Kind V) (store : StoreKind) (disk : S → Disk) (st
       cause_of so_far n call (StashFull rows) mid q h s same is rose = subst (λ m. store.causes under p found (disk (store_of start)) (disk (store_of last)) h so_far m (Some call) (tape_of last) (StashFull rows)) is s.why
       cause_of so_far n call SourceFault mid q h s same is rose = subst (λ m. store.causes under p found (disk (store_of start)) (disk (store_of last)) h so_far m (Some call) (tape_of last) SourceFault) is s.why
 
-      -- the output doesn't fail a vault's call
-      all_reported : (store_fault : Fault) (so_far : List Shape) (n : ℕ) (call : VaultCall) (q : store.Public) (h : store.Hidden) (a b : Disk) → Stops store under p found (disk (store_of start)) a b (tape_of last) q h so_far n call store_fault
-          → IsWritten (report decimal records) before after → IsReported before after records (Some store_fault)
-      all_reported SinkFault so_far n call q h a b s written = absurd s.why
-      all_reported Memory so_far n call q h a b s written = written
-      all_reported Usage so_far n call q h a b s written = written
-      all_reported (BadScript line) so_far n call q h a b s written = written
-      all_reported (BadParams field) so_far n call q h a b s written = written
-      all_reported NotStore so_far n call q h a b s written = written
-      all_reported (Damaged cell check kept computed) so_far n call q h a b s written = written
-      all_reported (StoreFault unsure) so_far n call q h a b s written = written
-      all_reported (StashFull rows) so_far n call q h a b s written = written
-      all_reported (Worn number) so_far n call q h a b s written = written
-      all_reported SourceFault so_far n call q h a b s written = written
-
       -- a last call was refused with this fault, behind others that were answered
       cut_short : (front : List (VaultCall × VaultAnswer)) (call : VaultCall) (answer : VaultAnswer) (fault : Fault) → AllCalled k first (front ++ (call, answer) ∷ []) last → AreAnswered front → AreWritten (ended_of front) records
           → refused ((call, answer) ∷ []) ≡ Some call → shapes ((call, answer) ∷ []) ≡ [] → answered ((call, answer) ∷ []) ≡ []
           → ((q : store.Public) (h : store.Hidden) (so_far : List Shape) (n : ℕ) (v : V) (w : V) → At q h so_far n v → Called k v call answer w → Stops store under p found (disk (store_of start)) (disk (store_of v)) (disk (store_of w)) (tape_of w) q h so_far n call fault)
-          → (IsStoreFault fault → Rose (k.disk first).faults (k.disk last).faults) → IsWritten (report decimal records) before after → Ending (front ++ (call, answer) ∷ []) (Some fault)
-      cut_short front call answer fault chain all wrote is none none_answered stops cause written =
+          → (IsStoreFault fault → Rose (k.disk first).faults (k.disk last).faults) → Ending (front ++ (call, answer) ∷ []) (Some fault)
+      cut_short front call answer fault chain all wrote is none none_answered stops cause =
           let (mid, before_last, one) = split first front call answer last chain in
           let b = behind (store.public p found) (store.hidden p found) [] 0 first front mid begun before_last all in
           let q = public_behind store p (store.public p found) b.taken in
@@ -251,7 +231,6 @@ module _ {V S : Type 0} (k : Kind V) (store : StoreKind) (disk : S → Disk) (st
             cause = subst (λ (l : List Shape). EndsFor store under p found (disk (store_of start)) b.kept l (length records) (refused (front ++ (call, answer) ∷ [])) (tape_of last) (disk (store_of first)) (disk (store_of last)) before after (Some fault)) (sym as_front)
                 (subst (λ (o : Option VaultCall). EndsFor store under p found (disk (store_of start)) b.kept (shapes front) (length records) o (tape_of last) (disk (store_of first)) (disk (store_of last)) before after (Some fault)) (sym was_cut)
                 (cause_of (shapes front) (0 + length (ended_of front)) call fault mid q b.kept s refl (none_before (length (ended_of front)) ∙ counted (ended_of front) records wrote) cause));
-            reported = all_reported fault (shapes front) (0 + length (ended_of front)) call q b.kept (disk (store_of mid)) (disk (store_of last)) s written;
             events = events_of_phases (steps_phases store p (store.public p found) b.taken) ++ s.more;
             traced = record {
               steps = b.taken;
@@ -274,15 +253,15 @@ module _ {V S : Type 0} (k : Kind V) (store : StoreKind) (disk : S → Disk) (st
 
       -- a refused batch, and a refused end
       by_fetch : (front : List (VaultCall × VaultAnswer)) (keys : List (Option ℕ)) (fault : Fault) → AllCalled k first (front ++ (Fetch keys, RefusedBy fault) ∷ []) last → AreAnswered front → AreWritten (ended_of front) records
-          → (IsStoreFault fault → Rose (k.disk first).faults (k.disk last).faults) → IsWritten (report decimal records) before after → Ending (front ++ (Fetch keys, RefusedBy fault) ∷ []) (Some fault)
-      by_fetch front keys fault chain answered wrote cause written = cut_short front (Fetch keys) (RefusedBy fault) fault chain answered wrote refl refl refl (λ q h so_far n v w at one. does q h so_far n v (Fetch keys) (RefusedBy fault) w at one) cause written
+          → (IsStoreFault fault → Rose (k.disk first).faults (k.disk last).faults) → Ending (front ++ (Fetch keys, RefusedBy fault) ∷ []) (Some fault)
+      by_fetch front keys fault chain answered wrote cause = cut_short front (Fetch keys) (RefusedBy fault) fault chain answered wrote refl refl refl (λ q h so_far n v w at one. does q h so_far n v (Fetch keys) (RefusedBy fault) w at one) cause
 
       by_end : (front : List (VaultCall × VaultAnswer)) (writes : List (ℕ × Option (List ℕ))) (refusal : EndErr) → AllCalled k first (front ++ (End writes, end_answer (Err refusal)) ∷ []) last → AreAnswered front → AreWritten (ended_of front) records
-          → (IsStoreFault (fault_in refusal) → Rose (k.disk first).faults (k.disk last).faults) → IsWritten (report decimal records) before after → Ending (front ++ (End writes, end_answer (Err refusal)) ∷ []) (Some (fault_in refusal))
-      by_end front writes (Before fault) chain answered wrote cause written = cut_short front (End writes) (RefusedBy fault) fault chain answered wrote refl refl refl (λ q h so_far n v w at one. does q h so_far n v (End writes) (RefusedBy fault) w at one) cause written
-      by_end front writes (Unsure fault) chain answered wrote cause written = cut_short front (End writes) (DoubtBy fault) fault chain answered wrote refl refl refl (λ q h so_far n v w at one. does q h so_far n v (End writes) (DoubtBy fault) w at one) cause written
+          → (IsStoreFault (fault_in refusal) → Rose (k.disk first).faults (k.disk last).faults) → Ending (front ++ (End writes, end_answer (Err refusal)) ∷ []) (Some (fault_in refusal))
+      by_end front writes (Before fault) chain answered wrote cause = cut_short front (End writes) (RefusedBy fault) fault chain answered wrote refl refl refl (λ q h so_far n v w at one. does q h so_far n v (End writes) (RefusedBy fault) w at one) cause
+      by_end front writes (Unsure fault) chain answered wrote cause = cut_short front (End writes) (DoubtBy fault) fault chain answered wrote refl refl refl (λ q h so_far n v w at one. does q h so_far n v (End writes) (DoubtBy fault) w at one) cause
 
-      module _ (acts : List Act) (same : records_of_acts acts ≡ records) (chain : AllCalled k first (calls acts) last) (wrote : AreWritten (ended_of (calls acts)) records) (printed : IsPrinted before after (report decimal records)) where
+      module _ (acts : List Act) (same : records_of_acts acts ≡ records) (chain : AllCalled k first (calls acts) last) (wrote : AreWritten (ended_of (calls acts)) records) where
         module _ (d e : DeskState) (t u : Trace) (fault : Fault) (f : Failure k (scene d first t) (scene e last u) acts before after fault) where
           its_calls : (act : Act) → f.act ≡ act → calls acts ≡ calls f.front ++ vault_calls act
           its_calls act is = asks_before acts f.front act f.behind (f.acts_are ∙ ap (λ (x : Act). f.front ++ x ∷ f.behind) is) f.says
@@ -304,16 +283,16 @@ module _ {V S : Type 0} (k : Kind V) (store : StoreKind) (disk : S → Disk) (st
           told_by act given is tells = same_Some fault given (sym f.told ∙ ap fault_told is ∙ tells)
 
           by_act : (act : Act) → f.act ≡ act → IsReason k (scene d first t) f.front act → AreLines act records before after → Ending (calls acts) (Some fault)
-          by_act (Halts given) is reason lines = its_fault (Halts given) Memory is (ap Some reason) (ends_alone (calls acts) chain (answered_all (Halts given) is refl) (Some Memory) (λ h. tt) lines)
+          by_act (Halts given) is reason lines = its_fault (Halts given) Memory is (ap Some reason) (ends_alone (calls acts) chain (answered_all (Halts given) is refl) (Some Memory) (λ h. tt))
           by_act Unprinted is reason lines = its_fault Unprinted SinkFault is refl
-              (ends_alone (calls acts) chain (answered_all Unprinted is refl) (Some SinkFault) (λ h. rose_later before.faults lines.mid.faults after.faults lines.written.later lines.rose) printed)
+              (ends_alone (calls acts) chain (answered_all Unprinted is refl) (Some SinkFault) (λ h. rose_later before.faults lines.mid.faults after.faults lines.written.later lines.rose))
           by_act (DeliverFails keys given) is reason lines = by_last (calls f.front) (Fetch keys) (RefusedBy given) given (told_by (DeliverFails keys given) given is refl) (its_calls (DeliverFails keys given) is) refl
-              (λ c w cause. by_fetch (calls f.front) keys given c f.answered w cause lines)
+              (λ c w cause. by_fetch (calls f.front) keys given c f.answered w cause)
           by_act (FetchFails look batches keys given) is reason lines = by_last (calls f.front ++ rest_fetches batches) (Fetch keys) (RefusedBy given) given (told_by (FetchFails look batches keys given) given is refl)
               (its_calls (FetchFails look batches keys given) is ∙ sym (append_assoc (calls f.front) (rest_fetches batches) ((Fetch keys, RefusedBy given) ∷ []))) refl
-              (λ c w cause. by_fetch (calls f.front ++ rest_fetches batches) keys given c (answered_join (calls f.front) (rest_fetches batches) f.answered (subst AreAnswered (append-nil (rest_fetches batches)) (answered_rest batches [] tt))) w cause lines)
+              (λ c w cause. by_fetch (calls f.front ++ rest_fetches batches) keys given c (answered_join (calls f.front) (rest_fetches batches) f.answered (subst AreAnswered (append-nil (rest_fetches batches)) (answered_rest batches [] tt))) w cause)
           by_act (Refuses writes refusal) is reason lines = by_last (calls f.front) (End writes) (end_answer (Err refusal)) (fault_in refusal) (told_by (Refuses writes refusal) (fault_in refusal) is refl) (its_calls (Refuses writes refusal) is) (none_ended writes refusal)
-              (λ c w cause. by_end (calls f.front) writes refusal c f.answered w cause lines)
+              (λ c w cause. by_end (calls f.front) writes refusal c f.answered w cause)
           by_act (Says client steps) is reason lines = absurd reason
           by_act (Looked look) is reason lines = absurd reason
           by_act (Takes look keys) is reason lines = absurd reason
@@ -322,10 +301,9 @@ module _ {V S : Type 0} (k : Kind V) (store : StoreKind) (disk : S → Disk) (st
           by_act (Publishes writes left told) is reason lines = absurd reason
 
         ending : {U : Type 0} (d e : DeskState) (t u : Trace) (were are : List U) (result : Result (Unit {0}) Fault) → RunEnds k (run_state (scene d first t) were before) (run_state (scene e last u) are after) acts result → Ending (calls acts) (fault_of result)
-        ending d e t u were are (Ok done) (answered, over, written) = ends_alone (calls acts) chain answered None (λ h. tt) (subst (λ (rs : List (EpochRecord ℕ)). IsWritten (report decimal rs) before after) same written)
+        ending d e t u were are (Ok done) (answered, over, written) = ends_alone (calls acts) chain answered None (λ h. tt)
         ending d e t u were are (Err fault) (inl short) = subst (λ (f : Fault). Ending (calls acts) (Some f)) (sym short.fault_is)
-            (ends_alone (calls acts) chain (subst (λ (xs : List Act). AreAnswered (calls xs)) (sym short.none) tt) (Some Memory) (λ h. tt)
-            (subst (λ (f : Flow). IsWritten (report decimal records) before f) (sym short.silent) (subst (λ (rs : List (EpochRecord ℕ)). IsWritten (report decimal rs) before before) (sym (ap records_of_acts short.none) ∙ same) (written_none before))))
+            (ends_alone (calls acts) chain (subst (λ (xs : List Act). AreAnswered (calls xs)) (sym short.none) tt) (Some Memory) (λ h. tt))
         ending d e t u were are (Err fault) (inr f) = by_act d e t u fault f f.act refl f.reason (subst (λ (rs : List (EpochRecord ℕ)). AreLines f.act rs before after) same f.lines)
 
   -- what the lender knows of a vault's words
@@ -389,7 +367,7 @@ module _ {V S : Type 0} (k : Kind V) (store : StoreKind) (disk : S → Disk) (st
       staged_stores at (r ∷ told) next from to (mid, leaves, rest) = (store_of mid, as_stored (IsThisOrNext at (Some r)) from mid leaves, staged_stores (next_at at r) told next mid to rest)
 
       left : (at : Standing) → (disk (store_of start)).tells → IsSynced (disk (store_of start)) → IsOpenedAt store under p at found (disk (store_of start))
-          → IsLeftOnDisk store under p found at script records (fault_of result) disk (disk (store_of start)) (disk (store_of last))
+          → IsLeftOnDisk store under p found at script records (fault_of result) acts disk (disk (store_of start)) (disk (store_of last))
       left at tells settled opened =
           let v = opened_with p (store.left p found) at in
           let same : at.epoch ≡ store.epoch found = sym opened.epoch in
@@ -397,6 +375,7 @@ module _ {V S : Type 0} (k : Kind V) (store : StoreKind) (disk : S → Disk) (st
           record {
             next = by.next;
             is_next = comes_next at.epoch same by.next by.is_next;
+            closed = by.by_acts;
             since = weakened (disk (store_of start)) (disk (store_of last)) (StandsIn (k.stands start) (IsLeftStanding v records by.next)) (StandsIn (store.stands under p (store.generation found)) (IsLeftStanding v records by.next))
                 (λ c is. standing_in c (λ s x. x) is) (l.since start last (StandsIn (k.stands start) (IsLeftStanding v records by.next)) by.since);
             stages = staged_stores at records by.next start last by.stages;
@@ -437,7 +416,7 @@ module _ {V S : Type 0} (k : Kind V) (store : StoreKind) (disk : S → Disk) (st
       -- what serving does
       pub serves : At (store.public p found) (store.hidden p found) [] 0 start → ServedOver store life disk (manner beat threads) under p found sealing script (tape_of last) (store_of start) (store_of last) before after (fault_of result)
       serves begun =
-          let e = ending start last before after records begun l.faults acts refl chain d.wrote d.printed base end.scene.desk trace end.scene.trace runners end.runners result d.ends in
+          let e = ending start last before after records begun l.faults acts refl chain d.wrote base end.scene.desk trace end.scene.trace runners end.runners result d.ends in
           let told = subst (λ (xs : List Act). TracesLife xs e.events) acts_are (e.traced, e.goes_on, e.cause) in
           record {
             records = records;
@@ -451,12 +430,13 @@ module _ {V S : Type 0} (k : Kind V) (store : StoreKind) (disk : S → Disk) (st
               one_by_one = λ m of. d.one_by_one m (l.holds m of);
             };
             cause = told.2;
-            reported = e.reported;
+            whole = d.whole;
+            lines = d.lines;
             events = e.events;
             traced = told.0;
             seen = e.seen;
             goes = l.goes start last (goes_all k start (calls acts) d.notes last d.chain);
-            left = left;
+            left = λ at tells settled opened. subst (λ (xs : List Act). IsLeftOnDisk store under p found at script records (fault_of result) xs disk (disk (store_of start)) (disk (store_of last))) acts_are (left at tells settled opened);
             lives = subst (λ (xs : List Act). LivesBehind disk under sealing (store_of start) (store_of last) (map (λ s. s.1) (calls xs))) acts_are (l.lives last (calls acts) chain);
             goes_on = told.1;
           }

@@ -1,5 +1,5 @@
 -- What `run` does.
-use Rattle.std.specs.Prelude.{ℕ, suc, Bool, ◌≡◌, ◌⊎◌, ◌+◌, All, List, [], ◌∷◌, ◌++◌, length, map, Option, Some, None, Result, Ok, Err, decimal}
+use Rattle.std.specs.Prelude.{ℕ, suc, Bool, ◌≡◌, ◌⊎◌, ◌+◌, All, List, [], ◌∷◌, ◌++◌, length, map, Option, Some, None, Err, decimal}
 use Rattle.std.specs.Ordering.{nat_cmp}
 use Rattle.ob_base.specs.declared.params.Params.{Params}
 use Rattle.ob_seal.specs.declared.keys.Keys.{Keys}
@@ -30,11 +30,11 @@ use Rattle.ob_desk.specs.Beats.{BeatKind}
 use Rattle.ob_script.specs.Script.{Scripts, IsScript, IsFirstBad, limit}
 use Rattle.ob_conduct.specs.Acts.{Act, calls, history, fault_told}
 use Rattle.ob_conduct.specs.Moves.{IsSaid}
-use Rattle.ob_conduct.specs.Records.{IsWritten, IsOver, contents}
-use Rattle.ob_conduct.specs.Left.{IsLeftStanding, IsLeftNow, IsThisOrNext, next_at}
+use Rattle.ob_conduct.specs.Records.{IsOver, LinesStand, contents}
+use Rattle.ob_conduct.specs.Left.{IsLeftStanding, IsNextBy, IsLeftNow, IsThisOrNext, next_at}
 use Rattle.ob_run.specs.Threaded.{AreShaped}
 use Rattle.ob_outcomes.specs.Served.{IsServed, ClientsServed, ClientsServedAll}
-use Rattle.ob_top.specs.Outside.{Outside}
+use Rattle.ob_top.specs.Outside.{Outside, LineTold}
 
 -- What is seen of the opening: the head's read, and the order that the kind of store gives.
 abbrev pub begin_events : (store : StoreKind) → Params → store.Found → store.Start → List Event
@@ -156,11 +156,6 @@ pub record ScriptServed (store : StoreKind) (by : Manner) (keys : Keys) (p : Par
   pub fed : (m : Map nat_cmp) → store.is_map keys p opened found m → Run m (new_desk (record { params = p }) (suc (store.epoch found)) (store.left p found) script.clients) (history served.acts) (contents m records) served.desk
   pub one_by_one : (m : Map nat_cmp) → store.is_map keys p opened found m → OneByOne nat_cmp m (committed_of records) (contents m records)
 
--- The whole report is written, unless the output failed.
-abbrev pub IsReported : Flow → Flow → List (EpochRecord ℕ) → Option Fault → Type 0
-IsReported before after records (Some SinkFault) = IsPrinted before after (report decimal records)
-IsReported before after records _ = IsWritten (report decimal records) before after
-
 -- The record is that of the next epoch: with it too each client's transactions are a front of its script's, and those that its close
 -- kept run one by one behind the committed ones.
 pub record ComesNext (store : StoreKind) (keys : Keys) (p : Params) (opened : Disk) (found : store.Found) (epoch : ℕ) (script : Scripts) (records : List (EpochRecord ℕ)) (r : EpochRecord ℕ) : Type 0 where
@@ -193,28 +188,35 @@ module _ (store : StoreKind) (keys : Keys) (p : Params) (found : store.Found) (a
   abbrev pub IsDoubt : Type 0
   IsDoubt = fault ≡ Some (StoreFault (Some (suc at.epoch + length records)))
 
-  -- What a crash leaves of the store, from when it was opened at an epoch and its map: an image that stands for a front of the records
-  -- laid over that map, or for all of them and the epoch whose end was begun. At the return it stands for all of them, or, only where that
-  -- is answered, for the epoch in doubt as well; so for none below the last one that is reported.
-  pub record IsLeftOnDisk {S : Type 0} (disk : S → Disk) (old new : Disk) : Type 0 where
-    pub next : Option (EpochRecord ℕ)
-    pub is_next : IsNextEpoch store keys p old found (suc at.epoch + length records) script records next
-    pub since : LeavesOnly old new (StandsNow (IsLeftStanding held records next))
-    pub stages : StagedFrom disk at records next old new
-    pub now : (c : Image) → new.may_leave c → StandsNow (IsLeftNow held records next IsDoubt) c
+  module _ (acts : List Act) where
+    -- the epoch whose end was begun last is the one that the desk had closed, as these acts tell
+    abbrev pub IsClosedNext : Option (EpochRecord ℕ) → Type 0
+    IsClosedNext next = IsNextBy (new_desk (record { params = p }) (suc (store.epoch found)) (store.left p found) script.clients) acts next
 
-  -- What a crash leaves of a whole run: of the opening, from old to opened, and of serving, from then on to new.
-  pub record LeftByWholeRun {S : Type 0} (disk : S → Disk) (old opened new : Disk) : Type 0 where
-    pub next : Option (EpochRecord ℕ)
-    pub is_next : IsNextEpoch store keys p opened found (suc at.epoch + length records) script records next
-    -- until the store is opened, an image that stands as one did before;
-    pub opening : LeavesOnly old opened (StandsAsBefore store keys p old)
-    -- from then on, only one that stands as served, and from each epoch's end on for that epoch at least;
-    pub stages : StagedFrom disk at records next opened new
-    -- so one of them at any moment of the call;
-    pub since : LeavesOnly old new (λ c. StandsAsBefore store keys p old c ⊎ StandsNow (IsLeftStanding held records next) c)
-    -- and at its return
-    pub now : (c : Image) → new.may_leave c → StandsNow (IsLeftNow held records next IsDoubt) c
+    -- What a crash leaves of the store, from when it was opened at an epoch and its map: an image that stands for a front of the records
+    -- laid over that map, or for all of them and the epoch whose end was begun. At the return it stands for all of them, or, only where that
+    -- is answered, for the epoch in doubt as well; so for none below the last one that is reported.
+    pub record IsLeftOnDisk {S : Type 0} (disk : S → Disk) (old new : Disk) : Type 0 where
+      pub next : Option (EpochRecord ℕ)
+      pub is_next : IsNextEpoch store keys p old found (suc at.epoch + length records) script records next
+      pub closed : IsClosedNext next
+      pub since : LeavesOnly old new (StandsNow (IsLeftStanding held records next))
+      pub stages : StagedFrom disk at records next old new
+      pub now : (c : Image) → new.may_leave c → StandsNow (IsLeftNow held records next IsDoubt) c
+
+    -- What a crash leaves of a whole run: of the opening, from old to opened, and of serving, from then on to new.
+    pub record LeftByWholeRun {S : Type 0} (disk : S → Disk) (old opened new : Disk) : Type 0 where
+      pub next : Option (EpochRecord ℕ)
+      pub is_next : IsNextEpoch store keys p opened found (suc at.epoch + length records) script records next
+      pub closed : IsClosedNext next
+      -- until the store is opened, an image that stands as one did before;
+      pub opening : LeavesOnly old opened (StandsAsBefore store keys p old)
+      -- from then on, only one that stands as served, and from each epoch's end on for that epoch at least;
+      pub stages : StagedFrom disk at records next opened new
+      -- so one of them at any moment of the call;
+      pub since : LeavesOnly old new (λ c. StandsAsBefore store keys p old c ⊎ StandsNow (IsLeftStanding held records next) c)
+      -- and at its return
+      pub now : (c : Image) → new.may_leave c → StandsNow (IsLeftNow held records next IsDoubt) c
 
 -- The head was read, and then the store was opened with this sealer.
 pub record IsReadAndOpened {S : Type 0} (disk : S → Disk) (keys : Keys) (old new : S) (sealing : Sealing) : Type 0 where
@@ -230,13 +232,15 @@ LivesBehind {S} disk keys sealing opened new answers = (old : S) → ((disk open
 pub record ServedOver (store : StoreKind) (life : LifeWords store) {S : Type 0} (disk : S → Disk) (by : Manner) (keys : Keys) (p : Params) (found : store.Found) (sealing : Sealing) (script : Scripts) (words : List ℕ) (old new : S) (before after : Flow) (fault : Option Fault) : Type 0 where
   pub records : List (EpochRecord ℕ)
   pub is_served : ScriptServed store by keys p (disk old) found script records fault
-  pub reported : IsReported before after records fault
+  -- all lines of so many records stand
+  pub whole : ℕ
+  pub lines : LinesStand fault records whole before after
   pub events : List Event
   pub traced : IsTraced store p (store.public p found) (store.hidden p found) words (calls is_served.served.acts) fault events
   pub cause : EndsFor store keys p found (disk old) traced.behind (shapes (calls is_served.served.acts)) (length records) (refused (calls is_served.served.acts)) words (disk old) (disk new) before after fault
   pub seen : Notes events (disk old).seen (disk new).seen
   pub goes : GoesOn (disk old) (disk new)
-  pub left : (at : Standing) → (disk old).tells → IsSynced (disk old) → IsOpenedAt store keys p at found (disk old) → IsLeftOnDisk store keys p found at script records fault disk (disk old) (disk new)
+  pub left : (at : Standing) → (disk old).tells → IsSynced (disk old) → IsOpenedAt store keys p at found (disk old) → IsLeftOnDisk store keys p found at script records fault is_served.served.acts disk (disk old) (disk new)
   pub lives : LivesBehind disk keys sealing old new (map (λ s. s.1) (calls is_served.served.acts))
   pub goes_on : life.goes_on keys p found (disk old) (answered (calls is_served.served.acts)) traced.steps traced.behind (refused (calls is_served.served.acts)) words (disk new)
 
@@ -264,7 +268,7 @@ module _ (store : StoreKind) (life : LifeWords store) {S : Type 0} (disk : S →
     -- crash might have left stood too, each that a crash leaves stands as one did before, until the store is opened, and then as served.
     pub stood : (at : Standing) → (disk old).tells → Stands store keys p (disk old).cells at → IsOpenedAt store keys p at found (disk between)
     pub left : (at : Standing) → (disk old).tells → Stands store keys p (disk old).cells at → AllStand store keys p (disk old)
-        → LeftByWholeRun store keys p found at script records fault disk (disk old) (disk between) (disk new)
+        → LeftByWholeRun store keys p found at script records fault is_served.served.acts disk (disk old) (disk between) (disk new)
     -- The head's read, the opening and the vault's calls, with their answers, are a run in the life of the store.
     pub lives : (disk new).tells → LivesOn disk keys old new (map (λ s. s.1) (calls is_served.served.acts))
     -- What is shown is a part of one life of the store: each life that the cells stood for goes on with the opening's acts to where this was
@@ -281,7 +285,9 @@ module _ (store : StoreKind) (life : LifeWords store) {S : Type 0} (disk : S →
   -- What it comes to before the fault's line is written.
   pub record RunOn (keys : Keys) (old new : S) (before after : Outside) (fault : Option Fault) : Type 0 where
     pub records : List (EpochRecord ℕ)
-    pub reported : IsReported before.output after.output records fault
+    -- all lines of so many of them stand
+    pub whole : ℕ
+    pub lines : LinesStand fault records whole before.output after.output
     pub went : Went keys old new before after records fault
 
   -- What `run` has done with a store that was handed in.
@@ -293,9 +299,10 @@ module _ (store : StoreKind) (life : LifeWords store) {S : Type 0} (disk : S →
     pub records : List (EpochRecord ℕ)
     pub output_is : IsPrinted before.output after.output (report decimal records ++ fault_line fault)
     pub all_written : fault ≡ None → after.output.bytes ≡ appended before.output.bytes (report decimal records)
+    -- Before the fault's line all lines of so many records stand: of each one; but where the output failed, of all but the last one, at
+    -- whose lines it did. Then nothing more is written.
+    pub whole : ℕ
+    pub written : Flow
+    pub lines : LinesStand fault records whole before.output written
+    pub line : LineTold written after.output fault
     pub went : Went keys old new before after records fault
-
--- the fault of an answer
-abbrev pub fault_of : Result (Unit {0}) Fault → Option Fault
-fault_of (Ok done) = None
-fault_of (Err fault) = Some fault

@@ -19,11 +19,12 @@ stands_empty keys p drawn c stands = ring_stands keys p (formatted_standing p dr
 
 pub ring_formats : {S : Type 0} (disk : S → Disk) → RingFormats disk
 ring_formats disk = record {
-  made = λ keys p drawn old new seen stands images durable. record {
+  made = λ keys p drawn old new seen stands images durable closed. record {
     seen = seen;
     stands = λ tells. stands_empty keys p drawn (disk new).cells (stands tells);
     images = λ tells c left. stands_empty keys p drawn c (images tells c left);
     durable = durable;
+    lays = closed;
   };
   leaves = λ keys p drawn old new leaves. weakened (disk old) (disk new) (RingFormatLeaves keys p drawn (disk old)) (ring_kind.format_leaves keys p (disk old)) (λ c is. (drawn, is)) leaves;
 }

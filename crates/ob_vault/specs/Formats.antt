@@ -18,3 +18,4 @@ pub record MakesEmpty (store : StoreKind) (keys : Keys) (p : Params) (old new : 
   pub stands : old.tells → store.stands keys p 1 new.cells beginning
   pub images : old.tells → (c : Image) → new.may_leave c → store.stands keys p 1 c beginning
   pub durable : old.tells → IsSynced new
+  pub lays : old.tells → store.format_lays p new.cells

@@ -25,7 +25,7 @@ use Rattle.ob_start.specs.Heads.{IsHead, IsHeadFault, IsHeadRead}
 use Rattle.ob_store.specs.Disk.{Disk, Image}
 use Rattle.ob_store.specs.Told.{events_of}
 use Rattle.ob_twin.specs.declared.gates.Gates.{Gates}
-use Rattle.ob_opening.specs.Formats.{RingFormatLeaves}
+use Rattle.ob_opening.specs.Formats.{HasClosedLogs, RingFormatLeaves}
 use Rattle.ob_opening.specs.OpeningActs.{AreGatesIn}
 use Rattle.ob_opening.specs.Openings.{IsOpenFault, IsOpenRefusal, IsStandingRefusal, fresh_sealer}
 use Rattle.ob_vault.specs.Causes.{IsCallWorn, IsRingWorn, IsSlotDamage, IsStashFull, RingLasts}
@@ -107,6 +107,7 @@ ring_kind = record {
   stands = StandsRing;
   cells = ring_cells;
   format_order = λ p. events_of (format_notes p);
+  format_lays = HasClosedLogs;
   format_leaves = λ keys p old image. (drawn : List ℕ) × RingFormatLeaves keys p drawn old image;
   format_fault = λ refused. refused ≡ fault.Memory;
   Found = RingFound;
