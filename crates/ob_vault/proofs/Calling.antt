@@ -530,7 +530,7 @@ module _ {V S : Type 0} (k : Kind V) (disk : S → Disk) (runs : V → Running S
         behind = with_next p h (r q h so_far n v w at asks one.notes);
         draws = (
           draws_batch disk (runs v) (runs w) one.notes p h at.params at.planned at.generation at.tape is.run asks is.whole (is_next q h so_far n v w at) (is.draws).many_are
-          (words_left q h so_far n v w at asks one.notes is (λ none. none)) at.sealed (seals_left q h so_far n v w at asks one.notes is (λ none. none)),
+              (words_left q h so_far n v w at asks one.notes is (λ none. none)) at.sealed (seals_left q h so_far n v w at asks one.notes is (λ none. none)),
           fit q h so_far n v w at asks one.notes is,
         );
         seen = whole_row q h so_far n v w at (batch_row q h so_far n v w at rs') one.notes Fetches (fills_of p h.content rs') (batch_is q h so_far n v w at rs') (is.scheduled h.content h.records at.planned (is_next q h so_far n v w at));

@@ -3,7 +3,7 @@ use Rattle.std.proofs.Common.{◌≡◌, ◌∙◌, ◌+◌, ◌^◌, ◌<◌, �
 use Rattle.ob_base.specs.Layout.{record_cells}
 use Rattle.ob_base.specs.declared.params.Params.{Params}
 use Rattle.ob_base.specs.declared.value.Write.{Write}
-use Rattle.ob_end.specs.EndRuns.{end_writes, seals_for_end, table_ended, words_for_end}
+use Rattle.ob_end.specs.EndRuns.{end_writes, rows_ended, seals_for_end, table_ended, words_for_end}
 use Rattle.ob_fetch.proofs.NextLaws.{stands_listed}
 use Rattle.ob_fetch.specs.Fetches.{next_batch}
 use Rattle.ob_recover.specs.Repeats.{content_of_ring, entries_after_records}
@@ -86,6 +86,7 @@ module _ {S : Type 0} (disk : S → Disk) (old new : Running S) (notes : List No
       words = drawn;
       many = (one.draws t stands).many_are;
       few = subst (λ (n : ℕ). n + words_for_end own t ≤ 2 ^ 62) many_before ((one.answers t stands).has).words;
+      few_rows = subst (λ (ws : List (Write × Entry)). rows_ended own t ws ≤ own.room) writes_same (one.answers t stands).rows;
       few_seals = subst (λ (n : ℕ). n + seals_for_end own t ≤ 2 ^ 62) sealed (one.answers t stands).seals;
       fills = refl;
       ended = content_ended;

@@ -40,5 +40,6 @@ module _ (p : Params) (drawn : List ℕ) (many : length drawn ≡ format_words p
   formats keys new life = (
     (λ u. order_by u (cases_lt u (buckets p))),
     (λ u. is_ranking u (cases_lt u (buckets p))),
+    (λ b none. absurd none),
     (λ word_of c left. life word_of (λ u. order_by u (cases_lt u (buckets p))) c (λ u j low few. order_is u j (cases_lt u (buckets p)) low) left),
   )

@@ -117,11 +117,12 @@ module _ {S : Type 0} (disk : S → Disk) (keys : Keys) (p : Params) (word_of : 
       let (first, life, stands, small, is) = stopped_next s (disk new) o here.1 (disk (begun_at part)).cells (from.2).0 in
       join s (Stopped old new) (part ∷ parts) first life is (runs (part ∷ parts) (reached p word_of s first) (disk new).may_leave (stands, small) from.2 given)
 
-  formatted_here : (made : Disk) (slot : ℕ → ℕ → ℕ) → ((c : Image) → made.may_leave c → StandsInLife keys p word_of (formatted_life slot) c) → (parts : List (RunPart S)) → AreRunsFrom disk keys p made.may_leave parts → Here (formatted_life slot) parts
-  formatted_here made slot stands [] from = tt
-  formatted_here made slot stands (part ∷ parts) from = (stands (disk (begun_at part)).cells from.0, λ b none. absurd none)
+  formatted_here : (made : Disk) (slot : ℕ → ℕ → ℕ) → ((c : Image) → made.may_leave c → StandsInLife keys p word_of (formatted_life slot) c) → AreBatchesSmall (formatted_life slot).log → (parts : List (RunPart S)) → AreRunsFrom disk keys p made.may_leave parts
+      → Here (formatted_life slot) parts
+  formatted_here made slot stands small [] from = tt
+  formatted_here made slot stands small (part ∷ parts) from = (stands (disk (begun_at part)).cells from.0, small)
 
 pub runs_are_one_life : {S : Type 0} (disk : S → Disk) → RunsAreOneLife disk
-runs_are_one_life disk keys p made parts (slot, ranked, stands) from word_of given =
-    let all = runs disk keys p word_of parts (formatted_life slot) (disk made).may_leave (formatted_here disk keys p word_of (disk made) slot (λ c left. stands word_of c left) parts from) from given in
+runs_are_one_life disk keys p made parts (slot, ranked, small, stands) from word_of given =
+    let all = runs disk keys p word_of parts (formatted_life slot) (disk made).may_leave (formatted_here disk keys p word_of (disk made) slot (λ c left. stands word_of c left) small parts from) from given in
     record { slot = slot; acts = all.acts; is_life = all.is_life; parts_are = all.parts_are; fresh = λ some. lives_are_fresh p word_of slot all.acts some ranked all.is_life }

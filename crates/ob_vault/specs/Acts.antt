@@ -35,10 +35,11 @@ use Rattle.ob_opening.specs.declared.opening.Opening.{Opening}
 abbrev pub AreTapeWords : (WordId → ℕ) → (generation : ℕ) → List ℕ → Type 0
 AreTapeWords word_of generation drawn = (i : ℕ) → i < length drawn → word_of (record { generation = generation; place = i }) ≡ slice_index drawn i
 
--- the places of a batch's words are below 2^64, and those of each batch
+-- the places of a batch's words are below 2^64
 abbrev pub IsBatchSmall : LifeBatch → Type 0
 IsBatchSmall b = (b.first).place + length b.asks ≤ 2 ^ 64
 
+-- The same of each batch of a log. It holds of the empty log with which a life begins, and each run hands it on to the next.
 abbrev pub AreBatchesSmall : List LifeBatch → Type 0
 AreBatchesSmall bs = (b : LifeBatch) → Has bs b → IsBatchSmall b
 

@@ -9,7 +9,7 @@ use Rattle.ob_base.specs.Tree.{buckets}
 use Rattle.ob_tables.specs.Buckets.{version_at}
 use Rattle.ob_tables.specs.Rank.{ranks_of}
 use Rattle.ob_tables.specs.Content.{Content, Obeys}
-use Rattle.ob_end.specs.EndRuns.{EndAnswers, EndDraws, end_writes, seals_for_end, table_ended, words_for_end}
+use Rattle.ob_end.specs.EndRuns.{EndAnswers, EndDraws, end_writes, rows_ended, seals_for_end, table_ended, words_for_end}
 use Rattle.ob_end.specs.Shown.{before_gate, end_lifts, up_to_gate}
 use Rattle.ob_fetch.specs.Fetches.{FetchDraws, words_since}
 use Rattle.ob_stand.specs.Table.{flat_of}
@@ -88,7 +88,8 @@ pub record IsContentEnded (p : Params) (h : RingHidden) (writes : List Write) (w
   pub others : (u : ℕ) → is_one_of (refill_order p (after p (table_hidden p h) FinalLifts)) u ≡ false → (version_at ended.versions u).ranks ≡ (version_at (h.content).versions u).ranks
 
 -- It comes behind all batches of its epoch, and there is such an epoch. Its lifts are filled by the slots of the content that the epoch began
--- with; the words that it draws, of which there are so many, make the content behind it; and the seals that it makes are left too.
+-- with; the words that it draws, of which there are so many, make the content behind it, with no more rows in the stash than that may keep;
+-- and the seals that it makes are left too.
 pub record DrawsEnd (p : Params) (h : RingHidden) (writes : List Write) (f : Fills) (behind : RingHidden) : Type 0 where
   pub all : length h.records ≡ p.batches
   pub epochs : suc h.epoch < 2 ^ 62
@@ -96,6 +97,7 @@ pub record DrawsEnd (p : Params) (h : RingHidden) (writes : List Write) (f : Fil
   pub words : List ℕ
   pub many : length words ≡ words_for_end p (table_hidden p h)
   pub few : length h.words + words_for_end p (table_hidden p h) ≤ 2 ^ 62
+  pub few_rows : rows_ended p (table_hidden p h) (end_writes p writes words h.generation (length h.words)) ≤ p.room
   pub few_seals : h.seals + seals_for_end p (table_hidden p h) ≤ 2 ^ 62
   pub fills : f ≡ fills_with_lifts p h.content h.records
   pub ended : IsContentEnded p h writes words behind.content

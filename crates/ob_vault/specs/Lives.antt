@@ -33,9 +33,11 @@ use Rattle.ob_vault.specs.Shown.{AreFilledBy, AreShownBy, IsInLife}
 
 -- ---- a format
 
--- Each image stands for the life that begins, with an order of each bucket's slots, whatever words the tapes will give.
+-- Each image stands for the life that begins, with an order of each bucket's slots and no batch in its log, whatever words the tapes will
+-- give.
 abbrev pub RingFormatted : Keys → Params → Disk → Type 0
-RingFormatted keys p new = (slot : ℕ → ℕ → ℕ) × ((u : ℕ) → IsRanking (p.real + p.dummies) (slot u)) × ((word_of : WordId → ℕ) (c : Image) → new.may_leave c → StandsInLife keys p word_of (formatted_life slot) c)
+RingFormatted keys p new = (slot : ℕ → ℕ → ℕ) × ((u : ℕ) → IsRanking (p.real + p.dummies) (slot u)) × AreBatchesSmall (formatted_life slot).log
+    × ((word_of : WordId → ℕ) (c : Image) → new.may_leave c → StandsInLife keys p word_of (formatted_life slot) c)
 
 -- ---- an opening
 

@@ -144,6 +144,8 @@ module _ {S : Type 0} (disk : S → Disk) (old new : Running S) (notes : List No
 
     pub record FetchCalled (result : Result (Unit {0}) Fault) : Type 0 where
       pub run : KeepsRun
+      -- answered, the store tells its cells again
+      pub tells : OnOk result ((disk old.store).tells → (disk new.store).tells)
       pub some_left : 0 < (old.run).left
       pub whole : length asks ≡ ((old.run).params).places
       pub epoch : (new.run).epoch ≡ (old.run).epoch
@@ -186,6 +188,8 @@ module _ {S : Type 0} (disk : S → Disk) (old new : Running S) (notes : List No
 
     pub record EndCalled (result : Result (Unit {0}) EndErr) : Type 0 where
       pub run : KeepsRun
+      -- answered, the store tells its cells again
+      pub tells : OnOk result ((disk old.store).tells → (disk new.store).tells)
       pub none_left : (old.run).left ≡ 0
       pub few : length writes ≤ ((old.run).params).writes
       pub epoch : OnOk result ((new.run).epoch ≡ suc (old.run).epoch)

@@ -96,6 +96,7 @@ returns-clause-called g c =
               goes = c.end-result.ensures.serves.goes;
               moments = c.end-result.ensures.moments;
             };
+            tells = c.end-result.ensures.serves.tells;
             none_left = c.requires.none_left;
             few = c.requires.few;
             epoch = first_of_three (c.end-result.new.run.epoch ≡ suc run.epoch) (c.end-result.new.run.left ≡ run.params.batches) (c.end-result.new.run.spent ≡ false) c.end-result.result c.end-result.ensures.counts.served;

@@ -102,6 +102,7 @@ returns-clause-called g c =
               goes = c.fetch-result.ensures.serves.goes;
               moments = fetch_moments run.params (suc run.epoch % 2) (next_batch run) old new c.fetch-result.ensures.within;
             };
+            tells = c.fetch-result.ensures.serves.tells;
             some_left = c.requires.some_left;
             whole = c.requires.whole;
             epoch = ap (λ (x : Run). x.epoch) c.fetch-result.ensures.keeps.kept;
