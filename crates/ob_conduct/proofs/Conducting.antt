@@ -36,7 +36,6 @@ use Rattle.ob_conduct.proofs.Fit.{fit_new}
 use Rattle.ob_conduct.proofs.Writes.{left_by}
 use Rattle.ob_conduct.proofs.Moving.{later, moves_none, moves_join}
 use Rattle.ob_conduct.proofs.Acting.{tells_none, tells_one, written_none, printed_whole}
-use Rattle.ob_conduct.proofs.Told.{lines_stand}
 use Rattle.ob_conduct.proofs.Turning.{in_rounds_none, in_turns, round_ends, keeps_append, keeps_driven}
 use Rattle.ob_conduct.proofs.Stepping.{same_seats}
 use Rattle.ob_session.proofs.Saying.{said_append}
@@ -331,8 +330,6 @@ module _ {V U Plan : Type 0} (k : Kind V) (kind : RunnerKind U Plan) (p : Params
       epochs = told.numbered;
       wrote = told.written;
       printed = printed;
-      whole = (lines_stand k old new acts result ends).0;
-      lines = (lines_stand k old new acts result ends).1;
       fitting = fitting;
       keeps = keeps;
       clients = numbered;

@@ -22,7 +22,6 @@ use Rattle.ob_conduct.specs.Moves.{IsUnended, IsReason, Failure}
 use Rattle.ob_conduct.specs.Conducted.{RunEnds, Conducted}
 use Rattle.ob_conduct.specs.Left.{Rests, OnlyNow, standing_behind, IsFront, IsLeftStanding, TellsDoubt, IsLeftNow, next_at, IsThisOrNext, Stages, LeftByRun}
 use Rattle.ob_conduct.proofs.Acting.{answered_rest}
-use Rattle.ob_conduct.proofs.Told.{next_by_acts}
 use Rattle.ob_conduct.proofs.Moving.{called}
 use Rattle.ob_conduct.proofs.Behind.{asks_before, tells_before}
 use Rattle.ob_conduct.proofs.Going.{ended_append, answered_join}
@@ -314,7 +313,6 @@ module _ {V U Plan : Type 0} (k : Kind V) (only : OnlyNow k) (rests : Rests k) (
         record {
           next = None;
           is_next = tt;
-          by_acts = tt;
           since = weakened (k.disk first) (k.disk last) (StandsIn (k.stands first) (IsFront v told)) (StandsIn (k.stands first) (IsLeftStanding v told None))
               (stands_still (k.stands first) (IsFront v told) (IsLeftStanding v told None) (λ at front. inl front)) (answered_leave k only rests first (calls acts) last v told chain are d.wrote sound none);
           stages = staged k only rests (k.stands first) first first (calls acts) last v told (begins k only rests (k.stands first) first v sound none (λ c at. (λ s. s, λ s. s))) (λ c at. (λ s. s, λ s. s)) chain are d.wrote sound none;
@@ -333,7 +331,6 @@ module _ {V U Plan : Type 0} (k : Kind V) (only : OnlyNow k) (rests : Rests k) (
         record {
           next = None;
           is_next = tt;
-          by_acts = tt;
           since = one_more_leaves k only rests first front mid (Fetch keys) (RefusedBy fault) last v told (IsLeftStanding v told None) before one are wrote sound none (λ at f. inl f) (λ at may. inl (may_front v u told b at may));
           stages = last_staged k only rests first front mid (Fetch keys) (RefusedBy fault) last v told None before one are wrote sound none (now_between k only rests (k.stands first) u None b.none);
           now = λ c left. stands_alike (k.stands first) (k.stands last) (alike_all k first (calls acts) last chain) (MayStand (vault_next u (Fetch keys) (RefusedBy fault))) (IsLeftNow v told None doubt)
@@ -361,7 +358,6 @@ module _ {V U Plan : Type 0} (k : Kind V) (only : OnlyNow k) (rests : Rests k) (
         record {
           next = Some due;
           is_next = (fault, refl, f, (writes, refused, act_is, r, refl));
-          by_acts = next_by_acts k old new acts (Err fault) (Some due) (fault, refl, f, (writes, refused, act_is, r, refl));
           since = one_more_leaves k only rests first front mid (End writes) answer last v told (IsLeftStanding v told (Some due)) before one f.answered wrote sound none (λ at x. inl x) (may_in_end v u told due writes r.due.makes b);
           stages = last_staged k only rests first front mid (End writes) answer last v told (Some due) before one f.answered wrote sound none (end_between k only rests (k.stands first) u writes due r.due.makes b.none);
           now = λ c left. stands_alike (k.stands first) (k.stands last) (alike_all k first (calls acts) last whole) (MayStand (vault_next u (End writes) answer)) (IsLeftNow v told (Some due) (TellsDoubt epoch (Err fault)))

@@ -9,7 +9,6 @@ pub mod Turning
 pub mod Stepping
 pub mod Going
 pub mod Behind
-pub mod Told
 pub mod Conducting
 pub mod Leaving
 pub mod Quitting

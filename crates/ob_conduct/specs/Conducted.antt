@@ -1,5 +1,5 @@
 -- What a run of the clients over a vault does, from a new desk to its end.
-use Rattle.std.specs.Prelude.{ℕ, ◌≡◌, ◌⊎◌, All, List, [], length, map, Result, Ok, Err, decimal}
+use Rattle.std.specs.Prelude.{◌≡◌, ◌⊎◌, All, List, [], length, map, Result, Ok, Err, decimal}
 use Rattle.std.specs.List.{range_with_len}
 use Rattle.std.specs.Ordering.{nat_cmp}
 use Rattle.ob_base.specs.declared.fault.Fault.{Fault}
@@ -17,7 +17,7 @@ use Rattle.ob_session.specs.Clients.{said_by}
 use Rattle.ob_conduct.specs.Acts.{Act, history, calls, records, IsAllowed}
 use Rattle.ob_conduct.specs.Rounds.{KeepRule, plan_rule, InRounds}
 use Rattle.ob_conduct.specs.Scenes.{RunState, RunnerKind, seat_of, AllNoted}
-use Rattle.ob_conduct.specs.Records.{contents, HoldsMap, AreWritten, AreAnswered, IsOver, IsWritten, LinesStand, fault_of}
+use Rattle.ob_conduct.specs.Records.{contents, HoldsMap, AreWritten, AreAnswered, IsOver, IsWritten}
 use Rattle.ob_conduct.specs.Moves.{Failure}
 
 -- Memory was wanting before the first round, and nothing was done.
@@ -49,9 +49,6 @@ pub record Conducted {V U Plan : Type 0} (k : Kind V) (kind : RunnerKind U Plan)
   pub epochs : map (λ r. r.epoch) (records acts) ≡ range_with_len old.scene.desk.running.epoch (length (records acts))
   pub wrote : AreWritten (ended_of (calls acts)) (records acts)
   pub printed : IsPrinted old.output new.output (report decimal (records acts))
-  -- of so many records all lines stand: of each one; where the output failed, of all but the last one
-  pub whole : ℕ
-  pub lines : LinesStand (fault_of result) (records acts) whole old.output new.output
   -- each runner has made just its client's calls
   pub fitting : All (λ u. kind.fits u (said_by (kind.client u) (history acts))) new.runners
   -- and each of its steps was a turn by its plan

@@ -1,5 +1,5 @@
 -- What a crash leaves of a vault at any moment of a run.
-use Rattle.std.specs.Prelude.{ℕ, suc, ◌≡◌, ◌⊎◌, ◌+◌, All, List, [], ◌∷◌, ◌++◌, length, Option, None, Some, Result, Err}
+use Rattle.std.specs.Prelude.{ℕ, suc, ◌≡◌, ◌⊎◌, ◌+◌, List, [], ◌∷◌, ◌++◌, length, Option, None, Some, Result, Err}
 use Rattle.ob_base.specs.declared.fault.Fault.{Fault}
 use Rattle.ob_base.specs.declared.fault.Fault.TheVariants.{StoreFault}
 use Rattle.ob_io.specs.Streams.{Flow}
@@ -9,12 +9,11 @@ use Rattle.ob_serial.specs.VaultKinds.{Kind}
 use Rattle.ob_store.specs.Disk.{Image}
 use Rattle.ob_store.specs.Images.{LeavesOnly}
 use Rattle.ob_serial.specs.declared.vault.EndErr.{EndErr}
-use Rattle.ob_desk.specs.Desk.{DeskState, Part, record_of}
-use Rattle.ob_session.specs.Steps.{Leads}
-use Rattle.ob_conduct.specs.Acts.{Act, Refuses, history, records}
+use Rattle.ob_desk.specs.Desk.{record_of}
+use Rattle.ob_conduct.specs.Acts.{Act, Refuses, records}
 use Rattle.ob_conduct.specs.Scenes.{Scene, RunState}
-use Rattle.ob_conduct.specs.Records.{Makes, contents}
-use Rattle.ob_conduct.specs.Moves.{Failure, IsSaid, IsUnended}
+use Rattle.ob_conduct.specs.Records.{contents}
+use Rattle.ob_conduct.specs.Moves.{Failure, IsUnended}
 
 -- Each image that a crash may leave of a sound vault stands for what that allows.
 abbrev pub Rests : {V : Type 0} → Kind V → Type 0
@@ -63,27 +62,6 @@ Stages {V} k stands at (r ∷ told) next from last =
 abbrev pub IsUnendedRecord : {V : Type 0} → {k : Kind V} → {old new : Scene V} → {acts : List Act} → {before after : Flow} → {fault : Fault} → Failure k old new acts before after fault → EpochRecord ℕ → Type 0
 IsUnendedRecord {k = k} {old = old} f r = (writes : List (ℕ × Option (List ℕ))) × (refused : EndErr) × (f.act ≡ Refuses writes refused) × (u : IsUnended k old f.front writes refused) × (record_of u.closed ≡ r)
 
--- The record of an epoch whose end was refused, or left in doubt, said of the acts alone: the last one that isn't a client's tells of it,
--- and the desk to which those before it lead has this epoch closed. The vault was asked to end it with its writes.
-pub record IsUnendedBy (opened : DeskState) (acts : List Act) (r : EpochRecord ℕ) : Type 0 where
-  pub front : List Act
-  pub writes : List (ℕ × Option (List ℕ))
-  pub refused : EndErr
-  pub behind : List Act
-  pub acts_are : acts ≡ front ++ Refuses writes refused ∷ behind
-  pub says : All IsSaid behind
-  pub desk : DeskState
-  pub leads : Leads opened (history front) desk
-  pub closed : Part
-  pub is_closed : desk.closed ≡ Some closed
-  pub is_record : r ≡ record_of closed
-  pub makes : Makes writes r
-
--- the same of the record of the epoch whose end was begun last, where one was
-abbrev pub IsNextBy : DeskState → List Act → Option (EpochRecord ℕ) → Type 0
-IsNextBy opened acts None = Unit {0}
-IsNextBy opened acts (Some r) = IsUnendedBy opened acts r
-
 module _ {V U : Type 0} (k : Kind V) (old new : RunState V U) (acts : List Act) (result : Result (Unit {0}) Fault) where
   -- None: no epoch's end was begun behind those of the records. Some: the end of this record's epoch was, and was refused or left in
   -- doubt with the fault that is answered.
@@ -95,7 +73,6 @@ module _ {V U : Type 0} (k : Kind V) (old new : RunState V U) (acts : List Act) 
   pub record LeftByRun (v : VaultState) : Type 0 where
     pub next : Option (EpochRecord ℕ)
     pub is_next : IsNextOf next
-    pub by_acts : IsNextBy old.scene.desk acts next
     -- at any moment of the run, from its first one on,
     pub since : LeavesOnly (k.disk old.scene.vault) (k.disk new.scene.vault) (StandsIn (k.stands old.scene.vault) (IsLeftStanding v (records acts) next))
     -- from each epoch's end on, that epoch and those before it,

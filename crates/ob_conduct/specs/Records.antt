@@ -1,10 +1,8 @@
 -- What a vault holds and what stands in the output behind records.
-use Rattle.std.specs.Prelude.{ℕ, suc, ◌≡◌, ◌≤◌, not, List, [], ◌∷◌, ◌++◌, length, Option, None, Some, Result, Ok, Err, decimal}
+use Rattle.std.specs.Prelude.{ℕ, ◌≡◌, ◌≤◌, not, List, [], ◌∷◌, ◌++◌, Option, decimal}
 use Rattle.std.specs.List.{count_by}
 use Rattle.std.specs.Ordering.{nat_cmp}
 use Rattle.ob_base.specs.Causes.{Rose}
-use Rattle.ob_base.specs.declared.fault.Fault.{Fault}
-use Rattle.ob_base.specs.declared.fault.Fault.TheVariants.{SinkFault}
 use Rattle.ob_io.specs.Flows.{appended}
 use Rattle.ob_io.specs.Streams.{Flow}
 use Rattle.ob_report.specs.Printed.{IsPrinted}
@@ -64,14 +62,3 @@ pub record IsCutShort (told : List (EpochRecord ℕ)) (before after : Flow) : Ty
   pub written : IsWritten (report decimal whole) before mid
   pub printed : IsPrinted mid after (record_text decimal last)
   pub rose : Rose mid.faults after.faults
-
--- the fault of an answer
-abbrev pub fault_of : Result (Unit {0}) Fault → Option Fault
-fault_of (Ok done) = None
-fault_of (Err fault) = Some fault
-
--- How much of these records' lines stands, and for how many records all of them: for each one; but where the output failed, it failed at
--- the last one's, and nothing stands behind a front of these.
-abbrev pub LinesStand : Option Fault → List (EpochRecord ℕ) → ℕ → Flow → Flow → Type 0
-LinesStand (Some SinkFault) told whole before after = IsCutShort told before after × (suc whole ≡ length told)
-LinesStand _ told whole before after = IsWritten (report decimal told) before after × (whole ≡ length told)

@@ -100,8 +100,8 @@ may_serve disk keys p mid new shown later present drawn o is before tape = recor
 -- an empty store was made, and a life of it begins
 pub formatted : {S : Type 0} (disk : S → Disk) (keys : Keys) (p : Params) (drawn : List ℕ) (old new : S) → Notes (events_of (format_notes p)) (disk old).seen (disk new).seen → ((disk old).tells → stand.Stands keys p (formatted_standing p drawn) (disk new).cells)
     → ((disk old).tells → (c : Image) → (disk new).may_leave c → stand.Stands keys p (formatted_standing p drawn) c) → ((disk old).tells → IsSynced (disk new)) → ((disk old).tells → HasClosedLogs p (disk new).cells) → ((disk old).tells → (disk old).leaves → IsFormattedStore disk keys new)
-    → ((disk old).tells → RingFormatted keys p (disk new)) → IsFormatted ring_kind ring_lives disk keys p old new
-formatted disk keys p drawn old new seen stands images durable closed begins life = record { made = (ring_formats disk).made keys p drawn old new seen stands images durable closed; begins = begins; begins_life = life }
+    → ((disk old).tells → RingFormatted keys p (disk new)) → ((disk old).tells → (disk new).tells) → IsFormatted ring_kind ring_lives disk keys p old new
+formatted disk keys p drawn old new seen stands images durable closed begins life tells = record { made = (ring_formats disk).made keys p drawn old new seen stands images durable closed; tells = tells; begins = begins; begins_life = life }
 
 -- one that was refused
 pub format_refused : {S : Type 0} (disk : S → Disk) (keys : Keys) (p : Params) (old new : S) (before : Flow) (refused : Fault) → IsFormatFault refused → (IsStoreFault refused → Rose (disk old).faults (disk new).faults) → (refused ≡ fault.Memory → new ≡ old)

@@ -27,9 +27,9 @@ use Rattle.ob_vault.specs.Kinds.{StoreKind}
 use Rattle.ob_vault.specs.KindLives.{LifeWords}
 use Rattle.ob_vault.specs.Phases.{Shape, refused, shapes}
 use Rattle.ob_conduct.specs.Acts.{calls}
-use Rattle.ob_conduct.specs.Records.{LinesStand}
-use Rattle.ob_conduct.proofs.Told.{cut_printed}
+use Rattle.ob_top.specs.Endings.{LinesStand}
 use Rattle.ob_top.specs.Runs.{Manner, EndsEarly, EndsFor, Ran, Went, RunOn, RunDone}
+use Rattle.ob_top.proofs.Lines.{cut_printed}
 use Rattle.ob_top.proofs.Running.{IsQuiet}
 
 -- a text behind one that is whole
@@ -82,6 +82,7 @@ module _ (store : StoreKind) (quiet : IsQuiet store) (life : LifeWords store) wh
       opening_seen = r.opening_seen;
       serving_seen = r.serving_seen;
       opens = r.opens;
+      tells = r.tells;
       stood = r.stood;
       left = r.left;
       lives = r.lives;
@@ -135,8 +136,8 @@ module _ (store : StoreKind) (quiet : IsQuiet store) (life : LifeWords store) wh
           no_fault is = cc is
 
       -- any other fault, behind the whole report
-      done_other : (fault : Fault) (records : List (EpochRecord ℕ)) (whole : ℕ) → LinesStand (Some fault) records whole before.output mid.output → LineTold mid.output after.output (Some fault) → mid.output.bytes ≡ appended before.output.bytes (report decimal records) → before.output.faults ≤ mid.output.faults
-          → IsPrinted mid.output after.output (fault_line (Some fault)) → status ≡ status_of (Some fault) → Went store life disk by words keys old new before after records (Some fault) → RunDone store life disk by words keys old new before after status
+      done_other : (fault : Fault) (records : List (EpochRecord ℕ)) (whole : ℕ) → LinesStand (Some fault) records whole before.output mid.output → LineTold mid.output after.output (Some fault)
+          → mid.output.bytes ≡ appended before.output.bytes (report decimal records) → before.output.faults ≤ mid.output.faults → IsPrinted mid.output after.output (fault_line (Some fault)) → status ≡ status_of (Some fault) → Went store life disk by words keys old new before after records (Some fault) → RunDone store life disk by words keys old new before after status
       done_other fault records whole lines told bytes later line status_is went = record {
         fault = Some fault;
         status_is = status_is;
@@ -168,7 +169,8 @@ module _ (store : StoreKind) (quiet : IsQuiet store) (life : LifeWords store) wh
       run_done (Some (BadScript line)) r f = done_other (BadScript line) r.records r.whole r.lines f.line r.lines.0.bytes r.lines.0.later f.line f.status_is (went_other (BadScript line) r.records (λ p found opened h so_far n call cause. cause) r.went)
       run_done (Some (BadParams field)) r f = done_other (BadParams field) r.records r.whole r.lines f.line r.lines.0.bytes r.lines.0.later f.line f.status_is (went_other (BadParams field) r.records (λ p found opened h so_far n call cause. cause) r.went)
       run_done (Some NotStore) r f = done_other NotStore r.records r.whole r.lines f.line r.lines.0.bytes r.lines.0.later f.line f.status_is (went_other NotStore r.records (λ p found opened h so_far n call cause. cause) r.went)
-      run_done (Some (Damaged cell check kept computed)) r f = done_other (Damaged cell check kept computed) r.records r.whole r.lines f.line r.lines.0.bytes r.lines.0.later f.line f.status_is (went_other (Damaged cell check kept computed) r.records (λ p found opened h so_far n call cause. cause) r.went)
+      run_done (Some (Damaged cell check kept computed)) r f = done_other (Damaged cell check kept computed) r.records r.whole r.lines f.line r.lines.0.bytes r.lines.0.later f.line f.status_is
+          (went_other (Damaged cell check kept computed) r.records (λ p found opened h so_far n call cause. cause) r.went)
       run_done (Some (StoreFault unsure)) r f = done_other (StoreFault unsure) r.records r.whole r.lines f.line r.lines.0.bytes r.lines.0.later f.line f.status_is (went_other (StoreFault unsure) r.records (λ p found opened h so_far n call cause. cause) r.went)
       run_done (Some (StashFull rows)) r f = done_other (StashFull rows) r.records r.whole r.lines f.line r.lines.0.bytes r.lines.0.later f.line f.status_is (went_other (StashFull rows) r.records (λ p found opened h so_far n call cause. cause) r.went)
       run_done (Some (Worn number)) r f = done_other (Worn number) r.records r.whole r.lines f.line r.lines.0.bytes r.lines.0.later f.line f.status_is (went_other (Worn number) r.records (λ p found opened h so_far n call cause. cause) r.went)

@@ -11,8 +11,8 @@ use Rattle.ob_store.specs.Calls.{GoesOn}
 use Rattle.ob_store.specs.Disk.{Clock, Disk, Image, NotAfter}
 use Rattle.ob_store.specs.Images.{LeavesOnly}
 use Rattle.ob_store.specs.Lines.{Trace}
-use Rattle.ob_serial.specs.VaultKinds.{Kind}
-use Rattle.ob_serial.specs.Vaults.{Standing, VaultState}
+use Rattle.ob_serial.specs.VaultKinds.{AllCalled, Kind}
+use Rattle.ob_serial.specs.Vaults.{DoubtBy, End, Ended, Fetch, RefusedBy, Standing, Values, VaultAnswer, VaultCall, VaultState}
 use Rattle.ob_fetch.specs.declared.run.Run.{Run}
 use Rattle.ob_stand.specs.Stands.{StandsRing}
 use Rattle.ob_recover.specs.declared.found.Found.{Found}
@@ -37,7 +37,8 @@ use Rattle.ob_conduct.specs.Left.{Rests}
 use Rattle.ob_conduct.specs.Scenes.{RunnerKind, run_state, runner_kind, scene}
 use Rattle.ob_run.specs.Threaded.{RunsBy}
 use Rattle.ob_outcomes.proofs.Whole.{RunsScripts}
-use Rattle.ob_conduct.specs.Records.{fault_of}
+use Rattle.ob_conduct.specs.Records.{AreAnswered}
+use Rattle.ob_top.specs.Endings.{fault_of}
 use Rattle.ob_top.specs.Runs.{manner, ServedOver}
 use Rattle.ob_top.proofs.Opens.{may_open}
 use Rattle.ob_top.proofs.RingServing.{IsRingLender, ring_serves}
@@ -84,6 +85,18 @@ module _ {V S : Type 0} (k : Kind V) (disk : S → Disk) (counts_now : (x : S) (
       let by_run = subst (λ (r : Run). StandsRing r.sealer.keys r.params r.sealer.generation i at) run_is (lent.stands first i at stands) in
       subst (λ (x : Params). StandsRing keys x f.run.sealer.generation i at) goes.params (subst (λ (x : Keys). StandsRing x f.run.params f.run.sealer.generation i at) (ap (λ (x : Sealing). x.keys) goes.sealer) by_run)
 
+  -- each call that was answered tells the cells again
+  told_on : (v w : V) (steps : List (VaultCall × VaultAnswer)) → AllCalled k v steps w → AreAnswered steps → (disk_of v).tells → (disk_of w).tells
+  told_on v w [] same all told = subst (λ (x : V). (disk_of x).tells) (sym same) told
+  told_on v w ((Fetch asks, Values values) ∷ steps) (mid, one, rest) all told = told_on mid w steps rest all ((words.called v (Fetch asks) (Values values) one.notes mid one.called).tells told)
+  told_on v w ((End writes, Ended) ∷ steps) (mid, one, rest) all told = told_on mid w steps rest all ((words.called v (End writes) Ended one.notes mid one.called).tells told)
+  told_on v w ((Fetch asks, Ended) ∷ steps) chain all told = absurd all
+  told_on v w ((Fetch asks, RefusedBy fault) ∷ steps) chain all told = absurd all
+  told_on v w ((Fetch asks, DoubtBy fault) ∷ steps) chain all told = absurd all
+  told_on v w ((End writes, Values values) ∷ steps) chain all told = absurd all
+  told_on v w ((End writes, RefusedBy fault) ∷ steps) chain all told = absurd all
+  told_on v w ((End writes, DoubtBy fault) ∷ steps) chain all told = absurd all
+
   lender : IsRingLender k disk counts_now only_now runs words keys p f first
   lender = record {
     faults = λ v. ap (λ (x : Disk). x.faults) (lent.disk_is v).2;
@@ -95,6 +108,7 @@ module _ {V S : Type 0} (k : Kind V) (disk : S → Disk) (counts_now : (x : S) (
     rests = lent.rests;
     holds = λ m of. (held_with f.run m, lent.holds first (held_with f.run m) (subst (λ (r : Run). RingHolds r (disk_of first) (held_with f.run m)) (sym run_is) (holds_found keys p f (disk_of first) m goes.serving of)), refl);
     sound = λ at tells settled opened. lent.sound first (opened_with p f.run.left at) (subst (λ (r : Run). RingSound r (disk_of first) (opened_with p f.run.left at)) (sym run_is) (ring_begins_sound disk keys p f at (runs first).store goes.serving opened));
+    told = λ w steps called all. told_on first w steps called all;
     lives = λ w steps called. λ old opens tells.
         chain_runs k disk (λ v. (runs v).store) (λ v. (runs v).run.sealer)
         (λ v w call answer notes does told. is_act disk (runs v) (runs w) notes (λ image left. only_now (runs v).store image left) call answer (words.called v call answer notes w does) told)

@@ -26,7 +26,7 @@ use Rattle.ob_conduct.specs.Scenes.{scene, RunState, run_state, RunnerKind}
 use Rattle.ob_run.specs.Threaded.{RunsBy}
 use Rattle.ob_outcomes.proofs.Whole.{RunsScripts}
 use Rattle.ob_desk.specs.Beats.{BeatKind}
-use Rattle.ob_conduct.specs.Records.{fault_of}
+use Rattle.ob_top.specs.Endings.{fault_of}
 use Rattle.ob_top.specs.Runs.{manner, ServedOver}
 use Rattle.ob_top.proofs.Serving.{IsLender, serves_on}
 

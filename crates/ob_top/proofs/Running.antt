@@ -17,7 +17,6 @@ use Rattle.ob_vault.specs.KindLives.{LifeWords}
 use Rattle.ob_vault.specs.Openings.{OpensStanding}
 use Rattle.ob_vault.specs.Kinds.{StoreKind, Stands, AllStand, StandsAsBefore, IsOpenedAt, opened_with}
 use Rattle.ob_conduct.specs.Acts.{Act, calls}
-use Rattle.ob_conduct.proofs.Told.{Stand, stand_unless}
 use Rattle.ob_conduct.specs.Left.{IsLeftStanding}
 use Rattle.ob_store.specs.Calls.{Notes}
 use Rattle.ob_store.proofs.Events.{joined}
@@ -26,6 +25,7 @@ use Rattle.ob_serial.specs.Serial.{EpochRecord}
 use Rattle.ob_script.specs.Script.{Scripts}
 use Rattle.ob_top.specs.Outside.{Outside, outside}
 use Rattle.ob_top.specs.Runs.{Manner, EndsEarly, IsOpened, EndsFor, IsLeftOnDisk, LeftByWholeRun, IsReadAndOpened, ServedOver, Ran, Went, RunOn, begin_events}
+use Rattle.ob_top.proofs.Lines.{Stand, stand_unless}
 use Rattle.ob_top.proofs.Living.{whole_lives}
 
 -- the output is no cause of a head's or an opening's refusal
@@ -122,6 +122,7 @@ module _ (store : StoreKind) (quiet : IsQuiet store) (life : LifeWords store) wh
       opening_seen = seen;
       serving_seen = s.seen;
       opens = opens;
+      tells = λ none told. s.tells none (durable told).0;
       stood = stood;
       left = λ at tells stands all. let (told, settled) = durable tells in
           left_both disk keys (disk old) (disk between) (disk new) p found at script s.records fault s.is_served.served.acts (before at tells stands all) (s.left at told settled (stood at tells stands));

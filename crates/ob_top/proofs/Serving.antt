@@ -36,7 +36,7 @@ use Rattle.ob_script.specs.Script.{ScriptTxn, Scripts, AreSound, asks_by}
 use Rattle.ob_desk.specs.Desk.{DeskState, MayOpen, Run, new_desk}
 use Rattle.ob_conduct.specs.Acts.{Act, Says, Halts, Rests as Looked, Takes, Delivers, DeliverFails, FetchFails, Closes, Publishes, Refuses, Unprinted, calls, history, vault_calls, rest_fetches, fault_in, fault_told, records as records_of_acts}
 use Rattle.ob_conduct.specs.Scenes.{scene, RunState, run_state, RunnerKind}
-use Rattle.ob_conduct.specs.Records.{AreAnswered, AreWritten, HoldsMap, contents, fault_of}
+use Rattle.ob_conduct.specs.Records.{AreAnswered, AreWritten, HoldsMap, contents}
 use Rattle.ob_conduct.specs.Moves.{Failure, IsReason, AreLines}
 use Rattle.ob_conduct.specs.Conducted.{Conducted, RunEnds}
 use Rattle.ob_run.specs.Threaded.{RunsBy, AreShaped}
@@ -51,6 +51,8 @@ use Rattle.ob_conduct.proofs.Conducting.{due_epoch, due_in_order, due_one_by_one
 use Rattle.ob_outcomes.specs.Served.{IsServed, ClientsServedAll}
 use Rattle.ob_outcomes.proofs.Whole.{RunsScripts, is_served, its_acts, its_desk, all_served, next_served}
 use Rattle.ob_desk.specs.Beats.{BeatKind}
+use Rattle.ob_top.specs.Endings.{fault_of}
+use Rattle.ob_top.proofs.Lines.{lines_stand, next_by_acts}
 use Rattle.ob_top.specs.Runs.{Manner, manner, EndsWith, EndsFor, IsTraced, IsLeftOnDisk, StagedFrom, IsNextEpoch, ComesNext, ServedOver, LivesBehind}
 
 -- an end that was refused ended nothing
@@ -317,6 +319,7 @@ module _ {V S : Type 0} (k : Kind V) (store : StoreKind) (disk : S → Disk) (st
     pub rests : Rests k
     pub holds : (m : Map nat_cmp) → store.is_map under p (disk (store_of start)) found m → HoldsMap k start m
     pub sound : (at : Standing) → (disk (store_of start)).tells → IsSynced (disk (store_of start)) → IsOpenedAt store under p at found (disk (store_of start)) → k.sound start (opened_with p (store.left p found) at)
+    pub told : (w : V) (steps : List (VaultCall × VaultAnswer)) → AllCalled k start steps w → AreAnswered steps → (disk (store_of start)).tells → (disk (store_of w)).tells
     pub lives : (w : V) (steps : List (VaultCall × VaultAnswer)) → AllCalled k start steps w → LivesBehind disk under sealing (store_of start) (store_of w) (map (λ s. s.1) steps)
 
   module _ {U : Type 0} (beat : BeatKind) (threads : Bool) (kind : RunnerKind U (List ScriptTxn))
@@ -375,7 +378,7 @@ module _ {V S : Type 0} (k : Kind V) (store : StoreKind) (disk : S → Disk) (st
           record {
             next = by.next;
             is_next = comes_next at.epoch same by.next by.is_next;
-            closed = by.by_acts;
+            closed = next_by_acts k begin end acts result by.next by.is_next;
             since = weakened (disk (store_of start)) (disk (store_of last)) (StandsIn (k.stands start) (IsLeftStanding v records by.next)) (StandsIn (store.stands under p (store.generation found)) (IsLeftStanding v records by.next))
                 (λ c is. standing_in c (λ s x. x) is) (l.since start last (StandsIn (k.stands start) (IsLeftStanding v records by.next)) by.since);
             stages = staged_stores at records by.next start last by.stages;
@@ -392,6 +395,14 @@ module _ {V S : Type 0} (k : Kind V) (store : StoreKind) (disk : S → Disk) (st
 
       chain : AllCalled k start (calls acts) last
       chain = called k start (calls acts) d.notes last d.chain
+
+      -- without a fault all calls were answered
+      still_told : (r : Result (Unit {0}) Fault) → RunEnds k begin end acts r → fault_of r ≡ None → (disk (store_of start)).tells → (disk (store_of last)).tells
+      still_told (Ok done) (answered, over, written) none = l.told last (calls acts) chain answered
+      still_told (Err fault) ends none = absurd (no_fault none)
+        where
+          no_fault : ◌≡◌ {A = Option Fault} (Some fault) None → ⊥
+          no_fault e = cc e
 
       abbrev is_run : IsServed (AreShaped threads script.clients) beat p (store.epoch found) (store.left p found) script records
       is_run = is_served k beat kind means p (store.epoch found) (store.left p found) script sound may start trace runners before end acts result named planned d (AreShaped threads script.clients) rounds
@@ -418,6 +429,7 @@ module _ {V S : Type 0} (k : Kind V) (store : StoreKind) (disk : S → Disk) (st
       serves begun =
           let e = ending start last before after records begun l.faults acts refl chain d.wrote base end.scene.desk trace end.scene.trace runners end.runners result d.ends in
           let told = subst (λ (xs : List Act). TracesLife xs e.events) acts_are (e.traced, e.goes_on, e.cause) in
+          let stand = lines_stand k begin end acts result d.ends in
           record {
             records = records;
             is_served = record {
@@ -430,12 +442,13 @@ module _ {V S : Type 0} (k : Kind V) (store : StoreKind) (disk : S → Disk) (st
               one_by_one = λ m of. d.one_by_one m (l.holds m of);
             };
             cause = told.2;
-            whole = d.whole;
-            lines = d.lines;
+            whole = stand.0;
+            lines = stand.1;
             events = e.events;
             traced = told.0;
             seen = e.seen;
             goes = l.goes start last (goes_all k start (calls acts) d.notes last d.chain);
+            tells = still_told result d.ends;
             left = λ at tells settled opened. subst (λ (xs : List Act). IsLeftOnDisk store under p found at script records (fault_of result) xs disk (disk (store_of start)) (disk (store_of last))) acts_are (left at tells settled opened);
             lives = subst (λ (xs : List Act). LivesBehind disk under sealing (store_of start) (store_of last) (map (λ s. s.1) (calls xs))) acts_are (l.lives last (calls acts) chain);
             goes_on = told.1;

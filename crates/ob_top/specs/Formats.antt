@@ -19,9 +19,10 @@ use Rattle.ob_vault.specs.Formats.{MakesEmpty}
 use Rattle.ob_vault.specs.KindLives.{LifeWords}
 use Rattle.ob_top.specs.Outside.{Outside}
 
--- An empty store was made, and a life of it begins.
+-- An empty store was made, and a life of it begins. Its cells are told where they were.
 pub record IsFormatted (store : StoreKind) (life : LifeWords store) {S : Type 0} (disk : S → Disk) (keys : Keys) (p : Params) (old new : S) : Type 0 where
   pub made : MakesEmpty store keys p (disk old) (disk new)
+  pub tells : (disk old).tells → (disk new).tells
   pub begins : (disk old).tells → (disk old).leaves → IsFormattedStore disk keys new
   -- each image that a crash leaves stands for a life that begins
   pub begins_life : (disk old).tells → life.formatted keys p (disk new)

@@ -30,10 +30,11 @@ use Rattle.ob_desk.specs.Beats.{BeatKind}
 use Rattle.ob_script.specs.Script.{Scripts, IsScript, IsFirstBad, limit}
 use Rattle.ob_conduct.specs.Acts.{Act, calls, history, fault_told}
 use Rattle.ob_conduct.specs.Moves.{IsSaid}
-use Rattle.ob_conduct.specs.Records.{IsOver, LinesStand, contents}
-use Rattle.ob_conduct.specs.Left.{IsLeftStanding, IsNextBy, IsLeftNow, IsThisOrNext, next_at}
+use Rattle.ob_conduct.specs.Records.{IsOver, contents}
+use Rattle.ob_conduct.specs.Left.{IsLeftStanding, IsLeftNow, IsThisOrNext, next_at}
 use Rattle.ob_run.specs.Threaded.{AreShaped}
 use Rattle.ob_outcomes.specs.Served.{IsServed, ClientsServed, ClientsServedAll}
+use Rattle.ob_top.specs.Endings.{IsNextBy, LinesStand}
 use Rattle.ob_top.specs.Outside.{Outside, LineTold}
 
 -- What is seen of the opening: the head's read, and the order that the kind of store gives.
@@ -240,6 +241,8 @@ pub record ServedOver (store : StoreKind) (life : LifeWords store) {S : Type 0} 
   pub cause : EndsFor store keys p found (disk old) traced.behind (shapes (calls is_served.served.acts)) (length records) (refused (calls is_served.served.acts)) words (disk old) (disk new) before after fault
   pub seen : Notes events (disk old).seen (disk new).seen
   pub goes : GoesOn (disk old) (disk new)
+  -- unless there was a fault, cells are told where they were
+  pub tells : fault ≡ None → (disk old).tells → (disk new).tells
   pub left : (at : Standing) → (disk old).tells → IsSynced (disk old) → IsOpenedAt store keys p at found (disk old) → IsLeftOnDisk store keys p found at script records fault is_served.served.acts disk (disk old) (disk new)
   pub lives : LivesBehind disk keys sealing old new (map (λ s. s.1) (calls is_served.served.acts))
   pub goes_on : life.goes_on keys p found (disk old) (answered (calls is_served.served.acts)) traced.steps traced.behind (refused (calls is_served.served.acts)) words (disk new)
@@ -264,6 +267,8 @@ module _ (store : StoreKind) (life : LifeWords store) {S : Type 0} (disk : S →
     pub opening_seen : Notes (begin_events store p found start) (disk old).seen (disk between).seen
     pub serving_seen : Notes events (disk between).seen (disk new).seen
     pub opens : OpensStanding store disk keys p (disk old) (disk between)
+    -- unless there was a fault, cells are told where they were
+    pub tells : fault ≡ None → (disk old).tells → (disk new).tells
     -- Where the store stood for an epoch, opening found that, and the opened store stands for it, whatever crashes. Where each image that a
     -- crash might have left stood too, each that a crash leaves stands as one did before, until the store is opened, and then as served.
     pub stood : (at : Standing) → (disk old).tells → Stands store keys p (disk old).cells at → IsOpenedAt store keys p at found (disk between)

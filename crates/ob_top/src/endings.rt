@@ -2,7 +2,7 @@
 
 ghost use Rattle.ob_io.specs.Streams.{outflow};
 ghost use Rattle.ob_top.specs.Outside.{IsFinished};
-ghost use Rattle.ob_conduct.specs.Records.{fault_of};
+ghost use Rattle.ob_top.specs.Endings.{fault_of};
 
 use ob_base::Fault;
 use ob_io::Sink;

@@ -7,7 +7,7 @@ ghost use Rattle.ob_store.specs.Calls.{GoesOn};
 ghost use Rattle.ob_vault.specs.RingKind.{ring_kind};
 ghost use Rattle.ob_vault.specs.Lives.{ring_lives};
 ghost use Rattle.ob_top.specs.Formats.{FormatEnds};
-ghost use Rattle.ob_conduct.specs.Records.{fault_of};
+ghost use Rattle.ob_top.specs.Endings.{fault_of};
 
 use ob_base::{Failed, Fault, Params, ring_cells};
 use ob_io::Sink;

@@ -24,7 +24,7 @@ ghost use Rattle.ob_conduct.specs.Scenes.{scene, run_state, runner_kind};
 ghost use Rattle.ob_run.specs.Threaded.{RunsBy};
 ghost use Rattle.ob_serial.specs.VaultKinds.{kind_of};
 ghost use Rattle.ob_top.specs.Runs.{manner, CameIn, IsInputRefused, EndsEarly, IsReadAndOpened, ServedOver, RunOn};
-ghost use Rattle.ob_conduct.specs.Records.{fault_of};
+ghost use Rattle.ob_top.specs.Endings.{fault_of};
 ghost use Rattle.ob_top.specs.Outside.{outside};
 
 use ob_base::{Fault, Memory, Params};

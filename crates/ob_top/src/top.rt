@@ -4,7 +4,7 @@ ghost use Rattle.std.specs.Prelude.{◌≡◌, map, ℕ, List};
 ghost use Rattle.ob_io.specs.Streams.{inflow, outflow};
 ghost use Rattle.ob_store.specs.Calls.{GoesOn};
 ghost use Rattle.ob_top.specs.Outside.{outside, NoneOut, StoreGoesOn};
-ghost use Rattle.ob_conduct.specs.Records.{fault_of};
+ghost use Rattle.ob_top.specs.Endings.{fault_of};
 ghost use Rattle.ob_words.specs.Work.{Asks};
 ghost use Rattle.ob_top.specs.Top.{AskForSomething, CommandDoes, IsRefusedWithout, UsageDoes, AuditDoes, FormatDoes, RunDoes};
 ghost use Rattle.ob_top.specs.Over.{OverStore, WithoutStore};

@@ -23,7 +23,7 @@ returns-in-Ok-size_text-clause-ends g c =
     let before = outflow g.O.Sink c.args.output.now in
     let after = outflow g.O.Sink c.size_text.new.sink in (
       formatted (λ s. g.S.Store.disk s) c.args.keys.now c.args.params.now (g.T.Tape.drawn c.format.new.tape) c.args.store.now c.format.new.store e.does.all.seen e.stands e.images e.durable e.closed e.act
-          (λ tells. formats c.args.params.now (g.T.Tape.drawn c.format.new.tape) e.drawn.1 c.args.keys.now (g.S.Store.disk c.format.new.store) (e.life tells)),
+          (λ tells. formats c.args.params.now (g.T.Tape.drawn c.format.new.tape) e.drawn.1 c.args.keys.now (g.S.Store.disk c.format.new.store) (e.life tells)) e.serves.tells,
       subst (λ n. after.bytes ≡ appended before.bytes (size_line n)) c.ring_cells.ensures.cells c.in-Ok-size_text.ensures.all,
     )
 
@@ -33,7 +33,7 @@ returns-in-Err-size_text-clause-ends g c =
     let before = outflow g.O.Sink c.args.output.now in
     let after = outflow g.O.Sink c.size_text.new.sink in (
       formatted (λ s. g.S.Store.disk s) c.args.keys.now c.args.params.now (g.T.Tape.drawn c.format.new.tape) c.args.store.now c.format.new.store e.does.all.seen e.stands e.images e.durable e.closed e.act
-          (λ tells. formats c.args.params.now (g.T.Tape.drawn c.format.new.tape) e.drawn.1 c.args.keys.now (g.S.Store.disk c.format.new.store) (e.life tells)),
+          (λ tells. formats c.args.params.now (g.T.Tape.drawn c.format.new.tape) e.drawn.1 c.args.keys.now (g.S.Store.disk c.format.new.store) (e.life tells)) e.serves.tells,
       c.in-Err-size_text.ensures.cause.failed,
       subst (λ n. IsPrinted before after (size_line n)) c.ring_cells.ensures.cells c.size_text.ensures.printed,
     )

@@ -14,12 +14,13 @@ use Rattle.ob_serial.specs.declared.vault.EndErr.{EndErr}
 use Rattle.ob_serial.specs.declared.vault.EndErr.TheVariants.{Before, Unsure}
 use Rattle.ob_conduct.specs.Acts.{Act, Says, Halts, Rests as Looked, Takes, Delivers, DeliverFails, FetchFails, Closes, Publishes, Refuses, Unprinted, records, fault_in, fault_told}
 use Rattle.ob_conduct.specs.Scenes.{Scene, RunState}
-use Rattle.ob_conduct.specs.Records.{IsWritten, IsCutShort, LinesStand, Makes, fault_of}
+use Rattle.ob_conduct.specs.Records.{IsWritten, IsCutShort, Makes}
 use Rattle.ob_conduct.specs.Moves.{AreLines, Failure, IsReason}
 use Rattle.ob_conduct.specs.Conducted.{RunEnds}
-use Rattle.ob_conduct.specs.Left.{IsNextBy, IsNextOf}
+use Rattle.ob_conduct.specs.Left.{IsNextOf}
 use Rattle.ob_conduct.proofs.Acting.{one_text, written_none}
 use Rattle.ob_conduct.proofs.Going.{printed_then}
+use Rattle.ob_top.specs.Endings.{IsNextBy, LinesStand, fault_of}
 
 module _ (told : List (EpochRecord ℕ)) (before after : Flow) where
   -- how many records' lines stand, and that they do
