@@ -1,5 +1,5 @@
 -- What can be done is done.
-use Rattle.std.proofs.Common.{◌≡◌, ◌⊎◌, ◌<◌, ◌≤◌, ◌+◌, ◌^◌, ℕ, Bool, not, List, length, take, Option, Some, None, refl, subst, inl, inr, arith, ◌∙◌, ⊎_elim, ap, sym}
+use Rattle.std.proofs.Common.{◌≡◌, ◌⊎◌, ◌≤◌, ◌+◌, ◌^◌, ℕ, Bool, not, List, length, take, Option, Some, None, refl, subst, inl, inr, arith, ◌∙◌, ⊎_elim, ap, sym}
 use Rattle.std.specs.Borrow.{Bor}
 use Rattle.ob_base.specs.declared.params.Params.{Params}
 use Rattle.ob_base.specs.declared.fault.Fault.{Fault}

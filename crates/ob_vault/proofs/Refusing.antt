@@ -28,7 +28,7 @@ use Rattle.ob_store.specs.declared.event.Event.{Event}
 use Rattle.ob_store.specs.declared.event.Event.TheVariants as event
 use Rattle.ob_store.specs.declared.watch.Note.{Note}
 use Rattle.ob_opening.specs.OpeningRuns as vault
-use Rattle.ob_opening.specs.OpeningRuns.{BeginsFirst, IsReadAlone, OpensPart, ReadsAll, RefusedDoes, RefusedWrites, RepeatsBehind}
+use Rattle.ob_opening.specs.OpeningRuns.{BeginsFirst, IsReadAlone, OpensPart, RefusedDoes, RefusedWrites}
 use Rattle.ob_opening.specs.Openings.{IsOpenFault, IsOpenRefusal}
 use Rattle.ob_vault.specs.RingLaws.{RingRefuses}
 use Rattle.ob_vault.specs.Seen.{OpensInPart, ReadsFirst, RingMayBegin, RingOpensPartly}
