@@ -4,11 +4,12 @@ ghost use Rattle.std.specs.Prelude.{◌≡◌, ◌<◌, ◌≤◌, ℕ, false, l
 ghost use Rattle.std.specs.List.Sorted.{IsStrictlyIncreasing};
 ghost use Rattle.ob_mem.specs.Memory.{disk_of_store};
 
+use crate::fixtures::{bytes_in, formatted, formatted_with, open, small_params, test_keys};
 use ob_base::{Check, Fault, Key, Params, Value, Write};
-use ob_flat::{FlatVault, cells, format, head, prepare};
+use ob_flat::{cells, head, prepare};
 use ob_mem::{Fail, MemSink, MemStore};
 use ob_plain_serial::{Reply, Request, serve_all};
-use ob_seal::{Keys, Sealer};
+use ob_seal::Sealer;
 use ob_serial::{EndErr, Vault};
 use ob_store::{Blind, SinkWatch, Store, Watch};
 use std::alloc::Global;
@@ -16,132 +17,127 @@ use std::process::Abort;
 
 const OPEN: [u8; 128] = [0xA5; 128];
 
-// Eight keys, two batches of two places, two writes.
-fn small_params(rt: &impl Abort) -> Params {
-    match Params::new(8, 2, 2, 3, 2, 2, 2, 2, 8) {
-        Ok(params) => params,
-        Err(_) => {
-            assert!(rt; false, "the parameters are in range");
-            unreachable!()
-        }
-    }
-}
-
-// The keys of the bytes 0 to 95.
-fn test_keys() -> Keys {
-    let mut bytes = [0; 96];
-    for i in 0..96 {
-        bytes[i] = i as u8;
-    }
-    Keys::from_bytes(&bytes)
-}
-
-// A formatted store, whose calls fail as told.
-fn formatted_with<W: Watch>(
-    rt: &impl Abort,
-    alloc: Global,
-    fails: Vec<Fail>,
-    watch: &mut W,
-) -> MemStore
-    ensures { (disk_of_store result).out ≡ 0 }
-{
-    let mut store = MemStore::new(alloc, 25, fails).expect(rt, "memory");
-    assert!(rt; format(&mut store, &test_keys(), &small_params(rt), watch).is_ok());
-    store
-}
-
-fn formatted(rt: &impl Abort, alloc: Global) -> MemStore
-    ensures { (disk_of_store result).out ≡ 0 }
-{
-    formatted_with(rt, alloc, Vec::new(alloc), &mut Blind)
-}
-
 // The value of the tests, or none.
 fn hi(some: bool) -> Option<Value> {
     if some { Value::new(b"hi") } else { None }
 }
 
+// ---- epochs
+
+// An epoch asks for keys, each of which has to find `hi` or nothing, and may put `hi` at key 5.
+struct Epoch {
+    asks: &'static [(Key, bool)],
+    puts: bool,
+}
+
+// Puts `hi` at key 5 in one epoch, and writes nothing in the next.
+const TWO: &[Epoch] = &[
+    Epoch {
+        asks: &[(5, false), (5, false)],
+        puts: true,
+    },
+    Epoch {
+        asks: &[(5, true), (4, false)],
+        puts: false,
+    },
+];
+
+const IDLE: &[Epoch] = &[Epoch {
+    asks: &[(0, false), (0, false)],
+    puts: false,
+}];
+
 // Asks for a key, beside a pad.
-fn ask<W: Watch>(
+fn ask<V: Vault, W: Watch>(
     rt: &impl Abort,
-    vault: &mut FlatVault<'_, MemStore>,
+    params: &Params,
+    vault: &mut V,
     key: Key,
     watch: &mut W,
-) -> Option<Value> {
+) -> Option<Value>
+    requires params { V.params vault.old ≡ params.now }
+    ensures params { V.params vault.new ≡ params.now }
+{
     let mut out = [None; 2];
-    assert!(rt; vault.params().places == 2);
-    assert!(rt; key < vault.params().keys);
-    assert!(rt; !vault.spent());
-    assert!(rt; vault.left() > 0);
+    assert!(rt; params.places == 2 && key < params.keys && !vault.spent() && vault.left() > 0);
     assert!(rt; vault.fetch(&[Some(key), None], &mut out, watch).is_ok());
     out[0]
 }
 
 // Ends an epoch that puts `hi` at key 5, or one without a write.
-fn end_with<W: Watch>(
+fn end_with<V: Vault, W: Watch>(
     rt: &impl Abort,
-    vault: &mut FlatVault<'_, MemStore>,
+    params: &Params,
+    vault: &mut V,
     puts: bool,
     watch: &mut W,
-) -> Result<(), EndErr> {
-    assert!(rt; !vault.spent());
-    assert!(rt; vault.left() == 0);
+) -> Result<(), EndErr>
+    requires params { V.params vault.old ≡ params.now }
+    ensures params { V.params vault.new ≡ params.now }
+{
+    assert!(rt; 5 < params.keys && 1 <= params.writes && !vault.spent() && vault.left() == 0);
     if !puts {
         return vault.end(&[], watch);
     }
-    assert!(rt; 5 < vault.params().keys);
-    assert!(rt; 1 <= vault.params().writes);
     let value = hi(true);
     vault.end(&[Write { key: 5, value }], watch)
 }
 
-// An epoch of these asks, each of which has to find `hi` or nothing, and its end.
-fn one_epoch<W: Watch>(
+// An epoch, and its end.
+fn one_epoch<V: Vault, W: Watch>(
     rt: &impl Abort,
-    vault: &mut FlatVault<'_, MemStore>,
-    asks: &[(Key, bool)],
-    puts: bool,
+    params: &Params,
+    vault: &mut V,
+    epoch: &Epoch,
     watch: &mut W,
-) -> Result<(), EndErr> {
-    for (key, some) in asks {
-        assert!(rt; ask(rt, vault, *key, watch) == hi(*some));
+) -> Result<(), EndErr>
+    requires params { V.params vault.old ≡ params.now }
+    ensures params { V.params vault.new ≡ params.now }
+{
+    for asked in epoch.asks {
+        assert!(rt; ask(rt, params, vault, asked.0, watch) == hi(asked.1));
     }
-    end_with(rt, vault, puts, watch)
+    let ended = end_with(rt, params, vault, epoch.puts, watch);
+    assert!(rt; vault.spent() == ended.is_err());
+    ended
 }
 
-// Opens a store, and makes a vault over it.
-fn open<'a, W: Watch>(
+// Epochs, one behind the other, up to the first that is refused.
+fn all_epochs<V: Vault, W: Watch>(
+    rt: &impl Abort,
+    params: &Params,
+    vault: &mut V,
+    epochs: &[Epoch],
+    watch: &mut W,
+) -> Result<(), EndErr>
+    requires params { V.params vault.old ≡ params.now }
+{
+    for epoch in epochs {
+        if let Err(refused) = one_epoch(rt, params, vault, epoch, watch) {
+            return Err(refused);
+        }
+    }
+    assert!(rt; vault.left() == params.batches);
+    Ok(())
+}
+
+// How epochs end on a store that is opened, and which was the last that ended.
+fn ends<W: Watch>(
     rt: &impl Abort,
     alloc: Global,
-    store: &'a mut MemStore,
+    store: &mut MemStore,
+    epochs: &[Epoch],
     watch: &mut W,
-) -> FlatVault<'a, MemStore>
-    requires { (disk_of_store store.old).out ≡ 0 }
-{
-    let keys = test_keys();
-    let params = head(store, &keys, watch).expect(rt, "a head");
-    let opening = prepare(alloc, store, &keys, &params, watch).expect(rt, "an opening");
-    FlatVault::over(store, opening)
-}
-
-// Puts `hi` at key 5 in one epoch, and writes nothing in the next.
-fn two_epochs<W: Watch>(rt: &impl Abort, alloc: Global, store: &mut MemStore, watch: &mut W)
+) -> (Result<(), EndErr>, u64)
     requires { (disk_of_store store.old).out ≡ 0 }
 {
     let mut vault = open(rt, alloc, store, watch);
-    assert!(rt; one_epoch(rt, &mut vault, &[(5, false), (5, false)], true, watch).is_ok());
-    assert!(rt; one_epoch(rt, &mut vault, &[(5, true), (4, false)], false, watch).is_ok());
-    assert!(rt; vault.epoch() == 2);
-    assert!(rt; vault.left() == 2);
+    let params = vault.params();
+    let ended = all_epochs(rt, &params, &mut vault, epochs, watch);
+    (ended, vault.epoch())
 }
 
-fn bytes_in(rt: &impl Abort, store: &mut MemStore, cell: u64) -> [u8; 128] {
-    let mut bytes = [9; 128];
-    let mut lane = store.lane().expect(rt, "a lane");
-    assert!(rt; store.read(&mut lane, cell, &mut bytes).is_ok());
-    store.absorb(lane);
-    bytes
-}
+// ---- cells
 
 // The 112 plain bytes of a stamped cell that begin so, with zeros behind.
 fn plain_of(front: &[u8]) -> [u8; 112]
@@ -262,7 +258,7 @@ fn formatted_shown(rt: &impl Abort, alloc: Global) -> MemStore {
 
 #[test]
 fn a_format_makes_its_cells_in_order(rt: HostRuntime) {
-    let params = small_params(&rt);
+    let params = small_params();
     assert!(rt; cells(&params) == 25);
     let mut store = formatted_shown(&rt, rt.alloc());
     look(&rt, &mut store, FORMATTED, &[4, 6], &[1, 2, 7, 8, 17, 24]);
@@ -274,7 +270,8 @@ fn two_epochs_make_their_cells_in_order(rt: HostRuntime) {
     let alloc = rt.alloc();
     let mut sink = MemSink::new(alloc, 400, Vec::new(alloc)).expect(&rt, "memory");
     let mut store = formatted(&rt, alloc);
-    two_epochs(&rt, alloc, &mut store, &mut SinkWatch::new(&mut sink));
+    let ended = ends(&rt, alloc, &mut store, TWO, &mut SinkWatch::new(&mut sink));
+    assert!(rt; ended == (Ok(()), 2));
     assert!(rt; sink.written() == TWO_EPOCHS);
     look(&rt, &mut store, TWO_EPOCHS_LATER, &[2, 4, 6, 8], &[]);
 }
@@ -326,7 +323,8 @@ fn kept_after(
     let sealed = last_generation(rt, &mut left_after(rt, store, moment, filling));
     let mut left = left_after(rt, store, moment, filling);
     let mut vault = open(rt, alloc, &mut left, &mut Blind);
-    let value = ask(rt, &mut vault, 5, &mut Blind);
+    let params = vault.params();
+    let value = ask(rt, &params, &mut vault, 5, &mut Blind);
     (vault.epoch(), value, sealed < vault.generation())
 }
 
@@ -363,24 +361,15 @@ fn a_crash_leaves_the_old_epoch_or_the_new(rt: HostRuntime) {
 // A formatted store behind two epochs.
 fn after_two_epochs(rt: &impl Abort, alloc: Global) -> MemStore {
     let mut store = formatted(rt, alloc);
-    two_epochs(rt, alloc, &mut store, &mut Blind);
+    assert!(rt; ends(rt, alloc, &mut store, TWO, &mut Blind) == (Ok(()), 2));
     store
-}
-
-// How an epoch without a write ends, on a store that is opened.
-fn next_end(rt: &impl Abort, alloc: Global, store: &mut MemStore) -> Result<(), EndErr>
-    requires { (disk_of_store store.old).out ≡ 0 }
-{
-    let mut vault = open(rt, alloc, store, &mut Blind);
-    let ended = one_epoch(rt, &mut vault, &[(0, false), (0, false)], false, &mut Blind);
-    assert!(rt; vault.spent() == ended.is_err());
-    ended
 }
 
 // The first epoch's end where this call fails.
 fn first_end(rt: &impl Abort, alloc: Global, fail: Fail) -> Result<(), EndErr> {
     let fails = [fail].to_vec(alloc).expect(rt, "memory");
-    next_end(rt, alloc, &mut formatted_with(rt, alloc, fails, &mut Blind))
+    let mut store = formatted_with(rt, alloc, fails, &mut Blind);
+    ends(rt, alloc, &mut store, IDLE, &mut Blind).0
 }
 
 const BEFORE: Result<(), EndErr> = Err(EndErr::Before(Fault::StoreFault { unsure: None }));
@@ -410,20 +399,15 @@ fn a_failing_call_of_an_end_is_told(rt: HostRuntime) {
 // What opening answers where this cell was changed.
 fn refused_with(rt: &impl Abort, alloc: Global, cell: u64, bytes: &[u8; 128]) -> Fault {
     let mut store = formatted(rt, alloc);
-    let params = small_params(rt);
     let keys = test_keys();
     assert!(rt; store.write(cell, bytes).is_ok());
-    match head(&mut store, &keys, &mut Blind) {
-        Err(fault) => return fault,
-        Ok(_) => {}
+    if let Err(fault) = head(&mut store, &keys, &mut Blind) {
+        return fault;
     }
-    match prepare(alloc, &mut store, &keys, &params, &mut Blind) {
-        Err(fault) => fault,
-        Ok(_) => {
-            assert!(rt; false, "the store was opened");
-            unreachable!()
-        }
-    }
+    let Err(fault) = prepare(alloc, &mut store, &keys, &small_params(), &mut Blind) else {
+        panic!(rt; "the store was opened")
+    };
+    fault
 }
 
 // A damaged cell, with what is kept and what was computed, high byte first.
@@ -642,7 +626,7 @@ fn last_end(rt: &impl Abort, alloc: Global) -> Result<(), EndErr> {
     let store = after_two_epochs(rt, alloc);
     let mut left = left_after(rt, &store, 1000, None);
     assert!(rt; left.write(7, &stamped(7, &LAST)).is_ok());
-    next_end(rt, alloc, &mut left)
+    ends(rt, alloc, &mut left, IDLE, &mut Blind).0
 }
 
 #[test]
@@ -653,13 +637,12 @@ fn the_last_numbers_are_worn(rt: HostRuntime) {
 }
 
 // Whether a list of one call, which asks for a key beside a pad, is served.
-fn is_served(rt: &impl Abort, alloc: Global, vault: &mut FlatVault<'_, MemStore>) -> bool {
+fn is_served<V: Vault>(rt: &impl Abort, alloc: Global, params: &Params, vault: &mut V) -> bool
+    requires params { V.params vault.old ≡ params.now }
+{
     let asks = [Some(5), None].to_vec(alloc).expect(rt, "memory");
     let requests = [Request::Fetch(asks)];
-    assert!(rt; vault.params().places == 2);
-    assert!(rt; vault.params().keys == 8);
-    assert!(rt; vault.left() == 2);
-    assert!(rt; !vault.spent());
+    assert!(rt; params.places == 2 && params.keys == 8 && !vault.spent() && vault.left() == 2);
     match serve_all(alloc, vault, &requests, &mut Blind) {
         Ok(replies) => replies.len() == 1 && matches!(replies.get(0), Some(Reply::Values(_))),
         Err(_) => false,
@@ -670,6 +653,7 @@ fn is_served(rt: &impl Abort, alloc: Global, vault: &mut FlatVault<'_, MemStore>
 fn a_list_of_calls_is_served(rt: HostRuntime) {
     let mut store = formatted(&rt, rt.alloc());
     let mut vault = open(&rt, rt.alloc(), &mut store, &mut Blind);
-    assert!(rt; is_served(&rt, rt.alloc(), &mut vault));
+    let params = vault.params();
+    assert!(rt; is_served(&rt, rt.alloc(), &params, &mut vault));
     assert!(rt; vault.left() == 1);
 }
