@@ -83,113 +83,93 @@ fn expect_lines<R: AllocGlobal + Abort>(rt: &R, sink: &MemSink, lines: &str) {
     compare(rt, lines, sink.written(), wanted.as_str());
 }
 
-// Transactions of epoch 1, and the lines of its record.
-type Row = (&'static [Txn<'static>], &'static str);
-
-fn expect_record<R: AllocGlobal + Abort>(rt: &R, row: &Row) {
-    let record = record_of(rt, row.0);
+// Compares the lines of a record of these transactions.
+fn expect_record<R: AllocGlobal + Abort>(rt: &R, txns: &[Txn], lines: &str) {
+    let record = record_of(rt, txns);
     let mut sink = sink_of(rt, 1000, &[]);
     assert!(rt; text(&record, &mut sink).is_ok());
-    expect_lines(rt, &sink, row.1);
+    expect_lines(rt, &sink, lines);
 }
 
-static RECORDS: [Row; 9] = [
-    // Each operation has its line.
+// How a transaction without operations ends, and the words of that.
+static OUTCOMES: [(Outcome<Key>, &str); 7] = [
     (
-        &[(
-            2,
-            3,
-            Outcome::Committed,
-            &[
-                Done::Put(5, "hi"),
-                Done::Got(5, "hi"),
-                Done::Absent(4294967295),
-                Done::Put(0, ""),
-                Done::Got(0, ""),
-                Done::Del(17),
-            ],
-        )],
-        "epoch 1/txn 2 client 3 committed/put 5 hi/get 5 = hi/get 4294967295 absent/put 0 /get 0 = /del 17/",
-    ),
-    // Each outcome has its words.
-    (
-        &[(
-            2,
-            3,
-            Outcome::Aborted {
-                why: Why::Conflict { key: 5, reader: 7 },
-            },
-            &[],
-        )],
+        Outcome::Aborted {
+            why: Why::Conflict { key: 5, reader: 7 },
+        },
         "epoch 1/txn 2 client 3 aborted conflict key 5 reader 7/",
     ),
     (
-        &[(
-            2,
-            3,
-            Outcome::Aborted {
-                why: Why::Depends { on: 1 },
-            },
-            &[],
-        )],
+        Outcome::Aborted {
+            why: Why::Depends { on: 1 },
+        },
         "epoch 1/txn 2 client 3 aborted depends on 1/",
     ),
     (
-        &[(
-            2,
-            3,
-            Outcome::Aborted {
-                why: Why::ReadsFull { queued: 4, left: 0 },
-            },
-            &[],
-        )],
+        Outcome::Aborted {
+            why: Why::ReadsFull { queued: 4, left: 0 },
+        },
         "epoch 1/txn 2 client 3 aborted reads full queued 4 left 0/",
     ),
     (
-        &[(
-            2,
-            3,
-            Outcome::Aborted {
-                why: Why::WritesFull { keys: 2 },
-            },
-            &[],
-        )],
+        Outcome::Aborted {
+            why: Why::WritesFull { keys: 2 },
+        },
         "epoch 1/txn 2 client 3 aborted writes full keys 2/",
     ),
     (
-        &[(2, 3, Outcome::Aborted { why: Why::EpochEnd }, &[])],
+        Outcome::Aborted { why: Why::EpochEnd },
         "epoch 1/txn 2 client 3 aborted epoch end/",
     ),
     (
-        &[(2, 3, Outcome::Aborted { why: Why::Asked }, &[])],
+        Outcome::Aborted { why: Why::Asked },
         "epoch 1/txn 2 client 3 aborted asked/",
     ),
-    (
-        &[(2, 3, Outcome::Committed, &[])],
-        "epoch 1/txn 2 client 3 committed/",
-    ),
-    // Transactions follow each other.
-    (
-        &[
-            (
-                2,
-                3,
-                Outcome::Aborted {
-                    why: Why::ReadsFull { queued: 0, left: 0 },
-                },
-                &[Done::Absent(0)],
-            ),
-            (3, 64, Outcome::Committed, &[Done::Put(3, "x")]),
-        ],
-        "epoch 1/txn 2 client 3 aborted reads full queued 0 left 0/get 0 absent/txn 3 client 64 committed/put 3 x/",
-    ),
+    (Outcome::Committed, "epoch 1/txn 2 client 3 committed/"),
 ];
 
 #[test]
-fn records_have_their_lines(rt: HostRuntime) {
-    for row in &RECORDS {
-        expect_record(&rt, row);
+fn each_outcome_has_its_words(rt: HostRuntime) {
+    for (outcome, lines) in &OUTCOMES {
+        expect_record(&rt, &[(2, 3, *outcome, &[])], *lines);
     }
+}
+
+static DONE: [Done; 6] = [
+    Done::Put(5, "hi"),
+    Done::Got(5, "hi"),
+    Done::Absent(4294967295),
+    Done::Put(0, ""),
+    Done::Got(0, ""),
+    Done::Del(17),
+];
+
+#[test]
+fn each_operation_has_its_line(rt: HostRuntime) {
+    expect_record(
+        &rt,
+        &[(2, 3, Outcome::Committed, &DONE)],
+        "epoch 1/txn 2 client 3 committed/put 5 hi/get 5 = hi/get 4294967295 absent/\
+        put 0 /get 0 = /del 17/",
+    );
+}
+
+static ABSENT: [Done; 1] = [Done::Absent(0)];
+
+static PUT: [Done; 1] = [Done::Put(3, "x")];
+
+const FULL: Outcome<Key> = Outcome::Aborted {
+    why: Why::ReadsFull { queued: 0, left: 0 },
+};
+
+#[test]
+fn transactions_follow_each_other(rt: HostRuntime) {
+    expect_record(
+        &rt,
+        &[(2, 3, FULL, &ABSENT), (3, 64, Outcome::Committed, &PUT)],
+        "epoch 1/txn 2 client 3 aborted reads full queued 0 left 0/get 0 absent/\
+        txn 3 client 64 committed/put 3 x/",
+    );
 }
 
 static FAULTS: [(Fault, u8, &str); 12] = [

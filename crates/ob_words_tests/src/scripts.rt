@@ -81,9 +81,8 @@ fn expect_all<R: AllocGlobal + Abort>(rt: &R, rows: &[(&str, &str)]) {
     }
 }
 
-// Scripts with a `/` for each line end, and what is told of them.
-static SCRIPTS: [(&str, &str); 71] = [
-    // Scripts that are read.
+// Scripts that are read, with a `/` for each line end, and what they ask for.
+static READ: [(&str, &str); 14] = [
     ("", ""),
     ("client 64", "64 "),
     ("client 1/begin/commit/", "1 1:."),
@@ -110,9 +109,6 @@ static SCRIPTS: [(&str, &str); 71] = [
         "client 1/begin/get 0/commit/client 3/client 9/begin/abort/begin/commit/",
         "1 3 9 1:get 0 .9:!9:.",
     ),
-    ("client 3/begin/commit/client 3/", "bad line 4"),
-    ("client 3/client 2/", "bad line 2"),
-    ("client 64/client 65/", "bad line 2"),
     // Empty lines and comments mean nothing.
     ("/", ""),
     ("#", ""),
@@ -121,6 +117,26 @@ static SCRIPTS: [(&str, &str); 71] = [
         "3 3:get 0 .",
     ),
     ("client 3/begin/put 0 # a/commit/", "3 3:put 0 [# a] ."),
+    // A value has up to 64 bytes.
+    (
+        "client 1/begin/put 5 \
+        0123456789abcdef0123456789abcdef0123456789abcdef0123456789abcd ~/commit/",
+        "1 1:put 5 [0123456789abcdef0123456789abcdef0123456789abcdef0123456789abcd ~] .",
+    ),
+];
+
+#[test]
+fn scripts_are_read(rt: HostRuntime) {
+    expect_all(&rt, &READ);
+}
+
+// Scripts of which a line may not stand there, and the first one that is named.
+static MISPLACED: [(&str, &str); 31] = [
+    // Clients' numbers rise.
+    ("client 3/begin/commit/client 3/", "bad line 4"),
+    ("client 3/client 2/", "bad line 2"),
+    ("client 64/client 65/", "bad line 2"),
+    // A comment has its own line, and an empty line has no byte.
     ("client 3/begin/get 0 # a/commit/", "bad line 3"),
     ("client 3/begin/ # a/commit/", "bad line 3"),
     ("client 3/begin/ /commit/", "bad line 3"),
@@ -139,6 +155,27 @@ static SCRIPTS: [(&str, &str); 71] = [
     ("client 1/begin/client 2/", "bad line 3"),
     ("client 1/begin/begin/", "bad line 3"),
     ("client 1/get 1/", "bad line 2"),
+    ("client 1/commit/", "bad line 2"),
+    ("client 1/abort/", "bad line 2"),
+    ("client 1/del 1/", "bad line 2"),
+    ("client 1/add 1 1/", "bad line 2"),
+    ("client 1/begin/commit/commit/", "bad line 4"),
+    ("client 1/begin/commit /", "bad line 3"),
+    ("client 1/begin/Abort/", "bad line 3"),
+    // An open transaction names the line behind the last.
+    ("client 1/begin/get 5/", "bad line 4"),
+    ("client 1/begin/get 5", "bad line 4"),
+    ("client 1/begin/#", "bad line 4"),
+    ("client 1/begin//", "bad line 4"),
+];
+
+#[test]
+fn the_first_bad_line_is_named(rt: HostRuntime) {
+    expect_all(&rt, &MISPLACED);
+}
+
+// Operations whose key, value or amount is none.
+static MISSPELT: [(&str, &str); 26] = [
     ("client 1/begin/get 8/commit/", "bad line 3"),
     ("client 1/begin/get 08/commit/", "bad line 3"),
     ("client 1/begin/get +1/commit/", "bad line 3"),
@@ -169,33 +206,18 @@ static SCRIPTS: [(&str, &str); 71] = [
         "client 1/begin/add 0 -9223372036854775809/commit/",
         "bad line 3",
     ),
-    ("client 1/commit/", "bad line 2"),
-    ("client 1/abort/", "bad line 2"),
-    ("client 1/del 1/", "bad line 2"),
-    ("client 1/add 1 1/", "bad line 2"),
-    ("client 1/begin/commit/commit/", "bad line 4"),
-    ("client 1/begin/commit /", "bad line 3"),
-    ("client 1/begin/Abort/", "bad line 3"),
-    // An open transaction names the line behind the last.
-    ("client 1/begin/get 5/", "bad line 4"),
-    ("client 1/begin/get 5", "bad line 4"),
-    ("client 1/begin/#", "bad line 4"),
-    ("client 1/begin//", "bad line 4"),
-    // Values of 64 bytes and of 65, and one of a byte that may not stand there.
+    // A value of 65 bytes, and one of a byte that may not stand there.
     (
-        "client 1/begin/put 5 0123456789abcdef0123456789abcdef0123456789abcdef0123456789abcd ~/commit/",
-        "1 1:put 5 [0123456789abcdef0123456789abcdef0123456789abcdef0123456789abcd ~] .",
-    ),
-    (
-        "client 1/begin/put 5 0123456789abcdef0123456789abcdef0123456789abcdef0123456789abcd ~g/commit/",
+        "client 1/begin/put 5 \
+        0123456789abcdef0123456789abcdef0123456789abcdef0123456789abcd ~g/commit/",
         "bad line 3",
     ),
     ("client 1/begin/put 5 \x7f/commit/", "bad line 3"),
 ];
 
 #[test]
-fn scripts_are_read_or_their_first_bad_line_is_named(rt: HostRuntime) {
-    expect_all(&rt, &SCRIPTS);
+fn a_line_with_a_bad_operand_is_named(rt: HostRuntime) {
+    expect_all(&rt, &MISSPELT);
 }
 
 #[test]
