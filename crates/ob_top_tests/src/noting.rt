@@ -1,4 +1,4 @@
-//! A store in memory that notes what it is asked.
+//! A store in memory that tells what it is asked.
 
 ghost use Rattle.std.specs.Prelude.{◌≡◌, ◌≤◌, ◌+◌, ◌-◌, ◌∷◌, [], OnOk, OnErr, IfOk};
 ghost use Rattle.ob_base.specs.Causes.{HasCause};
@@ -10,34 +10,40 @@ ghost use Rattle.ob_mem.specs.Memory.{disk_of_store};
 ghost use Rattle.ob_mem.specs.Laws.{counts_now, only_now, includes_reads};
 
 use ob_base::Failed;
-use ob_mem::{MemLane, MemStore};
-use ob_store::{Event, Store};
-use std::alloc::Global;
+use ob_mem::{MemLane, MemSink, MemStore};
+use ob_store::{Event, Note, SinkWatch, Store, Watch};
+use std::process::Abort;
 
-// A store in memory, and the calls on it, a lane's reads where it was absorbed. Without memory for
-// one it is lost.
+// What the lines of a store's calls take at most.
+const ROOM: usize = 4000;
+
+/// A store in memory, and the lines of the calls on it: a lane's reads where it was absorbed.
 #[derive(Drop)]
 pub struct Noting {
     pub store: MemStore,
-    pub events: Vec<Event>,
-    pub lost: bool,
+    pub told: MemSink,
 }
 
-// Adds calls to those noted, or tells that they are lost.
-fn note(events: &mut Vec<Event>, lost: &mut bool, more: &[Event]) {
-    if events.extend_from_slice(more).is_err() {
-        *lost = true;
+// Writes the lines of calls.
+fn tell(told: &mut MemSink, events: &[Event]) {
+    let mut watch = SinkWatch::new(told);
+    for event in events {
+        watch.note(match event {
+            Event::Read(cell) => Note::Read(*cell),
+            Event::Write(cell) => Note::Write(*cell),
+            Event::Sync => Note::Sync,
+        });
     }
 }
 
-/// What is noted of this store from now on.
-pub fn noted(alloc: Global, store: MemStore) -> Noting
+/// What is asked of this store from now on.
+pub fn noted<R: AllocGlobal + Abort>(rt: &R, store: MemStore) -> Noting
     ensures { result.store ≡ store }
 {
+    let told = MemSink::new(rt.alloc(), ROOM, Vec::new(rt.alloc()));
     Noting {
         store,
-        events: Vec::new(alloc),
-        lost: false,
+        told: told.expect(rt, "memory"),
     }
 }
 
@@ -65,17 +71,17 @@ impl Store for Noting {
     }
 
     fn absorb(&mut self, lane: MemLane) {
-        note(&mut self.events, &mut self.lost, &lane.events);
+        tell(&mut self.told, &lane.events);
         self.store.absorb(lane);
     }
 
     fn write(&mut self, cell: u64, bytes: &[u8; 128]) -> Result<(), Failed> {
-        note(&mut self.events, &mut self.lost, &[Event::Write(cell)]);
+        tell(&mut self.told, &[Event::Write(cell)]);
         self.store.write(cell, bytes)
     }
 
     fn sync(&mut self) -> Result<(), Failed> {
-        note(&mut self.events, &mut self.lost, &[Event::Sync]);
+        tell(&mut self.told, &[Event::Sync]);
         self.store.sync()
     }
 }

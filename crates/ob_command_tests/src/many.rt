@@ -2,19 +2,10 @@
 
 ghost use Rattle.std.specs.Prelude.{◌≤◌};
 
-use crate::playing::{Life, RUN, Step, TURNS, call_on, play, play_all};
+use crate::calling::{SIXTEEN, lines_of, told_by};
 use crate::replay::replayed;
 use ob_desk::Eager;
 use std::process::Abort;
-use std::sync::Wait;
-use std::thread::Threads;
-
-const FORMATS: Step<'static> = Step::Call(
-    "format S K 16 2 4 3 4 4 16 2 16",
-    "",
-    0,
-    "store of 161 cells/",
-);
 
 // A client's transactions over 16 keys.
 fn push_txns<R: AllocGlobal + Abort>(rt: &R, script: &mut String, client: u64)
@@ -41,28 +32,16 @@ fn many_clients<R: AllocGlobal + Abort>(rt: &R) -> String {
     script
 }
 
-static NEW: Life = (161, &[], &[FORMATS]);
+static WAYS: [&str; 4] = ["run S K", "run S K", "run S K", "run S K --turns"];
 
-// How many transactions a run of that script, by these words, reports, of which the committed ones
-// replay one by one.
-fn many_told<R: AllocGlobal + Threads + Wait + Sync + Abort>(
-    rt: &R,
-    words: &str,
-    script: &str,
-) -> u64 {
-    let mut store = play(rt, &NEW);
-    let (status, sink) = call_on(rt, &mut store, &[], &mut Eager, words, script, 1_000_000);
-    assert!(rt; status == 0);
-    replayed(rt, str::from_utf8(sink.written()).ok().expect(rt, "a text"))
-}
-
-static WAYS: [&str; 4] = [RUN, RUN, RUN, TURNS];
-
+// Each report tells all transactions, of which the committed ones replay one by one.
 #[test]
 fn many_clients_are_served_one_by_one(rt: HostRuntime) {
     let script = many_clients(&rt);
     for words in &WAYS {
-        assert!(&rt; many_told(&rt, *words, script.as_str()) == 3200);
+        let told = told_by(&rt, SIXTEEN, &mut Eager, *words, script.as_str());
+        let report = str::from_utf8(told.written()).ok().expect(&rt, "a text");
+        assert!(&rt; replayed(&rt, report) == 3200);
     }
 }
 
@@ -77,25 +56,23 @@ const ALL_AT_REST: &str = "\
     client 50/client 51/client 52/client 53/client 54/client 55/client 56/client 57/\
     client 58/client 59/client 60/client 61/client 62/client 63/client 64/";
 
-static FEW: [Life; 4] = [
-    (161, &[], &[FORMATS, Step::Run("", 0, "")]),
-    (161, &[], &[FORMATS, Step::Run("# nobody/# calls/", 0, "")]),
-    (161, &[], &[FORMATS, Step::Run(ALL_AT_REST, 0, "")]),
+static FEW: [(&str, &str); 4] = [
+    ("", ""),
+    ("# nobody/# calls/", ""),
+    (ALL_AT_REST, ""),
     (
-        161,
-        &[],
-        &[
-            FORMATS,
-            Step::Run(
-                "client 9/begin/put 5 hi/commit/begin/get 5/commit/",
-                0,
-                "epoch 1/txn 1 client 9 committed/put 5 hi/epoch 2/txn 1 client 9 committed/get 5 = hi/",
-            ),
-        ],
+        "client 9/begin/put 5 hi/commit/begin/get 5/commit/",
+        "epoch 1/txn 1 client 9 committed/put 5 hi/epoch 2/txn 1 client 9 committed/get 5 = hi/",
     ),
 ];
 
 #[test]
 fn one_client_is_served_and_none(rt: HostRuntime) {
-    play_all(&rt, &FEW);
+    for &(script, wanted) in &FEW {
+        let told = told_by(&rt, SIXTEEN, &mut Eager, "run S K", script);
+        assert!(&rt;
+            told.written() == lines_of(&rt, wanted).as_bytes(),
+            "{script}"
+        );
+    }
 }

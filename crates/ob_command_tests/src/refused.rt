@@ -1,0 +1,127 @@
+//! Calls without a store: what is refused, in its order, and the files that words call for.
+
+use crate::calling::{KEYS, NONE_FAILS, expect, words_of};
+use ob_words::store_wanted;
+use std::process::Abort;
+
+// The keys of a call: none, those of the tests, or too short ones.
+enum With {
+    None,
+    Keys,
+    Short,
+}
+
+// Words that are refused, with these keys, and what is told.
+static REFUSED: [(With, &str, u8, &str); 19] = [
+    (With::Keys, "", 2, "fault: usage/"),
+    (With::None, "run", 2, "fault: usage/"),
+    (With::Keys, "run S K X", 2, "fault: usage/"),
+    (With::Keys, "run S -k", 2, "fault: usage/"),
+    (With::Keys, "run S K --turns --turns", 2, "fault: usage/"),
+    (With::Keys, "run S K --trace F", 2, "fault: usage/"),
+    (With::Keys, "audit x", 2, "fault: usage/"),
+    (With::Keys, "--help", 2, "fault: usage/"),
+    (With::Keys, "format S K 8 2 2 3 2 2 2 2", 2, "fault: usage/"),
+    (
+        With::None,
+        "format S K 9 2 2 3 2 2 2 2 8",
+        2,
+        "fault: parameter N/",
+    ),
+    (
+        With::None,
+        "format S K 8 2 2 3 2 2 2 2 08",
+        2,
+        "fault: parameter T/",
+    ),
+    (
+        With::Keys,
+        "run S K --lanes 0",
+        2,
+        "fault: parameter LANES/",
+    ),
+    (
+        With::None,
+        "run S K --lanes 17",
+        2,
+        "fault: parameter LANES/",
+    ),
+    (
+        With::None,
+        "run S K --lanes 08",
+        2,
+        "fault: parameter LANES/",
+    ),
+    (
+        With::None,
+        "run --lanes x S K",
+        2,
+        "fault: parameter LANES/",
+    ),
+    (
+        With::None,
+        "run S K --lanes 4294967296",
+        2,
+        "fault: parameter LANES/",
+    ),
+    (
+        With::None,
+        "format S K 8 2 2 3 2 2 2 2 8",
+        7,
+        "fault: source/",
+    ),
+    (With::Short, "run S K", 2, "fault: parameter KEYS/"),
+    (With::Keys, "run S K", 5, "fault: store/"),
+];
+
+fn keys_of(with: &With) -> Option<&'static str> {
+    match with {
+        With::None => None,
+        With::Keys => Some(KEYS),
+        With::Short => Some("00010203"),
+    }
+}
+
+#[test]
+fn refusals_come_in_their_order(rt: HostRuntime) {
+    for (with, words, status, told) in &REFUSED {
+        expect(
+            &rt,
+            *words,
+            keys_of(with),
+            "begin",
+            NONE_FAILS,
+            *status,
+            *told,
+        );
+    }
+}
+
+// Words, and whether they call for the keys `K` and for the store `S`, which may be made or not.
+static WANTED: [(&str, Option<bool>); 8] = [
+    ("audit", None),
+    ("run S K", Some(false)),
+    ("run --lanes 2 S K --turns", Some(false)),
+    ("run S --lanes 17 K", None),
+    ("run S", None),
+    ("format S K 8 2 2 3 2 2 2 2 8", Some(true)),
+    ("format S K 9 2 2 3 2 2 2 2 8", None),
+    ("format S K 8 2 2 3 2 2 2 2", None),
+];
+
+fn expect_wanted<R: AllocGlobal + Abort>(rt: &R, line: &str, may_make: Option<bool>) {
+    let words = words_of(rt, line);
+    let paths = store_wanted(rt.alloc(), &words).expect(rt, "memory");
+    let (store, keys) = match may_make {
+        Some(may_make) => (Some(("S", may_make)), Some("K")),
+        None => (None, None),
+    };
+    assert!(rt; paths.store == store && paths.keys == keys, "{line}");
+}
+
+#[test]
+fn what_words_do_not_call_for_is_not_wanted(rt: HostRuntime) {
+    for &(line, may_make) in &WANTED {
+        expect_wanted(&rt, line, may_make);
+    }
+}
