@@ -5,10 +5,11 @@ ghost use Rattle.ob_base.specs.Layout.{checkpoint_cells};
 
 use hex::FromHex;
 use ob_base::{Params, check_cell, checkpoint_cells, ring_cells};
-use ob_cells::{Cut, write_sealed};
+use ob_cells::{Cut, read_cells, write_sealed};
 use ob_mem::{Fail, MemStore};
 use ob_seal::{Keys, Sealer};
 use ob_store::{Blind, write_run};
+use std::alloc::Global;
 use std::process::Abort;
 
 // The cells 17 to 27 of a store of 8 keys that was just formatted under the keys of the bytes 0 to
@@ -43,81 +44,105 @@ static WRITTEN: [&str; 11] = [
 ];
 
 /// The cells of the checkpoint of epoch 0 or of epoch 1.
-pub fn cells_of(epoch: u64) -> &'static [&'static str; 11] {
+fn digits_of(epoch: u64) -> &'static [&'static str; 11] {
     if epoch == 0 { &FORMATTED } else { &WRITTEN }
 }
 
+/// The same as bytes.
+pub fn cells_of(rt: &impl Abort, epoch: u64) -> [[u8; 128]; 11] {
+    let digits = digits_of(epoch);
+    let mut cells = [[0; 128]; 11];
+    for i in 0..11 {
+        let bytes = <[u8; 128] as FromHex>::from_hex(digits[i]);
+        cells[i] = bytes.ok().expect(rt, "digits");
+    }
+    cells
+}
+
+/// The parameters with these numbers.
+pub fn params_of(rt: &impl Abort, numbers: &[u32; 9]) -> Params {
+    let [n, l, z, s, r, br, bw, e, t] = *numbers;
+    Params::new(n, l, z, s, r, br, bw, e, t).expect(rt, "parameters")
+}
+
+/// Eight keys; seven buckets of two real and three dummy slots.
+pub const SMALL: [u32; 9] = [8, 2, 2, 3, 2, 2, 2, 2, 8];
+
 /// The first cell of the area of an epoch.
 pub fn area_of(p: &Params, epoch: u64) -> u64
-    requires { 0 < checkpoint_cells p.now }
     ensures few { result + checkpoint_cells p.now < 2 ^ 64 }
     ensures low { result < 2 ^ 24 }
 {
+    if checkpoint_cells(p) == 0 {
+        return 0;
+    }
     check_cell(p, (epoch % 2) as u8, 0)
 }
 
-/// The keys of the bytes 0 to 95.
-pub fn test_keys() -> Keys {
+/// A sealer of a generation under the keys of the bytes 0 to 95.
+pub fn new_sealer(generation: u64) -> Sealer
+    ensures { result.next ≡ 0 }
+{
     let mut bytes = [0; 96];
     for i in 0..96 {
         bytes[i] = i as u8;
     }
-    Keys::from_bytes(&bytes)
+    Sealer::new(&Keys::from_bytes(&bytes), generation)
 }
 
-/// A sealer of a generation that has made so many seals.
-pub fn sealer_after<R: Abort>(rt: &R, generation: u64, seals: u64) -> Sealer {
-    let mut sealer = Sealer::new(&test_keys(), generation);
+/// The same behind so many seals.
+pub fn sealer_after(generation: u64, seals: u64) -> Sealer {
+    let mut sealer = new_sealer(generation);
     for _seal in 0..seals {
-        assert!(rt; sealer.seal(0, &[0; 96]).is_ok());
+        let _ = sealer.seal(0, &[0; 96]);
     }
     sealer
 }
 
-/// The bytes of a cell.
-pub fn bytes_of<R: Abort>(rt: &R, digits: &str) -> [u8; 128] {
-    <[u8; 128] as FromHex>::from_hex(digits)
-        .ok()
-        .expect(rt, "digits")
-}
-
 /// A store of these parameters, where these calls fail.
-pub fn store_of<R: AllocGlobal + Abort>(rt: &R, p: &Params, fails: &[Fail]) -> MemStore
+pub fn store_of(rt: &impl Abort, alloc: Global, p: &Params, fails: &[Fail]) -> MemStore
     ensures { result.log.out ≡ 0 }
 {
-    let fails = fails.to_vec(rt.alloc()).expect(rt, "memory");
-    MemStore::new(rt.alloc(), ring_cells(p) as usize, fails).expect(rt, "memory")
+    let fails = fails.to_vec(alloc).expect(rt, "memory");
+    MemStore::new(alloc, ring_cells(p) as usize, fails).expect(rt, "memory")
 }
 
-/// The same with these cells from a cell on.
-pub fn store_with<R: AllocGlobal + Abort>(
-    rt: &R,
+/// The same with the checkpoint of epoch 0 or of epoch 1.
+pub fn store_with(
+    rt: &impl Abort,
+    alloc: Global,
     p: &Params,
-    base: u64,
-    cells: &[&str; 11],
+    epoch: u64,
     fails: &[Fail],
 ) -> MemStore
     ensures { result.log.out ≡ 0 }
 {
-    let mut store = store_of(rt, p, fails);
-    let mut rows = [[0; 128]; 11];
-    for i in 0..11 {
-        rows[i] = bytes_of(rt, cells[i]);
-    }
-    assert!(rt; base < 99);
-    assert!(rt; write_run(&mut store, base, &rows, &mut Blind).is_ok());
+    let mut store = store_of(rt, alloc, p, fails);
+    let cells = cells_of(rt, epoch);
+    assert!(rt; write_run(&mut store, area_of(p, epoch), &cells, &mut Blind).is_ok());
     store
 }
 
+/// Whether a store has the cells of the checkpoint of epoch 0 or of epoch 1.
+pub fn has_cells(rt: &impl Abort, p: &Params, epoch: u64, store: &mut MemStore) -> bool {
+    let mut cells = [[0; 128]; 11];
+    let read = read_cells(store, area_of(p, epoch), &mut cells, &mut Blind);
+    let wanted = cells_of(rt, epoch);
+    for i in 0..11 {
+        if cells[i] != wanted[i] {
+            return false;
+        }
+    }
+    read.is_ok()
+}
+
 /// A store whose area of an epoch has these plain bytes, under the first seals of generation 2.
-pub fn sealed<R: AllocGlobal + Abort>(rt: &R, p: &Params, epoch: u64, plain: &[u8]) -> MemStore
+pub fn sealed(rt: &impl Abort, alloc: Global, p: &Params, epoch: u64, plain: &[u8]) -> MemStore
     ensures { result.log.out ≡ 0 }
 {
-    let mut store = store_of(rt, p, &[]);
-    let mut sealer = Sealer::new(&test_keys(), 2);
-    let many = checkpoint_cells(p);
-    assert!(rt; many > 0);
-    let base = area_of(p, epoch);
+    let mut store = store_of(rt, alloc, p, &[]);
+    let mut sealer = new_sealer(2);
+    let (base, many) = (area_of(p, epoch), checkpoint_cells(p));
     let cut = Cut { bytes: plain };
     assert!(rt; write_sealed(&mut store, &mut sealer, base, many, &cut, &mut Blind).is_ok());
     store
