@@ -209,7 +209,7 @@ const EMPTY: u64 = 0xffff_ffff;
 const N: Change = (0, 0, 0);
 
 // Bytes that are changed, and the check, the cell, the number and the least one that are told.
-static BROKEN: [([Change; 4], Check, u64, u64, u64); 19] = [
+const BROKEN: &[([Change; 4], Check, u64, u64, u64)] = &[
     ([(8, 4, 1), N, N, N], Check::Form, 28, 4, 0),
     ([(16, 2, 1), N, N, N], Check::Form, 28, 2, 0),
     ([(138, 4, 1), N, N, N], Check::Form, 29, 4, 0),
@@ -252,7 +252,7 @@ static BROKEN: [([Change; 4], Check, u64, u64, u64); 19] = [
 #[test]
 fn the_first_broken_rule_is_told(rt: HostRuntime) {
     let p = params_of(&rt, &SMALL);
-    for (changes, check, cell, kept, least) in &BROKEN {
+    for (changes, check, cell, kept, least) in BROKEN {
         let told = answer(&rt, rt.alloc(), &p, changes).err();
         let wanted = damaged(*cell, *check, (*kept, 0), (*least, 0));
         assert!(rt; told == Some(wanted), "{cell}");
