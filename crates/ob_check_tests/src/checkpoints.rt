@@ -193,7 +193,7 @@ fn only_row(stash: &Stash) -> Option<(Key, Value)> {
     }
 }
 
-/// What is told of a cell that breaks a rule, where both are two numbers of 64 bits, low byte first.
+/// What is told of a cell that breaks a rule; both are two numbers of 64 bits, low byte first.
 pub fn damaged(cell: u64, check: Check, kept: (u64, u64), computed: (u64, u64)) -> Fault {
     Fault::Damaged {
         cell,
@@ -208,54 +208,65 @@ const EMPTY: u64 = 0xffff_ffff;
 // No change.
 const N: Change = (0, 0, 0);
 
+// Up to four changes.
+type Changes = (Change, Change, Change, Change);
+
 // Bytes that are changed, and the check, the cell, the number and the least one that are told.
-const BROKEN: &[([Change; 4], Check, u64, u64, u64)] = &[
-    ([(8, 4, 1), N, N, N], Check::Form, 28, 4, 0),
-    ([(16, 2, 1), N, N, N], Check::Form, 28, 2, 0),
-    ([(138, 4, 1), N, N, N], Check::Form, 29, 4, 0),
-    ([(289, 2, 1), N, N, N], Check::Form, 31, 2, 0),
-    ([(306, 2, 1), N, N, N], Check::Form, 31, 2, 5),
-    ([(306, 8, 1), N, N, N], Check::Form, 31, 8, 5),
-    ([(310, 5, 1), (311, 0, 3), N, N], Check::Form, 31, 5, EMPTY),
-    ([(201, 5, 1), (202, 0, 3), N, N], Check::Form, 31, 5, EMPTY),
-    ([(271, 5, 1), (272, 0, 3), N, N], Check::Form, 30, 5, EMPTY),
-    ([(279, 5, 1), N, N, N], Check::Form, 30, 5, 0),
-    ([(281, 1, 1), N, N, N], Check::Form, 30, 1, 0),
-    ([(280, 2, 1), N, N, N], Check::Form, 30, 2, 0),
-    ([(315, 1, 1), N, N, N], Check::Form, 31, 1, 0),
+type Broken = (Changes, Check, u64, u64, u64);
+
+const BROKEN: &[Broken] = &[
+    (((8, 4, 1), N, N, N), Check::Form, 28, 4, 0),
+    (((16, 2, 1), N, N, N), Check::Form, 28, 2, 0),
+    (((138, 4, 1), N, N, N), Check::Form, 29, 4, 0),
+    (((289, 2, 1), N, N, N), Check::Form, 31, 2, 0),
+    (((306, 2, 1), N, N, N), Check::Form, 31, 2, 5),
+    (((306, 8, 1), N, N, N), Check::Form, 31, 8, 5),
+    (((310, 5, 1), (311, 0, 3), N, N), Check::Form, 31, 5, EMPTY),
+    (((201, 5, 1), (202, 0, 3), N, N), Check::Form, 31, 5, EMPTY),
+    (((271, 5, 1), (272, 0, 3), N, N), Check::Form, 30, 5, EMPTY),
+    (((279, 5, 1), N, N, N), Check::Form, 30, 5, 0),
+    (((281, 1, 1), N, N, N), Check::Form, 30, 1, 0),
+    (((280, 2, 1), N, N, N), Check::Form, 30, 2, 0),
+    (((315, 1, 1), N, N, N), Check::Form, 31, 1, 0),
     (
-        [(284, 1, 1), (286, 1, 1), (288, 1, 1), N],
+        ((284, 1, 1), (286, 1, 1), (288, 1, 1), N),
         Check::Form,
         31,
         1,
         0,
     ),
-    ([(429, 1, 1), N, N, N], Check::Form, 32, 1, 0),
+    (((429, 1, 1), N, N, N), Check::Form, 32, 1, 0),
     (
-        [(306, 255, 4), (429, 1, 1), (433, 4, 1), N],
+        ((306, 255, 4), (429, 1, 1), (433, 4, 1), N),
         Check::Form,
         32,
         4,
         5,
     ),
     (
-        [(306, 255, 4), (429, 1, 1), (433, 5, 1), (437, 65, 1)],
+        ((306, 255, 4), (429, 1, 1), (433, 5, 1), (437, 65, 1)),
         Check::Form,
         32,
         65,
         0,
     ),
-    ([(306, 255, 4), N, N, N], Check::Form, 32, 0, 1),
-    ([(0, 9, 1), (8, 4, 1), N, N], Check::Epoch, 28, 9, 1),
+    (((306, 255, 4), N, N, N), Check::Form, 32, 0, 1),
+    (((0, 9, 1), (8, 4, 1), N, N), Check::Epoch, 28, 9, 1),
 ];
+
+// Whether this is told of such bytes.
+fn is_told(rt: &impl Abort, alloc: Global, p: &Params, row: &Broken) -> bool {
+    let ((first, second, third, fourth), check, cell, kept, least) = *row;
+    let told = answer(rt, alloc, p, &[first, second, third, fourth]).err();
+    told == Some(damaged(cell, check, (kept, 0), (least, 0)))
+}
 
 #[test]
 fn the_first_broken_rule_is_told(rt: HostRuntime) {
     let p = params_of(&rt, &SMALL);
-    for (changes, check, cell, kept, least) in BROKEN {
-        let told = answer(&rt, rt.alloc(), &p, changes).err();
-        let wanted = damaged(*cell, *check, (*kept, 0), (*least, 0));
-        assert!(rt; told == Some(wanted), "{cell}");
+    for row in BROKEN {
+        let cell = row.2;
+        assert!(rt; is_told(&rt, rt.alloc(), &p, row), "{cell}");
     }
 }
 

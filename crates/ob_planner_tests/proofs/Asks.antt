@@ -1,5 +1,5 @@
 -- What is planned of a batch of at most two places, of which only the first asks; and of one write.
-use Rattle.std.specs.Prelude.{◌≡◌, ℕ, zero, suc, ◌<◌, ◌≤◌, List, [], ◌∷◌, take, length, Option, None, IfSome, slice_index_or}
+use Rattle.std.specs.Prelude.{◌≡◌, ℕ, zero, suc, ◌<◌, ◌≤◌, [], ◌∷◌, take, length, Option, None, IfSome, slice_index_or}
 use Rattle.std.proofs.Common.{arith, refl}
 use Rattle.ob_base.specs.declared.value.Write.{Write}
 use Rattle.ob_ring.specs.Writing.{write_at}
