@@ -1,20 +1,18 @@
--- A run serves on after its opening, after each batch and after each end.
-use Rattle.std.specs.Prelude.{◌≡◌, ℕ, zero, suc, ◌+◌, ◌*◌, ◌<◌, ◌≤◌, ◌^◌, false, List, [], ◌∷◌, take, replicate, length, Option, Some, None, IfSome, slice_get, slice_set}
+-- A run serves on after each batch.
+use Rattle.std.specs.Prelude.{◌≡◌, ℕ, zero, suc, ◌*◌, ◌<◌, ◌≤◌, List, [], ◌∷◌, take, replicate, length, Option, Some, None, IfSome, slice_get, slice_set}
 use Rattle.std.proofs.Common.{arith, inl, ⊎_elim, refl, sym, ap, ◌∙◌, subst, get_or-set_same, get_or-set_other, length-set}
-use Rattle.std.proofs.lemmas.Bool.{cases_eq, cases_lt}
+use Rattle.std.proofs.lemmas.Bool.{cases_eq}
+use Rattle.std.proofs.lemmas.List.{get_or-take}
 use Rattle.ob_base.specs.declared.params.Params.{Params}
 use Rattle.ob_base.specs.declared.value.Write.{Write}
 use Rattle.ob_base.specs.Layout.{checkpoint_cells}
-use Rattle.ob_base.specs.Planned.{most_jobs}
 use Rattle.ob_base.specs.Tree.{buckets, width}
 use Rattle.ob_cells.specs.Jobs.{Manned}
 use Rattle.ob_cells.specs.Writes.{WritesWithin}
-use Rattle.ob_end.specs.EndRuns.{IsEndReady, words_for_end}
+use Rattle.ob_end.specs.EndRuns.{IsEndReady}
 use Rattle.ob_fetch.specs.declared.run.Run.{Run}
-use Rattle.ob_fetch.specs.Fetches.{DrawsWords, IsRunReady, IsWornForBatch, MayGoOn}
-use Rattle.ob_fetch.proofs.FetchLaws.{drawn_many}
+use Rattle.ob_fetch.specs.Fetches.{IsRunReady, MayGoOn}
 use Rattle.ob_recover.specs.Fits.{IsPlannerFit}
-use Rattle.ob_ring.specs.FlatTable.{FlatTable}
 use Rattle.ob_serial.specs.Vaults.{AreBelow, AreDistinct}
 use Rattle.ob_store.specs.Disk.{Disk}
 use Rattle.ob_store.specs.Calls.{GoesOn}
@@ -27,7 +25,7 @@ use Rattle.ob_ring_tests.specs.Serving.{AreFitWrites, IsServing}
 -- so a call may be made
 pub goes_on : (disk : Disk) (present : ℕ) (drawn : List ℕ) (run : Run) (crew : Manned) → IsServing disk present drawn run crew → MayGoOn disk present drawn crew run
 goes_on disk present drawn run crew was = record {
-  none_out = (let o = was.out in omega (arith, o));
+  none_out = was.out;
   ready = (was.ready).ready;
   serves = was.serves;
   crew = was.crew_is;
@@ -36,54 +34,41 @@ goes_on disk present drawn run crew was = record {
   few = was.few;
 }
 
+-- where another may be made, and the epoch may be ended
+pub serving_on : (disk : Disk) (present : ℕ) (drawn : List ℕ) (run : Run) (crew : Manned) → MayGoOn disk present drawn crew run → IsEndReady run → (disk.tells → GatesAre (run.gates).epoch 5 disk.cells) → IsServing disk present drawn run crew
+serving_on disk present drawn run crew on ready told = record {
+  out = on.none_out;
+  ready = ready;
+  serves = on.serves;
+  crew_is = on.crew;
+  generation = on.generation;
+  drawn_are = on.drawn;
+  few = on.few;
+  told = told;
+}
+
 -- ---- after a batch
 
-module _ (old new : Disk) (present present' : ℕ) (drawn drawn' : List ℕ) (run run' : Run) (crew crew' : Manned) (was : IsServing old present drawn run crew)
-    (kept : run' ≡ record run { sealer = run'.sealer; drawn = run'.drawn; left = run'.left; spent = run'.spent; ring = run'.ring; jobs = run'.jobs; words = run'.words }) (goes : GoesOn old new) (out : new.out ≤ old.out) where
+module _ (run run' : Run) (kept : run' ≡ record run { sealer = run'.sealer; drawn = run'.drawn; left = run'.left; spent = run'.spent; ring = run'.ring; jobs = run'.jobs; words = run'.words }) (was : IsEndReady run) where
   params_are : run'.params ≡ run.params
   params_are = ap (λ (r : Run). r.params) kept
-
-  not_worn : (IsWornForBatch run → ⊥) → run.drawn + (run.params).places ≤ 2 ^ 62
-  not_worn none = ⊎_elim (λ (lt : 2 ^ 62 < run.drawn + (run.params).places). absurd (none (inl lt))) (λ le. le) (cases_lt (2 ^ 62) (run.drawn + (run.params).places))
 
   ready_then : IsRunReady run' → IsPlannerFit run'.ring → length (run'.words).items ≡ length (run.words).items → IsEndReady run'
   ready_then ready fit many = record {
     ready = ready;
-    own_words = (let own = (was.ready).own_words in subst (λ (q : Params). q.writes ≤ length (run'.words).items) (sym params_are) (omega (arith, own, many)));
-    all_words = (let all = (was.ready).all_words in subst (λ (q : Params). buckets q * width q ≤ length (run'.words).items) (sym params_are) (omega (arith, all, many)));
-    sheet = ap (λ (r : Run). length r.sheet) kept ∙ (was.ready).sheet ∙ ap (λ (q : Params). 96 * checkpoint_cells q) (sym params_are);
+    own_words = (let own = was.own_words in subst (λ (q : Params). q.writes ≤ length (run'.words).items) (sym params_are) (omega (arith, own, many)));
+    all_words = (let all = was.all_words in subst (λ (q : Params). buckets q * width q ≤ length (run'.words).items) (sym params_are) (omega (arith, all, many)));
+    sheet = ap (λ (r : Run). length r.sheet) kept ∙ was.sheet ∙ ap (λ (q : Params). 96 * checkpoint_cells q) (sym params_are);
     planner = fit;
   }
 
-  pub serving_fetched : IsRunReady run' → IsPlannerFit run'.ring → length (run'.words).items ≡ length (run.words).items → run'.spent ≡ false → crew' ≡ crew → present' ≡ present → (run'.sealer).generation ≡ (run.sealer).generation → run'.drawn ≡ length drawn'
-      → DrawsWords (run.params).places drawn drawn' → (IsWornForBatch run → ⊥) → (base many : ℕ) → 9 ≤ base → WritesWithin base many old new → IsServing new present' drawn' run' crew'
-  serving_fetched ready fit many serves crew_is same generation drawn_are draws none base wide low within = record {
-    out = (let o = was.out in omega (arith, o, out));
-    ready = ready_then ready fit many;
-    serves = serves;
-    crew_is = subst (λ (q : Params). most_jobs q ≤ crew'.jobs) (sym params_are) (subst (λ (m : Manned). most_jobs run.params ≤ m.jobs) (sym crew_is) was.crew_is);
-    generation = same ∙ was.generation ∙ sym generation;
-    drawn_are = drawn_are;
-    few = (let more = drawn_many (run.params).places drawn drawn' draws in let before = was.drawn_are in let some = not_worn none in omega (arith, more, before, some, drawn_are));
-    told = λ tells. subst (λ (known : Gates). GatesAre known.epoch 5 new.cells) (sym (ap (λ (r : Run). r.gates) kept))
-        (gates_moved (run.gates).epoch 5 new.cells old.cells (λ k from to. within.rest (goes.told tells) k (inl (omega (arith, to, low)))) (was.told (goes.told tells)));
-  }
-
--- ---- after an end
-
-module _ (old new : Disk) (present present' : ℕ) (drawn drawn' : List ℕ) (run run' : Run) (crew crew' : Manned) (was : IsServing old present drawn run crew) (goes : GoesOn old new) (out : new.out ≤ old.out) where
-  pub serving_ended : IsEndReady run' → run'.spent ≡ false → crew' ≡ crew → run'.params ≡ run.params → present' ≡ present → (run'.sealer).generation ≡ (run.sealer).generation → run'.drawn ≡ length drawn' → (t : FlatTable)
-      → DrawsWords (words_for_end run.params t) drawn drawn' → run.drawn + words_for_end run.params t ≤ 2 ^ 62 → (old.tells → GatesAre (run'.gates).epoch 5 new.cells) → IsServing new present' drawn' run' crew'
-  serving_ended ready serves crew_is params_are same generation drawn_are t draws few told = record {
-    out = (let o = was.out in omega (arith, o, out));
-    ready = ready;
-    serves = serves;
-    crew_is = subst (λ (q : Params). most_jobs q ≤ crew'.jobs) (sym params_are) (subst (λ (m : Manned). most_jobs run.params ≤ m.jobs) (sym crew_is) was.crew_is);
-    generation = same ∙ was.generation ∙ sym generation;
-    drawn_are = drawn_are;
-    few = (let more = drawn_many (words_for_end run.params t) drawn drawn' draws in let before = was.drawn_are in omega (arith, more, before, few, drawn_are));
-    told = λ tells. told (goes.told tells);
-  }
+pub serving_fetched : (old new : Disk) (present present' : ℕ) (drawn drawn' : List ℕ) (run run' : Run) (crew crew' : Manned) → IsServing old present drawn run crew
+    → run' ≡ record run { sealer = run'.sealer; drawn = run'.drawn; left = run'.left; spent = run'.spent; ring = run'.ring; jobs = run'.jobs; words = run'.words }
+    → GoesOn old new → MayGoOn new present' drawn' crew' run' → IsPlannerFit run'.ring → length (run'.words).items ≡ length (run.words).items
+    → (base many : ℕ) → 9 ≤ base → WritesWithin base many old new → IsServing new present' drawn' run' crew'
+serving_fetched old new present present' drawn drawn' run run' crew crew' was kept goes on fit many base wide low within = serving_on new present' drawn' run' crew' on (ready_then run run' kept was.ready on.ready fit many)
+    (λ tells. subst (λ (known : Gates). GatesAre known.epoch 5 new.cells) (sym (ap (λ (r : Run). r.gates) kept))
+    (gates_moved (run.gates).epoch 5 new.cells old.cells (λ k from to. within.rest (goes.told tells) k (inl (omega (arith, to, low)))) (was.told (goes.told tells))))
 
 -- ---- the asks of a batch
 
@@ -151,3 +136,17 @@ module _ (keys : ℕ) (ws : List Write) (i : ℕ) (w : Write) (lt : i < length w
         (λ (apart : k ≡ i → ⊥). was.short k value (within k l) (sym (ap (λ (x : Write). x.value) (there k apart)) ∙ is))
         (cases_eq k i);
   }
+
+-- ---- the first ones of them
+
+taken_within : (n i : ℕ) (ws : List Write) → i < length (take n ws) → (i < n) × (i < length ws)
+taken_within zero i ws lt = (omega (arith, lt), omega (arith, lt))
+taken_within (suc n) i [] lt = (omega (arith, lt), omega (arith, lt))
+taken_within (suc n) zero (w ∷ ws) lt = (omega arith, omega arith)
+taken_within (suc n) (suc i) (w ∷ ws) lt = let rest = taken_within n i ws (omega (arith, lt)) in let low = rest.0 in let here = rest.1 in (omega (arith, low), omega (arith, here))
+
+pub fit_taken : (keys n : ℕ) (ws : List Write) → AreFitWrites keys ws → AreFitWrites keys (take n ws)
+fit_taken keys n ws was = record {
+  low = λ i lt. let within = taken_within n i ws lt in subst (λ (w : Write). w.key < keys) (sym (get_or-take n ws i no_write within.0)) (was.low i within.1);
+  short = λ i value lt is. let within = taken_within n i ws lt in was.short i value within.1 (ap (λ (w : Write). w.value) (sym (get_or-take n ws i no_write within.0)) ∙ is);
+}

@@ -6,9 +6,10 @@ ghost use Rattle.ob_mem.specs.Memory.{disk_of_store};
 use crate::serving::{Put, Step, Told};
 use crate::small::{left_after, new_store, run, test_keys};
 use ob_base::{Check, Fault, Value};
+use ob_cells::read_cells;
 use ob_mem::{Fail, MemStore};
 use ob_seal::Sealer;
-use ob_store::Store;
+use ob_store::{Blind, Store};
 use std::alloc::Global;
 use std::process::Abort;
 
@@ -46,18 +47,35 @@ fn image_of(rt: &impl Abort, alloc: Global, left: &mut MemStore) -> (u64, bool)
 // What the cells that aren't sure hold, and the moment from which on the epoch is ended.
 const CRASHES: &[(Option<u8>, usize)] = &[(None, 55), (Some(0), 56), (Some(0xA5), 55)];
 
+// A store that was formatted, and all of it sure, in which the epoch was run.
+fn epoch_store(rt: &impl Abort, alloc: Global) -> MemStore {
+    let formatted = new_store(rt, alloc, &[]);
+    let mut store = left_after(rt, &formatted, 72, None);
+    let outcome = run(rt, alloc, &mut store, EPOCH);
+    assert!(rt; outcome.told == Told::Done { epoch: 1, left: 2 });
+    store
+}
+
+// Whether a crash at a moment leaves the epoch whole, or the one before it.
+fn leaves_so(
+    rt: &impl Abort,
+    alloc: Global,
+    store: &MemStore,
+    moment: usize,
+    filling: Option<u8>,
+    ended: bool,
+) -> bool {
+    let mut left = left_after(rt, store, moment, filling);
+    image_of(rt, alloc, &mut left) == (u64::from(ended), ended)
+}
+
 #[test]
 fn a_crash_leaves_one_of_two_epochs_whole(rt: HostRuntime) {
-    let formatted = new_store(&rt, rt.alloc(), &[]);
-    let mut store = left_after(&rt, &formatted, 72, None);
-    let outcome = run(&rt, rt.alloc(), &mut store, EPOCH);
-    assert!(rt; outcome.told == Told::Done { epoch: 1, left: 2 });
-    for (filling, set) in CRASHES {
+    let store = epoch_store(&rt, rt.alloc());
+    for &(filling, set) in CRASHES {
         for moment in 0..57 {
-            let mut left = left_after(&rt, &store, moment, *filling);
-            let ended = moment >= *set;
-            let image = image_of(&rt, rt.alloc(), &mut left);
-            assert!(rt; image == (u64::from(ended), ended), "at {moment}");
+            let so = leaves_so(&rt, rt.alloc(), &store, moment, filling, moment >= set);
+            assert!(rt; so, "at {moment}");
         }
     }
 }
@@ -166,16 +184,15 @@ fn a_failed_read_refuses_what_made_it(rt: HostRuntime) {
 }
 
 // Changes a bit of a cell.
-fn flip(rt: &impl Abort, store: &mut MemStore, cell: u64)
-    requires { (disk_of_store store.old).out ≡ 0 }
-    ensures { (disk_of_store store.new).out ≡ 0 }
+fn flip<S: Store>(rt: &impl Abort, store: &mut S, cell: u64)
+    requires { (S.disk store.old).out ≡ 0 }
+    ensures { (S.disk store.new).out ≡ 0 }
 {
-    let mut lane = store.lane().expect(rt, "a lane");
-    let mut bytes = [0; 128];
-    assert!(rt; store.read(&mut lane, cell, &mut bytes).is_ok());
-    store.absorb(lane);
-    bytes[40] ^= 4;
-    assert!(rt; store.write(cell, &bytes).is_ok());
+    let mut cells = [[0; 128]];
+    assert!(rt; cell < 200);
+    assert!(rt; read_cells(store, cell, &mut cells, &mut Blind).is_ok());
+    cells[0][40] ^= 4;
+    assert!(rt; store.write(cell, &cells[0]).is_ok());
 }
 
 // Whether a call is refused, a fetch or an end, since this cell is torn.
@@ -191,13 +208,18 @@ fn is_torn_at(told: Told, torn: u64, by_fetch: bool) -> bool {
     }
 }
 
+// Whether the epoch is refused so where a bit of this cell is another.
+fn tears_at(rt: &impl Abort, alloc: Global, cell: u64, by_fetch: bool) -> bool {
+    let mut store = new_store(rt, alloc, &[]);
+    flip(rt, &mut store, cell);
+    let outcome = run(rt, alloc, &mut store, EPOCH);
+    is_torn_at(outcome.told, cell, by_fetch)
+}
+
 #[test]
 fn a_changed_slot_is_told_by_its_cell(rt: HostRuntime) {
-    for (cell, by_fetch) in &[(41, true), (55, true), (49, false), (65, false)] {
-        let mut store = new_store(&rt, rt.alloc(), &[]);
-        flip(&rt, &mut store, *cell);
-        let outcome = run(&rt, rt.alloc(), &mut store, EPOCH);
-        assert!(rt; is_torn_at(outcome.told, *cell, *by_fetch));
+    for &(cell, by_fetch) in &[(41, true), (55, true), (49, false), (65, false)] {
+        assert!(rt; tears_at(&rt, rt.alloc(), cell, by_fetch));
     }
 }
 
@@ -242,17 +264,22 @@ const FORGED: &[(u8, u8, Option<(u8, u8)>)] = &[
     (5, 65, Some((65, 0))),
 ];
 
-// On a tape of zeros the row of key 5 lies in cell 89 behind the epoch.
+// What is told of a fetch of key 5 behind the epoch where its row is forged. On a tape of zeros
+// that lies in cell 89.
+fn told_of_forged(rt: &impl Abort, alloc: Global, key: u8, len: u8) -> Told {
+    let mut store = new_store(rt, alloc, &[]);
+    let outcome = run(rt, alloc, &mut store, EPOCH);
+    assert!(rt; outcome.told == Told::Done { epoch: 1, left: 2 });
+    forge(rt, &mut store, key, len);
+    run(rt, alloc, &mut store, &[FIVE]).told
+}
+
 #[test]
 fn a_forged_row_is_told_by_its_form(rt: HostRuntime) {
-    for (key, len, broken) in FORGED {
-        let mut store = new_store(&rt, rt.alloc(), &[]);
-        let outcome = run(&rt, rt.alloc(), &mut store, EPOCH);
-        assert!(rt; outcome.told == Told::Done { epoch: 1, left: 2 });
-        forge(&rt, &mut store, *key, *len);
-        let told = run(&rt, rt.alloc(), &mut store, &[FIVE]).told;
+    for &(key, len, broken) in FORGED {
+        let told = told_of_forged(&rt, rt.alloc(), key, len);
         assert!(rt;
-            match *broken {
+            match broken {
                 None => told == Told::Done { epoch: 1, left: 1 },
                 Some((kept, computed)) => is_misformed(told, kept, computed),
             }

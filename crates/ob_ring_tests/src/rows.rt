@@ -5,11 +5,10 @@ ghost use Rattle.ob_mem.specs.Memory.{disk_of_store};
 
 use crate::serving::{Put, Step, Told, run_steps};
 use crate::shown::{FIRST_EPOCH, LEAF_ONE, OPENED, SECOND_EPOCH};
-use crate::small::{left_after, new_store, run_on, small_store, store_of, test_keys};
+use crate::small::{format_with, left_after, new_store, run_on, small_store, store_of, test_keys};
 use ob_base::{Fault, Params, Value};
 use ob_cells::read_cells;
 use ob_mem::{MemSink, MemStore};
-use ob_opening::format;
 use ob_seal::ChaChaTape;
 use ob_store::{Blind, SinkWatch};
 use sha2::{Digest, Sha256};
@@ -39,69 +38,45 @@ fn is_made_of(shown: &[u8], parts: &[&[u8]]) -> bool {
     rest.is_empty()
 }
 
-// The words of the tape, zeros behind them; the steps; the epoch that is ended then; what key 5 has
-// where it was asked for; and what is shown.
-struct Row {
-    words: &'static [u64],
-    steps: &'static [Step],
-    epoch: u64,
-    text: &'static [u8],
-    parts: &'static [&'static [u8]],
-}
-
-const ROWS: &[Row] = &[
-    Row {
-        words: &[],
-        steps: &[PADS, PADS, Step::End(&[])],
-        epoch: 1,
-        text: b"",
-        parts: &[OPENED, FIRST_EPOCH],
-    },
-    Row {
-        words: &[],
-        steps: &[PADS, PADS, Step::End(HI)],
-        epoch: 1,
-        text: b"",
-        parts: &[OPENED, FIRST_EPOCH],
-    },
-    Row {
-        words: &[],
-        steps: TWO_EPOCHS,
-        epoch: 2,
-        text: b"hi",
-        parts: &[OPENED, FIRST_EPOCH, SECOND_EPOCH],
-    },
-    Row {
-        words: &[0, 0, 0, 0, 1],
-        steps: TWO_EPOCHS,
-        epoch: 2,
-        text: b"hi",
-        parts: &[OPENED, FIRST_EPOCH, LEAF_ONE],
-    },
+// The steps, how many epochs end, and the fifth word of the tape, whose other words are 0.
+const ROWS: &[(&[Step], u64, u64)] = &[
+    (&[PADS, PADS, Step::End(&[])], 1, 0),
+    (&[PADS, PADS, Step::End(HI)], 1, 0),
+    (TWO_EPOCHS, 2, 0),
+    (TWO_EPOCHS, 2, 1),
 ];
 
-fn plays_so(rt: &impl Abort, alloc: Global, row: &Row) -> bool {
-    let wanted = if row.text.is_empty() {
-        None
+// Whether an opening and so many epochs were shown, of which the second showed this.
+fn is_shown(shown: &[u8], epochs: u64, second: &'static [u8]) -> bool {
+    let parts = [OPENED, FIRST_EPOCH, second];
+    if epochs == 1 {
+        is_made_of(shown, &parts[..2])
     } else {
-        Value::new(row.text)
-    };
+        is_made_of(shown, &parts)
+    }
+}
+
+// Whether so many epochs are done and shown; the second one asks for key 5.
+fn plays_so(rt: &impl Abort, alloc: Global, steps: &[Step], epochs: u64, word: u64) -> bool {
+    let wanted = if epochs == 1 { None } else { Value::new(b"hi") };
+    let second = if word == 0 { SECOND_EPOCH } else { LEAF_ONE };
     let told = Told::Done {
-        epoch: row.epoch,
+        epoch: epochs,
         left: 2,
     };
     let p = small_store(rt);
     let mut store = new_store(rt, alloc, &[]);
     let mut sink = MemSink::new(alloc, 2000, Vec::new(alloc)).expect(rt, "memory");
     let mut watch = SinkWatch::new(&mut sink);
-    let outcome = run_on(rt, alloc, &mut store, &p, row.words, row.steps, &mut watch);
-    outcome.told == told && outcome.found == wanted && is_made_of(sink.written(), row.parts)
+    let words = [0, 0, 0, 0, word];
+    let outcome = run_on(rt, alloc, &mut store, &p, &words, steps, &mut watch);
+    outcome.told == told && outcome.found == wanted && is_shown(sink.written(), epochs, second)
 }
 
 #[test]
 fn epochs_show_what_another_implementation_shows(rt: HostRuntime) {
-    for row in ROWS {
-        assert!(rt; plays_so(&rt, rt.alloc(), row));
+    for &(steps, epochs, word) in ROWS {
+        assert!(rt; plays_so(&rt, rt.alloc(), steps, epochs, word));
     }
 }
 
@@ -141,7 +116,7 @@ fn the_cells_after_two_epochs_are_those_of_another_implementation(rt: HostRuntim
     let keys = test_keys();
     let mut store = MemStore::new(alloc, 109, Vec::new(alloc)).expect(&rt, "memory");
     let mut tape = last_tape();
-    assert!(rt; format(alloc, &mut store, &mut tape, &keys, &p, &mut Blind).is_ok());
+    assert!(rt; format_with(alloc, &mut store, &mut tape, &p).is_ok());
     let mut tape = last_tape();
     let outcome = run_steps(
         alloc, &mut store, &mut tape, &keys, &p, TWO_EPOCHS, &mut Blind,
@@ -161,19 +136,25 @@ const FOUR: &[Put] = &[
 // What a run shows whose end finds the stash too full: no write behind the lifts.
 const TOO_FULL: &[u8] = b"W 11\nS\nW 12\nS\nL 0\nR 21\nR 19\nR 20\nR 24\nR 22\nR 23\n";
 
+// Whether the end of an epoch of four puts is refused so.
+fn is_too_full(rt: &impl Abort, alloc: Global, p: &Params, store: &mut MemStore) -> bool
+    requires { (disk_of_store store.old).out ≡ 0 }
+{
+    let mut sink = MemSink::new(alloc, 2000, Vec::new(alloc)).expect(rt, "memory");
+    let mut watch = SinkWatch::new(&mut sink);
+    let steps = [PADS, Step::End(FOUR)];
+    let words = [0, 1, 1, 1, 1];
+    let outcome = run_on(rt, alloc, store, p, &words, &steps, &mut watch);
+    outcome.told == Told::Before(Fault::StashFull { rows: 2 }) && sink.written().ends_with(TOO_FULL)
+}
+
 // A store of 4 keys and 37 cells, whose stash may keep one row.
 #[test]
 fn a_stash_that_is_too_full_refuses_the_end_before_anything_is_written(rt: HostRuntime) {
     let alloc = rt.alloc();
     let p = Params::new(4, 1, 2, 1, 1, 1, 4, 1, 1).expect(&rt, "parameters");
     let mut store = store_of(&rt, alloc, &p, 37, &[]);
-    let mut sink = MemSink::new(alloc, 2000, Vec::new(alloc)).expect(&rt, "memory");
-    let mut watch = SinkWatch::new(&mut sink);
-    let steps = [PADS, Step::End(FOUR)];
-    let words = [0, 1, 1, 1, 1];
-    let outcome = run_on(&rt, alloc, &mut store, &p, &words, &steps, &mut watch);
-    assert!(rt; outcome.told == Told::Before(Fault::StashFull { rows: 2 }));
-    assert!(rt; sink.written().ends_with(TOO_FULL));
+    assert!(rt; is_too_full(&rt, alloc, &p, &mut store));
     let mut left = left_after(&rt, &store, 1000, None);
     let again = run_on(&rt, alloc, &mut left, &p, &[], &[], &mut Blind);
     assert!(rt; again.told == Told::Done { epoch: 0, left: 0 });

@@ -1,7 +1,6 @@
 //! A run over a ring store: its opening, and steps one behind the other.
 
-ghost use Rattle.std.specs.Prelude.{◌≡◌, ◌<◌, ◌≤◌, ◌∷◌, [], ℕ, List, length, IfOk, IfSome, OnOk, None, Some};
-ghost use Rattle.ob_ring.specs.Writing.{write_at};
+ghost use Rattle.std.specs.Prelude.{◌≡◌, ◌<◌, ◌≤◌, ◌∷◌, [], length, IfOk, IfSome, OnOk, None};
 ghost use Rattle.ob_ring_tests.specs.Serving.{AreFitWrites, IsServing};
 
 use ob_base::{Fault, Key, Params, Value, Write};
@@ -148,10 +147,7 @@ fn end_with<S: Store, T: Tape, W: Watch>(
         run.old crew.old }
     requires none_left { run.old.left ≡ 0 }
     requires few { length writes.now ≤ run.old.params.writes }
-    requires keys { (i : ℕ) → i < length writes.now
-        → (write_at writes.now i).key < run.old.params.keys }
-    requires short { (i : ℕ) (value : List ℕ) → i < length writes.now
-        → (write_at writes.now i).value ≡ Some value → length value ≤ 64 }
+    requires fit { AreFitWrites run.old.params.keys writes.now }
     ensures out { (S.disk store.new).out ≤ (S.disk store.old).out }
     ensures serving { OnOk result (IsServing (S.disk store.new) (T.present tape.new)
         (T.drawn tape.new) run.new crew.new) }

@@ -4,11 +4,11 @@ ghost use Rattle.std.specs.Prelude.{◌≡◌};
 ghost use Rattle.ob_mem.specs.Memory.{disk_of_store};
 
 use crate::serving::{Outcome, Step, run_steps};
-use ob_base::Params;
+use ob_base::{Fault, Params};
 use ob_mem::{Fail, MemStore};
 use ob_opening::format;
-use ob_seal::{Keys, ListTape};
-use ob_store::{Blind, Watch};
+use ob_seal::{Keys, ListTape, Tape};
+use ob_store::{Blind, Store, Watch};
 use std::alloc::Global;
 use std::process::Abort;
 
@@ -26,6 +26,20 @@ pub fn small_store(rt: &impl Abort) -> Params {
     Params::new(8, 2, 2, 3, 2, 2, 2, 2, 8).expect(rt, "parameters")
 }
 
+/// Formats a store with this tape.
+pub fn format_with<S: Store, T: Tape>(
+    alloc: Global,
+    store: &mut S,
+    tape: &mut T,
+    p: &Params,
+) -> Result<(), Fault>
+    requires none_out { (S.disk store.old).out ≡ 0 }
+    requires unstarted { T.present tape.old ≡ 0 }
+    ensures { (S.disk store.new).out ≡ 0 }
+{
+    format(alloc, store, tape, &test_keys(), p, &mut Blind)
+}
+
 /// A new store of these parameters, of so many cells, where these calls fail.
 pub fn store_of(
     rt: &impl Abort,
@@ -39,7 +53,7 @@ pub fn store_of(
     let fails = fails.to_vec(alloc).expect(rt, "memory");
     let mut store = MemStore::new(alloc, cells, fails).expect(rt, "memory");
     let mut tape = ListTape::new(alloc, &[]).expect(rt, "memory");
-    assert!(rt; format(alloc, &mut store, &mut tape, &test_keys(), p, &mut Blind).is_ok());
+    assert!(rt; format_with(alloc, &mut store, &mut tape, p).is_ok());
     store
 }
 

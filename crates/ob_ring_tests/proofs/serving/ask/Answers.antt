@@ -1,16 +1,29 @@
-use Rattle.std.proofs.Common.{◌+◌, ◌%◌, suc, arith}
+use Rattle.std.proofs.Common.{◌+◌, ◌%◌, suc, arith, sym, subst, List, ℕ, Option, take}
+use Rattle.ob_serial.specs.Vaults.{AreBelow, AreDistinct}
 use Rattle.ob_base.specs.Layout.{log_cell, record_cells}
 use Rattle.ob_fetch.specs.Fetches.{next_batch}
-use Rattle.ob_ring_tests.proofs.ServingLaws.{goes_on, serving_fetched}
+use Rattle.ob_ring_tests.proofs.ServingLaws.{asks_below, asks_distinct, goes_on, serving_fetched}
 use Rattle.ob_ring_tests.proofs.serving.ask.Goals as goal
 
 pub fetch-requires-clause-goes_on : goal.fetch-requires-clause-goes_on
 fetch-requires-clause-goes_on g c = goes_on _ _ _ _ _ c.requires.serving
+
+pub fetch-requires-clause-some_left : goal.fetch-requires-clause-some_left
+fetch-requires-clause-some_left g c = c.requires.some_left
+
+pub fetch-requires-clause-keys : goal.fetch-requires-clause-keys
+fetch-requires-clause-keys g c = subst (λ (asks : List (Option ℕ)). AreBelow c.args.run.now.params.keys (take c.args.run.now.params.places asks)) (sym c.asks_of-asks.ensures) (asks_below c.args.run.now.params.places c.args.run.now.params.keys c.args.key c.requires.low)
+
+pub fetch-requires-clause-distinct : goal.fetch-requires-clause-distinct
+fetch-requires-clause-distinct g c = subst (λ (asks : List (Option ℕ)). AreDistinct (take c.args.run.now.params.places asks)) (sym c.asks_of-asks.ensures) (asks_distinct c.args.run.now.params.places c.args.key)
+
+pub returns-in-Ok-clause-out : goal.returns-in-Ok-clause-out
+returns-in-Ok-clause-out g c = c.in-Ok.ensures.serves.out
 
 pub returns-in-Ok-clause-serving : goal.returns-in-Ok-clause-serving
 returns-in-Ok-clause-serving g c =
     let e = c.in-Ok.ensures in
     let run = c.args.run.now in
     serving_fetched (g.S.Store.disk c.args.store.now) (g.S.Store.disk c.fetch.new.store) (g.T.Tape.present c.args.tape.now) (g.T.Tape.present c.fetch.new.tape) (g.T.Tape.drawn c.args.tape.now) (g.T.Tape.drawn c.fetch.new.tape)
-    run c.fetch.new.run c.args.crew.now c.fetch.new.crew c.requires.serving e.keeps.kept e.serves.goes e.serves.out e.goes_on.ready (e.keeps.fit c.requires.serving.ready.planner) e.keeps.words e.counts.served.1 e.crew e.generation e.seals.some.generation e.drawn
-    e.draws (λ worn. e.wears.worn.1 worn) (log_cell run.params (suc run.epoch % 2) (next_batch run) 0) (record_cells run.params + 1) (omega arith) e.within
+    run c.fetch.new.run c.args.crew.now c.fetch.new.crew c.requires.serving e.keeps.kept e.serves.goes e.goes_on (e.keeps.fit c.requires.serving.ready.planner) e.keeps.words
+    (log_cell run.params (suc run.epoch % 2) (next_batch run) 0) (record_cells run.params + 1) (omega arith) e.within
