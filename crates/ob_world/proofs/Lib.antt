@@ -1,0 +1,13 @@
+pub mod Driving
+pub mod Acknowledging
+pub mod Ending
+pub mod Keeping
+pub mod Holding
+pub mod Obeying
+pub mod Weaving
+pub mod Rows
+pub mod Telling
+pub mod Lasting
+pub mod Refused
+pub mod Running
+pub mod Counting
