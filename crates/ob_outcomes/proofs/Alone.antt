@@ -21,20 +21,20 @@ pub record OnlyLast (ws : List Work) : Type 0 where
   pub at_each : (t : ℕ) → goes_on ws t ≡ true → t ≡ length ws
 
 -- the one that there is
-the_one : (c n : ℕ) → Contains (c ∷ []) n → n ≡ c
+pub the_one : (c n : ℕ) → Contains (c ∷ []) n → n ≡ c
 the_one c n h = let p = place_of (c ∷ []) n h in at p.0 p.1
   where
     at : (i : ℕ) → slice_get (c ∷ []) i ≡ Some n → n ≡ c
     at zero e = sym (same_Some c n e)
     at (suc i) e = absurd (none-some n e)
 
-item : {A : Type 0} (xs : List A) (i : ℕ) → i < length xs → (x : A) × (slice_get xs i ≡ Some x)
+pub item : {A : Type 0} (xs : List A) (i : ℕ) → i < length xs → (x : A) × (slice_get xs i ≡ Some x)
 item [] i l = absurd (omega arith)
 item (x ∷ xs) zero l = (x, refl)
 item (x ∷ xs) (suc i) l = item xs i (omega arith)
 
 -- where its client begins a transaction none goes on
-none_goes : (setup : Setup) (c : ℕ) (d : DeskState) (client : ℕ) → Runs setup (c ∷ []) d → MayCall d (Begin client) → (t : ℕ) → goes_on d.running.order.works t ≡ true → ⊥
+pub none_goes : (setup : Setup) (c : ℕ) (d : DeskState) (client : ℕ) → Runs setup (c ∷ []) d → MayCall d (Begin client) → (t : ℕ) → goes_on d.running.order.works t ≡ true → ⊥
 none_goes setup c d client runs may zero going = none_in_new zero going
 none_goes setup c d client runs may (suc n) going =
     let range = goes_on_range d.running.order.works (suc n) going in
@@ -45,7 +45,7 @@ none_goes setup c d client runs may (suc n) going =
     let begins : client ≡ c = the_one c client (subst (λ (ns : List ℕ). Contains ns client) runs.numbers (contains_found d.clients client may.0.client may.0.found)) in
     begins_alone d (suc n) x.0 (subst (λ q. MayCall d (Begin q)) (begins ∙ sym its) may) x.1 going runs.kept.held
 
-last_begun : (ws : List Work) → ((t : ℕ) → goes_on ws t ≡ true → ⊥) → OnlyLast (ws ++ fresh ∷ [])
+pub last_begun : (ws : List Work) → ((t : ℕ) → goes_on ws t ≡ true → ⊥) → OnlyLast (ws ++ fresh ∷ [])
 last_begun ws none = record { at_each = at_each }
   where
     at_each : (t : ℕ) → goes_on (ws ++ fresh ∷ []) t ≡ true → t ≡ length (ws ++ fresh ∷ [])
@@ -66,13 +66,13 @@ refused_alone setup o t k why only going e = ⊎_elim
     (λ full. subst IsOwnWhy (sym full) tt)
     (refusal setup.params o t k why e).either
 
-alone_tale : (setup : Setup) (c : ℕ) → IsTale setup (c ∷ []) (λ ws t why. IsOwnWhy why) OnlyLast
+pub alone_tale : (setup : Setup) (c : ℕ) → IsTale setup (c ∷ []) (λ ws t why. IsOwnWhy why) OnlyLast (λ d. Unit {0})
 alone_tale setup c = record {
   lasts = λ ws vs t why g h. h;
   asks = λ ws t. tt;
   ends = λ ws t. tt;
   falls = λ ws s t on only going going_too other lost. absurd (other (only.at_each t going_too ∙ sym (only.at_each s going)));
-  full = λ o t k queued left e. tt;
+  full = λ d x k queued left known none runs may live only e. tt;
   refused = refused_alone setup;
   empty = record { at_each = λ t e. absurd (none_in_new t e) };
   fewer = λ ws vs len went only. record { at_each = λ t e. only.at_each t (went t e) ∙ sym len };
@@ -88,5 +88,5 @@ record_alone part sound = record_all (λ t. IsOwnOutcome t.outcome) part (λ n w
 
 pub one_client : OneClient
 one_client setup epoch left client steps d may run =
-    told_all (λ ws t why. IsOwnWhy why) OnlyLast setup (client ∷ []) (alone_tale setup client) (λ r. All (λ t. IsOwnOutcome t.outcome) r.txns) record_alone
-    (new_desk setup epoch left (client ∷ [])) steps d run (runs_new setup epoch left (client ∷ [])) (good_new (λ ws t why. IsOwnWhy why) OnlyLast setup (client ∷ []) (alone_tale setup client) epoch left)
+    told_all (λ ws t why. IsOwnWhy why) OnlyLast setup (client ∷ []) (λ d. Unit {0}) (alone_tale setup client) (λ r. All (λ t. IsOwnOutcome t.outcome) r.txns) record_alone (λ d. tt)
+    (new_desk setup epoch left (client ∷ [])) steps d run (runs_new setup epoch left (client ∷ [])) (good_new (λ ws t why. IsOwnWhy why) OnlyLast setup (client ∷ []) (λ d. Unit {0}) (alone_tale setup client) epoch left)

@@ -2,6 +2,7 @@
 use Rattle.std.proofs.Common.{◌≡◌, ℕ, zero, suc, ◌+◌, Bool, true, false, not, ◌&&◌, if◌then◌else◌, List, [], ◌∷◌, ◌++◌, length, All, Option, None, Some, option_map, option_and_then, unwrap_or, refl, sym, ap, ap₂, ◌∙◌, subst, inl, inr, ⊎_elim, length-append}
 use Rattle.std.specs.Option.{option_or}
 use Rattle.std.proofs.lemmas.Bool.{cases_eq, false≢true}
+use Rattle.std.proofs.lemmas.List.{append-nil}
 use Rattle.std.proofs.lemmas.List.Elements.{All-nil, All-cons, All-append}
 use Rattle.std.proofs.lemmas.Option.{none-some, same_Some}
 use Rattle.ob_base.specs.declared.fault.Fault.{Fault}
@@ -20,22 +21,25 @@ use Rattle.ob_order.proofs.Edits.{at_edit_same, at_edit_other, slice_get-push, l
 use Rattle.ob_order.proofs.Falls.{fallen_aborted, fallen_ended, fallen_waits, goes_on-edit, length-aborted}
 use Rattle.ob_order.proofs.Tidies.{tidy_none, tidy_begun, tidy_got, tidy_wrote, tidy_waits, tidy_aborted}
 use Rattle.ob_desk.proofs.Fine.{read_found, again_found}
+use Rattle.ob_desk.specs.declared.calls.Txn.{Txn}
 use Rattle.ob_desk.specs.declared.clients.Holder.{Holder}
 use Rattle.ob_desk.specs.Desk.{Part, DeskState, Setup, new_desk, new_part, is_memory, stop_closed, stopped_by, stop_part, end_of, end_unasked, close_to, closing, record_of, with_order, with_holder}
 use Rattle.ob_desk.specs.Desk.{note_cause, note_asked, new_holder, why_of, why_at, cause_at, why_refused, asked_at, published, records_told, Call, Begin, GetKey, Poll, Write, Commit, Abort, Settled}
 use Rattle.ob_desk.specs.Desk.{Looks, SignOff, Stop, Unsure, IsStopped, TakeBatch, Deliver, Close, Publish, Reply, Begun, Refused, Value, Waits, Aborted, Done, IsSettled, Seen, StoppedBy, Batch, Writes}
-use Rattle.ob_desk.specs.Desk.{Published, DeskStep, MayCall}
+use Rattle.ob_desk.specs.Desk.{Published, DeskStep, MayCall, IsLive}
 use Rattle.ob_session.specs.Steps.{Leads}
 use Rattle.ob_outcomes.proofs.Grows.{Grows, grows_op, grows_begun, grows_fallen, HasLost, stands_aborted}
 use Rattle.ob_outcomes.proofs.Desks.{Runs, never_none, runs_step}
 
 -- What is said of ticket t, aborted for a cause (P), stays true as works grow; it's true at first; and so of what else is said of the works (Q).
-pub record IsTale (setup : Setup) (clients : List ℕ) (P : List Work → ℕ → Why ℕ → Type 0) (Q : List Work → Type 0) : Type 0 where
+-- Of a desk at a get there may be more known (Z).
+pub record IsTale (setup : Setup) (clients : List ℕ) (P : List Work → ℕ → Why ℕ → Type 0) (Q : List Work → Type 0) (Z : DeskState → Type 0) : Type 0 where
   pub lasts : (ws vs : List Work) (t : ℕ) (why : Why ℕ) → Grows ws vs → P ws t why → P vs t why
   pub asks : (ws : List Work) (t : ℕ) → P ws t Asked
   pub ends : (ws : List Work) (t : ℕ) → P ws t EpochEnd
   pub falls : (ws : List Work) (s t on : ℕ) → Q ws → goes_on ws s ≡ true → goes_on ws t ≡ true → (t ≡ s → ⊥) → HasLost (aborted ws s) t on → P (aborted ws s) t (Depends on)
-  pub full : (o : OrderState) (t k queued left : ℕ) → read_reply setup.params o t k ≡ ReadsAreFull queued left → P o.works t (ReadsFull queued left)
+  pub full : (d : DeskState) (x : Txn) (k queued left : ℕ) → Z d → d.stop ≡ None → Runs setup clients d → MayCall d (GetKey x k) → IsLive d x → Q d.running.order.works
+      → read_reply setup.params d.running.order x.ticket k ≡ ReadsAreFull queued left → P d.running.order.works x.ticket (ReadsFull queued left)
   pub refused : (o : OrderState) (t k : ℕ) (why : Why ℕ) → Q o.works → goes_on o.works t ≡ true → why_refused (write_reply setup.params o t k) ≡ Some why → P o.works t why
   pub empty : Q []
   pub fewer : (ws vs : List Work) → length vs ≡ length ws → ((t : ℕ) → goes_on vs t ≡ true → goes_on ws t ≡ true) → Q ws → Q vs
@@ -82,7 +86,7 @@ module _ (P : List Work → ℕ → Why ℕ → Type 0) (Q : List Work → Type 
     pub running : d.stop ≡ None → Sound d.running
     pub closed : (part : Part) → d.closed ≡ Some part → Sound part
 
-  module _ (setup : Setup) (clients : List ℕ) (tale : IsTale setup clients P Q) where
+  module _ (setup : Setup) (clients : List ℕ) (Z : DeskState → Type 0) (tale : IsTale setup clients P Q Z) where
     -- nobody's fate or cause changed
     sound_alike : (old new : Part) → Grows old.order.works new.order.works → ((t : ℕ) (why : Why ℕ) → why_at new t ≡ Some why → why_at old t ≡ Some why) → Tidy new.order.works
         → length new.holders ≡ length new.order.works → Q new.order.works → Sound old → Sound new
@@ -138,7 +142,7 @@ module _ (P : List Work → ℕ → Why ℕ → Type 0) (Q : List Work → Type 
         (tale.fewer part.order.works _ (length-edit (wait_for k) part.order.works t) (λ u going. sym (goes_on-edit (wait_for k) part.order.works t u (λ w. refl)) ∙ going) h.more) h
 
     sound_asked : (part : Part) (t : ℕ) → Sound part → Sound (with_holder note_asked part t)
-    sound_asked part t h = sound_alike part _ (record { reads = λ k s u e. e; gone = λ s e. e })
+    sound_asked part t h = sound_alike part _ (record { reads = λ k s u e. e; gone = λ s e. e; longer = λ u os e. ([], e ∙ ap Some (sym (append-nil os))) })
         (λ u why e. ap (why_by (fate_at part.order.works u)) (sym (cause_edit note_asked part.holders t u (λ x. refl))) ∙ e)
         h.tidy (length-edit note_asked part.holders t ∙ h.even) h.more h
 
@@ -237,43 +241,51 @@ module _ (P : List Work → ℕ → Why ℕ → Type 0) (Q : List Work → Type 
     abbrev version_of : Option (List ℕ) → ℕ → Version
     version_of value source = record { source = source; value = value }
 
-    good_step : (d : DeskState) (call : Call) (reply : Reply) (new : DeskState) → MayCall d call → DeskStep d call reply new → Runs setup clients d → Good d → Good new
-    good_step d (Begin client) (Begun x) new may step runs h = subst Good (sym step.state) (record { running = λ none. sound_begun d client runs may (h.running none); closed = h.closed })
-    good_step d (Begin client) (Refused f) new may step runs h = same d new step.same h
-    good_step d (GetKey x k) (Value value) new may step runs h = in_running d new _ step.state
+    -- what is known of a desk at a get
+    abbrev pub KnownAtGet : DeskState → Call → Type 0
+    KnownAtGet d call = (x : Txn) (k : ℕ) → call ≡ GetKey x k → Z d
+
+    pub good_step : (d : DeskState) (call : Call) (reply : Reply) (new : DeskState) → MayCall d call → DeskStep d call reply new → Runs setup clients d → KnownAtGet d call → Good d → Good new
+    good_step d (Begin client) (Begun x) new may step runs known h = subst Good (sym step.state) (record { running = λ none. sound_begun d client runs may (h.running none); closed = h.closed })
+    good_step d (Begin client) (Refused f) new may step runs known h = same d new step.same h
+    good_step d (GetKey x k) (Value value) new may step runs known h = in_running d new _ step.state
         (λ s. sound_op d.running x.ticket (Get k value step.source) (tidy_got d.running.order x.ticket k (version_of value step.source) s.tidy (read_found d.setup.params d.running.order x.ticket k value step.source step.reply)) s) h
-    good_step d (GetKey x k) Waits new may step runs h = in_running d new _ step.state (sound_waits d.running x.ticket k) h
-    good_step d (GetKey x k) (Aborted why) new may (inl step) runs h = same d new step.same h
-    good_step d (GetKey x k) (Aborted why) new may (inr step) runs h = in_running d new _ step.state
-        (sound_ended d.running x.ticket why step.live.goes (subst (P d.running.order.works x.ticket) (sym step.cause)
-        (tale.full d.running.order x.ticket k step.queued step.left (subst (λ (q : Setup). read_reply q.params d.running.order x.ticket k ≡ ReadsAreFull step.queued step.left) runs.same_setup step.reply)))) h
-    good_step d (Poll x) (Value value) new may step runs h = in_running d new _ step.state
+    good_step d (GetKey x k) Waits new may step runs known h = in_running d new _ step.state (sound_waits d.running x.ticket k) h
+    good_step d (GetKey x k) (Aborted why) new may (inl step) runs known h = same d new step.same h
+    good_step d (GetKey x k) (Aborted why) new may (inr step) runs known h = subst Good (sym step.state) (record {
+      running = λ none. sound_ended d.running x.ticket why step.live.goes
+          (subst (P d.running.order.works x.ticket) (sym step.cause) (tale.full d x k step.queued step.left (known x k refl) none runs may step.live (h.running none).more
+          (subst (λ (q : Setup). read_reply q.params d.running.order x.ticket k ≡ ReadsAreFull step.queued step.left) runs.same_setup step.reply)))
+          (h.running none);
+      closed = h.closed;
+    })
+    good_step d (Poll x) (Value value) new may step runs known h = in_running d new _ step.state
         (λ s. sound_op d.running x.ticket (Get step.key value step.source) (tidy_got d.running.order x.ticket step.key (version_of value step.source) s.tidy (again_found d.running.order x.ticket step.key value step.source step.reply)) s) h
-    good_step d (Poll x) Waits new may step runs h = same d new step.same h
-    good_step d (Poll x) (Aborted why) new may step runs h = same d new step.same h
-    good_step d (Write x k value) Done new may step runs h = in_running d new _ step.state
+    good_step d (Poll x) Waits new may step runs known h = same d new step.same h
+    good_step d (Poll x) (Aborted why) new may step runs known h = same d new step.same h
+    good_step d (Write x k value) Done new may step runs known h = in_running d new _ step.state
         (λ s. sound_op d.running x.ticket (write_op k value) (tidy_wrote d.running.order.works x.ticket k value s.tidy) s) h
-    good_step d (Write x k value) (Aborted why) new may (inl step) runs h = same d new step.same h
-    good_step d (Write x k value) (Aborted why) new may (inr step) runs h = in_running d new _ step.state
+    good_step d (Write x k value) (Aborted why) new may (inl step) runs known h = same d new step.same h
+    good_step d (Write x k value) (Aborted why) new may (inr step) runs known h = in_running d new _ step.state
         (λ s. sound_ended d.running x.ticket why step.live.goes (tale.refused d.running.order x.ticket k why s.more step.live.goes (subst (λ (q : Setup). why_refused (write_reply q.params d.running.order x.ticket k) ≡ Some why) runs.same_setup step.cause)) s) h
-    good_step d (Commit x) Done new may step runs h = in_running d new _ step.state (sound_asked d.running x.ticket) h
-    good_step d (Commit x) (Aborted why) new may step runs h = same d new step.same h
-    good_step d (Abort x) (Aborted why) new may (inl step) runs h = same d new step.same h
-    good_step d (Abort x) (Aborted why) new may (inr step) runs h = in_running d new _ step.state (sound_ended d.running x.ticket Asked step.live.goes (tale.asks d.running.order.works x.ticket)) h
-    good_step d (Settled x) (IsSettled outcome) new may step runs h = same d new step.1 h
-    good_step d Looks (Seen look) new may step runs h = same d new step.1 h
-    good_step d (SignOff client) Done new may step runs h = subst Good (sym step.state) (record { running = h.running; closed = h.closed })
-    good_step d (Stop f) Done new may step runs h = subst Good (sym step.state) (stopped d f h)
-    good_step d (Unsure f) Done new may step runs h = subst Good (sym step.state) (record { running = λ none. absurd (never_none d.stop f none); closed = λ c is. absurd (none-some c is) })
-    good_step d IsStopped (StoppedBy fault) new may step runs h = same d new step.1 h
-    good_step d TakeBatch (Batch keys) new may step runs h = in_running d new _ step.state (sound_order d.running _ refl) h
-    good_step d (Deliver keys values) Done new may step runs h = in_running d new _ step.state (sound_order d.running _ refl) h
-    good_step d Close (Writes writes) new may step runs h = subst Good (sym step.state) (record {
+    good_step d (Commit x) Done new may step runs known h = in_running d new _ step.state (sound_asked d.running x.ticket) h
+    good_step d (Commit x) (Aborted why) new may step runs known h = same d new step.same h
+    good_step d (Abort x) (Aborted why) new may (inl step) runs known h = same d new step.same h
+    good_step d (Abort x) (Aborted why) new may (inr step) runs known h = in_running d new _ step.state (sound_ended d.running x.ticket Asked step.live.goes (tale.asks d.running.order.works x.ticket)) h
+    good_step d (Settled x) (IsSettled outcome) new may step runs known h = same d new step.1 h
+    good_step d Looks (Seen look) new may step runs known h = same d new step.1 h
+    good_step d (SignOff client) Done new may step runs known h = subst Good (sym step.state) (record { running = h.running; closed = h.closed })
+    good_step d (Stop f) Done new may step runs known h = subst Good (sym step.state) (stopped d f h)
+    good_step d (Unsure f) Done new may step runs known h = subst Good (sym step.state) (record { running = λ none. absurd (never_none d.stop f none); closed = λ c is. absurd (none-some c is) })
+    good_step d IsStopped (StoppedBy fault) new may step runs known h = same d new step.1 h
+    good_step d TakeBatch (Batch keys) new may step runs known h = in_running d new _ step.state (sound_order d.running _ refl) h
+    good_step d (Deliver keys values) Done new may step runs known h = in_running d new _ step.state (sound_order d.running _ refl) h
+    good_step d Close (Writes writes) new may step runs known h = subst Good (sym step.state) (record {
       running = λ none. sound_new (suc d.running.epoch) d.setup.params.batches;
       closed = λ c is. subst Sound (same_Some (closing d.running) c is) (sound_close_to d.running (length d.running.order.works) (h.running may.3));
     })
-    good_step d (Publish epoch left) (Published told) new may step runs h = subst Good (sym step.state) (record { running = h.running; closed = λ c is. absurd (none-some c is) })
-    good_step d _ _ new may step runs h = absurd step
+    good_step d (Publish epoch left) (Published told) new may step runs known h = subst Good (sym step.state) (record { running = h.running; closed = λ c is. absurd (none-some c is) })
+    good_step d _ _ new may step runs known h = absurd step
 
     pub good_new : (epoch left : ℕ) → Good (new_desk setup epoch left clients)
     good_new epoch left = record { running = λ none. sound_new epoch left; closed = λ c is. absurd (none-some c is) }
@@ -281,14 +293,15 @@ module _ (P : List Work → ℕ → Why ℕ → Type 0) (Q : List Work → Type 
     -- ---- the records
 
     module _ (R : EpochRecord ℕ → Type 0) (shown : (part : Part) → Sound part → R (record_of part)) where
-      told_step : (d : DeskState) (call : Call) (reply : Reply) (new : DeskState) → DeskStep d call reply new → Good d → All R (records_told reply)
+      pub told_step : (d : DeskState) (call : Call) (reply : Reply) (new : DeskState) → DeskStep d call reply new → Good d → All R (records_told reply)
       told_step d (Publish epoch left) (Published told) new step h = All-cons R told [] (subst R (sym step.record_is) (shown step.part (h.closed step.part step.is_closed))) (All-nil R)
       told_step d (Publish epoch left) _ new step h = absurd step
       told_step d _ (Published told) new step h = absurd step
       told_step d _ _ new step h = All-nil R
 
-      pub told_all : (d : DeskState) (steps : List (Call × Reply)) (new : DeskState) → Leads d steps new → Runs setup clients d → Good d → All R (published steps)
-      told_all d [] new run runs h = All-nil R
-      told_all d (step ∷ steps) new run runs h = All-append R (records_told step.1) (published steps)
+      -- where that is known of every desk
+      pub told_all : ((d : DeskState) → Z d) → (d : DeskState) (steps : List (Call × Reply)) (new : DeskState) → Leads d steps new → Runs setup clients d → Good d → All R (published steps)
+      told_all known d [] new run runs h = All-nil R
+      told_all known d (step ∷ steps) new run runs h = All-append R (records_told step.1) (published steps)
           (told_step d step.0 step.1 run.0 run.2 h)
-          (told_all run.0 steps new run.3 (runs_step setup clients d step.0 step.1 run.0 run.1 run.2 runs) (good_step d step.0 step.1 run.0 run.1 run.2 runs h))
+          (told_all known run.0 steps new run.3 (runs_step setup clients d step.0 step.1 run.0 run.1 run.2 runs) (good_step d step.0 step.1 run.0 run.1 run.2 runs (λ x k e. known d) h))

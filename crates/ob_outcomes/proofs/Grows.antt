@@ -2,6 +2,7 @@
 use Rattle.std.proofs.Common.{◌≡◌, ℕ, zero, suc, ◌<◌, ◌≤◌, min, Bool, true, false, not, ◌&&◌, ◌==◌, if◌then◌else◌, List, [], ◌∷◌, ◌++◌, length, Option, None, Some, option_map, unwrap_or, slice_get, refl, sym, ap, ◌∙◌, subst, inl, inr, ◌⊎◌, ⊎_elim, arith}
 use Rattle.std.specs.List.{list_any}
 use Rattle.std.proofs.lemmas.Bool.{cases_eq, false≢true, or_left, or_right, and_from, eq-eqb}
+use Rattle.std.proofs.lemmas.List.{append-nil}
 use Rattle.std.proofs.lemmas.List.Folds.{list_any-append}
 use Rattle.std.proofs.lemmas.Option.{none-some, same_Some}
 use Rattle.ob_base.specs.declared.op.Op.{Op}
@@ -11,11 +12,13 @@ use Rattle.ob_order.specs.Works.{Work, is_going, at_ticket, edit, goes_on, fate_
 use Rattle.ob_order.specs.Order.{fresh}
 use Rattle.ob_order.proofs.Edits.{at_edit_same, at_edit_other, slice_get-push}
 use Rattle.ob_order.proofs.Newest.{by_option}
-use Rattle.ob_order.proofs.Falls.{Fallen, fallen_edit, fallen_then, fallen_ended, fallen_cascade, went_on_before, is_gone-edit, fall_keeps, fall_stops}
+use Rattle.ob_order.proofs.Falls.{ops_at, Fallen, fallen_edit, fallen_then, fallen_ended, fallen_cascade, went_on_before, is_gone-edit, fall_keeps, fall_stops}
 
 pub record Grows (ws vs : List Work) : Type 0 where
   pub reads : (k s t : ℕ) → has_read ws k s t ≡ true → has_read vs k s t ≡ true
   pub gone : (s : ℕ) → is_gone ws s ≡ true → is_gone vs s ≡ true
+  -- each transaction has the operations that it had, and perhaps more behind them
+  pub longer : (t : ℕ) (os : List (Op ℕ)) → ops_at ws t ≡ Some os → (more : List (Op ℕ)) × (ops_at vs t ≡ Some (os ++ more))
 
 pub grows_op : (ws : List Work) (t : ℕ) (o : Op ℕ) → Grows ws (with_op ws t o)
 grows_op ws t o = record {
@@ -24,15 +27,34 @@ grows_op ws t o = record {
       (λ other. ap (λ x. unwrap_or (option_map (λ w. has_get w.ops k s) x) false) (at_edit_other (add_op o) ws t u other) ∙ e)
       (cases_eq u t);
   gone = λ s e. is_gone-edit (add_op o) ws t s (λ w. refl) ∙ e;
+  longer = λ u os e. ⊎_elim
+      (λ same. (
+        o ∷ [],
+        subst (λ q. ops_at (with_op ws t o) q ≡ Some (os ++ o ∷ [])) (sym same)
+            (ap (option_map (λ w. w.ops)) (at_edit_same (add_op o) ws t) ∙ pushed os (at_ticket ws t) (subst (λ q. ops_at ws q ≡ Some os) same e)),
+      ))
+      (λ other. ([], ap (option_map (λ w. w.ops)) (at_edit_other (add_op o) ws t u other) ∙ e ∙ ap Some (sym (append-nil os))))
+      (cases_eq u t);
 }
   where
+    pushed : (os : List (Op ℕ)) (x : Option Work) → option_map (λ w. w.ops) x ≡ Some os → option_map (λ w. w.ops) (option_map (add_op o) x) ≡ Some (os ++ o ∷ [])
+    pushed os None e = absurd (none-some os e)
+    pushed os (Some w) e = ap (λ xs. Some (xs ++ o ∷ [])) (same_Some w.ops os e)
+
     more : (k s : ℕ) (x : Option Work) → unwrap_or (option_map (λ w. has_get w.ops k s) x) false ≡ true → unwrap_or (option_map (λ w. has_get w.ops k s) (option_map (add_op o) x)) false ≡ true
     more k s None e = e
     more k s (Some w) e = list_any-append (is_get_of k s) w.ops (o ∷ []) ∙ or_left (has_get w.ops k s) (has_get (o ∷ []) k s) e
 
 pub grows_begun : (ws : List Work) → Grows ws (ws ++ fresh ∷ [])
-grows_begun ws = record { reads = reads; gone = gone }
+grows_begun ws = record { reads = reads; gone = gone; longer = longer }
   where
+    longer : (t : ℕ) (os : List (Op ℕ)) → ops_at ws t ≡ Some os → (more : List (Op ℕ)) × (ops_at (ws ++ fresh ∷ []) t ≡ Some (os ++ more))
+    longer zero os e = absurd (none-some os e)
+    longer (suc n) os e = ⊎_elim
+        (λ old. ([], ap (option_map (λ w. w.ops)) old ∙ e ∙ ap Some (sym (append-nil os))))
+        (λ last. absurd (none-some os (sym (ap (option_map (λ w. w.ops)) last.1) ∙ e)))
+        (slice_get-push ws fresh n)
+
     reads : (k s t : ℕ) → has_read ws k s t ≡ true → has_read (ws ++ fresh ∷ []) k s t ≡ true
     reads k s zero e = e
     reads k s (suc n) e = ⊎_elim
@@ -51,6 +73,7 @@ pub grows_fallen : (ws vs : List Work) → Fallen ws vs → Grows ws vs
 grows_fallen ws vs h = record {
   reads = λ k s t e. same_reads k s (at_ticket vs t) (at_ticket ws t) (h.same_ops t) ∙ e;
   gone = λ s e. still (at_ticket ws s) (at_ticket vs s) (h.same_ops s) (h.went_on s) e;
+  longer = λ t os e. ([], h.same_ops t ∙ e ∙ ap Some (sym (append-nil os)));
 }
   where
     same_reads : (k s : ℕ) (v w : Option Work) → option_map (λ x. x.ops) v ≡ option_map (λ x. x.ops) w → unwrap_or (option_map (λ x. has_get x.ops k s) v) false ≡ unwrap_or (option_map (λ x. has_get x.ops k s) w) false

@@ -113,7 +113,7 @@ client_unchanged f keeps cs number n c other e = client_in-map (changes f number
     ∙ ap (λ b. Some (if b then f c else c)) (ne_eqb c.number number (λ same. other (sym (client_number cs n c e) ∙ same))))
 
 -- an open transaction of the running part has no outcome
-open_outcome : (d : DeskState) (t : ℕ) (h : Holder) → goes_on d.running.order.works t ≡ true → IsOpenAt d.clients d.running.epoch t h
+pub open_outcome : (d : DeskState) (t : ℕ) (h : Holder) → goes_on d.running.order.works t ≡ true → IsOpenAt d.clients d.running.epoch t h
     → is_some (outcome_at d (record { client = h.client; epoch = d.running.epoch; ticket = t })) ≡ false
 open_outcome d t h going o =
     ap is_some (ap₂ (λ (p : Option Part) (c : Option Client). option_or (option_and_then (λ part. option_map AbortedBy (why_at part t)) p) (option_and_then (λ x. x.outcome) c))

@@ -22,3 +22,9 @@ pub mod Told
 pub mod Later
 pub mod Counting
 pub mod Whole
+pub mod Rooms
+pub mod Writes
+pub mod Lonely
+pub mod LoneActs
+pub mod Lasts
+pub mod LetIn

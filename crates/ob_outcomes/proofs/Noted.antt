@@ -65,6 +65,12 @@ full_noted p o t k queued left e =
     let f = full_is (answer o t k) (not (is_asked_for o k) && (length o.queue == p.places * o.left)) (length o.queue) o.left queued left e in
     sym f.1 ∙ (eqb-true (length o.queue) (p.places * o.left) (both_hold (not (is_asked_for o k)) (length o.queue == p.places * o.left) f.0) ∙ ap (λ n. p.places * n) f.2)
 
+-- and then as many keys are queued as the batches that are left have places
+pub full_queue : (p : Params) (o : OrderState) (t k queued left : ℕ) → read_reply p o t k ≡ ReadsAreFull queued left → length o.queue ≡ p.places * o.left
+full_queue p o t k queued left e =
+    let f = full_is (answer o t k) (not (is_asked_for o k) && (length o.queue == p.places * o.left)) (length o.queue) o.left queued left e in
+    eqb-true (length o.queue) (p.places * o.left) (both_hold (not (is_asked_for o k)) (length o.queue == p.places * o.left) f.0)
+
 greatest_passes : (q : ℕ → Bool) (n : ℕ) → 0 < greatest q n → q (greatest q n) ≡ true
 greatest_passes q zero l = absurd (omega arith)
 greatest_passes q (suc n) l = step (q (suc n)) refl l (greatest_passes q n)
@@ -110,13 +116,13 @@ refused_noted p o t k why e = ⊎_elim
     (λ full. subst (IsNoted p o.works t) (sym full) refl)
     (refusal p o t k why e).either
 
-pub noted_tale : (setup : Setup) (clients : List ℕ) → IsTale setup clients (IsNoted setup.params) (λ ws. Unit {0})
+pub noted_tale : (setup : Setup) (clients : List ℕ) → IsTale setup clients (IsNoted setup.params) (λ ws. Unit {0}) (λ d. Unit {0})
 noted_tale setup clients = record {
   lasts = noted_lasts setup.params;
   asks = λ ws t. tt;
   ends = λ ws t. tt;
   falls = λ ws s t on q going going_too other lost. lost;
-  full = full_noted setup.params;
+  full = λ d x k queued left known none runs may live q e. full_noted setup.params d.running.order x.ticket k queued left e;
   refused = λ o t k why q going e. refused_noted setup.params o t k why e;
   empty = tt;
   fewer = λ ws vs len went q. tt;
@@ -181,5 +187,5 @@ record_shown setup part sound = record_all (λ t. IsOutcome setup.params (record
 
 pub outcomes_are_shown : OutcomesAreShown
 outcomes_are_shown setup epoch left clients steps d may run =
-    told_all (IsNoted setup.params) (λ ws. Unit {0}) setup clients (noted_tale setup clients) (λ r. All (λ t. IsOutcome setup.params r t t.outcome) r.txns) (record_shown setup)
-    (new_desk setup epoch left clients) steps d run (runs_new setup epoch left clients) (good_new (IsNoted setup.params) (λ ws. Unit {0}) setup clients (noted_tale setup clients) epoch left)
+    told_all (IsNoted setup.params) (λ ws. Unit {0}) setup clients (λ d. Unit {0}) (noted_tale setup clients) (λ r. All (λ t. IsOutcome setup.params r t t.outcome) r.txns) (record_shown setup)
+    (λ d. tt) (new_desk setup epoch left clients) steps d run (runs_new setup epoch left clients) (good_new (IsNoted setup.params) (λ ws. Unit {0}) setup clients (λ d. Unit {0}) (noted_tale setup clients) epoch left)

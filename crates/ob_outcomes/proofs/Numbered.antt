@@ -144,9 +144,9 @@ record IsNamed (r : EpochRecord ℕ) : Type 0 where
 
 all_named : (setup : Setup) (epoch left : ℕ) (clients : List ℕ) (steps : List (Call × Reply)) (d : DeskState) → Leads (new_desk setup epoch left clients) steps d → All IsNamed (published steps)
 all_named setup epoch left clients steps d run =
-    told_all (IsNoted setup.params) (λ ws. Unit {0}) setup clients (noted_tale setup clients) IsNamed
+    told_all (IsNoted setup.params) (λ ws. Unit {0}) setup clients (λ d. Unit {0}) (noted_tale setup clients) IsNamed
     (λ part sound. record { tickets = tickets_from part.epoch 1 part.order.works part.holders; named = txns_all (λ (x : TxnRecord ℕ). x.epoch ≡ part.epoch) part.epoch 1 part.order.works part.holders (λ n w h a b. refl) })
-    (new_desk setup epoch left clients) steps d run (runs_new setup epoch left clients) (good_new (IsNoted setup.params) (λ ws. Unit {0}) setup clients (noted_tale setup clients) epoch left)
+    (λ d. tt) (new_desk setup epoch left clients) steps d run (runs_new setup epoch left clients) (good_new (IsNoted setup.params) (λ ws. Unit {0}) setup clients (λ d. Unit {0}) (noted_tale setup clients) epoch left)
 
 -- a row rises
 row_rises : (a n : ℕ) → IsStrictlyIncreasing (range_with_len a n)

@@ -4,3 +4,4 @@ pub mod Callers
 pub mod Alone
 pub mod Served
 pub mod ScriptLaws
+pub mod Lone

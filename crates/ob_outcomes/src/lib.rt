@@ -2,9 +2,11 @@
 //! run of scripts tells of their clients, whatever the vault.
 #![tactic(auto)]
 
+mod lone;
 mod outcomes;
 mod scripts;
 
+pub use lone::{lone_is_let_in, one_commits};
 pub use outcomes::{
     close_loses_none, epoch_end_is_due, one_client, only_clients_call, outcomes_are_shown,
 };
