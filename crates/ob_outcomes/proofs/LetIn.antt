@@ -90,7 +90,7 @@ all_filter P q (x ∷ xs) all = by (q x) (all_filter P q xs (All-tail P x xs all
     by false rest = rest
 
 -- what is so of each client's is so of all
-by_each : (Q : TxnRecord ℕ → Type 0) (xs : List (TxnRecord ℕ)) → ((c : ℕ) → All Q (filter (λ t. t.client == c) xs)) → All Q xs
+pub by_each : (Q : TxnRecord ℕ → Type 0) (xs : List (TxnRecord ℕ)) → ((c : ℕ) → All Q (filter (λ t. t.client == c) xs)) → All Q xs
 by_each Q [] each = All-nil Q
 by_each Q (t ∷ xs) each = All-cons Q t xs
     (head_of (t.client == t.client) (filter (λ x. x.client == t.client) xs) (eq-eqb t.client t.client refl) (each t.client))

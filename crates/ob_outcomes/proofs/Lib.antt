@@ -28,3 +28,6 @@ pub mod Lonely
 pub mod LoneActs
 pub mod Lasts
 pub mod LetIn
+pub mod Below
+pub mod Adders
+pub mod Counted

@@ -5,3 +5,4 @@ pub mod Alone
 pub mod Served
 pub mod ScriptLaws
 pub mod Lone
+pub mod Sums

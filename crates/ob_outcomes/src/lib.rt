@@ -6,7 +6,7 @@ mod lone;
 mod outcomes;
 mod scripts;
 
-pub use lone::{lone_is_let_in, one_commits};
+pub use lone::{lone_counts_up, lone_is_let_in, lone_reads_below, one_commits};
 pub use outcomes::{
     close_loses_none, epoch_end_is_due, one_client, only_clients_call, outcomes_are_shown,
 };

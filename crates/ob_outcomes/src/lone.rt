@@ -1,6 +1,7 @@
 //! What one client's transactions meet: places for their gets and writes, and an epoch each.
 
 ghost use Rattle.ob_outcomes.specs.Lone.{LoneUsesPlaces, LoneIsLetIn, LoneCommitsLast, OneAnEpoch};
+ghost use Rattle.ob_outcomes.specs.Sums.{LoneReadsBelow, LoneCountsUp};
 
 /// A lone client isn't turned away before its places are used, whatever it and the driver did.
 ///
@@ -18,4 +19,18 @@ pub fn lone_is_let_in()
 pub fn one_commits()
     ensures last { LoneCommitsLast }
     ensures one { OneAnEpoch }
+{}
+
+/// Each transaction of a lone client has read the map below its epoch and its own writes, whether
+/// it was aborted later or not.
+pub fn lone_reads_below()
+    ensures { LoneReadsBelow }
+{}
+
+/// Where each transaction of a lone client's script gets a key, adds 1 to a key and commits, each
+/// of its epochs has one transaction, which is committed, and the map behind them holds how often
+/// each key was added to, from a map without keys on. Where all of the script was served there are
+/// as many epochs as transactions.
+pub fn lone_counts_up()
+    ensures { LoneCountsUp }
 {}
