@@ -1,25 +1,24 @@
 -- Each transaction of a lone client has read the map below its epoch, whether it was aborted later or not.
-use Rattle.std.proofs.Common.{◌≡◌, ℕ, zero, suc, ◌<◌, ◌≤◌, Bool, true, false, not, ◌&&◌, if◌then◌else◌, List, [], ◌∷◌, ◌++◌, length, All, Option, None, Some, option_map, unwrap_or, slice_get, refl, sym, ap, ◌∙◌, subst, inl, inr, ⊎_elim, arith, nat_cmp}
+use Rattle.std.proofs.Common.{◌≡◌, ℕ, zero, suc, ◌<◌, Bool, true, false, not, ◌&&◌, if◌then◌else◌, List, [], ◌∷◌, ◌++◌, length, Option, None, Some, option_map, unwrap_or, slice_get, refl, sym, ap, ◌∙◌, subst, inl, inr, ⊎_elim, arith, nat_cmp}
 use Rattle.std.specs.Prelude.{filter}
 use Rattle.std.specs.Option.{option_or}
 use Rattle.std.proofs.lemmas.Bool.{cases_eq, false≢true}
 use Rattle.std.proofs.lemmas.List.{append-nil}
-use Rattle.std.proofs.lemmas.Option.{none-some, same_Some, slice_get_within}
+use Rattle.std.proofs.lemmas.Option.{none-some, same_Some}
 use Rattle.ob_base.specs.declared.op.Op.{Op}
 use Rattle.ob_base.specs.declared.op.Op.TheVariants.{Get}
 use Rattle.ob_base.specs.declared.fault.Fault.{Fault}
 use Rattle.ob_serial.specs.Serial.{Map, TxnRecord, EpochRecord, Replays, after_ops, is_committed}
 use Rattle.ob_serial.specs.Vaults.{with_writes}
-use Rattle.ob_serial.specs.declared.records.Why.{Why}
-use Rattle.ob_serial.specs.declared.records.Why.TheVariants.{Asked, EpochEnd}
-use Rattle.ob_order.specs.Works.{Work, is_going, at_ticket, edit, goes_on, wait_for, add_op, with_op, aborted, last_writes}
+use Rattle.ob_serial.specs.declared.records.Why.TheVariants.{EpochEnd}
+use Rattle.ob_order.specs.Works.{Work, is_going, at_ticket, goes_on, add_op, with_op, last_writes}
 use Rattle.ob_order.specs.Order.{fresh, write_op}
 use Rattle.ob_order.proofs.Edits.{at_edit_same, at_edit_other, slice_get-push}
 use Rattle.ob_order.proofs.Falls.{Fallen, fallen_refl, fallen_then, fallen_aborted, fallen_waits, ops_at}
 use Rattle.ob_desk.specs.Replay.{map_after, EachReplays}
 use Rattle.ob_desk.specs.Desk.{Part, DeskState, Setup, Call, Begin, GetKey, Poll, Write, Commit, Abort, Settled, Looks, SignOff, Stop, Unsure, IsStopped, TakeBatch, Deliver, Close, Publish}
-use Rattle.ob_desk.specs.Desk.{Reply, Begun, Refused, Value, Waits, Aborted, Done, IsSettled, Seen, StoppedBy, Batch, Writes, Published, DeskStep, MayCall, MayOpen, Run, new_desk}
-use Rattle.ob_desk.specs.Desk.{end_of, end_unasked, close_to, closing, asked_at, record_of, is_memory, stop_part, stop_closed, stopped_by, base_map, map_next, published, records_told}
+use Rattle.ob_desk.specs.Desk.{Reply, Begun, Refused, Value, Waits, Aborted, Done, IsSettled, Seen, StoppedBy, Batch, Writes, Published, DeskStep, MayCall, Run, new_desk}
+use Rattle.ob_desk.specs.Desk.{end_of, close_to, closing, asked_at, record_of, is_memory, stop_part, stop_closed, stopped_by, base_map, map_next, published, records_told}
 use Rattle.ob_desk.proofs.Runs as desk_runs
 use Rattle.ob_desk.proofs.Sees.{replays_from_reads}
 use Rattle.ob_desk.proofs.Published.{one_by_one_from, batch_gives}

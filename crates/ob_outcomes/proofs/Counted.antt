@@ -1,12 +1,10 @@
 -- Transactions of a lone client that each add 1 to a key have one epoch each, and the map behind them holds how often each key was added to.
-use Rattle.std.proofs.Common.{◌≡◌, ℕ, zero, suc, ◌+◌, ◌<◌, ◌≤◌, ◌^◌, ◌==◌, Bool, true, false, if◌then◌else◌, List, [], ◌∷◌, ◌++◌, length, map, take, All, Option, None, Some, get_or, refl, sym, ap, ◌∙◌, subst, inl, inr, ◌⊎◌, ⊎_elim, arith, nat_cmp, length-append, eqb-true}
+use Rattle.std.proofs.Common.{◌≡◌, ℕ, suc, ◌+◌, ◌<◌, ◌≤◌, ◌^◌, ◌==◌, Bool, true, false, if◌then◌else◌, List, [], ◌∷◌, ◌++◌, length, map, take, All, get_or, refl, sym, ap, ◌∙◌, subst, ⊎_elim, arith, nat_cmp, length-append, eqb-true}
 use Rattle.std.specs.Prelude.{filter, flat_map}
 use Rattle.std.specs.List.{range_with_len}
 use Rattle.std.specs.FinMap as finite
-use Rattle.std.proofs.lemmas.Bool.{cases_eq, false≢true, ne_eqb, eq-eqb}
+use Rattle.std.proofs.lemmas.Bool.{cases_eq, ne_eqb, eq-eqb}
 use Rattle.std.proofs.lemmas.List.Elements.{All-head, All-tail, All-cons, All-nil}
-use Rattle.ob_base.specs.declared.params.Params.{Params}
-use Rattle.ob_base.specs.declared.op.Op.{Op}
 use Rattle.ob_serial.specs.Serial.{Map, TxnRecord, EpochRecord, Replays, after_ops, is_committed, committed_of}
 use Rattle.ob_serial.specs.declared.records.Outcome.{Outcome}
 use Rattle.ob_serial.specs.declared.records.Outcome.TheVariants.{Committed}
@@ -14,13 +12,12 @@ use Rattle.ob_desk.specs.Desk.{DeskState, Call, Reply, Run, map_next, new_desk}
 use Rattle.ob_session.specs.Steps.{Leads}
 use Rattle.ob_session.specs.Records.{txns_by}
 use Rattle.ob_script.specs.declared.line.Ask.{Ask}
-use Rattle.ob_script.specs.declared.line.Ask.TheVariants.{Get, Add}
 use Rattle.ob_script.specs.Script.{ScriptTxn, Scripts, asks_by}
 use Rattle.ob_conduct.specs.Acts.{history, records}
 use Rattle.ob_conduct.specs.Records.{after_txns, contents}
-use Rattle.ob_outcomes.specs.Served.{EndsAs, ServedFirst, ServedAll, ClientsServed, ClientsServedAll, IsLonely}
+use Rattle.ob_outcomes.specs.Served.{ServedFirst, ServedAll, ClientsServed, IsLonely}
 use Rattle.ob_outcomes.specs.Lone.{IsTurnedAway, AreLetIn, CommittedIsLast, HasOneCommitted}
-use Rattle.ob_outcomes.specs.Sums.{ReadBelow, IsAdder, adds_in, adds_to, count_value, HoldsCounts, CountsUp, CountsAll, LoneCountsUp}
+use Rattle.ob_outcomes.specs.Sums.{ReadBelow, IsAdder, adds_in, adds_to, count_value, HoldsCounts, LoneCountsUp}
 use Rattle.ob_outcomes.proofs.Adders.{advances}
 use Rattle.ob_outcomes.proofs.Below.{lone_reads_below}
 use Rattle.ob_outcomes.proofs.Lasts.{lone_commits_last}

@@ -4,7 +4,6 @@ use Rattle.std.specs.List.{range_with_len}
 use Rattle.std.proofs.lemmas.List.Elements.{All-nil, All-cons, All-head, All-tail}
 use Rattle.ob_serial.specs.Serial.{TxnRecord, EpochRecord}
 use Rattle.ob_serial.specs.declared.records.Why.{Why}
-use Rattle.ob_serial.specs.declared.records.Outcome.{Outcome}
 use Rattle.ob_serial.specs.declared.records.Outcome.TheVariants.{Committed, Aborted as AbortedBy}
 use Rattle.ob_order.specs.Works.{Work, is_going, goes_on}
 use Rattle.ob_desk.specs.declared.clients.Holder.{Holder}
@@ -15,7 +14,7 @@ use Rattle.ob_outcomes.proofs.Causes.{Sound, good_new, told_all}
 use Rattle.ob_outcomes.proofs.Closed.{length-txns_from}
 use Rattle.ob_outcomes.proofs.Desks.{runs_new}
 use Rattle.ob_outcomes.proofs.Numbered.{records_are_numbered}
-use Rattle.ob_outcomes.proofs.Records.{made, record_all, why_none}
+use Rattle.ob_outcomes.proofs.Records.{record_all, why_none}
 use Rattle.ob_outcomes.specs.Alone.{IsOwnWhy}
 
 none_told : (o : Option (Why ℕ)) → unwrap_or (option_map AbortedBy o) Committed ≡ Committed → o ≡ None

@@ -1,5 +1,5 @@
 -- A lone client isn't turned away, where its transactions ask for few gets and writes.
-use Rattle.std.proofs.Common.{◌≡◌, ℕ, suc, ◌+◌, ◌<◌, ◌≤◌, ◌==◌, Bool, true, false, if◌then◌else◌, List, [], ◌∷◌, ◌++◌, length, All, Option, None, Some, refl, sym, ap, ◌∙◌, subst, inl, inr, ◌⊎◌, arith}
+use Rattle.std.proofs.Common.{◌≡◌, ℕ, ◌+◌, ◌≤◌, ◌==◌, Bool, true, false, if◌then◌else◌, List, [], ◌∷◌, ◌++◌, All, refl, ap, ◌∙◌, subst, inl, inr, ◌⊎◌, arith}
 use Rattle.std.specs.Prelude.{filter, flat_map}
 use Rattle.std.proofs.lemmas.Bool.{false≢true, eq-eqb}
 use Rattle.std.proofs.lemmas.List.Elements.{All-head, All-tail, All-cons, All-nil}
@@ -14,7 +14,7 @@ use Rattle.ob_script.specs.declared.line.Ask.{Ask}
 use Rattle.ob_script.specs.declared.line.Ask.TheVariants.{Get, Put, Del, Add}
 use Rattle.ob_script.specs.Script.{ScriptTxn, Scripts, asks_by}
 use Rattle.ob_runner.specs.Meaning.{IsOpsOf, Meets, MeetsFront, IsAddsGet}
-use Rattle.ob_conduct.specs.Acts.{Act, records}
+use Rattle.ob_conduct.specs.Acts.{records}
 use Rattle.ob_outcomes.specs.Served.{EndsAs, ServedFirst, ClientsServed}
 use Rattle.ob_outcomes.specs.Lone.{gets_in, writes_in, gets_of, writes_of, gets_asked, writes_asked, AsksFew, HasUsedPlaces, IsTurnedAway, AreLetIn, LoneIsLetIn}
 use Rattle.ob_outcomes.proofs.LoneActs.{lone_uses_places}

@@ -1,5 +1,5 @@
 -- Over whatever acts of one client and the driver: who was turned away had used its places.
-use Rattle.std.proofs.Common.{◌≡◌, ◌∙◌, ◌++◌, ◌<◌, ◌≤◌, ℕ, suc, List, [], ◌∷◌, length, Option, Some, None, sym, subst, refl, ap, inl, inr, arith}
+use Rattle.std.proofs.Common.{◌≡◌, ◌∙◌, ◌++◌, ◌<◌, ◌≤◌, ℕ, suc, List, [], ◌∷◌, length, Option, Some, None, sym, subst, ap, arith}
 use Rattle.std.specs.List.{All}
 use Rattle.std.proofs.lemmas.List.{append-nil}
 use Rattle.std.proofs.lemmas.List.Elements.{All-head, All-tail, All-cons, All-nil, All-append}
@@ -15,13 +15,13 @@ use Rattle.ob_desk.specs.declared.calls.Look.{Look}
 use Rattle.ob_desk.specs.declared.calls.Txn.{Txn}
 use Rattle.ob_desk.specs.Beats.{BeatKind}
 use Rattle.ob_session.specs.Steps.{Leads, IsOwn}
-use Rattle.ob_conduct.specs.Acts.{Act, Says, Halts, Rests, Takes, Delivers, DeliverFails, FetchFails, Closes, Publishes, Refuses, Unprinted, Batch, desk_calls, look_calls, rest_calls, batch_calls, close_calls, stop_for, history, records, IsAllowed}
+use Rattle.ob_conduct.specs.Acts.{Act, Says, Halts, Rests, Takes, Delivers, DeliverFails, FetchFails, Closes, Publishes, Refuses, Unprinted, Batch, desk_calls, look_calls, rest_calls, close_calls, stop_for, history, records, IsAllowed}
 use Rattle.ob_conduct.proofs.Going.{published_append}
 use Rattle.ob_outcomes.specs.Lone.{HasUsedPlaces, LoneUsesPlaces}
 use Rattle.ob_outcomes.proofs.Alone.{OnlyLast}
 use Rattle.ob_outcomes.proofs.Causes.{Good, good_new, good_step, told_step}
 use Rattle.ob_outcomes.proofs.Desks.{Runs, runs_new, runs_step}
-use Rattle.ob_outcomes.proofs.Lonely.{IsRoomy, TakesKey, roomy_step, stopped, UsedPlaces, used_tale, record_used}
+use Rattle.ob_outcomes.proofs.Lonely.{IsRoomy, roomy_step, stopped, UsedPlaces, used_tale, record_used}
 use Rattle.ob_outcomes.proofs.Walk.{leads_split, looked}
 
 -- ---- which calls an act makes

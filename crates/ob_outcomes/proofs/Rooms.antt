@@ -1,15 +1,12 @@
 -- How many gets an epoch's transactions have made, and that its batches have had a place for each.
-use Rattle.std.proofs.Common.{◌≡◌, ℕ, zero, suc, ◌+◌, ◌-◌, ◌*◌, ◌<◌, ◌≤◌, Bool, true, false, if◌then◌else◌, List, [], ◌∷◌, ◌++◌, length, map, drop, Option, None, Some, option_map, option_and_then, unwrap_or, slice_get, refl, sym, ap, ◌∙◌, subst, inl, inr, ◌⊎◌, ⊎_elim, arith, length-append, length-drop}
-use Rattle.std.specs.Option.{option_or, is_some}
+use Rattle.std.proofs.Common.{◌≡◌, ℕ, zero, suc, ◌+◌, ◌-◌, ◌<◌, ◌≤◌, Bool, true, false, if◌then◌else◌, List, [], ◌∷◌, ◌++◌, length, map, drop, Option, None, Some, option_map, option_and_then, unwrap_or, slice_get, refl, sym, ap, ◌∙◌, subst, arith, length-append, length-drop}
 use Rattle.std.proofs.lemmas.Bool.{false≢true}
 use Rattle.std.proofs.lemmas.Option.{none-some, same_Some}
 use Rattle.ob_base.specs.declared.op.Op.{Op}
 use Rattle.ob_base.specs.declared.op.Op.TheVariants.{Get, Put, Del}
 use Rattle.ob_base.specs.declared.params.Params.{Params}
-use Rattle.ob_base.specs.declared.fault.Fault.{Fault}
-use Rattle.ob_serial.specs.declared.records.Why.{Why}
 use Rattle.ob_order.specs.Works.{Work, is_going, at_ticket, edit, edit_index, goes_on, waiting_at, wait_for, add_op, with_op, end_work, stop_work, least_source, aborted_since, fall, cascade, aborted}
-use Rattle.ob_order.specs.Order.{OrderState, fresh, asked, is_asked_for, after_take, write_op}
+use Rattle.ob_order.specs.Order.{OrderState, asked, is_asked_for, after_take, write_op}
 use Rattle.ob_outcomes.specs.Lone.{gets_in, writes_in}
 
 -- ---- how many
