@@ -2,6 +2,9 @@
 use Rattle.std.proofs.Common.{◌≡◌, ℕ, zero, suc, ◌+◌, ◌<◌, ◌^◌, ◌==◌, Bool, true, false, cond, if◌then◌else◌, List, [], ◌∷◌, ◌++◌, Option, None, Some, refl, sym, ap, ◌∙◌, subst, inl, inr, ⊎_elim, arith, nat_cmp, pos}
 use Rattle.std.specs.Prelude.{FitsSigned, ◌+ℤ◌, option_and_then}
 use Rattle.std.specs.Int.{w64}
+use Rattle.std.specs.List.{count_by}
+use Rattle.std.specs.Prelude.{map}
+use Rattle.std.proofs.lemmas.List.Sums.{sum_by-cons}
 use Rattle.std.specs.Fmt.{decimal}
 use Rattle.std.specs.Cmp.{nat_cmp_total, unsigned_tied}
 use Rattle.std.specs.FinMap as finite
@@ -22,7 +25,7 @@ use Rattle.ob_script.proofs.Amounts.{integer_only}
 use Rattle.ob_runner.specs.Meaning.{IsOpsOf, Meets, MeetsNoSum, sum_of, spelled}
 use Rattle.ob_outcomes.specs.Served.{EndsAs, IsLonely}
 use Rattle.ob_outcomes.specs.Lone.{IsTurnedAway}
-use Rattle.ob_outcomes.specs.Sums.{IsAdder, adds_in, count_value, HoldsCounts}
+use Rattle.ob_outcomes.specs.Sums.{AddsAreCounted, IsAdder, adds_in, adds_to, count_value, HoldsCounts}
 
 -- ---- the next number
 
@@ -160,3 +163,17 @@ advances m before asked ops (Aborted (Depends on)) holds low replays adder ends 
 advances m before asked ops (Aborted EpochEnd) holds low replays adder ends lonely away = absurd lonely
 advances m before asked ops (Aborted (Stopped fault)) holds low replays adder ends lonely away = absurd lonely
 advances m before asked ops (Unsure epoch) holds low replays adder ends lonely away = absurd lonely
+
+-- ---- how often a key is added to
+
+pub adds_are_counted : AddsAreCounted
+adds_are_counted read added make [] key are = refl
+adds_are_counted read added make (i ∷ numbers) key are =
+    let here : adds_in key (make i).asks ≡ (if added i == key then 1 else 0) + 0 = ap (adds_in key) (are i) in
+    let rest = adds_are_counted read added make numbers key are in
+    let count : count_by (λ j. added j == key) (i ∷ numbers) ≡ cond (added i == key) 1 0 + count_by (λ j. added j == key) numbers = sum_by-cons (λ j. cond (added j == key) 1 0) i numbers in
+    both (added i == key) (adds_in key (make i).asks) (adds_to key (map make numbers)) (count_by (λ j. added j == key) numbers) (count_by (λ j. added j == key) (i ∷ numbers)) here rest count
+  where
+    both : (b : Bool) (x y z all : ℕ) → x ≡ (if b then 1 else 0) + 0 → y ≡ z → all ≡ cond b 1 0 + z → x + y ≡ all
+    both true x y z all e f g = omega (arith, e, f, g)
+    both false x y z all e f g = omega (arith, e, f, g)

@@ -1,5 +1,6 @@
 -- What the transactions of a lone client have read, and what those come to that each add 1 to a key.
-use Rattle.std.specs.Prelude.{ℕ, zero, suc, ◌+◌, ◌≡◌, ◌<◌, ◌^◌, ◌==◌, if◌then◌else◌, All, List, [], ◌∷◌, length, take, Option, Some, None, pos}
+use Rattle.std.specs.Prelude.{ℕ, zero, suc, ◌+◌, ◌≡◌, ◌<◌, ◌^◌, ◌==◌, if◌then◌else◌, All, List, [], ◌∷◌, length, map, take, Option, Some, None, pos}
+use Rattle.std.specs.List.{count_by}
 use Rattle.std.specs.Fmt.{decimal}
 use Rattle.std.specs.Ordering.{nat_cmp}
 use Rattle.std.specs.FinMap as finite
@@ -71,3 +72,8 @@ LoneCountsUp = (beat : BeatKind) (p : Params) (epoch left client : ℕ) (script 
     → All IsAdder script.txns → All (λ s. s.client ≡ client) script.txns → All (AsksFew left p) script.txns → length script.txns < 2 ^ 62 → ((key : ℕ) → finite.get m key ≡ None)
     → ClientsServed script (records acts) → All (λ r. All (λ t. IsLonely t.outcome) r.txns) (records acts) → All (λ r. 0 < length r.txns) (records acts)
     → CountsUp m script.txns (records acts) × (ClientsServedAll script (records acts) → CountsAll m script.txns (records acts))
+
+-- Where the i-th transaction adds to the i-th key, what they come to at a key is how often it is among these.
+abbrev pub AddsAreCounted : Type 0
+AddsAreCounted = (read added : ℕ → ℕ) (make : ℕ → ScriptTxn) (numbers : List ℕ) (key : ℕ) → ((i : ℕ) → (make i).asks ≡ Get (read i) ∷ Add (added i) (pos 1) ∷ [])
+    → adds_to key (map make numbers) ≡ count_by (λ i. added i == key) numbers

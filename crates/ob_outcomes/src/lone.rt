@@ -1,7 +1,7 @@
 //! What one client's transactions meet: places for their gets and writes, and an epoch each.
 
 ghost use Rattle.ob_outcomes.specs.Lone.{LoneUsesPlaces, LoneIsLetIn, LoneCommitsLast, OneAnEpoch};
-ghost use Rattle.ob_outcomes.specs.Sums.{LoneReadsBelow, LoneCountsUp};
+ghost use Rattle.ob_outcomes.specs.Sums.{LoneReadsBelow, LoneCountsUp, AddsAreCounted};
 
 /// A lone client isn't turned away before its places are used, whatever it and the driver did.
 ///
@@ -30,7 +30,9 @@ pub fn lone_reads_below()
 /// Where each transaction of a lone client's script gets a key, adds 1 to a key and commits, each
 /// of its epochs has one transaction, which is committed, and the map behind them holds how often
 /// each key was added to, from a map without keys on. Where all of the script was served there are
-/// as many epochs as transactions.
+/// as many epochs as transactions. For a script that is made number by number that is how many
+/// of the numbers give the key.
 pub fn lone_counts_up()
-    ensures { LoneCountsUp }
+    ensures counts { LoneCountsUp }
+    ensures adds { AddsAreCounted }
 {}
