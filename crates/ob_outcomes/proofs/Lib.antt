@@ -31,3 +31,4 @@ pub mod LetIn
 pub mod Below
 pub mod Adders
 pub mod Counted
+pub mod LoneServed
