@@ -7,7 +7,8 @@
 set -euo pipefail
 top=$(cd "$(dirname "$0")/.." && pwd)
 source "$top/bench/common.sh"
-bench_crate check_bench ob_base ob_io ob_store ob_mem ob_seal ob_cells ob_tables ob_check <<'PROGRAM'
+bench_crate check_bench ob_base ob_io ob_store ob_lanes ob_bare ob_seal ob_cells ob_tables \
+    ob_check <<'PROGRAM'
 //! Writes a checkpoint (w), reads it (r), seals (s) or opens (o) as many cells, runs batches (b) or
 //! opens as many cells as they have (c): the first byte of the input says what, any other nothing.
 //! Each is done several times, behind the same preparations.
@@ -18,11 +19,11 @@ ghost use Rattle.ob_base.specs.Layout.{checkpoint_cells};
 ghost use Rattle.ob_tables.specs.Content.{Obeys, content_of};
 
 use ob_base::{Job, Jobs, Params, check_cell, checkpoint_cells, set_u32, set_u64};
-use ob_cells::{Crew, run_jobs};
+use ob_cells::{Bench, Crew, run_jobs};
 use ob_tables::Metas;
 use ob_cells::{Cut, write_sealed};
 use ob_check::{Sheet, read, write};
-use ob_mem::{BareLane, BareStore};
+use ob_bare::{BareLane, BareStore};
 use ob_seal::{Keys, Sealer};
 use ob_store::Blind;
 use ob_tables::Tables;
@@ -30,6 +31,7 @@ use std::alloc::Global;
 use std::hint;
 use std::io;
 use std::io::Read;
+use std::thread::Threads;
 
 const TIMES: u64 = 20;
 const CELLS: u64 = 33163;
@@ -107,19 +109,21 @@ fn stored(alloc: Global, p: &Params, sealer: &mut Sealer) -> Option<BareStore> {
     Some(store)
 }
 
-fn write_all(
+fn write_all<R: Threads + Sync>(
+    rt: &R,
     store: &mut BareStore,
     sealer: &mut Sealer,
     p: &Params,
     tables: &Tables<Metas>,
     sheet: &mut Sheet,
+    bench: &mut Bench,
 ) -> u64
     requires obeys { Obeys p.now (content_of tables.now) }
     requires sheet { length sheet.old ≡ 96 * checkpoint_cells p.now }
 {
     let mut done = 0;
     for n in 0..TIMES {
-        let result = write(store, sealer, p, 0, tables, sheet, &mut Blind);
+        let result = write(rt, store, sealer, p, 0, tables, sheet, bench, &mut Blind);
         done += u64::from(result.is_ok());
     }
     done
@@ -187,7 +191,8 @@ fn batch(alloc: Global, p: &Params) -> Option<Jobs> {
     Some(jobs)
 }
 
-fn run_all(
+fn run_all<R: Threads + Sync>(
+    rt: &R,
     store: &mut BareStore,
     sealer: &Sealer,
     crew: &mut Crew<BareLane>,
@@ -196,13 +201,13 @@ fn run_all(
     let mut done = 0;
     for n in 0..BATCHES {
         if jobs.jobs().len() <= crew.jobs() {
-            done += u64::from(run_jobs(store, crew, sealer, jobs).is_ok());
+            done += u64::from(run_jobs(rt, store, crew, sealer, jobs).is_ok());
         }
     }
     done
 }
 
-fn done(alloc: Global, what: u8) -> Option<u64> {
+fn done<R: Threads + Sync>(rt: &R, alloc: Global, what: u8) -> Option<u64> {
     let p = Params::new(65536, 14, 4, 6, 16, 64, 256, 64, 1024).ok()?;
     let mut sealer = Sealer::new(&Keys::from_bytes(&[7; 96]), 1);
     let mut store = stored(alloc, &p, &mut sealer)?;
@@ -213,12 +218,13 @@ fn done(alloc: Global, what: u8) -> Option<u64> {
     };
     let mut jobs = batch(alloc, &p)?;
     let mut crew = Crew::new(alloc, 1, 1000).ok()?;
+    let mut bench = Bench::new(alloc, 1).ok()?;
     Some(match what {
-        b'w' => write_all(&mut store, &mut sealer, &p, &tables, &mut sheet),
+        b'w' => write_all(rt, &mut store, &mut sealer, &p, &tables, &mut sheet, &mut bench),
         b'r' => read_all(alloc, &mut store, &sealer, &p, &mut sheet),
         b's' => seal_all(&mut sealer),
         b'o' => open_all(&mut sealer, TIMES * CELLS),
-        b'b' => run_all(&mut store, &sealer, &mut crew, &mut jobs),
+        b'b' => run_all(rt, &mut store, &sealer, &mut crew, &mut jobs),
         b'c' => open_all(&mut sealer, 500000),
         _ => 0,
     })
@@ -227,7 +233,7 @@ fn done(alloc: Global, what: u8) -> Option<u64> {
 fn main(rt: HostRuntime) -> io::Result<()> {
     let mut line = [0; 1];
     let _ = rt.stdin().read(&mut line)?;
-    match done(rt.alloc(), line[0]) {
+    match done(&rt, rt.alloc(), line[0]) {
         Some(n) => println!(rt; "{n}")?,
         None => println!(rt; "none")?,
     }

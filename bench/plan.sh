@@ -1,8 +1,8 @@
 #!/usr/bin/env bash
-# Measures what planning costs: the 16 read batches and the final lifts of each of eight epochs, at
-# 65,536 keys, levels 0 to 14, 4 real and 6 dummy slots, 64 places a batch. Each epoch puts 256 keys
-# more, and the batches ask for keys that were put. It needs rt, and writes only to a temporary
-# folder. Nothing is read or settled: planning alone is timed.
+# Measures what planning costs: the 16 read batches, the final lifts, and the writes and the refill (with
+# the words that these need) of each of eight epochs, at 65,536 keys, levels 0 to 14, 4 real and 6 dummy
+# slots, 64 places a batch. Each epoch puts 256 keys more, and the batches ask for keys that were put. It
+# needs rt, and writes only to a temporary folder. Nothing is read or settled: planning alone is timed.
 # The set of 65,536 keys is one for measuring: with all keys present its stash gets too full (docs/OPERATING).
 set -euo pipefail
 top=$(cd "$(dirname "$0")/.." && pwd)
@@ -21,15 +21,18 @@ cat >"$work/crates/plan_bench/src/main.rt" <<'PROGRAM'
 //! Plans epochs, and writes what that took.
 #![tactic(auto)]
 
-ghost use Rattle.std.specs.Prelude.{◌≡◌, ℕ, ◌<◌, ◌≤◌, ◌+◌, IfSome, None, slice_index_or, length, true};
+ghost use Rattle.std.specs.Prelude.{◌≡◌, ℕ, ◌<◌, ◌≤◌, ◌+◌, ◌*◌, IfSome, None, slice_index_or, length, replicate, true};
 ghost use Rattle.ob_base.specs.Planned.{most_jobs};
-ghost use Rattle.ob_ring.specs.Ring.{IsListed};
+ghost use Rattle.ob_base.specs.Tree.{buckets, width};
+ghost use Rattle.ob_ring.specs.Ring.{AreListedWithin, IsListed};
 ghost use Rattle.ob_ring.specs.Writing.{write_at};
 
 use ob_base::{Jobs, Key, Memory, Params, Value, Write};
-use ob_ring::Ring;
+use ob_ring::{Index, Ring, Steps};
 use std::alloc::Global;
 use std::io;
+use std::marker::Brand;
+use std::sync::ledger::{Blank, Ledger};
 use std::time::Instant;
 
 // Words that follow from a seed (a xorshift generator).
@@ -139,6 +142,24 @@ fn words(alloc: Global, random: &mut Random, many: usize) -> Result<Vec<u64>, Me
     Ok(words)
 }
 
+// Fills the lifted buckets with these words; whether no more rows are left than may be.
+fn refill<C: Ledger>(ring: &mut Ring, index: &mut Index, words: &[u64], blank: Blank) -> bool
+    requires listed { IsListed ring.old }
+    requires words { length words.now ≡ length ring.old.metas.order * width ring.old.p }
+    requires index { index.old ≡ replicate (buckets ring.old.p) 0 }
+    requires name { blank.name ≡ C.name }
+    requires parts { (blank.parts ≡ C.parts) × (0 < blank.parts) }
+    ensures ring { ring.new.p ≡ ring.old.p }
+    ensures within { AreListedWithin ring.new }
+    ensures index { index.new ≡ index.old }
+{
+    let mut steps = Steps::<C>::none(blank);
+    match ring.refill_indexed(index, words, (2, 0), &mut steps) {
+        Ok(()) => true,
+        Err(_) => false,
+    }
+}
+
 // Puts 256 keys more, and fills the lifted buckets; whether that was done.
 fn end(alloc: Global, p: &Params, ring: &mut Ring, random: &mut Random, put: u32) -> Result<bool, Memory>
     requires ring { ring.old.p ≡ p.now }
@@ -164,7 +185,8 @@ fn end(alloc: Global, p: &Params, ring: &mut Ring, random: &mut Random, put: u32
     if many != Some(slots.len()) {
         return Ok(false);
     }
-    if ring.refill(&slots, (2, 0)).is_err() {
+    let mut index = Index::new(alloc, p)?;
+    if !refill::<Brand>(ring, &mut index, &slots, Blank::new(1)) {
         return Ok(false);
     }
     ring.forget_written();
@@ -223,6 +245,12 @@ use Rattle.plan_bench.proofs.plan_batches.Given as goal
 abbrev pub invariant-loop-batch : goal.invariant-loop-batch
 invariant-loop-batch l = (l.ring.p ≡ l.p) × (l.jobs.room ≡ most_jobs l.p) × (l.jobs.place_room ≡ l.p.places)
 PROOF
+prove end Invariants <<'PROOF'
+use Rattle.plan_bench.proofs.end.Given as goal
+
+abbrev pub ghosts-refill : goal.ghosts-refill
+ghosts-refill a = record { name = a.blank.name; parts = a.blank.parts }
+PROOF
 prove main Invariants <<'PROOF'
 use Rattle.std.specs.Prelude.{◌≡◌}
 use Rattle.ob_base.specs.Planned.{most_jobs}
@@ -233,5 +261,5 @@ invariant-loop-epoch g l = (l.ring.p ≡ l.p) × (l.jobs.room ≡ most_jobs l.p)
 PROOF
 rt run </dev/null >"$work/log" 2>&1 || { tail -40 "$work/log"; exit 1; }
 ./out/plan_bench | awk '{
-    printf "epoch %d: %6d jobs in 16 batches %8.3f ms, %6d jobs of final lifts %8.3f ms, refill in its plain form %6.2f s, %s\n", $1, $3, $5 / 1000, $4, ($6 - $5) / 1000, ($7 - $6) / 1000000, $2 == "true" ? "done" : "refused"
+    printf "epoch %d: %6d jobs in 16 batches %8.3f ms, %6d jobs of final lifts %8.3f ms, writes and refill %8.3f ms, %s\n", $1, $3, $5 / 1000, $4, ($6 - $5) / 1000, ($7 - $6) / 1000, $2 == "true" ? "done" : "refused"
 }'

@@ -5,21 +5,23 @@
 # epoch asks for keys that are present, and puts such. Its time stands beside that of sealing and opening
 # as many cells, which is measured in turns with it, and beside a plain vault's of as many keys; with it
 # stands what filling the lifted buckets takes of it, in the same epochs planned alone. The third size
-# once more with all keys present, which 1,024 epochs put whose fetches are pads. Then the largest
-# resident memory at the third size beside the store's cells, and how it grows over 100 epochs, once all
-# the room that was made has been used.
+# once more with all keys present, which 1,024 epochs put whose fetches are pads. Then two stores whose
+# buckets have one dummy slot, so that most are lifted (16 batches of 64 places, 256 writes, 64 paths
+# evicted): levels 0 to 12 with 16 real slots, of which 19,968 keys are present, and 0 to 16 with 4, all
+# present. Then the largest resident memory at the third size beside the store's cells, and how it grows
+# over 100 epochs, once all the room that was made has been used.
 # What is aimed at: 1.5 of the seals and opens; 9 times the plain vault's epoch at 256 keys and 1.0 at
-# 65,536; filling at most 3 times the sealing where all keys are present; 32 MB, and no growth.
-# The set of 65,536 keys is one for measuring: with all keys present its stash gets too full (docs/OPERATING).
+# 65,536; filling 0.05 of the seals, and 0.1 where buckets have one dummy slot; 32 MB, and no growth.
+# The sets of 65,536 keys are for measuring: with all keys present a stash gets too full (docs/OPERATING).
 # It needs rt and GNU time, and writes only to a temporary folder. Times are of the processor.
 set -euo pipefail
 top=$(cd "$(dirname "$0")/.." && pwd)
 source "$top/bench/common.sh"
-bench_crate ring_bench ob_base ob_io ob_store ob_mem ob_seal ob_twin ob_cells ob_start ob_log \
+bench_crate ring_bench ob_base ob_io ob_store ob_lanes ob_bare ob_seal ob_twin ob_cells ob_start ob_log \
     ob_flat ob_tables ob_schedule ob_ring ob_recover ob_stand ob_check ob_serial ob_plain_serial \
     ob_pads ob_opening ob_fetch ob_end ob_vault <<'PROGRAM'
-//! Runs epochs of a ring vault (a to d) or of a plain one (A to C) in memory, or plans the ring's alone
-//! (e to h): the first byte of the input says which, and the second how many rounds.
+//! Runs epochs of a ring vault (a to d, i and j) or of a plain one (A to C) in memory, or plans the ring's
+//! alone (e to h, k and l): the first byte of the input says which, and the second how many rounds.
 #![tactic(auto)]
 
 ghost use Rattle.std.specs.Prelude.{◌≡◌};
@@ -32,17 +34,19 @@ mod rounds;
 use crate::epochs::fill_keys;
 use crate::planning::refill_time;
 use crate::rounds::{EPOCHS, Round, run_rounds};
+use ob_bare::BareStore;
 use ob_base::{Jobs, Params, ring_cells};
 use ob_flat::FlatVault;
-use ob_mem::BareStore;
 use ob_ring::Ring;
 use ob_vault::RingVault;
 use ob_seal::Keys;
-use ob_store::{Blind, Store};
+use ob_lanes::Lanes;
 use ob_seal::{ChaChaTape, Tape};
+use ob_store::Blind;
 use std::alloc::Global;
 use std::io;
 use std::io::Read;
+use std::thread::Threads;
 use std::time::{CpuClock, Duration};
 
 // The parameters, and how many keys are put first.
@@ -58,12 +62,21 @@ fn setting(what: u8) -> Option<(Params, u32)> {
             Params::new(65536, 14, 4, 6, 8, 16, 64, 16, 1024).ok()?,
             65536,
         )),
+        b'i' | b'k' => Some((
+            Params::new(65536, 12, 16, 1, 16, 64, 256, 64, 1024).ok()?,
+            19968,
+        )),
+        b'j' | b'l' => Some((
+            Params::new(65536, 16, 4, 1, 16, 64, 256, 64, 1024).ok()?,
+            65536,
+        )),
         _ => None,
     }
 }
 
 // A vault over a ring store that is opened.
-fn open_ring<'a, S: Store, T: Tape>(
+fn open_ring<'a, R: Threads + Sync, S: Lanes, T: Tape>(
+    rt: &R,
     alloc: Global,
     store: &'a mut S,
     tape: &'a mut T,
@@ -73,28 +86,38 @@ fn open_ring<'a, S: Store, T: Tape>(
     requires none_out { (S.disk store.old).out ≡ 0 }
     requires unstarted { T.present tape.old ≡ 0 }
 {
-    match ob_opening::prepare(alloc, store, tape, keys, p, 1, &mut Blind) {
+    match ob_opening::prepare(rt, alloc, store, tape, keys, p, 1, &mut Blind) {
         Ok(opening) => Some(RingVault::over(store, tape, opening)),
         Err(_) => None,
     }
 }
 
-fn on_ring(clock: &impl CpuClock, alloc: Global, what: u8, rounds: u32) -> Option<Vec<Round>> {
+fn on_ring<R: Threads + Sync + CpuClock>(
+    rt: &R,
+    alloc: Global,
+    what: u8,
+    rounds: u32,
+) -> Option<Vec<Round>> {
     let (p, present) = setting(what)?;
     let keys = Keys::from_bytes(&[7; 96]);
     let mut store = BareStore::new(alloc, ring_cells(&p) as usize).ok()?;
     let mut tape = ChaChaTape::new(&[7; 32]);
-    ob_opening::format(alloc, &mut store, &mut tape, &keys, &p, &mut Blind).ok()?;
+    ob_opening::format(rt, alloc, &mut store, &mut tape, &keys, &p, &mut Blind).ok()?;
     let mut tape = ChaChaTape::new(&[7; 32]);
-    let mut vault = open_ring(alloc, &mut store, &mut tape, &keys, &p)?;
+    let mut vault = open_ring(rt, alloc, &mut store, &mut tape, &keys, &p)?;
     let p = vault.params();
-    if fill_keys(&p, &mut vault, present, &mut Blind) != u64::from(present / p.writes) {
+    if fill_keys(rt, &p, &mut vault, present, &mut Blind) != u64::from(present / p.writes) {
         return None;
     }
-    run_rounds(clock, alloc, &p, &mut vault, present, rounds)
+    run_rounds(rt, alloc, &p, &mut vault, present, rounds)
 }
 
-fn on_plain(clock: &impl CpuClock, alloc: Global, what: u8, rounds: u32) -> Option<Vec<Round>> {
+fn on_plain<R: Threads + Sync + CpuClock>(
+    rt: &R,
+    alloc: Global,
+    what: u8,
+    rounds: u32,
+) -> Option<Vec<Round>> {
     let (p, present) = setting(what)?;
     let keys = Keys::from_bytes(&[7; 96]);
     let mut store = BareStore::new(alloc, ob_flat::cells(&p) as usize).ok()?;
@@ -102,10 +125,10 @@ fn on_plain(clock: &impl CpuClock, alloc: Global, what: u8, rounds: u32) -> Opti
     let opened = ob_flat::prepare(alloc, &mut store, &keys, &p, &mut Blind);
     let mut vault = FlatVault::over(&mut store, opened.ok()?);
     let p = vault.params();
-    if fill_keys(&p, &mut vault, present, &mut Blind) != u64::from(present / p.writes) {
+    if fill_keys(rt, &p, &mut vault, present, &mut Blind) != u64::from(present / p.writes) {
         return None;
     }
-    run_rounds(clock, alloc, &p, &mut vault, present, rounds)
+    run_rounds(rt, alloc, &p, &mut vault, present, rounds)
 }
 
 // What filling buckets takes in the epochs of as many rounds.
@@ -127,13 +150,13 @@ fn main(rt: HostRuntime) -> io::Result<()> {
     let _ = rt.stdin().read(&mut line)?;
     let [what, many] = line;
     let rounds = digit(many);
-    if let b'e'..=b'h' = what {
+    if let b'e'..=b'h' | b'k' | b'l' = what {
         let taken = planned(&rt, rt.alloc(), what, rounds).unwrap_or(Duration::ZERO);
         println!(rt; "{}", taken.as_micros())?;
         return Ok(());
     }
     let all = match what {
-        b'a'..=b'd' => on_ring(&rt, rt.alloc(), what, rounds),
+        b'a'..=b'd' | b'i' | b'j' => on_ring(&rt, rt.alloc(), what, rounds),
         _ => on_plain(&rt, rt.alloc(), what, rounds),
     };
     match all {
@@ -165,6 +188,7 @@ use crate::calls::{may_end, may_fetch};
 use ob_base::{Key, Params, Value, Write};
 use ob_serial::Vault;
 use ob_store::{Note, Watch};
+use std::thread::Threads;
 
 // Words that follow from a seed (a xorshift generator).
 #[derive(Drop)]
@@ -234,7 +258,8 @@ pub fn fill_writes(writes: &mut [Write], first: u32)
 }
 
 // Fetches a batch, if the vault takes it.
-fn fetch<V: Vault, W: Watch>(
+fn fetch<R: Threads + Sync, V: Vault, W: Watch>(
+    rt: &R,
     p: &Params,
     vault: &mut V,
     asks: &[Option<Key>],
@@ -247,10 +272,11 @@ fn fetch<V: Vault, W: Watch>(
     if vault.spent() || out.len() != asks.len() || !may_fetch(p, vault.left(), asks) {
         return false;
     }
-    vault.fetch(asks, out, watch).is_ok()
+    vault.fetch(rt, asks, out, watch).is_ok()
 }
 
-fn fetch_batch<V: Vault, W: Watch>(
+fn fetch_batch<R: Threads + Sync, V: Vault, W: Watch>(
+    rt: &R,
     p: &Params,
     vault: &mut V,
     random: &mut Random,
@@ -264,10 +290,11 @@ fn fetch_batch<V: Vault, W: Watch>(
     let mut asks = [None; 64];
     let mut out: [Option<Value>; 64] = [None; 64];
     fill_asks(&mut asks[..many], random.word(), present);
-    fetch(p, vault, &asks[..many], &mut out[..many], watch)
+    fetch(rt, p, vault, &asks[..many], &mut out[..many], watch)
 }
 
-fn fetch_batches<V: Vault, W: Watch>(
+fn fetch_batches<R: Threads + Sync, V: Vault, W: Watch>(
+    rt: &R,
     p: &Params,
     vault: &mut V,
     random: &mut Random,
@@ -278,7 +305,7 @@ fn fetch_batches<V: Vault, W: Watch>(
     ensures { V.params vault.new ≡ p.now }
 {
     for n in 0..p.batches {
-        if !fetch_batch(p, vault, random, present, watch) {
+        if !fetch_batch(rt, p, vault, random, present, watch) {
             return false;
         }
     }
@@ -286,17 +313,29 @@ fn fetch_batches<V: Vault, W: Watch>(
 }
 
 // Ends the epoch, if the vault takes these writes.
-fn end<V: Vault, W: Watch>(p: &Params, vault: &mut V, writes: &[Write], watch: &mut W) -> bool
+fn end<R: Threads + Sync, V: Vault, W: Watch>(
+    rt: &R,
+    p: &Params,
+    vault: &mut V,
+    writes: &[Write],
+    watch: &mut W,
+) -> bool
     requires { V.params vault.old ≡ p.now }
     ensures { V.params vault.new ≡ p.now }
 {
     if vault.spent() || !may_end(p, vault.left(), writes) {
         return false;
     }
-    vault.end(writes, watch).is_ok()
+    vault.end(rt, writes, watch).is_ok()
 }
 
-fn end_epoch<V: Vault, W: Watch>(p: &Params, vault: &mut V, first: u32, watch: &mut W) -> bool
+fn end_epoch<R: Threads + Sync, V: Vault, W: Watch>(
+    rt: &R,
+    p: &Params,
+    vault: &mut V,
+    first: u32,
+    watch: &mut W,
+) -> bool
     requires { V.params vault.old ≡ p.now }
     ensures { V.params vault.new ≡ p.now }
 {
@@ -306,27 +345,34 @@ fn end_epoch<V: Vault, W: Watch>(p: &Params, vault: &mut V, first: u32, watch: &
         value: None,
     }; 256];
     fill_writes(&mut writes[..many], first);
-    end(p, vault, &writes[..many], watch)
+    end(rt, p, vault, &writes[..many], watch)
 }
 
 // Puts so many keys, whose number the writes of an epoch divide; the fetches are pads. How many epochs
 // went well.
-pub fn fill_keys<V: Vault, W: Watch>(p: &Params, vault: &mut V, present: u32, watch: &mut W) -> u64
+pub fn fill_keys<R: Threads + Sync, V: Vault, W: Watch>(
+    rt: &R,
+    p: &Params,
+    vault: &mut V,
+    present: u32,
+    watch: &mut W,
+) -> u64
     requires { V.params vault.old ≡ p.now }
     ensures { V.params vault.new ≡ p.now }
 {
     let mut random = Random { state: 1 };
     let mut done: u64 = 0;
     for n in 0..present / p.writes {
-        let fetched = fetch_batches(p, vault, &mut random, 0, watch);
-        let ended = fetched && end_epoch(p, vault, n.wrapping_mul(p.writes), watch);
+        let fetched = fetch_batches(rt, p, vault, &mut random, 0, watch);
+        let ended = fetched && end_epoch(rt, p, vault, n.wrapping_mul(p.writes), watch);
         done = done.wrapping_add(u64::from(ended));
     }
     done
 }
 
 // Epochs that ask for keys that are present, and put such. How many went well.
-pub fn run_epochs<V: Vault, W: Watch>(
+pub fn run_epochs<R: Threads + Sync, V: Vault, W: Watch>(
+    rt: &R,
     p: &Params,
     vault: &mut V,
     random: &mut Random,
@@ -339,9 +385,9 @@ pub fn run_epochs<V: Vault, W: Watch>(
 {
     let mut done: u64 = 0;
     for n in 0..epochs {
-        let fetched = fetch_batches(p, vault, random, present, watch);
+        let fetched = fetch_batches(rt, p, vault, random, present, watch);
         let first = random.word() % (present.saturating_sub(p.writes) as u64 + 1);
-        let ended = fetched && end_epoch(p, vault, first as u32, watch);
+        let ended = fetched && end_epoch(rt, p, vault, first as u32, watch);
         done = done.wrapping_add(u64::from(ended));
     }
     done
@@ -350,16 +396,19 @@ PROGRAM
 cat >src/planning.rt <<'PROGRAM'
 //! The same epochs planned alone: what refilling takes of them.
 
-ghost use Rattle.std.specs.Prelude.{◌≡◌, ℕ, ◌<◌, IfOk, IfSome, None, slice_index_or, length, true};
+ghost use Rattle.std.specs.Prelude.{◌≡◌, ℕ, ◌<◌, ◌*◌, IfOk, IfSome, None, slice_index_or, length, replicate, true};
 ghost use Rattle.ob_base.specs.Planned.{job_at, most_jobs};
-ghost use Rattle.ob_ring.specs.Ring.{IsListed};
+ghost use Rattle.ob_base.specs.Tree.{buckets, width};
+ghost use Rattle.ob_ring.specs.Ring.{AreListedWithin, IsListed};
 ghost use Rattle.ob_ring.specs.Writing.{write_at};
 
 use crate::epochs::{Random, fill_asks, fill_writes};
 use ob_base::{Job, Jobs, Key, Params, Write};
-use ob_ring::Ring;
+use ob_ring::{Index, Ring, Steps};
 use std::alloc::{AllocError, Global};
 use std::io;
+use std::marker::Brand;
+use std::sync::ledger::{Blank, Ledger};
 use std::time::{CpuClock, Duration};
 
 // Whether it is a key below a number, or none.
@@ -503,16 +552,36 @@ fn words_of(alloc: Global, random: &mut Random, many: usize) -> Result<Vec<u64>,
     Ok(words)
 }
 
+// Fills the lifted buckets with these words; whether no more rows are left than may be.
+fn fill<C: Ledger>(ring: &mut Ring, index: &mut Index, words: &[u64], blank: Blank) -> bool
+    requires listed { IsListed ring.old }
+    requires words { length words.now ≡ length ring.old.metas.order * width ring.old.p }
+    requires index { index.old ≡ replicate (buckets ring.old.p) 0 }
+    requires name { blank.name ≡ C.name }
+    requires parts { (blank.parts ≡ C.parts) × (0 < blank.parts) }
+    ensures ring { ring.new.p ≡ ring.old.p }
+    ensures within { AreListedWithin ring.new }
+    ensures index { index.new ≡ index.old }
+{
+    let mut steps = Steps::<C>::none(blank);
+    match ring.refill_indexed(index, words, (2, 0), &mut steps) {
+        Ok(()) => true,
+        Err(_) => false,
+    }
+}
+
 // Fills the lifted buckets with these words, and adds the time that takes.
 fn refill(
     clock: &impl CpuClock,
     p: &Params,
     ring: &mut Ring,
+    index: &mut Index,
     words: &[u64],
     taken: &mut Duration,
 ) -> io::Result<bool>
     requires ring { ring.old.p ≡ p.now }
     requires listed { IsListed ring.old }
+    requires index { index.old ≡ replicate (buckets p.now) 0 }
     ensures ring { ring.new.p ≡ p.now }
 {
     let width = (p.real + p.dummies) as usize;
@@ -520,7 +589,7 @@ fn refill(
         return Ok(false);
     }
     let start = clock.thread_cpu_time()?;
-    if ring.refill(words, (2, 0)).is_err() {
+    if !fill::<Brand>(ring, index, words, Blank::new(1)) {
         return Ok(false);
     }
     let end = clock.thread_cpu_time()?;
@@ -553,7 +622,10 @@ fn end(
         .len()
         .wrapping_mul((p.real + p.dummies) as usize);
     let words = words_of(alloc, random, many)?;
-    refill(clock, p, ring, &words, taken)
+    let Ok(mut index) = Index::new(alloc, p) else {
+        return Ok(false);
+    };
+    refill(clock, p, ring, &mut index, &words, taken)
 }
 
 // Ends an epoch with puts of so many keys in a row.
@@ -652,6 +724,7 @@ use ob_base::Params;
 use ob_seal::{Keys, Sealer};
 use ob_serial::Vault;
 use std::alloc::Global;
+use std::thread::Threads;
 use std::time::{CpuClock, Duration};
 use std::{hint, io};
 
@@ -700,8 +773,8 @@ fn open_all(sealer: &mut Sealer) -> u64 {
     done
 }
 
-fn run_round<V: Vault>(
-    clock: &impl CpuClock,
+fn run_round<R: Threads + Sync + CpuClock, V: Vault>(
+    rt: &R,
     p: &Params,
     vault: &mut V,
     random: &mut Random,
@@ -715,13 +788,13 @@ fn run_round<V: Vault>(
         reads: 0,
         writes: 0,
     };
-    let start = clock.thread_cpu_time()?;
+    let start = rt.thread_cpu_time()?;
     let sealed = seal_all(&mut sealer);
-    let between = clock.thread_cpu_time()?;
+    let between = rt.thread_cpu_time()?;
     let opened = open_all(&mut sealer);
-    let before = clock.thread_cpu_time()?;
-    let done = run_epochs(p, vault, random, EPOCHS, present, &mut count);
-    let end = clock.thread_cpu_time()?;
+    let before = rt.thread_cpu_time()?;
+    let done = run_epochs(rt, p, vault, random, EPOCHS, present, &mut count);
+    let end = rt.thread_cpu_time()?;
     let whole = sealed == CELLS && opened == CELLS;
     Ok(Round {
         done: if whole { done } else { 0 },
@@ -734,8 +807,8 @@ fn run_round<V: Vault>(
 }
 
 // So many rounds; none where memory or the clock fails.
-pub fn run_rounds<V: Vault>(
-    clock: &impl CpuClock,
+pub fn run_rounds<R: Threads + Sync + CpuClock, V: Vault>(
+    rt: &R,
     alloc: Global,
     p: &Params,
     vault: &mut V,
@@ -748,7 +821,7 @@ pub fn run_rounds<V: Vault>(
     let mut random = Random { state: 9 };
     let mut all = Vec::new(alloc);
     for n in 0..rounds {
-        let one = run_round(clock, p, vault, &mut random, present).ok()?;
+        let one = run_round(rt, p, vault, &mut random, present).ok()?;
         all.push(one).ok()?;
     }
     Some(all)
@@ -796,6 +869,13 @@ PROOF
 keeps planning words_of n l 'length l.words.items ≡ l.n' <<'PROOF'
 use Rattle.std.specs.Prelude.{◌≡◌, length}
 PROOF
+mkdir -p proofs/planning/refill
+cat >proofs/planning/refill/Invariants.antt <<'PROOF'
+use Rattle.ring_bench.proofs.planning.refill.Given as goal
+
+abbrev pub ghosts-fill : goal.ghosts-fill
+ghosts-fill g a = record { name = a.blank.name; parts = a.blank.parts }
+PROOF
 for name in plan_batches:l refill_time:'g l'; do
     keeps planning "${name%:*}" n "${name#*:}" '(l.ring.p ≡ l.p) × (l.jobs.room ≡ most_jobs l.p) × (l.jobs.place_room ≡ l.p.places)' <<'PROOF'
 use Rattle.std.specs.Prelude.{◌≡◌}
@@ -835,7 +915,7 @@ size() {
         END {
             printf "%s: an epoch %.2f ms, %.0f cells sealed and %.0f opened, %.2f of them", name, epoch / 1e3, s, o, best
             if (plain) printf "; a plain epoch %.2f ms, %.2f of it", plain / 1e3, epoch / plain
-            printf "; filling %.3f ms, %.1f %% of the epoch, %.2f of its seals\n", fill / 1e3, fill * 100 / epoch, fill / seals
+            printf "; filling %.3f ms, %.1f %% of the epoch, %.3f of its seals\n", fill / 1e3, fill * 100 / epoch, fill / seals
         }' "$work/ring" "$work/plain"
 }
 size '256 keys' a e A 4 5 5
@@ -843,6 +923,8 @@ size '4,096 keys' b f B 4 3 5
 size '65,536 keys, 2,560 present' c g C 8 3 5
 # One round: with all keys present the stash gets too full some time after.
 size '65,536 keys, all present' d h - 8 1 1
+size '65,536 keys, 16 real slots and a dummy, 19,968 present' i k - 16 1 1
+size '65,536 keys, 4 real slots and a dummy, all present' j l - 16 1 1
 # The largest resident memory, in kilobytes, of so many rounds at the third size.
 resident() {
     /usr/bin/time -f %M -o "$work/cost" ./out/ring_bench <<<"c$1" >/dev/null

@@ -11,16 +11,16 @@
 set -euo pipefail
 top=$(cd "$(dirname "$0")/.." && pwd)
 source "$top/bench/common.sh"
-bench_crate ring_open_bench ob_base ob_pads ob_io ob_store ob_mem ob_seal ob_twin ob_cells ob_start ob_log \
-    ob_flat ob_tables ob_schedule ob_ring ob_recover ob_stand ob_check ob_serial ob_opening <<'PROGRAM'
+bench_crate ring_open_bench ob_base ob_pads ob_io ob_store ob_lanes ob_bare ob_seal ob_twin ob_cells ob_start \
+    ob_log ob_flat ob_tables ob_schedule ob_ring ob_recover ob_stand ob_check ob_serial ob_opening <<'PROGRAM'
 //! Makes a ring store, and formats it again (f), opens it (p), or seals (s) or opens (o) as many
 //! cells; makes a plain store of as many keys, and opens it (q) or not (k); makes a larger ring
 //! store, and opens it (c) or not (b): the first byte of the input says what, any other makes the
 //! ring store alone.
 #![tactic(auto)]
 
+use ob_bare::BareStore;
 use ob_base::{Params, ring_cells};
-use ob_mem::BareStore;
 use ob_seal::{Keys, Sealer};
 use ob_store::Blind;
 use ob_seal::ChaChaTape;
@@ -28,6 +28,7 @@ use std::alloc::Global;
 use std::hint;
 use std::io;
 use std::io::Read;
+use std::thread::Threads;
 
 const FORMATS: u64 = 4;
 const OPENINGS: u64 = 20;
@@ -35,29 +36,53 @@ const SEALS: u64 = 360833;
 const OPENS: u64 = 33163;
 
 // Whether a ring store of these parameters was made.
-fn make(alloc: Global, store: &mut BareStore, keys: &Keys, p: &Params) -> bool {
+fn make<R: Threads + Sync>(
+    rt: &R,
+    alloc: Global,
+    store: &mut BareStore,
+    keys: &Keys,
+    p: &Params,
+) -> bool {
     let mut tape = ChaChaTape::new(&[7; 32]);
-    ob_opening::format(alloc, store, &mut tape, keys, p, &mut Blind).is_ok()
+    ob_opening::format(rt, alloc, store, &mut tape, keys, p, &mut Blind).is_ok()
 }
 
 // Whether it was opened.
-fn open(alloc: Global, store: &mut BareStore, keys: &Keys, p: &Params) -> bool {
+fn open<R: Threads + Sync>(
+    rt: &R,
+    alloc: Global,
+    store: &mut BareStore,
+    keys: &Keys,
+    p: &Params,
+) -> bool {
     let mut tape = ChaChaTape::new(&[7; 32]);
-    ob_opening::prepare(alloc, store, &mut tape, keys, p, 1, &mut Blind).is_ok()
+    ob_opening::prepare(rt, alloc, store, &mut tape, keys, p, 1, &mut Blind).is_ok()
 }
 
-fn make_all(alloc: Global, store: &mut BareStore, keys: &Keys, p: &Params) -> u64 {
+fn make_all<R: Threads + Sync>(
+    rt: &R,
+    alloc: Global,
+    store: &mut BareStore,
+    keys: &Keys,
+    p: &Params,
+) -> u64 {
     let mut done = 0;
     for n in 0..FORMATS {
-        done += u64::from(make(alloc, store, keys, p));
+        done += u64::from(make(rt, alloc, store, keys, p));
     }
     done
 }
 
-fn open_all(alloc: Global, store: &mut BareStore, keys: &Keys, p: &Params) -> u64 {
+fn open_all<R: Threads + Sync>(
+    rt: &R,
+    alloc: Global,
+    store: &mut BareStore,
+    keys: &Keys,
+    p: &Params,
+) -> u64 {
     let mut done = 0;
     for n in 0..OPENINGS {
-        done += u64::from(open(alloc, store, keys, p));
+        done += u64::from(open(rt, alloc, store, keys, p));
     }
     done
 }
@@ -98,16 +123,16 @@ fn open_cells(sealer: &mut Sealer) -> u64 {
     done
 }
 
-fn on_ring(alloc: Global, what: u8) -> Option<u64> {
+fn on_ring<R: Threads + Sync>(rt: &R, alloc: Global, what: u8) -> Option<u64> {
     let p = Params::new(65536, 14, 4, 6, 8, 16, 64, 16, 1024).ok()?;
     let keys = Keys::from_bytes(&[7; 96]);
     let mut store = BareStore::new(alloc, ring_cells(&p) as usize).ok()?;
-    if !make(alloc, &mut store, &keys, &p) {
+    if !make(rt, alloc, &mut store, &keys, &p) {
         return None;
     }
     Some(match what {
-        b'f' => make_all(alloc, &mut store, &keys, &p),
-        b'p' => open_all(alloc, &mut store, &keys, &p),
+        b'f' => make_all(rt, alloc, &mut store, &keys, &p),
+        b'p' => open_all(rt, alloc, &mut store, &keys, &p),
         b's' => seal_cells(&mut Sealer::new(&keys, 2)),
         b'o' => open_cells(&mut Sealer::new(&keys, 2)),
         _ => ring_cells(&p),
@@ -125,31 +150,31 @@ fn on_plain(alloc: Global, what: u8) -> Option<u64> {
     })
 }
 
-fn on_large_ring(alloc: Global, what: u8) -> Option<u64> {
+fn on_large_ring<R: Threads + Sync>(rt: &R, alloc: Global, what: u8) -> Option<u64> {
     let p = Params::new(65536, 16, 16, 32, 16, 64, 256, 64, 1024).ok()?;
     let keys = Keys::from_bytes(&[7; 96]);
     let mut store = BareStore::new(alloc, ring_cells(&p) as usize).ok()?;
-    if !make(alloc, &mut store, &keys, &p) {
+    if !make(rt, alloc, &mut store, &keys, &p) {
         return None;
     }
-    if what == b'c' && !open(alloc, &mut store, &keys, &p) {
+    if what == b'c' && !open(rt, alloc, &mut store, &keys, &p) {
         return None;
     }
     Some(ring_cells(&p))
 }
 
-fn done(alloc: Global, what: u8) -> Option<u64> {
+fn done<R: Threads + Sync>(rt: &R, alloc: Global, what: u8) -> Option<u64> {
     match what {
         b'k' | b'q' => on_plain(alloc, what),
-        b'b' | b'c' => on_large_ring(alloc, what),
-        _ => on_ring(alloc, what),
+        b'b' | b'c' => on_large_ring(rt, alloc, what),
+        _ => on_ring(rt, alloc, what),
     }
 }
 
 fn main(rt: HostRuntime) -> io::Result<()> {
     let mut line = [0; 1];
     let _ = rt.stdin().read(&mut line)?;
-    match done(rt.alloc(), line[0]) {
+    match done(&rt, rt.alloc(), line[0]) {
         Some(n) => println!(rt; "{n}")?,
         None => println!(rt; "none")?,
     }

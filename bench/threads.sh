@@ -15,8 +15,8 @@ top=$(cd "$(dirname "$0")/.." && pwd)
 program=${1:+$(realpath "$1")}
 keep=${KEEP:+$(realpath "$KEEP")}
 source "$top/bench/common.sh"
-bench_crate threads_bench ob_base ob_pads ob_io ob_script ob_report ob_store ob_mem ob_seal ob_twin \
-    ob_cells ob_start ob_flat ob_serial ob_order ob_queue ob_key_versions ob_versions ob_desk \
+bench_crate threads_bench ob_base ob_pads ob_io ob_script ob_report ob_store ob_lanes ob_bare ob_mem ob_seal \
+    ob_twin ob_cells ob_start ob_flat ob_serial ob_order ob_queue ob_key_versions ob_versions ob_desk \
     ob_turn ob_session ob_hall ob_threads ob_runner ob_conduct ob_driver ob_run <<'PROGRAM'
 //! Serves the script that comes in, over a plain vault in memory. The first byte of the input says how:
 //! t by threads, h by hand, s by threads where a fetch takes a second, n not at all.
@@ -25,10 +25,11 @@ bench_crate threads_bench ob_base ob_pads ob_io ob_script ob_report ob_store ob_
 ghost use Rattle.std.specs.Prelude.{◌≡◌, ◌≤◌, false};
 ghost use Rattle.ob_script.specs.Script.{AreSound};
 
+use ob_bare::BareStore;
 use ob_base::{Fault, Key, Params, Value, Write};
 use ob_desk::{Desk, Eager};
 use ob_flat::{FlatVault, cells, format, prepare};
-use ob_mem::{BareStore, MemSink};
+use ob_mem::MemSink;
 use ob_run::run;
 use ob_runner::runners;
 use ob_script::{Scripts, parse};
@@ -78,8 +79,9 @@ impl<'r, R: Clock, V: Vault> Vault for Slow<'r, R, V> {
         self.vault.spent()
     }
 
-    fn fetch<W: Watch>(
+    fn fetch<T: Threads + Sync, W: Watch>(
         &mut self,
+        rt: &T,
         asks: &[Option<Key>],
         out: &mut [Option<Value>],
         watch: &mut W,
@@ -87,11 +89,16 @@ impl<'r, R: Clock, V: Vault> Vault for Slow<'r, R, V> {
         if self.slow {
             thread::sleep(self.rt, Duration::from_secs(1));
         }
-        self.vault.fetch(asks, out, watch)
+        self.vault.fetch(rt, asks, out, watch)
     }
 
-    fn end<W: Watch>(&mut self, writes: &[Write], watch: &mut W) -> Result<(), EndErr> {
-        self.vault.end(writes, watch)
+    fn end<T: Threads + Sync, W: Watch>(
+        &mut self,
+        rt: &T,
+        writes: &[Write],
+        watch: &mut W,
+    ) -> Result<(), EndErr> {
+        self.vault.end(rt, writes, watch)
     }
 
     ghost agrees = { λ v s h. V.agrees v.vault s h };

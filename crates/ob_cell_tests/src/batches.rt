@@ -1,14 +1,15 @@
 //! Batches over a store whose cells were sealed elsewhere.
 
-ghost use Rattle.std.specs.Prelude.{◌≡◌};
+ghost use Rattle.std.specs.Prelude.{◌≡◌, ◌≤◌};
 
 use crate::shared::{STORE_FAULT, is_damage, new_store, params, spelled, test_sealer};
 use ob_base::{Check, Fault, Job, Jobs};
 use ob_cells::{Crew, JobsErr, run_jobs};
-use ob_mem::{Fail, MemStore};
+use ob_mem::{Fail, MemLane, MemStore};
 use ob_store::Store;
 use std::alloc::Global;
 use std::process::Abort;
+use std::thread::Threads;
 
 // Three cells of a store of 74 cells that was formatted under the keys of the bytes 0 to 95. They
 // were made with another SHA-256 and a plain ChaCha20.
@@ -69,18 +70,19 @@ fn store_of(rt: &impl Abort, alloc: Global, fails: &[Fail], broken: u64) -> MemS
     store
 }
 
-// Jobs of the three cells: the first one's number, and the others' true ones.
-fn jobs_of(rt: &impl Abort, alloc: Global, number: u64) -> Jobs {
+// So many jobs of the three cells, which take turns: the first one's number, and the others' true
+// ones.
+fn jobs_of(rt: &impl Abort, alloc: Global, number: u64, many: usize) -> Jobs {
     let mut jobs = Jobs::new(alloc, &params(rt, 8, 2)).expect(rt, "memory");
     assert!(rt; jobs.room() == 18);
     let cells = [41, 46, 56];
     let numbers = [number, 7, 17];
-    for i in 0..3 {
+    for i in 0..many {
         assert!(rt; jobs.jobs().len() < jobs.room());
         jobs.push(Job {
-            cell: cells[i],
+            cell: cells[i % 3],
             generation: 1,
-            number: numbers[i],
+            number: numbers[i % 3],
             key: None,
             result: None,
         });
@@ -88,7 +90,7 @@ fn jobs_of(rt: &impl Abort, alloc: Global, number: u64) -> Jobs {
     jobs
 }
 
-// Whether each of the three jobs has the plain bytes of an empty slot, or each has no result.
+// Whether each job has the plain bytes of an empty slot, or each has no result.
 fn are_read(jobs: &[Job], is_read: bool) -> bool {
     let mut empty_slot = [0; 96];
     for i in 0..4 {
@@ -100,7 +102,7 @@ fn are_read(jobs: &[Job], is_read: bool) -> bool {
             return false;
         }
     }
-    jobs.len() == 3
+    true
 }
 
 // What a batch answers: its jobs are done, or the first that fails has a cell damaged so, or the
@@ -135,43 +137,105 @@ const READ_56: Fail = Fail::Read {
     writes: 3,
 };
 
-// The calls that fail, the cell with another bit, the number of the first job, the answer, and how
-// often the store has failed. Where an earlier job fails too, that shows that the later cells were
-// read.
-struct Batch(&'static [Fail], u64, u64, Told, u64);
+const READ_41: Fail = Fail::Read {
+    cell: 41,
+    writes: 3,
+};
+
+// The calls that fail, the cell with another bit, the number of the first job, how many jobs there
+// are, the answer, and how often the store has failed. Where an earlier job fails too, that shows
+// that the later cells were read.
+struct Batch(&'static [Fail], u64, u64, usize, Told, u64);
 
 const BATCHES: &[Batch] = &[
-    Batch(&[], 0, 2, Told::Done, 0),
-    Batch(&[], 46, 2, Told::Damaged(46, Check::Tag), 0),
-    Batch(&[], 0, 3, Told::Damaged(41, Check::Seal), 0),
-    Batch(&[READ_56], 46, 2, Told::Damaged(46, Check::Tag), 1),
-    Batch(&[READ_46], 56, 2, Told::NotRead, 1),
-    Batch(&[READ_46, READ_56], 41, 2, Told::Damaged(41, Check::Tag), 2),
-    Batch(&[Fail::Lane(0), READ_46], 56, 2, Told::NotBegun, 1),
+    Batch(&[], 0, 2, 3, Told::Done, 0),
+    Batch(&[], 46, 2, 3, Told::Damaged(46, Check::Tag), 0),
+    Batch(&[], 0, 3, 3, Told::Damaged(41, Check::Seal), 0),
+    Batch(&[], 56, 3, 3, Told::Damaged(41, Check::Seal), 0),
+    Batch(&[READ_56], 46, 2, 3, Told::Damaged(46, Check::Tag), 1),
+    Batch(&[READ_46], 56, 2, 3, Told::NotRead, 1),
+    Batch(
+        &[READ_46, READ_56],
+        41,
+        2,
+        3,
+        Told::Damaged(41, Check::Tag),
+        2,
+    ),
+    Batch(&[READ_41, READ_46, READ_56], 0, 2, 3, Told::NotRead, 3),
+    Batch(&[Fail::Lane(0), READ_46], 56, 2, 3, Told::NotBegun, 1),
+    Batch(&[], 0, 2, 0, Told::Done, 0),
+    Batch(&[Fail::Lane(0)], 0, 2, 0, Told::NotBegun, 1),
+    Batch(&[Fail::Lane(1)], 0, 2, 1, Told::Done, 0),
+    Batch(&[], 0, 2, 18, Told::Done, 0),
+    Batch(&[READ_46], 56, 2, 18, Told::NotRead, 6),
 ];
 
-// What jobs answer that are read by one lane.
-fn run(rt: &impl Abort, alloc: Global, store: &mut MemStore, jobs: &mut Jobs) -> Answer {
-    let mut crew = Crew::new(alloc, 1, 3).expect(rt, "memory");
-    assert!(rt; crew.lanes() == 1);
-    assert!(rt; jobs.jobs().len() <= crew.jobs());
-    run_jobs(store, &mut crew, &test_sealer(1), jobs)
+// A crew of so many lanes, with room for 18 jobs.
+fn crew_of(rt: &impl Abort, alloc: Global, lanes: usize) -> Crew<MemLane>
+    requires { (1 ≤ lanes) × (lanes ≤ 16) }
+    ensures { result.lanes ≡ lanes }
+{
+    let crew = Crew::new(alloc, lanes, 18).expect(rt, "memory");
+    assert!(rt; crew.lanes() == lanes);
+    crew
 }
 
-// Whether a batch, read by one lane, answers so, and leaves results where it is done.
-fn ends_so(rt: &impl Abort, alloc: Global, batch: &Batch) -> bool {
-    let Batch(fails, broken, number, told, faults) = batch;
+// What jobs answer that a crew reads.
+fn run<R: Abort + Threads + Sync>(
+    rt: &R,
+    store: &mut MemStore,
+    crew: &mut Crew<MemLane>,
+    jobs: &mut Jobs,
+) -> Answer {
+    assert!(rt; jobs.jobs().len() <= crew.jobs());
+    run_jobs(rt, store, crew, &test_sealer(1), jobs)
+}
+
+// Whether a batch answers so that is read by so many lanes, and leaves results where it is done.
+fn ends_so<R: Abort + Threads + Sync>(rt: &R, alloc: Global, lanes: usize, batch: &Batch) -> bool
+    requires { (1 ≤ lanes) × (lanes ≤ 16) }
+{
+    let Batch(fails, broken, number, many, told, faults) = batch;
     let mut store = store_of(rt, alloc, fails, *broken);
-    let mut jobs = jobs_of(rt, alloc, *number);
-    is_told(told, run(rt, alloc, &mut store, &mut jobs))
+    let mut jobs = jobs_of(rt, alloc, *number, *many);
+    let mut crew = crew_of(rt, alloc, lanes);
+    is_told(told, run(rt, &mut store, &mut crew, &mut jobs))
         && are_read(jobs.jobs(), matches!(told, Told::Done))
+        && jobs.jobs().len() == *many
         && store.faults() == *faults
 }
 
 #[test]
 fn batches_are_read_or_the_first_failing_job_is_told(rt: HostRuntime) {
     for i in 0..BATCHES.len() {
-        assert!(rt; ends_so(&rt, rt.alloc(), &BATCHES[i]), "batch {i}");
+        for lanes in 1..17 {
+            assert!(rt;
+                ends_so(&rt, rt.alloc(), lanes, &BATCHES[i]),
+                "batch {i} by {lanes}"
+            );
+        }
+    }
+}
+
+// Where one of 16 lanes is refused nothing is read, and the same crew reads all of the next batch:
+// of its 16 jobs ten fail, each in a lane of its own.
+fn goes_on<R: Abort + Threads + Sync>(rt: &R, alloc: Global, refused: u64) -> bool {
+    let fails = [Fail::Lane(refused), READ_46, READ_56];
+    let mut store = store_of(rt, alloc, &fails, 0);
+    let mut crew = crew_of(rt, alloc, 16);
+    let mut jobs = jobs_of(rt, alloc, 2, 16);
+    is_told(&Told::NotBegun, run(rt, &mut store, &mut crew, &mut jobs))
+        && store.faults() == 1
+        && is_told(&Told::NotRead, run(rt, &mut store, &mut crew, &mut jobs))
+        && store.faults() == 11
+        && are_read(jobs.jobs(), false)
+}
+
+#[test]
+fn a_batch_is_not_begun_where_a_lane_is_refused(rt: HostRuntime) {
+    for refused in 0..16 {
+        assert!(rt; goes_on(&rt, rt.alloc(), refused), "lane {refused}");
     }
 }
 

@@ -6,6 +6,8 @@ mod batches;
 #[cfg(test)]
 mod logs;
 #[cfg(test)]
+mod long;
+#[cfg(test)]
 mod sealed;
 #[cfg(test)]
 mod shared;

@@ -1,73 +1,29 @@
--- Jobs that are read one after another, and what is told of them.
-use Rattle.std.specs.Prelude.{◌≡◌, ◌<◌, ◌≤◌, ℕ, ◌+◌, true, List, [], ◌∷◌, ◌++◌, length, take, map, filter, slice_index, slice_set, Option, Result, Ok, Err, IfErr}
-use mathlib.Core.Path.{fun_ext}
+-- What is told of jobs that were read.
+use Rattle.std.specs.Prelude.{◌≡◌, ◌<◌, ◌≤◌, ℕ, true, List, [], ◌∷◌, length, map, filter, slice_index, Option, Result, Ok, Err, IfErr}
 use Rattle.std.specs.Result.{IsOk}
-use Rattle.std.proofs.Common.{zero, suc, arith, refl, sym, ap, subst, ◌∙◌, inl, inr, get_or, get_or-set_same, get_or-set_other}
-use Rattle.std.proofs.lemmas.Bool.{cases_eq, false≢true}
-use Rattle.std.proofs.lemmas.List.{append-nil, ext_get_or, length-map, get_or-map, take_all}
+use Rattle.std.proofs.Common.{arith, refl, sym, ap, subst, ◌∙◌}
+use Rattle.std.proofs.lemmas.Bool.{false≢true}
+use Rattle.std.proofs.lemmas.List.{append-nil, ext_get_or, length-map, get_or-map}
 use Rattle.std.proofs.lemmas.List.FromFn.{length-map-range_with_len, get_or-map-range_with_len}
 use Rattle.ob_base.specs.Causes.{Rose}
 use Rattle.ob_base.specs.Tree.{below}
 use Rattle.ob_base.specs.declared.fault.Fault.{Fault}
-use Rattle.ob_base.specs.declared.fault.Fault.TheVariants.{Memory}
 use Rattle.ob_base.specs.declared.job.Job.{Job}
 use Rattle.ob_base.specs.Planned.{job_at}
 use Rattle.ob_seal.specs.declared.keys.Keys.{Keys}
 use Rattle.ob_store.specs.declared.event.Event.{Event}
 use Rattle.ob_store.specs.declared.event.Event.TheVariants.{Read}
-use Rattle.ob_store.specs.Disk.{Image}
+use Rattle.ob_store.specs.Disk.{Disk, Image}
 use Rattle.ob_store.specs.Calls.{IsStoreFault, Notes}
-use Rattle.ob_store.proofs.Events.{joined}
-use Rattle.ob_store.proofs.Serving.{rose_later}
-use Rattle.ob_cells.specs.Jobs.{IsPlainOf, IsJobRead, IsReadFault, job_outcome, plain_of, plain_at, AreOutcomes, AreCaused, IsFirstErr, IsFirstFailing, AreFilled, AreJobsRead, cells_of}
+use Rattle.ob_lanes.specs.declared.hand.Slot.{Slot}
+use Rattle.ob_lanes.specs.Hands.{AreFailuresCounted, slot_at}
+use Rattle.ob_cells.specs.Jobs.{IsPlainOf, IsJobRead, IsReadFault, job_outcome, plain_of, plain_at, AreOutcomes, AreCaused, IsFirstErr, IsFirstFailing, AreFilled, AreJobsRead}
 use Rattle.ob_cells.specs.Lanes.{reads_of_lane, reads_of_lanes, ReadByLanes}
+use Rattle.ob_cells.specs.Shares.{AreJobsSlots, IsSlotOpened}
+use Rattle.ob_cells.proofs.Opened.{all_answered, all_caused}
 
 abbrev pub Outcomes : Type 0
 Outcomes = List (Result (List ℕ) Fault)
-
--- one outcome more
-pub one_more : (P : ℕ → Result (List ℕ) Fault → Type 0) (outcomes : Outcomes) (i : ℕ) (one : Result (List ℕ) Fault) → i < length outcomes
-    → ((j : ℕ) → j < i → P j (job_outcome outcomes j)) → P i one → (j : ℕ) → j < i + 1 → P j (job_outcome (slice_set outcomes i one) j)
-one_more P outcomes i one lt before here j below = elim (cases_eq j i) [
-  | inl same ↦ subst (λ (n : ℕ). P n (job_outcome (slice_set outcomes i one) n)) (sym same) (subst (P i) (sym (get_or-set_same outcomes i one (Err Memory) lt)) here)
-  | inr ne ↦ subst (P j) (sym (get_or-set_other outcomes i j one (Err Memory) ne)) (before j (omega arith))
-]
-
-rose_on : (l m n : ℕ) → m ≤ n → Rose l m → Rose l n
-rose_on l m n le rose = omega arith
-
-caused_on : (l m n : ℕ) (r : Result (List ℕ) Fault) → m ≤ n → IfErr r (λ f. IsReadFault f × (IsStoreFault f → Rose l m)) → IfErr r (λ f. IsReadFault f × (IsStoreFault f → Rose l n))
-caused_on l m n (Ok x) le h = tt
-caused_on l m n (Err f) le h = (h.0, λ is. rose_on l m n le (h.1 is))
-
-caused_here : (l m n : ℕ) (r : Result (List ℕ) Fault) → l ≤ m → IfErr r IsReadFault → IfErr r (λ f. IsStoreFault f → Rose m n) → IfErr r (λ f. IsReadFault f × (IsStoreFault f → Rose l n))
-caused_here l m n (Ok x) le h k = tt
-caused_here l m n (Err f) le h k = (h, λ is. rose_later l m n le (k is))
-
-pub caused_more : (l m n i : ℕ) (outcomes : Outcomes) (one : Result (List ℕ) Fault) → i < length outcomes → l ≤ m → m ≤ n → AreCaused l m i outcomes → IfErr one IsReadFault → IfErr one (λ f. IsStoreFault f → Rose m n)
-    → AreCaused l n (i + 1) (slice_set outcomes i one)
-caused_more l m n i outcomes one lt le more before fault cause =
-    one_more (λ j r. IfErr r (λ f. IsReadFault f × (IsStoreFault f → Rose l n))) outcomes i one lt (λ j low. caused_on l m n (job_outcome outcomes j) more (before j low)) (caused_here l m n one le fault cause)
-
--- ---- events
-
-abbrev pub reads_of : List Job → List Event
-reads_of jobs = map (λ c. Read c) (cells_of jobs)
-
-reads_suc : (jobs : List Job) (i : ℕ) (d : Job) → i < length jobs → reads_of (take (suc i) jobs) ≡ reads_of (take i jobs) ++ Read (get_or jobs i d).cell ∷ []
-reads_suc [] i d lt = absurd (omega arith)
-reads_suc (j ∷ jobs) zero d lt = refl
-reads_suc (j ∷ jobs) (suc i) d lt = ap (λ (es : List Event). Read j.cell ∷ es) (reads_suc jobs i d (omega arith))
-
-reads_more : (jobs : List Job) (i : ℕ) (d : Job) → i < length jobs → reads_of (take (i + 1) jobs) ≡ reads_of (take i jobs) ++ Read (get_or jobs i d).cell ∷ []
-reads_more jobs i d lt = let e : i + 1 ≡ suc i = omega arith in ap (λ n. reads_of (take n jobs)) e ∙ reads_suc jobs i d lt
-
-pub noted_more : (jobs : List Job) (i : ℕ) (d one : Job) (a b c : Option (List Event)) → i < length jobs → one ≡ get_or jobs i d → Notes (reads_of (take i jobs)) a b → Notes (Read one.cell ∷ []) b c → Notes (reads_of (take (i + 1) jobs)) a c
-noted_more jobs i d one a b c lt is so_far here =
-    subst (λ (es : List Event). Notes es a c) (sym (reads_more jobs i d lt ∙ ap (λ (j : Job). reads_of (take i jobs) ++ Read j.cell ∷ []) (sym is))) (joined (reads_of (take i jobs)) (Read one.cell ∷ []) a b c so_far here)
-
-pub noted_all : (jobs : List Job) (i : ℕ) (a b : Option (List Event)) → length jobs ≤ i → Notes (reads_of (take i jobs)) a b → Notes (reads_of jobs) a b
-noted_all jobs i a b all noted = subst (λ (js : List Job). Notes (reads_of js) a b) (take_all i jobs all) noted
 
 -- ---- one lane
 
@@ -117,10 +73,19 @@ first_fails keys image jobs outcomes f read first = record {
 pub first_caused : (before now jobs : ℕ) (outcomes : Outcomes) (f : Fault) → AreCaused before now jobs outcomes → IsFirstErr outcomes jobs f → IsReadFault f × (IsStoreFault f → Rose before now)
 first_caused before now jobs outcomes f caused first = subst (λ (r : Result (List ℕ) Fault). IfErr r (λ f. IsReadFault f × (IsStoreFault f → Rose before now))) first.is (caused first.job first.within)
 
-read_alike : (keys : Keys) (a b : Image) (jobs : List Job) (outcomes : Outcomes) → ((k : ℕ) → a k ≡ b k) → AreOutcomes keys a jobs outcomes → AreOutcomes keys b jobs outcomes
-read_alike keys a b jobs outcomes same read = subst (λ (image : Image). AreOutcomes keys image jobs outcomes) (fun_ext (λ k. same k)) read
+-- ---- so it is told of the jobs that were asked for
 
-pub told_first : (keys : Keys) (a b : Image) (jobs asked : List Job) (outcomes : Outcomes) (n : ℕ) (f : Fault) → ((k : ℕ) → b k ≡ a k) → jobs ≡ asked → n ≡ length asked
-    → AreOutcomes keys b jobs outcomes → IsFirstErr outcomes n f → IsFirstFailing keys a asked f
-told_first keys a b jobs asked outcomes n f same is many read first =
-    first_fails keys a asked outcomes f (subst (λ (js : List Job). AreOutcomes keys a js outcomes) is (read_alike keys b a jobs outcomes same read)) (subst (λ (m : ℕ). IsFirstErr outcomes m f) many first)
+module _ (keys : Keys) (disk : Disk) (asked jobs : List Job) (slots : List Slot) (outcomes : Outcomes) where
+  pub told_failing : (f : Fault) → jobs ≡ asked → AreJobsSlots disk jobs slots → ((i : ℕ) → i < length jobs → IsSlotOpened keys (job_at jobs i) (slot_at slots i) (job_outcome outcomes i)) → IsFirstErr outcomes (length jobs) f → disk.tells
+      → IsFirstFailing keys disk.cells asked f
+  told_failing f is read opened first tells = subst (λ (js : List Job). IsFirstFailing keys disk.cells js f) is (first_fails keys disk.cells jobs outcomes f (all_answered keys disk jobs slots outcomes read opened tells) first)
+
+  pub told_read : (new : List Job) → jobs ≡ asked → AreJobsSlots disk jobs slots → ((i : ℕ) → i < length jobs → IsSlotOpened keys (job_at jobs i) (slot_at slots i) (job_outcome outcomes i)) → ((i : ℕ) → i < length jobs → IsOk (job_outcome outcomes i))
+      → AreFilled asked new (λ i. plain_at outcomes i) → disk.tells → AreJobsRead keys disk.cells asked new
+  told_read new is read opened fine filled tells =
+      all_sound keys disk.cells asked new outcomes (subst (λ (js : List Job). AreOutcomes keys disk.cells js outcomes) is (all_answered keys disk jobs slots outcomes read opened tells))
+      (λ i lt. fine i (subst (λ (js : List Job). i < length js) (sym is) lt)) filled
+
+  pub told_cause : (before now : ℕ) (f : Fault) → AreFailuresCounted before now (length jobs) slots → ((i : ℕ) → i < length jobs → IsSlotOpened keys (job_at jobs i) (slot_at slots i) (job_outcome outcomes i)) → IsFirstErr outcomes (length jobs) f
+      → IsReadFault f × (IsStoreFault f → Rose before now)
+  told_cause before now f counted opened first = first_caused before now (length jobs) outcomes f (all_caused keys before now jobs slots outcomes counted opened) first

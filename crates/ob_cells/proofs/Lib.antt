@@ -7,3 +7,5 @@ pub mod Stopping
 pub mod Written
 pub mod Filling
 pub mod JobReads
+pub mod Dealt
+pub mod Opened

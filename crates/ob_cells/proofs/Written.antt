@@ -2,8 +2,8 @@
 use Rattle.std.proofs.Common.{◌≡◌, ℕ, ◌+◌, List, Result, Ok, Err, refl, arith, ◌∙◌}
 use Rattle.std.specs.Result.{IsErr}
 use Rattle.ob_seal.specs.Sealing.{Sealing}
-use Rattle.ob_store.specs.Calls.{Keeps}
-use Rattle.ob_store.specs.Disk.{Disk, NotAfter}
+use Rattle.ob_store.specs.Calls.{GoesOn, Keeps}
+use Rattle.ob_store.specs.Disk.{Disk}
 use Rattle.ob_store.specs.Images.{Elapses, SameOff, Shrinks}
 use Rattle.ob_store.proofs.Moments.{passed_still}
 use Rattle.ob_cells.specs.Runs.{IsFurther}
@@ -21,13 +21,13 @@ refused_run base many plain sealer later old new (Err e) is further within = rec
 
 -- a run that was written stays so through a call that keeps each cell and leaves no new image
 pub run_synced : {E F : Type 0} (base many : ℕ) (plain : ℕ → List ℕ) (sealer later : Sealing) (old mid new : Disk) (r : Result (Unit {0}) F) → WritesRun {T = Unit {0}} {E = E} base many plain sealer later old mid (Ok tt)
-    → (old.tells → mid.tells) → Keeps mid new → NotAfter mid.moment new.moment → Elapses mid new → Shrinks mid new → WritesRun base many plain sealer later old new r
-run_synced {F = F} base many plain sealer later old mid new r run told keeps after time shrinks = by_answer r
+    → (old.tells → mid.tells) → Keeps mid new → GoesOn mid new → Elapses mid new → Shrinks mid new → WritesRun base many plain sealer later old new r
+run_synced {F = F} base many plain sealer later old mid new r run told keeps goes time shrinks = by_answer r
   where
     within : WritesWithin base many old new
     within = record {
       rest = λ tells k off. keeps.cells (told tells) k ∙ run.within.rest tells k off;
-      passes = passed_still (SameOff base many) old mid new run.within.passes after time shrinks;
+      passes = passed_still (SameOff base many) old mid new run.within.passes goes time shrinks keeps;
     }
 
     by_answer : (r : Result (Unit {0}) F) → WritesRun base many plain sealer later old new r

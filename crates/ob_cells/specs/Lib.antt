@@ -7,3 +7,5 @@ pub mod Writes
 pub mod Errors
 pub mod Jobs
 pub mod Lanes
+pub mod Shares
+pub mod Windows

@@ -1,27 +1,70 @@
 //! Reading the jobs of a batch.
 
-ghost use Rattle.std.specs.Prelude.{◌≡◌, ◌≤◌, length, IfErr, OnErr};
+ghost use Rattle.std.specs.Prelude.{◌≡◌, ◌≤◌, length, IfErr};
 ghost use Rattle.ob_store.specs.Images.{Same, Passes};
 ghost use Rattle.ob_store.specs.Calls.{Serves, Keeps};
 ghost use Rattle.ob_cells.specs.Jobs.{AreJobsAnswered, AreKept, AreSeen, IsBlamed, IsJobsErr};
+ghost use Rattle.ob_cells.specs.Shares.{AreAsLarge, HasRooms};
 
 use crate::crew::Crew;
 use crate::error::JobsErr;
-use crate::job_reading::{first_fault, keep_all, read_all};
+use crate::job_opening::{judge, keep_all};
+use crate::job_reading::read_jobs;
+use crate::rooms::Rooms;
 use ob_base::{Failed, Fault, Jobs};
+use ob_lanes::Lanes;
 use ob_seal::Sealer;
-use ob_store::Store;
+use std::thread::Threads;
+
+// What `run_jobs` does, in a crew's rooms.
+fn run_in<S: Lanes, R: Threads + Sync>(
+    rt: &R,
+    store: &mut S,
+    rooms: &mut Rooms<S::Lane>,
+    sealer: &Sealer,
+    jobs: &mut Jobs,
+) -> Result<(), JobsErr>
+    requires rooms { HasRooms rooms.old }
+    requires few { length jobs.old.jobs ≤ length rooms.old.outcomes.items }
+    ensures serves { Serves IsBlamed (S.disk store.old) (S.disk store.new) result }
+    ensures value { (S.disk store.old).tells
+        → AreJobsAnswered sealer.now.keys (S.disk store.old).cells jobs.old.jobs jobs.new.jobs
+        result }
+    ensures faults { IfErr result IsJobsErr }
+    ensures kept { AreKept jobs.old.jobs jobs.new.jobs result }
+    ensures rest { jobs.new ≡ record jobs.old { jobs = jobs.new.jobs } }
+    ensures rooms { AreAsLarge rooms.old rooms.new }
+    ensures keeps { Keeps (S.disk store.old) (S.disk store.new) }
+    ensures passes { Passes Same (S.disk store.old) (S.disk store.new) }
+    ensures seen { AreSeen rooms.old.lanes jobs.old.jobs (S.disk store.old).seen
+        (S.disk store.new).seen result }
+{
+    let asked = jobs.jobs();
+    match read_jobs(rt, store, rooms, asked) {
+        Ok(()) => {}
+        Err(Failed) => return Err(JobsErr::NotBegun(Fault::StoreFault { unsure: None })),
+    }
+    match judge(rt, sealer, rooms, asked) {
+        Some(fault) => return Err(JobsErr::Job(fault)),
+        None => {}
+    }
+    let outcomes = rooms.outcomes.as_slice();
+    keep_all(jobs, outcomes);
+    Ok(())
+}
 
 /// Reads the jobs' cells, each sealed with its job's identity, whatever the others gave, and keeps
-/// the plain bytes as the jobs' results. No job changes where one fails. It shows nothing to a
-/// watch.
+/// the plain bytes as the jobs' results. No job changes where one fails. The crew's lanes read at
+/// once, each in a thread of its own where one can be started; all of them are made before a cell
+/// is read, and all are taken back. It shows nothing to a watch, and takes no memory.
 ///
 /// # Errors
 /// `NotBegun` where the store refused a lane: its count of faults rose, and nothing was read. Else
 /// `Job` exactly where a job fails, with the fault of the first one in the jobs' order: its read
 /// was refused, and the store's count of faults rose; or its cell's tag is wrong, or else its
 /// identity is not the job's.
-pub fn run_jobs<S: Store>(
+pub fn run_jobs<S: Lanes, R: Threads + Sync>(
+    rt: &R,
     store: &mut S,
     crew: &mut Crew<S::Lane>,
     sealer: &Sealer,
@@ -41,17 +84,5 @@ pub fn run_jobs<S: Store>(
     ensures seen { AreSeen crew.old.lanes jobs.old.jobs (S.disk store.old).seen
         (S.disk store.new).seen result }
 {
-    let mut lane = match store.lane() {
-        Ok(lane) => lane,
-        Err(Failed) => return Err(JobsErr::NotBegun(Fault::StoreFault { unsure: None })),
-    };
-    let outcomes = crew.outcomes.as_mut_slice();
-    read_all(store, &mut lane, sealer, jobs.jobs(), outcomes);
-    store.absorb(lane);
-    match first_fault(outcomes, jobs.jobs().len()) {
-        Some(fault) => return Err(JobsErr::Job(fault)),
-        None => {}
-    }
-    keep_all(jobs, outcomes);
-    Ok(())
+    run_in(rt, store, &mut crew.rooms, sealer, jobs)
 }

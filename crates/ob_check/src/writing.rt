@@ -12,10 +12,11 @@ ghost use Rattle.ob_check.specs.Written.{AreWriteFaults, HoldsCheckpointFrom, Is
 
 use crate::sheet::Sheet;
 use ob_base::{Failed, Fault, NUMBER_LIMIT, Params, check_cell, checkpoint_cells, checkpoint_len};
-use ob_cells::{Cut, write_sealed};
+use ob_cells::{Bench, CellRun, Cut, write_long};
 use ob_seal::Sealer;
 use ob_store::{Store, Watch};
 use ob_tables::{Metas, Tables};
+use std::thread::Threads;
 
 /// The first cell of the area of an epoch.
 pub fn area_of(p: &Params, epoch: u64) -> u64
@@ -33,13 +34,15 @@ pub fn area_of(p: &Params, epoch: u64) -> u64
 /// # Errors
 /// Worn exactly where fewer seal numbers are left below `2^62` than a checkpoint has cells: nothing
 /// was done. The store failed, and its count of faults rose: some of the first cells were sealed.
-pub fn write<S: Store, W: Watch>(
+pub fn write<R: Threads + Sync, S: Store, W: Watch>(
+    rt: &R,
     store: &mut S,
     sealer: &mut Sealer,
     p: &Params,
     epoch: u64,
     tables: &Tables<Metas>,
     sheet: &mut Sheet,
+    bench: &mut Bench,
     watch: &mut W,
 ) -> Result<(), Fault>
     requires none_out { (S.disk store.old).out ≡ 0 }
@@ -77,7 +80,12 @@ pub fn write<S: Store, W: Watch>(
     let pieces = Cut {
         bytes: &sheet.bytes()[..checkpoint_len(p) as usize],
     };
-    match write_sealed(store, sealer, area_of(p, epoch), many, &pieces, watch) {
+    let run = CellRun {
+        base: area_of(p, epoch),
+        many,
+        pieces: &pieces,
+    };
+    match write_long(rt, store, sealer, bench, &run, watch) {
         Ok(()) => Ok(()),
         Err(Failed) => Err(Fault::StoreFault { unsure: None }),
     }

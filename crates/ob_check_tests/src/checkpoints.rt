@@ -9,7 +9,7 @@ use crate::cells::{
     store_with,
 };
 use ob_base::{Check, Fault, Key, Params, Value, buckets};
-use ob_cells::read_sealed;
+use ob_cells::{Bench, read_sealed};
 use ob_check::{Sheet, read, write};
 use ob_mem::{Fail, MemSink};
 use ob_seal::Sealer;
@@ -17,6 +17,7 @@ use ob_store::{Blind, SinkWatch, Store, Watch};
 use ob_tables::{Entry, Meta, Metas, Stash, Tables};
 use std::alloc::Global;
 use std::process::Abort;
+use std::thread::Threads;
 
 /// What a store's checkpoint of an epoch reads as.
 pub fn read_of<S: Store, W: Watch>(
@@ -35,8 +36,8 @@ pub fn read_of<S: Store, W: Watch>(
 
 /// Copies a store's checkpoint of an epoch into another store, under these seals, and gives what it
 /// read.
-pub fn copy_into<S: Store>(
-    rt: &impl Abort,
+pub fn copy_into<R: Abort + Threads + Sync, S: Store>(
+    rt: &R,
     alloc: Global,
     p: &Params,
     epoch: u64,
@@ -49,8 +50,11 @@ pub fn copy_into<S: Store>(
     ensures { Obeys p.now (content_of result) }
 {
     let mut sheet = Sheet::new(alloc, p).expect(rt, "memory");
+    let mut bench = Bench::new(alloc, 3).expect(rt, "memory");
     let tables = read_of(rt, alloc, p, epoch, from, &mut Blind).expect(rt, "tables");
-    let written = write(into, sealer, p, epoch, &tables, &mut sheet, &mut Blind);
+    let written = write(
+        rt, into, sealer, p, epoch, &tables, &mut sheet, &mut bench, &mut Blind,
+    );
     assert!(rt; written.is_ok());
     tables
 }
@@ -128,8 +132,8 @@ fn are_known(p: &Params, epoch: u64, tables: &Tables<Metas>) -> bool
 
 // The cells of a checkpoint are read, and written into a new store under the seals of a generation
 // after so many; they are the same there.
-fn copies_so(
-    rt: &impl Abort,
+fn copies_so<R: Abort + Threads + Sync>(
+    rt: &R,
     alloc: Global,
     p: &Params,
     epoch: u64,

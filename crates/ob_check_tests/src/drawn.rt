@@ -7,6 +7,7 @@ use ob_base::{Check, Params, checkpoint_cells};
 use ob_store::Blind;
 use std::alloc::Global;
 use std::process::Abort;
+use std::thread::Threads;
 
 // A text as runs of one byte: the byte, and how often it stands there.
 static CROWDED: [(u8, usize); 32] = [
@@ -79,7 +80,7 @@ static SIZES: [(u32, u32, u32, u32); 8] = [
 ];
 
 // Whether tables that look random are written again as they were read.
-fn are_copied(rt: &impl Abort, alloc: Global, p: &Params) -> bool {
+fn are_copied<R: Abort + Threads + Sync>(rt: &R, alloc: Global, p: &Params) -> bool {
     let text = some_text(rt, alloc, p, 6, u64::from(p.keys));
     let mut store = sealed(rt, alloc, p, 6, &text);
     let mut sealer = sealer_after(3, 4);

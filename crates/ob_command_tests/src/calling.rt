@@ -3,9 +3,9 @@
 ghost use Rattle.ob_top.specs.Outside.{NoneOut};
 
 use ob_desk::{Beat, Eager};
+use ob_lanes::Lanes;
 use ob_mem::{MemSink, MemSource, MemStore};
 use ob_seal::ListTape;
-use ob_store::Store;
 use ob_top::obladi;
 use std::process::Abort;
 use std::sync::Wait;
@@ -38,7 +38,7 @@ pub fn words_of<'a, R: AllocGlobal + Abort>(rt: &R, line: &'a str) -> Vec<&'a st
 }
 
 // Makes a call with a tape of zeros: its status, and its output.
-fn call_on<R: AllocGlobal + Threads + Wait + Sync + Abort, S: Store, B: Beat>(
+fn call_on<R: AllocGlobal + Threads + Wait + Sync + Abort, S: Lanes, B: Beat>(
     rt: &R,
     store: Option<&mut S>,
     beat: &mut B,

@@ -10,7 +10,7 @@ use Rattle.ob_serial.specs.VaultKinds.{Kind, Called, AllCalled, after_calls, end
 use Rattle.ob_serial.specs.declared.vault.EndErr.{EndErr}
 use Rattle.ob_serial.specs.declared.vault.EndErr.TheVariants.{Before, Unsure}
 use Rattle.ob_store.specs.Disk.{Image}
-use Rattle.ob_store.specs.Images.{LeavesOnly}
+use Rattle.ob_store.specs.Images.{LeavesOnly, IsImageOf}
 use Rattle.ob_store.proofs.Moments.{started, then_on, weakened}
 use Rattle.ob_desk.specs.Desk.{record_of}
 use Rattle.ob_desk.specs.Beats.{BeatKind}
@@ -153,11 +153,15 @@ module _ {V : Type 0} (k : Kind V) where
   sound_after first (step ∷ steps) last v (mid, one, rest) sound = sound_after mid steps last (vault_next v step.0 step.1) rest (one.sound v sound)
 
 module _ {V : Type 0} (k : Kind V) (only : OnlyNow k) (rests : Rests k) where
+  -- where no call was made yet
+  at_start : (w : V) (v : VaultState) (P : Image → Type 0) → k.sound w v → ((c : Image) → StandsIn (k.stands w) (MayStand v) c → P c) → LeavesOnly (k.disk w) (k.disk w) P
+  at_start w v P sound so = started (k.disk w) P (λ c left. so c (rests w v c sound (inl (only w c left)))) (λ tells. so (k.disk w).cells (rests w v (k.disk w).cells sound (inr (tells, refl))))
+
   -- where each call was answered
   answered_leave : (first : V) (steps : List (VaultCall × VaultAnswer)) (last : V) (v : VaultState) (told : List (EpochRecord ℕ)) → AllCalled k first steps last → AreAnswered steps → AreWritten (ended_of steps) told
       → k.sound first v → v.doubt ≡ None → LeavesOnly (k.disk first) (k.disk last) (StandsIn (k.stands first) (IsFront v told))
   answered_leave first [] last v told is are wrote sound none = subst (λ x. LeavesOnly (k.disk first) (k.disk x) (StandsIn (k.stands first) (IsFront v told))) (sym is)
-      (started (k.disk first) (StandsIn (k.stands first) (IsFront v told)) (λ c left. stands_still (k.stands first) (MayStand v) (IsFront v told) (now_front v told none) c (rests first v c sound (only first c left))))
+      (at_start first v (StandsIn (k.stands first) (IsFront v told)) sound (stands_still (k.stands first) (MayStand v) (IsFront v told) (now_front v told none)))
   answered_leave first ((Fetch keys, Values values) ∷ steps) last v told (mid, one, rest) are wrote sound none =
       let u : VaultState = vault_next v (Fetch keys) (Values values) in
       then_on (k.disk first) (k.disk mid) (k.disk last) (StandsIn (k.stands first) (IsFront v told))
@@ -218,8 +222,8 @@ module _ {V : Type 0} (k : Kind V) (only : OnlyNow k) (rests : Rests k) where
 
     -- a stage begins
     begins : (mid : V) (u : VaultState) → k.sound mid u → u.doubt ≡ None → StandAlike stands (k.stands mid) → LeavesOnly (k.disk mid) (k.disk mid) (StandsIn stands (IsThisOrNext (standing_now u) None))
-    begins mid u sound none alike = started (k.disk mid) (StandsIn stands (IsThisOrNext (standing_now u) None))
-        (λ c left. stands_alike stands (k.stands mid) alike (MayStand u) (IsThisOrNext (standing_now u) None) (now_between u None none) c (rests mid u c sound (only mid c left)))
+    begins mid u sound none alike = at_start mid u (StandsIn stands (IsThisOrNext (standing_now u) None)) sound
+        (stands_alike stands (k.stands mid) alike (MayStand u) (IsThisOrNext (standing_now u) None) (now_between u None none))
 
     alike_then : (a b : V) → StandAlike stands (k.stands a) → StandAlike (k.stands a) (k.stands b) → StandAlike stands (k.stands b)
     alike_then a b one two = λ c at. (λ s. (two c at).0 ((one c at).0 s), λ s. (one c at).1 ((two c at).1 s))
@@ -399,7 +403,7 @@ module _ {V U Plan : Type 0} (k : Kind V) (only : OnlyNow k) (rests : Rests k) (
 
   -- where the answer tells of no doubt, a crash at the return leaves what stands behind all the records,
   pub sure_now : (result : Result (Unit {0}) Fault) (d : Conducted k kind beat old new acts result) → (TellsDoubt epoch result → ⊥)
-      → (c : Image) → (k.disk last).may_leave c → StandsIn (k.stands first) (λ at. at ≡ standing_behind v told) c
+      → (c : Image) → IsImageOf (k.disk last) c → StandsIn (k.stands first) (λ at. at ≡ standing_behind v told) c
   sure_now result d sure c left = let l = run_leaves result d in
       stands_still (k.stands first) (IsLeftNow v told l.next (TellsDoubt epoch result)) (λ at. at ≡ standing_behind v told)
       (sure_at l.next (TellsDoubt epoch result) sure) c (l.now c left)
@@ -412,5 +416,5 @@ module _ {V U Plan : Type 0} (k : Kind V) (only : OnlyNow k) (rests : Rests k) (
   told_ok n done is = cc is
 
   -- as it does where the run went to its end
-  pub done_now : (done : Unit {0}) (d : Conducted k kind beat old new acts (Ok done)) → (c : Image) → (k.disk last).may_leave c → StandsIn (k.stands first) (λ at. at ≡ standing_behind v told) c
+  pub done_now : (done : Unit {0}) (d : Conducted k kind beat old new acts (Ok done)) → (c : Image) → IsImageOf (k.disk last) c → StandsIn (k.stands first) (λ at. at ≡ standing_behind v told) c
   done_now done d = sure_now (Ok done) d (told_ok epoch done)

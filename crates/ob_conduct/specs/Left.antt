@@ -7,7 +7,7 @@ use Rattle.ob_serial.specs.Serial.{EpochRecord}
 use Rattle.ob_serial.specs.Vaults.{VaultState, Standing, MayStand, StandsIn, standing_now}
 use Rattle.ob_serial.specs.VaultKinds.{Kind}
 use Rattle.ob_store.specs.Disk.{Image}
-use Rattle.ob_store.specs.Images.{LeavesOnly}
+use Rattle.ob_store.specs.Images.{IsImageOf, LeavesOnly}
 use Rattle.ob_serial.specs.declared.vault.EndErr.{EndErr}
 use Rattle.ob_desk.specs.Desk.{record_of}
 use Rattle.ob_conduct.specs.Acts.{Act, Refuses, records}
@@ -15,9 +15,9 @@ use Rattle.ob_conduct.specs.Scenes.{Scene, RunState}
 use Rattle.ob_conduct.specs.Records.{contents}
 use Rattle.ob_conduct.specs.Moves.{Failure, IsUnended}
 
--- Each image that a crash may leave of a sound vault stands for what that allows.
+-- Each image that a crash may leave of a sound vault, and what reads of its store give, stands for what that allows.
 abbrev pub Rests : {V : Type 0} → Kind V → Type 0
-Rests {V} k = (w : V) (v : VaultState) (c : Image) → k.sound w v → (k.disk w).may_leave c → StandsIn (k.stands w) (MayStand v) c
+Rests {V} k = (w : V) (v : VaultState) (c : Image) → k.sound w v → IsImageOf (k.disk w) c → StandsIn (k.stands w) (MayStand v) c
 
 -- A crash at the very moment leaves what a crash now may leave.
 abbrev pub OnlyNow : {V : Type 0} → Kind V → Type 0
@@ -77,5 +77,5 @@ module _ {V U : Type 0} (k : Kind V) (old new : RunState V U) (acts : List Act) 
     pub since : LeavesOnly (k.disk old.scene.vault) (k.disk new.scene.vault) (StandsIn (k.stands old.scene.vault) (IsLeftStanding v (records acts) next))
     -- from each epoch's end on, that epoch and those before it,
     pub stages : Stages k (k.stands old.scene.vault) (standing_now v) (records acts) next old.scene.vault new.scene.vault
-    -- and at its return
-    pub now : (c : Image) → (k.disk new.scene.vault).may_leave c → StandsIn (k.stands old.scene.vault) (IsLeftNow v (records acts) next (TellsDoubt (old.scene.desk.running.epoch + length (records acts)) result)) c
+    -- and at its return, where what reads give stands so as well
+    pub now : (c : Image) → IsImageOf (k.disk new.scene.vault) c → StandsIn (k.stands old.scene.vault) (IsLeftNow v (records acts) next (TellsDoubt (old.scene.desk.running.epoch + length (records acts)) result)) c

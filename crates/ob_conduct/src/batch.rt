@@ -11,12 +11,14 @@ use ob_base::{Fault, Key, Params, Value};
 use ob_desk::Desk;
 use ob_serial::Vault;
 use ob_store::Watch;
+use std::thread::Threads;
 
 /// Takes a batch of the desk, fetches it from the vault and delivers it.
 ///
 /// # Errors
 /// The vault refused, and the desk is stopped.
-fn read_batch<V: Vault, W: Watch>(
+fn read_batch<R: Threads + Sync, V: Vault, W: Watch>(
+    rt: &R,
     desk: &mut Desk,
     vault: &mut V,
     watch: &mut W,
@@ -41,7 +43,7 @@ fn read_batch<V: Vault, W: Watch>(
         fault (scene desk.new vault.new (W.trace watch.new))) }
 {
     desk.take_batch(asks);
-    match vault.fetch(asks, found, watch) {
+    match vault.fetch(rt, asks, found, watch) {
         Ok(()) => {
             desk.deliver(asks, found);
             Ok(())
@@ -57,7 +59,8 @@ fn read_batch<V: Vault, W: Watch>(
 ///
 /// # Errors
 /// The vault refused, and the desk is stopped.
-pub fn fetch_batch<V: Vault, W: Watch>(
+pub fn fetch_batch<R: Threads + Sync, V: Vault, W: Watch>(
+    rt: &R,
     params: &Params,
     desk: &mut Desk,
     vault: &mut V,
@@ -80,6 +83,7 @@ pub fn fetch_batch<V: Vault, W: Watch>(
     let mut asks: [Option<Key>; 64] = [None; 64];
     let mut found: [Option<Value>; 64] = [None; 64];
     read_batch(
+        rt,
         desk,
         vault,
         watch,
@@ -92,7 +96,8 @@ pub fn fetch_batch<V: Vault, W: Watch>(
 ///
 /// # Errors
 /// The vault refused, and the desk is stopped.
-pub fn fetch_rest<V: Vault, W: Watch>(
+pub fn fetch_rest<R: Threads + Sync, V: Vault, W: Watch>(
+    rt: &R,
     params: &Params,
     desk: &mut Desk,
     vault: &mut V,
@@ -111,7 +116,7 @@ pub fn fetch_rest<V: Vault, W: Watch>(
         (scene desk.new vault.new (W.trace watch.new))) }
 {
     while vault.left() > 0 {
-        match fetch_batch(params, desk, vault, watch) {
+        match fetch_batch(rt, params, desk, vault, watch) {
             Ok(()) => {}
             Err(fault) => return Err(fault),
         }

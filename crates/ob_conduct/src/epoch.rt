@@ -19,9 +19,11 @@ use ob_io::Sink;
 use ob_report::text;
 use ob_serial::{EndErr, EpochRecord, Vault};
 use ob_store::Watch;
+use std::thread::Threads;
 
 // Closes the epoch, ends it in the vault with its writes, and publishes it: its record.
-fn close<V: Vault, W: Watch>(
+fn close<R: Threads + Sync, V: Vault, W: Watch>(
+    rt: &R,
     params: &Params,
     desk: &mut Desk,
     vault: &mut V,
@@ -43,7 +45,7 @@ fn close<V: Vault, W: Watch>(
         (scene desk.new vault.new (W.trace watch.new))) }
 {
     desk.close(writes);
-    match vault.end(writes, watch) {
+    match vault.end(rt, writes, watch) {
         Ok(()) => Ok(desk.publish(vault.epoch() + 1, params.batches)),
         Err(EndErr::Before(fault)) => {
             desk.stop(fault);
@@ -60,7 +62,8 @@ fn close<V: Vault, W: Watch>(
 ///
 /// # Errors
 /// The vault refused, or the output failed. The desk is stopped.
-pub fn end_epoch<V: Vault, W: Watch, O: Sink>(
+pub fn end_epoch<R: Threads + Sync, V: Vault, W: Watch, O: Sink>(
+    rt: &R,
     params: &Params,
     desk: &mut Desk,
     vault: &mut V,
@@ -87,11 +90,11 @@ pub fn end_epoch<V: Vault, W: Watch, O: Sink>(
         (scene desk.old vault.old (W.trace watch.old)) (outflow O.Sink output.old) fault
         (scene desk.new vault.new (W.trace watch.new)) (outflow O.Sink output.new)) }
 {
-    match fetch_rest(params, desk, vault, watch) {
+    match fetch_rest(rt, params, desk, vault, watch) {
         Ok(()) => {}
         Err(fault) => return Err(fault),
     }
-    let told = match close(params, desk, vault, watch, writes) {
+    let told = match close(rt, params, desk, vault, watch, writes) {
         Ok(told) => told,
         Err(fault) => return Err(fault),
     };

@@ -18,6 +18,7 @@ use ob_desk::{Beat, Desk, Look};
 use ob_io::Sink;
 use ob_serial::Vault;
 use ob_store::Watch;
+use std::thread::Threads;
 
 /// Whether the run goes on behind a look.
 #[derive(Clone, Copy)]
@@ -56,7 +57,8 @@ fn is_to_fetch(look: &Look) -> bool
 
 // Fetches a batch, where keys are queued and a batch is left; else ends the epoch, where it has
 // transactions.
-fn act<V: Vault, W: Watch, B: Beat, O: Sink>(
+fn act<R: Threads + Sync, V: Vault, W: Watch, B: Beat, O: Sink>(
+    rt: &R,
     params: &Params,
     desk: &mut Desk,
     vault: &mut V,
@@ -86,10 +88,10 @@ fn act<V: Vault, W: Watch, B: Beat, O: Sink>(
         (outflow O.Sink output.new)) }
 {
     if is_to_fetch(look) {
-        return fetch_batch(params, desk, vault, watch);
+        return fetch_batch(rt, params, desk, vault, watch);
     }
     if look.txns > 0 {
-        return end_epoch(params, desk, vault, watch, output, writes);
+        return end_epoch(rt, params, desk, vault, watch, output, writes);
     }
     Ok(())
 }
@@ -98,7 +100,8 @@ fn act<V: Vault, W: Watch, B: Beat, O: Sink>(
 ///
 /// # Errors
 /// The desk was stopped; or the vault refused, or the output failed, and the desk is stopped.
-pub fn look_and_act<V: Vault, W: Watch, B: Beat, O: Sink>(
+pub fn look_and_act<R: Threads + Sync, V: Vault, W: Watch, B: Beat, O: Sink>(
+    rt: &R,
     params: &Params,
     desk: &mut Desk,
     vault: &mut V,
@@ -135,7 +138,7 @@ pub fn look_and_act<V: Vault, W: Watch, B: Beat, O: Sink>(
     if !is_due(beat, &look) {
         return Ok(Round::On);
     }
-    match act::<V, W, B, O>(params, desk, vault, watch, output, writes, &look) {
+    match act::<R, V, W, B, O>(rt, params, desk, vault, watch, output, writes, &look) {
         Ok(()) => Ok(Round::On),
         Err(fault) => Err(fault),
     }

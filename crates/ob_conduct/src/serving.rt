@@ -18,9 +18,10 @@ use ob_session::Runner;
 use ob_store::Watch;
 use std::alloc::Global;
 use std::sync::Wait;
+use std::thread::Threads;
 
 // Rounds, up to the end of the run.
-fn run_rounds<R: Wait, V: Vault, W: Watch, U: Runner, B: Beat, O: Sink>(
+fn run_rounds<R: Threads + Wait + Sync, V: Vault, W: Watch, U: Runner, B: Beat, O: Sink>(
     rt: &R,
     params: &Params,
     desk: &mut Desk,
@@ -52,7 +53,7 @@ fn run_rounds<R: Wait, V: Vault, W: Watch, U: Runner, B: Beat, O: Sink>(
 {
     for _ in rt.forever() {
         step_all(desk, runners);
-        match look_and_act(params, desk, vault, watch, beat, output, writes) {
+        match look_and_act(rt, params, desk, vault, watch, beat, output, writes) {
             Ok(Round::On) => {}
             Ok(Round::Over) => return Ok(()),
             Err(fault) => return Err(fault),
@@ -70,7 +71,7 @@ fn run_rounds<R: Wait, V: Vault, W: Watch, U: Runner, B: Beat, O: Sink>(
 /// Memory was wanting, before the first round or for a client; or the vault refused, and is spent;
 /// or the output failed, and a front of the lines is written. But where memory was wanting before
 /// the first round the desk is stopped.
-pub fn serve<R: Wait, V: Vault, W: Watch, U: Runner, B: Beat, O: Sink>(
+pub fn serve<R: Threads + Wait + Sync, V: Vault, W: Watch, U: Runner, B: Beat, O: Sink>(
     rt: &R,
     alloc: Global,
     params: &Params,

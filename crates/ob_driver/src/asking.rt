@@ -15,6 +15,7 @@ use ob_base::{Fault, Key, Value, Write};
 use ob_desk::Desk;
 use ob_serial::{EndErr, Vault};
 use ob_store::Watch;
+use std::thread::Threads;
 
 /// Takes a batch of the desk.
 pub fn take_batch(desk: &mut Desk, asks: &mut Vec<Option<Key>>)
@@ -38,7 +39,8 @@ pub fn deliver_batch(desk: &mut Desk, asks: &Vec<Option<Key>>, found: &Vec<Optio
 ///
 /// # Errors
 /// The vault refused.
-pub fn read_batch<V: Vault, W: Watch>(
+pub fn read_batch<R: Threads + Sync, V: Vault, W: Watch>(
+    rt: &R,
     vault: &mut V,
     watch: &mut W,
     asks: &Vec<Option<Key>>,
@@ -60,14 +62,15 @@ pub fn read_batch<V: Vault, W: Watch>(
     ensures cause { IfErr result (λ fault. IsStoreFault fault
         → Rose (V.disk vault.old).faults (V.disk vault.new).faults) }
 {
-    vault.fetch(asks.as_slice(), found.as_mut_slice(), watch)
+    vault.fetch(rt, asks.as_slice(), found.as_mut_slice(), watch)
 }
 
 /// Ends the epoch in the vault with these writes.
 ///
 /// # Errors
 /// The vault refused, or the end is in doubt.
-pub fn end<V: Vault, W: Watch>(
+pub fn end<R: Threads + Sync, V: Vault, W: Watch>(
+    rt: &R,
     vault: &mut V,
     watch: &mut W,
     writes: &Vec<Write>,
@@ -86,5 +89,5 @@ pub fn end<V: Vault, W: Watch>(
     ensures cause { IfErr result (λ refused. IsStoreEnd refused
         → Rose (V.disk vault.old).faults (V.disk vault.new).faults) }
 {
-    vault.end(writes.as_slice(), watch)
+    vault.end(rt, writes.as_slice(), watch)
 }

@@ -23,6 +23,7 @@ use ob_io::Sink;
 use ob_serial::Vault;
 use ob_store::Watch;
 use std::sync::Wait;
+use std::thread::Threads;
 
 // Whether the run is over.
 fn is_over(round: Round) -> bool
@@ -47,7 +48,7 @@ fn pause<R: Wait>(rt: &R, hall: &Hall, round: Round, ran: bool, asked: u64) {
 //
 // # Errors
 // The desk was found stopped; or the vault refused, or the output failed, and the desk is stopped.
-fn drive_on<R: Wait, V: Vault, W: Watch, B: Beat, O: Sink, H: Hands>(
+fn drive_on<R: Threads + Wait + Sync, V: Vault, W: Watch, B: Beat, O: Sink, H: Hands>(
     rt: &R,
     params: &Params,
     hall: &Hall,
@@ -121,7 +122,7 @@ pub fn announce<V: Vault>(params: &Params, hall: &Hall, pass: &mut Pass, vault: 
 /// # Errors
 /// The desk was found stopped, for want of memory; or the vault refused, or the output failed, and
 /// the desk is stopped. It takes no memory: the room is made before.
-pub fn drive_epochs<R: Wait, V: Vault, W: Watch, B: Beat, O: Sink, H: Hands>(
+pub fn drive_epochs<R: Threads + Wait + Sync, V: Vault, W: Watch, B: Beat, O: Sink, H: Hands>(
     rt: &R,
     params: &Params,
     hall: &Hall,

@@ -29,12 +29,14 @@ use ob_hall::{Driven, Hall, Pass};
 use ob_serial::{EndErr, EpochRecord, Vault};
 use ob_store::Watch;
 use std::snapshot::Snapshot;
+use std::thread::Threads;
 
 // Takes a batch, reads it and delivers it, within the turn.
 //
 // # Errors
 // The vault refused the batch, which is taken.
-fn read_inside<V: Vault, W: Watch>(
+fn read_inside<R: Threads + Sync, V: Vault, W: Watch>(
+    rt: &R,
     hall: &Hall,
     pass: &mut Pass,
     desk: &mut Desk,
@@ -65,7 +67,7 @@ fn read_inside<V: Vault, W: Watch>(
     take_batch(desk, asks);
     let batch = Snapshot::of(&*asks);
     note(hall, pass, Driven::TakeBatch { batch });
-    match read_batch(vault, watch, asks, found) {
+    match read_batch(rt, vault, watch, asks, found) {
         Ok(()) => {}
         Err(fault) => return Err(fault),
     }
@@ -77,7 +79,8 @@ fn read_inside<V: Vault, W: Watch>(
 }
 
 // Reads each batch that is left, within the turn.
-fn read_left<V: Vault, W: Watch>(
+fn read_left<R: Threads + Sync, V: Vault, W: Watch>(
+    rt: &R,
     hall: &Hall,
     pass: &mut Pass,
     desk: &mut Desk,
@@ -106,7 +109,7 @@ fn read_left<V: Vault, W: Watch>(
         (scene desk.new vault.new (W.trace watch.new))) }
 {
     while vault.left() > 0 {
-        match read_inside(hall, pass, desk, vault, watch, asks, found) {
+        match read_inside(rt, hall, pass, desk, vault, watch, asks, found) {
             Ok(()) => {}
             Err(fault) => return Err(fault),
         }
@@ -163,7 +166,8 @@ fn publish(
 }
 
 // Closes the epoch, ends it in the vault with its writes, and publishes it.
-fn close<V: Vault, W: Watch>(
+fn close<R: Threads + Sync, V: Vault, W: Watch>(
+    rt: &R,
     params: &Params,
     hall: &Hall,
     pass: &mut Pass,
@@ -201,7 +205,7 @@ fn close<V: Vault, W: Watch>(
     desk.close(writes);
     let made = Snapshot::of(&*writes);
     note(hall, pass, Driven::Close { writes: made });
-    match end(vault, watch, writes) {
+    match end(rt, vault, watch, writes) {
         Ok(()) => {
             let ended = vault.epoch();
             Ok(publish(params, hall, pass, desk, ended))
@@ -224,7 +228,8 @@ fn close<V: Vault, W: Watch>(
 ///
 /// # Errors
 /// The vault refused, and the desk is stopped with its fault, or in doubt.
-pub fn end_epoch<V: Vault, W: Watch>(
+pub fn end_epoch<R: Threads + Sync, V: Vault, W: Watch>(
+    rt: &R,
     params: &Params,
     hall: &Hall,
     pass: &mut Pass,
@@ -256,6 +261,7 @@ pub fn end_epoch<V: Vault, W: Watch>(
         (side pass.new vault.new (W.trace watch.new) flow) fault) }
 {
     match read_left(
+        rt,
         hall,
         pass,
         &mut desk,
@@ -264,7 +270,7 @@ pub fn end_epoch<V: Vault, W: Watch>(
         &mut room.asks,
         &mut room.found,
     ) {
-        Ok(()) => close(params, hall, pass, desk, vault, watch, &mut room.writes),
+        Ok(()) => close(rt, params, hall, pass, desk, vault, watch, &mut room.writes),
         Err(fault) => {
             stop_inside(hall, pass, desk, fault);
             Err(fault)

@@ -27,6 +27,7 @@ use ob_serial::Vault;
 use ob_store::Watch;
 use std::snapshot::Snapshot;
 use std::sync::Wait;
+use std::thread::Threads;
 
 // Takes a batch, and ends the turn with that.
 fn take(hall: &Hall, pass: &mut Pass, mut desk: Desk, asks: &mut Vec<Option<Key>>)
@@ -96,7 +97,7 @@ pub fn stop<R: Wait>(rt: &R, hall: &Hall, pass: &mut Pass, fault: Fault, turns: 
 ///
 /// # Errors
 /// The vault refused, and the desk is stopped with its fault.
-pub fn fetch<R: Wait, V: Vault, W: Watch>(
+pub fn fetch<R: Threads + Wait + Sync, V: Vault, W: Watch>(
     rt: &R,
     hall: &Hall,
     pass: &mut Pass,
@@ -131,7 +132,7 @@ pub fn fetch<R: Wait, V: Vault, W: Watch>(
         (side pass.new vault.new (W.trace watch.new) flow) fault) }
 {
     take(hall, pass, desk, asks);
-    match read_batch(vault, watch, asks, found) {
+    match read_batch(rt, vault, watch, asks, found) {
         Ok(()) => {
             deliver(rt, hall, pass, asks, found, turns);
             Ok(Round::Acted)

@@ -28,9 +28,10 @@ use ob_report::text;
 use ob_serial::Vault;
 use ob_store::Watch;
 use std::sync::Wait;
+use std::thread::Threads;
 
 // Ends the epoch within the turn, and then writes its lines. Answers that something was done.
-fn end_and_tell<R: Wait, V: Vault, W: Watch, O: Sink>(
+fn end_and_tell<R: Threads + Wait + Sync, V: Vault, W: Watch, O: Sink>(
     rt: &R,
     params: &Params,
     hall: &Hall,
@@ -65,7 +66,7 @@ fn end_and_tell<R: Wait, V: Vault, W: Watch, O: Sink>(
         (V.counts vault.old)
         (side pass.new vault.new (W.trace watch.new) (outflow O.Sink output.new)) fault) }
 {
-    let told = match end_epoch(params, hall, pass, desk, vault, watch, room) {
+    let told = match end_epoch(rt, params, hall, pass, desk, vault, watch, room) {
         Ok(told) => told,
         Err(fault) => return Err(fault),
     };
@@ -83,7 +84,7 @@ fn end_and_tell<R: Wait, V: Vault, W: Watch, O: Sink>(
 ///
 /// # Errors
 /// The desk was found stopped; or the vault refused, or the output failed, and the desk is stopped.
-pub fn look_once<R: Wait, V: Vault, W: Watch, B: Beat, O: Sink>(
+pub fn look_once<R: Threads + Wait + Sync, V: Vault, W: Watch, B: Beat, O: Sink>(
     rt: &R,
     params: &Params,
     hall: &Hall,

@@ -1,6 +1,6 @@
 -- What an end seals, leaves of the register of generations, and tells damaged; and an end as an act of its store's life.
 use Rattle.std.specs.Prelude.{◌≡◌, ℕ, ◌≤◌, ◌^◌, List, length, Result, Ok, Err}
-use Rattle.std.proofs.Common.{◌∙◌, ap, arith, inl, inr, length-append, sym, subst}
+use Rattle.std.proofs.Common.{◌∙◌, ap, arith, inl, inr, length-append, refl, sym, subst}
 use mathlib.Core.Path.{fun_ext}
 use Rattle.ob_base.specs.declared.fault.Fault.{Fault}
 use Rattle.ob_base.specs.declared.params.Params.{Params}
@@ -100,7 +100,7 @@ module _ {n : ℕ} (old new : Disk) (only : (c : Image) → old.left_since old.m
     tells = tells;
     further = record { keys = further.keys; generation = further.generation; on = further.on };
     seals = end_seals r sealed;
-    images = λ all. leaves_of SameGeneration stood stood old new moments only all (λ c d stands step. kept c d step stands) (λ c stands. stands);
+    images = λ all. leaves_of SameGeneration stood stood old new moments only (λ c left. all c (inl left)) (λ told. all old.cells (inr (told, refl))) (λ c d stands step. kept c d step stands) (λ c stands. stands);
   }
 
 -- no more words than there are were drawn

@@ -180,7 +180,7 @@ one_more n = omega arith
 -- reads alone
 pub read_leaves : (keys : Keys) (p : Params) (s : RingStanding) (old new : Disk) → ((c : Image) → old.left_since old.moment c → old.may_leave c) → IsSynced old → Stands keys p s old.cells → Passes Same old new → LeavesOnly old new (Stands keys p s)
 read_leaves keys p s old new only synced stands passes =
-    leaves_of Same (Stands keys p s) (Stands keys p s) old new passes only (λ c left. end_spares keys p s c old.cells (λ k off. synced c left k) stands) (λ c d before same. subst (Stands keys p s) (sym same) before) (λ c before. before)
+    leaves_of Same (Stands keys p s) (Stands keys p s) old new passes only (λ c left. end_spares keys p s c old.cells (λ k off. synced c left k) stands) (λ tells. stands) (λ c d before same. subst (Stands keys p s) (sym same) before) (λ c before. before)
 
 -- the register's gates then, from those of the run's beginning
 pub gates_at : (run mid : Run) → mid ≡ record run { drawn = mid.drawn; ring = mid.ring; jobs = mid.jobs; words = mid.words } → gates_set EPOCH (mid.epoch + 1) mid.gates (Ok tt) ≡ gates_ended run.gates run.epoch

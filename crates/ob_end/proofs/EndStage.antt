@@ -1,5 +1,5 @@
 -- Between what an end makes and what it writes: what the writing asks for, and what the run is at behind it.
-use Rattle.std.specs.Prelude.{◌≡◌, ℕ, suc, ◌+◌, ◌*◌, ◌<◌, ◌≤◌, ◌^◌, false, List, [], ◌++◌, Some, length}
+use Rattle.std.specs.Prelude.{◌≡◌, ℕ, suc, ◌+◌, ◌*◌, ◌<◌, ◌≤◌, ◌^◌, false, List, [], ◌∷◌, ◌++◌, Some, length}
 use Rattle.std.proofs.Common.{arith, inl, sym, ap, ◌∙◌, subst}
 use Rattle.ob_base.specs.declared.params.Params.{Params}
 use Rattle.ob_base.specs.declared.value.Write.{Write}
@@ -8,7 +8,7 @@ use Rattle.ob_base.specs.Planned.{most_jobs}
 use Rattle.ob_base.specs.Tree.{buckets, width}
 use Rattle.ob_tables.specs.Content.{Content, Obeys}
 use Rattle.ob_end.specs.EndWrites.{AreSealedFrom, IsEndOfRing, all_seals, content_left, end_write_notes, rows_left}
-use Rattle.ob_end.specs.Lifts.{lift_notes}
+use Rattle.ob_end.specs.Lifts.{lift_cells, lift_notes}
 use Rattle.ob_tables.specs.Buckets.{Buckets, is_lifted}
 use Rattle.ob_stand.proofs.Reading.{rings_stand}
 use Rattle.ob_stand.specs.Table.{flat_of}
@@ -23,7 +23,8 @@ use Rattle.ob_ring.specs.Ring.{Kept, StandsFor}
 use Rattle.ob_ring.specs.Writing.{entries_after, write_at}
 use Rattle.ob_recover.specs.Ends.{gates_ended}
 use Rattle.ob_recover.specs.Known.{PlansFrom, fills_with_lifts, public_of_kept}
-use Rattle.ob_schedule.specs.Schedule.{end_notes}
+use Rattle.ob_schedule.specs.Phases.{Reads, end_phases, phases_of}
+use Rattle.ob_schedule.specs.Schedule.{Fills, Public, end_notes}
 use Rattle.ob_seal.specs.Sealing.{Sealing}
 use Rattle.ob_seal.specs.declared.keys.Keys.{Keys}
 use Rattle.ob_stand.specs.Ends.{RingEnd, standing_after}
@@ -32,6 +33,7 @@ use Rattle.ob_stand.proofs.EndLaws.{end_spares}
 use Rattle.ob_store.specs.Calls.{Keeps}
 use Rattle.ob_store.specs.Disk.{Disk, Image}
 use Rattle.ob_store.specs.Images.{IsSynced, LeavesOnly, Passes, Same}
+use Rattle.ob_store.specs.declared.watch.Note.{Note}
 use Rattle.ob_store.proofs.Moments.{leaves_of, then_on}
 use Rattle.ob_tables.specs.Kept.{Held, entry_at}
 use Rattle.ob_tables.specs.declared.entry.Entry.{Entry}
@@ -115,10 +117,21 @@ module _ (run mid : Run) (disk : Disk) (writes : List Write) (words : List ℕ) 
     few1 : rows_ended run.params t1 (end_writes run.params writes words g run.drawn) ≤ (run.params).room
     few1 = (may t1 (stands_listed run.ring t1 (from.planner).table)).rows
 
-    -- the lifts of the planner's table, the writes and the register
-    pub whole_notes : lift_notes run.params (run.ring.metas).versions fit.table ++ (end_write_notes mid.ring (suc run.epoch) ++ set_notes (is_closed_first (run.gates).epoch (place_of (suc run.epoch))) 5 (suc run.epoch))
-        ≡ end_notes run.params (public_of_kept run.params c rs run.epoch run.gates) (fills_with_lifts run.params c rs)
-    whole_notes = scheduled.whole_at (run.sealer).keys disk writes words g run.drawn (run.sealer).next run.ring mid.ring made low_at short fit small few_fit run.params ring_p run.epoch run.gates c rs from few1 fit.table fit.stands
+    -- the lifts of the planner's table, the writes and the register, as notes and as phases
+    abbrev steps : List Note
+    steps = end_write_notes mid.ring (suc run.epoch) ++ set_notes (is_closed_first (run.gates).epoch (place_of (suc run.epoch))) 5 (suc run.epoch)
+
+    abbrev known : Public
+    known = public_of_kept run.params c rs run.epoch run.gates
+
+    abbrev fills : Fills
+    fills = fills_with_lifts run.params c rs
+
+    pub whole : (lift_notes run.params (run.ring.metas).versions fit.table ++ steps ≡ end_notes run.params known fills) × (Reads (lift_cells run.params (run.ring.metas).versions fit.table) ∷ phases_of steps ≡ end_phases run.params known fills)
+    whole = (
+      scheduled.whole_at (run.sealer).keys disk writes words g run.drawn (run.sealer).next run.ring mid.ring made low_at short fit small few_fit run.params ring_p run.epoch run.gates c rs from few1 fit.table fit.stands,
+      scheduled.phases_whole (run.sealer).keys disk writes words g run.drawn (run.sealer).next run.ring mid.ring made low_at short fit small few_fit run.params ring_p run.epoch run.gates c rs from few1 fit.table fit.stands,
+    )
 
     pub leads_then : (last : Kept) → last ≡ record mid.ring { stash = last.stash } → (last.stash).rows ≡ rows_left mid.ring → (last.stash).room ≡ (mid.ring.stash).room
         → LeadsOn run.params g c rs run.epoch run.gates last (gates_ended run.gates run.epoch)
@@ -240,7 +253,7 @@ module _ (run mid : Run) (disk : Disk) (writes : List Write) (words : List ℕ) 
     module _ (new : Disk) (only : (c : Image) → disk.left_since disk.moment c → disk.may_leave c) where
       with_reads : (P : Image → Type 0) → ((c : Image) → Stands (run.sealer).keys run.params s c → P c) → LeavesOnly mids new P → LeavesOnly disk new P
       with_reads P as_old leaves = then_on disk mids new P
-          (leaves_of Same P P disk mids passes only (λ c left. as_old c (end_spares (run.sealer).keys run.params s c disk.cells (λ k off. was.settled c left k) was.stands)) (λ c d before same. subst P (sym same) before) (λ c before. before))
+          (leaves_of Same P P disk mids passes only (λ c left. as_old c (end_spares (run.sealer).keys run.params s c disk.cells (λ k off. was.settled c left k) was.stands)) (λ tells. as_old disk.cells was.stands) (λ c d before same. subst P (sym same) before) (λ c before. before))
           leaves
 
       pub refused_leaves : LeavesOnly mids new (Stands (mid.sealer).keys (mid.ring).p s) → LeavesOnly disk new (Stands (run.sealer).keys run.params s)

@@ -21,3 +21,4 @@ pub mod ScheduledEnds
 pub mod StandEnds
 pub mod StashLaws
 pub mod ToldEnds
+pub mod Products

@@ -8,9 +8,9 @@ use Rattle.ob_base.specs.declared.params.Params.{Params}
 use Rattle.ob_cells.specs.Writes.{WritesRun}
 use Rattle.ob_seal.specs.declared.keys.Keys.{Keys}
 use Rattle.ob_seal.specs.Sealing.{Sealing}
-use Rattle.ob_store.specs.Disk.{Disk, Image, NotAfter}
+use Rattle.ob_store.specs.Disk.{Disk, Image}
 use Rattle.ob_store.specs.Images.{Elapses, SameBut, Shrinks, Tears}
-use Rattle.ob_store.specs.Calls.{Keeps}
+use Rattle.ob_store.specs.Calls.{GoesOn, Keeps}
 use Rattle.ob_store.specs.Lines.{Trace}
 use Rattle.ob_store.specs.Told.{Tells, TellsFirst}
 use Rattle.ob_store.specs.declared.event.Event.{Event}
@@ -41,10 +41,10 @@ spare_then p s old mid new tells one two = record {
 }
 
 -- a sync behind
-pub spare_synced : (p : Params) (s : RingStanding) (old mid new : Disk) → (old.tells → mid.tells) → WritesSpare p s old mid → Keeps mid new → NotAfter mid.moment new.moment → Elapses mid new → Shrinks mid new → WritesSpare p s old new
-spare_synced p s old mid new tells one keeps later time crash = record {
+pub spare_synced : (p : Params) (s : RingStanding) (old mid new : Disk) → (old.tells → mid.tells) → WritesSpare p s old mid → Keeps mid new → GoesOn mid new → Elapses mid new → Shrinks mid new → WritesSpare p s old new
+spare_synced p s old mid new tells one keeps goes time crash = record {
   rest = λ t k off. keeps.cells (tells t) k ∙ one.rest t k off;
-  passes = passed_still (SameButIn (Spare p s)) old mid new one.passes later time crash;
+  passes = passed_still (SameButIn (Spare p s)) old mid new one.passes goes time crash keeps;
 }
 
 module _ (keys : Keys) (p : Params) (s : RingStanding) (end : RingEnd) where
@@ -59,12 +59,12 @@ module _ (keys : Keys) (p : Params) (s : RingStanding) (end : RingEnd) where
   }
 
   -- a gate is written
-  pub gate_stays : (b cell : ℕ) (old new : Disk) → IsEndOf p s end → b < p.batches → cell ≡ next_gate p s b → NotAfter old.moment new.moment → Elapses old new → Tears cell old new
+  pub gate_stays : (b cell : ℕ) (old new : Disk) → IsEndOf p s end → b < p.batches → cell ≡ next_gate p s b → GoesOn old new → Elapses old new → Tears cell old new
       → (old.tells → SameBut cell new.cells old.cells) → KeepsStanding keys p s end old new
-  gate_stays b cell old new follows low is later time tears rest = record {
+  gate_stays b cell old new follows low is goes time tears rest = record {
     spare = record {
       rest = λ t. (end_writes_spare p s new.cells old.cells).gate b low (here new.cells old.cells (rest t));
-      passes = passes_so (SameBut cell) (SameButIn (Spare p s)) old new (λ c d same. (end_writes_spare p s c d).gate b low (here c d same)) (torn_once cell old new later time tears);
+      passes = passes_so (SameBut cell) (SameButIn (Spare p s)) old new (λ c d same. (end_writes_spare p s c d).gate b low (here c d same)) (torn_once cell old new goes time tears rest);
     };
     buckets = λ t are u on. (end_writes_stay keys p s end new.cells old.cells follows).bucket_gated u b on low (here new.cells old.cells (rest t)) (are u on);
     checkpoint = λ t holds. (end_writes_stay keys p s end new.cells old.cells follows).check_gated b low (here new.cells old.cells (rest t)) holds;

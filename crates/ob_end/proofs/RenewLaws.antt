@@ -6,11 +6,11 @@ use Rattle.ob_base.specs.declared.value.Write.{Write}
 use Rattle.ob_fetch.proofs.FetchLaws.{drawn_since, draws_are}
 use Rattle.ob_fetch.specs.Fetches.{DrawsWords, words_since}
 use Rattle.ob_ring.specs.FlatTable.{FlatTable, Refill, after, stash_size}
-use Rattle.ob_ring.specs.Filling.{HasStashRows}
+use Rattle.ob_ring.specs.Filling.{HasJustStashRows}
 use Rattle.ob_ring.specs.Ring.{Kept, StandsFor}
 use Rattle.ob_ring.specs.Settling.{Rows}
 use Rattle.ob_ring.specs.Writing.{values_after, writes_of}
-use Rattle.ob_ring.proofs.StashRows.{rows_like, rows_written}
+use Rattle.ob_ring.proofs.StashRows.{just_like, just_written}
 use Rattle.ob_tables.specs.declared.entry.Entry.{Entry}
 use Rattle.ob_end.specs.Renewals.{HasItsRows, AreRefilled, AreMade, RenewAnswers, renewed_writes, table_behind_writes}
 
@@ -68,13 +68,13 @@ module _ (old between : Kept) (writes : List Write) {W own : List ℕ} (ws : W �
       ap (λ (q : Params). stash_size q (after q (table_behind_writes old (writes_of old.p writes W (G, drawn) (length writes)) t) Refill)) ps
       ∙ ap (λ (x : List (Write × Entry)). stash_size old.p (after old.p (table_behind_writes old x t) Refill)) writes_as
 
-  -- Behind the writes too the stash has a row of each key that lies in no bucket, in whatever table the planner then stands for.
+  -- Behind the writes too the stash has rows of just the keys that lie in no bucket, in whatever table the planner then stands for.
   pub at_between : HasItsRows old → (between.stash).rows ≡ values_after (old.stash).rows (writes_of old.p writes W (G, drawn) (length writes))
-      → ((t : FlatTable) → StandsFor old t → StandsFor between (table_behind_writes old (writes_of old.p writes W (G, drawn) (length writes)) t)) → (t : FlatTable) → StandsFor between t → HasStashRows t (between.stash).rows
+      → ((t : FlatTable) → StandsFor old t → StandsFor between (table_behind_writes old (writes_of old.p writes W (G, drawn) (length writes)) t)) → (t : FlatTable) → StandsFor between t → HasJustStashRows t (between.stash).rows
   at_between has values applied t stands =
       let made : List (Write × Entry) = writes_of old.p writes W (G, drawn) (length writes) in
-      rows_like between (table_behind_writes old made has.table) t (between.stash).rows (applied has.table has.stands) stands
-      (subst (λ (rows : Rows). HasStashRows (table_behind_writes old made has.table) rows) (sym values) (rows_written has.table (old.stash).rows made has.rows))
+      just_like between (table_behind_writes old made has.table) t (between.stash).rows (applied has.table has.stands) stands
+      (subst (λ (rows : Rows). HasJustStashRows (table_behind_writes old made has.table) rows) (sym values) (just_written has.table (old.stash).rows made has.rows))
 
 pub filled_as : (old new : Kept) {W rest : List ℕ} {G g N n : ℕ} → W ≡ rest → G ≡ g → N ≡ n → AreRefilled W G N old new → AreRefilled rest g n old new
 filled_as old new {W} {rest} {G} {g} {N} {n} ws gs ns filled =

@@ -9,7 +9,7 @@ use Rattle.ob_tables.specs.Version.{Version}
 use Rattle.ob_check.specs.Written.{area_of}
 use Rattle.ob_tables.specs.Content.{Content, Obeys}
 use Rattle.ob_end.specs.EndWrites.{content_left, end_write_notes, rows_left}
-use Rattle.ob_end.specs.Lifts.{lift_notes}
+use Rattle.ob_end.specs.Lifts.{lift_cells, lift_jobs, lift_notes}
 use Rattle.ob_stand.specs.EpochEnds.{RefillRun}
 use Rattle.ob_stand.specs.Table.{buckets_of, flat_of}
 use Rattle.ob_fetch.specs.Fetches.{unlisted}
@@ -21,13 +21,14 @@ use Rattle.ob_ring.specs.Picked.{Picked, final_picked, job_of}
 use Rattle.ob_ring.specs.Ring.{Kept, StandsFor}
 use Rattle.ob_ring.specs.Writing.{write_at}
 use Rattle.ob_ring.proofs.PlanLaws.{job_same}
-use Rattle.ob_recover.specs.Ends.{EndIsScheduled, closing_notes, ending_notes, gates_ended, refill_notes}
-use Rattle.ob_recover.specs.Fronts.{AreFirstNotes}
+use Rattle.ob_recover.specs.Ends.{EndIsScheduled, closing_notes, ending_notes, ending_phases, gates_ended, lifts_cells, refill_notes}
 use Rattle.ob_recover.specs.Known.{PlansFrom, fills_with_lifts, public_of_kept}
+use Rattle.ob_recover.proofs.CellsRead.{picked_read}
 use Rattle.ob_recover.proofs.Ending.{ends_are_scheduled, lifts_are}
 use Rattle.ob_recover.proofs.Once.{table_once}
 use Rattle.ob_schedule.specs.Paths.{eviction_path}
-use Rattle.ob_schedule.specs.Schedule.{Fills, Public, after_end, end_notes, log_gates, writes_of}
+use Rattle.ob_schedule.specs.Phases.{Reads, cells_read, end_phases, phases_of}
+use Rattle.ob_schedule.specs.Schedule.{Fills, Public, after_end, end_lifts, end_notes, log_gates, writes_of}
 use Rattle.ob_seal.specs.declared.keys.Keys.{Keys}
 use Rattle.ob_store.specs.Disk.{Disk}
 use Rattle.ob_store.specs.Runs.{write_notes}
@@ -40,8 +41,8 @@ use Rattle.ob_twin.specs.Register.{place_of}
 use Rattle.ob_twin.specs.declared.gates.Gates.{Gates}
 use Rattle.ob_stand.specs.Epochs.{Read}
 use Rattle.ob_end.specs.EndRuns.{IsEndMade, LeadsOn, end_writes, rows_ended}
-use Rattle.ob_end.specs.Shown.{before_gate, end_lifts}
-use Rattle.ob_end.proofs.Rows.{before_closes, behind_lifts}
+use Rattle.ob_end.proofs.Rows.{before_closes, before_phases, behind_lifts}
+use Rattle.ob_end.proofs.ToldEnds.{IsLed, cells_are}
 use Rattle.ob_recover.specs.Fits.{IsPlannerFit}
 use Rattle.ob_end.proofs.EndLaws.{content_is, planner_then}
 use Rattle.ob_end.proofs.EndTables as tables
@@ -71,13 +72,23 @@ lifts_scheduled p g ring t c rs epoch gates stands from =
 
 -- they come first, and the gate behind them
 pub front_at : (p : Params) (g : ℕ) (ring : Kept) (t : FlatTable) (c : Content) (rs : List BatchRecord) (epoch : ℕ) (gates : Gates) → StandsFor ring t → PlansFrom p g gates ring c rs
-    → AreFirstNotes (lift_notes p (ring.metas).versions t) (before_gate (end_notes p (public_of_kept p c rs epoch gates) (fills_with_lifts p c rs)))
+    → IsLed (lift_cells p (ring.metas).versions t) (lift_notes p (ring.metas).versions t) (end_phases p (public_of_kept p c rs epoch gates) (fills_with_lifts p c rs)) (end_notes p (public_of_kept p c rs epoch gates) (fills_with_lifts p c rs))
 front_at p g ring t c rs epoch gates stands from =
     let q : Public = public_of_kept p c rs epoch gates in
-    let f : Fills = fills_with_lifts p c rs in (
-      behind_lifts p q f,
-      before_closes p q f ∙ ap (λ (ns : List Note). ns ++ behind_lifts p q f) (sym (lifts_scheduled p g ring t c rs epoch gates stands from)),
-    )
+    let f : Fills = fills_with_lifts p c rs in
+    let same : lift_notes p (ring.metas).versions t ≡ end_lifts p q f = lifts_scheduled p g ring t c rs epoch gates stands from in
+    record {
+      steps = (behind_lifts p q f, before_closes p q f ∙ ap (λ (ns : List Note). ns ++ behind_lifts p q f) (sym same));
+      rest = phases_of (behind_lifts p q f);
+      phases_are = before_phases p q f ∙ ap (λ (cs : List ℕ). Reads cs ∷ phases_of (behind_lifts p q f)) (ap cells_read (sym same) ∙ cells_are (lift_jobs p (ring.metas).versions t));
+    }
+
+-- the lifts' cells, whichever of the seals and of the tables they are told by
+cells_at : (p : Params) (ring : Kept) (t : FlatTable) (c : Content) (rs : List BatchRecord) → StandsFor ring t → IsPlannerOf p c rs (unlisted ring) → lift_cells p (ring.metas).versions t ≡ lifts_cells p c rs
+cells_at p ring t c rs stands planner =
+    let t' : FlatTable = table_after_records p (flat_of p c) rs in
+    let picked : List Picked = final_picked p t' (eviction_path p t'.counter) in
+    sym (cells_are (lift_jobs p (ring.metas).versions t)) ∙ ap cells_read (lifts_at p ring t c rs stands planner ∙ lifts_same p c.versions picked) ∙ picked_read p c.versions picked
 
 -- the batches of records, as if they had read nothing
 abbrev reads_of : Params → List BatchRecord → List Read
@@ -143,6 +154,9 @@ module _ (keys : Keys) (disk : Disk) (writes : List Write) (words : List ℕ) (g
   notes_at : ending_notes p c rs epoch gates (new.metas).versions order ≡ end_notes p (public_of_kept p c rs epoch gates) (fills_with_lifts p c rs)
   notes_at = subst (λ (q : Params). ending_notes q c rs epoch gates (new.metas).versions order ≡ end_notes q (public_of_kept q c rs epoch gates) (fills_with_lifts q c rs)) (sym path) scheduled.notes
 
+  phases_at : ending_phases p c rs epoch gates (new.metas).versions order ≡ end_phases p (public_of_kept p c rs epoch gates) (fills_with_lifts p c rs)
+  phases_at = subst (λ (q : Params). ending_phases q c rs epoch gates (new.metas).versions order ≡ end_phases q (public_of_kept q c rs epoch gates) (fills_with_lifts q c rs)) (sym path) scheduled.phases
+
   new_p : new.p ≡ p
   new_p = tables.renewed_p lifted new writes words g drawn next made.renews ∙ sym path
 
@@ -163,6 +177,11 @@ module _ (keys : Keys) (disk : Disk) (writes : List Write) (words : List ℕ) (g
   pub whole_at : (t : FlatTable) → StandsFor ring t → lift_notes p (ring.metas).versions t ++ (end_write_notes new (suc epoch) ++ set_notes (is_closed_first gates.epoch (place_of (suc epoch))) 5 (suc epoch))
       ≡ end_notes p (public_of_kept p c rs epoch gates) (fills_with_lifts p c rs)
   whole_at t stands = ap (λ (ns : List Note). ns ++ (end_write_notes new (suc epoch) ++ set_notes (is_closed_first gates.epoch (place_of (suc epoch))) 5 (suc epoch))) (lifts_at p ring t c rs stands from.planner) ∙ whole
+
+  -- and its phases
+  pub phases_whole : (t : FlatTable) → StandsFor ring t
+      → Reads (lift_cells p (ring.metas).versions t) ∷ phases_of (end_write_notes new (suc epoch) ++ set_notes (is_closed_first gates.epoch (place_of (suc epoch))) 5 (suc epoch)) ≡ end_phases p (public_of_kept p c rs epoch gates) (fills_with_lifts p c rs)
+  phases_whole t stands = (λ i. Reads (cells_at p ring t c rs stands from.planner i) ∷ phases_of (writes_then i)) ∙ phases_at
 
   -- ---- behind it
 

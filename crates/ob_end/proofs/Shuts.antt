@@ -48,14 +48,14 @@ module _ (p : Params) (area n cell : ℕ) (old mid new : Disk) (low : n < p.batc
     (goes : GoesOn mid new) (rest : mid.tells → SameBut cell new.cells mid.cells) (tears : Tears cell mid new) (time : Elapses mid new) where
   pub stays_one : (keys : Keys) (s : RingStanding) (end : RingEnd) → IsEndOf p s end → area ≡ suc (suc s.epoch) % 2 → KeepsStanding keys p s end old new
   stays_one keys s end follows at = stays_then keys p s end old mid new so_far.tells (so_far.stays keys s end follows at)
-      (gate_stays keys p s end n cell mid new follows low (is ∙ ap (λ a. log_gate p a n) at) goes.later time tears rest)
+      (gate_stays keys p s end n cell mid new follows low (is ∙ ap (λ a. log_gate p a n) at) goes time tears rest)
 
   pub first_one : old.tells → SameFirst new.cells old.cells
   first_one t k lt = rest (so_far.tells t) k (λ e. absurd (omega (arith, e, is, lt))) ∙ so_far.first t k lt
 
   pub moments_one : Passes SameFirst old new
   moments_one = passed_then SameFirst old mid new first_joins so_far.moments
-      (passes_so (SameBut cell) SameFirst mid new (λ c d same k lt. same k (λ e. absurd (omega (arith, e, is, lt)))) (torn_once cell mid new goes.later time tears))
+      (passes_so (SameBut cell) SameFirst mid new (λ c d same k lt. same k (λ e. absurd (omega (arith, e, is, lt)))) (torn_once cell mid new goes time tears rest))
 
   -- the call was refused
   pub shut_refused : {T E : Type 0} (r : Result T E) → IsErr r → (keys : Keys) (s : RingStanding) (end : RingEnd) → IsEndOf p s end → area ≡ suc (suc s.epoch) % 2 → ShutsGates keys p s end old new r

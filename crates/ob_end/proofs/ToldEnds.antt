@@ -1,17 +1,28 @@
 -- What an end shows is a row of notes; refused, what its answer says of it.
-use Rattle.std.specs.Prelude.{◌≡◌, ◌⊎◌, ℕ, ◌≤◌, Bool, List, [], ◌∷◌, ◌++◌, map, Option, None, Result, Ok, Err}
+use Rattle.std.specs.Prelude.{◌≡◌, ◌⊎◌, ℕ, suc, ◌%◌, Bool, List, [], ◌∷◌, ◌++◌, map, Option, None, Result, Ok, Err}
 use Rattle.std.proofs.Common.{append_assoc, inl, inr, refl, sym, ap, ◌∙◌, subst}
+use Rattle.std.proofs.lemmas.List.{append-nil}
+use Rattle.ob_base.specs.Layout.{checkpoint_cells}
+use Rattle.ob_base.specs.declared.params.Params.{Params}
 use Rattle.ob_base.specs.declared.fault.Fault.{Fault}
 use Rattle.ob_base.specs.declared.fault.Fault.TheVariants as fault
 use Rattle.ob_base.specs.declared.job.Job.{Job}
 use Rattle.ob_recover.specs.Repeats.{BatchIsShown, NoneIsShown}
 use Rattle.ob_recover.specs.Fronts.{AreFirstNotes}
-use Rattle.ob_recover.specs.Telling.{IsFrontShown, IsRowShown}
+use Rattle.ob_recover.specs.Ends.{refill_notes}
+use Rattle.ob_recover.specs.Telling.{ArePhasesMade, IsFrontShown, IsRowShown}
+use Rattle.ob_recover.proofs.Dealing.{HasLane, has_gate, has_join, has_prepared, has_refill, has_set, has_writes, made_as, made_join, made_read, made_steps}
 use Rattle.ob_recover.proofs.Telling.{front_all, front_as, front_more, front_none, front_step, front_then, row_as, row_read, row_step, row_then}
+use Rattle.ob_check.specs.Written.{area_of}
+use Rattle.ob_ring.specs.Ring.{Kept}
+use Rattle.ob_schedule.specs.Phases.{Phase, Reads, Syncs, Writes, cells_read, events_of_phases, phases_of, shared}
+use Rattle.ob_schedule.specs.Schedule.{log_gates, writes_of}
+use Rattle.ob_schedule.proofs.Phased.{phases_append}
 use Rattle.ob_serial.specs.declared.vault.EndErr.{EndErr}
 use Rattle.ob_serial.specs.declared.vault.EndErr.TheVariants as end
 use Rattle.ob_store.specs.Calls.{Notes}
 use Rattle.ob_store.specs.Lines.{Shows, Trace}
+use Rattle.ob_store.specs.Runs.{from_on}
 use Rattle.ob_store.specs.Told.{TellsFirst, events_of}
 use Rattle.ob_store.specs.declared.event.Event.{Event}
 use Rattle.ob_store.specs.declared.event.Event.TheVariants as event
@@ -26,51 +37,78 @@ use Rattle.ob_twin.specs.declared.set_err.SetErr.TheVariants as set
 use Rattle.ob_twin.specs.declared.twin.Twin.TheVariants.{EPOCH}
 use Rattle.ob_end.specs.Closings.{CloseDoes}
 use Rattle.ob_end.specs.EndRuns.{MakeTells, end_err_of}
+use Rattle.ob_end.specs.EndWrites.{end_write_notes}
 use Rattle.ob_end.specs.Shown.{EndShows, IsGateShown, before_gate, up_to_gate}
 use Rattle.ob_end.proofs.Rows.{before_end, up_end}
 
--- the notes of jobs' reads are of just these reads
+-- the notes of jobs' reads are of just these reads, and read just their cells
 pub reads_are : (js : List Job) → events_of (map (λ (j : Job). note.Read j.cell) js) ≡ map (λ cell. event.Read cell) (map (λ (j : Job). j.cell) js)
 reads_are [] = refl
 reads_are (j ∷ js) = ap (λ (es : List Event). event.Read j.cell ∷ es) (reads_are js)
 
--- some notes were shown, and of each such row they are what the answer says
-abbrev pub IsToldOf : ℕ → List Note → (List Note → Type 0) → Option (List Event) → Option (List Event) → Trace → Trace → Result (Unit {0}) EndErr → Type 0
-IsToldOf most lifts Of a b k l result = (shown : List Note) × Shows shown k l × ((row : List Note) → Of row → EndShows most lifts row shown a b result)
+pub cells_are : (js : List Job) → cells_read (map (λ (j : Job). note.Read j.cell) js) ≡ map (λ (j : Job). j.cell) js
+cells_are [] = refl
+cells_are (j ∷ js) = ap (λ (cs : List ℕ). j.cell ∷ cs) (cells_are js)
+
+-- what an end writes needs no lane
+pub has_written : (most : ℕ) (ring : Kept) (epoch : ℕ) → HasLane most (end_write_notes ring epoch)
+has_written most ring epoch =
+    let p : Params = ring.p in
+    let check : List ℕ = from_on (area_of p epoch) (checkpoint_cells p) in
+    let logs : List ℕ = log_gates p (suc epoch % 2) in
+    has_join most (refill_notes p (ring.metas).versions (ring.metas).order) (writes_of check ++ (writes_of logs ++ note.Sync ∷ [])) (has_refill most p (ring.metas).versions (ring.metas).order)
+    (has_join most (writes_of check) (writes_of logs ++ note.Sync ∷ []) (has_writes most check) (has_join most (writes_of logs) (note.Sync ∷ []) (has_writes most logs) tt))
+
+-- some notes were shown, and of each such row with its phases they are what the answer says
+abbrev pub IsToldOf : ℕ → List Note → (List Phase → List Note → Type 0) → Option (List Event) → Option (List Event) → Trace → Trace → Result (Unit {0}) EndErr → Type 0
+IsToldOf most lifts Of a b k l result = (shown : List Note) × Shows shown k l × ((phases : List Phase) (row : List Note) → Of phases row → EndShows most lifts phases row shown a b result)
 
 -- by another name of the lifts, and of the answer
-pub lifts_as : (most : ℕ) (xs ys row shown : List Note) (a b : Option (List Event)) (result : Result (Unit {0}) EndErr) → xs ≡ ys → EndShows most xs row shown a b result → EndShows most ys row shown a b result
-lifts_as most xs ys row shown a b result same is = subst (λ (ns : List Note). EndShows most ns row shown a b result) same is
+pub lifts_as : (most : ℕ) (xs ys : List Note) (phases : List Phase) (row shown : List Note) (a b : Option (List Event)) (result : Result (Unit {0}) EndErr) → xs ≡ ys → EndShows most xs phases row shown a b result → EndShows most ys phases row shown a b result
+lifts_as most xs ys phases row shown a b result same is = subst (λ (ns : List Note). EndShows most ns phases row shown a b result) same is
 
-pub refused_as : (most : ℕ) (lifts row shown : List Note) (a b : Option (List Event)) (e e' : EndErr) → e ≡ e' → EndShows most lifts row shown a b (Err e) → EndShows most lifts row shown a b (Err e')
-refused_as most lifts row shown a b e e' same is = subst (λ (x : EndErr). EndShows most lifts row shown a b (Err x)) same is
+pub refused_as : (most : ℕ) (lifts : List Note) (phases : List Phase) (row shown : List Note) (a b : Option (List Event)) (e e' : EndErr) → e ≡ e' → EndShows most lifts phases row shown a b (Err e) → EndShows most lifts phases row shown a b (Err e')
+refused_as most lifts phases row shown a b e e' same is = subst (λ (x : EndErr). EndShows most lifts phases row shown a b (Err x)) same is
 
-module _ (most : ℕ) (cells : List ℕ) (notes : List Note) (reads : events_of notes ≡ map (λ cell. event.Read cell) cells) where
-  lifts_row : (a b : Option (List Event)) (k l : Trace) → BatchIsShown most cells notes a b k l → IsRowShown most notes notes a b
-  lifts_row a b k l shown = row_read most cells notes a b reads shown.0
+-- a row whose first notes are the lifts', before its gate, and its first phase their reads
+pub record IsLed (cells : List ℕ) (notes : List Note) (phases : List Phase) (row : List Note) : Type 0 where
+  pub steps : AreFirstNotes notes (before_gate row)
+  pub rest : List Phase
+  pub phases_are : before_gate phases ≡ Reads cells ∷ rest
+
+module _ (most : ℕ) (cells : List ℕ) (notes : List Note) (reads : events_of notes ≡ map (λ cell. event.Read cell) cells) (own : cells_read notes ≡ cells) where
+  lifts_row : (a b : Option (List Event)) (k l : Trace) → BatchIsShown most cells notes a b k l → IsRowShown most (Reads cells ∷ []) notes notes a b
+  lifts_row a b k l shown = row_read most cells notes a b shown.0
+
+  -- by the cells that the notes read
+  lifts_shared : (a b : Option (List Event)) (k l : Trace) → BatchIsShown most cells notes a b k l → IsRowShown most (shared notes ∷ []) notes notes a b
+  lifts_shared a b k l shown = row_as most (Reads cells ∷ []) (shared notes ∷ []) notes notes notes a b (ap (λ (cs : List ℕ). Reads cs ∷ []) (sym own)) refl (lifts_row a b k l shown)
+
+  same_steps : events_of_phases (Reads cells ∷ []) ≡ events_of notes
+  same_steps = append-nil (map (λ cell. event.Read cell) cells) ∙ sym reads
 
   -- ---- refused before anything was written
 
-  -- a row whose first notes are the lifts', before its gate
-  abbrev pub IsLed : List Note → Type 0
-  IsLed row = AreFirstNotes notes (before_gate row)
+  abbrev Led : List Phase → List Note → Type 0
+  Led phases row = IsLed cells notes phases row
 
   module _ (a b : Option (List Event)) (k l : Trace) where
-    lifts_told : BatchIsShown most cells notes a b k l → (shown : List Note) × Shows shown k l × ((row : List Note) → IsLed row → IsRowShown most notes shown a b)
-    lifts_told shown = (notes, shown.1, λ row led. lifts_row a b k l shown)
+    lifts_told : BatchIsShown most cells notes a b k l → (shown : List Note) × Shows shown k l × ((phases : List Phase) (row : List Note) → Led phases row → IsRowShown most (shared notes ∷ []) notes shown a b)
+    lifts_told shown = (notes, shown.1, λ phases row led. lifts_shared a b k l shown)
 
-    lifts_front : (row : List Note) → IsLed row → IsRowShown most notes notes a b → IsFrontShown most (before_gate row) notes a b
-    lifts_front row led shown = front_as most (notes ++ led.0) (before_gate row) notes a b (sym led.1) (front_more most notes led.0 notes a b (front_all most notes notes a b shown))
+    lifts_front : (phases : List Phase) (row : List Note) → Led phases row → IsRowShown most (Reads cells ∷ []) notes notes a b → IsFrontShown most (before_gate phases) (before_gate row) notes a b
+    lifts_front phases row led shown = front_as most (Reads cells ∷ led.rest) (before_gate phases) (notes ++ (led.steps).0) (before_gate row) notes a b (sym led.phases_are) (sym (led.steps).1)
+        (front_more most (Reads cells ∷ []) led.rest notes (led.steps).0 notes a b (front_all most (Reads cells ∷ []) notes notes a b same_steps shown))
 
-    store_told : (unsure : Option ℕ) → BatchIsShown most cells notes a b k l ⊎ NoneIsShown a b k l → IsToldOf most notes IsLed a b k l (Err (end.Before (fault.StoreFault unsure)))
-    store_told unsure (inl shown) = (notes, shown.1, λ row led. lifts_front row led (lifts_row a b k l shown))
-    store_told unsure (inr none) = ([], none.1, λ row led. front_none most (before_gate row) a b none.0)
+    store_told : (unsure : Option ℕ) → BatchIsShown most cells notes a b k l ⊎ NoneIsShown a b k l → IsToldOf most notes Led a b k l (Err (end.Before (fault.StoreFault unsure)))
+    store_told unsure (inl shown) = (notes, shown.1, λ phases row led. lifts_front phases row led (lifts_row a b k l shown))
+    store_told unsure (inr none) = ([], none.1, λ phases row led. front_none most (before_gate phases) (before_gate row) a b none.0)
 
-    worn_told : (number : ℕ) → BatchIsShown most cells notes a b k l ⊎ NoneIsShown a b k l → IsToldOf most notes IsLed a b k l (Err (end.Before (fault.Worn number)))
-    worn_told number (inl shown) = (notes, shown.1, λ row led. inr (lifts_row a b k l shown))
-    worn_told number (inr none) = ([], none.1, λ row led. inl (row_step most [] a b none.0))
+    worn_told : (number : ℕ) → BatchIsShown most cells notes a b k l ⊎ NoneIsShown a b k l → IsToldOf most notes Led a b k l (Err (end.Before (fault.Worn number)))
+    worn_told number (inl shown) = (notes, shown.1, λ phases row led. inr (lifts_shared a b k l shown))
+    worn_told number (inr none) = ([], none.1, λ phases row led. inl (row_step most [] a b tt none.0))
 
-    pub made_told : (f : Fault) → MakeTells most cells notes a b k l (Err f) → IsToldOf most notes IsLed a b k l (Err (end.Before f))
+    pub made_told : (f : Fault) → MakeTells most cells notes a b k l (Err f) → IsToldOf most notes Led a b k l (Err (end.Before f))
     made_told fault.Memory told = lifts_told told
     made_told fault.Usage told = lifts_told told
     made_told (fault.BadScript line) told = lifts_told told
@@ -85,18 +123,22 @@ module _ (most : ℕ) (cells : List ℕ) (notes : List Note) (reads : events_of 
 
   -- ---- behind the lifts
 
-  module _ (writes : List Note) (closes : Bool) (epoch : ℕ) (a m b : Option (List Event)) (k j l : Trace) (lifts : BatchIsShown most cells notes a m k j) where
+  module _ (writes : List Note) (has : HasLane most writes) (closes : Bool) (epoch : ℕ) (a m b : Option (List Event)) (k j l : Trace) (lifts : BatchIsShown most cells notes a m k j) where
     abbrev last : List Note
     last = writes ++ set_notes closes 5 epoch
 
-    abbrev pub IsAll : List Note → Type 0
-    IsAll row = notes ++ last ≡ row
+    abbrev pub IsAll : List Phase → List Note → Type 0
+    IsAll phases row = (notes ++ last ≡ row) × (Reads cells ∷ phases_of last ≡ phases)
+
+    has_last : HasLane most last
+    has_last = has_join most writes (set_notes closes 5 epoch) has (has_set most closes 5 epoch)
 
     pub closed_told : CloseDoes writes closes epoch m b j l (Ok tt) → IsToldOf most notes IsAll a b k l (Ok tt)
     closed_told does = (
       notes ++ last,
       shows_then notes last k j l lifts.1 does.shows,
-      λ row whole. row_as most (notes ++ last) row (notes ++ last) a b whole (row_then most notes notes last last a m b (lifts_row a m k j lifts) (row_step most last m b does.seen)),
+      λ phases row whole. row_as most (Reads cells ∷ phases_of last) phases (notes ++ last) row (notes ++ last) a b whole.1 whole.0
+          (row_then most (Reads cells ∷ []) (phases_of last) notes notes last last a m b (lifts_row a m k j lifts) (row_step most last m b has_last does.seen)),
     )
 
     -- the register's gate, what is written before it, and that with its write
@@ -123,28 +165,53 @@ module _ (most : ℕ) (cells : List ℕ) (notes : List Note) (reads : events_of 
         ∙ append_assoc notes prepared (opens ∷ [])
         ∙ ap (λ (ns : List Note). notes ++ ns) (append_assoc writes (prepare_notes closes 5 epoch) (opens ∷ []))
 
+    -- the same of the phases
+    abbrev opened : Phase
+    opened = Writes (gate_at 5 (place_of epoch) ∷ [])
+
+    phase_parts : (Reads cells ∷ phases_of prepared) ++ opened ∷ Syncs ∷ [] ≡ Reads cells ∷ phases_of last
+    phase_parts =
+        ap (λ (ps : List Phase). Reads cells ∷ ps)
+        (sym (phases_append prepared (through_notes (gate_at 5 (place_of epoch)))) ∙ ap phases_of (append_assoc writes (prepare_notes closes 5 epoch) (through_notes (gate_at 5 (place_of epoch)))))
+
+    before_in_phases : before_gate (Reads cells ∷ phases_of last) ≡ Reads cells ∷ phases_of prepared
+    before_in_phases = ap (λ (ps : List Phase). before_gate ps) (sym phase_parts) ∙ before_end (Reads cells ∷ phases_of prepared) opened Syncs
+
+    up_in_phases : up_to_gate (Reads cells ∷ phases_of last) ≡ Reads cells ∷ phases_of gate
+    up_in_phases =
+        ap (λ (ps : List Phase). up_to_gate ps) (sym phase_parts) ∙ up_end (Reads cells ∷ phases_of prepared) opened Syncs
+        ∙ ap (λ (ps : List Phase). Reads cells ∷ ps) (sym (phases_append prepared (opens ∷ [])) ∙ ap phases_of (append_assoc writes (prepare_notes closes 5 epoch) (opens ∷ [])))
+
     -- refused before the gate
     cut_before : (unsure : Option ℕ) → TellsFirst prepared m b j l → IsToldOf most notes IsAll a b k l (Err (end.Before (fault.StoreFault unsure)))
     cut_before unsure first = (
       notes ++ first.shown,
       shows_then notes first.shown k j l lifts.1 (first.tells).shows,
-      λ row whole. subst (λ (ns : List Note). IsFrontShown most (before_gate ns) (notes ++ first.shown) a b) whole
-          (front_as most (notes ++ prepared) (before_gate (notes ++ last)) (notes ++ first.shown) a b (sym before_is)
-          (front_then most notes notes prepared first.shown a m b (lifts_row a m k j lifts) (front_step most prepared m b j l first))),
+      λ phases row whole. front_as most (Reads cells ∷ phases_of prepared) (before_gate phases) (notes ++ prepared) (before_gate row) (notes ++ first.shown) a b
+          (sym before_in_phases ∙ ap (λ (ps : List Phase). before_gate ps) whole.1) (sym before_is ∙ ap (λ (ns : List Note). before_gate ns) whole.0)
+          (front_then most (Reads cells ∷ []) (phases_of prepared) notes notes prepared first.shown a m b same_steps (lifts_row a m k j lifts)
+          (front_step most prepared m b j l (has_join most writes (prepare_notes closes 5 epoch) has (has_prepared most closes 5 epoch)) first)),
     )
 
     -- with the lifts before them
-    ordered : (ys : List Note) → Notes (events_of ys) m b → most ≤ 1 → Notes (events_of (notes ++ ys)) a b
-    ordered ys seen few = (row_then most notes notes ys ys a m b (lifts_row a m k j lifts) (row_step most ys m b seen)).in_order few
+    behind : (ys : List Note) → HasLane most ys → Notes (events_of ys) m b → ArePhasesMade most (Reads cells ∷ phases_of ys) a b
+    behind ys lane seen = made_join most (Reads cells ∷ []) (phases_of ys) a m b (made_read most cells a m lifts.0) (made_steps most ys m b lane seen)
 
-    gate_shown : (most ≤ 1 → Notes (events_of (notes ++ gate)) a b ⊎ Notes (events_of (notes ++ last)) a b) → (row : List Note) → IsAll row → IsGateShown most row (notes ++ gate) a b
-    gate_shown either row whole = subst (λ (ns : List Note). IsGateShown most ns (notes ++ gate) a b) whole
-        (record { all = sym up_is; in_order = subst (λ (ns : List Note). most ≤ 1 → Notes (events_of ns) a b ⊎ Notes (events_of (notes ++ last)) a b) (sym up_is) either })
+    gate_shown : ArePhasesMade most (Reads cells ∷ phases_of gate) a b ⊎ ArePhasesMade most (Reads cells ∷ phases_of last) a b → (phases : List Phase) (row : List Note) → IsAll phases row → IsGateShown most phases row (notes ++ gate) a b
+    gate_shown either phases row whole = record { all = sym up_is ∙ ap (λ (ns : List Note). up_to_gate ns) whole.0; seen = seen_by either }
+      where
+        seen_by : ArePhasesMade most (Reads cells ∷ phases_of gate) a b ⊎ ArePhasesMade most (Reads cells ∷ phases_of last) a b → ArePhasesMade most (up_to_gate phases) a b ⊎ ArePhasesMade most phases a b
+        seen_by (inl one) = inl (made_as most (Reads cells ∷ phases_of gate) (up_to_gate phases) a b (sym up_in_phases ∙ ap (λ (ps : List Phase). up_to_gate ps) whole.1) one)
+        seen_by (inr all) = inr (made_as most (Reads cells ∷ phases_of last) phases a b whole.1 all)
 
     -- or left unsure
     cut_unsure : (f : Fault) → CloseDoes writes closes epoch m b j l (Err (set.Unsure f)) → IsToldOf most notes IsAll a b k l (Err (end.Unsure f))
-    cut_unsure f (inl one) = (notes ++ gate, shows_then notes gate k j l lifts.1 one.shows, gate_shown (λ few. inl (ordered gate one.seen few)))
-    cut_unsure f (inr all) = (notes ++ gate, shows_then notes gate k j l lifts.1 all.shows, gate_shown (λ few. inr (ordered last all.seen few)))
+    cut_unsure f (inl one) = (
+      notes ++ gate,
+      shows_then notes gate k j l lifts.1 one.shows,
+      gate_shown (inl (behind gate (has_join most writes (gate_notes closes 5 epoch) has (has_gate most closes 5 epoch)) one.seen)),
+    )
+    cut_unsure f (inr all) = (notes ++ gate, shows_then notes gate k j l lifts.1 all.shows, gate_shown (inr (behind last has_last all.seen)))
 
     pub cut_short : (n : ℕ) (x : SetErr) → IsSetFault EPOCH n x → CloseDoes writes closes epoch m b j l (Err x) → IsToldOf most notes IsAll a b k l (Err (end_err_of x))
     cut_short n (set.Before f) is first = subst (λ (y : Fault). IsToldOf most notes IsAll a b k l (Err (end.Before y))) (sym is) (cut_before None first)

@@ -17,9 +17,9 @@ use Rattle.ob_ring.specs.Ring.{Kept}
 use Rattle.ob_seal.specs.declared.keys.Keys.{Keys}
 use Rattle.ob_seal.specs.Sealing.{Sealing}
 use Rattle.ob_twin.proofs.Moves.{closed-isnt-open}
-use Rattle.ob_store.specs.Disk.{Disk, Image, NotAfter}
+use Rattle.ob_store.specs.Disk.{Disk, Image}
 use Rattle.ob_store.specs.Images.{Elapses, Passes, SameOff, Shrinks}
-use Rattle.ob_store.specs.Calls.{Keeps}
+use Rattle.ob_store.specs.Calls.{GoesOn, Keeps}
 use Rattle.ob_store.proofs.Moments.{passed_then, passes_so}
 use Rattle.ob_pads.specs.Seals.{CellsAreSealed, IsGate, IsUnsealed, SealerGoesOn}
 use Rattle.ob_pads.proofs.Sealing.{none_sealed, run_sealed, sealed_join}
@@ -167,9 +167,9 @@ module _ (keys : Keys) (r : Kept) (g : ℕ) (s : RingStanding) (end : RingEnd) (
     pub gates_refused : {F T E : Type 0} (f : F) (e : E) → ShutsGates {T = Unit {0}} {E = F} keys r.p s end c d (Err f) → WritesEnd {T = T} keys r.p s end a d (Err e)
     gates_refused f e shuts = record { spare = spare_then r.p s a c d told_check spare_checked shuts.stays.spare; written = λ t. tt }
 
-    module _ {F : Type 0} (shuts : ShutsGates {T = Unit {0}} {E = F} keys r.p s end c d (Ok tt)) (told_gates : a.tells → d.tells) (new : Disk) (keeps : Keeps d new) (later : NotAfter d.moment new.moment) (time : Elapses d new) (crash : Shrinks d new) where
+    module _ {F : Type 0} (shuts : ShutsGates {T = Unit {0}} {E = F} keys r.p s end c d (Ok tt)) (told_gates : a.tells → d.tells) (new : Disk) (keeps : Keeps d new) (goes : GoesOn d new) (time : Elapses d new) (crash : Shrinks d new) where
       spare_all : WritesSpare r.p s a new
-      spare_all = spare_synced r.p s a d new told_gates (spare_then r.p s a c d told_check spare_checked shuts.stays.spare) keeps later time crash
+      spare_all = spare_synced r.p s a d new told_gates (spare_then r.p s a c d told_check spare_checked shuts.stays.spare) keeps goes time crash
 
       -- the sync was
       pub sync_refused : {T E : Type 0} (e : E) → WritesEnd {T = T} keys r.p s end a new (Err e)

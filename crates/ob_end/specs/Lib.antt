@@ -4,3 +4,4 @@ pub mod EndWrites
 pub mod Closings
 pub mod EndRuns
 pub mod Shown
+pub mod Sealing

@@ -6,7 +6,7 @@ use Rattle.ob_base.specs.declared.value.Write.{Write}
 use Rattle.ob_base.specs.Layout.{checkpoint_cells}
 use Rattle.ob_base.specs.Tree.{width}
 use Rattle.ob_fetch.specs.Fetches.{words_since}
-use Rattle.ob_ring.specs.Filling.{AreSealedAnew, HasStashRows}
+use Rattle.ob_ring.specs.Filling.{AreSealedAnew, HasJustStashRows}
 use Rattle.ob_ring.specs.FlatTable.{FlatTable, Refill, Writes, after}
 use Rattle.ob_ring.specs.Picked.{SameSeals}
 use Rattle.ob_ring.specs.Ring.{AreListedWithin, IsListed, IsRing, Kept, StandsFor}
@@ -14,11 +14,11 @@ use Rattle.ob_ring.specs.Writing.{entries_after, leaf_writes, values_after, writ
 use Rattle.ob_tables.specs.Kept.{entry_at}
 use Rattle.ob_tables.specs.declared.entry.Entry.{Entry}
 
--- It stands for a table, and its stash has a row of each key that lies in no bucket.
+-- It stands for a table, and its stash has a row of each key that lies in no bucket, and no other rows.
 pub record HasItsRows (r : Kept) : Type 0 where
   pub table : FlatTable
   pub stands : StandsFor r table
-  pub rows : HasStashRows table (r.stash).rows
+  pub rows : HasJustStashRows table (r.stash).rows
 
 -- the words of the listed buckets, as many as each has slots
 abbrev pub refill_words : Kept → ℕ

@@ -19,11 +19,13 @@ ghost use Rattle.ob_end.specs.Closings.{ClosesEnd, CloseDoes, IfWritten, SameGen
 
 use crate::writing::write_end;
 use ob_base::Params;
+use ob_cells::Bench;
 use ob_check::Sheet;
 use ob_ring::Ring;
 use ob_seal::Sealer;
 use ob_store::{Store, Watch};
 use ob_twin::{Gates, SetErr, Twin};
+use std::thread::Threads;
 
 /// Writes what the end of an epoch writes, and then sets the epoch's register to it. It takes no
 /// memory.
@@ -34,7 +36,8 @@ use ob_twin::{Gates, SetErr, Twin};
 /// # Errors
 /// The store failed, and its count of faults rose. Before: each image that a crash may leave is at
 /// the epoch that stood. Unsure: each is at one of the two.
-pub fn close_epoch<S: Store, W: Watch>(
+pub fn close_epoch<R: Threads + Sync, S: Store, W: Watch>(
+    rt: &R,
     store: &mut S,
     sealer: &mut Sealer,
     gates: &mut Gates,
@@ -42,6 +45,7 @@ pub fn close_epoch<S: Store, W: Watch>(
     epoch: u64,
     ring: &mut Ring,
     sheet: &mut Sheet,
+    bench: &mut Bench,
     watch: &mut W,
 ) -> Result<(), SetErr>
     requires none_out { (S.disk store.old).out ≡ 0 }
@@ -81,7 +85,7 @@ pub fn close_epoch<S: Store, W: Watch>(
         (is_closed_first gates.old.epoch (place_of epoch)) epoch (S.disk store.old).seen
         (S.disk store.new).seen (W.trace watch.old) (W.trace watch.new) result }
 {
-    match write_end(store, sealer, p, epoch, ring, sheet, watch) {
+    match write_end(rt, store, sealer, p, epoch, ring, sheet, bench, watch) {
         Ok(()) => {}
         Err(fault) => return Err(SetErr::Before(fault)),
     }

@@ -1,6 +1,7 @@
 //! The end of an epoch.
 
-ghost use Rattle.std.specs.Prelude.{◌≡◌, ◌<◌, ◌≤◌, ◌+◌, ℕ, List, Some, suc, length, IfErr, OnOk};
+ghost use Rattle.std.specs.Prelude.{◌≡◌, ◌<◌, ◌≤◌, ◌+◌, ℕ, List, Some, suc, length, replicate, IfErr, OnOk};
+ghost use Rattle.ob_base.specs.Tree.{buckets};
 ghost use Rattle.ob_tables.specs.Buckets.{Buckets};
 ghost use Rattle.ob_cells.specs.Writes.{Seals};
 ghost use Rattle.ob_end.specs.EndWrites.{end_write_notes};
@@ -16,7 +17,8 @@ ghost use Rattle.ob_ring.specs.Ring.{StandsFor};
 ghost use Rattle.ob_ring.specs.Writing.{write_at};
 ghost use Rattle.ob_recover.specs.Ends.{gates_ended};
 ghost use Rattle.ob_recover.specs.Known.{PlansFrom, fills_with_lifts, public_of_kept};
-ghost use Rattle.ob_schedule.specs.Schedule.{end_notes};
+ghost use Rattle.ob_schedule.specs.Phases.{end_phases};
+ghost use Rattle.ob_schedule.specs.Schedule.{end_lifts, end_notes};
 ghost use Rattle.ob_serial.specs.VaultViews.{IsEndFault, IsStoreEnd};
 ghost use Rattle.ob_stand.specs.Stands.{RingStanding};
 ghost use Rattle.ob_store.specs.Calls.{Serves};
@@ -27,17 +29,20 @@ ghost use Rattle.ob_twin.specs.Opening.{GatesAre, is_closed_first};
 ghost use Rattle.ob_twin.specs.Register.{place_of};
 ghost use Rattle.ob_end.specs.Closings.{SameGeneration};
 ghost use Rattle.ob_end.specs.EndRuns.{EndAnswered, EndRunCounts, EndDoes, EndDraws, EndImages, EndStands, EndTables, IfEnded, IsEndReady, LeadsOn, end_err_of, end_writes, seals_for_end};
-ghost use Rattle.ob_end.specs.Shown.{EndShows, end_lifts};
+ghost use Rattle.ob_end.specs.Shown.{EndShows};
 
 use crate::closing::close_epoch;
 use crate::making::make_end;
 use ob_base::Write;
-use ob_cells::Crew;
+use ob_cells::{Bench, Crew};
 use ob_fetch::Run;
+use ob_lanes::Lanes;
+use ob_ring::Index;
 use ob_seal::Tape;
 use ob_serial::EndErr;
-use ob_store::{Store, Watch};
+use ob_store::Watch;
 use ob_twin::SetErr;
+use std::thread::Threads;
 
 fn end_err(refused: SetErr) -> EndErr
     ensures { result ≡ end_err_of refused }
@@ -51,7 +56,8 @@ fn end_err(refused: SetErr) -> EndErr
 /// Ends the epoch that runs: reads the final lifts, makes the epoch's writes, of which the i-th
 /// takes the i-th word drawn, fills the lifted buckets anew, writes them where they then lie,
 /// writes the checkpoint and closed gates for the log of the epoch behind, and sets the epoch's
-/// register. All batches are left then. It takes no memory.
+/// register. All batches are left then. All counts of `index` are 0, before and behind. It takes no
+/// memory.
 ///
 /// While it runs a crash leaves the epoch that stood; from the write on that opens the register's
 /// gate it leaves that or the one that ends, and once it is done the one that ends.
@@ -63,14 +69,18 @@ fn end_err(refused: SetErr) -> EndErr
 /// then `StashFull` exactly where more rows would be left in the stash than it may keep; then Worn
 /// with `2^62` where fewer seals are left than are made. Behind that the store alone: Before it
 /// wrote the gate, or Unsure. After any of them the run is spent.
-pub fn end<S: Store, T: Tape, W: Watch>(
+pub fn end<S: Lanes, R: Threads + Sync, T: Tape, W: Watch>(
+    rt: &R,
     store: &mut S,
     tape: &mut T,
     crew: &mut Crew<S::Lane>,
     run: &mut Run,
+    index: &mut Index,
+    bench: &mut Bench,
     writes: &[Write],
     watch: &mut W,
 ) -> Result<(), EndErr>
+    requires index { index.old ≡ replicate (buckets run.old.params) 0 }
     requires goes_on { MayGoOn (S.disk store.old) (T.present tape.old) (T.drawn tape.old) crew.old
         run.old }
     requires ready { IsEndReady run.old }
@@ -99,6 +109,7 @@ pub fn end<S: Store, T: Tape, W: Watch>(
         (T.drawn tape.new) crew.new run.new) }
     ensures ready { OnOk result (IsEndReady run.new) }
     ensures crew { crew.new ≡ crew.old }
+    ensures index { index.new ≡ index.old }
     ensures seals { (t : FlatTable) → StandsFor run.old.ring t
         → Seals (seals_for_end run.old.params t) run.old.sealer run.new.sealer result }
     ensures told { (S.disk store.old).tells
@@ -130,12 +141,15 @@ pub fn end<S: Store, T: Tape, W: Watch>(
         (S.disk store.old).seen (S.disk store.new).seen (W.trace watch.old) (W.trace watch.new)
         result }
     ensures gates { OnOk result (run.new.gates ≡ gates_ended run.old.gates run.old.epoch) }
-    // It shows the schedule's end of what the store knows of the epoch, and refused what its answer
-    // says of it: up to the gate's write, or what comes before that, or the lifts alone.
+    // It shows the schedule's end of what the store knows of the epoch, whose lifts are dealt to
+    // the crew's lanes, and refused what its answer says of it: up to the gate's write, or what
+    // comes before that, or the lifts alone.
     ensures scheduled { (notes : List Note) × Shows notes (W.trace watch.old) (W.trace watch.new)
         × ((c : Content) (rs : List BatchRecord)
         → PlansFrom run.old.params run.old.sealer.generation run.old.gates run.old.ring c rs
         → EndShows crew.old.lanes (end_lifts run.old.params
+        (public_of_kept run.old.params c rs run.old.epoch run.old.gates)
+        (fills_with_lifts run.old.params c rs)) (end_phases run.old.params
         (public_of_kept run.old.params c rs run.old.epoch run.old.gates)
         (fills_with_lifts run.old.params c rs)) (end_notes run.old.params
         (public_of_kept run.old.params c rs run.old.epoch run.old.gates)
@@ -159,12 +173,13 @@ pub fn end<S: Store, T: Tape, W: Watch>(
         run.old.drawn) run.new result) }
 {
     run.spent = true;
-    match make_end(store, tape, crew, run, writes, watch) {
+    match make_end(rt, store, tape, crew, run, index, writes, watch) {
         Ok(()) => {}
         Err(fault) => return Err(EndErr::Before(fault)),
     }
     let epoch = run.epoch + 1;
     match close_epoch(
+        rt,
         store,
         &mut run.sealer,
         &mut run.gates,
@@ -172,6 +187,7 @@ pub fn end<S: Store, T: Tape, W: Watch>(
         epoch,
         &mut run.ring,
         &mut run.sheet,
+        bench,
         watch,
     ) {
         Ok(()) => {}

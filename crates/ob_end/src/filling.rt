@@ -1,6 +1,6 @@
 //! Buckets that were filled anew, written where they then lie.
 
-ghost use Rattle.std.specs.Prelude.{◌≡◌, ◌<◌, ◌≤◌, ◌+◌, ◌%◌, ◌^◌, ℕ, length, OnOk};
+ghost use Rattle.std.specs.Prelude.{◌≡◌, ◌<◌, ◌≤◌, ◌+◌, ◌-◌, ◌*◌, ◌/◌, ◌%◌, ◌^◌, ℕ, [], length, slice_index_or, OnOk};
 ghost use Rattle.ob_base.specs.Layout.{slot_cell};
 ghost use Rattle.ob_base.specs.Tree.{buckets, width};
 ghost use Rattle.ob_cells.specs.Writes.{Seals, WritesRun};
@@ -13,48 +13,16 @@ ghost use Rattle.ob_store.specs.Calls.{IsFailed, Serves};
 ghost use Rattle.ob_store.specs.Images.{Passes};
 ghost use Rattle.ob_store.specs.Runs.{write_notes};
 ghost use Rattle.ob_store.specs.Told.{Does};
-ghost use Rattle.ob_end.specs.EndWrites.{AreSealedFrom, FillsBuckets, IsEndOfRing, SameFirst, bucket_seals, slot_plain, version_of};
+ghost use Rattle.ob_end.specs.Sealing.{IsBucketSealed, IsGroupReady};
+ghost use Rattle.ob_end.specs.EndWrites.{AreSealedFrom, FillsBuckets, IsEndOfRing, SameFirst, bucket_seals, listed_at, slot_plain, version_of};
 
+use crate::sealing::seal_in_time;
 use ob_base::{Failed, Params, slot_cell};
-use ob_cells::{Pieces, write_sealed};
+use ob_cells::{Bench, Row, write_ready};
 use ob_ring::Ring;
 use ob_seal::Sealer;
 use ob_store::{Store, Watch};
-use std::marker::Model;
-
-// The slots of a bucket of a ring.
-#[derive(Drop)]
-struct Filled<'a> {
-    ring: &'a Ring,
-    bucket: u32,
-}
-
-impl<'a> Model for Filled<'a> {
-    ghost use Rattle.std.specs.Prelude.{◌<◌, ℕ};
-    ghost use Rattle.ob_base.specs.Tree.{buckets};
-    ghost use Rattle.std.specs.Coded.{codes};
-    ghost use Rattle.ob_tables.specs.Kept.{held_code};
-    ghost use Rattle.ob_ring.specs.Ring.{Kept};
-
-    ghost Value = { Kept × ℕ };
-
-    ghost coded = { Prim.hlevel (codes, held_code) };
-
-    ghost view = { λ s. (s.ring.now, s.bucket) };
-
-    ghost invariant = { λ s. s.bucket < buckets (s.ring.now).p };
-}
-
-impl<'a> Pieces for Filled<'a> {
-    ghost use Rattle.std.specs.Prelude.{◌%◌, ◌^◌};
-    ghost use Rattle.ob_end.specs.EndWrites.{slot_plain};
-
-    ghost plain = { λ f i. slot_plain f.0 f.1 (i % 2 ^ 8) };
-
-    fn piece(&self, i: u64) -> [u8; 96] {
-        self.ring.plain_of(self.bucket, (i % 256) as u8)
-    }
-}
+use std::thread::Threads;
 
 // Writes the slots of a bucket where it lies, under the next seals.
 fn write_bucket<S: Store, W: Watch>(
@@ -63,12 +31,15 @@ fn write_bucket<S: Store, W: Watch>(
     p: &Params,
     ring: &Ring,
     bucket: u32,
+    slots: &Row,
     watch: &mut W,
 ) -> Result<(), Failed>
     requires none_out { (S.disk store.old).out ≡ 0 }
     requires params { p.now ≡ ring.now.p }
     requires bucket { bucket < buckets ring.now.p }
     requires room { sealer.old.next + width ring.now.p ≤ 2 ^ 62 }
+    requires sealed { IsBucketSealed sealer.old.keys sealer.old.generation sealer.old.next ring.now
+        bucket slots.now }
     ensures serves { Serves IsFailed (S.disk store.old) (S.disk store.new) result }
     ensures run { WritesRun (slot_cell ring.now.p (version_of ring.now bucket).home bucket 0)
         (width ring.now.p) (λ i. slot_plain ring.now bucket (i % 2 ^ 8)) sealer.old sealer.new
@@ -79,16 +50,44 @@ fn write_bucket<S: Store, W: Watch>(
 {
     let home = ring.tables().metas.get(bucket).home();
     let first = slot_cell(p, home, bucket, 0);
-    let many = (p.real + p.dummies) as u64;
-    write_sealed(store, sealer, first, many, &Filled { ring, bucket }, watch)
+    let many = (p.real + p.dummies) as usize;
+    write_ready(store, sealer, first, &slots[..many], watch)
+}
+
+// Seals the next 32 buckets where the first of them is the next one.
+fn make_ready<R: Threads + Sync>(
+    rt: &R,
+    sealer: &Sealer,
+    p: &Params,
+    ring: &Ring,
+    bench: &mut Bench,
+    i: usize,
+)
+    requires params { p.now ≡ ring.now.p }
+    requires within { AreListedWithin ring.now }
+    requires low { i < length ring.now.metas.order }
+    requires room { sealer.now.next + (length ring.now.metas.order - i) * width ring.now.p
+        ≤ 2 ^ 62 }
+    requires ready { (first : ℕ) → sealer.now.next ≡ first + i * width ring.now.p
+        → IsGroupReady sealer.now.keys sealer.now.generation first ring.now i
+        bench.old.rows.items }
+    ensures { (first : ℕ) → sealer.now.next ≡ first + i * width ring.now.p → (k : ℕ)
+        → i ≤ k → k < length ring.now.metas.order → k / 32 ≡ i / 32
+        → IsBucketSealed sealer.now.keys sealer.now.generation (first + k * width ring.now.p)
+        ring.now (listed_at ring.now k) (slice_index_or bench.new.rows.items (k % 32) []) }
+{
+    let threads = bench.threads;
+    seal_in_time(rt, sealer, p, ring, bench.rows.as_mut_slice(), threads, i);
 }
 
 /// Writes the listed buckets in their order.
-pub fn write_buckets<S: Store, W: Watch>(
+pub fn write_buckets<R: Threads + Sync, S: Store, W: Watch>(
+    rt: &R,
     store: &mut S,
     sealer: &mut Sealer,
     p: &Params,
     ring: &Ring,
+    bench: &mut Bench,
     watch: &mut W,
 ) -> Result<(), Failed>
     requires none_out { (S.disk store.old).out ≡ 0 }
@@ -114,7 +113,8 @@ pub fn write_buckets<S: Store, W: Watch>(
 {
     for i in 0..ring.to_refill().len() {
         let bucket = ring.to_refill()[i];
-        write_bucket(store, sealer, p, ring, bucket, watch)?;
+        make_ready(rt, sealer, p, ring, bench, i);
+        write_bucket(store, sealer, p, ring, bucket, &bench.rows[i % 32], watch)?;
     }
     Ok(())
 }

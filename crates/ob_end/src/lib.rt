@@ -9,6 +9,7 @@ mod filling;
 mod lifting;
 mod making;
 mod renewing;
+mod sealing;
 mod shutting;
 mod writing;
 

@@ -15,10 +15,12 @@ ghost use Rattle.ob_end.specs.Lifts.{IsUndamaged, LiftsAnswer, lift_cells, lift_
 
 use ob_base::{Fault, Jobs};
 use ob_cells::Crew;
+use ob_lanes::Lanes;
 use ob_recover::read_jobs;
 use ob_ring::Ring;
 use ob_seal::Sealer;
-use ob_store::{Store, Watch};
+use ob_store::Watch;
+use std::thread::Threads;
 
 /// Reads out the buckets of the paths that are evicted next, those that aren't lifted yet: plans
 /// them, reads them, shows the reads, and settles what was read. It takes no memory.
@@ -27,7 +29,8 @@ use ob_store::{Store, Watch};
 /// The store failed, and its count of faults rose; or what is damaged first: in the order planned,
 /// the first slot whose tag or seal is wrong, or, where none is, the first row that holds another
 /// key, or a length above 64.
-pub fn read_lifts<S: Store, W: Watch>(
+pub fn read_lifts<S: Lanes, R: Threads + Sync, W: Watch>(
+    rt: &R,
     store: &mut S,
     crew: &mut Crew<S::Lane>,
     sealer: &Sealer,
@@ -79,7 +82,7 @@ pub fn read_lifts<S: Store, W: Watch>(
         (W.trace watch.old) (W.trace watch.new) result }
 {
     ring.plan_lifts(jobs);
-    match read_jobs(store, crew, sealer, jobs, watch) {
+    match read_jobs(rt, store, crew, sealer, jobs, watch) {
         Ok(()) => {}
         Err(fault) => return Err(fault),
     }

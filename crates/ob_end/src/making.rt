@@ -1,7 +1,8 @@
 //! What the end of an epoch makes before anything is written.
 
-ghost use Rattle.std.specs.Prelude.{◌≡◌, ◌<◌, ◌≤◌, ◌^◌, ℕ, List, length, IfErr, OnOk, Some};
+ghost use Rattle.std.specs.Prelude.{◌≡◌, ◌<◌, ◌≤◌, ◌^◌, ℕ, List, length, replicate, IfErr, OnOk, Some};
 ghost use Rattle.ob_base.specs.Planned.{most_jobs};
+ghost use Rattle.ob_base.specs.Tree.{buckets};
 ghost use Rattle.ob_tables.specs.Buckets.{Buckets};
 ghost use Rattle.ob_end.specs.Lifts.{IsUndamaged, lift_cells, lift_notes};
 ghost use Rattle.ob_fetch.specs.Fetches.{RunIsAt, words_since};
@@ -19,18 +20,26 @@ use crate::renewing::renew;
 use ob_base::{Fault, NUMBER_LIMIT, Write};
 use ob_cells::Crew;
 use ob_fetch::Run;
+use ob_lanes::Lanes;
+use ob_ring::Index;
 use ob_seal::Tape;
-use ob_store::{Store, Watch};
+use ob_store::Watch;
+use std::marker::Brand;
+use std::sync::ledger::Blank;
+use std::thread::Threads;
 
 /// Reads the final lifts, makes the epoch's writes, and fills the lifted buckets anew.
-pub fn make_end<S: Store, T: Tape, W: Watch>(
+pub fn make_end<S: Lanes, R: Threads + Sync, T: Tape, W: Watch>(
+    rt: &R,
     store: &mut S,
     tape: &mut T,
     crew: &mut Crew<S::Lane>,
     run: &mut Run,
+    index: &mut Index,
     writes: &[Write],
     watch: &mut W,
 ) -> Result<(), Fault>
+    requires index { index.old ≡ replicate (buckets run.old.params) 0 }
     requires ready { IsEndReady run.old }
     requires crew { most_jobs run.old.params ≤ crew.old.jobs }
     requires drawn { run.old.drawn ≡ length (T.drawn tape.old) }
@@ -45,6 +54,7 @@ pub fn make_end<S: Store, T: Tape, W: Watch>(
     ensures keeps { Keeps (S.disk store.old) (S.disk store.new) }
     ensures passes { Passes Same (S.disk store.old) (S.disk store.new) }
     ensures crew { crew.new ≡ crew.old }
+    ensures index { index.new ≡ index.old }
     ensures generation { T.present tape.new ≡ T.present tape.old }
     ensures drawn { run.new.drawn ≡ length (T.drawn tape.new) }
     ensures kept { run.new
@@ -85,6 +95,7 @@ pub fn make_end<S: Store, T: Tape, W: Watch>(
         });
     }
     match read_lifts(
+        rt,
         store,
         crew,
         &run.sealer,
@@ -96,13 +107,16 @@ pub fn make_end<S: Store, T: Tape, W: Watch>(
         Err(fault) => return Err(fault),
     }
     run.ring.tables();
-    renew(
+    // The steps of the refill are bounded, and nobody reads how many it takes.
+    renew::<T, Brand>(
         tape,
         &mut run.ring,
+        index,
         &mut run.words,
         &run.params,
         &run.sealer,
         &mut run.drawn,
         writes,
+        Blank::new(1),
     )
 }

@@ -16,10 +16,12 @@ ghost use Rattle.ob_end.specs.EndWrites.{AreSealedFrom, IsEndOfRing, IsOfStore, 
 use crate::filling::write_buckets;
 use crate::shutting::shut_gates;
 use ob_base::{Failed, Fault, Params};
+use ob_cells::Bench;
 use ob_check::Sheet;
 use ob_ring::Ring;
 use ob_seal::Sealer;
 use ob_store::{Store, Watch, sync_noted};
+use std::thread::Threads;
 
 /// Writes the listed buckets, which were filled anew, where they then lie: in their order, the
 /// slots of each ascending, under the next seals. Their rows leave the stash. Then the checkpoint
@@ -30,13 +32,15 @@ use ob_store::{Store, Watch, sync_noted};
 ///
 /// # Errors
 /// The store failed, and its count of faults rose. Some of the first seals were made.
-pub fn write_end<S: Store, W: Watch>(
+pub fn write_end<R: Threads + Sync, S: Store, W: Watch>(
+    rt: &R,
     store: &mut S,
     sealer: &mut Sealer,
     p: &Params,
     epoch: u64,
     ring: &mut Ring,
     sheet: &mut Sheet,
+    bench: &mut Bench,
     watch: &mut W,
 ) -> Result<(), Fault>
     requires none_out { (S.disk store.old).out ≡ 0 }
@@ -70,12 +74,22 @@ pub fn write_end<S: Store, W: Watch>(
     ensures does { Does (end_write_notes ring.old epoch) (S.disk store.old).seen
         (S.disk store.new).seen (W.trace watch.old) (W.trace watch.new) result }
 {
-    match write_buckets(store, sealer, p, ring, watch) {
+    match write_buckets(rt, store, sealer, p, ring, bench, watch) {
         Ok(()) => {}
         Err(Failed) => return Err(Fault::StoreFault { unsure: None }),
     }
     ring.forget_written();
-    match ob_check::write(store, sealer, p, epoch, ring.tables(), sheet, watch) {
+    match ob_check::write(
+        rt,
+        store,
+        sealer,
+        p,
+        epoch,
+        ring.tables(),
+        sheet,
+        bench,
+        watch,
+    ) {
         Ok(()) => {}
         Err(fault) => return Err(fault),
     }

@@ -1,5 +1,5 @@
 -- A fetch as an act of its store's life.
-use Rattle.std.proofs.Common.{inl, ℕ, ◌+◌, List, Option, Result, Ok, Err, OnOk, arith}
+use Rattle.std.proofs.Common.{inl, inr, ℕ, ◌+◌, List, Option, Result, Ok, Err, OnOk, refl, arith}
 use Rattle.ob_base.specs.declared.params.Params.{Params}
 use Rattle.ob_base.specs.declared.fault.Fault.{Fault}
 use Rattle.ob_base.specs.Layout.{log_cell, record_cells}
@@ -34,5 +34,5 @@ module _ (p : Params) (area batch : ℕ) (old new : Disk) (only : (c : Image) �
     tells = tells;
     further = record { keys = further.keys; generation = further.generation; on = further.on };
     seals = fetch_seals out r sealed;
-    images = λ all. leaves_of (SameOff (log_cell p area batch 0) (record_cells p + 1)) at at old new within.passes only all (λ c d stands step. moved c d step stands) (λ c stands. stands);
+    images = λ all. leaves_of (SameOff (log_cell p area batch 0) (record_cells p + 1)) at at old new within.passes only (λ c left. all c (inl left)) (λ told. all old.cells (inr (told, refl))) (λ c d stands step. moved c d step stands) (λ c stands. stands);
   }

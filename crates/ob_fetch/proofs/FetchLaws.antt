@@ -19,6 +19,7 @@ use Rattle.ob_ring.specs.Picked.{SameSeals}
 use Rattle.ob_ring.specs.Ring.{Kept, StandsFor}
 use Rattle.ob_seal.specs.declared.keys.Keys.{Keys}
 use Rattle.ob_stand.proofs.AppendLaws.{appends_leave}
+use Rattle.ob_twin.proofs.Moves.{settled_image}
 use Rattle.ob_stand.proofs.Frames.{stands_all}
 use Rattle.ob_stand.specs.Stands.{OneOf, RingStanding, Stands, with_record}
 use Rattle.ob_store.proofs.Moments.{leaves_of, passed_then, passes_so, started, then_on}
@@ -149,7 +150,7 @@ stood run s d was c left = stands_all (run.sealer).keys run.params s c d.cells (
 
 -- where nothing was done
 pub leaves_none : (run : Run) (s s' : RingStanding) (d : Disk) → ((c : Image) → d.left_since d.moment c → d.may_leave c) → RunIsAt run s d → LeavesOnly d d (OneOf (run.sealer).keys run.params s s')
-leaves_none run s s' d only was = started d (OneOf (run.sealer).keys run.params s s') (λ c left. inl (stood run s d was c (only c left)))
+leaves_none run s s' d only was = started d (OneOf (run.sealer).keys run.params s s') (λ c left. inl (stood run s d was c (only c left))) (λ tells. inl was.stands)
 
 -- while the batch was begun
 pub leaves_begun : (run : Run) (s : RingStanding) (r : BatchRecord) (old mid : Disk) → ((c : Image) → old.left_since old.moment c → old.may_leave c) → RunIsAt run s old → Begun run r old mid
@@ -159,7 +160,7 @@ pub leaves_begun : (run : Run) (s : RingStanding) (r : BatchRecord) (old mid : D
 leaves_begun run s r old mid only was begun passes images =
     appends_leave (run.sealer).keys run.params s r old mid only (record {
       may = may run s r old mid was begun;
-      images = λ c left. stood run s old was c left;
+      images = λ c is. stands_all (run.sealer).keys run.params s c old.cells (settled_image old was.settled c is) was.stands;
       passes = at_batch run s r old mid was begun (λ e b. Passes (SameOff (log_cell run.params (e % 2) b 0) (record_cells run.params + 1)) old mid) passes;
       records = at_batch run s r old mid was begun (λ e b. LeavesOnly old mid (HoldsOneOf (run.sealer).keys run.params e s.records r)) images;
     })
@@ -169,7 +170,7 @@ pub leaves_read : (P : Image → Type 0) (old mid new : Disk) → ((c : Image) �
     → ((t : Clock) (c : Image) → NotAfter t mid.moment → mid.may_leave c → mid.left_since t c) → LeavesOnly old mid P → Passes Same mid new → LeavesOnly old new P
 leaves_read P old mid new only counts first passes =
     then_on old mid new P first
-    (leaves_of Same P P mid new passes only (λ c left. first.each c (counts old.moment c first.later left)) (λ c d was step. subst P (sym step) was) (λ c was. was))
+    (leaves_of Same P P mid new passes only (λ c left. first.each c (counts old.moment c first.later left)) first.told (λ c d was step. subst P (sym step) was) (λ c was. was))
 
 -- ---- what is in the cells
 

@@ -20,8 +20,13 @@ use Rattle.ob_recover.specs.Known.{PlansFrom, fills_of, public_of_kept}
 use Rattle.ob_recover.specs.Telling.{IsFrontShown, IsRowShown}
 use Rattle.ob_recover.proofs.Batch.{batches_are_scheduled}
 use Rattle.ob_recover.proofs.Once.{table_once}
-use Rattle.ob_recover.proofs.Telling.{batch_read, front_as, front_none, front_step, front_then, row_as, row_read, row_step, row_then}
+use Rattle.ob_recover.specs.Batches.{BatchIsScheduled}
+use Rattle.ob_recover.proofs.CellsRead.{batch_read_cells}
+use Rattle.ob_recover.proofs.Dealing.{has_appended}
+use Rattle.ob_recover.proofs.Telling.{front_as, front_none, front_step, front_then, row_as, row_read, row_step, row_then}
+use Rattle.ob_schedule.specs.Phases.{Phase, Reads, batch_phases, cells_read, phases_of}
 use Rattle.ob_schedule.specs.Schedule.{batch_notes}
+use Rattle.ob_schedule.proofs.Phased.{steps_phased}
 use Rattle.ob_seal.specs.declared.keys.Keys.{Keys}
 use Rattle.ob_store.specs.Disk.{Disk}
 use Rattle.ob_store.specs.Lines.{Shows, Trace}
@@ -78,10 +83,11 @@ same_seals : (b : Buckets) → SameSeals b b
 same_seals b = record { homes = λ u. refl; generations = λ u. refl; bases = λ u. refl; ranks = λ u. refl; order = refl }
 
 -- what a call showed, and how it reads whatever the planner is told to be behind
-pub record IsShownOf (most : ℕ) (p : Params) (g : ℕ) (gates : Gates) (ring : Kept) (batch epoch : ℕ) (r : BatchRecord) (IsShown : ℕ → List Note → List Note → Option (List Event) → Option (List Event) → Type 0) (old new : Option (List Event)) (before later : Trace) : Type 0 where
+pub record IsShownOf (most : ℕ) (p : Params) (g : ℕ) (gates : Gates) (ring : Kept) (batch epoch : ℕ) (r : BatchRecord) (IsShown : ℕ → List Phase → List Note → List Note → Option (List Event) → Option (List Event) → Type 0) (old new : Option (List Event)) (before later : Trace) : Type 0 where
   pub notes : List Note
   pub shows : Shows notes before later
-  pub reads_as : (c : Content) (rs : List BatchRecord) → PlansFrom p g gates ring c rs → length rs ≡ batch → IsShown most (batch_notes p (public_of_kept p c rs epoch gates) (fills_of p c (rs ++ r ∷ [])) (length rs)) notes old new
+  pub reads_as : (c : Content) (rs : List BatchRecord) → PlansFrom p g gates ring c rs → length rs ≡ batch
+      → IsShown most (batch_phases p (public_of_kept p c rs epoch gates) (fills_of p c (rs ++ r ∷ [])) (length rs)) (batch_notes p (public_of_kept p c rs epoch gates) (fills_of p c (rs ++ r ∷ [])) (length rs)) notes old new
 
 -- the record's own writes were cut short
 cut_short : {S : Type 0} (disk : S → Disk) (keys : Keys) (p : Params) (epoch : ℕ) (r : BatchRecord) (made notes : List Note) (old new : S) (x : Result (Unit {0}) Fault) → IsCut (append_notes p epoch r.batch) made notes → IsOpenIfShown disk keys p epoch r notes old new x
@@ -99,9 +105,10 @@ cut_short disk keys p epoch r made notes old new (Err SourceFault) cut = tt
 cut_short disk keys p epoch r made notes old new (Err SinkFault) cut = tt
 
 -- where the store failed in the record's writes, the first of them are shown
-pub begun_shown : (x : Result (Unit {0}) Fault) → IsErr x → IfErr x (λ f. f ≡ StoreFault None) → (most : ℕ) (logged row shown : List Note) (old new : Option (List Event)) → IsFrontShown most logged shown old new → FetchShows most logged row shown old new x
-begun_shown (Ok value) err is most logged row shown old new front = absurd (grind (arith, err))
-begun_shown (Err f) err is most logged row shown old new front = subst (λ (y : Fault). FetchShows most logged row shown old new (Err y)) (sym is) (inl front)
+pub begun_shown : (x : Result (Unit {0}) Fault) → IsErr x → IfErr x (λ f. f ≡ StoreFault None) → (most : ℕ) (logged : List Note) (phases : List Phase) (row shown : List Note) (old new : Option (List Event))
+    → IsFrontShown most (phases_of logged) logged shown old new → FetchShows most logged phases row shown old new x
+begun_shown (Ok value) err is most logged phases row shown old new front = absurd (grind (arith, err))
+begun_shown (Err f) err is most logged phases row shown old new front = subst (λ (y : Fault). FetchShows most logged phases row shown old new (Err y)) (sym is) (inl front)
 
 module _ (most : ℕ) (p : Params) (g : ℕ) (gates : Gates) (ring : Kept) (batch epoch : ℕ) (r : BatchRecord) (t : FlatTable) (stands : StandsFor ring t) where
   abbrev cells : List ℕ
@@ -113,52 +120,74 @@ module _ (most : ℕ) (p : Params) (g : ℕ) (gates : Gates) (ring : Kept) (batc
   abbrev written : List Note
   written = append_notes p (suc epoch) r.batch
 
-  abbrev Shown : (IsShown : ℕ → List Note → List Note → Option (List Event) → Option (List Event) → Type 0) (old new : Option (List Event)) (before later : Trace) → Type 0
+  abbrev Shown : (IsShown : ℕ → List Phase → List Note → List Note → Option (List Event) → Option (List Event) → Type 0) (old new : Option (List Event)) (before later : Trace) → Type 0
   Shown IsShown old new before later = IsShownOf most p g gates ring batch epoch r IsShown old new before later
 
   -- refused with this fault
-  abbrev Refused : Fault → ℕ → List Note → List Note → Option (List Event) → Option (List Event) → Type 0
-  Refused f m row shown old new = FetchShows m written row shown old new (Err f)
+  abbrev Refused : Fault → ℕ → List Phase → List Note → List Note → Option (List Event) → Option (List Event) → Type 0
+  Refused f m phases row shown old new = FetchShows m written phases row shown old new (Err f)
 
   -- nothing was
   pub shown_none : (number : ℕ) (old new : Option (List Event)) (before later : Trace) → Tells [] [] old new before later → Shown (Refused (Worn number)) old new before later
-  shown_none number old new before later none = record { notes = []; shows = none.shows; reads_as = λ c rs was many. row_step most [] old new none.seen }
+  shown_none number old new before later none = record { notes = []; shows = none.shows; reads_as = λ c rs was many. row_step most [] old new tt none.seen }
 
   module _ (room : batch < p.batches) (obeys : RecordObeys p batch r) where
     abbrev all_notes : Content → List BatchRecord → List Note
     all_notes c rs = batch_notes p (public_of_kept p c rs epoch gates) (fills_of p c (rs ++ r ∷ [])) (length rs)
 
-    -- the record's notes and then the batch's are the schedule's
-    as_scheduled : (c : Content) (rs : List BatchRecord) → PlansFrom p g gates ring c rs → length rs ≡ batch → written ++ read_notes ≡ all_notes c rs
-    as_scheduled c rs was many =
-        let table : FlatTable = table_after_records p (flat_of p c) rs in
-        let same : t ≡ table = table_once ring t table stands (stands_listed ring table (was.planner).table) in
+    abbrev all_phases : Content → List BatchRecord → List Phase
+    all_phases c rs = batch_phases p (public_of_kept p c rs epoch gates) (fills_of p c (rs ++ r ∷ [])) (length rs)
+
+    abbrev table : Content → List BatchRecord → FlatTable
+    table c rs = table_after_records p (flat_of p c) rs
+
+    -- the batch's notes, whichever of the seals and of the tables they are told by
+    reads_same : (c : Content) (rs : List BatchRecord) → PlansFrom p g gates ring c rs → read_notes ≡ repeated_notes p c.versions (table c rs) (asked_of_record p r)
+    reads_same c rs was =
+        let same : t ≡ table c rs = table_once ring t (table c rs) stands (stands_listed ring (table c rs) (was.planner).table) in
         let seals : SameSeals (record (buckets_of p c) { order = (ring.metas).order }) ring.metas = seals_listed (buckets_of p c) ring (was.planner).seals in
-        ap (λ (ns : List Note). written ++ ns) (ap (λ (u : FlatTable). repeated_notes p (ring.metas).versions u (asked_of_record p r)) same ∙ repeated_same p (record (buckets_of p c) { order = (ring.metas).order }) ring.metas table (asked_of_record p r) seals)
-        ∙ (batches_are_scheduled.own p c rs r epoch gates was.obeys (fit_more p g gates ring c rs r batch was many room obeys)).notes
+        ap (λ (u : FlatTable). repeated_notes p (ring.metas).versions u (asked_of_record p r)) same ∙ repeated_same p (record (buckets_of p c) { order = (ring.metas).order }) ring.metas (table c rs) (asked_of_record p r) seals
+
+    cells_same : (c : Content) (rs : List BatchRecord) → PlansFrom p g gates ring c rs → cells ≡ batch_cells p c.versions (table c rs) (asked_of_record p r)
+    cells_same c rs was =
+        sym (batch_read_cells p (ring.metas).versions t (asked_of_record p r)) ∙ ap cells_read (reads_same c rs was) ∙ batch_read_cells p c.versions (table c rs) (asked_of_record p r)
+
+    scheduled : (c : Content) (rs : List BatchRecord) → PlansFrom p g gates ring c rs → length rs ≡ batch → BatchIsScheduled p c rs r epoch gates (fills_of p c (rs ++ r ∷ []))
+    scheduled c rs was many = batches_are_scheduled.own p c rs r epoch gates was.obeys (fit_more p g gates ring c rs r batch was many room obeys)
+
+    -- the record's notes and then the batch's are the schedule's, and so are their phases
+    as_scheduled : (c : Content) (rs : List BatchRecord) → PlansFrom p g gates ring c rs → length rs ≡ batch → written ++ read_notes ≡ all_notes c rs
+    as_scheduled c rs was many = ap (λ (ns : List Note). written ++ ns) (reads_same c rs was) ∙ (scheduled c rs was many).notes
+
+    in_phases : (c : Content) (rs : List BatchRecord) → PlansFrom p g gates ring c rs → length rs ≡ batch → phases_of written ++ Reads cells ∷ [] ≡ all_phases c rs
+    in_phases c rs was many = ap (λ (cs : List ℕ). phases_of written ++ Reads cs ∷ []) (cells_same c rs was) ∙ (scheduled c rs was many).phases
 
     module _ (old new : Option (List Event)) (before later : Trace) where
       -- the record's writes were cut short
-      pub shown_begun : (first : TellsFirst written old new before later) → IsFrontShown most written first.shown old new
-      shown_begun first = front_step most written old new before later first
+      pub shown_begun : (first : TellsFirst written old new before later) → IsFrontShown most (phases_of written) written first.shown old new
+      shown_begun first = front_step most written old new before later (has_appended most p (suc epoch) r.batch) first
 
       -- which is no more than these
       pub open_begun : {S : Type 0} (disk : S → Disk) (keys : Keys) (a b : S) (first : TellsFirst written old new before later) (x : Result (Unit {0}) Fault) → IsOpenIfShown disk keys p (suc epoch) r first.shown a b x
       open_begun disk keys a b first x = cut_short disk keys p (suc epoch) r first.made first.shown a b x first.cut
 
     module _ (old mid new : Option (List Event)) (before between later : Trace) (made : Tells written written old mid before between) where
+      row_written : IsRowShown most (phases_of written) written written old mid
+      row_written = row_step most written old mid (has_appended most p (suc epoch) r.batch) made.seen
+
       -- the slots were read
-      shown_row : BatchIsShown most cells read_notes mid new between later → (c : Content) (rs : List BatchRecord) → PlansFrom p g gates ring c rs → length rs ≡ batch → IsRowShown most (all_notes c rs) (written ++ read_notes) old new
-      shown_row read c rs was many = row_as most (written ++ read_notes) (all_notes c rs) (written ++ read_notes) old new (as_scheduled c rs was many)
-          (row_then most written written read_notes read_notes old mid new (row_step most written old mid made.seen) (row_read most cells read_notes mid new (batch_read p (ring.metas).versions t (asked_of_record p r)) read.0))
+      shown_row : BatchIsShown most cells read_notes mid new between later → (c : Content) (rs : List BatchRecord) → PlansFrom p g gates ring c rs → length rs ≡ batch → IsRowShown most (all_phases c rs) (all_notes c rs) (written ++ read_notes) old new
+      shown_row read c rs was many =
+          row_as most (phases_of written ++ Reads cells ∷ []) (all_phases c rs) (written ++ read_notes) (all_notes c rs) (written ++ read_notes) old new (in_phases c rs was many) (as_scheduled c rs was many)
+          (row_then most (phases_of written) (Reads cells ∷ []) written written read_notes read_notes old mid new row_written (row_read most cells read_notes mid new read.0))
 
       shown_all : BatchIsShown most cells read_notes mid new between later → Shown IsRowShown old new before later
       shown_all read = record { notes = written ++ read_notes; shows = shows_then written read_notes before between later made.shows read.1; reads_as = shown_row read }
 
       -- or none was
-      log_front : NoneIsShown mid new between later → IsFrontShown most written (written ++ []) old new
-      log_front none = front_as most (written ++ []) written (written ++ []) old new (append-nil written)
-          (front_then most written written [] [] old mid new (row_step most written old mid made.seen) (front_none most [] mid new none.0))
+      log_front : NoneIsShown mid new between later → IsFrontShown most (phases_of written) written (written ++ []) old new
+      log_front none = front_as most (phases_of written ++ []) (phases_of written) (written ++ []) written (written ++ []) old new (append-nil (phases_of written)) (append-nil written)
+          (front_then most (phases_of written) [] written written [] [] old mid new (steps_phased written) row_written (front_none most [] [] mid new none.0))
 
       shown_log : (unsure : Option ℕ) → NoneIsShown mid new between later → Shown (Refused (StoreFault unsure)) old new before later
       shown_log unsure none = record {

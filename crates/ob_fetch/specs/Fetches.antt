@@ -19,6 +19,7 @@ use Rattle.ob_ring.specs.FlatTable.{Batch, FlatTable, after}
 use Rattle.ob_ring.specs.Picked.{SameSeals}
 use Rattle.ob_ring.specs.Ring.{Kept, StandsFor}
 use Rattle.ob_recover.specs.Telling.{IsFrontShown, IsRowShown}
+use Rattle.ob_schedule.specs.Phases.{Phase, phases_of}
 use Rattle.ob_seal.specs.declared.keys.Keys.{Keys}
 use Rattle.ob_stand.specs.Reads.{plains_in, slots_in}
 use Rattle.ob_stand.specs.Stands.{OneOf, RingStanding, Stands, with_record}
@@ -165,12 +166,12 @@ FetchAnswers keys p versions image t r rows rows' (Err (fault.StoreFault unsure)
 FetchAnswers keys p versions image t r rows rows' (Err (fault.Worn number)) = Unit {0}
 FetchAnswers keys p versions image t r rows rows' (Err _) = ⊥
 
--- What is shown of a batch's row, which begins with its record's notes: nothing where numbers are worn; where the store failed the first of
--- the record's own, or all of the row; and else all of it.
-abbrev pub FetchShows : ℕ → (logged row shown : List Note) → Option (List Event) → Option (List Event) → Result (Unit {0}) Fault → Type 0
-FetchShows most logged row shown old new (Err (fault.Worn number)) = IsRowShown most [] shown old new
-FetchShows most logged row shown old new (Err (fault.StoreFault unsure)) = IsFrontShown most logged shown old new ⊎ IsRowShown most row shown old new
-FetchShows most logged row shown old new _ = IsRowShown most row shown old new
+-- What is shown of a batch's row with these phases, which begins with its record's notes: nothing where numbers are worn; where the store
+-- failed the first of the record's own, or all of the row; and else all of it.
+abbrev pub FetchShows : ℕ → (logged : List Note) → List Phase → (row shown : List Note) → Option (List Event) → Option (List Event) → Result (Unit {0}) Fault → Type 0
+FetchShows most logged phases row shown old new (Err (fault.Worn number)) = IsRowShown most [] [] shown old new
+FetchShows most logged phases row shown old new (Err (fault.StoreFault unsure)) = IsFrontShown most (phases_of logged) logged shown old new ⊎ IsRowShown most phases row shown old new
+FetchShows most logged phases row shown old new _ = IsRowShown most phases row shown old new
 
 module _ {S : Type 0} (disk : S → Disk) where
   -- Before any slot was read, the batch's record was open in every image that a crash may leave: the store was this one then. What the

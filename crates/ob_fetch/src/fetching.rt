@@ -14,6 +14,7 @@ ghost use Rattle.ob_ring.specs.FlatTable.{FlatTable};
 ghost use Rattle.ob_ring.specs.Picked.{SameSeals};
 ghost use Rattle.ob_ring.specs.Ring.{StandsFor};
 ghost use Rattle.ob_recover.specs.Known.{PlansFrom, fills_of, public_of_kept};
+ghost use Rattle.ob_schedule.specs.Phases.{batch_phases};
 ghost use Rattle.ob_schedule.specs.Schedule.{batch_notes};
 ghost use Rattle.ob_serial.specs.Vaults.{AreBelow, AreDistinct};
 ghost use Rattle.ob_store.specs.Calls.{IsStoreFault, Serves};
@@ -28,9 +29,11 @@ use crate::drawing::front;
 use crate::run::Run;
 use ob_base::{Fault, Key, NUMBER_LIMIT, Value};
 use ob_cells::Crew;
+use ob_lanes::Lanes;
 use ob_recover::read_batch;
 use ob_seal::Tape;
-use ob_store::{Store, Watch};
+use ob_store::Watch;
+use std::thread::Threads;
 
 /// Fetches the next batch of the epoch that runs: draws a word for each place, keeps the batch's
 /// record in the log, plans the batch, reads its slots and shows them, and gives each place the
@@ -45,7 +48,8 @@ use ob_store::{Store, Watch};
 /// count of faults rose; or what is damaged first of the batch: in the order planned, the first
 /// slot whose tag or seal is wrong, or, where none is, the first row that holds another key, or a
 /// length above 64. After any of them the run is spent.
-pub fn fetch<S: Store, T: Tape, W: Watch>(
+pub fn fetch<S: Lanes, R: Threads + Sync, T: Tape, W: Watch>(
+    rt: &R,
     store: &mut S,
     tape: &mut T,
     crew: &mut Crew<S::Lane>,
@@ -106,9 +110,9 @@ pub fn fetch<S: Store, T: Tape, W: Watch>(
         (repeated_notes run.old.params start.versions t (asked_of_record run.old.params
         (record_next run.old asks.now (words_since (T.drawn tape.old) (T.drawn tape.new)))))
         store.old store.new (W.trace watch.old) (W.trace watch.new) result }
-    // It shows the schedule's batch of what the store knows of the epoch, and refused what its
-    // answer says of it; of what the store failed in, no more than the record's notes come before
-    // that is open.
+    // It shows the schedule's batch of what the store knows of the epoch, whose reads are dealt to
+    // the crew's lanes, and refused what its answer says of it; of what the store failed in, no
+    // more than the record's notes come before that is open.
     ensures scheduled { (notes : List Note) × Shows notes (W.trace watch.old) (W.trace watch.new)
         × IsOpenIfShown S.disk run.old.sealer.keys run.old.params (suc run.old.epoch)
         (record_next run.old asks.now (words_since (T.drawn tape.old) (T.drawn tape.new))) notes
@@ -117,7 +121,11 @@ pub fn fetch<S: Store, T: Tape, W: Watch>(
         → PlansFrom run.old.params run.old.sealer.generation run.old.gates run.old.ring c rs
         → length rs ≡ next_batch run.old
         → FetchShows crew.old.lanes (append_notes run.old.params (suc run.old.epoch)
-        (next_batch run.old)) (batch_notes run.old.params
+        (next_batch run.old)) (batch_phases run.old.params
+        (public_of_kept run.old.params c rs run.old.epoch run.old.gates)
+        (fills_of run.old.params c (rs ++ record_next run.old asks.now
+        (words_since (T.drawn tape.old) (T.drawn tape.new)) ∷ [])) (length rs))
+        (batch_notes run.old.params
         (public_of_kept run.old.params c rs run.old.epoch run.old.gates)
         (fills_of run.old.params c (rs ++ record_next run.old asks.now
         (words_since (T.drawn tape.old) (T.drawn tape.new)) ∷ [])) (length rs)) notes
@@ -159,6 +167,7 @@ pub fn fetch<S: Store, T: Tape, W: Watch>(
         Err(fault) => return Err(fault),
     }
     match read_batch(
+        rt,
         store,
         crew,
         &run.sealer,

@@ -45,6 +45,7 @@ module _ (keys : Keys) (p : Params) (g : ℕ) (old : Disk) (epoch : ℕ) (values
   rows_leave mid only passes =
       leaves_of (SameOff (area_of (length values) epoch) (length values)) (λ d. StandsFlat keys p g d now) (λ c. StandsFlat keys p g c now) old mid passes only
       (λ c left. stands_same keys p g now c old.cells (from.settled c left) from.stands)
+      (λ tells. from.stands)
       (λ c d was step. rows_stay c d step was)
       (λ c was. was)
 

@@ -1,5 +1,5 @@
 -- The calls of a plain vault as acts.
-use Rattle.std.proofs.Common.{◌≡◌, ◌⊎◌, inl, inr, ⊎_elim, ℕ, suc, ◌+◌, ◌-◌, ◌<◌, ◌≤◌, List, Option, None, length, get_or, ap, subst, ◌∙◌, arith}
+use Rattle.std.proofs.Common.{◌≡◌, ◌⊎◌, inl, inr, ⊎_elim, ℕ, suc, ◌+◌, ◌-◌, ◌<◌, ◌≤◌, List, Option, None, length, get_or, refl, ap, subst, ◌∙◌, arith}
 use Rattle.std.proofs.lemmas.Bool.{cases_lt}
 use Rattle.ob_base.specs.declared.params.Params.{Params}
 use Rattle.ob_base.specs.declared.fault.Fault.{Fault}
@@ -157,5 +157,5 @@ module _ {S : Type 0} (disk : S → Disk) (only : (store : S) (c : Image) → (d
     tells = tells;
     further = further p known epoch values before after old new notes call answer f.does;
     seals = seals_by call answer (f.goes.told tells) f.does f.rest;
-    images = λ all. leaves_of (SameOffEpoch p.keys (suc epoch)) stands stands old new f.passes (only before.store) all (λ c d at step. moved c d step at) (λ c at. at);
+    images = λ all. leaves_of (SameOffEpoch p.keys (suc epoch)) stands stands old new f.passes (only before.store) (λ c left. all c (inl left)) (λ told. all old.cells (inr (told, refl))) (λ c d at step. moved c d step at) (λ c at. at);
   }

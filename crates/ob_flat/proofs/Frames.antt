@@ -67,6 +67,6 @@ module _ {base : ℕ} {values : List (Option (List ℕ))} {sealer later : Sealin
     seals = record { all = if_ok _ r rows.seals.all; some = rows.seals.some };
     within = record {
       rest = λ tells k off. keeps.cells (rows.serves.tells tells) k ∙ rows.within.rest tells k off;
-      passes = passed_still (SameOff base (length values)) old mid new rows.within.passes serves.goes.later time shrinks;
+      passes = passed_still (SameOff base (length values)) old mid new rows.within.passes serves.goes time shrinks keeps;
     };
   })

@@ -24,21 +24,21 @@ module _ {S : Type 0} (disk : S → Disk) (keys : Keys) (old new : S) (only : (c
   Left g c = (disk old).may_leave c ⊎ (IsAtGeneration keys g c ⊎ IsAtGeneration keys (suc g) c)
 
   -- reads
-  reads_leave : (g : ℕ) (mid : Disk) → Passes Same (disk old) mid → LeavesOnly (disk old) mid (Left g)
-  reads_leave g mid passes = leaves_of Same (disk old).may_leave (Left g) (disk old) mid passes only (λ c left. left)
-      (λ c d left same. inl (subst (λ (i : Image). (disk old).may_leave i) (sym same) left))
-      (λ c left. inl left)
+  reads_leave : (g : ℕ) (mid : Disk) → IsAtGeneration keys g (disk old).cells → Passes Same (disk old) mid → LeavesOnly (disk old) mid (Left g)
+  reads_leave g mid stands passes = leaves_of Same (Left g) (Left g) (disk old) mid passes only (λ c left. inl left) (λ tells. inr (inl stands))
+      (λ c d was same. subst (Left g) (sym same) was)
+      (λ c was. was)
 
   -- a generation that was begun
   begun_leaves : (g : ℕ) → (disk old).tells → IsAtGeneration keys g (disk old).cells → BeginsFrom disk keys g old new → LeavesOnly (disk old) (disk new) (Left g)
   begun_leaves g tells stands b =
-      then_on (disk old) (disk b.synced) (disk new) (Left g) (reads_leave g (disk b.synced) b.until)
+      then_on (disk old) (disk b.synced) (disk new) (Left g) (reads_leave g (disk b.synced) stands b.until)
       (weakened (disk b.synced) (disk new) (OldOrNew (tagging keys) 1 (disk b.synced).cells g (suc g)) (Left g)
       (λ c either. ⊎_elim (λ kept. inr (inl kept.stands)) (λ kept. inr (inr kept.stands)) either)
       (b.since tells stands))
 
   pub reads_unopened : GoesOn (disk old) (disk new) → (disk new).tells → Passes Same (disk old) (disk new) → LeavesUnopened keys (disk old) (disk new)
-  reads_unopened goes tells passes = record { goes = goes; tells = tells; crash = λ g stands. reads_leave g (disk new) passes }
+  reads_unopened goes tells passes = record { goes = goes; tells = tells; crash = λ g stands. reads_leave g (disk new) stands passes }
 
   module _ (goes : GoesOn (disk old) (disk new)) (tells : (disk new).tells) where
     told : (disk old).tells
@@ -61,7 +61,7 @@ module _ {S : Type 0} (disk : S → Disk) (keys : Keys) (old new : S) (only : (c
     unopened_of (Err f) begins = record {
       goes = goes;
       tells = tells;
-      crash = λ g stands. ⊎_elim (λ passes. reads_leave g (disk new) passes) (λ begun. begun_leaves g told stands (begun g told stands)) begins;
+      crash = λ g stands. ⊎_elim (λ passes. reads_leave g (disk new) stands passes) (λ begun. begun_leaves g told stands (begun g told stands)) begins;
     }
 
 -- a store that was formatted

@@ -27,14 +27,21 @@ use Rattle.ob_flat.proofs.Moved.{stands_same, generation_set}
 pub all_before : (keys : Keys) (p : Params) (d : Disk) → AllStand keys p d → (c : Image) → d.may_leave c → StandsAsBefore keys p d c
 all_before keys p d all c left = let at = all c left in record { at = at.0; generation = at.1.0; stands = at.1.1; earlier = at.1.0; no_lower = omega arith; was = inr (c, left, at.1.1) }
 
+-- and what reads give does
+cells_before : (keys : Keys) (p : Params) (d : Disk) (at : Standing) → Stands keys p d.cells at → StandsAsBefore keys p d d.cells
+cells_before keys p d at stands = record { at = at; generation = stands.0; stands = stands.1; earlier = stands.0; no_lower = omega arith; was = inl stands.1 }
+
 -- no call
-pub none_before : (keys : Keys) (p : Params) (d : Disk) → AllStand keys p d → ((c : Image) → d.left_since d.moment c → d.may_leave c) → LeavesOnly d d (StandsAsBefore keys p d)
-none_before keys p d all only = started d (StandsAsBefore keys p d) (λ c left. all_before keys p d all c (only c left))
+pub none_before : (keys : Keys) (p : Params) (d : Disk) (at : Standing) → Stands keys p d.cells at → AllStand keys p d → ((c : Image) → d.left_since d.moment c → d.may_leave c) → LeavesOnly d d (StandsAsBefore keys p d)
+none_before keys p d at stands all only = started d (StandsAsBefore keys p d) (λ c left. all_before keys p d all c (only c left)) (λ tells. cells_before keys p d at stands)
 
 -- reads
-pub reads_before : (keys : Keys) (p : Params) (old new : Disk) → AllStand keys p old → ((c : Image) → old.left_since old.moment c → old.may_leave c) → Passes Same old new → LeavesOnly old new (StandsAsBefore keys p old)
-reads_before keys p old new all only passes =
-    leaves_of Same old.may_leave (StandsAsBefore keys p old) old new passes only (λ c left. left) (λ c d left same. subst (λ (i : Image). StandsAsBefore keys p old i) (sym same) (all_before keys p old all d left)) (λ c left. all_before keys p old all c left)
+pub reads_before : (keys : Keys) (p : Params) (old new : Disk) (at : Standing) → Stands keys p old.cells at → AllStand keys p old → ((c : Image) → old.left_since old.moment c → old.may_leave c) → Passes Same old new
+    → LeavesOnly old new (StandsAsBefore keys p old)
+reads_before keys p old new at stands all only passes =
+    leaves_of Same (StandsAsBefore keys p old) (StandsAsBefore keys p old) old new passes only (all_before keys p old all) (λ tells. cells_before keys p old at stands)
+    (λ c d was same. subst (λ (i : Image). StandsAsBefore keys p old i) (sym same) was)
+    (λ c was. was)
 
 -- reads leave the images
 pub all_after : (keys : Keys) (p : Params) (old new : Disk) → AllStand keys p old → Passes Same old new → AllStand keys p new
@@ -74,22 +81,22 @@ pub reads_both : (a b c : Disk) → Passes Same a b → Passes Same b c → Pass
 reads_both a b c first second = passed_then Same a b c (λ x y z one two. one ∙ two) first second
 
 -- reads, and then the start of a generation
-pub begun_before : (keys : Keys) (p : Params) (old mid new : Disk) → AllStand keys p old → ((c : Image) → old.left_since old.moment c → old.may_leave c) → Passes Same old mid → ((k : ℕ) → mid.cells k ≡ old.cells k)
+pub begun_before : (keys : Keys) (p : Params) (old mid new : Disk) (at : Standing) → Stands keys p old.cells at → AllStand keys p old → ((c : Image) → old.left_since old.moment c → old.may_leave c) → Passes Same old mid → ((k : ℕ) → mid.cells k ≡ old.cells k)
     → LeavesOnly mid new (StandsAsBefore keys p mid) → LeavesOnly old new (StandsAsBefore keys p old)
-begun_before keys p old mid new all only passes same last =
-    then_on old mid new (StandsAsBefore keys p old) (reads_before keys p old mid all only passes) (weakened mid new (StandsAsBefore keys p mid) (StandsAsBefore keys p old) (as_before keys p old mid passes same) last)
+begun_before keys p old mid new at stands all only passes same last =
+    then_on old mid new (StandsAsBefore keys p old) (reads_before keys p old mid at stands all only passes) (weakened mid new (StandsAsBefore keys p mid) (StandsAsBefore keys p old) (as_before keys p old mid passes same) last)
 
 -- a generation that is begun, or not
 module _ {S : Type 0} (disk : S → Disk) (keys : Keys) (p : Params) (at : Standing) (g : ℕ) (old new : S) (stands : StandsFlat keys p g (disk old).cells at) (tells : (disk old).tells) (all : AllStand keys p (disk old))
     (only : (c : Image) → (disk old).left_since (disk old).moment c → (disk old).may_leave c) where
   from_sync : BeginsFrom disk keys g old new → LeavesOnly (disk old) (disk new) (StandsAsBefore keys p (disk old))
-  from_sync b = set_before keys p (disk old) (disk b.synced) (disk new) at g (reads_before keys p (disk old) (disk b.synced) all only b.until) stands
+  from_sync b = set_before keys p (disk old) (disk b.synced) (disk new) at g (reads_before keys p (disk old) (disk b.synced) at (g, stands) all only b.until) stands
       (stands_same keys p g at (disk b.synced).cells (disk old).cells (b.keeps.cells tells) stands)
       (subst (λ n. LeavesOnly (disk b.synced) (disk new) (OldOrNew (tagging keys) 1 (disk b.synced).cells g n)) (sym (add-one g)) (b.since tells stands.begun))
 
   pub begin_before : (r : Result ℕ Fault) → BeginLeaves disk keys g old new r → LeavesOnly (disk old) (disk new) (StandsAsBefore keys p (disk old))
   begin_before (Ok next) leaves = from_sync leaves
-  begin_before (Err refused) leaves = ⊎_elim (λ passes. reads_before keys p (disk old) (disk new) all only passes) from_sync leaves
+  begin_before (Err refused) leaves = ⊎_elim (λ passes. reads_before keys p (disk old) (disk new) at (g, stands) all only passes) from_sync leaves
 
 pub keeps_both : (a b c : Disk) → Keeps a b → Keeps b c → Keeps a c
 keeps_both a b c first second = record { tells = λ t. second.tells (first.tells t); cells = λ t k. second.cells (first.tells t) k ∙ first.cells t k }
@@ -166,7 +173,7 @@ none_opened disk keys p s t only =
       value = λ tells. tt;
       begins = tt;
       opened = λ at tells stands. tt;
-      crash = λ at tells stands all. none_before keys p d all only;
+      crash = λ at tells stands all. none_before keys p d at stands all only;
       since = inl (passed_none d Same (λ c. refl));
       register = inl (passed_none d Same (λ c. refl));
       order = inl (first_none registers_notes d.seen d.seen t (none_noted d.seen));

@@ -31,7 +31,7 @@ use Rattle.ob_flat.proofs.Moved.{stands_same}
 
 -- nothing was done
 pub none_done : (keys : Keys) (p : Params) (g : ℕ) (old : Disk) (epoch : ℕ) (values : List (Option (List ℕ))) (now next : Standing) → EndsFrom keys p g old epoch values now next → ((c : Image) → old.left_since old.moment c → old.may_leave c) → LeavesOnly old old (λ c. StandsFlat keys p g c now)
-none_done keys p g old epoch values now next from only = started old (λ c. StandsFlat keys p g c now) (λ c left. stands_same keys p g now c old.cells (from.settled c (only c left)) from.stands)
+none_done keys p g old epoch values now next from only = started old (λ c. StandsFlat keys p g c now) (λ c left. stands_same keys p g now c old.cells (from.settled c (only c left)) from.stands) (λ tells. from.stands)
 
 -- what a refused end leaves
 pub refused_leaves : (keys : Keys) (p : Params) (g : ℕ) (old new : Disk) (now next : Standing) (refused : SetErr) (r : EndErr) → r ≡ end_err_of refused → (IsBefore (Err refused) → LeavesOnly old new (λ c. StandsFlat keys p g c now)) → LeavesOnly old new (StandsAtOne keys p g now next)

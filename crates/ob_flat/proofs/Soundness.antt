@@ -19,11 +19,11 @@ use Rattle.ob_flat.specs.Openings.{IsOpenedAt}
 use Rattle.ob_flat.specs.Ends.{EndsFrom, EndsIn, StandsAtOne}
 use Rattle.ob_flat.specs.Calls.{FlatServes, FlatSound, lent, opened_at}
 use Rattle.ob_flat.proofs.Moved.{stands_same}
-use Rattle.ob_twin.proofs.Moves.{at_the_end}
+use Rattle.ob_twin.proofs.Moves.{images_at_end, settled_image}
 
 -- a reference more changes nothing of what crashes leave
 pub lent_leaves : (name other : GName) (old new : Disk) (P : Image → Type 0) → LeavesOnly old new P → LeavesOnly (lent name old) (lent other new) P
-lent_leaves name other old new P run = record { later = run.later; each = run.each; before = run.before }
+lent_leaves name other old new P run = record { later = run.later; each = run.each; before = run.before; told = run.told }
 
 counts_of_parts : (v : VaultState) (counts : VaultCounts) → counts_of v ≡ counts → (v.epoch ≡ counts.epoch) × (v.left ≡ counts.left) × (v.spent ≡ counts.spent)
 counts_of_parts v counts is = (ap (λ (k : VaultCounts). k.epoch) is, ap (λ (k : VaultCounts). k.left) is, ap (λ (k : VaultCounts). k.spent) is)
@@ -78,15 +78,15 @@ module _ (keys : Keys) (p : Params) (g : ℕ) (counts : VaultCounts) (values nex
     -- after a refused end
     pub refused_sound : (r : EndErr) (epoch : ℕ) (spent : Bool) → epoch ≡ counts.epoch → spent ≡ true → EndsIn keys p g old new (standing_now v) (standing_next v writes) (end_answer (Err r))
         → FlatSound keys p g (record { epoch = epoch; left = counts.left; spent = spent }) values new (vault_next v (End writes) (end_answer (Err r)))
-    refused_sound (Before fault) epoch spent same is run = record {
-      holds = record { counts_are = stopped spent is ∙ counts_made (sym same) refl refl; batches = sound.holds.batches; content = sound.holds.content };
-      serves = λ wrong. absurd (never spent is wrong);
-      images = λ c left. (standing_now v, at_the_end old new (λ i. StandsFlat keys p g i (standing_now v)) counts_now run c left, inl refl);
+    refused_sound (Before fault) epoch spent same ended run = record {
+      holds = record { counts_are = stopped spent ended ∙ counts_made (sym same) refl refl; batches = sound.holds.batches; content = sound.holds.content };
+      serves = λ wrong. absurd (never spent ended wrong);
+      images = λ c is. (standing_now v, images_at_end old new (λ i. StandsFlat keys p g i (standing_now v)) counts_now run c is, inl refl);
     }
-    refused_sound (Unsure fault) epoch spent same is run = record {
-      holds = record { counts_are = stopped spent is ∙ counts_made (sym same) refl refl; batches = sound.holds.batches; content = sound.holds.content };
-      serves = λ wrong. absurd (never spent is wrong);
-      images = λ c left. in_doubt c (at_the_end old new (StandsAtOne keys p g (standing_now v) (standing_next v writes)) counts_now run c left);
+    refused_sound (Unsure fault) epoch spent same ended run = record {
+      holds = record { counts_are = stopped spent ended ∙ counts_made (sym same) refl refl; batches = sound.holds.batches; content = sound.holds.content };
+      serves = λ wrong. absurd (never spent ended wrong);
+      images = λ c is. in_doubt c (images_at_end old new (StandsAtOne keys p g (standing_now v) (standing_next v writes)) counts_now run c is);
     }
 
   -- after one that went well
@@ -102,13 +102,13 @@ module _ (keys : Keys) (p : Params) (g : ℕ) (counts : VaultCounts) (values nex
           content = subst (λ (l : List (Option (List ℕ))). IsMapOf l (with_writes v.content writes)) (sym same) (written v.content sound.holds.content);
         };
         serves = λ _. record { tells = run.1.tells; settled = run.1.settled; no_doubt = serves.no_doubt; stands = run.1.stands };
-        images = λ c left. (standing_next v writes, stands_same keys p g (standing_next v writes) c new.cells (run.1.settled c left) run.1.stands, inl refl);
+        images = λ c image. (standing_next v writes, stands_same keys p g (standing_next v writes) c new.cells (settled_image new run.1.settled c image) run.1.stands, inl refl);
       }
 
 -- a fetch
 pub fetch_in : (keys : Keys) (p : Params) (g : ℕ) (counts : VaultCounts) (values : List (Option (List ℕ))) (old : Disk) (v : VaultState) (asks : List (Option ℕ)) → FlatSound keys p g counts values old v → ((c : Image) → old.left_since old.moment c → old.may_leave c)
     → LeavesOnly old old (StandsIn (StandsFlat keys p g) (MayStandIn v (Fetch asks)))
-fetch_in keys p g counts values old v asks sound only = started old (StandsIn (StandsFlat keys p g) (MayStandIn v (Fetch asks))) (λ c left. sound.images c (only c left))
+fetch_in keys p g counts values old v asks sound only = started old (StandsIn (StandsFlat keys p g) (MayStandIn v (Fetch asks))) (λ c left. sound.images c (inl (only c left))) (λ tells. sound.images old.cells (inr (tells, refl)))
 
 -- a vault over a store that was opened
 pub opened_sound : (keys : Keys) (p : Params) (at : Standing) (opening : Opening) (d : Disk) → d.tells → IsSynced d → IsOpenedAt keys p at opening d
@@ -116,7 +116,7 @@ pub opened_sound : (keys : Keys) (p : Params) (at : Standing) (opening : Opening
 opened_sound keys p at opening d tells settled opened = record {
   holds = record { counts_are = counts_made (sym opened.epoch) refl refl; batches = refl; content = opened.content };
   serves = λ _. record { tells = tells; settled = settled; no_doubt = refl; stands = opened.stands };
-  images = λ c left. (at, opened.images c left, inl refl);
+  images = λ c is. (at, stands_same keys p opening.sealer.generation at c d.cells (settled_image d settled c is) opened.stands, inl refl);
 }
 
 -- an end leaves the keys and the generation

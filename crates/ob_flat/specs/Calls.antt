@@ -6,7 +6,7 @@ use Rattle.ob_base.specs.declared.fault.Fault.{Fault}
 use Rattle.ob_base.specs.declared.fault.Fault.TheVariants.{StoreFault, Worn}
 use Rattle.ob_store.specs.declared.watch.Note.{Note}
 use Rattle.ob_store.specs.Disk.{Disk, Image}
-use Rattle.ob_store.specs.Images.{IsSynced, Passes}
+use Rattle.ob_store.specs.Images.{IsSynced, IsImageOf, Passes}
 use Rattle.ob_store.specs.Calls.{GoesOn, Holds, Notes}
 use Rattle.ob_store.specs.Told.{events_of, IsCut}
 use Rattle.ob_seal.specs.declared.keys.Keys.{Keys}
@@ -38,11 +38,11 @@ pub record FlatServes (keys : Keys) (p : Params) (g : ℕ) (disk : Disk) (v : Va
   pub no_doubt : v.doubt ≡ None
   pub stands : StandsFlat keys p g disk.cells (standing_now v)
 
--- And each image that a crash may leave stands for what that allows.
+-- And each image that a crash may leave, and what reads give, stands for what that allows.
 pub record FlatSound (keys : Keys) (p : Params) (g : ℕ) (counts : VaultCounts) (values : List (Option (List ℕ))) (disk : Disk) (v : VaultState) : Type 0 where
   pub holds : FlatHolds p counts values v
   pub serves : v.spent ≡ false → FlatServes keys p g disk v
-  pub images : (c : Image) → disk.may_leave c → StandsIn (StandsFlat keys p g) (MayStand v) c
+  pub images : (c : Image) → IsImageOf disk c → StandsIn (StandsFlat keys p g) (MayStand v) c
 
 -- what a vault holds that was opened at an epoch
 abbrev pub opened_at : Params → Standing → VaultState

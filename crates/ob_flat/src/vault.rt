@@ -10,6 +10,7 @@ use ob_base::{Fault, Key, Params, Value, Write};
 use ob_serial::{EndErr, Vault};
 use ob_store::{Store, Watch};
 use std::mem;
+use std::thread::Threads;
 
 /// A map by epochs over a store that is lent. It keeps the value of each key in memory, so a fetch
 /// reads nothing; the end of an epoch writes a row for every key, and takes no memory.
@@ -146,8 +147,9 @@ impl<'a, S: Store> Vault for FlatVault<'a, S> {
         self.held.spent
     }
 
-    fn fetch<W: Watch>(
+    fn fetch<R: Threads + Sync, W: Watch>(
         &mut self,
+        _rt: &R,
         asks: &[Option<Key>],
         out: &mut [Option<Value>],
         _watch: &mut W,
@@ -157,7 +159,12 @@ impl<'a, S: Store> Vault for FlatVault<'a, S> {
         Ok(())
     }
 
-    fn end<W: Watch>(&mut self, writes: &[Write], watch: &mut W) -> Result<(), EndErr> {
+    fn end<R: Threads + Sync, W: Watch>(
+        &mut self,
+        _rt: &R,
+        writes: &[Write],
+        watch: &mut W,
+    ) -> Result<(), EndErr> {
         prepare_next(&self.values, &mut self.next, writes);
         match end_held(&mut self.held, &self.next, watch) {
             Ok(()) => {}

@@ -14,6 +14,7 @@ use ob_serial::{EndErr, Vault};
 use ob_store::{Blind, SinkWatch, Store, Watch};
 use std::alloc::Global;
 use std::process::Abort;
+use std::thread::Threads;
 
 const OPEN: [u8; 128] = [0xA5; 128];
 
@@ -48,8 +49,8 @@ const IDLE: &[Epoch] = &[Epoch {
 }];
 
 // Asks for a key, beside a pad.
-fn ask<V: Vault, W: Watch>(
-    rt: &impl Abort,
+fn ask<R: Abort + Threads + Sync, V: Vault, W: Watch>(
+    rt: &R,
     params: &Params,
     vault: &mut V,
     key: Key,
@@ -60,13 +61,13 @@ fn ask<V: Vault, W: Watch>(
 {
     let mut out = [None; 2];
     assert!(rt; params.places == 2 && key < params.keys && !vault.spent() && vault.left() > 0);
-    assert!(rt; vault.fetch(&[Some(key), None], &mut out, watch).is_ok());
+    assert!(rt; vault.fetch(rt, &[Some(key), None], &mut out, watch).is_ok());
     out[0]
 }
 
 // Ends an epoch that puts `hi` at key 5, or one without a write.
-fn end_with<V: Vault, W: Watch>(
-    rt: &impl Abort,
+fn end_with<R: Abort + Threads + Sync, V: Vault, W: Watch>(
+    rt: &R,
     params: &Params,
     vault: &mut V,
     puts: bool,
@@ -77,15 +78,15 @@ fn end_with<V: Vault, W: Watch>(
 {
     assert!(rt; 5 < params.keys && 1 <= params.writes && !vault.spent() && vault.left() == 0);
     if !puts {
-        return vault.end(&[], watch);
+        return vault.end(rt, &[], watch);
     }
     let value = hi(true);
-    vault.end(&[Write { key: 5, value }], watch)
+    vault.end(rt, &[Write { key: 5, value }], watch)
 }
 
 // An epoch, and its end.
-fn one_epoch<V: Vault, W: Watch>(
-    rt: &impl Abort,
+fn one_epoch<R: Abort + Threads + Sync, V: Vault, W: Watch>(
+    rt: &R,
     params: &Params,
     vault: &mut V,
     epoch: &Epoch,
@@ -103,8 +104,8 @@ fn one_epoch<V: Vault, W: Watch>(
 }
 
 // Epochs, one behind the other, up to the first that is refused.
-fn all_epochs<V: Vault, W: Watch>(
-    rt: &impl Abort,
+fn all_epochs<R: Abort + Threads + Sync, V: Vault, W: Watch>(
+    rt: &R,
     params: &Params,
     vault: &mut V,
     epochs: &[Epoch],
@@ -122,8 +123,8 @@ fn all_epochs<V: Vault, W: Watch>(
 }
 
 // How epochs end on a store that is opened, and which was the last that ended.
-fn ends<W: Watch>(
-    rt: &impl Abort,
+fn ends<R: Abort + Threads + Sync, W: Watch>(
+    rt: &R,
     alloc: Global,
     store: &mut MemStore,
     epochs: &[Epoch],
@@ -313,8 +314,8 @@ fn left_after(
 
 // The epoch and the value of key 5 after a crash, and whether the next generation is above all that
 // sealed a row.
-fn kept_after(
-    rt: &impl Abort,
+fn kept_after<R: Abort + Threads + Sync>(
+    rt: &R,
     alloc: Global,
     store: &MemStore,
     moment: usize,
@@ -330,8 +331,8 @@ fn kept_after(
 
 // Crashes a store of two epochs at each moment from its opening to the second end, with this in the
 // cells that aren't sure: the epochs have ended from these moments on.
-fn crash_everywhere(
-    rt: &impl Abort,
+fn crash_everywhere<R: Abort + Threads + Sync>(
+    rt: &R,
     alloc: Global,
     store: &MemStore,
     filling: Option<[u8; 128]>,
@@ -359,14 +360,14 @@ fn a_crash_leaves_the_old_epoch_or_the_new(rt: HostRuntime) {
 }
 
 // A formatted store behind two epochs.
-fn after_two_epochs(rt: &impl Abort, alloc: Global) -> MemStore {
+fn after_two_epochs<R: Abort + Threads + Sync>(rt: &R, alloc: Global) -> MemStore {
     let mut store = formatted(rt, alloc);
     assert!(rt; ends(rt, alloc, &mut store, TWO, &mut Blind) == (Ok(()), 2));
     store
 }
 
 // The first epoch's end where this call fails.
-fn first_end(rt: &impl Abort, alloc: Global, fail: Fail) -> Result<(), EndErr> {
+fn first_end<R: Abort + Threads + Sync>(rt: &R, alloc: Global, fail: Fail) -> Result<(), EndErr> {
     let fails = [fail].to_vec(alloc).expect(rt, "memory");
     let mut store = formatted_with(rt, alloc, fails, &mut Blind);
     ends(rt, alloc, &mut store, IDLE, &mut Blind).0
@@ -622,7 +623,7 @@ fn damage_is_named(rt: HostRuntime) {
 const LAST: [u8; 8] = [0xFF, 0xFF, 0xFF, 0xFF, 0xFF, 0xFF, 0xFF, 0x3F];
 
 // How an epoch ends behind two, where the register holds the last number.
-fn last_end(rt: &impl Abort, alloc: Global) -> Result<(), EndErr> {
+fn last_end<R: Abort + Threads + Sync>(rt: &R, alloc: Global) -> Result<(), EndErr> {
     let store = after_two_epochs(rt, alloc);
     let mut left = left_after(rt, &store, 1000, None);
     assert!(rt; left.write(7, &stamped(7, &LAST)).is_ok());
@@ -637,13 +638,18 @@ fn the_last_numbers_are_worn(rt: HostRuntime) {
 }
 
 // Whether a list of one call, which asks for a key beside a pad, is served.
-fn is_served<V: Vault>(rt: &impl Abort, alloc: Global, params: &Params, vault: &mut V) -> bool
+fn is_served<R: Abort + Threads + Sync, V: Vault>(
+    rt: &R,
+    alloc: Global,
+    params: &Params,
+    vault: &mut V,
+) -> bool
     requires params { V.params vault.old ≡ params.now }
 {
     let asks = [Some(5), None].to_vec(alloc).expect(rt, "memory");
     let requests = [Request::Fetch(asks)];
     assert!(rt; params.places == 2 && params.keys == 8 && !vault.spent() && vault.left() == 2);
-    match serve_all(alloc, vault, &requests, &mut Blind) {
+    match serve_all(rt, alloc, vault, &requests, &mut Blind) {
         Ok(replies) => replies.len() == 1 && matches!(replies.get(0), Some(Reply::Values(_))),
         Err(_) => false,
     }

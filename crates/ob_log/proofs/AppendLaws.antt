@@ -1,5 +1,6 @@
 -- During an append the open records are those before, or one more once the gate may be open.
 use Rattle.std.proofs.Common.{◌≡◌, ◌≢◌, ◌⊎◌, inl, inr, ⊎_elim, ℕ, ◌+◌, ◌*◌, ◌%◌, ◌<◌, ◌≤◌, ◌^◌, List, [], ◌∷◌, ◌++◌, Option, Some, None, Ok, Err, get_or, refl, length, sym, ap, ◌∙◌, subst, arith, length-append}
+use mathlib.Core.Path.{fun_ext}
 use Rattle.std.proofs.lemmas.Bool.{cases_eq, cases_lt}
 use Rattle.std.proofs.Math.ListN.{get_or-append}
 use Rattle.std.proofs.Math.Seq.{get_or-append_seam}
@@ -25,7 +26,7 @@ use Rattle.ob_store.specs.Lines.{Trace}
 use Rattle.ob_store.specs.Told.{Tells, TellsFirst, Does}
 use Rattle.ob_store.proofs.Doing.{does_all, does_err, first_more, first_behind, tells_then}
 use Rattle.ob_store.proofs.Serving.{goes_then}
-use Rattle.ob_store.proofs.Moments.{passed_none, then_on, weakened, leaves_of, passed_then, passes_so}
+use Rattle.ob_store.proofs.Moments.{started, passed_none, then_on, weakened, leaves_of, passed_then, passes_so}
 use Rattle.ob_twin.specs.Bodies.{open_gate}
 use Rattle.ob_twin.proofs.Moves.{same_or_not}
 use Rattle.ob_log.specs.Logs.{BatchRecord, RecordObeys, OpenRecords, SpellsRecord, record_at, record_bytes, nothing}
@@ -124,7 +125,7 @@ module _ (keys : Keys) (p : Params) (epoch : ℕ) (rs : List BatchRecord) (r : B
   module _ (old mid : Disk) (only : (c : Image) → old.left_since old.moment c → old.may_leave c) (settled : IsSynced old) (held : OpenRecords keys p epoch rs old.cells) (passes : Passes BodyStep old mid) where
     -- while the body is written and synced
     pub filling : LeavesOnly old mid (OpenRecords keys p epoch rs)
-    filling = leaves_of BodyStep (OpenRecords keys p epoch rs) (OpenRecords keys p epoch rs) old mid passes only (λ c left. same_image c old.cells (settled c left) held) (λ c d was step. body_kept c d step was) (λ c was. was)
+    filling = leaves_of BodyStep (OpenRecords keys p epoch rs) (OpenRecords keys p epoch rs) old mid passes only (λ c left. same_image c old.cells (settled c left) held) (λ tells. held) (λ c d was step. body_kept c d step was) (λ c was. was)
 
     pub filling_one : LeavesOnly old mid (HoldsOneOf keys p epoch rs r)
     filling_one = weakened old mid (OpenRecords keys p epoch rs) (HoldsOneOf keys p epoch rs r) (λ c was. inl was) filling
@@ -164,6 +165,11 @@ within_both base many gate old mid new is within told rest passes = record {
   rest = λ tells k off. rest (told tells) k (off_gate base many gate k is off) ∙ within.rest tells k (off_run base many k off);
   passes = passes_both base many gate old mid new is within.passes passes;
 }
+
+-- nothing was written
+pub prefix_none : (keys : Keys) (p : Params) (epoch : ℕ) (rs : List BatchRecord) (r : BatchRecord) (d : Disk) → ((c : Image) → d.left_since d.moment c → d.may_leave c) → IsSynced d → OpenRecords keys p epoch rs d.cells → LeavesOnly d d (HoldsOneOf keys p epoch rs r)
+prefix_none keys p epoch rs r d only settled held =
+    started d (HoldsOneOf keys p epoch rs r) (λ c left. inl (subst (λ (i : Image). OpenRecords keys p epoch rs i) (sym (fun_ext (λ k. settled c (only c left) k))) held)) (λ tells. inl held)
 
 pub within_none : (base many : ℕ) (d : Disk) → WritesWithin base many d d
 within_none base many d = record { rest = λ tells k off. refl; passes = passed_none d (SameOff base many) (λ c k off. refl) }

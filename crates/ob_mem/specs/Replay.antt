@@ -1,6 +1,7 @@
 -- The disk model, over the list of writes and syncs.
-use Rattle.std.specs.Prelude.{◌≡◌, ◌⊎◌, ◌≤◌, ◌<◌, ℕ, if◌then◌else◌, List, [], ◌∷◌, ◌++◌, length, take, replicate, slice_set, slice_index_or, ◌==◌, Option, Some, None, All, Contains, fold}
+use Rattle.std.specs.Prelude.{◌≡◌, ◌⊎◌, ◌≤◌, ◌<◌, ℕ, if◌then◌else◌, List, [], ◌∷◌, ◌++◌, length, take, slice_set, ◌==◌, Option, Some, None, All, Contains, fold}
 use Rattle.ob_store.specs.declared.event.Event.{Event}
+pub use Rattle.ob_bare.specs.Cells.{zeros, cell_of}
 use Rattle.ob_store.specs.Disk.{Clock, Disk, Image}
 use Rattle.ob_mem.specs.declared.call.Call.{Call}
 use Rattle.ob_mem.specs.declared.call.Call.TheVariants.{Wrote, Synced}
@@ -23,13 +24,6 @@ replay (call ∷ calls) s = replay calls (after_call call s)
 -- these cells, all of them sure
 abbrev pub sure : List (List ℕ) → Moment
 sure cells = record { cells = cells; unsure = [] }
-
-abbrev pub zeros : List ℕ
-zeros = replicate 128 0
-
--- past the end zeros are read
-abbrev pub cell_of : List (List ℕ) → Image
-cell_of cells k = slice_index_or cells k zeros
 
 -- a cell of the store that was written since the last sync that succeeded
 abbrev pub IsUnsure : Moment → ℕ → Type 0

@@ -16,8 +16,10 @@ use crate::fail::{Counts, Fail};
 use crate::log::{Log, MemLane};
 use crate::past::History;
 use ob_base::{Failed, Memory};
+use ob_lanes::{Hand, Lanes, read_hands};
 use ob_store::{Event, Store};
 use std::alloc::Global;
+use std::thread::Threads;
 
 /// A store in memory. It keeps each write and sync, so that a crash may leave all that the disk
 /// model allows, and nothing else. The calls that were named at its making fail, and writes past
@@ -94,6 +96,13 @@ impl MemStore {
             },
             faults: 0,
         })
+    }
+
+    /// How many writes and syncs it has behind it: a crash at this moment comes behind all of them.
+    pub fn moments(&self) -> usize
+        ensures { result ≡ length self.now.past.calls }
+    {
+        self.past.moments()
     }
 
     /// How often there was no memory to keep a call.
@@ -306,5 +315,11 @@ impl Store for MemStore {
             return Err(Failed);
         }
         Ok(())
+    }
+}
+
+impl Lanes for MemStore {
+    fn read_parts<R: Threads + Sync>(&self, rt: &R, hands: &mut [Option<Hand<MemLane>>]) {
+        read_hands(rt, self, hands);
     }
 }

@@ -5,6 +5,7 @@ ghost use Rattle.ob_mem.specs.declared.call.Call.TheVariants.{Wrote, Synced};
 ghost use Rattle.ob_mem.specs.Replay.{Past, replay, sure, zeros, cell_of, now_of, with_call, moment_at, after_call, IsLeft, IsCell, MayLeave};
 
 use crate::Call;
+use ob_bare::blank;
 use std::alloc::{AllocError, Global};
 use std::marker::Model;
 
@@ -27,17 +28,6 @@ impl Model for History {
     ghost invariant = { λ h. h.cells.items ≡ (replay h.calls.items (sure h.first.items)).cells };
 }
 
-/// So many cells of zeros.
-pub fn blank(alloc: Global, size: usize) -> Result<Vec<[u8; 128]>, AllocError>
-    ensures { IfOk result (λ v. v.items ≡ replicate size zeros) }
-{
-    let mut cells = Vec::new(alloc);
-    for i in 0..size {
-        cells.push([0; 128])?;
-    }
-    Ok(cells)
-}
-
 impl History {
     /// Cells of zeros, all of them sure.
     pub fn new(alloc: Global, size: usize) -> Result<History, AllocError>
@@ -57,6 +47,13 @@ impl History {
         ensures { result ≡ length self.now.first }
     {
         self.first.len()
+    }
+
+    /// How many calls it has behind it.
+    pub fn moments(&self) -> usize
+        ensures { result ≡ length self.now.calls }
+    {
+        self.calls.len()
     }
 
     /// What a cell got last, or zeros past the end.

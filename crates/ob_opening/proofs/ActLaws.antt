@@ -24,6 +24,7 @@ use Rattle.ob_start.specs.Orders.{registers_notes}
 use Rattle.ob_start.specs.Registers.{HaveOpen}
 use Rattle.ob_tables.specs.Content.{Content, content_of}
 use Rattle.ob_log.specs.Logs.{BatchRecord, RecordFits, RecordsFit, record_at}
+use Rattle.ob_schedule.specs.Phases.{open_phases}
 use Rattle.ob_schedule.specs.Schedule.{Fills, Public, open_notes}
 use Rattle.ob_recover.specs.Life.{LifeAct, LifeState, Open, ShowBatch, WordId, IsActAllowed, IsLife, life_step, reached}
 use Rattle.ob_recover.specs.Calls.{CallLaw, Finds, Leaves, acts_of, repeated}
@@ -39,8 +40,8 @@ use Rattle.ob_recover.specs.Known.{fills_of, gates_open, public_of_kept}
 use Rattle.ob_recover.specs.Lives.{IsLifeAt, life_batch}
 use Rattle.ob_recover.specs.Telling.{AreTold}
 use Rattle.ob_recover.proofs.ShownOpening.{cuts_of_fronts, openings_are_scheduled, openings_begin}
-use Rattle.ob_recover.proofs.Telling.{openings_are_told}
-use Rattle.ob_opening.specs.OpeningActs.{AreGatesIn, HasNotBegun, HasShown, IsLeftAt, OpensInLife, StandsInLife, notes_of_opening, opening_call}
+use Rattle.ob_recover.proofs.Telling.{as_told, openings_are_told}
+use Rattle.ob_opening.specs.OpeningActs.{AreGatesIn, HasNotBegun, HasShown, IsLeftAt, OpensInLife, StandsInLife, notes_of_opening, opening_call, phases_of_opening}
 use Rattle.ob_opening.specs.OpeningRuns.{BeginsAt, OpeningLeaves, OpensFrom, begun_notes, next_notes}
 use Rattle.ob_opening.specs.OpeningParts.{FoundDoes, FoundRefused}
 use Rattle.ob_opening.specs.Openings.{OpensWhatStood}
@@ -150,16 +151,17 @@ module _ (keys : Keys) (p : Params) (cells : Image) (st : RingStanding) (found :
   gates_are : found.gates ≡ gates
   gates_are = gates_once found.gates gates cells in_cells.generation_gates in_cells.epoch_gates are
 
-  as_stands : (count : ℕ) (P : List Note → Type 0)
-      → P (open_notes p (public_of_kept p (content_of found.tables) shown found.epoch known) (fills_of p (content_of found.tables) found.records) (gates_open found.gates) (suc found.generation) count)
-      → P (notes_of_opening p st gates count shown known)
-  as_stands count P told =
+  -- whatever is made of it
+  as_stands : {X : Type 0} (of : Public → Fills → (ℕ → Bool) → ℕ → X)
+      → of (public_of_kept p (content_of found.tables) shown found.epoch known) (fills_of p (content_of found.tables) found.records) (gates_open found.gates) (suc found.generation)
+      ≡ of (public_of_kept p st.content shown st.epoch known) (fills_of p st.content st.records) (gates_open gates) (suc st.generation)
+  as_stands of =
       let content = is.content in
       let records = is.records in
       let epoch = is.epoch in
       let generation = is.generation in
       let same = gates_are in
-      subst P (λ i. open_notes p (public_of_kept p (content i) shown (epoch i) known) (fills_of p (content i) (records i)) (gates_open (same i)) (suc (generation i)) count) told
+      λ i. of (public_of_kept p (content i) shown (epoch i) known) (fills_of p (content i) (records i)) (gates_open (same i)) (suc (generation i))
 
 -- ---- the law
 
@@ -175,7 +177,7 @@ module _ (keys : Keys) (most : ℕ) (p : Params) (word_of : WordId → ℕ) (s :
   IsToldFirst = (gates : Gates) → AreGatesIn gates old.cells → (shown : List BatchRecord) (known : Gates) → TellsFirst (notes_of_opening p st gates (length st.records) shown known) old.seen new.seen before after
 
   abbrev IsToldTo : ℕ → Type 0
-  IsToldTo count = (gates : Gates) → AreGatesIn gates old.cells → (shown : List BatchRecord) (known : Gates) → AreTold most (notes_of_opening p st gates count shown known) old.seen new.seen before after
+  IsToldTo count = (gates : Gates) → AreGatesIn gates old.cells → (shown : List BatchRecord) (known : Gates) → AreTold most (phases_of_opening p st gates count shown known) (notes_of_opening p st gates count shown known) old.seen new.seen before after
 
   next : suc st.generation ≡ suc t.generation
   next = ap suc f.here.generation
@@ -302,20 +304,21 @@ first_fit p rs n few fit =
 module _ {S : Type 0} (disk : S → Disk) (counts : (store : S) (t : Clock) (c : Image) → NotAfter t (disk store).moment → (disk store).may_leave c → (disk store).left_since t c)
     (keys : Keys) (most : ℕ) (p : Params) (found : Found) (old mid new : S) (before between after : Trace)
     (keeps : Keeps (disk old) (disk mid)) (passes : Passes Same (disk old) (disk mid)) (reads : Tells (finding_notes p found.epoch) (finding_notes p found.epoch) (disk old).seen (disk mid).seen before between)
-    (obeys : ObeysFound p found) (gates : HaveOpen found.gates) (tells : (disk old).tells) (in_cells : IsFoundInRing keys p (disk old).cells found) where
+    (obeys : ObeysFound p found) (gates : HaveOpen found.gates) (tells : (disk old).tells) (in_cells : IsFoundInRing keys p (disk old).cells found) (some : 1 ≤ most) where
   -- so many batches were repeated
   shown_to : (count : ℕ) → count ≤ length found.records → (seen : Option (List Event)) (shown : Trace) → Tells (begun_notes p found) (begun_notes p found) (disk old).seen seen before shown
       → RepeatsTold most p (content_of found.tables) (take count found.records) seen (disk new).seen shown after → (others : List BatchRecord) (known : Gates)
-      → AreTold most (open_notes p (public_of_kept p (content_of found.tables) others found.epoch known) (fills_of p (content_of found.tables) found.records) (gates_open found.gates) (suc found.generation) count) (disk old).seen (disk new).seen before after
+      → AreTold most (open_phases p (public_of_kept p (content_of found.tables) others found.epoch known) (fills_of p (content_of found.tables) found.records) (gates_open found.gates) (suc found.generation) count)
+      (open_notes p (public_of_kept p (content_of found.tables) others found.epoch known) (fills_of p (content_of found.tables) found.records) (gates_open found.gates) (suc found.generation) count) (disk old).seen (disk new).seen before after
   shown_to count few seen shown begun told others known =
       let c : Content = content_of found.tables in
       let rs : List BatchRecord = found.records in
       let first : List BatchRecord = take count rs in
       let fit = first_fit p rs count few obeys.records in
-      let alone = (openings_are_scheduled p c first found.epoch found.generation found.gates others known obeys.content fit gates.0).whole in
-      let within = (openings_are_scheduled p c rs found.epoch found.generation found.gates others known obeys.content obeys.records gates.0).notes count few in
-      subst (λ (ns : List Note). AreTold most ns (disk old).seen (disk new).seen before after) (sym alone ∙ within)
-      (openings_are_told most p c first found.epoch found.generation found.gates others known (disk old).seen seen (disk new).seen before shown after obeys.content fit gates.0 begun told)
+      let alone = openings_are_scheduled p c first found.epoch found.generation found.gates others known obeys.content fit gates.0 in
+      let within = openings_are_scheduled p c rs found.epoch found.generation found.gates others known obeys.content obeys.records gates.0 in
+      as_told most _ _ _ _ (disk old).seen (disk new).seen before after (sym alone.all_phases ∙ within.phases count few) (sym alone.whole ∙ within.notes count few)
+      (openings_are_told most p c first found.epoch found.generation found.gates others known (disk old).seen seen (disk new).seen before shown after some obeys.content fit gates.0 begun told)
 
   -- what comes before the repeats is the front of any opening of what was found
   begun_front : (others : List BatchRecord) (known : Gates) → AreFirstNotes (begun_notes p found)
@@ -346,7 +349,8 @@ module _ {S : Type 0} (disk : S → Disk) (counts : (store : S) (t : Clock) (c :
         → TellsFirst (notes_of_opening p here g (length here.records) others known) (disk old).seen (disk new).seen before after
     first_told told g are others known =
         subst (λ (n : ℕ). TellsFirst (notes_of_opening p here g n others known) (disk old).seen (disk new).seen before after) (ap length same.records)
-        (as_stands keys p (disk old).cells here found same in_cells g are others known (length found.records) (λ ns. TellsFirst ns (disk old).seen (disk new).seen before after)
+        (subst (λ (ns : List Note). TellsFirst ns (disk old).seen (disk new).seen before after)
+        (as_stands keys p (disk old).cells here found same in_cells g are others known (λ q fills is_open generation. open_notes p q fills is_open generation (length found.records)))
         (first_front (begun_notes p found) _ (disk old).seen (disk new).seen before after (begun_front others known)
         (first_behind (disk old).seen (disk mid).seen (disk new).seen before between after (finding_notes p found.epoch) (next_notes found) reads told)))
 
@@ -356,9 +360,12 @@ module _ {S : Type 0} (disk : S → Disk) (counts : (store : S) (t : Clock) (c :
 
     told_to : (count : ℕ) → count ≤ length found.records → (seen : Option (List Event)) (shown : Trace) → Tells (begun_notes p found) (begun_notes p found) (disk old).seen seen before shown
         → RepeatsTold most p (content_of found.tables) (take count found.records) seen (disk new).seen shown after → (g : Gates) → AreGatesIn g (disk old).cells → (others : List BatchRecord) (known : Gates)
-        → AreTold most (notes_of_opening p here g count others known) (disk old).seen (disk new).seen before after
+        → AreTold most (phases_of_opening p here g count others known) (notes_of_opening p here g count others known) (disk old).seen (disk new).seen before after
     told_to count few seen shown begun told g are others known =
-        as_stands keys p (disk old).cells here found same in_cells g are others known count (λ ns. AreTold most ns (disk old).seen (disk new).seen before after) (shown_to count few seen shown begun told others known)
+        as_told most _ _ _ _ (disk old).seen (disk new).seen before after
+        (as_stands keys p (disk old).cells here found same in_cells g are others known (λ q fills is_open generation. open_phases p q fills is_open generation count))
+        (as_stands keys p (disk old).cells here found same in_cells g are others known (λ q fills is_open generation. open_notes p q fills is_open generation count))
+        (shown_to count few seen shown begun told others known)
 
     -- by the answer
     pub all_acts : {T L : Type 0} (tape new_tape : T) (present : ℕ) (drawn : List ℕ) (r : Result (Opening L) Fault) → OpensWhatStood keys p here (disk new) r → OpeningLeaves disk keys p old new r

@@ -99,8 +99,8 @@ synced_on a b synced passes same c left k =
     ap (λ (i : Image). i k) back.2 ∙ synced back.0 back.1 k ∙ sym (same k)
 
 -- what each image has, each has behind the reads
-pub leaves_on : (a b : Disk) (P : Image → Type 0) → ((c : Image) → a.left_since a.moment c → a.may_leave c) → Passes Same a b → ((c : Image) → a.may_leave c → P c) → LeavesOnly a b P
-leaves_on a b P only passes all = leaves_of Same P P a b passes only all (λ c d has same. subst P (sym same) has) (λ c has. has)
+pub leaves_on : (a b : Disk) (P : Image → Type 0) → ((c : Image) → a.left_since a.moment c → a.may_leave c) → Passes Same a b → ((c : Image) → a.may_leave c → P c) → (a.tells → P a.cells) → LeavesOnly a b P
+leaves_on a b P only passes all read = leaves_of Same P P a b passes only all read (λ c d has same. subst P (sym same) has) (λ c has. has)
 
 -- a register that stands stands in each image of a synced store, which has the rest too
 pub kept_in : (keys : Keys) (a : Disk) (from : Image) (n : ℕ) → IsSynced a → KeepsAt (tagging keys) 1 from n a.cells → (c : Image) → a.may_leave c → KeepsAt (tagging keys) 1 from n c

@@ -97,7 +97,7 @@ module _ {S : Type 0} (disk : S → Disk) (keys : Keys) (p : Params) where
       let now = kept g tells stands in
       let here : KeepsAt (tagging keys) 1 (disk o.synced).cells (suc g) (disk mid).cells = record { stands = now.stands; rest = λ k off. now.rest k off ∙ sym (o.keeps.cells tells k) } in
       then_on (disk o.synced) (disk mid) (disk new) P (o.register g tells stands)
-      (leaves_on (disk mid) (disk new) P only reads (λ c left. inr (kept_in keys (disk mid) (disk o.synced).cells (suc g) (durable tells) here c left))))
+      (leaves_on (disk mid) (disk new) P only reads (λ c left. inr (kept_in keys (disk mid) (disk o.synced).cells (suc g) (durable tells) here c left)) (λ told. inr here)))
 
   -- reads before it
   pub opens_behind : (old mid new : S) → Passes Same (disk old) (disk mid) → Keeps (disk old) (disk mid) → OpensFrom disk keys p mid new → OpensFrom disk keys p old new

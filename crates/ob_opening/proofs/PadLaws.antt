@@ -26,15 +26,15 @@ module _ {S : Type 0} (disk : S → Disk) (keys : Keys) (p : Params) (old new : 
   Left g c = (disk old).may_leave c ⊎ (IsAtGeneration keys g c ⊎ IsAtGeneration keys (suc g) c)
 
   -- reads
-  reads_leave : (g : ℕ) (mid : Disk) → Passes Same (disk old) mid → LeavesOnly (disk old) mid (Left g)
-  reads_leave g mid passes = leaves_of Same (disk old).may_leave (Left g) (disk old) mid passes only (λ c left. left)
-      (λ c d left same. inl (subst (λ (i : Image). (disk old).may_leave i) (sym same) left))
-      (λ c left. inl left)
+  reads_leave : (g : ℕ) (mid : Disk) → IsAtGeneration keys g (disk old).cells → Passes Same (disk old) mid → LeavesOnly (disk old) mid (Left g)
+  reads_leave g mid stands passes = leaves_of Same (Left g) (Left g) (disk old) mid passes only (λ c left. inl left) (λ tells. inr (inl stands))
+      (λ c d was same. subst (Left g) (sym same) was)
+      (λ c was. was)
 
   -- a generation that was begun
   begun_leaves : (g : ℕ) → (disk old).tells → IsAtGeneration keys g (disk old).cells → OpensFrom disk keys p old new → LeavesOnly (disk old) (disk new) (Left g)
   begun_leaves g tells stands b =
-      then_on (disk old) (disk b.synced) (disk new) (Left g) (reads_leave g (disk b.synced) b.until)
+      then_on (disk old) (disk b.synced) (disk new) (Left g) (reads_leave g (disk b.synced) stands b.until)
       (weakened (disk b.synced) (disk new) (OldOrNew (tagging keys) 1 (disk b.synced).cells g (suc g)) (Left g)
       (λ c either. ⊎_elim (λ kept. inr (inl kept.stands)) (λ kept. inr (inr kept.stands)) either)
       (b.register g tells stands))
@@ -63,7 +63,7 @@ module _ {S : Type 0} (disk : S → Disk) (keys : Keys) (p : Params) (old new : 
     unopened_by leaves = record {
       goes = goes;
       tells = tells;
-      crash = λ g stands. ⊎_elim (λ passes. reads_leave g (disk new) passes) (λ begun. begun_leaves g told stands begun) leaves;
+      crash = λ g stands. ⊎_elim (λ passes. reads_leave g (disk new) stands passes) (λ begun. begun_leaves g told stands begun) leaves;
     }
 
     pub act_of : {L : Type 0} (most : ℕ) (before later : Trace) (r : Result (Opening L) Fault) → IfOk r (IsRingOpened disk keys most p old new before later) → OpeningLeaves disk keys p old new r

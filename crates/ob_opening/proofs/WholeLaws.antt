@@ -1,5 +1,5 @@
 -- A whole opening, by what is known behind what was found.
-use Rattle.std.proofs.Common.{◌≡◌, ◌⊎◌, inl, inr, ⊎_elim, ℕ, suc, List, Result, Ok, Err, OnOk, OnErr, IfErr, IfOk, sym, ◌∙◌, ap, subst}
+use Rattle.std.proofs.Common.{◌≡◌, ◌⊎◌, ◌≤◌, inl, inr, ⊎_elim, ℕ, suc, List, Result, Ok, Err, OnOk, OnErr, IfErr, IfOk, sym, ◌∙◌, ap, subst}
 use mathlib.Core.Path.{fun_ext}
 use Rattle.ob_base.specs.declared.params.Params.{Params}
 use Rattle.ob_base.specs.declared.fault.Fault.{Fault}
@@ -44,24 +44,24 @@ module _ {S : Type 0} (disk : S → Disk) (keys : Keys) (p : Params) (old mid ne
     whole : RepeatsBehind {T = Unit {0}} (next_notes found) most p found (disk mid).seen (disk new).seen between after (Ok tt) → RepeatsBehind {T = Unit {0}} (begun_notes p found) most p found (disk old).seen (disk new).seen before after (Ok tt)
     whole does = repeats_behind most p found (finding_notes p found.epoch) (next_notes found) (disk old).seen (disk mid).seen (disk new).seen before between after reads {T = Unit {0}} (Ok tt) does
 
-    follows : {L : Type 0} (o : Opening L) → IsOpeningOf keys p found o → HaveOpen found.gates → RepeatsBehind {T = Unit {0}} (begun_notes p found) most p found (disk old).seen (disk new).seen before after (Ok tt)
+    follows : {L : Type 0} (o : Opening L) → 1 ≤ most → IsOpeningOf keys p found o → HaveOpen found.gates → RepeatsBehind {T = Unit {0}} (begun_notes p found) most p found (disk old).seen (disk new).seen before after (Ok tt)
         → FollowsSchedule most p found o.gates (disk old).seen (disk new).seen before after
-    follows o opening gates does =
+    follows o some opening gates does =
         let c = content_of found.tables in
         let fit = opening.obeys.records in
         record {
           found_open = gates;
-          told = λ shown known. openings_are_told most p c found.records found.epoch found.generation found.gates shown known (disk old).seen does.seen (disk new).seen before does.shown after opening.obeys.content fit gates.0 does.begun does.repeats;
+          told = λ shown known. openings_are_told most p c found.records found.epoch found.generation found.gates shown known (disk old).seen does.seen (disk new).seen before does.shown after some opening.obeys.content fit gates.0 does.begun does.repeats;
           leads = λ shown known. (openings_are_scheduled p c found.records found.epoch found.generation found.gates shown known opening.obeys.content fit gates.0).behind
               ∙ ap (λ (known' : Gates). public_of_kept p c found.records found.epoch known') (sym opening.gates);
         }
 
-    pub all_opened : {L : Type 0} (r : Result (Opening L) Fault) → IfOk r (IsOpeningOf keys p found) → IfOk r (λ o. (o.crew).lanes ≡ most)
+    pub all_opened : {L : Type 0} (r : Result (Opening L) Fault) → 1 ≤ most → IfOk r (IsOpeningOf keys p found) → IfOk r (λ o. (o.crew).lanes ≡ most)
         → ((disk mid).tells → IfOk r (IsToldOpening keys p (disk mid).cells (disk new) found))
         → ((disk mid).tells → StandsAt (tagging keys) 1 (disk mid).cells found.generation → OnOk r (StandsAt (tagging keys) 1 (disk new).cells (suc found.generation)))
         → OnOk r (BeginsAt disk keys (next_notes found) found.generation mid new) → FoundDoes most p found (disk mid).seen (disk new).seen between after r → HaveOpen found.gates
         → IfOk r (IsRingOpened disk keys most p old new before after)
-    all_opened (Ok o) opening lanes told stood begins does gates = record {
+    all_opened (Ok o) some opening lanes told stood begins does gates = record {
       found = found;
       is = opening;
       lanes = lanes;
@@ -69,9 +69,9 @@ module _ {S : Type 0} (disk : S → Disk) (keys : Keys) (p : Params) (old mid ne
       stood = λ tells stands. stood (keeps.tells tells) (register_same keys found.generation (disk old).cells (disk mid).cells (keeps.cells tells) stands);
       begins = behind begins;
       does = whole does;
-      follows = follows o opening gates (whole does);
+      follows = follows o some opening gates (whole does);
     }
-    all_opened (Err f) opening lanes told stood begins does gates = tt
+    all_opened (Err f) some opening lanes told stood begins does gates = tt
 
     pub all_tapes : {T L : Type 0} (present : ℕ) (drawn : List ℕ) (tape new_tape : T) (r : Result (Opening L) Fault)
         → IfErr r (FoundRefused disk keys most p found mid new tape new_tape present drawn between after)

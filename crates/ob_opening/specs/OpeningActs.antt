@@ -13,6 +13,7 @@ use Rattle.ob_seal.specs.declared.keys.Keys.{Keys}
 use Rattle.ob_twin.specs.declared.gates.Gates.{Gates}
 use Rattle.ob_twin.specs.Opening.{GatesAre}
 use Rattle.ob_log.specs.Logs.{BatchRecord}
+use Rattle.ob_schedule.specs.Phases.{Phase, open_phases}
 use Rattle.ob_schedule.specs.Schedule.{open_notes}
 use Rattle.ob_recover.specs.Life.{LifeAct, LifeState, Open, WordId, IsActAllowed, reached}
 use Rattle.ob_recover.specs.Calls.{CallLaw, Finds, Leaves, LifeCall, Opened, repeated}
@@ -59,13 +60,17 @@ pub record AreGatesIn (gates : Gates) (image : Image) : Type 0 where
 abbrev pub notes_of_opening : Params → RingStanding → Gates → ℕ → List BatchRecord → Gates → List Note
 notes_of_opening p s gates count shown known = open_notes p (public_of_kept p s.content shown s.epoch known) (fills_of p s.content s.records) (gates_open gates) (suc s.generation) count
 
+-- and its phases
+abbrev pub phases_of_opening : Params → RingStanding → Gates → ℕ → List BatchRecord → Gates → List Phase
+phases_of_opening p s gates count shown known = open_phases p (public_of_kept p s.content shown s.epoch known) (fills_of p s.content s.records) (gates_open gates) (suc s.generation) count
+
 -- The generation began, and nothing is in flight: a repeat was told for each batch that was shown again, behind all that comes before it.
 pub record HasShown (most : ℕ) (p : Params) (word_of : WordId → ℕ) (s : LifeState) (found made : List LifeAct) (in_flight : Option LifeAct) (standing : RingStanding) (old new : Disk) (before after : Trace) : Type 0 where
   pub count : ℕ
   pub few : count ≤ length standing.records
   pub made_are : made ≡ found ++ Open (suc standing.generation) ∷ repeated count
   pub none : in_flight ≡ None
-  pub told : (gates : Gates) → AreGatesIn gates old.cells → (shown : List BatchRecord) (known : Gates) → AreTold most (notes_of_opening p standing gates count shown known) old.seen new.seen before after
+  pub told : (gates : Gates) → AreGatesIn gates old.cells → (shown : List BatchRecord) (known : Gates) → AreTold most (phases_of_opening p standing gates count shown known) (notes_of_opening p standing gates count shown known) old.seen new.seen before after
 
 -- Or the first of an opening's steps were told. Nothing was done, and what was in flight still is; or what was in flight is settled, and
 -- the generation may have begun.

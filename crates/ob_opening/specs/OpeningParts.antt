@@ -1,10 +1,11 @@
 -- Private: the parts of an opening.
-use Rattle.std.specs.Prelude.{◌≡◌, ◌⊎◌, ◌<◌, ℕ, suc, ◌*◌, ◌^◌, List, length, Option, None, Result, Ok, Err}
+use Rattle.std.specs.Prelude.{◌≡◌, ◌⊎◌, ◌<◌, ℕ, suc, ◌*◌, ◌^◌, List, length, replicate, Option, None, Result, Ok, Err}
 use Rattle.ob_base.specs.declared.params.Params.{Params}
 use Rattle.ob_base.specs.declared.fault.Fault.{Fault}
 use Rattle.ob_base.specs.declared.fault.Fault.TheVariants as fault
 use Rattle.ob_base.specs.Layout.{checkpoint_cells}
 use Rattle.ob_base.specs.Planned.{most_jobs}
+use Rattle.ob_base.specs.Tree.{buckets}
 use Rattle.ob_store.specs.declared.event.Event.{Event}
 use Rattle.ob_store.specs.Disk.{Disk, Image}
 use Rattle.ob_store.specs.Lines.{Trace}
@@ -25,6 +26,7 @@ pub record AreRooms {L : Type 0} (p : Params) (lanes : ℕ) (r : Rooms L) : Type
   pub crew : r.crew ≡ record { lanes = lanes; jobs = most_jobs p }
   pub sheet : length r.sheet ≡ 96 * checkpoint_cells p
   pub words : length (r.words).items ≡ words_room p
+  pub index : r.index ≡ replicate (buckets p) 0
 
 -- the refusals behind what was found
 abbrev pub IsFoundFault : ℕ → Fault → Type 0

@@ -18,6 +18,7 @@ use Rattle.ob_start.specs.Orders.{begin_notes, registers_notes}
 use Rattle.ob_tables.specs.Content.{content_of}
 use Rattle.ob_stand.specs.Stands.{OneOf, RingStanding, Stands, with_generation}
 use Rattle.ob_log.specs.Logs.{BatchRecord}
+use Rattle.ob_schedule.specs.Phases.{open_phases}
 use Rattle.ob_schedule.specs.Schedule.{Fills, Public, after_open, open_notes}
 use Rattle.ob_recover.specs.Known.{fills_of, gates_open, public_of_kept}
 use Rattle.ob_recover.specs.Telling.{AreTold}
@@ -143,11 +144,12 @@ abbrev pub found_fills : Params → Found → Fills
 found_fills p found = fills_of p (content_of found.tables) found.records
 
 -- Whatever the run before had shown and knew of the gates: all that is told is the schedule's opening, with the gates found and a
--- repeat for each record; and it leads to what the store may know of what is kept now.
+-- repeat for each record, whose reads are dealt to lanes; and it leads to what the store may know of what is kept now.
 pub record FollowsSchedule (most : ℕ) (p : Params) (found : Found) (gates : Gates) (old new : Option (List Event)) (before after : Trace) : Type 0 where
   pub found_open : HaveOpen found.gates
   pub told : (shown : List BatchRecord) (known : Gates)
-      → AreTold most (open_notes p (public_before p found shown known) (found_fills p found) (gates_open found.gates) (suc found.generation) (length found.records)) old new before after
+      → AreTold most (open_phases p (public_before p found shown known) (found_fills p found) (gates_open found.gates) (suc found.generation) (length found.records))
+      (open_notes p (public_before p found shown known) (found_fills p found) (gates_open found.gates) (suc found.generation) (length found.records)) old new before after
   pub leads : (shown : List BatchRecord) (known : Gates)
       → after_open p (public_before p found shown known) (found_fills p found) (gates_open found.gates) (suc found.generation) (length found.records) ≡ public_before p found found.records gates
 

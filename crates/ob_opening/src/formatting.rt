@@ -25,7 +25,7 @@ ghost use Rattle.ob_opening.specs.Formats.{BeginsFirst, IsBlankTables, HasBlankS
 use crate::drawing::fill_all;
 use crate::gates::log_gates;
 use ob_base::{Failed, Fault, Memory, Params, buckets, set_u32, slot_cell};
-use ob_cells::{Pieces, write_sealed};
+use ob_cells::{Bench, CellRun, Pieces, write_long};
 use ob_check::Sheet;
 use ob_recover::VERSION;
 use ob_seal::{Keys, Sealer, Tape};
@@ -34,6 +34,10 @@ use ob_store::{Store, Watch, sync_noted, write_through};
 use ob_tables::{Book, Metas, Stash, Tables};
 use ob_twin::Twin;
 use std::alloc::Global;
+use std::thread::Threads;
+
+// How many threads seal a new store's cells at most.
+const THREADS: usize = 4;
 
 // The number that spells that a slot has no key.
 const EMPTY: u32 = 0xFFFF_FFFF;
@@ -73,13 +77,16 @@ struct FormatRoom {
     gates: Vec<u64>,
     sheet: Sheet,
     tables: Tables<Metas>,
+    bench: Bench,
 }
 
-// The gates of a new store's logs, and tables without a key, with room for their checkpoint.
+// The gates of a new store's logs, tables without a key, with room for their checkpoint, and where
+// cells are sealed.
 fn room_for(alloc: Global, p: &Params) -> Result<FormatRoom, Memory>
     ensures { IfOk result (λ room. (room.gates.items ≡ all_gates p.now)
         × (length room.sheet ≡ 96 * checkpoint_cells p.now) × IsBlankTables p.now room.tables) }
 {
+    let bench = Bench::new(alloc, THREADS)?;
     let gates = match log_gates(alloc, p) {
         Ok(gates) => gates,
         Err(_) => return Err(Memory),
@@ -89,17 +96,20 @@ fn room_for(alloc: Global, p: &Params) -> Result<FormatRoom, Memory>
         gates,
         sheet,
         tables: blank_tables(alloc, p)?,
+        bench,
     })
 }
 
 // Writes every slot of home 0 without a row, and the checkpoint of epoch 0; makes sure of them, and
 // sets the epoch's register to 0.
-fn lay_epoch<S: Store, W: Watch>(
+fn lay_epoch<R: Threads + Sync, S: Store, W: Watch>(
+    rt: &R,
     store: &mut S,
     sealer: &mut Sealer,
     p: &Params,
     tables: &Tables<Metas>,
     sheet: &mut Sheet,
+    bench: &mut Bench,
     watch: &mut W,
 ) -> Result<(), Failed>
     requires none_out { (S.disk store.old).out ≡ 0 }
@@ -126,12 +136,16 @@ fn lay_epoch<S: Store, W: Watch>(
     ensures does { Does (epoch_notes p.now) (S.disk store.old).seen (S.disk store.new).seen
         (W.trace watch.old) (W.trace watch.new) result }
 {
-    let slots = buckets(p) as u64 * (p.real + p.dummies) as u64;
-    match write_sealed(store, sealer, slot_cell(p, 0, 0, 0), slots, &Blank, watch) {
+    let run = CellRun {
+        base: slot_cell(p, 0, 0, 0),
+        many: buckets(p) as u64 * (p.real + p.dummies) as u64,
+        pieces: &Blank,
+    };
+    match write_long(rt, store, sealer, bench, &run, watch) {
         Ok(()) => {}
         Err(failed) => return Err(failed),
     }
-    match ob_check::write(store, sealer, p, 0, tables, sheet, watch) {
+    match ob_check::write(rt, store, sealer, p, 0, tables, sheet, bench, watch) {
         Ok(()) => {}
         Err(_) => return Err(Failed),
     }
@@ -143,7 +157,8 @@ fn lay_epoch<S: Store, W: Watch>(
 }
 
 // The whole order.
-fn lay<S: Store, T: Tape, W: Watch>(
+fn lay<R: Threads + Sync, S: Store, T: Tape, W: Watch>(
+    rt: &R,
     store: &mut S,
     tape: &mut T,
     sealer: &mut Sealer,
@@ -151,6 +166,7 @@ fn lay<S: Store, T: Tape, W: Watch>(
     gates: &[u64],
     tables: &mut Tables<Metas>,
     sheet: &mut Sheet,
+    bench: &mut Bench,
     watch: &mut W,
 ) -> Result<(), Failed>
     requires none_out { (S.disk store.old).out ≡ 0 }
@@ -185,7 +201,7 @@ fn lay<S: Store, T: Tape, W: Watch>(
     }
     tape.start(1);
     fill_all(tape, p, &mut tables.metas);
-    match lay_epoch(store, sealer, p, tables, sheet, watch) {
+    match lay_epoch(rt, store, sealer, p, tables, sheet, bench, watch) {
         Ok(()) => {}
         Err(failed) => return Err(failed),
     }
@@ -200,7 +216,8 @@ fn lay<S: Store, T: Tape, W: Watch>(
 /// # Errors
 /// Memory was wanting, and nothing was done; or the store failed, and its count of faults rose.
 /// Then what it stands for is not told: format it again.
-pub fn format<S: Store, T: Tape, W: Watch>(
+pub fn format<R: Threads + Sync, S: Store, T: Tape, W: Watch>(
+    rt: &R,
     alloc: Global,
     store: &mut S,
     tape: &mut T,
@@ -255,6 +272,7 @@ pub fn format<S: Store, T: Tape, W: Watch>(
         gates,
         mut sheet,
         mut tables,
+        mut bench,
     } = match room_for(alloc, p) {
         Ok(room) => room,
         Err(Memory) => return Err(Fault::Memory),
@@ -262,6 +280,7 @@ pub fn format<S: Store, T: Tape, W: Watch>(
     let mut sealer = Sealer::new(keys, 1);
     let gates = gates.as_slice();
     match lay(
+        rt,
         store,
         tape,
         &mut sealer,
@@ -269,6 +288,7 @@ pub fn format<S: Store, T: Tape, W: Watch>(
         gates,
         &mut tables,
         &mut sheet,
+        &mut bench,
         watch,
     ) {
         Ok(()) => Ok(()),

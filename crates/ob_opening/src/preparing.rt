@@ -16,14 +16,17 @@ ghost use Rattle.ob_opening.specs.OpeningRuns.{BeginsAt, IsAtStart, IsRingOpened
 use crate::opening::Opening;
 use crate::rooms::{Rooms, rooms_for};
 use ob_base::{Fault, Memory, Params};
+use ob_lanes::Lanes;
 use ob_recover::{Found, find, replay};
 use ob_seal::{Keys, Sealer, Tape};
 use ob_start::begin;
-use ob_store::{Store, Watch};
+use ob_store::Watch;
 use std::alloc::Global;
+use std::thread::Threads;
 
 // Begins the next generation, and shows each recorded batch again.
-fn open_found<S: Store, T: Tape, W: Watch>(
+fn open_found<S: Lanes, R: Threads + Sync, T: Tape, W: Watch>(
+    rt: &R,
     store: &mut S,
     tape: &mut T,
     keys: &Keys,
@@ -74,6 +77,7 @@ fn open_found<S: Store, T: Tape, W: Watch>(
     tape.start(generation);
     let sealer = Sealer::new(keys, generation);
     let (ring, left) = match replay(
+        rt,
         store,
         &mut rooms.crew,
         &sealer,
@@ -88,8 +92,10 @@ fn open_found<S: Store, T: Tape, W: Watch>(
     let Rooms {
         jobs,
         crew,
+        bench,
         sheet,
         words,
+        index,
     } = rooms;
     Ok(Opening {
         params: *p,
@@ -100,8 +106,10 @@ fn open_found<S: Store, T: Tape, W: Watch>(
         ring,
         jobs,
         crew,
+        bench,
         sheet,
         words,
+        index,
     })
 }
 
@@ -115,7 +123,8 @@ fn open_found<S: Store, T: Tape, W: Watch>(
 /// Memory was wanting, before anything was written; or the store failed, and its count of faults
 /// rose; or, with nothing written yet, what `find` refuses, or the next generation would be `2^62`;
 /// or, in the generation begun, what `replay` finds damaged.
-pub fn prepare<S: Store, T: Tape, W: Watch>(
+pub fn prepare<S: Lanes, R: Threads + Sync, T: Tape, W: Watch>(
+    rt: &R,
     alloc: Global,
     store: &mut S,
     tape: &mut T,
@@ -126,7 +135,7 @@ pub fn prepare<S: Store, T: Tape, W: Watch>(
 ) -> Result<Opening<S::Lane>, Fault>
     requires none_out { (S.disk store.old).out ≡ 0 }
     requires unstarted { T.present tape.old ≡ 0 }
-    requires lanes { 1 ≤ lanes }
+    requires lanes { (1 ≤ lanes) × (lanes ≤ 16) }
     ensures serves { Serves IsStoreFault (S.disk store.old) (S.disk store.new) result }
     ensures faults { IfErr result IsOpenFault }
     ensures refused { (S.disk store.old).tells
@@ -174,5 +183,5 @@ pub fn prepare<S: Store, T: Tape, W: Watch>(
         Ok(found) => found,
         Err(fault) => return Err(fault),
     };
-    open_found(store, tape, keys, p, found, rooms, watch)
+    open_found(rt, store, tape, keys, p, found, rooms, watch)
 }

@@ -5,8 +5,9 @@ ghost use Rattle.ob_opening.specs.OpeningParts.{AreRooms};
 ghost use Rattle.ob_opening.specs.Openings.{words_room};
 
 use ob_base::{Jobs, Memory, Params, buckets};
-use ob_cells::Crew;
+use ob_cells::{Bench, Crew};
 use ob_check::Sheet;
+use ob_ring::Index;
 use std::alloc::{AllocError, Global};
 
 // All the room that an opened vault works in.
@@ -14,8 +15,10 @@ use std::alloc::{AllocError, Global};
 pub struct Rooms<L> {
     pub jobs: Jobs,
     pub crew: Crew<L>,
+    pub bench: Bench,
     pub sheet: Sheet,
     pub words: Vec<u64>,
+    pub index: Index,
 }
 
 // Room for the most words that are drawn at once.
@@ -28,8 +31,8 @@ fn words_for(alloc: Global, p: &Params) -> Result<Vec<u64>, AllocError>
 }
 
 /// The room of an opening.
-pub fn rooms_for<L>(alloc: Global, p: &Params, lanes: usize) -> Result<Rooms<L>, Memory>
-    requires lanes { 1 ≤ lanes }
+pub fn rooms_for<L: Drop>(alloc: Global, p: &Params, lanes: usize) -> Result<Rooms<L>, Memory>
+    requires lanes { (1 ≤ lanes) × (lanes ≤ 16) }
     ensures { IfOk result (AreRooms p.now lanes) }
 {
     let words = match words_for(alloc, p) {
@@ -37,12 +40,16 @@ pub fn rooms_for<L>(alloc: Global, p: &Params, lanes: usize) -> Result<Rooms<L>,
         Err(_) => return Err(Memory),
     };
     let sheet = Sheet::new(alloc, p)?;
+    let index = Index::new(alloc, p)?;
     let jobs = Jobs::new(alloc, p)?;
+    let bench = Bench::new(alloc, lanes)?;
     let crew = Crew::new(alloc, lanes, jobs.room())?;
     Ok(Rooms {
         jobs,
         crew,
+        bench,
         sheet,
         words,
+        index,
     })
 }

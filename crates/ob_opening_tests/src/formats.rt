@@ -12,6 +12,7 @@ use ob_store::{Blind, SinkWatch};
 use sha2::{Digest, Sha256};
 use std::alloc::Global;
 use std::process::Abort;
+use std::thread::Threads;
 
 // The SHA-256 digest of all 109 cells of a new store of 8 keys under the keys of the bytes 0 to 95,
 // as another implementation made it.
@@ -56,14 +57,14 @@ fn a_new_store_is_that_of_another_implementation(rt: HostRuntime) {
     let mut tape = ChaChaTape::new(&tape_key());
     let mut sink = MemSink::new(alloc, 1000, Vec::new(alloc)).expect(&rt, "memory");
     let mut watch = SinkWatch::new(&mut sink);
-    assert!(rt; format(alloc, &mut store, &mut tape, &keys, &p, &mut watch).is_ok());
+    assert!(rt; format(&rt, alloc, &mut store, &mut tape, &keys, &p, &mut watch).is_ok());
     assert!(rt; digest_of(&rt, &mut store) == NEW);
     assert!(rt; sink.written() == SHOWN);
     assert!(rt; head(&mut store, &keys, &mut Blind).ok() == Some(p));
 }
 
 // What a format of a store where this call fails answers.
-fn format_with(rt: &impl Abort, alloc: Global, fail: Fail) -> Result<(), Fault> {
+fn format_with<R: Abort + Threads + Sync>(rt: &R, alloc: Global, fail: Fail) -> Result<(), Fault> {
     let mut store = blank_store(rt, alloc, &[fail]);
     format_on(rt, alloc, &mut store)
 }
@@ -95,8 +96,8 @@ const STANDING: &[(Option<(u8, u8)>, [usize; 4])] = &[
 ];
 
 // Whether a crash at a moment leaves a store that stands as it should, and else none.
-fn crashes_so(
-    rt: &impl Abort,
+fn crashes_so<R: Abort + Threads + Sync>(
+    rt: &R,
     alloc: Global,
     store: &MemStore,
     moment: usize,
@@ -106,7 +107,7 @@ fn crashes_so(
     let mut left = left_after(rt, store, moment, filling);
     match head(&mut left, &test_keys(), &mut Blind) {
         Ok(p) => {
-            let told = open(rt, alloc, &mut left, &mut Blind);
+            let told = open(rt, alloc, &mut left, 1, &mut Blind);
             stands && p == small_store(rt) && told == Told::Open(2, 2)
         }
         Err(fault) => !stands && fault == Fault::NotStore,

@@ -1,6 +1,6 @@
 //! Tests of openings: in order, after a crash at each moment, with each call failing.
 
-ghost use Rattle.std.specs.Prelude.{◌≡◌, ◌∷◌, None, replicate};
+ghost use Rattle.std.specs.Prelude.{◌≡◌, ◌≤◌, ◌∷◌, None, replicate};
 ghost use Rattle.ob_mem.specs.Memory.{disk_of_store};
 
 use crate::small::{READ, Told, blank_store, flip, small_store, test_keys, told_by};
@@ -12,19 +12,24 @@ use ob_seal::{ListTape, Sealer};
 use ob_store::{Blind, SinkWatch, Store, Watch};
 use std::alloc::Global;
 use std::process::Abort;
+use std::thread::Threads;
 
 /// Formats a store with a tape of zeros: 62 writes and 10 syncs.
-pub fn format_on(rt: &impl Abort, alloc: Global, store: &mut MemStore) -> Result<(), Fault>
+pub fn format_on<R: Abort + Threads + Sync>(
+    rt: &R,
+    alloc: Global,
+    store: &mut MemStore,
+) -> Result<(), Fault>
     requires { (disk_of_store store.old).out ≡ 0 }
     ensures { (disk_of_store store.new).out ≡ 0 }
 {
     let mut tape = ListTape::new(alloc, &[]).expect(rt, "memory");
     let p = small_store(rt);
-    format(alloc, store, &mut tape, &test_keys(), &p, &mut Blind)
+    format(rt, alloc, store, &mut tape, &test_keys(), &p, &mut Blind)
 }
 
 /// A new store, where these calls fail.
-pub fn new_store(rt: &impl Abort, alloc: Global, fails: &[Fail]) -> MemStore
+pub fn new_store<R: Abort + Threads + Sync>(rt: &R, alloc: Global, fails: &[Fail]) -> MemStore
     ensures { (disk_of_store result).out ≡ 0 }
 {
     let mut store = blank_store(rt, alloc, fails);
@@ -32,13 +37,20 @@ pub fn new_store(rt: &impl Abort, alloc: Global, fails: &[Fail]) -> MemStore
     store
 }
 
-/// How an opening of a store at epoch 0 is answered, with a tape of zeros.
-pub fn open<W: Watch>(rt: &impl Abort, alloc: Global, store: &mut MemStore, watch: &mut W) -> Told
-    requires { (disk_of_store store.old).out ≡ 0 }
+/// How an opening of a store at epoch 0 by so many lanes is answered, with a tape of zeros.
+pub fn open<R: Abort + Threads + Sync, W: Watch>(
+    rt: &R,
+    alloc: Global,
+    store: &mut MemStore,
+    lanes: usize,
+    watch: &mut W,
+) -> Told
+    requires none_out { (disk_of_store store.old).out ≡ 0 }
+    requires lanes { (1 ≤ lanes) × (lanes ≤ 16) }
 {
     let mut tape = ListTape::new(alloc, &[]).expect(rt, "memory");
     let p = small_store(rt);
-    match prepare(alloc, store, &mut tape, &test_keys(), &p, 1, watch) {
+    match prepare(rt, alloc, store, &mut tape, &test_keys(), &p, lanes, watch) {
         Ok(opening) => {
             assert!(rt; opening.epoch == 0);
             Told::Open(opening.sealer.next().0, opening.left)
@@ -80,13 +92,19 @@ fn append_pads(rt: &impl Abort, store: &mut MemStore, sealer: &mut Sealer, p: &P
 
 // A new store, where these calls fail, that was opened, which is 5 writes and syncs, and in which
 // so many batches were begun.
-fn begun_store(rt: &impl Abort, alloc: Global, fails: &[Fail], batches: u32) -> MemStore
+fn begun_store<R: Abort + Threads + Sync>(
+    rt: &R,
+    alloc: Global,
+    fails: &[Fail],
+    batches: u32,
+) -> MemStore
     ensures { (disk_of_store result).out ≡ 0 }
 {
     let p = small_store(rt);
     let mut store = new_store(rt, alloc, fails);
     let mut tape = ListTape::new(alloc, &[]).expect(rt, "memory");
     let opened = prepare(
+        rt,
         alloc,
         &mut store,
         &mut tape,
@@ -153,12 +171,20 @@ fn is_made_of(shown: &[u8], parts: &[&[u8]]) -> bool {
     rest.is_empty()
 }
 
-// Opens what a crash left, and compares what is shown.
-fn open_shown(rt: &impl Abort, alloc: Global, store: &mut MemStore, told: Told, parts: &[&[u8]])
-    requires { (disk_of_store store.old).out ≡ 0 }
+// Opens what a crash left by so many lanes, and compares what is shown.
+fn open_shown<R: Abort + Threads + Sync>(
+    rt: &R,
+    alloc: Global,
+    store: &mut MemStore,
+    lanes: usize,
+    told: Told,
+    parts: &[&[u8]],
+)
+    requires none_out { (disk_of_store store.old).out ≡ 0 }
+    requires lanes { (1 ≤ lanes) × (lanes ≤ 16) }
 {
     let mut sink = MemSink::new(alloc, 1000, Vec::new(alloc)).expect(rt, "memory");
-    let answer = open(rt, alloc, store, &mut SinkWatch::new(&mut sink));
+    let answer = open(rt, alloc, store, lanes, &mut SinkWatch::new(&mut sink));
     assert!(rt; answer == told);
     assert!(rt; is_made_of(sink.written(), parts));
 }
@@ -217,8 +243,10 @@ const ROWS: &[Row] = &[
 fn recorded_batches_are_shown_again(rt: HostRuntime) {
     let store = begun_store(&rt, rt.alloc(), &[], 2);
     for row in ROWS {
-        let mut left = left_after(&rt, &store, row.moment, row.filling);
-        open_shown(&rt, rt.alloc(), &mut left, row.told, row.parts);
+        for lanes in 1..17 {
+            let mut left = left_after(&rt, &store, row.moment, row.filling);
+            open_shown(&rt, rt.alloc(), &mut left, lanes, row.told, row.parts);
+        }
     }
 }
 
@@ -234,23 +262,26 @@ const OPENINGS: &[(Option<(u8, u8)>, usize)] = &[
 fn an_opening_may_crash_at_any_moment(rt: HostRuntime) {
     let store = begun_store(&rt, rt.alloc(), &[], 1);
     let mut first = left_after(&rt, &store, 81, None);
-    assert!(rt; open(&rt, rt.alloc(), &mut first, &mut Blind) == Told::Open(3, 1));
+    assert!(rt; open(&rt, rt.alloc(), &mut first, 1, &mut Blind) == Told::Open(3, 1));
     for (filling, set) in OPENINGS {
         for moment in 0..8 {
             let mut left = left_after(&rt, &first, moment, *filling);
             let generation = if moment < *set { 3 } else { 4 };
-            let told = open(&rt, rt.alloc(), &mut left, &mut Blind);
+            let told = open(&rt, rt.alloc(), &mut left, 1, &mut Blind);
             assert!(rt; told == Told::Open(generation, 1));
         }
     }
 }
 
-// Opens a store with a recorded batch, where this call fails; and again what a crash leaves then.
-fn refused_once(rt: &impl Abort, alloc: Global, fail: Fail) {
+// Opens a store with a recorded batch by so many lanes, where this call fails; and again what a
+// crash leaves then.
+fn refused_once<R: Abort + Threads + Sync>(rt: &R, alloc: Global, lanes: usize, fail: Fail)
+    requires { (1 ≤ lanes) × (lanes ≤ 16) }
+{
     let mut store = begun_store(rt, alloc, &[fail], 1);
-    assert!(rt; open(rt, alloc, &mut store, &mut Blind) == Told::StoreFault);
+    assert!(rt; open(rt, alloc, &mut store, lanes, &mut Blind) == Told::StoreFault);
     let mut left = left_after(rt, &store, 1000, None);
-    let told = open(rt, alloc, &mut left, &mut Blind);
+    let told = open(rt, alloc, &mut left, lanes, &mut Blind);
     assert!(rt; told == Told::Open(3, 1) || told == Told::Open(4, 1));
 }
 
@@ -273,15 +304,30 @@ const REFUSED: &[Fail] = &[
 #[test]
 fn each_refused_call_is_the_stores(rt: HostRuntime) {
     for fail in REFUSED {
-        refused_once(&rt, rt.alloc(), *fail);
+        refused_once(&rt, rt.alloc(), 1, *fail);
     }
     for cell in &READ {
         let (cell, writes) = (*cell, 66);
-        refused_once(&rt, rt.alloc(), Fail::Read { cell, writes });
+        refused_once(&rt, rt.alloc(), 1, Fail::Read { cell, writes });
     }
+}
+
+// The six reads of the recorded batch, by as many lanes as there are reads at the most.
+#[test]
+fn each_refused_read_of_a_repeated_batch_is_the_stores(rt: HostRuntime) {
     for cell in &[41, 46, 56, 42, 47, 57] {
-        let (cell, writes) = (*cell, 69);
-        refused_once(&rt, rt.alloc(), Fail::Read { cell, writes });
+        for lanes in 1..7 {
+            let (cell, writes) = (*cell, 69);
+            refused_once(&rt, rt.alloc(), lanes, Fail::Read { cell, writes });
+        }
+    }
+}
+
+// The two openings make four lanes each before the batch is read again, by a lane for each read.
+#[test]
+fn each_refused_lane_of_a_repeated_batch_is_the_stores(rt: HostRuntime) {
+    for lane in 8..14 {
+        refused_once(&rt, rt.alloc(), 16, Fail::Lane(lane));
     }
 }
 
@@ -314,14 +360,14 @@ fn a_changed_bit_is_told_by_the_cell(rt: HostRuntime) {
     for (cell, told) in CHANGED {
         let mut left = left_after(&rt, &store, 1000, None);
         flip(&rt, &mut left, *cell);
-        assert!(rt; open(&rt, rt.alloc(), &mut left, &mut Blind) == *told);
+        assert!(rt; open(&rt, rt.alloc(), &mut left, 1, &mut Blind) == *told);
     }
 }
 
 #[test]
 fn zeros_are_no_store(rt: HostRuntime) {
     let mut blank = blank_store(&rt, rt.alloc(), &[]);
-    open_shown(&rt, rt.alloc(), &mut blank, Told::NotStore, &[REGISTERS]);
+    open_shown(&rt, rt.alloc(), &mut blank, 1, Told::NotStore, &[REGISTERS]);
 }
 
 // The generation's body with the last number: nothing is written, and no generation begun.
@@ -332,5 +378,12 @@ fn the_last_generation_is_told_before_anything_is_written(rt: HostRuntime) {
     set_u64(&mut plain, 0, (1 << 62) - 1);
     let body = Sealer::new(&test_keys(), 0).stamp(3, &plain);
     assert!(rt; store.write(3, &body).is_ok());
-    open_shown(&rt, rt.alloc(), &mut store, Told::Worn(1 << 62), &[FOUND]);
+    open_shown(
+        &rt,
+        rt.alloc(),
+        &mut store,
+        1,
+        Told::Worn(1 << 62),
+        &[FOUND],
+    );
 }

@@ -1,6 +1,6 @@
 //! Recorded batches that ask for keys, repeated: what they read stands in the stash.
 
-ghost use Rattle.std.specs.Prelude.{◌≡◌};
+ghost use Rattle.std.specs.Prelude.{◌≡◌, ◌≤◌};
 ghost use Rattle.ob_mem.specs.Memory.{disk_of_store};
 ghost use Rattle.ob_recover.specs.Finds.{ObeysFound};
 
@@ -16,6 +16,7 @@ use ob_seal::Sealer;
 use ob_store::{Blind, Store};
 use std::alloc::Global;
 use std::process::Abort;
+use std::thread::Threads;
 
 // The store after two epochs.
 fn after_two_epochs(rt: &impl Abort, alloc: Global) -> MemStore
@@ -81,14 +82,23 @@ fn holds_five(rt: &impl Abort, ring: &Ring) -> bool {
 }
 
 // How many batches are left behind those that stand in the log, and whether the stash then has the
-// row of key 5, and no other.
-fn replayed(rt: &impl Abort, alloc: Global, store: &mut MemStore) -> (u32, bool) {
+// row of key 5, and no other, where so many lanes read them.
+fn replayed<R: Abort + Threads + Sync>(
+    rt: &R,
+    alloc: Global,
+    store: &mut MemStore,
+    lanes: usize,
+) -> (u32, bool)
+    requires { (1 ≤ lanes) × (lanes ≤ 16) }
+{
     let p = small_store(rt);
     let mut jobs = Jobs::new(alloc, &p).expect(rt, "memory");
-    let mut crew = Crew::new(alloc, 1, jobs.room()).expect(rt, "memory");
+    let mut crew = Crew::new(alloc, lanes, jobs.room()).expect(rt, "memory");
     let sealer = Sealer::new(&test_keys(), 3);
     let found = found_in(rt, alloc, store, &p);
-    match replay(store, &mut crew, &sealer, &p, &mut jobs, found, &mut Blind) {
+    match replay(
+        rt, store, &mut crew, &sealer, &p, &mut jobs, found, &mut Blind,
+    ) {
         Ok((ring, left)) => (left, holds_five(rt, &ring)),
         Err(_) => (9, false),
     }
@@ -119,6 +129,8 @@ fn a_key_that_is_asked_for_stands_in_the_stash(rt: HostRuntime) {
     for (records, left, holds) in ROWS {
         let mut store = after_two_epochs(&rt, rt.alloc());
         record_batches(&rt, &mut store, records);
-        assert!(rt; replayed(&rt, rt.alloc(), &mut store) == (*left, *holds));
+        for lanes in 1..17 {
+            assert!(rt; replayed(&rt, rt.alloc(), &mut store, lanes) == (*left, *holds));
+        }
     }
 }

@@ -5,6 +5,8 @@
 
 mod cell;
 mod files;
+mod gathering;
+mod lanes;
 mod locking;
 mod process;
 mod store;

@@ -6,6 +6,7 @@ use mathlib.Core.Path.{fun_ext}
 use Rattle.ob_base.specs.Repeats.{Has, NoRepeats}
 use Rattle.ob_base.proofs.Repeats.{has_cases}
 use Rattle.ob_store.specs.Disk.{Disk, Image, Clock, NotAfter}
+use Rattle.ob_store.specs.Images.{IsImageOf}
 use Rattle.ob_store.proofs.Moments.{no_later}
 use Rattle.ob_seal.specs.declared.keys.Keys.{Keys}
 use Rattle.ob_seal.specs.Sealing.{Sealing}
@@ -80,6 +81,10 @@ module _ {S : Type 0} (disk : S → Disk) (keys : Keys) where
     reads : (at : At S) (done : List Pad) (h : Holds at done) → IsFrom h.low (disk at.store).cells
     reads at done h = now at done h (disk at.store).cells (has.includes_reads at.store h.tells h.leaves)
 
+    -- what reads give is among what a crash may leave
+    image_left : (at : At S) (done : List Pad) (h : Holds at done) (c : Image) → IsImageOf (disk at.store) c → (disk at.store).may_leave c
+    image_left at done h c is = ⊎_elim (λ left. left) (λ read. subst (λ (i : Image). (disk at.store).may_leave i) (sym read.1) (has.includes_reads at.store h.tells h.leaves)) is
+
     -- what an opening leaves, that went well or not
     from_next : (at : At S) (done : List Pad) (h : Holds at done) (new : Disk) → LeavesNext keys (disk at.store) new → (c : Image) → new.left_since (disk at.store).moment c → IsFrom h.low c
     from_next at done h new leaves c left =
@@ -153,7 +158,7 @@ module _ {S : Type 0} (disk : S → Disk) (keys : Keys) where
       made = pads_from was.generation was.next (r.next - was.next)
 
       left_at : (c : Image) → (disk store).left_since (disk at.store).moment c → IsAtGeneration keys was.generation c
-      left_at c left = subst (λ (k : Keys). IsAtGeneration k was.generation c) w.keys_are ((s.images (λ d before. subst (λ (k : Keys). IsAtGeneration k was.generation d) (sym w.keys_are) (w.images d before))).each c left)
+      left_at c left = subst (λ (k : Keys). IsAtGeneration k was.generation c) w.keys_are ((s.images (λ d before. subst (λ (k : Keys). IsAtGeneration k was.generation d) (sym w.keys_are) (w.images d (image_left at done h d before)))).each c left)
 
       answered_step : Holds (after_act at (Answered store r answer)) (done ++ made)
       answered_step =

@@ -2,7 +2,7 @@
 -- behind both registers, and the sealer, so they are those of every kind of vault.
 use Rattle.std.specs.Prelude.{◌≡◌, ◌⊎◌, ℕ, suc, List, [], ◌∷◌, ◌++◌, Option, Some, None, IfSome}
 use Rattle.ob_store.specs.Disk.{Disk, Image}
-use Rattle.ob_store.specs.Images.{IsSynced, LeavesOnly}
+use Rattle.ob_store.specs.Images.{IsSynced, IsImageOf, LeavesOnly}
 use Rattle.ob_store.specs.Calls.{GoesOn}
 use Rattle.ob_seal.specs.declared.keys.Keys.{Keys}
 use Rattle.ob_seal.specs.Sealing.{Sealing}
@@ -79,13 +79,14 @@ pub record LeavesUnopened (keys : Keys) (old new : Disk) : Type 0 where
   pub tells : new.tells
   pub crash : LeavesNext keys old new
 
--- a call of a vault: where each image stood at the run's generation, each that a crash leaves does
+-- a call of a vault: where each image stood at the run's generation, and what reads gave, so does each that a crash leaves, and what
+-- reads then give
 pub record Answers (old new : Disk) (was now : Sealing) (answer : VaultAnswer) : Type 0 where
   pub goes : GoesOn old new
   pub tells : new.tells
   pub further : SealerGoesOn was now
   pub seals : SealsBy answer was now old.cells new.cells
-  pub images : ((c : Image) → old.may_leave c → IsAtGeneration was.keys was.generation c) → LeavesOnly old new (IsAtGeneration was.keys was.generation)
+  pub images : ((c : Image) → IsImageOf old c → IsAtGeneration was.keys was.generation c) → LeavesOnly old new (IsAtGeneration was.keys was.generation)
 
 -- A crash leaves an image that the store may have left since the last act began, and nothing waits for a sync.
 pub record IsCrashed (since old new : Disk) : Type 0 where

@@ -10,9 +10,11 @@ use ob_base::{Key, Memory, Value, Write};
 use ob_serial::{EndErr, Vault};
 use ob_store::Watch;
 use std::alloc::Global;
+use std::thread::Threads;
 
 // The values of a batch.
-fn fetch<V: Vault, W: Watch>(
+fn fetch<R: Threads + Sync, V: Vault, W: Watch>(
+    rt: &R,
     alloc: Global,
     vault: &mut V,
     keys: &[Option<Key>],
@@ -31,13 +33,18 @@ fn fetch<V: Vault, W: Watch>(
         (vault_next v (Fetch keys.now) (answer_of reply))) }
 {
     let mut values: Vec<Option<Value>> = vec![in alloc; None; keys.len()]?;
-    match vault.fetch(keys, &mut values, watch) {
+    match vault.fetch(rt, keys, &mut values, watch) {
         Ok(()) => Ok(Reply::Values(values)),
         Err(fault) => Ok(Reply::Refused(fault)),
     }
 }
 
-fn end<V: Vault, W: Watch>(vault: &mut V, writes: &[Write], watch: &mut W) -> Reply
+fn end<R: Threads + Sync, V: Vault, W: Watch>(
+    rt: &R,
+    vault: &mut V,
+    writes: &[Write],
+    watch: &mut W,
+) -> Reply
     requires { MayEnd (V.params vault.old) (V.counts vault.old) writes.now }
     ensures params { V.params vault.new ≡ V.params vault.old }
     ensures counts { V.counts vault.new
@@ -49,14 +56,15 @@ fn end<V: Vault, W: Watch>(vault: &mut V, writes: &[Write], watch: &mut W) -> Re
     ensures holds { (v : VaultState) → V.holds vault.old v
         → V.holds vault.new (vault_next v (End (writes_of writes.now)) (answer_of result)) }
 {
-    match vault.end(writes, watch) {
+    match vault.end(rt, writes, watch) {
         Ok(()) => Reply::Ended,
         Err(EndErr::Before(fault)) => Reply::Refused(fault),
         Err(EndErr::Unsure(fault)) => Reply::Doubt(fault),
     }
 }
 
-fn serve_one<V: Vault, W: Watch>(
+fn serve_one<R: Threads + Sync, V: Vault, W: Watch>(
+    rt: &R,
     alloc: Global,
     vault: &mut V,
     request: &Request,
@@ -75,8 +83,8 @@ fn serve_one<V: Vault, W: Watch>(
         (vault_next v (call_of request.now) (answer_of reply))) }
 {
     match request {
-        Request::Fetch(keys) => fetch(alloc, vault, keys, watch),
-        Request::End(writes) => Ok(end(vault, writes, watch)),
+        Request::Fetch(keys) => fetch(rt, alloc, vault, keys, watch),
+        Request::End(writes) => Ok(end(rt, vault, writes, watch)),
     }
 }
 
@@ -85,7 +93,8 @@ fn serve_one<V: Vault, W: Watch>(
 ///
 /// # Errors
 /// Memory was wanting.
-pub fn serve_all<V: Vault, W: Watch>(
+pub fn serve_all<R: Threads + Sync, V: Vault, W: Watch>(
+    rt: &R,
     alloc: Global,
     vault: &mut V,
     requests: &[Request],
@@ -106,7 +115,7 @@ pub fn serve_all<V: Vault, W: Watch>(
 {
     let mut replies = Vec::new(alloc);
     for request in requests {
-        let reply = serve_one(alloc, vault, request, watch)?;
+        let reply = serve_one(rt, alloc, vault, request, watch)?;
         replies.push(reply)?;
         if vault.spent() {
             return Ok(replies);

@@ -14,11 +14,13 @@ use Rattle.ob_log.specs.Appends.{append_notes}
 use Rattle.ob_recover.specs.Repeats.{asked_of_record, repeated_notes, table_after_records}
 use Rattle.ob_ring.specs.FlatTable.{Batch, FlatTable, Shown, leaves_shown, picks}
 use Rattle.ob_ring.specs.Laws.{seen_in}
+use Rattle.ob_schedule.specs.Phases.{Reads, cells_read, phases_of}
 use Rattle.ob_schedule.specs.Schedule.{Fills, Public, after_phase, batch_leaves, phase_notes, record_notes}
 use Rattle.ob_store.specs.declared.watch.Note.{Note}
 use Rattle.ob_twin.specs.declared.gates.Gates.{Gates}
 use Rattle.ob_recover.specs.Batches.{BatchIsScheduled, BatchesAreScheduled}
 use Rattle.ob_recover.specs.Known.{AreFillsOf, fills_of, gates_open, label_among, leaves_of_records, picks_of_records, public_of_kept}
+use Rattle.ob_recover.proofs.CellsRead.{batch_read_cells}
 use Rattle.ob_recover.proofs.Fills.{RecordsLead, content_leads, fills_own, flat, leaves_both, leaves_many, picks_both}
 use Rattle.ob_recover.proofs.ShownOpening.{leaves_are}
 use Rattle.ob_recover.proofs.Orders.{record_written}
@@ -88,6 +90,7 @@ module _ (p : Params) (c : Content) (rs : List BatchRecord) (r : BatchRecord) (e
   pub batch_is : BatchIsScheduled p c rs r epoch gates f
   batch_is = record {
     notes = λ i. logged i ++ read i;
+    phases = λ i. phases_of (logged i) ++ Reads ((sym (batch_read_cells p c.versions t (asked_of_record p r)) ∙ ap cells_read read) i) ∷ [];
     begins = (phase_notes p q f (batch_leaves p f (length rs)), ap (λ (ns : List Note). ns ++ phase_notes p q f (batch_leaves p f (length rs))) (sym logged));
     behind = ap (after_phase p q) same ∙ ap (λ (l : List ℕ). record q { leaves = l }) flat_more;
   }

@@ -28,7 +28,8 @@ use Rattle.ob_ring.proofs.TableLaws.{few_counted}
 use Rattle.ob_base.specs.Tree.{below, path}
 use Rattle.ob_schedule.specs.Paths.{by_falling_level, eviction_path, is_one_of}
 use Rattle.ob_schedule.specs.Holes.{final_holes}
-use Rattle.ob_schedule.specs.Schedule.{Fills, Public, after_end, bucket_writes, check_cells, counts_now, end_notes, gate_cell, hole_reads, is_lifted_by_end, log_gates, set_twin, writes_of}
+use Rattle.ob_schedule.specs.Phases.{Reads, cells_read, phases_of}
+use Rattle.ob_schedule.specs.Schedule.{Fills, Public, after_end, bucket_writes, check_cells, counts_now, end_lifts, gate_cell, hole_reads, is_lifted_by_end, log_gates, set_twin, writes_of, written_by_end}
 use Rattle.ob_store.specs.declared.watch.Note.{Note}
 use Rattle.ob_store.specs.declared.watch.Note.TheVariants.{Sync}
 use Rattle.ob_tables.specs.declared.entry.Entry.{Entry}
@@ -37,8 +38,9 @@ use Rattle.ob_twin.specs.Register.{place_of}
 use Rattle.ob_twin.specs.declared.gates.Gates.{Gates}
 use Rattle.ob_twin.specs.declared.gates.Open.{Open}
 use Rattle.ob_stand.specs.Epochs.{Read, after_batches, before_refill}
-use Rattle.ob_recover.specs.Ends.{RefillsFrom, EndIsScheduled, EndsAreScheduled, LiftsComeFirst, closing_notes, gates_ended, lifts_notes, refill_notes}
+use Rattle.ob_recover.specs.Ends.{RefillsFrom, EndIsScheduled, EndsAreScheduled, LiftsComeFirst, closing_notes, gates_ended, lifts_cells, lifts_notes, refill_notes}
 use Rattle.ob_recover.specs.Known.{AreSlotsOf, fills_with_lifts, gates_open, public_of_kept, slot_kept}
+use Rattle.ob_recover.proofs.CellsRead.{picked_read}
 use Rattle.ob_recover.proofs.Fills.{RecordsLead, content_leads, lifts_own}
 use Rattle.ob_recover.proofs.Orders.{buckets_written, check_written, epoch_known, epoch_set}
 use Rattle.ob_recover.proofs.Phases.{picked_alike, reads_agree}
@@ -96,8 +98,8 @@ homes_agree p test h k (u ∷ us) same = by_case (test u) refl (homes_agree p te
     by_case true is rest = λ i. writes_of (map (slot_cell p (same u is i) u) (below (p.real + p.dummies))) ++ rest i
     by_case false is rest = rest
 
-regroup : (h b c g s t : List Note) → h ++ (b ++ (c ++ (g ++ (s ++ t)))) ≡ ((((h ++ b) ++ c) ++ g) ++ s) ++ t
-regroup h b c g s t = simp append_assoc
+regroup : (b c g s t : List Note) → b ++ (c ++ (g ++ (s ++ t))) ≡ (((b ++ c) ++ g) ++ s) ++ t
+regroup b c g s t = simp append_assoc
 
 -- ---- the lifts
 
@@ -126,7 +128,7 @@ module _ (p : Params) (c : Content) (rs : List BatchRecord) (epoch : ℕ) (gates
   own : AreSlotsOf c shown f
   own = lifts_own p c rs obeys
 
-  pub lifts_are : lifts_notes p c rs ≡ hole_reads p q f (final_holes p (counts_now p q) q.counter)
+  pub lifts_are : lifts_notes p c rs ≡ end_lifts p q f
   lifts_are =
       picked_alike p c (final_picked p t (eviction_path p t.counter)) shown (jobs_read_picks.lifts p t)
       ∙ reads_agree p q f (slot_kept c) shown own
@@ -137,22 +139,11 @@ module _ (p : Params) (c : Content) (rs : List BatchRecord) (epoch : ℕ) (gates
       let fin : FinalLaw p t (counts_now p q) (λ v. false) (eviction_path p t.counter) = final_law p t (counts_now p q) (λ v. false) (eviction_path p t.counter) lead.sound (record { lifted_is = counted.lifted_is; reads_is = counted.reads_is }) in
       fin.lifted_is u ∙ (λ i. is_one_of (eviction_path p (counter_is i)) u || nat_le p.dummies (counts_now p q u))
 
-  -- what an end shows behind its lifts
-  abbrev behind_lifts : List Note
-  behind_lifts =
-      let e = q.epoch + 1 in
-      bucket_writes p (λ u. 1 - q.homes u) (filter (is_lifted_by_end p q) (by_falling_level (p.levels + 1)))
-      ++ (writes_of (check_cells p (e % 2)) ++ (writes_of (log_gates p ((e + 1) % 2)) ++ ((Sync ∷ []) ++ set_twin p EpochTwin e (q.gates (gate_cell p EpochTwin e)))))
-
-  pub end_parts : lifts_notes p c rs ++ behind_lifts ≡ end_notes p q f
-  end_parts =
-      let e = q.epoch + 1 in
-      ap (λ (ns : List Note). ns ++ behind_lifts) lifts_are
-      ∙ regroup (hole_reads p q f (final_holes p (counts_now p q) q.counter)) (bucket_writes p (λ u. 1 - q.homes u) (filter (is_lifted_by_end p q) (by_falling_level (p.levels + 1))))
-      (writes_of (check_cells p (e % 2))) (writes_of (log_gates p ((e + 1) % 2))) (Sync ∷ []) (set_twin p EpochTwin e (q.gates (gate_cell p EpochTwin e)))
-
 pub lifts_come_first : LiftsComeFirst
-lifts_come_first p c rs epoch gates obeys fit = (behind_lifts p c rs epoch gates obeys, sym (end_parts p c rs epoch gates obeys))
+lifts_come_first p c rs epoch gates obeys fit = (
+  written_by_end p (public_of_kept p c rs epoch gates),
+  ap (λ (ns : List Note). ns ++ written_by_end p (public_of_kept p c rs epoch gates)) (sym (lifts_are p c rs epoch gates obeys)),
+)
 
 -- ---- the end
 
@@ -224,9 +215,20 @@ module _ (p : Params) (c : Content) (rs : List BatchRecord) (epoch : ℕ) (gates
       (λ i. check_written p (suc epoch) i ++ (writes_of (log_gates p (further i % 2)) ++ ((Sync ∷ []) ++ epoch_set p gates (suc epoch) has i)))
       ∙ (λ i. writes_of (check_cells p (sym next i % 2)) ++ (writes_of (log_gates p (((epoch + 1) + 1) % 2)) ++ ((Sync ∷ []) ++ set_twin p EpochTwin (sym next i) (gates_open gates (gate_cell p EpochTwin (sym next i))))))
 
+  written : refill_notes p (run.filled).versions (run.before).order ++ closing_notes p epoch gates ≡ written_by_end p q'
+  written =
+      let e = epoch + 1 in
+      (λ i. refilled i ++ closed i)
+      ∙ regroup (bucket_writes p (λ u. 1 - q'.homes u) (filter (is_lifted_by_end p q') (by_falling_level (p.levels + 1)))) (writes_of (check_cells p (e % 2))) (writes_of (log_gates p ((e + 1) % 2))) (Sync ∷ [])
+      (set_twin p EpochTwin e (gates_open gates (gate_cell p EpochTwin e)))
+
+  lifted_cells : lifts_cells p c rs ≡ cells_read (end_lifts p q' (fills_with_lifts p c rs))
+  lifted_cells = sym (picked_read p c.versions (final_picked p t' (eviction_path p t'.counter))) ∙ ap cells_read (lifts_are p c rs epoch gates obeys)
+
   pub end_is_scheduled : EndIsScheduled p c rs epoch gates run c'
   end_is_scheduled = record {
-    notes = (λ i. lifts_notes p c rs ++ (refilled i ++ closed i)) ∙ end_parts p c rs epoch gates obeys;
+    notes = λ i. lifts_are p c rs epoch gates obeys i ++ written i;
+    phases = λ i. Reads (lifted_cells i) ∷ phases_of (written i);
     behind = behind;
     gate = set_open gates.epoch (place_of (suc epoch));
   }

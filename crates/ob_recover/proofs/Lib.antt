@@ -26,6 +26,8 @@ pub mod Formats
 pub mod ShownOpening
 pub mod Batch
 pub mod Ending
+pub mod CellsRead
+pub mod Dealing
 pub mod Telling
 pub mod Tree
 pub mod Living

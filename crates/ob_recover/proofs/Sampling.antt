@@ -7,4 +7,4 @@ use Rattle.ob_recover.specs.Samples.{Sampled}
 
 pub sampled : Sampled
 unfolding buckets record_cells log_cells checkpoint_len checkpoint_cells home_cells
-sampled = record { p = p0; numbers = refl; opened = refl; logged = refl; lifted = refl; leaves = refl }
+sampled = record { p = p0; numbers = refl; opened = refl; shared = refl; logged = refl; lifted = refl; leaves = refl }

@@ -1,7 +1,7 @@
 -- An opening's calls show the schedule's opening.
 use Rattle.std.specs.Prelude.{◌≡◌, ℕ, zero, suc, ◌+◌, ◌<◌, ◌≤◌, ◌%◌, Bool, List, [], ◌∷◌, ◌++◌, map, length, take, Option, slice_index, Ok}
-use Rattle.std.proofs.Common.{arith, refl, sym, ap, ◌∙◌, append_assoc, length-append}
-use Rattle.std.proofs.lemmas.List.{length-map, take_all, take-append-le}
+use Rattle.std.proofs.Common.{arith, refl, sym, ap, subst, ◌∙◌, append_assoc, length-append}
+use Rattle.std.proofs.lemmas.List.{append-nil, length-map, take_all, take-append-le}
 use Rattle.std.proofs.lemmas.List.FromFn.{length-map-range_with_len}
 use mathlib.Core.Path.{fun_ext}
 use Rattle.ob_base.specs.declared.params.Params.{Params}
@@ -16,10 +16,11 @@ use Rattle.ob_stand.proofs.Reading.{tables_are_read}
 use Rattle.ob_recover.proofs.NotesLaws.{counts_follow}
 use Rattle.ob_log.specs.Logs.{BatchRecord, RecordsFit, record_at}
 use Rattle.ob_recover.specs.Finds.{finding_notes}
-use Rattle.ob_recover.specs.Repeats.{asked_of_record, record_places, repeat_notes, repeated_notes}
+use Rattle.ob_recover.specs.Repeats.{asked_of_record, batch_cells, record_places, repeat_cells, repeat_notes, repeated_notes}
 use Rattle.ob_ring.specs.FlatTable.{Batch, FlatTable, after, after_place, leaves_shown, picks}
 use Rattle.ob_ring.specs.Sound.{IsCounted, IsSound}
 use Rattle.ob_ring.proofs.Batches.{batch_law}
+use Rattle.ob_schedule.specs.Phases.{Phase, Reads, cells_read, open_phases, phases_of, repeat_phases}
 use Rattle.ob_schedule.specs.Schedule.{Fills, Public, after_open, after_phase, after_repeats, batch_leaves, begun_public, check_cells, counts_now, gate_cell, open_notes, opens_gate, phase_notes, reads_of, region_cells, repeats, set_twin}
 use Rattle.ob_store.specs.declared.watch.Note.{Note}
 use Rattle.ob_store.specs.declared.watch.Note.TheVariants.{Sync}
@@ -28,7 +29,8 @@ use Rattle.ob_twin.specs.Opening.{HasOpen}
 use Rattle.ob_twin.specs.declared.gates.Gates.{Gates}
 use Rattle.ob_recover.specs.Known.{AreFillsOf, AreSlotsOf, fills_of, gates_open, label_among, leaves_of_records, picks_of_records, public_of_kept}
 use Rattle.ob_recover.specs.Fronts.{CutsOfFronts, AreFirstNotes}
-use Rattle.ob_recover.specs.ShownOpenings.{OpeningIsScheduled, OpeningsAreScheduled, OpeningsBegin, began_notes, opening_notes}
+use Rattle.ob_recover.specs.ShownOpenings.{OpeningIsScheduled, OpeningsAreScheduled, OpeningsBegin, began_notes, opening_notes, opened_phases}
+use Rattle.ob_recover.proofs.CellsRead.{batch_read_cells}
 use Rattle.ob_recover.proofs.Fills.{fills_own, flat, items_of, leaves_join, none_more, with_leaves}
 use Rattle.ob_recover.proofs.Orders.{check_read, generation_known, generation_set, log_read, registers_read}
 use Rattle.ob_recover.proofs.Phases.{homes_kept, phase_is}
@@ -71,11 +73,16 @@ later_labels p t r rs f b labels j i lt = let z : (b + 1) + j ≡ b + suc j = om
 later_wide : (p : Params) (r : BatchRecord) (rs : List BatchRecord) → AreWide p (r ∷ rs) → AreWide p rs
 later_wide p r rs wide b lt = wide (suc b) (omega arith)
 
+-- the first records' batches are the schedule's repeats, and so are their phases
+abbrev AreRepeats : Params → Public → Fills → Content → FlatTable → ℕ → List BatchRecord → ℕ → Type 0
+AreRepeats p q f c t b rs count =
+    (repeat_notes p c.versions t (take count rs) ≡ repeats p q f b count) × (map (λ cells. Reads cells) (repeat_cells p c.versions t (take count rs)) ≡ repeat_phases p q f b count)
+
 repeats_are : (p : Params) (q : Public) (f : Fills) (c : Content) (t : FlatTable) (b : ℕ) (rs : List BatchRecord) (count : ℕ) → q.homes ≡ homes_kept c → IsSound p t → IsCounted p t (counts_now p q) → AreWide p rs → AreLabels p t rs f b
-    → AreSlotsOf c (picks_of_records p t rs) f → count ≤ length rs → repeat_notes p c.versions t (take count rs) ≡ repeats p q f b count
-repeats_are p q f c t b [] zero homes sound counted wide labels slots few = refl
+    → AreSlotsOf c (picks_of_records p t rs) f → count ≤ length rs → AreRepeats p q f c t b rs count
+repeats_are p q f c t b [] zero homes sound counted wide labels slots few = (refl, refl)
 repeats_are p q f c t b [] (suc n) homes sound counted wide labels slots few = absurd (omega arith)
-repeats_are p q f c t b (r ∷ rs) zero homes sound counted wide labels slots few = refl
+repeats_are p q f c t b (r ∷ rs) zero homes sound counted wide labels slots few = (refl, refl)
 repeats_are p q f c t b (r ∷ rs) (suc n) homes sound counted wide labels slots few =
     let asked : List (Option ℕ × ℕ) = asked_of_record p r in
     let leaves : List ℕ = leaves_shown p t asked in
@@ -83,11 +90,12 @@ repeats_are p q f c t b (r ∷ rs) (suc n) homes sound counted wide labels slots
     let same : batch_leaves p f b ≡ leaves = leaves_are p t r f b (wide 0 (omega arith)) (first_labels p t r rs f b labels) in
     let here : repeated_notes p c.versions t asked ≡ phase_notes p q f (batch_leaves p f b) =
     phase_is p q f c t asked homes sound counted (λ s has. slots s (has_left (picks p t (Batch asked)) (picks_of_records p t1 rs) s has)) ∙ ap (phase_notes p q f) (sym same) in
-    let rest : repeat_notes p c.versions t1 (take n rs) ≡ repeats p (after_phase p q (batch_leaves p f b)) f (b + 1) n =
-    repeats_are p (after_phase p q leaves) f c t1 (b + 1) rs n homes (batch_law p t asked (counts_now p q) sound counted).sound (counts_follow p q t asked sound counted) (later_wide p r rs wide) (later_labels p t r rs f b labels)
-    (λ s has. slots s (has_right (picks p t (Batch asked)) (picks_of_records p t1 rs) s has)) (omega arith)
-    ∙ ap (λ (l : List ℕ). repeats p (after_phase p q l) f (b + 1) n) (sym same) in
-    λ i. here i ++ rest i
+    let cells : batch_cells p c.versions t asked ≡ cells_read (phase_notes p q f (batch_leaves p f b)) = sym (batch_read_cells p c.versions t asked) ∙ ap cells_read here in
+    let rest : AreRepeats p (after_phase p q (batch_leaves p f b)) f c t1 (b + 1) rs n =
+    subst (λ (l : List ℕ). AreRepeats p (after_phase p q l) f c t1 (b + 1) rs n) (sym same)
+    (repeats_are p (after_phase p q leaves) f c t1 (b + 1) rs n homes (batch_law p t asked (counts_now p q) sound counted).sound (counts_follow p q t asked sound counted) (later_wide p r rs wide) (later_labels p t r rs f b labels)
+    (λ s has. slots s (has_right (picks p t (Batch asked)) (picks_of_records p t1 rs) s has)) (omega arith)) in
+    (λ i. here i ++ rest.0 i, λ i. Reads (cells i) ∷ rest.1 i)
 
 behind_repeats : (p : Params) (q : Public) (f : Fills) (t : FlatTable) (b : ℕ) (rs : List BatchRecord) → AreWide p rs → AreLabels p t rs f b → after_repeats p q f b (length rs) ≡ with_leaves q (flat (leaves_of_records p t rs))
 behind_repeats p q f t b [] wide labels = sym (none_more q)
@@ -122,6 +130,9 @@ began_is p epoch generation found notes has =
     ∙ regroup (reads_of (region_cells p GenerationTwin ++ region_cells p EpochTwin)) (reads_of (check_cells p (epoch % 2))) (reads_of (region_cells p (LogArea ((epoch + 1) % 2)))) (Sync ∷ [])
     (set_twin p GenerationTwin (suc generation) (gates_open found (gate_cell p GenerationTwin (suc generation)))) notes
 
+began_alone : (p : Params) (epoch generation : ℕ) (found : Gates) → HasOpen found.generation → began_notes p epoch found generation ≡ opened_by p epoch (gates_open found) (suc generation)
+began_alone p epoch generation found has = sym (append-nil (began_notes p epoch found generation)) ∙ began_is p epoch generation found [] has ∙ append-nil (opened_by p epoch (gates_open found) (suc generation))
+
 module _ (p : Params) (c : Content) (rs : List BatchRecord) (epoch generation : ℕ) (found : Gates) (shown : List BatchRecord) (known : Gates) (obeys : Obeys p c) (fit : RecordsFit p rs) (has : HasOpen found.generation) where
   abbrev f : Fills
   f = fills_of p c rs
@@ -141,9 +152,15 @@ module _ (p : Params) (c : Content) (rs : List BatchRecord) (epoch generation : 
   counted : IsCounted p (flat_of p c) (counts_now p begun)
   counted = opening_counts p c epoch (gates_open found) obeys
 
+  again : (count : ℕ) → count ≤ length rs → AreRepeats p begun f c (flat_of p c) 0 rs count
+  again count few = repeats_are p begun f c (flat_of p c) 0 rs count refl (tables_are_read p c obeys).orderly.sound counted (wide_of p rs fit) labels own.slots few
+
+  phases : (count : ℕ) → count ≤ length rs → opened_phases p c (take count rs) epoch found generation ≡ open_phases p q f (gates_open found) (suc generation) count
+  phases count few = λ i. phases_of (began_alone p epoch generation found has i) ++ (again count few).1 i
+
   notes : (count : ℕ) → count ≤ length rs → opening_notes p c (take count rs) epoch found generation ≡ open_notes p q f (gates_open found) (suc generation) count
   notes count few =
-      ap (λ (ns : List Note). began_notes p epoch found generation ++ ns) (repeats_are p begun f c (flat_of p c) 0 rs count refl (tables_are_read p c obeys).orderly.sound counted (wide_of p rs fit) labels own.slots few)
+      ap (λ (ns : List Note). began_notes p epoch found generation ++ ns) (again count few).0
       ∙ began_is p epoch generation found (repeats p begun f 0 count) has
 
   behind : after_open p q f (gates_open found) (suc generation) (length rs) ≡ public_of_kept p c rs epoch (gates_begun generation found (Ok (suc generation)))
@@ -155,6 +172,8 @@ module _ (p : Params) (c : Content) (rs : List BatchRecord) (epoch generation : 
   pub opening_is_scheduled : OpeningIsScheduled p c rs epoch generation found shown known
   opening_is_scheduled = record {
     notes = notes;
+    phases = phases;
+    all_phases = ap (λ (few : List BatchRecord). opened_phases p c few epoch found generation) (sym (take_all (length rs) rs (omega arith))) ∙ phases (length rs) (omega arith);
     whole = ap (λ (few : List BatchRecord). opening_notes p c few epoch found generation) (sym (take_all (length rs) rs (omega arith))) ∙ notes (length rs) (omega arith);
     behind = behind;
   }

@@ -5,6 +5,7 @@ use Rattle.std.specs.declared.option.Option.TheVariants.{None, Some}
 use Rattle.std.proofs.Common.{refl}
 use Rattle.ob_ring.specs.FlatTable.{FlatTable, Batch, FinalLifts, Writes, Refill, picks, after}
 use Rattle.ob_store.specs.declared.watch.Note.TheVariants.{Label, Read, Write, Sync}
+use Rattle.ob_schedule.specs.Phases.{Reads, Syncs, Writes, batch_phases, end_phases, phases_of}
 use Rattle.ob_schedule.specs.Schedule.{Public, Fills, reads_of, writes_of, format_notes, public_formatted, open_notes, after_open, batch_notes, batch_leaves, after_phase, end_notes, after_end}
 use Rattle.ob_base.specs.Layout.{record_cells, log_cells, checkpoint_len, checkpoint_cells, home_cells}
 use Rattle.ob_base.specs.Tree.{buckets}
@@ -59,6 +60,18 @@ end_1 : end_notes p0 q3 fills_1 ≡ reads_of (49 ∷ 50 ∷ 64 ∷ 65 ∷ []) ++
     ++ writes_of (28 ∷ 29 ∷ 30 ∷ 31 ∷ 32 ∷ 33 ∷ 34 ∷ 35 ∷ 36 ∷ 37 ∷ 38 ∷ 10 ∷ 12 ∷ []) ++ Sync ∷ Write 7 ∷ Sync ∷ Write 8 ∷ Sync ∷ []
 unfolding buckets record_cells log_cells checkpoint_len checkpoint_cells home_cells
 end_1 = refl
+
+-- the phases of these: a batch's reads are one, and so are an end's lifts
+phases_1 : batch_phases p0 q1 fills_1 0 ≡ Writes (13 ∷ []) ∷ Syncs ∷ Writes (14 ∷ []) ∷ Syncs ∷ Reads (41 ∷ 46 ∷ 56 ∷ 42 ∷ 47 ∷ 57 ∷ []) ∷ []
+unfolding buckets record_cells log_cells checkpoint_len checkpoint_cells home_cells
+phases_1 = refl
+
+lifts_1 : end_phases p0 q3 fills_1
+    ≡ Reads (49 ∷ 50 ∷ 64 ∷ 65 ∷ [])
+    ∷ phases_of (writes_of (89 ∷ 90 ∷ 91 ∷ 92 ∷ 93 ∷ 99 ∷ 100 ∷ 101 ∷ 102 ∷ 103 ∷ 79 ∷ 80 ∷ 81 ∷ 82 ∷ 83 ∷ 84 ∷ 85 ∷ 86 ∷ 87 ∷ 88 ∷ 74 ∷ 75 ∷ 76 ∷ 77 ∷ 78 ∷ [])
+    ++ writes_of (28 ∷ 29 ∷ 30 ∷ 31 ∷ 32 ∷ 33 ∷ 34 ∷ 35 ∷ 36 ∷ 37 ∷ 38 ∷ 10 ∷ 12 ∷ []) ++ Sync ∷ Write 7 ∷ Sync ∷ Write 8 ∷ Sync ∷ [])
+unfolding buckets record_cells log_cells checkpoint_len checkpoint_cells home_cells
+lifts_1 = refl
 
 -- a crash after the first batch, then an opening that repeats it
 again : open_notes p0 q1 fills_1 q1.gates 3 1 ≡ reads_of (1 ∷ 2 ∷ 3 ∷ 4 ∷ 5 ∷ 6 ∷ 7 ∷ 8 ∷ 17 ∷ 18 ∷ 19 ∷ 20 ∷ 21 ∷ 22 ∷ 23 ∷ 24 ∷ 25 ∷ 26 ∷ 27 ∷ 13 ∷ 14 ∷ 15 ∷ 16 ∷ []) ++ Sync ∷ Write 4 ∷ Sync ∷ Write 3 ∷ Sync ∷ Write 4 ∷ Sync ∷ Label 0 ∷ Read 41 ∷ Read 46 ∷

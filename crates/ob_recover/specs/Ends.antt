@@ -19,6 +19,7 @@ use Rattle.ob_ring.specs.Filling.{AreSealedAnew}
 use Rattle.ob_ring.specs.FlatTable.{refill_order}
 use Rattle.ob_ring.specs.Picked.{SameSeals, final_picked, job_of}
 use Rattle.ob_schedule.specs.Paths.{eviction_path}
+use Rattle.ob_schedule.specs.Phases.{Phase, Reads, end_phases, phases_of}
 use Rattle.ob_schedule.specs.Schedule.{after_end, end_notes, log_gates, writes_of}
 use Rattle.ob_store.specs.Lines.{Trace}
 use Rattle.ob_store.specs.Runs.{write_notes}
@@ -65,6 +66,10 @@ closing_notes p epoch gates =
 abbrev pub ending_notes : Params → Content → List BatchRecord → ℕ → Gates → List Version → List ℕ → List Note
 ending_notes p c rs epoch gates versions order = lifts_notes p c rs ++ (refill_notes p versions order ++ closing_notes p epoch gates)
 
+-- the lifts' reads as one phase, and the rest one by one
+abbrev pub ending_phases : Params → Content → List BatchRecord → ℕ → Gates → List Version → List ℕ → List Phase
+ending_phases p c rs epoch gates versions order = Reads (lifts_cells p c rs) ∷ phases_of (refill_notes p versions order ++ closing_notes p epoch gates)
+
 -- what is known of the gates once the epoch has ended
 abbrev pub gates_ended : Gates → ℕ → Gates
 gates_ended gates epoch = gates_set EPOCH (suc epoch) gates (Ok tt)
@@ -75,6 +80,7 @@ gates_ended gates epoch = gates_set EPOCH (suc epoch) gates (Ok tt)
 -- next content.
 pub record EndIsScheduled (p : Params) (c : Content) (rs : List BatchRecord) (epoch : ℕ) (gates : Gates) (run : RefillRun) (c' : Content) : Type 0 where
   pub notes : ending_notes p c rs epoch gates (run.filled).versions (run.before).order ≡ end_notes p (public_of_kept p c rs epoch gates) (fills_with_lifts p c rs)
+  pub phases : ending_phases p c rs epoch gates (run.filled).versions (run.before).order ≡ end_phases p (public_of_kept p c rs epoch gates) (fills_with_lifts p c rs)
   pub behind : after_end p (public_of_kept p c rs epoch gates) ≡ public_of_kept p c' [] (suc epoch) (gates_ended gates epoch)
   -- and the epoch's register has a gate known to be open again
   pub gate : HasOpen (gates_ended gates epoch).epoch
@@ -107,4 +113,4 @@ abbrev pub EndsAreTold : Type 0
 EndsAreTold = (most : ℕ) (p : Params) (c : Content) (rs : List BatchRecord) (epoch : ℕ) (gates : Gates) (run : RefillRun) (c' : Content) (old mid new : Option (List Event)) (before between later : Trace)
     → EndIsScheduled p c rs epoch gates run c' → BatchIsShown most (lifts_cells p c rs) (lifts_notes p c rs) old mid before between
     → Tells (refill_notes p (run.filled).versions (run.before).order ++ closing_notes p epoch gates) (refill_notes p (run.filled).versions (run.before).order ++ closing_notes p epoch gates) mid new between later
-    → AreTold most (end_notes p (public_of_kept p c rs epoch gates) (fills_with_lifts p c rs)) old new before later
+    → AreTold most (end_phases p (public_of_kept p c rs epoch gates) (fills_with_lifts p c rs)) (end_notes p (public_of_kept p c rs epoch gates) (fills_with_lifts p c rs)) old new before later

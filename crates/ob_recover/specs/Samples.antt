@@ -3,6 +3,7 @@ use Rattle.std.specs.Prelude.{◌≡◌, ℕ, ◌*◌, true, false, List, [], �
 use Rattle.ob_base.specs.declared.params.Params.{Params}
 use Rattle.ob_stand.specs.ContentSamples.{formatted}
 use Rattle.ob_log.specs.Logs.{BatchRecord}
+use Rattle.ob_schedule.specs.Phases.{Reads, phases_of}
 use Rattle.ob_store.specs.declared.watch.Note.{Note}
 use Rattle.ob_store.specs.declared.watch.Note.TheVariants.{Label, Read, Write, Sync}
 use Rattle.ob_twin.specs.declared.gates.Gates.{Gates}
@@ -10,7 +11,7 @@ use Rattle.ob_stand.specs.ValueSamples.{numbers_of}
 use Rattle.ob_recover.specs.Batches.{logged_notes}
 use Rattle.ob_recover.specs.Ends.{lifts_notes}
 use Rattle.ob_recover.specs.Known.{public_of_kept}
-use Rattle.ob_recover.specs.ShownOpenings.{opening_notes}
+use Rattle.ob_recover.specs.ShownOpenings.{opening_notes, opened_phases}
 
 -- a batch that asks for no key, of words that are 0
 abbrev pub pads_of : ℕ → BatchRecord
@@ -30,6 +31,10 @@ pub record Sampled : Type 0 where
   pub opened : opening_notes p formatted (pads_of 0 ∷ []) 0 found_gates 2
       ≡ reads_of_cells (1 ∷ 2 ∷ 3 ∷ 4 ∷ 5 ∷ 6 ∷ 7 ∷ 8 ∷ 17 ∷ 18 ∷ 19 ∷ 20 ∷ 21 ∷ 22 ∷ 23 ∷ 24 ∷ 25 ∷ 26 ∷ 27 ∷ 13 ∷ 14 ∷ 15 ∷ 16 ∷ [])
       ++ (Sync ∷ Write 4 ∷ Sync ∷ Write 3 ∷ Sync ∷ Write 4 ∷ Sync ∷ []) ++ (Label 0 ∷ Read 41 ∷ Read 46 ∷ Read 56 ∷ Label 0 ∷ Read 42 ∷ Read 47 ∷ Read 57 ∷ [])
+  -- over two records it repeats two batches, each a phase by itself, though they stand side by side
+  pub shared : opened_phases p formatted (pads_of 0 ∷ pads_of 1 ∷ []) 0 found_gates 2
+      ≡ phases_of (reads_of_cells (1 ∷ 2 ∷ 3 ∷ 4 ∷ 5 ∷ 6 ∷ 7 ∷ 8 ∷ 17 ∷ 18 ∷ 19 ∷ 20 ∷ 21 ∷ 22 ∷ 23 ∷ 24 ∷ 25 ∷ 26 ∷ 27 ∷ 13 ∷ 14 ∷ 15 ∷ 16 ∷ []) ++ (Sync ∷ Write 4 ∷ Sync ∷ Write 3 ∷ Sync ∷ Write 4 ∷ Sync ∷ []))
+      ++ Reads (41 ∷ 46 ∷ 56 ∷ 42 ∷ 47 ∷ 57 ∷ []) ∷ Reads (43 ∷ 39 ∷ 40 ∷ 48 ∷ 44 ∷ 45 ∷ 58 ∷ 54 ∷ 55 ∷ []) ∷ []
   -- the batch behind it, whose second place finds its path read out
   pub logged : logged_notes p formatted (pads_of 0 ∷ []) (pads_of 1) 0
       ≡ (Write 15 ∷ Sync ∷ Write 16 ∷ Sync ∷ Label 0 ∷ []) ++ reads_of_cells (43 ∷ 39 ∷ 40 ∷ 48 ∷ 44 ∷ 45 ∷ 58 ∷ 54 ∷ 55 ∷ []) ++ (Label 0 ∷ [])

@@ -25,6 +25,7 @@ pub use reading::{read_batch, read_jobs};
 pub use replaying::replay;
 pub use schedule::{
     batches_are_scheduled, batches_are_told, cuts_of_fronts, ends_are_scheduled, ends_are_told,
-    fills_go_on, format_is_public, lifts_come_first, lives_show_fills, one_lane_in_order,
-    openings_are_cut, openings_are_scheduled, openings_are_told, openings_begin, sampled,
+    fills_go_on, format_is_public, lifts_come_first, lives_show_fills, one_lane_as_planned,
+    one_lane_in_order, openings_are_cut, openings_are_scheduled, openings_are_told, openings_begin,
+    phases_join, sampled,
 };

@@ -18,9 +18,11 @@ ghost use Rattle.ob_recover.specs.Repeats.{record_places, asked_of_record, recor
 use crate::showing::show_jobs;
 use ob_base::{Fault, Jobs, Key};
 use ob_cells::{Crew, JobsErr, run_jobs};
+use ob_lanes::Lanes;
 use ob_ring::Ring;
 use ob_seal::Sealer;
-use ob_store::{Store, Watch};
+use ob_store::Watch;
+use std::thread::Threads;
 
 /// Reads planned jobs, and shows them once they were read, also where one failed: those before the
 /// first place, and before each place's reads its label.
@@ -28,7 +30,8 @@ use ob_store::{Store, Watch};
 /// # Errors
 /// The store failed, and its count of faults rose; or the first job, in the order planned, whose
 /// cell's tag or seal is wrong.
-pub fn read_jobs<S: Store, W: Watch>(
+pub fn read_jobs<S: Lanes, R: Threads + Sync, W: Watch>(
+    rt: &R,
     store: &mut S,
     crew: &mut Crew<S::Lane>,
     sealer: &Sealer,
@@ -52,7 +55,7 @@ pub fn read_jobs<S: Store, W: Watch>(
         (placed_notes jobs.old (length jobs.old.places)) (S.disk store.old).seen
         (S.disk store.new).seen (W.trace watch.old) (W.trace watch.new) result }
 {
-    match run_jobs(store, crew, sealer, jobs) {
+    match run_jobs(rt, store, crew, sealer, jobs) {
         Ok(()) => {
             show_jobs(jobs, watch);
             Ok(())
@@ -102,7 +105,8 @@ fn plan(
 /// The store failed, and its count of faults rose; or what is damaged first: in the order planned,
 /// the first slot whose tag or seal is wrong, or, where none is, the first row that holds another
 /// key, or a length above 64.
-pub fn read_batch<S: Store, W: Watch>(
+pub fn read_batch<S: Lanes, R: Threads + Sync, W: Watch>(
+    rt: &R,
     store: &mut S,
     crew: &mut Crew<S::Lane>,
     sealer: &Sealer,
@@ -161,7 +165,7 @@ pub fn read_batch<S: Store, W: Watch>(
         result }
 {
     plan(ring, asks, words, generation, first, jobs);
-    match read_jobs(store, crew, sealer, jobs, watch) {
+    match read_jobs(rt, store, crew, sealer, jobs, watch) {
         Ok(()) => {}
         Err(fault) => return Err(fault),
     }

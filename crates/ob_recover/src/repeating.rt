@@ -17,14 +17,17 @@ ghost use Rattle.ob_recover.specs.Repeats.{record_places, asked_of_record, repea
 use crate::reading::read_batch;
 use ob_base::{Fault, Jobs};
 use ob_cells::Crew;
+use ob_lanes::Lanes;
 use ob_log::Record;
 use ob_ring::Ring;
 use ob_seal::Sealer;
-use ob_store::{Store, Watch};
+use ob_store::Watch;
+use std::thread::Threads;
 
 /// Repeats the batch of a record: plans it with the record's words under their ids, reads it, shows
 /// it, and settles what was read.
-pub fn repeat_batch<S: Store, W: Watch>(
+pub fn repeat_batch<S: Lanes, R: Threads + Sync, W: Watch>(
+    rt: &R,
     store: &mut S,
     crew: &mut Crew<S::Lane>,
     sealer: &Sealer,
@@ -75,6 +78,6 @@ pub fn repeat_batch<S: Store, W: Watch>(
     let words = logged.words();
     let (generation, first) = (logged.generation(), logged.first());
     read_batch(
-        store, crew, sealer, jobs, ring, asks, words, generation, first, watch,
+        rt, store, crew, sealer, jobs, ring, asks, words, generation, first, watch,
     )
 }

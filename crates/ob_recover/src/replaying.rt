@@ -17,13 +17,16 @@ use crate::found::Found;
 use crate::repeating::repeat_batch;
 use ob_base::{Fault, Jobs, Params};
 use ob_cells::Crew;
+use ob_lanes::Lanes;
 use ob_log::Record;
 use ob_ring::Ring;
 use ob_seal::Sealer;
-use ob_store::{Store, Watch};
+use ob_store::Watch;
+use std::thread::Threads;
 
 // Repeats the batch of each record, in order.
-fn repeat_all<S: Store, W: Watch>(
+fn repeat_all<S: Lanes, R: Threads + Sync, W: Watch>(
+    rt: &R,
     store: &mut S,
     crew: &mut Crew<S::Lane>,
     sealer: &Sealer,
@@ -54,7 +57,7 @@ fn repeat_all<S: Store, W: Watch>(
         result }
 {
     for i in 0..records.len() {
-        match repeat_batch(store, crew, sealer, jobs, ring, &records[i], watch) {
+        match repeat_batch(rt, store, crew, sealer, jobs, ring, &records[i], watch) {
             Ok(()) => {}
             Err(fault) => return Err(fault),
         }
@@ -71,7 +74,8 @@ fn repeat_all<S: Store, W: Watch>(
 /// The store failed, and its count of faults rose; or what is damaged first: in the order of the
 /// batches, the first job that fails, in its cell's tag, then in its seal; or, where none does, the
 /// first row that holds another key, or a length above 64.
-pub fn replay<S: Store, W: Watch>(
+pub fn replay<S: Lanes, R: Threads + Sync, W: Watch>(
+    rt: &R,
     store: &mut S,
     crew: &mut Crew<S::Lane>,
     sealer: &Sealer,
@@ -110,7 +114,7 @@ pub fn replay<S: Store, W: Watch>(
     } = found;
     let mut ring = Ring::of_tables(p, tables);
     let logged = records.as_slice();
-    match repeat_all(store, crew, sealer, jobs, &mut ring, logged, watch) {
+    match repeat_all(rt, store, crew, sealer, jobs, &mut ring, logged, watch) {
         Ok(()) => Ok((ring, p.batches - logged.len() as u32)),
         Err(fault) => Err(fault),
     }

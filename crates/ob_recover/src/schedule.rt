@@ -8,7 +8,7 @@ ghost use Rattle.ob_recover.specs.Fronts.{CutsOfFronts};
 ghost use Rattle.ob_recover.specs.Lives.{LivesShowFills};
 ghost use Rattle.ob_recover.specs.ShownOpenings.{OpeningsAreCut, OpeningsAreScheduled, OpeningsAreTold, OpeningsBegin};
 ghost use Rattle.ob_recover.specs.Samples.{Sampled};
-ghost use Rattle.ob_recover.specs.Telling.{OneLaneInOrder};
+ghost use Rattle.ob_recover.specs.Telling.{OneLaneAsPlanned, OneLaneInOrder, PhasesJoin};
 
 /// What the store knows of a new store is the schedule's public state of one.
 pub fn format_is_public()
@@ -35,7 +35,7 @@ pub fn cuts_of_fronts()
     ensures { CutsOfFronts }
 {}
 
-/// What is told of an opening is the schedule's, in its order where there is one lane.
+/// What is told of an opening is the schedule's, each of its repeats dealt to lanes.
 pub fn openings_are_told()
     ensures { OpeningsAreTold }
 {}
@@ -50,12 +50,22 @@ pub fn one_lane_in_order()
     ensures { OneLaneInOrder }
 {}
 
+/// One lane makes phases as they were planned.
+pub fn one_lane_as_planned()
+    ensures { OneLaneAsPlanned }
+{}
+
+/// Phases that are made in turn are made; a phase of reads is, just where lanes read its cells.
+pub fn phases_join()
+    ensures { PhasesJoin }
+{}
+
 /// A read batch's calls show the schedule's batch, and leave its public state.
 pub fn batches_are_scheduled()
     ensures { BatchesAreScheduled }
 {}
 
-/// What is told of a read batch is the schedule's, in its order where there is one lane.
+/// What is told of a read batch is the schedule's, its reads dealt to lanes.
 pub fn batches_are_told()
     ensures { BatchesAreTold }
 {}
@@ -65,7 +75,7 @@ pub fn ends_are_scheduled()
     ensures { EndsAreScheduled }
 {}
 
-/// What is told of an end is the schedule's, in its order where there is one lane.
+/// What is told of an end is the schedule's, its lifts dealt to lanes.
 pub fn ends_are_told()
     ensures { EndsAreTold }
 {}

@@ -1,3 +1,4 @@
+pub mod Summaries
 pub mod Report
 pub mod Faults
 pub mod Gathered

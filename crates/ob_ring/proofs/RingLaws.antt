@@ -1,5 +1,5 @@
 -- What the ring's calls do, as steps of the flat table.
-use Rattle.std.specs.Prelude.{◌≡◌, ℕ, ◌+◌, ◌%◌, ◌^◌, ◌<◌, Bool, false, List, [], ◌++◌, map, length, replicate, filter, Option, slice_index, slice_index_or}
+use Rattle.std.specs.Prelude.{◌≡◌, ℕ, ◌+◌, ◌%◌, ◌^◌, ◌<◌, false, List, [], ◌++◌, map, length, replicate, filter, Option, slice_index_or}
 use Rattle.std.specs.declared.option.Option.TheVariants.{None, Some}
 use Rattle.std.specs.FinMap as finite
 use Rattle.std.proofs.Common.{zero, suc, arith, refl, sym, ap, subst, ◌∙◌}
@@ -16,14 +16,11 @@ use Rattle.ob_tables.specs.Buckets.{Buckets, new_buckets, version_at, is_lifted,
 use Rattle.ob_tables.specs.declared.entry.Entry.{Entry}
 use Rattle.ob_tables.specs.Kept.{Held, entry_at}
 use Rattle.ob_schedule.specs.Paths.{eviction_path, by_falling_level}
-use Rattle.ob_ring.specs.FlatTable.{FlatTable, Batch, FinalLifts, Refill, stash_size, refill_order, after, after_final}
-use Rattle.ob_ring.specs.Arrays.{IsTableOf, AreWhole, arrays_of, rest_of, leaf_of_entry}
+use Rattle.ob_ring.specs.FlatTable.{FlatTable, Batch, FinalLifts, after_final}
+use Rattle.ob_ring.specs.Arrays.{IsTableOf, arrays_of, rest_of, leaf_of_entry}
 use Rattle.ob_ring.specs.Picked.{Plans, job_of, batch_picked, final_picked, places_from}
 use Rattle.ob_ring.specs.Fetching.{Fetches, leaf_places}
-use Rattle.ob_ring.specs.Ring.{Kept, IsRing, StandsFor, IsBatch, IsLifting, AreListedWithin, empty_table}
-use Rattle.ob_ring.specs.Sound.{IsSound}
-use Rattle.ob_ring.specs.Filling.{arrays_in, HasStashRows, IsSealedAnew, AreSealedAnew, FillsTo, base_of, words_of}
-use Rattle.ob_ring.proofs.FillAll.{listed_within, refilled_is, rows_after}
+use Rattle.ob_ring.specs.Ring.{Kept, IsRing, StandsFor, IsBatch, IsLifting, empty_table}
 use Rattle.ob_ring.proofs.TableLaws.{steps_keep_order, none_counted}
 
 pub batch_is : (p : Params) (book book' : List (Option Entry)) (metas metas' : Buckets) (stash : Held) (counter : ℕ) (before now : Planned) (asked : List (Option ℕ × Entry)) → Fetches p book book' (record metas { order = [] }) metas' before now asked →
@@ -111,57 +108,6 @@ empty_stands p = record {
     counter_is = refl;
   };
 }
-
--- ---- a refill
-
-module _ (r : Kept) (p : Params) (book : List (Option Entry)) (metas mid cleared : Buckets) (stash : Held) (counter : ℕ) (words : List ℕ) (first : ℕ × ℕ) (view : ◌≡◌ {A = Kept} (record { p = p; book = book; metas = metas; stash = stash; counter = counter }) r)
-    (whole : AreWhole p metas) (listed : (r.metas).order ≡ filter (λ u. is_lifted r.metas u) (by_falling_level ((r.p).levels + 1))) (f : FillsTo p book stash.rows metas mid words first (length metas.order)) (changed : cleared ≡ record mid { lifted = replicate (length mid.lifted) false }) where
-  listed_here : metas.order ≡ filter (λ u. is_lifted metas u) (by_falling_level (p.levels + 1))
-  listed_here = subst (λ (o : Kept). (o.metas).order ≡ filter (λ u. is_lifted o.metas u) (by_falling_level ((o.p).levels + 1))) (sym view) listed
-
-  stands : (t : FlatTable) → StandsFor (record { p = p; book = book; metas = metas; stash = stash; counter = counter }) t → HasStashRows t stash.rows → StandsFor (record { p = p; book = book; metas = cleared; stash = stash; counter = counter }) (after p t Refill)
-  stands t s at = record { orderly = steps_keep_order p t Refill s.orderly; arrays = refilled_is p book stash.rows metas mid cleared counter words first whole listed_here f changed t (s.orderly).sound at s.arrays }
-
-  at_hand : (t : FlatTable) → HasStashRows t (r.stash).rows → HasStashRows t stash.rows
-  at_hand t at = subst (λ (o : Kept). HasStashRows t (o.stash).rows) (sym view) at
-
-  pub refill_kept : ◌≡◌ {A = Kept} (record { p = p; book = book; metas = cleared; stash = stash; counter = counter }) (record r { metas = cleared })
-  refill_kept = ap (λ (o : Kept). record o { metas = cleared }) view
-
-  same_order : cleared.order ≡ metas.order
-  same_order = ap (λ (s : Buckets). s.order) changed ∙ f.order
-
-  pub refill_order_kept : cleared.order ≡ (r.metas).order
-  refill_order_kept = same_order ∙ ap (λ (o : Kept). (o.metas).order) view
-
-  pub refill_within : AreListedWithin (record { p = p; book = book; metas = cleared; stash = stash; counter = counter })
-  refill_within = λ i h. listed_within p metas cleared.order i listed_here same_order (subst (λ (xs : List ℕ). i < length xs) same_order h)
-
-  pub refill_whole : AreWhole p cleared
-  refill_whole = record {
-    many = ap (λ (s : Buckets). length s.versions) changed ∙ (f.whole).many;
-    marks = ap (λ (s : Buckets). length s.lifted) changed ∙ length-replicate (length mid.lifted) false ∙ (f.whole).marks;
-    slots = λ u h. subst (λ (s : Buckets). HasSlots p (version_at s.versions u)) (sym changed) ((f.whole).slots u h);
-  }
-
-  sealed_here : AreSealedAnew p metas cleared words first (length metas.order)
-  sealed_here = record {
-    anew = λ i h. subst (λ (s : Buckets). IsSealedAnew (version_at metas.versions (slice_index metas.order i)) (version_at s.versions (slice_index metas.order i)) first.0 (base_of p first i) (words_of p words i)) (sym changed) ((f.anew).anew i h);
-    others = λ u off. ap (λ (s : Buckets). version_at s.versions u) changed ∙ (f.anew).others u off;
-  }
-
-  pub refill_anew : AreSealedAnew r.p r.metas cleared words first (length (r.metas).order)
-  refill_anew = subst (λ (o : Kept). AreSealedAnew o.p o.metas cleared words first (length (o.metas).order)) view sealed_here
-
-  pub refill_stands : (t : FlatTable) → StandsFor r t → HasStashRows t (r.stash).rows → StandsFor (record { p = p; book = book; metas = cleared; stash = stash; counter = counter }) (after r.p t Refill)
-  refill_stands t s at = subst (λ (o : Kept). StandsFor (record { p = p; book = book; metas = cleared; stash = stash; counter = counter }) (after o.p t Refill)) view
-      (stands t (subst (λ (o : Kept). StandsFor o t) (sym view) s) (at_hand t at))
-
-  pub refill_counts : (many : ℕ) → ((lifted : ℕ → Bool) (c : ℕ) (t : FlatTable) → IsSound p t → HasStashRows t stash.rows → IsTableOf p (arrays_in cleared lifted (rest_of book c)) t → many ≡ stash_size p t) → (t : FlatTable) → StandsFor r t → HasStashRows t
-      (r.stash).rows → many ≡ stash_size r.p (after r.p t Refill)
-  refill_counts many counts t s at =
-      let done : StandsFor (record { p = p; book = book; metas = cleared; stash = stash; counter = counter }) (after p t Refill) = stands t (subst (λ (o : Kept). StandsFor o t) (sym view) s) (at_hand t at) in
-      subst (λ (o : Kept). many ≡ stash_size o.p (after o.p t Refill)) view (counts (λ u. is_lifted cleared u) counter (after p t Refill) (done.orderly).sound (rows_after p t (refill_order p t) stash.rows (at_hand t at)) done.arrays)
 
 pub listed_still : (p : Params) (old new : Buckets) → new.order ≡ old.order → new.lifted ≡ old.lifted → old.order ≡ filter (λ u. is_lifted old u) (by_falling_level (p.levels + 1)) → new.order ≡ filter (λ u. is_lifted new u) (by_falling_level (p.levels + 1))
 listed_still p old new order lifted e = order ∙ e ∙ (λ i. filter (λ u. slice_index_or (sym lifted i) u false) (by_falling_level (p.levels + 1)))

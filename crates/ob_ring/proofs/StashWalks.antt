@@ -1,22 +1,16 @@
 -- The keys of the stash's rows, walked in ascending order.
-use Rattle.std.specs.Prelude.{◌≡◌, ◌≢◌, ℕ, ◌+◌, ◌<◌, ◌≤◌, Bool, true, false, cond, List, [], ◌∷◌, ◌++◌, ◌||◌, map, take, filter, length, Option, None, Some, is_some, slice_index_or}
+use Rattle.std.specs.Prelude.{◌≡◌, ◌≢◌, ℕ, ◌+◌, ◌<◌, ◌≤◌, Bool, true, false, cond, List, [], ◌∷◌, ◌||◌, map, filter, length, Option, None, Some, is_some, slice_index_or}
 use Rattle.std.specs.List.{range_with_len, list_any, count_by}
 use Rattle.std.specs.Ordering.{nat_cmp, eq_by_cmp}
 use Rattle.std.specs.FinMap as finite
 use Rattle.std.specs.FinMap.Entries.{is_some-find}
-use Rattle.std.proofs.Common.{zero, suc, arith, refl, sym, ap, subst, ◌∙◌, inl, inr, get_or}
+use Rattle.std.proofs.Common.{zero, suc, arith, refl, sym, ap, ◌∙◌, inl, inr, get_or}
 use Rattle.std.proofs.lemmas.Bool.{false≢true, cases_Bool, cases_eq, or_right}
-use Rattle.std.proofs.lemmas.List.{take_more}
-use Rattle.std.proofs.lemmas.List.Elements.{filter-append}
-use Rattle.std.proofs.lemmas.List.Sums.{length-filter, count_by_more_yes, count_by_more_no}
+use Rattle.std.proofs.lemmas.List.Sums.{length-filter}
 use Rattle.ob_tables.specs.Rows.{row_key_at}
 use Rattle.ob_tables.proofs.RowLaws.{rises, ties, differs}
-use Rattle.ob_ring.proofs.Appends.{append_none}
-use Rattle.ob_ring.specs.Order.{HoldsFirst}
+use Rattle.ob_ring.specs.Passing.{row_keys}
 use Rattle.ob_ring.specs.Settling.{Rows}
-
-abbrev pub stash_keys : Rows → List ℕ
-stash_keys rows = map (λ e. e.0) (finite.entries rows)
 
 keys_length : (es : List (ℕ × List ℕ)) → length (map (λ e. e.0) es) ≡ length es
 keys_length [] = refl
@@ -27,28 +21,11 @@ key_of_row [] i = refl
 key_of_row (e ∷ es) zero = refl
 key_of_row (e ∷ es) (suc i) = key_of_row es i
 
-pub keys_many : (rows : Rows) → length (stash_keys rows) ≡ finite.len rows
+pub keys_many : (rows : Rows) → length (row_keys rows) ≡ finite.len rows
 keys_many rows = keys_length (finite.entries rows) ∙ sym (finite.len-entries rows)
 
-pub key_is : (rows : Rows) (i : ℕ) → get_or (stash_keys rows) i 0 ≡ (slice_index_or (finite.entries rows) i (0, [])).0
+pub key_is : (rows : Rows) (i : ℕ) → get_or (row_keys rows) i 0 ≡ (slice_index_or (finite.entries rows) i (0, [])).0
 key_is rows i = key_of_row (finite.entries rows) i
-
--- ---- a step of the walk
-
-pub taken_more : (f : ℕ → Bool) (ks : List ℕ) (i : ℕ) (b : Bool) → i < length ks → f (get_or ks i 0) ≡ b → filter f (take (i + 1) ks) ≡ filter f (take i ks) ++ cond b (get_or ks i 0 ∷ []) []
-taken_more f ks i b low is =
-    ap (filter f) (take_more ks i 0 low) ∙ filter-append f (take i ks) (get_or ks i 0 ∷ []) ∙ ap (λ (c : Bool). filter f (take i ks) ++ cond c (get_or ks i 0 ∷ []) []) is
-
-pub walk_same : (out : List ℕ) (n limit i key : ℕ) (ks : List ℕ) (f : ℕ → Bool) → i < length ks → key ≡ get_or ks i 0 → f key ≡ false → HoldsFirst out n limit (filter f (take i ks)) → HoldsFirst out n limit (filter f (take (i + 1) ks))
-walk_same out n limit i key ks f low is off h = subst (λ (xs : List ℕ). HoldsFirst out n limit xs) (sym (taken_more f ks i false low (ap f (sym is) ∙ off) ∙ append_none (filter f (take i ks)))) h
-
-pub walk_more : (out : List ℕ) (n limit i key : ℕ) (ks : List ℕ) (f : ℕ → Bool) → i < length ks → key ≡ get_or ks i 0 → f key ≡ true → HoldsFirst out n limit (filter f (take i ks) ++ key ∷ []) → HoldsFirst out n limit (filter f (take (i + 1) ks))
-walk_more out n limit i key ks f low is on h =
-    subst (λ (xs : List ℕ). HoldsFirst out n limit xs) (ap (λ (k : ℕ). filter f (take i ks) ++ k ∷ []) is ∙ sym (taken_more f ks i true low (ap f (sym is) ∙ on))) h
-
-pub count_more : (many next i key : ℕ) (ks : List ℕ) (f : ℕ → Bool) (b : Bool) → i < length ks → key ≡ get_or ks i 0 → f key ≡ b → many ≡ count_by f (take i ks) → next ≡ many + cond b 1 0 → next ≡ count_by f (take (i + 1) ks)
-count_more many next i key ks f true low is e before more = more ∙ ap (λ (n : ℕ). n + 1) before ∙ sym (count_by_more_yes f ks i 0 low (ap f (sym is) ∙ e))
-count_more many next i key ks f false low is e before more = more ∙ (let z : many + 0 ≡ many = omega arith in z) ∙ before ∙ sym (count_by_more_no f ks i 0 low (ap f (sym is) ∙ e))
 
 -- ---- the whole walk
 
@@ -119,22 +96,22 @@ is_there : (o : Option (List ℕ)) → o ≢ None → is_some o ≡ true
 is_there None some = absurd (some refl)
 is_there (Some v) some = refl
 
-has_row : (rows : Rows) (k : ℕ) → is_some (finite.get rows k) ≡ list_any (eq_by_cmp nat_cmp k) (stash_keys rows)
+has_row : (rows : Rows) (k : ℕ) → is_some (finite.get rows k) ≡ list_any (eq_by_cmp nat_cmp k) (row_keys rows)
 has_row rows k = ap is_some (finite.get-entries rows k) ∙ is_some-find nat_cmp k (finite.entries rows)
 
-pub row_is_there : (rows : Rows) (i : ℕ) → i < length (stash_keys rows) → finite.get rows (get_or (stash_keys rows) i 0) ≢ None
-row_is_there rows i low = some_is (finite.get rows (get_or (stash_keys rows) i 0)) (has_row rows (get_or (stash_keys rows) i 0) ∙ any_at (stash_keys rows) i low)
+pub row_is_there : (rows : Rows) (i : ℕ) → i < length (row_keys rows) → finite.get rows (get_or (row_keys rows) i 0) ≢ None
+row_is_there rows i low = some_is (finite.get rows (get_or (row_keys rows) i 0)) (has_row rows (get_or (row_keys rows) i 0) ∙ any_at (row_keys rows) i low)
 
-ascending : (rows : Rows) → Ascends (stash_keys rows)
+ascending : (rows : Rows) → Ascends (row_keys rows)
 ascending rows i j h g =
     let lt : row_key_at (finite.entries rows) i < row_key_at (finite.entries rows) j = rises (finite.entries rows) (finite.entries_sorted rows) i j h (omega (arith, g, keys_length (finite.entries rows))) in
     omega (arith, lt, key_of_row (finite.entries rows) i, key_of_row (finite.entries rows) j)
 
 -- Whatever passes a test has a row: so the keys of the rows that pass it are all that do.
-pub walked : (f : ℕ → Bool) (rows : Rows) (n : ℕ) → ((k : ℕ) → finite.get rows k ≢ None → k < n) → ((k : ℕ) → f k ≡ true → finite.get rows k ≢ None) → filter f (stash_keys rows) ≡ filter f (range_with_len 0 n)
-walked f rows n low has = walk f (stash_keys rows) 0 n (ascending rows)
-    (λ j h. (let under : get_or (stash_keys rows) j 0 < n = low (get_or (stash_keys rows) j 0) (row_is_there rows j h) in (omega arith, omega arith)))
-    (λ k h g on. any_found k (stash_keys rows) (sym (has_row rows k) ∙ is_there (finite.get rows k) (has k on)))
+pub walked : (f : ℕ → Bool) (rows : Rows) (n : ℕ) → ((k : ℕ) → finite.get rows k ≢ None → k < n) → ((k : ℕ) → f k ≡ true → finite.get rows k ≢ None) → filter f (row_keys rows) ≡ filter f (range_with_len 0 n)
+walked f rows n low has = walk f (row_keys rows) 0 n (ascending rows)
+    (λ j h. (let under : get_or (row_keys rows) j 0 < n = low (get_or (row_keys rows) j 0) (row_is_there rows j h) in (omega arith, omega arith)))
+    (λ k h g on. any_found k (row_keys rows) (sym (has_row rows k) ∙ is_there (finite.get rows k) (has k on)))
 
-pub counted : (f : ℕ → Bool) (rows : Rows) (n : ℕ) → ((k : ℕ) → finite.get rows k ≢ None → k < n) → ((k : ℕ) → f k ≡ true → finite.get rows k ≢ None) → count_by f (stash_keys rows) ≡ count_by f (range_with_len 0 n)
-counted f rows n low has = sym (length-filter f (stash_keys rows)) ∙ ap length (walked f rows n low has) ∙ length-filter f (range_with_len 0 n)
+pub counted : (f : ℕ → Bool) (rows : Rows) (n : ℕ) → ((k : ℕ) → finite.get rows k ≢ None → k < n) → ((k : ℕ) → f k ≡ true → finite.get rows k ≢ None) → count_by f (row_keys rows) ≡ count_by f (range_with_len 0 n)
+counted f rows n low has = sym (length-filter f (row_keys rows)) ∙ ap length (walked f rows n low has) ∙ length-filter f (range_with_len 0 n)

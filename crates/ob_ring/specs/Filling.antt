@@ -1,19 +1,16 @@
 -- Buckets that are filled anew.
-use Rattle.std.specs.Prelude.{◌≡◌, ◌≢◌, ℕ, ◌+◌, ◌-◌, ◌*◌, ◌%◌, ◌^◌, ◌<◌, Bool, true, false, ◌&&◌, not, List, take, drop, slice_index, Option}
+use Rattle.std.specs.Prelude.{◌≡◌, ◌≢◌, ◌↔◌, ℕ, ◌+◌, ◌-◌, ◌*◌, ◌%◌, ◌^◌, ◌<◌, Bool, true, false, List, take, drop, slice_index}
 use Rattle.ob_base.specs.declared.params.Params.{Params}
 use Rattle.ob_base.specs.Tree.{width}
 use Rattle.ob_tables.specs.Rank.{ranks_of}
 use Rattle.ob_tables.specs.Version.{Version}
-use Rattle.ob_tables.specs.Buckets.{Buckets, version_at, is_lifted}
+use Rattle.ob_tables.specs.Buckets.{Buckets, version_at}
 use Rattle.ob_schedule.specs.Paths.{is_one_of}
-use Rattle.std.specs.declared.option.Option.TheVariants.{None, Some}
-use Rattle.ob_ring.specs.declared.found.Found.{Found}
-use Rattle.ob_ring.specs.Arrays.{Arrays, Rest, AreWhole, IsTableOf, arrays_of, rest_of}
-use Rattle.ob_tables.specs.declared.entry.Entry.{Entry}
+use Rattle.std.specs.declared.option.Option.TheVariants.{None}
+use Rattle.ob_ring.specs.Arrays.{Arrays, Rest, arrays_of}
 use Rattle.std.specs.FinMap as finite
-use Rattle.ob_ring.specs.FlatTable.{FlatTable, in_stash, fills}
+use Rattle.ob_ring.specs.FlatTable.{FlatTable, in_stash}
 use Rattle.ob_ring.specs.Settling.{Rows}
-use Rattle.ob_ring.specs.Sound.{IsSound}
 
 -- the arrays, where these buckets count as lifted
 abbrev pub arrays_in : Buckets → (ℕ → Bool) → Rest → Arrays
@@ -39,31 +36,10 @@ pub record AreSealedAnew (p : Params) (old new : Buckets) (words : List ℕ) (fi
   pub anew : (i : ℕ) → i < n → IsSealedAnew (version_at old.versions (slice_index old.order i)) (version_at new.versions (slice_index old.order i)) first.0 (base_of p first i) (words_of p words i)
   pub others : (u : ℕ) → is_one_of (take n old.order) u ≡ false → version_at new.versions u ≡ version_at old.versions u
 
--- the buckets that are still to be filled after the first n of the list
-abbrev pub still_lifted : Buckets → ℕ → ℕ → Bool
-still_lifted s n u = not (is_one_of (take n s.order) u) && is_lifted s u
-
--- whether a key was found nowhere
-abbrev pub is_nowhere : Option Found → Bool
-is_nowhere None = true
-is_nowhere (Some f) = false
-
 -- each key that lies in no bucket has a row here
 abbrev pub HasStashRows : FlatTable → Rows → Type 0
 HasStashRows t rows = (k : ℕ) → in_stash (t.rows k) ≡ true → finite.get rows k ≢ None
 
--- one bucket is filled, the others are as before
-pub record FillsOne (p : Params) (old new : Buckets) (u : ℕ) (words : List ℕ) (seal first : ℕ) : Type 0 where
-  pub whole : AreWhole p new
-  pub anew : IsSealedAnew (version_at old.versions u) (version_at new.versions u) seal first words
-  pub others : (v : ℕ) → v ≢ u → version_at new.versions v ≡ version_at old.versions v
-  pub lifted : new.lifted ≡ old.lifted
-  pub order : new.order ≡ old.order
-
--- the first n buckets of the list are filled, from the rows of the stash
-pub record FillsTo (p : Params) (book : List (Option Entry)) (rows : Rows) (old new : Buckets) (words : List ℕ) (first : ℕ × ℕ) (n : ℕ) : Type 0 where
-  pub whole : AreWhole p new
-  pub anew : AreSealedAnew p old new words first n
-  pub lifted : new.lifted ≡ old.lifted
-  pub order : new.order ≡ old.order
-  pub follows : (counter : ℕ) (t : FlatTable) → IsSound p t → HasStashRows t rows → IsTableOf p (arrays_of old (rest_of book counter)) t → IsTableOf p (arrays_in new (still_lifted old n) (rest_of book counter)) (fills p t (take n old.order))
+-- each key that lies in no bucket has a row here, and no other key has one
+abbrev pub HasJustStashRows : FlatTable → Rows → Type 0
+HasJustStashRows t rows = (k : ℕ) → (in_stash (t.rows k) ≡ true) ↔ (finite.get rows k ≢ None)

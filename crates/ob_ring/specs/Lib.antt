@@ -4,12 +4,15 @@ pub mod Filling
 pub mod FlatTable
 pub mod Jobs
 pub mod Laws
+pub mod Loops
 pub mod News
 pub mod Order
+pub mod Passing
 pub mod Paths
 pub mod Picked
 pub mod Plain
 pub mod Ring
+pub mod Samples
 pub mod Settling
 pub mod Sound
 pub mod Writing

@@ -3,16 +3,23 @@
 
 mod batch;
 mod found;
+mod index;
 mod laws;
 mod lifts;
 mod order;
+mod pass;
 mod path;
 mod plain;
 mod reads;
-mod refill;
 mod ring;
 mod settle;
+mod steps;
 mod writes;
 
-pub use laws::{jobs_read_picks, lifts_take_all, shown_once, steps_keep_order};
+pub use index::Index;
+pub use laws::{
+    fills_place, jobs_read_picks, lifts_take_all, rows_place, sampled, shown_once, steps_few,
+    steps_keep_order,
+};
 pub use ring::Ring;
+pub use steps::Steps;

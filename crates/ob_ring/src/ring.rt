@@ -10,22 +10,26 @@ ghost use Rattle.ob_ring.specs.Picked.{SameSeals};
 ghost use Rattle.ob_ring.specs.Fetching.{places_of, after_labels};
 ghost use Rattle.ob_ring.specs.Ring.{IsRing, StandsFor, IsBatch, IsLifting, IsListed, AreListedWithin, empty_table};
 ghost use Rattle.ob_base.specs.Tree.{buckets, width};
-ghost use Rattle.ob_ring.specs.Filling.{AreSealedAnew, HasStashRows};
+ghost use Rattle.ob_ring.specs.Filling.{AreSealedAnew, HasJustStashRows};
+ghost use Rattle.ob_ring.specs.Passing.{none_taken, row_keys, steps_among};
 ghost use Rattle.ob_ring.specs.Plain.{key_of_index, index_with, plain_for, without_buckets};
 ghost use Rattle.ob_ring.specs.Settling.{first_fault, rows_after};
 ghost use Rattle.ob_ring.specs.Writing.{write_at, writes_of, leaf_writes, entries_after, values_after};
 ghost use Rattle.ob_tables.specs.Kept.{entry_at};
 
 use crate::batch::plan_places;
+use crate::index::Index;
 use crate::lifts::{lift_paths, list_lifted};
+use crate::pass::{judge, put_rows, seal_all};
 use crate::plain::{forget_buckets, key_in, plain_for};
-use crate::refill::{count_out, fill_all};
 use crate::settle::settle_jobs;
+use crate::steps::Steps;
 use crate::writes::write_all;
 use ob_base::{Damaged, Jobs, Key, Memory, Params, StashFull, Write};
 use ob_tables::{Book, Metas, Stash, Tables};
 use std::alloc::Global;
 use std::marker::Model;
+use std::sync::ledger::Ledger;
 
 /// The planner of Ring ORAM ("Constants Count: Practical Improvements to Oblivious RAM"): it plans
 /// what is read of the buckets, settles what was read, applies writes and fills buckets anew. It
@@ -244,45 +248,59 @@ impl Ring {
     }
 
     /// Fills the listed buckets anew: each takes the first keys of the stash, in rising order,
-    /// whose paths go through it, as many as it has real indexes. Each bucket takes as many words
-    /// as it has slots; its slots are sealed with the numbers from `first` on, those of the buckets
-    /// before it first. The stash has a row of each key that lies in no bucket, and these rows stay
-    /// at hand until `forget_written`.
+    /// whose paths go through it and that none below it took, as many as it has real indexes. Each
+    /// bucket takes as many words as it has slots; its slots are sealed with the numbers from
+    /// `first` on, those of the buckets before it first. The stash has a row of just the keys that
+    /// lie in no bucket, and these rows stay at hand until `forget_written`. It goes through the
+    /// rows once, and takes no memory: all counts of `index` are 0, and are 0 again behind it. A
+    /// step is a bucket of a row's path that is asked whether it has an index left, or a row that
+    /// is put.
     ///
     /// # Errors
     /// More rows are left than the stash may keep. Then the ring serves no more.
-    pub fn refill(&mut self, words: &[u64], first: (u64, u64)) -> Result<(), StashFull>
+    pub fn refill_indexed<C: Ledger>(
+        &mut self,
+        index: &mut Index,
+        words: &[u64],
+        first: (u64, u64),
+        steps: &mut Steps<C>,
+    ) -> Result<(), StashFull>
         requires listed { IsListed self.old }
         requires words { length words.now ≡ length self.old.metas.order * width self.old.p }
+        requires index { index.old ≡ replicate (buckets self.old.p) 0 }
         ensures kept { self.new ≡ record self.old { metas = self.new.metas } }
         ensures order { self.new.metas.order ≡ self.old.metas.order }
         ensures within { AreListedWithin self.new }
         ensures anew { AreSealedAnew self.old.p self.old.metas self.new.metas words.now first
             (length self.old.metas.order) }
         ensures refilled { (t : FlatTable) → StandsFor self.old t
-            → HasStashRows t self.old.stash.rows
+            → HasJustStashRows t self.old.stash.rows
             → StandsFor self.new (after self.old.p t Refill) }
         ensures rows { (t : FlatTable) → StandsFor self.old t
-            → HasStashRows t self.old.stash.rows
+            → HasJustStashRows t self.old.stash.rows
             → MatchResult result (λ _. stash_size self.old.p (after self.old.p t Refill)
             ≤ self.old.p.room) (λ full. (full.rows
             ≡ stash_size self.old.p (after self.old.p t Refill)) × (self.old.p.room < full.rows)) }
+        ensures index { index.new ≡ index.old }
+        // Whatever the stash has, also over a store that lies.
+        ensures cost { steps.new
+            ≤ steps.old + finite.len self.old.stash.rows * (self.old.p.levels + 2) }
+        ensures exact { (t : FlatTable) → StandsFor self.old t
+            → HasJustStashRows t self.old.stash.rows
+            → steps.new
+            ≡ steps.old + steps_among self.old.p t none_taken (row_keys self.old.stash.rows) }
     {
-        fill_all(
+        let put = put_rows(
             &self.params,
             &self.tables.book,
             &mut self.tables.metas,
             &self.tables.stash,
-            words,
-            first,
+            index,
+            steps,
         );
+        seal_all(&self.params, &mut self.tables.metas, index, words, first);
         self.tables.metas.clear_lifted();
-        let tables = &self.tables;
-        let rows = count_out(&self.params, &tables.book, &tables.metas, &tables.stash);
-        if rows > self.params.room as u64 {
-            return Err(StashFull { rows });
-        }
-        Ok(())
+        judge(self.tables.stash.len() - put, self.params.room)
     }
 
     /// After the final lifts: the lifted buckets, in the order in which they are filled. After they

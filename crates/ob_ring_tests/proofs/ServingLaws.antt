@@ -23,8 +23,8 @@ use Rattle.ob_ring.specs.Writing.{write_at}
 use Rattle.ob_ring_tests.specs.Serving.{AreFitWrites, IsServing}
 
 -- so a call may be made
-pub goes_on : (disk : Disk) (present : ℕ) (drawn : List ℕ) (run : Run) (crew : Manned) → IsServing disk present drawn run crew → MayGoOn disk present drawn crew run
-goes_on disk present drawn run crew was = record {
+pub goes_on : (disk : Disk) (present : ℕ) (drawn : List ℕ) (run : Run) (crew : Manned) (index : List ℕ) → IsServing disk present drawn run crew index → MayGoOn disk present drawn crew run
+goes_on disk present drawn run crew index was = record {
   none_out = was.out;
   ready = (was.ready).ready;
   serves = was.serves;
@@ -35,8 +35,9 @@ goes_on disk present drawn run crew was = record {
 }
 
 -- where another may be made, and the epoch may be ended
-pub serving_on : (disk : Disk) (present : ℕ) (drawn : List ℕ) (run : Run) (crew : Manned) → MayGoOn disk present drawn crew run → IsEndReady run → (disk.tells → GatesAre (run.gates).epoch 5 disk.cells) → IsServing disk present drawn run crew
-serving_on disk present drawn run crew on ready told = record {
+pub serving_on : (disk : Disk) (present : ℕ) (drawn : List ℕ) (run : Run) (crew : Manned) (index : List ℕ) → MayGoOn disk present drawn crew run → IsEndReady run
+    → (disk.tells → GatesAre (run.gates).epoch 5 disk.cells) → index ≡ replicate (buckets run.params) 0 → IsServing disk present drawn run crew index
+serving_on disk present drawn run crew index on ready told counted = record {
   out = on.none_out;
   ready = ready;
   serves = on.serves;
@@ -45,6 +46,7 @@ serving_on disk present drawn run crew on ready told = record {
   drawn_are = on.drawn;
   few = on.few;
   told = told;
+  counted = counted;
 }
 
 -- ---- after a batch
@@ -62,13 +64,14 @@ module _ (run run' : Run) (kept : run' ≡ record run { sealer = run'.sealer; dr
     planner = fit;
   }
 
-pub serving_fetched : (old new : Disk) (present present' : ℕ) (drawn drawn' : List ℕ) (run run' : Run) (crew crew' : Manned) → IsServing old present drawn run crew
+pub serving_fetched : (old new : Disk) (present present' : ℕ) (drawn drawn' : List ℕ) (run run' : Run) (crew crew' : Manned) (index : List ℕ) → IsServing old present drawn run crew index
     → run' ≡ record run { sealer = run'.sealer; drawn = run'.drawn; left = run'.left; spent = run'.spent; ring = run'.ring; jobs = run'.jobs; words = run'.words }
     → GoesOn old new → MayGoOn new present' drawn' crew' run' → IsPlannerFit run'.ring → length (run'.words).items ≡ length (run.words).items
-    → (base many : ℕ) → 9 ≤ base → WritesWithin base many old new → IsServing new present' drawn' run' crew'
-serving_fetched old new present present' drawn drawn' run run' crew crew' was kept goes on fit many base wide low within = serving_on new present' drawn' run' crew' on (ready_then run run' kept was.ready on.ready fit many)
+    → (base many : ℕ) → 9 ≤ base → WritesWithin base many old new → IsServing new present' drawn' run' crew' index
+serving_fetched old new present present' drawn drawn' run run' crew crew' index was kept goes on fit many base wide low within = serving_on new present' drawn' run' crew' index on (ready_then run run' kept was.ready on.ready fit many)
     (λ tells. subst (λ (known : Gates). GatesAre known.epoch 5 new.cells) (sym (ap (λ (r : Run). r.gates) kept))
     (gates_moved (run.gates).epoch 5 new.cells old.cells (λ k from to. within.rest (goes.told tells) k (inl (omega (arith, to, low)))) (was.told (goes.told tells))))
+    (was.counted ∙ ap (λ (r : Run). replicate (buckets r.params) 0) (sym kept))
 
 -- ---- the asks of a batch
 

@@ -1,10 +1,10 @@
 //! An epoch that crashes at each moment, or of which a call fails or a cell was changed.
 
-ghost use Rattle.std.specs.Prelude.{◌≡◌};
+ghost use Rattle.std.specs.Prelude.{◌≡◌, ◌≤◌};
 ghost use Rattle.ob_mem.specs.Memory.{disk_of_store};
 
 use crate::serving::{Put, Step, Told};
-use crate::small::{left_after, new_store, run, test_keys};
+use crate::small::{left_after, new_store, run, run_by, test_keys};
 use ob_base::{Check, Fault, Value};
 use ob_cells::read_cells;
 use ob_mem::{Fail, MemStore};
@@ -12,6 +12,7 @@ use ob_seal::Sealer;
 use ob_store::{Blind, Store};
 use std::alloc::Global;
 use std::process::Abort;
+use std::thread::Threads;
 
 const PADS: Step = Step::Ask(None);
 
@@ -28,7 +29,7 @@ const EPOCH: &[Step] = &[PADS, PADS, Step::End(HI)];
 
 // The epoch of what a crash left, and whether key 5 is present there. Where both batches were begun
 // it is asked for once the epoch is ended.
-fn image_of(rt: &impl Abort, alloc: Global, left: &mut MemStore) -> (u64, bool)
+fn image_of<R: Abort + Threads + Sync>(rt: &R, alloc: Global, left: &mut MemStore) -> (u64, bool)
     requires { (disk_of_store left.old).out ≡ 0 }
 {
     let hi = Value::new(b"hi");
@@ -47,18 +48,20 @@ fn image_of(rt: &impl Abort, alloc: Global, left: &mut MemStore) -> (u64, bool)
 // What the cells that aren't sure hold, and the moment from which on the epoch is ended.
 const CRASHES: &[(Option<u8>, usize)] = &[(None, 55), (Some(0), 56), (Some(0xA5), 55)];
 
-// A store that was formatted, and all of it sure, in which the epoch was run.
-fn epoch_store(rt: &impl Abort, alloc: Global) -> MemStore {
+// A store that was formatted, and all of it sure, in which the epoch was run by so many lanes.
+fn epoch_store<R: Abort + Threads + Sync>(rt: &R, alloc: Global, lanes: usize) -> MemStore
+    requires { (1 ≤ lanes) × (lanes ≤ 16) }
+{
     let formatted = new_store(rt, alloc, &[]);
     let mut store = left_after(rt, &formatted, 72, None);
-    let outcome = run(rt, alloc, &mut store, EPOCH);
+    let outcome = run_by(rt, alloc, &mut store, lanes, EPOCH);
     assert!(rt; outcome.told == Told::Done { epoch: 1, left: 2 });
     store
 }
 
 // Whether a crash at a moment leaves the epoch whole, or the one before it.
-fn leaves_so(
-    rt: &impl Abort,
+fn leaves_so<R: Abort + Threads + Sync>(
+    rt: &R,
     alloc: Global,
     store: &MemStore,
     moment: usize,
@@ -71,17 +74,19 @@ fn leaves_so(
 
 #[test]
 fn a_crash_leaves_one_of_two_epochs_whole(rt: HostRuntime) {
-    let store = epoch_store(&rt, rt.alloc());
-    for &(filling, set) in CRASHES {
-        for moment in 0..57 {
-            let so = leaves_so(&rt, rt.alloc(), &store, moment, filling, moment >= set);
-            assert!(rt; so, "at {moment}");
+    for lanes in [1, 4] {
+        let store = epoch_store(&rt, rt.alloc(), lanes);
+        for &(filling, set) in CRASHES {
+            for moment in 0..57 {
+                let so = leaves_so(&rt, rt.alloc(), &store, moment, filling, moment >= set);
+                assert!(rt; so, "at {moment}, by {lanes} lanes");
+            }
         }
     }
 }
 
 // The epoch of what a crash left.
-fn epoch_of(rt: &impl Abort, alloc: Global, left: &mut MemStore) -> u64
+fn epoch_of<R: Abort + Threads + Sync>(rt: &R, alloc: Global, left: &mut MemStore) -> u64
     requires { (disk_of_store left.old).out ≡ 0 }
 {
     match run(rt, alloc, left, &[]).told {
@@ -90,11 +95,18 @@ fn epoch_of(rt: &impl Abort, alloc: Global, left: &mut MemStore) -> u64
     }
 }
 
-// How the epoch goes where this call fails, and the least and the greatest epoch that a crash may
-// leave then.
-fn failed_at(rt: &impl Abort, alloc: Global, fail: Fail) -> (Told, u64, u64) {
+// How the epoch goes by so many lanes where this call fails, and the least and the greatest epoch
+// that a crash may leave then.
+fn failed_at<R: Abort + Threads + Sync>(
+    rt: &R,
+    alloc: Global,
+    lanes: usize,
+    fail: Fail,
+) -> (Told, u64, u64)
+    requires { (1 ≤ lanes) × (lanes ≤ 16) }
+{
     let mut store = new_store(rt, alloc, &[fail]);
-    let outcome = run(rt, alloc, &mut store, EPOCH);
+    let outcome = run_by(rt, alloc, &mut store, lanes, EPOCH);
     let (mut least, mut most) = (9, 0);
     for filling in &[None, Some(0), Some(0xA5)] {
         let mut left = left_after(rt, &store, 1000, *filling);
@@ -133,7 +145,7 @@ fn a_failed_call_refuses_what_made_it(rt: HostRuntime) {
             (Fail::Sync(i - 36), told_at(i - 46, 3, 7, 9))
         };
         let most = u64::from(i == 45 || i == 55);
-        let went = failed_at(&rt, rt.alloc(), fail);
+        let went = failed_at(&rt, rt.alloc(), 1, fail);
         assert!(rt; went == (told, 0, most), "call {i}");
     }
 }
@@ -177,8 +189,15 @@ fn a_failed_read_refuses_what_made_it(rt: HostRuntime) {
     for reads in READS {
         for cell in reads.cells {
             let (cell, writes) = (*cell, reads.writes);
-            let went = failed_at(&rt, rt.alloc(), Fail::Read { cell, writes });
-            assert!(rt; went == (reads.told, 0, 0), "read {cell}");
+            let read = Fail::Read { cell, writes };
+            assert!(rt;
+                failed_at(&rt, rt.alloc(), 1, read) == (reads.told, 0, 0),
+                "read {cell}"
+            );
+            assert!(rt;
+                failed_at(&rt, rt.alloc(), 4, read) == (reads.told, 0, 0),
+                "read {cell}"
+            );
         }
     }
 }
@@ -209,7 +228,7 @@ fn is_torn_at(told: Told, torn: u64, by_fetch: bool) -> bool {
 }
 
 // Whether the epoch is refused so where a bit of this cell is another.
-fn tears_at(rt: &impl Abort, alloc: Global, cell: u64, by_fetch: bool) -> bool {
+fn tears_at<R: Abort + Threads + Sync>(rt: &R, alloc: Global, cell: u64, by_fetch: bool) -> bool {
     let mut store = new_store(rt, alloc, &[]);
     flip(rt, &mut store, cell);
     let outcome = run(rt, alloc, &mut store, EPOCH);
@@ -266,7 +285,7 @@ const FORGED: &[(u8, u8, Option<(u8, u8)>)] = &[
 
 // What is told of a fetch of key 5 behind the epoch where its row is forged. On a tape of zeros
 // that lies in cell 89.
-fn told_of_forged(rt: &impl Abort, alloc: Global, key: u8, len: u8) -> Told {
+fn told_of_forged<R: Abort + Threads + Sync>(rt: &R, alloc: Global, key: u8, len: u8) -> Told {
     let mut store = new_store(rt, alloc, &[]);
     let outcome = run(rt, alloc, &mut store, EPOCH);
     assert!(rt; outcome.told == Told::Done { epoch: 1, left: 2 });

@@ -11,3 +11,5 @@ mod serving;
 mod shown;
 #[cfg(test)]
 mod small;
+#[cfg(test)]
+mod wide;

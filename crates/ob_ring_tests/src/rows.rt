@@ -1,11 +1,11 @@
 //! Epochs one behind the other: what they show, answer and leave.
 
-ghost use Rattle.std.specs.Prelude.{◌≡◌};
+ghost use Rattle.std.specs.Prelude.{◌≡◌, ◌≤◌};
 ghost use Rattle.ob_mem.specs.Memory.{disk_of_store};
 
-use crate::serving::{Put, Step, Told, run_steps};
+use crate::serving::{Plan, Put, Step, Told, run_steps};
 use crate::shown::{FIRST_EPOCH, LEAF_ONE, OPENED, SECOND_EPOCH};
-use crate::small::{format_with, left_after, new_store, run_on, small_store, store_of, test_keys};
+use crate::small::{format_with, left_after, new_store, run_on, small_store, store_of};
 use ob_base::{Fault, Params, Value};
 use ob_cells::read_cells;
 use ob_mem::{MemSink, MemStore};
@@ -14,6 +14,7 @@ use ob_store::{Blind, SinkWatch};
 use sha2::{Digest, Sha256};
 use std::alloc::Global;
 use std::process::Abort;
+use std::thread::Threads;
 
 const PADS: Step = Step::Ask(None);
 
@@ -39,11 +40,33 @@ fn is_made_of(shown: &[u8], parts: &[&[u8]]) -> bool {
 }
 
 // The steps, how many epochs end, and the fifth word of the tape, whose other words are 0.
-const ROWS: &[(&[Step], u64, u64)] = &[
-    (&[PADS, PADS, Step::End(&[])], 1, 0),
-    (&[PADS, PADS, Step::End(HI)], 1, 0),
-    (TWO_EPOCHS, 2, 0),
-    (TWO_EPOCHS, 2, 1),
+struct Row {
+    steps: &'static [Step],
+    epochs: u64,
+    word: u64,
+}
+
+const ROWS: &[Row] = &[
+    Row {
+        steps: &[PADS, PADS, Step::End(&[])],
+        epochs: 1,
+        word: 0,
+    },
+    Row {
+        steps: &[PADS, PADS, Step::End(HI)],
+        epochs: 1,
+        word: 0,
+    },
+    Row {
+        steps: TWO_EPOCHS,
+        epochs: 2,
+        word: 0,
+    },
+    Row {
+        steps: TWO_EPOCHS,
+        epochs: 2,
+        word: 1,
+    },
 ];
 
 // Whether an opening and so many epochs were shown, of which the second showed this.
@@ -56,27 +79,44 @@ fn is_shown(shown: &[u8], epochs: u64, second: &'static [u8]) -> bool {
     }
 }
 
-// Whether so many epochs are done and shown; the second one asks for key 5.
-fn plays_so(rt: &impl Abort, alloc: Global, steps: &[Step], epochs: u64, word: u64) -> bool {
-    let wanted = if epochs == 1 { None } else { Value::new(b"hi") };
-    let second = if word == 0 { SECOND_EPOCH } else { LEAF_ONE };
+// Whether the row's epochs are done and shown, by so many lanes; the second one asks for key 5.
+fn plays_so<R: Abort + Threads + Sync>(rt: &R, alloc: Global, lanes: usize, row: &Row) -> bool
+    requires { (1 ≤ lanes) × (lanes ≤ 16) }
+{
+    let wanted = if row.epochs == 1 {
+        None
+    } else {
+        Value::new(b"hi")
+    };
+    let second = if row.word == 0 {
+        SECOND_EPOCH
+    } else {
+        LEAF_ONE
+    };
     let told = Told::Done {
-        epoch: epochs,
+        epoch: row.epochs,
         left: 2,
     };
-    let p = small_store(rt);
+    let plan = Plan {
+        params: &small_store(rt),
+        lanes,
+        steps: row.steps,
+    };
     let mut store = new_store(rt, alloc, &[]);
     let mut sink = MemSink::new(alloc, 2000, Vec::new(alloc)).expect(rt, "memory");
     let mut watch = SinkWatch::new(&mut sink);
-    let words = [0, 0, 0, 0, word];
-    let outcome = run_on(rt, alloc, &mut store, &p, &words, steps, &mut watch);
-    outcome.told == told && outcome.found == wanted && is_shown(sink.written(), epochs, second)
+    let words = [0, 0, 0, 0, row.word];
+    let outcome = run_on(rt, alloc, &mut store, &words, &plan, &mut watch);
+    outcome.told == told && outcome.found == wanted && is_shown(sink.written(), row.epochs, second)
 }
 
+// However many lanes read, the same is shown.
 #[test]
 fn epochs_show_what_another_implementation_shows(rt: HostRuntime) {
-    for &(steps, epochs, word) in ROWS {
-        assert!(rt; plays_so(&rt, rt.alloc(), steps, epochs, word));
+    for row in ROWS {
+        for lanes in 1..17 {
+            assert!(rt; plays_so(&rt, rt.alloc(), lanes, row), "by {lanes} lanes");
+        }
     }
 }
 
@@ -109,21 +149,30 @@ fn digest_of(rt: &impl Abort, store: &mut MemStore) -> [u8; 32] {
     hasher.finalize().into()
 }
 
-#[test]
-fn the_cells_after_two_epochs_are_those_of_another_implementation(rt: HostRuntime) {
-    let alloc = rt.alloc();
-    let p = small_store(&rt);
-    let keys = test_keys();
-    let mut store = MemStore::new(alloc, 109, Vec::new(alloc)).expect(&rt, "memory");
+// Whether two epochs by so many lanes leave these cells.
+fn leaves_these<R: Abort + Threads + Sync>(rt: &R, alloc: Global, lanes: usize) -> bool
+    requires { (1 ≤ lanes) × (lanes ≤ 16) }
+{
+    let p = small_store(rt);
+    let plan = Plan {
+        params: &p,
+        lanes,
+        steps: TWO_EPOCHS,
+    };
+    let mut store = MemStore::new(alloc, 109, Vec::new(alloc)).expect(rt, "memory");
     let mut tape = last_tape();
-    assert!(rt; format_with(alloc, &mut store, &mut tape, &p).is_ok());
+    assert!(rt; format_with(rt, alloc, &mut store, &mut tape, &p).is_ok());
     let mut tape = last_tape();
-    let outcome = run_steps(
-        alloc, &mut store, &mut tape, &keys, &p, TWO_EPOCHS, &mut Blind,
-    );
+    let outcome = run_steps(rt, alloc, &mut store, &mut tape, &plan, &mut Blind);
     assert!(rt; outcome.told == Told::Done { epoch: 2, left: 2 });
     assert!(rt; outcome.found == Value::new(b"hi"));
-    assert!(rt; digest_of(&rt, &mut store) == AFTER);
+    digest_of(rt, &mut store) == AFTER
+}
+
+#[test]
+fn the_cells_after_two_epochs_are_those_of_another_implementation(rt: HostRuntime) {
+    assert!(rt; leaves_these(&rt, rt.alloc(), 1));
+    assert!(rt; leaves_these(&rt, rt.alloc(), 16));
 }
 
 const FOUR: &[Put] = &[
@@ -137,14 +186,23 @@ const FOUR: &[Put] = &[
 const TOO_FULL: &[u8] = b"W 11\nS\nW 12\nS\nL 0\nR 21\nR 19\nR 20\nR 24\nR 22\nR 23\n";
 
 // Whether the end of an epoch of four puts is refused so.
-fn is_too_full(rt: &impl Abort, alloc: Global, p: &Params, store: &mut MemStore) -> bool
+fn is_too_full<R: Abort + Threads + Sync>(
+    rt: &R,
+    alloc: Global,
+    p: &Params,
+    store: &mut MemStore,
+) -> bool
     requires { (disk_of_store store.old).out ≡ 0 }
 {
     let mut sink = MemSink::new(alloc, 2000, Vec::new(alloc)).expect(rt, "memory");
     let mut watch = SinkWatch::new(&mut sink);
-    let steps = [PADS, Step::End(FOUR)];
+    let plan = Plan {
+        params: p,
+        lanes: 1,
+        steps: &[PADS, Step::End(FOUR)],
+    };
     let words = [0, 1, 1, 1, 1];
-    let outcome = run_on(rt, alloc, store, p, &words, &steps, &mut watch);
+    let outcome = run_on(rt, alloc, store, &words, &plan, &mut watch);
     outcome.told == Told::Before(Fault::StashFull { rows: 2 }) && sink.written().ends_with(TOO_FULL)
 }
 
@@ -156,7 +214,12 @@ fn a_stash_that_is_too_full_refuses_the_end_before_anything_is_written(rt: HostR
     let mut store = store_of(&rt, alloc, &p, 37, &[]);
     assert!(rt; is_too_full(&rt, alloc, &p, &mut store));
     let mut left = left_after(&rt, &store, 1000, None);
-    let again = run_on(&rt, alloc, &mut left, &p, &[], &[], &mut Blind);
+    let opened = Plan {
+        params: &p,
+        lanes: 1,
+        steps: &[],
+    };
+    let again = run_on(&rt, alloc, &mut left, &[], &opened, &mut Blind);
     assert!(rt; again.told == Told::Done { epoch: 0, left: 0 });
 }
 
@@ -189,15 +252,24 @@ const TWICE: &[Step] = &[
 const LIFTS: &[u8] = b"R 59\nR 60\nR 84\nR 85\nR 69\nR 70\n";
 
 // Runs a small store up to the end of its epoch 2; whether the lifts are shown somewhere.
-fn shows_lifts(rt: &impl Abort, alloc: Global, store: &mut MemStore, steps: &[Step]) -> bool
+fn shows_lifts<R: Abort + Threads + Sync>(
+    rt: &R,
+    alloc: Global,
+    store: &mut MemStore,
+    steps: &[Step],
+) -> bool
     requires { (disk_of_store store.old).out ≡ 0 }
     ensures { (disk_of_store store.new).out ≡ 0 }
 {
-    let p = small_store(rt);
+    let plan = Plan {
+        params: &small_store(rt),
+        lanes: 1,
+        steps,
+    };
     let mut sink = MemSink::new(alloc, 4000, Vec::new(alloc)).expect(rt, "memory");
     let mut watch = SinkWatch::new(&mut sink);
     let words = [0, 0, 0, 0, 3, 3];
-    let outcome = run_on(rt, alloc, store, &p, &words, steps, &mut watch);
+    let outcome = run_on(rt, alloc, store, &words, &plan, &mut watch);
     assert!(rt; outcome.told == Told::Done { epoch: 2, left: 2 });
     let shown = sink.written();
     for i in 0..shown.len() {

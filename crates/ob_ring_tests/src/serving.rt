@@ -3,15 +3,19 @@
 ghost use Rattle.std.specs.Prelude.{◌≡◌, ◌<◌, ◌≤◌, ◌∷◌, [], length, IfOk, IfSome, OnOk, None};
 ghost use Rattle.ob_ring_tests.specs.Serving.{AreFitWrites, IsServing};
 
+use crate::small::test_keys;
 use ob_base::{Fault, Key, Params, Value, Write};
-use ob_cells::Crew;
+use ob_cells::{Bench, Crew};
 use ob_end::end;
 use ob_fetch::{Run, fetch};
+use ob_lanes::Lanes;
 use ob_opening::{Opening, prepare};
-use ob_seal::{Keys, Tape};
+use ob_ring::Index;
+use ob_seal::Tape;
 use ob_serial::EndErr;
-use ob_store::{Store, Watch};
+use ob_store::Watch;
 use std::alloc::Global;
+use std::thread::Threads;
 
 // A key and the value that it gets.
 #[derive(Clone, Copy)]
@@ -25,6 +29,14 @@ pub struct Put {
 pub enum Step {
     Ask(Option<Key>),
     End(&'static [Put]),
+}
+
+/// A store's parameters, how many lanes read it, and the steps that a run takes.
+#[derive(Clone, Copy)]
+pub struct Plan<'a> {
+    pub params: &'a Params,
+    pub lanes: usize,
+    pub steps: &'a [Step],
 }
 
 // How a run went: all its steps, with the last epoch that ended and the batches that are left; or
@@ -46,21 +58,32 @@ pub struct Outcome {
     pub found: Option<Value>,
 }
 
+// A run, what reads its jobs, where its cells are sealed, and room for what its ends count.
+#[derive(Drop)]
+struct Serving<L> {
+    run: Run,
+    crew: Crew<L>,
+    bench: Bench,
+    index: Index,
+}
+
 // Opens a store for a run.
-fn open_run<S: Store, T: Tape, W: Watch>(
+fn open_run<S: Lanes, R: Threads + Sync, T: Tape, W: Watch>(
+    rt: &R,
     alloc: Global,
     store: &mut S,
     tape: &mut T,
-    keys: &Keys,
-    p: &Params,
+    plan: &Plan,
     watch: &mut W,
-) -> Result<(Run, Crew<S::Lane>), Fault>
+) -> Result<Serving<S::Lane>, Fault>
     requires none_out { (S.disk store.old).out ≡ 0 }
     requires unstarted { T.present tape.old ≡ 0 }
+    requires lanes { (1 ≤ plan.now.lanes) × (plan.now.lanes ≤ 16) }
     ensures out { (S.disk store.new).out ≤ (S.disk store.old).out }
-    ensures serving { IfOk result (λ o. IsServing (S.disk store.new) (T.present tape.new)
-        (T.drawn tape.new) o.0 o.1) }
+    ensures serving { IfOk result (λ s. IsServing (S.disk store.new) (T.present tape.new)
+        (T.drawn tape.new) s.run s.crew s.index) }
 {
+    let keys = test_keys();
     let Opening {
         params,
         gates,
@@ -70,9 +93,20 @@ fn open_run<S: Store, T: Tape, W: Watch>(
         ring,
         jobs,
         crew,
+        bench,
         sheet,
         words,
-    } = match prepare(alloc, store, tape, keys, p, 1, watch) {
+        index,
+    } = match prepare(
+        rt,
+        alloc,
+        store,
+        tape,
+        &keys,
+        plan.params,
+        plan.lanes,
+        watch,
+    ) {
         Ok(opening) => opening,
         Err(fault) => return Err(fault),
     };
@@ -89,7 +123,12 @@ fn open_run<S: Store, T: Tape, W: Watch>(
         sheet,
         words,
     };
-    Ok((run, crew))
+    Ok(Serving {
+        run,
+        crew,
+        bench,
+        index,
+    })
 }
 
 // The asks of a batch of at most two places.
@@ -100,31 +139,32 @@ fn asks_of(key: Option<Key>) -> [Option<Key>; 2]
 }
 
 // Fetches a batch whose first place asks for this key.
-fn ask<S: Store, T: Tape, W: Watch>(
+fn ask<S: Lanes, R: Threads + Sync, T: Tape, W: Watch>(
+    rt: &R,
     store: &mut S,
     tape: &mut T,
-    crew: &mut Crew<S::Lane>,
-    run: &mut Run,
+    serving: &mut Serving<S::Lane>,
     key: Option<Key>,
     watch: &mut W,
 ) -> Result<Option<Value>, Told>
     requires serving { IsServing (S.disk store.old) (T.present tape.old) (T.drawn tape.old)
-        run.old crew.old }
-    requires some_left { 0 < run.old.left }
-    requires few { run.old.params.places ≤ 2 }
-    requires low { IfSome key (λ k. k < run.old.params.keys) }
+        serving.old.run serving.old.crew serving.old.index }
+    requires some_left { 0 < serving.old.run.left }
+    requires few { serving.old.run.params.places ≤ 2 }
+    requires low { IfSome key (λ k. k < serving.old.run.params.keys) }
     ensures out { (S.disk store.new).out ≤ (S.disk store.old).out }
     ensures serving { OnOk result (IsServing (S.disk store.new) (T.present tape.new)
-        (T.drawn tape.new) run.new crew.new) }
+        (T.drawn tape.new) serving.new.run serving.new.crew serving.new.index) }
 {
     let asks = asks_of(key);
     let mut out: [Option<Value>; 2] = [None; 2];
-    let places = run.params.places as usize;
+    let places = serving.run.params.places as usize;
     match fetch(
+        rt,
         store,
         tape,
-        crew,
-        run,
+        &mut serving.crew,
+        &mut serving.run,
         &asks[..places],
         &mut out[..places],
         watch,
@@ -135,24 +175,34 @@ fn ask<S: Store, T: Tape, W: Watch>(
 }
 
 // Ends the epoch with these writes.
-fn end_with<S: Store, T: Tape, W: Watch>(
+fn end_with<S: Lanes, R: Threads + Sync, T: Tape, W: Watch>(
+    rt: &R,
     store: &mut S,
     tape: &mut T,
-    crew: &mut Crew<S::Lane>,
-    run: &mut Run,
+    serving: &mut Serving<S::Lane>,
     writes: &[Write],
     watch: &mut W,
 ) -> Result<Option<Value>, Told>
     requires serving { IsServing (S.disk store.old) (T.present tape.old) (T.drawn tape.old)
-        run.old crew.old }
-    requires none_left { run.old.left ≡ 0 }
-    requires few { length writes.now ≤ run.old.params.writes }
-    requires fit { AreFitWrites run.old.params.keys writes.now }
+        serving.old.run serving.old.crew serving.old.index }
+    requires none_left { serving.old.run.left ≡ 0 }
+    requires few { length writes.now ≤ serving.old.run.params.writes }
+    requires fit { AreFitWrites serving.old.run.params.keys writes.now }
     ensures out { (S.disk store.new).out ≤ (S.disk store.old).out }
     ensures serving { OnOk result (IsServing (S.disk store.new) (T.present tape.new)
-        (T.drawn tape.new) run.new crew.new) }
+        (T.drawn tape.new) serving.new.run serving.new.crew serving.new.index) }
 {
-    match end(store, tape, crew, run, writes, watch) {
+    match end(
+        rt,
+        store,
+        tape,
+        &mut serving.crew,
+        &mut serving.run,
+        &mut serving.index,
+        &mut serving.bench,
+        writes,
+        watch,
+    ) {
         Ok(()) => Ok(None),
         Err(EndErr::Before(fault)) => Err(Told::Before(fault)),
         Err(EndErr::Unsure(fault)) => Err(Told::Unsure(fault)),
@@ -187,81 +237,82 @@ fn writes_of(puts: &[Put], keys: u32) -> Option<[Write; 4]>
 }
 
 // Takes a step, where it may be taken.
-fn take_step<S: Store, T: Tape, W: Watch>(
+fn take_step<S: Lanes, R: Threads + Sync, T: Tape, W: Watch>(
+    rt: &R,
     store: &mut S,
     tape: &mut T,
-    crew: &mut Crew<S::Lane>,
-    run: &mut Run,
+    serving: &mut Serving<S::Lane>,
     step: Step,
     watch: &mut W,
 ) -> Result<Option<Value>, Told>
     requires serving { IsServing (S.disk store.old) (T.present tape.old) (T.drawn tape.old)
-        run.old crew.old }
+        serving.old.run serving.old.crew serving.old.index }
     ensures out { (S.disk store.new).out ≤ (S.disk store.old).out }
     ensures serving { OnOk result (IsServing (S.disk store.new) (T.present tape.new)
-        (T.drawn tape.new) run.new crew.new) }
+        (T.drawn tape.new) serving.new.run serving.new.crew serving.new.index) }
 {
+    let (p, left) = (serving.run.params, serving.run.left);
     match step {
         Step::Ask(key) => {
-            if run.left == 0 || run.params.places > 2 || key.unwrap_or(0) >= run.params.keys {
+            if left == 0 || p.places > 2 || key.unwrap_or(0) >= p.keys {
                 return Err(Told::Misuse);
             }
-            ask(store, tape, crew, run, key, watch)
+            ask(rt, store, tape, serving, key, watch)
         }
         Step::End(puts) => {
-            let Some(writes) = writes_of(puts, run.params.keys) else {
+            let Some(writes) = writes_of(puts, p.keys) else {
                 return Err(Told::Misuse);
             };
-            if run.left != 0 || puts.len() > run.params.writes as usize {
+            if left != 0 || puts.len() > p.writes as usize {
                 return Err(Told::Misuse);
             }
-            end_with(store, tape, crew, run, &writes[..puts.len()], watch)
+            end_with(rt, store, tape, serving, &writes[..puts.len()], watch)
         }
     }
 }
 
 // Takes these steps, up to the first that isn't taken.
-fn take_steps<S: Store, T: Tape, W: Watch>(
+fn take_steps<S: Lanes, R: Threads + Sync, T: Tape, W: Watch>(
+    rt: &R,
     store: &mut S,
     tape: &mut T,
-    crew: &mut Crew<S::Lane>,
-    run: &mut Run,
+    serving: &mut Serving<S::Lane>,
     steps: &[Step],
     watch: &mut W,
 ) -> Outcome
     requires serving { IsServing (S.disk store.old) (T.present tape.old) (T.drawn tape.old)
-        run.old crew.old }
+        serving.old.run serving.old.crew serving.old.index }
     ensures { (S.disk store.new).out ≡ 0 }
 {
     let mut found: Option<Value> = None;
     for i in 0..steps.len() {
-        match take_step(store, tape, crew, run, steps[i], watch) {
+        match take_step(rt, store, tape, serving, steps[i], watch) {
             Ok(None) => {}
             Ok(Some(value)) => found = Some(value),
             Err(told) => return Outcome { told, found },
         }
     }
-    let (epoch, left) = (run.epoch, run.left);
+    let (epoch, left) = (serving.run.epoch, serving.run.left);
     let told = Told::Done { epoch, left };
     Outcome { told, found }
 }
 
-/// Opens a store, and takes these steps.
-pub fn run_steps<S: Store, T: Tape, W: Watch>(
+/// Opens a store under the tests' keys, and takes the steps.
+pub fn run_steps<S: Lanes, R: Threads + Sync, T: Tape, W: Watch>(
+    rt: &R,
     alloc: Global,
     store: &mut S,
     tape: &mut T,
-    keys: &Keys,
-    p: &Params,
-    steps: &[Step],
+    plan: &Plan,
     watch: &mut W,
 ) -> Outcome
     requires none_out { (S.disk store.old).out ≡ 0 }
     requires unstarted { T.present tape.old ≡ 0 }
+    requires lanes { (1 ≤ plan.now.lanes) × (plan.now.lanes ≤ 16) }
     ensures { (S.disk store.new).out ≡ 0 }
 {
-    match open_run(alloc, store, tape, keys, p, watch) {
-        Ok((mut run, mut crew)) => take_steps(store, tape, &mut crew, &mut run, steps, watch),
+    match open_run(rt, alloc, store, tape, plan, watch) {
+        Ok(mut serving) => take_steps(rt, store, tape, &mut serving, plan.steps, watch),
         Err(fault) => Outcome {
             told: Told::Opening(fault),
             found: None,

@@ -3,7 +3,7 @@
 ghost use Rattle.std.specs.Prelude.{◌≡◌};
 ghost use Rattle.ob_mem.specs.Memory.{disk_of_store};
 
-use crate::opening::{new_store, open_ring, params_of, serve, serve_store, test_keys};
+use crate::opening::{Setting, new_store, open_ring, serve, serve_store, setting_of, test_keys};
 use crate::random::{Random, calls_of};
 use ob_base::{Params, Value, ring_cells};
 use ob_flat::FlatVault;
@@ -11,9 +11,10 @@ use ob_mem::MemStore;
 use ob_plain_serial::{Reply, Request};
 use ob_seal::ChaChaTape;
 use ob_serial::Vault;
-use ob_store::{Blind, Note, Watch};
+use ob_store::{Blind, Note, Store, Watch};
 use std::alloc::Global;
 use std::process::Abort;
+use std::thread::Threads;
 
 // Counts writes and syncs.
 #[derive(Drop)]
@@ -46,7 +47,12 @@ fn new_tape() -> ChaChaTape
 }
 
 // What a new plain vault answers.
-fn plain_replies(rt: &impl Abort, alloc: Global, p: &Params, calls: &[Request]) -> Vec<Reply> {
+fn plain_replies<R: Abort + Threads + Sync>(
+    rt: &R,
+    alloc: Global,
+    p: &Params,
+    calls: &[Request],
+) -> Vec<Reply> {
     let keys = test_keys();
     let cells = ob_flat::cells(p) as usize;
     let mut store = MemStore::new(alloc, cells, Vec::new(alloc)).expect(rt, "memory");
@@ -136,21 +142,21 @@ fn part_behind<'a>(
 
 // Opens what a crash left, and makes the calls of two epochs from where it stands on; whether they
 // are answered as without a crash.
-fn serves_on(
-    rt: &impl Abort,
+fn serves_on<R: Abort + Threads + Sync>(
+    rt: &R,
     alloc: Global,
     left: &mut MemStore,
-    p: &Params,
+    setting: &Setting,
     calls: &[Request],
     wanted: &[Reply],
 ) -> bool
     requires { (disk_of_store left.old).out ≡ 0 }
 {
     let mut tape = new_tape();
-    match open_ring(alloc, left, &mut tape, &test_keys(), p, &mut Blind) {
+    match open_ring(rt, alloc, left, &mut tape, setting, &mut Blind) {
         Ok(mut vault) => {
-            let (place, part) = part_behind(rt, calls, p, vault.epoch(), vault.left());
-            let replies = serve(rt, alloc, &mut vault, p, part, &mut Blind);
+            let (place, part) = part_behind(rt, calls, &setting.p, vault.epoch(), vault.left());
+            let replies = serve(rt, alloc, &mut vault, &setting.p, part, &mut Blind);
             let _lent = vault.into_lent();
             are_from(&replies.expect(rt, "memory"), wanted, place, part.len())
         }
@@ -174,11 +180,11 @@ const EPOCHS: u32 = 50;
 const CRASHES: usize = 20;
 
 // Makes all of these calls on a new ring store; whether they are answered so.
-fn serves_all<W: Watch>(
-    rt: &impl Abort,
+fn serves_all<R: Abort + Threads + Sync, W: Watch>(
+    rt: &R,
     alloc: Global,
     store: &mut MemStore,
-    p: &Params,
+    setting: &Setting,
     calls: &[Request],
     wanted: &[Reply],
     watch: &mut W,
@@ -186,7 +192,7 @@ fn serves_all<W: Watch>(
     requires { (disk_of_store store.old).out ≡ 0 }
 {
     let mut tape = new_tape();
-    match serve_store(rt, alloc, store, &mut tape, &test_keys(), p, calls, watch) {
+    match serve_store(rt, alloc, store, &mut tape, setting, calls, watch) {
         Ok(served) => are_from(&served.replies, wanted, 0, calls.len()),
         Err(_) => false,
     }
@@ -194,26 +200,26 @@ fn serves_all<W: Watch>(
 
 // A ring store that crashes at so many moments of these calls; each time another opening of what is
 // left serves on.
-fn crash_often(
-    rt: &impl Abort,
+fn crash_often<R: Abort + Threads + Sync>(
+    rt: &R,
     alloc: Global,
-    p: &Params,
+    setting: &Setting,
     calls: &[Request],
     wanted: &[Reply],
     random: &mut Random,
 ) {
     let mut count = Count { made: 0 };
-    let mut store = new_store(rt, alloc, p, &[], &mut count);
+    let mut store = new_store(rt, alloc, &setting.p, &[], &mut count);
     let formatted = count.made;
-    assert!(rt; serves_all(rt, alloc, &mut store, p, calls, wanted, &mut count));
+    assert!(rt; serves_all(rt, alloc, &mut store, setting, calls, wanted, &mut count));
     let part = count.made.saturating_sub(formatted) / CRASHES;
     for i in 0..CRASHES {
         let within = random.below(part.min(1_000_000) as u32 + 1) as usize;
         let moment = formatted
             .saturating_add(part.saturating_mul(i))
             .saturating_add(within);
-        let mut left = left_after(rt, alloc, &store, moment, ring_cells(p), random);
-        assert!(rt; serves_on(rt, alloc, &mut left, p, calls, wanted));
+        let mut left = left_after(rt, alloc, &store, moment, ring_cells(&setting.p), random);
+        assert!(rt; serves_on(rt, alloc, &mut left, setting, calls, wanted));
     }
 }
 
@@ -222,10 +228,81 @@ fn a_ring_vault_answers_as_a_plain_one_and_after_each_crash(rt: HostRuntime) {
     let alloc = rt.alloc();
     let mut random = Random { state: 1 };
     for numbers in SETS {
-        let p = params_of(&rt, *numbers);
-        let calls = calls_of(&rt, alloc, &mut random, &p, EPOCHS);
-        let wanted = plain_replies(&rt, alloc, &p, &calls);
+        let setting = setting_of(&rt, *numbers, random.below(16) as usize + 1);
+        let calls = calls_of(&rt, alloc, &mut random, &setting.p, EPOCHS);
+        let wanted = plain_replies(&rt, alloc, &setting.p, &calls);
         assert_eq!(rt; wanted.len(), calls.len());
-        crash_often(&rt, alloc, &p, &calls, &wanted, &mut random);
+        crash_often(&rt, alloc, &setting, &calls, &wanted, &mut random);
+    }
+}
+
+// What a cell holds.
+fn bytes_in(rt: &impl Abort, store: &mut MemStore, cell: u64) -> [u8; 128] {
+    let mut bytes = [9; 128];
+    let mut lane = store.lane().expect(rt, "a lane");
+    assert!(rt; store.read(&mut lane, cell, &mut bytes).is_ok());
+    store.absorb(lane);
+    bytes
+}
+
+// Whether crashes at this moment leave the same cells of two stores.
+fn leave_the_same(
+    rt: &impl Abort,
+    one: &MemStore,
+    other: &MemStore,
+    moment: usize,
+    cells: u64,
+) -> bool {
+    let mut one = one.crash(moment, &[]).expect(rt, "memory");
+    let mut other = other.crash(moment, &[]).expect(rt, "memory");
+    for cell in 0..cells {
+        if bytes_in(rt, &mut one, cell) != bytes_in(rt, &mut other, cell) {
+            return false;
+        }
+    }
+    true
+}
+
+// A new ring store behind these calls, which are answered so, and how many writes and syncs its
+// format and they made.
+fn filled<R: Abort + Threads + Sync>(
+    rt: &R,
+    alloc: Global,
+    setting: &Setting,
+    calls: &[Request],
+    wanted: &[Reply],
+) -> (MemStore, usize) {
+    let mut count = Count { made: 0 };
+    let mut store = new_store(rt, alloc, &setting.p, &[], &mut count);
+    assert!(rt; serves_all(rt, alloc, &mut store, setting, calls, wanted, &mut count));
+    (store, count.made)
+}
+
+// A first batch reads 6 slots, 20, and 36.
+const FEW: &[[u32; 9]] = &[
+    [8, 2, 2, 3, 2, 2, 2, 2, 8],
+    [64, 4, 4, 6, 4, 4, 8, 8, 64],
+    [256, 8, 4, 6, 4, 4, 8, 8, 256],
+];
+
+const LONG: u32 = 100;
+
+#[test]
+fn a_store_is_the_same_by_one_lane_and_by_sixteen(rt: HostRuntime) {
+    let alloc = rt.alloc();
+    let mut random = Random { state: 2 };
+    for numbers in FEW {
+        let one = setting_of(&rt, *numbers, 1);
+        let all = setting_of(&rt, *numbers, 16);
+        let calls = calls_of(&rt, alloc, &mut random, &one.p, LONG);
+        let wanted = plain_replies(&rt, alloc, &one.p, &calls);
+        let (first, made) = filled(&rt, alloc, &one, &calls, &wanted);
+        let (second, again) = filled(&rt, alloc, &all, &calls, &wanted);
+        assert_eq!(rt; made, again);
+        for _crash in 0..CRASHES {
+            let moment = random.below(made.min(1_000_000) as u32 + 1) as usize;
+            assert!(rt; leave_the_same(&rt, &first, &second, moment, ring_cells(&one.p)));
+        }
+        assert!(rt; leave_the_same(&rt, &first, &second, made, ring_cells(&one.p)));
     }
 }

@@ -3,15 +3,16 @@
 ghost use Rattle.std.specs.Prelude.{◌≡◌};
 ghost use Rattle.ob_mem.specs.Memory.{disk_of_store};
 
-use crate::opening::{new_store, params_of, serve_store, test_keys};
+use crate::opening::{Setting, new_store, serve_store, setting_of};
 use crate::shown::{FIRST_EPOCH, LEAF_ONE, OPENED, SECOND_EPOCH};
 use crate::steps::{Put, Step, requests_of, told_by};
-use ob_base::{Params, Value};
+use ob_base::Value;
 use ob_mem::{MemSink, MemStore};
 use ob_seal::ListTape;
 use ob_store::{Blind, SinkWatch};
 use std::alloc::Global;
 use std::process::Abort;
+use std::thread::Threads;
 
 const PADS: Step = Step::Ask(None);
 
@@ -73,20 +74,19 @@ const ROWS: &[Row] = &[
 ];
 
 // Opens a store again and asks for key 5: this epoch ended last, and the key has this.
-fn finds_again(
-    rt: &impl Abort,
+fn finds_again<R: Abort + Threads + Sync>(
+    rt: &R,
     alloc: Global,
     store: &mut MemStore,
-    p: &Params,
+    setting: &Setting,
     epoch: u64,
     wanted: Option<Value>,
 ) -> bool
     requires { (disk_of_store store.old).out ≡ 0 }
 {
-    let keys = test_keys();
-    let calls = requests_of(rt, alloc, p, &[FIVE]);
+    let calls = requests_of(rt, alloc, &setting.p, &[FIVE]);
     let mut tape = ListTape::new(alloc, &[]).expect(rt, "memory");
-    match serve_store(rt, alloc, store, &mut tape, &keys, p, &calls, &mut Blind) {
+    match serve_store(rt, alloc, store, &mut tape, setting, &calls, &mut Blind) {
         Ok(next) => {
             let before = next.generation == 3 && next.began == (epoch, 2);
             let found = told_by(&next.replies).found;
@@ -98,17 +98,21 @@ fn finds_again(
 
 // Makes a row's calls over a new store, and asks for key 5 behind another opening; whether all is
 // as the row says.
-fn plays_so(rt: &impl Abort, alloc: Global, p: &Params, row: &Row) -> bool {
-    let keys = test_keys();
+fn plays_so<R: Abort + Threads + Sync>(
+    rt: &R,
+    alloc: Global,
+    setting: &Setting,
+    row: &Row,
+) -> bool {
     let wanted = Value::new(row.text);
     let wanted = if row.text.is_empty() { None } else { wanted };
-    let calls = requests_of(rt, alloc, p, row.steps);
+    let calls = requests_of(rt, alloc, &setting.p, row.steps);
     let mut sink = MemSink::new(alloc, 4000, Vec::new(alloc)).expect(rt, "memory");
     let mut watch = SinkWatch::new(&mut sink);
     let mut tape = ListTape::new(alloc, row.words).expect(rt, "memory");
-    let mut store = new_store(rt, alloc, p, &[], &mut Blind);
+    let mut store = new_store(rt, alloc, &setting.p, &[], &mut Blind);
     match serve_store(
-        rt, alloc, &mut store, &mut tape, &keys, p, &calls, &mut watch,
+        rt, alloc, &mut store, &mut tape, setting, &calls, &mut watch,
     ) {
         Ok(first) => {
             let before = first.generation == 2 && first.began == (0, 2);
@@ -116,7 +120,7 @@ fn plays_so(rt: &impl Abort, alloc: Global, p: &Params, row: &Row) -> bool {
             let after = first.stands == (row.epoch, 2, false);
             let found = told_by(&first.replies).found == wanted;
             let shown = is_made_of(sink.written(), row.parts);
-            let again = finds_again(rt, alloc, first.store, p, row.epoch, wanted);
+            let again = finds_again(rt, alloc, first.store, setting, row.epoch, wanted);
             before && whole && after && found && shown && again
         }
         Err(_) => false,
@@ -125,8 +129,10 @@ fn plays_so(rt: &impl Abort, alloc: Global, p: &Params, row: &Row) -> bool {
 
 #[test]
 fn a_ring_vault_shows_what_another_implementation_shows(rt: HostRuntime) {
-    let p = params_of(&rt, [8, 2, 2, 3, 2, 2, 2, 2, 8]);
-    for row in ROWS {
-        assert!(rt; plays_so(&rt, rt.alloc(), &p, row));
+    for lanes in 1..17 {
+        let setting = setting_of(&rt, [8, 2, 2, 3, 2, 2, 2, 2, 8], lanes);
+        for row in ROWS {
+            assert!(rt; plays_so(&rt, rt.alloc(), &setting, row));
+        }
     }
 }

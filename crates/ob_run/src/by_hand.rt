@@ -17,12 +17,20 @@ use ob_session::Runner;
 use ob_store::Watch;
 use std::alloc::Global;
 use std::sync::Wait;
+use std::thread::Threads;
 
 /// Lets a desk go, of which nothing more is asked.
 pub(crate) fn let_go(_desk: Desk) {}
 
 /// Runs the clients over the vault, all by hand, from the desk as it was made.
-pub(crate) fn run_by_hand<R: Wait, V: Vault, W: Watch, U: Runner, B: Beat, O: Sink>(
+pub(crate) fn run_by_hand<
+    R: Threads + Wait + Sync,
+    V: Vault,
+    W: Watch,
+    U: Runner,
+    B: Beat,
+    O: Sink,
+>(
     rt: &R,
     alloc: Global,
     params: &Params,

@@ -18,6 +18,7 @@ use ob_io::Sink;
 use ob_serial::Vault;
 use ob_store::Watch;
 use std::sync::Wait;
+use std::thread::Threads;
 
 /// What the driver works on.
 #[derive(Drop)]
@@ -71,7 +72,7 @@ pub(crate) fn drive_lent<
     'w,
     'b,
     'o,
-    R: Wait,
+    R: Threads + Wait + Sync,
     V: Vault,
     W: Watch,
     B: Beat,

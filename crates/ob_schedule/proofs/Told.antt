@@ -80,9 +80,6 @@ notes_open p s f found known =
 
 -- ---- an end
 
-regroup : (h w c g s t : List Note) → h ++ ((((w ++ c) ++ g) ++ s) ++ t) ≡ ((((h ++ w) ++ c) ++ g) ++ s) ++ t
-regroup h w c g s t = simp append_assoc
-
 -- the other home, by its number
 other_home : (side : Side) → side_number (other side) ≡ 1 - side_number side
 other_home Even = refl
@@ -109,6 +106,5 @@ notes_end p s leaves f found known =
     let t : List Note = set_twin p EpochTwin (side_number (other s.epoch)) is_open in
     let homes : w ≡ bucket_writes p (λ u. 1 - side_number (s.homes u)) us = ap (λ (home : ℕ → ℕ). bucket_writes p home us) (λ i u. other_home (s.homes u) i) in
     ap (λ (ns : List Note). h ++ ns) (notes_behind (((w ++ c) ++ g) ++ (Sync ∷ [])) (sets p Epoch (other s.epoch) s.epoch_gate) ∙ ap (λ (ns : List Note). (((w ++ c) ++ g) ++ (Sync ∷ [])) ++ ns) (notes_set p Epoch (other s.epoch) s.epoch_gate is_open known))
-    ∙ regroup h w c g (Sync ∷ []) t
-    ∙ ap (λ (ns : List Note). ((((h ++ ns) ++ c) ++ g) ++ (Sync ∷ [])) ++ t) homes
-    ∙ by_epoch p (h ++ bucket_writes p (λ u. 1 - side_number (s.homes u)) us) s.epoch is_open
+    ∙ ap (λ (ns : List Note). h ++ ((((ns ++ c) ++ g) ++ (Sync ∷ [])) ++ t)) homes
+    ∙ ap (λ (ns : List Note). h ++ ns) (by_epoch p (bucket_writes p (λ u. 1 - side_number (s.homes u)) us) s.epoch is_open)

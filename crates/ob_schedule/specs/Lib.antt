@@ -8,3 +8,4 @@ pub mod Sides
 pub mod Standing
 pub mod Wants
 pub mod Runs
+pub mod Phases

@@ -112,13 +112,16 @@ head_notes = Read 0 ∷ []
 abbrev pub begun_public : (ℕ → Bool) → Public → Public
 begun_public found q = record q { gates = found; leaves = [] }
 
--- Behind the head an opening reads both registers, the checkpoint and the log of the next epoch, sets this generation, and repeats so
--- many batches.
-abbrev pub open_notes : Params → Public → Fills → (ℕ → Bool) → ℕ → ℕ → List Note
-open_notes p q f found generation batches =
+-- Behind the head an opening reads both registers, the checkpoint and the log of the next epoch, and sets this generation;
+abbrev pub before_repeats : Params → Public → (ℕ → Bool) → ℕ → List Note
+before_repeats p q found generation =
     reads_of (region_cells p GenerationTwin ++ region_cells p EpochTwin) ++ reads_of (check_cells p (q.epoch % 2))
     ++ reads_of (region_cells p (LogArea ((q.epoch + 1) % 2)))
-    ++ (Sync ∷ []) ++ set_twin p GenerationTwin generation (found (gate_cell p GenerationTwin generation)) ++ repeats p (begun_public found q) f 0 batches
+    ++ (Sync ∷ []) ++ set_twin p GenerationTwin generation (found (gate_cell p GenerationTwin generation))
+
+-- and then it repeats so many batches.
+abbrev pub open_notes : Params → Public → Fills → (ℕ → Bool) → ℕ → ℕ → List Note
+open_notes p q f found generation batches = before_repeats p q found generation ++ repeats p (begun_public found q) f 0 batches
 
 abbrev pub after_open : Params → Public → Fills → (ℕ → Bool) → ℕ → ℕ → Public
 after_open p q f found generation batches = after_repeats p (opens_gate (begun_public found q) (gate_cell p GenerationTwin generation)) f 0 batches
@@ -127,12 +130,19 @@ after_open p q f found generation batches = after_repeats p (opens_gate (begun_p
 abbrev pub is_lifted_by_end : Params → Public → ℕ → Bool
 is_lifted_by_end p q u = is_one_of (eviction_path p q.counter) u || nat_le p.dummies (counts_now p q u)
 
-abbrev pub end_notes : Params → Public → Fills → List Note
-end_notes p q f =
+-- its final lifts
+abbrev pub end_lifts : Params → Public → Fills → List Note
+end_lifts p q f = hole_reads p q f (final_holes p (counts_now p q) q.counter)
+
+-- What it writes behind them: the lifted buckets anew, the checkpoint, closed gates for the log of the epoch behind, and the register.
+abbrev pub written_by_end : Params → Public → List Note
+written_by_end p q =
     let e = q.epoch + 1 in
-    hole_reads p q f (final_holes p (counts_now p q) q.counter)
-    ++ bucket_writes p (λ u. 1 - q.homes u) (filter (is_lifted_by_end p q) (by_falling_level (p.levels + 1)))
+    bucket_writes p (λ u. 1 - q.homes u) (filter (is_lifted_by_end p q) (by_falling_level (p.levels + 1)))
     ++ writes_of (check_cells p (e % 2)) ++ writes_of (log_gates p ((e + 1) % 2)) ++ (Sync ∷ []) ++ set_twin p EpochTwin e (q.gates (gate_cell p EpochTwin e))
+
+abbrev pub end_notes : Params → Public → Fills → List Note
+end_notes p q f = end_lifts p q f ++ written_by_end p q
 
 abbrev pub after_end : Params → Public → Public
 after_end p q =

@@ -1,6 +1,7 @@
 //! Laws of what may stand next.
 
 ghost use Rattle.ob_schedule.specs.Laws.{WantedIsExact, NotesAreScheduled, LineDetermines};
+ghost use Rattle.ob_schedule.specs.Phases.{PhasesAreNotes};
 
 /// A line may stand next exactly where it begins a run or a format, or is one of those that are
 /// said to be wanted.
@@ -17,4 +18,9 @@ pub fn notes_are_scheduled()
 /// What is known behind a line follows from what was known before it.
 pub fn line_determines()
     ensures { LineDetermines }
+{}
+
+/// The phases of a batch, an opening and an end have the events of their notes.
+pub fn phases_are_notes()
+    ensures { PhasesAreNotes }
 {}

@@ -10,7 +10,7 @@ mod run;
 mod runs;
 mod want;
 
-pub use laws::{line_determines, notes_are_scheduled, wanted_is_exact};
+pub use laws::{line_determines, notes_are_scheduled, phases_are_notes, wanted_is_exact};
 pub use line::{Line, Wanted};
 pub use runs::Runs;
 pub use want::{Change, Gate, Register, Side, Want};

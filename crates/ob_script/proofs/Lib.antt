@@ -1,3 +1,4 @@
+pub mod Drills
 pub mod Amounts
 pub mod Cuts
 pub mod Lines

@@ -1,3 +1,4 @@
+pub mod Drill
 pub mod Integers
 pub mod Script
 pub mod ScriptViews

@@ -1,6 +1,7 @@
 //! Scripts: what clients ask for, line by line.
 #![tactic(auto)]
 
+mod drilling;
 mod integers;
 mod line;
 mod parsing;
@@ -8,6 +9,7 @@ mod reader;
 mod reading;
 mod scripts;
 
+pub use drilling::drill;
 pub use integers::integer_of;
 pub use line::{Ask, Ending, Line, ScriptTxn};
 pub use parsing::{LIMIT, parse};

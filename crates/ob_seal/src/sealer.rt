@@ -112,11 +112,31 @@ impl Sealer {
         if number >= NUMBER_LIMIT {
             return Err(Worn { number });
         }
+        let bytes = self.seal_at(cell, number, plain);
+        self.next = number + 1;
+        Ok(bytes)
+    }
+
+    /// Seals plain bytes for a cell, with a given number. It takes none: see `take`.
+    pub fn seal_at(&self, cell: u64, number: u64, plain: &[u8; 96]) -> [u8; 128]
+        requires { number < 2 ^ 62 }
+        ensures { result ≡ sealed self.now.keys cell self.now.generation number plain.now }
+    {
         let pad = cells::pad_of(&self.keys.seal, self.generation, number);
         let identity = cells::identity_bytes(self.generation, number);
         let front = cells::front_of(&identity, &cells::xored(plain, &pad));
+        self.stamp(cell, &front)
+    }
+
+    /// Takes the next number, which is then gone.
+    pub fn take(&mut self) -> u64
+        requires { self.old.next < 2 ^ 62 }
+        ensures number { result ≡ self.old.next }
+        ensures next { self.new ≡ record self.old { next = self.old.next + 1 } }
+    {
+        let number = self.next;
         self.next = number + 1;
-        Ok(self.stamp(cell, &front))
+        number
     }
 
     /// Opens the sealed bytes of a cell, whose generation and number may be expected ones.

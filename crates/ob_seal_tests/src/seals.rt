@@ -163,6 +163,34 @@ fn sealed_cells_are_as_made_elsewhere(rt: HostRuntime) {
     assert!(rt; sealer.next() == (2, 2));
 }
 
+// Whether a cell gets these bytes under a given number, which isn't taken.
+fn seals_at(row: &Sealed) -> bool {
+    let Sealed(cell, generation, number, plain, words) = row;
+    if *number >= 1 << 62 {
+        return false;
+    }
+    let sealer = test_sealer(*generation);
+    let bytes = sealer.seal_at(*cell, *number, &bytes_of(*plain));
+    bytes == spelled(words) && sealer.next() == (*generation, 0)
+}
+
+#[test]
+fn a_given_number_gives_its_bytes(rt: HostRuntime) {
+    for row in SEALED {
+        assert!(rt; seals_at(row));
+    }
+}
+
+#[test]
+fn a_taken_number_is_gone(rt: HostRuntime) {
+    let mut sealer = test_sealer(2);
+    assert!(rt; sealer.next().1 < 9);
+    assert!(rt; sealer.take() == 0 && sealer.next() == (2, 1));
+    assert!(rt; sealer.seal(41, &[7; 96]).is_ok() && sealer.next() == (2, 2));
+    assert!(rt; sealer.next().1 < 9);
+    assert!(rt; sealer.take() == 2);
+}
+
 // ---- stamped cells
 
 // Whether a cell is stamped with this tag, and opens.

@@ -2,9 +2,11 @@
 
 ghost use Rattle.std.specs.Prelude.{◌≡◌, ◌<◌, ◌≤◌, ◌+◌, ◌^◌, ℕ, List, Bool, false, length, map, IfErr, IfOk};
 ghost use Rattle.std.specs.List.Sorted.{IsStrictlyIncreasing};
+ghost use denote.Param.Send.{IsSync};
 
 use ob_base::{Fault, Key, Params, Value, Write};
 use ob_store::Watch;
+use std::thread::Threads;
 
 /// Why the end of an epoch was refused.
 #[derive(Clone, Copy, Debug, PartialEq, Eq)]
@@ -19,13 +21,13 @@ pub enum EndErr {
 /// and then one batch of writes, which ends it.
 ///
 /// After any refusal of `fetch` or `end` the vault is spent: it serves no more, and the store has
-/// to be opened again.
+/// to be opened again. Both are lent the runtime `rt`, by whose threads they may read.
 pub trait Vault {
     ghost use Rattle.std.specs.Prelude.{All};
     ghost use Rattle.ob_base.specs.declared.params.Params.{Params as Parameters};
     ghost use Rattle.ob_store.specs.declared.watch.Note.{Note};
     ghost use Rattle.ob_store.specs.Disk.{Disk, Image};
-    ghost use Rattle.ob_store.specs.Images.{LeavesOnly};
+    ghost use Rattle.ob_store.specs.Images.{IsImageOf, LeavesOnly};
     ghost use Rattle.ob_store.specs.Calls.{GoesOn, IsStoreFault};
     ghost use Rattle.ob_store.specs.Lines.{Shows};
     ghost use Rattle.ob_base.specs.Causes.{Rose};
@@ -42,7 +44,8 @@ pub trait Vault {
     /// the map.
     ghost holds: { Self → VaultState → Type 0 };
 
-    /// It holds this, and each image that a crash may leave stands for what this allows.
+    /// It holds this, and each image that a crash may leave, and what reads give, stands for what
+    /// this allows.
     ghost sound: { Self → VaultState → Type 0 };
 
     /// What an image of its store stands for.
@@ -73,12 +76,14 @@ pub trait Vault {
     /// # Errors
     /// The store failed, and its count of faults rose; or a cell is damaged, or a number is worn.
     /// The vault is spent.
-    fn fetch<W: Watch>(
+    fn fetch<R: Threads + Sync, W: Watch>(
         &mut self,
+        rt: &R,
         asks: &[Option<Key>],
         out: &mut [Option<Value>],
         watch: &mut W,
     ) -> Result<(), Fault>
+        requires sync { IsSync R.row }
         requires serves { (counts self.old).spent ≡ false }
         requires some_left { 0 < (counts self.old).left }
         requires whole { length asks.now ≡ (params self.old).places }
@@ -113,7 +118,13 @@ pub trait Vault {
     /// # Errors
     /// The store failed, and its count of faults rose; or, before anything was written, a cell is
     /// damaged, too many rows would be left in the stash, or the epoch is worn. The vault is spent.
-    fn end<W: Watch>(&mut self, writes: &[Write], watch: &mut W) -> Result<(), EndErr>
+    fn end<R: Threads + Sync, W: Watch>(
+        &mut self,
+        rt: &R,
+        writes: &[Write],
+        watch: &mut W,
+    ) -> Result<(), EndErr>
+        requires sync { IsSync R.row }
         requires serves { (counts self.old).spent ≡ false }
         requires none_left { (counts self.old).left ≡ 0 }
         requires few { length writes.now ≤ (params self.old).writes }
@@ -146,6 +157,7 @@ pub trait Vault {
     /// A sound vault holds what it is sound at.
     ghost sound_holds: { (vault : Self) (v : VaultState) → sound vault v → holds vault v };
 
-    /// Each image that a crash may leave of a sound vault stands for what that allows.
-    ghost rests: { (vault : Self) (v : VaultState) (image : Image) → sound vault v → (disk vault).may_leave image → StandsIn (stands vault) (MayStand v) image };
+    /// Each image that a crash may leave of a sound vault stands for what that allows, and so does
+    /// what reads of its store give.
+    ghost rests: { (vault : Self) (v : VaultState) (image : Image) → sound vault v → IsImageOf (disk vault) image → StandsIn (stands vault) (MayStand v) image };
 }

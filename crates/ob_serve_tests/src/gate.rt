@@ -16,7 +16,7 @@ use std::alloc::Global;
 use std::process::Abort;
 use std::sync::atomic::AtomicBool;
 use std::sync::atomic::Ordering::SeqCst;
-use std::thread;
+use std::thread::{self, Threads};
 
 /// Where fetches wait for a client.
 #[derive(Drop)]
@@ -90,18 +90,24 @@ impl<'g, V: Vault> Vault for Gated<'g, V> {
         self.vault.spent()
     }
 
-    fn fetch<W: Watch>(
+    fn fetch<R: Threads + Sync, W: Watch>(
         &mut self,
+        rt: &R,
         asks: &[Option<Key>],
         out: &mut [Option<Value>],
         watch: &mut W,
     ) -> Result<(), Fault> {
         self.gate.pass();
-        self.vault.fetch(asks, out, watch)
+        self.vault.fetch(rt, asks, out, watch)
     }
 
-    fn end<W: Watch>(&mut self, writes: &[Write], watch: &mut W) -> Result<(), EndErr> {
-        self.vault.end(writes, watch)
+    fn end<R: Threads + Sync, W: Watch>(
+        &mut self,
+        rt: &R,
+        writes: &[Write],
+        watch: &mut W,
+    ) -> Result<(), EndErr> {
+        self.vault.end(rt, writes, watch)
     }
 
     ghost agrees = { λ v s h. V.agrees v.vault s h };

@@ -1,6 +1,6 @@
 -- During an append each image stands for what stood, or for that with the record.
 use Rattle.std.specs.Prelude.{◌≡◌, ◌⊎◌, ◌<◌, ◌≤◌, ℕ, suc, ◌+◌, ◌*◌, ◌%◌, List, [], ◌∷◌, ◌++◌, length}
-use Rattle.std.proofs.Common.{arith, sym, inl, inr, ⊎_elim, subst, length-append}
+use Rattle.std.proofs.Common.{arith, refl, sym, inl, inr, ⊎_elim, subst, length-append}
 use Rattle.std.proofs.lemmas.Bool.{cases_lt}
 use Rattle.std.proofs.Math.ListN.{get_or-append}
 use Rattle.std.proofs.Math.Seq.{get_or-append_seam}
@@ -66,17 +66,20 @@ append_stands keys p s r c d may same stands = decided keys p s r may c d same s
 
 module _ (keys : Keys) (p : Params) (s : RingStanding) (r : BatchRecord) (old new : Disk) (only : (c : Image) → old.left_since old.moment c → old.may_leave c) (appending : Appending keys p s r old new) where
   moved : (c : Image) → ((d : Image) × old.may_leave d × SameButBatch p s c d) → HoldsOneOf keys p (suc s.epoch) s.records r c → OneOf keys p s (with_record s r) c
-  moved c back either = one_of keys p s r appending.may c back.0 back.2 (appending.images back.0 back.1) either
+  moved c back either = one_of keys p s r appending.may c back.0 back.2 (appending.images back.0 (inl back.1)) either
 
   pub appends_leave : LeavesOnly old new (OneOf keys p s (with_record s r))
   appends_leave = record {
     later = appending.passes.later;
     each = λ c left. ⊎_elim
-        (λ was. inl (appending.images c (only c was)))
+        (λ was. inl (appending.images c (inl (only c was))))
         (λ back. moved c back (appending.records.each c left))
         (appending.passes.since old.moment c (no_later old.moment) left);
     before = λ t c le left. ⊎_elim
         (λ was. inl was)
         (λ back. ⊎_elim (λ was. inl was) (λ either. inr (moved c back either)) (appending.records.before t c le left))
         (appending.passes.since t c le left);
+    told = λ tells.
+        let back = appending.passes.told tells in
+        one_of keys p s r appending.may new.cells old.cells back.1 (appending.images old.cells (inr (back.0, refl))) (appending.records.told tells);
   }

@@ -183,7 +183,7 @@ end_sets keys p s end c d stands = record {
 
 module _ (keys : Keys) (p : Params) (s : RingStanding) (end : RingEnd) (old mid new : Disk) (only : (c : Image) → old.left_since old.moment c → old.may_leave c) (ending : Ending keys p s end old mid) where
   filling : LeavesOnly old mid (Stands keys p s)
-  filling = leaves_of (SameButIn (Spare p s)) (Stands keys p s) (Stands keys p s) old mid ending.passes only ending.images (λ c d was step. end_spares keys p s c d step was) (λ c was. was)
+  filling = leaves_of (SameButIn (Spare p s)) (Stands keys p s) (Stands keys p s) old mid ending.passes only ending.images (λ tells. ending.stands) (λ c d was step. end_spares keys p s c d step was) (λ c was. was)
 
   mid_stands : Stands keys p s mid.cells
   mid_stands = end_spares keys p s mid.cells old.cells ending.elsewhere ending.stands

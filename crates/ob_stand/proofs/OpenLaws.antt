@@ -47,8 +47,10 @@ open_begins keys p s g c d stands = record {
 
 module _ (keys : Keys) (p : Params) (s : RingStanding) (old mid new : Disk) (only : (c : Image) → old.left_since old.moment c → old.may_leave c) where
   -- until its sync succeeded
-  entry_alone : Passes Same old mid → LeavesOnly old mid old.may_leave
-  entry_alone passes = leaves_of Same old.may_leave old.may_leave old mid passes only (λ c left. left) (λ c d left same. subst old.may_leave (sym same) left) (λ c left. left)
+  entry_alone : Stands keys p s old.cells → Passes Same old mid → LeavesOnly old mid (EntryOr keys p s old)
+  entry_alone stands passes = leaves_of Same (EntryOr keys p s old) (EntryOr keys p s old) old mid passes only (λ c left. inl left) (λ tells. inr (inl stands))
+      (λ c d was same. subst (EntryOr keys p s old) (sym same) was)
+      (λ c was. was)
 
   since_then : Stands keys p s mid.cells → (c : Image) → OldOrNew (tagging keys) 1 mid.cells s.generation (suc s.generation) c → EntryOr keys p s old c
   since_then stands c either = inr (⊎_elim
@@ -56,9 +58,8 @@ module _ (keys : Keys) (p : Params) (s : RingStanding) (old mid new : Disk) (onl
       (λ kept. inr ((open_begins keys p s (suc s.generation) c mid.cells stands).new (omega arith) kept))
       either)
 
-  pub whole_opening : Stands keys p s mid.cells → Passes Same old mid → LeavesOnly mid new (OldOrNew (tagging keys) 1 mid.cells s.generation (suc s.generation)) → LeavesOnly old new (EntryOr keys p s old)
-  whole_opening stands passes last = then_on old mid new (EntryOr keys p s old)
-      (weakened old mid old.may_leave (EntryOr keys p s old) (λ c left. inl left) (entry_alone passes))
+  pub whole_opening : Stands keys p s old.cells → Stands keys p s mid.cells → Passes Same old mid → LeavesOnly mid new (OldOrNew (tagging keys) 1 mid.cells s.generation (suc s.generation)) → LeavesOnly old new (EntryOr keys p s old)
+  whole_opening stood stands passes last = then_on old mid new (EntryOr keys p s old) (entry_alone stood passes)
       (weakened mid new (OldOrNew (tagging keys) 1 mid.cells s.generation (suc s.generation)) (EntryOr keys p s old) (since_then stands) last)
 
 pub opens_leave : {S : Type 0} → (disk : S → Disk) → ((store : S) (c : Image) → (disk store).left_since (disk store).moment c → (disk store).may_leave c) → (keys : Keys) (p : Params) (s : RingStanding) (old new : S)
@@ -66,4 +67,4 @@ pub opens_leave : {S : Type 0} → (disk : S → Disk) → ((store : S) (c : Ima
 opens_leave disk only keys p s old new tells stands begins =
     let same = begins.keeps.cells tells in
     let mid_stands : Stands keys p s (disk begins.synced).cells = stands_all keys p s (disk begins.synced).cells (disk old).cells same stands in
-    whole_opening keys p s (disk old) (disk begins.synced) (disk new) (only old) mid_stands begins.until (begins.since tells stands.generation)
+    whole_opening keys p s (disk old) (disk begins.synced) (disk new) (only old) stands mid_stands begins.until (begins.since tells stands.generation)

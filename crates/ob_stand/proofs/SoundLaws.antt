@@ -17,13 +17,13 @@ either_point keys p a b c either = ⊎_elim
     either
 
 after_run : (keys : Keys) (p : Params) (a b : RingStanding) (old new : Disk) → ((t : Clock) (c : Image) → NotAfter t new.moment → new.may_leave c → new.left_since t c) → AreNear (point_of a) (point_of b)
-    → LeavesOnly old new (OneOf keys p a b) → (new.tells → OneOf keys p a b new.cells) → IsSoundDisk keys p new
-after_run keys p a b old new counts near run read = record {
+    → LeavesOnly old new (OneOf keys p a b) → IsSoundDisk keys p new
+after_run keys p a b old new counts near run = record {
   low = point_of a;
   high = point_of b;
   near = near;
   images = λ c left. either_point keys p a b c (at_the_end old new (OneOf keys p a b) counts run c left);
-  cells = λ tells. either_point keys p a b new.cells (read tells);
+  cells = λ tells. either_point keys p a b new.cells (run.told tells);
 }
 
 settled_sound : (keys : Keys) (p : Params) (s : RingStanding) (d : Disk) → IsSynced d → Stands keys p s d.cells → IsSoundDisk keys p d
@@ -37,6 +37,6 @@ settled_sound keys p s d settled stands = record {
 
 pub sound_after : {S : Type 0} → (disk : S → Disk) → ((store : S) (t : Clock) (c : Image) → NotAfter t (disk store).moment → (disk store).may_leave c → (disk store).left_since t c) → StoresAreSound disk
 sound_after disk counts = record {
-  after_run = λ keys p a b old new near run read. after_run keys p a b (disk old) (disk new) (counts new) near run read;
+  after_run = λ keys p a b old new near run. after_run keys p a b (disk old) (disk new) (counts new) near run;
   settled = λ keys p s store settled stands. settled_sound keys p s (disk store) settled stands;
 }

@@ -3,7 +3,7 @@ use Rattle.std.specs.Prelude.{◌<◌, ◌≤◌, suc, ◌+◌, ◌%◌, length}
 use Rattle.ob_base.specs.declared.params.Params.{Params}
 use Rattle.ob_base.specs.Layout.{record_cells, log_cell}
 use Rattle.ob_store.specs.Disk.{Disk, Image}
-use Rattle.ob_store.specs.Images.{SameOff, LeavesOnly, Passes}
+use Rattle.ob_store.specs.Images.{IsImageOf, SameOff, LeavesOnly, Passes}
 use Rattle.ob_seal.specs.declared.keys.Keys.{Keys}
 use Rattle.ob_log.specs.Logs.{BatchRecord, OpenRecords}
 use Rattle.ob_log.specs.Appends.{HoldsOneOf}
@@ -31,7 +31,7 @@ AppendStands = (keys : Keys) (p : Params) (s : RingStanding) (r : BatchRecord) (
 -- a run of calls that wrote those cells, and left the open records as they were or with this one
 pub record Appending (keys : Keys) (p : Params) (s : RingStanding) (r : BatchRecord) (old new : Disk) : Type 0 where
   pub may : MayAppend p s r
-  pub images : (c : Image) → old.may_leave c → Stands keys p s c
+  pub images : (c : Image) → IsImageOf old c → Stands keys p s c
   pub passes : Passes (SameButBatch p s) old new
   pub records : LeavesOnly old new (HoldsOneOf keys p (suc s.epoch) s.records r)
 

@@ -43,8 +43,8 @@ pub record IsSoundDisk (keys : Keys) (p : Params) (disk : Disk) : Type 0 where
 -- ---- the laws
 
 pub record StoresAreSound {S : Type 0} (disk : S → Disk) : Type 0 where
-  -- after a run whose images stand for one of two
+  -- after a run that leaves only what stands for one of two
   pub after_run : (keys : Keys) (p : Params) (a b : RingStanding) (old new : S) → AreNear (point_of a) (point_of b)
-      → LeavesOnly (disk old) (disk new) (OneOf keys p a b) → ((disk new).tells → OneOf keys p a b (disk new).cells) → IsSoundDisk keys p (disk new)
+      → LeavesOnly (disk old) (disk new) (OneOf keys p a b) → IsSoundDisk keys p (disk new)
   -- after a sync that succeeded
   pub settled : (keys : Keys) (p : Params) (s : RingStanding) (store : S) → IsSynced (disk store) → Stands keys p s (disk store).cells → IsSoundDisk keys p (disk store)

@@ -2,9 +2,9 @@
 use Rattle.std.proofs.Common.{◌≡◌, ℕ, suc, ◌+◌, ◌^◌, ◌<◌, List, [], ◌∷◌, Option, Result, refl, ◌∙◌, subst, add-one}
 use Rattle.ob_store.specs.declared.event.Event.{Event}
 use Rattle.ob_store.specs.declared.watch.Note.TheVariants.{Sync}
-use Rattle.ob_store.specs.Disk.{Disk, Image, NotAfter}
+use Rattle.ob_store.specs.Disk.{Disk, Image}
 use Rattle.ob_store.specs.Images.{Same, Shrinks, Elapses, Passes, IsSynced, LeavesOnly}
-use Rattle.ob_store.specs.Calls.{Keeps}
+use Rattle.ob_store.specs.Calls.{GoesOn, Keeps}
 use Rattle.ob_store.specs.Lines.{Trace}
 use Rattle.ob_store.specs.Told.{Tells, Does}
 use Rattle.ob_store.proofs.Moments.{passed_none, passed_still}
@@ -25,8 +25,8 @@ use Rattle.ob_start.specs.Orders.{begin_notes}
 use Rattle.ob_start.specs.Beginning.{BeginsFrom}
 
 -- a sync that leaves no new image
-pub still : (old new : Disk) → NotAfter old.moment new.moment → Elapses old new → Shrinks old new → Passes Same old new
-still old new later time shrinks = passed_still Same old old new (passed_none old Same (λ c. refl)) later time shrinks
+pub still : (old new : Disk) → GoesOn old new → Elapses old new → Shrinks old new → Keeps old new → Passes Same old new
+still old new goes time shrinks keeps = passed_still Same old old new (passed_none old Same (λ c. refl)) goes time shrinks keeps
 
 -- the sync, and the generation set behind it
 pub begin_does : (known : Open) (g : ℕ) (a b c : Option (List Event)) (k l m : Trace) (r : Result (Unit {0}) SetErr) → Tells (Sync ∷ []) (Sync ∷ []) a b k l → SetDoes (is_closed_first known (place_of (g + 1))) 1 (g + 1) b c l m r

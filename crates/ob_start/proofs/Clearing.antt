@@ -2,8 +2,8 @@
 use Rattle.std.proofs.Common.{◌≡◌, ◌≢◌, ◌⊎◌, inl, inr, ℕ, zero, suc, ◌+◌, ◌%◌, ◌<◌, ◌≤◌, ◌^◌, ◌==◌, List, Bool, true, false, not, ◌||◌, if◌then◌else◌, replicate, take, length, get_or, Result, Ok, Err, refl, sym, ◌∙◌, ap, subst, arith}
 use Rattle.std.specs.Prelude.{IsErr}
 use Rattle.ob_base.specs.declared.fault.Failed.{Failed}
-use Rattle.ob_store.specs.Disk.{Disk, Image, NotAfter}
-use Rattle.ob_store.specs.Images.{IsSynced, SameBut, Tears, Elapses, Passes, LeavesOnly}
+use Rattle.ob_store.specs.Disk.{Disk, Image}
+use Rattle.ob_store.specs.Images.{IsSynced, SameBut, IsImageOf, Tears, Elapses, Passes, LeavesOnly}
 use Rattle.ob_store.specs.Calls.{GoesOn, Serves, IsFailed}
 use Rattle.ob_store.proofs.Serving.{goes_then}
 use Rattle.ob_store.proofs.Moments.{torn_once, passed_then, leaves_of, then_on, weakened, passes_so}
@@ -26,8 +26,8 @@ pub head_then : (old mid new : Disk) → Passes SameHead old mid → Passes Same
 head_then old mid new one two = passed_then SameHead old mid new (λ c d e first second. first ∙ second) one two
 
 -- a write behind the head
-pub torn_high : (cell : ℕ) (old new : Disk) → 0 < cell → NotAfter old.moment new.moment → Elapses old new → Tears cell old new → Passes SameHead old new
-torn_high cell old new high later time tears = passes_so (SameBut cell) SameHead old new (λ c d same. same 0 (omega arith)) (torn_once cell old new later time tears)
+pub torn_high : (cell : ℕ) (old new : Disk) → 0 < cell → GoesOn old new → Elapses old new → Tears cell old new → (old.tells → SameBut cell new.cells old.cells) → Passes SameHead old new
+torn_high cell old new high goes time tears rest = passes_so (SameBut cell) SameHead old new (λ c d same. same 0 (omega arith)) (torn_once cell old new goes time tears rest)
 
 pub outside_head : (first : ℕ) (old new : Disk) → 0 < first → Passes (SameOutside first) old new → Passes SameHead old new
 outside_head first old new high passes = passes_so (SameOutside first) SameHead old new (λ c d same. same 0 (inl (omega arith))) passes
@@ -41,12 +41,12 @@ no_head bytes is version same =
 -- the head as it is cleared
 pub first_torn : (old new : Disk) → ((c : Image) → old.left_since old.moment c → old.may_leave c) → Passes (SameBut 0) old new → LeavesOnly old new (IsTornHead old)
 first_torn old new only passes =
-    leaves_of (SameBut 0) old.may_leave (IsTornHead old) old new passes only (λ c left. left) (λ c d left step. (d, left, step)) (λ c left. (c, left, λ k off. refl))
+    leaves_of (SameBut 0) (IsImageOf old) (IsTornHead old) old new passes only (λ c left. inl left) (λ tells. inr (tells, refl)) (λ c d was step. (d, was, step)) (λ c was. (c, was, λ k off. refl))
 
 -- and until it is written
 pub no_head_left : (a b : Disk) → ((c : Image) → a.left_since a.moment c → a.may_leave c) → a.cells 0 ≡ replicate 128 0 → IsSynced a → Passes SameHead a b → LeavesOnly a b HasNoHead
 no_head_left a b only blank settled passes =
-    leaves_of SameHead HasNoHead HasNoHead a b passes only (λ c left. no_head (c 0) (settled c left 0 ∙ blank)) (λ c d was step version. subst (λ (l : List ℕ). take 12 l ≢ head_mark version) (sym step) (was version)) (λ c was. was)
+    leaves_of SameHead HasNoHead HasNoHead a b passes only (λ c left. no_head (c 0) (settled c left 0 ∙ blank)) (λ tells. no_head (a.cells 0) blank) (λ c d was step version. subst (λ (l : List ℕ). take 12 l ≢ head_mark version) (sym step) (was version)) (λ c was. was)
 
 -- the head is cleared, and then is none
 pub cleared : (old a b : Disk) → LeavesOnly old a (IsTornHead old) → LeavesOnly a b HasNoHead → LeavesOnly old b (λ c. IsTornHead old c ⊎ HasNoHead c)

@@ -41,8 +41,8 @@ module _ (gates : List ℕ) (i gate : ℕ) (old mid new : Disk) (lt : i < length
   pub elsewhere_one : (old.tells → SameBut gate new.cells mid.cells) → old.tells → SameButThese gates new.cells old.cells
   elsewhere_one rest t k off = rest t k (λ e. off i lt (e ∙ is)) ∙ so_far.elsewhere t k off
 
-  pub passes_one : 0 < gate → GoesOn mid new → Tears gate mid new → Elapses mid new → Passes SameHead old new
-  passes_one high goes tears time = head_then old mid new so_far.passes (torn_high gate mid new high goes.later time tears)
+  pub passes_one : 0 < gate → GoesOn mid new → Tears gate mid new → Elapses mid new → (mid.tells → SameBut gate new.cells mid.cells) → Passes SameHead old new
+  passes_one high goes tears time rest = head_then old mid new so_far.passes (torn_high gate mid new high goes time tears rest)
 
   pub one_shut : 0 < gate → Serves {T = Unit {0}} IsFailed mid new (Ok tt) → (mid.tells → new.cells gate ≡ closed_gate) → (mid.tells → SameBut gate new.cells mid.cells) → Tears gate mid new → Elapses mid new → Shutting gates (i + 1) old new
   one_shut high serves put rest tears time = record {
@@ -55,7 +55,7 @@ module _ (gates : List ℕ) (i gate : ℕ) (old mid new : Disk) (lt : i < length
         (cases_eq (get_or gates j 0) gate))
         (subst (λ k. new.cells k ≡ closed_gate) is (put (so_far.tells t)));
     elsewhere = elsewhere_one (λ t. rest (so_far.tells t));
-    passes = passes_one high serves.goes tears time;
+    passes = passes_one high serves.goes tears time rest;
     out = let none = so_far.out in let still = serves.out in omega arith;
   }
 

@@ -1,7 +1,7 @@
 -- What a crash leaves while a store is begun: its head cleared, its gates shut.
 use Rattle.std.specs.Prelude.{◌≡◌, ◌≢◌, ◌<◌, ℕ, List, length, get_or, take}
 use Rattle.ob_store.specs.Disk.{Disk, Image}
-use Rattle.ob_store.specs.Images.{SameBut}
+use Rattle.ob_store.specs.Images.{SameBut, IsImageOf}
 use Rattle.ob_twin.specs.Bodies.{closed_gate}
 use Rattle.ob_start.specs.Heads.{head_mark}
 
@@ -13,9 +13,9 @@ SameHead a b = a 0 ≡ b 0
 abbrev pub HasNoHead : Image → Type 0
 HasNoHead image = (version : ℕ) → take 12 (image 0) ≢ head_mark version
 
--- an image that might have been left before, but for its head, which may hold anything
+-- an image that the store had before, but for its head, which may hold anything
 abbrev pub IsTornHead : Disk → Image → Type 0
-IsTornHead old image = (d : Image) × old.may_leave d × SameBut 0 image d
+IsTornHead old image = (d : Image) × IsImageOf old d × SameBut 0 image d
 
 -- each of these gates is closed, as a closed one is written
 abbrev pub AreShut : List ℕ → Image → Type 0

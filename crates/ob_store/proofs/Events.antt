@@ -1,5 +1,5 @@
 -- How the events of a run follow one another.
-use Rattle.std.proofs.Common.{Err, List, None, Ok, OnErr, Option, Result, Some, [], ap, append_assoc, arith, length, length-append, sym, take, ◌++◌, ◌+◌, ◌∙◌, ◌∷◌}
+use Rattle.std.proofs.Common.{List, None, Option, Some, [], ap, append_assoc, arith, length, length-append, sym, take, ◌++◌, ◌+◌, ◌∙◌}
 use Rattle.std.proofs.lemmas.List.{append-nil, take_all, take-append-le}
 use Rattle.std.proofs.Math.Seq.{take-append-add}
 use Rattle.ob_store.specs.declared.event.Event.{Event}

@@ -4,7 +4,7 @@ use Rattle.std.specs.Prelude.{IsErr, IfErr}
 use Rattle.ob_base.specs.Causes.{HasCause}
 use Rattle.ob_base.specs.declared.fault.Failed.{Failed}
 use Rattle.ob_base.specs.declared.fault.Fault.{Fault}
-use Rattle.ob_store.specs.Disk.{Disk, NotAfter}
+use Rattle.ob_store.specs.Disk.{Disk}
 use Rattle.ob_store.specs.Images.{Same, Shrinks, Elapses, Passes}
 use Rattle.ob_store.specs.Calls.{GoesOn, Serves, Keeps, IsFailed, IsStoreFault}
 use Rattle.ob_store.proofs.Serving.{goes_same, rose_later}
@@ -38,8 +38,8 @@ same_none d = passed_none d Same (λ image. refl)
 pub same_then : (a b c : Disk) → Passes Same a b → Passes Same b c → Passes Same a c
 same_then a b c p q = passed_then Same a b c (λ x y z one two. one ∙ two) p q
 
-pub same_still : (a b c : Disk) → Passes Same a b → NotAfter b.moment c.moment → Elapses b c → Shrinks b c → Passes Same a c
-same_still a b c p later time crash = passed_still Same a b c p later time crash
+pub same_still : (a b c : Disk) → Passes Same a b → GoesOn b c → Elapses b c → Shrinks b c → Keeps b c → Passes Same a c
+same_still a b c p goes time crash keeps = passed_still Same a b c p goes time crash keeps
 
 -- ---- counts of faults
 

@@ -2,7 +2,6 @@ pub mod Events
 pub mod Lanes
 pub mod Moments
 pub mod Pairs
-pub mod Puts
 pub mod Runs
 pub mod Serving
 pub mod Showing

@@ -1,5 +1,5 @@
 -- A run of cells as far as it is written.
-use Rattle.std.proofs.Common.{◌≡◌, ◌≢◌, ◌⊎◌, inl, inr, ⊎_elim, ◌-◌, ℕ, zero, suc, ◌+◌, ◌<◌, ◌≤◌, List, [], ◌∷◌, ◌++◌, length, get_or, refl, sym, ◌∙◌, ap, arith, below_more, add-one, take, map, length-append, Option, Result, Ok, Err}
+use Rattle.std.proofs.Common.{◌≡◌, ◌≢◌, ◌⊎◌, inl, inr, ⊎_elim, ◌-◌, ℕ, zero, suc, ◌+◌, ◌<◌, ◌≤◌, List, [], ◌∷◌, ◌++◌, length, get_or, refl, sym, ◌∙◌, ap, arith, below_more, add-one, take, map, length-append, Option, Ok}
 use Rattle.std.proofs.lemmas.Bool.{cases_eq}
 use Rattle.std.proofs.lemmas.List.{take-append-le, take_all}
 use Rattle.ob_store.specs.Disk.{Disk}
@@ -65,9 +65,9 @@ away base n i j lt (inl low) = omega arith
 away base n i j lt (inr high) = omega arith
 
 module _ (base : ℕ) (rows : List (List ℕ)) (i : ℕ) (old mid new : Disk) (lt : i < length rows) (so_far : Writing base rows i old mid) where
-  pub passes_one : GoesOn mid new → Tears (base + i) mid new → Elapses mid new → Passes (SameOff base (length rows)) old new
-  passes_one goes tears time =
-      passed_on (SameOff base (length rows)) (SameBut (base + i)) old mid new (λ c d e one run. run_step base (length rows) i c d e lt one run) so_far.passes goes.later time tears
+  pub passes_one : GoesOn mid new → Tears (base + i) mid new → Elapses mid new → (mid.tells → SameBut (base + i) new.cells mid.cells) → Passes (SameOff base (length rows)) old new
+  passes_one goes tears time rest =
+      passed_on (SameOff base (length rows)) (SameBut (base + i)) old mid new (λ c d e one run. run_step base (length rows) i c d e lt one run) so_far.passes goes time tears rest
 
   pub elsewhere_one : (old.tells → SameBut (base + i) new.cells mid.cells) → old.tells → SameOff base (length rows) new.cells old.cells
   elsewhere_one rest t k off = rest t k (away base (length rows) i k lt off) ∙ so_far.elsewhere t k off
@@ -81,7 +81,7 @@ module _ (base : ℕ) (rows : List (List ℕ)) (i : ℕ) (old mid new : Disk) (l
         (λ j below. rest (so_far.tells t) (base + j) (omega arith) ∙ so_far.here t j below)
         (put (so_far.tells t) ∙ is);
     elsewhere = elsewhere_one (λ t. rest (so_far.tells t));
-    passes = passes_one serves.goes tears time;
+    passes = passes_one serves.goes tears time rest;
     out = let none = so_far.out in let still = serves.out in omega arith;
   }
 

@@ -26,20 +26,26 @@ Tears cell old new = (c : Image) → new.may_leave c → (d : Image) × old.may_
 abbrev pub Shrinks : Disk → Disk → Type 0
 Shrinks old new = (c : Image) → new.may_leave c → old.may_leave c
 
+-- a crash may leave the image, or reads give it
+abbrev pub IsImageOf : Disk → Image → Type 0
+IsImageOf disk c = disk.may_leave c ⊎ (disk.tells × Same c disk.cells)
+
 -- A call is one moment: a crash since t might have left what it might have left before the call, or what it may leave after it.
 abbrev pub Elapses : Disk → Disk → Type 0
 Elapses old new = (t : Clock) (c : Image) → NotAfter t old.moment → new.left_since t c → old.left_since t c ⊎ new.may_leave c
 
--- A crash at any moment from old to new leaves an image that has P.
+-- A crash at any moment from old to new leaves an image that has P, and what reads give at the end has P, where the store tells it.
 pub record LeavesOnly (old new : Disk) (P : Image → Type 0) : Type 0 where
   pub later : NotAfter old.moment new.moment
   pub each : (c : Image) → new.left_since old.moment c → P c
   -- for a run that began earlier
   pub before : (t : Clock) (c : Image) → NotAfter t old.moment → new.left_since t c → old.left_since t c ⊎ P c
+  pub told : new.tells → P new.cells
 
 -- An image that a crash may leave after these calls, or might have left between them, comes by this step from one that it might
--- have left before them.
+-- have left before them. So does what reads give come from what they gave.
 pub record Passes (step : Image → Image → Type 0) (old new : Disk) : Type 0 where
   pub later : NotAfter old.moment new.moment
   pub now : (c : Image) → new.may_leave c → (d : Image) × old.may_leave d × step c d
   pub since : (t : Clock) (c : Image) → NotAfter t old.moment → new.left_since t c → old.left_since t c ⊎ ((d : Image) × old.may_leave d × step c d)
+  pub told : new.tells → old.tells × step new.cells old.cells

@@ -5,6 +5,8 @@ use Rattle.ob_base.specs.Causes.{Rose}
 use Rattle.ob_base.specs.declared.params.Params.{Params}
 use Rattle.ob_store.specs.declared.watch.Note.{Note}
 use Rattle.ob_store.specs.declared.watch.Note.TheVariants.{Label, Read, Write, Sync}
+use Rattle.ob_store.specs.declared.line.Start.{Start}
+use Rattle.ob_store.specs.declared.line.Start.TheVariants.{Format, Run}
 
 -- `L x`, `R c`, `W c` or `S`, and a line feed
 abbrev pub line_of : Note → List ℕ
@@ -27,6 +29,11 @@ start_line p =
 abbrev pub open_line : List ℕ
 open_line = 79 ∷ 10 ∷ []
 
+-- how a trace begins
+abbrev pub first_line : Start → List ℕ
+first_line (Format p) = start_line p
+first_line Run = open_line
+
 -- the lines of these notes, one behind the other
 abbrev pub lines_of : List Note → List ℕ
 lines_of [] = []
@@ -43,6 +50,10 @@ pub record Trace : Type 0 where
   -- the references that it holds
   pub anchors : List GName
 
+-- what a watch tells that writes to this sink
+abbrev pub sink_trace : Option (List ℕ) → Bool → ℕ → GName → Trace
+sink_trace written broken faults sink = record { written = written; broken = broken; faults = faults; anchors = sink ∷ [] }
+
 -- The lines stand behind what was written, or a front of them where the watch breaks. Once broken it writes nothing.
 abbrev pub AddsLines : List ℕ → Bool → Bool → Option (List ℕ) → Option (List ℕ) → Type 0
 AddsLines lines was is None None = Unit {0}
@@ -58,12 +69,16 @@ BreaksOnly false true before now = Rose before now
 BreaksOnly true false before now = ⊥
 BreaksOnly was is before now = Unit {0}
 
--- These notes were shown, and no more.
-pub record Shows (notes : List Note) (old new : Trace) : Type 0 where
+-- These lines were written, and no more.
+pub record AddsOnly (text : List ℕ) (old new : Trace) : Type 0 where
   pub anchors : new.anchors ≡ old.anchors
   pub faults : old.faults ≤ new.faults
   pub breaks : BreaksOnly old.broken new.broken old.faults new.faults
-  pub lines : AddsLines (lines_of notes) old.broken new.broken old.written new.written
+  pub lines : AddsLines text old.broken new.broken old.written new.written
+
+-- These notes were shown, and no more.
+abbrev pub Shows : List Note → Trace → Trace → Type 0
+Shows notes old new = AddsOnly (lines_of notes) old new
 
 -- some of these notes, the first ones, were shown
 abbrev pub ShowsFirst : List Note → Trace → Trace → Type 0

@@ -3,6 +3,7 @@
 #![tactic(auto)]
 
 mod event;
+mod line;
 mod noted;
 mod run;
 mod sink_watch;
@@ -11,6 +12,7 @@ mod through;
 mod watch;
 
 pub use event::Event;
+pub use line::Start;
 pub use noted::{read_noted, sync_noted, write_noted};
 pub use run::write_run;
 pub use sink_watch::SinkWatch;

@@ -10,7 +10,7 @@ ghost use Rattle.ob_store.specs.Told.{Tells, if_well};
 use crate::{Note, Store, Watch};
 use ob_base::Failed;
 
-/// Writes a cell, and shows the write, whatever it answered.
+/// Shows the write of a cell, and makes it: a trace is never behind its store.
 ///
 /// # Errors
 /// The store failed. What the cell has is not told.
@@ -32,9 +32,8 @@ pub fn write_noted<S: Store, W: Watch>(
     ensures told { Tells (Note.Write cell ∷ []) (Note.Write cell ∷ []) (S.disk store.old).seen
         (S.disk store.new).seen (W.trace watch.old) (W.trace watch.new) }
 {
-    let outcome = store.write(cell, bytes);
     watch.note(Note::Write(cell));
-    outcome
+    store.write(cell, bytes)
 }
 
 /// Makes sure of what was written, and shows the sync where it succeeds.

@@ -13,7 +13,7 @@ use ob_store::Store;
 use std::process::Abort;
 use std::{env, fs, process};
 
-type HostStore<'a> = FileStore<&'a HostRuntime>;
+pub type HostStore<'a> = FileStore<&'a HostRuntime>;
 
 // The paths of two files of a test that aren't there at first, and the store in the first one.
 #[derive(Drop)]
@@ -59,15 +59,19 @@ fn path_of(rt: &impl Abort, host: &HostRuntime, name: &str) -> String {
     path.ok().expect(rt, "memory")
 }
 
-// The same of a file that isn't there yet.
-fn fresh_path(rt: &impl Abort, host: &HostRuntime, name: &str) -> String {
+/// The path of a file that isn't there yet.
+pub fn fresh_path(rt: &impl Abort, host: &HostRuntime, name: &str) -> String {
     let path = path_of(rt, host, name);
     let _ = fs::remove_file(host, path.as_str());
     path
 }
 
-// The store in a file. With `create` that is made where there is none.
-fn opened<'a>(host: &'a HostRuntime, path: &str, create: bool) -> Result<HostStore<'a>, OpenErr> {
+/// The store in a file. With `create` that is made where there is none.
+pub fn opened<'a>(
+    host: &'a HostRuntime,
+    path: &str,
+    create: bool,
+) -> Result<HostStore<'a>, OpenErr> {
     FileStore::open(host, host.alloc(), path, create)
 }
 
@@ -229,7 +233,8 @@ const TOO_FAR: &[Step] = &[
     NotRead(u64::MAX),
 ];
 
-// Of a file that was taken away there is the lane given back, and no other.
+// Of a file that was taken away there is the lane given back, and beside it copies of the store's
+// own.
 const FAILS: &[Call] = &[
     NotOpened,
     NotMadeAt("/"),
@@ -238,7 +243,7 @@ const FAILS: &[Call] = &[
     Play(TOO_FAR),
     Remove,
     Lane,
-    NoLane,
+    Lane,
 ];
 
 #[test]
@@ -256,10 +261,16 @@ fn a_file_is_one_stores_alone(rt: HostRuntime) {
     run(&rt, &rt, "locked", "other_locked", ALONE);
 }
 
-// Where another file has its name, a lane isn't made.
-const REPLACED: &[Call] = &[Make, Replace, NoLane, Remove];
+// Where another file has its name, or none, the first lane isn't made.
+const REPLACED: &[Call] = &[Make, Replace, NoLane, Remove, NoLane];
+
+// Where one was made before, others are, and read in the file that was opened.
+const MOVED: &[Call] = &[Make, Play(ONE), Replace, Play(&[Turns, Read(0, 0)]), Remove];
+
+const ONE: &[Step] = &[Write(1, 1), Write(2, 2), Write(3, 3), Read(3, 3)];
 
 #[test]
 fn a_lane_is_of_the_file_that_was_opened(rt: HostRuntime) {
     run(&rt, &rt, "named", "other_named", REPLACED);
+    run(&rt, &rt, "moved", "other_moved", MOVED);
 }

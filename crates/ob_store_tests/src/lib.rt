@@ -1,4 +1,4 @@
-//! Tests of parameters and layouts, of streams, and of stores in memory and in files.
+//! Tests of parameters and layouts, of streams, of stores in memory and in files, and of traces.
 #![tactic(auto)]
 
 #[cfg(test)]
@@ -6,8 +6,12 @@ mod base;
 #[cfg(test)]
 mod files;
 #[cfg(test)]
+mod lanes;
+#[cfg(test)]
 mod memory;
 #[cfg(test)]
 mod steps;
 #[cfg(test)]
 mod streams;
+#[cfg(test)]
+mod watches;

@@ -148,19 +148,3 @@ fn a_run_is_written_cell_by_cell(rt: HostRuntime) {
     assert!(rt; sink.written() == b"W 1\nW 2\nW 2\nW 3\n".as_slice());
     play(&rt, &mut store, RUNS);
 }
-
-// Whether a lane is made of a store that threads share, and whose lanes they take with them.
-fn lends_to_threads<S: Store + Sync>(store: &mut S) -> bool
-where
-    S::Lane: Send,
-{
-    store.lane().is_ok()
-}
-
-#[test]
-fn threads_read_stores_through_lanes(rt: HostRuntime) {
-    let alloc = rt.alloc();
-    assert!(rt; lends_to_threads(&mut new_store(&rt, alloc, 4, &[])));
-    let mut bare = BareStore::new(alloc, 4).expect(&rt, "memory");
-    assert!(rt; lends_to_threads(&mut bare));
-}

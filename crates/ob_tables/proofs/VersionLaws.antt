@@ -7,7 +7,7 @@ use Rattle.std.proofs.lemmas.List.FromFn.{length-map-range_with_len, get_or-map-
 use Rattle.ob_base.specs.declared.params.Params.{Params}
 use Rattle.ob_base.specs.Tree.{width}
 use Rattle.ob_tables.specs.Rank.{rank, ranks_of}
-use Rattle.ob_tables.specs.Version.{Version, AreRanks, IsWhole, filled, blank}
+use Rattle.ob_tables.specs.Version.{Version, AreRanks, IsWhole, filled, sealed_anew, blank}
 use Rattle.ob_tables.proofs.Counting.{range_more}
 use Rattle.ob_tables.proofs.RankLaws.{rank_within, rank_apart}
 
@@ -67,6 +67,28 @@ filled_is v home generation base keys words places ranks used w few long is_plac
     let marks : used ≡ replicate (length words) false = is_used ∙ ap (λ (n : ℕ). replicate n false) (w.used ∙ sym long) in
     version_of home home generation generation base base _ _ _ _ _ _ refl refl refl
     (refilled v.keys places (map (λ k. Some k) keys ++ replicate (length v.keys - length keys) None) is_places (length-padded keys (length v.keys) few))
+    (refilled v.ranks ranks (ranks_of words) is_ranks (length-map-range_with_len (rank words) 0 (length words) ∙ long))
+    (refilled v.used used (replicate (length words) false) marks many)
+
+-- ---- the keys stay
+
+pub whole_sealed : (v : Version) (home generation base : ℕ) (words : List ℕ) → IsWhole v → home < 2 → length words ≡ length v.ranks → IsWhole (sealed_anew v home generation base words)
+whole_sealed v home generation base words w small long =
+    let n : length (ranks_of words) ≡ length words = length-map-range_with_len (rank words) 0 (length words) in
+    record {
+      home = small;
+      keys = omega (arith, w.keys);
+      used = omega (arith, length-replicate {A = Bool} (length words) false);
+      ranks = ranks_are words;
+    }
+
+pub sealed_is : (v : Version) (home generation base : ℕ) (words ranks : List ℕ) (used : List Bool)
+    → IsWhole v → length words ≡ length v.ranks → ranks ≡ ranks_of words → used ≡ replicate (length v.used) false
+    → ◌≡◌ {A = Version} (record { home = home; generation = generation; base = base; keys = v.keys; ranks = refill (length v.ranks) v.ranks ranks; used = refill (length v.used) v.used used }) (sealed_anew v home generation base words)
+sealed_is v home generation base words ranks used w long is_ranks is_used =
+    let many : length (replicate (length words) false) ≡ length v.used = length-replicate {A = Bool} (length words) false ∙ long ∙ sym w.used in
+    let marks : used ≡ replicate (length words) false = is_used ∙ ap (λ (n : ℕ). replicate n false) (w.used ∙ sym long) in
+    version_of home home generation generation base base _ _ _ _ _ _ refl refl refl refl
     (refilled v.ranks ranks (ranks_of words) is_ranks (length-map-range_with_len (rank words) 0 (length words) ∙ long))
     (refilled v.used used (replicate (length words) false) marks many)
 

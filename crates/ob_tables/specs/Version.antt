@@ -54,6 +54,17 @@ filled v home generation base keys words = record {
   used = replicate (length words) false;
 }
 
+-- a new version with the keys where they lie, nothing shown
+abbrev pub sealed_anew : Version → ℕ → ℕ → ℕ → List ℕ → Version
+sealed_anew v home generation base words = record {
+  home = home;
+  generation = generation;
+  base = base;
+  keys = v.keys;
+  ranks = ranks_of words;
+  used = replicate (length words) false;
+}
+
 -- the version before any was written: no key, each index in the slot of its own number
 abbrev pub blank : Params → Version
 blank p = record {

@@ -4,7 +4,7 @@ ghost use Rattle.std.specs.Prelude.{◌≡◌, ◌<◌, ◌≤◌, ◌-◌, ◌+
 ghost use Rattle.std.specs.List.{find, range_with_len};
 ghost use Rattle.ob_base.specs.Layout.{meta_len};
 ghost use Rattle.ob_base.specs.Tree.{width};
-ghost use Rattle.ob_tables.specs.Version.{Version, IsWhole, next_dummy, live_index, is_key, filled, blank, rank_at, version_bytes, version_len, Spells, SpelledOnce};
+ghost use Rattle.ob_tables.specs.Version.{Version, IsWhole, next_dummy, live_index, is_key, filled, sealed_anew, blank, rank_at, version_bytes, version_len, Spells, SpelledOnce};
 
 use crate::rank::ranks;
 use arrayvec::ArrayVec;
@@ -129,6 +129,15 @@ impl Meta {
         self.keys.as_mut_slice()[index as usize] = None;
     }
 
+    /// Puts a key into a real index, whatever lay there.
+    pub fn put_key(&mut self, index: u8, key: Key)
+        requires { index < length self.old.keys }
+        ensures { self.new
+            ≡ record self.old { keys = slice_set self.old.keys index (Some key) } }
+    {
+        self.keys.as_mut_slice()[index as usize] = Some(key);
+    }
+
     /// Notes that an index was shown.
     pub fn mark_used(&mut self, index: u8)
         requires { index < length self.old.used }
@@ -149,6 +158,20 @@ impl Meta {
         self.generation = generation;
         self.base = base;
         put_keys(self.keys.as_mut_slice(), keys);
+        ranks(words, self.ranks.as_mut_slice());
+        clear_marks(self.used.as_mut_slice());
+    }
+
+    /// Begins a version whose keys lie where they are: nothing was shown, and the words say the
+    /// slots.
+    pub fn seal_anew(&mut self, home: u8, generation: u64, base: u64, words: &[u64])
+        requires home { home < 2 }
+        requires words { length words.now ≡ length self.old.ranks }
+        ensures { self.new ≡ sealed_anew self.old home generation base words.now }
+    {
+        self.home = home;
+        self.generation = generation;
+        self.base = base;
         ranks(words, self.ranks.as_mut_slice());
         clear_marks(self.used.as_mut_slice());
     }

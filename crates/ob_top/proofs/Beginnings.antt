@@ -41,16 +41,16 @@ use Rattle.ob_top.specs.Runs.{CameIn, EndsEarly}
 pub ring_quiet : IsQuiet ring_kind
 ring_quiet = record { head = λ is. is; opening = λ is. is }
 
-module _ {S : Type 0} (disk : S → Disk) (keys : Keys) (p : Params) (script : Scripts) (before : Flow) (old mid new : S) (head : (disk old).tells → IsHead keys 1 p ((disk old).cells 0)) (read : ReadsHead (disk old) (disk mid)) (came : CameIn p.keys before script) where
+module _ {S : Type 0} (disk : S → Disk) (keys : Keys) (most : ℕ) (some : 1 ≤ most) (p : Params) (script : Scripts) (before : Flow) (old mid new : S) (head : (disk old).tells → IsHead keys 1 p ((disk old).cells 0)) (read : ReadsHead (disk old) (disk mid)) (came : CameIn p.keys before script) where
   -- the store was opened
-  pub begun : {L : Type 0} (shown later : Trace) (o : Opening L) (is : IsRingOpened disk keys 1 p mid new shown later o) → ((disk mid).tells → (disk new).tells)
-      → ((s : RingStanding) → (disk mid).tells → stand.Stands keys p s (disk mid).cells → OpensWhatStood keys p s (disk new) (Ok o)) → IsBegun keys p script (disk old) (disk new) before (found_ring is.found o)
+  pub begun : {L : Type 0} (shown later : Trace) (o : Opening L) (is : IsRingOpened disk keys most p mid new shown later o) → ((disk mid).tells → (disk new).tells)
+      → ((s : RingStanding) → (disk mid).tells → stand.Stands keys p s (disk mid).cells → OpensWhatStood keys p s (disk new) (Ok o)) → IsBegun keys most p script (disk old) (disk new) before (found_ring is.found o)
   begun {L} shown later o is told stands =
-      let so = ring_opens L disk keys p old mid new shown later o read is in
+      let so = ring_opens L disk keys most p old mid new shown later o some read is in
       record {
         found = is.found;
         goes_on = so.goes_on;
-        planned = opened_plans disk keys 1 p mid new shown later o is;
+        planned = opened_plans disk keys most p mid new shown later o is;
         start = (is.found).gates;
         opened = record { head = head; came = came; finds = so.finds; starts = so.starts };
         seen = so.seen;
@@ -59,12 +59,12 @@ module _ {S : Type 0} (disk : S → Disk) (keys : Keys) (p : Params) (script : S
 
   -- it was refused
   pub unopened : {T L : Type 0} (o : Result (Opening L) Fault) (tape_old tape_new : T) (present : ℕ) (drawn : List ℕ) (shown later : Trace) (refused : Fault) (after : Flow) → ((c : Image) → (disk old).left_since (disk old).moment c → (disk old).may_leave c)
-      → (disk old).faults ≤ (disk mid).faults → IsOpenFault refused → (IsStoreFault refused → Rose (disk mid).faults (disk new).faults) → RefusedDoes keys 1 p (disk mid) (disk new) shown later refused
+      → (disk old).faults ≤ (disk mid).faults → IsOpenFault refused → (IsStoreFault refused → Rose (disk mid).faults (disk new).faults) → RefusedDoes keys most p (disk mid) (disk new) shown later refused
       → ((disk mid).tells → IsOpenRefusal keys p (disk mid).cells refused) → ((s : RingStanding) → (disk mid).tells → stand.Stands keys p s (disk mid).cells → IsStandingRefusal s refused)
       → RefusedWrites disk keys p mid new tape_old tape_new present drawn refused → OpeningLeaves {L = L} disk keys p mid new (Err refused)
-      → ((word_of : WordId → ℕ) (s : LifeState) → (disk mid).tells → IsLeftAt keys p word_of s None (disk mid).cells → OpensInLife keys 1 p word_of s None (disk mid) (disk new) shown later false) → EndsEarly ring_kind ring_lives keys (disk old) (disk new) disk before after refused
+      → ((word_of : WordId → ℕ) (s : LifeState) → (disk mid).tells → IsLeftAt keys p word_of s None (disk mid).cells → OpensInLife keys most p word_of s None (disk mid) (disk new) shown later false) → EndsEarly ring_kind ring_lives keys most (disk old) (disk new) disk before after refused
   unopened {T} {L} o tape_old tape_new present drawn shown later refused after only further kind cause does refusal stood writes leaves acts =
-      let so = ring_refuses T disk keys p old mid new tape_old tape_new present drawn shown later refused read kind does refusal stood writes in
+      let so = ring_refuses T disk keys most p old mid new tape_old tape_new present drawn shown later refused some read kind does refusal stood writes in
       let either = opens_or_not disk keys p old mid new read.passes read.keeps leaves in
       inr (inr (record {
         p = p;
@@ -78,20 +78,20 @@ module _ {S : Type 0} (disk : S → Disk) (keys : Keys) (p : Params) (script : S
         unwritten = so.unwritten;
         left = λ at tells stands all. ring_leaves_standing disk keys p old new only tells all either at stands;
         opens = either;
-        stops_life = λ tells word_of s here each. stops_in_life keys 1 p (disk old) (disk mid) (disk new) shown later false read word_of s (λ at. acts word_of s (read.keeps.tells tells) at) tells here each;
+        stops_life = λ tells word_of s here each. stops_in_life keys most p (disk old) (disk mid) (disk new) shown later false read word_of s (λ at. acts word_of s (read.keeps.tells tells) at) tells here each;
       }))
 
 -- a vault may be made of an opening
-pub may_serve : {S L : Type 0} (disk : S → Disk) (keys : Keys) (p : Params) (mid new : S) (shown later : Trace) (present : ℕ) (drawn : List ℕ) (o : Opening L) (is : IsRingOpened disk keys 1 p mid new shown later o) → ((disk new).tells → (disk mid).tells)
-    → IsAtStart present drawn (o.sealer).generation → MayServe p (disk new) present drawn o
-may_serve disk keys p mid new shown later present drawn o is before tape = record {
+pub may_serve : {S L : Type 0} (disk : S → Disk) (keys : Keys) (most : ℕ) (p : Params) (mid new : S) (shown later : Trace) (present : ℕ) (drawn : List ℕ) (o : Opening L) (is : IsRingOpened disk keys most p mid new shown later o) → ((disk new).tells → (disk mid).tells)
+    → IsAtStart present drawn (o.sealer).generation → MayServe most p (disk new) present drawn o
+may_serve disk keys most p mid new shown later present drawn o is before tape = record {
   params = (is.is).params;
   planner = ((is.is).planner).params ∙ sym (is.is).params;
   few = subst (λ (q : Params). o.left ≤ q.batches) (sym (is.is).params) (omega (arith, (is.is).left));
   fit = (is.is).fit;
   present_is = tape.present_is;
   none_drawn = ap (λ (l : List ℕ). length l) tape.none_drawn;
-  one_lane = omega (arith, is.lanes);
+  lanes = is.lanes;
   gates = λ tells. (is.told (before tells)).epoch_gates;
 }
 

@@ -1,5 +1,5 @@
 -- What came of the words, command by command.
-use Rattle.std.proofs.Common.{◌≡◌, ◌⊎◌, ℕ, List, Bool, not, Option, Some, None, refl, sym, ap, subst, inl, inr, ◌∙◌}
+use Rattle.std.proofs.Common.{◌≡◌, ◌⊎◌, ℕ, List, Bool, not, Option, Some, None, refl, sym, ap, subst, inl, inr, arith, ◌∙◌}
 use Rattle.std.specs.Borrow.{Bor}
 use Rattle.ob_base.specs.declared.params.Params.{Params}
 use Rattle.ob_base.specs.declared.fault.Field.{Field}
@@ -14,7 +14,8 @@ use Rattle.ob_desk.specs.Beats.{BeatKind}
 use Rattle.ob_words.specs.Reading.{Asked, asked_by, format_asked, run_asked, audit_asked}
 use Rattle.ob_words.specs.declared.work.Command.{Command}
 use Rattle.ob_words.specs.declared.work.Command.TheVariants.{Format, Run}
-use Rattle.ob_words.specs.Work.{AreParams, IsBadNumber, AreLanes, AreBadLanes, IsCommandOf, IsOutOfRange, IsRefusedFor, HasKeys, IsKeysRefused}
+use Rattle.ob_words.specs.Work.{AreParams, IsBadNumber, AreLanes, AreBadLanes, Asks, IsCommandOf, IsOutOfRange, IsRefusedFor, HasKeys, IsKeysRefused}
+use Rattle.ob_top.specs.Begun.{AreFewLanes}
 use Rattle.ob_top.specs.Outside.{Outside, IsFinished, IsOnlyTold}
 use Rattle.ob_top.specs.Formats.{FormatDone}
 use Rattle.ob_vault.specs.RingKind.{ring_kind}
@@ -39,6 +40,19 @@ params_at store keys numbers (Run k by_hand) fits = absurd fits
 lanes_at : (store keys : List ℕ) (lanes : Option (List ℕ)) (turns : Bool) (command : Command) → IsCommandOf (run_asked store keys lanes turns) command → (k : ℕ) × AreLanes lanes k
 lanes_at store keys lanes turns (Format p) fits = absurd fits
 lanes_at store keys lanes turns (Run k by_hand) fits = (k, fits.0)
+
+-- a run that is asked for has from 1 to 16 lanes
+in_range : (lanes : Option (List ℕ)) (k : ℕ) → AreLanes lanes k → AreFewLanes k
+in_range None k are = (omega (arith, are), omega (arith, are))
+in_range (Some word) k are = (are.1, are.2)
+
+run_of : (asked : Asked) (k : ℕ) (turns : Bool) → IsCommandOf asked (Run k turns) → AreFewLanes k
+run_of (format_asked store keys numbers) k turns fits = absurd fits
+run_of (run_asked store keys lanes by_hand) k turns fits = in_range lanes k fits.0
+run_of audit_asked k turns fits = absurd fits
+
+pub few_lanes : (words : List (List ℕ)) (k : ℕ) (turns : Bool) → Asks words (Run k turns) → AreFewLanes k
+few_lanes words k turns (asked, by, fits) = run_of asked k turns fits
 
 none_over : (command : Command) → IsCommandOf audit_asked command → ⊥
 none_over (Format p) fits = fits
@@ -179,7 +193,7 @@ module _ (before mid after : Outside) (status : ℕ) (input : after.input ≡ mi
 
     abbrev RunTells : Option (List ℕ) → Bool → Type 0
     RunTells lanes turns = Tell Memory ⊎ ((AreBadLanes lanes × Tell (BadParams LANES))
-        ⊎ ((k : ℕ) × AreLanes lanes k × (KeysTell ⊎ ((keys : Keys) × HasKeys text keys × RunDone ring_kind ring_lives disk (manner beat (not turns)) drawn keys old new before after status))))
+        ⊎ ((k : ℕ) × AreLanes lanes k × (KeysTell ⊎ ((keys : Keys) × HasKeys text keys × RunDone ring_kind ring_lives disk (manner beat (not turns) k) drawn keys old new before after status))))
 
     pub usage_done : (fault : Option Fault) → CommandDoes disk beat drawn words text old new before mid fault → IsFinished mid.output after.output fault status → asked_by words ≡ None → Tell Usage ⊎ Tell Memory
     usage_done fault (inl (f, is, inl refused, kept, same)) done nothing = usage_tells (new ≡ old) kept same words text fault f is done refused nothing
@@ -212,8 +226,8 @@ module _ (before mid after : Outside) (status : ℕ) (input : after.input ≡ mi
     run_does fault (inr (found, has, inl (p, (asked, by, fits), ends, leaves, same))) done store keys lanes turns asks = absurd (lanes_asked words asked (Format p) store keys lanes turns by fits asks)
     run_does fault (inr (found, has, inr (k, by_hand, (asked, by, fits), on))) done store keys lanes turns asks =
         let (are, same) = lanes_asked words asked (Run k by_hand) store keys lanes turns by fits asks in
-        let its = subst (λ (b : Bool). RunOn ring_kind ring_lives disk (manner beat (not b)) drawn found old new before mid fault) same on in
-        inr (inr (k, are, inr (found, has, run_done ring_kind ring_quiet ring_lives disk (manner beat (not turns)) drawn found old new before mid after input status fault its done)))
+        let its = subst (λ (b : Bool). RunOn ring_kind ring_lives disk (manner beat (not b) k) drawn found old new before mid fault) same on in
+        inr (inr (k, are, inr (found, has, run_done ring_kind ring_quiet ring_lives disk (manner beat (not turns) k) drawn found old new before mid after input status fault its done)))
 
   -- ---- without one
 

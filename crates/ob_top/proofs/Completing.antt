@@ -26,13 +26,13 @@ use Rattle.ob_vault.specs.Lives.{ring_lives}
 use Rattle.ob_vault.specs.Keeping.{AreStandingLaws}
 use Rattle.ob_vault.specs.Kinds.{StoreKind}
 use Rattle.ob_vault.specs.KindLives.{LifeWords}
-use Rattle.ob_vault.specs.Phases.{Shape, refused, shapes}
+use Rattle.ob_vault.specs.Shapes.{Shape, refused, shapes}
 use Rattle.ob_conduct.specs.Acts.{calls}
 use Rattle.ob_desk.specs.Beats.{BeatKind}
 use Rattle.ob_top.specs.Runs.{Manner, manner, CameIn, IsInputRefused, EndsEarly, EndsFor, Ran, Went, RunDone}
 use Rattle.ob_top.specs.Complete.{CanFormat, CanRun, DoesWhatItCan, StopsFull}
 use Rattle.ob_vault.proofs.Standing.{ring_keeps}
-use Rattle.ob_top.proofs.Counted.{one_script}
+use Rattle.ob_top.proofs.Counted.{one_lanes, one_script}
 use Rattle.ob_words.proofs.Named.{no_bad_number, no_bad_lanes, one_keys, keys_stand}
 
 -- ---- format
@@ -93,11 +93,11 @@ module _ (store : StoreKind) (laws : AreStandingLaws store) (life : LifeWords st
   by_memory f (inl is) holds = absurd (holds is)
   by_memory f (inr is) holds = ap (λ (x : Fault). status_of (Some x)) is
 
-  early : (f : Fault) → EndsEarly store life can.keys (disk old) (disk new) disk before.input after.input f → status_of (Some f) ≡ 9
-  early f (inl head) =
+  early : (most : ℕ) (f : Fault) → EndsEarly store life can.keys most (disk old) (disk new) disk before.input after.input f → status_of (Some f) ≡ 9
+  early most f (inl head) =
       absurd (can.store_holds (head.cause (laws.reads_head can.keys can.p ((disk old).cells 0) f (laws.has_head can.keys can.p can.generation (disk old).cells can.at can.stands) head.kind (head.read can.tells))))
-  early f (inr (inl input)) = input_told input.p.keys f (many_keys input.p input.head) input.refused
-  early f (inr (inr opening)) =
+  early most f (inr (inl input)) = input_told input.p.keys f (many_keys input.p input.head) input.refused
+  early most f (inr (inr opening)) =
       by_memory f (laws.opens can.keys can.p can.generation (disk old).cells can.at (length script.txns) f can.stands can.lasts opening.kind
       (subst (λ (q : Params). store.refuses can.keys q (disk old).cells f) (one_p opening.p opening.head) (opening.read can.tells))) (λ is. can.store_holds (opening.cause is))
 
@@ -166,7 +166,7 @@ module _ (store : StoreKind) (laws : AreStandingLaws store) (life : LifeWords st
 
     answers : (status : ℕ) (f : Option Fault) → status ≡ status_of f → Went store life disk by drawn can.keys old new before after records f → Answers status
     answers status None is ran = inl is
-    answers status (Some f) is (inl (none, ended, lives)) = inr (inl (is ∙ early f ended))
+    answers status (Some f) is (inl (none, ended, lives)) = inr (inl (is ∙ early by.lanes f ended))
     answers status (Some f) is (inr ran) = by_fault status f is ran (ran_fault f ran ran.traced.behind (shapes (calls ran.is_served.served.acts)) (refused (calls ran.is_served.served.acts)) ran.cause)
 
   pub run_answers : (by : Manner) (drawn : List ℕ) (status : ℕ) → RunDone store life disk by drawn can.keys old new before after status → (status ≡ 0) ⊎ ((status ≡ 9) ⊎ StopsFor by drawn status)
@@ -188,7 +188,7 @@ module _ {S : Type 0} (disk : S → Disk) (beat : BeatKind) (drawn : List ℕ) (
 
   abbrev pub RunTells : Option (List ℕ) → Bool → Type 0
   RunTells lanes turns = Tell fault.Memory ⊎ ((AreBadLanes lanes × Tell (fault.BadParams LANES))
-      ⊎ ((k : ℕ) × AreLanes lanes k × (KeysTell ⊎ ((keys : Keys) × HasKeys text keys × RunDone ring_kind ring_lives disk (manner beat (not turns)) drawn keys old new before after status))))
+      ⊎ ((k : ℕ) × AreLanes lanes k × (KeysTell ⊎ ((keys : Keys) × HasKeys text keys × RunDone ring_kind ring_lives disk (manner beat (not turns) k) drawn keys old new before after status))))
 
   format_whole : (can : CanFormat words text (disk old) (disk new) before after) → FormatTells can.numbers → (status ≡ 0) ⊎ (status ≡ 9)
   format_whole can (inl (kept, told)) = inr told.status_is
@@ -198,7 +198,7 @@ module _ {S : Type 0} (disk : S → Disk) (beat : BeatKind) (drawn : List ℕ) (
 
   module _ (script : Scripts) (can : CanRun words text (disk old) (disk new) before after ring_kind script) where
     abbrev by : Manner
-    by = manner beat (not can.turns)
+    by = manner beat (not can.turns) can.k
 
     abbrev Full : Type 0
     Full = StopsFull disk beat drawn words text before after status by can.keys can.p old new
@@ -230,7 +230,8 @@ module _ {S : Type 0} (disk : S → Disk) (beat : BeatKind) (drawn : List ℕ) (
     run_whole (inr (inr (k, are, inl (f, refusal, (kept, told))))) = absurd (keys_stand text can.keys f can.has refusal)
     run_whole (inr (inr (k, are, inr (keys, has, d)))) =
         by_answer (run_answers ring_kind ring_keeps ring_lives disk words text old new before after script can by drawn status
-        (subst (λ (k : Keys). RunDone ring_kind ring_lives disk by drawn k old new before after status) (one_keys text keys can.keys has can.has) d))
+        (subst (λ (k : Keys). RunDone ring_kind ring_lives disk by drawn k old new before after status) (one_keys text keys can.keys has can.has)
+        (subst (λ m. RunDone ring_kind ring_lives disk (manner beat (not can.turns) m) drawn keys old new before after status) (one_lanes can.lanes k can.k are can.in_range) d)))
 
   pub completes : ((store keys : List ℕ) (numbers : List (List ℕ)) → asked_by words ≡ Some (format_asked store keys numbers) → FormatTells numbers)
       → ((store keys : List ℕ) (lanes : Option (List ℕ)) (turns : Bool) → asked_by words ≡ Some (run_asked store keys lanes turns) → RunTells lanes turns)

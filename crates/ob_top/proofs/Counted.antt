@@ -1,5 +1,7 @@
--- Each script is read in one way.
-use Rattle.std.proofs.Common.{◌≡◌, ◌≤◌, ◌^◌, ℕ, List, [], ◌∷◌, Option, Some, sym, ap, subst, ◌∙◌}
+-- Each script is read in one way, and lanes are one number.
+use Rattle.std.proofs.Common.{◌≡◌, ◌≤◌, ◌^◌, ℕ, List, [], ◌∷◌, Option, None, Some, sym, ap, subst, arith, ◌∙◌}
+use Rattle.std.proofs.lemmas.Fmt.{decimal_injective}
+use Rattle.ob_words.specs.Work.{AreLanes}
 use Rattle.ob_script.specs.Script.{Text, State, Scripts, AcceptsLine, ReadsLines, IsScript, step, start, lines_of}
 use Rattle.ob_script.proofs.OneReading.{one_line}
 
@@ -20,3 +22,8 @@ pub one_script : (n : ℕ) → n ≤ 2 ^ 32 → (bytes : List ℕ) (a b : Script
 one_script n small bytes a b x y =
     let same = one_state n small start (lines_of bytes) x.last y.last x.reads y.reads in
     x.scripts_are ∙ ap (λ (s : State). record { keys = n; clients = s.clients; txns = s.done }) same ∙ sym y.scripts_are
+
+-- the word of `--lanes` is one number's
+pub one_lanes : (lanes : Option (List ℕ)) (m n : ℕ) → AreLanes lanes m → AreLanes lanes n → m ≡ n
+one_lanes None m n a b = a ∙ sym b
+one_lanes (Some word) m n (a, some, few) (b, more, less) = decimal_injective m n (omega (arith, few)) (omega (arith, less)) (sym a ∙ b)

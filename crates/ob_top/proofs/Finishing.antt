@@ -25,12 +25,14 @@ use Rattle.ob_top.specs.Outside.{Outside, LineTold, IsFinished}
 use Rattle.ob_top.specs.Formats.{FormatEnds, FormatTold, FormatDone}
 use Rattle.ob_vault.specs.Kinds.{StoreKind}
 use Rattle.ob_vault.specs.KindLives.{LifeWords}
-use Rattle.ob_vault.specs.Phases.{Shape, refused, shapes}
+use Rattle.ob_vault.specs.Shapes.{Shape, refused, shapes}
 use Rattle.ob_conduct.specs.Acts.{calls}
 use Rattle.ob_top.specs.Endings.{LinesStand}
 use Rattle.ob_top.specs.Runs.{Manner, EndsEarly, EndsFor, Ran, Went, RunOn, RunDone}
 use Rattle.ob_top.proofs.Lines.{cut_printed}
+use Rattle.ob_top.specs.Sound.{StandsOn}
 use Rattle.ob_top.proofs.Running.{IsQuiet}
+use Rattle.ob_top.proofs.Sounding.{formatted_sound, none_at_0}
 
 -- a text behind one that is whole
 behind : (before mid after : Flow) (text more : List ℕ) → mid.bytes ≡ appended before.bytes text → before.faults ≤ mid.faults → IsPrinted mid after more → IsPrinted before after (text ++ more)
@@ -61,8 +63,8 @@ module _ (store : StoreKind) (quiet : IsQuiet store) (life : LifeWords store) wh
       subst (λ (f : Fault). FormatEnds store life disk keys p old new before before (Some f)) (sym is) (refl, cause (subst IsStoreFault (sym is) tt), seen, refl)
 
   module _ {S : Type 0} (disk : S → Disk) (by : Manner) (words : List ℕ) (keys : Keys) (old new : S) (before mid after : Outside) (input : after.input ≡ mid.input) where
-    early_on : (fault : Fault) → EndsEarly store life keys (disk old) (disk new) disk before.input mid.input fault → EndsEarly store life keys (disk old) (disk new) disk before.input after.input fault
-    early_on fault early = subst (λ (f : Flow). EndsEarly store life keys (disk old) (disk new) disk before.input f fault) (sym input) early
+    early_on : (fault : Fault) → EndsEarly store life keys by.lanes (disk old) (disk new) disk before.input mid.input fault → EndsEarly store life keys by.lanes (disk old) (disk new) disk before.input after.input fault
+    early_on fault early = subst (λ (f : Flow). EndsEarly store life keys by.lanes (disk old) (disk new) disk before.input f fault) (sym input) early
 
     ran_on : (records : List (EpochRecord ℕ)) (fault : Option Fault) (r : Ran store life disk by words keys old new before mid records fault) → EndsFor store keys r.p r.found (disk r.between) r.traced.behind (shapes (calls r.is_served.served.acts))
         (length records) (refused (calls r.is_served.served.acts)) words (disk old) (disk new) before.output after.output
@@ -105,6 +107,7 @@ module _ (store : StoreKind) (quiet : IsQuiet store) (life : LifeWords store) wh
             lines = r.lines;
             line = f.line;
             went = ran_on r.records None r.went r.went.cause;
+            sound = r.sound;
           }
 
       sink_rose : (records : List (EpochRecord ℕ)) → Went store life disk by words keys old new before mid records (Some SinkFault) → Rose before.output.faults mid.output.faults
@@ -130,6 +133,7 @@ module _ (store : StoreKind) (quiet : IsQuiet store) (life : LifeWords store) wh
         lines = r.lines;
         line = f.line;
         went = sink_went r.records f.line r.went;
+        sound = r.sound;
       }
         where
           no_fault : Some SinkFault ≡ None → ⊥
@@ -137,8 +141,8 @@ module _ (store : StoreKind) (quiet : IsQuiet store) (life : LifeWords store) wh
 
       -- any other fault, behind the whole report
       done_other : (fault : Fault) (records : List (EpochRecord ℕ)) (whole : ℕ) → LinesStand (Some fault) records whole before.output mid.output → LineTold mid.output after.output (Some fault)
-          → mid.output.bytes ≡ appended before.output.bytes (report decimal records) → before.output.faults ≤ mid.output.faults → IsPrinted mid.output after.output (fault_line (Some fault)) → status ≡ status_of (Some fault) → Went store life disk by words keys old new before after records (Some fault) → RunDone store life disk by words keys old new before after status
-      done_other fault records whole lines told bytes later line status_is went = record {
+          → mid.output.bytes ≡ appended before.output.bytes (report decimal records) → before.output.faults ≤ mid.output.faults → IsPrinted mid.output after.output (fault_line (Some fault)) → status ≡ status_of (Some fault) → Went store life disk by words keys old new before after records (Some fault) → StandsOn store disk keys old new → RunDone store life disk by words keys old new before after status
+      done_other fault records whole lines told bytes later line status_is went sound = record {
         fault = Some fault;
         status_is = status_is;
         records = records;
@@ -149,6 +153,7 @@ module _ (store : StoreKind) (quiet : IsQuiet store) (life : LifeWords store) wh
         lines = lines;
         line = told;
         went = went;
+        sound = sound;
       }
         where
           no_fault : Some fault ≡ None → ⊥
@@ -164,17 +169,17 @@ module _ (store : StoreKind) (quiet : IsQuiet store) (life : LifeWords store) wh
       pub run_done : (fault : Option Fault) → RunOn store life disk by words keys old new before mid fault → IsFinished mid.output after.output fault status → RunDone store life disk by words keys old new before after status
       run_done None r f = done_whole r f
       run_done (Some SinkFault) r f = done_sink r f
-      run_done (Some Memory) r f = done_other Memory r.records r.whole r.lines f.line r.lines.0.bytes r.lines.0.later f.line f.status_is (went_other Memory r.records (λ p found opened h so_far n call cause. cause) r.went)
-      run_done (Some Usage) r f = done_other Usage r.records r.whole r.lines f.line r.lines.0.bytes r.lines.0.later f.line f.status_is (went_other Usage r.records (λ p found opened h so_far n call cause. cause) r.went)
-      run_done (Some (BadScript line)) r f = done_other (BadScript line) r.records r.whole r.lines f.line r.lines.0.bytes r.lines.0.later f.line f.status_is (went_other (BadScript line) r.records (λ p found opened h so_far n call cause. cause) r.went)
-      run_done (Some (BadParams field)) r f = done_other (BadParams field) r.records r.whole r.lines f.line r.lines.0.bytes r.lines.0.later f.line f.status_is (went_other (BadParams field) r.records (λ p found opened h so_far n call cause. cause) r.went)
-      run_done (Some NotStore) r f = done_other NotStore r.records r.whole r.lines f.line r.lines.0.bytes r.lines.0.later f.line f.status_is (went_other NotStore r.records (λ p found opened h so_far n call cause. cause) r.went)
+      run_done (Some Memory) r f = done_other Memory r.records r.whole r.lines f.line r.lines.0.bytes r.lines.0.later f.line f.status_is (went_other Memory r.records (λ p found opened h so_far n call cause. cause) r.went) r.sound
+      run_done (Some Usage) r f = done_other Usage r.records r.whole r.lines f.line r.lines.0.bytes r.lines.0.later f.line f.status_is (went_other Usage r.records (λ p found opened h so_far n call cause. cause) r.went) r.sound
+      run_done (Some (BadScript line)) r f = done_other (BadScript line) r.records r.whole r.lines f.line r.lines.0.bytes r.lines.0.later f.line f.status_is (went_other (BadScript line) r.records (λ p found opened h so_far n call cause. cause) r.went) r.sound
+      run_done (Some (BadParams field)) r f = done_other (BadParams field) r.records r.whole r.lines f.line r.lines.0.bytes r.lines.0.later f.line f.status_is (went_other (BadParams field) r.records (λ p found opened h so_far n call cause. cause) r.went) r.sound
+      run_done (Some NotStore) r f = done_other NotStore r.records r.whole r.lines f.line r.lines.0.bytes r.lines.0.later f.line f.status_is (went_other NotStore r.records (λ p found opened h so_far n call cause. cause) r.went) r.sound
       run_done (Some (Damaged cell check kept computed)) r f = done_other (Damaged cell check kept computed) r.records r.whole r.lines f.line r.lines.0.bytes r.lines.0.later f.line f.status_is
-          (went_other (Damaged cell check kept computed) r.records (λ p found opened h so_far n call cause. cause) r.went)
-      run_done (Some (StoreFault unsure)) r f = done_other (StoreFault unsure) r.records r.whole r.lines f.line r.lines.0.bytes r.lines.0.later f.line f.status_is (went_other (StoreFault unsure) r.records (λ p found opened h so_far n call cause. cause) r.went)
-      run_done (Some (StashFull rows)) r f = done_other (StashFull rows) r.records r.whole r.lines f.line r.lines.0.bytes r.lines.0.later f.line f.status_is (went_other (StashFull rows) r.records (λ p found opened h so_far n call cause. cause) r.went)
-      run_done (Some (Worn number)) r f = done_other (Worn number) r.records r.whole r.lines f.line r.lines.0.bytes r.lines.0.later f.line f.status_is (went_other (Worn number) r.records (λ p found opened h so_far n call cause. cause) r.went)
-      run_done (Some SourceFault) r f = done_other SourceFault r.records r.whole r.lines f.line r.lines.0.bytes r.lines.0.later f.line f.status_is (went_other SourceFault r.records (λ p found opened h so_far n call cause. cause) r.went)
+          (went_other (Damaged cell check kept computed) r.records (λ p found opened h so_far n call cause. cause) r.went) r.sound
+      run_done (Some (StoreFault unsure)) r f = done_other (StoreFault unsure) r.records r.whole r.lines f.line r.lines.0.bytes r.lines.0.later f.line f.status_is (went_other (StoreFault unsure) r.records (λ p found opened h so_far n call cause. cause) r.went) r.sound
+      run_done (Some (StashFull rows)) r f = done_other (StashFull rows) r.records r.whole r.lines f.line r.lines.0.bytes r.lines.0.later f.line f.status_is (went_other (StashFull rows) r.records (λ p found opened h so_far n call cause. cause) r.went) r.sound
+      run_done (Some (Worn number)) r f = done_other (Worn number) r.records r.whole r.lines f.line r.lines.0.bytes r.lines.0.later f.line f.status_is (went_other (Worn number) r.records (λ p found opened h so_far n call cause. cause) r.went) r.sound
+      run_done (Some SourceFault) r f = done_other SourceFault r.records r.whole r.lines f.line r.lines.0.bytes r.lines.0.later f.line f.status_is (went_other SourceFault r.records (λ p found opened h so_far n call cause. cause) r.went) r.sound
 
   module _ {S : Type 0} (disk : S → Disk) (keys : Keys) (p : Params) (old new : S) (before mid after : Flow) where
     -- a format that did nothing
@@ -208,4 +213,6 @@ module _ (store : StoreKind) (quiet : IsQuiet store) (life : LifeWords store) wh
     untouched = second ∙ first;
     told = format_told disk keys p old new before.output mid.output after.output fault ends f.line;
     left = leaves;
+    sound = λ zero tells.
+        formatted_sound store life disk keys p old new (subst (λ (x : Option Fault). FormatEnds store life disk keys p old new before.output mid.output x) (none_at_0 fault (sym f.status_is ∙ zero)) ends).0 tells;
   }

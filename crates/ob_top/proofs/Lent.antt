@@ -9,7 +9,7 @@ use Rattle.ob_seal.specs.Sealing.{Sealing}
 use Rattle.ob_seal.specs.declared.keys.Keys.{Keys}
 use Rattle.ob_store.specs.Calls.{GoesOn}
 use Rattle.ob_store.specs.Disk.{Clock, Disk, Image, NotAfter}
-use Rattle.ob_store.specs.Images.{LeavesOnly}
+use Rattle.ob_store.specs.Images.{IsImageOf, LeavesOnly}
 use Rattle.ob_store.specs.Lines.{Trace}
 use Rattle.ob_serial.specs.VaultKinds.{AllCalled, Kind}
 use Rattle.ob_serial.specs.Vaults.{DoubtBy, End, Ended, Fetch, RefusedBy, Standing, Values, VaultAnswer, VaultCall, VaultState}
@@ -62,7 +62,7 @@ pub record IsLent {V S : Type 0} (k : Kind V) (disk : S → Disk) (runs : V → 
 
 module _ {V S : Type 0} (k : Kind V) (disk : S → Disk) (counts_now : (x : S) (t : Clock) (c : Image) → NotAfter t (disk x).moment → (disk x).may_leave c → (disk x).left_since t c)
     (only_now : (x : S) (c : Image) → (disk x).left_since (disk x).moment c → (disk x).may_leave c) (runs : V → Running S) (words : HasRingWords k disk runs) (lent : IsLent k disk runs)
-    (keys : Keys) (p : Params) (found : Found) (f : RingFound) (first : V) (goes : GoesOnFrom keys p found f) (run_is : (runs first).run ≡ f.run) where
+    (keys : Keys) (most : ℕ) (p : Params) (found : Found) (f : RingFound) (first : V) (goes : GoesOnFrom keys p found f) (run_is : (runs first).run ≡ f.run) where
   abbrev disk_of : V → Disk
   disk_of v = disk (runs v).store
 
@@ -78,7 +78,7 @@ module _ {V S : Type 0} (k : Kind V) (disk : S → Disk) (counts_now : (x : S) (
       let (a, b, v_is) = lent.disk_is v in
       let (c, d, w_is) = lent.disk_is w in
       let both = subst (λ (x : Disk). LeavesOnly x (lent_both c d (disk_of w)) P) v_is (subst (λ (x : Disk). LeavesOnly (k.disk v) x P) w_is one) in
-      record { later = both.later; each = both.each; before = both.before }
+      record { later = both.later; each = both.each; before = both.before; told = both.told }
 
   stands_found : (i : Image) (at : Standing) → k.stands first i at → StandsRing keys p f.run.sealer.generation i at
   stands_found i at stands =
@@ -97,12 +97,12 @@ module _ {V S : Type 0} (k : Kind V) (disk : S → Disk) (counts_now : (x : S) (
   told_on v w ((End writes, RefusedBy fault) ∷ steps) chain all told = absurd all
   told_on v w ((End writes, DoubtBy fault) ∷ steps) chain all told = absurd all
 
-  lender : IsRingLender k disk counts_now only_now runs words keys p f first
+  lender : IsRingLender k disk counts_now only_now runs words keys most p f first
   lender = record {
     faults = λ v. ap (λ (x : Disk). x.faults) (lent.disk_is v).2;
     goes = goes_on;
     since = leaves_only;
-    now = λ v i left. subst (λ (x : Disk). x.may_leave i) (sym (lent.disk_is v).2) left;
+    now = λ v i image. subst (λ (x : Disk). IsImageOf x i) (sym (lent.disk_is v).2) image;
     stands = stands_found;
     only = λ w i. subst (λ (x : Disk). x.left_since x.moment i → x.may_leave i) (sym (lent.disk_is w).2) (λ left. only_now (runs w).store i left);
     rests = lent.rests;
@@ -122,14 +122,14 @@ pub serves_lent : {V S : Type 0} (first : V) (k : Kind V) (beat : BeatKind) (thr
     → AreSound script → AreRunners script runners
     → (disk : S → Disk) (counts_now : (x : S) (t : Clock) (c : Image) → NotAfter t (disk x).moment → (disk x).may_leave c → (disk x).left_since t c)
     (only_now : (x : S) (c : Image) → (disk x).left_since (disk x).moment c → (disk x).may_leave c) (runs : V → Running S) → HasRingWords k disk runs → IsLent k disk runs
-    → (keys : Keys) (found : Found) (f : RingFound) (start : Run) → GoesOnFrom keys p found f → (runs first).run ≡ start → f.run ≡ start → epoch ≡ (runs first).run.epoch → left ≡ (runs first).run.left
-    → start.epoch < 2 ^ 62 → start.left ≤ p.batches → (runs first).lanes ≤ 1 → HasPlanned f.run f.content f.records → (runs first).drawn ≡ []
-    → ServedOver ring_kind ring_lives disk (manner beat threads) keys p f f.run.sealer script (runs last).drawn (runs first).store (runs last).store before after (fault_of result)
-serves_lent first k beat threads p script trace runners before last seen ran after result epoch left done sound are disk counts_now only_now runs words lent keys found f start goes is same epoch_is left_is small few lanes has none =
+    → (keys : Keys) (most : ℕ) (found : Found) (f : RingFound) (start : Run) → GoesOnFrom keys p found f → (runs first).run ≡ start → f.run ≡ start → epoch ≡ (runs first).run.epoch → left ≡ (runs first).run.left
+    → start.epoch < 2 ^ 62 → start.left ≤ p.batches → (runs first).lanes ≡ most → (1 ≤ most) × (most ≤ 16) → HasPlanned f.run f.content f.records → (runs first).drawn ≡ []
+    → ServedOver ring_kind ring_lives disk (manner beat threads most) keys p f f.run.sealer script (runs last).drawn (runs first).store (runs last).store before after (fault_of result)
+serves_lent first k beat threads p script trace runners before last seen ran after result epoch left done sound are disk counts_now only_now runs words lent keys most found f start goes is same epoch_is left_is small few lanes many has none =
     let (new, run) = done in
     let run_is : (runs first).run ≡ f.run = is ∙ sym same in
     let may = may_open p f.run.epoch f.run.left script (subst (λ (r : Run). r.epoch < 2 ^ 62) (sym same) small) (subst (λ (r : Run). r.left ≤ p.batches) (sym same) few) sound in
     let planned = All-weaker (IsNewOf script) (λ r. plan_of r ≡ asks_by (client_of r) script.txns) (λ r n. n.plan) runners are.new in
-    ring_serves k disk counts_now only_now runs words keys p f first beat threads script_kind runs_scripts script sound may trace runners before (run_state (scene new last seen) ran after) result epoch left
-    are.clients_are planned (epoch_is ∙ ap (λ (r : Run). r.epoch) run_is) (left_is ∙ ap (λ (r : Run). r.left) run_is) run (lender k disk counts_now only_now runs words lent keys p found f first goes run_is)
-    (ring_begun k disk runs keys p found f first goes run_is lanes has none (λ u holds. lent.holds first u (subst (λ (r : Run). RingHolds r (disk (runs first).store) u) (sym run_is) holds)))
+    ring_serves k disk counts_now only_now runs words keys most p f first beat threads script_kind runs_scripts script sound may trace runners before (run_state (scene new last seen) ran after) result epoch left
+    are.clients_are planned (epoch_is ∙ ap (λ (r : Run). r.epoch) run_is) (left_is ∙ ap (λ (r : Run). r.left) run_is) run (lender k disk counts_now only_now runs words lent keys most p found f first goes run_is)
+    (ring_begun k disk runs keys most p found f first goes run_is lanes many has none (λ u holds. lent.holds first u (subst (λ (r : Run). RingHolds r (disk (runs first).store) u) (sym run_is) holds)))

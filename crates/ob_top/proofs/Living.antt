@@ -1,5 +1,5 @@
 -- The head's read, the opening and the vault's calls, as acts of the store's life.
-use Rattle.std.proofs.Common.{◌⊎◌, ℕ, suc, List, [], inl, subst, sym}
+use Rattle.std.proofs.Common.{◌⊎◌, ℕ, suc, List, [], inl, inr, subst, sym}
 use Rattle.ob_store.specs.Disk.{Disk, Image}
 use Rattle.ob_store.specs.Images.{LeavesOnly, Same, Passes}
 use Rattle.ob_store.specs.Calls.{GoesOn}
@@ -16,11 +16,13 @@ module _ {S : Type 0} (disk : S → Disk) (only : (store : S) (c : Image) → (d
   abbrev Left : ℕ → Image → Type 0
   Left g c = (disk old).may_leave c ⊎ (IsAtGeneration keys g c ⊎ IsAtGeneration keys (suc g) c)
 
-  reads_leave : (g : ℕ) → LeavesOnly (disk old) (disk mid) (Left g)
-  reads_leave g = leaves_of Same (disk old).may_leave (Left g) (disk old) (disk mid) passes (only old) (λ c left. left) (λ c d left same. inl (subst (λ (i : Image). (disk old).may_leave i) (sym same) left)) (λ c left. inl left)
+  reads_leave : (g : ℕ) → IsAtGeneration keys g (disk old).cells → LeavesOnly (disk old) (disk mid) (Left g)
+  reads_leave g stands = leaves_of Same (Left g) (Left g) (disk old) (disk mid) passes (only old) (λ c left. inl left) (λ tells. inr (inl stands))
+      (λ c d was same. subst (Left g) (sym same) was)
+      (λ c was. was)
 
   reads_unopened : (disk mid).tells → LeavesUnopened keys (disk old) (disk mid)
-  reads_unopened tells = record { goes = goes; tells = tells; crash = λ g stands. reads_leave g }
+  reads_unopened tells = record { goes = goes; tells = tells; crash = λ g stands. reads_leave g stands }
 
   pub read_lives : (disk mid).tells → LivesOn disk keys old mid []
   read_lives tells = unopened_lives disk keys old mid (reads_unopened tells)

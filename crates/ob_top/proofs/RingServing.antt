@@ -13,7 +13,7 @@ use Rattle.ob_serial.specs.Vaults.{VaultAnswer, VaultCall}
 use Rattle.ob_vault.specs.RingVaults.{Running}
 use Rattle.ob_vault.specs.RingKind.{RingFound, ring_hidden, ring_kind, ring_public}
 use Rattle.ob_vault.specs.RingSteps.{HasRingWords, RingAt}
-use Rattle.ob_vault.specs.Phases.{Shape}
+use Rattle.ob_vault.specs.Shapes.{Shape}
 use Rattle.ob_vault.specs.KindShown.{AreDrawn}
 use Rattle.ob_vault.specs.Hidden.{IsTapeBehind, RingHidden}
 use Rattle.ob_vault.specs.Seen.{RingPublic}
@@ -31,27 +31,27 @@ use Rattle.ob_top.specs.Runs.{manner, ServedOver}
 use Rattle.ob_top.proofs.Serving.{IsLender, serves_on}
 
 module _ {V S : Type 0} (k : Kind V) (disk : S → Disk) (counts_now : (x : S) (t : Clock) (c : Image) → NotAfter t (disk x).moment → (disk x).may_leave c → (disk x).left_since t c)
-    (only_now : (x : S) (c : Image) → (disk x).left_since (disk x).moment c → (disk x).may_leave c) (runs : V → Running S) (words : HasRingWords k disk runs) (keys : Keys) (p : Params) (f : RingFound) (first : V) where
-  pub tells : (q : RingPublic) (h : RingHidden) (so_far : List Shape) (n : ℕ) (v : V) → RingBehind k disk runs words keys p f (disk (runs first).store) q h so_far n v → (fault : Option Fault) → IsTapeBehind p h None (runs v).drawn fault
-  tells q h so_far n v at fault = words_are_of_tape k disk runs keys p f first q h n v at fault
+    (only_now : (x : S) (c : Image) → (disk x).left_since (disk x).moment c → (disk x).may_leave c) (runs : V → Running S) (words : HasRingWords k disk runs) (keys : Keys) (most : ℕ) (p : Params) (f : RingFound) (first : V) where
+  pub tells : (q : RingPublic) (h : RingHidden) (so_far : List Shape) (n : ℕ) (v : V) → RingBehind k disk runs words keys most p f (disk (runs first).store) q h so_far n v → (fault : Option Fault) → IsTapeBehind p h None (runs v).drawn fault
+  tells q h so_far n v at fault = words_are_of_tape k disk runs keys most p f first q h n v at fault
 
-  pub at_rest : (calls : List VaultCall) (steps : List (Shape × Fills)) (q : RingPublic) (h : RingHidden) (so_far : List Shape) (n : ℕ) (v : V) → AreDrawn ring_kind p (ring_hidden f) calls steps h → RingBehind k disk runs words keys p f (disk (runs first).store) q h so_far n v
+  pub at_rest : (calls : List VaultCall) (steps : List (Shape × Fills)) (q : RingPublic) (h : RingHidden) (so_far : List Shape) (n : ℕ) (v : V) → AreDrawn ring_kind p (ring_hidden f) calls steps h → RingBehind k disk runs words keys most p f (disk (runs first).store) q h so_far n v
       → RingGoesOn keys p f (disk (runs first).store) calls steps h None (runs v).drawn (disk (runs v).store)
-  at_rest calls steps q h so_far n v drawn at = goes_on_none k disk runs words counts_now only_now keys p f (disk (runs first).store) calls steps q h n v drawn at
+  at_rest calls steps q h so_far n v drawn at = goes_on_none k disk runs words counts_now only_now keys most p f (disk (runs first).store) calls steps q h n v drawn at
 
-  pub at_stop : (calls : List VaultCall) (steps : List (Shape × Fills)) (q : RingPublic) (h : RingHidden) (so_far : List Shape) (n : ℕ) (v : V) → AreDrawn ring_kind p (ring_hidden f) calls steps h → RingBehind k disk runs words keys p f (disk (runs first).store) q h so_far n v
+  pub at_stop : (calls : List VaultCall) (steps : List (Shape × Fills)) (q : RingPublic) (h : RingHidden) (so_far : List Shape) (n : ℕ) (v : V) → AreDrawn ring_kind p (ring_hidden f) calls steps h → RingBehind k disk runs words keys most p f (disk (runs first).store) q h so_far n v
       → (call : VaultCall) (answer : VaultAnswer) (w : V) → Called k v call answer w → RingGoesOn keys p f (disk (runs first).store) calls steps h (Some call) (runs w).drawn (disk (runs w).store)
-  at_stop calls steps q h so_far n v drawn at call answer w one = goes_on_refused k disk runs words counts_now only_now keys p f (disk (runs first).store) calls steps q h n v drawn at call answer w one
+  at_stop calls steps q h so_far n v drawn at call answer w one = goes_on_refused k disk runs words counts_now only_now keys most p f (disk (runs first).store) calls steps q h n v drawn at call answer w one
 
   abbrev pub IsRingLender : Type 1
-  IsRingLender = IsLender k ring_kind disk (λ v. (runs v).store) keys p f first (RingBehind k disk runs words keys p f (disk (runs first).store)) (λ v. (runs v).drawn) (ring_does k disk runs words keys p f (disk (runs first).store)) tells ring_lives at_rest at_stop (f.run).sealer
+  IsRingLender = IsLender k ring_kind disk (λ v. (runs v).store) keys most p f first (RingBehind k disk runs words keys most p f (disk (runs first).store)) (λ v. (runs v).drawn) (ring_does k disk runs words keys most p f (disk (runs first).store)) tells ring_lives at_rest at_stop (f.run).sealer
 
   pub ring_serves : {U : Type 0} (beat : BeatKind) (threads : Bool) (kind : RunnerKind U (List ScriptTxn)) (means : RunsScripts kind) (script : Scripts) (sound : AreSound script)
       (may : MayOpen (record { params = p }) (suc (f.run).epoch) (f.run).left script.clients) (trace : Trace) (runners : List U) (before : Flow) (end : RunState V U) (result : Result (Unit {0}) Fault) (epoch left : ℕ)
       → map kind.client runners ≡ script.clients → All (λ u. kind.plan u ≡ asks_by (kind.client u) script.txns) runners → epoch ≡ (f.run).epoch → left ≡ (f.run).left
       → RunsBy threads k kind beat (run_state (scene (new_desk (record { params = p }) (suc epoch) left script.clients) first trace) runners before) end result
-      → IsRingLender → RingAt k disk runs keys p f (disk (runs first).store) (ring_public p f) (ring_hidden f) 0 first
-      → ServedOver ring_kind ring_lives disk (manner beat threads) keys p f (f.run).sealer script (runs end.scene.vault).drawn (runs first).store (runs end.scene.vault).store before end.output (fault_of result)
+      → IsRingLender → RingAt k disk runs keys most p f (disk (runs first).store) (ring_public p f) (ring_hidden f) 0 first
+      → ServedOver ring_kind ring_lives disk (manner beat threads most) keys p f (f.run).sealer script (runs end.scene.vault).drawn (runs first).store (runs end.scene.vault).store before end.output (fault_of result)
   ring_serves beat threads kind means script sound may trace runners before end result epoch left named planned epoch_is left_is run l begun =
-      serves_on k ring_kind disk (λ v. (runs v).store) keys p f first (RingBehind k disk runs words keys p f (disk (runs first).store)) (λ v. (runs v).drawn) (ring_does k disk runs words keys p f (disk (runs first).store)) tells ring_lives at_rest at_stop
+      serves_on k ring_kind disk (λ v. (runs v).store) keys most p f first (RingBehind k disk runs words keys most p f (disk (runs first).store)) (λ v. (runs v).drawn) (ring_does k disk runs words keys most p f (disk (runs first).store)) tells ring_lives at_rest at_stop
       beat threads kind means (f.run).sealer script sound may trace runners before end result epoch left named planned epoch_is left_is run l begun

@@ -7,26 +7,28 @@ use Rattle.ob_base.specs.declared.fault.Fault.{Fault}
 use Rattle.ob_base.specs.declared.fault.Fault.TheVariants.{Memory, Usage, BadScript, BadParams, NotStore, Damaged, StoreFault, StashFull, Worn, SourceFault, SinkFault}
 use Rattle.ob_io.proofs.Pieces.{appended-none}
 use Rattle.ob_io.specs.Streams.{Flow}
-use Rattle.ob_store.specs.Disk.{Disk}
+use Rattle.ob_store.specs.Disk.{Clock, Disk, Image, NotAfter}
 use Rattle.ob_store.specs.Images.{LeavesOnly, IsSynced}
 use Rattle.ob_store.proofs.Moments.{then_on, weakened}
 use Rattle.ob_serial.specs.Vaults.{Standing, StandsIn, VaultCall}
 use Rattle.ob_pads.specs.Lives.{LivesOn}
-use Rattle.ob_vault.specs.Phases.{Shape, refused, shapes}
+use Rattle.ob_recover.specs.Telling.{ArePhasesMade}
+use Rattle.ob_vault.specs.Shapes.{Shape, refused, shapes}
+use Rattle.ob_vault.specs.Keeping.{AreStandingLaws}
 use Rattle.ob_vault.specs.KindLives.{LifeWords}
 use Rattle.ob_vault.specs.Openings.{OpensStanding}
 use Rattle.ob_vault.specs.Kinds.{StoreKind, Stands, AllStand, StandsAsBefore, IsOpenedAt, opened_with}
 use Rattle.ob_conduct.specs.Acts.{Act, calls}
 use Rattle.ob_conduct.specs.Left.{IsLeftStanding}
-use Rattle.ob_store.specs.Calls.{Notes}
 use Rattle.ob_store.proofs.Events.{joined}
 use Rattle.ob_store.proofs.Serving.{rose_later}
 use Rattle.ob_serial.specs.Serial.{EpochRecord}
 use Rattle.ob_script.specs.Script.{Scripts}
 use Rattle.ob_top.specs.Outside.{Outside, outside}
-use Rattle.ob_top.specs.Runs.{Manner, EndsEarly, IsOpened, EndsFor, IsLeftOnDisk, LeftByWholeRun, IsReadAndOpened, ServedOver, Ran, Went, RunOn, begin_events}
+use Rattle.ob_top.specs.Runs.{Manner, EndsEarly, IsOpened, EndsFor, IsLeftOnDisk, LeftByWholeRun, IsReadAndOpened, ServedOver, Ran, Went, RunOn, begin_phases}
 use Rattle.ob_top.proofs.Lines.{Stand, stand_unless}
 use Rattle.ob_top.proofs.Living.{whole_lives}
+use Rattle.ob_top.proofs.Sounding.{early_sound, ran_sound}
 
 -- the output is no cause of a head's or an opening's refusal
 pub record IsQuiet (store : StoreKind) : Type 0 where
@@ -35,24 +37,25 @@ pub record IsQuiet (store : StoreKind) : Type 0 where
 
 module _ (store : StoreKind) (quiet : IsQuiet store) (life : LifeWords store) where
   -- an early end isn't the output's
-  early_other : {S : Type 0} (disk : S → Disk) (keys : Keys) (old new : Disk) (before after : Flow) → EndsEarly store life keys old new disk before after SinkFault → ⊥
-  early_other disk keys old new before after (inl head) = quiet.head head.kind
-  early_other disk keys old new before after (inr (inl input)) = input.refused
-  early_other disk keys old new before after (inr (inr opening)) = quiet.opening opening.kind
+  early_other : {S : Type 0} (disk : S → Disk) (keys : Keys) (most : ℕ) (old new : Disk) (before after : Flow) → EndsEarly store life keys most old new disk before after SinkFault → ⊥
+  early_other disk keys most old new before after (inl head) = quiet.head head.kind
+  early_other disk keys most old new before after (inr (inl input)) = input.refused
+  early_other disk keys most old new before after (inr (inr opening)) = quiet.opening opening.kind
 
   -- so it has printed nothing, which is the report of no records
-  early_stand : {S : Type 0} (disk : S → Disk) (keys : Keys) (old new : Disk) (before after output : Flow) (fault : Fault) → EndsEarly store life keys old new disk before after fault → Stand [] output output (Some fault)
-  early_stand disk keys old new before after output fault early =
-      stand_unless [] output output fault (λ is. early_other disk keys old new before after (subst (λ (f : Fault). EndsEarly store life keys old new disk before after f) is early)) (record { bytes = appended-none output.bytes; later = omega arith })
+  early_stand : {S : Type 0} (disk : S → Disk) (keys : Keys) (most : ℕ) (old new : Disk) (before after output : Flow) (fault : Fault) → EndsEarly store life keys most old new disk before after fault → Stand [] output output (Some fault)
+  early_stand disk keys most old new before after output fault early =
+      stand_unless [] output output fault (λ is. early_other disk keys most old new before after (subst (λ (f : Fault). EndsEarly store life keys most old new disk before after f) is early)) (record { bytes = appended-none output.bytes; later = omega arith })
 
-  pub ended_early : {S : Type 0} (disk : S → Disk) (by : Manner) (words : List ℕ) (keys : Keys) (old new : S) (before after output : Flow) (fault : Fault) → EndsEarly store life keys (disk old) (disk new) disk before after fault → ((disk new).tells → LivesOn disk keys old new [])
+  pub ended_early : (laws : AreStandingLaws store) {S : Type 0} (disk : S → Disk) (counts_now : (x : S) (t : Clock) (c : Image) → NotAfter t (disk x).moment → (disk x).may_leave c → (disk x).left_since t c) (by : Manner) (words : List ℕ) (keys : Keys) (old new : S) (before after output : Flow) (fault : Fault) → EndsEarly store life keys by.lanes (disk old) (disk new) disk before after fault → ((disk new).tells → LivesOn disk keys old new [])
       → RunOn store life disk by words keys old new
       (outside before output) (outside after output) (Some fault)
-  ended_early disk by words keys old new before after output fault early lives = record {
+  ended_early laws disk counts_now by words keys old new before after output fault early lives = record {
     records = [];
-    whole = (early_stand disk keys (disk old) (disk new) before after output fault early).0;
-    lines = (early_stand disk keys (disk old) (disk new) before after output fault early).1;
+    whole = (early_stand disk keys by.lanes (disk old) (disk new) before after output fault early).0;
+    lines = (early_stand disk keys by.lanes (disk old) (disk new) before after output fault early).1;
     went = inl (refl, early, lives);
+    sound = early_sound store laws life disk counts_now keys old new by.lanes before after fault early;
   }
 
   module _ (keys : Keys) (p : Params) (found : store.Found) (h : store.Hidden) (so_far : List Shape) (n : ℕ) (call : Option VaultCall) (words : List ℕ) (old mid new : Disk) (before after : Flow) (later : old.faults ≤ mid.faults) where
@@ -93,9 +96,9 @@ module _ (store : StoreKind) (quiet : IsQuiet store) (life : LifeWords store) wh
   }
 
   -- The script was run over the store that was opened.
-  pub ran : {S : Type 0} (disk : S → Disk) (by : Manner) (words : List ℕ) (keys : Keys) (old between new : S) (input input_new output output_new : Flow) (p : Params) (script : Scripts) (found : store.Found) (start : store.Start) (sealing : Sealing) (fault : Option Fault)
+  pub ran : (laws : AreStandingLaws store) {S : Type 0} (disk : S → Disk) (counts_now : (x : S) (t : Clock) (c : Image) → NotAfter t (disk x).moment → (disk x).may_leave c → (disk x).left_since t c) (by : Manner) (words : List ℕ) (keys : Keys) (old between new : S) (input input_new output output_new : Flow) (p : Params) (script : Scripts) (found : store.Found) (start : store.Start) (sealing : Sealing) (fault : Option Fault)
       → (disk old).faults ≤ (disk between).faults
-      → IsOpened store keys (disk old) input p script found start → Notes (begin_events store p found start) (disk old).seen (disk between).seen
+      → IsOpened store keys (disk old) input p script found start → ArePhasesMade by.lanes (begin_phases store p found start) (disk old).seen (disk between).seen
       → ((disk old).tells → (disk between).tells × IsSynced (disk between))
       → ((at : Standing) → (disk old).tells → Stands store keys p (disk old).cells at → IsOpenedAt store keys p at found (disk between))
       → ((at : Standing) → (disk old).tells → Stands store keys p (disk old).cells at → AllStand store keys p (disk old) → LeavesOnly (disk old) (disk between) (StandsAsBefore store keys p (disk old)))
@@ -103,31 +106,34 @@ module _ (store : StoreKind) (quiet : IsQuiet store) (life : LifeWords store) wh
       → IsReadAndOpened disk keys old between sealing → ((disk old).tells → life.begins keys p (disk old).cells found)
       → ServedOver store life disk by keys p found sealing script words between new output output_new fault
       → RunOn store life disk by words keys old new (outside input output) (outside input_new output_new) fault
-  ran disk by words keys old between new input input_new output output_new p script found start sealing fault later opened seen durable stood before opens begun found_so s = record {
-    records = s.records;
-    whole = s.whole;
-    lines = s.lines;
-    went = went_of disk by words keys old new (outside input output) (outside input_new output_new) s.records fault (record {
-      p = p;
-      script = script;
-      found = found;
-      start = start;
-      opened = opened;
-      between = between;
-      is_served = s.is_served;
-      cause = cause_since keys p found s.traced.behind (shapes (calls s.is_served.served.acts)) (length s.records) (refused (calls s.is_served.served.acts)) words (disk old) (disk between) (disk new) output output_new later fault s.cause;
-      events = s.events;
-      traced = s.traced;
-      seen = joined (begin_events store p found start) s.events (disk old).seen (disk between).seen (disk new).seen seen s.seen;
-      opening_seen = seen;
-      serving_seen = s.seen;
-      opens = opens;
-      tells = λ none told. s.tells none (durable told).0;
-      stood = stood;
-      left = λ at tells stands all. let (told, settled) = durable tells in
-          left_both disk keys (disk old) (disk between) (disk new) p found at script s.records fault s.is_served.served.acts (before at tells stands all) (s.left at told settled (stood at tells stands));
-      lives = whole_lives disk keys old between new sealing (map (λ s. s.1) (calls s.is_served.served.acts)) s.goes begun s.lives;
-      opens_life = found_so;
-      goes_on = s.goes_on;
-    });
-  }
+  ran laws disk counts_now by words keys old between new input input_new output output_new p script found start sealing fault later opened seen durable stood before opens begun found_so s =
+      let its : Ran store life disk by words keys old new (outside input output) (outside input_new output_new) s.records fault = record {
+        p = p;
+        script = script;
+        found = found;
+        start = start;
+        opened = opened;
+        between = between;
+        is_served = s.is_served;
+        cause = cause_since keys p found s.traced.behind (shapes (calls s.is_served.served.acts)) (length s.records) (refused (calls s.is_served.served.acts)) words (disk old) (disk between) (disk new) output output_new later fault s.cause;
+        events = s.events;
+        traced = s.traced;
+        opening_seen = seen;
+        serving_seen = s.seen;
+        seen = joined seen.events s.events (disk old).seen (disk between).seen (disk new).seen seen.noted s.seen;
+        opens = opens;
+        tells = λ none told. s.tells none (durable told).0;
+        stood = stood;
+        left = λ at tells stands all. let (told, settled) = durable tells in
+            left_both disk keys (disk old) (disk between) (disk new) p found at script s.records fault s.is_served.served.acts (before at tells stands all) (s.left at told settled (stood at tells stands));
+        lives = whole_lives disk keys old between new sealing (map (λ s. s.1) (calls s.is_served.served.acts)) s.goes begun s.lives;
+        opens_life = found_so;
+        goes_on = s.goes_on;
+      } in
+      record {
+        records = s.records;
+        whole = s.whole;
+        lines = s.lines;
+        went = went_of disk by words keys old new (outside input output) (outside input_new output_new) s.records fault its;
+        sound = ran_sound store laws life disk counts_now keys old new by words (outside input output) (outside input_new output_new) s.records fault its;
+      }

@@ -11,7 +11,7 @@ use Rattle.ob_base.specs.Causes.{Rose}
 use Rattle.ob_io.specs.Streams.{Flow}
 use Rattle.ob_store.specs.declared.event.Event.{Event}
 use Rattle.ob_store.specs.Disk.{Disk, Image}
-use Rattle.ob_store.specs.Images.{LeavesOnly, IsSynced}
+use Rattle.ob_store.specs.Images.{IsImageOf, LeavesOnly, IsSynced}
 use Rattle.ob_store.specs.Lines.{Trace}
 use Rattle.ob_store.specs.Calls.{GoesOn, Notes, IsStoreFault}
 use Rattle.ob_store.proofs.Events.{joined, none_noted}
@@ -25,13 +25,15 @@ use Rattle.ob_serial.specs.declared.vault.EndErr.{EndErr}
 use Rattle.ob_serial.specs.declared.vault.EndErr.TheVariants.{Before, Unsure}
 use Rattle.ob_serial.specs.Vaults.{Standing, StandsIn, VaultCall, Fetch, End, VaultAnswer, Values, Ended, RefusedBy, DoubtBy}
 use Rattle.ob_serial.specs.VaultKinds.{Kind, Called, AllCalled, ended_of, ended_by}
-use Rattle.ob_vault.specs.Phases.{Shape, Fetches, Ends, answered, events_of_phases, shape_of, shapes, refused}
+use Rattle.ob_recover.specs.Telling.{ArePhasesMade}
+use Rattle.ob_recover.proofs.Dealing.{made_join, made_none}
+use Rattle.ob_vault.specs.Shapes.{Shape, Fetches, Ends, answered, shape_of, shapes, refused}
 use Rattle.ob_vault.specs.Kinds.{StoreKind, IsOpenedAt, opened_with}
 use Rattle.ob_vault.specs.KindLives.{LifeWords}
 use Rattle.ob_vault.specs.KindShown.{AreDrawn, IsSeenCut, public_behind, steps_phases}
 use Rattle.ob_vault.specs.Steps.{IsAnsweredCall, Stops, IsCallOfKind}
 use Rattle.ob_vault.specs.KindLaws.{AllAnswered}
-use Rattle.ob_vault.proofs.Shapes.{answered_join as answers_join, events_join, shapes_join, answered_not_refused, refused_last}
+use Rattle.ob_vault.proofs.Shapes.{answered_join as answers_join, shapes_join, answered_not_refused, refused_last}
 use Rattle.ob_script.specs.Script.{ScriptTxn, Scripts, AreSound, asks_by}
 use Rattle.ob_desk.specs.Desk.{DeskState, MayOpen, Run, new_desk}
 use Rattle.ob_conduct.specs.Acts.{Act, Says, Halts, Rests as Looked, Takes, Delivers, DeliverFails, FetchFails, Closes, Publishes, Refuses, Unprinted, calls, history, vault_calls, rest_fetches, fault_in, fault_told, records as records_of_acts}
@@ -78,9 +80,9 @@ all_answered ((End writes, Values values) ∷ steps) are = absurd are
 all_answered ((End writes, RefusedBy fault) ∷ steps) are = absurd are
 all_answered ((End writes, DoubtBy fault) ∷ steps) are = absurd are
 
-module _ {V S : Type 0} (k : Kind V) (store : StoreKind) (disk : S → Disk) (store_of : V → S) (under : Keys) (p : Params) (found : store.Found) (start : V) (At : store.Public → store.Hidden → List Shape → ℕ → V → Type 0) (tape_of : V → List ℕ)
+module _ {V S : Type 0} (k : Kind V) (store : StoreKind) (disk : S → Disk) (store_of : V → S) (under : Keys) (most : ℕ) (p : Params) (found : store.Found) (start : V) (At : store.Public → store.Hidden → List Shape → ℕ → V → Type 0) (tape_of : V → List ℕ)
     (does : (q : store.Public) (h : store.Hidden) (so_far : List Shape) (n : ℕ) (v : V) (call : VaultCall) (answer : VaultAnswer) (w : V) → At q h so_far n v → Called k v call answer w
-    → IsCallOfKind store under p found (disk (store_of start)) At (disk (store_of v)) (disk (store_of w)) (tape_of w) w q h so_far n call answer)
+    → IsCallOfKind store under most p found (disk (store_of start)) At (disk (store_of v)) (disk (store_of w)) (tape_of w) w q h so_far n call answer)
     (tells : (q : store.Public) (h : store.Hidden) (so_far : List Shape) (n : ℕ) (v : V) → At q h so_far n v → (fault : Option Fault) → store.is_of_tape p h None (tape_of v) fault) (life : LifeWords store)
     (at_rest : (calls : List VaultCall) (taken : List (Shape × store.Drawn)) (q : store.Public) (h : store.Hidden) (so_far : List Shape) (n : ℕ) (v : V) → AreDrawn store p (store.hidden p found) calls taken h → At q h so_far n v
     → life.goes_on under p found (disk (store_of start)) calls taken h None (tape_of v) (disk (store_of v)))
@@ -93,7 +95,7 @@ module _ {V S : Type 0} (k : Kind V) (store : StoreKind) (disk : S → Disk) (st
     pub kept : store.Hidden
     pub drawn : AreDrawn store p h (answered steps) taken kept
     pub at : At (public_behind store p q taken) kept (so_far ++ shapes steps) (n + length (ended_of steps)) last
-    pub seen : Notes (events_of_phases (steps_phases store p q taken)) (disk (store_of first)).seen (disk (store_of last)).seen
+    pub seen : ArePhasesMade most (steps_phases store p q taken) (disk (store_of first)).seen (disk (store_of last)).seen
 
   stays : (q : store.Public) (h : store.Hidden) (so_far : List Shape) (n : ℕ) (v : V) → At q h so_far n v → Behind q h so_far n v [] v
   stays q h so_far n v at = record {
@@ -102,7 +104,7 @@ module _ {V S : Type 0} (k : Kind V) (store : StoreKind) (disk : S → Disk) (st
     kept = h;
     drawn = refl;
     at = subst (λ (l : List Shape). At q h l (n + length {A = List (ℕ × Option (List ℕ))} []) v) (sym (append-nil so_far)) (subst (λ m. At q h so_far m v) (no_more n) at);
-    seen = none_noted _;
+    seen = made_none most _ _ (none_noted _);
   }
     where
       no_more : (m : ℕ) → m ≡ m + length {A = List (ℕ × Option (List ℕ))} []
@@ -111,7 +113,7 @@ module _ {V S : Type 0} (k : Kind V) (store : StoreKind) (disk : S → Disk) (st
   -- one call before them
   before_it : (q : store.Public) (h : store.Hidden) (so_far : List Shape) (n : ℕ) (first mid last : V) (call : VaultCall) (m : ℕ) (step : VaultCall × VaultAnswer) (steps : List (VaultCall × VaultAnswer)) → shapes (step ∷ steps) ≡ shape_of call ∷ shapes steps
       → answered (step ∷ steps) ≡ call ∷ answered steps
-      → m + length (ended_of steps) ≡ n + length (ended_of (step ∷ steps)) → (one : IsAnsweredCall store p At (disk (store_of first)) (disk (store_of mid)) mid q h so_far call m)
+      → m + length (ended_of steps) ≡ n + length (ended_of (step ∷ steps)) → (one : IsAnsweredCall store most p At (disk (store_of first)) (disk (store_of mid)) mid q h so_far call m)
       → Behind (store.next p q (shape_of call) one.drawn) one.behind (so_far ++ shape_of call ∷ []) m mid steps last
       → Behind q h so_far n first (step ∷ steps) last
   before_it q h so_far n first mid last call m step steps is are counts one b = record {
@@ -121,8 +123,7 @@ module _ {V S : Type 0} (k : Kind V) (store : StoreKind) (disk : S → Disk) (st
     drawn = subst (λ (l : List VaultCall). AreDrawn store p h l ((shape_of call, one.drawn) ∷ b.taken) b.kept) (sym are) (one.behind, one.draws, b.drawn);
     at = subst (λ (l : List Shape). At (public_behind store p q ((shape_of call, one.drawn) ∷ b.taken)) b.kept l (n + length (ended_of (step ∷ steps))) last) (append_assoc so_far (shape_of call ∷ []) (shapes steps) ∙ ap (λ (l : List Shape). so_far ++ l) (sym is))
         (subst (λ i. At (public_behind store p q ((shape_of call, one.drawn) ∷ b.taken)) b.kept ((so_far ++ shape_of call ∷ []) ++ shapes steps) i last) counts b.at);
-    seen = subst (λ (l : List Event). Notes l (disk (store_of first)).seen (disk (store_of last)).seen) (sym (events_join (store.phases p q (shape_of call) one.drawn) (steps_phases store p (store.next p q (shape_of call) one.drawn) b.taken)))
-        (joined (events_of_phases (store.phases p q (shape_of call) one.drawn)) (events_of_phases (steps_phases store p (store.next p q (shape_of call) one.drawn) b.taken)) _ _ _ one.seen b.seen);
+    seen = made_join most (store.phases p q (shape_of call) one.drawn) (steps_phases store p (store.next p q (shape_of call) one.drawn) b.taken) _ _ _ one.seen b.seen;
   }
 
   pub behind : (q : store.Public) (h : store.Hidden) (so_far : List Shape) (n : ℕ) (first : V) (steps : List (VaultCall × VaultAnswer)) (last : V) → At q h so_far n first → AllCalled k first steps last → AreAnswered steps → Behind q h so_far n first steps last
@@ -162,13 +163,13 @@ module _ {V S : Type 0} (k : Kind V) (store : StoreKind) (disk : S → Disk) (st
     -- How it ended, after these calls: why, what was written, and what was seen.
     pub record Ending (asked : List (VaultCall × VaultAnswer)) (fault : Option Fault) : Type 0 where
       pub events : List Event
-      pub traced : IsTraced store p (store.public p found) (store.hidden p found) (tape_of last) asked fault events
+      pub traced : IsTraced store most p (store.public p found) (store.hidden p found) (tape_of last) asked fault events
       pub cause : EndsFor store under p found (disk (store_of start)) traced.behind (shapes asked) (length records) (refused asked) (tape_of last) (disk (store_of first)) (disk (store_of last)) before after fault
       pub seen : Notes events (disk (store_of first)).seen (disk (store_of last)).seen
       pub goes_on : life.goes_on under p found (disk (store_of start)) (answered asked) traced.steps traced.behind (refused asked) (tape_of last) (disk (store_of last))
 
-    none_cut : (q : store.Public) (h : store.Hidden) (one : Option VaultCall) (fault : Option Fault) → one ≡ None → IsSeenCut store p q h one (tape_of last) fault []
-    none_cut q h one fault is = subst (λ (o : Option VaultCall). IsSeenCut store p q h o (tape_of last) fault []) (sym is) refl
+    none_cut : (q : store.Public) (h : store.Hidden) (one : Option VaultCall) (fault : Option Fault) → one ≡ None → IsSeenCut store most p q h one (tape_of last) fault []
+    none_cut q h one fault is = subst (λ (o : Option VaultCall). IsSeenCut store most p q h o (tape_of last) fault []) (sym is) refl
 
     -- no call was refused
     ends_alone : (asked : List (VaultCall × VaultAnswer)) → AllCalled k first asked last → AreAnswered asked → (fault : Option Fault) →
@@ -179,7 +180,7 @@ module _ {V S : Type 0} (k : Kind V) (store : StoreKind) (disk : S → Disk) (st
         let none : refused asked ≡ None = answered_not_refused asked (all_answered asked all) in
         record {
           cause = cause b.kept;
-          events = events_of_phases (steps_phases store p (store.public p found) b.taken) ++ [];
+          events = b.seen.events ++ [];
           traced = record {
             steps = b.taken;
             shapes_are = b.shapes_are;
@@ -187,13 +188,15 @@ module _ {V S : Type 0} (k : Kind V) (store : StoreKind) (disk : S → Disk) (st
             drawn = b.drawn;
             of_tape = subst (λ (o : Option VaultCall). store.is_of_tape p b.kept o (tape_of last) fault) (sym none)
                 (tells (public_behind store p (store.public p found) b.taken) b.kept (shapes asked) (0 + length (ended_of asked)) last b.at fault);
+            first = b.seen.events;
+            dealt = b.seen.dealt;
             more = [];
             cut = none_cut (public_behind store p (store.public p found) b.taken) b.kept (refused asked) fault none;
             events_are = refl;
           };
           goes_on = subst (λ (o : Option VaultCall). life.goes_on under p found (disk (store_of start)) (answered asked) b.taken b.kept o (tape_of last) (disk (store_of last))) (sym none)
               (at_rest (answered asked) b.taken (public_behind store p (store.public p found) b.taken) b.kept (shapes asked) (0 + length (ended_of asked)) last b.drawn b.at);
-          seen = subst (λ (l : List Event). Notes l (disk (store_of first)).seen (disk (store_of last)).seen) (sym (append-nil (events_of_phases (steps_phases store p (store.public p found) b.taken)))) b.seen;
+          seen = subst (λ (l : List Event). Notes l (disk (store_of first)).seen (disk (store_of last)).seen) (sym (append-nil b.seen.events)) b.seen.noted;
         }
 
     module _ (faults : (v : V) → (k.disk v).faults ≡ (disk (store_of v)).faults) where
@@ -201,7 +204,7 @@ module _ {V S : Type 0} (k : Kind V) (store : StoreKind) (disk : S → Disk) (st
       rises rose = subst (λ n. Rose (disk (store_of first)).faults n) (faults last) (subst (λ n. Rose n (k.disk last).faults) (faults first) rose)
 
       -- the vault refused a call
-      cause_of : (so_far : List Shape) (n : ℕ) (call : VaultCall) (fault : Fault) (mid : V) (q : store.Public) (h : store.Hidden) → Stops store under p found (disk (store_of start)) (disk (store_of mid)) (disk (store_of last)) (tape_of last) q h so_far n call
+      cause_of : (so_far : List Shape) (n : ℕ) (call : VaultCall) (fault : Fault) (mid : V) (q : store.Public) (h : store.Hidden) → Stops store under most p found (disk (store_of start)) (disk (store_of mid)) (disk (store_of last)) (tape_of last) q h so_far n call
           fault → so_far ≡ so_far → n ≡ length records
           → (IsStoreFault fault → Rose (k.disk first).faults (k.disk last).faults) → EndsFor store under p found (disk (store_of start)) h so_far (length records) (Some call) (tape_of last) (disk (store_of first)) (disk (store_of last)) before after (Some fault)
       cause_of so_far n call (StoreFault unsure) mid q h s same is rose = (rises (rose tt), subst (λ m. (unsure ≡ None) ⊎ (unsure ≡ Some (suc (store.epoch found + m)))) is s.why)
@@ -219,7 +222,7 @@ module _ {V S : Type 0} (k : Kind V) (store : StoreKind) (disk : S → Disk) (st
       -- a last call was refused with this fault, behind others that were answered
       cut_short : (front : List (VaultCall × VaultAnswer)) (call : VaultCall) (answer : VaultAnswer) (fault : Fault) → AllCalled k first (front ++ (call, answer) ∷ []) last → AreAnswered front → AreWritten (ended_of front) records
           → refused ((call, answer) ∷ []) ≡ Some call → shapes ((call, answer) ∷ []) ≡ [] → answered ((call, answer) ∷ []) ≡ []
-          → ((q : store.Public) (h : store.Hidden) (so_far : List Shape) (n : ℕ) (v : V) (w : V) → At q h so_far n v → Called k v call answer w → Stops store under p found (disk (store_of start)) (disk (store_of v)) (disk (store_of w)) (tape_of w) q h so_far n call fault)
+          → ((q : store.Public) (h : store.Hidden) (so_far : List Shape) (n : ℕ) (v : V) (w : V) → At q h so_far n v → Called k v call answer w → Stops store under most p found (disk (store_of start)) (disk (store_of v)) (disk (store_of w)) (tape_of w) q h so_far n call fault)
           → (IsStoreFault fault → Rose (k.disk first).faults (k.disk last).faults) → Ending (front ++ (call, answer) ∷ []) (Some fault)
       cut_short front call answer fault chain all wrote is none none_answered stops cause =
           let (mid, before_last, one) = split first front call answer last chain in
@@ -233,21 +236,23 @@ module _ {V S : Type 0} (k : Kind V) (store : StoreKind) (disk : S → Disk) (st
             cause = subst (λ (l : List Shape). EndsFor store under p found (disk (store_of start)) b.kept l (length records) (refused (front ++ (call, answer) ∷ [])) (tape_of last) (disk (store_of first)) (disk (store_of last)) before after (Some fault)) (sym as_front)
                 (subst (λ (o : Option VaultCall). EndsFor store under p found (disk (store_of start)) b.kept (shapes front) (length records) o (tape_of last) (disk (store_of first)) (disk (store_of last)) before after (Some fault)) (sym was_cut)
                 (cause_of (shapes front) (0 + length (ended_of front)) call fault mid q b.kept s refl (none_before (length (ended_of front)) ∙ counted (ended_of front) records wrote) cause));
-            events = events_of_phases (steps_phases store p (store.public p found) b.taken) ++ s.more;
+            events = b.seen.events ++ s.more;
             traced = record {
               steps = b.taken;
               shapes_are = b.shapes_are ∙ sym as_front;
               behind = b.kept;
               drawn = subst (λ (l : List VaultCall). AreDrawn store p (store.hidden p found) l b.taken b.kept) (sym calls_front) b.drawn;
               of_tape = subst (λ (o : Option VaultCall). store.is_of_tape p b.kept o (tape_of last) (Some fault)) (sym was_cut) s.of_tape;
+              first = b.seen.events;
+              dealt = b.seen.dealt;
               more = s.more;
-              cut = subst (λ (o : Option VaultCall). IsSeenCut store p q b.kept o (tape_of last) (Some fault) s.more) (sym was_cut) s.cut;
+              cut = subst (λ (o : Option VaultCall). IsSeenCut store most p q b.kept o (tape_of last) (Some fault) s.more) (sym was_cut) s.cut;
               events_are = refl;
             };
             goes_on = subst (λ (l : List VaultCall). life.goes_on under p found (disk (store_of start)) l b.taken b.kept (refused (front ++ (call, answer) ∷ [])) (tape_of last) (disk (store_of last))) (sym calls_front)
                 (subst (λ (o : Option VaultCall). life.goes_on under p found (disk (store_of start)) (answered front) b.taken b.kept o (tape_of last) (disk (store_of last))) (sym was_cut)
                 (at_stop (answered front) b.taken q b.kept (shapes front) (0 + length (ended_of front)) mid b.drawn b.at call answer last one));
-            seen = joined (events_of_phases (steps_phases store p (store.public p found) b.taken)) s.more _ _ _ b.seen s.seen;
+            seen = joined b.seen.events s.more _ _ _ b.seen.noted s.seen;
           }
         where
           none_before : (m : ℕ) → 0 + m ≡ m
@@ -313,7 +318,7 @@ module _ {V S : Type 0} (k : Kind V) (store : StoreKind) (disk : S → Disk) (st
     pub faults : (v : V) → (k.disk v).faults ≡ (disk (store_of v)).faults
     pub goes : (v w : V) → GoesOn (k.disk v) (k.disk w) → GoesOn (disk (store_of v)) (disk (store_of w))
     pub since : (a b : V) (P : Image → Type 0) → LeavesOnly (k.disk a) (k.disk b) P → LeavesOnly (disk (store_of a)) (disk (store_of b)) P
-    pub now : (v : V) (c : Image) → (disk (store_of v)).may_leave c → (k.disk v).may_leave c
+    pub now : (v : V) (c : Image) → IsImageOf (disk (store_of v)) c → IsImageOf (k.disk v) c
     pub stands : (c : Image) (at : Standing) → k.stands start c at → store.stands under p (store.generation found) c at
     pub only : OnlyNow k
     pub rests : Rests k
@@ -420,12 +425,12 @@ module _ {V S : Type 0} (k : Kind V) (store : StoreKind) (disk : S → Disk) (st
 
       -- the trace, what goes on in the life with its steps, and why it ended there
       abbrev TracesLife : List Act → List Event → Type 0
-      TracesLife xs events = (t : IsTraced store p (store.public p found) (store.hidden p found) (tape_of last) (calls xs) (fault_of result) events)
+      TracesLife xs events = (t : IsTraced store most p (store.public p found) (store.hidden p found) (tape_of last) (calls xs) (fault_of result) events)
           × life.goes_on under p found (disk (store_of start)) (answered (calls xs)) t.steps t.behind (refused (calls xs)) (tape_of last) (disk (store_of last))
           × EndsFor store under p found (disk (store_of start)) t.behind (shapes (calls xs)) (length records) (refused (calls xs)) (tape_of last) (disk (store_of start)) (disk (store_of last)) before after (fault_of result)
 
       -- what serving does
-      pub serves : At (store.public p found) (store.hidden p found) [] 0 start → ServedOver store life disk (manner beat threads) under p found sealing script (tape_of last) (store_of start) (store_of last) before after (fault_of result)
+      pub serves : At (store.public p found) (store.hidden p found) [] 0 start → ServedOver store life disk (manner beat threads most) under p found sealing script (tape_of last) (store_of start) (store_of last) before after (fault_of result)
       serves begun =
           let e = ending start last before after records begun l.faults acts refl chain d.wrote base end.scene.desk trace end.scene.trace runners end.runners result d.ends in
           let told = subst (λ (xs : List Act). TracesLife xs e.events) acts_are (e.traced, e.goes_on, e.cause) in
@@ -462,7 +467,7 @@ module _ {V S : Type 0} (k : Kind V) (store : StoreKind) (disk : S → Disk) (st
       → map kind.client runners ≡ script.clients → All (λ u. kind.plan u ≡ asks_by (kind.client u) script.txns) runners → epoch ≡ store.epoch found → left ≡ store.left p found
       → RunsBy threads k kind beat (run_state (scene (new_desk (record { params = p }) (suc epoch) left script.clients) start trace) runners before) end result
       → IsLender sealing → At (store.public p found) (store.hidden p found) [] 0 start
-      → ServedOver store life disk (manner beat threads) under p found sealing script (tape_of end.scene.vault) (store_of start) (store_of end.scene.vault) before end.output (fault_of result)
+      → ServedOver store life disk (manner beat threads most) under p found sealing script (tape_of end.scene.vault) (store_of start) (store_of end.scene.vault) before end.output (fault_of result)
   serves_on beat threads kind means sealing script sound may trace runners before end result epoch left named planned epoch_is left_is run l begun =
       let run_is = subst (λ n. RunsBy threads k kind beat (run_state (scene (new_desk (record { params = p }) (suc (store.epoch found)) n script.clients) start trace) runners before) end result) left_is
       (subst (λ e. RunsBy threads k kind beat (run_state (scene (new_desk (record { params = p }) (suc e) left script.clients) start trace) runners before) end result) epoch_is run) in

@@ -76,7 +76,7 @@ module _ {S : Type 0} (disk : S → Disk) (beat : BeatKind) (drawn : List ℕ) (
   DoesWhatItCan old new =
       (CanFormat words text (disk old) (disk new) before after → (status ≡ 0) ⊎ (status ≡ 9))
       × ((script : Scripts) (can : CanRun words text (disk old) (disk new) before after ring_kind script) → (status ≡ 0)
-      ⊎ ((status ≡ 9) ⊎ StopsFull (manner beat (not can.turns)) can.keys can.p old new))
+      ⊎ ((status ≡ 9) ⊎ StopsFull (manner beat (not can.turns) can.k) can.keys can.p old new))
 
   abbrev pub Completes : Option (MutBor S) → Left S → Type 0
   Completes entry exit = OfStore entry exit (Unit {0}) DoesWhatItCan

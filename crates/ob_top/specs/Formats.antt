@@ -18,6 +18,7 @@ use Rattle.ob_vault.specs.Kinds.{StoreKind}
 use Rattle.ob_vault.specs.Formats.{MakesEmpty}
 use Rattle.ob_vault.specs.KindLives.{LifeWords}
 use Rattle.ob_top.specs.Outside.{Outside}
+use Rattle.ob_top.specs.Sound.{IsSound}
 
 -- An empty store was made, and a life of it begins. Its cells are told where they were.
 pub record IsFormatted (store : StoreKind) (life : LifeWords store) {S : Type 0} (disk : S → Disk) (keys : Keys) (p : Params) (old new : S) : Type 0 where
@@ -53,3 +54,5 @@ module _ (store : StoreKind) (life : LifeWords store) {S : Type 0} (disk : S →
     pub told : FormatTold keys p old new before.output after.output fault
     -- A crash at any moment leaves what is no store, or a torn head; or, behind the last sync, the empty store.
     pub left : (disk old).tells → LeavesOnly (disk old) (disk new) (store.format_leaves keys p (disk old))
+    -- At status 0 the next call finds a store that stands.
+    pub sound : status ≡ 0 → (disk old).tells → IsSound store keys p (disk new)

@@ -15,12 +15,14 @@ use Rattle.ob_report.specs.Report.{report}
 use Rattle.ob_store.specs.declared.event.Event.{Event}
 use Rattle.ob_store.specs.declared.event.Event.TheVariants as event
 use Rattle.ob_store.specs.Disk.{Disk, Image}
-use Rattle.ob_store.specs.Images.{IsSynced, LeavesOnly, Passes, Same}
+use Rattle.ob_store.specs.Images.{IsImageOf, IsSynced, LeavesOnly, Passes, Same}
 use Rattle.ob_store.specs.Calls.{GoesOn, Keeps, Notes, IsStoreFault, NotesReads}
 use Rattle.ob_serial.specs.Serial.{EpochRecord, Map, OneByOne, AreInOrder, committed_of}
 use Rattle.ob_serial.specs.Vaults.{VaultCall, VaultAnswer, VaultState, Standing, StandsIn}
+use Rattle.ob_schedule.specs.Phases.{Phase, Reads}
+use Rattle.ob_recover.specs.Telling.{AreDealt, ArePhasesMade}
 use Rattle.ob_pads.specs.Lives.{Opens, LivesOn}
-use Rattle.ob_vault.specs.Phases.{Reads, Shape, answered, events_of_phases, shapes, refused}
+use Rattle.ob_vault.specs.Shapes.{Shape, answered, shapes, refused}
 use Rattle.ob_vault.specs.KindLives.{LifeWords}
 use Rattle.ob_vault.specs.Openings.{OpensStanding}
 use Rattle.ob_vault.specs.Kinds.{StoreKind, Stands, AllStand, StandsAsBefore, IsOpenedAt, opened_with}
@@ -36,24 +38,28 @@ use Rattle.ob_run.specs.Threaded.{AreShaped}
 use Rattle.ob_outcomes.specs.Served.{IsServed, ClientsServed, ClientsServedAll}
 use Rattle.ob_top.specs.Endings.{IsNextBy, LinesStand}
 use Rattle.ob_top.specs.Outside.{Outside, LineTold}
+use Rattle.ob_top.specs.Sound.{StandsOn}
 
--- What is seen of the opening: the head's read, and the order that the kind of store gives.
-abbrev pub begin_events : (store : StoreKind) → Params → store.Found → store.Start → List Event
-begin_events store p found start = events_of_phases (Reads (0 ∷ []) ∷ store.opens p found start)
+-- The phases of the opening: the head's read, and the order that the kind of store gives.
+abbrev pub begin_phases : (store : StoreKind) → Params → store.Found → store.Start → List Phase
+begin_phases store p found start = Reads (0 ∷ []) ∷ store.opens p found start
 
--- What is seen of serving: the phases of the vault's calls, and of one that was refused what its fault allows. It depends on the parameters,
--- on what is public of the vault, on how the calls follow one another, and on what they draw; on no key, no value and no write. What they
--- draw is, call by call, what is to be drawn behind the calls before it; and its words, with those of a call that was refused, are those that
--- the tape has given.
-pub record IsTraced (store : StoreKind) (p : Params) (q : store.Public) (h : store.Hidden) (words : List ℕ) (asked : List (VaultCall × VaultAnswer)) (fault : Option Fault) (events : List Event) : Type 0 where
+-- What is seen of serving: the phases of the vault's calls, one behind the other, each one's reads dealt to so many lanes at most, and of a
+-- call that was refused what its fault allows. The phases depend on the parameters, on what is public of the vault, on how the calls follow
+-- one another, and on what they draw; on no key, no value and no write. What they draw is, call by call, what is to be drawn behind the
+-- calls before it; and its words, with those of a call that was refused, are those that the tape has given.
+pub record IsTraced (store : StoreKind) (most : ℕ) (p : Params) (q : store.Public) (h : store.Hidden) (words : List ℕ) (asked : List (VaultCall × VaultAnswer)) (fault : Option Fault) (events : List Event) : Type 0 where
   pub steps : List (Shape × store.Drawn)
   pub shapes_are : map (λ s. s.0) steps ≡ shapes asked
   pub behind : store.Hidden
   pub drawn : AreDrawn store p h (answered asked) steps behind
   pub of_tape : store.is_of_tape p behind (refused asked) words fault
+  -- what is seen of the calls that were answered
+  pub first : List Event
+  pub dealt : AreDealt most (steps_phases store p q steps) first
   pub more : List Event
-  pub cut : IsSeenCut store p (public_behind store p q steps) behind (refused asked) words fault more
-  pub events_are : events ≡ events_of_phases (steps_phases store p q steps) ++ more
+  pub cut : IsSeenCut store most p (public_behind store p q steps) behind (refused asked) words fault more
+  pub events_are : events ≡ first ++ more
 
 -- a script came in
 pub record CameIn (keys : ℕ) (before : Flow) (script : Scripts) : Type 0 where
@@ -69,7 +75,7 @@ IsInputRefused keys before after SourceFault = Rose before.faults after.faults
 IsInputRefused keys before after (BadScript line) = (input : List ℕ) × IsInput before.bytes limit input × IsFirstBad keys input line
 IsInputRefused keys before after _ = ⊥
 
-module _ (store : StoreKind) (life : LifeWords store) (keys : Keys) (old new : Disk) where
+module _ (store : StoreKind) (life : LifeWords store) (keys : Keys) (most : ℕ) (old new : Disk) where
   -- The head was refused: all that was done is to read it.
   pub record StopsAtHead (before after : Flow) (fault : Fault) : Type 0 where
     pub untouched : after ≡ before
@@ -101,7 +107,7 @@ module _ (store : StoreKind) (life : LifeWords store) (keys : Keys) (old new : D
     pub kind : store.open_fault fault
     pub read : old.tells → store.refuses keys p old.cells fault
     pub cause : IsStoreFault fault → Rose old.faults new.faults
-    pub seen : store.opens_partly keys p old new fault
+    pub seen : store.opens_partly keys most p old new fault
     -- unless it may have begun the next generation, no cell is written, and a crash leaves what it might have left before
     pub unwritten : (store.may_begin fault → ⊥) → Keeps old new × Passes Same old new
     -- each image that a crash leaves stands as one did before; and from the first sync on for what the store stood for
@@ -137,13 +143,15 @@ abbrev pub EndsWith : Option Fault → List Act → DeskState → Type 0
 EndsWith None acts desk = IsOver desk
 EndsWith (Some fault) acts desk = ((fault ≡ Memory) × (acts ≡ [])) ⊎ ((front : List Act) × (act : Act) × (behind : List Act) × (acts ≡ front ++ act ∷ behind) × All IsSaid behind × (fault_told act ≡ Some fault))
 
--- How a run goes: at which looks its driver may act, and whether its clients have threads of their own.
+-- How a run goes: at which looks its driver may act, whether its clients have threads of their own, and how many lanes may share a
+-- phase's reads.
 pub record Manner : Type 0 where
   pub beat : BeatKind
   pub threads : Bool
+  pub lanes : ℕ
 
-abbrev pub manner : BeatKind → Bool → Manner
-manner beat threads = record { beat = beat; threads = threads }
+abbrev pub manner : BeatKind → Bool → ℕ → Manner
+manner beat threads lanes = record { beat = beat; threads = threads; lanes = lanes }
 
 -- A script was served over a store that was opened so, all of each client's part where there was no fault. The committed transactions
 -- ran one by one from the map that was found, in the order of their epochs and tickets.
@@ -203,7 +211,7 @@ module _ (store : StoreKind) (keys : Keys) (p : Params) (found : store.Found) (a
       pub closed : IsClosedNext next
       pub since : LeavesOnly old new (StandsNow (IsLeftStanding held records next))
       pub stages : StagedFrom disk at records next old new
-      pub now : (c : Image) → new.may_leave c → StandsNow (IsLeftNow held records next IsDoubt) c
+      pub now : (c : Image) → IsImageOf new c → StandsNow (IsLeftNow held records next IsDoubt) c
 
     -- What a crash leaves of a whole run: of the opening, from old to opened, and of serving, from then on to new.
     pub record LeftByWholeRun {S : Type 0} (disk : S → Disk) (old opened new : Disk) : Type 0 where
@@ -216,8 +224,8 @@ module _ (store : StoreKind) (keys : Keys) (p : Params) (found : store.Found) (a
       pub stages : StagedFrom disk at records next opened new
       -- so one of them at any moment of the call;
       pub since : LeavesOnly old new (λ c. StandsAsBefore store keys p old c ⊎ StandsNow (IsLeftStanding held records next) c)
-      -- and at its return
-      pub now : (c : Image) → new.may_leave c → StandsNow (IsLeftNow held records next IsDoubt) c
+      -- and at its return, what reads give as well, where they are told
+      pub now : (c : Image) → IsImageOf new c → StandsNow (IsLeftNow held records next IsDoubt) c
 
 -- The head was read, and then the store was opened with this sealer.
 pub record IsReadAndOpened {S : Type 0} (disk : S → Disk) (keys : Keys) (old new : S) (sealing : Sealing) : Type 0 where
@@ -237,7 +245,7 @@ pub record ServedOver (store : StoreKind) (life : LifeWords store) {S : Type 0} 
   pub whole : ℕ
   pub lines : LinesStand fault records whole before after
   pub events : List Event
-  pub traced : IsTraced store p (store.public p found) (store.hidden p found) words (calls is_served.served.acts) fault events
+  pub traced : IsTraced store by.lanes p (store.public p found) (store.hidden p found) words (calls is_served.served.acts) fault events
   pub cause : EndsFor store keys p found (disk old) traced.behind (shapes (calls is_served.served.acts)) (length records) (refused (calls is_served.served.acts)) words (disk old) (disk new) before after fault
   pub seen : Notes events (disk old).seen (disk new).seen
   pub goes : GoesOn (disk old) (disk new)
@@ -261,11 +269,11 @@ module _ (store : StoreKind) (life : LifeWords store) {S : Type 0} (disk : S →
     pub is_served : ScriptServed store by keys p (disk between) found script records fault
     -- the trace is that of the opening, and then that of the vault's calls
     pub events : List Event
-    pub traced : IsTraced store p (store.public p found) (store.hidden p found) words (calls is_served.served.acts) fault events
+    pub traced : IsTraced store by.lanes p (store.public p found) (store.hidden p found) words (calls is_served.served.acts) fault events
     pub cause : EndsFor store keys p found (disk between) traced.behind (shapes (calls is_served.served.acts)) (length records) (refused (calls is_served.served.acts)) words (disk old) (disk new) before.output after.output fault
-    pub seen : Notes (begin_events store p found start ++ events) (disk old).seen (disk new).seen
-    pub opening_seen : Notes (begin_events store p found start) (disk old).seen (disk between).seen
+    pub opening_seen : ArePhasesMade by.lanes (begin_phases store p found start) (disk old).seen (disk between).seen
     pub serving_seen : Notes events (disk between).seen (disk new).seen
+    pub seen : Notes (opening_seen.events ++ events) (disk old).seen (disk new).seen
     pub opens : OpensStanding store disk keys p (disk old) (disk between)
     -- unless there was a fault, cells are told where they were
     pub tells : fault ≡ None → (disk old).tells → (disk new).tells
@@ -285,7 +293,7 @@ module _ (store : StoreKind) (life : LifeWords store) {S : Type 0} (disk : S →
   abbrev pub Went : Keys → S → S → Outside → Outside → List (EpochRecord ℕ) → Option Fault → Type 0
   Went keys old new before after records None = Ran keys old new before after records None
   Went keys old new before after records (Some fault) =
-      ((records ≡ []) × EndsEarly store life keys (disk old) (disk new) disk before.input after.input fault × ((disk new).tells → LivesOn disk keys old new [])) ⊎ Ran keys old new before after records (Some fault)
+      ((records ≡ []) × EndsEarly store life keys by.lanes (disk old) (disk new) disk before.input after.input fault × ((disk new).tells → LivesOn disk keys old new [])) ⊎ Ran keys old new before after records (Some fault)
 
   -- What it comes to before the fault's line is written.
   pub record RunOn (keys : Keys) (old new : S) (before after : Outside) (fault : Option Fault) : Type 0 where
@@ -294,6 +302,7 @@ module _ (store : StoreKind) (life : LifeWords store) {S : Type 0} (disk : S →
     pub whole : ℕ
     pub lines : LinesStand fault records whole before.output after.output
     pub went : Went keys old new before after records fault
+    pub sound : StandsOn store disk keys old new
 
   -- What `run` has done with a store that was handed in.
   pub record RunDone (keys : Keys) (old new : S) (before after : Outside) (status : ℕ) : Type 0 where
@@ -311,3 +320,4 @@ module _ (store : StoreKind) (life : LifeWords store) {S : Type 0} (disk : S →
     pub lines : LinesStand fault records whole before.output written
     pub line : LineTold written after.output fault
     pub went : Went keys old new before after records fault
+    pub sound : StandsOn store disk keys old new

@@ -40,7 +40,7 @@ CommandDoes disk beat drawn words text old new before after fault =
     ((f : Fault) × (fault ≡ Some f) × IsRefusedBefore words text f × (new ≡ old) × (after ≡ before))
     ⊎ ((keys : Keys) × HasKeys text keys × (((p : Params) × Asks words (Format p) × FormatEnds ring_kind ring_lives disk keys p old new before.output after.output fault
     × ((disk old).tells → LeavesOnly (disk old) (disk new) (ring_kind.format_leaves keys p (disk old))) × (after.input ≡ before.input))
-    ⊎ ((k : ℕ) × (turns : Bool) × Asks words (Run k turns) × RunOn ring_kind ring_lives disk (manner beat (not turns)) drawn keys old new before after fault)))
+    ⊎ ((k : ℕ) × (turns : Bool) × Asks words (Run k turns) × RunOn ring_kind ring_lives disk (manner beat (not turns) k) drawn keys old new before after fault)))
 
 module _ {S : Type 0} (disk : S → Disk) (beat : BeatKind) (words : List (List ℕ)) (text : Option (Bor (List ℕ))) (entry : Option (MutBor S)) (exit : Left S) (before after : Outside) (status : ℕ) where
   -- a store that was handed in is as it was
@@ -74,10 +74,11 @@ module _ {S : Type 0} (disk : S → Disk) (beat : BeatKind) (words : List (List 
       ⊎ ((keys : Keys) × HasKeys text keys × OfStore entry exit (IsOnlyTold (StoreFault None) before after status) (λ old new. FormatDone ring_kind ring_lives disk keys p old new before after status)))))
 
   -- `run`: want of memory for the words is told, then lanes out of their range, then what is wrong with the keys, then that there is no
-  -- store, before anything is touched. With `--turns` all clients are made by hand. Behind it the tape has given these words.
+  -- store, before anything is touched. With `--turns` all clients are made by hand; so many lanes share a phase's reads. Behind it the tape
+  -- has given these words.
   abbrev pub RunDoes : (drawn : List ℕ) → Type 0
   RunDoes drawn = (store_path keys_path : List ℕ) (lanes : Option (List ℕ)) (turns : Bool) → asked_by words ≡ Some (run_asked store_path keys_path lanes turns) →
       Refuses Memory
       ⊎ ((AreBadLanes lanes × Refuses (BadParams LANES))
       ⊎ ((k : ℕ) × AreLanes lanes k × (KeysDo
-      ⊎ ((keys : Keys) × HasKeys text keys × OfStore entry exit (IsOnlyTold (StoreFault None) before after status) (λ old new. RunDone ring_kind ring_lives disk (manner beat (not turns)) drawn keys old new before after status)))))
+      ⊎ ((keys : Keys) × HasKeys text keys × OfStore entry exit (IsOnlyTold (StoreFault None) before after status) (λ old new. RunDone ring_kind ring_lives disk (manner beat (not turns) k) drawn keys old new before after status)))))

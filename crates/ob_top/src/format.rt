@@ -16,6 +16,7 @@ use ob_report::size_text;
 use ob_seal::{Keys, Tape};
 use ob_store::{Blind, Store};
 use std::alloc::Global;
+use std::thread::Threads;
 
 /// Makes an empty store of these parameters, and then tells how many cells it has. The tape, which
 /// wasn't started, gives the order of its slots.
@@ -23,7 +24,8 @@ use std::alloc::Global;
 /// # Errors
 /// Memory was wanting, and nothing was done; the store failed, and nothing is written to the
 /// output; or the output failed, and a front of the line is.
-pub fn format_on<S: Store, T: Tape, O: Sink>(
+pub fn format_on<R: Threads + Sync, S: Store, T: Tape, O: Sink>(
+    rt: &R,
     alloc: Global,
     store: &mut S,
     tape: &mut T,
@@ -41,7 +43,7 @@ pub fn format_on<S: Store, T: Tape, O: Sink>(
         → LeavesOnly (S.disk store.old) (S.disk store.new)
         (ring_kind.format_leaves keys.now params.now (S.disk store.old)) }
 {
-    match format(alloc, store, tape, keys, params, &mut Blind) {
+    match format(rt, alloc, store, tape, keys, params, &mut Blind) {
         Ok(()) => {}
         Err(fault) => return Err(fault),
     }

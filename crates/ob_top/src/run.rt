@@ -13,7 +13,7 @@ ghost use Rattle.ob_recover.specs.declared.found.Found.{Found};
 ghost use Rattle.ob_vault.specs.RingKind.{GoesOnFrom, RingFound, ring_kind};
 ghost use Rattle.ob_vault.specs.Lives.{ring_lives};
 ghost use Rattle.ob_vault.specs.RingVaults.{HasPlanned, run_over};
-ghost use Rattle.ob_top.specs.Begun.{IsBegun, MayServe};
+ghost use Rattle.ob_top.specs.Begun.{AreFewLanes, IsBegun, MayServe};
 ghost use Rattle.ob_desk.specs.Desk.{DeskState, MayOpen, new_desk};
 ghost use Rattle.ob_desk.specs.Beats.{beat_kind};
 ghost use Rattle.ob_script.specs.Script.{AreSound};
@@ -30,6 +30,7 @@ ghost use Rattle.ob_top.specs.Outside.{outside};
 use ob_base::{Fault, Memory, Params};
 use ob_desk::{Beat, Desk};
 use ob_io::{ReadErr, Sink, Source, read_all};
+use ob_lanes::Lanes;
 use ob_opening::{Opening, prepare};
 use ob_recover::head;
 use ob_run::run;
@@ -37,11 +38,20 @@ use ob_runner::{ScriptRunner, runners};
 use ob_script::{LIMIT, Scripts, parse};
 use ob_seal::{Keys, Tape};
 use ob_serial::Vault;
-use ob_store::{Blind, Store, Watch};
+use ob_store::{Blind, Watch};
 use ob_vault::RingVault;
 use std::alloc::Global;
 use std::sync::Wait;
 use std::thread::Threads;
+
+/// How a run goes.
+#[derive(Clone, Copy)]
+pub struct Means {
+    /// The most lanes that share a phase's reads, from 1 to 16.
+    pub lanes: u32,
+    /// Whether clients have threads of their own.
+    pub threads: bool,
+}
 
 // A run of which all is ready: the store's parameters, the script, what makes its clients' calls,
 // and what opening found.
@@ -69,19 +79,22 @@ fn read_script<I: Source>(alloc: Global, input: &mut I, keys: u32) -> Result<Scr
     parse(alloc, &bytes, keys)
 }
 
-// Reads the head, then the script, and then opens the store.
-fn begin<S: Store, T: Tape, I: Source>(
+// Reads the head, then the script, and then opens the store, for so many lanes.
+fn begin<R: Threads + Sync, S: Lanes, T: Tape, I: Source>(
+    rt: &R,
     alloc: Global,
     store: &mut S,
     tape: &mut T,
     keys: &Keys,
     input: &mut I,
+    lanes: u32,
 ) -> Result<Begun<S::Lane>, Fault>
     requires none_out { (S.disk store.old).out ≡ 0 }
     requires unstarted { T.present tape.old ≡ 0 }
+    requires lanes { AreFewLanes lanes }
     ensures none_out { (S.disk store.new).out ≡ 0 }
     ensures goes { GoesOn (S.disk store.old) (S.disk store.new) }
-    ensures serves { IfOk result (λ begun. MayServe begun.params (S.disk store.new)
+    ensures serves { IfOk result (λ begun. MayServe lanes begun.params (S.disk store.new)
         (T.present tape.new) (T.drawn tape.new) begun.opening) }
     ensures sealer { IfOk result (λ begun. begun.opening.sealer.next ≡ 0) }
     ensures sound { IfOk result (λ begun. AreSound begun.scripts) }
@@ -98,10 +111,10 @@ fn begin<S: Store, T: Tape, I: Source>(
         (λ begun. OpensStanding ring_kind S.disk keys.now begun.params (S.disk store.old)
         (S.disk store.new)) }
     ensures begun { IfOk result (λ begun. (f : RingFound) × (f.run ≡ run_over begun.opening)
-        × IsBegun keys.now begun.params begun.scripts (S.disk store.old) (S.disk store.new)
+        × IsBegun keys.now lanes begun.params begun.scripts (S.disk store.old) (S.disk store.new)
         (inflow I.Source input.old) f) }
     ensures refused { IfErr result
-        (λ fault. EndsEarly ring_kind ring_lives keys.now (S.disk store.old) (S.disk store.new)
+        (λ fault. EndsEarly ring_kind ring_lives keys.now lanes (S.disk store.old) (S.disk store.new)
         S.disk (inflow I.Source input.old) (inflow I.Source input.new) fault) }
     ensures opens { IfOk result (λ begun. IsReadAndOpened S.disk keys.now store.old store.new
         begun.opening.sealer) }
@@ -120,7 +133,16 @@ fn begin<S: Store, T: Tape, I: Source>(
         Ok(runners) => runners,
         Err(Memory) => return Err(Fault::Memory),
     };
-    match prepare(alloc, store, tape, keys, &params, 1, &mut Blind) {
+    match prepare(
+        rt,
+        alloc,
+        store,
+        tape,
+        keys,
+        &params,
+        lanes as usize,
+        &mut Blind,
+    ) {
         Ok(opening) => Ok(Begun {
             params,
             scripts,
@@ -193,7 +215,7 @@ fn hand_back<S, T>(store: &mut S, tape: &mut T)
 {}
 
 // Runs the script over the store that was opened.
-fn serve_on<R: Threads + Wait + Sync, S: Store, T: Tape, O: Sink, B: Beat>(
+fn serve_on<R: Threads + Wait + Sync, S: Lanes, T: Tape, O: Sink, B: Beat>(
     rt: &R,
     alloc: Global,
     store: &mut S,
@@ -202,10 +224,11 @@ fn serve_on<R: Threads + Wait + Sync, S: Store, T: Tape, O: Sink, B: Beat>(
     begun: Begun<S::Lane>,
     output: &mut O,
     beat: &mut B,
-    threads: bool,
+    means: Means,
 ) -> Result<(), Fault>
     requires none_out { (S.disk store.old).out ≡ 0 }
-    requires serves { MayServe begun.params (S.disk store.old) (T.present tape.old)
+    requires lanes { AreFewLanes means.lanes }
+    requires serves { MayServe means.lanes begun.params (S.disk store.old) (T.present tape.old)
         (T.drawn tape.old) begun.opening }
     requires sound { AreSound begun.scripts }
     requires runners { AreRunners begun.scripts begun.runners.items }
@@ -213,7 +236,8 @@ fn serve_on<R: Threads + Wait + Sync, S: Store, T: Tape, O: Sink, B: Beat>(
     ensures none_out { (S.disk store.new).out ≡ 0 }
     ensures serves { (f : RingFound) (found : Found) → f.run ≡ run_over begun.opening
         → GoesOnFrom keys.now begun.params found f → HasPlanned f.run f.content f.records
-        → ServedOver ring_kind ring_lives S.disk (manner (beat_kind B.passes B.exact) threads)
+        → ServedOver ring_kind ring_lives S.disk
+        (manner (beat_kind B.passes B.exact) means.threads means.lanes)
         keys.now begun.params f begun.opening.sealer begun.scripts (T.drawn tape.new) store.old store.new
         (outflow O.Sink output.old) (outflow O.Sink output.new) (fault_of result) }
 {
@@ -234,7 +258,7 @@ fn serve_on<R: Threads + Wait + Sync, S: Store, T: Tape, O: Sink, B: Beat>(
         &mut Blind,
         output,
         beat,
-        threads,
+        means.threads,
     );
     let (store, tape) = vault.into_lent();
     hand_back(store, tape);
@@ -246,7 +270,7 @@ fn serve_on<R: Threads + Wait + Sync, S: Store, T: Tape, O: Sink, B: Beat>(
 ///
 /// # Errors
 /// In this order: the head, the input, the opening; then what the run met.
-pub fn run_on<R: Threads + Wait + Sync, S: Store, T: Tape, I: Source, O: Sink, B: Beat>(
+pub fn run_on<R: Threads + Wait + Sync, S: Lanes, T: Tape, I: Source, O: Sink, B: Beat>(
     rt: &R,
     alloc: Global,
     store: &mut S,
@@ -255,21 +279,23 @@ pub fn run_on<R: Threads + Wait + Sync, S: Store, T: Tape, I: Source, O: Sink, B
     input: &mut I,
     output: &mut O,
     beat: &mut B,
-    threads: bool,
+    means: Means,
 ) -> Result<(), Fault>
     requires none_out { (S.disk store.old).out ≡ 0 }
     requires unstarted { T.present tape.old ≡ 0 }
+    requires lanes { AreFewLanes means.lanes }
     ensures goes { GoesOn (S.disk store.old) (S.disk store.new) }
     ensures none_out { (S.disk store.new).out ≡ 0 }
-    ensures done { RunOn ring_kind ring_lives S.disk (manner (beat_kind B.passes B.exact) threads)
+    ensures done { RunOn ring_kind ring_lives S.disk
+        (manner (beat_kind B.passes B.exact) means.threads means.lanes)
         (T.drawn tape.new) keys.now store.old store.new
         (outside (inflow I.Source input.old) (outflow O.Sink output.old))
         (outside (inflow I.Source input.new) (outflow O.Sink output.new))
         (fault_of result) }
 {
-    let begun = match begin(alloc, store, tape, keys, input) {
+    let begun = match begin(rt, alloc, store, tape, keys, input, means.lanes) {
         Ok(begun) => begun,
         Err(fault) => return Err(fault),
     };
-    serve_on(rt, alloc, store, tape, keys, begun, output, beat, threads)
+    serve_on(rt, alloc, store, tape, keys, begun, output, beat, means)
 }

@@ -14,19 +14,19 @@ ghost use Rattle.ob_desk.specs.Beats.{beat_kind};
 use crate::audit::audit_on;
 use crate::endings::finish;
 use crate::format::format_on;
-use crate::run::run_on;
+use crate::run::{Means, run_on};
 use ob_base::Fault;
 use ob_desk::Beat;
 use ob_io::{Sink, Source};
+use ob_lanes::Lanes;
 use ob_seal::Tape;
-use ob_store::Store;
 use ob_words::{Command, Work, keys_of, work_of};
 use std::alloc::Global;
 use std::sync::Wait;
 use std::thread::Threads;
 
 // Does this over a store.
-fn do_on<R: Threads + Wait + Sync, S: Store, T: Tape, I: Source, O: Sink, B: Beat>(
+fn do_on<R: Threads + Wait + Sync, S: Lanes, T: Tape, I: Source, O: Sink, B: Beat>(
     rt: &R,
     alloc: Global,
     command: Command,
@@ -39,6 +39,7 @@ fn do_on<R: Threads + Wait + Sync, S: Store, T: Tape, I: Source, O: Sink, B: Bea
 ) -> Result<(), Fault>
     requires none_out { (S.disk store.old).out ≡ 0 }
     requires unstarted { T.present tape.old ≡ 0 }
+    requires asked { (words : List (List ℕ)) × Asks words command }
     ensures goes { GoesOn (S.disk store.old) (S.disk store.new) }
     ensures none_out { (S.disk store.new).out ≡ 0 }
     ensures does { (words : List (List ℕ)) → Asks words command
@@ -52,15 +53,19 @@ fn do_on<R: Threads + Wait + Sync, S: Store, T: Tape, I: Source, O: Sink, B: Bea
         Err(fault) => return Err(fault),
     };
     match command {
-        Command::Format { params } => format_on(alloc, store, tape, &keys, &params, output),
-        Command::Run { turns, .. } => run_on(
-            rt, alloc, store, tape, &keys, input, output, beat, !turns,
-        ),
+        Command::Format { params } => format_on(rt, alloc, store, tape, &keys, &params, output),
+        Command::Run { lanes, turns } => {
+            let means = Means {
+                lanes,
+                threads: !turns,
+            };
+            run_on(rt, alloc, store, tape, &keys, input, output, beat, means)
+        }
     }
 }
 
 // Does what the words ask for, with a store.
-fn do_with<R: AllocGlobal + Threads + Wait + Sync, S: Store, T: Tape, I: Source, O: Sink, B: Beat>(
+fn do_with<R: AllocGlobal + Threads + Wait + Sync, S: Lanes, T: Tape, I: Source, O: Sink, B: Beat>(
     rt: &R,
     words: &[&str],
     keys: Option<&[u8]>,
@@ -141,7 +146,8 @@ fn do_without<I: Source, O: Sink>(
 ///
 /// `format STORE KEYS N L Z S R BR BW E T` makes an empty store and prints how many cells it has.
 /// `run STORE KEYS [--lanes K] [--turns]` reads a script, runs its clients' transactions over the
-/// store, and reports them, each epoch once it is durable. Each client's calls are made in a thread
+/// store, and reports them, each epoch once it is durable. A batch is read by so many lanes, 4
+/// where no number is given, each in a thread of its own. Each client's calls are made in a thread
 /// of its own, or by hand where the system refuses it; with `--turns` all are made by hand, in
 /// rounds. `store` is the store that the words name, or none where it wasn't opened; `keys` is the
 /// text of the key file that they name, or none where it wasn't read; `tape` wasn't started, and
@@ -159,7 +165,7 @@ fn do_without<I: Source, O: Sink>(
 /// output failed; 8 where a number is worn out; 9 for want of memory.
 pub fn obladi<
     R: AllocGlobal + Threads + Wait + Sync,
-    S: Store,
+    S: Lanes,
     T: Tape,
     I: Source,
     O: Sink,

@@ -9,6 +9,8 @@ mod events;
 #[cfg(test)]
 mod faults;
 #[cfg(test)]
+mod lanes;
+#[cfg(test)]
 mod noting;
 #[cfg(test)]
 mod playing;

@@ -10,9 +10,11 @@ ghost use Rattle.ob_mem.specs.Memory.{disk_of_store};
 ghost use Rattle.ob_mem.specs.Laws.{counts_now, only_now, includes_reads};
 
 use ob_base::Failed;
+use ob_lanes::{Hand, Lanes, read_hands};
 use ob_mem::{MemLane, MemSink, MemStore};
 use ob_store::{Event, Note, SinkWatch, Store, Watch};
 use std::process::Abort;
+use std::thread::Threads;
 
 // What the lines of a store's calls take at most.
 const ROOM: usize = 4000;
@@ -83,5 +85,11 @@ impl Store for Noting {
     fn sync(&mut self) -> Result<(), Failed> {
         tell(&mut self.told, &[Event::Sync]);
         self.store.sync()
+    }
+}
+
+impl Lanes for Noting {
+    fn read_parts<R: Threads + Sync>(&self, rt: &R, hands: &mut [Option<Hand<MemLane>>]) {
+        read_hands(rt, self, hands);
     }
 }

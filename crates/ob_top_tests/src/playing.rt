@@ -7,6 +7,7 @@ ghost use Rattle.ob_mem.specs.Memory.{disk_of_store};
 use crate::events::EVENTS;
 use crate::noting::{Noting, noted};
 use ob_desk::Eager;
+use ob_lanes::Lanes;
 use ob_mem::{Fail, MemSink, MemSource, MemStore};
 use ob_seal::ListTape;
 use ob_store::Store;
@@ -48,7 +49,7 @@ fn words_of<'a, R: AllocGlobal + Abort>(rt: &R, line: &'a str) -> Vec<&'a str> {
 }
 
 // Makes a call: its status, and its output.
-fn call_on<R: AllocGlobal + Threads + Wait + Sync + Abort, S: Store>(
+fn call_on<R: AllocGlobal + Threads + Wait + Sync + Abort, S: Lanes>(
     rt: &R,
     store: &mut S,
     tape: &[u64],
@@ -80,7 +81,7 @@ fn call_on<R: AllocGlobal + Threads + Wait + Sync + Abort, S: Store>(
 
 /// Makes a call, `WORDS < SCRIPT`, with a tape of these words and of zeros behind them and an
 /// output with so much room, and compares what it answers with `STATUS OUTPUT`.
-pub fn expect<R: AllocGlobal + Threads + Wait + Sync + Abort, S: Store>(
+pub fn expect<R: AllocGlobal + Threads + Wait + Sync + Abort, S: Lanes>(
     rt: &R,
     store: &mut S,
     tape: &[u64],

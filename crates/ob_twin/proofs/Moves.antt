@@ -8,8 +8,8 @@ use Rattle.std.proofs.lemmas.List.{take_at}
 use Rattle.std.proofs.Math.Seq.{take-append_seam, drop-append_seam}
 use Rattle.std.proofs.lemmas.Nat.{from_le_bytes-to_le_bytes_8}
 use Rattle.ob_store.specs.Disk.{Clock, Disk, Image, NotAfter}
-use Rattle.ob_store.specs.Images.{SameBut, LeavesOnly, Passes}
-use Rattle.ob_store.proofs.Moments.{then_on, weakened, passed_then}
+use Rattle.ob_store.specs.Images.{SameBut, IsSynced, IsImageOf, LeavesOnly, Passes}
+use Rattle.ob_store.proofs.Moments.{then_on, weakened, passes_so, passed_then}
 use Rattle.ob_twin.specs.Bodies.{Tagging, IsStamped, open_gate, closed_gate, number_of, plain_of, body_of}
 use Rattle.ob_twin.specs.Register.{body_at, gate_at, place_of, IsOpen, IsUnder, StandsAt, KeepsAt, IsPrepared, OldOrNew, SameOutside, SameTwo, IsTornOnly}
 
@@ -177,6 +177,14 @@ kept_everywhere tag first n from c d same kept =
 pub at_the_end : (old new : Disk) (P : Image → Type 0) → ((t : Clock) (c : Image) → NotAfter t new.moment → new.may_leave c → new.left_since t c) → LeavesOnly old new P → (c : Image) → new.may_leave c → P c
 at_the_end old new P counts run c left = run.each c (counts old.moment c run.later left)
 
+-- and what reads give then has it too
+pub images_at_end : (old new : Disk) (P : Image → Type 0) → ((t : Clock) (c : Image) → NotAfter t new.moment → new.may_leave c → new.left_since t c) → LeavesOnly old new P → (c : Image) → IsImageOf new c → P c
+images_at_end old new P counts run c is = ⊎_elim (λ left. at_the_end old new P counts run c left) (λ read. subst P (sym read.1) (run.told read.0)) is
+
+-- nothing waits for a sync: each image is what reads give
+pub settled_image : (d : Disk) → IsSynced d → (c : Image) → IsImageOf d c → (k : ℕ) → c k ≡ d.cells k
+settled_image d settled c is = ⊎_elim (λ left. settled c left) (λ read k. ap (λ (i : Image). i k) read.1) is
+
 -- one cell of a register is within it
 pub one_within : (first cell : ℕ) (a b : Image) → first ≤ cell → cell < first + 4 → SameBut cell a b → SameOutside first a b
 one_within first cell a b from to same k out = same k (apart out)
@@ -190,11 +198,7 @@ outside_again first c d e one two k out = one k out ∙ two k out
 
 -- a write of one of a register's cells
 pub passes_within : (first cell : ℕ) (old new : Disk) → first ≤ cell → cell < first + 4 → Passes (SameBut cell) old new → Passes (SameOutside first) old new
-passes_within first cell old new from to passes = record {
-  later = passes.later;
-  now = λ c left. (let back = passes.now c left in (back.0, back.1, one_within first cell c back.0 from to back.2));
-  since = λ t c le left. ⊎_elim (λ was. inl was) (λ back. inr (back.0, back.1, one_within first cell c back.0 from to back.2)) (passes.since t c le left);
-}
+passes_within first cell old new from to passes = passes_so (SameBut cell) (SameOutside first) old new (λ c d same. one_within first cell c d from to same) passes
 
 -- one such write after another
 pub passes_both : (first : ℕ) (old mid new : Disk) → Passes (SameOutside first) old mid → Passes (SameOutside first) mid new → Passes (SameOutside first) old new

@@ -1,6 +1,6 @@
 -- A vault over a ring store that was just opened, in the words of its kind of store.
 use Rattle.std.specs.Ordering.{nat_cmp}
-use Rattle.std.proofs.Common.{◌≡◌, ◌∙◌, ◌+◌, ◌*◌, ◌≤◌, ℕ, suc, false, [], length, None, refl, sym, ap, subst, inl, arith}
+use Rattle.std.proofs.Common.{◌≡◌, ◌∙◌, ◌+◌, ◌*◌, ◌≤◌, ℕ, suc, false, [], length, None, refl, sym, ap, subst, inl, arith, ⊎_elim}
 use Rattle.ob_base.specs.Layout.{checkpoint_cells, record_cells}
 use Rattle.ob_base.specs.Tree.{buckets, width}
 use Rattle.ob_base.specs.declared.params.Params.{Params}
@@ -33,7 +33,7 @@ holds_found keys p f opened m serving is = record {
   serves = λ is_serving. record { standing = is.standing; at = is.at; map = is.map; no_doubt = refl };
 }
 
-module _ {V S : Type 0} (k : Kind V) (disk : S → Disk) (runs : V → Running S) (keys : Keys) (p : Params) (found : Found) (f : RingFound) (v : V) (goes : GoesOnFrom keys p found f) (run_is : (runs v).run ≡ f.run) (lanes : (runs v).lanes ≤ 1)
+module _ {V S : Type 0} (k : Kind V) (disk : S → Disk) (runs : V → Running S) (keys : Keys) (most : ℕ) (p : Params) (found : Found) (f : RingFound) (v : V) (goes : GoesOnFrom keys p found f) (run_is : (runs v).run ≡ f.run) (lanes : (runs v).lanes ≡ most) (many : (1 ≤ most) × (most ≤ 16))
     (planned : HasPlanned f.run f.content f.records) (none : (runs v).drawn ≡ []) (holding : (u : VaultState) → RingHolds f.run (disk (runs v).store) u → k.holds v u) where
   sealed_none : ((f.run).sealer).next ≡ 0
   sealed_none = ap (λ (x : Sealing). x.next) goes.sealer
@@ -46,11 +46,12 @@ module _ {V S : Type 0} (k : Kind V) (disk : S → Disk) (runs : V → Running S
   seals_left = subst (λ d. d + ((f.run).left * record_cells p + (buckets p * width p + checkpoint_cells p)) ≤ suc 0 * seals_an_epoch p) (sym sealed_none)
       (all_left (f.run).left (length f.records) p.batches (record_cells p) (buckets p * width p + checkpoint_cells p) goes.left)
 
-  pub ring_begun : RingAt k disk runs keys p f (disk (runs v).store) (ring_public p f) (ring_hidden f) 0 v
+  pub ring_begun : RingAt k disk runs keys most p f (disk (runs v).store) (ring_public p f) (ring_hidden f) 0 v
   ring_begun = record {
     params = ap (λ (r : Run). r.params) run_is ∙ goes.params;
     keys_are = ap (λ (r : Run). (r.sealer).keys) run_is ∙ ap (λ (x : Sealing). x.keys) goes.sealer;
-    one_lane = lanes;
+    lanes = lanes;
+    many = many;
     planned = subst (λ (r : Run). HasPlanned r f.content f.records) (sym run_is) planned;
     known = ap (λ (r : Run). (ring_public p (record { content = f.content; records = f.records; run = r })).known) run_is;
     shown = refl;
@@ -70,7 +71,7 @@ module _ {V S : Type 0} (k : Kind V) (disk : S → Disk) (runs : V → Running S
       none_more i = omega arith
 
 pub ring_calls_begin : {V S : Type 0} (k : Kind V) (disk : S → Disk) → RingCallsBegin k disk
-ring_calls_begin k disk runs keys p found f v goes run_is lanes planned none holding = ring_begun k disk runs keys p found f v goes run_is lanes planned none holding
+ring_calls_begin k disk runs keys most p found f v goes run_is lanes many planned none holding = ring_begun k disk runs keys most p found f v goes run_is lanes many planned none holding
 
 -- where the store stood, it is sound
 pub ring_begins_sound : {S : Type 0} (disk : S → Disk) → RingBeginsSound disk
@@ -80,7 +81,7 @@ ring_begins_sound disk keys p f at opened serving is = record {
     batches = sym (ap (λ (x : Params). x.batches) (is.content).params);
     serves = λ is_serving. record { standing = (is.content).standing; at = (is.content).at; map = (is.content).map; no_doubt = refl };
   };
-  images = λ c left. (at, as_run c (is.images c left), inl refl);
+  images = λ c image. (at, as_run c (⊎_elim (λ left. is.images c left) (λ read. subst (λ (i : Image). StandsRing keys p ((f.run).sealer).generation i at) (sym read.1) is.stands) image), inl refl);
 }
   where
     as_run : (c : Image) → StandsRing keys p ((f.run).sealer).generation c at → StandsRing ((f.run).sealer).keys (f.run).params ((f.run).sealer).generation c at

@@ -1,6 +1,6 @@
 -- What a call of a vault over a ring store does, in the words of its kind of store.
 use Rattle.std.specs.Ordering.{nat_cmp}
-use Rattle.std.proofs.Common.{◌≡◌, ◌⊎◌, ◌∙◌, ◌+◌, ◌*◌, ◌%◌, ◌^◌, ◌<◌, ◌≤◌, ℕ, suc, false, List, [], ◌∷◌, ◌++◌, take, map, length, length-append, Option, None, Some, Result, Ok, Err, ⊎_elim, refl, sym, ap, subst, inl, inr, arith}
+use Rattle.std.proofs.Common.{◌≡◌, ◌⊎◌, ◌∙◌, ◌+◌, ◌*◌, ◌%◌, ◌^◌, ◌<◌, ◌≤◌, ℕ, suc, false, List, [], ◌∷◌, ◌++◌, map, length, length-append, Option, None, Some, Result, Ok, Err, ⊎_elim, refl, sym, ap, subst, inl, inr, arith}
 use Rattle.ob_base.specs.Layout.{checkpoint_cells, record_cells}
 use Rattle.ob_base.specs.Tree.{buckets, width}
 use Rattle.ob_base.specs.declared.fault.Fault.{Fault}
@@ -10,12 +10,13 @@ use Rattle.ob_base.specs.declared.value.Write.{Write}
 use Rattle.ob_tables.specs.Buckets.{Buckets}
 use Rattle.ob_tables.specs.Content.{Content, Obeys}
 use Rattle.ob_end.specs.EndRuns.{EndAnswers, EndDraws, IsWornForEnd, LeadsOn, end_writes, seals_for_end, standing_at_end, words_for_end}
-use Rattle.ob_end.specs.Shown.{EndShows, before_gate, end_lifts, up_to_gate}
+use Rattle.ob_end.specs.Shown.{EndShows, before_gate, up_to_gate}
 use Rattle.ob_end.specs.Lifts.{IsLiftDamage}
 use Rattle.ob_stand.specs.Table.{buckets_of, flat_of}
 use Rattle.ob_fetch.proofs.NextLaws.{seals_listed, stands_listed}
 use Rattle.ob_fetch.specs.Fetches.{DrawsWords, FetchDraws, FetchShows, IsWornForBatch, RunIsAt, next_batch, words_since}
-use Rattle.ob_vault.specs.Phases.{Shape, Fetches, Ends, events_of_phases}
+use Rattle.ob_schedule.specs.Phases.{Phase, batch_phases, end_phases, phases_of, shared}
+use Rattle.ob_vault.specs.Shapes.{Shape, Fetches, Ends}
 use Rattle.ob_vault.specs.Steps.{IsCallOfKind, IsRefusalWhy, Stops}
 use Rattle.ob_log.specs.Appends.{IsWornOut, append_notes}
 use Rattle.ob_log.specs.Logs.{BatchRecord, RecordsFit}
@@ -26,9 +27,9 @@ use Rattle.ob_ring.specs.Ring.{StandsFor}
 use Rattle.ob_recover.proofs.Batch.{batches_are_scheduled}
 use Rattle.ob_recover.proofs.Orders.{record_written}
 use Rattle.ob_recover.specs.Known.{PlansFrom, fills_of, fills_with_lifts, public_of_kept}
-use Rattle.ob_recover.specs.Telling.{IsFrontShown, IsRowShown}
+use Rattle.ob_recover.specs.Telling.{ArePhasesMade, IsFrontShown}
 use Rattle.ob_vault.specs.RingVaults.{EndCalled, FetchCalled, HasPlanned, KeepsRun, Running, record_of_fetch, words_of_call, write_from, writes_of_end}
-use Rattle.ob_schedule.specs.Schedule.{Fills, Public, after_end, after_phase, batch_leaves, batch_notes, end_notes, record_notes}
+use Rattle.ob_schedule.specs.Schedule.{Fills, Public, after_end, after_phase, batch_leaves, batch_notes, end_lifts, end_notes, record_notes}
 use Rattle.std.proofs.lemmas.Bool.{cases_lt}
 use Rattle.std.proofs.lemmas.List.{append-nil}
 use Rattle.ob_seal.specs.Sealing.{Sealing}
@@ -39,34 +40,31 @@ use Rattle.ob_serial.specs.Vaults.{DoubtBy, End, Ended, Fetch, RefusedBy, Values
 use Rattle.ob_serial.specs.declared.vault.EndErr.{EndErr}
 use Rattle.ob_serial.specs.declared.vault.EndErr.TheVariants.{Before, Unsure}
 use Rattle.ob_stand.specs.Stands.{RingStanding, with_record}
-use Rattle.ob_store.proofs.Doing.{cut_noted}
-use Rattle.ob_store.specs.Calls.{Notes, NotesFirst}
+use Rattle.ob_store.specs.Calls.{Notes}
 use Rattle.ob_store.specs.Disk.{Disk}
-use Rattle.ob_store.specs.Told.{events_of}
 use Rattle.ob_store.specs.declared.event.Event.{Event}
 use Rattle.ob_store.specs.declared.watch.Note.{Note}
 use Rattle.ob_twin.specs.declared.gates.Gates.{Gates}
 use Rattle.ob_vault.proofs.Bounds.{batch_past, end_past, less_left, one_more, seals_few, words_few}
 use Rattle.ob_vault.proofs.Naming.{answers_named, draws_named}
-use Rattle.ob_vault.proofs.Phasing.{phased}
 use Rattle.ob_vault.specs.Causes.{IsCallWorn, IsRingWorn, record_hidden, seals_an_epoch, words_an_epoch}
 use Rattle.ob_vault.proofs.Drawing.{draws_batch, draws_end, ended, grown}
-use Rattle.ob_vault.specs.Hidden.{IsTapeBehind, RingCut, RingDrawsCut, RingHidden, table_hidden, with_next, writes_hidden}
+use Rattle.ob_vault.specs.Hidden.{AreFirst, IsTapeBehind, RingCut, RingDrawsCut, RingHidden, table_hidden, with_next, writes_hidden}
 use Rattle.ob_vault.specs.RingLaws.{RingCallsDo, RingWordsAreOfTape}
 use Rattle.ob_vault.specs.RingKind.{IsRingMap, RingFound, ring_kind}
 use Rattle.ob_vault.specs.RingSteps.{HasRingWords, RingAt, RunIsAtHidden}
-use Rattle.ob_vault.specs.Seen.{RingPublic, ring_next, ring_notes, ring_phases}
+use Rattle.ob_vault.specs.Seen.{RingPublic, ring_next, ring_phases}
 
 -- so many words more were drawn
 drawn_more : (many : ℕ) (old new : List ℕ) → DrawsWords many old new → length new ≡ length old + many
 drawn_more many old new d = ap (λ (l : List ℕ). length l) d.words ∙ length-append old (words_since old new) ∙ ap (λ n. length old + n) d.many_are
 
-module _ {V S : Type 0} (k : Kind V) (disk : S → Disk) (runs : V → Running S) (words : HasRingWords k disk runs) (keys : Keys) (p : Params) (f : RingFound) (opened : Disk) where
+module _ {V S : Type 0} (k : Kind V) (disk : S → Disk) (runs : V → Running S) (words : HasRingWords k disk runs) (keys : Keys) (most : ℕ) (p : Params) (f : RingFound) (opened : Disk) where
   -- behind calls of any shapes
   abbrev pub RingBehind : RingPublic → RingHidden → List Shape → ℕ → V → Type 0
-  RingBehind q h so_far n v = RingAt k disk runs keys p f opened q h n v
+  RingBehind q h so_far n v = RingAt k disk runs keys most p f opened q h n v
 
-  module _ (q : RingPublic) (h : RingHidden) (so_far : List Shape) (n : ℕ) (v w : V) (at : RingAt k disk runs keys p f opened q h n v) where
+  module _ (q : RingPublic) (h : RingHidden) (so_far : List Shape) (n : ℕ) (v w : V) (at : RingAt k disk runs keys most p f opened q h n v) where
     abbrev old : Running S
     old = runs v
 
@@ -139,39 +137,43 @@ module _ {V S : Type 0} (k : Kind V) (disk : S → Disk) (runs : V → Running S
 
     -- ---- the schedule
 
-    -- the batch's row
+    -- the batch's row, and its phases
     abbrev batch_row : List BatchRecord → List Note
     batch_row rs' = batch_notes params (public_of_kept params c rs (old.run).epoch (old.run).gates) (fills_of params c rs') (length rs)
 
-    batch_is : (rs' : List BatchRecord) → batch_row rs' ≡ ring_notes p q Fetches (fills_of p c rs')
+    abbrev batch_turns : List BatchRecord → List Phase
+    batch_turns rs' = batch_phases params (public_of_kept params c rs (old.run).epoch (old.run).gates) (fills_of params c rs') (length rs)
+
+    batch_is : (rs' : List BatchRecord) → batch_turns rs' ≡ ring_phases p q Fetches (fills_of p c rs')
     batch_is rs' =
-        ap (λ (x : Params). batch_notes x (public_of_kept x c rs (old.run).epoch (old.run).gates) (fills_of x c rs') (length rs)) at.params
-        ∙ ap (λ (x : Public). batch_notes p x (fills_of p c rs') (length rs)) at.known
-        ∙ ap (λ (m : ℕ). batch_notes p q.known (fills_of p c rs') m) at.shown
+        ap (λ (x : Params). batch_phases x (public_of_kept x c rs (old.run).epoch (old.run).gates) (fills_of x c rs') (length rs)) at.params
+        ∙ ap (λ (x : Public). batch_phases p x (fills_of p c rs') (length rs)) at.known
+        ∙ ap (λ (m : ℕ). batch_phases p q.known (fills_of p c rs') m) at.shown
 
     abbrev end_row : List Note
     end_row = end_notes params (public_of_kept params c rs (old.run).epoch (old.run).gates) (fills_with_lifts params c rs)
 
-    end_is : end_row ≡ ring_notes p q Ends (fills_with_lifts p c rs)
+    abbrev end_turns : List Phase
+    end_turns = end_phases params (public_of_kept params c rs (old.run).epoch (old.run).gates) (fills_with_lifts params c rs)
+
+    end_is : end_turns ≡ ring_phases p q Ends (fills_with_lifts p c rs)
     end_is =
-        ap (λ (x : Params). end_notes x (public_of_kept x c rs (old.run).epoch (old.run).gates) (fills_with_lifts x c rs)) at.params
-        ∙ ap (λ (x : Public). end_notes p x (fills_with_lifts p c rs)) at.known
+        ap (λ (x : Params). end_phases x (public_of_kept x c rs (old.run).epoch (old.run).gates) (fills_with_lifts x c rs)) at.params
+        ∙ ap (λ (x : Public). end_phases p x (fills_with_lifts p c rs)) at.known
 
-    -- a row of the schedule has the events of the call's phases
-    events_are : (row : List Note) (shape : Shape) (fills : Fills) → row ≡ ring_notes p q shape fills → events_of row ≡ events_of_phases (ring_phases p q shape fills)
-    events_are row shape fills is = ap events_of is ∙ sym (phased (ring_notes p q shape fills))
+    -- the call made these phases, by so many lanes
+    abbrev Made : ℕ → List Phase → Type 0
+    Made lanes phases = ArePhasesMade lanes phases (disk old.store).seen (disk new.store).seen
 
-    whole_row : (row shown : List Note) (shape : Shape) (fills : Fills) → row ≡ ring_notes p q shape fills → IsRowShown old.lanes row shown (disk old.store).seen (disk new.store).seen
-        → Notes (events_of_phases (ring_phases p q shape fills)) (disk old.store).seen (disk new.store).seen
-    whole_row row shown shape fills is r = subst (λ (l : List Event). Notes l (disk old.store).seen (disk new.store).seen) (events_are row shape fills is) (r.in_order at.one_lane)
+    -- phases by another name, of which all were made, or the first ones
+    all_made : (phases phases' : List Phase) → phases ≡ phases' → Made old.lanes phases → Made most phases'
+    all_made phases phases' is made = subst (λ (m : ℕ). Made m phases') at.lanes (subst (λ (l : List Phase). Made old.lanes l) is made)
 
-    -- a row by another name, of which all was made, or the first events
-    all_seen : (row row' shown : List Note) → row ≡ row' → IsRowShown old.lanes row shown (disk old.store).seen (disk new.store).seen → Notes (events_of row') (disk old.store).seen (disk new.store).seen
-    all_seen row row' shown is r = subst (λ (l : List Note). Notes (events_of l) (disk old.store).seen (disk new.store).seen) is (r.in_order at.one_lane)
-
-    first_seen : (row row' shown : List Note) → row ≡ row' → IsFrontShown old.lanes row shown (disk old.store).seen (disk new.store).seen → NotesFirst (events_of row') (disk old.store).seen (disk new.store).seen
-    first_seen row row' shown is r = subst (λ (l : List Note). NotesFirst (events_of l) (disk old.store).seen (disk new.store).seen) is
-        (cut_noted row r.made shown (disk old.store).seen (disk new.store).seen r.cut (r.in_order at.one_lane))
+    first_made : (phases phases' : List Phase) (row shown : List Note) → phases ≡ phases' → IsFrontShown old.lanes phases row shown (disk old.store).seen (disk new.store).seen
+        → (more : List Event) × AreFirst most phases' more × Notes more (disk old.store).seen (disk new.store).seen
+    first_made phases phases' row shown is front =
+        let made : Made most front.first = all_made front.first front.first refl front.seen in
+        (made.events, (front.first, front.rest, sym is ∙ front.split, made.dealt), made.noted)
 
     -- the rows in which a refused call is cut: a batch's record, an end's lifts
     record_is : append_notes params (suc (old.run).epoch) (next_batch old.run) ≡ record_notes p (((q.known).epoch + 1) % 2) q.shown
@@ -187,8 +189,8 @@ module _ {V S : Type 0} (k : Kind V) (disk : S → Disk) (runs : V → Running S
         ∙ ap (λ (x : Public). end_lifts p x (fills_with_lifts p c rs)) at.known
 
     -- a call that was refused, and showed this
-    stopped : (call : VaultCall) (fills : Fills) (refused : Fault) (more : List Event) → RingCut p q h call fills new.drawn refused more → Notes more (disk old.store).seen (disk new.store).seen
-        → IsTapeBehind p h (Some call) new.drawn (Some refused) → IsRefusalWhy ring_kind keys p f opened (disk new.store) h so_far n (Some call) new.drawn refused → Stops ring_kind keys p f opened (disk old.store) (disk new.store) new.drawn q h so_far n call refused
+    stopped : (call : VaultCall) (fills : Fills) (refused : Fault) (more : List Event) → RingCut most p q h call fills new.drawn refused more → Notes more (disk old.store).seen (disk new.store).seen
+        → IsTapeBehind p h (Some call) new.drawn (Some refused) → IsRefusalWhy ring_kind keys p f opened (disk new.store) h so_far n (Some call) new.drawn refused → Stops ring_kind keys most p f opened (disk old.store) (disk new.store) new.drawn q h so_far n call refused
     stopped call fills refused more is_cut seen of_tape why = record {
       more = more;
       cut = (fills, is_cut);
@@ -210,7 +212,7 @@ module _ {V S : Type 0} (k : Kind V) (disk : S → Disk) (runs : V → Running S
       fit one = subst (λ (x : Params). RecordsFit x then) ((one.run).params ∙ at.params) (one.onward c rs at.planned is_next).fit
 
       fetched_at : FetchCalled disk old new notes asks (Ok tt) → ((m : Map nat_cmp) → IsRingMap keys p opened f m → (u : VaultState) × k.holds w u × (u.spent ≡ false))
-          → RingAt k disk runs keys p f opened (ring_next p q Fetches (fills_of p c then)) (with_next p h r) n w
+          → RingAt k disk runs keys most p f opened (ring_next p q Fetches (fills_of p c then)) (with_next p h r) n w
       fetched_at one holds =
           let params_are : (new.run).params ≡ p = (one.run).params ∙ at.params in
           let planned : HasPlanned new.run c then = one.onward c rs at.planned is_next in
@@ -222,7 +224,8 @@ module _ {V S : Type 0} (k : Kind V) (disk : S → Disk) (runs : V → Running S
           record {
             params = params_are;
             keys_are = (one.run).keys ∙ at.keys_are;
-            one_lane = subst (λ m. m ≤ 1) (sym (one.run).lanes) at.one_lane;
+            lanes = (one.run).lanes ∙ at.lanes;
+            many = at.many;
             planned = planned;
             known = ap (λ e. public_of_kept p c then e (new.run).gates) one.epoch
                 ∙ ap (λ (g : Gates). public_of_kept p c then (old.run).epoch g) one.gates
@@ -315,11 +318,11 @@ module _ {V S : Type 0} (k : Kind V) (disk : S → Disk) (runs : V → Running S
         ([], grown disk old new notes p h at.params at.planned at.generation at.tape one.run ∙ sym (append-nil _)),
       )
 
-      abbrev batch_events : List Event
-      batch_events = events_of (ring_notes p q Fetches (fills_of p c then))
-
       abbrev BatchStops : Fault → Type 0
-      BatchStops refused = Stops ring_kind keys p f opened (disk old.store) (disk new.store) new.drawn q h so_far n (Fetch asks) refused
+      BatchStops refused = Stops ring_kind keys most p f opened (disk old.store) (disk new.store) new.drawn q h so_far n (Fetch asks) refused
+
+      batch_made : Made old.lanes (batch_turns then) → Made most (ring_phases p q Fetches (fills_of p c then))
+      batch_made made = all_made (batch_turns then) (ring_phases p q Fetches (fills_of p c then)) (batch_is then) made
 
       store_stops : FetchCalled disk old new notes asks (Err (fault.StoreFault None)) → BatchStops (fault.StoreFault None)
       store_stops one = by_part (one.scheduled c rs at.planned is_next)
@@ -327,22 +330,24 @@ module _ {V S : Type 0} (k : Kind V) (disk : S → Disk) (runs : V → Running S
           draws : RingDrawsCut p h (Fetch asks) (fills_of p c then) new.drawn
           draws = drawing one (one.draws).many_are (λ none. none)
 
-          by_part : FetchShows old.lanes (append_notes params (suc (old.run).epoch) (next_batch old.run)) (batch_row then) notes (disk old.store).seen (disk new.store).seen (Err (fault.StoreFault None)) → BatchStops (fault.StoreFault None)
+          by_part : FetchShows old.lanes (append_notes params (suc (old.run).epoch) (next_batch old.run)) (batch_turns then) (batch_row then) notes (disk old.store).seen (disk new.store).seen (Err (fault.StoreFault None)) → BatchStops (fault.StoreFault None)
           by_part (inl front) =
-              let (m, few, seen) = first_seen _ (record_notes p (((q.known).epoch + 1) % 2) q.shown) notes record_is front in
-              stopped (Fetch asks) (fills_of p c then) (fault.StoreFault None) (take m (events_of (record_notes p (((q.known).epoch + 1) % 2) q.shown))) (draws, inl (m, refl)) seen (batch_tape (fault.StoreFault None) one) (batch_why (fault.StoreFault None) one)
+              let (more, first, seen) = first_made _ (phases_of (record_notes p (((q.known).epoch + 1) % 2) q.shown)) _ notes (ap phases_of record_is) front in
+              stopped (Fetch asks) (fills_of p c then) (fault.StoreFault None) more (draws, inl first) seen (batch_tape (fault.StoreFault None) one) (batch_why (fault.StoreFault None) one)
           by_part (inr row) =
-              stopped (Fetch asks) (fills_of p c then) (fault.StoreFault None) batch_events (draws, inr refl) (all_seen (batch_row then) (ring_notes p q Fetches (fills_of p c then)) notes (batch_is then) row) (batch_tape (fault.StoreFault None) one) (batch_why (fault.StoreFault None) one)
+              let made = batch_made (row.seen) in
+              stopped (Fetch asks) (fills_of p c then) (fault.StoreFault None) made.events (draws, inr made.dealt) made.noted (batch_tape (fault.StoreFault None) one) (batch_why (fault.StoreFault None) one)
 
       batch_stops : (refused : Fault) → FetchCalled disk old new notes asks (Err refused) → BatchStops refused
       batch_stops (fault.StoreFault unsure) one =
           subst (λ (u : Option ℕ). BatchStops (fault.StoreFault u)) (sym one.refusal) (store_stops (subst (λ (u : Option ℕ). FetchCalled disk old new notes asks (Err (fault.StoreFault u))) one.refusal one))
       batch_stops (fault.Damaged cell check kept computed) one =
-          stopped (Fetch asks) (fills_of p c then) (fault.Damaged cell check kept computed) batch_events (drawing one (one.draws).many_are (λ none. none), refl)
-          (all_seen (batch_row then) (ring_notes p q Fetches (fills_of p c then)) notes (batch_is then) (one.scheduled c rs at.planned is_next))
+          let made = batch_made (one.scheduled c rs at.planned is_next).seen in
+          stopped (Fetch asks) (fills_of p c then) (fault.Damaged cell check kept computed) made.events (drawing one (one.draws).many_are (λ none. none), made.dealt) made.noted
           (batch_tape (fault.Damaged cell check kept computed) one) (batch_why (fault.Damaged cell check kept computed) one)
       batch_stops (fault.Worn number) one =
-          stopped (Fetch asks) (fills_of p c then) (fault.Worn number) [] refl ((one.scheduled c rs at.planned is_next).in_order at.one_lane) (batch_tape (fault.Worn number) one) (batch_why (fault.Worn number) one)
+          let none = (one.scheduled c rs at.planned is_next).seen in
+          stopped (Fetch asks) (fills_of p c then) (fault.Worn number) none.events none.dealt none.noted (batch_tape (fault.Worn number) one) (batch_why (fault.Worn number) one)
       batch_stops fault.Memory one = absurd one.refusal
       batch_stops fault.Usage one = absurd one.refusal
       batch_stops (fault.BadScript line) one = absurd one.refusal
@@ -356,7 +361,7 @@ module _ {V S : Type 0} (k : Kind V) (disk : S → Disk) (runs : V → Running S
 
     module _ (writes : List Write) (notes : List Note) where
       ended_at : (one : EndCalled disk old new notes writes (Ok tt)) → ((m : Map nat_cmp) → IsRingMap keys p opened f m → (u : VaultState) × k.holds w u × (u.spent ≡ false))
-          → RingAt k disk runs keys p f opened (ring_next p q Ends (fills_with_lifts p c rs)) (ended disk old new notes p h at.params at.planned at.generation at.tape one.run writes one) (suc n) w
+          → RingAt k disk runs keys most p f opened (ring_next p q Ends (fills_with_lifts p c rs)) (ended disk old new notes p h at.params at.planned at.generation at.tape one.run writes one) (suc n) w
       ended_at one holds =
           let params_are : (new.run).params ≡ p = (one.run).params ∙ at.params in
           let leads : LeadsOn params ((old.run).sealer).generation c rs (old.run).epoch (old.run).gates (new.run).ring (new.run).gates = one.onward c rs at.planned in
@@ -370,7 +375,8 @@ module _ {V S : Type 0} (k : Kind V) (disk : S → Disk) (runs : V → Running S
           record {
             params = params_are;
             keys_are = (one.run).keys ∙ at.keys_are;
-            one_lane = subst (λ m. m ≤ 1) (sym (one.run).lanes) at.one_lane;
+            lanes = (one.run).lanes ∙ at.lanes;
+            many = at.many;
             planned = subst (λ (x : Params). PlansFrom x ((new.run).sealer).generation (new.run).gates (new.run).ring (content_of_ring (new.run).ring) []) (sym (one.run).params)
                 (subst (λ g. PlansFrom params g (new.run).gates (new.run).ring (content_of_ring (new.run).ring) []) (sym (one.run).generation) leads.plans);
             known = ap (λ e. public_of_kept p (content_of_ring (new.run).ring) [] e (new.run).gates) one.epoch
@@ -461,39 +467,39 @@ module _ {V S : Type 0} (k : Kind V) (disk : S → Disk) (runs : V → Running S
           one_behind i = omega arith
 
       abbrev EndStops : Fault → Type 0
-      EndStops refused = Stops ring_kind keys p f opened (disk old.store) (disk new.store) new.drawn q h so_far n (End asked) refused
+      EndStops refused = Stops ring_kind keys most p f opened (disk old.store) (disk new.store) new.drawn q h so_far n (End asked) refused
 
       abbrev fills : Fills
       fills = fills_with_lifts p c rs
 
-      abbrev lifts : List Note
-      lifts = end_lifts p q.known fills
-
       -- the lifts were read
-      lifts_seen : IsRowShown old.lanes (end_lifts params (public_of_kept params c rs (old.run).epoch (old.run).gates) (fills_with_lifts params c rs)) notes (disk old.store).seen (disk new.store).seen
-          → Notes (events_of lifts) (disk old.store).seen (disk new.store).seen
-      lifts_seen row = all_seen _ lifts notes lifts_are row
+      lifts_made : Made old.lanes (shared (end_lifts params (public_of_kept params c rs (old.run).epoch (old.run).gates) (fills_with_lifts params c rs)) ∷ []) → Made most (shared (end_lifts p q.known fills) ∷ [])
+      lifts_made made = all_made _ (shared (end_lifts p q.known fills) ∷ []) (ap (λ (l : List Note). shared l ∷ []) lifts_are) made
 
       store_stops_end : Refused (fault.StoreFault None) → EndStops (fault.StoreFault None)
       store_stops_end one =
-          let (m, few, seen) = first_seen (before_gate end_row) (before_gate (ring_notes p q Ends fills)) notes (ap (λ (l : List Note). before_gate l) end_is) (one.scheduled c rs at.planned) in
-          stopped (End asked) fills (fault.StoreFault None) (take m (events_of (before_gate (ring_notes p q Ends fills)))) (refl, (m, refl), answers_hidden (Before (fault.StoreFault None)) one) seen (end_tape (Before (fault.StoreFault None)) one) (end_why (fault.StoreFault None) one)
+          let (more, first, seen) = first_made (before_gate end_turns) (before_gate (ring_phases p q Ends fills)) (before_gate end_row) notes (ap (λ (l : List Phase). before_gate l) end_is) (one.scheduled c rs at.planned) in
+          stopped (End asked) fills (fault.StoreFault None) more (refl, first, answers_hidden (Before (fault.StoreFault None)) one) seen (end_tape (Before (fault.StoreFault None)) one) (end_why (fault.StoreFault None) one)
 
       worn_stops : (number : ℕ) → Refused (fault.Worn number) → EndStops (fault.Worn number)
       worn_stops number one = by_part (one.scheduled c rs at.planned)
         where
-          by_part : EndShows old.lanes (end_lifts params (public_of_kept params c rs (old.run).epoch (old.run).gates) (fills_with_lifts params c rs)) end_row notes (disk old.store).seen (disk new.store).seen (Err (Before (fault.Worn number))) → EndStops (fault.Worn number)
-          by_part (inl none) = stopped (End asked) fills (fault.Worn number) [] (refl, inl refl, answers_hidden (Before (fault.Worn number)) one) (none.in_order at.one_lane) (end_tape (Before (fault.Worn number)) one) (end_why (fault.Worn number) one)
-          by_part (inr row) = stopped (End asked) fills (fault.Worn number) (events_of lifts) (refl, inr refl, answers_hidden (Before (fault.Worn number)) one) (lifts_seen row) (end_tape (Before (fault.Worn number)) one) (end_why (fault.Worn number) one)
+          by_part : EndShows old.lanes (end_lifts params (public_of_kept params c rs (old.run).epoch (old.run).gates) (fills_with_lifts params c rs)) end_turns end_row notes (disk old.store).seen (disk new.store).seen (Err (Before (fault.Worn number))) → EndStops (fault.Worn number)
+          by_part (inl none) = stopped (End asked) fills (fault.Worn number) (none.seen).events (refl, inl (none.seen).dealt, answers_hidden (Before (fault.Worn number)) one) (none.seen).noted (end_tape (Before (fault.Worn number)) one) (end_why (fault.Worn number) one)
+          by_part (inr row) =
+              let made = lifts_made row.seen in
+              stopped (End asked) fills (fault.Worn number) made.events (refl, inr made.dealt, answers_hidden (Before (fault.Worn number)) one) made.noted (end_tape (Before (fault.Worn number)) one) (end_why (fault.Worn number) one)
 
       end_stops : (refused : Fault) → Refused refused → EndStops refused
       end_stops (fault.StoreFault unsure) one =
           subst (λ (u : Option ℕ). EndStops (fault.StoreFault u)) (sym one.refusal) (store_stops_end (subst (λ (u : Option ℕ). Refused (fault.StoreFault u)) one.refusal one))
       end_stops (fault.Damaged cell check kept computed) one =
-          stopped (End asked) fills (fault.Damaged cell check kept computed) (events_of lifts) (refl, refl, answers_hidden (Before (fault.Damaged cell check kept computed)) one) (lifts_seen (one.scheduled c rs at.planned))
+          let made = lifts_made (one.scheduled c rs at.planned).seen in
+          stopped (End asked) fills (fault.Damaged cell check kept computed) made.events (refl, made.dealt, answers_hidden (Before (fault.Damaged cell check kept computed)) one) made.noted
           (end_tape (Before (fault.Damaged cell check kept computed)) one) (end_why (fault.Damaged cell check kept computed) one)
       end_stops (fault.StashFull rows) one =
-          stopped (End asked) fills (fault.StashFull rows) (events_of lifts) (refl, refl, answers_hidden (Before (fault.StashFull rows)) one) (lifts_seen (one.scheduled c rs at.planned)) (end_tape (Before (fault.StashFull rows)) one) (end_why (fault.StashFull rows) one)
+          let made = lifts_made (one.scheduled c rs at.planned).seen in
+          stopped (End asked) fills (fault.StashFull rows) made.events (refl, made.dealt, answers_hidden (Before (fault.StashFull rows)) one) made.noted (end_tape (Before (fault.StashFull rows)) one) (end_why (fault.StashFull rows) one)
       end_stops (fault.Worn number) one = worn_stops number one
       end_stops fault.Memory one = absurd one.refusal
       end_stops fault.Usage one = absurd one.refusal
@@ -505,15 +511,17 @@ module _ {V S : Type 0} (k : Kind V) (disk : S → Disk) (runs : V → Running S
 
       -- up to the gate's write, with the sync behind it or without
       gate_stops : (epoch : ℕ) → EndCalled disk old new notes (map write_from asked) (Err (Unsure (fault.StoreFault (Some epoch)))) → EndStops (fault.StoreFault (Some epoch))
-      gate_stops epoch one = by_part ((one.scheduled c rs at.planned).in_order at.one_lane)
+      gate_stops epoch one = by_part (one.scheduled c rs at.planned).seen
         where
-          by_part : Notes (events_of (up_to_gate end_row)) (disk old.store).seen (disk new.store).seen ⊎ Notes (events_of end_row) (disk old.store).seen (disk new.store).seen → EndStops (fault.StoreFault (Some epoch))
-          by_part (inl seen) =
-              stopped (End asked) fills (fault.StoreFault (Some epoch)) (events_of (up_to_gate (ring_notes p q Ends fills))) (refl, inl refl, answers_hidden (Unsure (fault.StoreFault (Some epoch))) one)
-              (subst (λ (l : List Note). Notes (events_of (up_to_gate l)) (disk old.store).seen (disk new.store).seen) end_is seen) (end_tape (Unsure (fault.StoreFault (Some epoch))) one) (doubt_why (fault.StoreFault (Some epoch)) one)
-          by_part (inr seen) =
-              stopped (End asked) fills (fault.StoreFault (Some epoch)) (events_of (ring_notes p q Ends fills)) (refl, inr refl, answers_hidden (Unsure (fault.StoreFault (Some epoch))) one)
-              (subst (λ (l : List Note). Notes (events_of l) (disk old.store).seen (disk new.store).seen) end_is seen) (end_tape (Unsure (fault.StoreFault (Some epoch))) one) (doubt_why (fault.StoreFault (Some epoch)) one)
+          by_part : Made old.lanes (up_to_gate end_turns) ⊎ Made old.lanes end_turns → EndStops (fault.StoreFault (Some epoch))
+          by_part (inl before) =
+              let made = all_made (up_to_gate end_turns) (up_to_gate (ring_phases p q Ends fills)) (ap (λ (l : List Phase). up_to_gate l) end_is) before in
+              stopped (End asked) fills (fault.StoreFault (Some epoch)) made.events (refl, inl made.dealt, answers_hidden (Unsure (fault.StoreFault (Some epoch))) one) made.noted
+              (end_tape (Unsure (fault.StoreFault (Some epoch))) one) (doubt_why (fault.StoreFault (Some epoch)) one)
+          by_part (inr all) =
+              let made = all_made end_turns (ring_phases p q Ends fills) end_is all in
+              stopped (End asked) fills (fault.StoreFault (Some epoch)) made.events (refl, inr made.dealt, answers_hidden (Unsure (fault.StoreFault (Some epoch))) one) made.noted
+              (end_tape (Unsure (fault.StoreFault (Some epoch))) one) (doubt_why (fault.StoreFault (Some epoch)) one)
 
       doubt_stops : (refused : Fault) → EndCalled disk old new notes (map write_from asked) (Err (Unsure refused)) → EndStops refused
       doubt_stops refused one =
@@ -521,7 +529,7 @@ module _ {V S : Type 0} (k : Kind V) (disk : S → Disk) (runs : V → Running S
 
   -- each call
   pub ring_does : (q : RingPublic) (h : RingHidden) (so_far : List Shape) (n : ℕ) (v : V) (call : VaultCall) (answer : VaultAnswer) (w : V) → RingBehind q h so_far n v → Called k v call answer w
-      → IsCallOfKind ring_kind keys p f opened RingBehind (disk (runs v).store) (disk (runs w).store) (runs w).drawn w q h so_far n call answer
+      → IsCallOfKind ring_kind keys most p f opened RingBehind (disk (runs v).store) (disk (runs w).store) (runs w).drawn w q h so_far n call answer
   ring_does q h so_far n v (Fetch asks) (Values values) w at one =
       let is : FetchCalled disk (runs v) (runs w) one.notes asks (Ok tt) = words.called v (Fetch asks) (Values values) one.notes w one.called in
       let rs' = then q h so_far n v w at asks one.notes in
@@ -533,7 +541,7 @@ module _ {V S : Type 0} (k : Kind V) (disk : S → Disk) (runs : V → Running S
               (words_left q h so_far n v w at asks one.notes is (λ none. none)) at.sealed (seals_left q h so_far n v w at asks one.notes is (λ none. none)),
           fit q h so_far n v w at asks one.notes is,
         );
-        seen = whole_row q h so_far n v w at (batch_row q h so_far n v w at rs') one.notes Fetches (fills_of p h.content rs') (batch_is q h so_far n v w at rs') (is.scheduled h.content h.records at.planned (is_next q h so_far n v w at));
+        seen = all_made q h so_far n v w at (batch_turns q h so_far n v w at rs') (ring_phases p q Fetches (fills_of p h.content rs')) (batch_is q h so_far n v w at rs') (is.scheduled h.content h.records at.planned (is_next q h so_far n v w at)).seen;
         at = fetched_at q h so_far n v w at asks one.notes is (held_on q h so_far n v w at (Fetch asks) (Values values) one (λ u. refl));
       }
   ring_does q h so_far n v (End writes) Ended w at one =
@@ -542,7 +550,7 @@ module _ {V S : Type 0} (k : Kind V) (disk : S → Disk) (runs : V → Running S
         drawn = fills_with_lifts p h.content h.records;
         behind = ended disk (runs v) (runs w) one.notes p h at.params at.planned at.generation at.tape is.run (map write_from writes) is;
         draws = draws_end disk (runs v) (runs w) one.notes p h at.params at.planned at.generation at.tape is.run (map write_from writes) is (all_shown q h so_far n v w at is.none_left) at.epoch_hidden at.sealed;
-        seen = whole_row q h so_far n v w at (end_row q h so_far n v w at) one.notes Ends (fills_with_lifts p h.content h.records) (end_is q h so_far n v w at) (is.scheduled h.content h.records at.planned);
+        seen = all_made q h so_far n v w at (end_turns q h so_far n v w at) (ring_phases p q Ends (fills_with_lifts p h.content h.records)) (end_is q h so_far n v w at) (is.scheduled h.content h.records at.planned).seen;
         at = ended_at q h so_far n v w at (map write_from writes) one.notes is (held_on q h so_far n v w at (End writes) Ended one (λ u. refl));
       }
   ring_does q h so_far n v (Fetch asks) (RefusedBy refused) w at one =
@@ -556,7 +564,7 @@ module _ {V S : Type 0} (k : Kind V) (disk : S → Disk) (runs : V → Running S
   ring_does q h so_far n v (End writes) (Values values) w at one = tt
 
 pub ring_calls_do : {V S : Type 0} (k : Kind V) (disk : S → Disk) → RingCallsDo k disk
-ring_calls_do k disk runs words keys p f first q h so_far n v call answer w at one = ring_does k disk runs words keys p f (disk (runs first).store) q h so_far n v call answer w at one
+ring_calls_do k disk runs words keys most p f first q h so_far n v call answer w at one = ring_does k disk runs words keys most p f (disk (runs first).store) q h so_far n v call answer w at one
 
 pub words_are_of_tape : {V S : Type 0} (k : Kind V) (disk : S → Disk) → RingWordsAreOfTape k disk
-words_are_of_tape k disk runs keys p f first q h n v at refused = at.tape
+words_are_of_tape k disk runs keys most p f first q h n v at refused = at.tape

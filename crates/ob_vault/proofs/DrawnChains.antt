@@ -3,7 +3,7 @@ use Rattle.std.specs.Prelude.{◌≡◌, ℕ, ◌<◌, List, [], ◌∷◌, ◌+
 use Rattle.std.proofs.Common.{arith, length-append, refl, sym, ap, subst, ◌∙◌}
 use Rattle.std.proofs.lemmas.List.{append-nil, append_assoc, get_or_append_left}
 use Rattle.ob_base.specs.declared.params.Params.{Params}
-use Rattle.ob_vault.specs.Phases.{Shape}
+use Rattle.ob_vault.specs.Shapes.{Shape}
 use Rattle.ob_vault.specs.KindShown.{AreDrawn}
 use Rattle.ob_recover.proofs.FreshLaws.{lives_are_fresh}
 use Rattle.ob_recover.proofs.Pads.{life_goes_on}

@@ -145,6 +145,9 @@ module _ {S : Type 0} (disk : S → Disk) (word_of : WordId → ℕ) (s : LifeSt
       rest = ShowLifts ∷ the_end ∷ [];
       pending = Some ShowLifts;
       acts = refl;
+      is_life = tt;
+      next = inr (ShowLifts, the_end ∷ [], refl, refl);
+      small = (runs.small, λ b e. no_append (IsBatchSmall b) b e);
       left = record {
         allowed = λ a e. subst (λ (x : LifeAct). IsActAllowed p word_of s x) (same_act ShowLifts a e) lifts_allowed;
         stands = λ i same. inl (stands_old i (subst (Stands keys p st) same stands));
@@ -271,6 +274,9 @@ module _ {S : Type 0} (disk : S → Disk) (word_of : WordId → ℕ) (s : LifeSt
         rest = the_end ∷ [];
         pending = Some the_end;
         acts = refl;
+        is_life = (lifts_allowed, tt);
+        next = inr (the_end, [], refl, refl);
+        small = (runs.small, λ b e. no_append_end (IsBatchSmall b) (map id_write fs) (new.run).drawn (slot_kept then) b e);
         left = record {
           allowed = λ a e. subst (λ (x : LifeAct). IsActAllowed p word_of lifted x) (same_act the_end a e) end_allowed;
           stands = λ i same. by_one i (subst (OneOf keys p st (standing_at_end st new.run fs)) same one);

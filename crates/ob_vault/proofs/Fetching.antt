@@ -152,6 +152,9 @@ module _ {S : Type 0} (disk : S → Disk) (word_of : WordId → ℕ) (s : LifeSt
             rest = Append b ∷ ShowBatch ∷ [];
             pending = Some (Append b);
             acts = refl;
+            is_life = tt;
+            next = inr (Append b, ShowBatch ∷ [], refl, refl);
+            small = (runs.small, λ x e. subst IsBatchSmall (same_batch b x (same_act (Append b) (Append x) e)) small_batch);
             left = record {
               allowed = λ a e. subst (λ (x : LifeAct). IsActAllowed p word_of s x) (same_act (Append b) a e) (allowed some_left);
               stands = λ i same. by_one i (subst (OneOf keys p st (with_record st r)) same one);
@@ -282,6 +285,21 @@ module _ {S : Type 0} (disk : S → Disk) (word_of : WordId → ℕ) (s : LifeSt
 
   -- ---- it was worn out: the store is the same
 
+  none_within : (c : Image) → Stands keys p st c → IsLeftWithin disk word_of old new notes s (Fetch asks) c
+  none_within c stands = record {
+    made = [];
+    rest = Append b ∷ ShowBatch ∷ [];
+    pending = None;
+    acts = refl;
+    is_life = tt;
+    next = inl refl;
+    small = (runs.small, λ x e. none_pending (IsBatchSmall x) (Append x) e);
+    left = record {
+      allowed = λ a e. none_pending (IsActAllowed p word_of s a) a e;
+      stands = λ i is. inl (stands_old i (subst (Stands keys p st) is stands));
+    };
+  }
+
   idle_called : ((c : Image) → (disk old.store).left_since (disk old.store).moment c → (disk old.store).may_leave c) → new.store ≡ old.store → IsCallInLife disk word_of old new notes s (Fetch asks) false
   idle_called only same =
       let stays = λ (c : Image) (left : (disk new.store).may_leave c).
@@ -293,16 +311,9 @@ module _ {S : Type 0} (disk : S → Disk) (word_of : WordId → ℕ) (s : LifeSt
         shown = λ x e. none_pending _ (Append x) e;
         left = λ c left. record { allowed = λ a e. none_pending (IsActAllowed p word_of s a) a e; stands = λ i is. inl (stays i (subst (disk new.store).may_leave is left)) };
         moments = subst (λ (x : S). LeavesOnly (disk old.store) (disk x) (IsLeftWithin disk word_of old new notes s (Fetch asks))) (sym same)
-            (started (disk old.store) (IsLeftWithin disk word_of old new notes s (Fetch asks)) (λ c since. record {
-              made = [];
-              rest = Append b ∷ ShowBatch ∷ [];
-              pending = None;
-              acts = refl;
-              left = record {
-                allowed = λ a e. none_pending (IsActAllowed p word_of s a) a e;
-                stands = λ i is. inl (stands_old i (settled_stands old.run keys p st (disk old.store) i runs.at refl refl (subst (disk old.store).may_leave is (only c since))));
-              };
-            }));
+            (started (disk old.store) (IsLeftWithin disk word_of old new notes s (Fetch asks))
+            (λ c since. none_within c (settled_stands old.run keys p st (disk old.store) c runs.at refl refl (only c since)))
+            (λ tells. none_within (disk old.store).cells (runs.at).stands));
         small = (runs.small, λ x e. none_pending (IsBatchSmall x) (Append x) e);
         onward = λ yes. absurd (false≢true yes);
       }

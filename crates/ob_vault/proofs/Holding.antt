@@ -24,17 +24,17 @@ use Rattle.ob_stand.proofs.EndLaws.{end_spares}
 use Rattle.ob_stand.proofs.VaultLaws.{ring_stands, writes_agree}
 use Rattle.ob_store.specs.Calls.{GoesOn}
 use Rattle.ob_store.specs.Disk.{Clock, Disk, Image, NotAfter}
-use Rattle.ob_store.specs.Images.{IsSynced, LeavesOnly}
+use Rattle.ob_store.specs.Images.{IsImageOf, IsSynced, LeavesOnly}
 use Rattle.ob_store.proofs.Moments.{weakened}
 use Rattle.ob_tables.specs.declared.entry.Entry.{Entry}
 use Rattle.ob_stand.specs.Values as taken
 use Rattle.ob_stand.specs.Values.{Values}
-use Rattle.ob_twin.proofs.Moves.{at_the_end}
+use Rattle.ob_twin.proofs.Moves.{images_at_end, settled_image}
 use Rattle.ob_vault.specs.RingVaults.{RingHolds, RingServes, RingSound, counts_of_run, lent_both}
 
 -- two references more change nothing of what crashes leave
 pub lent_leaves : (a b x y : GName) (old new : Disk) (P : Image → Type 0) → LeavesOnly old new P → LeavesOnly (lent_both a b old) (lent_both x y new) P
-lent_leaves a b x y old new P run = record { later = run.later; each = run.each; before = run.before }
+lent_leaves a b x y old new P run = record { later = run.later; each = run.each; before = run.before; told = run.told }
 
 -- nor of what goes on
 pub lent_goes : (a b : GName) (old new : Disk) → GoesOn old new → GoesOn (lent_both a b old) (lent_both a b new)
@@ -96,9 +96,9 @@ module _ (keys : Keys) (p : Params) (g : ℕ) where
   stands_as : (s : RingStanding) (at : Standing) (c : Image) → g ≡ s.generation → IsRingOf s at → Stands keys p s c → StandsRing keys p g c at
   stands_as s at c under is stands = subst (λ n. StandsRing keys p n c at) (sym under) (ring_stands keys p s c at is stands)
 
-  -- a settled store leaves what it stands for
-  left_stands : (s : RingStanding) (disk : Disk) (c : Image) → IsSynced disk → Stands keys p s disk.cells → disk.may_leave c → Stands keys p s c
-  left_stands s disk c settled stands left = end_spares keys p s c disk.cells (λ k off. settled c left k) stands
+  -- a settled store leaves what it stands for, and reads give it
+  left_stands : (s : RingStanding) (disk : Disk) (c : Image) → IsSynced disk → Stands keys p s disk.cells → IsImageOf disk c → Stands keys p s c
+  left_stands s disk c settled stands image = end_spares keys p s c disk.cells (λ k off. settled_image disk settled c image k) stands
 
 module _ (run : Run) (old : Disk) (v : VaultState) (holds : RingHolds run old v) (serving : run.spent ≡ false) where
   abbrev pub serves : RingServes run old v
@@ -164,12 +164,12 @@ module _ (run : Run) (old : Disk) (v : VaultState) (holds : RingHolds run old v)
 
         module _ (same_keys : (new.sealer).keys ≡ keys) (same_generation : (new.sealer).generation ≡ g) (counts_now : (t : Clock) (c : Image) → NotAfter t disk.moment → disk.may_leave c → disk.left_since t c)
             (leaves : LeavesOnly old disk (OneOf keys run.params s (with_record s r))) where
-          left_now : (c : Image) → disk.may_leave c → StandsRing (new.sealer).keys new.params (new.sealer).generation c (standing_now v)
+          left_now : (c : Image) → IsImageOf disk c → StandsRing (new.sealer).keys new.params (new.sealer).generation c (standing_now v)
           left_now c left =
               subst (λ n. StandsRing (new.sealer).keys new.params n c (standing_now v)) (sym same_generation)
               (subst (λ (q : Params). StandsRing (new.sealer).keys q g c (standing_now v)) (sym params)
               (subst (λ (k : Keys). StandsRing k run.params g c (standing_now v)) (sym same_keys)
-              (one_now c (at_the_end old disk (OneOf keys run.params s (with_record s r)) counts_now leaves c left))))
+              (one_now c (images_at_end old disk (OneOf keys run.params s (with_record s r)) counts_now leaves c left))))
 
           pub fetch_sound : (x : Result (Unit {0}) Fault) → RingHolds new disk (vault_next v (Fetch asks) (fetch_answer out x)) → RingSound new disk (vault_next v (Fetch asks) (fetch_answer out x))
           fetch_sound (Ok done) then = record { holds = then; images = λ c left. (standing_now v, left_now c left, inl refl) }
@@ -234,11 +234,11 @@ module _ (run : Run) (old : Disk) (v : VaultState) (holds : RingHolds run old v)
         }
         end_sound (Err (end.Before f)) at leaves holding = record {
           holds = holding;
-          images = λ c left. as_new (MayStand (record v { spent = true })) c (standing_now v, now_stands c (at_the_end old disk (EndImages keys run.params s ws new (Err (end.Before f))) counts_now leaves c left), inl refl);
+          images = λ c left. as_new (MayStand (record v { spent = true })) c (standing_now v, now_stands c (images_at_end old disk (EndImages keys run.params s ws new (Err (end.Before f))) counts_now leaves c left), inl refl);
         }
         end_sound (Err (end.Unsure f)) at leaves holding = record {
           holds = holding;
-          images = λ c left. as_new (MayStand (record v { spent = true; doubt = Some (standing_next v writes) })) c (in_doubt c (at_the_end old disk (EndImages keys run.params s ws new (Err (end.Unsure f))) counts_now leaves c left));
+          images = λ c left. as_new (MayStand (record v { spent = true; doubt = Some (standing_next v writes) })) c (in_doubt c (images_at_end old disk (EndImages keys run.params s ws new (Err (end.Unsure f))) counts_now leaves c left));
         }
           where
             in_doubt : (c : Image) → OneOf keys run.params s then c → StandsIn (StandsRing keys run.params g) (MayStand (record v { spent = true; doubt = Some (standing_next v writes) })) c

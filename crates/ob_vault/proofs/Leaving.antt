@@ -6,7 +6,7 @@ use Rattle.ob_base.specs.declared.params.Params.{Params}
 use Rattle.ob_tables.specs.Content.{Content}
 use Rattle.ob_fetch.specs.Fetches.{words_since}
 use Rattle.ob_fetch.specs.declared.run.Run.{Run}
-use Rattle.ob_vault.specs.Phases.{Shape}
+use Rattle.ob_vault.specs.Shapes.{Shape}
 use Rattle.ob_vault.specs.KindShown.{AreDrawn}
 use Rattle.ob_recover.specs.Calls.{acts_of}
 use Rattle.ob_recover.specs.Life.{Append, IsActAllowed, LifeAct, LifeState, WordId, reached}
@@ -38,8 +38,8 @@ use Rattle.ob_vault.specs.Shown.{AreOfLife, IsInLife}
 
 module _ {V S : Type 0} (k : Kind V) (disk : S → Disk) (runs : V → Running S) (words : HasRingWords k disk runs)
     (counts_now : (x : S) (t : Clock) (c : Image) → NotAfter t (disk x).moment → (disk x).may_leave c → (disk x).left_since t c) (only_now : (x : S) (c : Image) → (disk x).left_since (disk x).moment c → (disk x).may_leave c)
-    (keys : Keys) (p : Params) (f : RingFound) (opened : Disk) where
-  module _ (q : RingPublic) (h : RingHidden) (n : ℕ) (v : V) (at : RingAt k disk runs keys p f opened q h n v) (word_of : WordId → ℕ) (s : LifeState) (here : IsInLife p word_of h s) (lies : RunIsAtHidden (runs v).run h.content h.records (disk (runs v).store)) where
+    (keys : Keys) (most : ℕ) (p : Params) (f : RingFound) (opened : Disk) where
+  module _ (q : RingPublic) (h : RingHidden) (n : ℕ) (v : V) (at : RingAt k disk runs keys most p f opened q h n v) (word_of : WordId → ℕ) (s : LifeState) (here : IsInLife p word_of h s) (lies : RunIsAtHidden (runs v).run h.content h.records (disk (runs v).store)) where
     abbrev run : Run
     run = (runs v).run
 
@@ -76,7 +76,7 @@ module _ {V S : Type 0} (k : Kind V) (disk : S → Disk) (runs : V → Running S
       does : RingCalled disk (runs v) (runs w) one.notes call answer
       does = words.called v call answer one.notes w one.called
 
-      kept : KeepsRun disk (runs v) (runs w) one.notes
+      pub kept : KeepsRun disk (runs v) (runs w) one.notes
       kept = kept_by disk (runs v) (runs w) one.notes call answer does
 
       runs_here : RunsInLife word_of s run (disk (runs v).store)
@@ -91,15 +91,15 @@ module _ {V S : Type 0} (k : Kind V) (disk : S → Disk) (runs : V → Running S
         begun = here.begun;
       }
 
-      made : IsCallInLife disk word_of (runs v) (runs w) one.notes s call (is_answered answer)
+      pub made : IsCallInLife disk word_of (runs v) (runs w) one.notes s call (is_answered answer)
       made = call_lives disk word_of s (runs v) (runs w) one.notes (λ t c. counts_now (runs w).store t c) (λ c. only_now (runs v).store c) call answer runs_here
           (subst (λ g. AreTapeWords word_of g (runs w).drawn) (sym at.generation) tape) does
 
-      acts_are : (a : VaultCall) → AreActsOf a (acts_of (life_call disk word_of (runs v) (runs w) one.notes a))
+      pub acts_are : (a : VaultCall) → AreActsOf a (acts_of (life_call disk word_of (runs v) (runs w) one.notes a))
       acts_are (Fetch asks) = (life_batch (record_of_fetch disk (runs v) (runs w) one.notes asks), refl, refl)
       acts_are (End ws) = (map id_write (writes_of_end disk (runs v) (runs w) one.notes (map write_from ws)), ((runs w).run).drawn, slot_kept (content_of_ring ((runs w).run).ring), refl)
 
-      first_of : (done : List LifeAct) (in_flight : Option LifeAct)
+      pub first_of : (done : List LifeAct) (in_flight : Option LifeAct)
           → ((done ≡ []) × (in_flight ≡ None)) ⊎ ((rest : List LifeAct) × (acts_of (life_call disk word_of (runs v) (runs w) one.notes call) ≡ done ++ rest) × ((in_flight ≡ None) ⊎ ((a : LifeAct) × (more : List LifeAct) × (in_flight ≡ Some a) × (rest ≡ a ∷ more))))
           → AreFirstActs (Some call) done in_flight
       first_of done in_flight (inl (none, idle)) =
@@ -122,7 +122,7 @@ module _ {V S : Type 0} (k : Kind V) (disk : S → Disk) (runs : V → Running S
 
   -- ---- from what was found on
 
-  module _ (calls : List VaultCall) (steps : List (Shape × Fills)) (q : RingPublic) (h : RingHidden) (n : ℕ) (v : V) (drawn : AreDrawn ring_kind p (ring_hidden f) calls steps h) (at : RingAt k disk runs keys p f opened q h n v) where
+  module _ (calls : List VaultCall) (steps : List (Shape × Fills)) (q : RingPublic) (h : RingHidden) (n : ℕ) (v : V) (drawn : AreDrawn ring_kind p (ring_hidden f) calls steps h) (at : RingAt k disk runs keys most p f opened q h n v) where
     on : GoesOn (ring_hidden f) h
     on = all_on p (ring_hidden f) h calls steps drawn
 

@@ -6,7 +6,6 @@ pub mod Ready
 pub mod Written
 pub mod Shapes
 pub mod Naming
-pub mod Phasing
 pub mod Bounds
 pub mod Drawing
 pub mod Calling

@@ -1,4 +1,7 @@
 -- A vault over an opened store is sound.
+use Rattle.ob_stand.proofs.Frames.{stands_all}
+use Rattle.ob_twin.proofs.Moves.{settled_image}
+use Rattle.ob_store.specs.Images.{IsImageOf}
 use Rattle.std.specs.Prelude.{◌≡◌, ◌≤◌, ℕ, suc, false}
 use Rattle.std.specs.FinMap as finite
 use Rattle.std.specs.Ordering.{nat_cmp}
@@ -52,12 +55,12 @@ module _ {L : Type 0} (keys : Keys) (p : Params) (s : RingStanding) (disk : Disk
   }
 
   module _ (content : Map nat_cmp) (map : (k : ℕ) → s.map k ≡ finite.get content k) where
-    stands_now : (c : Image) → disk.may_leave c → StandsRing (o.sealer).keys o.params (o.sealer).generation c (record { epoch = s.epoch; content = content })
-    stands_now c left =
+    stands_now : (c : Image) → IsImageOf disk c → StandsRing (o.sealer).keys o.params (o.sealer).generation c (record { epoch = s.epoch; content = content })
+    stands_now c image =
         subst (λ (k : Keys). StandsRing k o.params (o.sealer).generation c (record { epoch = s.epoch; content = content })) (sym same_keys)
         (subst (λ (q : Params). StandsRing keys q (o.sealer).generation c (record { epoch = s.epoch; content = content })) (sym opened.params)
         (subst (λ n. StandsRing keys p n c (record { epoch = s.epoch; content = content })) (sym same_generation)
-        (ring_stands keys p then c (record { epoch = s.epoch; content = content }) (record { epoch = refl; map = map }) (opened.images c left))))
+        (ring_stands keys p then c (record { epoch = s.epoch; content = content }) (record { epoch = refl; map = map }) (stands_all keys p then c disk.cells (settled_image disk opened.settled c image) opened.stands))))
 
     pub opened_sound : RingSound (run_over o) disk (opened_ring o s content)
     opened_sound = record {

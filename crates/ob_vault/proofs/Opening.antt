@@ -4,35 +4,33 @@ use Rattle.ob_base.specs.declared.params.Params.{Params}
 use Rattle.ob_tables.specs.Content.{Content, content_of}
 use Rattle.ob_vault.specs.Kinds.{AllStand, IsOpenedAt, Stands, StandsAsBefore}
 use Rattle.ob_vault.specs.Openings.{OpensStanding}
-use Rattle.ob_vault.specs.Phases.{events_of_phases}
+use Rattle.ob_schedule.specs.Phases.{Reads, open_phases}
 use Rattle.ob_log.specs.Logs.{BatchRecord}
 use Rattle.ob_recover.specs.Finds.{IsFoundInRing}
 use Rattle.ob_recover.specs.declared.found.Found.{Found}
 use Rattle.ob_recover.specs.Known.{fills_of, gates_open, public_of_kept}
+use Rattle.ob_recover.proofs.Dealing.{made_as, made_join, made_steps}
+use Rattle.ob_recover.specs.Telling.{ArePhasesMade}
 use Rattle.ob_vault.proofs.Opened.{opened_at as run_is_at}
 use Rattle.ob_vault.specs.RingLaws.{RingLeavesStanding, RingOpens, RingOpensAt, RingOpensStanding, found_ring}
-use Rattle.ob_schedule.specs.Schedule.{open_notes}
 use Rattle.ob_seal.specs.Sealing.{Sealing}
 use Rattle.ob_seal.specs.declared.keys.Keys.{Keys}
 use Rattle.ob_serial.specs.Vaults.{Standing}
 use Rattle.ob_stand.specs.Stands as stand
 use Rattle.ob_stand.specs.Stands.{OneOf, RingStanding, StandsRing, ring_standing, with_generation}
-use Rattle.ob_store.proofs.Events.{joined}
 use Rattle.ob_store.proofs.Moments.{leaves_of, passed_then, then_on, weakened}
 use Rattle.ob_store.specs.Calls.{Keeps, Notes}
 use Rattle.ob_store.specs.Disk.{Disk, Image}
 use Rattle.ob_store.specs.Images.{LeavesOnly, Passes, Same}
 use Rattle.ob_store.specs.Lines.{Trace}
-use Rattle.ob_store.specs.Told.{events_of}
-use Rattle.ob_store.specs.declared.event.Event.{Event}
 use Rattle.ob_store.specs.declared.event.Event.TheVariants as event
+use Rattle.ob_store.specs.declared.watch.Note.TheVariants as note
 use Rattle.ob_opening.specs.OpeningActs.{AreGatesIn}
 use Rattle.ob_opening.specs.OpeningRuns.{IsRingOpened, OpensFrom}
 use Rattle.ob_opening.specs.Openings.{OpensWhatStood}
 use Rattle.ob_opening.specs.Openings as vault
 use Rattle.ob_opening.specs.declared.opening.Opening.{Opening}
 use Rattle.ob_vault.proofs.Founding.{found_is_standing}
-use Rattle.ob_vault.proofs.Phasing.{phased}
 use Rattle.ob_vault.specs.RingKind.{GoesOnFrom, IsRingFound, RingFound, ring_kind}
 use Rattle.ob_vault.specs.Seen.{opening_phases}
 
@@ -51,18 +49,24 @@ module _ (keys : Keys) (p : Params) (old : Disk) (only : (c : Image) → old.lef
   as_before : (c : Image) → old.may_leave c → StandsAsBefore ring_kind keys p old c
   as_before c left = let (at, (g, stands)) = all c left in record { at = at; generation = g; stands = stands; earlier = g; no_lower = omega arith; was = inr (c, left, stands) }
 
+  -- and what reads give does
+  cells_before : (at : Standing) → Stands ring_kind keys p old.cells at → StandsAsBefore ring_kind keys p old old.cells
+  cells_before at (g, stands) = record { at = at; generation = g; stands = stands; earlier = g; no_lower = omega arith; was = inl stands }
+
   -- until something is made sure of, an image stands as one did before
-  left_reading : (new : Disk) → Passes Same old new → LeavesOnly old new (StandsAsBefore ring_kind keys p old)
-  left_reading new passes = leaves_of Same (λ d. old.may_leave d) (StandsAsBefore ring_kind keys p old) old new passes only (λ c left. left) (λ c d was same. subst (StandsAsBefore ring_kind keys p old) (sym same) (as_before d was)) (λ c was. as_before c was)
+  left_reading : (new : Disk) (at : Standing) → Stands ring_kind keys p old.cells at → Passes Same old new → LeavesOnly old new (StandsAsBefore ring_kind keys p old)
+  left_reading new at stands passes = leaves_of Same (StandsAsBefore ring_kind keys p old) (StandsAsBefore ring_kind keys p old) old new passes only as_before (λ tells. cells_before at stands)
+      (λ c d was same. subst (StandsAsBefore ring_kind keys p old) (sym same) was)
+      (λ c was. was)
 
   -- and from then on at no lower generation
   left_since : {S : Type 0} (disk : S → Disk) (new : Disk) → old.tells → OpensStanding ring_kind disk keys p old new → (at : Standing) → Stands ring_kind keys p old.cells at → LeavesOnly old new (StandsAsBefore ring_kind keys p old)
-  left_since disk new tells from at (g, stands) = then_on old (disk from.synced) new (StandsAsBefore ring_kind keys p old) (left_reading (disk from.synced) from.until)
+  left_since disk new tells from at (g, stands) = then_on old (disk from.synced) new (StandsAsBefore ring_kind keys p old) (left_reading (disk from.synced) at (g, stands) from.until)
       (weakened (disk from.synced) new (λ c. (later : ℕ) × (g ≤ later) × StandsRing keys p later c at) (StandsAsBefore ring_kind keys p old)
       (λ c (later, high, now). record { at = at; generation = later; stands = now; earlier = g; no_lower = high; was = inl stands }) (from.since g at tells stands))
 
   pub left_opening : {S : Type 0} (disk : S → Disk) (new : Disk) → old.tells → Passes Same old new ⊎ OpensStanding ring_kind disk keys p old new → (at : Standing) → Stands ring_kind keys p old.cells at → LeavesOnly old new (StandsAsBefore ring_kind keys p old)
-  left_opening disk new tells (inl same) at stands = left_reading new same
+  left_opening disk new tells (inl same) at stands = left_reading new at stands same
   left_opening disk new tells (inr from) at stands = left_since disk new tells from at stands
 
 -- the head's read and the opening's first sync
@@ -106,22 +110,19 @@ module _ {L : Type 0} (keys : Keys) (p : Params) (old mid new : Disk) (found : F
       subst (λ (i : Image). AreGatesIn found.gates i) (same_cells old mid keeps tells) (record { generation = (found_in (keeps.tells tells)).generation_gates; epoch = (found_in (keeps.tells tells)).epoch_gates })
 
   -- the schedule's opening
-  abbrev told_phases : List Event
-  told_phases = events_of_phases (opening_phases p (content_of found.tables) found.records o.epoch (o.sealer).generation found.gates)
-
-  opening_is : vault.IsOpeningOf keys p found o → events_of (open_notes p (public_of_kept p (content_of found.tables) [] found.epoch found.gates) (fills_of p (content_of found.tables) found.records) (gates_open found.gates) (suc found.generation) (length found.records))
-      ≡ events_of_phases (opening_phases p (content_of found.tables) found.records o.epoch (o.sealer).generation found.gates)
+  opening_is : vault.IsOpeningOf keys p found o → open_phases p (public_of_kept p (content_of found.tables) [] found.epoch found.gates) (fills_of p (content_of found.tables) found.records) (gates_open found.gates) (suc found.generation) (length found.records)
+      ≡ opening_phases p (content_of found.tables) found.records o.epoch (o.sealer).generation found.gates
   opening_is is =
-      ap (λ e. events_of (open_notes p (public_of_kept p (content_of found.tables) [] e found.gates) (fills_of p (content_of found.tables) found.records) (gates_open found.gates) (suc found.generation) (length found.records))) (sym is.epoch)
-      ∙ ap (λ g. events_of (open_notes p (public_of_kept p (content_of found.tables) [] o.epoch found.gates) (fills_of p (content_of found.tables) found.records) (gates_open found.gates) g (length found.records))) (sym (ap (λ (x : Sealing). x.generation) is.sealer))
-      ∙ sym (phased (open_notes p (public_of_kept p (content_of found.tables) [] o.epoch found.gates) (fills_of p (content_of found.tables) found.records) (gates_open found.gates) (o.sealer).generation (length found.records)))
+      ap (λ e. opening_phases p (content_of found.tables) found.records e (suc found.generation) found.gates) (sym is.epoch)
+      ∙ ap (λ g. opening_phases p (content_of found.tables) found.records o.epoch g found.gates) (sym (ap (λ (x : Sealing). x.generation) is.sealer))
 
 -- the head's read, and then the schedule's opening
-pub opening_seen : {S L : Type 0} (disk : S → Disk) (keys : Keys) (p : Params) (old mid new : S) (before after : Trace) (o : Opening L) (is : IsRingOpened disk keys 1 p mid new before after o) → Notes (event.Read 0 ∷ []) (disk old).seen (disk mid).seen
-    → Notes (event.Read 0 ∷ events_of_phases (ring_kind.opens p (found_ring is.found o) (is.found).gates)) (disk old).seen (disk new).seen
-opening_seen disk keys p old mid new before after o is seen =
-    joined (event.Read 0 ∷ []) (events_of_phases (ring_kind.opens p (found_ring is.found o) (is.found).gates)) (disk old).seen (disk mid).seen (disk new).seen seen
-    (subst (λ (l : List Event). Notes l (disk mid).seen (disk new).seen) (opening_is keys p (disk old) (disk mid) (disk new) is.found o is.is) (((is.follows).told [] (is.found).gates).in_order (omega arith)))
+pub opening_seen : {S L : Type 0} (disk : S → Disk) (keys : Keys) (most : ℕ) (p : Params) (old mid new : S) (before after : Trace) (o : Opening L) (is : IsRingOpened disk keys most p mid new before after o) → 1 ≤ most
+    → Notes (event.Read 0 ∷ []) (disk old).seen (disk mid).seen → ArePhasesMade most (Reads (0 ∷ []) ∷ ring_kind.opens p (found_ring is.found o) (is.found).gates) (disk old).seen (disk new).seen
+opening_seen disk keys most p old mid new before after o is some head =
+    made_join most (Reads (0 ∷ []) ∷ []) (ring_kind.opens p (found_ring is.found o) (is.found).gates) (disk old).seen (disk mid).seen (disk new).seen
+    (made_steps most (note.Read 0 ∷ []) (disk old).seen (disk mid).seen (some, tt) head)
+    (made_as most _ (ring_kind.opens p (found_ring is.found o) (is.found).gates) (disk mid).seen (disk new).seen (opening_is keys p (disk old) (disk mid) (disk new) is.found o is.is) ((is.follows).told [] (is.found).gates).seen)
 
 -- ---- where the store stood
 
@@ -153,11 +154,11 @@ module _ {L : Type 0} (keys : Keys) (p : Params) (old mid new : Disk) (found : F
 -- ---- the laws
 
 pub ring_opens : {S : Type 0} (L : Type 0) (disk : S → Disk) → RingOpens L disk
-ring_opens L disk keys p old mid new before after o head is = record {
+ring_opens L disk keys most p old mid new before after o some head is = record {
   goes_on = goes_on keys p (disk old) (disk mid) (disk new) is.found o is.is;
   finds = finds keys p (disk old) (disk mid) (disk new) is.found o head.keeps is.is (λ tells. (is.told tells).found_in);
   starts = starts keys p (disk old) (disk mid) (disk new) is.found o head.keeps (λ tells. (is.told tells).found_in);
-  seen = opening_seen disk keys p old mid new before after o is head.seen;
+  seen = opening_seen disk keys most p old mid new before after o is some head.seen;
 }
 
 pub ring_opens_at : {S : Type 0} (L : Type 0) (disk : S → Disk) → RingOpensAt L disk

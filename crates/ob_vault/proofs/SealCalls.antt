@@ -1,7 +1,7 @@
 -- Calls of a ring store as acts.
-use Rattle.std.proofs.Common.{List}
+use Rattle.std.proofs.Common.{List, inl, inr, refl}
 use Rattle.ob_pads.specs.Lives.{Answers, IsAtGeneration}
-use Rattle.ob_pads.specs.Seals.{CellsAreSealed, SealerGoesOn, SealsBy}
+use Rattle.ob_pads.specs.Seals.{SealerGoesOn, SealsBy}
 use Rattle.ob_vault.specs.RingVaults.{KeepsRun, RingCalled, Running}
 use Rattle.ob_seal.specs.Sealing.{Sealing}
 use Rattle.ob_serial.specs.Vaults.{VaultAnswer, VaultCall, DoubtBy, End, Ended, Fetch, RefusedBy, Values}
@@ -27,7 +27,7 @@ module _ (old new : Disk) (only : (c : Image) → old.left_since old.moment c �
     tells = tells;
     further = further;
     seals = seals;
-    images = λ all. leaves_of SameGeneration stood stood old new moments only all (λ c d stands step. kept c d step stands) (λ c stands. stands);
+    images = λ all. leaves_of SameGeneration stood stood old new moments only (λ c left. all c (inl left)) (λ told. all old.cells (inr (told, refl))) (λ c d stands step. kept c d step stands) (λ c stands. stands);
   }
 
 module _ {S : Type 0} (disk : S → Disk) (old new : Running S) (notes : List Note) where

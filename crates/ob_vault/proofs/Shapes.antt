@@ -1,12 +1,8 @@
 -- Shapes of calls, one behind the other.
 use Rattle.std.proofs.Common.{◌≡◌, suc, List, [], ◌∷◌, ◌++◌, length, map, None, refl, ap}
-use Rattle.std.proofs.lemmas.List.Concat.{flat_map-append}
 use Rattle.ob_serial.specs.Vaults.{VaultCall, Fetch, End, VaultAnswer, Values, Ended, RefusedBy, DoubtBy}
-use Rattle.ob_vault.specs.Phases.{Phase, Shape, Fetches, Ends, answered, phase_events, events_of_phases, shape_of, shapes, refused}
+use Rattle.ob_vault.specs.Shapes.{Shape, Fetches, Ends, answered, shape_of, shapes, refused}
 use Rattle.ob_vault.specs.KindLaws.{AllAnswered}
-
-pub events_join : (xs ys : List Phase) → events_of_phases (xs ++ ys) ≡ events_of_phases xs ++ events_of_phases ys
-events_join xs ys = flat_map-append phase_events xs ys
 
 pub shapes_join : (xs ys : List (VaultCall × VaultAnswer)) → shapes (xs ++ ys) ≡ shapes xs ++ shapes ys
 shapes_join [] ys = refl

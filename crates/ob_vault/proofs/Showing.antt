@@ -10,6 +10,7 @@ use Rattle.ob_recover.specs.Known.{fills_of, fills_with_lifts, public_of_kept}
 use Rattle.ob_recover.specs.Lives.{LifeShowsFills, life_batch}
 use Rattle.ob_recover.specs.Telling.{IsRowShown}
 use Rattle.ob_vault.specs.RingVaults.{EndCalled, FetchCalled, HasPlanned, Running, record_of_fetch, write_from}
+use Rattle.ob_schedule.specs.Phases.{batch_phases, end_phases}
 use Rattle.ob_schedule.specs.Schedule.{batch_notes, end_notes}
 use Rattle.ob_stand.specs.Stands.{RingStanding, with_record}
 use Rattle.ob_store.specs.Disk.{Disk}
@@ -21,7 +22,7 @@ use Rattle.ob_vault.specs.Acts.{AreTapeWords, RunsInLife}
 module _ {S : Type 0} (disk : S → Disk) (word_of : WordId → ℕ) (s : LifeState) (old new : Running S) (notes : List Note) where
   pub end_shows : (writes : List (ℕ × Option (List ℕ))) (runs : RunsInLife word_of s old.run (disk old.store)) → EndCalled disk old new notes (map write_from writes) (Ok tt) → HasPlanned old.run (runs.standing).content (runs.standing).records
       → let p = (old.run).params in let c = (runs.standing).content in let rs = (runs.standing).records in
-      IsRowShown old.lanes (end_notes p (public_of_kept p c rs (old.run).epoch (old.run).gates) (fills_with_lifts p c rs)) notes (disk old.store).seen (disk new.store).seen × LifeShowsFills p word_of c rs s
+      IsRowShown old.lanes (end_phases p (public_of_kept p c rs (old.run).epoch (old.run).gates) (fills_with_lifts p c rs)) (end_notes p (public_of_kept p c rs (old.run).epoch (old.run).gates) (fills_with_lifts p c rs)) notes (disk old.store).seen (disk new.store).seen × LifeShowsFills p word_of c rs s
   end_shows writes runs is planned =
       let st : RingStanding = runs.standing in
       let holds = ((runs.at).stands).holds in (
@@ -47,7 +48,8 @@ module _ {S : Type 0} (disk : S → Disk) (word_of : WordId → ℕ) (s : LifeSt
     next_is = let all = ((runs.at).runs).left_are in omega (arith, all)
 
     pub fetch_shows : HasPlanned old.run st.content st.records
-        → IsRowShown old.lanes (batch_notes (old.run).params (public_of_kept (old.run).params st.content st.records (old.run).epoch (old.run).gates) (fills_of (old.run).params st.content (st.records ++ r ∷ [])) (length st.records)) notes (disk old.store).seen (disk new.store).seen
+        → IsRowShown old.lanes (batch_phases (old.run).params (public_of_kept (old.run).params st.content st.records (old.run).epoch (old.run).gates) (fills_of (old.run).params st.content (st.records ++ r ∷ [])) (length st.records))
+        (batch_notes (old.run).params (public_of_kept (old.run).params st.content st.records (old.run).epoch (old.run).gates) (fills_of (old.run).params st.content (st.records ++ r ∷ [])) (length st.records)) notes (disk old.store).seen (disk new.store).seen
         × LifeShowsFills (old.run).params word_of st.content (st.records ++ r ∷ []) (life_step (old.run).params word_of s (Append (life_batch r)))
     fetch_shows planned = (
       is.scheduled st.content st.records planned next_is,

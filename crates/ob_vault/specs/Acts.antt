@@ -1,5 +1,5 @@
 -- The calls of a ring vault, as acts of a life of its store.
-use Rattle.std.specs.Prelude.{◌≡◌, ℕ, suc, ◌+◌, ◌<◌, ◌≤◌, ◌^◌, Bool, true, false, List, [], ◌∷◌, ◌++◌, map, length, slice_index, Option, None, Some}
+use Rattle.std.specs.Prelude.{◌≡◌, ◌⊎◌, ℕ, suc, ◌+◌, ◌<◌, ◌≤◌, ◌^◌, Bool, true, false, List, [], ◌∷◌, ◌++◌, map, length, slice_index, Option, None, Some}
 use Rattle.ob_base.specs.Repeats.{Has}
 use Rattle.ob_base.specs.declared.params.Params.{Params}
 use Rattle.ob_base.specs.declared.value.Write.{Write}
@@ -15,6 +15,7 @@ use Rattle.ob_recover.specs.Known.{fills_of, fills_with_lifts, public_of_kept, s
 use Rattle.ob_recover.specs.Lives.{IsLifeAt, LifeShowsFills, life_batch, word_kept}
 use Rattle.ob_recover.specs.Telling.{IsRowShown}
 use Rattle.ob_vault.specs.RingVaults.{HasPlanned, RingCalled, Running, record_of_fetch, run_over, write_from, writes_of_end}
+use Rattle.ob_schedule.specs.Phases.{batch_phases, end_phases}
 use Rattle.ob_schedule.specs.Schedule.{batch_notes, end_notes}
 use Rattle.ob_seal.specs.declared.keys.Keys.{Keys}
 use Rattle.ob_serial.specs.VaultKinds.{AllCalled, Kind}
@@ -79,6 +80,9 @@ module _ {S : Type 0} (disk : S → Disk) (word_of : WordId → ℕ) (old new : 
     pub rest : List LifeAct
     pub pending : Option LifeAct
     pub acts : acts_of (life_call call) ≡ made ++ rest
+    pub is_life : IsLife (old.run).params word_of s made
+    pub next : (pending ≡ None) ⊎ ((a : LifeAct) × (more : List LifeAct) × (pending ≡ Some a) × (rest ≡ a ∷ more))
+    pub small : AreBatchesSmall (reached (old.run).params word_of s made).log × ((b : LifeBatch) → pending ≡ Some (Append b) → IsBatchSmall b)
     pub left : IsLeftAt ((old.run).sealer).keys (old.run).params word_of (reached (old.run).params word_of s made) pending image
 
   -- It makes the acts of its call, where it was answered; else the first of them, and the next may be in flight: where that is a record,
@@ -129,13 +133,14 @@ RingChainsInLife {V} {S} kind disk = (runs : V → Running S) → IsRingVault ki
 
 -- ---- what is shown
 
--- What an answered fetch shows is the schedule's batch, filled by what the life shows once it has the record: each label is the low bits
--- of the word that the life shows there, and each slot is the life's.
+-- What an answered fetch shows is the schedule's batch, its reads dealt to the lanes, filled by what the life shows once it has the record:
+-- each label is the low bits of the word that the life shows there, and each slot is the life's.
 abbrev pub FetchesShowLives : {S : Type 0} → (S → Disk) → Type 0
 FetchesShowLives {S} disk = (word_of : WordId → ℕ) (s : LifeState) (old new : Running S) (notes : List Note) (asks : List (Option ℕ)) (out : List (Option (List ℕ))) (runs : RunsInLife word_of s old.run (disk old.store))
     → AreTapeWords word_of ((old.run).sealer).generation new.drawn → RingCalled disk old new notes (Fetch asks) (Values out) → HasPlanned old.run (runs.standing).content (runs.standing).records
     → let p = (old.run).params in let c = (runs.standing).content in let rs = (runs.standing).records in let r = record_of_fetch disk old new notes asks in
-    IsRowShown old.lanes (batch_notes p (public_of_kept p c rs (old.run).epoch (old.run).gates) (fills_of p c (rs ++ r ∷ [])) (length rs)) notes (disk old.store).seen (disk new.store).seen
+    IsRowShown old.lanes (batch_phases p (public_of_kept p c rs (old.run).epoch (old.run).gates) (fills_of p c (rs ++ r ∷ [])) (length rs))
+    (batch_notes p (public_of_kept p c rs (old.run).epoch (old.run).gates) (fills_of p c (rs ++ r ∷ [])) (length rs)) notes (disk old.store).seen (disk new.store).seen
     × LifeShowsFills p word_of c (rs ++ r ∷ []) (life_step p word_of s (Append (life_batch r)))
 
 -- And an answered end shows the schedule's, its lifts filled by the slots that the life shows in them.
@@ -143,5 +148,6 @@ abbrev pub EndsShowLives : {S : Type 0} → (S → Disk) → Type 0
 EndsShowLives {S} disk = (word_of : WordId → ℕ) (s : LifeState) (old new : Running S) (notes : List Note) (writes : List (ℕ × Option (List ℕ))) (runs : RunsInLife word_of s old.run (disk old.store))
     → RingCalled disk old new notes (End writes) Ended → HasPlanned old.run (runs.standing).content (runs.standing).records
     → let p = (old.run).params in let c = (runs.standing).content in let rs = (runs.standing).records in
-    IsRowShown old.lanes (end_notes p (public_of_kept p c rs (old.run).epoch (old.run).gates) (fills_with_lifts p c rs)) notes (disk old.store).seen (disk new.store).seen
+    IsRowShown old.lanes (end_phases p (public_of_kept p c rs (old.run).epoch (old.run).gates) (fills_with_lifts p c rs))
+    (end_notes p (public_of_kept p c rs (old.run).epoch (old.run).gates) (fills_with_lifts p c rs)) notes (disk old.store).seen (disk new.store).seen
     × LifeShowsFills p word_of c rs s

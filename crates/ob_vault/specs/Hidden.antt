@@ -1,5 +1,5 @@
 -- What a ring store's vault keeps to itself, and what fills the holes of its calls.
-use Rattle.std.specs.Prelude.{◌≡◌, ◌⊎◌, ℕ, suc, ◌+◌, ◌%◌, ◌^◌, ◌<◌, ◌≤◌, true, false, List, [], ◌∷◌, ◌++◌, length, map, take, drop, slice_index, Option, None, Some, Err}
+use Rattle.std.specs.Prelude.{◌≡◌, ◌⊎◌, ℕ, suc, ◌+◌, ◌%◌, ◌^◌, ◌<◌, ◌≤◌, true, false, List, [], ◌∷◌, ◌++◌, length, map, drop, slice_index, Option, None, Some, Err}
 use Rattle.ob_base.specs.declared.fault.Fault.{Fault}
 use Rattle.ob_base.specs.declared.fault.Fault.TheVariants as fault
 use Rattle.ob_base.specs.declared.params.Params.{Params}
@@ -10,10 +10,10 @@ use Rattle.ob_tables.specs.Buckets.{version_at}
 use Rattle.ob_tables.specs.Rank.{ranks_of}
 use Rattle.ob_tables.specs.Content.{Content, Obeys}
 use Rattle.ob_end.specs.EndRuns.{EndAnswers, EndDraws, end_writes, rows_ended, seals_for_end, table_ended, words_for_end}
-use Rattle.ob_end.specs.Shown.{before_gate, end_lifts, up_to_gate}
+use Rattle.ob_end.specs.Shown.{before_gate, up_to_gate}
 use Rattle.ob_fetch.specs.Fetches.{FetchDraws, words_since}
 use Rattle.ob_stand.specs.Table.{flat_of}
-use Rattle.ob_vault.specs.Phases.{Ends, Fetches}
+use Rattle.ob_vault.specs.Shapes.{Ends, Fetches}
 use Rattle.ob_log.specs.Logs.{BatchRecord, RecordsFit}
 use Rattle.ob_recover.specs.Repeats.{entries_after_records, table_after_records}
 use Rattle.ob_ring.specs.Filling.{words_of}
@@ -22,15 +22,16 @@ use Rattle.ob_ring.specs.Writing.{entries_after}
 use Rattle.ob_recover.specs.Known.{fills_of, fills_with_lifts}
 use Rattle.ob_vault.specs.RingVaults.{write_from}
 use Rattle.ob_schedule.specs.Paths.{is_one_of}
-use Rattle.ob_schedule.specs.Schedule.{Fills, record_notes}
+use Rattle.ob_recover.specs.Telling.{AreDealt}
+use Rattle.ob_schedule.specs.Phases.{Phase, phases_of, shared}
+use Rattle.ob_schedule.specs.Schedule.{Fills, end_lifts, record_notes}
 use Rattle.ob_serial.specs.Vaults.{End, Fetch, VaultCall}
 use Rattle.ob_serial.specs.declared.vault.EndErr.{EndErr}
 use Rattle.ob_serial.specs.declared.vault.EndErr.TheVariants.{Before, Unsure}
-use Rattle.ob_store.specs.Told.{events_of}
 use Rattle.ob_store.specs.declared.event.Event.{Event}
 use Rattle.ob_tables.specs.Kept.{entry_at}
 use Rattle.ob_tables.specs.declared.entry.Entry.{Entry}
-use Rattle.ob_vault.specs.Seen.{RingPublic, ring_notes}
+use Rattle.ob_vault.specs.Seen.{RingPublic, ring_phases}
 
 -- The last epoch that ended, the content of its checkpoint, the records since, the generation, and of that the words which were drawn so
 -- far, and how many seals were made.
@@ -142,32 +143,36 @@ RingDrawsCut p h (End writes) f words = f ≡ fills_with_lifts p h.content h.rec
 
 -- ---- what is seen of a call that was cut off
 
--- the first ones of these, and no more
-abbrev pub AreFirst : List Event → List Event → Type 0
-AreFirst all more = (k : ℕ) × (more ≡ take k all)
+-- the first ones of these phases, and no more, with reads dealt to at most so many lanes
+abbrev pub AreFirst : ℕ → List Phase → List Event → Type 0
+AreFirst most all more = (first : List Phase) × (rest : List Phase) × (all ≡ first ++ rest) × AreDealt most first more
 
--- Of a batch that its store refused, the first of its record's events, or all of the batch's; where a slot is damaged, all of them.
-abbrev pub BatchCut : Params → RingPublic → Fills → Fault → List Event → Type 0
-BatchCut p q f (fault.StoreFault None) more = AreFirst (events_of (record_notes p (((q.known).epoch + 1) % 2) q.shown)) more ⊎ (more ≡ events_of (ring_notes p q Fetches f))
-BatchCut p q f (fault.Damaged cell check kept computed) more = more ≡ events_of (ring_notes p q Fetches f)
-BatchCut p q f _ more = ⊥
+-- Of a batch that its store refused, the first of its record's steps, or all of the batch's phases; where a slot is damaged, all of them.
+abbrev pub BatchCut : ℕ → Params → RingPublic → Fills → Fault → List Event → Type 0
+BatchCut most p q f (fault.StoreFault None) more = AreFirst most (phases_of (record_notes p (((q.known).epoch + 1) % 2) q.shown)) more ⊎ AreDealt most (ring_phases p q Fetches f) more
+BatchCut most p q f (fault.Damaged cell check kept computed) more = AreDealt most (ring_phases p q Fetches f) more
+BatchCut most p q f _ more = ⊥
 
--- Of an end that its store refused, the first events before the write that opens its register's gate; one that is left in doubt made that
+-- the lifts' reads alone, all of them
+abbrev pub AreLifts : ℕ → Params → RingPublic → Fills → List Event → Type 0
+AreLifts most p q f more = AreDealt most (shared (end_lifts p q.known f) ∷ []) more
+
+-- Of an end that its store refused, the first phases before the write that opens its register's gate; one that is left in doubt made that
 -- write, with the sync behind it or without. A damaged slot, or a full stash, is told behind all reads of the lifts and before any write.
-abbrev pub EndCut : Params → RingPublic → Fills → Fault → List Event → Type 0
-EndCut p q f (fault.StoreFault None) more = AreFirst (events_of (before_gate (ring_notes p q Ends f))) more
-EndCut p q f (fault.StoreFault (Some epoch)) more = (more ≡ events_of (up_to_gate (ring_notes p q Ends f))) ⊎ (more ≡ events_of (ring_notes p q Ends f))
-EndCut p q f (fault.Damaged cell check kept computed) more = more ≡ events_of (end_lifts p q.known f)
-EndCut p q f (fault.StashFull rows) more = more ≡ events_of (end_lifts p q.known f)
-EndCut p q f (fault.Worn number) more = (more ≡ []) ⊎ (more ≡ events_of (end_lifts p q.known f))
-EndCut p q f _ more = ⊥
+abbrev pub EndCut : ℕ → Params → RingPublic → Fills → Fault → List Event → Type 0
+EndCut most p q f (fault.StoreFault None) more = AreFirst most (before_gate (ring_phases p q Ends f)) more
+EndCut most p q f (fault.StoreFault (Some epoch)) more = AreDealt most (up_to_gate (ring_phases p q Ends f)) more ⊎ AreDealt most (ring_phases p q Ends f) more
+EndCut most p q f (fault.Damaged cell check kept computed) more = AreLifts most p q f more
+EndCut most p q f (fault.StashFull rows) more = AreLifts most p q f more
+EndCut most p q f (fault.Worn number) more = (more ≡ []) ⊎ AreLifts most p q f more
+EndCut most p q f _ more = ⊥
 
 -- An end is refused so, or left in doubt, where its numbers, its table and its writes let it be, in the order in which these are looked at.
 abbrev pub IsEndAnswer : Params → RingHidden → List (ℕ × Option (List ℕ)) → (words : List ℕ) → Fault → Type 0
 IsEndAnswer p h writes words refused = EndAnswers p (table_hidden p h) h.epoch (length h.words) h.seals (writes_hidden p h writes words) (Err (refusal_of refused))
 
 -- What is seen goes by the fault, its holes filled as the call's; a batch for which numbers are worn draws no word, and shows nothing.
-abbrev pub RingCut : Params → RingPublic → RingHidden → VaultCall → Fills → (words : List ℕ) → Fault → List Event → Type 0
-RingCut p q h (Fetch asks) f words (fault.Worn number) more = more ≡ []
-RingCut p q h (Fetch asks) f words refused more = RingDrawsCut p h (Fetch asks) f words × BatchCut p q f refused more
-RingCut p q h (End writes) f words refused more = RingDrawsCut p h (End writes) f words × EndCut p q f refused more × IsEndAnswer p h writes words refused
+abbrev pub RingCut : (most : ℕ) → Params → RingPublic → RingHidden → VaultCall → Fills → (words : List ℕ) → Fault → List Event → Type 0
+RingCut most p q h (Fetch asks) f words (fault.Worn number) more = more ≡ []
+RingCut most p q h (Fetch asks) f words refused more = RingDrawsCut p h (Fetch asks) f words × BatchCut most p q f refused more
+RingCut most p q h (End writes) f words refused more = RingDrawsCut p h (End writes) f words × EndCut most p q f refused more × IsEndAnswer p h writes words refused

@@ -9,7 +9,7 @@ use Rattle.ob_store.specs.Disk.{Disk, Image}
 use Rattle.ob_store.specs.Calls.{IsStoreFault}
 use Rattle.ob_serial.specs.Serial.{Map}
 use Rattle.ob_serial.specs.Vaults.{Standing, VaultCall}
-use Rattle.ob_vault.specs.Phases.{Shape}
+use Rattle.ob_vault.specs.Shapes.{Shape}
 use Rattle.ob_vault.specs.Kinds.{StoreKind}
 
 -- the laws of a kind of store that keeps what stands

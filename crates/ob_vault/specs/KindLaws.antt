@@ -1,7 +1,8 @@
 -- Laws of shapes and phases.
 use Rattle.std.specs.Prelude.{◌≡◌, List, [], ◌∷◌, ◌++◌, length, map, None}
 use Rattle.ob_serial.specs.Vaults.{VaultCall, Fetch, End, VaultAnswer, Values, Ended}
-use Rattle.ob_vault.specs.Phases.{Phase, answered, events_of_phases, shape_of, shapes, refused}
+use Rattle.ob_schedule.specs.Phases.{Phase, events_of_phases}
+use Rattle.ob_vault.specs.Shapes.{answered, shape_of, shapes, refused}
 
 abbrev pub EventsJoin : Type 0
 EventsJoin = (xs ys : List Phase) → events_of_phases (xs ++ ys) ≡ events_of_phases xs ++ events_of_phases ys

@@ -4,7 +4,8 @@ use Rattle.ob_base.specs.declared.params.Params.{Params}
 use Rattle.ob_base.specs.declared.fault.Fault.{Fault}
 use Rattle.ob_store.specs.declared.event.Event.{Event}
 use Rattle.ob_serial.specs.Vaults.{VaultCall}
-use Rattle.ob_vault.specs.Phases.{Phase, Shape}
+use Rattle.ob_schedule.specs.Phases.{Phase}
+use Rattle.ob_vault.specs.Shapes.{Shape}
 use Rattle.ob_vault.specs.Kinds.{StoreKind}
 
 module _ (kind : StoreKind) (p : Params) where
@@ -28,7 +29,7 @@ module _ (kind : StoreKind) (p : Params) where
   AreDrawn h (call ∷ calls) (step ∷ steps) behind = (mid : kind.Hidden) × kind.draws p h call step.1 mid × AreDrawn mid calls steps behind
   AreDrawn h _ _ behind = ⊥
 
-  -- What is seen of a call that was refused with a fault, as its kind of store tells. None: no call was refused.
-  abbrev pub IsSeenCut : kind.Public → kind.Hidden → Option VaultCall → (words : List ℕ) → Option Fault → List Event → Type 0
-  IsSeenCut q h (Some call) words (Some fault) more = (drawn : kind.Drawn) × kind.cut p q h call drawn words fault more
-  IsSeenCut q h _ words _ more = more ≡ []
+-- What is seen, of so many lanes at most, of a call that was refused with a fault, as its kind of store tells. None: no call was refused.
+abbrev pub IsSeenCut : (kind : StoreKind) → (most : ℕ) → Params → kind.Public → kind.Hidden → Option VaultCall → (words : List ℕ) → Option Fault → List Event → Type 0
+IsSeenCut kind most p q h (Some call) words (Some fault) more = (drawn : kind.Drawn) × kind.cut most p q h call drawn words fault more
+IsSeenCut kind most p q h _ words _ more = more ≡ []

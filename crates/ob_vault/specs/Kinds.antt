@@ -8,7 +8,8 @@ use Rattle.ob_store.specs.declared.event.Event.{Event}
 use Rattle.ob_store.specs.Disk.{Disk, Image}
 use Rattle.ob_serial.specs.Serial.{Map}
 use Rattle.ob_serial.specs.Vaults.{VaultCall, VaultState, Standing}
-use Rattle.ob_vault.specs.Phases.{Phase, Shape}
+use Rattle.ob_schedule.specs.Phases.{Phase}
+use Rattle.ob_vault.specs.Shapes.{Shape}
 
 -- The words of a kind of store.
 pub record StoreKind : Type 1 where
@@ -39,11 +40,11 @@ pub record StoreKind : Type 1 where
   -- refused so, an opening may have begun the next generation
   pub may_begin : Fault → Type 0
   -- What else the order of an opening depends on, how it stands in an image, and the order; and what is seen of one that was
-  -- refused with a fault.
+  -- refused with a fault, where at most so many lanes read at once.
   pub Start : Type 0
   pub starts : Keys → Params → Image → Found → Start → Type 0
   pub opens : Params → Found → Start → List Phase
-  pub opens_partly : Keys → Params → Disk → Disk → Fault → Type 0
+  pub opens_partly : Keys → (most : ℕ) → Params → Disk → Disk → Fault → Type 0
   -- What else the trace depends on: what is public of a vault, as an opening leaves it; what a call draws; its phases, and what is
   -- public behind it.
   pub Public : Type 0
@@ -58,8 +59,9 @@ pub record StoreKind : Type 1 where
   pub hidden : Params → Found → Hidden
   pub draws : Params → Hidden → VaultCall → Drawn → Hidden → Type 0
   pub is_of_tape : Params → Hidden → Option VaultCall → (words : List ℕ) → Option Fault → Type 0
-  -- What may be seen of a call that was refused with this fault, or left in doubt by it, once a tape had given these words.
-  pub cut : Params → Public → Hidden → VaultCall → Drawn → (words : List ℕ) → Fault → List Event → Type 0
+  -- What may be seen, of so many lanes at most, of a call that was refused with this fault, or left in doubt by it, once a tape had given
+  -- these words.
+  pub cut : (most : ℕ) → Params → Public → Hidden → VaultCall → Drawn → (words : List ℕ) → Fault → List Event → Type 0
   -- Why a vault refuses this call from what is hidden, behind these and so many epochs that ended, besides its store: the disk was this one
   -- once it was opened, and this one behind the call; and a tape had then given these words.
   pub causes : Keys → Params → Found → (opened now : Disk) → Hidden → List Shape → ℕ → Option VaultCall → (words : List ℕ) → Fault → Type 0

@@ -1,6 +1,6 @@
 pub mod Knowns
 pub mod RingVaults
-pub mod Phases
+pub mod Shapes
 pub mod Kinds
 pub mod KindShown
 pub mod KindLives

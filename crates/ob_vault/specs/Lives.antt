@@ -7,7 +7,7 @@ use Rattle.ob_base.specs.Tree.{below}
 use Rattle.ob_base.specs.declared.params.Params.{Params}
 use Rattle.ob_tables.specs.Rank.{IsRanking}
 use Rattle.ob_vault.specs.KindLives.{LifeWords}
-use Rattle.ob_vault.specs.Phases.{Shape}
+use Rattle.ob_vault.specs.Shapes.{Shape}
 use Rattle.ob_vault.specs.KindShown.{AreDrawn}
 use Rattle.ob_recover.specs.Calls.{repeated}
 use Rattle.ob_recover.specs.Life.{Append, End as EndAct, HolesAreFresh, IsLife, LifeAct, LifeBatch, LifeState, Open, ShowBatch, ShowLifts, SlotFill, WordId, formatted_life, leaf_of_word, life_labels, life_slots, reached}
@@ -140,8 +140,8 @@ OpeningsStop {S} disk = (keys : Keys) (most : ℕ) (p : Params) (old mid new : S
 
 -- Calls that were answered, and one that was refused behind them, go on from what was found.
 abbrev pub RunsGoOn : {V S : Type 0} → Kind V → (S → Disk) → Type 0
-RunsGoOn {V} {S} k disk = (runs : V → Running S) → HasRingWords k disk runs → (keys : Keys) (p : Params) (f : RingFound) (first : V) (calls : List VaultCall) (steps : List (Shape × Fills)) (q : RingPublic) (h : RingHidden) (n : ℕ) (v : V)
-    → AreDrawn ring_kind p (ring_hidden f) calls steps h → RingAt k disk runs keys p f (disk (runs first).store) q h n v
+RunsGoOn {V} {S} k disk = (runs : V → Running S) → HasRingWords k disk runs → (keys : Keys) (most : ℕ) (p : Params) (f : RingFound) (first : V) (calls : List VaultCall) (steps : List (Shape × Fills)) (q : RingPublic) (h : RingHidden) (n : ℕ) (v : V)
+    → AreDrawn ring_kind p (ring_hidden f) calls steps h → RingAt k disk runs keys most p f (disk (runs first).store) q h n v
     → RingGoesOn keys p f (disk (runs first).store) calls steps h None (runs v).drawn (disk (runs v).store)
     × ((call : VaultCall) (answer : VaultAnswer) (w : V) → Called k v call answer w → RingGoesOn keys p f (disk (runs first).store) calls steps h (Some call) (runs w).drawn (disk (runs w).store))
 

@@ -34,14 +34,16 @@ pub record RunIsAtHidden (run : Run) (c : Content) (rs : List BatchRecord) (disk
   pub records : standing.records ≡ rs
   pub at : RunIsAt run standing disk
 
-module _ {V S : Type 0} (k : Kind V) (disk : S → Disk) (runs : V → Running S) (keys : Keys) (p : Params) (f : RingFound) (opened : Disk) where
-  -- Behind so many epochs that ended. It reads by one lane. Its planner has shown the batches of the records that are hidden from the
-  -- content on, what is public of it is what the store may know of these, the words are those that its tape gave, and the seals are counted.
-  -- What its epoch may still draw and seal stays within that of an epoch more. Where a map was found, it holds one, and what is hidden stands.
+module _ {V S : Type 0} (k : Kind V) (disk : S → Disk) (runs : V → Running S) (keys : Keys) (most : ℕ) (p : Params) (f : RingFound) (opened : Disk) where
+  -- Behind so many epochs that ended. It reads by so many lanes, from 1 to 16. Its planner has shown the batches of the records that are
+  -- hidden from the content on, what is public of it is what the store may know of these, the words are those that its tape gave, and the
+  -- seals are counted. What its epoch may still draw and seal stays within that of an epoch more. Where a map was found, it holds one, and
+  -- what is hidden stands.
   pub record RingAt (q : RingPublic) (h : RingHidden) (n : ℕ) (v : V) : Type 0 where
     pub params : ((runs v).run).params ≡ p
     pub keys_are : (((runs v).run).sealer).keys ≡ keys
-    pub one_lane : (runs v).lanes ≤ 1
+    pub lanes : (runs v).lanes ≡ most
+    pub many : (1 ≤ most) × (most ≤ 16)
     pub planned : HasPlanned (runs v).run h.content h.records
     pub known : public_of_kept p h.content h.records ((runs v).run).epoch ((runs v).run).gates ≡ q.known
     pub shown : length h.records ≡ q.shown

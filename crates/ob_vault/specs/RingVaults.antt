@@ -14,7 +14,7 @@ use Rattle.ob_cells.specs.Writes.{Seals}
 use Rattle.ob_tables.specs.Content.{Content}
 use Rattle.ob_end.specs.Closings.{SameGeneration}
 use Rattle.ob_end.specs.EndRuns.{AreEntriesWritten, EndAnswers, EndDamage, EndDraws, EndImages, EndStands, IfEnded, IsAtContent, IsEndUndamaged, LeadsOn, TakeBucketWords, end_writes, seals_for_end, table_ended}
-use Rattle.ob_end.specs.Shown.{EndShows, end_lifts}
+use Rattle.ob_end.specs.Shown.{EndShows}
 use Rattle.ob_end.specs.Lifts.{IsUndamaged}
 use Rattle.ob_fetch.specs.declared.run.Run.{Run}
 use Rattle.ob_fetch.specs.Fetches.{FetchAnswers, FetchDraws, FetchShows, IsFetchRefusal, IsOpenIfShown, IsWornForBatch, MovesPlanner, RunIsAt, next_batch, record_next, words_since}
@@ -27,7 +27,8 @@ use Rattle.ob_ring.specs.Picked.{SameSeals}
 use Rattle.ob_ring.specs.Ring.{StandsFor}
 use Rattle.ob_recover.specs.Ends.{gates_ended}
 use Rattle.ob_recover.specs.Known.{PlansFrom, fills_of, fills_with_lifts, public_of_kept}
-use Rattle.ob_schedule.specs.Schedule.{batch_notes, end_notes}
+use Rattle.ob_schedule.specs.Phases.{batch_phases, end_phases}
+use Rattle.ob_schedule.specs.Schedule.{batch_notes, end_lifts, end_notes}
 use Rattle.ob_seal.specs.declared.keys.Keys.{Keys}
 use Rattle.ob_serial.specs.Serial.{Map}
 use Rattle.ob_serial.specs.declared.vault.EndErr.{EndErr}
@@ -37,7 +38,7 @@ use Rattle.ob_serial.specs.Vaults.{DoubtBy, End, Ended, Fetch, MayStand, Refused
 use Rattle.ob_stand.specs.Stands.{OneOf, RingStanding, StandsRing, with_record}
 use Rattle.ob_store.specs.Calls.{GoesOn, Notes}
 use Rattle.ob_store.specs.Disk.{Disk, Image}
-use Rattle.ob_store.specs.Images.{LeavesOnly, Passes, Same}
+use Rattle.ob_store.specs.Images.{IsImageOf, LeavesOnly, Passes, Same}
 use Rattle.ob_store.specs.Told.{events_of}
 use Rattle.ob_store.specs.declared.watch.Note.{Note}
 use Rattle.ob_tables.specs.declared.entry.Entry.{Entry}
@@ -72,10 +73,10 @@ pub record RingHolds (run : Run) (disk : Disk) (v : VaultState) : Type 0 where
   pub batches : v.batches ≡ (run.params).batches
   pub serves : v.spent ≡ false → RingServes run disk v
 
--- And each image that a crash may leave stands for what that allows.
+-- And each image that a crash may leave, and what reads give, stands for what that allows.
 pub record RingSound (run : Run) (disk : Disk) (v : VaultState) : Type 0 where
   pub holds : RingHolds run disk v
-  pub images : (c : Image) → disk.may_leave c → StandsIn (StandsRing (run.sealer).keys run.params (run.sealer).generation) (MayStand v) c
+  pub images : (c : Image) → IsImageOf disk c → StandsIn (StandsRing (run.sealer).keys run.params (run.sealer).generation) (MayStand v) c
 
 -- ---- what its calls do
 
@@ -162,10 +163,11 @@ module _ {S : Type 0} (disk : S → Disk) (old new : Running S) (notes : List No
       -- a word for each place, or none where numbers are worn
       pub draws : FetchDraws ((old.run).params).places old.drawn new.drawn result
       pub seals : Seals (record_cells (old.run).params) (old.run).sealer (new.run).sealer result
-      -- its notes are the schedule's batch of what the store knows, filled by the labels and slots of the table's picks; refused they are
-      -- what its answer says of that row, which begins with the record's
+      -- its notes are the schedule's batch of what the store knows, filled by the labels and slots of the table's picks, and its reads are
+      -- dealt to the lanes; refused they are what its answer says of that row, which begins with the record's
       pub scheduled : (c : Content) (rs : List BatchRecord) → HasPlanned old.run c rs → length rs ≡ next_batch old.run
           → FetchShows old.lanes (append_notes (old.run).params (suc (old.run).epoch) (next_batch old.run))
+          (batch_phases (old.run).params (public_of_kept (old.run).params c rs (old.run).epoch (old.run).gates) (fills_of (old.run).params c (rs ++ record_of_fetch ∷ [])) (length rs))
           (batch_notes (old.run).params (public_of_kept (old.run).params c rs (old.run).epoch (old.run).gates) (fills_of (old.run).params c (rs ++ record_of_fetch ∷ [])) (length rs)) notes (disk old.store).seen (disk new.store).seen result
       -- behind it the store knows the record's batch too
       pub onward : (c : Content) (rs : List BatchRecord) → HasPlanned old.run c rs → length rs ≡ next_batch old.run → OnOk result (HasPlanned new.run c (rs ++ record_of_fetch ∷ []))
@@ -204,10 +206,12 @@ module _ {S : Type 0} (disk : S → Disk) (old new : Running S) (notes : List No
       pub sealed : (disk old.store).tells → IfEnded SealsCells result
       pub draws : (t : FlatTable) → StandsFor (old.run).ring t → EndDraws (old.run).params t (old.run).epoch (old.run).drawn old.drawn new.drawn result
       pub seals : (t : FlatTable) → StandsFor (old.run).ring t → Seals (seals_for_end (old.run).params t) (old.run).sealer (new.run).sealer result
-      -- its notes are the schedule's end of what the store knows; refused they are what its answer says of that row: up to the write that
-      -- opens the register's gate where it is unsure, the first of what comes before that where the store failed, or the lifts' reads
+      -- its notes are the schedule's end of what the store knows, and the lifts' reads are dealt to the lanes; refused they are what its
+      -- answer says of that row: up to the write that opens the register's gate where it is unsure, the first of what comes before that
+      -- where the store failed, or the lifts' reads
       pub scheduled : (c : Content) (rs : List BatchRecord) → HasPlanned old.run c rs
           → EndShows old.lanes (end_lifts (old.run).params (public_of_kept (old.run).params c rs (old.run).epoch (old.run).gates) (fills_with_lifts (old.run).params c rs))
+          (end_phases (old.run).params (public_of_kept (old.run).params c rs (old.run).epoch (old.run).gates) (fills_with_lifts (old.run).params c rs))
           (end_notes (old.run).params (public_of_kept (old.run).params c rs (old.run).epoch (old.run).gates) (fills_with_lifts (old.run).params c rs)) notes (disk old.store).seen (disk new.store).seen result
       -- behind it the store knows what the schedule's end leaves
       pub onward : (c : Content) (rs : List BatchRecord) → HasPlanned old.run c rs → OnOk result (LeadsOn (old.run).params ((old.run).sealer).generation c rs (old.run).epoch (old.run).gates (new.run).ring (new.run).gates)

@@ -4,45 +4,39 @@ use Rattle.ob_base.specs.declared.params.Params.{Params}
 use Rattle.ob_base.specs.declared.fault.Fault.{Fault}
 use Rattle.ob_base.specs.declared.fault.Fault.TheVariants as fault
 use Rattle.ob_tables.specs.Content.{Content, content_of}
-use Rattle.ob_vault.specs.Phases.{Phase, Reads, Writes, Syncs, Shape, Fetches, Ends}
+use Rattle.ob_vault.specs.Shapes.{Shape, Fetches, Ends}
 use Rattle.ob_log.specs.Logs.{BatchRecord}
 use Rattle.ob_recover.specs.Finds.{IsFoundInRing, finding_notes}
 use Rattle.ob_recover.specs.declared.found.Found.{Found}
 use Rattle.ob_recover.specs.Known.{fills_of, gates_open, public_of_kept}
-use Rattle.ob_recover.specs.ShownOpenings.{began_notes, opening_notes}
-use Rattle.ob_schedule.specs.Schedule.{Fills, Public, after_end, after_phase, batch_leaves, batch_notes, end_notes, open_notes}
+use Rattle.ob_recover.specs.ShownOpenings.{began_notes, opened_phases}
+use Rattle.ob_recover.specs.Telling.{ArePhasesMade}
+use Rattle.ob_schedule.specs.Phases.{Phase, Reads, batch_phases, end_phases, open_phases}
+use Rattle.ob_schedule.specs.Schedule.{Fills, Public, after_end, after_phase, batch_leaves, batch_notes, end_notes}
 use Rattle.ob_seal.specs.declared.keys.Keys.{Keys}
 use Rattle.ob_start.specs.Orders.{registers_notes}
 use Rattle.ob_start.specs.Registers as start
-use Rattle.ob_store.specs.Calls.{Notes, NotesFirst}
+use Rattle.ob_store.specs.Calls.{NotesFirst}
 use Rattle.ob_store.specs.Disk.{Disk}
 use Rattle.ob_store.specs.Told.{events_of}
 use Rattle.ob_store.specs.declared.event.Event.TheVariants as event
 use Rattle.ob_store.specs.declared.watch.Note.{Note}
-use Rattle.ob_store.specs.declared.watch.Note.TheVariants.{Label, Read, Write, Sync}
 use Rattle.ob_twin.specs.declared.gates.Gates.{Gates}
-
--- Each read, each write and each sync is a phase by itself; a label is no call.
-abbrev pub phases_of : List Note → List Phase
-phases_of [] = []
-phases_of (Label leaf ∷ notes) = phases_of notes
-phases_of (Read cell ∷ notes) = Reads (cell ∷ []) ∷ phases_of notes
-phases_of (Write cell ∷ notes) = Writes (cell ∷ []) ∷ phases_of notes
-phases_of (Sync ∷ notes) = Syncs ∷ phases_of notes
 
 -- ---- an opening
 
 -- the schedule's opening of what stands: with the gates that were found, and a repeat for each record
 abbrev pub opening_phases : Params → Content → List BatchRecord → (epoch generation : ℕ) → Gates → List Phase
-opening_phases p c rs epoch generation gates = phases_of (open_notes p (public_of_kept p c [] epoch gates) (fills_of p c rs) (gates_open gates) generation (length rs))
+opening_phases p c rs epoch generation gates = open_phases p (public_of_kept p c [] epoch gates) (fills_of p c rs) (gates_open gates) generation (length rs)
 
--- Of what was found: the first events of what comes before the repeats, or all of these and the repeats of the first records.
-pub record OpensInPart (keys : Keys) (p : Params) (old new : Disk) : Type 0 where
+-- Of what was found: the first events of what comes before the repeats; or all of that was made, and the repeats of the first records, by at
+-- most so many lanes.
+pub record OpensInPart (keys : Keys) (most : ℕ) (p : Params) (old new : Disk) : Type 0 where
   pub found : Found
   pub found_in : old.tells → IsFoundInRing keys p old.cells found
   pub seen : NotesFirst (event.Read 0 ∷ events_of (began_notes p found.epoch found.gates found.generation)) old.seen new.seen
       ⊎ ((count : ℕ) × (count ≤ length found.records)
-      × Notes (event.Read 0 ∷ events_of (opening_notes p (content_of found.tables) (take count found.records) found.epoch found.gates found.generation)) old.seen new.seen)
+      × ArePhasesMade most (Reads (0 ∷ []) ∷ opened_phases p (content_of found.tables) (take count found.records) found.epoch found.gates found.generation) old.seen new.seen)
 
 -- some of the first reads of all that is found, with the checkpoint and the log of the epoch that the registers have, where the store tells its
 -- cells
@@ -57,10 +51,10 @@ abbrev pub ReadsFirst : Keys → Params → Disk → Disk → Type 0
 ReadsFirst keys p old new = NotesFirst (event.Read 0 ∷ events_of registers_notes) old.seen new.seen ⊎ FindsFirst keys p old new
 
 -- An opening that was refused showed some of the first reads; where its store failed or something was damaged it may have gone on.
-abbrev pub RingOpensPartly : Keys → Params → Disk → Disk → Fault → Type 0
-RingOpensPartly keys p old new (fault.StoreFault unsure) = ReadsFirst keys p old new ⊎ OpensInPart keys p old new
-RingOpensPartly keys p old new (fault.Damaged cell check kept computed) = ReadsFirst keys p old new ⊎ OpensInPart keys p old new
-RingOpensPartly keys p old new refused = ReadsFirst keys p old new
+abbrev pub RingOpensPartly : Keys → (most : ℕ) → Params → Disk → Disk → Fault → Type 0
+RingOpensPartly keys most p old new (fault.StoreFault unsure) = ReadsFirst keys p old new ⊎ OpensInPart keys most p old new
+RingOpensPartly keys most p old new (fault.Damaged cell check kept computed) = ReadsFirst keys p old new ⊎ OpensInPart keys most p old new
+RingOpensPartly keys most p old new refused = ReadsFirst keys p old new
 
 -- refused so, it may have begun the next generation
 abbrev pub RingMayBegin : Fault → Type 0
@@ -80,8 +74,10 @@ abbrev pub ring_notes : Params → RingPublic → Shape → Fills → List Note
 ring_notes p q Fetches f = batch_notes p q.known f q.shown
 ring_notes p q Ends f = end_notes p q.known f
 
+-- its phases, in which lanes share the batch's reads, and the lifts
 abbrev pub ring_phases : Params → RingPublic → Shape → Fills → List Phase
-ring_phases p q shape f = phases_of (ring_notes p q shape f)
+ring_phases p q Fetches f = batch_phases p q.known f q.shown
+ring_phases p q Ends f = end_phases p q.known f
 
 abbrev pub ring_next : Params → RingPublic → Shape → Fills → RingPublic
 ring_next p q Fetches f = record { known = after_phase p q.known (batch_leaves p f q.shown); shown = suc q.shown }

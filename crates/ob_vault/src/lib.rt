@@ -17,8 +17,7 @@ pub use acts::{calls_are_acts, ring_chains_are_runs};
 pub use lives::{calls_are_lives, calls_show_lives, chains_are_lives, openings_are_lives};
 pub use phases::{calls_are_told_by_shape, phases_follow};
 pub use ring::{
-    calls_begin, calls_do, formats_are_told, openings_are_told, phases_are_notes,
-    refusals_are_told, rows_are_cut,
+    calls_begin, calls_do, formats_are_told, openings_are_told, refusals_are_told, rows_are_cut,
 };
 pub use runs::{
     drawn_is_shown, formats_begin, openings_go_on, openings_stop, runs_are_lives,

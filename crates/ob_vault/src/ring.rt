@@ -1,15 +1,10 @@
 //! Laws of a ring store, in the words of its kind of store.
 
 ghost use Rattle.ob_serial.specs.VaultKinds.{kind_of};
-ghost use Rattle.ob_vault.specs.RingLaws.{PhasesAreNotes, RingBeginsSound, RingCallsBegin, RingCallsDo, RingFormats, RingLeavesStanding, RingOpens, RingOpensAt, RingOpensStanding, RingRefuses, RingWordsAreOfTape, RowsAreCut};
+ghost use Rattle.ob_vault.specs.RingLaws.{RingBeginsSound, RingCallsBegin, RingCallsDo, RingFormats, RingLeavesStanding, RingOpens, RingOpensAt, RingOpensStanding, RingRefuses, RingWordsAreOfTape, RowsAreCut};
 
 use ob_serial::Vault;
 use ob_store::Store;
-
-/// The phases of a row of the schedule have the events of its notes.
-pub fn phases_are_notes()
-    ensures { PhasesAreNotes }
-{}
 
 /// Where the row of the schedule is cut of which a refused call shows a part.
 pub fn rows_are_cut()

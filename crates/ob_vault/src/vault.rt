@@ -1,7 +1,8 @@
 //! The ring vault: a map by epochs over a store that is read and written by a public schedule.
 
-ghost use Rattle.std.specs.Prelude.{◌≡◌, ◌≤◌, ◌<◌, ◌^◌, false};
+ghost use Rattle.std.specs.Prelude.{◌≡◌, ◌≤◌, ◌<◌, ◌^◌, false, replicate};
 ghost use Rattle.ob_base.specs.Planned.{most_jobs};
+ghost use Rattle.ob_base.specs.Tree.{buckets};
 ghost use Rattle.ob_end.specs.EndRuns.{IsEndReady};
 ghost use Rattle.ob_vault.specs.Knowns.{kept_of_run};
 
@@ -9,29 +10,36 @@ use crate::known::knows;
 use crate::lent::Lent;
 use crate::measuring::measure_all;
 use ob_base::{Fault, Key, Params, Value, Write};
-use ob_cells::Crew;
+use ob_cells::{Bench, Crew};
 use ob_fetch::{Run, fetch};
+use ob_lanes::Lanes;
 use ob_opening::Opening;
+use ob_ring::Index;
 use ob_seal::Tape;
 use ob_serial::{EndErr, Vault};
-use ob_store::{Store, Watch};
+use ob_store::Watch;
+use std::thread::Threads;
 
 /// A map by epochs over a ring store and a tape that are lent. Which cells a fetch and the end of
 /// an epoch read and write is fixed by the parameters and by random words: it tells nothing of the
-/// keys. Neither takes memory.
+/// keys. The lanes of its crew share what a fetch reads, and the lifts of an end, whose cells as many
+/// threads seal. Neither takes memory.
 #[derive(Drop)]
-pub struct RingVault<'a, S: Store, T: Tape> {
+pub struct RingVault<'a, S: Lanes, T: Tape> {
     lent: Lent<'a, S, T>,
     crew: Crew<S::Lane>,
+    bench: Bench,
     run: Run,
+    index: Index,
     ghost known: { lent.known ≡ kept_of_run run },
     ghost small: { run.epoch < 2 ^ 62 },
     ghost generation: { run.sealer.generation < 2 ^ 62 },
     ghost manned: { most_jobs run.params ≤ crew.jobs },
     ghost ready: { run.spent ≡ false → ∥ IsEndReady run ∥₁ },
+    ghost counted: { index ≡ replicate (buckets run.params) 0 },
 }
 
-impl<'a, S: Store, T: Tape> RingVault<'a, S, T> {
+impl<'a, S: Lanes, T: Tape> RingVault<'a, S, T> {
     ghost use Rattle.std.specs.FinMap as finite;
     ghost use Rattle.std.specs.Ordering.{nat_cmp};
     ghost use Rattle.std.specs.Prelude.{◌≡◌, ◌≤◌, ℕ, length};
@@ -77,8 +85,10 @@ impl<'a, S: Store, T: Tape> RingVault<'a, S, T> {
             ring,
             jobs,
             crew,
+            bench,
             sheet,
             words,
+            index,
         } = opening;
         let run = Run {
             params,
@@ -100,7 +110,9 @@ impl<'a, S: Store, T: Tape> RingVault<'a, S, T> {
                 known: knows(&run),
             },
             crew,
+            bench,
             run,
+            index,
         }
     }
 
@@ -133,7 +145,7 @@ impl<'a, S: Store, T: Tape> RingVault<'a, S, T> {
     }
 }
 
-impl<'a, S: Store, T: Tape> Vault for RingVault<'a, S, T> {
+impl<'a, S: Lanes, T: Tape> Vault for RingVault<'a, S, T> {
     ghost use Rattle.std.specs.Prelude.{◌≡◌, refl};
     ghost use Rattle.ob_vault.specs.RingVaults.{RingCalled, RingHolds, RingSound, counts_of_run, lent_both, running};
     ghost use Rattle.ob_stand.specs.Stands.{StandsRing};
@@ -164,8 +176,9 @@ impl<'a, S: Store, T: Tape> Vault for RingVault<'a, S, T> {
         self.run.spent
     }
 
-    fn fetch<W: Watch>(
+    fn fetch<R: Threads + Sync, W: Watch>(
         &mut self,
+        rt: &R,
         asks: &[Option<Key>],
         out: &mut [Option<Value>],
         watch: &mut W,
@@ -173,6 +186,7 @@ impl<'a, S: Store, T: Tape> Vault for RingVault<'a, S, T> {
         let lent = &mut self.lent;
         lent.known.spent = true;
         let result = fetch(
+            rt,
             lent.store,
             lent.tape,
             &mut self.crew,
@@ -185,15 +199,23 @@ impl<'a, S: Store, T: Tape> Vault for RingVault<'a, S, T> {
         result
     }
 
-    fn end<W: Watch>(&mut self, writes: &[Write], watch: &mut W) -> Result<(), EndErr> {
+    fn end<R: Threads + Sync, W: Watch>(
+        &mut self,
+        rt: &R,
+        writes: &[Write],
+        watch: &mut W,
+    ) -> Result<(), EndErr> {
         measure_all(writes);
         let lent = &mut self.lent;
         lent.known.spent = true;
         let result = ob_end::end(
+            rt,
             lent.store,
             lent.tape,
             &mut self.crew,
             &mut self.run,
+            &mut self.index,
+            &mut self.bench,
             writes,
             watch,
         );

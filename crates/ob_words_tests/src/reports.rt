@@ -3,7 +3,7 @@
 use crate::fixture::compare;
 use ob_base::{Check, Fault, Field, Key, Op, Value};
 use ob_mem::MemSink;
-use ob_report::{fault_status, fault_text, text};
+use ob_report::{Summary, drill_lines, fault_status, fault_text, text};
 use ob_serial::{EpochRecord, Outcome, TxnRecord, Why};
 use std::process::Abort;
 
@@ -311,5 +311,76 @@ fn a_sink_without_room_has_a_front(rt: HostRuntime) {
     let line = b"fault: damaged cell 41 seal\n";
     for room in 0..28 {
         expect_cut(&rt, &damaged(Check::Seal), room, line);
+    }
+}
+
+// The digest of no bytes, and that of the row of a key that has a value of one byte.
+const OF_NONE: [u8; 32] = [
+    0xe3, 0xb0, 0xc4, 0x42, 0x98, 0xfc, 0x1c, 0x14, 0x9a, 0xfb, 0xf4, 0xc8, 0x99, 0x6f, 0xb9, 0x24,
+    0x27, 0xae, 0x41, 0xe4, 0x64, 0x9b, 0x93, 0x4c, 0xa4, 0x95, 0x99, 0x1b, 0x78, 0x52, 0xb8, 0x55,
+];
+
+const OF_ONE: [u8; 32] = [
+    0x16, 0x9a, 0xb6, 0x23, 0xb7, 0x63, 0x23, 0xd2, 0xb6, 0x3d, 0x24, 0xe3, 0x60, 0xd3, 0xc5, 0xc2,
+    0xbf, 0x1e, 0x9d, 0x91, 0x22, 0xee, 0x79, 0xef, 0xb4, 0xe1, 0x14, 0x26, 0xcb, 0x17, 0x73, 0x3b,
+];
+
+fn summary(count: u32, map: [u8; 32]) -> Summary {
+    Summary {
+        count,
+        epochs: count as u64,
+        committed: count as u64,
+        keys: count,
+        map,
+    }
+}
+
+fn expect_summary<R: AllocGlobal + Abort>(rt: &R, of: &Summary, lines: &str) {
+    // They are written in one piece.
+    let mut sink = sink_of(rt, 200, &[1]);
+    assert!(rt; drill_lines(of, &mut sink).is_ok());
+    expect_lines(rt, &sink, lines);
+}
+
+const ONE: &str = "drill 1/epochs 1/committed 1/keys 1/\
+    map 169ab623b76323d2b63d24e360d3c5c2bf1e9d9122ee79efb4e11426cb17733b/";
+
+#[test]
+fn a_self_test_has_a_summary(rt: HostRuntime) {
+    expect_summary(
+        &rt,
+        &summary(0, OF_NONE),
+        "drill 0/epochs 0/committed 0/keys 0/\
+        map e3b0c44298fc1c149afbf4c8996fb92427ae41e4649b934ca495991b7852b855/",
+    );
+    expect_summary(&rt, &summary(1, OF_ONE), ONE);
+    let largest = Summary {
+        count: 10_000,
+        epochs: u64::MAX,
+        committed: 9_999,
+        keys: 256,
+        map: [0xff; 32],
+    };
+    expect_summary(
+        &rt,
+        &largest,
+        "drill 10000/epochs 18446744073709551615/committed 9999/keys 256/\
+        map ffffffffffffffffffffffffffffffffffffffffffffffffffffffffffffffff/",
+    );
+}
+
+// A sink with too little room has the front of the lines.
+fn expect_cut_summary<R: AllocGlobal + Abort>(rt: &R, whole: &[u8], room: usize) {
+    let mut sink = sink_of(rt, room, &[]);
+    assert!(rt; drill_lines(&summary(1, OF_ONE), &mut sink).is_err() == (room < whole.len()));
+    assert!(rt; sink.written().len() == room && whole.starts_with(sink.written()));
+}
+
+#[test]
+fn a_summary_is_cut_where_room_ends(rt: HostRuntime) {
+    let whole = ONE.replace(rt.alloc(), "/", "\n").expect(&rt, "memory");
+    assert!(rt; whole.len() == 105);
+    for room in 0..106 {
+        expect_cut_summary(&rt, whole.as_bytes(), room);
     }
 }

@@ -1,8 +1,8 @@
 //! Scripts, good and bad, line by line.
 
 use crate::fixture::{compare, push};
-use ob_base::Fault;
-use ob_script::{Ask, Ending, LIMIT, ScriptTxn, Scripts, parse};
+use ob_base::{Fault, Key};
+use ob_script::{Ask, Ending, LIMIT, ScriptTxn, Scripts, drill, parse};
 use std::fmt::Display;
 use std::process::Abort;
 
@@ -260,5 +260,81 @@ static LONG: [(&[u8], &[u8], usize, &str); 4] = [
 fn a_script_has_up_to_a_limit_of_bytes(rt: HostRuntime) {
     for &(first, last, len, wanted) in &LONG {
         expect_long(&rt, first, last, len, wanted);
+    }
+}
+
+// How many transactions a self-test has, and what it asks for.
+static DRILLS: [(u32, &str); 3] = [
+    (0, "1 "),
+    (1, "1 1:get 172 add 179 1 ."),
+    (
+        3,
+        "1 1:get 172 add 179 1 .1:get 153 add 205 1 .1:get 180 add 230 1 .",
+    ),
+];
+
+fn expect_drill<R: AllocGlobal + Abort>(rt: &R, count: u32, wanted: &str) {
+    let mut all = String::new(rt.alloc());
+    let script = drill(rt.alloc(), count).expect(rt, "memory");
+    push_scripts(rt, &mut all, &script);
+    compare(rt, "a self-test", all.as_bytes(), wanted);
+    assert!(rt; script.keys() == 256);
+}
+
+#[test]
+fn a_self_test_begins_so(rt: HostRuntime) {
+    for &(count, wanted) in &DRILLS {
+        expect_drill(&rt, count, wanted);
+    }
+}
+
+// How many transactions a self-test has, how many keys they add to, and how many they read.
+static MANY: [(u32, usize, usize); 5] = [
+    (10, 10, 9),
+    (50, 43, 49),
+    (200, 137, 150),
+    (1000, 247, 250),
+    (2000, 256, 256),
+];
+
+// The key that an operation adds to, or that it reads.
+fn key_of(ask: &Ask, adds: bool) -> Option<Key> {
+    match *ask {
+        Ask::Add { key, .. } if adds => Some(key),
+        Ask::Get { key } if !adds => Some(key),
+        _ => None,
+    }
+}
+
+fn note_key(seen: &mut [bool; 256], key: Key) {
+    if key < 256 {
+        seen[key as usize] = true;
+    }
+}
+
+// How many keys below 256 a script adds to, or reads.
+fn count_keys(script: &Scripts, adds: bool) -> usize {
+    let mut seen = [false; 256];
+    for txn in script.txns() {
+        for ask in &txn.asks {
+            if let Some(key) = key_of(ask, adds) {
+                note_key(&mut seen, key);
+            }
+        }
+    }
+    seen.iter().filter(|seen| **seen).count()
+}
+
+fn expect_keys<R: AllocGlobal + Abort>(rt: &R, count: u32, added: usize, read: usize) {
+    let script = drill(rt.alloc(), count).expect(rt, "memory");
+    assert!(rt; script.txns().len() == count as usize);
+    assert!(rt; count_keys(&script, true) == added);
+    assert!(rt; count_keys(&script, false) == read);
+}
+
+#[test]
+fn a_self_test_reads_and_adds_to_so_many_keys(rt: HostRuntime) {
+    for &(count, added, read) in &MANY {
+        expect_keys(&rt, count, added, read);
     }
 }

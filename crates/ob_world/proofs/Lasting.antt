@@ -2,7 +2,7 @@
 use Rattle.std.proofs.Common.{◌≡◌, ℕ, suc, ◌≤◌, List, [], ◌∷◌, ◌++◌, None, Some, refl, sym, ap, ◌∙◌, subst, inl, inr, ◌⊎◌, ⊎_elim, arith, nat_cmp}
 use Rattle.std.proofs.lemmas.Option.{none-some}
 use Rattle.ob_store.specs.Disk.{Image}
-use Rattle.ob_store.specs.Images.{LeavesOnly}
+use Rattle.ob_store.specs.Images.{IsImageOf, LeavesOnly}
 use Rattle.ob_store.proofs.Moments.{started, then_on, weakened}
 use Rattle.ob_serial.specs.Serial.{EpochRecord, Map}
 use Rattle.ob_serial.specs.Vaults.{VaultCall, Fetch, End, VaultAnswer, Values, Ended, RefusedBy, DoubtBy, VaultState, Standing, StandsIn, MayStandIn, vault_next, IsAnswer}
@@ -117,11 +117,16 @@ module _ {V : Type 0} (k : Kind V) (first : Map nat_cmp) where
   fewer : (acked more : List ℕ) (ended : List (EpochRecord ℕ)) (past : V) (image : Image) → IsLeft k.stands (acked ++ more) ended past image → IsLeft k.stands acked ended past image
   fewer acked more ended past image (at, stands, prefix) = (at, stands, record { one_by_one = prefix.one_by_one; holds = held_front at.epoch acked more prefix.holds })
 
+  -- so does what stands between calls
+  rested : CrashesRest k → (told : List (EpochRecord ℕ)) (acked : List ℕ) (w : World V) → Inv first told acked w → k.sound w.past w.vault → (image : Image) → IsImageOf (k.disk w.past) image → IsLeft k.stands acked w.ended w.past image
+  rested rests told acked w h sound image left = let (at, stands, may) = rests w.past w.vault image sound left in (at, stands, (moment first told acked w h None tt at may).0)
+
   pub lasts : CrashesRest k → OnlyNow k → (told : List (EpochRecord ℕ)) (acked : List ℕ) (w : World V) (events : List WorldEvent) (last : World V) → Inv first told acked w → k.sound w.past w.vault → IsOneRun events
       → IsWorld (course_of k) w events last → LeavesOnly (k.disk w.past) (k.disk last.past) (IsLeft k.stands acked last.ended w.past)
   lasts rests now told acked w [] last h sound one run = subst (λ (x : World V). LeavesOnly (k.disk w.past) (k.disk x.past) (IsLeft k.stands acked x.ended w.past)) run
-      (started (k.disk w.past) (IsLeft k.stands acked w.ended w.past) (λ image left.
-      let (at, stands, may) = rests w.past w.vault image sound (now w.past image left) in (at, stands, (moment first told acked w h None tt at may).0)))
+      (started (k.disk w.past) (IsLeft k.stands acked w.ended w.past)
+      (λ image left. rested rests told acked w h sound image (inl (now w.past image left)))
+      (λ tells. rested rests told acked w h sound (k.disk w.past).cells (inr (tells, refl))))
   lasts rests now told acked w (Desk caller call reply ∷ events) last h sound one (mid, s, run) =
       let kept : Kept (course_of k) first told acked w (Desk caller call reply) mid = step_kept (course_of k) first told acked w (Desk caller call reply) mid h s in
       let more : List ℕ = acknowledged_by (Desk caller call reply) in

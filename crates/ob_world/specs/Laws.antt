@@ -102,7 +102,7 @@ EveryBeginIsTold c = (w last : World c.Past) (setup : Setup) (epoch left : ℕ) 
     → TellAll number (txns_by number (published_in events)) (told_of (said_by number (desk_steps events)))
 
 -- From each place of a run on to any later one a crash leaves only what stands for a prefix of what ended; and that holds each epoch which
--- was acknowledged before that place.
+-- was acknowledged before that place. What reads give at the later place stands so as well.
 abbrev pub MomentsArePrefixes : {V : Type 0} → Kind V → Type 0
 MomentsArePrefixes {V} k = (setup : Setup) (clients : List ℕ) (found : Standing) (left : ℕ) (old : V) (before after : List WorldEvent) (mid last : World V)
     → CrashesRest k → OnlyNow k → k.sound old (opened_vault setup.params.batches found left) → IsOneRun before → IsOneRun after

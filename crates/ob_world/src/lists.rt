@@ -51,7 +51,7 @@ pub fn records_are_reported<V: Vault>()
 
 /// From each place of a run on to any later one, between calls and inside them, a crash leaves
 /// only what stands for a prefix of what ended, with each epoch that was acknowledged before that
-/// place.
+/// place. What reads give at the later place stands so as well.
 pub fn moments_are_prefixes<V: Vault>()
     ensures moments { MomentsArePrefixes (kind_of V.Vault) }
 {}

@@ -1,4 +1,4 @@
-use Rattle.std.proofs.Common.{◌≡◌, ◌<◌, ℕ, List, Option, Some, None, length, take, refl}
+use Rattle.std.proofs.Common.{length, refl, take}
 use Rattle.ob_log.proofs.OneAsk.{one_low, one_apart}
 use Rattle.ob_cell_tests.proofs.logs.append_one.Goals as goal
 

@@ -27,7 +27,7 @@ returns-in_err-write_noted-clause-run g c =
     (record {
       rest = λ tells. rest_of before c.args.base c.args.many plain new.cells old.cells
           (elsewhere_one c.args.base rows c.loop-i.i old mid new within c.loop-i.invariant.writing (λ t. e.rest (c.loop-i.invariant.writing.tells t)) tells);
-      passes = passes_of before c.args.base c.args.many plain old new (passes_one c.args.base rows c.loop-i.i old mid new within c.loop-i.invariant.writing e.serves.goes e.crash e.time);
+      passes = passes_of before c.args.base c.args.many plain old new (passes_one c.args.base rows c.loop-i.i old mid new within c.loop-i.invariant.writing e.serves.goes e.crash e.time e.rest);
     })
 
 pub returns-in_err-write_noted-clause-does : goal.returns-in_err-write_noted-clause-does

@@ -44,7 +44,7 @@ returns-then-next-many-gt-NUMBER_LIMIT-clause-passes g c =
 
 pub returns-in-Ok-clause-serves : goal.returns-in-Ok-clause-serves
 returns-in-Ok-clause-serves g c =
-    let written = c.write_sealed.ensures.serves in
+    let written = c.write_long.ensures.serves in
     serves_ok IsStoreFault _ _ _ written.goes written.out c.in-Ok.ensures.serves.tells
 
 pub returns-in-Err-clause-serves : goal.returns-in-Err-clause-serves
@@ -57,14 +57,14 @@ returns-in-Ok-clause-written g c = λ tells.
     let p = c.args.p.now in
     let s = c.args.sealer.now in
     let spelled = ap (λ n. take n c.bytes.result.now) c.checkpoint_len.ensures.len ∙ ap (λ (xs : List ℕ). take (checkpoint_len p) xs) c.bytes.ensures ∙ c.spell.ensures.spelled in
-    held s.keys p c.args.epoch (content_of c.args.tables.now) s.generation s.next (g.S.Store.disk c.write_sealed.new.store).cells c.area_of.result c.checkpoint_cells-many.result (take c.checkpoint_len.result c.bytes.result.now)
+    held s.keys p c.args.epoch (content_of c.args.tables.now) s.generation s.next (g.S.Store.disk c.write_long.new.store).cells c.area_of.result c.checkpoint_cells-many.result (take c.checkpoint_len.result c.bytes.result.now)
     c.area_of.ensures.cell c.checkpoint_cells-many.ensures.cells spelled (c.in-Ok.ensures.run.written tells)
 
 pub returns-in-Ok-clause-sealed : goal.returns-in-Ok-clause-sealed
 returns-in-Ok-clause-sealed g c = c.in-Ok.ensures.run.seals.all ∙ ap (λ n. record c.args.sealer.now { next = c.args.sealer.now.next + n }) c.checkpoint_cells-many.ensures.cells
 
 pub returns-in-Ok-clause-some_sealed : goal.returns-in-Ok-clause-some_sealed
-returns-in-Ok-clause-some_sealed g c = subst (λ n. IsFurther n c.args.sealer.now c.write_sealed.new.sealer) c.checkpoint_cells-many.ensures.cells c.in-Ok.ensures.run.seals.some
+returns-in-Ok-clause-some_sealed g c = subst (λ n. IsFurther n c.args.sealer.now c.write_long.new.sealer) c.checkpoint_cells-many.ensures.cells c.in-Ok.ensures.run.seals.some
 
 pub returns-in-Ok-clause-faults : goal.returns-in-Ok-clause-faults
 returns-in-Ok-clause-faults g c =
@@ -85,16 +85,16 @@ returns-in-Ok-clause-passes g c = (within _ _ _ _ _ _ c.area_of.ensures.cell c.c
 pub returns-in-Ok-clause-does : goal.returns-in-Ok-clause-does
 returns-in-Ok-clause-does g c =
     let seen = (g.S.Store.disk c.args.store.now).seen in
-    let seen' = (g.S.Store.disk c.write_sealed.new.store).seen in
+    let seen' = (g.S.Store.disk c.write_long.new.store).seen in
     let trace = g.W.Watch.trace c.args.watch.now in
-    let trace' = g.W.Watch.trace c.write_sealed.new.watch in
+    let trace' = g.W.Watch.trace c.write_long.new.watch in
     does_all seen seen' trace trace' (write_notes (area_of c.args.p.now c.args.epoch) (checkpoint_cells c.args.p.now)) tt
     (subst (λ (notes : List Note). Tells notes notes seen seen' trace trace') (notes_same _ _ _ _ c.area_of.ensures.cell c.checkpoint_cells-many.ensures.cells) c.in-Ok.ensures.does.all)
 
 -- ---- the store failed
 
 pub returns-in-Err-clause-some_sealed : goal.returns-in-Err-clause-some_sealed
-returns-in-Err-clause-some_sealed g c = subst (λ n. IsFurther n c.args.sealer.now c.write_sealed.new.sealer) c.checkpoint_cells-many.ensures.cells c.in-Err.ensures.run.seals.some
+returns-in-Err-clause-some_sealed g c = subst (λ n. IsFurther n c.args.sealer.now c.write_long.new.sealer) c.checkpoint_cells-many.ensures.cells c.in-Err.ensures.run.seals.some
 
 pub returns-in-Err-clause-faults : goal.returns-in-Err-clause-faults
 returns-in-Err-clause-faults g c =
@@ -115,8 +115,8 @@ returns-in-Err-clause-passes g c = (within _ _ _ _ _ _ c.area_of.ensures.cell c.
 pub returns-in-Err-clause-does : goal.returns-in-Err-clause-does
 returns-in-Err-clause-does g c =
     let seen = (g.S.Store.disk c.args.store.now).seen in
-    let seen' = (g.S.Store.disk c.write_sealed.new.store).seen in
+    let seen' = (g.S.Store.disk c.write_long.new.store).seen in
     let trace = g.W.Watch.trace c.args.watch.now in
-    let trace' = g.W.Watch.trace c.write_sealed.new.watch in
+    let trace' = g.W.Watch.trace c.write_long.new.watch in
     does_err seen seen' trace trace' (write_notes (area_of c.args.p.now c.args.epoch) (checkpoint_cells c.args.p.now)) (StoreFault None)
     (subst (λ (notes : List Note). TellsFirst notes seen seen' trace trace') (notes_same _ _ _ _ c.area_of.ensures.cell c.checkpoint_cells-many.ensures.cells) c.in-Err.ensures.does.first)

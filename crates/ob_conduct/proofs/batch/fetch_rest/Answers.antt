@@ -10,7 +10,7 @@ loop-desk-init g c = record {
 }
 
 pub fetch_batch-requires-clause-ready : goal.fetch_batch-requires-clause-ready
-fetch_batch-requires-clause-ready g c = c.loop-desk.invariant.read.1.ready
+fetch_batch-requires-clause-ready g c κs within = c.loop-desk.invariant.read.1.ready
 
 pub loop-desk-preserved : goal.loop-desk-preserved
 loop-desk-preserved g c =

@@ -32,7 +32,7 @@ returns-clause-refused g c = λ beat look seen may end.
     c.text.ensures.printed (rw c.in-Err-text.is at c.text.ensures.cause).failed
 
 pub fetch_rest-requires-clause-ready : goal.fetch_rest-requires-clause-ready
-fetch_rest-requires-clause-ready g c = c.requires.ready
+fetch_rest-requires-clause-ready g c κs within = c.requires.ready
 
 pub returns-in-Err-clause-params : goal.returns-in-Err-clause-params
 returns-in-Err-clause-params g c = c.in-Err.ensures.params
@@ -41,19 +41,19 @@ pub returns-in-Err-clause-ended : goal.returns-in-Err-clause-ended
 returns-in-Err-clause-ended g c = λ beat look seen may end. tt
 
 pub close-requires-clause-params : goal.close-requires-clause-params
-close-requires-clause-params g c = c.in-Ok.ensures.params
+close-requires-clause-params g c κs within = c.in-Ok.ensures.params
 
 pub close-requires-clause-ready : goal.close-requires-clause-ready
-close-requires-clause-ready g c = c.in-Ok.ensures.read.1.ready
+close-requires-clause-ready g c κs within = c.in-Ok.ensures.read.1.ready
 
 pub close-requires-clause-goes_on : goal.close-requires-clause-goes_on
-close-requires-clause-goes_on g c = c.in-Ok.ensures.read.1.same_stop ∙ c.requires.goes_on
+close-requires-clause-goes_on g c κs within = c.in-Ok.ensures.read.1.same_stop ∙ c.requires.goes_on
 
 pub close-requires-clause-none_left : goal.close-requires-clause-none_left
-close-requires-clause-none_left g c = c.in-Ok.ensures.none_left
+close-requires-clause-none_left g c κs within = c.in-Ok.ensures.none_left
 
 pub close-requires-clause-room : goal.close-requires-clause-room
-close-requires-clause-room g c = c.requires.room
+close-requires-clause-room g c κs within = c.requires.room
 
 pub returns-in-Err-close-clause-params : goal.returns-in-Err-close-clause-params
 returns-in-Err-close-clause-params g c = c.in-Err-close.ensures.params

@@ -25,31 +25,31 @@ returns-clause-acted g c = rested _ c.args.params.now (beat_kind g.B.Beat.passes
     (still (beat_kind g.B.Beat.passes g.B.Beat.exact) c.args.look.now c.requires.not_over c.if-is_to_fetch.ensures (omega (arith, c.if-look-gt0.false)))
 
 pub fetch_batch-requires-clause-params : goal.fetch_batch-requires-clause-params
-fetch_batch-requires-clause-params g c = c.requires.params
+fetch_batch-requires-clause-params g c κs within = c.requires.params
 
 pub fetch_batch-requires-clause-ready : goal.fetch_batch-requires-clause-ready
-fetch_batch-requires-clause-ready g c = c.requires.ready
+fetch_batch-requires-clause-ready g c κs within = c.requires.ready
 
 pub fetch_batch-requires-clause-goes_on : goal.fetch_batch-requires-clause-goes_on
-fetch_batch-requires-clause-goes_on g c = c.requires.goes_on
+fetch_batch-requires-clause-goes_on g c κs within = c.requires.goes_on
 
 pub fetch_batch-requires-clause-some_left : goal.fetch_batch-requires-clause-some_left
-fetch_batch-requires-clause-some_left g c = subst (λ n. 0 < n) (ap (λ (l : Look). l.left) c.requires.look ∙ c.requires.ready.left) c.if-is_to_fetch.ensures.1
+fetch_batch-requires-clause-some_left g c κs within = subst (λ n. 0 < n) (ap (λ (l : Look). l.left) c.requires.look ∙ c.requires.ready.left) c.if-is_to_fetch.ensures.1
 
 pub returns-then-is_to_fetch-clause-params : goal.returns-then-is_to_fetch-clause-params
 returns-then-is_to_fetch-clause-params g c = c.fetch_batch.ensures.params
 
 pub end_epoch-requires-clause-params : goal.end_epoch-requires-clause-params
-end_epoch-requires-clause-params g c = c.requires.params
+end_epoch-requires-clause-params g c κs within = c.requires.params
 
 pub end_epoch-requires-clause-ready : goal.end_epoch-requires-clause-ready
-end_epoch-requires-clause-ready g c = c.requires.ready
+end_epoch-requires-clause-ready g c κs within = c.requires.ready
 
 pub end_epoch-requires-clause-goes_on : goal.end_epoch-requires-clause-goes_on
-end_epoch-requires-clause-goes_on g c = c.requires.goes_on
+end_epoch-requires-clause-goes_on g c κs within = c.requires.goes_on
 
 pub end_epoch-requires-clause-room : goal.end_epoch-requires-clause-room
-end_epoch-requires-clause-room g c = c.requires.room
+end_epoch-requires-clause-room g c κs within = c.requires.room
 
 pub returns-then-look-gt0-clause-params : goal.returns-then-look-gt0-clause-params
 returns-then-look-gt0-clause-params g c = c.end_epoch.ensures.params

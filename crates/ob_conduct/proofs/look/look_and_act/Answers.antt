@@ -30,13 +30,13 @@ pub returns-then-not-is_due-clause-anchors : goal.returns-then-not-is_due-clause
 returns-then-not-is_due-clause-anchors g c = c.is_due.ensures.anchors
 
 pub act-requires-clause-ready : goal.act-requires-clause-ready
-act-requires-clause-ready g c = c.requires.ready
+act-requires-clause-ready g c κs within = c.requires.ready
 
 pub act-requires-clause-goes_on : goal.act-requires-clause-goes_on
-act-requires-clause-goes_on g c = sym c.stopped.ensures.0 ∙ c.in_default.is
+act-requires-clause-goes_on g c κs within = sym c.stopped.ensures.0 ∙ c.in_default.is
 
 pub act-requires-clause-look : goal.act-requires-clause-look
-act-requires-clause-look g c = c.look-look.ensures.0
+act-requires-clause-look g c κs within = c.look-look.ensures.0
 
 pub returns-in-Ok-clause-params : goal.returns-in-Ok-clause-params
 returns-in-Ok-clause-params g c = c.in-Ok.ensures.params
@@ -66,13 +66,13 @@ pub returns-then-is_over-clause-over : goal.returns-then-is_over-clause-over
 returns-then-is_over-clause-over g c = λ is. over_desk c.args.desk.now c.look-look.result c.requires.ready.none_closed (sym c.stopped.ensures.0 ∙ c.in_default.is) c.look-look.ensures.0 c.if-is_over.ensures
 
 pub act-requires-clause-params : goal.act-requires-clause-params
-act-requires-clause-params g c = c.requires.params
+act-requires-clause-params g c κs within = c.requires.params
 
 pub act-requires-clause-room : goal.act-requires-clause-room
-act-requires-clause-room g c = c.requires.room
+act-requires-clause-room g c κs within = c.requires.room
 
 pub act-requires-clause-may : goal.act-requires-clause-may
-act-requires-clause-may g c = c.if-not-is_due.ensures.may
+act-requires-clause-may g c κs within = c.if-not-is_due.ensures.may
 
 pub act-requires-clause-not_over : goal.act-requires-clause-not_over
-act-requires-clause-not_over g c = c.if-is_over.ensures
+act-requires-clause-not_over g c κs within = c.if-is_over.ensures

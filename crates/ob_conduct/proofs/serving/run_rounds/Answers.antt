@@ -19,7 +19,7 @@ pub step_all-requires-clause-heard : goal.step_all-requires-clause-heard
 step_all-requires-clause-heard g c = going_heard _ _ _ _ _ _ _ _ _ _ c.loop.invariant.going c.requires.fresh c.requires.opens
 
 pub look_and_act-requires-clause-ready : goal.look_and_act-requires-clause-ready
-look_and_act-requires-clause-ready g c = c.step_all.ensures.ready c.args.params.now (g.V.Vault.counts c.loop.vault) c.loop.invariant.going.ready
+look_and_act-requires-clause-ready g c κs within = c.step_all.ensures.ready c.args.params.now (g.V.Vault.counts c.loop.vault) c.loop.invariant.going.ready
 
 pub loop-preserved : goal.loop-preserved
 loop-preserved g c =
@@ -51,10 +51,10 @@ pub step_all-requires-clause-ready : goal.step_all-requires-clause-ready
 step_all-requires-clause-ready g c = (g.V.Vault.counts c.loop.vault, subst (λ (p : Params). IsBetweenActs p c.loop.desk (g.V.Vault.counts c.loop.vault)) (sym c.loop.invariant.going.ready.params) c.loop.invariant.going.ready)
 
 pub look_and_act-requires-clause-params : goal.look_and_act-requires-clause-params
-look_and_act-requires-clause-params g c = c.loop.invariant.params
+look_and_act-requires-clause-params g c κs within = c.loop.invariant.params
 
 pub look_and_act-requires-clause-room : goal.look_and_act-requires-clause-room
-look_and_act-requires-clause-room g c = c.loop.invariant.room
+look_and_act-requires-clause-room g c κs within = c.loop.invariant.room
 
 pub returns-in-Ok-Over-clause-params : goal.returns-in-Ok-Over-clause-params
 returns-in-Ok-Over-clause-params g c = c.in-Ok-Over.ensures.params

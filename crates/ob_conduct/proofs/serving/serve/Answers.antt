@@ -19,22 +19,22 @@ pub returns-in-Err-clause-beat : goal.returns-in-Err-clause-beat
 returns-in-Err-clause-beat g c = refl
 
 pub run_rounds-requires-clause-params : goal.run_rounds-requires-clause-params
-run_rounds-requires-clause-params g c = c.requires.params
+run_rounds-requires-clause-params g c κs within = c.requires.params
 
 pub run_rounds-requires-clause-serves : goal.run_rounds-requires-clause-serves
-run_rounds-requires-clause-serves g c = c.requires.serves
+run_rounds-requires-clause-serves g c κs within = c.requires.serves
 
 pub run_rounds-requires-clause-fresh : goal.run_rounds-requires-clause-fresh
-run_rounds-requires-clause-fresh g c = c.requires.fresh
+run_rounds-requires-clause-fresh g c κs within = c.requires.fresh
 
 pub run_rounds-requires-clause-opens : goal.run_rounds-requires-clause-opens
-run_rounds-requires-clause-opens g c = c.requires.opens
+run_rounds-requires-clause-opens g c κs within = c.requires.opens
 
 pub run_rounds-requires-clause-below : goal.run_rounds-requires-clause-below
-run_rounds-requires-clause-below g c = c.requires.below
+run_rounds-requires-clause-below g c κs within = c.requires.below
 
 pub run_rounds-requires-clause-none_made : goal.run_rounds-requires-clause-none_made
-run_rounds-requires-clause-none_made g c = c.requires.none_made
+run_rounds-requires-clause-none_made g c κs within = c.requires.none_made
 
 pub returns-clause-params : goal.returns-clause-params
 returns-clause-params g c = c.run_rounds.ensures.params

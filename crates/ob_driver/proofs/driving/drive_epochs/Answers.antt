@@ -31,16 +31,16 @@ pub announce-requires : goal.announce-requires
 announce-requires g c = record { first = c.requires.first }
 
 pub drive_on-requires-clause-params : goal.drive_on-requires-clause-params
-drive_on-requires-clause-params g c = (c.requires.params ∙ c.announce.ensures.params, c.announce.ensures.params)
+drive_on-requires-clause-params g c κs within = (c.requires.params ∙ c.announce.ensures.params, c.announce.ensures.params)
 
 pub drive_on-requires-clause-rests : goal.drive_on-requires-clause-rests
-drive_on-requires-clause-rests g c = c.announce.ensures.rests
+drive_on-requires-clause-rests g c κs within = c.announce.ensures.rests
 
 pub drive_on-requires-clause-room : goal.drive_on-requires-clause-room
-drive_on-requires-clause-room g c = subst (λ (p : Params). HasRoom p c.args.room.now) c.announce.ensures.params c.requires.room
+drive_on-requires-clause-room g c κs within = subst (λ (p : Params). HasRoom p c.args.room.now) c.announce.ensures.params c.requires.room
 
 pub drive_on-requires-clause-hands : goal.drive_on-requires-clause-hands
-drive_on-requires-clause-hands g c = c.requires.hands
+drive_on-requires-clause-hands g c κs within = c.requires.hands
 
 pub returns-clause-params : goal.returns-clause-params
 returns-clause-params g c = c.drive_on.ensures.params ∙ sym c.announce.ensures.params

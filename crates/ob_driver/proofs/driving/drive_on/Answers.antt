@@ -13,7 +13,7 @@ loop-init g c = record {
 }
 
 pub look_once-requires-clause-rests : goal.look_once-requires-clause-rests
-look_once-requires-clause-rests g c = c.loop.invariant.done.done.rests
+look_once-requires-clause-rests g c κs within = c.loop.invariant.done.done.rests
 
 pub loop-preserved : goal.loop-preserved
 loop-preserved g c =
@@ -58,10 +58,10 @@ pub step_all-ran-requires : goal.step_all-ran-requires
 step_all-ran-requires g c = record { ready = c.loop.invariant.hands }
 
 pub look_once-requires-clause-params : goal.look_once-requires-clause-params
-look_once-requires-clause-params g c = (c.loop.invariant.params, c.requires.params.1)
+look_once-requires-clause-params g c κs within = (c.loop.invariant.params, c.requires.params.1)
 
 pub look_once-requires-clause-room : goal.look_once-requires-clause-room
-look_once-requires-clause-room g c = c.loop.invariant.room
+look_once-requires-clause-room g c κs within = c.loop.invariant.room
 
 pub returns-in-Err-clause-params : goal.returns-in-Err-clause-params
 returns-in-Err-clause-params g c = c.in-Err.ensures.params

@@ -23,13 +23,13 @@ pub close-requires-clause-may : goal.close-requires-clause-may
 close-requires-clause-may g c = may_close (params_of c.args.hall.now) c.args.desk (g.V.Vault.counts c.args.vault.now) c.requires.ready c.requires.goes_on c.requires.none_left
 
 pub end-requires-clause-few : goal.end-requires-clause-few
-end-requires-clause-few g c = rw c.requires.params.0 (close_few (params_of c.args.hall.now) c.args.desk c.close.new.self _ c.close.new.out.items c.requires.ready c.close.ensures.step)
+end-requires-clause-few g c κs within = rw c.requires.params.0 (close_few (params_of c.args.hall.now) c.args.desk c.close.new.self _ c.close.new.out.items c.requires.ready c.close.ensures.step)
 
 pub end-requires-clause-rising : goal.end-requires-clause-rising
-end-requires-clause-rising g c = close_rising c.args.desk c.close.new.self c.close.new.out.items c.close.ensures.step
+end-requires-clause-rising g c κs within = close_rising c.args.desk c.close.new.self c.close.new.out.items c.close.ensures.step
 
 pub end-requires-clause-keys : goal.end-requires-clause-keys
-end-requires-clause-keys g c = rw c.requires.params.0 (close_below (params_of c.args.hall.now) c.args.desk c.close.new.self _ c.close.new.out.items c.requires.ready c.close.ensures.step)
+end-requires-clause-keys g c κs within = rw c.requires.params.0 (close_below (params_of c.args.hall.now) c.args.desk c.close.new.self _ c.close.new.out.items c.requires.ready c.close.ensures.step)
 
 pub publish-requires-clause-turn : goal.publish-requires-clause-turn
 publish-requires-clause-turn g c =
@@ -97,10 +97,10 @@ pub note-requires-clause-inside : goal.note-requires-clause-inside
 note-requires-clause-inside g c = c.requires.turn.inside
 
 pub end-requires-clause-serves : goal.end-requires-clause-serves
-end-requires-clause-serves g c = c.requires.ready.serves
+end-requires-clause-serves g c κs within = c.requires.ready.serves
 
 pub end-requires-clause-none_left : goal.end-requires-clause-none_left
-end-requires-clause-none_left g c = c.requires.none_left
+end-requires-clause-none_left g c κs within = c.requires.none_left
 
 pub publish-requires-clause-few : goal.publish-requires-clause-few
 publish-requires-clause-few g c = c.epoch-ended.ensures.few

@@ -8,19 +8,19 @@ use Rattle.ob_driver.proofs.Standing.{ends_notes}
 use Rattle.ob_driver.proofs.ending.end_epoch.Goals as goal
 
 pub close-requires-clause-turn : goal.close-requires-clause-turn
-close-requires-clause-turn g c = c.in-Ok.ensures.read.1.turn
+close-requires-clause-turn g c κs within = c.in-Ok.ensures.read.1.turn
 
 pub close-requires-clause-ready : goal.close-requires-clause-ready
-close-requires-clause-ready g c = c.in-Ok.ensures.read.1.ready
+close-requires-clause-ready g c κs within = c.in-Ok.ensures.read.1.ready
 
 pub close-requires-clause-goes_on : goal.close-requires-clause-goes_on
-close-requires-clause-goes_on g c = c.in-Ok.ensures.read.1.same_stop ∙ c.requires.goes_on
+close-requires-clause-goes_on g c κs within = c.in-Ok.ensures.read.1.same_stop ∙ c.requires.goes_on
 
 pub close-requires-clause-raises : goal.close-requires-clause-raises
-close-requires-clause-raises g c = still_raises (kind_of g.V.Vault) c.args.hall.now _ _ _ _ _ _ _ c.requires.looking c.in-Ok.ensures.read.1
+close-requires-clause-raises g c κs within = still_raises (kind_of g.V.Vault) c.args.hall.now _ _ _ _ _ _ _ c.requires.looking c.in-Ok.ensures.read.1
 
 pub close-requires-clause-told : goal.close-requires-clause-told
-close-requires-clause-told g c = still_told (kind_of g.V.Vault) c.args.hall.now _ _ _ _ _ _ _ c.requires.looking c.in-Ok.ensures.read.1
+close-requires-clause-told g c κs within = still_told (kind_of g.V.Vault) c.args.hall.now _ _ _ _ _ _ _ c.requires.looking c.in-Ok.ensures.read.1
 
 pub returns-in-Ok-clause-rests : goal.returns-in-Ok-clause-rests
 returns-in-Ok-clause-rests g c =
@@ -63,31 +63,31 @@ pub returns-in-Err-clause-ends : goal.returns-in-Err-clause-ends
 returns-in-Err-clause-ends g c = ends_notes c.args.pass.now c.read_left.new.pass c.stop_inside.new.pass _ c.in-Err.ensures.refused.1.notes c.stop_inside.ensures.ends
 
 pub read_left-requires-clause-params : goal.read_left-requires-clause-params
-read_left-requires-clause-params g c = c.requires.params.0
+read_left-requires-clause-params g c κs within = c.requires.params.0
 
 pub read_left-requires-clause-turn : goal.read_left-requires-clause-turn
-read_left-requires-clause-turn g c = c.requires.looking.turn
+read_left-requires-clause-turn g c κs within = c.requires.looking.turn
 
 pub read_left-requires-clause-ready : goal.read_left-requires-clause-ready
-read_left-requires-clause-ready g c = c.requires.looking.ready
+read_left-requires-clause-ready g c κs within = c.requires.looking.ready
 
 pub read_left-requires-clause-goes_on : goal.read_left-requires-clause-goes_on
-read_left-requires-clause-goes_on g c = c.requires.goes_on
+read_left-requires-clause-goes_on g c κs within = c.requires.goes_on
 
 pub read_left-requires-clause-places : goal.read_left-requires-clause-places
-read_left-requires-clause-places g c = c.requires.room.asks
+read_left-requires-clause-places g c κs within = c.requires.room.asks
 
 pub read_left-requires-clause-room : goal.read_left-requires-clause-room
-read_left-requires-clause-room g c = c.requires.room.found
+read_left-requires-clause-room g c κs within = c.requires.room.found
 
 pub close-requires-clause-params : goal.close-requires-clause-params
-close-requires-clause-params g c = (c.in-Ok.ensures.params, c.requires.params.1)
+close-requires-clause-params g c κs within = (c.in-Ok.ensures.params, c.requires.params.1)
 
 pub close-requires-clause-none_left : goal.close-requires-clause-none_left
-close-requires-clause-none_left g c = c.in-Ok.ensures.none_left
+close-requires-clause-none_left g c κs within = c.in-Ok.ensures.none_left
 
 pub close-requires-clause-room : goal.close-requires-clause-room
-close-requires-clause-room g c = c.requires.room.writes
+close-requires-clause-room g c κs within = c.requires.room.writes
 
 pub stop_inside-requires : goal.stop_inside-requires
 stop_inside-requires g c = record { turn = c.in-Err.ensures.refused.1.turn }

@@ -14,16 +14,16 @@ pub take_batch-requires-clause-places : goal.take_batch-requires-clause-places
 take_batch-requires-clause-places g c = c.requires.places ∙ sym (ap (λ (p : Params). p.places) c.requires.ready.params)
 
 pub read_batch-requires-clause-keys : goal.read_batch-requires-clause-keys
-read_batch-requires-clause-keys g c = rw c.requires.params (batch_below (params_of c.args.hall.now) c.args.desk.now c.take_batch.new.desk (g.V.Vault.counts c.args.vault.now) c.take_batch.new.asks.items c.requires.ready c.take_batch.ensures.taken)
+read_batch-requires-clause-keys g c κs within = rw c.requires.params (batch_below (params_of c.args.hall.now) c.args.desk.now c.take_batch.new.desk (g.V.Vault.counts c.args.vault.now) c.take_batch.new.asks.items c.requires.ready c.take_batch.ensures.taken)
 
 pub read_batch-requires-clause-distinct : goal.read_batch-requires-clause-distinct
-read_batch-requires-clause-distinct g c = batch_distinct (params_of c.args.hall.now) c.args.desk.now c.take_batch.new.desk (g.V.Vault.counts c.args.vault.now) c.take_batch.new.asks.items c.requires.ready c.take_batch.ensures.taken
+read_batch-requires-clause-distinct g c κs within = batch_distinct (params_of c.args.hall.now) c.args.desk.now c.take_batch.new.desk (g.V.Vault.counts c.args.vault.now) c.take_batch.new.asks.items c.requires.ready c.take_batch.ensures.taken
 
 pub read_batch-requires-clause-whole : goal.read_batch-requires-clause-whole
-read_batch-requires-clause-whole g c = c.take_batch.ensures.places ∙ (c.requires.places ∙ sym (ap (λ (p : Params). p.places) c.requires.params))
+read_batch-requires-clause-whole g c κs within = c.take_batch.ensures.places ∙ (c.requires.places ∙ sym (ap (λ (p : Params). p.places) c.requires.params))
 
 pub read_batch-requires-clause-room : goal.read_batch-requires-clause-room
-read_batch-requires-clause-room g c = c.requires.room ∙ sym (ap (λ (p : Params). p.places) c.requires.params)
+read_batch-requires-clause-room g c κs within = c.requires.room ∙ sym (ap (λ (p : Params). p.places) c.requires.params)
 
 pub deliver_batch-requires : goal.deliver_batch-requires
 deliver_batch-requires g c = record {
@@ -53,10 +53,10 @@ pub note-requires-clause-inside : goal.note-requires-clause-inside
 note-requires-clause-inside g c = c.requires.turn.inside
 
 pub read_batch-requires-clause-serves : goal.read_batch-requires-clause-serves
-read_batch-requires-clause-serves g c = c.requires.ready.serves
+read_batch-requires-clause-serves g c κs within = c.requires.ready.serves
 
 pub read_batch-requires-clause-some_left : goal.read_batch-requires-clause-some_left
-read_batch-requires-clause-some_left g c = c.requires.some_left
+read_batch-requires-clause-some_left g c κs within = c.requires.some_left
 
 pub returns-in-Err-clause-params : goal.returns-in-Err-clause-params
 returns-in-Err-clause-params g c = c.in-Err.ensures.params ∙ c.requires.params

@@ -32,22 +32,22 @@ returns-in-Err-clause-refused g c =
     (batches, refuses_behind _ _ _ _ _ _ _ _ batches _ read c.in-Err.fault c.in-Err.ensures.refused)
 
 pub read_inside-requires-clause-params : goal.read_inside-requires-clause-params
-read_inside-requires-clause-params g c = c.loop-pass.invariant.params
+read_inside-requires-clause-params g c κs within = c.loop-pass.invariant.params
 
 pub read_inside-requires-clause-turn : goal.read_inside-requires-clause-turn
-read_inside-requires-clause-turn g c = c.loop-pass.invariant.read.1.turn
+read_inside-requires-clause-turn g c κs within = c.loop-pass.invariant.read.1.turn
 
 pub read_inside-requires-clause-ready : goal.read_inside-requires-clause-ready
-read_inside-requires-clause-ready g c = c.loop-pass.invariant.read.1.ready
+read_inside-requires-clause-ready g c κs within = c.loop-pass.invariant.read.1.ready
 
 pub read_inside-requires-clause-goes_on : goal.read_inside-requires-clause-goes_on
-read_inside-requires-clause-goes_on g c = c.loop-pass.invariant.goes_on
+read_inside-requires-clause-goes_on g c κs within = c.loop-pass.invariant.goes_on
 
 pub read_inside-requires-clause-places : goal.read_inside-requires-clause-places
-read_inside-requires-clause-places g c = c.loop-pass.invariant.places
+read_inside-requires-clause-places g c κs within = c.loop-pass.invariant.places
 
 pub read_inside-requires-clause-room : goal.read_inside-requires-clause-room
-read_inside-requires-clause-room g c = c.loop-pass.invariant.room
+read_inside-requires-clause-room g c κs within = c.loop-pass.invariant.room
 
 pub loop-pass-smaller : goal.loop-pass-smaller
 loop-pass-smaller g c = c.in-Ok.ensures.less

@@ -16,18 +16,18 @@ pub take-requires-clause-places : goal.take-requires-clause-places
 take-requires-clause-places g c = c.requires.places ∙ sym (ap (λ (p : Params). p.places) c.requires.looking.ready.params)
 
 pub read_batch-requires-clause-whole : goal.read_batch-requires-clause-whole
-read_batch-requires-clause-whole g c = c.take.ensures.places ∙ (c.requires.places ∙ sym (ap (λ (p : Params). p.places) c.requires.params))
+read_batch-requires-clause-whole g c κs within = c.take.ensures.places ∙ (c.requires.places ∙ sym (ap (λ (p : Params). p.places) c.requires.params))
 
 pub read_batch-requires-clause-room : goal.read_batch-requires-clause-room
-read_batch-requires-clause-room g c = c.requires.room ∙ sym (ap (λ (p : Params). p.places) c.requires.params)
+read_batch-requires-clause-room g c κs within = c.requires.room ∙ sym (ap (λ (p : Params). p.places) c.requires.params)
 
 pub read_batch-requires-clause-keys : goal.read_batch-requires-clause-keys
-read_batch-requires-clause-keys g c =
+read_batch-requires-clause-keys g c κs within =
     let (mid, taken) = c.take.ensures.taken in
     rw c.requires.params (batch_below (params_of c.args.hall.now) c.args.desk mid (g.V.Vault.counts c.args.vault.now) c.take.new.asks.items c.requires.looking.ready taken)
 
 pub read_batch-requires-clause-distinct : goal.read_batch-requires-clause-distinct
-read_batch-requires-clause-distinct g c =
+read_batch-requires-clause-distinct g c κs within =
     let (mid, taken) = c.take.ensures.taken in
     batch_distinct (params_of c.args.hall.now) c.args.desk mid (g.V.Vault.counts c.args.vault.now) c.take.new.asks.items c.requires.looking.ready taken
 
@@ -75,10 +75,10 @@ pub take-requires-clause-turn : goal.take-requires-clause-turn
 take-requires-clause-turn g c = c.requires.looking.turn
 
 pub read_batch-requires-clause-serves : goal.read_batch-requires-clause-serves
-read_batch-requires-clause-serves g c = c.requires.looking.ready.serves
+read_batch-requires-clause-serves g c κs within = c.requires.looking.ready.serves
 
 pub read_batch-requires-clause-some_left : goal.read_batch-requires-clause-some_left
-read_batch-requires-clause-some_left g c = c.requires.some_left
+read_batch-requires-clause-some_left g c κs within = c.requires.some_left
 
 pub stop-requires-clause-idle : goal.stop-requires-clause-idle
 stop-requires-clause-idle g c = c.take.ensures.idle

@@ -40,16 +40,16 @@ pub returns-in-Ok-text-clause-acts : goal.returns-in-Ok-text-clause-acts
 returns-in-Ok-text-clause-acts g c = refl
 
 pub end_epoch-requires-clause-params : goal.end_epoch-requires-clause-params
-end_epoch-requires-clause-params g c = c.requires.params
+end_epoch-requires-clause-params g c κs within = c.requires.params
 
 pub end_epoch-requires-clause-looking : goal.end_epoch-requires-clause-looking
-end_epoch-requires-clause-looking g c = c.requires.looking
+end_epoch-requires-clause-looking g c κs within = c.requires.looking
 
 pub end_epoch-requires-clause-goes_on : goal.end_epoch-requires-clause-goes_on
-end_epoch-requires-clause-goes_on g c = c.requires.goes_on
+end_epoch-requires-clause-goes_on g c κs within = c.requires.goes_on
 
 pub end_epoch-requires-clause-room : goal.end_epoch-requires-clause-room
-end_epoch-requires-clause-room g c = c.requires.room
+end_epoch-requires-clause-room g c κs within = c.requires.room
 
 pub returns-in-Err-clause-params : goal.returns-in-Err-clause-params
 returns-in-Err-clause-params g c = c.in-Err.ensures.params

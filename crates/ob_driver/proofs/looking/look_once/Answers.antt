@@ -38,17 +38,17 @@ leave-requires-in-Rest-clause-desk g c =
     c.look-look.result (sym c.in_default.is ∙ c.stopped-fault.ensures.0) (rw c.in_default.is at c.note.ensures.noted) c.note.ensures.own c.look-look.ensures.0
 
 pub fetch-requires-clause-looking : goal.fetch-requires-clause-looking
-fetch-requires-clause-looking g c =
+fetch-requires-clause-looking g c κs within =
     is_looking c.args.hall.now c.args.pass.now c.enter_behind-desk.new.pass c.enter_behind-desk.result.0 (g.V.Vault.counts c.args.vault.now) c.requires.rests.at c.enter_behind-desk.ensures.own c.enter_behind-desk.ensures.entered c.note.new.pass
     c.look-look.result (sym c.in_default.is ∙ c.stopped-fault.ensures.0) (rw c.in_default.is at c.note.ensures.noted) c.note.ensures.own c.note-in-Fetch.new.pass c.look-look.ensures.0 c.note-in-Fetch.ensures.noted c.note-in-Fetch.ensures.own
 
 pub end_and_tell-requires-clause-looking : goal.end_and_tell-requires-clause-looking
-end_and_tell-requires-clause-looking g c =
+end_and_tell-requires-clause-looking g c κs within =
     is_looking c.args.hall.now c.args.pass.now c.enter_behind-desk.new.pass c.enter_behind-desk.result.0 (g.V.Vault.counts c.args.vault.now) c.requires.rests.at c.enter_behind-desk.ensures.own c.enter_behind-desk.ensures.entered c.note.new.pass
     c.look-look.result (sym c.in_default.is ∙ c.stopped-fault.ensures.0) (rw c.in_default.is at c.note.ensures.noted) c.note.ensures.own c.note-in-End.new.pass c.look-look.ensures.0 c.note-in-End.ensures.noted c.note-in-End.ensures.own
 
 pub fetch-requires-clause-some_left : goal.fetch-requires-clause-some_left
-fetch-requires-clause-some_left g c =
+fetch-requires-clause-some_left g c κs within =
     some_left (params_of c.args.hall.now) c.enter_behind-desk.result.0 (g.V.Vault.counts c.args.vault.now) c.look-look.result
     (ready_in c.args.hall.now c.args.pass.now c.enter_behind-desk.new.pass c.enter_behind-desk.result.0 (g.V.Vault.counts c.args.vault.now) c.requires.rests.at c.enter_behind-desk.ensures.entered) c.look-look.ensures.0 c.in-Fetch.ensures.may.1
 
@@ -95,11 +95,11 @@ returns-in-Rest-clause-stand g c =
     (goes_on_ended c.note.new.pass c.leave-in-Rest.new.pass count (at_noted c.enter_behind-desk.new.pass c.note.new.pass _ count c.note.ensures.noted at) (ends_left c.note.new.pass c.leave-in-Rest.new.pass _ c.leave-in-Rest.ensures.left)))
 
 pub fetch-requires-clause-turns : goal.fetch-requires-clause-turns
-fetch-requires-clause-turns g c =
+fetch-requires-clause-turns g c κs within =
     at_noted c.note.new.pass c.note-in-Fetch.new.pass _ c.enter_behind-desk.result.1 c.note-in-Fetch.ensures.noted (at_noted c.enter_behind-desk.new.pass c.note.new.pass _ c.enter_behind-desk.result.1 c.note.ensures.noted c.enter_behind-desk.ensures.behind.1)
 
 pub end_and_tell-requires-clause-turns : goal.end_and_tell-requires-clause-turns
-end_and_tell-requires-clause-turns g c =
+end_and_tell-requires-clause-turns g c κs within =
     at_noted c.note.new.pass c.note-in-End.new.pass _ c.enter_behind-desk.result.1 c.note-in-End.ensures.noted (at_noted c.enter_behind-desk.new.pass c.note.new.pass _ c.enter_behind-desk.result.1 c.note.ensures.noted c.enter_behind-desk.ensures.behind.1)
 
 pub returns-in-Fetch-clause-acted : goal.returns-in-Fetch-clause-acted
@@ -220,22 +220,22 @@ pub note-requires-in-End-clause-inside : goal.note-requires-in-End-clause-inside
 note-requires-in-End-clause-inside g c = c.note.ensures.noted.notes.inside
 
 pub fetch-requires-clause-params : goal.fetch-requires-clause-params
-fetch-requires-clause-params g c = c.requires.params.0
+fetch-requires-clause-params g c κs within = c.requires.params.0
 
 pub fetch-requires-clause-places : goal.fetch-requires-clause-places
-fetch-requires-clause-places g c = c.requires.room.asks
+fetch-requires-clause-places g c κs within = c.requires.room.asks
 
 pub fetch-requires-clause-room : goal.fetch-requires-clause-room
-fetch-requires-clause-room g c = c.requires.room.found
+fetch-requires-clause-room g c κs within = c.requires.room.found
 
 pub end_and_tell-requires-clause-params : goal.end_and_tell-requires-clause-params
-end_and_tell-requires-clause-params g c = c.requires.params
+end_and_tell-requires-clause-params g c κs within = c.requires.params
 
 pub end_and_tell-requires-clause-goes_on : goal.end_and_tell-requires-clause-goes_on
-end_and_tell-requires-clause-goes_on g c = sym c.stopped-fault.ensures.0 ∙ c.in_default.is
+end_and_tell-requires-clause-goes_on g c κs within = sym c.stopped-fault.ensures.0 ∙ c.in_default.is
 
 pub end_and_tell-requires-clause-room : goal.end_and_tell-requires-clause-room
-end_and_tell-requires-clause-room g c = c.requires.room
+end_and_tell-requires-clause-room g c κs within = c.requires.room
 
 pub returns-in-Over-clause-params : goal.returns-in-Over-clause-params
 returns-in-Over-clause-params g c = c.requires.params.0

@@ -85,31 +85,31 @@ returns-clause-moments g c = set_moments (g.S.Store.disk c.args.store.now) (g.S.
 -- ---- all may be written
 
 pub write_end-requires-clause-none_out : goal.write_end-requires-clause-none_out
-write_end-requires-clause-none_out g c = c.requires.none_out
+write_end-requires-clause-none_out g c κs inside = c.requires.none_out
 
 pub write_end-requires-clause-params : goal.write_end-requires-clause-params
-write_end-requires-clause-params g c = c.requires.params
+write_end-requires-clause-params g c κs inside = c.requires.params
 
 pub write_end-requires-clause-epoch : goal.write_end-requires-clause-epoch
-write_end-requires-clause-epoch g c = c.requires.epoch
+write_end-requires-clause-epoch g c κs inside = c.requires.epoch
 
 pub write_end-requires-clause-generation : goal.write_end-requires-clause-generation
-write_end-requires-clause-generation g c = c.requires.generation
+write_end-requires-clause-generation g c κs inside = c.requires.generation
 
 pub write_end-requires-clause-within : goal.write_end-requires-clause-within
-write_end-requires-clause-within g c = c.requires.within
+write_end-requires-clause-within g c κs inside = c.requires.within
 
 pub write_end-requires-clause-room : goal.write_end-requires-clause-room
-write_end-requires-clause-room g c = c.requires.room
+write_end-requires-clause-room g c κs inside = c.requires.room
 
 pub write_end-requires-clause-sealed : goal.write_end-requires-clause-sealed
-write_end-requires-clause-sealed g c = c.requires.sealed
+write_end-requires-clause-sealed g c κs inside = c.requires.sealed
 
 pub write_end-requires-clause-obeys : goal.write_end-requires-clause-obeys
-write_end-requires-clause-obeys g c = c.requires.obeys
+write_end-requires-clause-obeys g c κs inside = c.requires.obeys
 
 pub write_end-requires-clause-sheet : goal.write_end-requires-clause-sheet
-write_end-requires-clause-sheet g c = c.requires.sheet
+write_end-requires-clause-sheet g c κs inside = c.requires.sheet
 
 pub set-requires-clause-none_out : goal.set-requires-clause-none_out
 set-requires-clause-none_out g c = (let none = c.requires.none_out in let out = c.in-Ok.ensures.serves.out in omega arith)

@@ -4,7 +4,8 @@ use Rattle.ob_cells.specs.Jobs.{Manned}
 use Rattle.ob_end.specs.Lifts.{lift_cells, lift_jobs, lift_notes}
 use Rattle.ob_ring.proofs.PlanLaws.{seals_none}
 use Rattle.ob_recover.specs.Known.{fills_with_lifts, public_of_kept}
-use Rattle.ob_schedule.specs.Schedule.{end_notes}
+use Rattle.ob_schedule.specs.Phases.{end_phases}
+use Rattle.ob_schedule.specs.Schedule.{end_lifts, end_notes}
 use Rattle.ob_end.specs.EndWrites.{all_seals, end_write_notes, rows_left}
 use Rattle.ob_fetch.specs.declared.run.Run.{Run}
 use Rattle.ob_fetch.specs.Fetches.{words_since}
@@ -25,12 +26,12 @@ use Rattle.ob_end.proofs.EndCases.{answers_closed, at_spent, gates_at, one_more,
 use Rattle.ob_end.proofs.EndCases.{seals_closed, seals_ended, serves_closed, serves_ended, draws_closed, draws_made, before_blames, before_fault}
 use Rattle.ob_end.proofs.EndStage as stage
 use Rattle.ob_end.proofs.ScheduledEnds.{front_at, lifts_scheduled}
-use Rattle.ob_end.proofs.ToldEnds.{closed_told, cut_short, lifts_as, made_told, reads_are, refused_as}
+use Rattle.ob_end.proofs.ToldEnds.{cells_are, closed_told, cut_short, has_written, lifts_as, made_told, reads_are, refused_as}
 use Rattle.ob_store.proofs.Serving.{serves_err}
 use Rattle.ob_end.proofs.ending.end.Goals as goal
 
 pub close_epoch-requires-clause-epoch : goal.close_epoch-requires-clause-epoch
-close_epoch-requires-clause-epoch g c =
+close_epoch-requires-clause-epoch g c κs inside =
     let run = c.args.run.now in
     let run1 : Run = record run { spent = true } in
     let mid = c.make_end.new.run in
@@ -49,7 +50,7 @@ close_epoch-requires-clause-epoch g c =
     omega (arith, few, same)
 
 pub close_epoch-requires-clause-room : goal.close_epoch-requires-clause-room
-close_epoch-requires-clause-room g c =
+close_epoch-requires-clause-room g c κs inside =
     let run = c.args.run.now in
     let run1 : Run = record run { spent = true } in
     let mid = c.make_end.new.run in
@@ -66,7 +67,7 @@ close_epoch-requires-clause-room g c =
     stage.room_left run1 mid old writes words kept ready made low short may
 
 pub close_epoch-requires-clause-sealed : goal.close_epoch-requires-clause-sealed
-close_epoch-requires-clause-sealed g c =
+close_epoch-requires-clause-sealed g c κs inside =
     let run = c.args.run.now in
     let run1 : Run = record run { spent = true } in
     let mid = c.make_end.new.run in
@@ -83,7 +84,7 @@ close_epoch-requires-clause-sealed g c =
     stage.sealed_from run1 mid old writes words kept ready made low short may
 
 pub close_epoch-requires-clause-obeys : goal.close_epoch-requires-clause-obeys
-close_epoch-requires-clause-obeys g c =
+close_epoch-requires-clause-obeys g c κs inside =
     let run = c.args.run.now in
     let run1 : Run = record run { spent = true } in
     let mid = c.make_end.new.run in
@@ -100,7 +101,7 @@ close_epoch-requires-clause-obeys g c =
     stage.obeys_left run1 mid old writes words kept ready made low short may
 
 pub close_epoch-requires-clause-told : goal.close_epoch-requires-clause-told
-close_epoch-requires-clause-told g c =
+close_epoch-requires-clause-told g c κs inside =
     let run = c.args.run.now in
     let run1 : Run = record run { spent = true } in
     let mid = c.make_end.new.run in
@@ -419,14 +420,15 @@ returns-in-Err-clause-scheduled g c =
     let jobs = lift_jobs run.params run.ring.metas.versions fit.table in
     let cells = lift_cells run.params run.ring.metas.versions fit.table in
     let notes = lift_notes run.params run.ring.metas.versions fit.table in
-    let told = made_told c.args.crew.now.lanes cells notes (reads_are jobs) old.seen mids.seen (g.W.Watch.trace c.args.watch.now) (g.W.Watch.trace c.make_end.new.watch) c.in-Err.fault
+    let told = made_told c.args.crew.now.lanes cells notes (reads_are jobs) (cells_are jobs) old.seen mids.seen (g.W.Watch.trace c.args.watch.now) (g.W.Watch.trace c.make_end.new.watch) c.in-Err.fault
     (c.in-Err.ensures.told run.ring.metas fit.table (seals_none run.ring.metas) fit.stands) in (
       told.0,
       told.1,
       λ content rs from.
           let row = end_notes run.params (public_of_kept run.params content rs run.epoch run.gates) (fills_with_lifts run.params content rs) in
-          lifts_as c.args.crew.now.lanes notes _ row told.0 old.seen mids.seen (Err (end.Before c.in-Err.fault)) (lifts_scheduled run.params run.sealer.generation run.ring fit.table content rs run.epoch run.gates fit.stands from)
-          (told.2 row (front_at run.params run.sealer.generation run.ring fit.table content rs run.epoch run.gates fit.stands from)),
+          let phases = end_phases run.params (public_of_kept run.params content rs run.epoch run.gates) (fills_with_lifts run.params content rs) in
+          lifts_as c.args.crew.now.lanes notes _ phases row told.0 old.seen mids.seen (Err (end.Before c.in-Err.fault)) (lifts_scheduled run.params run.sealer.generation run.ring fit.table content rs run.epoch run.gates fit.stands from)
+          (told.2 phases row (front_at run.params run.sealer.generation run.ring fit.table content rs run.epoch run.gates fit.stands from)),
     )
 
 pub returns-in-Err-close_epoch-clause-scheduled : goal.returns-in-Err-close_epoch-clause-scheduled
@@ -452,16 +454,18 @@ returns-in-Err-close_epoch-clause-scheduled g c =
     let closes = is_closed_first run.gates.epoch (place_of (suc run.epoch)) in
     let one : mid.epoch + 1 ≡ suc run.epoch = (let same : mid.epoch ≡ run.epoch = ap (λ (m : Run). m.epoch) kept in omega (arith, same)) in
     let same_closes : is_closed_first mid.gates.epoch (place_of (mid.epoch + 1)) ≡ closes = ap (λ (m : Run). is_closed_first m.gates.epoch (place_of (m.epoch + 1))) kept ∙ ap (λ n. is_closed_first run.gates.epoch (place_of n)) (one_more run.epoch) in
-    let told = cut_short c.args.crew.now.lanes cells notes (reads_are jobs) (end_write_notes mid.ring (suc run.epoch)) closes (suc run.epoch) old.seen mids.seen new.seen
+    let told = cut_short c.args.crew.now.lanes cells notes (reads_are jobs) (cells_are jobs) (end_write_notes mid.ring (suc run.epoch)) (has_written c.args.crew.now.lanes mid.ring (suc run.epoch)) closes (suc run.epoch) old.seen mids.seen new.seen
     (g.W.Watch.trace c.args.watch.now) (g.W.Watch.trace c.make_end.new.watch) (g.W.Watch.trace c.close_epoch.new.watch) (c.in-Ok.ensures.told run.ring.metas fit.table (seals_none run.ring.metas) fit.stands) (mid.epoch + 1) c.in-Err-close_epoch.refused c.in-Err-close_epoch.ensures.faults
     (does_as mid.ring mid.ring (mid.epoch + 1) (suc run.epoch) _ closes _ _ _ _ (Err c.in-Err-close_epoch.refused) refl one same_closes c.in-Err-close_epoch.ensures.does) in (
       told.0,
       told.1,
       λ content rs from.
           let row = end_notes run.params (public_of_kept run.params content rs run.epoch run.gates) (fills_with_lifts run.params content rs) in
-          refused_as c.args.crew.now.lanes _ row told.0 old.seen new.seen (end_err_of c.in-Err-close_epoch.refused) c.end_err.result (sym c.end_err.ensures)
-          (lifts_as c.args.crew.now.lanes notes _ row told.0 old.seen new.seen (Err (end_err_of c.in-Err-close_epoch.refused)) (lifts_scheduled run.params run.sealer.generation run.ring fit.table content rs run.epoch run.gates fit.stands from)
-          (told.2 row (stage.whole_notes run1 mid old writes words kept ready made low short may content rs from))),
+          let phases = end_phases run.params (public_of_kept run.params content rs run.epoch run.gates) (fills_with_lifts run.params content rs) in
+          let lifts = end_lifts run.params (public_of_kept run.params content rs run.epoch run.gates) (fills_with_lifts run.params content rs) in
+          refused_as c.args.crew.now.lanes lifts phases row told.0 old.seen new.seen (end_err_of c.in-Err-close_epoch.refused) c.end_err.result (sym c.end_err.ensures)
+          (lifts_as c.args.crew.now.lanes notes _ phases row told.0 old.seen new.seen (Err (end_err_of c.in-Err-close_epoch.refused)) (lifts_scheduled run.params run.sealer.generation run.ring fit.table content rs run.epoch run.gates fit.stands from)
+          (told.2 phases row (stage.whole run1 mid old writes words kept ready made low short may content rs from))),
     )
 
 pub returns-clause-scheduled : goal.returns-clause-scheduled
@@ -487,10 +491,10 @@ returns-clause-scheduled g c =
     let closes = is_closed_first run.gates.epoch (place_of (suc run.epoch)) in
     let one : mid.epoch + 1 ≡ suc run.epoch = (let same : mid.epoch ≡ run.epoch = ap (λ (m : Run). m.epoch) kept in omega (arith, same)) in
     let same_closes : is_closed_first mid.gates.epoch (place_of (mid.epoch + 1)) ≡ closes = ap (λ (m : Run). is_closed_first m.gates.epoch (place_of (m.epoch + 1))) kept ∙ ap (λ n. is_closed_first run.gates.epoch (place_of n)) (one_more run.epoch) in
-    let told = closed_told c.args.crew.now.lanes cells notes (reads_are jobs) (end_write_notes mid.ring (suc run.epoch)) closes (suc run.epoch) old.seen mids.seen new.seen
+    let told = closed_told c.args.crew.now.lanes cells notes (reads_are jobs) (cells_are jobs) (end_write_notes mid.ring (suc run.epoch)) (has_written c.args.crew.now.lanes mid.ring (suc run.epoch)) closes (suc run.epoch) old.seen mids.seen new.seen
     (g.W.Watch.trace c.args.watch.now) (g.W.Watch.trace c.make_end.new.watch) (g.W.Watch.trace c.close_epoch.new.watch) (c.in-Ok.ensures.told run.ring.metas fit.table (seals_none run.ring.metas) fit.stands)
     (does_as mid.ring mid.ring (mid.epoch + 1) (suc run.epoch) _ closes _ _ _ _ (Ok tt) refl one same_closes c.in-Ok-close_epoch.ensures.does) in
-    (told.0, told.1, λ content rs from. told.2 (end_notes run.params (public_of_kept run.params content rs run.epoch run.gates) (fills_with_lifts run.params content rs)) (stage.whole_notes run1 mid old writes words kept ready made low short may content rs from))
+    (told.0, told.1, λ content rs from. told.2 _ _ (stage.whole run1 mid old writes words kept ready made low short may content rs from))
 
 pub returns-clause-gates : goal.returns-clause-gates
 returns-clause-gates g c =
@@ -559,28 +563,31 @@ returns-in-Err-clause-faults g c = before_fault (c.args.run.now.epoch + 1) c.in-
 -- ---- the end may be made
 
 pub make_end-requires-clause-ready : goal.make_end-requires-clause-ready
-make_end-requires-clause-ready g c = ready_spent c.args.run.now c.requires.ready
+make_end-requires-clause-ready g c κs within = ready_spent c.args.run.now c.requires.ready
 
 pub make_end-requires-clause-crew : goal.make_end-requires-clause-crew
-make_end-requires-clause-crew g c = c.requires.goes_on.crew
+make_end-requires-clause-crew g c κs within = c.requires.goes_on.crew
 
 pub make_end-requires-clause-drawn : goal.make_end-requires-clause-drawn
-make_end-requires-clause-drawn g c = c.requires.goes_on.drawn
+make_end-requires-clause-drawn g c κs within = c.requires.goes_on.drawn
 
 pub make_end-requires-clause-small : goal.make_end-requires-clause-small
-make_end-requires-clause-small g c = c.requires.goes_on.few
+make_end-requires-clause-small g c κs within = c.requires.goes_on.few
 
 pub make_end-requires-clause-few : goal.make_end-requires-clause-few
-make_end-requires-clause-few g c = c.requires.few
+make_end-requires-clause-few g c κs within = c.requires.few
 
 pub make_end-requires-clause-keys : goal.make_end-requires-clause-keys
-make_end-requires-clause-keys g c = c.requires.keys
+make_end-requires-clause-keys g c κs within = c.requires.keys
 
 pub make_end-requires-clause-short : goal.make_end-requires-clause-short
-make_end-requires-clause-short g c = c.requires.short
+make_end-requires-clause-short g c κs within = c.requires.short
+
+pub make_end-requires-clause-index : goal.make_end-requires-clause-index
+make_end-requires-clause-index g c κs within = c.requires.index
 
 pub close_epoch-requires-clause-none_out : goal.close_epoch-requires-clause-none_out
-close_epoch-requires-clause-none_out g c = (let none = c.requires.goes_on.none_out in let out = c.make_end.ensures.serves.out in omega arith)
+close_epoch-requires-clause-none_out g c κs inside = (let none = c.requires.goes_on.none_out in let out = c.make_end.ensures.serves.out in omega arith)
 
 -- ---- what stays of the tape and of the run
 
@@ -592,6 +599,9 @@ returns-in-Err-clause-drawn g c = c.make_end.ensures.drawn
 
 pub returns-in-Err-clause-crew : goal.returns-in-Err-clause-crew
 returns-in-Err-clause-crew g c = c.make_end.ensures.crew
+
+pub returns-in-Err-clause-index : goal.returns-in-Err-clause-index
+returns-in-Err-clause-index g c = c.make_end.ensures.index
 
 pub returns-in-Err-clause-params : goal.returns-in-Err-clause-params
 returns-in-Err-clause-params g c = ap (λ (r : Run). r.params) c.make_end.ensures.kept
@@ -605,6 +615,9 @@ returns-in-Err-close_epoch-clause-drawn g c = c.make_end.ensures.drawn
 pub returns-in-Err-close_epoch-clause-crew : goal.returns-in-Err-close_epoch-clause-crew
 returns-in-Err-close_epoch-clause-crew g c = c.make_end.ensures.crew
 
+pub returns-in-Err-close_epoch-clause-index : goal.returns-in-Err-close_epoch-clause-index
+returns-in-Err-close_epoch-clause-index g c = c.make_end.ensures.index
+
 pub returns-in-Err-close_epoch-clause-params : goal.returns-in-Err-close_epoch-clause-params
 returns-in-Err-close_epoch-clause-params g c = ap (λ (r : Run). r.params) c.make_end.ensures.kept
 
@@ -616,6 +629,9 @@ returns-clause-drawn g c = c.make_end.ensures.drawn
 
 pub returns-clause-crew : goal.returns-clause-crew
 returns-clause-crew g c = c.make_end.ensures.crew
+
+pub returns-clause-index : goal.returns-clause-index
+returns-clause-index g c = c.make_end.ensures.index
 
 pub returns-clause-params : goal.returns-clause-params
 returns-clause-params g c = ap (λ (r : Run). r.params) c.make_end.ensures.kept

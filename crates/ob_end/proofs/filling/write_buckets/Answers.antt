@@ -1,4 +1,9 @@
-use Rattle.std.proofs.Common.{◌≡◌, ◌<◌, ◌≤◌, ◌+◌, ◌*◌, ℕ, List, ap, arith, length, slice_index, subst, sym}
+use Rattle.std.proofs.Common.{◌≡◌, ◌<◌, ◌≤◌, ◌+◌, ◌*◌, ◌%◌, ◌∙◌, ℕ, List, [], ap, arith, get_or, length, refl, slice_index, subst, sym}
+use Rattle.std.specs.Prelude.{slice_index_or}
+use Rattle.std.proofs.lemmas.Option.{slice_get-get_or, get_or_from_slice_get}
+use Rattle.ob_seal.specs.declared.keys.Keys.{Keys}
+use Rattle.ob_end.specs.Sealing.{IsBucketSealed, IsGroupReady}
+use Rattle.ob_end.proofs.Products.{between}
 use Rattle.std.proofs.Math.Nat.{mul-le-mul_right}
 use Rattle.std.proofs.lemmas.List.{take_all}
 use Rattle.std.proofs.lemmas.Result.{IfOk-from_err}
@@ -12,7 +17,7 @@ use Rattle.ob_store.specs.Told.{Tells}
 use Rattle.ob_store.proofs.Doing.{does_all, does_refused, tells_none}
 use Rattle.ob_store.proofs.Keeping.{serves_failed}
 use Rattle.ob_store.proofs.Serving.{serves_ok, serves_then}
-use Rattle.ob_end.specs.EndWrites.{bucket_seals}
+use Rattle.ob_end.specs.EndWrites.{bucket_seals, listed_at}
 use Rattle.ob_end.proofs.FillsAll.{fill_all, fill_one, fill_refused, filling_none, first_more, moments_more, seals_all, seals_refused}
 use Rattle.ob_end.proofs.Parts.{told_cut, told_next}
 use Rattle.ob_end.proofs.filling.write_buckets.Goals as goal
@@ -21,6 +26,7 @@ pub loop-i-init : goal.loop-i-init
 loop-i-init g c = record {
   filling = filling_none c.args.ring.now c.args.sealer.now (g.S.Store.disk c.args.store.now) c.requires.none_out;
   told = tells_none (g.S.Store.disk c.args.store.now).seen (g.W.Watch.trace c.args.watch.now);
+  ready = λ k ne. absurd (omega (arith, ne));
 }
 
 pub returns-in_err-write_bucket-clause-fills : goal.returns-in_err-write_bucket-clause-fills
@@ -71,6 +77,10 @@ loop-i-preserved g c =
           _ e.run c.requires.sealed c.requires.room e.serves;
       told = told_next (λ u. write_notes (slot_cell r.p (version_at r.metas.versions u).home u 0) (width r.p)) r.metas.order c.loop-i.i (slice_index c.to_refill.result.now c.loop-i.i) low at
           _ _ _ _ _ _ c.loop-i.invariant.told e.does.all;
+      ready = λ k ne le lt same.
+          subst (λ (x : Keys). IsBucketSealed x c.args.sealer.now.generation (c.args.sealer.now.next + k * width r.p) r (listed_at r k) (slice_index_or c.make_ready.new.bench.rows.items (k % 32) [])) c.loop-i.invariant.filling.keys
+          (subst (λ (x : ℕ). IsBucketSealed c.loop-i.sealer.keys x (c.args.sealer.now.next + k * width r.p) r (listed_at r k) (slice_index_or c.make_ready.new.bench.rows.items (k % 32) [])) c.loop-i.invariant.filling.generation
+          (c.make_ready.ensures c.args.sealer.now.next c.loop-i.invariant.filling.next k (omega arith) lt (omega (arith, ne, same))));
     }
 
 pub returns-clause-fills : goal.returns-clause-fills
@@ -147,3 +157,38 @@ returns-clause-does g c =
     does_all _ _ _ _ (refill_notes r.p r.metas.versions r.metas.order) tt
     (subst (λ (us : List ℕ). Tells (refill_notes r.p r.metas.versions us) (refill_notes r.p r.metas.versions us) (g.S.Store.disk c.args.store.now).seen (g.S.Store.disk c.loop-i.store).seen (g.W.Watch.trace c.args.watch.now) (g.W.Watch.trace c.loop-i.watch))
     (take_all c.loop-i.i r.metas.order all) c.loop-i.invariant.told)
+
+pub make_ready-requires-clause-room : goal.make_ready-requires-clause-room
+make_ready-requires-clause-room g c κs inside =
+    let r = c.args.ring.now in
+    let n = length r.metas.order in
+    let parts = between c.loop-i.i n (width r.p) (omega (arith, c.loop-i.auto.i-end, ap (λ (us : List ℕ). length us) c.to_refill-i-end.ensures)) in
+    omega (arith, c.loop-i.invariant.filling.next, parts, c.requires.room)
+
+pub make_ready-requires-clause-ready : goal.make_ready-requires-clause-ready
+make_ready-requires-clause-ready g c κs inside = λ first e.
+    let r = c.args.ring.now in
+    let before = c.args.sealer.now in
+    let is : before.next ≡ first = (let then = c.loop-i.invariant.filling.next in omega (arith, e, then)) in
+    subst (λ (x : Keys). IsGroupReady x c.loop-i.sealer.generation first r c.loop-i.i c.loop-i.bench.rows.items) (sym c.loop-i.invariant.filling.keys)
+    (subst (λ (x : ℕ). IsGroupReady before.keys x first r c.loop-i.i c.loop-i.bench.rows.items) (sym c.loop-i.invariant.filling.generation)
+    (subst (λ (x : ℕ). IsGroupReady before.keys before.generation x r c.loop-i.i c.loop-i.bench.rows.items) is c.loop-i.invariant.ready))
+
+pub write_bucket-requires-clause-sealed : goal.write_bucket-requires-clause-sealed
+write_bucket-requires-clause-sealed g c =
+    let r = c.args.ring.now in
+    let i = c.loop-i.i in
+    let was = c.loop-i.sealer in
+    let before = c.args.sealer.now in
+    let e : was.next ≡ before.next + i * width r.p = c.loop-i.invariant.filling.next in
+    let rows = c.make_ready.new.bench.rows.items in
+    let at = i % 32 in
+    let slots = c.index.result.now in
+    let low : i < length r.metas.order = subst (λ (us : List ℕ). i < length us) c.to_refill-i-end.ensures c.loop-i-test.true in
+    let within : at < length rows = (let whole = c.make_ready.new.bench.whole in omega arith) in
+    let is : get_or rows at [] ≡ slots = get_or_from_slice_get rows at (get_or rows at slots) [] (slice_get-get_or rows at slots within) ∙ sym c.index.ensures in
+    let bucket : get_or c.to_refill.result.now i 0 ≡ listed_at r i = ap (λ (us : List ℕ). slice_index us i) c.to_refill.ensures in
+    subst (λ (u : ℕ). IsBucketSealed was.keys was.generation was.next r u slots) (sym bucket)
+    (subst (λ (b : List (List ℕ)). IsBucketSealed was.keys was.generation was.next r (listed_at r i) b) is
+    (subst (λ (n : ℕ). IsBucketSealed was.keys was.generation n r (listed_at r i) (slice_index_or rows at [])) (sym e)
+    (c.make_ready.ensures before.next e i (omega arith) low refl)))

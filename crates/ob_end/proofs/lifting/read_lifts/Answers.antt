@@ -15,10 +15,10 @@ use Rattle.ob_store.specs.Calls.{IsStoreFault, Serves}
 use Rattle.ob_end.proofs.lifting.read_lifts.Goals as goal
 
 pub read_jobs-requires-clause-placed : goal.read_jobs-requires-clause-placed
-read_jobs-requires-clause-placed g c = none_are_placed c.plan_lifts.new.jobs c.plan_lifts.ensures.places
+read_jobs-requires-clause-placed g c κs within = none_are_placed c.plan_lifts.new.jobs c.plan_lifts.ensures.places
 
 pub read_jobs-requires-clause-few : goal.read_jobs-requires-clause-few
-read_jobs-requires-clause-few g c =
+read_jobs-requires-clause-few g c κs within =
     let ring = c.args.ring.now in
     let planned = c.plan_lifts.ensures.planned c.requires.stands.0 c.requires.stands.1 in
     let few = planned_few ring.p c.requires.stands.0 ring.metas.versions c.plan_lifts.new.jobs.jobs planned.jobs in

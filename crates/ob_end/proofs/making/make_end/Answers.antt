@@ -1,4 +1,4 @@
-use Rattle.std.proofs.Common.{◌≡◌, ◌<◌, ◌≤◌, ◌+◌, ◌*◌, ◌^◌, ◌∙◌, suc, Err, ap, arith, length, inr, refl, subst, sym, take}
+use Rattle.std.proofs.Common.{◌≡◌, ◌<◌, ◌≤◌, ◌+◌, ◌*◌, ◌^◌, ◌∙◌, suc, Err, ap, arith, length, inr, refl, replicate, subst, sym, take}
 use Rattle.ob_base.specs.declared.params.Params.{Params}
 use Rattle.ob_base.specs.Tree.{buckets, width}
 use Rattle.ob_end.specs.Lifts.{LiftsAnswer, lift_cells, lift_notes}
@@ -43,6 +43,14 @@ renew-requires-clause-room g c =
     let room = refill_room lifted c.read_lifts.ensures.listed in
     let all = subst (λ (q : Params). buckets q * width q ≤ length c.args.run.now.words.items) (sym same) c.requires.ready.all_words in
     omega (arith, room, all)
+
+pub renew-requires-clause-index : goal.renew-requires-clause-index
+renew-requires-clause-index g c =
+    let same : c.read_lifts.new.ring.p ≡ c.args.run.now.params = ap (λ (r : Kept). r.p) c.read_lifts.ensures.kept ∙ c.requires.ready.ready.params in
+    c.requires.index ∙ ap (λ (q : Params). replicate (buckets q) 0) (sym same)
+
+pub returns-clause-index : goal.returns-clause-index
+returns-clause-index g c = c.renew.ensures.index
 
 pub returns-clause-serves : goal.returns-clause-serves
 returns-clause-serves g c =
@@ -168,15 +176,15 @@ returns-in-Err-clause-answers g c =
     (end_writes run.params c.args.writes.now (words_since (g.T.Tape.drawn c.args.tape.now) (g.T.Tape.drawn c.args.tape.now)) run.sealer.generation run.drawn) more c.in-Err.fault c.in-Err.ensures.faults
 
 pub read_lifts-requires-clause-stands : goal.read_lifts-requires-clause-stands
-read_lifts-requires-clause-stands g c = c.requires.ready.ready.table
+read_lifts-requires-clause-stands g c κs within = c.requires.ready.ready.table
 
 pub read_lifts-requires-clause-jobs : goal.read_lifts-requires-clause-jobs
-read_lifts-requires-clause-jobs g c =
+read_lifts-requires-clause-jobs g c κs within =
     let ps = sym c.requires.ready.ready.params in
     (c.requires.ready.ready.rooms.0 ∙ ap most_jobs ps, c.requires.ready.ready.rooms.1 ∙ ap (λ (q : Params). q.places) ps)
 
 pub read_lifts-requires-clause-crew : goal.read_lifts-requires-clause-crew
-read_lifts-requires-clause-crew g c = subst (λ (q : Params). most_jobs q ≤ c.args.crew.now.jobs) (sym c.requires.ready.ready.params) c.requires.crew
+read_lifts-requires-clause-crew g c κs within = subst (λ (q : Params). most_jobs q ≤ c.args.crew.now.jobs) (sym c.requires.ready.ready.params) c.requires.crew
 
 pub renew-requires-clause-params : goal.renew-requires-clause-params
 renew-requires-clause-params g c =

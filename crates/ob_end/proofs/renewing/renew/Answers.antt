@@ -1,8 +1,8 @@
-use Rattle.std.proofs.Common.{◌*◌, ℕ, List, take, drop, length, refl, ap, sym, subst, ◌∙◌, arith, ◌≡◌, ◌≤◌, ◌+◌}
+use Rattle.std.proofs.Common.{◌*◌, ℕ, List, take, drop, length, replicate, refl, ap, sym, subst, ◌∙◌, arith, ◌≡◌, ◌≤◌, ◌+◌}
 use Rattle.std.proofs.lemmas.List.{length-take-le}
 use Rattle.ob_base.specs.declared.params.Params.{Params}
 use Rattle.ob_base.specs.Layout.{checkpoint_cells}
-use Rattle.ob_base.specs.Tree.{width}
+use Rattle.ob_base.specs.Tree.{buckets, width}
 use Rattle.ob_fetch.specs.Fetches.{words_since, DrawsWords}
 use Rattle.ob_ring.specs.Ring.{Kept}
 use Rattle.ob_end.proofs.RenewLaws.{answers_as, at_between, filled_as, made_as, own_is, rest_is, size_as, both_counted, both_drawn}
@@ -19,12 +19,12 @@ returns-clause-renews g c =
     let generation = ap (λ (x : ℕ × ℕ). x.0) c.next-generation.ensures.identity in
     let next = ap (λ (x : ℕ × ℕ). x.1) c.next-generation.ensures.identity in
     let e = c.apply_writes.ensures in
-    let f = c.refill-filled.ensures in
+    let f = c.refill_indexed-filled.ensures in
     λ enough. record {
       between = c.apply_writes.new.self;
       made = made_as ring c.apply_writes.new.self c.args.writes.now own generation c.args.drawn.now
           (record { kept = e.kept; room = e.room; entries = e.entries; values = e.values; seals = e.seals; listed = e.listed c.requires.listed; rules = c.tables.ensures.rules; table = e.applied });
-      filled = filled_as c.apply_writes.new.self c.refill-filled.new.self rest generation next
+      filled = filled_as c.apply_writes.new.self c.refill_indexed-filled.new.self rest generation next
           (record { kept = f.kept; order = f.order; within = f.within; rules = c.tables-2.ensures.rules; anew = f.anew; table = λ t s. f.refilled t s (at_between ring c.apply_writes.new.self c.args.writes.now own generation c.args.drawn.now c.requires.stash e.values e.applied t s) });
     }
 
@@ -37,7 +37,7 @@ returns-clause-answers g c =
     let generation = ap (λ (x : ℕ × ℕ). x.0) c.next-generation.ensures.identity in
     let next = ap (λ (x : ℕ × ℕ). x.1) c.next-generation.ensures.identity in
     let e = c.apply_writes.ensures in
-    let f = c.refill-filled.ensures in
+    let f = c.refill_indexed-filled.ensures in
     let ps = ap (λ (k : Kept). k.p) e.kept in
     let many = ap (λ (l : List ℕ). length l * width c.args.p.now) c.to_refill.ensures ∙ ap (λ (q : Params). length ring.metas.order * width q) c.requires.params in
     let cells = c.checkpoint_cells.ensures.cells ∙ ap checkpoint_cells c.requires.params in
@@ -123,5 +123,11 @@ apply_writes-requires-clause-words g c =
     let few = c.requires.few in
     omega arith
 
-pub refill-filled-requires-clause-listed : goal.refill-filled-requires-clause-listed
-refill-filled-requires-clause-listed g c = c.apply_writes.ensures.listed c.requires.listed
+pub refill_indexed-filled-requires-clause-listed : goal.refill_indexed-filled-requires-clause-listed
+refill_indexed-filled-requires-clause-listed g c = c.apply_writes.ensures.listed c.requires.listed
+
+pub refill_indexed-filled-requires-clause-index : goal.refill_indexed-filled-requires-clause-index
+refill_indexed-filled-requires-clause-index g c = c.requires.index ∙ ap (λ (k : Kept). replicate (buckets k.p) 0) (sym c.apply_writes.ensures.kept)
+
+pub returns-clause-index : goal.returns-clause-index
+returns-clause-index g c = c.refill_indexed-filled.ensures.index

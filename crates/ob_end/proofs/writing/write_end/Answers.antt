@@ -58,7 +58,7 @@ returns-in-Err-sync_noted-clause-writes g c s end at is =
     sync_refused c.args.sealer.now.keys r c.args.sealer.now.generation s end is c.args.epoch at
     (g.S.Store.disk c.args.store.now) (g.S.Store.disk c.write_buckets.new.store) (g.S.Store.disk c.write.new.store) c.in-Ok.ensures.serves.tells (c.in-Ok.ensures.fills s end is) within
     (λ t. c.in-Ok-write.ensures.serves.tells (c.in-Ok.ensures.serves.tells t)) (g.S.Store.disk c.shut_gates.new.store) shuts (λ t. c.in-Ok-shut_gates.ensures.serves.tells (c.in-Ok-write.ensures.serves.tells (c.in-Ok.ensures.serves.tells t)))
-    (g.S.Store.disk c.sync_noted.new.store) c.sync_noted.ensures.keeps c.sync_noted.ensures.serves.goes.later c.sync_noted.ensures.time c.sync_noted.ensures.crash (StoreFault None)
+    (g.S.Store.disk c.sync_noted.new.store) c.sync_noted.ensures.keeps c.sync_noted.ensures.serves.goes c.sync_noted.ensures.time c.sync_noted.ensures.crash (StoreFault None)
 
 pub returns-in-Ok-sync_noted-clause-writes : goal.returns-in-Ok-sync_noted-clause-writes
 returns-in-Ok-sync_noted-clause-writes g c s end at is =
@@ -74,7 +74,7 @@ returns-in-Ok-sync_noted-clause-writes g c s end at is =
     end_written c.args.sealer.now.keys r c.args.sealer.now.generation s end is c.args.epoch at
     (g.S.Store.disk c.args.store.now) (g.S.Store.disk c.write_buckets.new.store) (g.S.Store.disk c.write.new.store) c.in-Ok.ensures.serves.tells (c.in-Ok.ensures.fills s end is) within
     (λ t. c.in-Ok-write.ensures.serves.tells (c.in-Ok.ensures.serves.tells t)) (g.S.Store.disk c.shut_gates.new.store) shuts (λ t. c.in-Ok-shut_gates.ensures.serves.tells (c.in-Ok-write.ensures.serves.tells (c.in-Ok.ensures.serves.tells t)))
-    (g.S.Store.disk c.sync_noted.new.store) c.sync_noted.ensures.keeps c.sync_noted.ensures.serves.goes.later c.sync_noted.ensures.time c.sync_noted.ensures.crash
+    (g.S.Store.disk c.sync_noted.new.store) c.sync_noted.ensures.keeps c.sync_noted.ensures.serves.goes c.sync_noted.ensures.time c.sync_noted.ensures.crash
     (c.args.sealer.now.next + bucket_seals r) (omega (arith, c.requires.generation)) (omega (arith, c.requires.room))
     (λ t. as_written r c.args.p.now c.args.sealer.now c.write_buckets.new.sealer (content_of c.tables.result.now) c.args.epoch (g.S.Store.disk c.write.new.store).cells c.requires.params
     c.in-Ok.ensures.seals.all kept (c.in-Ok-write.ensures.written (c.in-Ok.ensures.serves.tells t)))
@@ -180,14 +180,14 @@ returns-in-Err-sync_noted-clause-moments g c =
     passed_still SameFirst (g.S.Store.disk c.args.store.now) (g.S.Store.disk c.shut_gates.new.store) (g.S.Store.disk c.sync_noted.new.store)
     (moments_then (g.S.Store.disk c.args.store.now) (g.S.Store.disk c.write.new.store) (g.S.Store.disk c.shut_gates.new.store)
     (moments_checked c.args.p.now c.args.epoch (g.S.Store.disk c.args.store.now) (g.S.Store.disk c.write_buckets.new.store) (g.S.Store.disk c.write.new.store) c.in-Ok.ensures.moments c.write.ensures.passes) c.shut_gates.ensures.moments)
-    c.sync_noted.ensures.serves.goes.later c.sync_noted.ensures.time c.sync_noted.ensures.crash
+    c.sync_noted.ensures.serves.goes c.sync_noted.ensures.time c.sync_noted.ensures.crash c.sync_noted.ensures.keeps
 
 pub returns-in-Ok-sync_noted-clause-moments : goal.returns-in-Ok-sync_noted-clause-moments
 returns-in-Ok-sync_noted-clause-moments g c =
     passed_still SameFirst (g.S.Store.disk c.args.store.now) (g.S.Store.disk c.shut_gates.new.store) (g.S.Store.disk c.sync_noted.new.store)
     (moments_then (g.S.Store.disk c.args.store.now) (g.S.Store.disk c.write.new.store) (g.S.Store.disk c.shut_gates.new.store)
     (moments_checked c.args.p.now c.args.epoch (g.S.Store.disk c.args.store.now) (g.S.Store.disk c.write_buckets.new.store) (g.S.Store.disk c.write.new.store) c.in-Ok.ensures.moments c.write.ensures.passes) c.shut_gates.ensures.moments)
-    c.sync_noted.ensures.serves.goes.later c.sync_noted.ensures.time c.sync_noted.ensures.crash
+    c.sync_noted.ensures.serves.goes c.sync_noted.ensures.time c.sync_noted.ensures.crash c.sync_noted.ensures.keeps
 
 pub returns-in-Ok-sync_noted-clause-sealed : goal.returns-in-Ok-sync_noted-clause-sealed
 returns-in-Ok-sync_noted-clause-sealed g c = λ t.
@@ -286,36 +286,36 @@ returns-in-Err-clause-does g c =
     does_err _ _ _ _ (end_write_notes r c.args.epoch) (StoreFault None) (first_more _ _ _ _ xs (ys ++ (zs ++ (note.Sync ∷ []))) c.in-Err.ensures.does.first)
 
 pub write-requires-clause-obeys : goal.write-requires-clause-obeys
-write-requires-clause-obeys g c =
+write-requires-clause-obeys g c κs inside =
     let r = c.args.ring.now in
     let kept = content_is c.tables.result.now r c.forget_written.new.self c.forget_written.ensures.kept c.forget_written.ensures.rows c.tables.ensures.book c.tables.ensures.metas c.tables.ensures.stash c.tables.ensures.counter in
     subst (λ (q : Params). Obeys q (content_of c.tables.result.now)) (sym c.requires.params) (subst (λ (x : Content). Obeys r.p x) (sym kept) c.requires.obeys)
 
 pub write-requires-clause-sheet : goal.write-requires-clause-sheet
-write-requires-clause-sheet g c = c.requires.sheet ∙ ap (λ (q : Params). 96 * checkpoint_cells q) (sym c.requires.params)
+write-requires-clause-sheet g c κs inside = c.requires.sheet ∙ ap (λ (q : Params). 96 * checkpoint_cells q) (sym c.requires.params)
 
 -- ---- the buckets, the checkpoint and the gates may be written
 
 pub write_buckets-requires-clause-none_out : goal.write_buckets-requires-clause-none_out
-write_buckets-requires-clause-none_out g c = c.requires.none_out
+write_buckets-requires-clause-none_out g c κs inside = c.requires.none_out
 
 pub write_buckets-requires-clause-params : goal.write_buckets-requires-clause-params
-write_buckets-requires-clause-params g c = c.requires.params
+write_buckets-requires-clause-params g c κs inside = c.requires.params
 
 pub write_buckets-requires-clause-within : goal.write_buckets-requires-clause-within
-write_buckets-requires-clause-within g c = c.requires.within
+write_buckets-requires-clause-within g c κs inside = c.requires.within
 
 pub write_buckets-requires-clause-sealed : goal.write_buckets-requires-clause-sealed
-write_buckets-requires-clause-sealed g c = c.requires.sealed
+write_buckets-requires-clause-sealed g c κs inside = c.requires.sealed
 
 pub write_buckets-requires-clause-room : goal.write_buckets-requires-clause-room
-write_buckets-requires-clause-room g c = (let room = c.requires.room in omega arith)
+write_buckets-requires-clause-room g c κs inside = (let room = c.requires.room in omega arith)
 
 pub write-requires-clause-none_out : goal.write-requires-clause-none_out
-write-requires-clause-none_out g c = (let none = c.requires.none_out in let out = c.write_buckets.ensures.serves.out in omega arith)
+write-requires-clause-none_out g c κs inside = (let none = c.requires.none_out in let out = c.write_buckets.ensures.serves.out in omega arith)
 
 pub write-requires-clause-epoch : goal.write-requires-clause-epoch
-write-requires-clause-epoch g c = c.requires.epoch
+write-requires-clause-epoch g c κs inside = c.requires.epoch
 
 pub shut_gates-requires-clause-none_out : goal.shut_gates-requires-clause-none_out
 shut_gates-requires-clause-none_out g c = (let none = c.requires.none_out in let first = c.write_buckets.ensures.serves.out in let then = c.write.ensures.serves.out in omega arith)

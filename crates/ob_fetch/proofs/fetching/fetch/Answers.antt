@@ -39,7 +39,7 @@ returns-then-is_worn-clause-serves g c = record { goes = goes_same (g.S.Store.di
 
 pub returns-then-is_worn-clause-scheduled : goal.returns-then-is_worn-clause-scheduled
 returns-then-is_worn-clause-scheduled g c =
-    ([], shows_none (g.W.Watch.trace c.args.watch.now), tt, λ content rs was many. row_step c.args.crew.now.lanes [] (g.S.Store.disk c.args.store.now).seen (g.S.Store.disk c.args.store.now).seen (none_noted (g.S.Store.disk c.args.store.now).seen))
+    ([], shows_none (g.W.Watch.trace c.args.watch.now), tt, λ content rs was many. row_step c.args.crew.now.lanes [] (g.S.Store.disk c.args.store.now).seen (g.S.Store.disk c.args.store.now).seen tt (none_noted (g.S.Store.disk c.args.store.now).seen))
 
 pub returns-then-is_worn-clause-wears : goal.returns-then-is_worn-clause-wears
 returns-then-is_worn-clause-wears g c = record { worn = ((λ worn. worn_for c.args.run.now _ c.if-is_worn.true c.is_worn.ensures), (λ worn. tt)); idle = λ worn. (refl, refl, refl, refl) }
@@ -72,27 +72,27 @@ returns-then-is_worn-clause-standing g c = record {
 -- ---- the conditions of the calls
 
 pub read_batch-requires-clause-asks : goal.read_batch-requires-clause-asks
-read_batch-requires-clause-asks g c = c.requires.whole ∙ ap (λ (q : Params). q.places) (sym c.requires.goes_on.ready.params)
+read_batch-requires-clause-asks g c κs within = c.requires.whole ∙ ap (λ (q : Params). q.places) (sym c.requires.goes_on.ready.params)
 
 pub read_batch-requires-clause-words : goal.read_batch-requires-clause-words
-read_batch-requires-clause-words g c =
+read_batch-requires-clause-words g c κs within =
     let room = c.begin_batch.ensures.room in
     let most = c.requires.goes_on.ready.words in
     ap length c.front.ensures ∙ length-take-le c.args.run.now.params.places c.begin_batch.new.words.items (omega arith) ∙ ap (λ (q : Params). q.places) (sym c.requires.goes_on.ready.params)
 
 pub read_batch-requires-clause-keys_low : goal.read_batch-requires-clause-keys_low
-read_batch-requires-clause-keys_low g c =
+read_batch-requires-clause-keys_low g c κs within =
     λ i k is. subst (λ (q : Params). k < q.keys) (sym c.requires.goes_on.ready.params) (c.requires.keys i k (item_got c.args.asks.now i k is))
 
 pub read_batch-requires-clause-stands : goal.read_batch-requires-clause-stands
-read_batch-requires-clause-stands g c = c.requires.goes_on.ready.table
+read_batch-requires-clause-stands g c κs within = c.requires.goes_on.ready.table
 
 pub read_batch-requires-clause-jobs : goal.read_batch-requires-clause-jobs
-read_batch-requires-clause-jobs g c =
+read_batch-requires-clause-jobs g c κs within =
     let ps = sym c.requires.goes_on.ready.params in (c.requires.goes_on.ready.rooms.0 ∙ ap most_jobs ps, c.requires.goes_on.ready.rooms.1 ∙ ap (λ (q : Params). q.places) ps)
 
 pub read_batch-requires-clause-crew : goal.read_batch-requires-clause-crew
-read_batch-requires-clause-crew g c = subst (λ (q : Params). most_jobs q ≤ c.args.crew.now.jobs) (sym c.requires.goes_on.ready.params) c.requires.goes_on.crew
+read_batch-requires-clause-crew g c κs within = subst (λ (q : Params). most_jobs q ≤ c.args.crew.now.jobs) (sym c.requires.goes_on.ready.params) c.requires.goes_on.crew
 
 pub begin_batch-requires-clause-keys_low : goal.begin_batch-requires-clause-keys_low
 begin_batch-requires-clause-keys_low g c =
@@ -161,7 +161,7 @@ returns-in-Err-clause-scheduled g c =
       first.tells.shows,
       open_begun c.args.crew.now.lanes p run.sealer.generation run.gates run.ring (next_batch run) run.epoch r c.requires.goes_on.ready.table.0 c.requires.goes_on.ready.table.1 (batch_room run c.requires.some_left c.requires.goes_on.ready.few) c.begin_batch.ensures.obeys
           old.seen mid.seen (g.W.Watch.trace c.args.watch.now) (g.W.Watch.trace c.begin_batch.new.watch) g.S.Store.disk run.sealer.keys c.args.store.now c.begin_batch.new.store first (Err c.in-Err.fault),
-      λ content rs was many. begun_shown (Err c.in-Err.fault) refl c.in-Err.ensures.faults c.args.crew.now.lanes (append_notes p (suc run.epoch) (next_batch run)) _ first.shown old.seen mid.seen front,
+      λ content rs was many. begun_shown (Err c.in-Err.fault) refl c.in-Err.ensures.faults c.args.crew.now.lanes (append_notes p (suc run.epoch) (next_batch run)) _ _ first.shown old.seen mid.seen front,
     )
 
 pub returns-in-Err-clause-wears : goal.returns-in-Err-clause-wears

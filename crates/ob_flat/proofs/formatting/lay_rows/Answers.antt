@@ -27,7 +27,7 @@ returns-in_err-sync_noted-clause-passes g c =
     let old = g.S.Store.disk c.args.store.now in
     let mid = g.S.Store.disk c.write_blanks.new.store in
     passed_still SameHead old mid (g.S.Store.disk c.sync_noted.new.store) (off_head 9 _ old mid (omega arith) c.write_blanks.ensures.rows.within.passes)
-    c.sync_noted.ensures.serves.goes.later c.sync_noted.ensures.time c.sync_noted.ensures.crash
+    c.sync_noted.ensures.serves.goes c.sync_noted.ensures.time c.sync_noted.ensures.crash c.sync_noted.ensures.keeps
 
 pub returns-clause-passes : goal.returns-clause-passes
 returns-clause-passes g c =
@@ -36,7 +36,7 @@ returns-clause-passes g c =
     let sure = g.S.Store.disk c.sync_noted.new.store in
     let new = g.S.Store.disk c.set_first.new.store in
     head_then old sure new
-    (passed_still SameHead old mid sure (off_head 9 _ old mid (omega arith) c.write_blanks.ensures.rows.within.passes) c.sync_noted.ensures.serves.goes.later c.sync_noted.ensures.time c.sync_noted.ensures.crash)
+    (passed_still SameHead old mid sure (off_head 9 _ old mid (omega arith) c.write_blanks.ensures.rows.within.passes) c.sync_noted.ensures.serves.goes c.sync_noted.ensures.time c.sync_noted.ensures.crash c.sync_noted.ensures.keeps)
     (outside_head 5 sure new (omega arith) c.set_first.ensures.passes)
 
 pub returns-in_err-write_blanks-clause-does : goal.returns-in_err-write_blanks-clause-does

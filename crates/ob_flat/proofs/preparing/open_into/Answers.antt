@@ -35,7 +35,7 @@ returns-in-Err-clause-opening g c =
       value = search rules;
       begins = tt;
       opened = λ at tells stands. tt;
-      crash = λ at tells stands all. reads_before c.args.sealer.now.keys c.args.params.now old new all (g.met.S.Store.only_now c.args.store.now) e.passes;
+      crash = λ at tells stands all. reads_before c.args.sealer.now.keys c.args.params.now old new at stands all (g.met.S.Store.only_now c.args.store.now) e.passes;
       since = inl e.passes;
       register = inl e.passes;
       order = inl reads;
@@ -68,7 +68,7 @@ returns-in-Err-read_values-clause-opening g c =
           (subst (λ b. AreRowsRead sealed_by b old.cells values (Err fault)) c.area_of-base.ensures.area read);
       begins = tt;
       opened = λ at tells stands. tt;
-      crash = λ at tells stands all. reads_before sealed_by c.args.params.now old new all (g.met.S.Store.only_now c.args.store.now) passes;
+      crash = λ at tells stands all. reads_before sealed_by c.args.params.now old new at stands all (g.met.S.Store.only_now c.args.store.now) passes;
       since = inl passes;
       register = inl passes;
       order = inr (record {
@@ -123,7 +123,7 @@ returns-in-Err-begin-clause-opening g c =
           let found = c.in-Ok.ensures.value tells in
           let number = number_found sealed_by 1 old.cells stands.0 numbers.generation stands.1.begun found.generation_whole found.generation_counts in
           let at_number = subst (λ n. StandsFlat sealed_by p n mid.cells at) (sym number) (stands_same sealed_by p stands.0 at mid.cells old.cells same stands.1) in
-          begun_before sealed_by p old mid new all (g.met.S.Store.only_now c.args.store.now) passes same
+          begun_before sealed_by p old mid new at stands all (g.met.S.Store.only_now c.args.store.now) passes same
           (begin_before g.S.Store.disk sealed_by p at numbers.generation c.read_values.new.store c.begin.new.store at_number (second.tells told) (all_after sealed_by p old mid all passes)
           (g.met.S.Store.only_now c.read_values.new.store) c.begin.result c.begin.ensures.leaves);
       since = opens_or_not g.S.Store.disk sealed_by p numbers.generation c.args.store.now c.read_values.new.store c.begin.new.store passes keeps
@@ -218,7 +218,7 @@ returns-clause-opening g c =
           let found = c.in-Ok.ensures.value tells in
           let number = number_found sealed_by 1 old.cells stands.0 numbers.generation stands.1.begun found.generation_whole found.generation_counts in
           let at_number = subst (λ n. StandsFlat sealed_by p n mid.cells at) (sym number) (stands_same sealed_by p stands.0 at mid.cells old.cells same stands.1) in
-          begun_before sealed_by p old mid new all (g.met.S.Store.only_now c.args.store.now) passes same
+          begun_before sealed_by p old mid new at stands all (g.met.S.Store.only_now c.args.store.now) passes same
           (begin_before g.S.Store.disk sealed_by p at numbers.generation c.read_values.new.store c.begin.new.store at_number (second.tells told) (all_after sealed_by p old mid all passes)
           (g.met.S.Store.only_now c.read_values.new.store) c.begin.result c.begin.ensures.leaves);
       since = opens_from g.S.Store.disk sealed_by p numbers.generation c.args.store.now c.read_values.new.store c.begin.new.store passes keeps

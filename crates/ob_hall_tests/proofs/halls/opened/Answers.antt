@@ -1,4 +1,4 @@
-use Rattle.std.proofs.Common.{◌≡◌, ◌∙◌, ap}
+use Rattle.std.proofs.Common.{◌∙◌, ap}
 use Rattle.ob_desk.specs.Desk.{DeskState}
 use Rattle.ob_hall.specs.Rounds.{rounds_of}
 use Rattle.ob_hall_tests.proofs.Passes.{starting, as_many}

@@ -1,4 +1,4 @@
-use Rattle.std.proofs.Common.{◌≡◌, ◌++◌, ℕ, length, drop, arith, sym, subst, ◌∙◌, ◌<◌}
+use Rattle.std.proofs.Common.{length, arith, sym, subst, ◌∙◌, ◌<◌}
 use Rattle.std.specs.List.{All}
 use Rattle.std.proofs.lemmas.Grind.{common_steps}
 use Rattle.ob_hall_tests.specs.declared.turns.Added.{Added}

@@ -12,7 +12,7 @@ use Rattle.ob_store.proofs.Events.{none_noted}
 use Rattle.ob_cells.specs.Runs.{IsFurther}
 use Rattle.ob_cells.specs.Writes.{Seals}
 use Rattle.ob_log.specs.Appends.{record_for, append_notes}
-use Rattle.ob_log.proofs.AppendLaws.{spells_at, prefix_refused, prefix_open, acknowledged, obeys_for, serves_both, told_body, told_all, told_refused, within_none, body_within, both_within, holds_record}
+use Rattle.ob_log.proofs.AppendLaws.{spells_at, prefix_none, prefix_refused, prefix_open, acknowledged, obeys_for, serves_both, told_body, told_all, told_refused, within_none, body_within, both_within, holds_record}
 use Rattle.ob_log.proofs.appending.append.Goals as goal
 
 pub returns-then-next-many-clause-does : goal.returns-then-next-many-clause-does
@@ -143,3 +143,8 @@ pub returns-in-Err-clause-does : goal.returns-in-Err-clause-does
 returns-in-Err-clause-does g c =
     told_body c.args.p.now c.args.epoch c.args.batch c.log_cell-base.result c.record_cells-many.result (log_gate c.args.p.now (c.args.epoch % 2) c.args.batch) c.log_cell-base.ensures.cell c.record_cells-many.ensures.cells refl
     _ _ _ _ (StoreFault None) c.in-Err.ensures.does.first
+
+pub returns-then-next-many-clause-open_prefix : goal.returns-then-next-many-clause-open_prefix
+returns-then-next-many-clause-open_prefix g c = λ rs tells settled long held.
+    prefix_none c.args.sealer.now.keys c.args.p.now c.args.epoch rs (record_for c.args.sealer.now c.args.batch c.args.first c.args.asks.now c.args.words.now)
+    (g.S.Store.disk c.args.store.now) (g.met.S.Store.only_now c.args.store.now) settled held

@@ -20,7 +20,7 @@ returns-clause-run g c =
     let mid = g.S.Store.disk c.write_sealed.new.store in
     let e = c.sync_noted.ensures in
     run_synced c.args.base c.args.many (g.P.Pieces.plain c.args.pieces.now) c.args.sealer.now c.write_sealed.new.sealer (g.S.Store.disk c.args.store.now) mid (g.S.Store.disk c.sync_noted.new.store) c.sync_noted.result
-    c.in_ok-write_sealed.ensures.run c.in_ok-write_sealed.ensures.serves.tells e.keeps e.serves.goes.later e.time e.crash
+    c.in_ok-write_sealed.ensures.run c.in_ok-write_sealed.ensures.serves.tells e.keeps e.serves.goes e.time e.crash
 
 pub returns-in_err-write_sealed-clause-does : goal.returns-in_err-write_sealed-clause-does
 returns-in_err-write_sealed-clause-does g c =

@@ -1,4 +1,4 @@
-use Rattle.std.proofs.Common.{[], ap, sym, subst, ◌∙◌, ◌≡◌, ◌⊎◌, inl, None, refl, arith}
+use Rattle.std.proofs.Common.{[], ap, sym, subst, ◌∙◌, ◌≡◌, ◌⊎◌, inl, inr, None, refl, arith}
 use mathlib.Core.Path.{fun_ext}
 use Rattle.ob_base.specs.declared.fault.Fault.TheVariants.{Memory, StoreFault}
 use Rattle.ob_store.specs.Disk.{Image}
@@ -47,7 +47,8 @@ pub returns-in-Err-clause-serves : goal.returns-in-Err-clause-serves
 returns-in-Err-clause-serves g c = record { goes = goes_same (g.S.Store.disk c.args.store.now); out = omega arith; tells = tt; cause = λ blamed. absurd blamed }
 
 pub returns-in-Err-clause-crash : goal.returns-in-Err-clause-crash
-returns-in-Err-clause-crash g c = λ tells. started (g.S.Store.disk c.args.store.now) _ (λ image left. inl (image, g.met.S.Store.only_now c.args.store.now image left, λ k apart. refl))
+returns-in-Err-clause-crash g c = λ tells. started (g.S.Store.disk c.args.store.now) _ (λ image left. inl (image, inl (g.met.S.Store.only_now c.args.store.now image left), λ k apart. refl))
+    (λ read. inl ((g.S.Store.disk c.args.store.now).cells, inr (read, refl), λ k apart. refl))
 
 pub returns-in-Err-clause-durable_first : goal.returns-in-Err-clause-durable_first
 returns-in-Err-clause-durable_first g c = inl refl
@@ -93,25 +94,25 @@ returns-in-Err-clause-memory g c = λ same. (refl, refl, refl)
 -- ---- all may be laid
 
 pub lay-requires-clause-none_out : goal.lay-requires-clause-none_out
-lay-requires-clause-none_out g c = c.requires.none_out
+lay-requires-clause-none_out g c κs inside = c.requires.none_out
 
 pub lay-requires-clause-unstarted : goal.lay-requires-clause-unstarted
-lay-requires-clause-unstarted g c = c.requires.unstarted
+lay-requires-clause-unstarted g c κs inside = c.requires.unstarted
 
 pub lay-requires-clause-generation : goal.lay-requires-clause-generation
-lay-requires-clause-generation g c = ap (λ (s : Sealing). s.generation) c.new-sealer.ensures
+lay-requires-clause-generation g c κs inside = ap (λ (s : Sealing). s.generation) c.new-sealer.ensures
 
 pub lay-requires-clause-first : goal.lay-requires-clause-first
-lay-requires-clause-first g c = ap (λ (s : Sealing). s.next) c.new-sealer.ensures
+lay-requires-clause-first g c κs inside = ap (λ (s : Sealing). s.next) c.new-sealer.ensures
 
 pub lay-requires-clause-gates : goal.lay-requires-clause-gates
-lay-requires-clause-gates g c = c.as_slice-gates.ensures.value ∙ c.in-Ok.ensures.0
+lay-requires-clause-gates g c κs inside = c.as_slice-gates.ensures.value ∙ c.in-Ok.ensures.0
 
 pub lay-requires-clause-blank : goal.lay-requires-clause-blank
-lay-requires-clause-blank g c = c.in-Ok.ensures.2
+lay-requires-clause-blank g c κs inside = c.in-Ok.ensures.2
 
 pub lay-requires-clause-sheet : goal.lay-requires-clause-sheet
-lay-requires-clause-sheet g c = c.in-Ok.ensures.1
+lay-requires-clause-sheet g c κs inside = c.in-Ok.ensures.1
 
 pub returns-in-Ok-lay-clause-drawn : goal.returns-in-Ok-lay-clause-drawn
 returns-in-Ok-lay-clause-drawn g c = c.in-Ok-lay.ensures.drawn

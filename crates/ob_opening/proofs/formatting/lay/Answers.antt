@@ -28,7 +28,7 @@ pub lay_registers-requires-clause-behind : goal.lay_registers-requires-clause-be
 lay_registers-requires-clause-behind g c = subst (λ (l : List ℕ). LieBehind 8 l) (sym c.requires.gates) (gates_behind c.args.p.now)
 
 pub lay_epoch-requires-clause-obeys : goal.lay_epoch-requires-clause-obeys
-lay_epoch-requires-clause-obeys g c =
+lay_epoch-requires-clause-obeys g c κs inside =
     let p = c.args.p.now in
     let drawn = g.T.Tape.drawn c.fill_all.new.tape in
     let content = content_is p drawn c.args.tables.now (record c.args.tables.now { metas = c.fill_all.new.metas }) c.requires.blank (ap (λ (b : Buckets). record c.args.tables.now { metas = b }) c.fill_all.ensures.versions) in
@@ -200,16 +200,16 @@ pub fill_all-requires-clause-blank : goal.fill_all-requires-clause-blank
 fill_all-requires-clause-blank g c = c.requires.blank.metas
 
 pub lay_epoch-requires-clause-none_out : goal.lay_epoch-requires-clause-none_out
-lay_epoch-requires-clause-none_out g c = (let none = c.requires.none_out in let out = c.lay_registers.ensures.serves.out in omega arith)
+lay_epoch-requires-clause-none_out g c κs inside = (let none = c.requires.none_out in let out = c.lay_registers.ensures.serves.out in omega arith)
 
 pub lay_epoch-requires-clause-first : goal.lay_epoch-requires-clause-first
-lay_epoch-requires-clause-first g c = c.requires.first
+lay_epoch-requires-clause-first g c κs inside = c.requires.first
 
 pub lay_epoch-requires-clause-sheet : goal.lay_epoch-requires-clause-sheet
-lay_epoch-requires-clause-sheet g c = c.requires.sheet
+lay_epoch-requires-clause-sheet g c κs inside = c.requires.sheet
 
 pub lay_epoch-requires-clause-closed : goal.lay_epoch-requires-clause-closed
-lay_epoch-requires-clause-closed g c = λ told. c.in-Ok.ensures.epoch (c.lay_registers.ensures.serves.goes.told told)
+lay_epoch-requires-clause-closed g c κs inside = λ told. c.in-Ok.ensures.epoch (c.lay_registers.ensures.serves.goes.told told)
 
 pub write_through-requires : goal.write_through-requires
 write_through-requires g c = (let none = c.requires.none_out in let first = c.lay_registers.ensures.serves.out in let second = c.lay_epoch.ensures.serves.out in omega arith)

@@ -24,24 +24,24 @@ use Rattle.ob_opening.proofs.formatting.lay_epoch.Goals as goal
 pub slot_cell-requires-clause-bucket : goal.slot_cell-requires-clause-bucket
 slot_cell-requires-clause-bucket g c = some_buckets c.args.p.now
 
-pub write_sealed-requires-clause-fits : goal.write_sealed-requires-clause-fits
-write_sealed-requires-clause-fits g c = cells_fit c.args.p.now c.slot_cell.result c.buckets.result c.slot_cell.ensures.cell c.buckets.ensures.buckets
+pub write_long-requires-clause-fits : goal.write_long-requires-clause-fits
+write_long-requires-clause-fits g c κs inside = cells_fit c.args.p.now c.slot_cell.result c.buckets.result c.slot_cell.ensures.cell c.buckets.ensures.buckets
 
 pub returns-in-Err-write-clause-serves : goal.returns-in-Err-write-clause-serves
 returns-in-Err-write-clause-serves g c =
     let a = c.in-Ok.ensures.serves in
     let p = c.args.p.now in
-    let next : c.write_sealed.new.sealer.next ≡ c.args.sealer.now.next + c.buckets.result * (p.real + p.dummies) = ap (λ (s : Sealing). s.next) c.in-Ok.ensures.run.seals.all in
-    let few : c.write_sealed.new.sealer.next + checkpoint_cells p ≤ 2 ^ 62 = omega (arith, next, seals_left p c.args.sealer.now.next c.buckets.result c.requires.first c.buckets.ensures.buckets) in
-    cut_short p c.write_sealed.new.sealer.next (g.S.Store.disk c.args.store.now) (g.S.Store.disk c.write_sealed.new.store) (g.S.Store.disk c.write.new.store) c.in-Err-write.field-0 a.goes a.out few c.in-Err-write.ensures.faults c.in-Err-write.ensures.serves
+    let next : c.write_long.new.sealer.next ≡ c.args.sealer.now.next + c.buckets.result * (p.real + p.dummies) = ap (λ (s : Sealing). s.next) c.in-Ok.ensures.run.seals.all in
+    let few : c.write_long.new.sealer.next + checkpoint_cells p ≤ 2 ^ 62 = omega (arith, next, seals_left p c.args.sealer.now.next c.buckets.result c.requires.first c.buckets.ensures.buckets) in
+    cut_short p c.write_long.new.sealer.next (g.S.Store.disk c.args.store.now) (g.S.Store.disk c.write_long.new.store) (g.S.Store.disk c.write.new.store) c.in-Err-write.field-0 a.goes a.out few c.in-Err-write.ensures.faults c.in-Err-write.ensures.serves
 
 pub returns-in-Err-write-clause-passes : goal.returns-in-Err-write-clause-passes
 returns-in-Err-write-clause-passes g c =
     let p = c.args.p.now in
     let old = g.S.Store.disk c.args.store.now in
-    let laid = g.S.Store.disk c.write_sealed.new.store in
+    let laid = g.S.Store.disk c.write_long.new.store in
     let new = g.S.Store.disk c.write.new.store in
-    head_then old laid new (off_head c.slot_cell.result (c.buckets.result * (p.real + p.dummies)) old laid (omega (arith, c.slot_cell.ensures.cell)) c.write_sealed.ensures.run.within.passes)
+    head_then old laid new (off_head c.slot_cell.result (c.buckets.result * (p.real + p.dummies)) old laid (omega (arith, c.slot_cell.ensures.cell)) c.write_long.ensures.run.within.passes)
     (off_head (area_of p 0) (checkpoint_cells p) laid new (omega arith) c.write.ensures.passes)
 
 pub returns-in-Err-write-clause-does : goal.returns-in-Err-write-clause-does
@@ -56,12 +56,12 @@ pub returns-in-Err-sync_noted-clause-passes : goal.returns-in-Err-sync_noted-cla
 returns-in-Err-sync_noted-clause-passes g c =
     let p = c.args.p.now in
     let old = g.S.Store.disk c.args.store.now in
-    let laid = g.S.Store.disk c.write_sealed.new.store in
+    let laid = g.S.Store.disk c.write_long.new.store in
     let written = g.S.Store.disk c.write.new.store in
     passed_still SameHead old written (g.S.Store.disk c.sync_noted.new.store)
-    (head_then old laid written (off_head c.slot_cell.result (c.buckets.result * (p.real + p.dummies)) old laid (omega (arith, c.slot_cell.ensures.cell)) c.write_sealed.ensures.run.within.passes)
+    (head_then old laid written (off_head c.slot_cell.result (c.buckets.result * (p.real + p.dummies)) old laid (omega (arith, c.slot_cell.ensures.cell)) c.write_long.ensures.run.within.passes)
     (off_head (area_of p 0) (checkpoint_cells p) laid written (omega arith) c.write.ensures.passes))
-    c.sync_noted.ensures.serves.goes.later c.sync_noted.ensures.time c.sync_noted.ensures.crash
+    c.sync_noted.ensures.serves.goes c.sync_noted.ensures.time c.sync_noted.ensures.crash c.sync_noted.ensures.keeps
 
 pub returns-in-Err-sync_noted-clause-does : goal.returns-in-Err-sync_noted-clause-does
 returns-in-Err-sync_noted-clause-does g c =
@@ -79,24 +79,24 @@ returns-clause-slots g c = λ tells.
     let one = a.serves.tells tells in
     let two = c.in-Ok-write.ensures.serves.tells one in
     let keeps = c.sync_noted.ensures.keeps in
-    let laid = slots_laid s.keys p c.slot_cell.result c.buckets.result s.generation s.next (g.S.Store.disk c.write_sealed.new.store).cells c.slot_cell.ensures.cell c.buckets.ensures.buckets c.requires.first (a.run.written tells) in
+    let laid = slots_laid s.keys p c.slot_cell.result c.buckets.result s.generation s.next (g.S.Store.disk c.write_long.new.store).cells c.slot_cell.ensures.cell c.buckets.ensures.buckets c.requires.first (a.run.written tells) in
     if_ok _ c.set_first.result
-    (held_off s.keys p s.generation (g.S.Store.disk c.write_sealed.new.store).cells (g.S.Store.disk c.write.new.store).cells (g.S.Store.disk c.sync_noted.new.store).cells (g.S.Store.disk c.set_first.new.store).cells
+    (held_off s.keys p s.generation (g.S.Store.disk c.write_long.new.store).cells (g.S.Store.disk c.write.new.store).cells (g.S.Store.disk c.sync_noted.new.store).cells (g.S.Store.disk c.set_first.new.store).cells
     laid (c.write.ensures.rest one) (keeps.cells two) (c.set_first.ensures.rest (keeps.tells two)))
 
 pub returns-clause-passes : goal.returns-clause-passes
 returns-clause-passes g c =
     let p = c.args.p.now in
     let old = g.S.Store.disk c.args.store.now in
-    let laid = g.S.Store.disk c.write_sealed.new.store in
+    let laid = g.S.Store.disk c.write_long.new.store in
     let written = g.S.Store.disk c.write.new.store in
     let sure = g.S.Store.disk c.sync_noted.new.store in
     let new = g.S.Store.disk c.set_first.new.store in
     head_then old sure new
     (passed_still SameHead old written sure
-    (head_then old laid written (off_head c.slot_cell.result (c.buckets.result * (p.real + p.dummies)) old laid (omega (arith, c.slot_cell.ensures.cell)) c.write_sealed.ensures.run.within.passes)
+    (head_then old laid written (off_head c.slot_cell.result (c.buckets.result * (p.real + p.dummies)) old laid (omega (arith, c.slot_cell.ensures.cell)) c.write_long.ensures.run.within.passes)
     (off_head (area_of p 0) (checkpoint_cells p) laid written (omega arith) c.write.ensures.passes))
-    c.sync_noted.ensures.serves.goes.later c.sync_noted.ensures.time c.sync_noted.ensures.crash)
+    c.sync_noted.ensures.serves.goes c.sync_noted.ensures.time c.sync_noted.ensures.crash c.sync_noted.ensures.keeps)
     (outside_head 5 sure new (omega arith) c.set_first.ensures.passes)
 
 pub returns-clause-does : goal.returns-clause-does
@@ -112,24 +112,24 @@ returns-in-Err-clause-serves g c = c.in-Err.ensures.serves
 
 pub returns-in-Err-sync_noted-clause-serves : goal.returns-in-Err-sync_noted-clause-serves
 returns-in-Err-sync_noted-clause-serves g c =
-    let first = c.write_sealed.ensures.serves in
+    let first = c.write_long.ensures.serves in
     let second = c.write.ensures.serves in
-    serves_then IsFailed _ (g.S.Store.disk c.write_sealed.new.store) _ (Err c.in-Err-sync_noted.failed) first.goes first.out c.in-Ok.ensures.serves.tells
+    serves_then IsFailed _ (g.S.Store.disk c.write_long.new.store) _ (Err c.in-Err-sync_noted.failed) first.goes first.out c.in-Ok.ensures.serves.tells
     (serves_then IsFailed _ (g.S.Store.disk c.write.new.store) _ (Err c.in-Err-sync_noted.failed) second.goes second.out c.in-Ok-write.ensures.serves.tells c.in-Err-sync_noted.ensures.serves)
 
 pub returns-clause-serves : goal.returns-clause-serves
 returns-clause-serves g c =
-    let first = c.write_sealed.ensures.serves in
+    let first = c.write_long.ensures.serves in
     let second = c.write.ensures.serves in
     let third = c.sync_noted.ensures.serves in
-    serves_then IsFailed _ (g.S.Store.disk c.write_sealed.new.store) _ c.set_first.result first.goes first.out c.in-Ok.ensures.serves.tells
+    serves_then IsFailed _ (g.S.Store.disk c.write_long.new.store) _ c.set_first.result first.goes first.out c.in-Ok.ensures.serves.tells
     (serves_then IsFailed _ (g.S.Store.disk c.write.new.store) _ c.set_first.result second.goes second.out c.in-Ok-write.ensures.serves.tells
     (serves_then IsFailed _ (g.S.Store.disk c.sync_noted.new.store) _ c.set_first.result third.goes third.out c.in-Ok-sync_noted.ensures.serves.tells c.set_first.ensures.serves))
 
 pub returns-in-Err-clause-passes : goal.returns-in-Err-clause-passes
 returns-in-Err-clause-passes g c =
     let p = c.args.p.now in
-    off_head c.slot_cell.result (c.buckets.result * (p.real + p.dummies)) _ _ (omega (arith, c.slot_cell.ensures.cell)) c.write_sealed.ensures.run.within.passes
+    off_head c.slot_cell.result (c.buckets.result * (p.real + p.dummies)) _ _ (omega (arith, c.slot_cell.ensures.cell)) c.write_long.ensures.run.within.passes
 
 pub returns-in-Err-clause-does : goal.returns-in-Err-clause-does
 returns-in-Err-clause-does g c =
@@ -140,89 +140,89 @@ returns-in-Err-clause-does g c =
 
 -- ---- the slots and the checkpoint may be written, and the epoch set
 
-pub write_sealed-requires-clause-none_out : goal.write_sealed-requires-clause-none_out
-write_sealed-requires-clause-none_out g c = c.requires.none_out
+pub write_long-requires-clause-none_out : goal.write_long-requires-clause-none_out
+write_long-requires-clause-none_out g c κs inside = c.requires.none_out
 
-pub write_sealed-requires-clause-room : goal.write_sealed-requires-clause-room
-write_sealed-requires-clause-room g c = omega (arith, seals_left c.args.p.now c.args.sealer.now.next c.buckets.result c.requires.first c.buckets.ensures.buckets)
+pub write_long-requires-clause-room : goal.write_long-requires-clause-room
+write_long-requires-clause-room g c κs inside = omega (arith, seals_left c.args.p.now c.args.sealer.now.next c.buckets.result c.requires.first c.buckets.ensures.buckets)
 
 pub write-requires-clause-none_out : goal.write-requires-clause-none_out
-write-requires-clause-none_out g c = (let none = c.requires.none_out in let out = c.write_sealed.ensures.serves.out in omega arith)
+write-requires-clause-none_out g c κs inside = (let none = c.requires.none_out in let out = c.write_long.ensures.serves.out in omega arith)
 
 pub write-requires-clause-obeys : goal.write-requires-clause-obeys
-write-requires-clause-obeys g c = c.requires.obeys
+write-requires-clause-obeys g c κs inside = c.requires.obeys
 
 pub write-requires-clause-sheet : goal.write-requires-clause-sheet
-write-requires-clause-sheet g c = c.requires.sheet
+write-requires-clause-sheet g c κs inside = c.requires.sheet
 
 pub set_first-requires-clause-none_out : goal.set_first-requires-clause-none_out
-set_first-requires-clause-none_out g c = (let none = c.requires.none_out in let first = c.write_sealed.ensures.serves.out in let second = c.write.ensures.serves.out in let third = c.sync_noted.ensures.serves.out in omega arith)
+set_first-requires-clause-none_out g c = (let none = c.requires.none_out in let first = c.write_long.ensures.serves.out in let second = c.write.ensures.serves.out in let third = c.sync_noted.ensures.serves.out in omega arith)
 
 pub set_first-requires-clause-closed : goal.set_first-requires-clause-closed
 set_first-requires-clause-closed g c = λ told.
-    let tells = c.write_sealed.ensures.serves.goes.told (c.write.ensures.serves.goes.told (c.sync_noted.ensures.serves.goes.told told)) in
+    let tells = c.write_long.ensures.serves.goes.told (c.write.ensures.serves.goes.told (c.sync_noted.ensures.serves.goes.told told)) in
     let one = c.in-Ok.ensures.serves.tells tells in
     let two = c.in-Ok-write.ensures.serves.tells one in
     let keeps = c.sync_noted.ensures.keeps in
-    closed_still _ _ (λ k low. keeps.cells two k ∙ before_both c.args.p.now c.slot_cell.result _ k _ _ _ c.slot_cell.ensures.cell (omega (arith, low)) (c.write.ensures.rest one) (c.write_sealed.ensures.run.within.rest tells)) (c.requires.closed tells)
+    closed_still _ _ (λ k low. keeps.cells two k ∙ before_both c.args.p.now c.slot_cell.result _ k _ _ _ c.slot_cell.ensures.cell (omega (arith, low)) (c.write.ensures.rest one) (c.write_long.ensures.run.within.rest tells)) (c.requires.closed tells)
 
 -- ---- the cells before the checkpoints, and the keys
 
 pub returns-in-Err-clause-same_keys : goal.returns-in-Err-clause-same_keys
-returns-in-Err-clause-same_keys g c = c.write_sealed.ensures.run.seals.some.keys
+returns-in-Err-clause-same_keys g c = c.write_long.ensures.run.seals.some.keys
 
 pub returns-in-Err-clause-low : goal.returns-in-Err-clause-low
-returns-in-Err-clause-low g c = λ tells k low. before_slots c.args.p.now c.slot_cell.result _ k _ _ c.slot_cell.ensures.cell (omega (arith, low)) (c.write_sealed.ensures.run.within.rest tells)
+returns-in-Err-clause-low g c = λ tells k low. before_slots c.args.p.now c.slot_cell.result _ k _ _ c.slot_cell.ensures.cell (omega (arith, low)) (c.write_long.ensures.run.within.rest tells)
 
 pub returns-in-Err-clause-log : goal.returns-in-Err-clause-log
-returns-in-Err-clause-log g c = λ tells k from low. before_slots c.args.p.now c.slot_cell.result _ k _ _ c.slot_cell.ensures.cell low (c.write_sealed.ensures.run.within.rest tells)
+returns-in-Err-clause-log g c = λ tells k from low. before_slots c.args.p.now c.slot_cell.result _ k _ _ c.slot_cell.ensures.cell low (c.write_long.ensures.run.within.rest tells)
 
 pub returns-in-Err-write-clause-same_keys : goal.returns-in-Err-write-clause-same_keys
-returns-in-Err-write-clause-same_keys g c = c.write.ensures.some_sealed.keys ∙ c.write_sealed.ensures.run.seals.some.keys
+returns-in-Err-write-clause-same_keys g c = c.write.ensures.some_sealed.keys ∙ c.write_long.ensures.run.seals.some.keys
 
 pub returns-in-Err-write-clause-low : goal.returns-in-Err-write-clause-low
 returns-in-Err-write-clause-low g c = λ tells k low.
     let one = c.in-Ok.ensures.serves.tells tells in
-    before_both c.args.p.now c.slot_cell.result _ k _ _ _ c.slot_cell.ensures.cell (omega (arith, low)) (c.write.ensures.rest one) (c.write_sealed.ensures.run.within.rest tells)
+    before_both c.args.p.now c.slot_cell.result _ k _ _ _ c.slot_cell.ensures.cell (omega (arith, low)) (c.write.ensures.rest one) (c.write_long.ensures.run.within.rest tells)
 
 pub returns-in-Err-write-clause-log : goal.returns-in-Err-write-clause-log
 returns-in-Err-write-clause-log g c = λ tells k from low.
     let one = c.in-Ok.ensures.serves.tells tells in
-    before_both c.args.p.now c.slot_cell.result _ k _ _ _ c.slot_cell.ensures.cell low (c.write.ensures.rest one) (c.write_sealed.ensures.run.within.rest tells)
+    before_both c.args.p.now c.slot_cell.result _ k _ _ _ c.slot_cell.ensures.cell low (c.write.ensures.rest one) (c.write_long.ensures.run.within.rest tells)
 
 pub returns-in-Err-sync_noted-clause-same_keys : goal.returns-in-Err-sync_noted-clause-same_keys
-returns-in-Err-sync_noted-clause-same_keys g c = c.write.ensures.some_sealed.keys ∙ c.write_sealed.ensures.run.seals.some.keys
+returns-in-Err-sync_noted-clause-same_keys g c = c.write.ensures.some_sealed.keys ∙ c.write_long.ensures.run.seals.some.keys
 
 pub returns-in-Err-sync_noted-clause-low : goal.returns-in-Err-sync_noted-clause-low
 returns-in-Err-sync_noted-clause-low g c = λ tells k low.
     let one = c.in-Ok.ensures.serves.tells tells in
     let two = c.in-Ok-write.ensures.serves.tells one in
     let keeps = c.sync_noted.ensures.keeps in
-    keeps.cells two k ∙ before_both c.args.p.now c.slot_cell.result _ k _ _ _ c.slot_cell.ensures.cell (omega (arith, low)) (c.write.ensures.rest one) (c.write_sealed.ensures.run.within.rest tells)
+    keeps.cells two k ∙ before_both c.args.p.now c.slot_cell.result _ k _ _ _ c.slot_cell.ensures.cell (omega (arith, low)) (c.write.ensures.rest one) (c.write_long.ensures.run.within.rest tells)
 
 pub returns-in-Err-sync_noted-clause-log : goal.returns-in-Err-sync_noted-clause-log
 returns-in-Err-sync_noted-clause-log g c = λ tells k from low.
     let one = c.in-Ok.ensures.serves.tells tells in
     let two = c.in-Ok-write.ensures.serves.tells one in
     let keeps = c.sync_noted.ensures.keeps in
-    keeps.cells two k ∙ before_both c.args.p.now c.slot_cell.result _ k _ _ _ c.slot_cell.ensures.cell low (c.write.ensures.rest one) (c.write_sealed.ensures.run.within.rest tells)
+    keeps.cells two k ∙ before_both c.args.p.now c.slot_cell.result _ k _ _ _ c.slot_cell.ensures.cell low (c.write.ensures.rest one) (c.write_long.ensures.run.within.rest tells)
 
 pub returns-clause-same_keys : goal.returns-clause-same_keys
-returns-clause-same_keys g c = c.write.ensures.some_sealed.keys ∙ c.write_sealed.ensures.run.seals.some.keys
+returns-clause-same_keys g c = c.write.ensures.some_sealed.keys ∙ c.write_long.ensures.run.seals.some.keys
 
 pub returns-clause-low : goal.returns-clause-low
 returns-clause-low g c = λ tells k low.
     let one = c.in-Ok.ensures.serves.tells tells in
     let two = c.in-Ok-write.ensures.serves.tells one in
     let keeps = c.sync_noted.ensures.keeps in
-    c.set_first.ensures.rest (keeps.tells two) k (inl (omega (arith, low))) ∙ keeps.cells two k ∙ before_both c.args.p.now c.slot_cell.result _ k _ _ _ c.slot_cell.ensures.cell (omega (arith, low)) (c.write.ensures.rest one) (c.write_sealed.ensures.run.within.rest tells)
+    c.set_first.ensures.rest (keeps.tells two) k (inl (omega (arith, low))) ∙ keeps.cells two k ∙ before_both c.args.p.now c.slot_cell.result _ k _ _ _ c.slot_cell.ensures.cell (omega (arith, low)) (c.write.ensures.rest one) (c.write_long.ensures.run.within.rest tells)
 
 pub returns-clause-log : goal.returns-clause-log
 returns-clause-log g c = λ tells k from low.
     let one = c.in-Ok.ensures.serves.tells tells in
     let two = c.in-Ok-write.ensures.serves.tells one in
     let keeps = c.sync_noted.ensures.keeps in
-    c.set_first.ensures.rest (keeps.tells two) k (inr (omega (arith, from))) ∙ keeps.cells two k ∙ before_both c.args.p.now c.slot_cell.result _ k _ _ _ c.slot_cell.ensures.cell low (c.write.ensures.rest one) (c.write_sealed.ensures.run.within.rest tells)
+    c.set_first.ensures.rest (keeps.tells two) k (inr (omega (arith, from))) ∙ keeps.cells two k ∙ before_both c.args.p.now c.slot_cell.result _ k _ _ _ c.slot_cell.ensures.cell low (c.write.ensures.rest one) (c.write_long.ensures.run.within.rest tells)
 
 -- ---- what stands then
 
@@ -231,7 +231,7 @@ returns-clause-epoch g c = λ tells.
     let one = c.in-Ok.ensures.serves.tells tells in
     let two = c.in-Ok-write.ensures.serves.tells one in
     let keeps = c.sync_noted.ensures.keeps in
-    subst (λ (x : Keys). OnOk c.set_first.result (StandsAt (tagging x) 5 (g.S.Store.disk c.set_first.new.store).cells 0)) (c.write.ensures.some_sealed.keys ∙ c.write_sealed.ensures.run.seals.some.keys) (c.set_first.ensures.stands (keeps.tells two))
+    subst (λ (x : Keys). OnOk c.set_first.result (StandsAt (tagging x) 5 (g.S.Store.disk c.set_first.new.store).cells 0)) (c.write.ensures.some_sealed.keys ∙ c.write_long.ensures.run.seals.some.keys) (c.set_first.ensures.stands (keeps.tells two))
 
 pub returns-clause-checkpoint : goal.returns-clause-checkpoint
 returns-clause-checkpoint g c = λ tells.

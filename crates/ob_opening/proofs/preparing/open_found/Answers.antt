@@ -252,13 +252,13 @@ pub begin-requires-clause-told : goal.begin-requires-clause-told
 begin-requires-clause-told g c = λ tells. (c.requires.gates tells).generation_gates
 
 pub replay-requires-clause-found : goal.replay-requires-clause-found
-replay-requires-clause-found g c = c.requires.obeys
+replay-requires-clause-found g c κs within = c.requires.obeys
 
 pub replay-requires-clause-jobs : goal.replay-requires-clause-jobs
-replay-requires-clause-jobs g c = (c.requires.rooms.planned, c.requires.rooms.placed)
+replay-requires-clause-jobs g c κs within = (c.requires.rooms.planned, c.requires.rooms.placed)
 
 pub replay-requires-clause-crew : goal.replay-requires-clause-crew
-replay-requires-clause-crew g c = subst (λ (m : Manned). most_jobs c.args.p.now ≤ m.jobs) (sym c.requires.rooms.crew) (omega arith)
+replay-requires-clause-crew g c κs within = subst (λ (m : Manned). most_jobs c.args.p.now ≤ m.jobs) (sym c.requires.rooms.crew) (omega arith)
 
 pub returns-clause-lanes : goal.returns-clause-lanes
 returns-clause-lanes g c = ap (λ (m : Manned). m.lanes) c.in-Ok-replay.ensures.crew

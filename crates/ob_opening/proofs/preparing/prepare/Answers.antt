@@ -1,5 +1,5 @@
 use Rattle.std.proofs.Common.{inl, refl, sym, ap, subst, arith}
-use Rattle.std.specs.Prelude.{IfErr, IfOk, is_ok}
+use Rattle.std.specs.Prelude.{◌≤◌, IfErr, IfOk, is_ok}
 use mathlib.Core.Path.{fun_ext}
 use Rattle.ob_store.specs.Disk.{Image}
 use Rattle.ob_store.specs.Images.{Same}
@@ -85,7 +85,7 @@ returns-in-Err-find-clause-acts g c = λ word_of s pending tells left.
 -- ---- all was found
 
 pub open_found-requires-clause-gates : goal.open_found-requires-clause-gates
-open_found-requires-clause-gates g c = λ told.
+open_found-requires-clause-gates g c κs within = λ told.
     let keeps = c.in-Ok-find.ensures.keeps in
     let tells = c.in-Ok-find.ensures.serves.goes.told told in
     found_same c.args.keys.now c.args.p.now c.in-Ok-find.found (g.S.Store.disk c.args.store.now).cells (g.S.Store.disk c.find.new.store).cells (keeps.cells tells) (c.in-Ok-find.ensures.value tells)
@@ -114,7 +114,7 @@ returns-clause-opened g c =
     let after = g.W.Watch.trace c.open_found.new.watch in
     subst (λ n. IfOk c.open_found.result (IsRingOpened g.S.Store.disk c.args.keys.now n c.args.p.now c.args.store.now c.open_found.new.store before after)) (ap (λ (m : Manned). m.lanes) c.in-Ok.ensures.crew)
     (all_opened g.S.Store.disk c.args.keys.now c.args.p.now c.args.store.now c.find.new.store c.open_found.new.store c.in-Ok-find.ensures.keeps c.in-Ok-find.ensures.passes c.in-Ok.rooms.crew.lanes c.in-Ok-find.found
-    before (g.W.Watch.trace c.find.new.watch) after c.in-Ok-find.ensures.does c.in-Ok-find.ensures.value c.open_found.result e.is e.lanes e.told e.stood e.begins e.does c.in-Ok-find.ensures.some)
+    before (g.W.Watch.trace c.find.new.watch) after c.in-Ok-find.ensures.does c.in-Ok-find.ensures.value c.open_found.result (subst (λ n. 1 ≤ n) (sym (ap (λ (m : Manned). m.lanes) c.in-Ok.ensures.crew)) c.requires.lanes.0) e.is e.lanes e.told e.stood e.begins e.does c.in-Ok-find.ensures.some)
 
 pub returns-clause-stands : goal.returns-clause-stands
 returns-clause-stands g c = λ s tells stands.
@@ -184,6 +184,7 @@ returns-clause-acts g c = λ word_of s pending tells left.
     let leaves = all_leaves disk keys p old mid new found_in.keeps found_in.passes c.open_found.result e.leaves in
     subst (λ n. OpensInLife keys n p word_of s pending (disk old) (disk new) before after (is_ok c.open_found.result)) (ap (λ (m : Manned). m.lanes) c.in-Ok.ensures.crew)
     (all_acts disk g.met.S.Store.counts_now keys c.in-Ok.rooms.crew.lanes p found old mid new before between after found_in.keeps found_in.passes found_in.does found_in.obeys found_in.some tells (found_in.value tells)
+    (subst (λ n. 1 ≤ n) (sym (ap (λ (m : Manned). m.lanes) c.in-Ok.ensures.crew)) c.requires.lanes.0)
     word_of s pending left is c.args.tape.now c.open_found.new.tape (g.T.Tape.present c.open_found.new.tape) (g.T.Tape.drawn c.open_found.new.tape) c.open_found.result stood leaves e.does e.begins_err)
 
 pub returns-in-Err-clause-serves : goal.returns-in-Err-clause-serves
@@ -195,13 +196,13 @@ returns-in-Err-find-clause-serves g c = serves_err IsStoreFault IsStoreFault _ _
 -- ---- what was found may be opened
 
 pub open_found-requires-clause-none_out : goal.open_found-requires-clause-none_out
-open_found-requires-clause-none_out g c = (let none = c.requires.none_out in let out = c.find.ensures.serves.out in omega arith)
+open_found-requires-clause-none_out g c κs within = (let none = c.requires.none_out in let out = c.find.ensures.serves.out in omega arith)
 
 pub open_found-requires-clause-unstarted : goal.open_found-requires-clause-unstarted
-open_found-requires-clause-unstarted g c = c.requires.unstarted
+open_found-requires-clause-unstarted g c κs within = c.requires.unstarted
 
 pub open_found-requires-clause-obeys : goal.open_found-requires-clause-obeys
-open_found-requires-clause-obeys g c = c.in-Ok-find.ensures.obeys
+open_found-requires-clause-obeys g c κs within = c.in-Ok-find.ensures.obeys
 
 pub returns-in-Err-clause-tape_err : goal.returns-in-Err-clause-tape_err
 returns-in-Err-clause-tape_err g c = inl refl

@@ -16,7 +16,7 @@ use Rattle.ob_store.specs.Calls.{IsStoreFault, Serves}
 use Rattle.ob_recover.proofs.reading.read_batch.Goals as goal
 
 pub read_jobs-requires-clause-few : goal.read_jobs-requires-clause-few
-read_jobs-requires-clause-few g c =
+read_jobs-requires-clause-few g c κs within =
     let ring = c.args.ring.now in
     let r = record_of 0 0 c.args.generation c.args.first c.args.asks.now c.args.words.now in
     let planned = c.plan.ensures.planned 0 0 c.requires.stands.0 c.requires.stands.1 in
@@ -25,7 +25,7 @@ read_jobs-requires-clause-few g c =
     omega arith
 
 pub read_jobs-requires-clause-placed : goal.read_jobs-requires-clause-placed
-read_jobs-requires-clause-placed g c =
+read_jobs-requires-clause-placed g c κs within =
     let ring = c.args.ring.now in
     let r = record_of 0 0 c.args.generation c.args.first c.args.asks.now c.args.words.now in
     let planned = c.plan.ensures.planned 0 0 c.requires.stands.0 c.requires.stands.1 in

@@ -14,6 +14,9 @@ use Rattle.ob_recover.proofs.BatchLaws.{failing_answer, failing_tells, job_fault
 use Rattle.ob_recover.specs.Shows.{placed_notes}
 use Rattle.ob_recover.proofs.reading.read_jobs.Goals as goal
 
+pub run_jobs-requires-clause-few : goal.run_jobs-requires-clause-few
+run_jobs-requires-clause-few g c κs within = c.requires.few
+
 pub returns-in-Ok-clause-told : goal.returns-in-Ok-clause-told
 returns-in-Ok-clause-told g c = (
   c.in-Ok.ensures.seen,

@@ -46,22 +46,22 @@ returns-clause-joins g c = λ t stands.
 -- ---- the batch may be read
 
 pub read_batch-requires-clause-asks : goal.read_batch-requires-clause-asks
-read_batch-requires-clause-asks g c = ap (λ (xs : List (Option ℕ)). length xs) c.asks-asks.ensures ∙ c.requires.fits.1.asks_many
+read_batch-requires-clause-asks g c κs within = ap (λ (xs : List (Option ℕ)). length xs) c.asks-asks.ensures ∙ c.requires.fits.1.asks_many
 
 pub read_batch-requires-clause-words : goal.read_batch-requires-clause-words
-read_batch-requires-clause-words g c = ap (λ (xs : List ℕ). length xs) c.words-words.ensures ∙ c.requires.fits.1.words_many
+read_batch-requires-clause-words g c κs within = ap (λ (xs : List ℕ). length xs) c.words-words.ensures ∙ c.requires.fits.1.words_many
 
 pub read_batch-requires-clause-keys_low : goal.read_batch-requires-clause-keys_low
-read_batch-requires-clause-keys_low g c = λ i k is. c.requires.fits.1.keys_low i k (subst (λ (xs : List (Option ℕ)). slice_index_or xs i None ≡ Some k) c.asks-asks.ensures is)
+read_batch-requires-clause-keys_low g c κs within = λ i k is. c.requires.fits.1.keys_low i k (subst (λ (xs : List (Option ℕ)). slice_index_or xs i None ≡ Some k) c.asks-asks.ensures is)
 
 pub read_batch-requires-clause-stands : goal.read_batch-requires-clause-stands
-read_batch-requires-clause-stands g c = c.requires.stands
+read_batch-requires-clause-stands g c κs within = c.requires.stands
 
 pub read_batch-requires-clause-jobs : goal.read_batch-requires-clause-jobs
-read_batch-requires-clause-jobs g c = c.requires.jobs
+read_batch-requires-clause-jobs g c κs within = c.requires.jobs
 
 pub read_batch-requires-clause-crew : goal.read_batch-requires-clause-crew
-read_batch-requires-clause-crew g c = c.requires.crew
+read_batch-requires-clause-crew g c κs within = c.requires.crew
 
 -- ---- what its read says
 

@@ -14,7 +14,7 @@ use Rattle.ob_store.proofs.Moments.{passed_none}
 use Rattle.ob_recover.proofs.replaying.repeat_all.Goals as goal
 
 pub repeat_batch-requires-clause-fits : goal.repeat_batch-requires-clause-fits
-repeat_batch-requires-clause-fits g c =
+repeat_batch-requires-clause-fits g c κs within =
     let o = c.args.ring.now in
     let at = c.index-records-i.is ∙ get_same c.args.records.now c.loop-i.i c.index-records-i.result nothing c.loop-i-test.true in
     (c.loop-i.i, subst (λ (q : Params). RecordFits q c.loop-i.i c.index-records-i.result) (sym c.loop-i.invariant.so_far.params) (subst (λ (r : BatchRecord). RecordFits o.p c.loop-i.i r) (sym at) (c.requires.fits.each c.loop-i.i c.loop-i-test.true)))
@@ -132,15 +132,15 @@ pub returns-in-Err-clause-rooms : goal.returns-in-Err-clause-rooms
 returns-in-Err-clause-rooms g c = (c.repeat_batch.ensures.rooms.0 ∙ c.loop-i.invariant.room, c.repeat_batch.ensures.rooms.1 ∙ c.loop-i.invariant.place_room)
 
 pub repeat_batch-requires-clause-stands : goal.repeat_batch-requires-clause-stands
-repeat_batch-requires-clause-stands g c = (_, c.loop-i.invariant.so_far.table)
+repeat_batch-requires-clause-stands g c κs within = (_, c.loop-i.invariant.so_far.table)
 
 pub repeat_batch-requires-clause-jobs : goal.repeat_batch-requires-clause-jobs
-repeat_batch-requires-clause-jobs g c =
+repeat_batch-requires-clause-jobs g c κs within =
     let ps = sym c.loop-i.invariant.so_far.params in
     (c.loop-i.invariant.room ∙ c.requires.jobs.0 ∙ ap most_jobs ps, c.loop-i.invariant.place_room ∙ c.requires.jobs.1 ∙ ap (λ (q : Params). q.places) ps)
 
 pub repeat_batch-requires-clause-crew : goal.repeat_batch-requires-clause-crew
-repeat_batch-requires-clause-crew g c = subst (λ (q : Params). most_jobs q ≤ c.loop-i.crew.jobs) (sym c.loop-i.invariant.so_far.params) (subst (λ (m : Manned). most_jobs c.args.ring.now.p ≤ m.jobs) (sym c.loop-i.invariant.crew) c.requires.crew)
+repeat_batch-requires-clause-crew g c κs within = subst (λ (q : Params). most_jobs q ≤ c.loop-i.crew.jobs) (sym c.loop-i.invariant.so_far.params) (subst (λ (m : Manned). most_jobs c.args.ring.now.p ≤ m.jobs) (sym c.loop-i.invariant.crew) c.requires.crew)
 
 pub returns-clause-serves : goal.returns-clause-serves
 returns-clause-serves g c =

@@ -16,7 +16,7 @@ pub of_tables-ring-requires : goal.of_tables-ring-requires
 of_tables-ring-requires g c = ring_rules c.args.p.now c.args.found.tables c.requires.found.content c.requires.found.idle
 
 pub repeat_all-requires-clause-stands : goal.repeat_all-requires-clause-stands
-repeat_all-requires-clause-stands g c =
+repeat_all-requires-clause-stands g c κs within =
     subst (λ (r : Kept). StandsFor r (flat_of r.p (content_of_ring r))) (sym c.of_tables-ring.ensures) (ring_stands c.args.p.now c.args.found.tables c.requires.found.content c.requires.found.idle)
 
 pub returns-in-Ok-clause-fit : goal.returns-in-Ok-clause-fit
@@ -47,20 +47,20 @@ returns-clause-faults g c = c.in-Err.ensures.faults
 -- ---- the records may be repeated
 
 pub repeat_all-requires-clause-fits : goal.repeat_all-requires-clause-fits
-repeat_all-requires-clause-fits g c =
+repeat_all-requires-clause-fits g c κs within =
     subst (λ (r : Kept). RecordsFit r.p c.as_slice-logged.result.now) (sym c.of_tables-ring.ensures)
     (subst (λ (rs : List BatchRecord). RecordsFit c.args.p.now rs) (sym c.as_slice-logged.ensures) c.requires.found.records)
 
 pub repeat_all-requires-clause-unlisted : goal.repeat_all-requires-clause-unlisted
-repeat_all-requires-clause-unlisted g c = ap (λ (r : Kept). (r.metas).order) c.of_tables-ring.ensures ∙ c.requires.found.idle.order
+repeat_all-requires-clause-unlisted g c κs within = ap (λ (r : Kept). (r.metas).order) c.of_tables-ring.ensures ∙ c.requires.found.idle.order
 
 pub repeat_all-requires-clause-jobs : goal.repeat_all-requires-clause-jobs
-repeat_all-requires-clause-jobs g c =
+repeat_all-requires-clause-jobs g c κs within =
     let made = sym c.of_tables-ring.ensures in
     (c.requires.jobs.0 ∙ ap (λ (r : Kept). most_jobs r.p) made, c.requires.jobs.1 ∙ ap (λ (r : Kept). (r.p).places) made)
 
 pub repeat_all-requires-clause-crew : goal.repeat_all-requires-clause-crew
-repeat_all-requires-clause-crew g c = subst (λ (r : Kept). most_jobs r.p ≤ c.args.crew.now.jobs) (sym c.of_tables-ring.ensures) c.requires.crew
+repeat_all-requires-clause-crew g c κs within = subst (λ (r : Kept). most_jobs r.p ≤ c.args.crew.now.jobs) (sym c.of_tables-ring.ensures) c.requires.crew
 
 -- ---- what the repeats say, of what was found
 

@@ -1,4 +1,4 @@
-use Rattle.ob_recover.proofs.Telling as laws
+use Rattle.ob_recover.proofs.Dealing as laws
 use Rattle.ob_recover.proofs.schedule.one_lane_in_order.Goals as goal
 
 pub returns : goal.returns

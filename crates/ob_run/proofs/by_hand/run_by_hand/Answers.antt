@@ -8,13 +8,13 @@ returns-clause-done g c =
     (c.serve-result.new.desk, rw (← c.deref_mut.ensures.value, same_items _ c.deref_mut.result.now c.serve-result.new.runners (sym c.deref_mut.ensures.len) (as_long _ c.serve-result.new.runners c.deref_mut.result.now d.clients)) c.serve-result.ensures.done)
 
 pub serve-result-requires-clause-fresh : goal.serve-result-requires-clause-fresh
-serve-result-requires-clause-fresh g c = rw c.deref_mut.ensures.value c.requires.fresh
+serve-result-requires-clause-fresh g c κs within = rw c.deref_mut.ensures.value c.requires.fresh
 
 pub serve-result-requires-clause-opens : goal.serve-result-requires-clause-opens
-serve-result-requires-clause-opens g c = rw c.deref_mut.ensures.value c.requires.opens
+serve-result-requires-clause-opens g c κs within = rw c.deref_mut.ensures.value c.requires.opens
 
 pub serve-result-requires-clause-below : goal.serve-result-requires-clause-below
-serve-result-requires-clause-below g c = rw c.deref_mut.ensures.value c.requires.below
+serve-result-requires-clause-below g c κs within = rw c.deref_mut.ensures.value c.requires.below
 
 pub serve-result-requires-clause-none_made : goal.serve-result-requires-clause-none_made
-serve-result-requires-clause-none_made g c = rw c.deref_mut.ensures.value c.requires.none_made
+serve-result-requires-clause-none_made g c κs within = rw c.deref_mut.ensures.value c.requires.none_made

@@ -35,7 +35,7 @@ returns-in-Err-clause-does g c =
 pub returns-in-Err-clause-leaves : goal.returns-in-Err-clause-leaves
 returns-in-Err-clause-leaves g c =
     let e = c.sync_noted.ensures in
-    inl (still (g.S.Store.disk c.args.store.now) (g.S.Store.disk c.sync_noted.new.store) e.serves.goes.later e.time e.crash)
+    inl (still (g.S.Store.disk c.args.store.now) (g.S.Store.disk c.sync_noted.new.store) e.serves.goes e.time e.crash e.keeps)
 
 pub returns-in-Ok-set-clause-does : goal.returns-in-Ok-set-clause-does
 returns-in-Ok-set-clause-does g c =
@@ -54,7 +54,7 @@ pub returns-in-Ok-set-clause-leaves : goal.returns-in-Ok-set-clause-leaves
 returns-in-Ok-set-clause-leaves g c =
     let e = c.sync_noted.ensures in
     begins g.S.Store.disk c.args.sealer.now.keys c.args.generation c.args.store.now c.sync_noted.new.store c.set.new.store c.set.result
-    (still (g.S.Store.disk c.args.store.now) (g.S.Store.disk c.sync_noted.new.store) e.serves.goes.later e.time e.crash) e.keeps c.in-Ok.ensures.durable c.set.ensures.old_or_new
+    (still (g.S.Store.disk c.args.store.now) (g.S.Store.disk c.sync_noted.new.store) e.serves.goes e.time e.crash e.keeps) e.keeps c.in-Ok.ensures.durable c.set.ensures.old_or_new
 
 pub returns-in-Err-set-clause-does : goal.returns-in-Err-set-clause-does
 returns-in-Err-set-clause-does g c =
@@ -67,7 +67,7 @@ pub returns-in-Err-set-clause-leaves : goal.returns-in-Err-set-clause-leaves
 returns-in-Err-set-clause-leaves g c =
     let e = c.sync_noted.ensures in
     inr (begins g.S.Store.disk c.args.sealer.now.keys c.args.generation c.args.store.now c.sync_noted.new.store c.set.new.store c.set.result
-    (still (g.S.Store.disk c.args.store.now) (g.S.Store.disk c.sync_noted.new.store) e.serves.goes.later e.time e.crash) e.keeps c.in-Ok.ensures.durable c.set.ensures.old_or_new)
+    (still (g.S.Store.disk c.args.store.now) (g.S.Store.disk c.sync_noted.new.store) e.serves.goes e.time e.crash e.keeps) e.keeps c.in-Ok.ensures.durable c.set.ensures.old_or_new)
 
 -- ---- what each of them says of the store
 

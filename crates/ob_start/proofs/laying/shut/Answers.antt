@@ -3,7 +3,7 @@ use Rattle.std.proofs.lemmas.List.{take_all}
 use Rattle.ob_store.specs.Told.{Tells}
 use Rattle.ob_store.proofs.Doing.{tells_none, does_all, does_refused}
 use Rattle.ob_start.specs.Orders.{writes_of}
-use Rattle.ob_start.proofs.Shutting.{none_shut, one_shut, told_one, told_first}
+use Rattle.ob_start.proofs.Shutting.{none_shut, one_shut, passes_one, told_one, told_first}
 use Rattle.ob_start.proofs.laying.shut.Goals as goal
 
 pub loop-gate-init : goal.loop-gate-init
@@ -37,3 +37,10 @@ returns-clause-does g c =
     does_all _ _ _ _ (writes_of c.args.gates.now) tt
     (subst (λ (l : List ℕ). Tells (writes_of l) (writes_of l) (g.S.Store.disk c.args.store.now).seen (g.S.Store.disk c.loop-gate.store).seen (g.W.Watch.trace c.args.watch.now) (g.W.Watch.trace c.loop-gate.watch))
     (take_all c.loop-gate.gate-index c.args.gates.now (omega (arith, whole))) c.loop-gate.invariant.told)
+
+pub returns-in_err-write_noted-clause-passes : goal.returns-in_err-write_noted-clause-passes
+returns-in_err-write_noted-clause-passes g c =
+    let i = c.loop-gate.gate-index in
+    let e = c.write_noted.ensures in
+    passes_one c.args.gates.now i (get_or c.args.gates.now i 0) (g.S.Store.disk c.args.store.now) (g.S.Store.disk c.loop-gate.store) (g.S.Store.disk c.write_noted.new.store) c.loop-gate-test.true refl c.loop-gate.invariant.shutting
+    (c.requires.behind i c.loop-gate-test.true) e.serves.goes e.crash e.time e.rest

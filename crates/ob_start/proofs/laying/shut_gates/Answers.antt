@@ -83,4 +83,4 @@ returns-clause-passes g c =
     let old = g.S.Store.disk c.args.store.now in
     let two = g.S.Store.disk c.shut-2.new.store in
     passed_still SameHead old two (g.S.Store.disk c.sync_noted.new.store) (head_then old (g.S.Store.disk c.shut.new.store) two c.shut.ensures.passes c.shut-2.ensures.passes)
-    c.sync_noted.ensures.serves.goes.later c.sync_noted.ensures.time c.sync_noted.ensures.crash
+    c.sync_noted.ensures.serves.goes c.sync_noted.ensures.time c.sync_noted.ensures.crash c.sync_noted.ensures.keeps

@@ -66,4 +66,4 @@ pub returns-in_err-write_noted-clause-passes : goal.returns-in_err-write_noted-c
 returns-in_err-write_noted-clause-passes g c =
     let e = c.write_noted.ensures in
     passes_one c.args.base c.args.rows.now c.loop-i.i (g.S.Store.disk c.args.store.now) (g.S.Store.disk c.loop-i.store) (g.S.Store.disk c.write_noted.new.store)
-    c.loop-i-test.true c.loop-i.invariant.writing e.serves.goes e.crash e.time
+    c.loop-i-test.true c.loop-i.invariant.writing e.serves.goes e.crash e.time e.rest

@@ -52,14 +52,14 @@ returns-in-Ok-prepare-clause-begun g c =
     let e = c.in-Ok-prepare.ensures in (
       found_ring e.opened.found c.in-Ok-prepare.opening,
       refl,
-      begun (λ s. g.S.Store.disk s) c.args.keys.now c.in-Ok.params c.in-Ok-read_script.scripts _ c.args.store.now c.head.new.store c.prepare.new.store head.value (record { keeps = head.keeps; passes = head.passes; seen = head.does.seen }) c.in-Ok-read_script.ensures.came
+      begun (λ s. g.S.Store.disk s) c.args.keys.now c.args.lanes c.requires.lanes.0 c.in-Ok.params c.in-Ok-read_script.scripts _ c.args.store.now c.head.new.store c.prepare.new.store head.value (record { keeps = head.keeps; passes = head.passes; seen = head.does.seen }) c.in-Ok-read_script.ensures.came
           _ _ c.in-Ok-prepare.opening e.opened e.serves.tells e.stands,
     )
 
 pub returns-in-Ok-prepare-clause-serves : goal.returns-in-Ok-prepare-clause-serves
 returns-in-Ok-prepare-clause-serves g c =
     let e = c.in-Ok-prepare.ensures in
-    may_serve (λ s. g.S.Store.disk s) c.args.keys.now c.in-Ok.params c.head.new.store c.prepare.new.store _ _ _ _ c.in-Ok-prepare.opening e.opened e.serves.goes.told e.tape
+    may_serve (λ s. g.S.Store.disk s) c.args.keys.now c.args.lanes c.in-Ok.params c.head.new.store c.prepare.new.store _ _ _ _ c.in-Ok-prepare.opening e.opened e.serves.goes.told e.tape
 
 pub returns-in-Ok-prepare-clause-sealer : goal.returns-in-Ok-prepare-clause-sealer
 returns-in-Ok-prepare-clause-sealer g c = ap (λ (x : Sealing). x.next) c.in-Ok-prepare.ensures.opened.is.sealer
@@ -84,7 +84,7 @@ pub returns-in-Err-prepare-clause-refused : goal.returns-in-Err-prepare-clause-r
 returns-in-Err-prepare-clause-refused g c =
     let head = c.in-Ok.ensures in
     let e = c.in-Err-prepare.ensures in
-    unopened (λ s. g.S.Store.disk s) c.args.keys.now c.in-Ok.params c.in-Ok-read_script.scripts _ c.args.store.now c.head.new.store c.prepare.new.store head.value (record { keeps = head.keeps; passes = head.passes; seen = head.does.seen }) c.in-Ok-read_script.ensures.came
+    unopened (λ s. g.S.Store.disk s) c.args.keys.now c.args.lanes c.requires.lanes.0 c.in-Ok.params c.in-Ok-read_script.scripts _ c.args.store.now c.head.new.store c.prepare.new.store head.value (record { keeps = head.keeps; passes = head.passes; seen = head.does.seen }) c.in-Ok-read_script.ensures.came
     c.prepare.result _ _ _ _ _ _ c.in-Err-prepare.fault _ (g.met.S.Store.only_now c.args.store.now) head.serves.goes.faults e.faults e.serves.cause e.does_err e.refused e.stands e.unwritten e.leaves (λ word_of s told at. e.acts word_of s None told at)
 
 -- ---- the life of the store
@@ -143,7 +143,10 @@ pub returns-in-Ok-prepare-clause-sound : goal.returns-in-Ok-prepare-clause-sound
 returns-in-Ok-prepare-clause-sound g c = c.in-Ok-read_script.ensures.sound
 
 pub prepare-requires-clause-none_out : goal.prepare-requires-clause-none_out
-prepare-requires-clause-none_out g c = omega (arith, c.in-Ok.ensures.serves.out, c.requires.none_out)
+prepare-requires-clause-none_out g c κs within = omega (arith, c.in-Ok.ensures.serves.out, c.requires.none_out)
 
 pub prepare-requires-clause-unstarted : goal.prepare-requires-clause-unstarted
-prepare-requires-clause-unstarted g c = c.requires.unstarted
+prepare-requires-clause-unstarted g c κs within = c.requires.unstarted
+
+pub prepare-requires-clause-lanes : goal.prepare-requires-clause-lanes
+prepare-requires-clause-lanes g c κs within = c.requires.lanes

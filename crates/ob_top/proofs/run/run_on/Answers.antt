@@ -1,18 +1,19 @@
 use Rattle.ob_store.proofs.Serving.{goes_then}
 use Rattle.ob_vault.specs.RingKind.{ring_kind}
 use Rattle.ob_vault.proofs.OpenedLife.{opened_lives}
+use Rattle.ob_vault.proofs.Standing.{ring_keeps}
 use Rattle.ob_vault.specs.Lives.{ring_lives}
 use Rattle.ob_top.proofs.Beginnings.{ring_quiet}
 use Rattle.ob_top.proofs.Running.{ended_early, ran}
 use Rattle.ob_top.proofs.run.run_on.Goals as goal
 
 pub returns-in-Err-clause-done : goal.returns-in-Err-clause-done
-returns-in-Err-clause-done g c = ended_early ring_kind ring_quiet ring_lives (λ s. g.S.Store.disk s) _ _ c.args.keys.now _ _ _ _ _ c.in-Err.fault c.in-Err.ensures.refused c.in-Err.ensures.lives
+returns-in-Err-clause-done g c = ended_early ring_kind ring_quiet ring_lives ring_keeps (λ s. g.S.Store.disk s) (λ x t image at left. g.met.S.Store.counts_now x t image at left) _ _ c.args.keys.now _ _ _ _ _ c.in-Err.fault c.in-Err.ensures.refused c.in-Err.ensures.lives
 
 pub returns-clause-done : goal.returns-clause-done
 returns-clause-done g c =
     let (f, same, b) = c.in-Ok.ensures.begun in
-    ran ring_kind ring_quiet ring_lives (λ s. g.S.Store.disk s) _ _ c.args.keys.now _ c.begin.new.store _ _ _ _ _ c.in-Ok.begun.params c.in-Ok.begun.scripts f b.start c.in-Ok.begun.opening.sealer _ c.in-Ok.ensures.goes.faults b.opened b.seen
+    ran ring_kind ring_quiet ring_lives ring_keeps (λ s. g.S.Store.disk s) (λ x t image at left. g.met.S.Store.counts_now x t image at left) _ _ c.args.keys.now _ c.begin.new.store _ _ _ _ _ c.in-Ok.begun.params c.in-Ok.begun.scripts f b.start c.in-Ok.begun.opening.sealer _ c.in-Ok.ensures.goes.faults b.opened b.seen
     c.in-Ok.ensures.durable b.stood c.in-Ok.ensures.left c.in-Ok.ensures.since c.in-Ok.ensures.opens
     (λ tells word_of s here small. opened_lives c.args.keys.now c.in-Ok.begun.params word_of s (g.S.Store.disk c.args.store.now).cells f (b.opened.finds tells) here small) (c.serve_on.ensures.serves f b.found same b.goes_on b.planned)
 
@@ -25,10 +26,10 @@ pub returns-clause-none_out : goal.returns-clause-none_out
 returns-clause-none_out g c = c.serve_on.ensures.none_out
 
 pub begin-requires-clause-none_out : goal.begin-requires-clause-none_out
-begin-requires-clause-none_out g c = c.requires.none_out
+begin-requires-clause-none_out g c κs within = c.requires.none_out
 
 pub begin-requires-clause-unstarted : goal.begin-requires-clause-unstarted
-begin-requires-clause-unstarted g c = c.requires.unstarted
+begin-requires-clause-unstarted g c κs within = c.requires.unstarted
 
 pub returns-in-Err-clause-goes : goal.returns-in-Err-clause-goes
 returns-in-Err-clause-goes g c = c.in-Err.ensures.goes
@@ -50,3 +51,9 @@ serve_on-requires-clause-runners g c κs within = c.in-Ok.ensures.runners
 
 pub serve_on-requires-clause-keys : goal.serve_on-requires-clause-keys
 serve_on-requires-clause-keys g c κs within = c.in-Ok.ensures.keys
+
+pub begin-requires-clause-lanes : goal.begin-requires-clause-lanes
+begin-requires-clause-lanes g c κs within = c.requires.lanes
+
+pub serve_on-requires-clause-lanes : goal.serve_on-requires-clause-lanes
+serve_on-requires-clause-lanes g c κs within = c.requires.lanes

@@ -23,12 +23,12 @@ none_in (x ∷ l) is = absurd (cc)
 pub returns-clause-serves : goal.returns-clause-serves
 returns-clause-serves g c = λ f found same goes planned.
     let first = c.over-vault.result in
-    let s = serves_lent first _ _ c.args.threads c.args.begun.params c.args.begun.scripts _ c.args.begun.runners.items _ _ _ _ _ c.conduct-ended.result _ _ c.conduct-ended.ensures.done c.requires.sound c.requires.runners
+    let s = serves_lent first _ _ c.args.means.threads c.args.begun.params c.args.begun.scripts _ c.args.begun.runners.items _ _ _ _ _ c.conduct-ended.result _ _ c.conduct-ended.ensures.done c.requires.sound c.requires.runners
     g.S.Store.disk (λ x t image at left. g.met.S.Store.counts_now x t image at left) (λ x image left. g.met.S.Store.only_now x image left) (λ v. running v.lent.store.now (g.T.Tape.drawn v.lent.tape.now) v.crew.lanes v.run)
     (record { called = λ v call answer notes w one. one; holds = λ v u is. is })
     (record { disk_is = λ v. (v.lent.store.ghost_name, v.lent.tape.ghost_name, refl); holds = λ v u is. is; sound = λ v u is. is; stands = λ v i at is. is; rests = λ w v i sound left. sound.images i left })
-    c.args.keys.now found f (run_over c.args.begun.opening) goes c.over-vault.ensures.run same refl refl
-    c.args.begun.opening.small (subst (λ (x : Params). c.args.begun.opening.left ≤ x.batches) c.requires.serves.params c.requires.serves.few) (subst (λ (w : Manned). w.lanes ≤ 1) (sym c.over-vault.ensures.crew) c.requires.serves.one_lane) planned
+    c.args.keys.now c.args.means.lanes found f (run_over c.args.begun.opening) goes c.over-vault.ensures.run same refl refl
+    c.args.begun.opening.small (subst (λ (x : Params). c.args.begun.opening.left ≤ x.batches) c.requires.serves.params c.requires.serves.few) (subst (λ (w : Manned). w.lanes ≡ c.args.means.lanes) (sym c.over-vault.ensures.crew) c.requires.serves.lanes) c.requires.lanes planned
     (ap (λ x. g.T.Tape.drawn x) c.over-vault.ensures.tape ∙ none_in _ c.requires.serves.none_drawn) in
     let names : c.over-arg-1.given ≡ c.into_lent-store.result.0.ghost_name = sym (c.into_lent-store.ensures.name ∙ first_same _ _ _ _ c.conduct-ended.ensures.anchors ∙ c.over-vault.ensures.name) in
     let tape_names : c.over-arg-2-1.given ≡ c.into_lent-store.result.1.ghost_name = sym (c.into_lent-store.ensures.tape_name ∙ first_same _ _ _ _ (rest_same _ _ _ _ c.conduct-ended.ensures.anchors) ∙ c.over-vault.ensures.tape_name) in

@@ -35,3 +35,6 @@ returns-in-Audit-clause-goes g c = goes_same _
 
 pub returns-in-Audit-clause-none_out : goal.returns-in-Audit-clause-none_out
 returns-in-Audit-clause-none_out g c = c.requires.none_out
+
+pub do_on-ended-requires-clause-asked : goal.do_on-ended-requires-clause-asked
+do_on-ended-requires-clause-asked g c κs within = (_, rw c.in-OnStore.is at c.in-Ok.ensures.work)

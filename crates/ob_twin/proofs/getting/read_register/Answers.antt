@@ -16,7 +16,7 @@ returns-clause-does g c =
 pub returns-in_err-lane-clause-passes : goal.returns-in_err-lane-clause-passes
 returns-in_err-lane-clause-passes g c =
     let old = g.S.Store.disk c.args.store.now in
-    same_still old old (g.S.Store.disk c.lane.new.self) (same_none old) c.lane.ensures.goes.later c.lane.ensures.time c.lane.ensures.crash
+    same_still old old (g.S.Store.disk c.lane.new.self) (same_none old) c.lane.ensures.goes c.lane.ensures.time c.lane.ensures.crash c.lane.ensures.keeps
 
 pub returns-clause-serves : goal.returns-clause-serves
 returns-clause-serves g c =
@@ -34,4 +34,4 @@ returns-clause-passes g c =
     let mid = g.S.Store.disk c.lane.new.self in
     let lane = c.lane.ensures in
     let back = c.absorb.ensures in
-    same_still old mid (g.S.Store.disk c.absorb.new.self) (same_still old old mid (same_none old) lane.goes.later lane.time lane.crash) back.goes.later back.time back.crash
+    same_still old mid (g.S.Store.disk c.absorb.new.self) (same_still old old mid (same_none old) lane.goes lane.time lane.crash lane.keeps) back.goes back.time back.crash back.keeps

@@ -24,7 +24,7 @@ pub returns-clause-any_moment : goal.returns-clause-any_moment
 returns-clause-any_moment g c = λ settled.
     let old = g.S.Store.disk c.args.store.now in
     subst (λ (b : Bool). LeavesOnly old old (λ i. IsTornOnly b c.args.gate i old.cells)) (sym c.if-closes.false)
-    (started old (λ i. (k : ℕ) → i k ≡ old.cells k) (λ i left. settled i (g.met.S.Store.only_now c.args.store.now i left)))
+    (started old (λ i. (k : ℕ) → i k ≡ old.cells k) (λ i left. settled i (g.met.S.Store.only_now c.args.store.now i left)) (λ tells k. refl))
 
 pub returns-clause-passes : goal.returns-clause-passes
 returns-clause-passes g c = passed_none (g.S.Store.disk c.args.store.now) (SameBut c.args.gate) (λ i k off. refl)

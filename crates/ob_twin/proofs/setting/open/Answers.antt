@@ -35,7 +35,7 @@ returns-clause-durable g c = λ tells. c.sync_noted.ensures.durable (c.in_ok-wri
 pub returns-in_err-write_noted-clause-passes : goal.returns-in_err-write_noted-clause-passes
 returns-in_err-write_noted-clause-passes g c =
     let written = c.write_noted.ensures in
-    torn_once c.args.gate (g.S.Store.disk c.args.store.now) (g.S.Store.disk c.write_noted.new.store) written.serves.goes.later written.time written.crash
+    torn_once c.args.gate (g.S.Store.disk c.args.store.now) (g.S.Store.disk c.write_noted.new.store) written.serves.goes written.time written.crash written.rest
 
 pub returns-clause-rest : goal.returns-clause-rest
 returns-clause-rest g c = λ tells k off. c.sync_noted.ensures.keeps.cells (c.in_ok-write_noted.ensures.serves.tells tells) k ∙ c.write_noted.ensures.rest tells k off
@@ -46,7 +46,7 @@ returns-clause-passes g c =
     let synced = c.sync_noted.ensures in
     let old = g.S.Store.disk c.args.store.now in
     let mid = g.S.Store.disk c.write_noted.new.store in
-    passed_still (SameBut c.args.gate) old mid _ (torn_once c.args.gate old mid written.serves.goes.later written.time written.crash) synced.serves.goes.later synced.time synced.crash
+    passed_still (SameBut c.args.gate) old mid _ (torn_once c.args.gate old mid written.serves.goes written.time written.crash written.rest) synced.serves.goes synced.time synced.crash synced.keeps
 
 pub returns-in_err-write_noted-clause-any_moment : goal.returns-in_err-write_noted-clause-any_moment
 returns-in_err-write_noted-clause-any_moment g c = λ settled.

@@ -1,5 +1,5 @@
-use Rattle.ob_vault.proofs.Shapes as shapes
+use Rattle.ob_schedule.proofs.Phased.{phases_join}
 use Rattle.ob_vault.proofs.phases.phases_follow.Goals as goal
 
 pub returns : goal.returns
-returns c = shapes.events_join
+returns c = phases_join

@@ -12,5 +12,8 @@ invariant_of-result-clause-told g c =
     let disk = g.S.Store.disk c.args.store.now in
     subst (λ (k : Known). k.spent ≡ false → disk.tells → GatesAre k.gates.epoch 5 disk.cells) (sym c.knows.ensures) (λ serves. c.requires.told)
 
+pub invariant_of-result-2-clause-counted : goal.invariant_of-result-2-clause-counted
+invariant_of-result-2-clause-counted g c = c.args.opening.counted
+
 pub invariant_of-result-2-clause-ready : goal.invariant_of-result-2-clause-ready
 invariant_of-result-2-clause-ready g c = λ serves. ∣ ready_over c.args.opening c.requires.params c.requires.left c.requires.fit ∣₁

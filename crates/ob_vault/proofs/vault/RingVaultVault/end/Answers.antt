@@ -1,7 +1,8 @@
-use Rattle.std.proofs.Common.{suc, ◌≡◌, ◌<◌, ◌≤◌, ◌^◌, true, false, length, take, ap, sym, ◌∙◌, subst}
+use Rattle.std.proofs.Common.{suc, ◌≡◌, ◌<◌, ◌≤◌, ◌^◌, true, false, length, replicate, take, ap, sym, ◌∙◌, subst}
 use Rattle.ob_base.specs.declared.params.Params.{Params}
 use Rattle.ob_base.specs.declared.value.Write.{Write}
 use Rattle.ob_base.specs.Planned.{most_jobs}
+use Rattle.ob_base.specs.Tree.{buckets}
 use Rattle.ob_cells.specs.Jobs.{Manned}
 use Rattle.ob_end.specs.EndRuns.{IsEndReady, end_writes}
 use Rattle.ob_fetch.specs.Fetches.{MayGoOn, words_since}
@@ -121,19 +122,22 @@ returns-clause-called g c =
     )
 
 pub end-result-requires-clause-goes_on : goal.end-result-requires-clause-goes_on
-end-result-requires-clause-goes_on g c =
+end-result-requires-clause-goes_on g c κs within =
     let me = c.args.self.now in
     may_go_on (g.S.Store.disk me.lent.store.now) (g.T.Tape.present me.lent.tape.now) (g.T.Tape.drawn me.lent.tape.now) me.crew me.run me.lent.known me.known me.lent.none_out (ready_of me.run (me.ready c.requires.serves)) c.requires.serves
     me.manned me.lent.present me.lent.drawn me.lent.small
 
+pub end-result-requires-clause-index : goal.end-result-requires-clause-index
+end-result-requires-clause-index g c κs within = c.args.self.now.counted
+
 pub end-result-requires-clause-ready : goal.end-result-requires-clause-ready
-end-result-requires-clause-ready g c = ready_of c.args.self.now.run (c.args.self.now.ready c.requires.serves)
+end-result-requires-clause-ready g c κs within = ready_of c.args.self.now.run (c.args.self.now.ready c.requires.serves)
 
 pub end-result-requires-clause-keys : goal.end-result-requires-clause-keys
-end-result-requires-clause-keys g c = at_all (λ (w : Write). w.key < c.args.self.now.run.params.keys) c.args.writes.now c.requires.keys
+end-result-requires-clause-keys g c κs within = at_all (λ (w : Write). w.key < c.args.self.now.run.params.keys) c.args.writes.now c.requires.keys
 
 pub end-result-requires-clause-short : goal.end-result-requires-clause-short
-end-result-requires-clause-short g c = λ i value low is. short_at (write_at c.args.writes.now i) value (c.measure_all.ensures i low) is
+end-result-requires-clause-short g c κs within = λ i value low is. short_at (write_at c.args.writes.now i) value (c.measure_all.ensures i low) is
 
 pub invariant_of-lent-clause-told : goal.invariant_of-lent-clause-told
 invariant_of-lent-clause-told g c =
@@ -178,6 +182,10 @@ pub invariant_of-self-clause-manned : goal.invariant_of-self-clause-manned
 invariant_of-self-clause-manned g c =
     subst (λ (m : Manned). most_jobs c.end-result.new.run.params ≤ m.jobs) (sym c.end-result.ensures.crew)
     (subst (λ (q : Params). most_jobs q ≤ c.args.self.now.crew.jobs) (sym c.end-result.ensures.params) c.args.self.now.manned)
+
+pub invariant_of-self-clause-counted : goal.invariant_of-self-clause-counted
+invariant_of-self-clause-counted g c =
+    c.end-result.ensures.index ∙ subst (λ (q : Params). c.args.self.now.index ≡ replicate (buckets q) 0) (sym c.end-result.ensures.params) c.args.self.now.counted
 
 pub invariant_of-self-clause-ready : goal.invariant_of-self-clause-ready
 invariant_of-self-clause-ready g c = λ serves. ∣ end_went _ _ (IsEndReady c.end-result.new.run) c.end-result.new.run.spent c.end-result.result c.end-result.ensures.ready c.end-result.ensures.counts.refused serves ∣₁

@@ -1,7 +1,8 @@
-use Rattle.std.proofs.Common.{◌+◌, ◌∙◌, ◌%◌, false, suc, ◌≡◌, ◌<◌, ◌≤◌, ◌^◌, ap, arith, length, sym, subst}
+use Rattle.std.proofs.Common.{◌+◌, ◌∙◌, ◌%◌, false, suc, ◌≡◌, ◌<◌, ◌≤◌, ◌^◌, ap, arith, length, replicate, sym, subst}
 use Rattle.ob_base.specs.Layout.{log_cell, record_cells}
 use Rattle.ob_base.specs.declared.params.Params.{Params}
 use Rattle.ob_base.specs.Planned.{most_jobs}
+use Rattle.ob_base.specs.Tree.{buckets}
 use Rattle.ob_cells.specs.Jobs.{Manned}
 use Rattle.ob_fetch.specs.declared.run.Run.{Run}
 use Rattle.ob_fetch.specs.Fetches.{MayGoOn, next_batch, record_next, words_since}
@@ -137,6 +138,9 @@ invariant_of-self-clause-manned g c =
     subst (λ (m : Manned). most_jobs c.fetch-result.new.run.params ≤ m.jobs) (sym c.fetch-result.ensures.crew)
     (subst (λ (q : Params). most_jobs q ≤ c.args.self.now.crew.jobs) (sym (ap (λ (x : Run). x.params) c.fetch-result.ensures.keeps.kept)) c.args.self.now.manned)
 
+pub invariant_of-self-clause-counted : goal.invariant_of-self-clause-counted
+invariant_of-self-clause-counted g c = subst (λ (q : Params). c.args.self.now.index ≡ replicate (buckets q) 0) (sym (ap (λ (x : Run). x.params) c.fetch-result.ensures.keeps.kept)) c.args.self.now.counted
+
 pub invariant_of-self-clause-ready : goal.invariant_of-self-clause-ready
 invariant_of-self-clause-ready g c = λ serves.
     let run = c.args.self.now.run in
@@ -158,7 +162,7 @@ returns-clause-cause g c = c.fetch-result.ensures.serves.cause
 -- ---- the conditions of the call
 
 pub fetch-result-requires-clause-goes_on : goal.fetch-result-requires-clause-goes_on
-fetch-result-requires-clause-goes_on g c =
+fetch-result-requires-clause-goes_on g c κs within =
     let me = c.args.self.now in
     may_go_on (g.S.Store.disk me.lent.store.now) (g.T.Tape.present me.lent.tape.now) (g.T.Tape.drawn me.lent.tape.now) me.crew me.run me.lent.known me.known me.lent.none_out (ready_of me.run (me.ready c.requires.serves)) c.requires.serves
     me.manned me.lent.present me.lent.drawn me.lent.small

@@ -20,16 +20,20 @@ start_all-requires-clause-none g c κs within = c.requires.3
 pub start_all-requires-clause-room : goal.start_all-requires-clause-room
 start_all-requires-clause-room g c κs within = subst (λ l. length l ≤ vec_capacity c.captures.team.now.crew.started) (sym (ap (λ v. v.items) c.replace-clients.ensures.value)) c.requires.4
 
-pub drive_lent-lent-requires : goal.drive_lent-lent-requires
-drive_lent-lent-requires g c =
+pub drive_lent-lent-requires-clause-params : goal.drive_lent-lent-requires-clause-params
+drive_lent-lent-requires-clause-params g c κs within = c.requires.0
+
+pub drive_lent-lent-requires-clause-first : goal.drive_lent-lent-requires-clause-first
+drive_lent-lent-requires-clause-first g c κs within = c.requires.1
+
+pub drive_lent-lent-requires-clause-room : goal.drive_lent-lent-requires-clause-room
+drive_lent-lent-requires-clause-room g c κs within = c.requires.5
+
+pub drive_lent-lent-requires-clause-hands : goal.drive_lent-lent-requires-clause-hands
+drive_lent-lent-requires-clause-hands g c κs within =
     let w = words g.U.Runner.client g.U.Runner.bound g.U.Runner.plan g.U.Runner.fits g.U.Runner.turn in
     let same = ap (λ v. v.items) c.replace-clients.ensures.value in
-    record {
-      params = c.requires.0;
-      first = c.requires.1;
-      room = c.requires.5;
-      hands = all_met w c.captures.hall.now c.captures.team.now.waiting.items c.start_all.new.started.items c.requires.2 (subst (λ l. Each (HasItsPlace w c.captures.hall.now) l c.start_all.new.started.items) same c.start_all.ensures.placed);
-    }
+    all_met w c.captures.hall.now c.captures.team.now.waiting.items c.start_all.new.started.items c.requires.2 (subst (λ l. Each (HasItsPlace w c.captures.hall.now) l c.start_all.new.started.items) same c.start_all.ensures.placed)
 
 pub returns : goal.returns
 returns g c =

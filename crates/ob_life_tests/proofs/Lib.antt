@@ -1,0 +1,5 @@
+mod Ends
+mod Words
+mod Lives
+mod TwoRuns
+mod Told

@@ -1,0 +1,85 @@
+-- What a status of 0 tells of a call whose words ask for a format or for a run.
+use Rattle.std.proofs.Common.{◌≡◌, ◌∙◌, ◌⊎◌, ℕ, Bool, not, List, [], ◌∷◌, Option, Some, inl, inr, ap, subst, arith}
+use Rattle.std.specs.Borrow.{Bor}
+use Rattle.std.specs.Prelude.{codes}
+use Rattle.ob_base.specs.declared.fault.Fault.{Fault}
+use Rattle.ob_base.specs.declared.fault.Fault.TheVariants.{BadParams, Memory}
+use Rattle.ob_base.specs.declared.fault.Field.{Field}
+use Rattle.ob_base.specs.declared.fault.Field.TheVariants.{LANES}
+use Rattle.ob_base.specs.declared.params.Params.{Params}
+use Rattle.ob_desk.specs.Beats.{BeatKind}
+use Rattle.ob_report.specs.Faults.{fault_status}
+use Rattle.ob_seal.specs.declared.keys.Keys.{Keys}
+use Rattle.ob_store.specs.Disk.{Disk}
+use Rattle.ob_top.specs.Formats.{FormatDone}
+use Rattle.ob_top.specs.Outside.{IsOnlyTold, Outside}
+use Rattle.ob_top.specs.Runs.{RunDone, manner}
+use Rattle.ob_vault.specs.Lives.{ring_lives}
+use Rattle.ob_vault.specs.RingKind.{ring_kind}
+use Rattle.ob_word_forms.specs.Forms.{ArePlain, IsPlain}
+use Rattle.ob_words.specs.Work.{AreBadLanes, AreLanes, AreParams, HasKeys, IsBadNumber, IsKeysRefused}
+use Rattle.ob_life_tests.specs.Lived.{HasRun, IsFormatted}
+
+module _ {S : Type 0} (disk : S → Disk) (text : Bor (List ℕ)) (old new : S) (before after : Outside) (status : ℕ) where
+  -- nothing was done, and this was told
+  abbrev Tell : Fault → Type 0
+  Tell f = (new ≡ old) × IsOnlyTold f before after status
+
+  abbrev KeysTell : Type 0
+  KeysTell = (f : Fault) × IsKeysRefused (Some text) f × Tell f
+
+  abbrev FormatTells : List (List ℕ) → Type 0
+  FormatTells numbers = Tell Memory ⊎ (((field : Field) × IsBadNumber numbers field × Tell (BadParams field))
+      ⊎ ((p : Params) × AreParams numbers p × (KeysTell ⊎ ((keys : Keys) × HasKeys (Some text) keys × FormatDone ring_kind ring_lives disk keys p old new before after status))))
+
+  abbrev RunTells : BeatKind → List ℕ → Option (List ℕ) → Bool → Type 0
+  RunTells beat words lanes turns = Tell Memory ⊎ ((AreBadLanes lanes × Tell (BadParams LANES))
+      ⊎ ((k : ℕ) × AreLanes lanes k × (KeysTell ⊎ ((keys : Keys) × HasKeys (Some text) keys × RunDone ring_kind ring_lives disk (manner beat (not turns) k) words keys old new before after status))))
+
+  no_keys : (A : Type 0) → KeysTell → status ≡ 0 → A
+  no_keys A (f, (is, none), (kept, told)) zero = let two : status ≡ 2 = told.status_is ∙ ap fault_status is in absurd (omega (arith, two, zero))
+
+  pub made : (numbers : List (List ℕ)) → FormatTells numbers → status ≡ 0 → IsFormatted disk text.now old new
+  made numbers (inl (kept, told)) zero = absurd (omega (arith, told.status_is, zero))
+  made numbers (inr (inl (field, bad, (kept, told)))) zero = absurd (omega (arith, told.status_is, zero))
+  made numbers (inr (inr (p, are, inl refused))) zero = no_keys (IsFormatted disk text.now old new) refused zero
+  made numbers (inr (inr (p, are, inr (keys, has, done)))) zero =
+      record { keys = keys; are = has; p = p; before = before; after = after; done = subst (λ n. FormatDone ring_kind ring_lives disk keys p old new before after n) zero done }
+
+  pub ran : (beat : BeatKind) (words : List ℕ) (lanes : Option (List ℕ)) (turns : Bool) → RunTells beat words lanes turns → status ≡ 0 → HasRun disk text.now words old new
+  ran beat words lanes turns (inl (kept, told)) zero = absurd (omega (arith, told.status_is, zero))
+  ran beat words lanes turns (inr (inl (bad, (kept, told)))) zero = absurd (omega (arith, told.status_is, zero))
+  ran beat words lanes turns (inr (inr (k, are, inl refused))) zero = no_keys (HasRun disk text.now words old new) refused zero
+  ran beat words lanes turns (inr (inr (k, are, inr (keys, has, done)))) zero = record {
+    keys = keys;
+    are = has;
+    by = manner beat (not turns) k;
+    before = before;
+    after = after;
+    done = subst (λ n. RunDone ring_kind ring_lives disk (manner beat (not turns) k) words keys old new before after n) zero done;
+  }
+
+-- ---- words
+
+-- a word that begins otherwise than with `-`
+plain : (c : ℕ) (rest : List ℕ) → (c ≡ 45 → ⊥) → IsPlain (c ∷ rest)
+plain c rest other = (omega arith, other)
+
+pub store_plain : IsPlain (codes "store")
+store_plain = plain 115 (codes "tore") (λ is. omega (arith, is))
+
+pub keys_plain : IsPlain (codes "keys")
+keys_plain = plain 107 (codes "eys") (λ is. omega (arith, is))
+
+two_plain : IsPlain (codes "2")
+two_plain = plain 50 [] (λ is. omega (arith, is))
+
+three_plain : IsPlain (codes "3")
+three_plain = plain 51 [] (λ is. omega (arith, is))
+
+eight_plain : IsPlain (codes "8")
+eight_plain = plain 56 [] (λ is. omega (arith, is))
+
+-- the words of a format of 8 keys
+pub all_plain : ArePlain (codes "store" ∷ codes "keys" ∷ codes "8" ∷ codes "2" ∷ codes "2" ∷ codes "3" ∷ codes "2" ∷ codes "2" ∷ codes "2" ∷ codes "2" ∷ codes "8" ∷ [])
+all_plain = (store_plain, (keys_plain, (eight_plain, (two_plain, (two_plain, (three_plain, (two_plain, (two_plain, (two_plain, (two_plain, (eight_plain, tt)))))))))))

@@ -1,0 +1,73 @@
+-- A format, a run, a crash behind it and another run, as one life of their store.
+use Rattle.std.specs.Prelude.{◌≡◌, ℕ, List, [], ◌∷◌, ◌++◌, map, None}
+use Rattle.ob_base.specs.Repeats.{NoRepeats}
+use Rattle.ob_base.specs.declared.params.Params.{Params}
+use Rattle.ob_conduct.specs.Acts.{calls}
+use Rattle.ob_pads.specs.Lives.{IsLife, StoreAct, answers_of, formatted_at, pads_of}
+use Rattle.ob_pads.specs.Seals.{pads_from}
+use Rattle.ob_recover.specs.Life.{WordId}
+use Rattle.ob_seal.specs.declared.keys.Keys.{Keys}
+use Rattle.ob_serial.specs.Serial.{EpochRecord}
+use Rattle.ob_serial.specs.Vaults.{VaultAnswer}
+use Rattle.ob_store.specs.Disk.{Disk}
+use Rattle.ob_top.specs.Formats.{FormatDone}
+use Rattle.ob_top.specs.Outside.{Outside}
+use Rattle.ob_top.specs.Runs.{Manner, Ran, RunDone}
+use Rattle.ob_vault.specs.Joined.{AreGiven, IsOneLife, RunPart, Served}
+use Rattle.ob_vault.specs.Lives.{ring_lives}
+use Rattle.ob_vault.specs.RingKind.{ring_kind}
+use Rattle.ob_vault.specs.Shapes.{answered, refused}
+use Rattle.ob_words.specs.Work.{AreKeys}
+
+module _ {S : Type 0} (disk : S → Disk) where
+  -- a format under the keys of this text that answered 0
+  pub record IsFormatted (text : List ℕ) (old new : S) : Type 0 where
+    pub keys : Keys
+    pub are : AreKeys text keys
+    pub p : Params
+    pub before : Outside
+    pub after : Outside
+    pub done : FormatDone ring_kind ring_lives disk keys p old new before after 0
+
+  -- a run that answered 0, with the words that its tape gave
+  pub record HasRun (text words : List ℕ) (old new : S) : Type 0 where
+    pub keys : Keys
+    pub are : AreKeys text keys
+    pub by : Manner
+    pub before : Outside
+    pub after : Outside
+    pub done : RunDone ring_kind ring_lives disk by words keys old new before after 0
+
+  -- a whole run, whose script came to its end
+  pub record IsWholeRun (keys : Keys) (words : List ℕ) (old new : S) : Type 0 where
+    pub by : Manner
+    pub before : Outside
+    pub after : Outside
+    pub records : List (EpochRecord ℕ)
+    pub ran : Ran ring_kind ring_lives disk by words keys old new before after records None
+
+  module _ {keys : Keys} {words : List ℕ} {old new : S} (r : IsWholeRun keys words old new) where
+    -- it as a part of a life
+    abbrev pub part_of : RunPart S
+    part_of = Served old (r.ran).found (r.ran).between (answered (calls (r.ran).is_served.served.acts)) (r.ran).traced.steps (r.ran).traced.behind (refused (calls (r.ran).is_served.served.acts)) words new
+
+    -- what its vault's calls answered
+    abbrev pub answers : List VaultAnswer
+    answers = map (λ s. s.1) (calls (r.ran).is_served.served.acts)
+
+  -- A run behind a format, a crash behind that, and a run on what it left. All their acts are one life of the store, whose words are those that
+  -- the two tapes gave; so no word is shown in two holes. And no pad is used twice, those of the format among them.
+  pub record AreOneLife (keys : Keys) (first_words second_words : List ℕ) (formatted new : S) : Type 0 where
+    pub p : Params
+    pub ran : S
+    pub left : S
+    pub first : IsWholeRun keys first_words formatted ran
+    pub crashed : (disk ran).may_leave (disk left).cells
+    pub second : IsWholeRun keys second_words left new
+    pub word_of : WordId → ℕ
+    pub given : AreGiven word_of (part_of first ∷ part_of second ∷ [])
+    pub one_life : IsOneLife disk keys p word_of (part_of first ∷ part_of second ∷ [])
+    pub acts : List (StoreAct S)
+    pub is_life : IsLife disk keys (formatted_at formatted) acts
+    pub answered : answers_of acts ≡ answers first ++ answers second
+    pub fresh : (seals : ℕ) → NoRepeats (pads_from 1 0 seals ++ pads_of (formatted_at formatted) acts)

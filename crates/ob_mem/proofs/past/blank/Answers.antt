@@ -1,7 +1,0 @@
-use Rattle.std.proofs.Common.{◌++◌, ◌∷◌, [], sym, ◌∙◌, ap, List}
-use Rattle.std.proofs.lemmas.Grind.{replicate_next}
-use Rattle.ob_mem.specs.Replay.{zeros}
-use Rattle.ob_mem.proofs.past.blank.Goals as goal
-
-pub loop-i-preserved : goal.loop-i-preserved
-loop-i-preserved c = c.in_ok-push.ensures.items ∙ ap (λ (l : List (List _)). l ++ zeros ∷ []) c.loop-i.invariant ∙ sym (replicate_next c.loop-i.i zeros)

@@ -1,5 +1,0 @@
-pub mod Filters
-pub mod Leads
-pub mod Loops
-pub mod Rewrites
-pub mod TableSteps

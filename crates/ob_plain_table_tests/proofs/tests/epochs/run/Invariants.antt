@@ -1,7 +1,0 @@
-use Rattle.std.specs.Prelude.{◌≡◌}
-use Rattle.ob_base.specs.Planned.{most_jobs}
-use Rattle.ob_plain_table.specs.PlainTable.{HasRows}
-use Rattle.ob_plain_table_tests.proofs.tests.epochs.run.Given as goal
-
-abbrev pub invariant-loop-epoch : goal.invariant-loop-epoch
-invariant-loop-epoch g l = (l.ring.p ≡ l.p) × (l.jobs.room ≡ most_jobs l.p) × (l.jobs.place_room ≡ l.p.places) × HasRows l.plain × (l.plain.params ≡ l.p)

@@ -1,0 +1,6 @@
+pub mod Sounding
+pub mod InOpenings
+pub mod InCalls
+pub mod AlongEvents
+pub mod AlongRuns
+pub mod RingRows

@@ -1,0 +1,5 @@
+pub mod Pasts
+pub mod Steps
+pub mod RingCourses
+pub mod OpeningMoments
+pub mod Runs

@@ -1,0 +1,117 @@
+-- Rows of runs over a ring store, with crashes between calls, inside them and inside openings, as one list of events.
+use Rattle.std.specs.Prelude.{◌≡◌, ◌⊎◌, ℕ, ◌<◌, List, [], ◌∷◌, ◌++◌, flat_map, length, Option, None, Some}
+use Rattle.ob_store.specs.declared.event.Event.{Event}
+use Rattle.ob_store.specs.Disk.{Disk, Image}
+use Rattle.ob_store.specs.Images.{IsSynced, Passes, Same}
+use Rattle.ob_seal.specs.declared.keys.Keys.{Keys}
+use Rattle.ob_serial.specs.Vaults.{Standing, VaultAnswer, VaultCall, VaultState}
+use Rattle.ob_serial.specs.VaultKinds.{Kind}
+use Rattle.ob_desk.specs.Desk.{Setup}
+use Rattle.ob_stand.specs.Stands.{StandsRing}
+use Rattle.ob_recover.specs.Known.{fills_of}
+use Rattle.ob_recover.specs.Life.{WordId}
+use Rattle.ob_recover.specs.Telling.{AreDealt}
+use Rattle.ob_opening.specs.OpeningRuns.{OpensFrom}
+use Rattle.ob_vault.specs.Acts.{AreTapeWords}
+use Rattle.ob_vault.specs.Kinds.{IsOpenedAt}
+use Rattle.ob_vault.specs.Lives.{RingFormatted}
+use Rattle.ob_vault.specs.RingKind.{IsRingFound, RingFound, ring_hidden, ring_kind, ring_public}
+use Rattle.ob_vault.specs.RingSteps.{HasRingWords, RingAt}
+use Rattle.ob_vault.specs.RingVaults.{RingSound, Running}
+use Rattle.ob_vault.specs.Seen.{opening_phases}
+use Rattle.ob_world.specs.Courses.{course_of}
+use Rattle.ob_world.specs.Laws.{IsOneRun}
+use Rattle.ob_world.specs.Worlds.{WorldEvent, Crash, Open, World, IsWorld, VaultEvent, first_world, opened_vault}
+use Rattle.ob_ring_world.specs.Pasts.{RingPast, formatted_past}
+use Rattle.ob_ring_world.specs.RingCourses.{RingPromises, ring_course}
+
+-- The words of a vault are those of a vault over a ring store; it is sound as that is, and its images are the store's.
+pub record IsOverRing {V S : Type 0} (k : Kind V) (disk : S → Disk) (runs : V → Running S) : Type 0 where
+  pub words : HasRingWords k disk runs
+  pub sound : (v : V) (u : VaultState) → k.sound v u → RingSound (runs v).run (disk (runs v).store) u
+  pub stands : (v : V) (image : Image) (at : Standing) → k.stands v image at → StandsRing ((runs v).run.sealer).keys (runs v).run.params ((runs v).run.sealer).generation image at
+  pub since : (v w : V) (image : Image) → (disk (runs w).store).left_since (disk (runs v).store).moment image → (k.disk w).left_since (k.disk v).moment image
+
+-- A run: the image that it was opened at, for what that stood, and what was found in it; for whom it was opened, what that called the store
+-- for behind the head's read, and how many lanes read; the vault then; and what was done since, as a list of events.
+pub record RingRun (V : Type 0) : Type 0 where
+  pub image : Image
+  pub standing : Standing
+  pub found : RingFound
+  pub clients : List ℕ
+  pub opening : List Event
+  pub lanes : ℕ
+  pub first : V
+  pub events : List WorldEvent
+  pub last : World V
+
+-- How it ended: not yet; it returned, or a crash came between calls, and left this image; or the crash came inside this call, which would
+-- have answered so, and led there.
+pub data RunEnd (V : Type 0) : Type 0 where
+  Serves : RunEnd V
+  Returns : (image : Image) → RunEnd V
+  Crashes : (image : Image) → RunEnd V
+  CrashesIn : (call : VaultCall) (answer : VaultAnswer) (next : World V) (image : Image) → RunEnd V
+
+-- A run, or an opening that was refused, or inside which a crash came, and which left this image.
+pub data RingPart (V S : Type 0) : Type 0 where
+  Runs : (run : RingRun V) (end : RunEnd V) → RingPart V S
+  Stops : (old new : S) (image : Image) → RingPart V S
+
+abbrev pub end_leaves : {V : Type 0} → RunEnd V → Image → Type 0
+end_leaves Serves c = ⊥
+end_leaves (Returns image) c = c ≡ image
+end_leaves (Crashes image) c = c ≡ image
+end_leaves (CrashesIn call answer next image) c = c ≡ image
+
+-- ---- as events
+
+abbrev pub events_of_end : {V : Type 0} → RunEnd V → List WorldEvent
+events_of_end Serves = []
+events_of_end (Returns image) = []
+events_of_end (Crashes image) = Crash None image ∷ []
+events_of_end (CrashesIn call answer next image) = Crash (Some call) image ∷ []
+
+abbrev pub events_of_part : {V S : Type 0} → RingPart V S → List WorldEvent
+events_of_part (Runs run end) = Open run.clients ∷ (run.events ++ events_of_end end)
+events_of_part (Stops old new image) = Crash None image ∷ []
+
+abbrev pub events_of_parts : {V S : Type 0} → List (RingPart V S) → List WorldEvent
+events_of_parts [] = []
+events_of_parts (part ∷ parts) = events_of_part part ++ events_of_parts parts
+
+module _ {V S : Type 0} (k : Kind V) (disk : S → Disk) (runs : V → Running S) (setup : Setup) (keys : Keys) (word_of : WordId → ℕ) where
+  -- The opening found what the image tells, and where it stands, and gave a vault that begins there; what was done since is a list of
+  -- events of that vault, as each run's is, in which it drew the words of its generation.
+  pub record IsRingRun (run : RingRun V) : Type 0 where
+    pub found_in : IsRingFound keys setup.params run.image run.found
+    pub stands : (generation : ℕ) × StandsRing keys setup.params generation run.image run.standing
+    pub opened_at : IsOpenedAt ring_kind keys setup.params run.standing run.found (disk (runs run.first).store)
+    pub shown : AreDealt run.lanes (opening_phases setup.params run.found.content run.found.records run.found.run.epoch (run.found.run.sealer).generation found_in.found.gates) run.opening
+    pub at : RingAt k disk runs keys run.lanes setup.params run.found (disk (runs run.first).store) (ring_public setup.params run.found) (ring_hidden run.found) 0 run.first
+    pub sound : k.sound run.first (opened_vault setup.params.batches run.standing run.found.run.left)
+    pub one : IsOneRun run.events
+    pub leads : IsWorld (course_of k) (first_world setup run.clients run.standing run.found.run.left run.first) run.events run.last
+    pub tape : AreTapeWords word_of (ring_hidden run.found).generation (runs run.last.past).drawn
+
+  -- the image was left at the end, or at some moment of the call
+  abbrev pub IsEndOf : RingRun V → RunEnd V → Type 0
+  IsEndOf run Serves = Unit {0}
+  IsEndOf run (Returns image) = (disk (runs run.last.past).store).may_leave image
+  IsEndOf run (Crashes image) = (disk (runs run.last.past).store).may_leave image
+  IsEndOf run (CrashesIn call answer next image) = VaultEvent (course_of k) run.last call answer next × (disk (runs next.past).store).left_since (disk (runs run.last.past).store).moment image
+      × AreTapeWords word_of (ring_hidden run.found).generation (runs next.past).drawn
+
+  -- Each begins at an image that may be left: the first at one of these, each later one at the one that was left before it.
+  abbrev pub AreRingPartsFrom : (Image → Type 0) → List (RingPart V S) → Type 0
+  AreRingPartsFrom may_leave [] = Unit {0}
+  AreRingPartsFrom may_leave (Runs run end ∷ parts) = may_leave run.image × IsRingRun run × IsEndOf run end × AreRingPartsFrom (end_leaves end) parts
+  AreRingPartsFrom may_leave (Stops old new image ∷ parts) = may_leave (disk old).cells × (disk old).tells × IsSynced (disk old) × (Passes Same (disk old) (disk new) ⊎ OpensFrom disk keys setup.params old new)
+      × (disk new).left_since (disk old).moment image × AreRingPartsFrom (λ c. c ≡ image) parts
+
+-- From a format on, whose images stand for the empty map, each row of runs is one list of events of the world over the ring.
+abbrev pub RingRunsAreWorlds : {V S : Type 0} → Kind V → (S → Disk) → Type 0
+RingRunsAreWorlds {V} {S} k disk = (runs : V → Running S) → IsOverRing k disk runs → (setup : Setup) (keys : Keys) (word_of : WordId → ℕ) (made : S) (empty : Standing) (parts : List (RingPart V S))
+    → (formatted : RingFormatted keys setup.params (disk made)) → ((image : Image) → (disk made).may_leave image → (generation : ℕ) × StandsRing keys setup.params generation image empty)
+    → AreRingPartsFrom k disk runs setup keys word_of (disk made).may_leave parts → (kept : RingPromises keys setup.params word_of formatted.0)
+    → (last : World RingPast) × IsWorld (ring_course keys setup.params word_of formatted.0 kept) (first_world setup [] empty 0 formatted_past) (events_of_parts parts) last

@@ -1,0 +1,31 @@
+//! What holds of every list of events over a ring store.
+
+ghost use Rattle.ob_serial.specs.VaultKinds.{kind_of};
+ghost use Rattle.ob_ring_world.specs.OpeningMoments.{OpeningsMomentByMoment};
+ghost use Rattle.ob_ring_world.specs.RingCourses.{RingHeadlineHolds};
+ghost use Rattle.ob_ring_world.specs.Runs.{RingRunsAreWorlds};
+
+use ob_serial::Vault;
+use ob_store::Store;
+
+/// Of every list of events over a ring store, with crashes between calls, inside them and inside
+/// openings: the headline of worlds; the rows that the store was shown are the public schedule's,
+/// each whole or cut off, filled by what one life of the store shows; no word and no slot was shown
+/// in two holes; and no two seals had one generation and number.
+pub fn ring_headline()
+    ensures headline { RingHeadlineHolds }
+{}
+
+/// A crash at any moment of an opening, whatever that answers, leaves an image that the next one
+/// can go on from: the life is where it was, or behind the act that was in flight, where the next
+/// generation may have begun. It stands for what the store stood for.
+pub fn openings_moment_by_moment<S: Store>()
+    ensures { OpeningsMomentByMoment (λ store. S.disk store) }
+{}
+
+/// From a format on, each row of runs over a ring store is one list of events of the world over it:
+/// openings, what each run did, and crashes between calls, inside calls and inside openings. So the
+/// headline is of every such row.
+pub fn runs_are_worlds<V: Vault, S: Store>()
+    ensures worlds { RingRunsAreWorlds (kind_of V.Vault) (λ store. S.disk store) }
+{}
