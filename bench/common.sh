@@ -20,7 +20,7 @@ bench_crate() {
 }
 
 # Gives the loop over `n` of a function of this folder's crate an invariant, spelled with these words
-# of the prelude.
+# of the prelude: that of `l`, or of what is said behind it.
 invariant() {
     mkdir -p "proofs/$1"
     cat >"proofs/$1/Invariants.antt" <<PROOF
@@ -28,7 +28,7 @@ use Rattle.std.proofs.Common.{$2}
 use Rattle.${PWD##*/}.proofs.$1.Given as goal
 
 abbrev pub invariant-loop-n : goal.invariant-loop-n
-invariant-loop-n l = $3
+invariant-loop-n ${4-l} = $3
 PROOF
 }
 

@@ -181,9 +181,10 @@ fn main(rt: HostRuntime) -> io::Result<()> {
     Ok(())
 }
 PROGRAM
-for name in make_all open_all open_plain_all seal_cells open_cells; do
+for name in make_all open_plain_all seal_cells open_cells; do
     invariant "$name" '◌≤◌' 'l.done ≤ l.n'
 done
+invariant open_all '◌≤◌' 'l.done ≤ l.n' 'g l'
 build_bench
 time_kinds n:721739 f:4 p:20 s:1443332 o:663260 k:131081 q:20
 # Prints what one of a kind takes beyond the runs without it, so many a run, beside as many of

@@ -1,5 +1,5 @@
 -- What a look and what is done at it make: one thing that the driver does.
-use Rattle.std.proofs.Common.{◌≡◌, ◌∙◌, ◌⊎◌, ◌+◌, ◌<◌, ℕ, zero, suc, true, All, List, [], ◌∷◌, ◌++◌, length, Option, None, Some, Err, Result, OnOk, IfErr, Ok, refl, sym, ap, subst, inl, inr, arith, decimal}
+use Rattle.std.proofs.Common.{◌≡◌, ◌∙◌, ◌⊎◌, ◌+◌, ◌<◌, ℕ, zero, suc, true, false, All, List, [], ◌∷◌, ◌++◌, length, Option, None, Some, Err, Result, OnOk, IfErr, Ok, refl, sym, ap, subst, inl, inr, arith, decimal}
 use Rattle.std.proofs.lemmas.List.{append-nil, take_all}
 use Rattle.std.proofs.lemmas.List.Elements.{All-nil, All-cons}
 use Rattle.std.proofs.lemmas.Option.{none-some, same_Some}
@@ -8,6 +8,7 @@ use Rattle.ob_base.specs.declared.fault.Fault.{Fault}
 use Rattle.ob_base.specs.declared.fault.Fault.TheVariants.{Memory, SinkFault}
 use Rattle.ob_base.specs.declared.params.Params.{Params}
 use Rattle.ob_store.specs.Calls.{IsStoreFault}
+use Rattle.ob_store.specs.Lines.{Trace}
 use Rattle.ob_store.proofs.Serving.{rose_later}
 use Rattle.ob_io.specs.Flows.{appended}
 use Rattle.ob_io.specs.Streams.{Flow}
@@ -24,13 +25,16 @@ use Rattle.ob_desk.specs.Desk.{DeskState, Call, Reply, published, look_at, recor
 use Rattle.ob_desk.specs.declared.calls.Look.{Look}
 use Rattle.ob_desk.specs.Beats.{BeatKind}
 use Rattle.ob_session.specs.Clients.{said_by}
-use Rattle.ob_conduct.specs.Acts.{Act, Halts, Rests, Takes, Delivers, DeliverFails, FetchFails, Closes, Publishes, Refuses, Unprinted, Batch, history, calls, records, desk_calls, vault_calls}
+use Rattle.ob_conduct.specs.declared.run_err.RunErr.{RunErr}
+use Rattle.ob_conduct.specs.declared.run_err.RunErr.TheVariants as failed
+use Rattle.ob_conduct.specs.Acts.{Act, Halts, Rests, Takes, Delivers, DeliverFails, FetchFails, RestUnwatched, Closes, Publishes, Refuses, Unprinted, Unwatched, Batch, history, calls, records, desk_calls, vault_calls}
 use Rattle.ob_conduct.specs.Acts.{look_calls, rest_calls, rest_fetches, close_calls, publish_calls, stop_calls, stop_for, MayAct, PassesTest, MayRest, IsToFetch, IsToEnd, IsAllowed}
-use Rattle.ob_conduct.specs.Scenes.{Scene}
+use Rattle.ob_conduct.specs.Scenes.{Scene, scene}
 use Rattle.ob_conduct.specs.Records.{AreAnswered, IsOver, IsWritten}
 use Rattle.ob_conduct.specs.Ready.{IsBetweenActs, IsOrdered, TellsEpochs, IsDueRecord}
-use Rattle.ob_conduct.specs.Moves.{Moves, ReadsBatches, ReadFails, IsClosed, IsEnded, EndFails, Acted, IsSaid, ActFails}
+use Rattle.ob_conduct.specs.Moves.{Moves, ReadsBatches, ReadFails, HaltsUnwatched, HeedsWatch, ReadsUnwatched, BatchStops, RestStops, IsClosed, IsEnded, EndFails, Acted, IsSaid, ActFails}
 use Rattle.ob_conduct.proofs.Moving.{moves_join, moves_one, looked, later}
+use Rattle.ob_conduct.proofs.Batches.{halts}
 
 -- ---- nothing told, and one record
 
@@ -171,8 +175,8 @@ module _ {V : Type 0} (k : Kind V) (p : Params) (beat : BeatKind) (a : Scene V) 
   epoch = a.desk.running.epoch
 
   -- nothing was done
-  pub rested : MayRest beat look → Acted k p beat a before a c before
-  rested may = record {
+  pub rested : MayRest beat look → a.trace.broken ≡ false → Acted k p beat a before a c before
+  rested may whole = record {
     thing = Rests look ∷ [];
     one = tt;
     allowed = all_one beat (Rests look) may;
@@ -183,11 +187,12 @@ module _ {V : Type 0} (k : Kind V) (p : Params) (beat : BeatKind) (a : Scene V) 
     answered = tt;
     told = tells_none epoch epoch refl;
     written = written_none before;
+    whole = whole;
   }
 
   -- a batch was fetched
-  pub fetched : (new : Scene V) (next : VaultCounts) (batch : Batch) → MayAct beat look → IsToFetch look → ReadsBatches k p a (batch ∷ []) new next → Acted k p beat a before new next before
-  fetched new next batch may fetch read = record {
+  pub fetched : (new : Scene V) (next : VaultCounts) (batch : Batch) → MayAct beat look → IsToFetch look → ReadsBatches k p a (batch ∷ []) new next → new.trace.broken ≡ false → Acted k p beat a before new next before
+  fetched new next batch may fetch read whole = record {
     thing = Takes look batch.keys ∷ Delivers batch ∷ [];
     one = refl;
     allowed = all_two beat (Takes look batch.keys) (Delivers batch) (may, fetch) tt;
@@ -198,10 +203,11 @@ module _ {V : Type 0} (k : Kind V) (p : Params) (beat : BeatKind) (a : Scene V) 
     answered = tt;
     told = tells_none epoch new.desk.running.epoch read.same_epoch;
     written = written_none before;
+    whole = whole;
   }
 
   -- the vault refused it
-  pub unfetched : (new : Scene V) (fault : Fault) → MayAct beat look → IsToFetch look → ReadFails k a [] fault new → ActFails k beat a before fault new before
+  pub unfetched : (new : Scene V) (fault : Fault) → MayAct beat look → IsToFetch look → ReadFails k a [] fault new → ActFails k beat a before (failed.Fault fault) new before
   unfetched new fault may fetch f = record {
     thing = Takes look f.keys ∷ DeliverFails f.keys fault ∷ [];
     one = refl;
@@ -227,8 +233,41 @@ module _ {V : Type 0} (k : Kind V) (p : Params) (beat : BeatKind) (a : Scene V) 
     };
   }
 
+  -- the watch broke in it
+  pub unwatched : (new : Scene V) (batch : Batch) → MayAct beat look → IsToFetch look → ReadsUnwatched k p a (batch ∷ []) new → ActFails k beat a before failed.Unwatched new before
+  unwatched new batch may fetch u = record {
+    thing = Takes look batch.keys ∷ Delivers batch ∷ Unwatched ∷ [];
+    one = refl;
+    allowed = all_three beat (Takes look batch.keys) (Delivers batch) Unwatched (may, fetch) tt tt;
+    moves = moves_join k a a new (look_calls look) (rest_calls (batch ∷ []) ++ stop_calls SinkFault) [] (rest_fetches (batch ∷ [])) look_moves
+        (moves_join k a u.mid new (rest_calls (batch ∷ [])) (stop_calls SinkFault) (rest_fetches (batch ∷ [])) [] u.read.moves u.halts.moves);
+    driven = tt;
+    quiet = λ client. refl;
+    next = epoch;
+    told = tells_none epoch epoch refl;
+    printed = silent_printed [] before refl;
+    failure = record {
+      front = Takes look batch.keys ∷ Delivers batch ∷ [];
+      act = Unwatched;
+      behind = [];
+      acts_are = refl;
+      says = All-nil IsSaid;
+      answered = tt;
+      told = refl;
+      reason = u.halts.broken;
+      cause = λ store. absurd store;
+      stopped = inl u.halts.stopped;
+      lines = written_none before;
+    };
+  }
+
+  -- one of those two
+  pub unbatched : (new : Scene V) (err : RunErr) → MayAct beat look → IsToFetch look → BatchStops k p a err new → ActFails k beat a before err new before
+  unbatched new (failed.Fault fault) may fetch stops = unfetched new fault may fetch stops
+  unbatched new failed.Unwatched may fetch (batch, u) = unwatched new batch may fetch u
+
   -- one of those before a close
-  pub unread : (new : Scene V) (batches : List Batch) (fault : Fault) → MayAct beat look → IsToEnd look → ReadFails k a batches fault new → ActFails k beat a before fault new before
+  pub unread : (new : Scene V) (batches : List Batch) (fault : Fault) → MayAct beat look → IsToEnd look → ReadFails k a batches fault new → ActFails k beat a before (failed.Fault fault) new before
   unread new batches fault may end f = record {
     thing = act ∷ [];
     one = tt;
@@ -260,6 +299,46 @@ module _ {V : Type 0} (k : Kind V) (p : Params) (beat : BeatKind) (a : Scene V) 
       tells : records (FetchFails look batches f.keys fault ∷ []) ≡ []
       tells = published_rest batches ((desk.TakeBatch, desk.Batch f.keys) ∷ stop_calls fault) []
 
+  -- the watch broke in one of them
+  pub unwatched_rest : (new : Scene V) (batches : List Batch) → MayAct beat look → IsToEnd look → ReadsUnwatched k p a batches new → ActFails k beat a before failed.Unwatched new before
+  unwatched_rest new batches may end u = record {
+    thing = act ∷ [];
+    one = tt;
+    allowed = all_one beat act (may, end);
+    moves = one_act k a new act (subst (λ (asked : List (VaultCall × VaultAnswer)). Moves k a (desk_calls act) asked new) (append-nil (rest_fetches batches))
+        (moves_join k a a new (look_calls look) (rest_calls batches ++ stop_calls SinkFault) [] (rest_fetches batches ++ []) look_moves
+        (moves_join k a u.mid new (rest_calls batches) (stop_calls SinkFault) (rest_fetches batches) [] u.read.moves u.halts.moves)));
+    driven = tt;
+    quiet = λ client. quiet_rest client batches (stop_calls SinkFault) [];
+    next = epoch;
+    told = told_by epoch epoch (ended_of (calls (act ∷ []))) [] (records (act ∷ [])) [] (ended_rest batches []) tells (tells_none epoch epoch refl);
+    printed = silent_printed (records (act ∷ [])) before tells;
+    failure = record {
+      front = [];
+      act = act;
+      behind = [];
+      acts_are = refl;
+      says = All-nil IsSaid;
+      answered = tt;
+      told = refl;
+      reason = u.halts.broken;
+      cause = λ store. absurd store;
+      stopped = inl u.halts.stopped;
+      lines = silent_written (records (act ∷ [])) before tells;
+    };
+  }
+    where
+      act : Act
+      act = RestUnwatched look batches
+
+      tells : records (RestUnwatched look batches ∷ []) ≡ []
+      tells = published_rest batches (stop_calls SinkFault) []
+
+  -- one of those two
+  pub unrested : (new : Scene V) (err : RunErr) → MayAct beat look → IsToEnd look → RestStops k p a err new → ActFails k beat a before err new before
+  unrested new (failed.Fault fault) may end (batches, f) = unread new batches fault may end f
+  unrested new failed.Unwatched may end (batches, u) = unwatched_rest new batches may end u
+
   module _ (batches : List Batch) (mid : Scene V) (counts : VaultCounts) (read : ReadsBatches k p a batches mid counts) (may : MayAct beat look) (end : IsToEnd look) where
     -- the epoch was closed
     closing : (writes : List (ℕ × Option (List ℕ))) (shut : Scene V) → IsClosed k mid writes shut → Moves k a (desk_calls (Closes look batches writes)) (rest_fetches batches) shut
@@ -271,8 +350,8 @@ module _ {V : Type 0} (k : Kind V) (p : Params) (beat : BeatKind) (a : Scene V) 
     due_here writes told due = subst (λ n. IsDueRecord n writes told) read.same_epoch due
 
     -- it was ended, and its lines were written
-    pub ended : (new : Scene V) (next : VaultCounts) (after : Flow) (told : EpochRecord ℕ) → IsEnded k p mid told new next → IsWritten (record_text decimal told) before after → Acted k p beat a before new next after
-    ended new next after told e written = record {
+    pub ended : (new : Scene V) (next : VaultCounts) (after : Flow) (told : EpochRecord ℕ) → IsEnded k p mid told new next → IsWritten (record_text decimal told) before after → new.trace.broken ≡ false → Acted k p beat a before new next after
+    ended new next after told e written whole = record {
       thing = thing;
       one = refl;
       allowed = all_two beat (Closes look batches e.writes) (Publishes e.writes e.left told) (may, end) tt;
@@ -284,6 +363,7 @@ module _ {V : Type 0} (k : Kind V) (p : Params) (beat : BeatKind) (a : Scene V) 
       told = told_by epoch new.desk.running.epoch (ended_of (calls thing)) (e.writes ∷ []) (records thing) (told ∷ []) (ended_rest batches ((End e.writes, Ended) ∷ [])) tells
           (tells_one epoch new.desk.running.epoch e.writes told (due_here e.writes told e.due) (e.next_epoch ∙ ap suc read.same_epoch));
       written = subst (λ (rs : List (EpochRecord ℕ)). IsWritten (report decimal rs) before after) (sym tells) (subst (λ text. IsWritten text before after) (one_text told) written);
+      whole = whole;
     }
       where
         thing : List Act
@@ -293,7 +373,7 @@ module _ {V : Type 0} (k : Kind V) (p : Params) (beat : BeatKind) (a : Scene V) 
         tells = published_rest batches (close_calls e.writes) (publish_calls e.left told)
 
     -- its end was refused, or left in doubt
-    pub unended : (new : Scene V) (fault : Fault) → EndFails k mid fault new → ActFails k beat a before fault new before
+    pub unended : (new : Scene V) (fault : Fault) → EndFails k mid fault new → ActFails k beat a before (failed.Fault fault) new before
     unended new fault e = record {
       thing = thing;
       one = refl;
@@ -311,7 +391,7 @@ module _ {V : Type 0} (k : Kind V) (p : Params) (beat : BeatKind) (a : Scene V) 
         acts_are = refl;
         says = All-nil IsSaid;
         answered = answered_rest batches [] tt;
-        told = ap Some (sym e.fault_is);
+        told = ap (λ (f : Fault). Some (failed.Fault f)) (sym e.fault_is);
         reason = record {
           mid = e.mid;
           moves = one_act k a e.mid (Closes look batches e.writes) (closing e.writes e.mid e.closed);
@@ -343,7 +423,7 @@ module _ {V : Type 0} (k : Kind V) (p : Params) (beat : BeatKind) (a : Scene V) 
 
     -- the output failed behind the publish
     pub unwritten : (shut new : Scene V) (next : VaultCounts) (after : Flow) (told : EpochRecord ℕ) → IsEnded k p mid told shut next → Moves k shut (stop_calls SinkFault) [] new → new.desk.stop ≡ Some SinkFault
-        → IsPrinted before after (record_text decimal told) → Rose before.faults after.faults → ActFails k beat a before SinkFault new after
+        → IsPrinted before after (record_text decimal told) → Rose before.faults after.faults → ActFails k beat a before (failed.Fault SinkFault) new after
     unwritten shut new next after told e halt stopped printed rose = record {
       thing = thing;
       one = refl;
@@ -376,12 +456,60 @@ module _ {V : Type 0} (k : Kind V) (p : Params) (beat : BeatKind) (a : Scene V) 
         tells : records (Closes look batches e.writes ∷ Publishes e.writes e.left told ∷ Unprinted ∷ []) ≡ told ∷ []
         tells = published_rest batches (close_calls e.writes) (publish_calls e.left told ++ stop_calls SinkFault)
 
+    -- its lines were written, but the watch had broken in it
+    pub ended_unwatched : (shut new : Scene V) (next : VaultCounts) (after : Flow) (told : EpochRecord ℕ) → IsEnded k p mid told shut next → HaltsUnwatched k shut new → IsWritten (record_text decimal told) before after → ActFails k beat a before failed.Unwatched new after
+    ended_unwatched shut new next after told e halt written = record {
+      thing = thing;
+      one = refl;
+      allowed = all_three beat (Closes look batches e.writes) (Publishes e.writes e.left told) Unwatched (may, end) tt tt;
+      moves = three_acts k a e.mid shut new (Closes look batches e.writes) (Publishes e.writes e.left told) Unwatched (closing e.writes e.mid e.closed) e.moves halt.moves;
+      driven = tt;
+      quiet = λ client. quiet_rest client batches (close_calls e.writes) (publish_calls e.left told ++ stop_calls SinkFault);
+      next = suc epoch;
+      told = told_by epoch (suc epoch) (ended_of (calls thing)) (e.writes ∷ []) (records thing) (told ∷ []) (ended_rest batches ((End e.writes, Ended) ∷ [])) tells
+          (tells_one epoch (suc epoch) e.writes told (due_here e.writes told e.due) refl);
+      printed = printed_whole (report decimal (records thing)) before after lines;
+      failure = record {
+        front = Closes look batches e.writes ∷ Publishes e.writes e.left told ∷ [];
+        act = Unwatched;
+        behind = [];
+        acts_are = refl;
+        says = All-nil IsSaid;
+        answered = answered_rest batches ((End e.writes, Ended) ∷ []) tt;
+        told = refl;
+        reason = halt.broken;
+        cause = λ store. absurd store;
+        stopped = inl halt.stopped;
+        lines = lines;
+      };
+    }
+      where
+        thing : List Act
+        thing = Closes look batches e.writes ∷ Publishes e.writes e.left told ∷ Unwatched ∷ []
+
+        tells : records (Closes look batches e.writes ∷ Publishes e.writes e.left told ∷ Unwatched ∷ []) ≡ told ∷ []
+        tells = published_rest batches (close_calls e.writes) (publish_calls e.left told ++ stop_calls SinkFault)
+
+        lines : IsWritten (report decimal (records thing)) before after
+        lines = subst (λ (rs : List (EpochRecord ℕ)). IsWritten (report decimal rs) before after) (sym tells) (subst (λ text. IsWritten text before after) (one_text told) written)
+
+    -- by a look at the watch
+    module _ (d new : DeskState) (w : V) (t : Trace) (next : VaultCounts) (after : Flow) (told : EpochRecord ℕ) (e : IsEnded k p mid told (scene d w t) next) (written : IsWritten (record_text decimal told) before after) where
+      pub heeded_end : (result : Result (Unit {0}) RunErr) → HeedsWatch d new t result → OnOk result (Acted k p beat a before (scene new w t) next after)
+      heeded_end (Ok done) (whole, same) = subst (λ (x : DeskState). Acted k p beat a before (scene x w t) next after) (sym same) (ended (scene d w t) next after told e written whole)
+      heeded_end (Err err) heeds = tt
+
+      pub heeded_fails : (result : Result (Unit {0}) RunErr) → d.stop ≡ None → HeedsWatch d new t result → IfErr result (λ err. ActFails k beat a before err (scene new w t) after)
+      heeded_fails (Ok done) none heeds = tt
+      heeded_fails (Err (failed.Fault fault)) none heeds = absurd heeds
+      heeded_fails (Err failed.Unwatched) none (broken, stop) = ended_unwatched (scene d w t) (scene new w t) next after told e (halts k p d new w t none broken stop) written
+
 -- the desk was found stopped: by a client that found no memory
 stop_memory : (a : Option Fault) (fault : Fault) → a ≡ Some fault → (a ≡ None) ⊎ (a ≡ Some Memory) → fault ≡ Memory
 stop_memory a fault is (inl none) = absurd (none-some fault (sym none ∙ is))
 stop_memory a fault is (inr memory) = same_Some fault Memory (sym is ∙ memory)
 
-pub halted : {V : Type 0} (k : Kind V) (p : Params) (beat : BeatKind) (a : Scene V) (c : VaultCounts) (before : Flow) (fault : Fault) → IsBetweenActs p a.desk c → a.desk.stop ≡ Some fault → ActFails k beat a before fault a before
+pub halted : {V : Type 0} (k : Kind V) (p : Params) (beat : BeatKind) (a : Scene V) (c : VaultCounts) (before : Flow) (fault : Fault) → IsBetweenActs p a.desk c → a.desk.stop ≡ Some fault → ActFails k beat a before (failed.Fault fault) a before
 halted k p beat a c before fault r is = let memory : fault ≡ Memory = stop_memory a.desk.stop fault is r.stop in record {
   thing = Halts fault ∷ [];
   one = tt;

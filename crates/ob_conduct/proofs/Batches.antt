@@ -1,12 +1,12 @@
 -- Batches that are taken, fetched and delivered, and one that is refused.
-use Rattle.std.proofs.Common.{◌≡◌, ◌∙◌, ◌⊎◌, ◌<◌, ◌-◌, ℕ, Bool, true, false, if◌then◌else◌, List, [], ◌∷◌, ◌++◌, length, slice_get, Option, None, Some, refl, sym, ap, subst, nat_cmp}
+use Rattle.std.proofs.Common.{◌≡◌, ◌∙◌, ◌⊎◌, ◌<◌, ◌-◌, ℕ, Bool, true, false, if◌then◌else◌, List, [], ◌∷◌, ◌++◌, length, slice_get, Option, None, Some, Result, Ok, Err, OnOk, IfErr, refl, sym, ap, subst, nat_cmp}
 use Rattle.std.specs.Option.{option_or}
 use Rattle.std.specs.FinMap as finite
 use Rattle.std.proofs.lemmas.List.{map-append, append-nil}
 use Rattle.std.proofs.lemmas.List.Concat.{flat_map-append}
 use Rattle.ob_base.specs.Causes.{Rose}
 use Rattle.ob_base.specs.declared.fault.Fault.{Fault}
-use Rattle.ob_base.specs.declared.fault.Fault.TheVariants.{Memory}
+use Rattle.ob_base.specs.declared.fault.Fault.TheVariants.{Memory, SinkFault}
 use Rattle.ob_base.specs.declared.params.Params.{Params}
 use Rattle.ob_store.specs.Calls.{IsStoreFault}
 use Rattle.ob_store.specs.Lines.{Trace, Shows}
@@ -18,13 +18,15 @@ use Rattle.ob_serial.specs.VaultKinds.{Kind, Called}
 use Rattle.ob_order.proofs.Batches.{taken_in_flight}
 use Rattle.ob_desk.specs.Desk as desk
 use Rattle.ob_desk.specs.Desk.{DeskState, Call, Reply, MayCall, TakeStep, DeliverStep, StopStep, stopped_by, is_memory, stop_closed, stop_part, with_order}
+use Rattle.ob_conduct.specs.declared.run_err.RunErr.{RunErr}
+use Rattle.ob_conduct.specs.declared.run_err.RunErr.TheVariants as failed
 use Rattle.ob_conduct.specs.Acts.{Batch, rest_calls, rest_fetches, batch_calls, batch_fetch}
 use Rattle.ob_conduct.specs.Scenes.{Scene, scene}
 use Rattle.ob_conduct.specs.Records.{HoldsMap}
 use Rattle.ob_conduct.specs.Ready.{IsFit, IsBetweenActs}
-use Rattle.ob_conduct.specs.Moves.{Moves, ReadsBatches, ReadFails}
+use Rattle.ob_conduct.specs.Moves.{Moves, ReadsBatches, ReadFails, HaltsUnwatched, HeedsWatch, BatchStops, RestStops}
 use Rattle.ob_conduct.proofs.Fit.{fit_taken, fit_delivered, batch_placed}
-use Rattle.ob_conduct.proofs.Moving.{moves_none, moves_join, later}
+use Rattle.ob_conduct.proofs.Moving.{moves_none, moves_join, moves_one, later}
 
 -- what a vault asks of a batch
 pub batch_below : (p : Params) (d mid : DeskState) (c : VaultCounts) (keys : List (Option ℕ)) → IsBetweenActs p d c → TakeStep d keys mid → (i key : ℕ) → slice_get keys i ≡ Some (Some key) → key < p.keys
@@ -69,14 +71,15 @@ delivered_ready p d mid new c keys values r t e = subst (λ (x : DeskState). IsB
 
 module _ {V : Type 0} (k : Kind V) (p : Params) where
   pub read_one : (d mid new : DeskState) (v w : V) (t u : Trace) (c next : VaultCounts) (keys : List (Option ℕ)) (values : List (Option (List ℕ))) → IsBetweenActs p d c → 0 < c.left → length values ≡ length keys
-      → TakeStep d keys mid → DeliverStep mid keys values new → (one : Called k v (Fetch keys) (Values values) w) → Shows one.notes t u → next ≡ counts_next p.batches c (Fetch keys) (Values values) → (batch : Batch) × ReadsBatches k p (scene d v t) (batch ∷ []) (scene new w u) next
-  read_one d mid new v w t u c next keys values r some whole took e one shown counts = (
+      → TakeStep d keys mid → DeliverStep mid keys values new → (one : Called k v (Fetch keys) (Values values) w) → t.broken ≡ false → Shows one.notes t u
+      → next ≡ counts_next p.batches c (Fetch keys) (Values values) → (batch : Batch) × ReadsBatches k p (scene d v t) (batch ∷ []) (scene new w u) next
+  read_one d mid new v w t u c next keys values r some whole took e one watched shown counts = (
     record { keys = keys; values = values },
     record {
       moves = record {
         leads = (mid, may_take p d c r some, took, (new, may_deliver p d mid c keys values r took whole, e, refl));
         notes = one.notes;
-        chain = (w, one, [], sym (append-nil one.notes), (refl, refl));
+        chain = (w, u, record { one = one; whole = watched; shown = shown }, [], sym (append-nil one.notes), (refl, refl, refl));
         shown = shown;
         run = λ m held. (m, (mid, may_take p d c r some, took, tt, (new, may_deliver p d mid c keys values r took whole, e, fed k v w keys values m one held, (refl, refl))), holds_on k v w keys values m one held);
       };
@@ -87,13 +90,13 @@ module _ {V : Type 0} (k : Kind V) (p : Params) where
   )
 
   pub refuse_one : (d mid new : DeskState) (v w : V) (t u : Trace) (c : VaultCounts) (keys : List (Option ℕ)) (fault : Fault) → IsBetweenActs p d c → d.stop ≡ None → 0 < c.left
-      → TakeStep d keys mid → StopStep mid fault new → (one : Called k v (Fetch keys) (RefusedBy fault) w) → Shows one.notes t u → IsFetchFault fault → (IsStoreFault fault → Rose (k.disk v).faults (k.disk w).faults) → ReadFails k (scene d v t) [] fault (scene new w u)
-  refuse_one d mid new v w t u c keys fault r none some took e one shown is_fault cause = record {
+      → TakeStep d keys mid → StopStep mid fault new → (one : Called k v (Fetch keys) (RefusedBy fault) w) → t.broken ≡ false → Shows one.notes t u → IsFetchFault fault → (IsStoreFault fault → Rose (k.disk v).faults (k.disk w).faults) → ReadFails k (scene d v t) [] fault (scene new w u)
+  refuse_one d mid new v w t u c keys fault r none some took e one watched shown is_fault cause = record {
     keys = keys;
     moves = record {
       leads = (mid, may_take p d c r some, took, (new, tt, e, refl));
       notes = one.notes;
-      chain = (w, one, [], sym (append-nil one.notes), (refl, refl));
+      chain = (w, u, record { one = one; whole = watched; shown = shown }, [], sym (append-nil one.notes), (refl, refl, refl));
       shown = shown;
       run = λ m held. (m, (mid, may_take p d c r some, took, tt, (new, tt, e, tt, (refl, refl))), (vault_next held.0 (Fetch keys) (RefusedBy fault), one.holds held.0 held.1, held.2));
     };
@@ -123,3 +126,28 @@ module _ {V : Type 0} (k : Kind V) (p : Params) where
     cause = λ store. rose_later (k.disk a.vault).faults (k.disk b.vault).faults (k.disk d.vault).faults (later k a b (rest_calls batches) (rest_fetches batches) first.moves) (last.cause store);
     stopped = last.stopped;
   }
+
+  -- what stops one batch more stops them all
+  pub stops_behind : (a b d : Scene V) (batches : List Batch) (e : VaultCounts) (err : RunErr) → ReadsBatches k p a batches b e → BatchStops k p b err d → RestStops k p a err d
+  stops_behind a b d batches e (failed.Fault fault) first last = (batches, fails_behind a b d batches e fault first last)
+  stops_behind a b d batches e failed.Unwatched first (batch, last) = (
+    batches ++ batch ∷ [],
+    record { mid = last.mid; counts = last.counts; read = reads_more a b last.mid batches batch e last.counts first last.read; halts = last.halts },
+  )
+
+  -- ---- a look at the watch
+
+  pub halts : (d new : DeskState) (w : V) (u : Trace) → d.stop ≡ None → u.broken ≡ true → StopStep d SinkFault new → HaltsUnwatched k (scene d w u) (scene new w u)
+  halts d new w u none broken e = record { moves = moves_one k d new w u (desk.Stop SinkFault) desk.Done tt e (λ m. (tt, refl)); broken = broken; stopped = stop_is d new SinkFault none e.state }
+
+  -- behind a batch that was read
+  module _ (a : Scene V) (d new : DeskState) (w : V) (u : Trace) (c : VaultCounts) where
+    pub heeded_read : (batch : Batch) (result : Result (Unit {0}) RunErr) → ReadsBatches k p a (batch ∷ []) (scene d w u) c → HeedsWatch d new u result
+        → OnOk result ((b : Batch) × ReadsBatches k p a (b ∷ []) (scene new w u) c × (u.broken ≡ false))
+    heeded_read batch (Ok done) read (whole, same) = (batch, subst (λ (x : DeskState). ReadsBatches k p a (batch ∷ []) (scene x w u) c) (sym same) read, whole)
+    heeded_read batch (Err err) read heeds = tt
+
+    pub heeded_stops : (batch : Batch) (result : Result (Unit {0}) RunErr) → ReadsBatches k p a (batch ∷ []) (scene d w u) c → a.desk.stop ≡ None → HeedsWatch d new u result → IfErr result (λ err. BatchStops k p a err (scene new w u))
+    heeded_stops batch (Ok done) read none heeds = tt
+    heeded_stops batch (Err (failed.Fault fault)) read none heeds = absurd heeds
+    heeded_stops batch (Err failed.Unwatched) read none (broken, stop) = (batch, record { mid = scene d w u; counts = c; read = read; halts = halts d new w u (read.same_stop ∙ none) broken stop })

@@ -7,7 +7,7 @@ use Rattle.ob_serial.specs.Serial.{EpochRecord, Map}
 use Rattle.ob_serial.specs.Vaults.{VaultCall, VaultAnswer}
 use Rattle.ob_desk.specs.Desk.{DeskState, Call, Reply, Run, published}
 use Rattle.ob_session.specs.Steps.{Leads}
-use Rattle.ob_conduct.specs.Acts.{Act, Says, Halts, Rests, Takes, Delivers, DeliverFails, FetchFails, Closes, Publishes, Refuses, Unprinted, history, calls, records, desk_calls, vault_calls}
+use Rattle.ob_conduct.specs.Acts.{Act, Says, Halts, Rests, Takes, Delivers, DeliverFails, FetchFails, RestUnwatched, Closes, Publishes, Refuses, Unprinted, Unwatched, history, calls, records, desk_calls, vault_calls}
 use Rattle.ob_conduct.specs.Moves.{IsSaid}
 use Rattle.ob_conduct.proofs.Ready.{own_run}
 use Rattle.ob_conduct.proofs.Moving.{run_join}
@@ -26,10 +26,12 @@ one_run m (Takes look keys) d new said leads = absurd said
 one_run m (Delivers batch) d new said leads = absurd said
 one_run m (DeliverFails keys fault) d new said leads = absurd said
 one_run m (FetchFails look batches keys fault) d new said leads = absurd said
+one_run m (RestUnwatched look batches) d new said leads = absurd said
 one_run m (Closes look batches writes) d new said leads = absurd said
 one_run m (Publishes writes left told) d new said leads = absurd said
 one_run m (Refuses writes refused) d new said leads = absurd said
 one_run m Unprinted d new said leads = absurd said
+one_run m Unwatched d new said leads = absurd said
 
 pub said_run : (m : Map nat_cmp) (acts : List Act) (d new : DeskState) → All IsSaid acts → Leads d (history acts) new → Run m d (history acts) m new × (calls acts ≡ []) × (records acts ≡ [])
 said_run m [] d new said leads = ((refl, leads), refl, refl)
@@ -55,10 +57,12 @@ asks_none (Takes look keys) says = absurd says
 asks_none (Delivers batch) says = absurd says
 asks_none (DeliverFails keys fault) says = absurd says
 asks_none (FetchFails look batches keys fault) says = absurd says
+asks_none (RestUnwatched look batches) says = absurd says
 asks_none (Closes look batches writes) says = absurd says
 asks_none (Publishes writes left told) says = absurd says
 asks_none (Refuses writes refused) says = absurd says
 asks_none Unprinted says = absurd says
+asks_none Unwatched says = absurd says
 
 pub said_asks : (acts : List Act) → All IsSaid acts → calls acts ≡ []
 said_asks [] says = refl

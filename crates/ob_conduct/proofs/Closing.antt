@@ -6,7 +6,7 @@ use Rattle.ob_base.specs.Causes.{Rose}
 use Rattle.ob_base.specs.declared.fault.Fault.{Fault}
 use Rattle.ob_base.specs.declared.params.Params.{Params}
 use Rattle.ob_store.specs.Calls.{IsStoreFault}
-use Rattle.ob_store.specs.Lines.{Trace, Shows}
+use Rattle.ob_store.specs.Lines.{Trace}
 use Rattle.ob_store.proofs.Showing.{shows_none}
 use Rattle.ob_serial.specs.Serial.{Map, EpochRecord}
 use Rattle.ob_serial.specs.Vaults.{VaultCall, End, VaultAnswer, Ended, RefusedBy, DoubtBy, VaultState, VaultCounts, vault_next, counts_next}
@@ -24,7 +24,7 @@ use Rattle.ob_base.specs.Writes.{pair_of}
 use Rattle.ob_desk.specs.Desk as desk
 use Rattle.ob_desk.specs.Desk.{DeskState, Part, MayCall, CloseStep, PublishStep, StopStep, UnsureStep, closing, record_of, new_part, base_map}
 use Rattle.ob_desk.proofs.Ends.{closing-epoch}
-use Rattle.ob_conduct.specs.Scenes.{scene}
+use Rattle.ob_conduct.specs.Scenes.{scene, Watched}
 use Rattle.ob_conduct.specs.Records.{Makes}
 use Rattle.ob_conduct.specs.Ready.{IsFit, IsBetweenActs, IsDueRecord}
 use Rattle.ob_conduct.specs.Moves.{IsClosed, IsEnded, EndFails}
@@ -68,14 +68,9 @@ ended_map : (p : Params) (d mid : DeskState) (writes : List (ℕ × Option (List
 ended_map p d mid writes m e = ap (vaults.with_writes m) e.batch
     ∙ sym (ap (λ (x : DeskState). base_map m x) e.state)
 
--- a call with its notes, which were shown
-pub record CalledShown {V : Type 0} (k : Kind V) (old : V) (call : VaultCall) (answer : VaultAnswer) (new : V) (before after : Trace) : Type 0 where
-  pub one : Called k old call answer new
-  pub shown : Shows one.notes before after
-
 pub ended_with : {V : Type 0} (k : Kind V) (old new : V) (t u : Trace) (writes as_are : List (ℕ × Option (List ℕ))) (answer as_is : VaultAnswer) → writes ≡ as_are → answer ≡ as_is
-    → CalledShown k old (End writes) answer new t u → CalledShown k old (End as_are) as_is new t u
-ended_with k old new t u writes as_are answer as_is are is last = subst (λ a. CalledShown k old (End as_are) a new t u) is (subst (λ w. CalledShown k old (End w) answer new t u) are last)
+    → Watched k old t (End writes) answer new u → Watched k old t (End as_are) as_is new u
+ended_with k old new t u writes as_are answer as_is are is last = subst (λ a. Watched k old t (End as_are) a new u) is (subst (λ w. Watched k old t (End w) answer new u) are last)
 
 pub next_fault : (n : ℕ) (refused : EndErr) → IsEndFault (n + 1) refused → IsEndFault (suc n) refused
 next_fault n refused is = subst (λ m. IsEndFault m refused) (add-one n) is
@@ -100,7 +95,7 @@ module _ {V : Type 0} (k : Kind V) (p : Params) where
     moves = record {
       leads = (mid, may_close p d c r none zero, e, refl);
       notes = [];
-      chain = (refl, refl);
+      chain = (refl, refl, refl);
       shown = shows_none t;
       run = λ m held. (m, (mid, may_close p d c r none zero, e, tt, (refl, refl)), held);
     };
@@ -110,7 +105,7 @@ module _ {V : Type 0} (k : Kind V) (p : Params) where
   }
 
   pub ends : (d mid new : DeskState) (v w : V) (t u : Trace) (c next : VaultCounts) (writes : List (ℕ × Option (List ℕ))) (told : EpochRecord ℕ) (left : ℕ) → IsBetweenActs p d c → d.stop ≡ None → c.left ≡ 0
-      → CloseStep d writes mid → CalledShown k v (End writes) Ended w t u → next ≡ counts_next p.batches c (End writes) Ended → next.epoch < 2 ^ 62 → left ≡ p.batches → PublishStep mid told new → IsEnded k p (scene d v t) told (scene new w u) next
+      → CloseStep d writes mid → Watched k v t (End writes) Ended w u → next ≡ counts_next p.batches c (End writes) Ended → next.epoch < 2 ^ 62 → left ≡ p.batches → PublishStep mid told new → IsEnded k p (scene d v t) told (scene new w u) next
   ends d mid new v w t u c next writes told left r none zero e called counts low left_is pub_step =
       let one : Called k v (End writes) Ended w = called.one in
       let part_is : closing d.running ≡ pub_step.part = same_Some (closing d.running) pub_step.part (sym (closed_part d mid writes e) ∙ pub_step.is_closed) in
@@ -128,7 +123,7 @@ module _ {V : Type 0} (k : Kind V) (p : Params) where
         moves = record {
           leads = (new, may, pub_step, refl);
           notes = one.notes;
-          chain = (w, one, [], sym (append-nil one.notes), (refl, refl));
+          chain = (w, u, called, [], sym (append-nil one.notes), (refl, refl, refl));
           shown = called.shown;
           run = λ m held. (
             base_map m mid,
@@ -156,7 +151,7 @@ module _ {V : Type 0} (k : Kind V) (p : Params) where
 
   -- the end was refused before its last write,
   pub end_fails : (d mid new : DeskState) (v w : V) (t u : Trace) (c : VaultCounts) (writes : List (ℕ × Option (List ℕ))) (fault : Fault) → IsBetweenActs p d c → d.stop ≡ None → c.left ≡ 0
-      → CloseStep d writes mid → CalledShown k v (End writes) (RefusedBy fault) w t u → StopStep mid fault new → IsEndFault (suc c.epoch) (Before fault) → (IsStoreFault fault → Rose (k.disk v).faults (k.disk w).faults) → EndFails k (scene d v t) fault (scene new w u)
+      → CloseStep d writes mid → Watched k v t (End writes) (RefusedBy fault) w u → StopStep mid fault new → IsEndFault (suc c.epoch) (Before fault) → (IsStoreFault fault → Rose (k.disk v).faults (k.disk w).faults) → EndFails k (scene d v t) fault (scene new w u)
   end_fails d mid new v w t u c writes fault r none zero e called halt is_fault cause =
       let one : Called k v (End writes) (RefusedBy fault) w = called.one in
       record {
@@ -167,7 +162,7 @@ module _ {V : Type 0} (k : Kind V) (p : Params) where
         moves = record {
           leads = (new, tt, halt, refl);
           notes = one.notes;
-          chain = (w, one, [], sym (append-nil one.notes), (refl, refl));
+          chain = (w, u, called, [], sym (append-nil one.notes), (refl, refl, refl));
           shown = called.shown;
           run = λ m held. (m, (new, tt, halt, tt, (refl, refl)), (vault_next held.0 (End writes) (RefusedBy fault), one.holds held.0 held.1, held.2));
         };
@@ -179,7 +174,7 @@ module _ {V : Type 0} (k : Kind V) (p : Params) where
 
   -- or left in doubt
   pub end_doubts : (d mid new : DeskState) (v w : V) (t u : Trace) (c : VaultCounts) (writes : List (ℕ × Option (List ℕ))) (fault : Fault) → IsBetweenActs p d c → d.stop ≡ None → c.left ≡ 0
-      → CloseStep d writes mid → CalledShown k v (End writes) (DoubtBy fault) w t u → UnsureStep mid fault new → IsEndFault (suc c.epoch) (Unsure fault) → (IsStoreFault fault → Rose (k.disk v).faults (k.disk w).faults) → EndFails k (scene d v t) fault (scene new w u)
+      → CloseStep d writes mid → Watched k v t (End writes) (DoubtBy fault) w u → UnsureStep mid fault new → IsEndFault (suc c.epoch) (Unsure fault) → (IsStoreFault fault → Rose (k.disk v).faults (k.disk w).faults) → EndFails k (scene d v t) fault (scene new w u)
   end_doubts d mid new v w t u c writes fault r none zero e called halt is_fault cause =
       let one : Called k v (End writes) (DoubtBy fault) w = called.one in
       record {
@@ -190,7 +185,7 @@ module _ {V : Type 0} (k : Kind V) (p : Params) where
         moves = record {
           leads = (new, some_closed d mid writes e, halt, refl);
           notes = one.notes;
-          chain = (w, one, [], sym (append-nil one.notes), (refl, refl));
+          chain = (w, u, called, [], sym (append-nil one.notes), (refl, refl, refl));
           shown = called.shown;
           run = λ m held. (m, (new, some_closed d mid writes e, halt, tt, (refl, refl)), (vault_next held.0 (End writes) (DoubtBy fault), one.holds held.0 held.1, held.2));
         };

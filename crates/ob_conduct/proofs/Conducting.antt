@@ -25,7 +25,9 @@ use Rattle.ob_desk.proofs.Sees.{replays_from_reads}
 use Rattle.ob_desk.proofs.Published.{one_by_one_from}
 use Rattle.ob_session.specs.Steps.{Leads}
 use Rattle.ob_session.specs.Clients.{said_by}
-use Rattle.ob_conduct.specs.Acts.{Act, Says, Halts, Rests, Takes, Delivers, DeliverFails, FetchFails, Closes, Publishes, Refuses, Unprinted, history, calls, records, IsAllowed}
+use Rattle.ob_conduct.specs.declared.run_err.RunErr.{RunErr}
+use Rattle.ob_conduct.specs.declared.run_err.RunErr.TheVariants as failed
+use Rattle.ob_conduct.specs.Acts.{Act, Says, Halts, Rests, Takes, Delivers, DeliverFails, FetchFails, RestUnwatched, Closes, Publishes, Refuses, Unprinted, Unwatched, history, calls, records, fault_of, IsAllowed}
 use Rattle.ob_conduct.specs.Rounds.{TurnRule, plan_rule, KeepRule, AreTurns, InRounds, InTurns}
 use Rattle.ob_conduct.specs.Scenes.{Scene, scene, RunState, run_state, RunnerKind, seat_of, AllNoted}
 use Rattle.ob_conduct.specs.Records.{contents, HoldsMap, AreAnswered, IsOver, IsWritten}
@@ -52,17 +54,19 @@ said_allowed beat (Takes look keys) said = absurd said
 said_allowed beat (Delivers batch) said = absurd said
 said_allowed beat (DeliverFails keys fault) said = absurd said
 said_allowed beat (FetchFails look batches keys fault) said = absurd said
+said_allowed beat (RestUnwatched look batches) said = absurd said
 said_allowed beat (Closes look batches writes) said = absurd said
 said_allowed beat (Publishes writes left told) said = absurd said
 said_allowed beat (Refuses writes refused) said = absurd said
 said_allowed beat Unprinted said = absurd said
+said_allowed beat Unwatched said = absurd said
 
 module _ {V : Type 0} (k : Kind V) where
   said_moves : (acts : List Act) (d new : DeskState) (v : V) (t : Trace) → All IsSaid acts → Leads d (history acts) new → Moves k (scene d v t) (history acts) (calls acts) (scene new v t)
   said_moves acts d new v t said leads = record {
     leads = leads;
     notes = [];
-    chain = subst (λ (asked : List (VaultCall × VaultAnswer)). AllNoted k v asked [] v) (sym (said_run empty_map acts d new said leads).1) (refl, refl);
+    chain = subst (λ (asked : List (VaultCall × VaultAnswer)). AllNoted k v t asked [] v t) (sym (said_run empty_map acts d new said leads).1) (refl, refl, refl);
     shown = shows_none t;
     run = λ m held. (m, (said_run m acts d new said leads).0, held);
   }
@@ -118,6 +122,7 @@ module _ {V U Plan : Type 0} (k : Kind V) (kind : RunnerKind U Plan) (p : Params
     pub answered : AreAnswered (calls acts)
     pub told : TellsEpochs old.scene.desk.running.epoch now.scene.desk.running.epoch (ended_of (calls acts)) (records acts)
     pub written : IsWritten (report decimal (records acts)) old.output now.output
+    pub whole : now.scene.trace.broken ≡ false
     pub fitting : All (λ u. kind.fits u (said_by (kind.client u) (history acts))) now.runners
     pub keeps : KeepRule rule [] acts
     pub clients : map kind.client now.runners ≡ map kind.client old.runners
@@ -132,8 +137,8 @@ module _ {V U Plan : Type 0} (k : Kind V) (kind : RunnerKind U Plan) (p : Params
   abbrev pub Turned : RunState V U → VaultCounts → Type 0
   Turned = Going (InTurns (map kind.client old.runners))
 
-  pub going_none : (c : VaultCounts) → IsBetweenActs p old.scene.desk c → All (λ u. kind.fits u []) old.runners → Whole old c
-  going_none c r fit = record {
+  pub going_none : (c : VaultCounts) → IsBetweenActs p old.scene.desk c → All (λ u. kind.fits u []) old.runners → old.scene.trace.broken ≡ false → Whole old c
+  going_none c r fit whole = record {
     acts = [];
     allowed = All-nil _;
     shape = in_rounds_none numbers;
@@ -142,6 +147,7 @@ module _ {V U Plan : Type 0} (k : Kind V) (kind : RunnerKind U Plan) (p : Params
     answered = tt;
     told = tells_none begun begun refl;
     written = written_none old.output;
+    whole = whole;
     fitting = fit;
     keeps = tt;
     clients = refl;
@@ -163,6 +169,7 @@ module _ {V U Plan : Type 0} (k : Kind V) (kind : RunnerKind U Plan) (p : Params
         (subst (λ (rs : List (EpochRecord ℕ)). TellsEpochs begun new.running.epoch (ended_of (calls g.acts)) rs) (sym same_records)
         (subst (λ n. TellsEpochs begun n (ended_of (calls g.acts)) (records g.acts)) (g.ready.epoch ∙ sym r.epoch) g.told));
     written = subst (λ (rs : List (EpochRecord ℕ)). IsWritten (report decimal rs) old.output now.output) (sym same_records) g.written;
+    whole = g.whole;
     fitting = subst (λ (h : List (Call × Reply)). All (λ u. kind.fits u (said_by (kind.client u) h)) next) (sym (history_append g.acts s.acts)) (s.fitting (history g.acts) g.fitting);
     keeps = keeps_append rule [] g.acts s.acts g.keeps
         (subst (λ seats. KeepRule (plan_rule kind.turn seats) (history g.acts) s.acts) (same_seats kind now.runners old.runners g.clients g.plans) (s.keeps (history g.acts) g.fitting));
@@ -216,6 +223,7 @@ module _ {V U Plan : Type 0} (k : Kind V) (kind : RunnerKind U Plan) (p : Params
     answered = answered_on g.acts a.thing g.answered a.answered;
     told = tells_on begun now.scene.desk.running.epoch new.desk.running.epoch g.acts a.thing g.told a.told;
     written = subst (λ (rs : List (EpochRecord ℕ)). IsWritten (report decimal rs) old.output after) (sym (records_append g.acts a.thing)) (written_then (records g.acts) (records a.thing) old.output now.output after g.written a.written);
+    whole = a.whole;
     fitting = fit_on g.acts a.thing now.runners a.quiet g.fitting;
     keeps = keeps_append rule [] g.acts a.thing g.keeps (keeps_driven rule (history g.acts) a.thing a.driven);
     clients = g.clients;
@@ -242,24 +250,28 @@ module _ {V U Plan : Type 0} (k : Kind V) (kind : RunnerKind U Plan) (p : Params
       is_fault = subst (λ n. IsEndFault n refused) (far front) u.is_fault;
     }
 
-    reason_on : (front : List Act) (act : Act) → IsReason k now.scene front act → IsReason k old.scene (g.acts ++ front) act
-    reason_on front (Halts fault) reason = reason
-    reason_on front (DeliverFails keys fault) reason = reason
-    reason_on front (FetchFails look batches keys fault) reason = reason
-    reason_on front (Refuses writes refused) reason = unended_on front writes refused reason
-    reason_on front Unprinted reason = reason
-    reason_on front (Says client steps) reason = absurd reason
-    reason_on front (Rests look) reason = absurd reason
-    reason_on front (Takes look keys) reason = absurd reason
-    reason_on front (Delivers batch) reason = absurd reason
-    reason_on front (Closes look batches writes) reason = absurd reason
-    reason_on front (Publishes writes left told) reason = absurd reason
+    reason_on : (after : Trace) (front : List Act) (act : Act) → IsReason k now.scene front act after → IsReason k old.scene (g.acts ++ front) act after
+    reason_on after front (Halts fault) reason = reason
+    reason_on after front (DeliverFails keys fault) reason = reason
+    reason_on after front (FetchFails look batches keys fault) reason = reason
+    reason_on after front (RestUnwatched look batches) reason = reason
+    reason_on after front (Refuses writes refused) reason = unended_on front writes refused reason
+    reason_on after front Unprinted reason = reason
+    reason_on after front Unwatched reason = reason
+    reason_on after front (Says client steps) reason = absurd reason
+    reason_on after front (Rests look) reason = absurd reason
+    reason_on after front (Takes look keys) reason = absurd reason
+    reason_on after front (Delivers batch) reason = absurd reason
+    reason_on after front (Closes look batches writes) reason = absurd reason
+    reason_on after front (Publishes writes left told) reason = absurd reason
 
     lines_on : (after : Flow) (act : Act) (told : List (EpochRecord ℕ)) → AreLines act told now.output after → AreLines act (records g.acts ++ told) old.output after
     lines_on after Unprinted told lines = cut_then (records g.acts) told old.output now.output after g.written lines
+    lines_on after Unwatched told lines = written_then (records g.acts) told old.output now.output after g.written lines
     lines_on after (Halts fault) told lines = written_then (records g.acts) told old.output now.output after g.written lines
     lines_on after (DeliverFails keys fault) told lines = written_then (records g.acts) told old.output now.output after g.written lines
     lines_on after (FetchFails look batches keys fault) told lines = written_then (records g.acts) told old.output now.output after g.written lines
+    lines_on after (RestUnwatched look batches) told lines = written_then (records g.acts) told old.output now.output after g.written lines
     lines_on after (Refuses writes refused) told lines = written_then (records g.acts) told old.output now.output after g.written lines
     lines_on after (Says client steps) told lines = written_then (records g.acts) told old.output now.output after g.written lines
     lines_on after (Rests look) told lines = written_then (records g.acts) told old.output now.output after g.written lines
@@ -268,8 +280,8 @@ module _ {V U Plan : Type 0} (k : Kind V) (kind : RunnerKind U Plan) (p : Params
     lines_on after (Closes look batches writes) told lines = written_then (records g.acts) told old.output now.output after g.written lines
     lines_on after (Publishes writes left published) told lines = written_then (records g.acts) told old.output now.output after g.written lines
 
-    forestalled_on : (front : List Act) → IsForestalled front → IsForestalled (g.acts ++ front)
-    forestalled_on front by = record {
+    forestalled_on : (act : Act) (front : List Act) → IsForestalled act front → IsForestalled act (g.acts ++ front)
+    forestalled_on act front by = record {
       before = g.acts ++ by.before;
       client = by.client;
       steps = by.steps;
@@ -279,12 +291,12 @@ module _ {V U Plan : Type 0} (k : Kind V) (kind : RunnerKind U Plan) (p : Params
       says = by.says;
     }
 
-    stopped_on : (stop : Option Fault) (fault : Fault) (front : List Act) → IsStoppedFor stop fault front → IsStoppedFor stop fault (g.acts ++ front)
-    stopped_on stop fault front (inl is) = inl is
-    stopped_on stop fault front (inr (is, by)) = inr (is, forestalled_on front by)
+    stopped_on : (stop : Option Fault) (fault : Fault) (act : Act) (front : List Act) → IsStoppedFor stop fault act front → IsStoppedFor stop fault act (g.acts ++ front)
+    stopped_on stop fault act front (inl is) = inl is
+    stopped_on stop fault act front (inr (is, by)) = inr (is, forestalled_on act front by)
 
-    failure_on : (new : Scene V) (thing : List Act) (after : Flow) (fault : Fault) → Failure k now.scene new thing now.output after fault → Failure k old.scene new (g.acts ++ thing) old.output after fault
-    failure_on new thing after fault f = record {
+    failure_on : (new : Scene V) (thing : List Act) (after : Flow) (err : RunErr) → Failure k now.scene new thing now.output after err → Failure k old.scene new (g.acts ++ thing) old.output after err
+    failure_on new thing after err f = record {
       front = g.acts ++ f.front;
       act = f.act;
       behind = f.behind;
@@ -292,9 +304,9 @@ module _ {V U Plan : Type 0} (k : Kind V) (kind : RunnerKind U Plan) (p : Params
       says = f.says;
       answered = answered_on g.acts f.front g.answered f.answered;
       told = f.told;
-      reason = reason_on f.front f.act f.reason;
+      reason = reason_on new.trace f.front f.act f.reason;
       cause = λ store. rose_later (k.disk old.scene.vault).faults (k.disk now.scene.vault).faults (k.disk new.vault).faults (later k old.scene now.scene (history g.acts) (calls g.acts) g.moves) (f.cause store);
-      stopped = stopped_on new.desk.stop fault f.front f.stopped;
+      stopped = stopped_on new.desk.stop (fault_of err) f.act f.front f.stopped;
       lines = subst (λ (rs : List (EpochRecord ℕ)). AreLines f.act rs old.output after) (sym (records_append g.acts thing)) (lines_on after f.act (records thing) f.lines);
     }
 
@@ -309,7 +321,7 @@ module _ {V U Plan : Type 0} (k : Kind V) (kind : RunnerKind U Plan) (p : Params
     ran_to m steps last d run = left_by m (committed_of (published steps)) last (ran m steps last d run)
 
     -- acts that are allowed and lead to the end, with what is told of them, are a run
-    pub finish : (acts : List Act) (new : RunState V U) (next : ℕ) (result : Result (Unit {0}) Fault) → All (IsAllowed beat) acts → Moves k old.scene (history acts) (calls acts) new.scene
+    pub finish : (acts : List Act) (new : RunState V U) (next : ℕ) (result : Result (Unit {0}) RunErr) → All (IsAllowed beat) acts → Moves k old.scene (history acts) (calls acts) new.scene
         → TellsEpochs begun next (ended_of (calls acts)) (records acts) → IsPrinted old.output new.output (report decimal (records acts)) → All (λ u. kind.fits u (said_by (kind.client u) (history acts))) new.runners → KeepRule rule [] acts
         → map kind.client new.runners ≡ map kind.client old.runners → map kind.bound new.runners ≡ map kind.bound old.runners → map kind.plan new.runners ≡ map kind.plan old.runners → RunEnds k old new acts result
         → Conducted k kind beat old new acts result
@@ -339,10 +351,10 @@ module _ {V U Plan : Type 0} (k : Kind V) (kind : RunnerKind U Plan) (p : Params
     }
 
     -- nothing was done, for want of memory
-    pub done_short : All (λ u. kind.fits u []) old.runners → ByHand k kind beat old old (Err Memory)
+    pub done_short : All (λ u. kind.fits u []) old.runners → ByHand k kind beat old old (Err (failed.Fault Memory))
     done_short fit = (
       [],
-      finish [] old begun (Err Memory) (All-nil _) (moves_none k old.scene) (tells_none begun begun refl) (printed_whole [] old.output old.output (written_none old.output)) fit tt refl refl refl
+      finish [] old begun (Err (failed.Fault Memory)) (All-nil _) (moves_none k old.scene) (tells_none begun begun refl) (printed_whole [] old.output old.output (written_none old.output)) fit tt refl refl refl
           (inl (record { fault_is = refl; none = refl; silent = refl })),
       in_rounds_none numbers,
     )
@@ -351,24 +363,24 @@ module _ {V U Plan : Type 0} (k : Kind V) (kind : RunnerKind U Plan) (p : Params
     pub done_over : (now : RunState V U) (c : VaultCounts) (done : Unit {0}) → Whole now c → IsOver now.scene.desk → ByHand k kind beat old now (Ok done)
     done_over now c done g over = (
       g.acts,
-      finish g.acts now now.scene.desk.running.epoch (Ok done) g.allowed g.moves g.told (printed_whole (report decimal (records g.acts)) old.output now.output g.written) g.fitting g.keeps g.clients g.bounds g.plans (g.answered, over, g.written),
+      finish g.acts now now.scene.desk.running.epoch (Ok done) g.allowed g.moves g.told (printed_whole (report decimal (records g.acts)) old.output now.output g.written) g.fitting g.keeps g.clients g.bounds g.plans (g.answered, over, g.written, g.whole),
       g.shape,
     )
 
     -- something failed
-    pub done_failed : (now : RunState V U) (new : Scene V) (c : VaultCounts) (after : Flow) (fault : Fault) → Turned now c → ActFails k beat now.scene now.output fault new after → ByHand k kind beat old (run_state new now.runners after) (Err fault)
-    done_failed now new c after fault g l = (
+    pub done_failed : (now : RunState V U) (new : Scene V) (c : VaultCounts) (after : Flow) (err : RunErr) → Turned now c → ActFails k beat now.scene now.output err new after → ByHand k kind beat old (run_state new now.runners after) (Err err)
+    done_failed now new c after err g l = (
       g.acts ++ l.thing,
-      finish (g.acts ++ l.thing) (run_state new now.runners after) l.next (Err fault) (All-append (IsAllowed beat) g.acts l.thing g.allowed l.allowed) (acts_join k old.scene now.scene new g.acts l.thing g.moves l.moves)
+      finish (g.acts ++ l.thing) (run_state new now.runners after) l.next (Err err) (All-append (IsAllowed beat) g.acts l.thing g.allowed l.allowed) (acts_join k old.scene now.scene new g.acts l.thing g.moves l.moves)
           (tells_on begun now.scene.desk.running.epoch l.next g.acts l.thing g.told l.told)
           (subst (λ (rs : List (EpochRecord ℕ)). IsPrinted old.output after (report decimal rs)) (sym (records_append g.acts l.thing)) (printed_then (records g.acts) (records l.thing) old.output now.output after g.written l.printed))
-          (fit_on g.acts l.thing now.runners l.quiet g.fitting) (keeps_append rule [] g.acts l.thing g.keeps (keeps_driven rule (history g.acts) l.thing l.driven)) g.clients g.bounds g.plans (inr (failure_on now c g new l.thing after fault l.failure)),
+          (fit_on g.acts l.thing now.runners l.quiet g.fitting) (keeps_append rule [] g.acts l.thing g.keeps (keeps_driven rule (history g.acts) l.thing l.driven)) g.clients g.bounds g.plans (inr (failure_on now c g new l.thing after err l.failure)),
       round_ends numbers g.acts l.thing g.shape l.one,
     )
 
     -- ---- the epoch whose end was refused, or left in doubt, behind the others
 
-    module _ (acts : List Act) (new : RunState V U) (result : Result (Unit {0}) Fault) (d : Conducted k kind beat old new acts result) (front : List Act) (writes : List (ℕ × Option (List ℕ))) (refused : EndErr) (behind : List Act)
+    module _ (acts : List Act) (new : RunState V U) (result : Result (Unit {0}) RunErr) (d : Conducted k kind beat old new acts result) (front : List Act) (writes : List (ℕ × Option (List ℕ))) (refused : EndErr) (behind : List Act)
         (is : acts ≡ front ++ Refuses writes refused ∷ behind) (says : All IsSaid behind) (u : IsUnended k old.scene front writes refused) where
       abbrev due : EpochRecord ℕ
       due = record_of u.closed

@@ -15,7 +15,9 @@ use Rattle.ob_store.proofs.Moments.{started, then_on, weakened}
 use Rattle.ob_desk.specs.Desk.{record_of}
 use Rattle.ob_desk.specs.Beats.{BeatKind}
 use Rattle.ob_desk.proofs.Runs.{committed_append}
-use Rattle.ob_conduct.specs.Acts.{Act, Says, Halts, Rests as Looked, Takes, Delivers, DeliverFails, FetchFails, Closes, Publishes, Refuses, Unprinted, calls, records, rest_fetches, vault_calls, fault_in, fault_told}
+use Rattle.ob_conduct.specs.declared.run_err.RunErr.{RunErr}
+use Rattle.ob_conduct.specs.declared.run_err.RunErr.TheVariants as failed
+use Rattle.ob_conduct.specs.Acts.{Act, Says, Halts, Rests as Looked, Takes, Delivers, DeliverFails, FetchFails, RestUnwatched, Closes, Publishes, Refuses, Unprinted, Unwatched, calls, records, rest_fetches, vault_calls, fault_in, fault_told}
 use Rattle.ob_conduct.specs.Scenes.{RunState, RunnerKind}
 use Rattle.ob_conduct.specs.Records.{after_txns, contents, Makes, AreWritten, AreAnswered}
 use Rattle.ob_conduct.specs.Moves.{IsUnended, IsReason, Failure}
@@ -127,11 +129,11 @@ may_now v u told next doubt b at (inl is) = inl (is ∙ behind_now v u told b)
 may_now v u told next doubt b at (inr is) = absurd (no_doubt at (sym b.none ∙ is))
 
 -- what may stand once an end was refused, or left in doubt
-may_unended : (v u : VaultState) (told : List (EpochRecord ℕ)) (r : EpochRecord ℕ) (writes : List (ℕ × Option (List ℕ))) (epoch : ℕ) (refused : EndErr) (fault : Fault) → Makes writes r → IsBehind v told u → fault ≡ fault_in refused → IsEndFault epoch refused
-    → (at : Standing) → MayStand (vault_next u (End writes) (end_answer (Err refused))) at → IsLeftNow v told (Some r) (TellsDoubt epoch (Err fault)) at
-may_unended v u told r writes epoch (Before given) fault makes b is_given is_fault at may = may_now v (vault_next u (End writes) (RefusedBy given)) told (Some r) (TellsDoubt epoch (Err fault)) (record { content = b.content; epoch = b.epoch; none = b.none }) at may
-may_unended v u told r writes epoch (Unsure given) fault makes b is_given is_fault at (inl is) = inl (is ∙ behind_now v u told b)
-may_unended v u told r writes epoch (Unsure given) fault makes b is_given is_fault at (inr is) = inr (r, refl, ap Err (is_given ∙ is_fault), one_doubt at (standing_next u writes) is ∙ behind_next v u told r writes makes b)
+may_unended : (v u : VaultState) (told : List (EpochRecord ℕ)) (r : EpochRecord ℕ) (writes : List (ℕ × Option (List ℕ))) (epoch : ℕ) (refused : EndErr) (err : RunErr) → Makes writes r → IsBehind v told u → err ≡ failed.Fault (fault_in refused) → IsEndFault epoch refused
+    → (at : Standing) → MayStand (vault_next u (End writes) (end_answer (Err refused))) at → IsLeftNow v told (Some r) (TellsDoubt epoch (Err err)) at
+may_unended v u told r writes epoch (Before given) err makes b is_given is_fault at may = may_now v (vault_next u (End writes) (RefusedBy given)) told (Some r) (TellsDoubt epoch (Err err)) (record { content = b.content; epoch = b.epoch; none = b.none }) at may
+may_unended v u told r writes epoch (Unsure given) err makes b is_given is_fault at (inl is) = inl (is ∙ behind_now v u told b)
+may_unended v u told r writes epoch (Unsure given) err makes b is_given is_fault at (inr is) = inr (r, refl, ap Err (is_given ∙ ap failed.Fault is_fault), one_doubt at (standing_next u writes) is ∙ behind_next v u told r writes makes b)
 
 -- ---- chains
 
@@ -305,9 +307,9 @@ module _ {V U Plan : Type 0} (k : Kind V) (only : OnlyNow k) (rests : Rests k) (
   abbrev epoch : ℕ
   epoch = old.scene.desk.running.epoch + length (records acts)
 
-  module _ (result : Result (Unit {0}) Fault) (d : Conducted k kind beat old new acts result) where
+  module _ (result : Result (Unit {0}) RunErr) (d : Conducted k kind beat old new acts result) where
     chain : AllCalled k first (calls acts) last
-    chain = called k first (calls acts) d.notes last d.chain
+    chain = called k first old.scene.trace (calls acts) d.notes last new.scene.trace d.chain
 
     all_answered : AreAnswered (calls acts) → LeftByRun k old new acts result v
     all_answered are =
@@ -342,9 +344,9 @@ module _ {V U Plan : Type 0} (k : Kind V) (only : OnlyNow k) (rests : Rests k) (
               (rests last (vault_next u (Fetch keys) (RefusedBy fault)) c (one.sound u (sound_after k first front mid v before sound)) left);
         }
 
-  module _ (fault : Fault) (d : Conducted k kind beat old new acts (Err fault)) (f : Failure k old.scene new.scene acts old.output new.output fault) where
+  module _ (err : RunErr) (d : Conducted k kind beat old new acts (Err err)) (f : Failure k old.scene new.scene acts old.output new.output err) where
     -- the end of an epoch was refused, or left in doubt
-    by_end : (writes : List (ℕ × Option (List ℕ))) (refused : EndErr) → f.act ≡ Refuses writes refused → IsUnended k old.scene f.front writes refused → LeftByRun k old new acts (Err fault) v
+    by_end : (writes : List (ℕ × Option (List ℕ))) (refused : EndErr) → f.act ≡ Refuses writes refused → IsUnended k old.scene f.front writes refused → LeftByRun k old new acts (Err err) v
     by_end writes refused act_is r =
         let due : EpochRecord ℕ = record_of r.closed in
         let answer : VaultAnswer = end_answer (Err refused) in
@@ -354,18 +356,18 @@ module _ {V U Plan : Type 0} (k : Kind V) (only : OnlyNow k) (rests : Rests k) (
         let wrote : AreWritten (ended_of front) told = wrote_before acts front (End writes) answer is (refused_ends writes refused) d.wrote in
         let u : VaultState = after_calls v front in
         let b : IsBehind v told u = is_behind v front told f.answered wrote none in
-        let fault_is : fault ≡ fault_in refused = same_Some fault (fault_in refused) (sym f.told ∙ ap fault_told act_is) in
+        let err_is : err ≡ failed.Fault (fault_in refused) = same_Some err (failed.Fault (fault_in refused)) (sym f.told ∙ ap fault_told act_is) in
         let same_records : records acts ≡ records f.front = tells_before acts f.front (Refuses writes refused) f.behind acts_are f.says old.scene.desk new.scene.desk d.leads ∙ append-nil (records f.front) in
         let is_fault : IsEndFault epoch refused = subst (λ (rs : List (EpochRecord ℕ)). IsEndFault (old.scene.desk.running.epoch + length rs) refused) (sym same_records) r.is_fault in
-        let whole : AllCalled k first (calls acts) last = chain (Err fault) d in
+        let whole : AllCalled k first (calls acts) last = chain (Err err) d in
         let (mid, before, one) = chain_last k first front (End writes) answer last (subst (λ (s : List (VaultCall × VaultAnswer)). AllCalled k first s last) is whole) in
         record {
           next = Some due;
-          is_next = (fault, refl, f, (writes, refused, act_is, r, refl));
+          is_next = (err, refl, f, (writes, refused, act_is, r, refl));
           since = one_more_leaves k only rests first front mid (End writes) answer last v told (IsLeftStanding v told (Some due)) before one f.answered wrote sound none (λ at x. inl x) (may_in_end v u told due writes r.due.makes b);
           stages = last_staged k only rests first front mid (End writes) answer last v told (Some due) before one f.answered wrote sound none (end_between k only rests (k.stands first) u writes due r.due.makes b.none);
-          now = λ c left. stands_alike (k.stands first) (k.stands last) (alike_all k first (calls acts) last whole) (MayStand (vault_next u (End writes) answer)) (IsLeftNow v told (Some due) (TellsDoubt epoch (Err fault)))
-              (may_unended v u told due writes epoch refused fault r.due.makes b fault_is is_fault) c
+          now = λ c left. stands_alike (k.stands first) (k.stands last) (alike_all k first (calls acts) last whole) (MayStand (vault_next u (End writes) answer)) (IsLeftNow v told (Some due) (TellsDoubt epoch (Err err)))
+              (may_unended v u told due writes epoch refused err r.due.makes b err_is is_fault) c
               (rests last (vault_next u (End writes) answer) c (one.sound u (sound_after k first front mid v before sound)) left);
         }
 
@@ -373,14 +375,17 @@ module _ {V U Plan : Type 0} (k : Kind V) (only : OnlyNow k) (rests : Rests k) (
     before_it : (act : Act) → f.act ≡ act → calls acts ≡ calls f.front ++ vault_calls act
     before_it act is = asks_before acts f.front f.act f.behind f.acts_are f.says ∙ ap (λ (x : Act). calls f.front ++ vault_calls x) is
 
-    no_calls : (act : Act) → f.act ≡ act → vault_calls act ≡ [] → LeftByRun k old new acts (Err fault) v
-    no_calls act is asks = all_answered (Err fault) d (subst AreAnswered (sym (before_it act is ∙ ap (λ (x : List (VaultCall × VaultAnswer)). calls f.front ++ x) asks ∙ append-nil (calls f.front))) f.answered)
+    no_calls : (act : Act) → f.act ≡ act → vault_calls act ≡ [] → LeftByRun k old new acts (Err err) v
+    no_calls act is asks = all_answered (Err err) d (subst AreAnswered (sym (before_it act is ∙ ap (λ (x : List (VaultCall × VaultAnswer)). calls f.front ++ x) asks ∙ append-nil (calls f.front))) f.answered)
 
-    by_act : (act : Act) → f.act ≡ act → IsReason k old.scene f.front act → LeftByRun k old new acts (Err fault) v
+    by_act : (act : Act) → f.act ≡ act → IsReason k old.scene f.front act new.scene.trace → LeftByRun k old new acts (Err err) v
     by_act (Halts given) is reason = no_calls (Halts given) is refl
     by_act Unprinted is reason = no_calls Unprinted is refl
-    by_act (DeliverFails keys given) is reason = by_fetch (Err fault) d (calls f.front) keys given (before_it (DeliverFails keys given) is) f.answered
-    by_act (FetchFails look batches keys given) is reason = by_fetch (Err fault) d (calls f.front ++ rest_fetches batches) keys given
+    by_act Unwatched is reason = no_calls Unwatched is refl
+    by_act (RestUnwatched look batches) is reason = all_answered (Err err) d (subst AreAnswered (sym (before_it (RestUnwatched look batches) is))
+        (answered_join (calls f.front) (rest_fetches batches) f.answered (subst AreAnswered (append-nil (rest_fetches batches)) (answered_rest batches [] tt))))
+    by_act (DeliverFails keys given) is reason = by_fetch (Err err) d (calls f.front) keys given (before_it (DeliverFails keys given) is) f.answered
+    by_act (FetchFails look batches keys given) is reason = by_fetch (Err err) d (calls f.front ++ rest_fetches batches) keys given
         (before_it (FetchFails look batches keys given) is ∙ sym (append_assoc (calls f.front) (rest_fetches batches) ((Fetch keys, RefusedBy given) ∷ [])))
         (answered_join (calls f.front) (rest_fetches batches) f.answered (subst AreAnswered (append-nil (rest_fetches batches)) (answered_rest batches [] tt)))
     by_act (Refuses writes refused) is reason = by_end writes refused is reason
@@ -391,18 +396,18 @@ module _ {V U Plan : Type 0} (k : Kind V) (only : OnlyNow k) (rests : Rests k) (
     by_act (Closes look batches writes) is reason = absurd reason
     by_act (Publishes writes left record_told) is reason = absurd reason
 
-  refused_leaves : (fault : Fault) (d : Conducted k kind beat old new acts (Err fault)) → RunEnds k old new acts (Err fault) → LeftByRun k old new acts (Err fault) v
-  refused_leaves fault d (inl short) = all_answered (Err fault) d (subst (λ (xs : List Act). AreAnswered (calls xs)) (sym short.none) tt)
-  refused_leaves fault d (inr f) = by_act fault d f f.act refl f.reason
+  refused_leaves : (err : RunErr) (d : Conducted k kind beat old new acts (Err err)) → RunEnds k old new acts (Err err) → LeftByRun k old new acts (Err err) v
+  refused_leaves err d (inl short) = all_answered (Err err) d (subst (λ (xs : List Act). AreAnswered (calls xs)) (sym short.none) tt)
+  refused_leaves err d (inr f) = by_act err d f f.act refl f.reason
 
   -- A crash at any moment of a run leaves what stands behind a front of the records, or behind all of them and the epoch whose end was
   -- begun; at the return behind all of them, or also that epoch, but this only where the answer tells of doubt.
-  pub run_leaves : (result : Result (Unit {0}) Fault) (d : Conducted k kind beat old new acts result) → LeftByRun k old new acts result v
+  pub run_leaves : (result : Result (Unit {0}) RunErr) (d : Conducted k kind beat old new acts result) → LeftByRun k old new acts result v
   run_leaves (Ok done) d = all_answered (Ok done) d d.ends.0
-  run_leaves (Err fault) d = refused_leaves fault d d.ends
+  run_leaves (Err err) d = refused_leaves err d d.ends
 
   -- where the answer tells of no doubt, a crash at the return leaves what stands behind all the records,
-  pub sure_now : (result : Result (Unit {0}) Fault) (d : Conducted k kind beat old new acts result) → (TellsDoubt epoch result → ⊥)
+  pub sure_now : (result : Result (Unit {0}) RunErr) (d : Conducted k kind beat old new acts result) → (TellsDoubt epoch result → ⊥)
       → (c : Image) → IsImageOf (k.disk last) c → StandsIn (k.stands first) (λ at. at ≡ standing_behind v told) c
   sure_now result d sure c left = let l = run_leaves result d in
       stands_still (k.stands first) (IsLeftNow v told l.next (TellsDoubt epoch result)) (λ at. at ≡ standing_behind v told)

@@ -3,7 +3,7 @@ use Rattle.std.proofs.Common.{◌≡◌, ◌∙◌, ℕ, List, [], ◌∷◌, �
 use Rattle.std.proofs.lemmas.List.{append-nil, append_assoc}
 use Rattle.std.proofs.lemmas.List.Concat.{flat_map-append}
 use Rattle.ob_desk.specs.Desk.{Call, Reply}
-use Rattle.ob_conduct.specs.Acts.{Act, Says, Halts, Rests, Takes, Delivers, DeliverFails, FetchFails, Closes, Publishes, Refuses, Unprinted, desk_calls, history}
+use Rattle.ob_conduct.specs.Acts.{Act, Says, Halts, Rests, Takes, Delivers, DeliverFails, FetchFails, RestUnwatched, Closes, Publishes, Refuses, Unprinted, Unwatched, desk_calls, history}
 use Rattle.ob_conduct.specs.Rounds.{TurnRule, KeepsRule, KeepRule, AreDriven, IsClientTurn, AreTurns, IsOneThing, OneRound, round_acts, acts_of, AreRounds, InRounds, InTurns}
 
 -- ---- turns by their rule
@@ -29,10 +29,12 @@ module _ (rule : TurnRule) where
   keeps_driven told (Delivers batch ∷ acts) driven = (tt, keeps_driven (told ++ desk_calls (Delivers batch)) acts driven)
   keeps_driven told (DeliverFails keys fault ∷ acts) driven = (tt, keeps_driven (told ++ desk_calls (DeliverFails keys fault)) acts driven)
   keeps_driven told (FetchFails look batches keys fault ∷ acts) driven = (tt, keeps_driven (told ++ desk_calls (FetchFails look batches keys fault)) acts driven)
+  keeps_driven told (RestUnwatched look batches ∷ acts) driven = (tt, keeps_driven (told ++ desk_calls (RestUnwatched look batches)) acts driven)
   keeps_driven told (Closes look batches writes ∷ acts) driven = (tt, keeps_driven (told ++ desk_calls (Closes look batches writes)) acts driven)
   keeps_driven told (Publishes writes left told_now ∷ acts) driven = (tt, keeps_driven (told ++ desk_calls (Publishes writes left told_now)) acts driven)
   keeps_driven told (Refuses writes refused ∷ acts) driven = (tt, keeps_driven (told ++ desk_calls (Refuses writes refused)) acts driven)
   keeps_driven told (Unprinted ∷ acts) driven = (tt, keeps_driven (told ++ desk_calls Unprinted) acts driven)
+  keeps_driven told (Unwatched ∷ acts) driven = (tt, keeps_driven (told ++ desk_calls Unwatched) acts driven)
 
 -- a stronger rule
 pub keeps_weaker : (rule other : TurnRule) → ((client : ℕ) (said steps : List (Call × Reply)) → rule client said steps → other client said steps) → (told : List (Call × Reply)) (acts : List Act) → KeepRule rule told acts → KeepRule other told acts
@@ -44,10 +46,12 @@ keeps_weaker rule other so told (Takes look keys ∷ acts) (first, rest) = (tt, 
 keeps_weaker rule other so told (Delivers batch ∷ acts) (first, rest) = (tt, keeps_weaker rule other so (told ++ desk_calls (Delivers batch)) acts rest)
 keeps_weaker rule other so told (DeliverFails keys fault ∷ acts) (first, rest) = (tt, keeps_weaker rule other so (told ++ desk_calls (DeliverFails keys fault)) acts rest)
 keeps_weaker rule other so told (FetchFails look batches keys fault ∷ acts) (first, rest) = (tt, keeps_weaker rule other so (told ++ desk_calls (FetchFails look batches keys fault)) acts rest)
+keeps_weaker rule other so told (RestUnwatched look batches ∷ acts) (first, rest) = (tt, keeps_weaker rule other so (told ++ desk_calls (RestUnwatched look batches)) acts rest)
 keeps_weaker rule other so told (Closes look batches writes ∷ acts) (first, rest) = (tt, keeps_weaker rule other so (told ++ desk_calls (Closes look batches writes)) acts rest)
 keeps_weaker rule other so told (Publishes writes left told_now ∷ acts) (first, rest) = (tt, keeps_weaker rule other so (told ++ desk_calls (Publishes writes left told_now)) acts rest)
 keeps_weaker rule other so told (Refuses writes refused ∷ acts) (first, rest) = (tt, keeps_weaker rule other so (told ++ desk_calls (Refuses writes refused)) acts rest)
 keeps_weaker rule other so told (Unprinted ∷ acts) (first, rest) = (tt, keeps_weaker rule other so (told ++ desk_calls Unprinted) acts rest)
+keeps_weaker rule other so told (Unwatched ∷ acts) (first, rest) = (tt, keeps_weaker rule other so (told ++ desk_calls Unwatched) acts rest)
 
 -- ---- rounds
 

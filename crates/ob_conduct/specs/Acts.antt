@@ -12,6 +12,8 @@ use Rattle.ob_desk.specs.Desk.{Call, Reply}
 use Rattle.ob_desk.specs.declared.calls.Look.{Look}
 use Rattle.ob_desk.specs.Beats.{BeatKind}
 use Rattle.ob_session.specs.Steps.{IsOwn}
+use Rattle.ob_conduct.specs.declared.run_err.RunErr.{RunErr}
+use Rattle.ob_conduct.specs.declared.run_err.RunErr.TheVariants as failed
 
 -- A batch that was fetched and delivered: keys in their places, none for a pad, and their values.
 pub record Batch : Type 0 where
@@ -34,6 +36,8 @@ pub data Act : Type 0 where
   DeliverFails : (keys : List (Option ℕ)) (fault : Fault) → Act
   -- to end the epoch batches were fetched, and the vault refused one more with these keys
   FetchFails : (look : Look) (batches : List Batch) (keys : List (Option ℕ)) (fault : Fault) → Act
+  -- or in the last of these the watch broke: they were delivered, the epoch wasn't closed, and the desk was stopped
+  RestUnwatched : (look : Look) (batches : List Batch) → Act
   -- To end the epoch the batches that were left were fetched, and it was closed with these writes;
   Closes : (look : Look) (batches : List Batch) (writes : List (ℕ × Option (List ℕ))) → Act
   -- the vault ended it with them, and it was published as this record: the next epoch has so many batches left;
@@ -42,6 +46,8 @@ pub data Act : Type 0 where
   Refuses : (writes : List (ℕ × Option (List ℕ))) (refused : EndErr) → Act
   -- the output failed at the lines of the record that was published last, and the desk was stopped
   Unprinted : Act
+  -- The watch broke in the vault's last call, a batch that was delivered, or an end behind which its epoch's lines are written; and the desk was stopped.
+  Unwatched : Act
 
 -- the calls of a look
 abbrev pub look_calls : Look → List (Call × Reply)
@@ -87,7 +93,9 @@ desk_calls (FetchFails look batches keys fault) = look_calls look ++ (rest_calls
 desk_calls (Closes look batches writes) = look_calls look ++ (rest_calls batches ++ close_calls writes)
 desk_calls (Publishes writes left told) = publish_calls left told
 desk_calls (Refuses writes refused) = (stop_for refused, desk.Done) ∷ []
+desk_calls (RestUnwatched look batches) = look_calls look ++ (rest_calls batches ++ stop_calls SinkFault)
 desk_calls Unprinted = stop_calls SinkFault
+desk_calls Unwatched = stop_calls SinkFault
 
 abbrev pub batch_fetch : Batch → VaultCall × VaultAnswer
 batch_fetch batch = (Fetch batch.keys, Values batch.values)
@@ -107,7 +115,9 @@ vault_calls (FetchFails look batches keys fault) = rest_fetches batches ++ (Fetc
 vault_calls (Closes look batches writes) = rest_fetches batches
 vault_calls (Publishes writes left told) = (End writes, Ended) ∷ []
 vault_calls (Refuses writes refused) = (End writes, end_answer (Err refused)) ∷ []
+vault_calls (RestUnwatched look batches) = rest_fetches batches
 vault_calls Unprinted = []
+vault_calls Unwatched = []
 
 -- all calls of the desk, in order
 abbrev pub history : List Act → List (Call × Reply)
@@ -158,15 +168,24 @@ IsAllowed beat (Delivers batch) = Unit {0}
 IsAllowed beat (DeliverFails keys fault) = Unit {0}
 IsAllowed beat (Publishes writes left told) = Unit {0}
 IsAllowed beat (Refuses writes refused) = Unit {0}
+IsAllowed beat (RestUnwatched look batches) = MayAct beat look × IsToEnd look
 IsAllowed beat Unprinted = Unit {0}
+IsAllowed beat Unwatched = Unit {0}
 
--- the fault that an act tells of
-abbrev pub fault_told : Act → Option Fault
-fault_told (Halts fault) = Some fault
-fault_told (DeliverFails keys fault) = Some fault
-fault_told (FetchFails look batches keys fault) = Some fault
-fault_told (Refuses writes refused) = Some (fault_in refused)
-fault_told Unprinted = Some SinkFault
+-- the fault that the desk is stopped with where a run is cut off so
+abbrev pub fault_of : RunErr → Fault
+fault_of (failed.Fault fault) = fault
+fault_of failed.Unwatched = SinkFault
+
+-- what an act tells to have cut the run off
+abbrev pub fault_told : Act → Option RunErr
+fault_told (Halts fault) = Some (failed.Fault fault)
+fault_told (DeliverFails keys fault) = Some (failed.Fault fault)
+fault_told (FetchFails look batches keys fault) = Some (failed.Fault fault)
+fault_told (Refuses writes refused) = Some (failed.Fault (fault_in refused))
+fault_told Unprinted = Some (failed.Fault SinkFault)
+fault_told (RestUnwatched look batches) = Some failed.Unwatched
+fault_told Unwatched = Some failed.Unwatched
 fault_told (Says client steps) = None
 fault_told (Rests look) = None
 fault_told (Takes look keys) = None

@@ -1,6 +1,5 @@
 -- What a crash leaves of a vault at any moment of a run.
 use Rattle.std.specs.Prelude.{ℕ, suc, ◌≡◌, ◌⊎◌, ◌+◌, List, [], ◌∷◌, ◌++◌, length, Option, None, Some, Result, Err}
-use Rattle.ob_base.specs.declared.fault.Fault.{Fault}
 use Rattle.ob_base.specs.declared.fault.Fault.TheVariants.{StoreFault}
 use Rattle.ob_io.specs.Streams.{Flow}
 use Rattle.ob_serial.specs.Serial.{EpochRecord}
@@ -10,6 +9,8 @@ use Rattle.ob_store.specs.Disk.{Image}
 use Rattle.ob_store.specs.Images.{IsImageOf, LeavesOnly}
 use Rattle.ob_serial.specs.declared.vault.EndErr.{EndErr}
 use Rattle.ob_desk.specs.Desk.{record_of}
+use Rattle.ob_conduct.specs.declared.run_err.RunErr.{RunErr}
+use Rattle.ob_conduct.specs.declared.run_err.RunErr.TheVariants as failed
 use Rattle.ob_conduct.specs.Acts.{Act, Refuses, records}
 use Rattle.ob_conduct.specs.Scenes.{Scene, RunState}
 use Rattle.ob_conduct.specs.Records.{contents}
@@ -36,8 +37,8 @@ abbrev pub IsLeftStanding : VaultState → List (EpochRecord ℕ) → Option (Ep
 IsLeftStanding v told next at = IsFront v told at ⊎ ((r : EpochRecord ℕ) × (next ≡ Some r) × (at ≡ standing_behind v (told ++ r ∷ [])))
 
 -- The answer tells that the end of this epoch is in doubt.
-abbrev pub TellsDoubt : ℕ → Result (Unit {0}) Fault → Type 0
-TellsDoubt epoch result = result ≡ Err (StoreFault (Some epoch))
+abbrev pub TellsDoubt : ℕ → Result (Unit {0}) RunErr → Type 0
+TellsDoubt epoch result = result ≡ Err (failed.Fault (StoreFault (Some epoch)))
 
 -- It stands behind all of the records; or, only where the end of the next epoch is in doubt, also behind that one.
 abbrev pub IsLeftNow : VaultState → List (EpochRecord ℕ) → Option (EpochRecord ℕ) → Type 0 → Standing → Type 0
@@ -59,15 +60,15 @@ Stages {V} k stands at (r ∷ told) next from last =
     (mid : V) × LeavesOnly (k.disk from) (k.disk mid) (StandsIn stands (IsThisOrNext at (Some r))) × Stages k stands (next_at at r) told next mid last
 
 -- The record of an epoch whose end these acts tell to be refused, or left in doubt.
-abbrev pub IsUnendedRecord : {V : Type 0} → {k : Kind V} → {old new : Scene V} → {acts : List Act} → {before after : Flow} → {fault : Fault} → Failure k old new acts before after fault → EpochRecord ℕ → Type 0
+abbrev pub IsUnendedRecord : {V : Type 0} → {k : Kind V} → {old new : Scene V} → {acts : List Act} → {before after : Flow} → {err : RunErr} → Failure k old new acts before after err → EpochRecord ℕ → Type 0
 IsUnendedRecord {k = k} {old = old} f r = (writes : List (ℕ × Option (List ℕ))) × (refused : EndErr) × (f.act ≡ Refuses writes refused) × (u : IsUnended k old f.front writes refused) × (record_of u.closed ≡ r)
 
-module _ {V U : Type 0} (k : Kind V) (old new : RunState V U) (acts : List Act) (result : Result (Unit {0}) Fault) where
+module _ {V U : Type 0} (k : Kind V) (old new : RunState V U) (acts : List Act) (result : Result (Unit {0}) RunErr) where
   -- None: no epoch's end was begun behind those of the records. Some: the end of this record's epoch was, and was refused or left in
   -- doubt with the fault that is answered.
   abbrev pub IsNextOf : Option (EpochRecord ℕ) → Type 0
   IsNextOf None = Unit {0}
-  IsNextOf (Some r) = (fault : Fault) × (result ≡ Err fault) × (failure : Failure k old.scene new.scene acts old.output new.output fault) × IsUnendedRecord failure r
+  IsNextOf (Some r) = (err : RunErr) × (result ≡ Err err) × (failure : Failure k old.scene new.scene acts old.output new.output err) × IsUnendedRecord failure r
 
   -- What a crash leaves of a vault that held v when the run began.
   pub record LeftByRun (v : VaultState) : Type 0 where

@@ -1,27 +1,29 @@
 -- What each part of an act does, and each act.
-use Rattle.std.specs.Prelude.{ℕ, suc, ◌≡◌, ◌+◌, ◌⊎◌, All, Contains, List, [], ◌∷◌, ◌++◌, length, map, Option, Some, Err, decimal}
+use Rattle.std.specs.Prelude.{ℕ, suc, ◌≡◌, ◌+◌, ◌⊎◌, true, false, All, Contains, List, [], ◌∷◌, ◌++◌, length, map, Option, Some, Result, Ok, Err, decimal}
 use Rattle.std.specs.Ordering.{nat_cmp}
 use Rattle.ob_base.specs.declared.params.Params.{Params}
 use Rattle.ob_base.specs.Causes.{Rose}
 use Rattle.ob_base.specs.declared.fault.Fault.{Fault}
-use Rattle.ob_base.specs.declared.fault.Fault.TheVariants.{Memory}
+use Rattle.ob_base.specs.declared.fault.Fault.TheVariants.{Memory, SinkFault}
 use Rattle.ob_io.specs.Streams.{Flow}
 use Rattle.ob_report.specs.Printed.{IsPrinted}
 use Rattle.ob_report.specs.Report.{report}
 use Rattle.ob_store.specs.declared.watch.Note.{Note}
 use Rattle.ob_store.specs.Calls.{IsStoreFault}
-use Rattle.ob_store.specs.Lines.{Shows}
+use Rattle.ob_store.specs.Lines.{Trace, Shows}
 use Rattle.ob_serial.specs.Serial.{EpochRecord, Map}
 use Rattle.ob_serial.specs.Vaults.{VaultCall, Fetch, End, VaultAnswer, Ended, RefusedBy, VaultCounts}
 use Rattle.ob_serial.specs.VaultViews.{IsFetchFault, IsEndFault, end_answer}
 use Rattle.ob_serial.specs.VaultKinds.{Kind, ended_of}
 use Rattle.ob_serial.specs.declared.vault.EndErr.{EndErr}
 use Rattle.ob_desk.specs.Desk as desk
-use Rattle.ob_desk.specs.Desk.{DeskState, Setup, Call, Reply, Part, Run, MayOpen, new_desk, record_of}
+use Rattle.ob_desk.specs.Desk.{DeskState, Setup, Call, Reply, Part, Run, MayOpen, StopStep, new_desk, record_of}
 use Rattle.ob_desk.specs.Beats.{BeatKind}
 use Rattle.ob_session.specs.Steps.{Leads, IsOwn}
 use Rattle.ob_session.specs.Clients.{said_by}
-use Rattle.ob_conduct.specs.Acts.{Act, Says, Halts, DeliverFails, FetchFails, Refuses, Unprinted, Batch, history, calls, records, rest_calls, rest_fetches, close_calls, publish_calls, stop_for, fault_in, fault_told, IsAllowed}
+use Rattle.ob_conduct.specs.declared.run_err.RunErr.{RunErr}
+use Rattle.ob_conduct.specs.declared.run_err.RunErr.TheVariants as failed
+use Rattle.ob_conduct.specs.Acts.{Act, Says, Halts, Delivers, DeliverFails, FetchFails, RestUnwatched, Refuses, Unprinted, Unwatched, Batch, history, calls, records, rest_calls, rest_fetches, close_calls, publish_calls, stop_calls, stop_for, fault_in, fault_of, fault_told, IsAllowed}
 use Rattle.ob_conduct.specs.Rounds.{KeepRule, plan_rule, AreDriven, AreTurns, IsOneThing}
 use Rattle.ob_conduct.specs.Scenes.{Scene, AllNoted, RunnerKind, seat_of}
 use Rattle.ob_conduct.specs.Records.{HoldsMap, AreAnswered, IsWritten, IsCutShort}
@@ -31,7 +33,7 @@ use Rattle.ob_conduct.specs.Ready.{IsBetweenActs, TellsEpochs, IsDueRecord}
 pub record Moves {V : Type 0} (k : Kind V) (old : Scene V) (steps : List (Call × Reply)) (asked : List (VaultCall × VaultAnswer)) (new : Scene V) : Type 0 where
   pub leads : Leads old.desk steps new.desk
   pub notes : List Note
-  pub chain : AllNoted k old.vault asked notes new.vault
+  pub chain : AllNoted k old.vault old.trace asked notes new.vault new.trace
   pub shown : Shows notes old.trace new.trace
   pub run : (m : Map nat_cmp) → HoldsMap k old.vault m → (next : Map nat_cmp) × Run m old.desk steps next new.desk × HoldsMap k new.vault next
 
@@ -49,6 +51,35 @@ pub record ReadFails {V : Type 0} (k : Kind V) (old : Scene V) (batches : List B
   pub is_fault : IsFetchFault fault
   pub cause : IsStoreFault fault → Rose (k.disk old.vault).faults (k.disk new.vault).faults
   pub stopped : new.desk.stop ≡ Some fault
+
+-- The watch had broken, and the desk was stopped for that.
+pub record HaltsUnwatched {V : Type 0} (k : Kind V) (old new : Scene V) : Type 0 where
+  pub moves : Moves k old (stop_calls SinkFault) [] new
+  pub broken : new.trace.broken ≡ true
+  pub stopped : new.desk.stop ≡ Some SinkFault
+
+-- What comes of a look at the watch: nothing where it is whole, else the desk is stopped.
+abbrev pub HeedsWatch : DeskState → DeskState → Trace → Result (Unit {0}) RunErr → Type 0
+HeedsWatch old new trace (Ok done) = (trace.broken ≡ false) × (new ≡ old)
+HeedsWatch old new trace (Err (failed.Fault fault)) = ⊥
+HeedsWatch old new trace (Err failed.Unwatched) = (trace.broken ≡ true) × StopStep old SinkFault new
+
+-- Batches were taken, fetched and delivered, in the last of which the watch broke, and the desk was stopped.
+pub record ReadsUnwatched {V : Type 0} (k : Kind V) (p : Params) (old : Scene V) (batches : List Batch) (new : Scene V) : Type 0 where
+  pub mid : Scene V
+  pub counts : VaultCounts
+  pub read : ReadsBatches k p old batches mid counts
+  pub halts : HaltsUnwatched k mid new
+
+-- What stops a run in a batch of its own: the vault refused it, or the watch broke in it.
+abbrev pub BatchStops : {V : Type 0} → Kind V → Params → Scene V → RunErr → Scene V → Type 0
+BatchStops k p old (failed.Fault fault) new = ReadFails k old [] fault new
+BatchStops k p old failed.Unwatched new = (batch : Batch) × ReadsUnwatched k p old (batch ∷ []) new
+
+-- what stops it in the batches before a close
+abbrev pub RestStops : {V : Type 0} → Kind V → Params → Scene V → RunErr → Scene V → Type 0
+RestStops k p old (failed.Fault fault) new = (batches : List Batch) × ReadFails k old batches fault new
+RestStops k p old failed.Unwatched new = (batches : List Batch) × ReadsUnwatched k p old batches new
 
 -- The desk closed its epoch with these writes.
 pub record IsClosed {V : Type 0} (k : Kind V) (old : Scene V) (writes : List (ℕ × Option (List ℕ))) (new : Scene V) : Type 0 where
@@ -81,7 +112,7 @@ pub record EndFails {V : Type 0} (k : Kind V) (old : Scene V) (fault : Fault) (n
   pub cause : IsStoreFault fault → Rose (k.disk old.vault).faults (k.disk new.vault).faults
   pub stopped : new.desk.stop ≡ Some fault
 
--- A thing that the driver did, which nobody refused.
+-- A thing that the driver did, which nobody refused, and behind which the watch is whole.
 pub record Acted {V : Type 0} (k : Kind V) (p : Params) (beat : BeatKind) (old : Scene V) (before : Flow) (new : Scene V) (c : VaultCounts) (after : Flow) : Type 0 where
   pub thing : List Act
   pub one : IsOneThing thing
@@ -94,6 +125,7 @@ pub record Acted {V : Type 0} (k : Kind V) (p : Params) (beat : BeatKind) (old :
   pub answered : AreAnswered (calls thing)
   pub told : TellsEpochs old.desk.running.epoch new.desk.running.epoch (ended_of (calls thing)) (records thing)
   pub written : IsWritten (report decimal (records thing)) before after
+  pub whole : new.trace.broken ≡ false
 
 -- The epoch that is closed behind these acts, and whose end was refused or left in doubt. Its record is `record_of closed`.
 pub record IsUnended {V : Type 0} (k : Kind V) (old : Scene V) (front : List Act) (writes : List (ℕ × Option (List ℕ))) (refused : EndErr) : Type 0 where
@@ -104,14 +136,16 @@ pub record IsUnended {V : Type 0} (k : Kind V) (old : Scene V) (front : List Act
   pub due : IsDueRecord (old.desk.running.epoch + length (records front)) writes (record_of closed)
   pub is_fault : IsEndFault (old.desk.running.epoch + length (records front)) refused
 
--- What stands behind the fault that an act tells of: a client found no memory; the vault refused a batch, or an end; or the output failed.
-abbrev pub IsReason : {V : Type 0} → Kind V → Scene V → List Act → Act → Type 0
-IsReason k old front (Halts fault) = fault ≡ Memory
-IsReason k old front (DeliverFails keys fault) = IsFetchFault fault
-IsReason k old front (FetchFails look batches keys fault) = IsFetchFault fault
-IsReason k old front (Refuses writes refused) = IsUnended k old front writes refused
-IsReason k old front Unprinted = Unit {0}
-IsReason k old front _ = ⊥
+-- What stands behind what an act tells of: a client found no memory; the vault refused a batch, or an end; the output failed; or the watch broke in the vault's last call, before which it was whole.
+abbrev pub IsReason : {V : Type 0} → Kind V → Scene V → List Act → Act → Trace → Type 0
+IsReason k old front (Halts fault) after = fault ≡ Memory
+IsReason k old front (DeliverFails keys fault) after = IsFetchFault fault
+IsReason k old front (FetchFails look batches keys fault) after = IsFetchFault fault
+IsReason k old front (RestUnwatched look batches) after = after.broken ≡ true
+IsReason k old front (Refuses writes refused) after = IsUnended k old front writes refused
+IsReason k old front Unprinted after = Unit {0}
+IsReason k old front Unwatched after = after.broken ≡ true
+IsReason k old front _ after = ⊥
 
 -- All lines are written; where the output failed, all but those of the last record.
 abbrev pub AreLines : Act → List (EpochRecord ℕ) → Flow → Flow → Type 0
@@ -123,37 +157,44 @@ abbrev pub IsSaid : Act → Type 0
 IsSaid (Says client steps) = All (IsOwn client) steps
 IsSaid _ = ⊥
 
--- Behind all that the driver did before, a client stopped the desk for want of memory.
-pub record IsForestalled (front : List Act) : Type 0 where
+-- What may come between a client's stop of the desk and this act, which is the driver's: clients' turns; and where the watch broke in a batch,
+-- its delivery.
+abbrev pub MayComeBefore : Act → Act → Type 0
+MayComeBefore (Says client steps) act = All (IsOwn client) steps
+MayComeBefore (Delivers batch) Unwatched = Unit {0}
+MayComeBefore _ act = ⊥
+
+-- Behind all that the driver did before this act, but for such a delivery, a client stopped the desk for want of memory.
+pub record IsForestalled (act : Act) (front : List Act) : Type 0 where
   pub before : List Act
   pub client : ℕ
   pub steps : List (Call × Reply)
   pub behind : List Act
   pub front_is : front ≡ before ++ Says client steps ∷ behind
   pub stops : Contains steps (desk.Stop Memory, desk.Done)
-  pub says : All IsSaid behind
+  pub says : All (λ (one : Act). MayComeBefore one act) behind
 
--- The desk is stopped with this fault, unless a client had stopped it just before. By hand no client's turn comes between, so there it is.
-abbrev pub IsStoppedFor : Option Fault → Fault → List Act → Type 0
-IsStoppedFor stop fault front = (stop ≡ Some fault) ⊎ ((stop ≡ Some Memory) × IsForestalled front)
+-- The desk is stopped with this fault, unless a client had stopped it just before this act. By hand no client's turn comes between, so there it is.
+abbrev pub IsStoppedFor : Option Fault → Fault → Act → List Act → Type 0
+IsStoppedFor stop fault act front = (stop ≡ Some fault) ⊎ ((stop ≡ Some Memory) × IsForestalled act front)
 
--- Acts of which the driver's last one tells of a fault, and only clients' turns stand behind it: nobody refused those before it, and the
--- desk is stopped for that fault. The vault refused by its store only where its count of faults rose.
-pub record Failure {V : Type 0} (k : Kind V) (old new : Scene V) (acts : List Act) (before after : Flow) (fault : Fault) : Type 0 where
+-- Acts of which the driver's last one tells what cut the run off, and only clients' turns stand behind it: nobody refused those before it, and the
+-- desk is stopped for that. The vault refused by its store only where its count of faults rose.
+pub record Failure {V : Type 0} (k : Kind V) (old new : Scene V) (acts : List Act) (before after : Flow) (err : RunErr) : Type 0 where
   pub front : List Act
   pub act : Act
   pub behind : List Act
   pub acts_are : acts ≡ front ++ act ∷ behind
   pub says : All IsSaid behind
   pub answered : AreAnswered (calls front)
-  pub told : fault_told act ≡ Some fault
-  pub reason : IsReason k old front act
-  pub cause : IsStoreFault fault → Rose (k.disk old.vault).faults (k.disk new.vault).faults
-  pub stopped : IsStoppedFor new.desk.stop fault front
+  pub told : fault_told act ≡ Some err
+  pub reason : IsReason k old front act new.trace
+  pub cause : IsStoreFault (fault_of err) → Rose (k.disk old.vault).faults (k.disk new.vault).faults
+  pub stopped : IsStoppedFor new.desk.stop (fault_of err) act front
   pub lines : AreLines act (records acts) before after
 
 -- The last thing that the driver did in a run that fails.
-pub record ActFails {V : Type 0} (k : Kind V) (beat : BeatKind) (old : Scene V) (before : Flow) (fault : Fault) (new : Scene V) (after : Flow) : Type 0 where
+pub record ActFails {V : Type 0} (k : Kind V) (beat : BeatKind) (old : Scene V) (before : Flow) (err : RunErr) (new : Scene V) (after : Flow) : Type 0 where
   pub thing : List Act
   pub one : IsOneThing thing
   pub allowed : All (IsAllowed beat) thing
@@ -163,7 +204,7 @@ pub record ActFails {V : Type 0} (k : Kind V) (beat : BeatKind) (old : Scene V) 
   pub next : ℕ
   pub told : TellsEpochs old.desk.running.epoch next (ended_of (calls thing)) (records thing)
   pub printed : IsPrinted before after (report decimal (records thing))
-  pub failure : Failure k old new thing before after fault
+  pub failure : Failure k old new thing before after err
 
 -- A step of each runner: their clients' calls, one behind the other. So these clients had their turns.
 pub record Stepped {U Plan : Type 0} (kind : RunnerKind U Plan) (numbers : List ℕ) (old : DeskState) (was : List U) (new : DeskState) (are : List U) : Type 0 where

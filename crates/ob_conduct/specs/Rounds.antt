@@ -2,7 +2,7 @@
 use Rattle.std.specs.Prelude.{ℕ, ◌≡◌, List, [], ◌∷◌, ◌++◌, flat_map, Contains}
 use Rattle.ob_desk.specs.Desk.{Call, Reply}
 use Rattle.ob_session.specs.Clients.{said_by}
-use Rattle.ob_conduct.specs.Acts.{Act, Says, Halts, Rests, Takes, Delivers, DeliverFails, FetchFails, Closes, Publishes, Refuses, Unprinted, desk_calls}
+use Rattle.ob_conduct.specs.Acts.{Act, Says, Halts, Rests, Takes, Delivers, DeliverFails, FetchFails, RestUnwatched, Closes, Publishes, Refuses, Unprinted, Unwatched, desk_calls}
 
 -- What a turn may be, by the client's number, all that it said before, and its calls in the turn.
 abbrev pub TurnRule : Type 1
@@ -40,15 +40,18 @@ AreTurns (client ∷ clients) (act ∷ acts) = IsClientTurn client act × AreTur
 AreTurns _ _ = ⊥
 
 -- One thing that the driver does, all at one look: a batch that was taken is the one that is delivered or refused, and an epoch that was
--- closed is ended with its writes.
+-- closed is ended with its writes. Where the watch broke the desk is stopped behind what was done.
 abbrev pub IsOneThing : List Act → Type 0
 IsOneThing (Halts fault ∷ []) = Unit {0}
 IsOneThing (Rests look ∷ []) = Unit {0}
 IsOneThing (Takes look keys ∷ Delivers batch ∷ []) = batch.keys ≡ keys
+IsOneThing (Takes look keys ∷ Delivers batch ∷ Unwatched ∷ []) = batch.keys ≡ keys
 IsOneThing (Takes look keys ∷ DeliverFails asked fault ∷ []) = asked ≡ keys
 IsOneThing (FetchFails look batches keys fault ∷ []) = Unit {0}
+IsOneThing (RestUnwatched look batches ∷ []) = Unit {0}
 IsOneThing (Closes look batches writes ∷ Publishes ended left told ∷ []) = ended ≡ writes
 IsOneThing (Closes look batches writes ∷ Publishes ended left told ∷ Unprinted ∷ []) = ended ≡ writes
+IsOneThing (Closes look batches writes ∷ Publishes ended left told ∷ Unwatched ∷ []) = ended ≡ writes
 IsOneThing (Closes look batches writes ∷ Refuses asked refused ∷ []) = asked ≡ writes
 IsOneThing _ = ⊥
 

@@ -1,8 +1,8 @@
 -- The desk, the vault and the trace at one moment of a run, and the words of its runners.
-use Rattle.std.specs.Prelude.{ℕ, ◌≡◌, List, [], ◌∷◌, ◌++◌}
+use Rattle.std.specs.Prelude.{ℕ, ◌≡◌, false, List, [], ◌∷◌, ◌++◌}
 use Rattle.ob_io.specs.Streams.{Flow}
 use Rattle.ob_store.specs.declared.watch.Note.{Note}
-use Rattle.ob_store.specs.Lines.{Trace}
+use Rattle.ob_store.specs.Lines.{Trace, Shows}
 use Rattle.ob_serial.specs.Vaults.{VaultCall, VaultAnswer}
 use Rattle.ob_serial.specs.VaultKinds.{Kind, Called}
 use Rattle.ob_desk.specs.Desk.{DeskState, Call, Reply}
@@ -40,7 +40,14 @@ runner_kind client bound plan fits turn = record { client = client; bound = boun
 abbrev pub seat_of : {U Plan : Type 0} → RunnerKind U Plan → U → ℕ × Plan
 seat_of kind u = (kind.client u, kind.plan u)
 
--- Calls with their answers lead from a vault to a vault, and these are the notes of them, one behind the other.
-abbrev pub AllNoted : {V : Type 0} → Kind V → V → List (VaultCall × VaultAnswer) → List Note → V → Type 0
-AllNoted k old [] notes new = (new ≡ old) × (notes ≡ [])
-AllNoted {V} k old (step ∷ steps) notes new = (mid : V) × (one : Called k old step.0 step.1 mid) × (more : List Note) × (notes ≡ one.notes ++ more) × AllNoted k mid steps more new
+-- One call, made under a watch that was whole before it, to which its notes were shown.
+pub record Watched {V : Type 0} (k : Kind V) (old : V) (before : Trace) (call : VaultCall) (answer : VaultAnswer) (new : V) (after : Trace) : Type 0 where
+  pub one : Called k old call answer new
+  pub whole : before.broken ≡ false
+  pub shown : Shows one.notes before after
+
+-- Calls with their answers lead from a vault and what its watch told to a vault and what its watch tells, each made under a whole watch; and these are the notes of them, one behind the other.
+abbrev pub AllNoted : {V : Type 0} → Kind V → V → Trace → List (VaultCall × VaultAnswer) → List Note → V → Trace → Type 0
+AllNoted k old before [] notes new after = (new ≡ old) × (notes ≡ []) × (after ≡ before)
+AllNoted {V} k old before (step ∷ steps) notes new after =
+    (mid : V) × (between : Trace) × (one : Watched k old before step.0 step.1 mid between) × (more : List Note) × (notes ≡ one.one.notes ++ more) × AllNoted k mid between steps more new after

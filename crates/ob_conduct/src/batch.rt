@@ -1,13 +1,15 @@
 //! Batches: taken of the desk, fetched of the vault, delivered.
 
-ghost use Rattle.std.specs.Prelude.{◌≡◌, ◌<◌, ℕ, length, [], ◌∷◌, List, None, IfErr, OnOk};
+ghost use Rattle.std.specs.Prelude.{◌≡◌, ◌<◌, ℕ, length, [], ◌∷◌, List, None, false, IfErr, OnOk};
 ghost use Rattle.ob_serial.specs.VaultKinds.{kind_of};
 ghost use Rattle.ob_conduct.specs.Acts.{Batch};
 ghost use Rattle.ob_conduct.specs.Scenes.{scene};
 ghost use Rattle.ob_conduct.specs.Ready.{IsBetweenActs};
-ghost use Rattle.ob_conduct.specs.Moves.{ReadsBatches, ReadFails};
+ghost use Rattle.ob_conduct.specs.Moves.{ReadsBatches, BatchStops, RestStops};
 
-use ob_base::{Fault, Key, Params, Value};
+use crate::run_err::RunErr;
+use crate::watching::heed;
+use ob_base::{Key, Params, Value};
 use ob_desk::Desk;
 use ob_serial::Vault;
 use ob_store::Watch;
@@ -16,7 +18,7 @@ use std::thread::Threads;
 /// Takes a batch of the desk, fetches it from the vault and delivers it.
 ///
 /// # Errors
-/// The vault refused, and the desk is stopped.
+/// The vault refused, or the watch broke; and the desk is stopped.
 fn read_batch<R: Threads + Sync, V: Vault, W: Watch>(
     rt: &R,
     desk: &mut Desk,
@@ -24,9 +26,10 @@ fn read_batch<R: Threads + Sync, V: Vault, W: Watch>(
     watch: &mut W,
     asks: &mut [Option<Key>],
     found: &mut [Option<Value>],
-) -> Result<(), Fault>
+) -> Result<(), RunErr>
     requires ready { IsBetweenActs (V.params vault.old) desk.old (V.counts vault.old) }
     requires goes_on { desk.old.stop ≡ None }
+    requires whole { (W.trace watch.old).broken ≡ false }
     requires some_left { 0 < (V.counts vault.old).left }
     requires places { length asks.old ≡ (V.params vault.old).places }
     requires room { length found.old ≡ (V.params vault.old).places }
@@ -36,21 +39,22 @@ fn read_batch<R: Threads + Sync, V: Vault, W: Watch>(
     ensures read { OnOk result ((batch : Batch)
         × ReadsBatches (kind_of V.Vault) (V.params vault.old)
         (scene desk.old vault.old (W.trace watch.old)) (batch ∷ [])
-        (scene desk.new vault.new (W.trace watch.new)) (V.counts vault.new)) }
+        (scene desk.new vault.new (W.trace watch.new)) (V.counts vault.new)
+        × ((W.trace watch.new).broken ≡ false)) }
     ensures less { OnOk result ((V.counts vault.new).left < (V.counts vault.old).left) }
-    ensures refused { IfErr result
-        (λ fault. ReadFails (kind_of V.Vault) (scene desk.old vault.old (W.trace watch.old)) []
-        fault (scene desk.new vault.new (W.trace watch.new))) }
+    ensures refused { IfErr result (λ err. BatchStops (kind_of V.Vault) (V.params vault.old)
+        (scene desk.old vault.old (W.trace watch.old)) err
+        (scene desk.new vault.new (W.trace watch.new))) }
 {
     desk.take_batch(asks);
     match vault.fetch(rt, asks, found, watch) {
         Ok(()) => {
             desk.deliver(asks, found);
-            Ok(())
+            heed(desk, watch)
         }
         Err(fault) => {
             desk.stop(fault);
-            Err(fault)
+            Err(RunErr::Fault(fault))
         }
     }
 }
@@ -58,26 +62,28 @@ fn read_batch<R: Threads + Sync, V: Vault, W: Watch>(
 /// Takes, fetches and delivers one batch.
 ///
 /// # Errors
-/// The vault refused, and the desk is stopped.
+/// The vault refused, or the watch broke; and the desk is stopped.
 pub fn fetch_batch<R: Threads + Sync, V: Vault, W: Watch>(
     rt: &R,
     params: &Params,
     desk: &mut Desk,
     vault: &mut V,
     watch: &mut W,
-) -> Result<(), Fault>
+) -> Result<(), RunErr>
     requires params { V.params vault.old ≡ params.now }
     requires ready { IsBetweenActs params.now desk.old (V.counts vault.old) }
     requires goes_on { desk.old.stop ≡ None }
+    requires whole { (W.trace watch.old).broken ≡ false }
     requires some_left { 0 < (V.counts vault.old).left }
     ensures params { V.params vault.new ≡ params.now }
     ensures read { OnOk result ((batch : Batch)
         × ReadsBatches (kind_of V.Vault) params.now (scene desk.old vault.old (W.trace watch.old))
-        (batch ∷ []) (scene desk.new vault.new (W.trace watch.new)) (V.counts vault.new)) }
+        (batch ∷ []) (scene desk.new vault.new (W.trace watch.new)) (V.counts vault.new)
+        × ((W.trace watch.new).broken ≡ false)) }
     ensures less { OnOk result ((V.counts vault.new).left < (V.counts vault.old).left) }
-    ensures refused { IfErr result
-        (λ fault. ReadFails (kind_of V.Vault) (scene desk.old vault.old (W.trace watch.old)) []
-        fault (scene desk.new vault.new (W.trace watch.new))) }
+    ensures refused { IfErr result (λ err. BatchStops (kind_of V.Vault) params.now
+        (scene desk.old vault.old (W.trace watch.old)) err
+        (scene desk.new vault.new (W.trace watch.new))) }
 {
     let places = params.places as usize;
     let mut asks: [Option<Key>; 64] = [None; 64];
@@ -95,30 +101,32 @@ pub fn fetch_batch<R: Threads + Sync, V: Vault, W: Watch>(
 /// Takes, fetches and delivers each batch that is left.
 ///
 /// # Errors
-/// The vault refused, and the desk is stopped.
+/// The vault refused, or the watch broke; and the desk is stopped.
 pub fn fetch_rest<R: Threads + Sync, V: Vault, W: Watch>(
     rt: &R,
     params: &Params,
     desk: &mut Desk,
     vault: &mut V,
     watch: &mut W,
-) -> Result<(), Fault>
+) -> Result<(), RunErr>
     requires params { V.params vault.old ≡ params.now }
     requires ready { IsBetweenActs params.now desk.old (V.counts vault.old) }
     requires goes_on { desk.old.stop ≡ None }
+    requires whole { (W.trace watch.old).broken ≡ false }
     ensures params { V.params vault.new ≡ params.now }
     ensures read { OnOk result ((batches : List Batch)
         × ReadsBatches (kind_of V.Vault) params.now (scene desk.old vault.old (W.trace watch.old))
-        batches (scene desk.new vault.new (W.trace watch.new)) (V.counts vault.new)) }
+        batches (scene desk.new vault.new (W.trace watch.new)) (V.counts vault.new)
+        × ((W.trace watch.new).broken ≡ false)) }
     ensures none_left { OnOk result ((V.counts vault.new).left ≡ 0) }
-    ensures refused { IfErr result (λ fault. (batches : List Batch)
-        × ReadFails (kind_of V.Vault) (scene desk.old vault.old (W.trace watch.old)) batches fault
+    ensures refused { IfErr result (λ err. RestStops (kind_of V.Vault) params.now
+        (scene desk.old vault.old (W.trace watch.old)) err
         (scene desk.new vault.new (W.trace watch.new))) }
 {
     while vault.left() > 0 {
         match fetch_batch(rt, params, desk, vault, watch) {
             Ok(()) => {}
-            Err(fault) => return Err(fault),
+            Err(err) => return Err(err),
         }
     }
     Ok(())

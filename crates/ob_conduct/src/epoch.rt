@@ -1,6 +1,6 @@
 //! The end of an epoch, and its lines.
 
-ghost use Rattle.std.specs.Prelude.{◌≡◌, ◌≤◌, None, IfOk, IfErr, OnOk, vec_capacity};
+ghost use Rattle.std.specs.Prelude.{◌≡◌, ◌≤◌, None, false, IfOk, IfErr, OnOk, vec_capacity};
 ghost use Rattle.ob_io.specs.Streams.{outflow};
 ghost use Rattle.ob_serial.specs.Views.{record_of};
 ghost use Rattle.ob_serial.specs.VaultKinds.{kind_of};
@@ -13,6 +13,8 @@ ghost use Rattle.ob_conduct.specs.Ready.{IsBetweenActs};
 ghost use Rattle.ob_conduct.specs.Moves.{IsEnded, EndFails, Acted, ActFails};
 
 use crate::batch::fetch_rest;
+use crate::run_err::RunErr;
+use crate::watching::heed;
 use ob_base::{Failed, Fault, Key, Params, Write};
 use ob_desk::Desk;
 use ob_io::Sink;
@@ -33,6 +35,7 @@ fn close<R: Threads + Sync, V: Vault, W: Watch>(
     requires params { V.params vault.old ≡ params.now }
     requires ready { IsBetweenActs params.now desk.old (V.counts vault.old) }
     requires goes_on { desk.old.stop ≡ None }
+    requires whole { (W.trace watch.old).broken ≡ false }
     requires none_left { (V.counts vault.old).left ≡ 0 }
     requires room { params.now.writes ≤ vec_capacity writes.old }
     ensures params { V.params vault.new ≡ params.now }
@@ -61,7 +64,7 @@ fn close<R: Threads + Sync, V: Vault, W: Watch>(
 /// Fetches the batches that are left, ends the epoch, and writes its lines.
 ///
 /// # Errors
-/// The vault refused, or the output failed. The desk is stopped.
+/// The vault refused, or the watch broke, or the output failed. The desk is stopped.
 pub fn end_epoch<R: Threads + Sync, V: Vault, W: Watch, O: Sink>(
     rt: &R,
     params: &Params,
@@ -70,10 +73,11 @@ pub fn end_epoch<R: Threads + Sync, V: Vault, W: Watch, O: Sink>(
     watch: &mut W,
     output: &mut O,
     writes: &mut Vec<Write>,
-) -> Result<(), Fault>
+) -> Result<(), RunErr>
     requires params { V.params vault.old ≡ params.now }
     requires ready { IsBetweenActs params.now desk.old (V.counts vault.old) }
     requires goes_on { desk.old.stop ≡ None }
+    requires whole { (W.trace watch.old).broken ≡ false }
     requires room { params.now.writes ≤ vec_capacity writes.old }
     ensures params { V.params vault.new ≡ params.now }
     ensures room { vec_capacity writes.old ≤ vec_capacity writes.new }
@@ -86,23 +90,23 @@ pub fn end_epoch<R: Threads + Sync, V: Vault, W: Watch, O: Sink>(
         (outflow O.Sink output.new)) }
     ensures refused { (beat : BeatKind) (look : Seen) → look ≡ look_at desk.old
         → MayAct beat look → IsToEnd look
-        → IfErr result (λ fault. ActFails (kind_of V.Vault) beat
-        (scene desk.old vault.old (W.trace watch.old)) (outflow O.Sink output.old) fault
+        → IfErr result (λ err. ActFails (kind_of V.Vault) beat
+        (scene desk.old vault.old (W.trace watch.old)) (outflow O.Sink output.old) err
         (scene desk.new vault.new (W.trace watch.new)) (outflow O.Sink output.new)) }
 {
     match fetch_rest(rt, params, desk, vault, watch) {
         Ok(()) => {}
-        Err(fault) => return Err(fault),
+        Err(err) => return Err(err),
     }
     let told = match close(rt, params, desk, vault, watch, writes) {
         Ok(told) => told,
-        Err(fault) => return Err(fault),
+        Err(fault) => return Err(RunErr::Fault(fault)),
     };
     match text(&told, output) {
-        Ok(()) => Ok(()),
+        Ok(()) => heed(desk, watch),
         Err(Failed) => {
             desk.stop(Fault::SinkFault);
-            Err(Fault::SinkFault)
+            Err(RunErr::Fault(Fault::SinkFault))
         }
     }
 }

@@ -5,6 +5,9 @@ mod batch;
 mod epoch;
 mod look;
 mod rounds;
+mod run_err;
 mod serving;
+mod watching;
 
+pub use run_err::RunErr;
 pub use serving::serve;

@@ -1,6 +1,6 @@
 //! The driver's look, and what it does behind it.
 
-ghost use Rattle.std.specs.Prelude.{◌≡◌, ◌≤◌, ◌<◌, ◌⊎◌, ℕ, true, MatchBool, None, IfOk, IfErr, OnOk, vec_capacity};
+ghost use Rattle.std.specs.Prelude.{◌≡◌, ◌≤◌, ◌<◌, ◌⊎◌, ℕ, true, false, MatchBool, None, IfOk, IfErr, OnOk, vec_capacity};
 ghost use Rattle.ob_io.specs.Streams.{outflow};
 ghost use Rattle.ob_serial.specs.VaultKinds.{kind_of};
 ghost use Rattle.ob_desk.specs.Desk.{look_at};
@@ -13,7 +13,8 @@ ghost use Rattle.ob_conduct.specs.Moves.{Acted, ActFails};
 
 use crate::batch::fetch_batch;
 use crate::epoch::end_epoch;
-use ob_base::{Fault, Params, Write};
+use crate::run_err::RunErr;
+use ob_base::{Params, Write};
 use ob_desk::{Beat, Desk, Look};
 use ob_io::Sink;
 use ob_serial::Vault;
@@ -66,10 +67,11 @@ fn act<R: Threads + Sync, V: Vault, W: Watch, B: Beat, O: Sink>(
     output: &mut O,
     writes: &mut Vec<Write>,
     look: &Look,
-) -> Result<(), Fault>
+) -> Result<(), RunErr>
     requires params { V.params vault.old ≡ params.now }
     requires ready { IsBetweenActs params.now desk.old (V.counts vault.old) }
     requires goes_on { desk.old.stop ≡ None }
+    requires whole { (W.trace watch.old).broken ≡ false }
     requires room { params.now.writes ≤ vec_capacity writes.old }
     requires look { look.now ≡ look_at desk.old }
     requires may { MayAct (beat_kind B.passes B.exact) look.now }
@@ -82,9 +84,9 @@ fn act<R: Threads + Sync, V: Vault, W: Watch, B: Beat, O: Sink>(
         (outflow O.Sink output.old) (scene desk.new vault.new (W.trace watch.new))
         (V.counts vault.new) (outflow O.Sink output.new)) }
     ensures failed { IfErr result
-        (λ fault. ActFails (kind_of V.Vault) (beat_kind B.passes B.exact)
+        (λ err. ActFails (kind_of V.Vault) (beat_kind B.passes B.exact)
         (scene desk.old vault.old (W.trace watch.old))
-        (outflow O.Sink output.old) fault (scene desk.new vault.new (W.trace watch.new))
+        (outflow O.Sink output.old) err (scene desk.new vault.new (W.trace watch.new))
         (outflow O.Sink output.new)) }
 {
     if is_to_fetch(look) {
@@ -99,7 +101,8 @@ fn act<R: Threads + Sync, V: Vault, W: Watch, B: Beat, O: Sink>(
 /// The driver looks once, and acts at most once.
 ///
 /// # Errors
-/// The desk was stopped; or the vault refused, or the output failed, and the desk is stopped.
+/// The desk was stopped; or the vault refused, or the watch broke, or the output failed, and the
+/// desk is stopped.
 pub fn look_and_act<R: Threads + Sync, V: Vault, W: Watch, B: Beat, O: Sink>(
     rt: &R,
     params: &Params,
@@ -109,9 +112,10 @@ pub fn look_and_act<R: Threads + Sync, V: Vault, W: Watch, B: Beat, O: Sink>(
     beat: &mut B,
     output: &mut O,
     writes: &mut Vec<Write>,
-) -> Result<Round, Fault>
+) -> Result<Round, RunErr>
     requires params { V.params vault.old ≡ params.now }
     requires ready { IsBetweenActs params.now desk.old (V.counts vault.old) }
+    requires whole { (W.trace watch.old).broken ≡ false }
     requires room { params.now.writes ≤ vec_capacity writes.old }
     ensures params { V.params vault.new ≡ params.now }
     ensures room { vec_capacity writes.old ≤ vec_capacity writes.new }
@@ -123,13 +127,13 @@ pub fn look_and_act<R: Threads + Sync, V: Vault, W: Watch, B: Beat, O: Sink>(
         (V.counts vault.new) (outflow O.Sink output.new)) }
     ensures over { IfOk result (λ round. round ≡ Round.Over → IsOver desk.new) }
     ensures failed { IfErr result
-        (λ fault. ActFails (kind_of V.Vault) (beat_kind B.passes B.exact)
+        (λ err. ActFails (kind_of V.Vault) (beat_kind B.passes B.exact)
         (scene desk.old vault.old (W.trace watch.old))
-        (outflow O.Sink output.old) fault (scene desk.new vault.new (W.trace watch.new))
+        (outflow O.Sink output.old) err (scene desk.new vault.new (W.trace watch.new))
         (outflow O.Sink output.new)) }
 {
     if let Some(fault) = desk.stopped() {
-        return Err(fault);
+        return Err(RunErr::Fault(fault));
     }
     let look = desk.look();
     if is_over(&look) {
@@ -140,6 +144,6 @@ pub fn look_and_act<R: Threads + Sync, V: Vault, W: Watch, B: Beat, O: Sink>(
     }
     match act::<R, V, W, B, O>(rt, params, desk, vault, watch, output, writes, &look) {
         Ok(()) => Ok(Round::On),
-        Err(fault) => Err(fault),
+        Err(err) => Err(err),
     }
 }

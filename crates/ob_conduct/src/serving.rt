@@ -10,6 +10,7 @@ ghost use Rattle.ob_conduct.specs.Conducted.{ByHand};
 
 use crate::look::{Round, look_and_act};
 use crate::rounds::step_all;
+use crate::run_err::RunErr;
 use ob_base::{Fault, Params, Write};
 use ob_desk::{Beat, Desk};
 use ob_io::Sink;
@@ -31,9 +32,10 @@ fn run_rounds<R: Threads + Wait + Sync, V: Vault, W: Watch, U: Runner, B: Beat, 
     beat: &mut B,
     output: &mut O,
     writes: &mut Vec<Write>,
-) -> Result<(), Fault>
+) -> Result<(), RunErr>
     requires params { V.params vault.old ≡ params.now }
     requires serves { (V.counts vault.old).spent ≡ false }
+    requires whole { (W.trace watch.old).broken ≡ false }
     requires fresh { desk.old
         ≡ new_desk (record { params = params.now }) (suc (V.counts vault.old).epoch)
         (V.counts vault.old).left (map U.client runners.old) }
@@ -56,7 +58,7 @@ fn run_rounds<R: Threads + Wait + Sync, V: Vault, W: Watch, U: Runner, B: Beat, 
         match look_and_act(rt, params, desk, vault, watch, beat, output, writes) {
             Ok(Round::On) => {}
             Ok(Round::Over) => return Ok(()),
-            Err(fault) => return Err(fault),
+            Err(err) => return Err(err),
         }
     }
     unreachable!()
@@ -69,8 +71,9 @@ fn run_rounds<R: Threads + Wait + Sync, V: Vault, W: Watch, U: Runner, B: Beat, 
 ///
 /// # Errors
 /// Memory was wanting, before the first round or for a client; or the vault refused, and is spent;
-/// or the output failed, and a front of the lines is written. But where memory was wanting before
-/// the first round the desk is stopped.
+/// or the watch broke, and all lines of what ended are written; or the output failed, and a front
+/// of the lines is written. But where memory was wanting before the first round the desk is
+/// stopped.
 pub fn serve<R: Threads + Wait + Sync, V: Vault, W: Watch, U: Runner, B: Beat, O: Sink>(
     rt: &R,
     alloc: Global,
@@ -81,9 +84,10 @@ pub fn serve<R: Threads + Wait + Sync, V: Vault, W: Watch, U: Runner, B: Beat, O
     watch: &mut W,
     beat: &mut B,
     output: &mut O,
-) -> Result<(), Fault>
+) -> Result<(), RunErr>
     requires params { V.params vault.old ≡ params.now }
     requires serves { (V.counts vault.old).spent ≡ false }
+    requires whole { (W.trace watch.old).broken ≡ false }
     requires fresh { desk.old
         ≡ new_desk (record { params = params.now }) (suc (V.counts vault.old).epoch)
         (V.counts vault.old).left (map U.client runners.old) }
@@ -104,7 +108,7 @@ pub fn serve<R: Threads + Wait + Sync, V: Vault, W: Watch, U: Runner, B: Beat, O
 {
     let mut writes = match Vec::with_capacity(alloc, params.writes as usize) {
         Ok(writes) => writes,
-        Err(_) => return Err(Fault::Memory),
+        Err(_) => return Err(RunErr::Fault(Fault::Memory)),
     };
     run_rounds(
         rt,

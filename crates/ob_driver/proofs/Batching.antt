@@ -1,5 +1,5 @@
 -- A batch that was taken in one turn, read, and delivered or refused in another.
-use Rattle.std.proofs.Common.{◌≡◌, ◌∙◌, ◌≤◌, ◌-◌, ℕ, zero, suc, All, List, [], ◌∷◌, ◌++◌, length, map, replicate, take, Option, None, Some, refl, sym, ap, subst, append-nil, append_assoc}
+use Rattle.std.proofs.Common.{◌≡◌, ◌∙◌, ◌≤◌, ◌-◌, ℕ, zero, suc, false, All, List, [], ◌∷◌, ◌++◌, length, map, replicate, take, Option, None, Some, refl, sym, ap, subst, append-nil, append_assoc}
 use Rattle.std.proofs.lemmas.List.Elements.{All-nil, All-cons, All-append}
 use Rattle.ob_base.specs.Causes.{Rose}
 use Rattle.ob_base.specs.declared.fault.Fault.{Fault}
@@ -20,13 +20,15 @@ use Rattle.ob_turn.specs.BellHistory.{latest}
 use Rattle.atomic_table.specs.declared.shared.Seat.{Seat}
 use Rattle.ob_hall.specs.Passes.{Steps, Hall, Pass, entries_by, own_calls, raised_by, may_raise, IsPassOf, IsOutOfTurn, opening_of}
 use Rattle.ob_hall.specs.Rounds.{Rounds, rounds_of, keys_in, rounds_after, rounds_behind}
+use Rattle.ob_conduct.specs.declared.run_err.RunErr.TheVariants as failed
 use Rattle.ob_conduct.specs.Acts.{Takes, Delivers, DeliverFails, Batch, look_calls, MayAct, IsToFetch, IsAllowed}
+use Rattle.ob_conduct.specs.Scenes.{Watched}
 use Rattle.ob_conduct.proofs.Acting.{tells_none, written_none}
 use Rattle.ob_driver.specs.declared.round.Round.TheVariants.{Acted}
 use Rattle.ob_driver.specs.Resting.{params_of, IsMild, rounds_by, resting, fetching, noted_by, IsDriver, IsOut}
 use Rattle.ob_driver.specs.Turning.{MakesTurn}
-use Rattle.ob_driver.specs.Inside.{IsLooking, AsksOnce}
-use Rattle.ob_driver.specs.Driven.{side, DoneOnce, FailsOnce}
+use Rattle.ob_driver.specs.Inside.{IsLooking}
+use Rattle.ob_driver.specs.Driven.{side, Acts, DoneOnce, FailsOnce}
 use Rattle.ob_driver.proofs.Sound.{mild_one, mild_look}
 use Rattle.ob_driver.proofs.Turning.{calls_longer}
 
@@ -115,45 +117,56 @@ module _ {V : Type 0} (k : Kind V) (beat : BeatKind) (hall : Hall) (before taken
   told_still : (seat : Seat (Unit {0}) Heard) → seat ≡ before.ear → latest 0 seat.me.0.seen ≤ c.epoch
   told_still seat same = subst (λ (e : Seat (Unit {0}) Heard). latest 0 e.me.0.seen ≤ c.epoch) (sym same) l.at.told
 
-  pub fetched_once : (next : VaultCounts) (values : List (Option (List ℕ))) → AsksOnce k v (Fetch keys) (Values values) w t u → next ≡ counts_next (params_of hall).batches c (Fetch keys) (Values values)
-      → MakesTurn taken after ((desk.Deliver keys values, desk.Done) ∷ []) → after.ear ≡ taken.ear → IsPassOf hall after → IsOutOfTurn after → DoneOnce k beat hall (side before v t flow) c (side after w u flow) next Acted
-  fetched_once next values called counts last same own_now idle =
-      let n : MakesTurn taken after ((desk.Deliver keys values, desk.Done) ∷ []) = last in
-      let batch : Batch = record { keys = keys; values = values } in
-      let epoch_is : next.epoch ≡ c.epoch = ap (λ (x : VaultCounts). x.epoch) counts in
-      record {
-        acts = Takes look keys ∷ Delivers batch ∷ [];
-        one = refl;
-        says = tt;
-        done = record {
-          acts_are = record {
-            allowed = All-cons (IsAllowed beat) (Takes look keys) (Delivers batch ∷ []) (may, fetch) (All-cons (IsAllowed beat) (Delivers batch) [] tt (All-nil _));
-            turns = one.turn ∷ n.turn ∷ [];
-            made = two_turns before taken after asked_calls _ one n;
-            are = (Takes look keys ∷ [], Delivers batch ∷ [], refl, tt, one.calls_are ∙ sym (append-nil asked_calls), (Delivers batch ∷ [], [], refl, tt, n.calls_are, refl));
-            notes = called.one.notes;
-            chain = (w, called.one, [], sym (append-nil called.one.notes), (refl, refl));
-            shown = called.shown;
-            rung = ear_raised before after (same ∙ ear);
-            place = n.place ∙ one.place;
-          };
-          answered = tt;
-          told = tells_none (suc c.epoch) (suc next.epoch) (ap suc epoch_is);
-          written = written_none flow;
-          rests = record {
-            at = record {
-              driver = driver_later hall taken after _ n taken_now own_now (same_raises taken after same) (mild_one (desk.Deliver keys values) desk.Done tt);
-              rounds = rounds_later hall taken after _ n (fetching c (keys_in keys)) (taken_rounds hall before taken d mid c look keys l noted took first own ear) ∙ ap resting (sym counts);
-              serves = ap (λ (x : VaultCounts). x.spent) counts ∙ l.at.serves;
-              told = subst (λ (e : ℕ). latest 0 after.ear.me.0.seen ≤ e) (sym epoch_is) (told_still after.ear (same ∙ ear));
-            };
-            idle = idle;
-          };
-        };
-      }
+  -- it was read, and delivered
+  module _ (next : VaultCounts) (values : List (Option (List ℕ))) (called : Watched k v t (Fetch keys) (Values values) w u) (counts : next ≡ counts_next (params_of hall).batches c (Fetch keys) (Values values))
+      (last : MakesTurn taken after ((desk.Deliver keys values, desk.Done) ∷ [])) (same : after.ear ≡ taken.ear) (own_now : IsPassOf hall after) where
+    abbrev batch : Batch
+    batch = record { keys = keys; values = values }
 
-  pub refused_once : (fault : Fault) → AsksOnce k v (Fetch keys) (RefusedBy fault) w t u → IsFetchFault fault → (IsStoreFault fault → Rose (k.disk v).faults (k.disk w).faults)
-      → MakesTurn taken after ((desk.Stop fault, desk.Done) ∷ []) → after.ear ≡ taken.ear → IsPassOf hall after → IsOutOfTurn after → FailsOnce k beat hall (side before v t flow) c (side after w u flow) fault
+    epoch_is : next.epoch ≡ c.epoch
+    epoch_is = ap (λ (x : VaultCounts). x.epoch) counts
+
+    pub fetched_acts : Acts k beat (side before v t flow) (side after w u flow) (Takes look keys ∷ Delivers (record { keys = keys; values = values }) ∷ [])
+    fetched_acts = record {
+      allowed = All-cons (IsAllowed beat) (Takes look keys) (Delivers batch ∷ []) (may, fetch) (All-cons (IsAllowed beat) (Delivers batch) [] tt (All-nil _));
+      turns = one.turn ∷ last.turn ∷ [];
+      made = two_turns before taken after asked_calls _ one last;
+      are = (Takes look keys ∷ [], Delivers batch ∷ [], refl, tt, one.calls_are ∙ sym (append-nil asked_calls), (Delivers batch ∷ [], [], refl, tt, last.calls_are, refl));
+      notes = called.one.notes;
+      chain = (w, u, called, [], sym (append-nil called.one.notes), (refl, refl, refl));
+      shown = called.shown;
+      rung = ear_raised before after (same ∙ ear);
+      place = last.place ∙ one.place;
+    }
+
+    pub fetched_driver : IsDriver hall after
+    fetched_driver = driver_later hall taken after _ last taken_now own_now (same_raises taken after same) (mild_one (desk.Deliver keys values) desk.Done tt)
+
+    pub fetched_once : u.broken ≡ false → IsOutOfTurn after → DoneOnce k beat hall (side before v t flow) c (side after w u flow) next Acted
+    fetched_once whole idle = record {
+      acts = Takes look keys ∷ Delivers batch ∷ [];
+      one = refl;
+      says = tt;
+      done = record {
+        acts_are = fetched_acts;
+        answered = tt;
+        told = tells_none (suc c.epoch) (suc next.epoch) (ap suc epoch_is);
+        written = written_none flow;
+        whole = whole;
+        rests = record {
+          at = record {
+            driver = fetched_driver;
+            rounds = rounds_later hall taken after _ last (fetching c (keys_in keys)) (taken_rounds hall before taken d mid c look keys l noted took first own ear) ∙ ap resting (sym counts);
+            serves = ap (λ (x : VaultCounts). x.spent) counts ∙ l.at.serves;
+            told = subst (λ (e : ℕ). latest 0 after.ear.me.0.seen ≤ e) (sym epoch_is) (told_still after.ear (same ∙ ear));
+          };
+          idle = idle;
+        };
+      };
+    }
+
+  pub refused_once : (fault : Fault) → Watched k v t (Fetch keys) (RefusedBy fault) w u → IsFetchFault fault → (IsStoreFault fault → Rose (k.disk v).faults (k.disk w).faults)
+      → MakesTurn taken after ((desk.Stop fault, desk.Done) ∷ []) → after.ear ≡ taken.ear → IsPassOf hall after → IsOutOfTurn after → FailsOnce k beat hall (side before v t flow) c (side after w u flow) (failed.Fault fault)
   refused_once fault called is_fault cause last same own_now idle =
       let n : MakesTurn taken after ((desk.Stop fault, desk.Done) ∷ []) = last in
       record {
@@ -166,7 +179,7 @@ module _ {V : Type 0} (k : Kind V) (beat : BeatKind) (hall : Hall) (before taken
             made = two_turns before taken after asked_calls _ one n;
             are = (Takes look keys ∷ [], DeliverFails keys fault ∷ [], refl, tt, one.calls_are ∙ sym (append-nil asked_calls), (DeliverFails keys fault ∷ [], [], refl, tt, n.calls_are, refl));
             notes = called.one.notes;
-            chain = (w, called.one, [], sym (append-nil called.one.notes), (refl, refl));
+            chain = (w, u, called, [], sym (append-nil called.one.notes), (refl, refl, refl));
             shown = called.shown;
             rung = ear_raised before after (same ∙ ear);
             place = n.place ∙ one.place;

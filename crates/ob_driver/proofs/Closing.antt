@@ -2,6 +2,7 @@
 use Rattle.std.proofs.Common.{◌≡◌, ◌∙◌, ◌≤◌, ◌-◌, ℕ, suc, true, false, All, List, [], ◌∷◌, ◌++◌, Option, Some, Err, refl, sym, ap, subst, append-nil, append_assoc, arith, decimal}
 use Rattle.std.proofs.lemmas.List.Elements.{All-nil, All-cons}
 use Rattle.ob_base.specs.declared.fault.Fault.{Fault}
+use Rattle.ob_base.specs.declared.fault.Fault.TheVariants.{SinkFault}
 use Rattle.ob_io.specs.Streams.{Flow}
 use Rattle.ob_report.specs.Report.{report, record_text}
 use Rattle.ob_serial.specs.Serial.{EpochRecord}
@@ -19,14 +20,16 @@ use Rattle.ob_turn.proofs.BellSteps.{latest-snoc}
 use Rattle.atomic_table.specs.declared.shared.Seat.{Seat}
 use Rattle.ob_hall.specs.Passes.{Steps, Hall, Pass, raised_by, may_raise, told_by, IsPassOf, IsOutOfTurn}
 use Rattle.ob_hall.specs.Rounds.{Rounds, rounds_behind}
-use Rattle.ob_conduct.specs.Acts.{Act, Closes, Publishes, Refuses, FetchFails, Batch, calls, records, look_calls, rest_calls, rest_fetches, close_calls, publish_calls, stop_calls, stop_for, MayAct, IsToEnd, IsAllowed}
+use Rattle.ob_conduct.specs.declared.run_err.RunErr.{RunErr}
+use Rattle.ob_conduct.specs.declared.run_err.RunErr.TheVariants as failed
+use Rattle.ob_conduct.specs.Acts.{Act, Closes, Publishes, Refuses, FetchFails, RestUnwatched, Batch, calls, records, look_calls, rest_calls, rest_fetches, close_calls, publish_calls, stop_calls, stop_for, fault_of, MayAct, IsToEnd, IsAllowed}
 use Rattle.ob_conduct.specs.Scenes.{Scene, AllNoted}
 use Rattle.ob_conduct.specs.Records.{IsWritten}
 use Rattle.ob_conduct.specs.Ready.{IsDueRecord, TellsEpochs}
 use Rattle.ob_conduct.proofs.Acting.{tells_none, written_none, published_rest, answered_rest, ended_rest, refused_ends}
 use Rattle.ob_driver.specs.Resting.{params_of, IsMild, rounds_by, resting, noted_by, IsBetweenTurns}
 use Rattle.ob_driver.specs.Turning.{MakesTurn}
-use Rattle.ob_driver.specs.Inside.{counts_ended, IsLooking, AsksAll, ReadsInside, RefusesInside, Ends, EndRefused}
+use Rattle.ob_driver.specs.Inside.{counts_ended, IsLooking, AsksAll, ReadsInside, RefusesInside, StopsInside, Ends, EndRefused}
 use Rattle.ob_driver.specs.Driven.{side, epochs_of, EndedOnce, FailsOnce}
 use Rattle.ob_driver.proofs.Sound.{mild_one, mild_more, mild_look}
 use Rattle.ob_driver.proofs.Turning.{turn_from, acts_one}
@@ -161,7 +164,7 @@ module _ {V : Type 0} (k : Kind V) (hall : Hall) (before mid after : Pass) (a b 
   none_rung : (acts : List Act) → after.ear ≡ mid.ear → records acts ≡ [] → raised_by after ≡ raised_by before ++ epochs_of (records acts)
   none_rung acts ear none = ap (λ (s : Seat (Unit {0}) Heard). s.me.0.seen) (ear ∙ r.notes.ear) ∙ (sym (append-nil (raised_by before)) ∙ ap (λ (rs : List (EpochRecord ℕ)). raised_by before ++ epochs_of rs) (sym none))
 
-  module _ (fault : Fault) (f : EndRefused k b.desk.running.epoch mid b fault after e) where
+  module _ (err : RunErr) (f : EndRefused k b.desk.running.epoch mid b err after e) where
     refused_turn : MakesTurn before after (look_calls look ++ (rest_calls batches ++ (close_calls f.writes ++ (stop_for f.refused, desk.Done) ∷ [])))
     refused_turn = turn_is (close_calls f.writes ++ (stop_for f.refused, desk.Done) ∷ []) f.made
 
@@ -172,7 +175,7 @@ module _ {V : Type 0} (k : Kind V) (hall : Hall) (before mid after : Pass) (a b 
     none = published_rest batches (close_calls f.writes) ((stop_for f.refused, desk.Done) ∷ [])
 
     -- the end was, or is in doubt
-    pub end_refused_once : (beat : BeatKind) (flow : Flow) → MayAct beat look → IsToEnd look → after.ear ≡ mid.ear → IsPassOf hall after → IsOutOfTurn after → FailsOnce k beat hall (side before a.vault a.trace flow) c (side after e.vault e.trace flow) fault
+    pub end_refused_once : (beat : BeatKind) (flow : Flow) → MayAct beat look → IsToEnd look → after.ear ≡ mid.ear → IsPassOf hall after → IsOutOfTurn after → FailsOnce k beat hall (side before a.vault a.trace flow) c (side after e.vault e.trace flow) err
     end_refused_once beat flow may end ear own idle = record {
       acts = Closes look batches f.writes ∷ Refuses f.writes f.refused ∷ [];
       one = refl;
@@ -209,7 +212,7 @@ module _ {V : Type 0} (k : Kind V) (hall : Hall) (before mid after : Pass) (a b 
 module _ {V : Type 0} (k : Kind V) (beat : BeatKind) (hall : Hall) (before mid after : Pass) (a b : Scene V) (c : VaultCounts) (look : Look) (batches : List Batch) (flow : Flow) (noted : noted_by before ≡ look_calls look) (may : MayAct beat look)
     (end : IsToEnd look) where
   pub batch_refused_once : (fault : Fault) → RefusesInside k hall before a batches fault mid b → MakesTurn mid after (noted_by mid ++ (desk.Stop fault, desk.Done) ∷ []) → after.ear ≡ mid.ear → IsPassOf hall after → IsOutOfTurn after
-      → FailsOnce k beat hall (side before a.vault a.trace flow) c (side after b.vault b.trace flow) fault
+      → FailsOnce k beat hall (side before a.vault a.trace flow) c (side after b.vault b.trace flow) (failed.Fault fault)
   batch_refused_once fault f made ear own idle = record {
     acts = act ∷ [];
     one = tt;
@@ -220,7 +223,7 @@ module _ {V : Type 0} (k : Kind V) (beat : BeatKind) (hall : Hall) (before mid a
         made = turn.made;
         are = (act ∷ [], [], refl, tt, turn.calls_are ∙ sym (append-nil (look_calls look ++ (rest_calls batches ++ (desk.TakeBatch, desk.Batch f.keys) ∷ stop_calls fault))), refl);
         notes = f.asks.notes;
-        chain = subst (λ (asked : List (VaultCall × VaultAnswer)). AllNoted k a.vault asked f.asks.notes b.vault) (sym (append-nil (rest_fetches batches ++ (Fetch f.keys, RefusedBy fault) ∷ []))) f.asks.chain;
+        chain = subst (λ (asked : List (VaultCall × VaultAnswer)). AllNoted k a.vault a.trace asked f.asks.notes b.vault b.trace) (sym (append-nil (rest_fetches batches ++ (Fetch f.keys, RefusedBy fault) ∷ []))) f.asks.chain;
         shown = f.asks.shown;
         rung = ap (λ (s : Seat (Unit {0}) Heard). s.me.0.seen) (ear ∙ f.notes.ear) ∙ (sym (append-nil (raised_by before)) ∙ ap (λ (rs : List (EpochRecord ℕ)). raised_by before ++ epochs_of rs) (sym none));
         place = turn.place;
@@ -256,3 +259,57 @@ module _ {V : Type 0} (k : Kind V) (beat : BeatKind) (hall : Hall) (before mid a
 
       none_ended : ended_of (calls (FetchFails look batches f.keys fault ∷ [])) ≡ []
       none_ended = ap ended_of (append-nil (rest_fetches batches ++ (Fetch f.keys, RefusedBy fault) ∷ [])) ∙ ended_rest batches ((Fetch f.keys, RefusedBy fault) ∷ [])
+
+  -- the watch broke in the last of them
+  pub batch_unwatched_once : (next : VaultCounts) → ReadsInside k hall before a batches mid b next → b.trace.broken ≡ true → MakesTurn mid after (noted_by mid ++ (desk.Stop SinkFault, desk.Done) ∷ []) → after.ear ≡ mid.ear → IsPassOf hall after → IsOutOfTurn after
+      → FailsOnce k beat hall (side before a.vault a.trace flow) c (side after b.vault b.trace flow) failed.Unwatched
+  batch_unwatched_once next r broken made ear own idle = record {
+    acts = act ∷ [];
+    one = tt;
+    fails = record {
+      acts_are = record {
+        allowed = All-cons (IsAllowed beat) act [] (may, end) (All-nil _);
+        turns = turn.turn ∷ [];
+        made = turn.made;
+        are = (act ∷ [], [], refl, tt, turn.calls_are ∙ sym (append-nil (look_calls look ++ (rest_calls batches ++ stop_calls SinkFault))), refl);
+        notes = r.asks.notes;
+        chain = subst (λ (asked : List (VaultCall × VaultAnswer)). AllNoted k a.vault a.trace asked r.asks.notes b.vault b.trace) (sym (append-nil (rest_fetches batches))) r.asks.chain;
+        shown = r.asks.shown;
+        rung = ap (λ (s : Seat (Unit {0}) Heard). s.me.0.seen) (ear ∙ r.notes.ear) ∙ (sym (append-nil (raised_by before)) ∙ ap (λ (rs : List (EpochRecord ℕ)). raised_by before ++ epochs_of rs) (sym none));
+        place = turn.place;
+      };
+      own = own;
+      idle = idle;
+      front = [];
+      last = act;
+      ends = refl;
+      answered = tt;
+      fault_is = refl;
+      next = suc c.epoch;
+      told = subst (λ (ws : List (List (ℕ × Option (List ℕ)))). TellsEpochs (suc c.epoch) (suc c.epoch) ws (records (act ∷ []))) (sym (ended_rest batches []))
+          (subst (λ (rs : List (EpochRecord ℕ)). TellsEpochs (suc c.epoch) (suc c.epoch) [] rs) (sym none) (tells_none (suc c.epoch) (suc c.epoch) refl));
+      reason = broken;
+      cause = λ store. absurd store;
+      lines = subst (λ (rs : List (EpochRecord ℕ)). IsWritten (report decimal rs) flow flow) (sym none) (written_none flow);
+    };
+  }
+    where
+      act : Act
+      act = RestUnwatched look batches
+
+      turn : MakesTurn before after (look_calls look ++ (rest_calls batches ++ stop_calls SinkFault))
+      turn = subst (λ (s : Steps). MakesTurn before after s)
+          (ap (λ (s : Steps). s ++ stop_calls SinkFault) (r.notes.noted ∙ ap (λ (s : Steps). s ++ rest_calls batches) noted) ∙ append_assoc (look_calls look) (rest_calls batches) (stop_calls SinkFault))
+          (turn_from before mid after (rest_calls batches) (noted_by mid ++ stop_calls SinkFault) r.notes made)
+
+      none : records (RestUnwatched look batches ∷ []) ≡ []
+      none = published_rest batches (stop_calls SinkFault) []
+
+-- one of those two
+pub batch_stops_once : {V : Type 0} (k : Kind V) (beat : BeatKind) (hall : Hall) (before mid after : Pass) (a b : Scene V) (c : VaultCounts) (look : Look) (flow : Flow) → noted_by before ≡ look_calls look → MayAct beat look → IsToEnd look → (err : RunErr) (stop : Fault)
+    → StopsInside k hall before a err mid b → stop ≡ fault_of err → MakesTurn mid after (noted_by mid ++ (desk.Stop stop, desk.Done) ∷ []) → after.ear ≡ mid.ear → IsPassOf hall after → IsOutOfTurn after
+    → FailsOnce k beat hall (side before a.vault a.trace flow) c (side after b.vault b.trace flow) err
+batch_stops_once k beat hall before mid after a b c look flow noted may end (failed.Fault fault) stop (batches, refused) is made ear own idle =
+    batch_refused_once k beat hall before mid after a b c look batches flow noted may end fault refused (subst (λ (f : Fault). MakesTurn mid after (noted_by mid ++ (desk.Stop f, desk.Done) ∷ [])) is made) ear own idle
+batch_stops_once k beat hall before mid after a b c look flow noted may end failed.Unwatched stop (batches, next, read, broken) is made ear own idle =
+    batch_unwatched_once k beat hall before mid after a b c look batches flow noted may end next read broken (subst (λ (f : Fault). MakesTurn mid after (noted_by mid ++ (desk.Stop f, desk.Done) ∷ [])) is made) ear own idle

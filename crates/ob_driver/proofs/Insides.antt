@@ -21,14 +21,16 @@ use Rattle.ob_order.proofs.Batches.{taken_in_flight}
 use Rattle.ob_desk.specs.Desk as desk
 use Rattle.ob_desk.specs.Desk.{DeskState, MayCall, TakeStep, DeliverStep}
 use Rattle.ob_hall.specs.Passes.{Steps, Hall, Pass, IsPassOf, NotesTurn}
+use Rattle.ob_conduct.specs.declared.run_err.RunErr.{RunErr}
+use Rattle.ob_conduct.specs.declared.run_err.RunErr.TheVariants as failed
 use Rattle.ob_conduct.specs.Acts.{Batch, batch_calls, batch_fetch, rest_calls, rest_fetches}
-use Rattle.ob_conduct.specs.Scenes.{Scene, scene}
+use Rattle.ob_conduct.specs.Scenes.{Scene, scene, Watched}
 use Rattle.ob_conduct.specs.Ready.{IsFit, IsBetweenActs}
 use Rattle.ob_conduct.proofs.Fit.{fit_taken, fit_delivered}
 use Rattle.ob_conduct.proofs.Moving.{noted_join, goes_all}
 use Rattle.ob_driver.specs.Resting.{params_of, noted_by, IsInTurn}
 use Rattle.ob_driver.specs.Turning.{NotesMore}
-use Rattle.ob_driver.specs.Inside.{AsksOnce, AsksAll, ReadsInside, RefusesInside}
+use Rattle.ob_driver.specs.Inside.{AsksAll, ReadsInside, RefusesInside, StopsInside}
 use Rattle.ob_driver.proofs.Turning.{call_noted, notes_one, notes_join}
 
 -- what a vector has once a slice of all of it was written
@@ -64,21 +66,21 @@ delivered_ready p d mid new c keys values r t e = subst (λ (x : DeskState). IsB
 -- ---- calls of the vault, one behind the other
 
 pub asks_none : {V : Type 0} (k : Kind V) (d : DeskState) (v : V) (t : Trace) → AsksAll k (scene d v t) [] (scene d v t)
-asks_none k d v t = record { notes = []; chain = (refl, refl); shown = shows_none t }
+asks_none k d v t = record { notes = []; chain = (refl, refl, refl); shown = shows_none t }
 
-pub asks_one : {V : Type 0} (k : Kind V) (d e : DeskState) (v w : V) (t u : Trace) (call : VaultCall) (answer : VaultAnswer) → AsksOnce k v call answer w t u → AsksAll k (scene d v t) ((call, answer) ∷ []) (scene e w u)
-asks_one k d e v w t u call answer a = record { notes = a.one.notes; chain = (w, a.one, [], sym (append-nil a.one.notes), (refl, refl)); shown = a.shown }
+pub asks_one : {V : Type 0} (k : Kind V) (d e : DeskState) (v w : V) (t u : Trace) (call : VaultCall) (answer : VaultAnswer) → Watched k v t call answer w u → AsksAll k (scene d v t) ((call, answer) ∷ []) (scene e w u)
+asks_one k d e v w t u call answer a = record { notes = a.one.notes; chain = (w, u, a, [], sym (append-nil a.one.notes), (refl, refl, refl)); shown = a.shown }
 
 pub asks_join : {V : Type 0} (k : Kind V) (a b c : Scene V) (xs ys : List (VaultCall × VaultAnswer)) → AsksAll k a xs b → AsksAll k b ys c → AsksAll k a (xs ++ ys) c
 asks_join k a b c xs ys m n = record {
   notes = m.notes ++ n.notes;
-  chain = noted_join k a.vault xs m.notes b.vault ys n.notes c.vault m.chain n.chain;
+  chain = noted_join k a.vault a.trace xs m.notes b.vault b.trace ys n.notes c.vault c.trace m.chain n.chain;
   shown = shows_then m.notes n.notes a.trace b.trace c.trace m.shown n.shown;
 }
 
 -- the count of faults of the vault's store doesn't fall
 pub asks_later : {V : Type 0} (k : Kind V) (a b : Scene V) (xs : List (VaultCall × VaultAnswer)) (n : ℕ) → AsksAll k a xs b → Rose (k.disk b.vault).faults n → Rose (k.disk a.vault).faults n
-asks_later k a b xs n m rose = rose_later (k.disk a.vault).faults (k.disk b.vault).faults n (goes_all k a.vault xs m.notes b.vault m.chain).faults rose
+asks_later k a b xs n m rose = rose_later (k.disk a.vault).faults (k.disk b.vault).faults n (goes_all k a.vault a.trace xs m.notes b.vault b.trace m.chain).faults rose
 
 -- ---- batches within a turn
 
@@ -95,7 +97,7 @@ module _ {V : Type 0} (k : Kind V) (hall : Hall) where
     turn_then = call_noted hall before mid d taken (desk.TakeBatch, desk.Batch keys) turn first own (may_take (params_of hall) d c r some) took refl
 
     -- one was read, and delivered
-    pub inside_one : (next : VaultCounts) (values : List (Option (List ℕ))) → length values ≡ length keys → DeliverStep taken keys values new → NotesTurn mid after ((desk.Deliver keys values, desk.Done) ∷ []) → IsPassOf hall after → AsksOnce k v (Fetch keys) (Values values) w t u
+    pub inside_one : (next : VaultCounts) (values : List (Option (List ℕ))) → length values ≡ length keys → DeliverStep taken keys values new → NotesTurn mid after ((desk.Deliver keys values, desk.Done) ∷ []) → IsPassOf hall after → Watched k v t (Fetch keys) (Values values) w u
         → next ≡ counts_next (params_of hall).batches c (Fetch keys) (Values values) → ReadsInside k hall before (scene d v t) (record { keys = keys; values = values } ∷ []) after (scene new w u) next
     inside_one next values whole delivered last own_now asked counts = record {
       notes = notes_join before mid after ((desk.TakeBatch, desk.Batch keys) ∷ []) ((desk.Deliver keys values, desk.Done) ∷ []) (notes_one before mid (desk.TakeBatch, desk.Batch keys) first) (notes_one mid after (desk.Deliver keys values, desk.Done) last);
@@ -107,7 +109,7 @@ module _ {V : Type 0} (k : Kind V) (hall : Hall) where
     }
 
     -- one was refused
-    pub refuses_one : (fault : Fault) → AsksOnce k v (Fetch keys) (RefusedBy fault) w t u → IsFetchFault fault → (IsStoreFault fault → Rose (k.disk v).faults (k.disk w).faults) → RefusesInside k hall before (scene d v t) [] fault mid (scene taken w u)
+    pub refuses_one : (fault : Fault) → Watched k v t (Fetch keys) (RefusedBy fault) w u → IsFetchFault fault → (IsStoreFault fault → Rose (k.disk v).faults (k.disk w).faults) → RefusesInside k hall before (scene d v t) [] fault mid (scene taken w u)
     refuses_one fault asked is_fault cause = record {
       keys = keys;
       notes = notes_one before mid (desk.TakeBatch, desk.Batch keys) first;
@@ -139,3 +141,14 @@ module _ {V : Type 0} (k : Kind V) (hall : Hall) where
       is_fault = n.is_fault;
       cause = λ store. asks_later k a b (rest_fetches batches) (k.disk e.vault).faults m.asks (n.cause store);
     }
+
+  -- ---- what stops the run within the turn
+
+  module _ (before after : Pass) (a e : Scene V) where
+    pub stops_turn : (err : RunErr) → StopsInside k hall before a err after e → IsInTurn hall after e.desk
+    stops_turn (failed.Fault fault) (batches, f) = f.turn
+    stops_turn failed.Unwatched (batches, c, r, broken) = r.turn
+
+    pub stops_notes : (err : RunErr) → StopsInside k hall before a err after e → (calls : Steps) × NotesMore before after calls
+    stops_notes (failed.Fault fault) (batches, f) = (rest_calls batches ++ (desk.TakeBatch, desk.Batch f.keys) ∷ [], f.notes)
+    stops_notes failed.Unwatched (batches, c, r, broken) = (rest_calls batches, r.notes)

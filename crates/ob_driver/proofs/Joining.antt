@@ -1,9 +1,8 @@
 -- What the driver did, one thing behind the other.
-use Rattle.std.proofs.Common.{◌≡◌, ◌∙◌, ℕ, suc, List, [], ◌∷◌, ◌++◌, flat_map, Option, refl, sym, ap, subst, append-nil, append_assoc, decimal}
+use Rattle.std.proofs.Common.{◌≡◌, ◌∙◌, ℕ, suc, false, List, [], ◌∷◌, ◌++◌, flat_map, Option, refl, sym, ap, subst, append-nil, append_assoc, decimal}
 use Rattle.std.proofs.lemmas.List.{map-append}
 use Rattle.std.proofs.lemmas.List.Elements.{All-nil, All-cons, All-append}
 use Rattle.std.proofs.lemmas.List.Concat.{flat_map-append}
-use Rattle.ob_base.specs.declared.fault.Fault.{Fault}
 use Rattle.ob_io.specs.Streams.{Flow}
 use Rattle.ob_report.specs.Report.{report}
 use Rattle.ob_store.proofs.Serving.{rose_later}
@@ -14,7 +13,8 @@ use Rattle.ob_serial.specs.VaultKinds.{Kind, ended_of}
 use Rattle.ob_desk.specs.Beats.{BeatKind}
 use Rattle.ob_turn.specs.declared.turn.Entry.{Entry}
 use Rattle.ob_hall.specs.Passes.{Steps, Hall, entries_by, raised_by}
-use Rattle.ob_conduct.specs.Acts.{Act, Says, Halts, Rests, Takes, Delivers, DeliverFails, FetchFails, Closes, Publishes, Refuses, Unprinted, calls, records, IsAllowed}
+use Rattle.ob_conduct.specs.declared.run_err.RunErr.{RunErr}
+use Rattle.ob_conduct.specs.Acts.{Act, Says, Halts, Rests, Takes, Delivers, DeliverFails, FetchFails, RestUnwatched, Closes, Publishes, Refuses, Unprinted, Unwatched, calls, records, IsAllowed}
 use Rattle.ob_conduct.specs.Rounds.{IsOneThing}
 use Rattle.ob_conduct.specs.Scenes.{AllNoted}
 use Rattle.ob_conduct.specs.Records.{AreAnswered, IsWritten}
@@ -57,9 +57,11 @@ written_more acts more from mid to first rest = subst (λ (rs : List (EpochRecor
 
 lines_behind : (act : Act) (some told : List (EpochRecord ℕ)) (from mid to : Flow) → IsWritten (report decimal some) from mid → AreLines act told mid to → AreLines act (some ++ told) from to
 lines_behind Unprinted some told from mid to first lines = cut_then some told from mid to first lines
+lines_behind Unwatched some told from mid to first lines = written_then some told from mid to first lines
 lines_behind (Halts fault) some told from mid to first lines = written_then some told from mid to first lines
 lines_behind (DeliverFails keys fault) some told from mid to first lines = written_then some told from mid to first lines
 lines_behind (FetchFails look batches keys fault) some told from mid to first lines = written_then some told from mid to first lines
+lines_behind (RestUnwatched look batches) some told from mid to first lines = written_then some told from mid to first lines
 lines_behind (Refuses writes refused) some told from mid to first lines = written_then some told from mid to first lines
 lines_behind (Says client steps) some told from mid to first lines = written_then some told from mid to first lines
 lines_behind (Rests look) some told from mid to first lines = written_then some told from mid to first lines
@@ -76,7 +78,8 @@ module _ {V : Type 0} (k : Kind V) (beat : BeatKind) where
     made = n.made ∙ (ap (λ (es : List (Entry Steps)). es ++ n.turns) m.made ∙ append_assoc (entries_by a.pass) m.turns n.turns);
     are = acts_append m.turns acts n.turns more m.are n.are;
     notes = m.notes ++ n.notes;
-    chain = subst (λ (asked : List (VaultCall × VaultAnswer)). AllNoted k a.vault asked (m.notes ++ n.notes) e.vault) (sym (calls_append acts more)) (noted_join k a.vault (calls acts) m.notes b.vault (calls more) n.notes e.vault m.chain n.chain);
+    chain = subst (λ (asked : List (VaultCall × VaultAnswer)). AllNoted k a.vault a.trace asked (m.notes ++ n.notes) e.vault e.trace) (sym (calls_append acts more))
+        (noted_join k a.vault a.trace (calls acts) m.notes b.vault b.trace (calls more) n.notes e.vault e.trace m.chain n.chain);
     shown = shows_then m.notes n.notes a.trace b.trace e.trace m.shown n.shown;
     rung = n.rung ∙ (ap (λ (ns : List ℕ). ns ++ epochs_of (records more)) m.rung ∙ (append_assoc (raised_by a.pass) (epochs_of (records acts)) (epochs_of (records more)) ∙ ap (λ (ns : List ℕ). raised_by a.pass ++ ns) (sym (epochs_append acts more))));
     place = n.place ∙ m.place;
@@ -84,8 +87,8 @@ module _ {V : Type 0} (k : Kind V) (beat : BeatKind) where
 
   module _ (hall : Hall) (a : Side V) (c : VaultCounts) where
     -- nothing was done yet
-    pub done_none : (Also : List Act → Type 0) → Also [] → IsBetweenTurns hall a.pass c → DoneThings k beat hall Also a c a c
-    done_none Also also rests = record {
+    pub done_none : (Also : List Act → Type 0) → Also [] → a.trace.broken ≡ false → IsBetweenTurns hall a.pass c → DoneThings k beat hall Also a c a c
+    done_none Also also whole rests = record {
       acts = [];
       things = things_none;
       also = also;
@@ -96,7 +99,7 @@ module _ {V : Type 0} (k : Kind V) (beat : BeatKind) where
           made = sym (append-nil (entries_by a.pass));
           are = refl;
           notes = [];
-          chain = (refl, refl);
+          chain = (refl, refl, refl);
           shown = shows_none a.trace;
           rung = sym (append-nil (raised_by a.pass));
           place = refl;
@@ -104,6 +107,7 @@ module _ {V : Type 0} (k : Kind V) (beat : BeatKind) where
         answered = tt;
         told = tells_none (suc c.epoch) (suc c.epoch) refl;
         written = written_none a.output;
+        whole = whole;
         rests = rests;
       };
     }
@@ -120,13 +124,14 @@ module _ {V : Type 0} (k : Kind V) (beat : BeatKind) where
           answered = subst AreAnswered (sym (calls_append m.acts n.acts)) (answered_join (calls m.acts) (calls n.acts) m.done.answered n.done.answered);
           told = tells_more (suc c.epoch) (suc d.epoch) (suc next.epoch) m.acts n.acts m.done.told n.done.told;
           written = written_more m.acts n.acts a.output b.output e.output m.done.written n.done.written;
+          whole = n.done.whole;
           rests = n.done.rests;
         };
       }
 
       -- one more failed
-      pub fails_behind : (fault : Fault) (n : FailsOnce k beat hall b d e fault) → B (m.acts ++ n.acts) → FailsThings k beat hall B a c e fault
-      fails_behind fault n also = record {
+      pub fails_behind : (err : RunErr) (n : FailsOnce k beat hall b d e err) → B (m.acts ++ n.acts) → FailsThings k beat hall B a c e err
+      fails_behind err n also = record {
         acts = m.acts ++ n.acts;
         things = things_more m.acts n.acts m.things n.one;
         also = also;
@@ -142,7 +147,7 @@ module _ {V : Type 0} (k : Kind V) (beat : BeatKind) where
           next = n.fails.next;
           told = tells_more (suc c.epoch) (suc d.epoch) n.fails.next m.acts n.acts m.done.told n.fails.told;
           reason = n.fails.reason;
-          cause = λ store. rose_later (k.disk a.vault).faults (k.disk b.vault).faults (k.disk e.vault).faults (goes_all k a.vault (calls m.acts) m.done.acts_are.notes b.vault m.done.acts_are.chain).faults (n.fails.cause store);
+          cause = λ store. rose_later (k.disk a.vault).faults (k.disk b.vault).faults (k.disk e.vault).faults (goes_all k a.vault a.trace (calls m.acts) m.done.acts_are.notes b.vault b.trace m.done.acts_are.chain).faults (n.fails.cause store);
           lines = subst (λ (rs : List (EpochRecord ℕ)). AreLines n.fails.last rs a.output e.output) (sym (records_append m.acts n.acts)) (lines_behind n.fails.last (records m.acts) (records n.acts) a.output b.output e.output m.done.written n.fails.lines);
         };
       }
@@ -153,11 +158,11 @@ module _ {V : Type 0} (k : Kind V) (beat : BeatKind) (hall : Hall) (A B : List A
   pub done_also : (next : VaultCounts) → DoneThings k beat hall A old c new next → DoneThings k beat hall B old c new next
   done_also next m = record { acts = m.acts; things = m.things; also = so m.acts m.also; done = m.done }
 
-  pub fails_also : (fault : Fault) → FailsThings k beat hall A old c new fault → FailsThings k beat hall B old c new fault
-  fails_also fault m = record { acts = m.acts; things = m.things; also = so m.acts m.also; fails = m.fails }
+  pub fails_also : (err : RunErr) → FailsThings k beat hall A old c new err → FailsThings k beat hall B old c new err
+  fails_also err m = record { acts = m.acts; things = m.things; also = so m.acts m.also; fails = m.fails }
 
 pub runs_out_also : {V : Type 0} (k : Kind V) (beat : BeatKind) (hall : Hall) (A B : List Act → Type 0) (old : Side V) (c : VaultCounts) (new : Side V) (next : VaultCounts) → ((acts : List Act) → A acts → B acts) → RunsOut k beat hall A old c new next → RunsOut k beat hall B old c new next
 runs_out_also k beat hall A B old c new next so r = record { rung = r.rung; found = r.found; done = done_also k beat hall A B so (side r.rung old.vault old.trace old.output) c new next r.done; over = r.over }
 
-pub run_fails_also : {V : Type 0} (k : Kind V) (beat : BeatKind) (hall : Hall) (A B : List Act → Type 0) (old : Side V) (c : VaultCounts) (new : Side V) (fault : Fault) → ((acts : List Act) → A acts → B acts) → RunFails k beat hall A old c new fault → RunFails k beat hall B old c new fault
-run_fails_also k beat hall A B old c new fault so r = record { rung = r.rung; found = r.found; fails = fails_also k beat hall A B so (side r.rung old.vault old.trace old.output) c new fault r.fails }
+pub run_fails_also : {V : Type 0} (k : Kind V) (beat : BeatKind) (hall : Hall) (A B : List Act → Type 0) (old : Side V) (c : VaultCounts) (new : Side V) (err : RunErr) → ((acts : List Act) → A acts → B acts) → RunFails k beat hall A old c new err → RunFails k beat hall B old c new err
+run_fails_also k beat hall A B old c new err so r = record { rung = r.rung; found = r.found; fails = fails_also k beat hall A B so (side r.rung old.vault old.trace old.output) c new err r.fails }

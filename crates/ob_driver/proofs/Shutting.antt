@@ -15,13 +15,14 @@ use Rattle.ob_serial.specs.declared.vault.EndErr.TheVariants.{Before, Unsure}
 use Rattle.ob_desk.specs.Desk as desk
 use Rattle.ob_desk.specs.Desk.{DeskState, Part, MayCall, CloseStep, PublishStep, closing, record_of}
 use Rattle.ob_hall.specs.Passes.{Hall, Pass, IsPassOf, NotesTurn}
+use Rattle.ob_conduct.specs.declared.run_err.RunErr.TheVariants as failed
 use Rattle.ob_conduct.specs.Acts.{close_calls, publish_calls, stop_for, fault_in}
-use Rattle.ob_conduct.specs.Scenes.{scene}
+use Rattle.ob_conduct.specs.Scenes.{scene, Watched}
 use Rattle.ob_conduct.specs.Ready.{IsBetweenActs, IsDueRecord}
 use Rattle.ob_conduct.proofs.Closing.{due_of, store_end}
 use Rattle.ob_driver.specs.Resting.{params_of, noted_by, IsInTurn}
 use Rattle.ob_driver.specs.Turning.{MakesTurn}
-use Rattle.ob_driver.specs.Inside.{AsksOnce, Ends, EndRefused}
+use Rattle.ob_driver.specs.Inside.{Ends, EndRefused}
 use Rattle.ob_driver.proofs.Turning.{call_noted, notes_one}
 use Rattle.ob_driver.proofs.Insides.{asks_one}
 use Rattle.ob_driver.proofs.Whole.{behind_notes}
@@ -56,7 +57,7 @@ module _ {V : Type 0} (k : Kind V) (hall : Hall) (before shut after : Pass) (d m
   due = due_of (params_of hall) d mid c writes r closed
 
   -- it was ended, and published
-  pub ends : (left ended : ℕ) (told : EpochRecord ℕ) (new : DeskState) → AsksOnce k v (End writes) Ended w t u → ended ≡ suc c.epoch → PublishStep mid told new → MakesTurn shut after (noted_by shut ++ (desk.Publish (ended + 1) left, desk.Published told) ∷ [])
+  pub ends : (left ended : ℕ) (told : EpochRecord ℕ) (new : DeskState) → Watched k v t (End writes) Ended w u → ended ≡ suc c.epoch → PublishStep mid told new → MakesTurn shut after (noted_by shut ++ (desk.Publish (ended + 1) left, desk.Published told) ∷ [])
       → Ends k d.running.epoch before (scene d v t) told after (scene d w u)
   ends left ended told new asked is step made =
       let part_is : closing d.running ≡ step.part = same_Some (closing d.running) step.part (sym (closed_part d mid writes closed) ∙ step.is_closed) in
@@ -78,8 +79,8 @@ module _ {V : Type 0} (k : Kind V) (hall : Hall) (before shut after : Pass) (d m
   store_of (Unsure fault) store = tt
 
   -- its end was refused, or left in doubt, and the desk was told
-  pub gives_up : (refused : EndErr) → AsksOnce k v (End writes) (end_answer (Err refused)) w t u → IsEndFault (c.epoch + 1) refused → (IsStoreEnd refused → Rose (k.disk v).faults (k.disk w).faults) → MakesTurn shut after (noted_by shut ++ (stop_for refused, desk.Done) ∷ [])
-      → EndRefused k d.running.epoch before (scene d v t) (fault_in refused) after (scene d w u)
+  pub gives_up : (refused : EndErr) → Watched k v t (End writes) (end_answer (Err refused)) w u → IsEndFault (c.epoch + 1) refused → (IsStoreEnd refused → Rose (k.disk v).faults (k.disk w).faults) → MakesTurn shut after (noted_by shut ++ (stop_for refused, desk.Done) ∷ [])
+      → EndRefused k d.running.epoch before (scene d v t) (failed.Fault (fault_in refused)) after (scene d w u)
   gives_up refused asked is_fault cause made =
       let number : c.epoch + 1 ≡ suc c.epoch = omega arith in record {
         writes = writes;

@@ -1,7 +1,6 @@
 -- What the driver did in its turns.
-use Rattle.std.specs.Prelude.{◌≡◌, ℕ, suc, All, List, [], ◌∷◌, ◌++◌, map, Option, Some, decimal}
+use Rattle.std.specs.Prelude.{◌≡◌, ℕ, suc, true, false, All, List, [], ◌∷◌, ◌++◌, map, Option, Some, decimal}
 use Rattle.ob_base.specs.Causes.{Rose}
-use Rattle.ob_base.specs.declared.fault.Fault.{Fault}
 use Rattle.ob_base.specs.declared.fault.Fault.TheVariants.{Memory}
 use Rattle.ob_io.specs.Streams.{Flow}
 use Rattle.ob_report.specs.Report.{report}
@@ -16,7 +15,8 @@ use Rattle.ob_desk.specs.Beats.{BeatKind}
 use Rattle.ob_desk.specs.declared.calls.Look.{Look}
 use Rattle.ob_turn.specs.declared.turn.Entry.{Entry}
 use Rattle.ob_hall.specs.Passes.{pass_place, Steps, Hall, Pass, entries_by, raised_by, IsPassOf, IsOutOfTurn}
-use Rattle.ob_conduct.specs.Acts.{Act, Batch, Halts, DeliverFails, FetchFails, Closes, Publishes, Refuses, Unprinted, calls, records, IsAllowed, fault_told}
+use Rattle.ob_conduct.specs.declared.run_err.RunErr.{RunErr}
+use Rattle.ob_conduct.specs.Acts.{Act, Batch, Halts, DeliverFails, FetchFails, RestUnwatched, Closes, Publishes, Refuses, Unprinted, Unwatched, calls, records, IsAllowed, fault_of, fault_told}
 use Rattle.ob_conduct.specs.Rounds.{IsOneThing}
 use Rattle.ob_conduct.specs.Scenes.{AllNoted}
 use Rattle.ob_conduct.specs.Records.{AreAnswered, IsWritten}
@@ -41,37 +41,40 @@ side pass vault trace output = record { pass = pass; vault = vault; trace = trac
 abbrev pub epochs_of : List (EpochRecord ℕ) → List ℕ
 epochs_of told = map (λ r. r.epoch) told
 
--- Acts of the driver's in turns of its pass, each allowed where its look is, and the calls of the vault that belong to them, whose notes were shown. Each number of an epoch that the vault ended was raised, in order.
+-- Acts of the driver's in turns of its pass, each allowed where its look is, and the calls of the vault that belong to them, each made under a watch that was whole, to which their notes were shown. Each number of an epoch that the vault ended was raised, in order.
 pub record Acts {V : Type 0} (k : Kind V) (beat : BeatKind) (old new : Side V) (acts : List Act) : Type 0 where
   pub allowed : All (IsAllowed beat) acts
   pub turns : List (Entry Steps)
   pub made : entries_by new.pass ≡ entries_by old.pass ++ turns
   pub are : AreActs turns acts
   pub notes : List Note
-  pub chain : AllNoted k old.vault (calls acts) notes new.vault
+  pub chain : AllNoted k old.vault old.trace (calls acts) notes new.vault new.trace
   pub shown : Shows notes old.trace new.trace
   pub rung : raised_by new.pass ≡ raised_by old.pass ++ epochs_of (records acts)
   pub place : pass_place new.pass ≡ pass_place old.pass
 
--- acts that nobody refused: the records are those of the epochs that the vault ended meanwhile, with their writes, and all their lines are written
+-- acts that nobody refused: the records are those of the epochs that the vault ended meanwhile, with their writes, all their lines are written, and the watch is whole
 pub record Done {V : Type 0} (k : Kind V) (beat : BeatKind) (hall : Hall) (old : Side V) (c : VaultCounts) (new : Side V) (next : VaultCounts) (acts : List Act) : Type 0 where
   pub acts_are : Acts k beat old new acts
   pub answered : AreAnswered (calls acts)
   pub told : TellsEpochs (suc c.epoch) (suc next.epoch) (ended_of (calls acts)) (records acts)
   pub written : IsWritten (report decimal (records acts)) old.output new.output
+  pub whole : new.trace.broken ≡ false
   pub rests : IsBetweenTurns hall new.pass next
 
--- What stands behind the fault that the last act tells of, in the epoch of this number: a client found no memory; the vault refused a batch, or an end; or the output failed.
-abbrev pub IsCause : ℕ → Act → Type 0
-IsCause epoch (Halts fault) = fault ≡ Memory
-IsCause epoch (DeliverFails keys fault) = IsFetchFault fault
-IsCause epoch (FetchFails look batches keys fault) = IsFetchFault fault
-IsCause epoch (Refuses writes refused) = IsEndFault epoch refused × ((due : EpochRecord ℕ) × IsDueRecord epoch writes due)
-IsCause epoch Unprinted = Unit {0}
-IsCause epoch _ = ⊥
+-- What stands behind what the last act tells of, in the epoch of this number: a client found no memory; the vault refused a batch, or an end; the output failed; or the watch broke.
+abbrev pub IsCause : ℕ → Act → Trace → Type 0
+IsCause epoch (Halts fault) after = fault ≡ Memory
+IsCause epoch (DeliverFails keys fault) after = IsFetchFault fault
+IsCause epoch (FetchFails look batches keys fault) after = IsFetchFault fault
+IsCause epoch (RestUnwatched look batches) after = after.broken ≡ true
+IsCause epoch (Refuses writes refused) after = IsEndFault epoch refused × ((due : EpochRecord ℕ) × IsDueRecord epoch writes due)
+IsCause epoch Unprinted after = Unit {0}
+IsCause epoch Unwatched after = after.broken ≡ true
+IsCause epoch _ after = ⊥
 
--- Acts of which the last one tells of a fault, and nobody refused those before it. The vault refused by its store only where its count of faults rose.
-pub record Fails {V : Type 0} (k : Kind V) (beat : BeatKind) (hall : Hall) (old : Side V) (c : VaultCounts) (new : Side V) (acts : List Act) (fault : Fault) : Type 0 where
+-- Acts of which the last one tells what cut the run off, and nobody refused those before it. The vault refused by its store only where its count of faults rose.
+pub record Fails {V : Type 0} (k : Kind V) (beat : BeatKind) (hall : Hall) (old : Side V) (c : VaultCounts) (new : Side V) (acts : List Act) (err : RunErr) : Type 0 where
   pub acts_are : Acts k beat old new acts
   pub own : IsPassOf hall new.pass
   pub idle : IsOutOfTurn new.pass
@@ -79,11 +82,11 @@ pub record Fails {V : Type 0} (k : Kind V) (beat : BeatKind) (hall : Hall) (old 
   pub last : Act
   pub ends : acts ≡ front ++ last ∷ []
   pub answered : AreAnswered (calls front)
-  pub fault_is : fault_told last ≡ Some fault
+  pub fault_is : fault_told last ≡ Some err
   pub next : ℕ
   pub told : TellsEpochs (suc c.epoch) next (ended_of (calls acts)) (records acts)
-  pub reason : IsCause next last
-  pub cause : IsStoreFault fault → Rose (k.disk old.vault).faults (k.disk new.vault).faults
+  pub reason : IsCause next last new.trace
+  pub cause : IsStoreFault (fault_of err) → Rose (k.disk old.vault).faults (k.disk new.vault).faults
   pub lines : AreLines last (records acts) old.output new.output
 
 -- one thing that the driver does, behind which the run goes on so
@@ -93,10 +96,10 @@ pub record DoneOnce {V : Type 0} (k : Kind V) (beat : BeatKind) (hall : Hall) (o
   pub says : SaysRound round acts
   pub done : Done k beat hall old c new next acts
 
-pub record FailsOnce {V : Type 0} (k : Kind V) (beat : BeatKind) (hall : Hall) (old : Side V) (c : VaultCounts) (new : Side V) (fault : Fault) : Type 0 where
+pub record FailsOnce {V : Type 0} (k : Kind V) (beat : BeatKind) (hall : Hall) (old : Side V) (c : VaultCounts) (new : Side V) (err : RunErr) : Type 0 where
   pub acts : List Act
   pub one : IsOneThing acts
-  pub fails : Fails k beat hall old c new acts fault
+  pub fails : Fails k beat hall old c new acts err
 
 -- An epoch was ended and published as this record, in one turn, and its lines aren't written yet.
 pub record EndedOnce {V : Type 0} (k : Kind V) (beat : BeatKind) (hall : Hall) (old : Side V) (c : VaultCounts) (new : Side V) (next : VaultCounts) (told : EpochRecord ℕ) : Type 0 where

@@ -1,6 +1,5 @@
 -- What the driver did up to the end of its run.
 use Rattle.std.specs.Prelude.{◌≡◌, ℕ, suc, true, false, All, List, flat_map}
-use Rattle.ob_base.specs.declared.fault.Fault.{Fault}
 use Rattle.ob_base.specs.declared.fault.Fault.TheVariants.{Memory}
 use Rattle.ob_base.specs.declared.params.Params.{Params}
 use Rattle.ob_serial.specs.Vaults.{VaultCounts}
@@ -9,6 +8,8 @@ use Rattle.ob_desk.specs.Desk.{DeskState, new_desk}
 use Rattle.ob_desk.specs.Beats.{BeatKind}
 use Rattle.ob_hall.specs.Passes.{Hall, Pass, opening_of, history_of, may_raise, IsLegal, IsRaised}
 use Rattle.ob_hall.specs.Opening.{IsFreshPass}
+use Rattle.ob_conduct.specs.declared.run_err.RunErr.{RunErr}
+use Rattle.ob_conduct.specs.declared.run_err.RunErr.TheVariants as failed
 use Rattle.ob_conduct.specs.Acts.{Act}
 use Rattle.ob_conduct.specs.Records.{IsOver}
 use Rattle.ob_conduct.specs.Rounds.{IsOneThing}
@@ -27,12 +28,12 @@ pub record DoneThings {V : Type 0} (k : Kind V) (beat : BeatKind) (hall : Hall) 
   pub also : Also acts
   pub done : Done k beat hall old c new next acts
 
--- things that the driver did, of which the last one tells of a fault; and of which this is so, too
-pub record FailsThings {V : Type 0} (k : Kind V) (beat : BeatKind) (hall : Hall) (Also : List Act → Type 0) (old : Side V) (c : VaultCounts) (new : Side V) (fault : Fault) : Type 0 where
+-- things that the driver did, of which the last one tells what cut the run off; and of which this is so, too
+pub record FailsThings {V : Type 0} (k : Kind V) (beat : BeatKind) (hall : Hall) (Also : List Act → Type 0) (old : Side V) (c : VaultCounts) (new : Side V) (err : RunErr) : Type 0 where
   pub acts : List Act
   pub things : AreThings acts
   pub also : Also acts
-  pub fails : Fails k beat hall old c new acts fault
+  pub fails : Fails k beat hall old c new acts err
 
 -- The history that the pass has seen leads to a desk that is over: each client has signed off, and no transaction waits for its epoch's end.
 pub record IsOverAt (hall : Hall) (pass : Pass) : Type 0 where
@@ -55,12 +56,12 @@ pub record RunsOut {V : Type 0} (k : Kind V) (beat : BeatKind) (hall : Hall) (Al
   pub done : DoneThings k beat hall Also (side rung old.vault old.trace old.output) c new next
   pub over : IsOverAt hall new.pass
 
--- The bell was raised so; then things were done, of which the last one tells of a fault.
-pub record RunFails {V : Type 0} (k : Kind V) (beat : BeatKind) (hall : Hall) (Also : List Act → Type 0) (old : Side V) (c : VaultCounts) (new : Side V) (fault : Fault) : Type 0 where
+-- The bell was raised so; then things were done, of which the last one tells what cut the run off.
+pub record RunFails {V : Type 0} (k : Kind V) (beat : BeatKind) (hall : Hall) (Also : List Act → Type 0) (old : Side V) (c : VaultCounts) (new : Side V) (err : RunErr) : Type 0 where
   pub rung : Pass
   pub found : IsRaised old.pass rung c.epoch
-  pub fails : FailsThings k beat hall Also (side rung old.vault old.trace old.output) c new fault
+  pub fails : FailsThings k beat hall Also (side rung old.vault old.trace old.output) c new err
 
 -- memory was wanting before anything was done
-abbrev pub IsNotBegun : {V : Type 0} → Side V → Side V → Fault → Type 0
-IsNotBegun old new fault = (fault ≡ Memory) × (new ≡ old)
+abbrev pub IsNotBegun : {V : Type 0} → Side V → Side V → RunErr → Type 0
+IsNotBegun old new err = (err ≡ failed.Fault Memory) × (new ≡ old)

@@ -1,20 +1,22 @@
 -- Private: parts of the driver's turns: a batch read within one, and an epoch closed, ended and published.
-use Rattle.std.specs.Prelude.{◌≡◌, ℕ, suc, List, [], ◌∷◌, ◌++◌, Option, Err}
+use Rattle.std.specs.Prelude.{◌≡◌, ℕ, suc, true, List, [], ◌∷◌, ◌++◌, Option, Err}
 use Rattle.ob_base.specs.Causes.{Rose}
 use Rattle.ob_base.specs.declared.fault.Fault.{Fault}
 use Rattle.ob_store.specs.declared.watch.Note.{Note}
 use Rattle.ob_store.specs.Calls.{IsStoreFault}
-use Rattle.ob_store.specs.Lines.{Trace, Shows}
+use Rattle.ob_store.specs.Lines.{Shows}
 use Rattle.ob_serial.specs.Serial.{EpochRecord}
 use Rattle.ob_serial.specs.Vaults.{VaultCounts, VaultCall, VaultAnswer, Fetch, End, Ended, RefusedBy}
 use Rattle.ob_serial.specs.VaultViews.{IsFetchFault, IsEndFault, end_answer}
-use Rattle.ob_serial.specs.VaultKinds.{Kind, Called}
+use Rattle.ob_serial.specs.VaultKinds.{Kind}
 use Rattle.ob_serial.specs.declared.vault.EndErr.{EndErr}
 use Rattle.ob_desk.specs.Desk as desk
 use Rattle.ob_desk.specs.Desk.{DeskState}
 use Rattle.ob_desk.specs.declared.calls.Look.{Look}
 use Rattle.ob_hall.specs.Passes.{Hall, Pass}
-use Rattle.ob_conduct.specs.Acts.{Batch, look_calls, rest_calls, rest_fetches, close_calls, publish_calls, stop_for, fault_in}
+use Rattle.ob_conduct.specs.declared.run_err.RunErr.{RunErr}
+use Rattle.ob_conduct.specs.declared.run_err.RunErr.TheVariants as failed
+use Rattle.ob_conduct.specs.Acts.{Batch, look_calls, rest_calls, rest_fetches, close_calls, publish_calls, stop_for, fault_in, fault_of}
 use Rattle.ob_conduct.specs.Scenes.{Scene, AllNoted}
 use Rattle.ob_conduct.specs.Ready.{IsBetweenActs, IsDueRecord}
 use Rattle.ob_driver.specs.Resting.{params_of, IsInTurn, IsWhere, noted_by}
@@ -32,15 +34,10 @@ pub record IsLooking (hall : Hall) (pass : Pass) (d : DeskState) (c : VaultCount
 abbrev pub counts_ended : ℕ → VaultCounts → VaultCounts
 counts_ended batches c = record c { epoch = suc c.epoch; left = batches }
 
--- a call of the vault with its answer, whose notes were shown
-pub record AsksOnce {V : Type 0} (k : Kind V) (old : V) (call : VaultCall) (answer : VaultAnswer) (new : V) (before after : Trace) : Type 0 where
-  pub one : Called k old call answer new
-  pub shown : Shows one.notes before after
-
--- calls of the vault with their answers, whose notes were shown
+-- calls of the vault with their answers, each made under a watch that was whole, to which their notes were shown
 pub record AsksAll {V : Type 0} (k : Kind V) (old : Scene V) (asked : List (VaultCall × VaultAnswer)) (new : Scene V) : Type 0 where
   pub notes : List Note
-  pub chain : AllNoted k old.vault asked notes new.vault
+  pub chain : AllNoted k old.vault old.trace asked notes new.vault new.trace
   pub shown : Shows notes old.trace new.trace
 
 -- Within the turn batches were taken, read and delivered.
@@ -61,6 +58,11 @@ pub record RefusesInside {V : Type 0} (k : Kind V) (hall : Hall) (before : Pass)
   pub is_fault : IsFetchFault fault
   pub cause : IsStoreFault fault → Rose (k.disk old.vault).faults (k.disk new.vault).faults
 
+-- What stops the run within the turn: the vault refused one more batch, or the watch broke in the last one that was delivered.
+abbrev pub StopsInside : {V : Type 0} → Kind V → Hall → Pass → Scene V → RunErr → Pass → Scene V → Type 0
+StopsInside k hall before old (failed.Fault fault) after new = (batches : List Batch) × RefusesInside k hall before old batches fault after new
+StopsInside k hall before old failed.Unwatched after new = (batches : List Batch) × (c : VaultCounts) × ReadsInside k hall before old batches after new c × (new.trace.broken ≡ true)
+
 -- The turn ended with the close of the epoch and its publish, between which the vault ended it with its writes.
 pub record Ends {V : Type 0} (k : Kind V) (epoch : ℕ) (before : Pass) (old : Scene V) (told : EpochRecord ℕ) (after : Pass) (new : Scene V) : Type 0 where
   pub writes : List (ℕ × Option (List ℕ))
@@ -70,13 +72,13 @@ pub record Ends {V : Type 0} (k : Kind V) (epoch : ℕ) (before : Pass) (old : S
   pub due : IsDueRecord epoch writes told
 
 -- The turn ended with the close and what the desk is told of an end that was refused, or is in doubt.
-pub record EndRefused {V : Type 0} (k : Kind V) (epoch : ℕ) (before : Pass) (old : Scene V) (fault : Fault) (after : Pass) (new : Scene V) : Type 0 where
+pub record EndRefused {V : Type 0} (k : Kind V) (epoch : ℕ) (before : Pass) (old : Scene V) (err : RunErr) (after : Pass) (new : Scene V) : Type 0 where
   pub writes : List (ℕ × Option (List ℕ))
   pub refused : EndErr
   pub made : MakesTurn before after (noted_by before ++ (close_calls writes ++ (stop_for refused, desk.Done) ∷ []))
   pub asks : AsksAll k old ((End writes, end_answer (Err refused)) ∷ []) new
-  pub fault_is : fault ≡ fault_in refused
+  pub fault_is : err ≡ failed.Fault (fault_in refused)
   pub is_fault : IsEndFault epoch refused
   pub due : EpochRecord ℕ
   pub is_due : IsDueRecord epoch writes due
-  pub cause : IsStoreFault fault → Rose (k.disk old.vault).faults (k.disk new.vault).faults
+  pub cause : IsStoreFault (fault_of err) → Rose (k.disk old.vault).faults (k.disk new.vault).faults

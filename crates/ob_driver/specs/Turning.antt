@@ -2,7 +2,7 @@
 use Rattle.std.specs.Prelude.{◌≡◌, List, [], ◌∷◌, ◌++◌}
 use Rattle.ob_turn.specs.declared.turn.Entry.{Entry}
 use Rattle.ob_hall.specs.Passes.{Steps, Pass, pass_place, history_of, entries_by, calls_in}
-use Rattle.ob_conduct.specs.Acts.{Act, Halts, Rests, Takes, Delivers, DeliverFails, FetchFails, Closes, Publishes, Refuses, Unprinted, history}
+use Rattle.ob_conduct.specs.Acts.{Act, Halts, Rests, Takes, Delivers, DeliverFails, FetchFails, RestUnwatched, Closes, Publishes, Refuses, Unprinted, Unwatched, history}
 use Rattle.ob_driver.specs.Resting.{noted_by}
 
 -- in its turn the pass noted these calls behind others
@@ -28,9 +28,11 @@ IsOneTurn (Takes look keys ∷ []) = Unit {0}
 IsOneTurn (Delivers batch ∷ []) = Unit {0}
 IsOneTurn (DeliverFails keys fault ∷ []) = Unit {0}
 IsOneTurn (FetchFails look batches keys fault ∷ []) = Unit {0}
+IsOneTurn (RestUnwatched look batches ∷ []) = Unit {0}
 IsOneTurn (Closes look batches writes ∷ Publishes ended left told ∷ []) = ended ≡ writes
 IsOneTurn (Closes look batches writes ∷ Refuses asked refused ∷ []) = asked ≡ writes
 IsOneTurn (Unprinted ∷ []) = Unit {0}
+IsOneTurn (Unwatched ∷ []) = Unit {0}
 IsOneTurn _ = ⊥
 
 -- these turns are these acts, turn by turn

@@ -9,7 +9,7 @@ ghost use Rattle.ob_serial.specs.Vaults.{Fetch, End, AreBelow, AreDistinct, coun
 ghost use Rattle.ob_serial.specs.VaultViews.{fetch_answer, end_answer, IsFetchFault, IsEndFault, IsStoreEnd};
 ghost use Rattle.ob_serial.specs.VaultKinds.{kind_of};
 ghost use Rattle.ob_desk.specs.Desk as desks;
-ghost use Rattle.ob_driver.specs.Inside.{AsksOnce};
+ghost use Rattle.ob_conduct.specs.Scenes.{Watched};
 
 use ob_base::{Fault, Key, Value, Write};
 use ob_desk::Desk;
@@ -47,6 +47,7 @@ pub fn read_batch<R: Threads + Sync, V: Vault, W: Watch>(
     found: &mut Vec<Option<Value>>,
 ) -> Result<(), Fault>
     requires serves { (V.counts vault.old).spent ≡ false }
+    requires watched { (W.trace watch.old).broken ≡ false }
     requires some_left { 0 < (V.counts vault.old).left }
     requires whole { length asks.now.items ≡ (V.params vault.old).places }
     requires room { length found.old.items ≡ (V.params vault.old).places }
@@ -56,8 +57,8 @@ pub fn read_batch<R: Threads + Sync, V: Vault, W: Watch>(
     ensures room { length found.new.items ≡ length found.old.items }
     ensures counts { V.counts vault.new ≡ counts_next (V.params vault.old).batches
         (V.counts vault.old) (Fetch asks.now.items) (fetch_answer found.new.items result) }
-    ensures called { AsksOnce (kind_of V.Vault) vault.old (Fetch asks.now.items)
-        (fetch_answer found.new.items result) vault.new (W.trace watch.old) (W.trace watch.new) }
+    ensures called { Watched (kind_of V.Vault) vault.old (W.trace watch.old) (Fetch asks.now.items)
+        (fetch_answer found.new.items result) vault.new (W.trace watch.new) }
     ensures faults { IfErr result IsFetchFault }
     ensures cause { IfErr result (λ fault. IsStoreFault fault
         → Rose (V.disk vault.old).faults (V.disk vault.new).faults) }
@@ -76,6 +77,7 @@ pub fn end<R: Threads + Sync, V: Vault, W: Watch>(
     writes: &Vec<Write>,
 ) -> Result<(), EndErr>
     requires serves { (V.counts vault.old).spent ≡ false }
+    requires watched { (W.trace watch.old).broken ≡ false }
     requires none_left { (V.counts vault.old).left ≡ 0 }
     requires few { length writes.now.items ≤ (V.params vault.old).writes }
     requires rising { IsStrictlyIncreasing (map (λ w. w.key) writes.now.items) }
@@ -83,8 +85,8 @@ pub fn end<R: Threads + Sync, V: Vault, W: Watch>(
     ensures params { V.params vault.new ≡ V.params vault.old }
     ensures counts { V.counts vault.new ≡ counts_next (V.params vault.old).batches
         (V.counts vault.old) (End (map pair_of writes.now.items)) (end_answer result) }
-    ensures called { AsksOnce (kind_of V.Vault) vault.old (End (map pair_of writes.now.items))
-        (end_answer result) vault.new (W.trace watch.old) (W.trace watch.new) }
+    ensures called { Watched (kind_of V.Vault) vault.old (W.trace watch.old)
+        (End (map pair_of writes.now.items)) (end_answer result) vault.new (W.trace watch.new) }
     ensures faults { IfErr result (IsEndFault ((V.counts vault.old).epoch + 1)) }
     ensures cause { IfErr result (λ refused. IsStoreEnd refused
         → Rose (V.disk vault.old).faults (V.disk vault.new).faults) }

@@ -1,6 +1,6 @@
 //! The driver's run: its looks, up to the end.
 
-ghost use Rattle.std.specs.Prelude.{◌≡◌, ◌∷◌, [], true, MatchBool, OnOk, IfErr};
+ghost use Rattle.std.specs.Prelude.{◌≡◌, ◌∷◌, [], true, false, MatchBool, OnOk, IfErr};
 ghost use Rattle.ob_io.specs.Streams.{outflow};
 ghost use Rattle.ob_serial.specs.VaultKinds.{kind_of};
 ghost use Rattle.ob_desk.specs.Beats.{beat_kind};
@@ -16,7 +16,8 @@ use crate::hands::Hands;
 use crate::looking::look_once;
 use crate::room::Room;
 use crate::round::Round;
-use ob_base::{Fault, Params};
+use ob_base::Params;
+use ob_conduct::RunErr;
 use ob_desk::Beat;
 use ob_hall::{Hall, Pass};
 use ob_io::Sink;
@@ -47,7 +48,8 @@ fn pause<R: Wait>(rt: &R, hall: &Hall, round: Round, ran: bool, asked: u64) {
 // looks. Each turn of a round stands behind those before it.
 //
 // # Errors
-// The desk was found stopped; or the vault refused, or the output failed, and the desk is stopped.
+// The desk was found stopped; or the vault refused, the watch broke or the output failed, and the
+// desk is stopped.
 fn drive_on<R: Threads + Wait + Sync, V: Vault, W: Watch, B: Beat, O: Sink, H: Hands>(
     rt: &R,
     params: &Params,
@@ -59,10 +61,11 @@ fn drive_on<R: Threads + Wait + Sync, V: Vault, W: Watch, B: Beat, O: Sink, H: H
     beat: &mut B,
     output: &mut O,
     room: &mut Room,
-) -> Result<(), Fault>
+) -> Result<(), RunErr>
     requires params { (V.params vault.old ≡ params_of hall.now)
         × (params.now ≡ params_of hall.now) }
     requires rests { IsBetweenTurns hall.now pass.old (V.counts vault.old) }
+    requires whole { (W.trace watch.old).broken ≡ false }
     requires room { HasRoom (params_of hall.now) room.old }
     requires hands { H.ready hall.now hands.old }
     ensures params { V.params vault.new ≡ params_of hall.now }
@@ -77,12 +80,12 @@ fn drive_on<R: Threads + Wait + Sync, V: Vault, W: Watch, B: Beat, O: Sink, H: H
         (side pass.new vault.new (W.trace watch.new) (outflow O.Sink output.new))
         (V.counts vault.new)) }
     ensures over { OnOk result (IsOverAt hall.now pass.new) }
-    ensures failed { IfErr result (λ fault. FailsThings (kind_of V.Vault)
+    ensures failed { IfErr result (λ err. FailsThings (kind_of V.Vault)
         (beat_kind B.passes B.exact) hall.now
         (AreInRounds (H.round hall.now) hands.old hands.new pass.old pass.new)
         (side pass.old vault.old (W.trace watch.old) (outflow O.Sink output.old))
         (V.counts vault.old)
-        (side pass.new vault.new (W.trace watch.new) (outflow O.Sink output.new)) fault) }
+        (side pass.new vault.new (W.trace watch.new) (outflow O.Sink output.new)) err) }
 {
     let mut turns: u64 = 0;
     for _ in rt.forever() {
@@ -92,7 +95,7 @@ fn drive_on<R: Threads + Wait + Sync, V: Vault, W: Watch, B: Beat, O: Sink, H: H
             rt, params, hall, pass, vault, watch, beat, output, room, &mut turns,
         ) {
             Ok(round) => round,
-            Err(fault) => return Err(fault),
+            Err(err) => return Err(err),
         };
         if is_over(round) {
             return Ok(());
@@ -120,8 +123,8 @@ pub fn announce<V: Vault>(params: &Params, hall: &Hall, pass: &mut Pass, vault: 
 /// hand make their steps. Each epoch's lines are written once it is durable.
 ///
 /// # Errors
-/// The desk was found stopped, for want of memory; or the vault refused, or the output failed, and
-/// the desk is stopped. It takes no memory: the room is made before.
+/// The desk was found stopped, for want of memory; or the vault refused, the watch broke or the
+/// output failed, and the desk is stopped. It takes no memory: the room is made before.
 pub fn drive_epochs<R: Threads + Wait + Sync, V: Vault, W: Watch, B: Beat, O: Sink, H: Hands>(
     rt: &R,
     params: &Params,
@@ -133,9 +136,10 @@ pub fn drive_epochs<R: Threads + Wait + Sync, V: Vault, W: Watch, B: Beat, O: Si
     beat: &mut B,
     output: &mut O,
     room: &mut Room,
-) -> Result<(), Fault>
+) -> Result<(), RunErr>
     requires params { V.params vault.old ≡ params.now }
     requires first { IsFirstPass hall.now pass.old params.now (V.counts vault.old) }
+    requires whole { (W.trace watch.old).broken ≡ false }
     requires room { HasRoom params.now room.old }
     requires hands { H.ready hall.now hands.old }
     ensures params { V.params vault.new ≡ params.now }
@@ -149,12 +153,12 @@ pub fn drive_epochs<R: Threads + Wait + Sync, V: Vault, W: Watch, B: Beat, O: Si
         (V.counts vault.old)
         (side pass.new vault.new (W.trace watch.new) (outflow O.Sink output.new))
         (V.counts vault.new)) }
-    ensures failed { IfErr result (λ fault. RunFails (kind_of V.Vault)
+    ensures failed { IfErr result (λ err. RunFails (kind_of V.Vault)
         (beat_kind B.passes B.exact) hall.now
         (AreInRounds (H.round hall.now) hands.old hands.new pass.old pass.new)
         (side pass.old vault.old (W.trace watch.old) (outflow O.Sink output.old))
         (V.counts vault.old)
-        (side pass.new vault.new (W.trace watch.new) (outflow O.Sink output.new)) fault) }
+        (side pass.new vault.new (W.trace watch.new) (outflow O.Sink output.new)) err) }
 {
     announce(params, hall, pass, vault);
     drive_on(

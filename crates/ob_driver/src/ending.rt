@@ -1,6 +1,6 @@
 //! The end of an epoch, in one turn from the look to the publish.
 
-ghost use Rattle.std.specs.Prelude.{◌≡◌, ◌≤◌, ◌<◌, ◌+◌, ◌^◌, ◌++◌, [], ◌∷◌, List, None, suc, length, true, OnOk, OnErr, IfOk, IfErr, vec_capacity};
+ghost use Rattle.std.specs.Prelude.{◌≡◌, ◌≤◌, ◌<◌, ◌+◌, ◌^◌, ◌++◌, [], ◌∷◌, List, None, suc, length, true, false, OnOk, OnErr, IfOk, IfErr, vec_capacity};
 ghost use Rattle.ob_io.specs.Streams.{Flow};
 ghost use Rattle.ob_serial.specs.Views.{record_of};
 ghost use Rattle.ob_serial.specs.VaultKinds.{kind_of};
@@ -16,7 +16,7 @@ ghost use Rattle.ob_conduct.specs.Ready.{IsBetweenActs};
 ghost use Rattle.ob_driver.specs.Resting.{params_of, noted_by, IsInTurn, IsBetweenTurns};
 ghost use Rattle.ob_driver.specs.Turning.{MakesTurn};
 ghost use Rattle.ob_driver.specs.Places.{EndsItsTurn};
-ghost use Rattle.ob_driver.specs.Inside.{counts_ended, IsLooking, ReadsInside, RefusesInside, Ends, EndRefused};
+ghost use Rattle.ob_driver.specs.Inside.{counts_ended, IsLooking, ReadsInside, RefusesInside, StopsInside, Ends, EndRefused};
 ghost use Rattle.ob_driver.specs.Rooms.{HasRoom};
 ghost use Rattle.ob_driver.specs.Driven.{side, FailsOnce, EndedOnce};
 
@@ -24,6 +24,7 @@ use crate::asking::{deliver_batch, end, read_batch, take_batch};
 use crate::noting::{leave, note};
 use crate::room::Room;
 use ob_base::{Fault, Key, Params, Value, Write};
+use ob_conduct::RunErr;
 use ob_desk::Desk;
 use ob_hall::{Driven, Hall, Pass};
 use ob_serial::{EndErr, EpochRecord, Vault};
@@ -49,6 +50,7 @@ fn read_inside<R: Threads + Sync, V: Vault, W: Watch>(
     requires turn { IsInTurn hall.now pass.old desk.old }
     requires ready { IsBetweenActs (params_of hall.now) desk.old (V.counts vault.old) }
     requires goes_on { desk.old.stop ≡ None }
+    requires whole { (W.trace watch.old).broken ≡ false }
     requires some_left { 0 < (V.counts vault.old).left }
     requires places { length asks.old.items ≡ (params_of hall.now).places }
     requires room { length found.old.items ≡ (params_of hall.now).places }
@@ -79,6 +81,9 @@ fn read_inside<R: Threads + Sync, V: Vault, W: Watch>(
 }
 
 // Reads each batch that is left, within the turn.
+//
+// # Errors
+// The vault refused a batch, which is taken; or the watch broke, and the last batch is delivered.
 fn read_left<R: Threads + Sync, V: Vault, W: Watch>(
     rt: &R,
     hall: &Hall,
@@ -88,11 +93,12 @@ fn read_left<R: Threads + Sync, V: Vault, W: Watch>(
     watch: &mut W,
     asks: &mut Vec<Option<Key>>,
     found: &mut Vec<Option<Value>>,
-) -> Result<(), Fault>
+) -> Result<(), RunErr>
     requires params { V.params vault.old ≡ params_of hall.now }
     requires turn { IsInTurn hall.now pass.old desk.old }
     requires ready { IsBetweenActs (params_of hall.now) desk.old (V.counts vault.old) }
     requires goes_on { desk.old.stop ≡ None }
+    requires whole { (W.trace watch.old).broken ≡ false }
     requires places { length asks.old.items ≡ (params_of hall.now).places }
     requires room { length found.old.items ≡ (params_of hall.now).places }
     ensures params { V.params vault.new ≡ params_of hall.now }
@@ -101,17 +107,20 @@ fn read_left<R: Threads + Sync, V: Vault, W: Watch>(
     ensures read { OnOk result ((batches : List Batch)
         × ReadsInside (kind_of V.Vault) hall.now pass.old
         (scene desk.old vault.old (W.trace watch.old)) batches pass.new
-        (scene desk.new vault.new (W.trace watch.new)) (V.counts vault.new)) }
+        (scene desk.new vault.new (W.trace watch.new)) (V.counts vault.new)
+        × ((W.trace watch.new).broken ≡ false)) }
     ensures none_left { OnOk result ((V.counts vault.new).left ≡ 0) }
-    ensures refused { IfErr result (λ fault. (batches : List Batch)
-        × RefusesInside (kind_of V.Vault) hall.now pass.old
-        (scene desk.old vault.old (W.trace watch.old)) batches fault pass.new
+    ensures refused { IfErr result (λ err. StopsInside (kind_of V.Vault) hall.now pass.old
+        (scene desk.old vault.old (W.trace watch.old)) err pass.new
         (scene desk.new vault.new (W.trace watch.new))) }
 {
     while vault.left() > 0 {
         match read_inside(rt, hall, pass, desk, vault, watch, asks, found) {
             Ok(()) => {}
-            Err(fault) => return Err(fault),
+            Err(fault) => return Err(RunErr::Fault(fault)),
+        }
+        if watch.broken() {
+            return Err(RunErr::Unwatched);
         }
     }
     Ok(())
@@ -175,12 +184,13 @@ fn close<R: Threads + Sync, V: Vault, W: Watch>(
     vault: &mut V,
     watch: &mut W,
     writes: &mut Vec<Write>,
-) -> Result<EpochRecord<Key>, Fault>
+) -> Result<EpochRecord<Key>, RunErr>
     requires params { (V.params vault.old ≡ params_of hall.now)
         × (params.now ≡ params_of hall.now) }
     requires turn { IsInTurn hall.now pass.old desk }
     requires ready { IsBetweenActs (params_of hall.now) desk (V.counts vault.old) }
     requires goes_on { desk.stop ≡ None }
+    requires whole { (W.trace watch.old).broken ≡ false }
     requires none_left { (V.counts vault.old).left ≡ 0 }
     requires raises { may_raise pass.old ≡ true }
     requires told { told_by pass.old ≤ (V.counts vault.old).epoch }
@@ -195,8 +205,8 @@ fn close<R: Threads + Sync, V: Vault, W: Watch>(
     ensures raised { OnOk result
         (Raises pass.old.ear pass.new.ear (suc (V.counts vault.old).epoch)) }
     ensures ear { OnErr result (pass.new.ear ≡ pass.old.ear) }
-    ensures refused { IfErr result (λ fault. EndRefused (kind_of V.Vault) desk.running.epoch
-        pass.old (scene desk vault.old (W.trace watch.old)) fault pass.new
+    ensures refused { IfErr result (λ err. EndRefused (kind_of V.Vault) desk.running.epoch
+        pass.old (scene desk vault.old (W.trace watch.old)) err pass.new
         (scene desk vault.new (W.trace watch.new))) }
     ensures ends { EndsItsTurn pass.old pass.new }
     ensures own { IsPassOf hall.now pass.new }
@@ -212,13 +222,13 @@ fn close<R: Threads + Sync, V: Vault, W: Watch>(
         }
         Err(EndErr::Before(fault)) => {
             stop_inside(hall, pass, desk, fault);
-            Err(fault)
+            Err(RunErr::Fault(fault))
         }
         Err(EndErr::Unsure(fault)) => {
             desk.unsure(fault);
             leave(hall, pass, desk, Driven::Unsure { fault });
             hall.wake();
-            Err(fault)
+            Err(RunErr::Fault(fault))
         }
     }
 }
@@ -227,7 +237,8 @@ fn close<R: Threads + Sync, V: Vault, W: Watch>(
 /// within the turn, in which no client's call stands.
 ///
 /// # Errors
-/// The vault refused, and the desk is stopped with its fault, or in doubt.
+/// The vault refused, and the desk is stopped with its fault, or in doubt; or the watch broke
+/// before the close, and the desk is stopped.
 pub fn end_epoch<R: Threads + Sync, V: Vault, W: Watch>(
     rt: &R,
     params: &Params,
@@ -237,11 +248,12 @@ pub fn end_epoch<R: Threads + Sync, V: Vault, W: Watch>(
     vault: &mut V,
     watch: &mut W,
     room: &mut Room,
-) -> Result<EpochRecord<Key>, Fault>
+) -> Result<EpochRecord<Key>, RunErr>
     requires params { (V.params vault.old ≡ params_of hall.now)
         × (params.now ≡ params_of hall.now) }
     requires looking { IsLooking hall.now pass.old desk (V.counts vault.old) }
     requires goes_on { desk.stop ≡ None }
+    requires whole { (W.trace watch.old).broken ≡ false }
     requires room { HasRoom (params_of hall.now) room.old }
     ensures params { V.params vault.new ≡ params_of hall.now }
     ensures room { HasRoom (params_of hall.now) room.new }
@@ -256,9 +268,9 @@ pub fn end_epoch<R: Threads + Sync, V: Vault, W: Watch>(
         (record_of told)) }
     ensures refused { (beat : BeatKind) (look : Seen) (flow : Flow)
         → noted_by pass.old ≡ look_calls look → MayAct beat look → IsToEnd look
-        → IfErr result (λ fault. FailsOnce (kind_of V.Vault) beat hall.now
+        → IfErr result (λ err. FailsOnce (kind_of V.Vault) beat hall.now
         (side pass.old vault.old (W.trace watch.old) flow) (V.counts vault.old)
-        (side pass.new vault.new (W.trace watch.new) flow) fault) }
+        (side pass.new vault.new (W.trace watch.new) flow) err) }
 {
     match read_left(
         rt,
@@ -271,9 +283,9 @@ pub fn end_epoch<R: Threads + Sync, V: Vault, W: Watch>(
         &mut room.found,
     ) {
         Ok(()) => close(rt, params, hall, pass, desk, vault, watch, &mut room.writes),
-        Err(fault) => {
-            stop_inside(hall, pass, desk, fault);
-            Err(fault)
+        Err(err) => {
+            stop_inside(hall, pass, desk, err.fault());
+            Err(err)
         }
     }
 }

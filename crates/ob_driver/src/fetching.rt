@@ -1,6 +1,6 @@
 //! A batch that was taken of the desk, read while clients go on, and delivered.
 
-ghost use Rattle.std.specs.Prelude.{◌≡◌, ◌<◌, ◌++◌, [], ◌∷◌, length, OnOk, IfOk, IfErr};
+ghost use Rattle.std.specs.Prelude.{◌≡◌, ◌<◌, ◌++◌, [], ◌∷◌, length, false, OnOk, IfOk, IfErr};
 ghost use Rattle.ob_io.specs.Streams.{Flow};
 ghost use Rattle.ob_serial.specs.Vaults.{VaultCounts};
 ghost use Rattle.ob_serial.specs.VaultKinds.{kind_of};
@@ -21,6 +21,7 @@ use crate::asking::{deliver_batch, read_batch, take_batch};
 use crate::noting::leave;
 use crate::round::Round;
 use ob_base::{Fault, Key, Value};
+use ob_conduct::RunErr;
 use ob_desk::Desk;
 use ob_hall::{Driven, Hall, Pass};
 use ob_serial::Vault;
@@ -93,10 +94,12 @@ pub fn stop<R: Wait>(rt: &R, hall: &Hall, pass: &mut Pass, fault: Fault, turns: 
 }
 
 /// Takes a batch and ends the turn; the vault reads it while no turn is held; and it is delivered
-/// in another turn. Answers that something was done.
+/// in another turn. Where the watch broke in it the desk is stopped in one more. Answers that
+/// something was done.
 ///
 /// # Errors
-/// The vault refused, and the desk is stopped with its fault.
+/// The vault refused, and the desk is stopped with its fault; or the watch broke, and the desk is
+/// stopped.
 pub fn fetch<R: Threads + Wait + Sync, V: Vault, W: Watch>(
     rt: &R,
     hall: &Hall,
@@ -107,10 +110,11 @@ pub fn fetch<R: Threads + Wait + Sync, V: Vault, W: Watch>(
     asks: &mut Vec<Option<Key>>,
     found: &mut Vec<Option<Value>>,
     turns: &mut u64,
-) -> Result<Round, Fault>
+) -> Result<Round, RunErr>
     requires params { V.params vault.old ≡ params_of hall.now }
     requires looking { IsLooking hall.now pass.old desk (V.counts vault.old) }
     requires some_left { 0 < (V.counts vault.old).left }
+    requires whole { (W.trace watch.old).broken ≡ false }
     requires places { length asks.old.items ≡ (params_of hall.now).places }
     requires room { length found.old.items ≡ (params_of hall.now).places }
     requires turns { IsTurnAt pass.old turns.old }
@@ -127,19 +131,23 @@ pub fn fetch<R: Threads + Wait + Sync, V: Vault, W: Watch>(
         (side pass.new vault.new (W.trace watch.new) flow) (V.counts vault.new) rounds.Acted) }
     ensures refused { (beat : BeatKind) (look : Seen) (flow : Flow)
         → noted_by pass.old ≡ look_calls look → MayAct beat look → IsToFetch look
-        → IfErr result (λ fault. FailsOnce (kind_of V.Vault) beat hall.now
+        → IfErr result (λ err. FailsOnce (kind_of V.Vault) beat hall.now
         (side pass.old vault.old (W.trace watch.old) flow) (V.counts vault.old)
-        (side pass.new vault.new (W.trace watch.new) flow) fault) }
+        (side pass.new vault.new (W.trace watch.new) flow) err) }
 {
     take(hall, pass, desk, asks);
     match read_batch(rt, vault, watch, asks, found) {
         Ok(()) => {
             deliver(rt, hall, pass, asks, found, turns);
+            if watch.broken() {
+                stop(rt, hall, pass, Fault::SinkFault, turns);
+                return Err(RunErr::Unwatched);
+            }
             Ok(Round::Acted)
         }
         Err(fault) => {
             stop(rt, hall, pass, fault, turns);
-            Err(fault)
+            Err(RunErr::Fault(fault))
         }
     }
 }

@@ -1,6 +1,6 @@
 //! The driver's look, and what it does at it.
 
-ghost use Rattle.std.specs.Prelude.{◌≡◌, None, OnOk, IfOk, IfErr};
+ghost use Rattle.std.specs.Prelude.{◌≡◌, None, false, OnOk, IfOk, IfErr};
 ghost use Rattle.ob_io.specs.Streams.{outflow};
 ghost use Rattle.ob_serial.specs.VaultKinds.{kind_of};
 ghost use Rattle.ob_desk.specs.Beats.{BeatKind, beat_kind};
@@ -21,6 +21,7 @@ use crate::plan::{Plan, decide};
 use crate::room::Room;
 use crate::round::Round;
 use ob_base::{Failed, Fault, Params};
+use ob_conduct::RunErr;
 use ob_desk::{Beat, Desk};
 use ob_hall::{Driven, Hall, Pass};
 use ob_io::Sink;
@@ -30,7 +31,8 @@ use ob_store::Watch;
 use std::sync::Wait;
 use std::thread::Threads;
 
-// Ends the epoch within the turn, and then writes its lines. Answers that something was done.
+// Ends the epoch within the turn, and then writes its lines; where the watch broke in it the desk
+// is stopped behind that. Answers that something was done.
 fn end_and_tell<R: Threads + Wait + Sync, V: Vault, W: Watch, O: Sink>(
     rt: &R,
     params: &Params,
@@ -42,11 +44,12 @@ fn end_and_tell<R: Threads + Wait + Sync, V: Vault, W: Watch, O: Sink>(
     output: &mut O,
     room: &mut Room,
     turns: &mut u64,
-) -> Result<Round, Fault>
+) -> Result<Round, RunErr>
     requires params { (V.params vault.old ≡ params_of hall.now)
         × (params.now ≡ params_of hall.now) }
     requires looking { IsLooking hall.now pass.old desk (V.counts vault.old) }
     requires goes_on { desk.stop ≡ None }
+    requires whole { (W.trace watch.old).broken ≡ false }
     requires room { HasRoom (params_of hall.now) room.old }
     requires turns { IsTurnAt pass.old turns.old }
     ensures params { V.params vault.new ≡ params_of hall.now }
@@ -61,20 +64,26 @@ fn end_and_tell<R: Threads + Wait + Sync, V: Vault, W: Watch, O: Sink>(
         (V.counts vault.new) rounds.Acted) }
     ensures refused { (beat : BeatKind) (look : Seen) → noted_by pass.old ≡ look_calls look
         → MayAct beat look → IsToEnd look
-        → IfErr result (λ fault. FailsOnce (kind_of V.Vault) beat hall.now
+        → IfErr result (λ err. FailsOnce (kind_of V.Vault) beat hall.now
         (side pass.old vault.old (W.trace watch.old) (outflow O.Sink output.old))
         (V.counts vault.old)
-        (side pass.new vault.new (W.trace watch.new) (outflow O.Sink output.new)) fault) }
+        (side pass.new vault.new (W.trace watch.new) (outflow O.Sink output.new)) err) }
 {
     let told = match end_epoch(rt, params, hall, pass, desk, vault, watch, room) {
         Ok(told) => told,
-        Err(fault) => return Err(fault),
+        Err(err) => return Err(err),
     };
     match text(&told, output) {
-        Ok(()) => Ok(Round::Acted),
+        Ok(()) => {
+            if watch.broken() {
+                stop(rt, hall, pass, Fault::SinkFault, turns);
+                return Err(RunErr::Unwatched);
+            }
+            Ok(Round::Acted)
+        }
         Err(Failed) => {
             stop(rt, hall, pass, Fault::SinkFault, turns);
-            Err(Fault::SinkFault)
+            Err(RunErr::Fault(Fault::SinkFault))
         }
     }
 }
@@ -83,7 +92,8 @@ fn end_and_tell<R: Threads + Wait + Sync, V: Vault, W: Watch, O: Sink>(
 /// was told of, behind which the driver's stand; and then how many there are up to its last one.
 ///
 /// # Errors
-/// The desk was found stopped; or the vault refused, or the output failed, and the desk is stopped.
+/// The desk was found stopped; or the vault refused, the watch broke or the output failed, and the
+/// desk is stopped.
 pub fn look_once<R: Threads + Wait + Sync, V: Vault, W: Watch, B: Beat, O: Sink>(
     rt: &R,
     params: &Params,
@@ -95,10 +105,11 @@ pub fn look_once<R: Threads + Wait + Sync, V: Vault, W: Watch, B: Beat, O: Sink>
     output: &mut O,
     room: &mut Room,
     turns: &mut u64,
-) -> Result<Round, Fault>
+) -> Result<Round, RunErr>
     requires params { (V.params vault.old ≡ params_of hall.now)
         × (params.now ≡ params_of hall.now) }
     requires rests { IsBetweenTurns hall.now pass.old (V.counts vault.old) }
+    requires whole { (W.trace watch.old).broken ≡ false }
     requires room { HasRoom (params_of hall.now) room.old }
     ensures params { V.params vault.new ≡ params_of hall.now }
     ensures room { HasRoom (params_of hall.now) room.new }
@@ -111,18 +122,18 @@ pub fn look_once<R: Threads + Wait + Sync, V: Vault, W: Watch, B: Beat, O: Sink>
         (side pass.new vault.new (W.trace watch.new) (outflow O.Sink output.new))
         (V.counts vault.new) round) }
     ensures over { IfOk result (λ round. round ≡ rounds.Over → IsOverAt hall.now pass.new) }
-    ensures failed { IfErr result (λ fault. FailsOnce (kind_of V.Vault)
+    ensures failed { IfErr result (λ err. FailsOnce (kind_of V.Vault)
         (beat_kind B.passes B.exact) hall.now
         (side pass.old vault.old (W.trace watch.old) (outflow O.Sink output.old))
         (V.counts vault.old)
-        (side pass.new vault.new (W.trace watch.new) (outflow O.Sink output.new)) fault) }
+        (side pass.new vault.new (W.trace watch.new) (outflow O.Sink output.new)) err) }
 {
     let (desk, count) = hall.enter_behind(rt, pass, *turns);
     *turns = count;
     let fault = desk.stopped();
     if let Some(found) = fault {
         leave(hall, pass, desk, Driven::IsStopped { fault });
-        return Err(found);
+        return Err(RunErr::Fault(found));
     }
     note(hall, pass, Driven::IsStopped { fault });
     let look = desk.look();

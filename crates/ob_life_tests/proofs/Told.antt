@@ -18,7 +18,7 @@ use Rattle.ob_vault.specs.Lives.{ring_lives}
 use Rattle.ob_vault.specs.RingKind.{ring_kind}
 use Rattle.ob_word_forms.specs.Forms.{ArePlain, IsPlain}
 use Rattle.ob_words.specs.Work.{AreBadLanes, AreLanes, AreParams, HasKeys, IsBadNumber, IsKeysRefused}
-use Rattle.ob_life_tests.specs.Lived.{HasRun, IsFormatted}
+use Rattle.ob_life_tests.specs.Lived.{HasRun, HasFormatted}
 
 module _ {S : Type 0} (disk : S → Disk) (text : Bor (List ℕ)) (old new : S) (before after : Outside) (status : ℕ) where
   -- nothing was done, and this was told
@@ -39,10 +39,10 @@ module _ {S : Type 0} (disk : S → Disk) (text : Bor (List ℕ)) (old new : S) 
   no_keys : (A : Type 0) → KeysTell → status ≡ 0 → A
   no_keys A (f, (is, none), (kept, told)) zero = let two : status ≡ 2 = told.status_is ∙ ap fault_status is in absurd (omega (arith, two, zero))
 
-  pub made : (numbers : List (List ℕ)) → FormatTells numbers → status ≡ 0 → IsFormatted disk text.now old new
+  pub made : (numbers : List (List ℕ)) → FormatTells numbers → status ≡ 0 → HasFormatted disk text.now old new
   made numbers (inl (kept, told)) zero = absurd (omega (arith, told.status_is, zero))
   made numbers (inr (inl (field, bad, (kept, told)))) zero = absurd (omega (arith, told.status_is, zero))
-  made numbers (inr (inr (p, are, inl refused))) zero = no_keys (IsFormatted disk text.now old new) refused zero
+  made numbers (inr (inr (p, are, inl refused))) zero = no_keys (HasFormatted disk text.now old new) refused zero
   made numbers (inr (inr (p, are, inr (keys, has, done)))) zero =
       record { keys = keys; are = has; p = p; before = before; after = after; done = subst (λ n. FormatDone ring_kind ring_lives disk keys p old new before after n) zero done }
 

@@ -25,7 +25,7 @@ use Rattle.ob_vault.specs.RingKind.{IsRingFound, IsRingMap, RingFound, ring_kind
 use Rattle.ob_vault.specs.Shapes.{answered, refused}
 use Rattle.ob_words.proofs.Named.{one_keys}
 use Rattle.std.specs.Borrow.{Bor}
-use Rattle.ob_life_tests.specs.Lived.{AreOneLife, HasRun, IsFormatted, IsWholeRun, answers, part_of}
+use Rattle.ob_life_tests.specs.Lived.{AreOneLife, HasRun, HasFormatted, IsWholeRun, answers, part_of}
 use Rattle.ob_life_tests.proofs.Ends.{formatted, whole}
 use Rattle.ob_life_tests.proofs.Lives.{joined}
 use Rattle.ob_life_tests.proofs.Words.{first_given, second_given, word_in}
@@ -128,7 +128,7 @@ module _ {S : Type 0} (disk : S → Disk) (keys : Keys) (p : Params) where
 -- the same of calls that answered 0 under the keys of one text
 pub lived_so : {S : Type 0} (disk : S → Disk) (counts_now : (x : S) (t : Clock) (c : Image) → NotAfter t (disk x).moment → (disk x).may_leave c → (disk x).left_since t c) (includes_reads : (x : S) → (disk x).tells → (disk x).leaves → (disk x).may_leave (disk x).cells)
     → RunsAreOneLife disk → PadsAreFresh disk → ((x : S) → (disk x).tells) → ((x : S) → (disk x).leaves) → (text : Bor (List ℕ)) (first_words second_words : List ℕ) (blank made ran left new : S)
-    → IsFormatted disk text.now blank made → HasRun disk text.now first_words made ran → (disk ran).may_leave (disk left).cells → IsSynced (disk left) → HasRun disk text.now second_words left new
+    → HasFormatted disk text.now blank made → HasRun disk text.now first_words made ran → (disk ran).may_leave (disk left).cells → IsSynced (disk left) → HasRun disk text.now second_words left new
     → (keys : Keys) × (first_is : List ℕ) × (second_is : List ℕ) × (formatted_is : S) × AreOneLife disk keys first_is second_is formatted_is new
 lived_so {S} disk counts_now includes_reads one_life pads tells leaves text first_words second_words blank made ran left new f one may sure two =
     let keys : Keys = f.keys in

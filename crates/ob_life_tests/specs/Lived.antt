@@ -1,4 +1,4 @@
--- A format, a run, a crash behind it and another run, as one life of their store.
+-- Private: a format, a run, a crash behind it and another run, as one life of their store.
 use Rattle.std.specs.Prelude.{◌≡◌, ℕ, List, [], ◌∷◌, ◌++◌, map, None}
 use Rattle.ob_base.specs.Repeats.{NoRepeats}
 use Rattle.ob_base.specs.declared.params.Params.{Params}
@@ -21,7 +21,7 @@ use Rattle.ob_words.specs.Work.{AreKeys}
 
 module _ {S : Type 0} (disk : S → Disk) where
   -- a format under the keys of this text that answered 0
-  pub record IsFormatted (text : List ℕ) (old new : S) : Type 0 where
+  pub record HasFormatted (text : List ℕ) (old new : S) : Type 0 where
     pub keys : Keys
     pub are : AreKeys text keys
     pub p : Params

@@ -2,7 +2,7 @@
 //! is what the next one asks for, and all of them are one life of the store.
 
 ghost use Rattle.std.specs.Prelude.{◌≡◌, ◌≢◌, ℕ, List, IfOk, IfErr};
-ghost use Rattle.ob_life_tests.specs.Lived.{AreOneLife, HasRun, IsFormatted};
+ghost use Rattle.ob_life_tests.specs.Lived.{AreOneLife, HasRun, HasFormatted};
 ghost use Rattle.ob_mem.specs.Memory.{disk_of_store};
 ghost use Rattle.ob_seal.specs.Draws.{list_drawn};
 ghost use Rattle.ob_seal.specs.declared.keys.Keys.{Keys};
@@ -48,7 +48,7 @@ fn format_store<R: AllocGlobal + Threads + Wait + Sync + Abort>(
 ) -> u8
     requires none_out { (disk_of_store store.old).out ≡ 0 }
     ensures none_out { (disk_of_store store.new).out ≡ 0 }
-    ensures made { result ≡ 0 → IsFormatted disk_of_store keys.now store.old store.new }
+    ensures made { result ≡ 0 → HasFormatted disk_of_store keys.now store.old store.new }
 {
     forms_are_read();
     let words = [

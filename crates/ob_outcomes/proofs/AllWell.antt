@@ -9,7 +9,7 @@ use Rattle.ob_desk.specs.Desk.{DeskState, MayOpen, Call, Reply}
 use Rattle.ob_desk.specs.declared.calls.Look.{Look}
 use Rattle.ob_desk.specs.Beats.{BeatKind}
 use Rattle.ob_session.specs.Steps.{Leads}
-use Rattle.ob_conduct.specs.Acts.{Act, Says, Halts, Rests, Takes, Delivers, DeliverFails, FetchFails, Closes, Publishes, Refuses, Unprinted, desk_calls, history, IsAllowed}
+use Rattle.ob_conduct.specs.Acts.{Act, Says, Halts, Rests, Takes, Delivers, DeliverFails, FetchFails, RestUnwatched, Closes, Publishes, Refuses, Unprinted, Unwatched, desk_calls, history, IsAllowed}
 use Rattle.ob_outcomes.proofs.Walk.{leads_split, leads_on, NotClose, closed_before, act_closes_none}
 use Rattle.ob_outcomes.proofs.EndsWell.{EndsWell, AreWell, EndsAtLook, base, closes_well}
 
@@ -71,6 +71,11 @@ module _ (p : Params) (epoch left : ℕ) (clients : List ℕ) (may : MayOpen (re
       well_from (h ++ desk_calls (FetchFails look batches keys fault)) b.mid closed b.reached
       (keeps closed (FetchFails look batches keys fault) d b.mid (act_closes_none beat (FetchFails look batches keys fault) (All-head (IsAllowed beat) (FetchFails look batches keys fault) acts allowed) tt) b.first known) acts
       (All-tail (IsAllowed beat) (FetchFails look batches keys fault) acts allowed) new b.rest
+  well_from h d closed reached known (RestUnwatched look batches ∷ acts) allowed new run =
+      let b = behind h d (RestUnwatched look batches) acts new reached run in
+      well_from (h ++ desk_calls (RestUnwatched look batches)) b.mid closed b.reached
+      (keeps closed (RestUnwatched look batches) d b.mid (act_closes_none beat (RestUnwatched look batches) (All-head (IsAllowed beat) (RestUnwatched look batches) acts allowed) tt) b.first known) acts
+      (All-tail (IsAllowed beat) (RestUnwatched look batches) acts allowed) new b.rest
   well_from h d closed reached known (Refuses writes refused ∷ acts) allowed new run =
       let b = behind h d (Refuses writes refused) acts new reached run in
       well_from (h ++ desk_calls (Refuses writes refused)) b.mid closed b.reached (keeps closed (Refuses writes refused) d b.mid (act_closes_none beat (Refuses writes refused) (All-head (IsAllowed beat) (Refuses writes refused) acts allowed) tt) b.first known)
@@ -78,6 +83,9 @@ module _ (p : Params) (epoch left : ℕ) (clients : List ℕ) (may : MayOpen (re
   well_from h d closed reached known (Unprinted ∷ acts) allowed new run =
       let b = behind h d Unprinted acts new reached run in
       well_from (h ++ desk_calls Unprinted) b.mid closed b.reached (keeps closed Unprinted d b.mid (act_closes_none beat Unprinted (All-head (IsAllowed beat) Unprinted acts allowed) tt) b.first known) acts (All-tail (IsAllowed beat) Unprinted acts allowed) new b.rest
+  well_from h d closed reached known (Unwatched ∷ acts) allowed new run =
+      let b = behind h d Unwatched acts new reached run in
+      well_from (h ++ desk_calls Unwatched) b.mid closed b.reached (keeps closed Unwatched d b.mid (act_closes_none beat Unwatched (All-head (IsAllowed beat) Unwatched acts allowed) tt) b.first known) acts (All-tail (IsAllowed beat) Unwatched acts allowed) new b.rest
 
   pub all_well : (acts : List Act) → All (IsAllowed beat) acts → (new : DeskState) → Leads (base p epoch left clients may beat) (history acts) new → AreWell beat None acts
   all_well acts allowed new run = well_from [] (base p epoch left clients may beat) None refl (λ part is. absurd (none-some part is)) acts allowed new run

@@ -30,7 +30,7 @@ use Rattle.ob_session.proofs.Saying.{said_append, told_push}
 use Rattle.ob_outcomes.proofs.Held.{none_goes_on}
 use Rattle.ob_script.specs.Script.{ScriptTxn}
 use Rattle.ob_runner.specs.Meaning.{MeantFirst}
-use Rattle.ob_conduct.specs.Acts.{Act, Says, Halts, Rests, Takes, Delivers, DeliverFails, FetchFails, Closes, Publishes, Refuses, Unprinted, stop_for, desk_calls, history}
+use Rattle.ob_conduct.specs.Acts.{Act, Says, Halts, Rests, Takes, Delivers, DeliverFails, FetchFails, RestUnwatched, Closes, Publishes, Refuses, Unprinted, Unwatched, stop_for, desk_calls, history}
 use Rattle.ob_conduct.specs.Moves.{IsSaid}
 use Rattle.ob_outcomes.specs.Served.{ServedFirst}
 use Rattle.ob_outcomes.proofs.Meeting.{ends_as}
@@ -222,10 +222,12 @@ anyones (act ∷ acts) said = All-append IsAnyones (desk_calls act) (history act
     of_act (Delivers batch) said = absurd said
     of_act (DeliverFails keys fault) said = absurd said
     of_act (FetchFails look batches keys fault) said = absurd said
+    of_act (RestUnwatched look batches) said = absurd said
     of_act (Closes look batches writes) said = absurd said
     of_act (Publishes writes left told) said = absurd said
     of_act (Refuses writes refused) said = absurd said
     of_act Unprinted said = absurd said
+    of_act Unwatched said = absurd said
 
 module _ (setup : Setup) (epoch left : ℕ) (clients : List ℕ) (may : MayOpen setup epoch left clients) (number : ℕ) (among : Contains clients number) where
   abbrev base : DeskState

@@ -15,7 +15,7 @@ use Rattle.ob_desk.specs.declared.calls.Look.{Look}
 use Rattle.ob_desk.specs.declared.calls.Txn.{Txn}
 use Rattle.ob_desk.specs.Beats.{BeatKind}
 use Rattle.ob_session.specs.Steps.{Leads, IsOwn}
-use Rattle.ob_conduct.specs.Acts.{Act, Says, Halts, Rests, Takes, Delivers, DeliverFails, FetchFails, Closes, Publishes, Refuses, Unprinted, Batch, desk_calls, look_calls, rest_calls, close_calls, stop_for, history, records, IsAllowed}
+use Rattle.ob_conduct.specs.Acts.{Act, Says, Halts, Rests, Takes, Delivers, DeliverFails, FetchFails, RestUnwatched, Closes, Publishes, Refuses, Unprinted, Unwatched, Batch, desk_calls, look_calls, rest_calls, close_calls, stop_for, history, records, IsAllowed}
 use Rattle.ob_conduct.proofs.Going.{published_append}
 use Rattle.ob_outcomes.specs.Lone.{HasUsedPlaces, LoneUsesPlaces}
 use Rattle.ob_outcomes.proofs.Alone.{OnlyLast}
@@ -182,6 +182,18 @@ module _ (p : Params) (client batches : ℕ) (low : batches ≤ p.batches) where
         roomy = subst (IsRoomy batches) (sym (is ∙ halted.state)) (stopped batches c fault);
       }
 
+  breaks : (d : DeskState) (look : Look) (reads : List Batch) (new : DeskState) → Leads d (desk_calls (RestUnwatched look reads)) new → Stands d → Went (desk_calls (RestUnwatched look reads)) new
+  breaks d look reads new run h =
+      let end : List (Call × Reply) = (desk.Stop SinkFault, desk.Done) ∷ [] in
+      let went = goes_on d (desk_calls (RestUnwatched look reads)) new (look_gets_none look (rest_calls reads ++ end) (batches_get_none reads end (one_gets_none (desk.Stop SinkFault, desk.Done) [] tt (All-nil NotGet)))) run h in
+      let (a, looks, rest) = leads_split d (look_calls look) (rest_calls reads ++ end) new run in
+      let (b, fetched, (last, may_stop, halted, is)) = leads_split a (rest_calls reads) end new rest in
+      record {
+        shown = went.shown;
+        stands = went.stands;
+        roomy = subst (IsRoomy batches) (sym (is ∙ halted.state)) (stopped batches b SinkFault);
+      }
+
   act_goes : (beat : BeatKind) (act : Act) (d new : DeskState) → IsAllowed beat act → Leads d (desk_calls act) new → Stands d → IsRoomy batches d → Went (desk_calls act) new
   act_goes beat (Says number steps) d new allowed run h roomy = goes d steps new (own_take_none number steps allowed) run h roomy
   act_goes beat (Halts fault) d new allowed run h roomy = goes d (desk_calls (Halts fault)) new (one_takes_none (desk.IsStopped, desk.StoppedBy (Some fault)) tt) run h roomy
@@ -190,10 +202,12 @@ module _ (p : Params) (client batches : ℕ) (low : batches ≤ p.batches) where
   act_goes beat (Delivers batch) d new allowed run h roomy = goes d (desk_calls (Delivers batch)) new (one_takes_none (desk.Deliver batch.keys batch.values, desk.Done) tt) run h roomy
   act_goes beat (DeliverFails keys fault) d new allowed run h roomy = goes d (desk_calls (DeliverFails keys fault)) new (one_takes_none (desk.Stop fault, desk.Done) tt) run h roomy
   act_goes beat (FetchFails look reads keys fault) d new allowed run h roomy = fails d look reads keys fault new run h
+  act_goes beat (RestUnwatched look reads) d new allowed run h roomy = breaks d look reads new run h
   act_goes beat (Closes look reads writes) d new allowed run h roomy = closes d look reads writes new run h
   act_goes beat (Publishes writes left one) d new allowed run h roomy = goes d (desk_calls (Publishes writes left one)) new (one_takes_none (desk.Publish (suc one.epoch) left, desk.Published one) tt) run h roomy
   act_goes beat (Refuses writes refused) d new allowed run h roomy = goes d (desk_calls (Refuses writes refused)) new (stop_takes_none refused) run h roomy
   act_goes beat Unprinted d new allowed run h roomy = goes d (desk_calls Unprinted) new (one_takes_none (desk.Stop SinkFault, desk.Done) tt) run h roomy
+  act_goes beat Unwatched d new allowed run h roomy = goes d (desk_calls Unwatched) new (one_takes_none (desk.Stop SinkFault, desk.Done) tt) run h roomy
 
   acts_show : (beat : BeatKind) (acts : List Act) (d new : DeskState) → All (IsAllowed beat) acts → Leads d (history acts) new → Stands d → IsRoomy batches d → All Shown (records acts)
   acts_show beat [] d new allowed run h roomy = All-nil Shown

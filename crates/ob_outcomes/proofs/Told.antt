@@ -3,13 +3,14 @@ use Rattle.std.proofs.Common.{◌≡◌, ◌∙◌, ◌++◌, ℕ, List, [], ◌
 use Rattle.std.specs.List.{All}
 use Rattle.std.proofs.lemmas.List.{append_assoc}
 use Rattle.std.proofs.lemmas.List.Elements.{All-head, All-tail, All-cons, All-nil}
+use Rattle.ob_base.specs.declared.fault.Fault.TheVariants.{SinkFault}
 use Rattle.ob_serial.specs.Serial.{EpochRecord}
 use Rattle.ob_desk.specs.Desk as desk
 use Rattle.ob_desk.specs.Desk.{DeskState, DeskStep, Call, Reply, published, records_told}
 use Rattle.ob_desk.specs.declared.calls.Look.{Look}
 use Rattle.ob_desk.specs.Beats.{BeatKind}
 use Rattle.ob_session.specs.Steps.{Leads, IsOwn}
-use Rattle.ob_conduct.specs.Acts.{Act, Says, Halts, Rests, Takes, Delivers, DeliverFails, FetchFails, Closes, Publishes, Refuses, Unprinted, Batch, desk_calls, rest_calls, close_calls, history, records, IsAllowed}
+use Rattle.ob_conduct.specs.Acts.{Act, Says, Halts, Rests, Takes, Delivers, DeliverFails, FetchFails, RestUnwatched, Closes, Publishes, Refuses, Unprinted, Unwatched, Batch, desk_calls, rest_calls, close_calls, history, records, IsAllowed}
 use Rattle.ob_outcomes.proofs.Walk.{leads_split}
 use Rattle.ob_outcomes.proofs.EndsWell.{EndsWell, AreWell}
 
@@ -67,10 +68,12 @@ act_tells beat d (Takes look keys) new allowed run other = refl
 act_tells beat d (Delivers batch) new allowed run other = refl
 act_tells beat d (DeliverFails keys fault) new allowed run other = refl
 act_tells beat d (FetchFails look batches keys fault) new allowed run other = published_batches batches ((desk.TakeBatch, desk.Batch keys) ∷ (desk.Stop fault, desk.Done) ∷ [])
+act_tells beat d (RestUnwatched look batches) new allowed run other = published_batches batches ((desk.Stop SinkFault, desk.Done) ∷ [])
 act_tells beat d (Closes look batches writes) new allowed run other = published_batches batches (close_calls writes)
 act_tells beat d (Publishes writes left told) new allowed run other = absurd other
 act_tells beat d (Refuses writes refused) new allowed run other = refl
 act_tells beat d Unprinted new allowed run other = refl
+act_tells beat d Unwatched new allowed run other = refl
 
 module _ (beat : BeatKind) (P : EpochRecord ℕ → Type 0) (tells : (look : Look) (told : EpochRecord ℕ) → EndsWell beat look told → P told) where
   -- behind an act that tells none
@@ -103,6 +106,9 @@ module _ (beat : BeatKind) (P : EpochRecord ℕ → Type 0) (tells : (look : Loo
   records_tell_all closed d (FetchFails look batches keys fault ∷ acts) new allowed well run =
       let (mid, first, rest) = leads_split d (desk_calls (FetchFails look batches keys fault)) (history acts) new run in
       silent d (FetchFails look batches keys fault) acts mid (All-head (IsAllowed beat) (FetchFails look batches keys fault) acts allowed) first tt (records_tell_all closed mid acts new (All-tail (IsAllowed beat) (FetchFails look batches keys fault) acts allowed) well rest)
+  records_tell_all closed d (RestUnwatched look batches ∷ acts) new allowed well run =
+      let (mid, first, rest) = leads_split d (desk_calls (RestUnwatched look batches)) (history acts) new run in
+      silent d (RestUnwatched look batches) acts mid (All-head (IsAllowed beat) (RestUnwatched look batches) acts allowed) first tt (records_tell_all closed mid acts new (All-tail (IsAllowed beat) (RestUnwatched look batches) acts allowed) well rest)
   records_tell_all closed d (Closes look batches writes ∷ acts) new allowed well run =
       let (mid, first, rest) = leads_split d (desk_calls (Closes look batches writes)) (history acts) new run in
       silent d (Closes look batches writes) acts mid (All-head (IsAllowed beat) (Closes look batches writes) acts allowed) first tt (records_tell_all (Some look) mid acts new (All-tail (IsAllowed beat) (Closes look batches writes) acts allowed) well rest)
@@ -112,3 +118,6 @@ module _ (beat : BeatKind) (P : EpochRecord ℕ → Type 0) (tells : (look : Loo
   records_tell_all closed d (Unprinted ∷ acts) new allowed well run =
       let (mid, first, rest) = leads_split d (desk_calls Unprinted) (history acts) new run in
       silent d Unprinted acts mid (All-head (IsAllowed beat) Unprinted acts allowed) first tt (records_tell_all closed mid acts new (All-tail (IsAllowed beat) Unprinted acts allowed) well rest)
+  records_tell_all closed d (Unwatched ∷ acts) new allowed well run =
+      let (mid, first, rest) = leads_split d (desk_calls Unwatched) (history acts) new run in
+      silent d Unwatched acts mid (All-head (IsAllowed beat) Unwatched acts allowed) first tt (records_tell_all closed mid acts new (All-tail (IsAllowed beat) Unwatched acts allowed) well rest)

@@ -19,7 +19,7 @@ use Rattle.ob_desk.specs.Beats.{BeatKind}
 use Rattle.ob_serial.specs.declared.records.Why.{Why}
 use Rattle.ob_session.specs.Steps.{Leads, IsOwn}
 use Rattle.ob_outcomes.specs.Ends.{IsOfBatch}
-use Rattle.ob_conduct.specs.Acts.{Act, Says, Halts, Rests, Takes, Delivers, DeliverFails, FetchFails, Closes, Publishes, Refuses, Unprinted, Batch, desk_calls, look_calls, rest_calls, batch_calls, stop_for, IsAllowed}
+use Rattle.ob_conduct.specs.Acts.{Act, Says, Halts, Rests, Takes, Delivers, DeliverFails, FetchFails, RestUnwatched, Closes, Publishes, Refuses, Unprinted, Unwatched, Batch, desk_calls, look_calls, rest_calls, batch_calls, stop_for, IsAllowed}
 
 -- ---- chains of calls
 
@@ -127,10 +127,12 @@ act_closes_none beat (Delivers batch) allowed other = one_close_none (desk.Deliv
 act_closes_none beat (DeliverFails keys fault) allowed other = one_close_none (desk.Stop fault, desk.Done) tt
 act_closes_none beat (FetchFails look batches keys fault) allowed other = look_close_none look (rest_calls batches ++ (desk.TakeBatch, desk.Batch keys) ∷ (desk.Stop fault, desk.Done) ∷ [])
     (batches_close_none batches ((desk.TakeBatch, desk.Batch keys) ∷ (desk.Stop fault, desk.Done) ∷ []) (All-cons NotClose (desk.TakeBatch, desk.Batch keys) ((desk.Stop fault, desk.Done) ∷ []) tt (one_close_none (desk.Stop fault, desk.Done) tt)))
+act_closes_none beat (RestUnwatched look batches) allowed other = look_close_none look (rest_calls batches ++ (desk.Stop SinkFault, desk.Done) ∷ []) (batches_close_none batches ((desk.Stop SinkFault, desk.Done) ∷ []) (one_close_none (desk.Stop SinkFault, desk.Done) tt))
 act_closes_none beat (Closes look batches writes) allowed other = absurd other
 act_closes_none beat (Publishes writes left told) allowed other = one_close_none (desk.Publish (suc told.epoch) left, desk.Published told) tt
 act_closes_none beat (Refuses writes refused) allowed other = stop_close_none refused
 act_closes_none beat Unprinted allowed other = one_close_none (desk.Stop SinkFault, desk.Done) tt
+act_closes_none beat Unwatched allowed other = one_close_none (desk.Stop SinkFault, desk.Done) tt
 
 -- ---- in flight is nothing at a look that leads to a close
 

@@ -6,7 +6,6 @@ use Rattle.std.proofs.lemmas.List.{append-nil, append_assoc}
 use Rattle.std.proofs.lemmas.List.Elements.{All-head, All-tail, All-map}
 use Rattle.std.proofs.lemmas.Grind.{flat_map-append}
 use Rattle.ob_base.specs.declared.params.Params.{Params}
-use Rattle.ob_base.specs.declared.fault.Fault.{Fault}
 use Rattle.ob_io.specs.Streams.{Flow}
 use Rattle.ob_store.specs.Lines.{Trace}
 use Rattle.ob_serial.specs.VaultKinds.{Kind}
@@ -35,7 +34,8 @@ use Rattle.ob_script.specs.Script.{ScriptTxn, Scripts, AreSound, asks_by}
 use Rattle.ob_runner.specs.Meaning.{MeantFirst, MeantAll}
 use Rattle.ob_runner.specs.Turns.{IsScriptTurn}
 use Rattle.ob_conduct.specs.Rounds.{KeepRule, plan_rule}
-use Rattle.ob_conduct.specs.Acts.{Act, Says, Halts, Rests, Takes, Delivers, DeliverFails, FetchFails, Closes, Publishes, Refuses, Unprinted, desk_calls, stop_for, history, records}
+use Rattle.ob_conduct.specs.declared.run_err.RunErr.{RunErr}
+use Rattle.ob_conduct.specs.Acts.{Act, Says, Halts, Rests, Takes, Delivers, DeliverFails, FetchFails, RestUnwatched, Closes, Publishes, Refuses, Unprinted, Unwatched, desk_calls, stop_for, history, records}
 use Rattle.ob_conduct.specs.Scenes.{scene, RunState, run_state, RunnerKind, seat_of}
 use Rattle.ob_conduct.specs.Records.{IsOver}
 use Rattle.ob_conduct.specs.Moves.{IsSaid, IsUnended}
@@ -98,8 +98,10 @@ due_of beat closed (Takes look keys ∷ acts) well = due_of beat closed acts wel
 due_of beat closed (Delivers batch ∷ acts) well = due_of beat closed acts well
 due_of beat closed (DeliverFails keys fault ∷ acts) well = due_of beat closed acts well
 due_of beat closed (FetchFails look batches keys fault ∷ acts) well = due_of beat closed acts well
+due_of beat closed (RestUnwatched look batches ∷ acts) well = due_of beat closed acts well
 due_of beat closed (Refuses writes refused ∷ acts) well = due_of beat closed acts well
 due_of beat closed (Unprinted ∷ acts) well = due_of beat closed acts well
+due_of beat closed (Unwatched ∷ acts) well = due_of beat closed acts well
 
 -- ---- the end of an epoch that was refused
 
@@ -137,7 +139,7 @@ module _ {V U : Type 0} (k : Kind V) (beat : BeatKind) (kind : RunnerKind U (Lis
   abbrev base : DeskState
   base = new_desk (record { params = p }) (suc epoch) left script.clients
 
-  module _ (first : V) (trace : Trace) (before_runners : List U) (before : Flow) (end : RunState V U) (acts : List Act) (result : Result (Unit {0}) Fault)
+  module _ (first : V) (trace : Trace) (before_runners : List U) (before : Flow) (end : RunState V U) (acts : List Act) (result : Result (Unit {0}) RunErr)
       (named : map kind.client before_runners ≡ script.clients) (planned : All (λ u. kind.plan u ≡ asks_by (kind.client u) script.txns) before_runners)
       (d : Conducted k kind beat (run_state (scene base first trace) before_runners before) end acts result) where
     abbrev new : DeskState

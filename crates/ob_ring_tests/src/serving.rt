@@ -83,7 +83,7 @@ fn open_run<S: Lanes, R: Threads + Sync, T: Tape, W: Watch>(
     ensures serving { IfOk result (λ s. IsServing (S.disk store.new) (T.present tape.new)
         (T.drawn tape.new) s.run s.crew s.index) }
 {
-    let keys = test_keys();
+    let (p, lanes) = (plan.params, plan.lanes);
     let Opening {
         params,
         gates,
@@ -97,16 +97,7 @@ fn open_run<S: Lanes, R: Threads + Sync, T: Tape, W: Watch>(
         sheet,
         words,
         index,
-    } = match prepare(
-        rt,
-        alloc,
-        store,
-        tape,
-        &keys,
-        plan.params,
-        plan.lanes,
-        watch,
-    ) {
+    } = match prepare(rt, alloc, store, tape, &test_keys(), p, lanes, watch) {
         Ok(opening) => opening,
         Err(fault) => return Err(fault),
     };

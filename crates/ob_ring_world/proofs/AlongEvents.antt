@@ -1,9 +1,12 @@
 -- A vault's list of events is one of the store's course.
 use Rattle.std.specs.Ordering.{nat_cmp}
-use Rattle.std.proofs.Common.{◌≡◌, ◌⊎◌, inl, inr, ⊎_elim, ℕ, ◌+◌, ◌<◌, true, false, List, [], ◌∷◌, ◌++◌, length, length-append, Option, Some, None, refl, sym, ap, subst, ◌∙◌, arith, append_assoc}
+use Rattle.std.proofs.Common.{◌≡◌, ◌⊎◌, inl, inr, ⊎_elim, ℕ, zero, suc, true, false, List, [], ◌∷◌, ◌++◌, length-append, Option, Some, None, refl, sym, ap, subst, ◌∙◌, arith, append_assoc}
 use Rattle.std.proofs.lemmas.Bool.{false≢true}
 use Rattle.std.proofs.lemmas.List.{append-nil, get_or_append_left}
 use Rattle.ob_base.specs.declared.params.Params.{Params}
+use Rattle.ob_store.proofs.Events.{joined}
+use Rattle.ob_store.specs.Calls.{Notes}
+use Rattle.ob_store.specs.declared.event.Event.{Event}
 use Rattle.ob_store.specs.Disk.{Clock, Disk, Image, NotAfter}
 use Rattle.ob_seal.specs.declared.keys.Keys.{Keys}
 use Rattle.ob_serial.specs.Serial.{EpochRecord, Map}
@@ -18,14 +21,15 @@ use Rattle.ob_vault.specs.RingVaults.{KeepsRun, Running}
 use Rattle.ob_world.proofs.Driving.{Stepped, desk_at}
 use Rattle.ob_world.proofs.Keeping.{Inv, Kept, step_kept}
 use Rattle.ob_world.specs.Courses.{course_of}
-use Rattle.ob_world.specs.Drivers.{DriverAt}
 use Rattle.ob_world.specs.Headlines.{acknowledged_by, told_behind}
 use Rattle.ob_world.specs.Laws.{IsOneRun}
+use Rattle.ob_conduct.specs.Acts.{calls}
+use Rattle.ob_world.specs.Weaves.{CallIsDue, Due, MadeCall, NothingIsDue, ReportIsDue, asked_left, calls_made, due_behind, events_due, reports_left, woven_from}
 use Rattle.ob_world.specs.Worlds.{WorldEvent, Desk, Vault, Report, Crash, Open, World, IsWorld, ended_with}
-use Rattle.ob_ring_world.proofs.InCalls.{IsServing, IsSpent, call_on}
-use Rattle.ob_ring_world.specs.Pasts.{RingPast}
+use Rattle.ob_ring_world.proofs.InCalls.{AreRowsSeen, IsServing, IsSpent, call_on}
+use Rattle.ob_ring_world.specs.Pasts.{RingPast, ShownRow, events_of_rows}
 use Rattle.ob_ring_world.specs.RingCourses.{RingPromises, ring_course}
-use Rattle.ob_ring_world.specs.Runs.{IsOverRing}
+use Rattle.ob_ring_world.specs.Runs.{ActsAreOneRun, IsOverRing}
 
 -- the same world, with another past, and other records of epochs that ended
 abbrev pub other : {A B : Type 0} → World A → B → List (EpochRecord ℕ) → World B
@@ -34,6 +38,32 @@ other w past ended = record { desk = w.desk; vault = w.vault; past = past; drive
 -- the words of a front of what was drawn
 front_words : (word_of : WordId → ℕ) (g : ℕ) (drawn more : List ℕ) → AreTapeWords word_of g (drawn ++ more) → AreTapeWords word_of g drawn
 front_words word_of g drawn more all i lt = all i (omega (arith, lt, length-append {A = ℕ})) ∙ get_or_append_left drawn more 0 i lt
+
+-- ---- acts are one run
+
+one_more : (xs ys : List WorldEvent) → IsOneRun xs → IsOneRun ys → IsOneRun (xs ++ ys)
+one_more [] ys one two = two
+one_more (Desk caller call reply ∷ xs) ys one two = one_more xs ys one two
+one_more (Vault call answer ∷ xs) ys one two = one_more xs ys one two
+one_more (Report told ∷ xs) ys one two = one_more xs ys one two
+one_more (Crash inside image ∷ xs) ys one two = absurd one
+one_more (Open clients ∷ xs) ys one two = absurd one
+
+due_one : (due : Due) (asked : List (VaultCall × VaultAnswer)) (reports : ℕ) → IsOneRun (events_due due asked reports)
+due_one NothingIsDue asked reports = tt
+due_one CallIsDue [] reports = tt
+due_one CallIsDue (step ∷ asked) reports = tt
+due_one (ReportIsDue told) asked zero = tt
+due_one (ReportIsDue told) asked (suc reports) = tt
+
+woven_one : (made : List MadeCall) (asked : List (VaultCall × VaultAnswer)) (reports : ℕ) → IsOneRun (woven_from made asked reports)
+woven_one [] asked reports = tt
+woven_one (one ∷ made) asked reports =
+    let due : Due = due_behind one.call one.reply in
+    one_more (events_due due asked reports) (woven_from made (asked_left due asked) (reports_left due reports)) (due_one due asked reports) (woven_one made (asked_left due asked) (reports_left due reports))
+
+pub acts_are_one_run : ActsAreOneRun
+acts_are_one_run acts reports = woven_one (calls_made acts) (calls acts) reports
 
 -- ---- a run keeps its parameters
 
@@ -82,17 +112,40 @@ module _ {V S : Type 0} (k : Kind V) (disk : S → Disk) (runs : V → Running S
     pub sound : k.sound v u
     pub goes : Serving v x ⊎ ((u.spent ≡ true) × Spent v x)
 
+  abbrev Seen : (v w : V) (x y : RingPast) → Type 0
+  Seen v w x y = AreRowsSeen k disk runs over counts_now only_now keys most p f first map is_map word_of slot gen v w x y
+
+  noted_none : (told : Option (List Event)) → Notes [] told told
+  noted_none None = tt
+  noted_none (Some events) = sym (append-nil events)
+
+  events_join : (later earlier : List ShownRow) → events_of_rows (later ++ earlier) ≡ events_of_rows earlier ++ events_of_rows later
+  events_join [] earlier = sym (append-nil (events_of_rows earlier))
+  events_join (row ∷ later) earlier = ap (λ (l : List Event). l ++ row.events) (events_join later earlier) ∙ append_assoc (events_of_rows earlier) (events_of_rows later) row.events
+
+  seen_none : (v : V) (x : RingPast) → Seen v v x x
+  seen_none v x = record { rows = []; rows_are = refl; seen = noted_none (disk (runs v).store).seen }
+
+  seen_join : (u v w : V) (x y z : RingPast) → Seen u v x y → Seen v w y z → Seen u w x z
+  seen_join u v w x y z one two = record {
+    rows = two.rows ++ one.rows;
+    rows_are = two.rows_are ∙ ap (λ (l : List ShownRow). two.rows ++ l) one.rows_are ∙ sym (append_assoc two.rows one.rows x.rows);
+    seen = subst (λ (l : List Event). Notes l (disk (runs u).store).seen (disk (runs w).store).seen) (sym (events_join two.rows one.rows))
+        (joined (events_of_rows one.rows) (events_of_rows two.rows) (disk (runs u).store).seen (disk (runs v).store).seen (disk (runs w).store).seen one.seen two.seen);
+  }
+
   pub record Mapped (w last : World V) (es : List WorldEvent) (x : RingPast) (ended : List (EpochRecord ℕ)) : Type 0 where
     pub past : RingPast
     pub after : List (EpochRecord ℕ)
     pub leads : IsWorld (ring_course keys p word_of slot kept) (other w x ended) es (other last past after)
     pub tells : Tells last.past last.vault past
+    pub seen : Seen w.past last.past x past
 
   pub serving : (v : V) (u : VaultState) (x : RingPast) → Tells v u x → u.spent ≡ false → Serving v x
   serving v u x t serves = ⊎_elim (λ (s : Serving v x). s) (λ (o : (u.spent ≡ true) × Spent v x). absurd (false≢true (sym serves ∙ o.0))) t.goes
 
   pub mapped : (es : List WorldEvent) (w last : World V) (x : RingPast) (ended : List (EpochRecord ℕ)) → IsOneRun es → IsWorld (course_of k) w es last → Tells w.past w.vault x → AreTapeWords word_of gen (runs last.past).drawn → Mapped w last es x ended
-  mapped [] w last x ended one run t tape = record { past = x; after = ended; leads = ap (λ (m : World V). other m x ended) run; tells = subst (λ (m : World V). Tells m.past m.vault x) run t }
+  mapped [] w last x ended one run t tape = record { past = x; after = ended; leads = ap (λ (m : World V). other m x ended) run; tells = subst (λ (m : World V). Tells m.past m.vault x) run t; seen = subst (λ (m : World V). Seen w.past m.past x x) run (seen_none w.past x) }
   mapped (Desk caller call reply ∷ es) w last x ended one (mid, s, run) t tape =
       let rest = mapped es mid last x ended one run (subst (λ (m : World V). Tells m.past m.vault x) (sym s.state) t) tape in
       record {
@@ -100,17 +153,18 @@ module _ {V S : Type 0} (k : Kind V) (disk : S → Disk) (runs : V → Running S
         after = rest.after;
         leads = (other mid x ended, record { up = s.up; own = s.own; desk = s.desk; driver = s.driver; may = s.may; step = s.step; moves = s.moves; state = ap (λ (m : World V). other m x ended) s.state }, rest.leads);
         tells = rest.tells;
+        seen = subst (λ (v : V). Seen v last.past x rest.past) (ap (λ (m : World V). m.past) s.state) rest.seen;
       }
   mapped (Report r ∷ es) w last x ended one (mid, s, run) t tape =
       let rest = mapped es mid last x ended one run (subst (λ (m : World V). Tells m.past m.vault x) (sym s.state) t) tape in
-      record { past = rest.past; after = rest.after; leads = (other mid x ended, record { was = s.was; state = ap (λ (m : World V). other m x ended) s.state }, rest.leads); tells = rest.tells }
+      record { past = rest.past; after = rest.after; leads = (other mid x ended, record { was = s.was; state = ap (λ (m : World V). other m x ended) s.state }, rest.leads); tells = rest.tells; seen = subst (λ (v : V). Seen v last.past x rest.past) (ap (λ (m : World V). m.past) s.state) rest.seen }
   mapped (Vault call answer ∷ es) w last x ended one (mid, s, run) t tape =
       let called : Called k w.past call answer s.past = s.called in
       let there : mid.past ≡ s.past = ap (λ (m : World V). m.past) s.state in
       let (more, is) = words_grow es mid last one run in
       let words : AreTapeWords word_of gen (runs s.past).drawn = front_words word_of gen (runs s.past).drawn more
       (subst (λ (v : V). AreTapeWords word_of gen ((runs v).drawn ++ more)) there (subst (λ (l : List ℕ). AreTapeWords word_of gen l) is tape)) in
-      let (y, step, goes) = call_on k disk runs over counts_now only_now keys most p f first map is_map word_of slot gen w.past x (serving w.past w.vault x t s.law.serves) call answer s.past called words in
+      let (y, step, goes, own) = call_on k disk runs over counts_now only_now keys most p f first map is_map word_of slot gen w.past x (serving w.past w.vault x t s.law.serves) call answer s.past called words in
       let sound : k.sound s.past s.vault = subst (k.sound s.past) (sym s.law.state) (called.sound w.vault t.sound) in
       let now : Tells s.past s.vault y = record { sound = sound; goes = ⊎_elim (λ one. inl one) (λ two. inr (ap (λ (u : VaultState). u.spent) s.law.state ∙ two.0 w.vault, two.1)) goes } in
       let then = ended_with (Some call) w.desk w.vault ended in
@@ -120,6 +174,7 @@ module _ {V S : Type 0} (k : Kind V) (disk : S → Disk) (runs : V → Running S
         after = rest.after;
         leads = (other mid y then, record { vault = s.vault; past = y; law = s.law; called = step; was = s.was; state = ap (λ (m : World V). other m y then) s.state }, rest.leads);
         tells = rest.tells;
+        seen = seen_join w.past s.past last.past x y rest.past own (subst (λ (v : V). Seen v last.past y rest.past) there rest.seen);
       }
   mapped (Crash inside image ∷ es) w last x ended one run t tape = absurd one
   mapped (Open clients ∷ es) w last x ended one run t tape = absurd one

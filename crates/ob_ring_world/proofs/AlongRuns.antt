@@ -1,6 +1,6 @@
 -- Runs over a ring store, one behind the other, are one list of events of its course.
 use Rattle.std.specs.Ordering.{nat_cmp}
-use Rattle.std.proofs.Common.{◌≡◌, ◌⊎◌, inl, inr, ⊎_elim, ℕ, zero, suc, ◌+◌, ◌<◌, ◌≤◌, Bool, true, false, List, [], ◌∷◌, ◌++◌, length, Option, Some, None, refl, sym, ap, subst, ◌∙◌, arith}
+use Rattle.std.proofs.Common.{◌≡◌, ◌⊎◌, inl, inr, ⊎_elim, ℕ, zero, suc, ◌<◌, ◌≤◌, Bool, true, false, List, [], ◌∷◌, ◌++◌, length, Option, Some, None, refl, sym, ap, subst, ◌∙◌, arith}
 use Rattle.std.specs.Prelude.{IsTrue, ◌||◌}
 use Rattle.std.proofs.lemmas.List.{append-nil, length-map}
 use Rattle.std.proofs.lemmas.Bool.{false≢true}
@@ -13,7 +13,7 @@ use Rattle.ob_store.specs.Images.{IsSynced, Passes, Same}
 use Rattle.ob_opening.specs.OpeningRuns.{OpensFrom}
 use Rattle.ob_seal.specs.Sealing.{Sealing}
 use Rattle.ob_seal.specs.declared.keys.Keys.{Keys}
-use Rattle.ob_serial.specs.Serial.{EpochRecord, Map}
+use Rattle.ob_serial.specs.Serial.{Map}
 use Rattle.ob_serial.specs.VaultKinds.{Called, Kind}
 use Rattle.ob_serial.specs.Vaults.{MayStand, Standing, VaultAnswer, VaultCall}
 use Rattle.ob_stand.proofs.OnceLaws.{ring_stands_once, stands_once}
@@ -28,7 +28,7 @@ use Rattle.ob_recover.proofs.Pads.{life_goes_on}
 use Rattle.ob_recover.proofs.ShownOpening.{openings_are_scheduled}
 use Rattle.ob_recover.specs.Calls.{Finds, repeated}
 use Rattle.ob_recover.specs.Known.{fills_of, gates_open, public_of_kept}
-use Rattle.ob_recover.specs.Life.{Append, End, IsActAllowed, IsLife, LifeAct, LifeBatch, LifeState, Open as OpenAct, ShowBatch, ShowLifts, WordId, formatted_life, life_step, reached}
+use Rattle.ob_recover.specs.Life.{Append, End, IsLife, LifeAct, LifeBatch, LifeState, Open as OpenAct, ShowBatch, ShowLifts, WordId, formatted_life, life_step, reached}
 use Rattle.ob_recover.specs.Lives.{life_batch}
 use Rattle.ob_schedule.specs.Schedule.{after_open}
 use Rattle.ob_opening.specs.OpeningActs.{IsLeftAt, StandsInLife}
@@ -36,7 +36,7 @@ use Rattle.ob_vault.proofs.OpenedLife.{opened_lives}
 use Rattle.ob_vault.proofs.OpenedRun.{IsFurther, further}
 use Rattle.ob_vault.proofs.Whole.{reached_join}
 use Rattle.ob_vault.specs.Acts.{AreBatchesSmall, AreTapeWords, IsBatchSmall}
-use Rattle.ob_vault.specs.Lives.{IsOpenedInLife, RingFormatted, opening_acts}
+use Rattle.ob_vault.specs.Lives.{IsOpenedInLife, opening_acts}
 use Rattle.ob_vault.specs.RingKind.{IsRingMap, RingFound, ring_hidden, ring_public}
 use Rattle.ob_vault.specs.RingVaults.{Running}
 use Rattle.ob_vault.specs.Shown.{IsInLife}
@@ -44,14 +44,14 @@ use Rattle.ob_world.proofs.Holding.{inv_first, world_append}
 use Rattle.ob_world.proofs.Keeping.{Ran, ran}
 use Rattle.ob_world.specs.Courses.{Course, course_of}
 use Rattle.ob_world.specs.Drivers.{AtRest, IsDown}
-use Rattle.ob_world.specs.Worlds.{WorldEvent, Crash, Open, World, IsWorld, OpenEvent, VaultEvent, cut_vault, ended_with, first_world, opened_vault}
-use Rattle.ob_ring_world.proofs.AlongEvents.{Mapped, Tells, mapped, other, params_stay, serving}
-use Rattle.ob_ring_world.proofs.InCalls.{CanOpen, IsServing, IsSpent, cut_call, goes_opens}
+use Rattle.ob_world.specs.Worlds.{WorldEvent, Crash, Open, World, IsWorld, OpenEvent, cut_vault, ended_with, first_world, opened_vault}
+use Rattle.ob_ring_world.proofs.AlongEvents.{Mapped, mapped, other, params_stay, serving}
+use Rattle.ob_ring_world.proofs.InCalls.{CanOpen, IsServing, cut_call, goes_opens}
 use Rattle.ob_ring_world.proofs.InOpenings.{IsFound, found_at, openings_moment_by_moment}
-use Rattle.ob_ring_world.specs.Pasts.{GoesOnBehind, IsRowFilled, IsWholeRow, OfCall, OfOpening, RingPast, ShownRow, formatted_past, row_next, state_behind}
+use Rattle.ob_ring_world.specs.Pasts.{OfOpening, RingPast, ShownRow, formatted_past, state_behind}
 use Rattle.ob_ring_world.specs.RingCourses.{RingPromises, ring_course}
-use Rattle.ob_ring_world.specs.Runs.{AreRingPartsFrom, Crashes, CrashesIn, IsEndOf, IsOverRing, IsRingRun, Returns, RingPart, RingRun, RingRunsAreWorlds, RunEnd, Runs, Serves, Stops, end_leaves, events_of_end, events_of_parts}
-use Rattle.ob_ring_world.specs.Steps.{IsCutBetween, IsCutOpening, IsOpenedBy, IsRingCut}
+use Rattle.ob_ring_world.specs.Runs.{AreRingPartsFrom, AreRowsOf, Crashes, CrashesIn, IsEndOfRun, IsOverRing, IsRingRun, Returns, RingPart, RingRun, RingRunsAreWorlds, RunEnd, Runs, Serves, Stops, end_leaves, events_of_end, events_of_parts}
+use Rattle.ob_ring_world.specs.Steps.{IsOpenedBy}
 
 -- ---- a register that counts has an open gate
 
@@ -291,6 +291,7 @@ module _ {V S : Type 0} (k : Kind V) (disk : S → Disk) (runs : V → Running S
       pub world : World RingPast
       pub leads : IsWorld ring last (events_of_end end) world
       pub then : Ready world image
+      pub rows_are : world.past.rows ≡ last.past.rows
 
     crashed : (image : Image) → (disk (runs run.last.past).store).may_leave image → Behind (Crashes image) image
     crashed image left =
@@ -301,15 +302,16 @@ module _ {V S : Type 0} (k : Kind V) (disk : S → Disk) (runs : V → Running S
           world = world;
           leads = (world, record { was = tt; left = at; may = may; stands = stands; past = gone; cut = inl (record { left = can.left; state = refl }); state = refl }, refl);
           then = record { batches = last_batches; setup_is = last_setup; can = record { is_life = can.is_life; left = can.left; small = can.small }; at = at; stands = stands; may = inl refl };
+          rows_are = refl;
         }
 
-    crashed_in : (call : VaultCall) (answer : VaultAnswer) (next : World V) (image : Image) → IsEndOf k disk runs setup keys word_of run (CrashesIn call answer next image) → Behind (CrashesIn call answer next image) image
+    crashed_in : (call : VaultCall) (answer : VaultAnswer) (next : World V) (image : Image) → IsEndOfRun k disk runs setup keys word_of run (CrashesIn call answer next image) → Behind (CrashesIn call answer next image) image
     crashed_in call answer next image (e, since, tape) =
         let called : Called k run.last.past call answer e.past = e.called in
         let s : Serving run.last.past along.past = serving k disk runs over counts_now only_now keys run.lanes p f run.first map is_map word_of slot gen kept run.last.past run.last.vault along.past along.tells e.law.serves in
         let left : (disk (runs e.past).store).left_since (disk (runs run.last.past).store).moment image = subst (λ (m : World V). (disk (runs m.past).store).left_since (disk (runs run.last.past).store).moment image) e.state since in
         let words : AreTapeWords word_of gen (runs e.past).drawn = subst (λ (m : World V). AreTapeWords word_of gen (runs m.past).drawn) e.state tape in
-        let (gone, cut, can) = cut_call k disk runs over counts_now only_now keys run.lanes p f run.first map is_map word_of slot gen run.last.past along.past s call answer e.past called words image left in
+        let (gone, cut, can, stay) = cut_call k disk runs over counts_now only_now keys run.lanes p f run.first map is_map word_of slot gen run.last.past along.past s call answer e.past called words image left in
         let (at, own, may) = (called.images run.last.vault along.tells.sound).each image (over.since run.last.past e.past image left) in
         let g : ℕ = (((runs run.last.past).run).sealer).generation in
         let stands : (n : ℕ) × StandsRing keys p n image at = (g, subst (λ (q : Params). StandsRing keys q g image at) s.at.params (subst (λ (y : Keys). StandsRing y ((runs run.last.past).run).params g image at) s.at.keys_are (over.stands run.last.past image at own))) in
@@ -318,12 +320,13 @@ module _ {V S : Type 0} (k : Kind V) (disk : S → Disk) (runs : V → Running S
           world = world;
           leads = (world, record { was = e.was; left = at; may = may; stands = stands; past = gone; cut = cut; state = refl }, refl);
           then = record { batches = last_batches; setup_is = last_setup; can = can; at = at; stands = stands; may = inl refl };
+          rows_are = stay;
         }
 
   -- ---- an opening that was refused, or inside which a crash came
 
   stopped : (w : World RingPast) (old new : S) (image : Image) → Ready w (disk old).cells → (disk old).tells → IsSynced (disk old) → Passes Same (disk old) (disk new) ⊎ OpensFrom disk keys p old new → (disk new).left_since (disk old).moment image
-      → (world : World RingPast) × IsWorld ring w (Crash None image ∷ []) world × Ready world image
+      → (world : World RingPast) × IsWorld ring w (Crash None image ∷ []) world × Ready world image × (world.past.rows ≡ w.past.rows)
   stopped w old new image ready tells synced leaves since =
       let x : RingPast = w.past in
       let s : LifeState = state_behind p word_of slot x.acts in
@@ -337,6 +340,7 @@ module _ {V S : Type 0} (k : Kind V) (disk : S → Disk) (runs : V → Running S
         world,
         (world, record { was = tt; left = ready.at; may = ready.may; stands = stands; past = gone; cut = inl (record { left = same; state = refl }); state = refl }, refl),
         record { batches = ready.batches; setup_is = ready.setup_is; can = record { is_life = ready.can.is_life; left = same; small = ready.can.small }; at = ready.at; stands = stands; may = inl refl },
+        refl,
       ))
       (λ behind.
       let found : List LifeAct = behind.0 in
@@ -379,6 +383,7 @@ module _ {V S : Type 0} (k : Kind V) (disk : S → Disk) (runs : V → Running S
           refl,
         ),
         record { batches = ready.batches; setup_is = ready.setup_is; can = record { is_life = life; left = at_acts; small = (few, λ b e. absurd (open_append (suc (state_behind p word_of slot (x.acts ++ found)).generation) b e)) }; at = ready.at; stands = stands; may = inl refl },
+        refl,
       ))
       left
 
@@ -399,30 +404,40 @@ module _ {V S : Type 0} (k : Kind V) (disk : S → Disk) (runs : V → Running S
   here_none w (Runs run end ∷ parts) from = absurd from.0
   here_none w (Stops old new image ∷ parts) from = absurd from.0
 
-  record Joined (w : World RingPast) (events : List WorldEvent) (Next : World RingPast → Type 0) : Type 0 where
+  record Joined (w : World RingPast) (events : List WorldEvent) (Next : World RingPast → Type 0) (rows : List ShownRow) : Type 0 where
     pub world : World RingPast
     pub leads : IsWorld ring w events world
     pub next : Next world
+    pub rows_are : world.past.rows ≡ rows
 
-  ended : (run : RingRun V) (r : IsRingRun k disk runs setup keys word_of run) (w : World RingPast) (ready : Ready w run.image) (end : RunEnd V) → IsEndOf k disk runs setup keys word_of run end → (parts : List (RingPart V S)) → AreRingPartsFrom k disk runs setup keys word_of (end_leaves end) parts
-      → Joined (last w run r ready) (events_of_end end) (λ m. Here m parts)
-  ended run r w ready Serves is parts from = record { world = last w run r ready; leads = refl; next = here_none (last w run r ready) parts from }
-  ended run r w ready (Returns image) is parts from = record { world = last w run r ready; leads = refl; next = here_next (last w run r ready) image parts (ready_last w run r ready image is) from }
-  ended run r w ready (Crashes image) is parts from = let b = crashed w run r ready image is in record { world = b.world; leads = b.leads; next = here_next b.world image parts b.then from }
-  ended run r w ready (CrashesIn call answer next image) is parts from = let b = crashed_in w run r ready call answer next image is in record { world = b.world; leads = b.leads; next = here_next b.world image parts b.then from }
+  ended : (run : RingRun V) (r : IsRingRun k disk runs setup keys word_of run) (w : World RingPast) (ready : Ready w run.image) (end : RunEnd V) → IsEndOfRun k disk runs setup keys word_of run end → (parts : List (RingPart V S)) → AreRingPartsFrom k disk runs setup keys word_of (end_leaves end) parts
+      → Joined (last w run r ready) (events_of_end end) (λ m. Here m parts) (last w run r ready).past.rows
+  ended run r w ready Serves is parts from = record { world = last w run r ready; leads = refl; next = here_none (last w run r ready) parts from; rows_are = refl }
+  ended run r w ready (Returns image) is parts from = record { world = last w run r ready; leads = refl; next = here_next (last w run r ready) image parts (ready_last w run r ready image is) from; rows_are = refl }
+  ended run r w ready (Crashes image) is parts from = let b = crashed w run r ready image is in record { world = b.world; leads = b.leads; next = here_next b.world image parts b.then from; rows_are = b.rows_are }
+  ended run r w ready (CrashesIn call answer next image) is parts from = let b = crashed_in w run r ready call answer next image is in record { world = b.world; leads = b.leads; next = here_next b.world image parts b.then from; rows_are = b.rows_are }
 
-  all_of : (parts : List (RingPart V S)) (w : World RingPast) (may_leave : Image → Type 0) → Here w parts → AreRingPartsFrom k disk runs setup keys word_of may_leave parts → (m : World RingPast) × IsWorld ring w (events_of_parts parts) m
-  all_of [] w may_leave at from = (w, refl)
+  all_of : (parts : List (RingPart V S)) (w : World RingPast) (may_leave : Image → Type 0) → Here w parts → AreRingPartsFrom k disk runs setup keys word_of may_leave parts → (m : World RingPast) × IsWorld ring w (events_of_parts parts) m × AreRowsOf disk runs w.past.rows parts m.past.rows
+  all_of [] w may_leave at from = (w, refl, refl)
   all_of (Runs run end ∷ parts) w may_leave at (may, r, is, more) =
       let b = ended run r w at end is parts more in
-      let (m, rest) = all_of parts b.world (end_leaves end) b.next more in
+      let (m, rest, rows) = all_of parts b.world (end_leaves end) b.next more in
       let one : IsWorld ring w (Open run.clients ∷ run.events) (last w run r at) = run_leads w run r at in
-      let two : IsWorld ring w ((Open run.clients ∷ run.events) ++ events_of_end end) b.world = world_append ring w (Open run.clients ∷ run.events) (events_of_end end) (last w run r at) b.world one b.leads in
-      (m, world_append ring w ((Open run.clients ∷ run.events) ++ events_of_end end) (events_of_parts parts) b.world m two rest)
+      let two : IsWorld ring w ((Open run.clients ∷ run.events) ++ events_of_end end) b.world = world_append ring w (Open run.clients ∷ run.events) (events_of_end end) (last w run r at) b.world one b.leads in (
+        m,
+        world_append ring w ((Open run.clients ∷ run.events) ++ events_of_end end) (events_of_parts parts) b.world m two rest,
+        (
+          row w run r at,
+          (along w run r at).seen.rows,
+          refl,
+          (along w run r at).seen.seen,
+          subst (λ (l : List ShownRow). AreRowsOf disk runs l parts m.past.rows) (b.rows_are ∙ (along w run r at).seen.rows_are) rows,
+        ),
+      )
   all_of (Stops old new image ∷ parts) w may_leave at (may, tells, synced, leaves, since, more) =
-      let (world, one, ready) = stopped w old new image at tells synced leaves since in
-      let (m, rest) = all_of parts world (λ c. c ≡ image) (here_next world image parts ready more) more in
-      (m, world_append ring w (Crash None image ∷ []) (events_of_parts parts) world m one rest)
+      let (world, one, ready, stay) = stopped w old new image at tells synced leaves since in
+      let (m, rest, rows) = all_of parts world (λ c. c ≡ image) (here_next world image parts ready more) more in
+      (m, world_append ring w (Crash None image ∷ []) (events_of_parts parts) world m one rest, subst (λ (l : List ShownRow). AreRowsOf disk runs l parts m.past.rows) stay rows)
 
   formatted_here : (made : S) (empty : Standing) (parts : List (RingPart V S)) → ((c : Image) → (disk made).may_leave c → StandsInLife keys p word_of (formatted_life slot) c) → AreBatchesSmall (formatted_life slot).log
       → ((c : Image) → (disk made).may_leave c → (g : ℕ) × StandsRing keys p g c empty) → AreRingPartsFrom k disk runs setup keys word_of (disk made).may_leave parts → Here (first_world setup [] empty 0 formatted_past) parts

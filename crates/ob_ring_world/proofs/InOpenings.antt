@@ -1,13 +1,11 @@
 -- What a crash inside an opening leaves.
-use Rattle.std.proofs.Common.{◌≡◌, ◌⊎◌, inl, inr, ⊎_elim, ℕ, suc, List, [], ◌∷◌, Option, Some, None, refl, sym, ap, subst, ◌∙◌, arith}
-use mathlib.Core.Path.{fun_ext}
+use Rattle.std.proofs.Common.{◌≡◌, ◌⊎◌, inl, inr, ⊎_elim, ℕ, suc, List, [], ◌∷◌, Option, Some, refl, sym, ap, subst, arith}
 use Rattle.ob_base.specs.declared.params.Params.{Params}
 use Rattle.ob_store.specs.Disk.{Disk, Image}
 use Rattle.ob_store.specs.Images.{IsSynced, LeavesOnly, Passes, Same}
 use Rattle.ob_store.proofs.Moments.{leaves_of, then_on, weakened}
 use Rattle.ob_seal.specs.declared.keys.Keys.{Keys}
-use Rattle.ob_serial.specs.Vaults.{Standing}
-use Rattle.ob_stand.specs.Stands.{OneOf, RingStanding, Stands, StandsRing, ring_standing, with_generation}
+use Rattle.ob_stand.specs.Stands.{OneOf, RingStanding, Stands, ring_standing, with_generation}
 use Rattle.ob_stand.specs.Once.{SameStanding}
 use Rattle.ob_stand.proofs.OnceLaws.{stands_once}
 use Rattle.ob_recover.specs.Calls.{Finds}

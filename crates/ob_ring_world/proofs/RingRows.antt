@@ -1,17 +1,20 @@
 -- Worked lives of a small ring store, of two batches an epoch, as steps of its course; and steps that there are not.
-use Rattle.std.proofs.Common.{◌≡◌, ◌⊎◌, inl, inr, ⊎_elim, ℕ, suc, ◌+◌, ◌<◌, ◌≤◌, List, [], ◌∷◌, ◌++◌, length, map, Option, Some, None, refl, sym, ap, subst, ◌∙◌, arith}
+use Rattle.std.proofs.Common.{inl, ◌≡◌, inr, ℕ, suc, ◌+◌, ◌<◌, ◌≤◌, List, [], ◌∷◌, ◌++◌, length, map, Option, Some, None, refl, sym, ap, subst, ◌∙◌, arith}
 use Rattle.std.proofs.lemmas.Option.{same_Some}
 use Rattle.ob_base.specs.declared.params.Params.{Params}
 use Rattle.ob_tables.specs.Rank.{IsRanking}
 use Rattle.ob_seal.specs.Sealing.{Sealing}
-use Rattle.ob_serial.specs.Vaults.{Fetch, Standing, VaultCall}
-use Rattle.ob_schedule.specs.Schedule.{Fills}
+use Rattle.ob_serial.specs.Vaults.{Fetch, Standing}
 use Rattle.ob_recover.proofs.FreshLaws.{lives_are_fresh}
 use Rattle.ob_recover.specs.Calls.{Finds}
-use Rattle.ob_recover.specs.Life.{Append, End, HolesAreFresh, IsLife, LabelFill, LifeAct, LifeBatch, Open, ShowBatch, ShowLifts, WordId, formatted_life, leaf_of_word, life_labels, life_slots}
-use Rattle.ob_vault.specs.Lives.{AreActsOf, AreFirstActs, AreShowing, opening_acts}
+use Rattle.ob_recover.specs.Life.{Append, End, HolesAreFresh, IsLife, LabelFill, LifeAct, LifeBatch, Open, ShowBatch, ShowLifts, WordId, formatted_life, leaf_of_word, life_labels, life_slots, SlotFill}
+use Rattle.ob_vault.specs.Lives.{AreActsOf, AreFirstActs, opening_acts}
 use Rattle.ob_ring_world.proofs.Sounding.{behind_rises, life_front}
-use Rattle.ob_ring_world.specs.Pasts.{IsRowFilled, IsSoundPast, OfOpening, RingPast, ShownRow, row_leaves, state_behind}
+use Rattle.ob_seal.specs.declared.keys.Keys.{Keys}
+use Rattle.ob_world.specs.Headlines.{Headline}
+use Rattle.ob_world.specs.Worlds.{first_world}
+use Rattle.ob_ring_world.specs.RingCourses.{RingPromises, ring_course}
+use Rattle.ob_ring_world.specs.Pasts.{formatted_past, IsRowFilled, RingPast, ShownRow, row_leaves, state_behind}
 use Rattle.ob_ring_world.specs.Steps.{IsOpenedBy}
 
 abbrev pub two_batches : Params
@@ -145,3 +148,23 @@ end_of_old_words drawn slot life =
     let late : 4 ≤ word.place = ends.2.3 in
     let place : 0 ≡ word.place = ap (λ (w : WordId). w.place) is in
     omega (arith, late, place)
+
+-- ---- without its premises a law says nothing
+
+-- a past that began with a pad twice
+abbrev pub began_badly : RingPast
+began_badly = record formatted_past { pads = (1, 0) ∷ (1, 0) ∷ [] }
+
+pub soundness_is_wanted : (keys : Keys) (kept : RingPromises keys two_batches words slots) (at : Standing)
+    → Headline (ring_course keys two_batches words slots kept) (first_world (record { params = two_batches }) [] at 0 began_badly) [] (first_world (record { params = two_batches }) [] at 0 began_badly) → ⊥
+soundness_is_wanted keys kept at h = h.pads.0 (inl refl)
+
+-- a format that gave every index of a bucket one slot
+abbrev pub one_slot : ℕ → ℕ → ℕ
+one_slot u j = 0
+
+pub order_is_wanted : IsLife two_batches words (formatted_life one_slot) shown × (HolesAreFresh (life_labels two_batches words (formatted_life one_slot) shown) (life_slots two_batches words (formatted_life one_slot) shown) → ⊥)
+order_is_wanted = (
+  (omega arith, ((omega arith, refl, omega arith), (omega arith, tt))),
+  λ h. (let e = h.slots_apart _ _ (inl refl) (inr (inr (inr (inl refl)))) refl refl refl in let n : ◌≡◌ {A = ℕ} 0 1 = ap (λ (x : SlotFill). x.number) e in omega (arith, n)),
+)

@@ -9,9 +9,9 @@ use Rattle.ob_tables.specs.Rank.{IsRanking}
 use Rattle.ob_store.specs.Disk.{Image}
 use Rattle.ob_seal.specs.Sealing.{Sealing}
 use Rattle.ob_seal.specs.declared.keys.Keys.{Keys}
-use Rattle.ob_serial.specs.Vaults.{Standing, VaultAnswer, VaultCall}
+use Rattle.ob_serial.specs.Vaults.{Standing, VaultCall}
 use Rattle.ob_recover.specs.Calls.{repeated}
-use Rattle.ob_recover.specs.Life.{Append, End, HolesAreFresh, IsActAllowed, IsLife, LifeAct, LifeState, Open, ShowBatch, ShowLifts, WordId, formatted_life, labels_shown, life_step, reached, slots_shown}
+use Rattle.ob_recover.specs.Life.{Append, End, IsActAllowed, IsLife, LifeAct, LifeState, Open, ShowBatch, ShowLifts, WordId, formatted_life, labels_shown, life_step, reached, slots_shown}
 use Rattle.ob_recover.proofs.FreshLaws.{attempts_agree, lifts_agree, lives_are_fresh}
 use Rattle.ob_pads.specs.Seals.{Pad, pads_between, pads_from}
 use Rattle.ob_vault.proofs.Whole.{reached_join}
@@ -20,7 +20,7 @@ use Rattle.ob_vault.specs.Lives.{opening_acts}
 use Rattle.ob_world.proofs.Holding.{headline}
 use Rattle.ob_ring_world.specs.Pasts.{AreHolesFresh, ArePadsApart, AreRowsShown, GoesOnBehind, IsFrontRow, IsRowFilled, IsSoundPast, IsWholeRow, OfOpening, RingPast, RowKind, ShownRow, formatted_past, row_phases, state_behind}
 use Rattle.ob_ring_world.specs.RingCourses.{RingHeadlineHolds, RingPromises, ring_course}
-use Rattle.ob_ring_world.specs.Steps.{IsAnsweredBy, IsCallBy, IsCutBetween, IsCutCall, IsCutOpening, IsOpenedBy, IsPartOf, IsRefusedBy, IsRingCut, IsShownOf, IsShownOfOpening, SealsOn, part_left, rows_with}
+use Rattle.ob_ring_world.specs.Steps.{IsAnsweredBy, IsCallBy, IsOpenedBy, IsPartOf, IsRingCut, IsShownOf, IsShownOfOpening, SealsOn, part_left, rows_with}
 
 -- ---- lists of pads
 

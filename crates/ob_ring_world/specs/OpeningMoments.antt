@@ -1,5 +1,5 @@
 -- What a crash at any moment of an opening leaves, in the words of a life.
-use Rattle.std.specs.Prelude.{◌≡◌, ◌⊎◌, ℕ, suc, List, Option, Some}
+use Rattle.std.specs.Prelude.{◌⊎◌, ℕ, suc, List, Option, Some}
 use Rattle.ob_base.specs.declared.params.Params.{Params}
 use Rattle.ob_store.specs.Disk.{Disk, Image}
 use Rattle.ob_store.specs.Images.{IsSynced, LeavesOnly, Passes, Same}

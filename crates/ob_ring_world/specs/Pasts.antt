@@ -1,5 +1,5 @@
 -- The past of a ring store: the acts of its life, the rows of the public schedule that were shown of it, and the pads of its seals.
-use Rattle.std.specs.Prelude.{◌≡◌, ◌⊎◌, ℕ, ◌≤◌, ◌<◌, Bool, List, [], ◌∷◌, ◌++◌, map, length, Option, None, Some}
+use Rattle.std.specs.Prelude.{◌≡◌, ℕ, ◌≤◌, ◌<◌, Bool, List, [], ◌∷◌, ◌++◌, map, length, Option, None, Some}
 use Rattle.std.specs.List.{flat_map}
 use Rattle.ob_base.specs.Repeats.{Has, NoRepeats}
 use Rattle.ob_base.specs.Tree.{below}

@@ -1,5 +1,5 @@
 -- A ring store's course: what a world's steps add to its past, and what is promised of that.
-use Rattle.std.specs.Prelude.{◌≡◌, ℕ, ◌+◌, ◌<◌, Option}
+use Rattle.std.specs.Prelude.{ℕ, ◌+◌, ◌<◌, Option}
 use Rattle.ob_base.specs.Repeats.{NoRepeats}
 use Rattle.ob_base.specs.declared.params.Params.{Params}
 use Rattle.ob_tables.specs.Rank.{IsRanking}

@@ -1,14 +1,14 @@
 -- Rows of runs over a ring store, with crashes between calls, inside them and inside openings, as one list of events.
-use Rattle.std.specs.Prelude.{◌≡◌, ◌⊎◌, ℕ, ◌<◌, List, [], ◌∷◌, ◌++◌, flat_map, length, Option, None, Some}
+use Rattle.std.specs.Prelude.{◌≡◌, ◌⊎◌, ℕ, List, [], ◌∷◌, ◌++◌, None, Some}
 use Rattle.ob_store.specs.declared.event.Event.{Event}
 use Rattle.ob_store.specs.Disk.{Disk, Image}
+use Rattle.ob_store.specs.Calls.{Notes}
 use Rattle.ob_store.specs.Images.{IsSynced, Passes, Same}
 use Rattle.ob_seal.specs.declared.keys.Keys.{Keys}
 use Rattle.ob_serial.specs.Vaults.{Standing, VaultAnswer, VaultCall, VaultState}
 use Rattle.ob_serial.specs.VaultKinds.{Kind}
 use Rattle.ob_desk.specs.Desk.{Setup}
 use Rattle.ob_stand.specs.Stands.{StandsRing}
-use Rattle.ob_recover.specs.Known.{fills_of}
 use Rattle.ob_recover.specs.Life.{WordId}
 use Rattle.ob_recover.specs.Telling.{AreDealt}
 use Rattle.ob_opening.specs.OpeningRuns.{OpensFrom}
@@ -21,8 +21,10 @@ use Rattle.ob_vault.specs.RingVaults.{RingSound, Running}
 use Rattle.ob_vault.specs.Seen.{opening_phases}
 use Rattle.ob_world.specs.Courses.{course_of}
 use Rattle.ob_world.specs.Laws.{IsOneRun}
+use Rattle.ob_conduct.specs.Acts.{Act}
+use Rattle.ob_world.specs.Weaves.{woven}
 use Rattle.ob_world.specs.Worlds.{WorldEvent, Crash, Open, World, IsWorld, VaultEvent, first_world, opened_vault}
-use Rattle.ob_ring_world.specs.Pasts.{RingPast, formatted_past}
+use Rattle.ob_ring_world.specs.Pasts.{RingPast, ShownRow, events_of_rows, formatted_past}
 use Rattle.ob_ring_world.specs.RingCourses.{RingPromises, ring_course}
 
 -- The words of a vault are those of a vault over a ring store; it is sound as that is, and its images are the store's.
@@ -95,23 +97,36 @@ module _ {V S : Type 0} (k : Kind V) (disk : S → Disk) (runs : V → Running S
     pub tape : AreTapeWords word_of (ring_hidden run.found).generation (runs run.last.past).drawn
 
   -- the image was left at the end, or at some moment of the call
-  abbrev pub IsEndOf : RingRun V → RunEnd V → Type 0
-  IsEndOf run Serves = Unit {0}
-  IsEndOf run (Returns image) = (disk (runs run.last.past).store).may_leave image
-  IsEndOf run (Crashes image) = (disk (runs run.last.past).store).may_leave image
-  IsEndOf run (CrashesIn call answer next image) = VaultEvent (course_of k) run.last call answer next × (disk (runs next.past).store).left_since (disk (runs run.last.past).store).moment image
+  abbrev pub IsEndOfRun : RingRun V → RunEnd V → Type 0
+  IsEndOfRun run Serves = Unit {0}
+  IsEndOfRun run (Returns image) = (disk (runs run.last.past).store).may_leave image
+  IsEndOfRun run (Crashes image) = (disk (runs run.last.past).store).may_leave image
+  IsEndOfRun run (CrashesIn call answer next image) = VaultEvent (course_of k) run.last call answer next × (disk (runs next.past).store).left_since (disk (runs run.last.past).store).moment image
       × AreTapeWords word_of (ring_hidden run.found).generation (runs next.past).drawn
 
   -- Each begins at an image that may be left: the first at one of these, each later one at the one that was left before it.
   abbrev pub AreRingPartsFrom : (Image → Type 0) → List (RingPart V S) → Type 0
   AreRingPartsFrom may_leave [] = Unit {0}
-  AreRingPartsFrom may_leave (Runs run end ∷ parts) = may_leave run.image × IsRingRun run × IsEndOf run end × AreRingPartsFrom (end_leaves end) parts
+  AreRingPartsFrom may_leave (Runs run end ∷ parts) = may_leave run.image × IsRingRun run × IsEndOfRun run end × AreRingPartsFrom (end_leaves end) parts
   AreRingPartsFrom may_leave (Stops old new image ∷ parts) = may_leave (disk old).cells × (disk old).tells × IsSynced (disk old) × (Passes Same (disk old) (disk new) ⊎ OpensFrom disk keys setup.params old new)
       × (disk new).left_since (disk old).moment image × AreRingPartsFrom (λ c. c ≡ image) parts
 
--- From a format on, whose images stand for the empty map, each row of runs is one list of events of the world over the ring.
+-- The rows of these parts, the newest first, behind earlier ones: of each run its opening's, and those of its calls, which are all that the
+-- store was called for since. Of what a crash cut off no row is counted.
+abbrev pub AreRowsOf : {V S : Type 0} → (S → Disk) → (V → Running S) → (earlier : List ShownRow) → List (RingPart V S) → (rows : List ShownRow) → Type 0
+AreRowsOf disk runs earlier [] rows = rows ≡ earlier
+AreRowsOf disk runs earlier (Runs run end ∷ parts) rows = (opening : ShownRow) × (calls : List ShownRow) × (opening.events ≡ run.opening)
+    × Notes (events_of_rows calls) (disk (runs run.first).store).seen (disk (runs run.last.past).store).seen × AreRowsOf disk runs (calls ++ opening ∷ earlier) parts rows
+AreRowsOf disk runs earlier (Stops old new image ∷ parts) rows = AreRowsOf disk runs earlier parts rows
+
+-- From a format on, whose images stand for the empty map, each row of runs is one list of events of the world over the ring, and its rows are
+-- what was seen.
 abbrev pub RingRunsAreWorlds : {V S : Type 0} → Kind V → (S → Disk) → Type 0
 RingRunsAreWorlds {V} {S} k disk = (runs : V → Running S) → IsOverRing k disk runs → (setup : Setup) (keys : Keys) (word_of : WordId → ℕ) (made : S) (empty : Standing) (parts : List (RingPart V S))
     → (formatted : RingFormatted keys setup.params (disk made)) → ((image : Image) → (disk made).may_leave image → (generation : ℕ) × StandsRing keys setup.params generation image empty)
     → AreRingPartsFrom k disk runs setup keys word_of (disk made).may_leave parts → (kept : RingPromises keys setup.params word_of formatted.0)
-    → (last : World RingPast) × IsWorld (ring_course keys setup.params word_of formatted.0 kept) (first_world setup [] empty 0 formatted_past) (events_of_parts parts) last
+    → (last : World RingPast) × IsWorld (ring_course keys setup.params word_of formatted.0 kept) (first_world setup [] empty 0 formatted_past) (events_of_parts parts) last × AreRowsOf disk runs [] parts last.past.rows
+
+-- The events of acts have no crash and no opening, so what a run did can be a run's here.
+abbrev pub ActsAreOneRun : Type 0
+ActsAreOneRun = (acts : List Act) (reports : ℕ) → IsOneRun (woven acts reports)

@@ -1,5 +1,5 @@
 -- What each step adds to the past of a ring store: a call, a crash, an opening.
-use Rattle.std.specs.Prelude.{◌≡◌, ◌⊎◌, ℕ, suc, Bool, true, false, List, [], ◌∷◌, ◌++◌, length, Option, None, Some}
+use Rattle.std.specs.Prelude.{◌≡◌, ◌⊎◌, ℕ, suc, Bool, true, false, List, ◌∷◌, ◌++◌, length, Option, None, Some}
 use Rattle.ob_base.specs.declared.params.Params.{Params}
 use Rattle.ob_store.specs.Disk.{Image}
 use Rattle.ob_seal.specs.Sealing.{Sealing}
@@ -12,7 +12,7 @@ use Rattle.ob_opening.specs.OpeningActs.{IsLeftAt}
 use Rattle.ob_vault.specs.Acts.{is_answered}
 use Rattle.ob_vault.specs.Lives.{AreActsOf, AreFirstActs, AreShowing, opening_acts}
 use Rattle.ob_vault.specs.Shapes.{shape_of}
-use Rattle.ob_ring_world.specs.Pasts.{GoesOnBehind, IsFrontRow, IsRowFilled, IsWholeRow, OfCall, OfOpening, RingPast, RowKind, ShownRow, state_behind}
+use Rattle.ob_ring_world.specs.Pasts.{GoesOnBehind, IsFrontRow, IsRowFilled, IsWholeRow, OfCall, OfOpening, RingPast, ShownRow, state_behind}
 
 -- the row of a call that was cut off stands before the rows, if anything of it was shown
 abbrev pub rows_with : Option ShownRow → List ShownRow → List ShownRow

@@ -3,7 +3,7 @@
 ghost use Rattle.ob_serial.specs.VaultKinds.{kind_of};
 ghost use Rattle.ob_ring_world.specs.OpeningMoments.{OpeningsMomentByMoment};
 ghost use Rattle.ob_ring_world.specs.RingCourses.{RingHeadlineHolds};
-ghost use Rattle.ob_ring_world.specs.Runs.{RingRunsAreWorlds};
+ghost use Rattle.ob_ring_world.specs.Runs.{ActsAreOneRun, RingRunsAreWorlds};
 
 use ob_serial::Vault;
 use ob_store::Store;
@@ -25,7 +25,10 @@ pub fn openings_moment_by_moment<S: Store>()
 
 /// From a format on, each row of runs over a ring store is one list of events of the world over it:
 /// openings, what each run did, and crashes between calls, inside calls and inside openings. So the
-/// headline is of every such row.
+/// headline is of every such row. The rows of its past are all that each run called its store for.
+/// What a run did, by threads or by hand, is a list of its vault (`ob_world::runs_are_worlds`), and
+/// has no crash and no opening in it.
 pub fn runs_are_worlds<V: Vault, S: Store>()
     ensures worlds { RingRunsAreWorlds (kind_of V.Vault) (λ store. S.disk store) }
+    ensures acts { ActsAreOneRun }
 {}

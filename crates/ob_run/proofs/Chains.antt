@@ -4,9 +4,10 @@ use Rattle.std.specs.FinMap as finite
 use Rattle.std.specs.List.{slice_get}
 use Rattle.std.proofs.lemmas.List.Elements.{All-nil, All-cons, All-head, All-tail}
 use Rattle.ob_store.specs.declared.watch.Note.{Note}
+use Rattle.ob_store.specs.Lines.{Trace}
 use Rattle.ob_serial.specs.Serial.{Map}
 use Rattle.ob_serial.specs.Vaults.{VaultCall, VaultAnswer, Fetch, Values, VaultState, vault_next}
-use Rattle.ob_serial.specs.VaultKinds.{Kind, Called}
+use Rattle.ob_serial.specs.VaultKinds.{Kind, Called, AllCalled}
 use Rattle.ob_desk.specs.Desk as desk
 use Rattle.ob_desk.specs.Desk.{DeskState, Call, Reply, IsFed, map_next, Run}
 use Rattle.ob_session.specs.Steps.{Leads}
@@ -19,9 +20,17 @@ pub leads_split : (a : DeskState) (xs ys : Steps) (c : DeskState) → Leads a (x
 leads_split a [] ys c leads = (a, refl, leads)
 leads_split a (x ∷ xs) ys c (mid, may, one, rest) = let (b, first, last) = leads_split mid xs ys c rest in (b, (mid, may, one, first), last)
 
-pub noted_split : {V : Type 0} (k : Kind V) (a : V) (xs ys : List (VaultCall × VaultAnswer)) (notes : List Note) (c : V) → AllNoted k a (xs ++ ys) notes c → (b : V) × (first : List Note) × (last : List Note) × AllNoted k a xs first b × AllNoted k b ys last c
-noted_split k a [] ys notes c chain = (a, [], notes, (refl, refl), chain)
-noted_split k a (x ∷ xs) ys notes c (mid, one, more, are, rest) = let (b, first, last, front, back) = noted_split k mid xs ys more c rest in (b, one.notes ++ first, last, (mid, one, first, refl, front), back)
+pub called_split : {V : Type 0} (k : Kind V) (a : V) (xs ys : List (VaultCall × VaultAnswer)) (c : V) → AllCalled k a (xs ++ ys) c → (b : V) × AllCalled k a xs b × AllCalled k b ys c
+called_split k a [] ys c chain = (a, refl, chain)
+called_split k a (x ∷ xs) ys c (mid, one, rest) = let (b, front, back) = called_split k mid xs ys c rest in (b, (mid, one, front), back)
+
+-- with their notes, and what the watch told between
+pub noted_split : {V : Type 0} (k : Kind V) (a : V) (t : Trace) (xs ys : List (VaultCall × VaultAnswer)) (notes : List Note) (c : V) (u : Trace) → AllNoted k a t (xs ++ ys) notes c u
+    → (b : V) × (s : Trace) × (first : List Note) × (last : List Note) × AllNoted k a t xs first b s × AllNoted k b s ys last c u
+noted_split k a t [] ys notes c u chain = (a, t, [], notes, (refl, refl, refl), chain)
+noted_split k a t (x ∷ xs) ys notes c u (mid, between, one, more, are, rest) =
+    let (b, s, first, last, front, back) = noted_split k mid between xs ys more c u rest in
+    (b, s, one.one.notes ++ first, last, (mid, between, one, first, refl, front), back)
 
 -- ---- calls that leave the map as it is
 
@@ -50,11 +59,11 @@ module _ {V : Type 0} (k : Kind V) where
   fed v w keys values m one (u, held, is) i key at = (one.answered u held).asked i key at ∙ ap (λ (n : Map nat_cmp). Some (finite.get n key)) is
 
   -- each batch was delivered with the values of the map
-  pub rest_plain : (m : Map nat_cmp) (batches : List Batch) (v w : V) (notes : List Note) → AllNoted k v (rest_fetches batches) notes w → HoldsMap k v m → All (IsPlain m) (rest_calls batches) × HoldsMap k w m
-  rest_plain m [] v w notes (same, none) held = (All-nil (IsPlain m), subst (λ (x : V). HoldsMap k x m) (sym same) held)
-  rest_plain m (batch ∷ batches) v w notes (mid, one, more, are, rest) held =
+  pub rest_plain : (m : Map nat_cmp) (batches : List Batch) (v w : V) → AllCalled k v (rest_fetches batches) w → HoldsMap k v m → All (IsPlain m) (rest_calls batches) × HoldsMap k w m
+  rest_plain m [] v w same held = (All-nil (IsPlain m), subst (λ (x : V). HoldsMap k x m) (sym same) held)
+  rest_plain m (batch ∷ batches) v w (mid, one, rest) held =
       let later : HoldsMap k mid m = still_holds v mid (Fetch batch.keys) (Values batch.values) m one held (λ u. refl) in
-      let (plain, last) = rest_plain m batches mid w more rest later in (
+      let (plain, last) = rest_plain m batches mid w rest later in (
         plain_more m desk.TakeBatch (desk.Batch batch.keys) ((desk.Deliver batch.keys batch.values, desk.Done) ∷ rest_calls batches) (tt, λ d. refl) (plain_more m (desk.Deliver batch.keys batch.values) desk.Done (rest_calls batches) (fed v mid batch.keys batch.values m one held, λ d. refl) plain),
         last,
       )

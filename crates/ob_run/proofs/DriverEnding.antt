@@ -1,6 +1,6 @@
 -- How the driver's run ended.
 use Rattle.std.proofs.Common.{◌≡◌, ◌∙◌, ℕ, inr, List, [], ◌∷◌, ◌++◌, All, flat_map, map, drop, refl, sym, ap, subst, OnOk, IfErr, Result, Ok, Err}
-use Rattle.ob_base.specs.declared.fault.Fault.{Fault}
+use Rattle.ob_conduct.specs.declared.run_err.RunErr.{RunErr}
 use Rattle.ob_serial.specs.Vaults.{VaultCounts}
 use Rattle.ob_serial.specs.VaultKinds.{Kind}
 use Rattle.ob_desk.specs.Beats.{BeatKind}
@@ -19,26 +19,26 @@ use Rattle.ob_run.specs.Crews.{CrewSteps, AreOut, AreBack}
 use Rattle.ob_run.specs.Serving.{DriverEnds, ServeEnds}
 use Rattle.ob_run.proofs.Meeting.{rounds_kept}
 
-pub ends_is : {V : Type 0} (k : Kind V) (beat : BeatKind) (hall : Hall) (Also : List Act → Type 0) (old : Side V) (c : VaultCounts) (new : Side V) (next : VaultCounts) (result : Result (Unit {0}) Fault)
-    → OnOk result (RunsOut k beat hall Also old c new next) → IfErr result (λ fault. RunFails k beat hall Also old c new fault) → DriverEnds k beat hall Also old c new next result
+pub ends_is : {V : Type 0} (k : Kind V) (beat : BeatKind) (hall : Hall) (Also : List Act → Type 0) (old : Side V) (c : VaultCounts) (new : Side V) (next : VaultCounts) (result : Result (Unit {0}) RunErr)
+    → OnOk result (RunsOut k beat hall Also old c new next) → IfErr result (λ err. RunFails k beat hall Also old c new err) → DriverEnds k beat hall Also old c new next result
 ends_is k beat hall Also old c new next (Ok done) out fails = out
-ends_is k beat hall Also old c new next (Err fault) out fails = fails
+ends_is k beat hall Also old c new next (Err err) out fails = fails
 
 -- and so all ended
-pub all_ends : {V U Plan : Type 0} (k : Kind V) (beat : BeatKind) (w : Words U Plan) (hall : Hall) (flags : ℕ) (old : Side V) (c : VaultCounts) (before : List (Pass × U)) (new : Side V) (next : VaultCounts) (after : List (Pass × U)) (result : Result (Unit {0}) Fault)
+pub all_ends : {V U Plan : Type 0} (k : Kind V) (beat : BeatKind) (w : Words U Plan) (hall : Hall) (flags : ℕ) (old : Side V) (c : VaultCounts) (before : List (Pass × U)) (new : Side V) (next : VaultCounts) (after : List (Pass × U)) (result : Result (Unit {0}) RunErr)
     → DriverEnds k beat hall (AreBack w hall flags before after old.pass new.pass) old c new next result → ServeEnds k beat w hall flags old c before new next after result
 all_ends k beat w hall flags old c before new next after (Ok done) ends = ends
-all_ends k beat w hall flags old c before new next after (Err fault) ends = inr ends
+all_ends k beat w hall flags old c before new next after (Err err) ends = inr ends
 
 -- what is so of the acts, too
-pub ends_also : {V : Type 0} (k : Kind V) (beat : BeatKind) (hall : Hall) (A B : List Act → Type 0) → ((acts : List Act) → A acts → B acts) → (old : Side V) (c : VaultCounts) (new : Side V) (next : VaultCounts) (result : Result (Unit {0}) Fault)
+pub ends_also : {V : Type 0} (k : Kind V) (beat : BeatKind) (hall : Hall) (A B : List Act → Type 0) → ((acts : List Act) → A acts → B acts) → (old : Side V) (c : VaultCounts) (new : Side V) (next : VaultCounts) (result : Result (Unit {0}) RunErr)
     → DriverEnds k beat hall A old c new next result → DriverEnds k beat hall B old c new next result
 ends_also k beat hall A B also old c new next (Ok done) ends = runs_out_also k beat hall A B old c new next also ends
-ends_also k beat hall A B also old c new next (Err fault) ends = run_fails_also k beat hall A B old c new fault also ends
+ends_also k beat hall A B also old c new next (Err err) ends = run_fails_also k beat hall A B old c new err also ends
 
-pub acts_also : {V : Type 0} (k : Kind V) (beat : BeatKind) (hall : Hall) (A : List Act → Type 0) (old : Side V) (c : VaultCounts) (new : Side V) (next : VaultCounts) (result : Result (Unit {0}) Fault) → DriverEnds k beat hall A old c new next result → (acts : List Act) × A acts
+pub acts_also : {V : Type 0} (k : Kind V) (beat : BeatKind) (hall : Hall) (A : List Act → Type 0) (old : Side V) (c : VaultCounts) (new : Side V) (next : VaultCounts) (result : Result (Unit {0}) RunErr) → DriverEnds k beat hall A old c new next result → (acts : List Act) × A acts
 acts_also k beat hall A old c new next (Ok done) ends = (ends.done.acts, ends.done.also)
-acts_also k beat hall A old c new next (Err fault) ends = (ends.fails.acts, ends.fails.also)
+acts_also k beat hall A old c new next (Err err) ends = (ends.fails.acts, ends.fails.also)
 
 -- ---- rounds, told of what the hands are
 
@@ -70,7 +70,7 @@ module _ {H K : Type 0} (f : H → K) (steps : ℕ → K → K → ℕ → Type 
 -- ---- the crew behind it
 
 module _ {V U Plan H : Type 0} (k : Kind V) (beat : BeatKind) (w : Words U Plan) (hall : Hall) (f : H → List (Started U)) (clients : List (Pass × U)) (first last : H) (placed : Each (HasItsPlace w hall) clients (f first)) (old : Side V) (c : VaultCounts) (new : Side V) (next : VaultCounts)
-    (result : Result (Unit {0}) Fault) (ends : DriverEnds k beat hall (AreInRounds (λ n a b m. CrewSteps w hall n (f a) (f b) m) first last old.pass new.pass) old c new next result) where
+    (result : Result (Unit {0}) RunErr) (ends : DriverEnds k beat hall (AreInRounds (λ n a b m. CrewSteps w hall n (f a) (f b) m) first last old.pass new.pass) old c new next result) where
   pub placed_last : Each (HasItsPlace w hall) clients (f last)
   placed_last =
       let (acts, r) = acts_also k beat hall (AreInRounds (λ n a b m. CrewSteps w hall n (f a) (f b) m) first last old.pass new.pass) old c new next result ends in
@@ -83,7 +83,7 @@ module _ {V U Plan H : Type 0} (k : Kind V) (beat : BeatKind) (w : Words U Plan)
 
 -- and so all ended, where those that were away are joined
 pub ends_back : {V U Plan : Type 0} (k : Kind V) (beat : BeatKind) (w : Words U Plan) (hall : Hall) (starts flags : ℕ) (clients taken : List (Pass × U)) (last : List (Started U))
-    (back : List (Pass × U)) (old : Side V) (c : VaultCounts) (new : Side V) (next : VaultCounts) (result : Result (Unit {0}) Fault)
+    (back : List (Pass × U)) (old : Side V) (c : VaultCounts) (new : Side V) (next : VaultCounts) (result : Result (Unit {0}) RunErr)
     → flags ≡ starts → taken ≡ clients → Each (IsJoined w hall) last back → DriverEnds k beat hall (AreOut w hall flags taken last old.pass new.pass) old c new next result → ServeEnds k beat w hall starts old c clients new next back result
 ends_back k beat w hall starts flags clients taken last back old c new next result many same joined ends =
     all_ends k beat w hall starts old c clients new next back result
@@ -92,7 +92,7 @@ ends_back k beat w hall starts flags clients taken last back old c new next resu
     record { first = s.first; placed = s.placed; came = s.came; stayed = s.stayed; last = last; rounds = s.rounds; joined = joined }) old c new next result ends)
 
 -- told of what it is the same as
-pub ends_told : {V U Plan : Type 0} (k : Kind V) (beat : BeatKind) (w : Words U Plan) (hall : Hall) (flags : ℕ) (clients : List (Pass × U)) (last now : List (Started U)) (old : Side V) (c : VaultCounts) (new after : Side V) (next counts : VaultCounts) (result : Result (Unit {0}) Fault)
+pub ends_told : {V U Plan : Type 0} (k : Kind V) (beat : BeatKind) (w : Words U Plan) (hall : Hall) (flags : ℕ) (clients : List (Pass × U)) (last now : List (Started U)) (old : Side V) (c : VaultCounts) (new after : Side V) (next counts : VaultCounts) (result : Result (Unit {0}) RunErr)
     → now ≡ last → after ≡ new → counts ≡ next → DriverEnds k beat hall (AreOut w hall flags clients last old.pass new.pass) old c new next result → DriverEnds k beat hall (AreOut w hall flags clients now old.pass after.pass) old c after counts result
 ends_told k beat w hall flags clients last now old c new after next counts result crew side told ends =
     subst (λ n. DriverEnds k beat hall (AreOut w hall flags clients now old.pass after.pass) old c after n result) (sym told)

@@ -3,10 +3,9 @@ use Rattle.std.proofs.Common.{◌≡◌, ◌∙◌, ◌⊎◌, ℕ, zero, suc, �
 use Rattle.std.proofs.lemmas.Bool.{false≢true}
 use Rattle.std.proofs.lemmas.Option.{same_Some}
 use Rattle.std.proofs.lemmas.List.Elements.{All-nil, All-cons, All-head, All-tail, All-append}
-use Rattle.ob_store.specs.declared.watch.Note.{Note}
 use Rattle.ob_serial.specs.Serial.{Map, EpochRecord, OneByOne, committed_of}
 use Rattle.ob_serial.specs.Vaults.{VaultCall, VaultAnswer}
-use Rattle.ob_serial.specs.VaultKinds.{Kind}
+use Rattle.ob_serial.specs.VaultKinds.{Kind, AllCalled}
 use Rattle.ob_desk.specs.Desk.{DeskState, Run, published}
 use Rattle.ob_desk.specs.Beats.{BeatKind}
 use Rattle.ob_desk.proofs.Runs.{desk_is_serial}
@@ -19,7 +18,6 @@ use Rattle.ob_hall.specs.Passes.{Steps, IsNew, calls_in}
 use Rattle.ob_hall.proofs.Histories.{noted_calls, calls_lead, history_leads}
 use Rattle.ob_hall.proofs.Chaining.{calls_append}
 use Rattle.ob_conduct.specs.Acts.{Act, Says, history, calls, records, IsAllowed}
-use Rattle.ob_conduct.specs.Scenes.{AllNoted}
 use Rattle.ob_conduct.specs.Records.{contents, HoldsMap}
 use Rattle.ob_conduct.proofs.Moving.{run_join}
 use Rattle.ob_conduct.proofs.Ready.{own_run}
@@ -27,7 +25,7 @@ use Rattle.ob_conduct.proofs.Writes.{left_by}
 use Rattle.ob_conduct.proofs.Going.{history_append, calls_append as vault_append, records_append, own_tells}
 use Rattle.ob_driver.specs.Turning.{IsOneTurn, AreActs}
 use Rattle.ob_run.specs.Woven.{IsEntryOf, AreWoven, Woven}
-use Rattle.ob_run.proofs.Chains.{noted_split}
+use Rattle.ob_run.proofs.Chains.{called_split}
 use Rattle.ob_run.proofs.MapServing.{Serves, turn_serves}
 
 -- ---- one entry
@@ -154,18 +152,18 @@ module _ {V : Type 0} (k : Kind V) (clients : List ℕ) where
     holds = more.holds;
   }
 
-  entry_serves : (e : Entry Steps) (x z : DeskState) (v w : V) (notes : List Note) (m : Map nat_cmp) (mine these : List Act) (by : ℕ) → IsEntryOf clients by (calls_in (e ∷ [])) mine these → e.by ≡ by → client_numbers x ≡ clients → Calls IsTurn e.by x e.calls z
-      → AllNoted k v (calls mine) notes w → HoldsMap k v m
+  entry_serves : (e : Entry Steps) (x z : DeskState) (v w : V) (m : Map nat_cmp) (mine these : List Act) (by : ℕ) → IsEntryOf clients by (calls_in (e ∷ [])) mine these → e.by ≡ by → client_numbers x ≡ clients → Calls IsTurn e.by x e.calls z
+      → AllCalled k v (calls mine) w → HoldsMap k v m
       → Serves k m x (history these) z w
-  entry_serves e x z v w notes m mine these zero (one, calls_are, same) is numbers turn chain held =
+  entry_serves e x z v w m mine these zero (one, calls_are, same) is numbers turn chain held =
       subst (λ (acts : List Act). Serves k m x (history acts) z w) (sym same)
-      (turn_serves k m x z v w notes held mine one (subst (λ (s : Steps). Leads x s z) calls_are (entry_leads x e z turn)) chain)
-  entry_serves e x z v w notes m mine these (suc i) (none, inr (nobody, quiet, same)) is numbers turn chain held =
-      let still : w ≡ v = (subst (λ (acts : List Act). AllNoted k v (calls acts) notes w) none chain).0 in
+      (turn_serves k m x z v w held mine one (subst (λ (s : Steps). Leads x s z) calls_are (entry_leads x e z turn)) chain)
+  entry_serves e x z v w m mine these (suc i) (none, inr (nobody, quiet, same)) is numbers turn chain held =
+      let still : w ≡ v = subst (λ (acts : List Act). AllCalled k v (calls acts) w) none chain in
       let stays : z ≡ x = subst (λ (s : Steps). Leads x s z) quiet (entry_leads x e z turn) in
       subst (λ (acts : List Act). Serves k m x (history acts) z w) (sym same) (record { next = m; run = (refl, stays); holds = subst (λ (u : V). HoldsMap k u m) (sym still) held })
-  entry_serves e x z v w notes m mine these (suc i) (none, inl (number, named, same)) is numbers turn chain held =
-      let still : w ≡ v = (subst (λ (acts : List Act). AllNoted k v (calls acts) notes w) none chain).0 in
+  entry_serves e x z v w m mine these (suc i) (none, inl (number, named, same)) is numbers turn chain held =
+      let still : w ≡ v = subst (λ (acts : List Act). AllCalled k v (calls acts) w) none chain in
       let own : All (IsOwn number) (calls_in (e ∷ [])) = owns (turn_said clients i x e.calls z numbers (subst (λ (n : ℕ). Calls IsTurn n x e.calls z) is turn)) named in
       subst (λ (acts : List Act). Serves k m x (history acts) z w) (sym same) (record {
         next = m;
@@ -177,23 +175,23 @@ module _ {V : Type 0} (k : Kind V) (clients : List ℕ) where
       owns (inr quiet) is = subst (All (IsOwn number)) (sym (one_entry e ∙ quiet.1)) (All-nil (IsOwn number))
       owns (inl said) is = subst (All (IsOwn number)) (sym (one_entry e)) (subst (λ (n : ℕ). All (IsOwn n) (noted_calls e.calls)) (same_Some said.number number (sym said.named ∙ is)) said.own)
 
-  pub serves : (entries : List (Entry Steps)) (x y : DeskState) (v w : V) (notes : List Note) (m : Map nat_cmp) (driven acts : List Act) → client_numbers x ≡ clients → LeadsByTurns IsTurn x entries y → AreWoven clients entries driven acts → AllNoted k v (calls driven) notes w → HoldsMap k v m
+  pub serves : (entries : List (Entry Steps)) (x y : DeskState) (v w : V) (m : Map nat_cmp) (driven acts : List Act) → client_numbers x ≡ clients → LeadsByTurns IsTurn x entries y → AreWoven clients entries driven acts → AllCalled k v (calls driven) w → HoldsMap k v m
       → Serves k m x (history acts) y w
-  serves [] x y v w notes m driven acts numbers leads (none, quiet) chain held =
-      let still : w ≡ v = (subst (λ (xs : List Act). AllNoted k v (calls xs) notes w) none chain).0 in
+  serves [] x y v w m driven acts numbers leads (none, quiet) chain held =
+      let still : w ≡ v = subst (λ (xs : List Act). AllCalled k v (calls xs) w) none chain in
       subst (λ (xs : List Act). Serves k m x (history xs) y w) (sym quiet) (record { next = m; run = (refl, sym leads); holds = subst (λ (u : V). HoldsMap k u m) (sym still) held })
-  serves (e ∷ entries) x y v w notes m driven acts numbers (z, turn, rest) (mine, more, these, behind, driven_is, acts_are, entry, woven) chain held =
-      let split = noted_split k v (calls mine) (calls more) notes w (subst (λ (asked : List (VaultCall × VaultAnswer)). AllNoted k v asked notes w) (ap calls driven_is ∙ vault_append mine more) chain) in
-      let one : Serves k m x (history these) z split.0 = entry_serves e x z v split.0 split.1 m mine these e.by entry refl numbers turn split.3 held in
+  serves (e ∷ entries) x y v w m driven acts numbers (z, turn, rest) (mine, more, these, behind, driven_is, acts_are, entry, woven) chain held =
+      let split = called_split k v (calls mine) (calls more) w (subst (λ (asked : List (VaultCall × VaultAnswer)). AllCalled k v asked w) (ap calls driven_is ∙ vault_append mine more) chain) in
+      let one : Serves k m x (history these) z split.0 = entry_serves e x z v split.0 m mine these e.by entry refl numbers turn split.1 held in
       subst (λ (xs : List Act). Serves k m x (history xs) y w) (sym acts_are)
-      (then_serves m x z y these behind split.0 w one (serves entries z y split.0 w split.2 one.next more behind (numbers_run x (noted_calls e.calls) z (calls_lead e.by x e.calls z turn) ∙ numbers) rest woven split.4 one.holds))
+      (then_serves m x z y these behind split.0 w one (serves entries z y split.0 w one.next more behind (numbers_run x (noted_calls e.calls) z (calls_lead e.by x e.calls z turn) ∙ numbers) rest woven split.2 one.holds))
 
 -- ---- the law
 
-pub histories_weave : {V : Type 0} (k : Kind V) (beat : BeatKind) (opened d : DeskState) (log : List (Entry Steps)) (old new : V) (driven : List Act) (notes : List Note) → IsNew opened → LeadsByTurns IsTurn opened log d → AreActs (entries_of 0 log) driven →
-    All (IsAllowed beat) driven → AllNoted k old (calls driven) notes new
+pub histories_weave : {V : Type 0} (k : Kind V) (beat : BeatKind) (opened d : DeskState) (log : List (Entry Steps)) (old new : V) (driven : List Act) → IsNew opened → LeadsByTurns IsTurn opened log d → AreActs (entries_of 0 log) driven →
+    All (IsAllowed beat) driven → AllCalled k old (calls driven) new
     → Woven k beat opened d log old new driven
-histories_weave {V} k beat opened d log old new driven notes fresh leads are allowed chain = record {
+histories_weave {V} k beat opened d log old new driven fresh leads are allowed chain = record {
   acts = a.acts;
   are = a.are;
   allowed = a.allowed;
@@ -202,11 +200,11 @@ histories_weave {V} k beat opened d log old new driven notes fresh leads are all
   calls_are = a.calls_are;
   records_are = a.records_are;
   serial = λ m held.
-      let s : Serves k m opened (history a.acts) d new = serves k (client_numbers opened) log opened d old new notes m driven a.acts refl leads a.are chain held in
+      let s : Serves k m opened (history a.acts) d new = serves k (client_numbers opened) log opened d old new m driven a.acts refl leads a.are chain held in
       let is : s.next ≡ contents m (records a.acts) = left_to m s.next s.run in
       (subst (λ (x : Map nat_cmp). Run m opened (history a.acts) x d) is s.run, subst (λ (x : Map nat_cmp). HoldsMap k new x) is s.holds);
   one_by_one = λ m held.
-      let s : Serves k m opened (history a.acts) d new = serves k (client_numbers opened) log opened d old new notes m driven a.acts refl leads a.are chain held in
+      let s : Serves k m opened (history a.acts) d new = serves k (client_numbers opened) log opened d old new m driven a.acts refl leads a.are chain held in
       subst (OneByOne nat_cmp m (committed_of (records a.acts))) (left_to m s.next s.run) (ran m s.next s.run);
 }
   where

@@ -1,6 +1,6 @@
 -- Clients' turns behind the driver's, and whether one of them stopped the desk.
 use Rattle.std.proofs.Common.{◌≡◌, ◌∙◌, ◌⊎◌, ℕ, All, List, [], ◌∷◌, ◌++◌, flat_map, Option, None, Some, refl, sym, ap, subst, inl, inr, append-nil, append_assoc}
-use Rattle.std.proofs.lemmas.List.Elements.{All-head, All-tail}
+use Rattle.std.proofs.lemmas.List.Elements.{All-head, All-tail, All-weaker}
 use Rattle.ob_base.specs.declared.fault.Fault.TheVariants.{Memory}
 use Rattle.ob_desk.specs.Desk.{DeskState}
 use Rattle.ob_session.specs.Steps.{Leads, IsOwn}
@@ -9,9 +9,9 @@ use Rattle.ob_turn.specs.History.{LeadsByTurns}
 use Rattle.ob_hall.specs.Turns.{IsTurn}
 use Rattle.ob_hall.specs.Passes.{Steps}
 use Rattle.ob_hall.proofs.Histories.{noted_calls, calls_lead, history_leads}
-use Rattle.ob_conduct.specs.Acts.{Act, Batch, Says, Halts, Rests, Takes, Delivers, DeliverFails, FetchFails, Closes, Publishes, Refuses, Unprinted, history, rest_calls}
+use Rattle.ob_conduct.specs.Acts.{Act, Batch, Says, Halts, Rests, Takes, Delivers, DeliverFails, FetchFails, RestUnwatched, Closes, Publishes, Refuses, Unprinted, Unwatched, history, rest_calls}
 use Rattle.ob_conduct.specs.Rounds.{IsOneThing}
-use Rattle.ob_conduct.specs.Moves.{IsSaid, IsForestalled}
+use Rattle.ob_conduct.specs.Moves.{IsSaid, MayComeBefore, IsForestalled}
 use Rattle.ob_conduct.proofs.Behind.{leads_split}
 use Rattle.ob_driver.specs.Turning.{IsOneTurn}
 use Rattle.ob_run.proofs.Stops.{stop_behind, stop_run, stays_stopped, EndsBy, own_stops}
@@ -41,13 +41,31 @@ desks clients entries driven acts opened d l legal =
 
 -- ---- clients' turns
 
--- the desk isn't stopped, or one of these turns stopped it
-abbrev pub Held : DeskState → List Act → Type 0
-Held new acts = (new.stop ≡ None) ⊎ ((new.stop ≡ Some Memory) × IsForestalled acts)
+said_before : (act one : Act) → IsSaid one → MayComeBefore one act
+said_before act (Says client steps) said = said
+said_before act (Halts fault) said = absurd said
+said_before act (Rests look) said = absurd said
+said_before act (Takes look keys) said = absurd said
+said_before act (Delivers batch) said = absurd said
+said_before act (DeliverFails keys fault) said = absurd said
+said_before act (FetchFails look batches keys fault) said = absurd said
+said_before act (RestUnwatched look batches) said = absurd said
+said_before act (Closes look batches writes) said = absurd said
+said_before act (Publishes writes left told) said = absurd said
+said_before act (Refuses writes refused) said = absurd said
+said_before act Unprinted said = absurd said
+said_before act Unwatched said = absurd said
 
-pub held_later : (new : DeskState) (xs ys : List Act) → Held new ys → Held new (xs ++ ys)
-held_later new xs ys (inl none) = inl none
-held_later new xs ys (inr (stop, f)) = inr (
+pub all_before : (act : Act) (acts : List Act) → All IsSaid acts → All (λ (one : Act). MayComeBefore one act) acts
+all_before act acts said = All-weaker IsSaid (λ (one : Act). MayComeBefore one act) (said_before act) acts said
+
+-- the desk isn't stopped, or one of these turns stopped it
+abbrev pub Held : Act → DeskState → List Act → Type 0
+Held act new acts = (new.stop ≡ None) ⊎ ((new.stop ≡ Some Memory) × IsForestalled act acts)
+
+pub held_later : (act : Act) (new : DeskState) (xs ys : List Act) → Held act new ys → Held act new (xs ++ ys)
+held_later act new xs ys (inl none) = inl none
+held_later act new xs ys (inr (stop, f)) = inr (
   stop,
   record {
     before = xs ++ f.before;
@@ -60,27 +78,29 @@ held_later new xs ys (inr (stop, f)) = inr (
   },
 )
 
-then_held : (client : ℕ) (steps : Steps) (acts : List Act) (mid new : DeskState) → All IsSaid acts → Leads mid (history acts) new → EndsBy mid steps → (mid.stop ≡ None → Held new acts) → Held new (Says client steps ∷ acts)
-then_held client steps acts mid new said rest (inl still) on = held_later new (Says client steps ∷ []) acts (on still)
-then_held client steps acts mid new said rest (inr (stop, has)) on = inr (stays_stopped Memory mid (history acts) new rest stop, record { before = []; client = client; steps = steps; behind = acts; front_is = refl; stops = has; says = said })
+then_held : (act : Act) (client : ℕ) (steps : Steps) (acts : List Act) (mid new : DeskState) → All IsSaid acts → Leads mid (history acts) new → EndsBy mid steps → (mid.stop ≡ None → Held act new acts) → Held act new (Says client steps ∷ acts)
+then_held act client steps acts mid new said rest (inl still) on = held_later act new (Says client steps ∷ []) acts (on still)
+then_held act client steps acts mid new said rest (inr (stop, has)) on = inr (stays_stopped Memory mid (history acts) new rest stop, record { before = []; client = client; steps = steps; behind = acts; front_is = refl; stops = has; says = all_before act acts said })
 
-pub said_held : (acts : List Act) (d new : DeskState) → All IsSaid acts → Leads d (history acts) new → d.stop ≡ None → Held new acts
-said_held [] d new said is none = inl (ap (λ (x : DeskState). x.stop) is ∙ none)
-said_held (Says client steps ∷ acts) d new said leads none =
+pub said_held : (act : Act) (acts : List Act) (d new : DeskState) → All IsSaid acts → Leads d (history acts) new → d.stop ≡ None → Held act new acts
+said_held act [] d new said is none = inl (ap (λ (x : DeskState). x.stop) is ∙ none)
+said_held act (Says client steps ∷ acts) d new said leads none =
     let own : All (IsOwn client) steps = All-head IsSaid (Says client steps) acts said in
     let others : All IsSaid acts = All-tail IsSaid (Says client steps) acts said in
     let (mid, first, rest) = leads_split d steps (history acts) new leads in
-    then_held client steps acts mid new others rest (own_stops client d steps mid own first none) (λ still. said_held acts mid new others rest still)
-said_held (Halts fault ∷ acts) d new said leads none = absurd (All-head IsSaid (Halts fault) acts said)
-said_held (Rests look ∷ acts) d new said leads none = absurd (All-head IsSaid (Rests look) acts said)
-said_held (Takes look keys ∷ acts) d new said leads none = absurd (All-head IsSaid (Takes look keys) acts said)
-said_held (Delivers batch ∷ acts) d new said leads none = absurd (All-head IsSaid (Delivers batch) acts said)
-said_held (DeliverFails keys fault ∷ acts) d new said leads none = absurd (All-head IsSaid (DeliverFails keys fault) acts said)
-said_held (FetchFails look batches keys fault ∷ acts) d new said leads none = absurd (All-head IsSaid (FetchFails look batches keys fault) acts said)
-said_held (Closes look batches writes ∷ acts) d new said leads none = absurd (All-head IsSaid (Closes look batches writes) acts said)
-said_held (Publishes writes left told ∷ acts) d new said leads none = absurd (All-head IsSaid (Publishes writes left told) acts said)
-said_held (Refuses writes refused ∷ acts) d new said leads none = absurd (All-head IsSaid (Refuses writes refused) acts said)
-said_held (Unprinted ∷ acts) d new said leads none = absurd (All-head IsSaid Unprinted acts said)
+    then_held act client steps acts mid new others rest (own_stops client d steps mid own first none) (λ still. said_held act acts mid new others rest still)
+said_held act (Halts fault ∷ acts) d new said leads none = absurd (All-head IsSaid (Halts fault) acts said)
+said_held act (Rests look ∷ acts) d new said leads none = absurd (All-head IsSaid (Rests look) acts said)
+said_held act (Takes look keys ∷ acts) d new said leads none = absurd (All-head IsSaid (Takes look keys) acts said)
+said_held act (Delivers batch ∷ acts) d new said leads none = absurd (All-head IsSaid (Delivers batch) acts said)
+said_held act (DeliverFails keys fault ∷ acts) d new said leads none = absurd (All-head IsSaid (DeliverFails keys fault) acts said)
+said_held act (FetchFails look batches keys fault ∷ acts) d new said leads none = absurd (All-head IsSaid (FetchFails look batches keys fault) acts said)
+said_held act (RestUnwatched look batches ∷ acts) d new said leads none = absurd (All-head IsSaid (RestUnwatched look batches) acts said)
+said_held act (Closes look batches writes ∷ acts) d new said leads none = absurd (All-head IsSaid (Closes look batches writes) acts said)
+said_held act (Publishes writes left told ∷ acts) d new said leads none = absurd (All-head IsSaid (Publishes writes left told) acts said)
+said_held act (Refuses writes refused ∷ acts) d new said leads none = absurd (All-head IsSaid (Refuses writes refused) acts said)
+said_held act (Unprinted ∷ acts) d new said leads none = absurd (All-head IsSaid Unprinted acts said)
+said_held act (Unwatched ∷ acts) d new said leads none = absurd (All-head IsSaid Unwatched acts said)
 
 -- ---- an act behind which no client can have stopped the desk
 
@@ -106,13 +126,16 @@ calm_turn (Rests look ∷ []) x y one calm leads = absurd (calm [] (Rests look) 
 calm_turn (Delivers batch ∷ []) x y one calm leads = absurd (calm [] (Delivers batch) refl)
 calm_turn (DeliverFails keys fault ∷ []) x y one calm leads = absurd (calm [] (DeliverFails keys fault) refl)
 calm_turn (FetchFails look batches keys fault ∷ []) x y one calm leads = absurd (calm [] (FetchFails look batches keys fault) refl)
+calm_turn (RestUnwatched look batches ∷ []) x y one calm leads = absurd (calm [] (RestUnwatched look batches) refl)
 calm_turn (Unprinted ∷ []) x y one calm leads = absurd (calm [] Unprinted refl)
+calm_turn (Unwatched ∷ []) x y one calm leads = absurd (calm [] Unwatched refl)
 calm_turn _ x y one calm leads = absurd one
 
--- it stands before a batch that is refused, and before lines that fail
+-- it stands before a batch that is refused, before lines that fail, and before what is done where the watch broke
 abbrev pub IsSecond : Act → Type 0
 IsSecond (DeliverFails keys fault) = Unit {0}
 IsSecond Unprinted = Unit {0}
+IsSecond Unwatched = Unit {0}
 IsSecond _ = ⊥
 
 pub record EndsCalm (acts : List Act) : Type 0 where
@@ -121,36 +144,80 @@ pub record EndsCalm (acts : List Act) : Type 0 where
   pub are : acts ≡ init ++ last ∷ []
   pub calm : IsCalm last
 
+-- these end with a batch that was taken, and delivered
+pub record EndsDelivered (acts : List Act) : Type 0 where
+  pub init : List Act
+  pub taken : Act
+  pub calm : IsCalm taken
+  pub batch : Batch
+  pub are : acts ≡ (init ++ taken ∷ []) ++ Delivers batch ∷ []
+
+-- what stands before such an act
+abbrev pub StandsBefore : Act → List Act → Type 0
+StandsBefore act xs = EndsCalm xs ⊎ ((act ≡ Unwatched) × EndsDelivered xs)
+
 not_second : (init xs : List Act) (a y : Act) → init ++ a ∷ [] ≡ xs ++ y ∷ [] → IsSecond y → IsSecond a
 not_second init xs a y is second = subst IsSecond (sym (snoc_same init xs a y is).1) second
 
 two_then : (init : List Act) (a b : Act) → (init ++ a ∷ []) ++ b ∷ [] ≡ init ++ a ∷ b ∷ []
 two_then init a b = append_assoc init (a ∷ []) (b ∷ [])
 
-thing_calm : (thing init xs : List Act) (y : Act) → IsOneThing thing → init ++ thing ≡ xs ++ y ∷ [] → IsSecond y → EndsCalm xs
-thing_calm (Takes look keys ∷ DeliverFails asked fault ∷ []) init xs y one is second = record {
+three_then : (init : List Act) (a b c : Act) → ((init ++ a ∷ []) ++ b ∷ []) ++ c ∷ [] ≡ init ++ a ∷ b ∷ c ∷ []
+three_then init a b c = ap (λ (xs : List Act). xs ++ c ∷ []) (two_then init a b) ∙ append_assoc init (a ∷ b ∷ []) (c ∷ [])
+
+-- the second of three acts, where it is calm
+second_calm : (init xs : List Act) (a b c y : Act) → IsCalm b → init ++ a ∷ b ∷ c ∷ [] ≡ xs ++ y ∷ [] → EndsCalm xs
+second_calm init xs a b c y calm is = record {
+  init = init ++ a ∷ [];
+  last = b;
+  are = sym (snoc_same ((init ++ a ∷ []) ++ b ∷ []) xs c y (three_then init a b c ∙ is)).0;
+  calm = calm;
+}
+
+thing_calm : (thing init xs : List Act) (y : Act) → IsOneThing thing → init ++ thing ≡ xs ++ y ∷ [] → IsSecond y → StandsBefore y xs
+thing_calm (Takes look keys ∷ DeliverFails asked fault ∷ []) init xs y one is second = inl (record {
   init = init;
   last = Takes look keys;
   are = sym (snoc_same (init ++ Takes look keys ∷ []) xs (DeliverFails asked fault) y (two_then init (Takes look keys) (DeliverFails asked fault) ∙ is)).0;
   calm = tt;
-}
-thing_calm (Closes look batches writes ∷ Publishes ended left told ∷ Unprinted ∷ []) init xs y one is second = record {
-  init = init ++ Closes look batches writes ∷ [];
-  last = Publishes ended left told;
-  are = sym (snoc_same (init ++ Closes look batches writes ∷ Publishes ended left told ∷ []) xs Unprinted y (append_assoc init (Closes look batches writes ∷ Publishes ended left told ∷ []) (Unprinted ∷ []) ∙ is)).0 ∙ sym (two_then init (Closes look batches writes) (Publishes ended left told));
-  calm = tt;
-}
+})
+thing_calm (Takes look keys ∷ Delivers batch ∷ Unwatched ∷ []) init xs y one is second =
+    let same = snoc_same ((init ++ Takes look keys ∷ []) ++ Delivers batch ∷ []) xs Unwatched y (three_then init (Takes look keys) (Delivers batch) Unwatched ∙ is) in
+    inr (sym same.1, record { init = init; taken = Takes look keys; calm = tt; batch = batch; are = sym same.0 })
+thing_calm (Closes look batches writes ∷ Publishes ended left told ∷ Unprinted ∷ []) init xs y one is second = inl (second_calm init xs (Closes look batches writes) (Publishes ended left told) Unprinted y tt is)
+thing_calm (Closes look batches writes ∷ Publishes ended left told ∷ Unwatched ∷ []) init xs y one is second = inl (second_calm init xs (Closes look batches writes) (Publishes ended left told) Unwatched y tt is)
 thing_calm (Halts fault ∷ []) init xs y one is second = absurd (not_second init xs (Halts fault) y is second)
 thing_calm (Rests look ∷ []) init xs y one is second = absurd (not_second init xs (Rests look) y is second)
 thing_calm (Takes look keys ∷ Delivers batch ∷ []) init xs y one is second = absurd (not_second (init ++ Takes look keys ∷ []) xs (Delivers batch) y (two_then init (Takes look keys) (Delivers batch) ∙ is) second)
 thing_calm (FetchFails look batches keys fault ∷ []) init xs y one is second = absurd (not_second init xs (FetchFails look batches keys fault) y is second)
+thing_calm (RestUnwatched look batches ∷ []) init xs y one is second = absurd (not_second init xs (RestUnwatched look batches) y is second)
 thing_calm (Closes look batches writes ∷ Publishes ended left told ∷ []) init xs y one is second =
     absurd (not_second (init ++ Closes look batches writes ∷ []) xs (Publishes ended left told) y (two_then init (Closes look batches writes) (Publishes ended left told) ∙ is) second)
 thing_calm (Closes look batches writes ∷ Refuses asked refused ∷ []) init xs y one is second =
     absurd (not_second (init ++ Closes look batches writes ∷ []) xs (Refuses asked refused) y (two_then init (Closes look batches writes) (Refuses asked refused) ∙ is) second)
 thing_calm _ init xs y one is second = absurd one
 
-pub before_second : (thing : List Act) (things : List (List Act)) (init xs : List Act) (y : Act) → All IsOneThing (thing ∷ things) → init ++ flat_map (λ (t : List Act). t) (thing ∷ things) ≡ xs ++ y ∷ [] → IsSecond y → EndsCalm xs
+pub before_second : (thing : List Act) (things : List (List Act)) (init xs : List Act) (y : Act) → All IsOneThing (thing ∷ things) → init ++ flat_map (λ (t : List Act). t) (thing ∷ things) ≡ xs ++ y ∷ [] → IsSecond y → StandsBefore y xs
 before_second thing [] init xs y each is second = thing_calm thing init xs y (All-head IsOneThing thing [] each) (ap (λ (zs : List Act). init ++ zs) (sym (append-nil thing)) ∙ is) second
 before_second thing (next ∷ things) init xs y each is second =
     before_second next things (init ++ thing) xs y (All-tail IsOneThing thing (next ∷ things) each) (append_assoc init thing (flat_map (λ (t : List Act). t) (next ∷ things)) ∙ is) second
+
+-- ---- a turn in which a batch was delivered
+
+abbrev pub IsDelivery : Act → Type 0
+IsDelivery (Delivers batch) = Unit {0}
+IsDelivery _ = ⊥
+
+pub delivers_turn : (these : List Act) → IsOneTurn these → EndsWith IsDelivery these → (batch : Batch) × (these ≡ Delivers batch ∷ [])
+delivers_turn (Delivers batch ∷ []) one ends = (batch, refl)
+delivers_turn (Halts fault ∷ []) one ends = absurd (ends [] (Halts fault) refl)
+delivers_turn (Rests look ∷ []) one ends = absurd (ends [] (Rests look) refl)
+delivers_turn (Takes look keys ∷ []) one ends = absurd (ends [] (Takes look keys) refl)
+delivers_turn (DeliverFails keys fault ∷ []) one ends = absurd (ends [] (DeliverFails keys fault) refl)
+delivers_turn (FetchFails look batches keys fault ∷ []) one ends = absurd (ends [] (FetchFails look batches keys fault) refl)
+delivers_turn (RestUnwatched look batches ∷ []) one ends = absurd (ends [] (RestUnwatched look batches) refl)
+delivers_turn (Closes look batches writes ∷ Publishes ended left told ∷ []) one ends = absurd (ends (Closes look batches writes ∷ []) (Publishes ended left told) refl)
+delivers_turn (Closes look batches writes ∷ Refuses asked refused ∷ []) one ends = absurd (ends (Closes look batches writes ∷ []) (Refuses asked refused) refl)
+delivers_turn (Unprinted ∷ []) one ends = absurd (ends [] Unprinted refl)
+delivers_turn (Unwatched ∷ []) one ends = absurd (ends [] Unwatched refl)
+delivers_turn _ one ends = absurd one

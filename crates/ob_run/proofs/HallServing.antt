@@ -2,7 +2,7 @@
 use Rattle.std.proofs.Common.{◌≡◌, ◌∙◌, ◌≤◌, ℕ, suc, false, All, List, [], ◌∷◌, map, length, Result, sym, ap, subst, arith}
 use Rattle.std.proofs.lemmas.List.{length-map}
 use Rattle.std.proofs.lemmas.List.Elements.{All-cons}
-use Rattle.ob_base.specs.declared.fault.Fault.{Fault}
+use Rattle.ob_conduct.specs.declared.run_err.RunErr.{RunErr}
 use Rattle.ob_base.specs.declared.params.Params.{Params}
 use Rattle.ob_serial.specs.Vaults.{VaultCounts}
 use Rattle.ob_serial.specs.VaultKinds.{Kind}
@@ -54,7 +54,7 @@ module _ {V U Plan : Type 0} (k : Kind V) (beat : BeatKind) (client bound : U �
       (subst (λ (us : List U). AreClients hall 0 (map client us) (passes_of cs)) (sym runners_are) (subst (AreClients hall 0 numbers) (sym passes_are) (are_clients hall numbers old.pass others passes)))
       (subst (All (λ q. IsReady hall q × IsBetween q)) (sym passes_are) (are_ready hall numbers old.pass others passes)) (subst (All (λ u. bound u ≤ p.keys)) (sym runners_are) below) (subst (All (λ u. fits u [])) (sym runners_are) none_made)
 
-  module _ (new : Side V) (next : VaultCounts) (ns : List (Pass × U)) (result : Result (Unit {0}) Fault) (each : Each (IsLater w hall) cs ns) (ends : ServeEnds k beat w hall starts old c cs new next ns result) where
+  module _ (new : Side V) (next : VaultCounts) (ns : List (Pass × U)) (result : Result (Unit {0}) RunErr) (each : Each (IsLater w hall) cs ns) (ends : ServeEnds k beat w hall starts old c cs new next ns result) where
     last_clients : All (IsClient w hall) ns
     last_clients = still_clients client bound plan fits turn hall cs ns clients each
 

@@ -17,5 +17,5 @@ own_calls opened d history at number new led named = (
 )
 
 pub failed_runs : {V : Type 0} (k : Kind V) → FailedRunsFail k
-failed_runs k beat hall old p counts new fault first r log d legal w =
-    failure k beat hall (side r.rung old.vault old.trace old.output) new counts fault r.fails.acts r.fails.fails r.fails.things _ d log first.fresh.own.opens (ap (λ (x : DeskState). x.running.epoch) first.opening) legal w
+failed_runs k beat hall old p counts new err first r log d legal w =
+    failure k beat hall (side r.rung old.vault old.trace old.output) new counts err r.fails.acts r.fails.fails r.fails.things _ d log first.fresh.own.opens (ap (λ (x : DeskState). x.running.epoch) first.opening) legal w

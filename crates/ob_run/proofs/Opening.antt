@@ -1,7 +1,7 @@
 -- A hall's passes, as they were made, and when they are handed back.
 use Rattle.std.proofs.Common.{◌≡◌, ◌∙◌, ℕ, suc, false, All, List, [], ◌∷◌, length, Ok, Err, Result, remove, slice_index_or, refl, sym, ap, ap₂, subst, inl, inr}
 use Rattle.ob_base.specs.declared.params.Params.{Params}
-use Rattle.ob_base.specs.declared.fault.Fault.{Fault}
+use Rattle.ob_conduct.specs.declared.run_err.RunErr.{RunErr}
 use Rattle.ob_serial.specs.Vaults.{VaultCounts}
 use Rattle.ob_serial.specs.VaultKinds.{Kind}
 use Rattle.ob_desk.specs.Desk.{new_desk}
@@ -58,9 +58,9 @@ module _ (hall : Hall) (numbers : List ℕ) (driver : Pass) (others : List Pass)
       count at (n ∷ ns) (p ∷ ps) (fresh, named, raises, rest) = ap suc (count (suc at) ns ps rest)
 
 -- the driver's pass is in no turn once its run has ended
-pub driver_back : {V U Plan : Type 0} (k : Kind V) (beat : BeatKind) (w : Words U Plan) (hall : Hall) (starts : ℕ) (p : Params) (old : Side V) (c : VaultCounts) (before : List (Pass × U)) (new : Side V) (next : VaultCounts) (after : List (Pass × U)) (result : Result (Unit {0}) Fault)
+pub driver_back : {V U Plan : Type 0} (k : Kind V) (beat : BeatKind) (w : Words U Plan) (hall : Hall) (starts : ℕ) (p : Params) (old : Side V) (c : VaultCounts) (before : List (Pass × U)) (new : Side V) (next : VaultCounts) (after : List (Pass × U)) (result : Result (Unit {0}) RunErr)
     → IsFirstPass hall old.pass p c → ServeEnds k beat w hall starts old c before new next after result → IsPassOf hall new.pass × IsOutOfTurn new.pass
 driver_back k beat w hall starts p old c before new next after (Ok done) first r = (r.done.done.rests.at.driver.own, r.done.done.rests.idle)
-driver_back k beat w hall starts p old c before new next after (Err fault) first (inl none) =
+driver_back k beat w hall starts p old c before new next after (Err err) first (inl none) =
     (subst (λ (s : Side _). IsPassOf hall s.pass) (sym none.0.1) first.fresh.own, subst (λ (s : Side _). IsOutOfTurn s.pass) (sym none.0.1) first.fresh.idle)
-driver_back k beat w hall starts p old c before new next after (Err fault) first (inr r) = (r.fails.fails.own, r.fails.fails.idle)
+driver_back k beat w hall starts p old c before new next after (Err err) first (inr r) = (r.fails.fails.own, r.fails.fails.idle)

@@ -1,5 +1,5 @@
 -- A whole history whose driver saw a desk that was over.
-use Rattle.std.proofs.Common.{◌≡◌, ◌∙◌, ℕ, All, List, ◌++◌, refl, sym, ap, subst, decimal}
+use Rattle.std.proofs.Common.{◌≡◌, ◌∙◌, ℕ, false, All, List, ◌++◌, refl, sym, ap, subst, decimal}
 use Rattle.ob_base.specs.declared.params.Params.{Params}
 use Rattle.ob_report.specs.Report.{report}
 use Rattle.ob_serial.specs.Serial.{EpochRecord}
@@ -39,7 +39,7 @@ still_over opened over d seen rest fresh legal so_far is_over driven mild quiet 
 
 pub over_runs : {V : Type 0} (k : Kind V) (beat : BeatKind) (hall : Hall) (old : Side V) (c : VaultCounts) (new : Side V) (next : VaultCounts) (r : RunsOut k beat hall AnyActs old c new next) (log : List (Entry Steps)) (raised : List ℕ) (d : DeskState) →
     HasPass log raised new.pass → IsLegal hall log d
-    → AreQuiet (opening_of hall) log → (w : Woven k beat (opening_of hall) d log old.vault new.vault r.done.acts) → AreAnswered (calls w.acts) × IsOver d × IsWritten (report decimal (records w.acts)) old.output new.output
+    → AreQuiet (opening_of hall) log → (w : Woven k beat (opening_of hall) d log old.vault new.vault r.done.acts) → AreAnswered (calls w.acts) × IsOver d × IsWritten (report decimal (records w.acts)) old.output new.output × (new.trace.broken ≡ false)
 over_runs k beat hall old c new next r log raised d has legal quiet w =
     let done = r.done.done in
     let driver = done.rests.at.driver in
@@ -52,4 +52,5 @@ over_runs k beat hall old c new next r log raised d has legal quiet w =
       still_over (opening_of hall) r.over.desk d (history_of new.pass) rest driver.own.opens (subst (λ (es : List (Entry Steps)). LeadsByTurns IsTurn (opening_of hall) es d) (sym is) legal) r.over.legal r.over.over (ap (entries_of 0) is ∙ (own ∙ sym seen_own)) mild
           (subst (AreQuiet (opening_of hall)) (sym is) quiet),
       subst (λ (rs : List (EpochRecord ℕ)). IsWritten (report decimal rs) old.output new.output) (sym w.records_are) done.written,
+      done.whole,
     )

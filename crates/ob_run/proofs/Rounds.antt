@@ -4,7 +4,7 @@ use Rattle.std.proofs.lemmas.Option.{none-some, same_Some}
 use Rattle.std.proofs.lemmas.List.Elements.{All-nil, All-cons, All-head, All-tail, All-append, All-weaker}
 use Rattle.ob_turn.specs.declared.turn.Entry.{Entry}
 use Rattle.ob_hall.specs.Passes.{Steps, calls_in}
-use Rattle.ob_conduct.specs.Acts.{Act, Says, Halts, Rests, Takes, Delivers, DeliverFails, FetchFails, Closes, Publishes, Refuses, Unprinted}
+use Rattle.ob_conduct.specs.Acts.{Act, Says, Halts, Rests, Takes, Delivers, DeliverFails, FetchFails, RestUnwatched, Closes, Publishes, Refuses, Unprinted, Unwatched}
 use Rattle.ob_conduct.specs.Rounds.{AreDriven, AreTurns, IsOneThing, acts_of, InRounds}
 use Rattle.ob_driver.specs.Turning.{IsOneTurn, AreActs}
 use Rattle.ob_driver.specs.Places.{StandIn}
@@ -29,10 +29,12 @@ module _ (hand : List ℕ) where
   without_driven (Delivers batch ∷ acts) more are = ap (λ (l : List Act). Delivers batch ∷ l) (without_driven acts more are)
   without_driven (DeliverFails keys fault ∷ acts) more are = ap (λ (l : List Act). DeliverFails keys fault ∷ l) (without_driven acts more are)
   without_driven (FetchFails look batches keys fault ∷ acts) more are = ap (λ (l : List Act). FetchFails look batches keys fault ∷ l) (without_driven acts more are)
+  without_driven (RestUnwatched look batches ∷ acts) more are = ap (λ (l : List Act). RestUnwatched look batches ∷ l) (without_driven acts more are)
   without_driven (Closes look batches writes ∷ acts) more are = ap (λ (l : List Act). Closes look batches writes ∷ l) (without_driven acts more are)
   without_driven (Publishes writes left told ∷ acts) more are = ap (λ (l : List Act). Publishes writes left told ∷ l) (without_driven acts more are)
   without_driven (Refuses writes refused ∷ acts) more are = ap (λ (l : List Act). Refuses writes refused ∷ l) (without_driven acts more are)
   without_driven (Unprinted ∷ acts) more are = ap (λ (l : List Act). Unprinted ∷ l) (without_driven acts more are)
+  without_driven (Unwatched ∷ acts) more are = ap (λ (l : List Act). Unwatched ∷ l) (without_driven acts more are)
 
   -- and so do those of a client by hand, but for those of another
   without_said : (client : ℕ) (steps : Steps) (more : List Act) (b : Bool) → is_by_hand hand client ≡ b → without_others hand (Says client steps ∷ more) ≡ (if b then Says client steps ∷ without_others hand more else without_others hand more)
@@ -114,9 +116,11 @@ begins_turn (Takes look keys ∷ []) one = record { first = Takes look keys; res
 begins_turn (Delivers batch ∷ []) one = record { first = Delivers batch; rest = []; are = refl; long = refl }
 begins_turn (DeliverFails keys fault ∷ []) one = record { first = DeliverFails keys fault; rest = []; are = refl; long = refl }
 begins_turn (FetchFails look batches keys fault ∷ []) one = record { first = FetchFails look batches keys fault; rest = []; are = refl; long = refl }
+begins_turn (RestUnwatched look batches ∷ []) one = record { first = RestUnwatched look batches; rest = []; are = refl; long = refl }
 begins_turn (Closes look batches writes ∷ Publishes ended left told ∷ []) one = record { first = Closes look batches writes; rest = Publishes ended left told ∷ []; are = refl; long = refl }
 begins_turn (Closes look batches writes ∷ Refuses asked refused ∷ []) one = record { first = Closes look batches writes; rest = Refuses asked refused ∷ []; are = refl; long = refl }
 begins_turn (Unprinted ∷ []) one = record { first = Unprinted; rest = []; are = refl; long = refl }
+begins_turn (Unwatched ∷ []) one = record { first = Unwatched; rest = []; are = refl; long = refl }
 begins_turn _ one = absurd one
 
 same_first : (x y : Act) (xs ys : List Act) → ◌≡◌ {A = List Act} (x ∷ xs) (y ∷ ys) → x ≡ y

@@ -2,7 +2,8 @@
 use Rattle.std.proofs.Common.{◌≡◌, ◌∙◌, ℕ, zero, suc, Bool, true, false, All, List, [], ◌∷◌, ◌++◌, length, map, take, drop, Result, Err, refl, sym, ap, subst, inl}
 use Rattle.std.proofs.lemmas.List.{length-map}
 use Rattle.std.proofs.lemmas.List.Elements.{All-nil, All-weaker}
-use Rattle.ob_base.specs.declared.fault.Fault.{Fault}
+use Rattle.ob_conduct.specs.declared.run_err.RunErr.{RunErr}
+use Rattle.ob_conduct.specs.declared.run_err.RunErr.TheVariants as failed
 use Rattle.ob_base.specs.declared.fault.Fault.TheVariants.{Memory}
 use Rattle.ob_base.specs.declared.params.Params.{Params}
 use Rattle.ob_serial.specs.VaultKinds.{Kind}
@@ -20,7 +21,7 @@ use Rattle.ob_session.specs.declared.runner.Step.TheVariants.{Done}
 use Rattle.ob_run.specs.Threaded.{is_by_hand, IsSublist, OthersSignedOff, HandRounds, AreThreaded, InThreads, RunsBy, AreShaped}
 use Rattle.ob_run.proofs.Rounds.{all_among}
 
-pub runs_shaped : {V U Plan : Type 0} (threads : Bool) (k : Kind V) (kind : RunnerKind U Plan) (beat : BeatKind) (old new : RunState V U) (result : Result (Unit {0}) Fault) → RunsBy threads k kind beat old new result
+pub runs_shaped : {V U Plan : Type 0} (threads : Bool) (k : Kind V) (kind : RunnerKind U Plan) (beat : BeatKind) (old new : RunState V U) (result : Result (Unit {0}) RunErr) → RunsBy threads k kind beat old new result
     → (acts : List Act) × Conducted k kind beat old new acts result × AreShaped threads (map kind.client old.runners) acts
 runs_shaped true k kind beat old new result run = let (acts, d, threaded) = run in (acts, d, subst (λ n. AreThreaded n (map kind.client old.runners) acts) (sym (length-map old.runners kind.client)) threaded)
 runs_shaped false k kind beat old new result run = run
@@ -48,15 +49,15 @@ no_rounds starts clients = record {
 }
 
 module _ {V U Plan : Type 0} (k : Kind V) (kind : RunnerKind U Plan) (p : Params) (beat : BeatKind) (old : RunState V U) (setup : Setup) (epoch left : ℕ) (clients : List ℕ) (fresh : old.scene.desk ≡ new_desk setup epoch left clients) where
-  pub idle : (starts : ℕ) → All (λ u. kind.fits u []) old.runners → InThreads starts k kind beat old old (Err Memory)
+  pub idle : (starts : ℕ) → All (λ u. kind.fits u []) old.runners → InThreads starts k kind beat old old (Err (failed.Fault Memory))
   idle starts none = (
     [],
-    finish k kind p beat old setup epoch left clients fresh [] old old.scene.desk.running.epoch (Err Memory) (All-nil _) (moves_none k old.scene) (tells_none old.scene.desk.running.epoch old.scene.desk.running.epoch refl)
+    finish k kind p beat old setup epoch left clients fresh [] old old.scene.desk.running.epoch (Err (failed.Fault Memory)) (All-nil _) (moves_none k old.scene) (tells_none old.scene.desk.running.epoch old.scene.desk.running.epoch refl)
         (printed_whole [] old.output old.output (written_none old.output)) none tt refl refl refl (inl (record { fault_is = refl; none = refl; silent = refl })),
     record { things = record { things = []; acts_are = refl; each = All-nil IsOneThing }; kept = tt; by_hand = no_rounds starts (map kind.client old.runners) },
   )
 
 pub short_by : {V U Plan : Type 0} (threads : Bool) (k : Kind V) (kind : RunnerKind U Plan) (p : Params) (beat : BeatKind) (old : RunState V U) (setup : Setup) (epoch left : ℕ) (clients : List ℕ)
-    → old.scene.desk ≡ new_desk setup epoch left clients → All (λ u. kind.fits u []) old.runners → RunsBy threads k kind beat old old (Err Memory)
+    → old.scene.desk ≡ new_desk setup epoch left clients → All (λ u. kind.fits u []) old.runners → RunsBy threads k kind beat old old (Err (failed.Fault Memory))
 short_by true k kind p beat old setup epoch left clients fresh none = idle k kind p beat old setup epoch left clients fresh (length old.runners) none
 short_by false k kind p beat old setup epoch left clients fresh none = done_short k kind p beat old setup epoch left clients fresh none

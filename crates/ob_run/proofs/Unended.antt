@@ -1,9 +1,9 @@
 -- The epoch that is closed behind a front of the acts, and whose end was refused or left in doubt.
-use Rattle.std.proofs.Common.{◌≡◌, ◌∙◌, ◌+◌, ℕ, ◌==◌, Bool, true, false, if◌then◌else◌, All, List, [], ◌∷◌, ◌++◌, length, Option, None, Some, Err, refl, sym, ap, ap₂, subst, arith, append-nil, append_assoc, nat_cmp}
+use Rattle.std.proofs.Common.{◌≡◌, ◌∙◌, ◌+◌, ℕ, ◌==◌, Bool, true, false, if◌then◌else◌, All, List, [], ◌∷◌, ◌++◌, length, Option, None, Err, refl, sym, ap, ap₂, subst, append-nil, append_assoc, nat_cmp}
 use Rattle.std.proofs.lemmas.List.Elements.{All-nil, All-cons, All-head, All-tail, All-append}
 use Rattle.ob_base.specs.declared.params.Params.{Params}
 use Rattle.ob_store.specs.declared.watch.Note.{Note}
-use Rattle.ob_store.specs.Lines.{Trace, lines_of, AddsLines, BreaksOnly, Shows}
+use Rattle.ob_store.specs.Lines.{Trace}
 use Rattle.ob_serial.specs.Serial.{Map, EpochRecord}
 use Rattle.ob_serial.specs.Vaults.{VaultCall, VaultAnswer, End}
 use Rattle.ob_serial.specs.VaultViews.{IsEndFault, end_answer}
@@ -30,7 +30,7 @@ use Rattle.ob_conduct.specs.Moves.{IsUnended}
 use Rattle.ob_conduct.proofs.Behind.{leads_split}
 use Rattle.ob_conduct.proofs.Fit.{fit_taken, fit_delivered, fit_closing}
 use Rattle.ob_conduct.proofs.Writes.{batch_makes, record_ordered}
-use Rattle.ob_conduct.proofs.Moving.{run_join}
+use Rattle.ob_conduct.proofs.Moving.{run_join, called, all_shown}
 use Rattle.ob_conduct.proofs.Going.{history_append, calls_append as vault_append, published_append}
 use Rattle.ob_driver.specs.Resting.{IsMild}
 use Rattle.ob_driver.proofs.Sound.{IsSound, history_sound}
@@ -39,29 +39,6 @@ use Rattle.ob_run.proofs.Chains.{noted_split, IsPlain, plain_run, plain_more, pl
 use Rattle.ob_run.proofs.MapServing.{Serves}
 use Rattle.ob_run.proofs.Entries.{serves}
 use Rattle.ob_run.proofs.Stops.{was_calm, told_so_far}
-
--- ---- a trace that shows notes
-
-breaks_same : (b : Bool) (n : ℕ) → BreaksOnly b b n n
-breaks_same true n = tt
-breaks_same false n = tt
-
-abbrev added : List ℕ → Bool → Option (List ℕ) → Option (List ℕ)
-added lines b None = None
-added lines true (Some was) = Some was
-added lines false (Some was) = Some (was ++ lines)
-
-adds_same : (lines : List ℕ) (b : Bool) (o : Option (List ℕ)) → AddsLines lines b b o (added lines b o)
-adds_same lines true None = tt
-adds_same lines false None = tt
-adds_same lines true (Some was) = refl
-adds_same lines false (Some was) = refl
-
-can_show : (notes : List Note) (t : Trace) → (u : Trace) × Shows notes t u
-can_show notes t = (
-  record { written = added (lines_of notes) t.broken t.written; broken = t.broken; faults = t.faults; anchors = t.anchors },
-  record { anchors = refl; faults = omega arith; breaks = breaks_same t.broken t.faults; lines = adds_same (lines_of notes) t.broken t.written },
-)
 
 -- ---- the desk at the close
 
@@ -119,13 +96,14 @@ closes_plain m look batches writes rest =
     (plain_more m desk.Looks (desk.Seen look) (rest_calls batches ++ close_calls writes) (tt, λ d. refl)
     (All-append (IsPlain m) (rest_calls batches) (close_calls writes) rest (plain_one m desk.Close (desk.Writes writes) (tt, λ d. refl))))
 
-module _ {V : Type 0} (k : Kind V) (opened x y : DeskState) (before : List (Entry Steps)) (earlier front : List Act) (old new : V) (trace : Trace) (notes : List Note) (look : Look) (batches : List Batch) (writes asked : List (ℕ × Option (List ℕ))) (refused : EndErr) where
+module _ {V : Type 0} (k : Kind V) (opened x y : DeskState) (before : List (Entry Steps)) (earlier front : List Act) (old new : V) (trace after : Trace) (notes : List Note) (look : Look) (batches : List Batch) (writes asked : List (ℕ × Option (List ℕ))) (refused : EndErr) where
   -- the vault's calls up to there
   asks_is : calls (earlier ++ (Closes look batches writes ∷ Refuses asked refused ∷ [])) ≡ (calls earlier ++ rest_fetches batches) ++ (End asked, end_answer (Err refused)) ∷ []
   asks_is = vault_append earlier (Closes look batches writes ∷ Refuses asked refused ∷ []) ∙ sym (append_assoc (calls earlier) (rest_fetches batches) ((End asked, end_answer (Err refused)) ∷ []))
 
   pub unended : IsNew opened → LeadsByTurns IsTurn opened before x → AreWoven (client_numbers opened) before earlier front → Leads opened (history front) x → Leads x (history (Closes look batches writes ∷ Refuses asked refused ∷ [])) y
-      → AllNoted k old (calls (earlier ++ (Closes look batches writes ∷ Refuses asked refused ∷ []))) notes new → calls front ≡ calls earlier → asked ≡ writes → (next : ℕ) → next ≡ opened.running.epoch + length (records (front ++ Closes look batches writes ∷ [])) → IsEndFault next refused
+      → AllNoted k old trace (calls (earlier ++ (Closes look batches writes ∷ Refuses asked refused ∷ []))) notes new after → calls front ≡ calls earlier
+      → asked ≡ writes → (next : ℕ) → next ≡ opened.running.epoch + length (records (front ++ Closes look batches writes ∷ [])) → IsEndFault next refused
       → IsUnended k (scene opened old trace) (front ++ Closes look batches writes ∷ []) asked refused
   unended fresh legal woven first its chain front_calls same next next_is is_fault =
       let (mid, shuts, stops) = leads_split x (desk_calls (Closes look batches writes)) (history (Refuses asked refused ∷ [])) y its in
@@ -142,19 +120,19 @@ module _ {V : Type 0} (k : Kind V) (opened x y : DeskState) (before : List (Entr
       ∙ ap (λ (rs : List (EpochRecord ℕ)). opened.running.epoch + length rs) (sym (told_is front look batches writes)) in
       let setup : at.setup.params ≡ opened.setup.params = ap (λ s. s.params) (setup_run opened (history front ++ (look_calls look ++ rest_calls batches)) at up_to) in
       let due : IsDueRecord at.running.epoch asked (record_of (closing at.running)) = subst (λ (ws : List (ℕ × Option (List ℕ))). IsDueRecord at.running.epoch ws (record_of (closing at.running))) (sym same) (due_of opened.setup.params at there writes setup fit e) in
-      let (v, begun, ended, fetched, last) = noted_split k old (calls earlier ++ rest_fetches batches) ((End asked, end_answer (Err refused)) ∷ []) notes new (subst (λ (xs : List (VaultCall × VaultAnswer)). AllNoted k old xs notes new) asks_is chain) in
-      let (u, some, others, early, late) = noted_split k old (calls earlier) (rest_fetches batches) begun v fetched in
-      let shown = can_show begun trace in
+      let (v, told, begun, ended, fetched, last) = noted_split k old trace (calls earlier ++ rest_fetches batches) ((End asked, end_answer (Err refused)) ∷ []) notes new after
+      (subst (λ (xs : List (VaultCall × VaultAnswer)). AllNoted k old trace xs notes new after) asks_is chain) in
+      let (u, said, some, others, early, late) = noted_split k old trace (calls earlier) (rest_fetches batches) begun v told fetched in
       record {
-        mid = scene mid v shown.0;
+        mid = scene mid v told;
         moves = record {
           leads = subst (λ (s : Steps). Leads opened s mid) (sym (front_is front look batches writes)) (leads_join opened (history front) x (desk_calls (Closes look batches writes)) mid first shuts);
           notes = begun;
-          chain = subst (λ (xs : List (VaultCall × VaultAnswer)). AllNoted k old xs begun v) (sym (vault_append front (Closes look batches writes ∷ []) ∙ ap₂ (λ (xs ys : List (VaultCall × VaultAnswer)). xs ++ ys) front_calls (append-nil (rest_fetches batches)))) fetched;
-          shown = shown.1;
+          chain = subst (λ (xs : List (VaultCall × VaultAnswer)). AllNoted k old trace xs begun v told) (sym (vault_append front (Closes look batches writes ∷ []) ∙ ap₂ (λ (xs ys : List (VaultCall × VaultAnswer)). xs ++ ys) front_calls (append-nil (rest_fetches batches)))) fetched;
+          shown = all_shown k old trace (calls earlier ++ rest_fetches batches) begun v told fetched;
           run = λ m held.
-              let s : Serves k m opened (history front) x u = serves k (client_numbers opened) before opened x old u some m earlier front refl legal woven early held in
-              let (rest, later) = rest_plain k s.next batches u v others late s.holds in (
+              let s : Serves k m opened (history front) x u = serves k (client_numbers opened) before opened x old u m earlier front refl legal woven (called k old trace (calls earlier) some u said early) held in
+              let (rest, later) = rest_plain k s.next batches u v (called k u said (rest_fetches batches) others v told late) s.holds in (
                 s.next,
                 subst (λ (steps : Steps). Run m opened steps s.next mid) (sym (front_is front look batches writes))
                     (run_join m opened (history front) s.next x (desk_calls (Closes look batches writes)) s.next mid s.run (plain_run s.next x (desk_calls (Closes look batches writes)) mid (closes_plain s.next look batches writes rest) shuts)),

@@ -2,7 +2,6 @@
 use Rattle.std.proofs.Common.{◌≡◌, ◌∙◌, ℕ, suc, All, List, [], ◌∷◌, ◌++◌, map, slice_get, Some, Ok, Err, Result, drop, false, sym, ap, subst, inl, inr, decimal}
 use Rattle.std.proofs.lemmas.List.Elements.{All-head, All-tail}
 use Rattle.ob_base.specs.declared.params.Params.{Params}
-use Rattle.ob_base.specs.declared.fault.Fault.{Fault}
 use Rattle.ob_base.specs.declared.fault.Fault.TheVariants.{Memory}
 use Rattle.ob_io.specs.Streams.{Flow}
 use Rattle.ob_report.specs.Printed.{IsPrinted}
@@ -24,7 +23,9 @@ use Rattle.ob_hall.specs.Closing.{HasPass, IsWholeHistory}
 use Rattle.ob_hall.specs.Driving.{StepRule}
 use Rattle.ob_hall.specs.Laws.{AreOwnCalls}
 use Rattle.ob_hall.proofs.Agreeing.{numbers_rise}
-use Rattle.ob_conduct.specs.Acts.{Act, Says, Halts, Rests, Takes, Delivers, DeliverFails, FetchFails, Closes, Publishes, Refuses, Unprinted, history, calls, records}
+use Rattle.ob_conduct.specs.declared.run_err.RunErr.{RunErr}
+use Rattle.ob_conduct.specs.declared.run_err.RunErr.TheVariants as failed
+use Rattle.ob_conduct.specs.Acts.{Act, Says, Halts, Rests, Takes, Delivers, DeliverFails, FetchFails, RestUnwatched, Closes, Publishes, Refuses, Unprinted, Unwatched, history, calls, records}
 use Rattle.ob_conduct.specs.Scenes.{scene, RunState, run_state, RunnerKind, runner_kind, seat_of, AllNoted}
 use Rattle.ob_conduct.specs.Records.{contents}
 use Rattle.ob_conduct.specs.Rounds.{InRounds}
@@ -33,6 +34,7 @@ use Rattle.ob_conduct.specs.Moves.{Moves, AreLines}
 use Rattle.ob_conduct.specs.Conducted.{RunEnds}
 use Rattle.ob_conduct.proofs.Acting.{printed_whole, one_text}
 use Rattle.ob_conduct.proofs.Going.{printed_then}
+use Rattle.ob_conduct.proofs.Moving.{called}
 use Rattle.ob_conduct.proofs.Conducting.{finish}
 use Rattle.ob_driver.specs.Driven.{Side, side, Acts}
 use Rattle.ob_driver.specs.Drives.{AreThings, IsFirstPass, RunsOut, RunFails, IsNotBegun}
@@ -58,6 +60,7 @@ lines_printed : (act : Act) (told : List (EpochRecord ℕ)) (before after : Flow
 lines_printed Unprinted told before after cut =
     subst (λ (rs : List (EpochRecord ℕ)). IsPrinted before after (report decimal rs)) (sym cut.told_are)
     (printed_then cut.whole (cut.last ∷ []) before cut.mid after cut.written (subst (IsPrinted cut.mid after) (one_text cut.last) cut.printed))
+lines_printed Unwatched told before after lines = printed_whole (report decimal told) before after lines
 lines_printed (Says client steps) told before after lines = printed_whole (report decimal told) before after lines
 lines_printed (Halts fault) told before after lines = printed_whole (report decimal told) before after lines
 lines_printed (Rests look) told before after lines = printed_whole (report decimal told) before after lines
@@ -65,6 +68,7 @@ lines_printed (Takes look keys) told before after lines = printed_whole (report 
 lines_printed (Delivers batch) told before after lines = printed_whole (report decimal told) before after lines
 lines_printed (DeliverFails keys fault) told before after lines = printed_whole (report decimal told) before after lines
 lines_printed (FetchFails look batches keys fault) told before after lines = printed_whole (report decimal told) before after lines
+lines_printed (RestUnwatched look batches) told before after lines = printed_whole (report decimal told) before after lines
 lines_printed (Closes look batches writes) told before after lines = printed_whole (report decimal told) before after lines
 lines_printed (Publishes writes left published) told before after lines = printed_whole (report decimal told) before after lines
 lines_printed (Refuses writes refused) told before after lines = printed_whole (report decimal told) before after lines
@@ -126,13 +130,14 @@ module _ {V U Plan : Type 0} (k : Kind V) (beat : BeatKind) (client bound : U �
             ap (λ n. entries_of n log) (sym place) ∙ (drivers.own ∙ (a.made ∙ ap (λ (es : List (Entry Steps)). es ++ a.turns) none))
 
         pub woven : Woven k beat (opening_of hall) d log old.vault new.vault acts
-        woven = weave beat (opening_of hall) d log old.vault new.vault acts a.notes new_opening whole.legal (subst (λ (es : List (Entry Steps)). AreActs es acts) (sym turns_are) a.are) a.allowed a.chain
+        woven = weave beat (opening_of hall) d log old.vault new.vault acts new_opening whole.legal (subst (λ (es : List (Entry Steps)). AreActs es acts) (sym turns_are) a.are) a.allowed
+            (called k old.vault old.trace (calls acts) a.notes new.vault new.trace a.chain)
 
         moves : Moves k begin.scene (history woven.acts) (calls woven.acts) end.scene
         moves = record {
           leads = woven.leads;
           notes = a.notes;
-          chain = subst (λ (asked : List (VaultCall × VaultAnswer)). AllNoted k old.vault asked a.notes new.vault) (sym woven.calls_are) a.chain;
+          chain = subst (λ (asked : List (VaultCall × VaultAnswer)). AllNoted k old.vault old.trace asked a.notes new.vault new.trace) (sym woven.calls_are) a.chain;
           shown = a.shown;
           run = λ m held. (contents m (records woven.acts), (woven.serial m held).0, (woven.serial m held).1);
         }
@@ -166,7 +171,7 @@ module _ {V U Plan : Type 0} (k : Kind V) (beat : BeatKind) (client bound : U �
                     (subst (λ (l : List ℕ). OthersSignedOff l (map client (runners_of cs)) woven.acts) hands.are off);
               })
 
-        run_is : (next : ℕ) (result : Result (Unit {0}) Fault) → AreThings acts → AreBack w hall starts cs ns old.pass new.pass acts → TellsEpochs (suc c.epoch) next (ended_of (calls acts)) (records acts) → IsPrinted old.output new.output (report decimal (records acts))
+        run_is : (next : ℕ) (result : Result (Unit {0}) RunErr) → AreThings acts → AreBack w hall starts cs ns old.pass new.pass acts → TellsEpochs (suc c.epoch) next (ended_of (calls acts)) (records acts) → IsPrinted old.output new.output (report decimal (records acts))
             → RunEnds k begin end woven.acts result → InThreads starts k kind beat begin end result
         run_is next result things back told printed ends = (
           woven.acts,
@@ -193,31 +198,31 @@ module _ {V U Plan : Type 0} (k : Kind V) (beat : BeatKind) (client bound : U �
       runs_out quiet over next done r = run_is r.rung r.found r.done.acts r.done.done.acts_are (suc next.epoch) (Ok done) r.done.things r.done.also r.done.done.told (printed_whole (report decimal (records r.done.acts)) old.output new.output r.done.done.written)
           (over beat hall old c new next (record { rung = r.rung; found = r.found; done = record { acts = r.done.acts; things = r.done.things; also = tt; done = r.done.done }; over = r.over }) log raised d drivers whole.legal (quiet_all quiet) (woven r.rung r.found r.done.acts r.done.done.acts_are))
 
-      pub run_fails : FailedRunsFail k → (fault : Fault) → RunFails k beat hall (AreBack w hall starts cs ns old.pass new.pass) old c new fault → InThreads starts k kind beat begin end (Err fault)
-      run_fails fails fault r =
+      pub run_fails : FailedRunsFail k → (err : RunErr) → RunFails k beat hall (AreBack w hall starts cs ns old.pass new.pass) old c new err → InThreads starts k kind beat begin end (Err err)
+      run_fails fails err r =
           let f = r.fails.fails in
-          run_is r.rung r.found r.fails.acts f.acts_are f.next (Err fault) r.fails.things r.fails.also f.told (lines_printed f.last (records r.fails.acts) old.output new.output f.lines)
-          (inr (fails beat hall old p c new fault first (record { rung = r.rung; found = r.found; fails = record { acts = r.fails.acts; things = r.fails.things; also = tt; fails = f } }) log d whole.legal (woven r.rung r.found r.fails.acts f.acts_are)))
+          run_is r.rung r.found r.fails.acts f.acts_are f.next (Err err) r.fails.things r.fails.also f.told (lines_printed f.last (records r.fails.acts) old.output new.output f.lines)
+          (inr (fails beat hall old p c new err first (record { rung = r.rung; found = r.found; fails = record { acts = r.fails.acts; things = r.fails.things; also = tt; fails = f } }) log d whole.legal (woven r.rung r.found r.fails.acts f.acts_are)))
 
-    pub not_begun : (old new : Side V) (cs : List (Pass × U)) (d : DeskState) (starts : ℕ) (fault : Fault) → All (λ u. fits u []) (runners_of cs) → d ≡ opening_of hall → IsNotBegun old new fault
-        → InThreads starts k kind beat (run_state (scene (opening_of hall) old.vault old.trace) (runners_of cs) old.output) (run_state (scene d new.vault new.trace) (runners_of cs) new.output) (Err fault)
-    not_begun old new cs d starts fault none desk_is (fault_is, same) =
+    pub not_begun : (old new : Side V) (cs : List (Pass × U)) (d : DeskState) (starts : ℕ) (err : RunErr) → All (λ u. fits u []) (runners_of cs) → d ≡ opening_of hall → IsNotBegun old new err
+        → InThreads starts k kind beat (run_state (scene (opening_of hall) old.vault old.trace) (runners_of cs) old.output) (run_state (scene d new.vault new.trace) (runners_of cs) new.output) (Err err)
+    not_begun old new cs d starts err none desk_is (fault_is, same) =
         let begin = run_state (scene (opening_of hall) old.vault old.trace) (runners_of cs) old.output in
-        subst (λ (f : Fault). InThreads starts k kind beat begin (run_state (scene d new.vault new.trace) (runners_of cs) new.output) (Err f)) (sym fault_is)
-        (subst (λ (s : Side V). InThreads starts k kind beat begin (run_state (scene d s.vault s.trace) (runners_of cs) s.output) (Err Memory)) (sym same)
-        (subst (λ (x : DeskState). InThreads starts k kind beat begin (run_state (scene x old.vault old.trace) (runners_of cs) old.output) (Err Memory)) (sym desk_is) (idle k kind p beat begin (record { params = p }) (suc c.epoch) c.left numbers opening starts none)))
+        subst (λ (f : RunErr). InThreads starts k kind beat begin (run_state (scene d new.vault new.trace) (runners_of cs) new.output) (Err f)) (sym fault_is)
+        (subst (λ (s : Side V). InThreads starts k kind beat begin (run_state (scene d s.vault s.trace) (runners_of cs) s.output) (Err (failed.Fault Memory))) (sym same)
+        (subst (λ (x : DeskState). InThreads starts k kind beat begin (run_state (scene x old.vault old.trace) (runners_of cs) old.output) (Err (failed.Fault Memory))) (sym desk_is) (idle k kind p beat begin (record { params = p }) (suc c.epoch) c.left numbers opening starts none)))
 
     -- where it was served
-    pub served : (old new : Side V) (cs ns : List (Pass × U)) (d : DeskState) (starts : ℕ) (next : VaultCounts) (result : Result (Unit {0}) Fault) → IsFirstPass hall old.pass p c → ArePasses hall numbers (old.pass ∷ passes_of cs) → All (IsClient w hall) cs
+    pub served : (old new : Side V) (cs ns : List (Pass × U)) (d : DeskState) (starts : ℕ) (next : VaultCounts) (result : Result (Unit {0}) RunErr) → IsFirstPass hall old.pass p c → ArePasses hall numbers (old.pass ∷ passes_of cs) → All (IsClient w hall) cs
         → Each (IsLater w hall) cs ns → IsWholeHistory hall (new.pass ∷ passes_of ns) d → All (λ u. fits u []) (runners_of cs) → IsQuiet turn → OverRunsEndOver k → FailedRunsFail k → IdleHallsHaveNone
         → ServeEnds k beat w hall starts old c cs new next ns result
         → InThreads starts k kind beat (run_state (scene (opening_of hall) old.vault old.trace) (runners_of cs) old.output) (run_state (scene d new.vault new.trace) (runners_of ns) new.output) result
     served old new cs ns d starts next (Ok done) first passes clients each whole none quiet over fails have r =
         runs_out old new cs ns d starts first (are_clients hall numbers old.pass (passes_of cs) passes) clients each whole quiet over next done r
-    served old new cs ns d starts next (Err fault) first passes clients each whole none quiet over fails have (inr r) =
-        run_fails old new cs ns d starts first (are_clients hall numbers old.pass (passes_of cs) passes) clients each whole fails fault r
-    served old new cs ns d starts next (Err fault) first passes clients each whole none quiet over fails have (inl (begun, same)) =
-        subst (λ (l : List (Pass × U)). InThreads starts k kind beat (run_state (scene (opening_of hall) old.vault old.trace) (runners_of cs) old.output) (run_state (scene d new.vault new.trace) (runners_of l) new.output) (Err fault)) (sym same)
-        (not_begun old new cs d starts fault none
+    served old new cs ns d starts next (Err err) first passes clients each whole none quiet over fails have (inr r) =
+        run_fails old new cs ns d starts first (are_clients hall numbers old.pass (passes_of cs) passes) clients each whole fails err r
+    served old new cs ns d starts next (Err err) first passes clients each whole none quiet over fails have (inl (begun, same)) =
+        subst (λ (l : List (Pass × U)). InThreads starts k kind beat (run_state (scene (opening_of hall) old.vault old.trace) (runners_of cs) old.output) (run_state (scene d new.vault new.trace) (runners_of l) new.output) (Err err)) (sym same)
+        (not_begun old new cs d starts err none
         (have hall numbers (new.pass ∷ passes_of ns) d
         (subst (λ (s : Side V). ArePasses hall numbers (s.pass ∷ passes_of ns)) (sym begun.1) (subst (λ (l : List (Pass × U)). ArePasses hall numbers (old.pass ∷ passes_of l)) (sym same) passes)) whole).1 begun)

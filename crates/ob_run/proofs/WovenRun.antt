@@ -2,7 +2,7 @@
 use Rattle.std.proofs.Common.{◌≡◌, ◌∙◌, ℕ, zero, suc, List, [], ◌∷◌, ◌++◌, refl, sym, ap, ap₂, subst, inl, inr, append-nil}
 use Rattle.ob_turn.specs.declared.turn.Entry.{Entry}
 use Rattle.ob_hall.specs.Passes.{Steps, calls_in}
-use Rattle.ob_conduct.specs.Acts.{Act, Says, Halts, Rests, Takes, Delivers, DeliverFails, FetchFails, Closes, Publishes, Refuses, Unprinted, history}
+use Rattle.ob_conduct.specs.Acts.{Act, Says, Halts, Rests, Takes, Delivers, DeliverFails, FetchFails, RestUnwatched, Closes, Publishes, Refuses, Unprinted, Unwatched, history}
 use Rattle.ob_conduct.specs.Rounds.{AreDriven}
 use Rattle.ob_driver.specs.Turning.{IsOneTurn}
 use Rattle.ob_run.specs.Woven.{IsEntryOf, AreWoven}
@@ -17,9 +17,11 @@ turn_driven (Takes look keys ∷ []) one = tt
 turn_driven (Delivers batch ∷ []) one = tt
 turn_driven (DeliverFails keys fault ∷ []) one = tt
 turn_driven (FetchFails look batches keys fault ∷ []) one = tt
+turn_driven (RestUnwatched look batches ∷ []) one = tt
 turn_driven (Closes look batches writes ∷ Publishes ended left told ∷ []) one = tt
 turn_driven (Closes look batches writes ∷ Refuses asked refused ∷ []) one = tt
 turn_driven (Unprinted ∷ []) one = tt
+turn_driven (Unwatched ∷ []) one = tt
 turn_driven _ one = absurd one
 
 turn_kept : (acts more : List Act) → IsOneTurn acts → ClosesAreEnded more → ClosesAreEnded (acts ++ more)
@@ -29,9 +31,11 @@ turn_kept (Takes look keys ∷ []) more one kept = kept
 turn_kept (Delivers batch ∷ []) more one kept = kept
 turn_kept (DeliverFails keys fault ∷ []) more one kept = kept
 turn_kept (FetchFails look batches keys fault ∷ []) more one kept = kept
+turn_kept (RestUnwatched look batches ∷ []) more one kept = kept
 turn_kept (Closes look batches writes ∷ Publishes ended left told ∷ []) more one kept = (one, kept)
 turn_kept (Closes look batches writes ∷ Refuses asked refused ∷ []) more one kept = (one, kept)
 turn_kept (Unprinted ∷ []) more one kept = kept
+turn_kept (Unwatched ∷ []) more one kept = kept
 turn_kept _ more one kept = absurd one
 
 -- ---- the driver's acts
@@ -45,10 +49,12 @@ driven_append (Takes look keys ∷ acts) more = ap (λ (l : List Act). Takes loo
 driven_append (Delivers batch ∷ acts) more = ap (λ (l : List Act). Delivers batch ∷ l) (driven_append acts more)
 driven_append (DeliverFails keys fault ∷ acts) more = ap (λ (l : List Act). DeliverFails keys fault ∷ l) (driven_append acts more)
 driven_append (FetchFails look batches keys fault ∷ acts) more = ap (λ (l : List Act). FetchFails look batches keys fault ∷ l) (driven_append acts more)
+driven_append (RestUnwatched look batches ∷ acts) more = ap (λ (l : List Act). RestUnwatched look batches ∷ l) (driven_append acts more)
 driven_append (Closes look batches writes ∷ acts) more = ap (λ (l : List Act). Closes look batches writes ∷ l) (driven_append acts more)
 driven_append (Publishes writes left told ∷ acts) more = ap (λ (l : List Act). Publishes writes left told ∷ l) (driven_append acts more)
 driven_append (Refuses writes refused ∷ acts) more = ap (λ (l : List Act). Refuses writes refused ∷ l) (driven_append acts more)
 driven_append (Unprinted ∷ acts) more = ap (λ (l : List Act). Unprinted ∷ l) (driven_append acts more)
+driven_append (Unwatched ∷ acts) more = ap (λ (l : List Act). Unwatched ∷ l) (driven_append acts more)
 
 all_driven : (acts : List Act) → AreDriven acts → driven acts ≡ acts
 all_driven [] are = refl
@@ -59,10 +65,12 @@ all_driven (Takes look keys ∷ acts) are = ap (λ (l : List Act). Takes look ke
 all_driven (Delivers batch ∷ acts) are = ap (λ (l : List Act). Delivers batch ∷ l) (all_driven acts are)
 all_driven (DeliverFails keys fault ∷ acts) are = ap (λ (l : List Act). DeliverFails keys fault ∷ l) (all_driven acts are)
 all_driven (FetchFails look batches keys fault ∷ acts) are = ap (λ (l : List Act). FetchFails look batches keys fault ∷ l) (all_driven acts are)
+all_driven (RestUnwatched look batches ∷ acts) are = ap (λ (l : List Act). RestUnwatched look batches ∷ l) (all_driven acts are)
 all_driven (Closes look batches writes ∷ acts) are = ap (λ (l : List Act). Closes look batches writes ∷ l) (all_driven acts are)
 all_driven (Publishes writes left told ∷ acts) are = ap (λ (l : List Act). Publishes writes left told ∷ l) (all_driven acts are)
 all_driven (Refuses writes refused ∷ acts) are = ap (λ (l : List Act). Refuses writes refused ∷ l) (all_driven acts are)
 all_driven (Unprinted ∷ acts) are = ap (λ (l : List Act). Unprinted ∷ l) (all_driven acts are)
+all_driven (Unwatched ∷ acts) are = ap (λ (l : List Act). Unwatched ∷ l) (all_driven acts are)
 
 -- ---- a whole history's
 

@@ -1,11 +1,11 @@
 -- A run by threads: what the driver does, and the clients' turns between, in whatever order they come; and of the clients whose calls are made by hand, in rounds.
 use Rattle.std.specs.Prelude.{ℕ, ◌≡◌, ◌⊎◌, ◌==◌, Bool, true, false, if◌then◌else◌, All, List, [], ◌∷◌, ◌++◌, length, map, take, drop, Option, Result}
 use Rattle.std.specs.List.{list_any}
-use Rattle.ob_base.specs.declared.fault.Fault.{Fault}
 use Rattle.ob_serial.specs.VaultKinds.{Kind}
 use Rattle.ob_desk.specs.Beats.{BeatKind}
 use Rattle.ob_session.specs.Clients.{said_by, stands_after}
 use Rattle.ob_session.specs.declared.runner.Step.TheVariants.{Done}
+use Rattle.ob_conduct.specs.declared.run_err.RunErr.{RunErr}
 use Rattle.ob_conduct.specs.Acts.{Act, Says, Closes, Publishes, Refuses, history}
 use Rattle.ob_conduct.specs.Rounds.{InRounds}
 use Rattle.ob_conduct.specs.Scenes.{RunState, RunnerKind}
@@ -65,11 +65,11 @@ pub record AreThreaded (starts : ℕ) (clients : List ℕ) (acts : List Act) : T
   pub by_hand : HandRounds starts clients acts
 
 -- a run of which so many clients' threads were tried
-abbrev pub InThreads : {V U Plan : Type 0} → ℕ → Kind V → RunnerKind U Plan → BeatKind → RunState V U → RunState V U → Result (Unit {0}) Fault → Type 0
+abbrev pub InThreads : {V U Plan : Type 0} → ℕ → Kind V → RunnerKind U Plan → BeatKind → RunState V U → RunState V U → Result (Unit {0}) RunErr → Type 0
 InThreads starts k kind beat old new result = (acts : List Act) × Conducted k kind beat old new acts result × AreThreaded starts (map kind.client old.runners) acts
 
 -- a run by threads, or by hand
-abbrev pub RunsBy : {V U Plan : Type 0} → Bool → Kind V → RunnerKind U Plan → BeatKind → RunState V U → RunState V U → Result (Unit {0}) Fault → Type 0
+abbrev pub RunsBy : {V U Plan : Type 0} → Bool → Kind V → RunnerKind U Plan → BeatKind → RunState V U → RunState V U → Result (Unit {0}) RunErr → Type 0
 RunsBy true k kind beat old new result = InThreads (length old.runners) k kind beat old new result
 RunsBy false k kind beat old new result = ByHand k kind beat old new result
 

@@ -1,9 +1,8 @@
 -- The acts of a hall's whole history: the driver's, entry by entry, and between them the clients'.
 use Rattle.std.specs.Prelude.{◌≡◌, ◌⊎◌, ℕ, zero, suc, All, List, [], ◌∷◌, ◌++◌, slice_get, Some, None}
 use Rattle.std.specs.Ordering.{nat_cmp}
-use Rattle.ob_store.specs.declared.watch.Note.{Note}
 use Rattle.ob_serial.specs.Serial.{Map, OneByOne, committed_of}
-use Rattle.ob_serial.specs.VaultKinds.{Kind}
+use Rattle.ob_serial.specs.VaultKinds.{Kind, AllCalled}
 use Rattle.ob_desk.specs.Desk.{DeskState, Run}
 use Rattle.ob_desk.specs.Beats.{BeatKind}
 use Rattle.ob_session.specs.Steps.{Leads}
@@ -12,7 +11,6 @@ use Rattle.ob_turn.specs.History.{entries_of, LeadsByTurns}
 use Rattle.ob_hall.specs.Turns.{client_numbers, IsTurn}
 use Rattle.ob_hall.specs.Passes.{Steps, IsNew, calls_in}
 use Rattle.ob_conduct.specs.Acts.{Act, Says, history, calls, records, IsAllowed}
-use Rattle.ob_conduct.specs.Scenes.{AllNoted}
 use Rattle.ob_conduct.specs.Records.{contents, HoldsMap}
 use Rattle.ob_driver.specs.Turning.{IsOneTurn, AreActs}
 
@@ -45,5 +43,5 @@ pub record Woven {V : Type 0} (k : Kind V) (beat : BeatKind) (opened d : DeskSta
 
 -- Whatever threads make the calls: of a history that is legal from a new desk, with the driver's acts in their entries, and a chain of the vault's calls that belong to them, this is so.
 abbrev pub HistoriesWeave : {V : Type 0} → Kind V → Type 0
-HistoriesWeave {V} k = (beat : BeatKind) (opened d : DeskState) (log : List (Entry Steps)) (old new : V) (driven : List Act) (notes : List Note) → IsNew opened → LeadsByTurns IsTurn opened log d → AreActs (entries_of 0 log) driven → All (IsAllowed beat) driven
-    → AllNoted k old (calls driven) notes new → Woven k beat opened d log old new driven
+HistoriesWeave {V} k = (beat : BeatKind) (opened d : DeskState) (log : List (Entry Steps)) (old new : V) (driven : List Act) → IsNew opened → LeadsByTurns IsTurn opened log d → AreActs (entries_of 0 log) driven → All (IsAllowed beat) driven
+    → AllCalled k old (calls driven) new → Woven k beat opened d log old new driven

@@ -1,6 +1,6 @@
 //! The driver beside the clients' threads.
 
-ghost use Rattle.std.specs.Prelude.{◌≡◌, ◌≤◌, All, [], length, vec_capacity};
+ghost use Rattle.std.specs.Prelude.{◌≡◌, ◌≤◌, All, [], false, length, vec_capacity};
 ghost use Rattle.ob_io.specs.Streams.{outflow};
 ghost use Rattle.ob_serial.specs.VaultKinds.{kind_of};
 ghost use Rattle.ob_desk.specs.Beats.{beat_kind};
@@ -15,7 +15,8 @@ ghost use denote.Param.Send.{IsSend, IsSync};
 
 use crate::crew::Team;
 use crate::lending::{Lent, drive_lent};
-use ob_base::{Fault, Params};
+use ob_base::Params;
+use ob_conduct::RunErr;
 use ob_desk::Beat;
 use ob_hall::Hall;
 use ob_io::Sink;
@@ -55,10 +56,11 @@ pub(crate) fn in_scope<
 ) -> (
     Lent<'p, 'v, 'w, 'b, 'o, V, W, B, O>,
     &'t mut Team<U>,
-    Result<(), Fault>,
+    Result<(), RunErr>,
 )
     requires params { V.params lent.vault.now ≡ params.now }
     requires first { IsFirstPass hall.now lent.pass.now params.now (V.counts lent.vault.now) }
+    requires whole { (W.trace lent.watch.now).broken ≡ false }
     requires driver { HasRoom params.now team.old.room }
     requires clients { All (IsClient (words U.client U.bound U.plan U.fits U.turn) hall.now)
         team.old.waiting.items }
@@ -89,7 +91,7 @@ pub(crate) fn in_scope<
     thread::scope(
         thread::scope_env(),
         rt,
-        |scope| -> (Lent<V, W, B, O>, &mut Team<U>, Result<(), Fault>)
+        |scope| -> (Lent<V, W, B, O>, &mut Team<U>, Result<(), RunErr>)
             requires { (V.params lent.vault.now ≡ params.now)
                 × (IsFirstPass hall.now lent.pass.now params.now (V.counts lent.vault.now))
                 × (All (IsClient (words U.client U.bound U.plan U.fits U.turn) hall.now)
@@ -97,6 +99,7 @@ pub(crate) fn in_scope<
                 × (team.now.crew.started.items ≡ [])
                 × (length team.now.waiting.items ≤ vec_capacity team.now.crew.started)
                 × (HasRoom params.now team.now.room)
+                × ((W.trace lent.watch.now).broken ≡ false)
                 × IsSend U.row × IsSync R.row }
             ensures { (result.0.pass.ghost_name ≡ lent.entry.pass.ghost_name)
                 × (result.0.vault.ghost_name ≡ lent.entry.vault.ghost_name)

@@ -8,8 +8,8 @@ ghost use Rattle.ob_desk.specs.Beats.{beat_kind};
 ghost use Rattle.ob_conduct.specs.Scenes.{scene, run_state, runner_kind};
 ghost use Rattle.ob_conduct.specs.Conducted.{ByHand};
 
-use ob_base::{Fault, Params};
-use ob_conduct::serve;
+use ob_base::Params;
+use ob_conduct::{RunErr, serve};
 use ob_desk::{Beat, Desk};
 use ob_io::Sink;
 use ob_serial::Vault;
@@ -40,9 +40,10 @@ pub(crate) fn run_by_hand<
     watch: &mut W,
     beat: &mut B,
     output: &mut O,
-) -> Result<(), Fault>
+) -> Result<(), RunErr>
     requires params { V.params vault.old ≡ params.now }
     requires serves { (V.counts vault.old).spent ≡ false }
+    requires whole { (W.trace watch.old).broken ≡ false }
     requires fresh { desk
         ≡ new_desk (record { params = params.now }) (suc (V.counts vault.old).epoch)
         (V.counts vault.old).left (map U.client runners.old.items) }

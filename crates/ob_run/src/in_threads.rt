@@ -16,6 +16,7 @@ use crate::by_hand::let_go;
 use crate::seating::{seat_all, take_apart};
 use crate::serving::serve;
 use ob_base::{Fault, Memory, Params};
+use ob_conduct::RunErr;
 use ob_desk::{Beat, Desk};
 use ob_hall::{Hall, Pass};
 use ob_io::Sink;
@@ -100,9 +101,10 @@ fn serve_hall<U: Runner + Send, R: Threads + Wait + Sync, V: Vault, W: Watch, B:
     beat: &mut B,
     output: &mut O,
     starts: usize,
-) -> Result<(), Fault>
+) -> Result<(), RunErr>
     requires params { V.params vault.old ≡ params.now }
     requires serves { (V.counts vault.old).spent ≡ false }
+    requires whole { (W.trace watch.old).broken ≡ false }
     requires fresh { opening_of opened.hall
         ≡ new_desk (record { params = params.now }) (suc (V.counts vault.old).epoch)
         (V.counts vault.old).left (map U.client runners.old.items) }
@@ -173,9 +175,10 @@ pub fn run_in_threads<
     beat: &mut B,
     output: &mut O,
     starts: usize,
-) -> Result<(), Fault>
+) -> Result<(), RunErr>
     requires params { V.params vault.old ≡ params.now }
     requires serves { (V.counts vault.old).spent ≡ false }
+    requires whole { (W.trace watch.old).broken ≡ false }
     requires clients { clients.now ≡ map U.client runners.old.items }
     requires fresh { desk
         ≡ new_desk (record { params = params.now }) (suc (V.counts vault.old).epoch)
@@ -197,7 +200,7 @@ pub fn run_in_threads<
         (outflow O.Sink output.new)) result }
 {
     let Ok(opened) = open_hall(alloc, desk, clients) else {
-        return Err(Fault::Memory);
+        return Err(RunErr::Fault(Fault::Memory));
     };
     serve_hall(
         rt, alloc, params, opened, runners, vault, watch, beat, output, starts,

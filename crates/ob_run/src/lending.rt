@@ -1,6 +1,6 @@
 //! The driver's run, by references that go into a closure and come back.
 
-ghost use Rattle.std.specs.Prelude.{◌≡◌};
+ghost use Rattle.std.specs.Prelude.{◌≡◌, false};
 ghost use Rattle.ob_io.specs.Streams.{outflow};
 ghost use Rattle.ob_serial.specs.VaultKinds.{kind_of};
 ghost use Rattle.ob_desk.specs.Beats.{beat_kind};
@@ -10,7 +10,8 @@ ghost use Rattle.ob_driver.specs.Rooms.{HasRoom};
 ghost use Rattle.ob_driver.specs.Drives.{IsFirstPass};
 ghost use Rattle.ob_run.specs.Serving.{DriverEnds};
 
-use ob_base::{Fault, Params};
+use ob_base::Params;
+use ob_conduct::RunErr;
 use ob_desk::Beat;
 use ob_driver::{Hands, Room, drive_epochs};
 use ob_hall::{Hall, Pass};
@@ -85,10 +86,11 @@ pub(crate) fn drive_lent<
     lent: Lent<'p, 'v, 'w, 'b, 'o, V, W, B, O>,
     hands: &mut H,
     room: &mut Room,
-) -> (Lent<'p, 'v, 'w, 'b, 'o, V, W, B, O>, Result<(), Fault>)
+) -> (Lent<'p, 'v, 'w, 'b, 'o, V, W, B, O>, Result<(), RunErr>)
     requires params { V.params lent.vault.now ≡ params.now }
     requires first { IsFirstPass hall.now lent.pass.now params.now
         (V.counts lent.vault.now) }
+    requires whole { (W.trace lent.watch.now).broken ≡ false }
     requires room { HasRoom params.now room.old }
     requires hands { H.ready hall.now hands.old }
     ensures hands { H.ready hall.now hands.new }

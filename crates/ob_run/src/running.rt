@@ -11,7 +11,8 @@ ghost use Rattle.ob_run.specs.Threaded.{RunsBy};
 
 use crate::by_hand::run_by_hand;
 use crate::in_threads::run_in_threads;
-use ob_base::{Fault, Params};
+use ob_base::Params;
+use ob_conduct::RunErr;
 use ob_desk::{Beat, Desk};
 use ob_io::Sink;
 use ob_serial::Vault;
@@ -30,7 +31,8 @@ use std::thread::Threads;
 ///
 /// # Errors
 /// Memory was wanting, before any client made a call or for a client; or the vault refused, and is
-/// spent; or the output failed, and a front of the lines is written.
+/// spent; or the watch broke, and all lines of what ended are written; or the output failed, and a
+/// front of the lines is written.
 pub fn run<U: Runner + Send, R: Threads + Wait + Sync, V: Vault, W: Watch, B: Beat, O: Sink>(
     rt: &R,
     alloc: Global,
@@ -43,9 +45,10 @@ pub fn run<U: Runner + Send, R: Threads + Wait + Sync, V: Vault, W: Watch, B: Be
     beat: &mut B,
     output: &mut O,
     threads: bool,
-) -> Result<(), Fault>
+) -> Result<(), RunErr>
     requires params { V.params vault.old ≡ params.now }
     requires serves { (V.counts vault.old).spent ≡ false }
+    requires whole { (W.trace watch.old).broken ≡ false }
     requires clients { clients.now ≡ map U.client runners.old.items }
     requires fresh { desk
         ≡ new_desk (record { params = params.now }) (suc (V.counts vault.old).epoch)

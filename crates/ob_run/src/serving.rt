@@ -1,6 +1,6 @@
 //! The driver and the clients of a hall, from before the first call to the end.
 
-ghost use Rattle.std.specs.Prelude.{◌≡◌, ◌≤◌, All, [], length, vec_capacity, IfOk};
+ghost use Rattle.std.specs.Prelude.{◌≡◌, ◌≤◌, All, [], false, length, vec_capacity, IfOk};
 ghost use Rattle.ob_io.specs.Streams.{outflow};
 ghost use Rattle.ob_serial.specs.VaultKinds.{kind_of};
 ghost use Rattle.ob_desk.specs.Beats.{beat_kind};
@@ -16,6 +16,7 @@ use crate::beside::in_scope;
 use crate::crew::{Crew, Team};
 use crate::lending::Lent;
 use ob_base::{Fault, Memory, Params};
+use ob_conduct::RunErr;
 use ob_desk::Beat;
 use ob_driver::Room;
 use ob_hall::{Hall, Pass};
@@ -96,9 +97,10 @@ fn drive_beside<U: Runner + Send, R: Threads + Wait + Sync, V: Vault, W: Watch, 
     output: &mut O,
     flags: &[AtomicBool],
     team: &mut Team<U>,
-) -> Result<(), Fault>
+) -> Result<(), RunErr>
     requires params { V.params vault.old ≡ params.now }
     requires first { IsFirstPass hall.now pass.old params.now (V.counts vault.old) }
+    requires whole { (W.trace watch.old).broken ≡ false }
     requires driver { HasRoom params.now team.old.room }
     requires clients { All (IsClient (words U.client U.bound U.plan U.fits U.turn) hall.now)
         team.old.waiting.items }
@@ -155,9 +157,10 @@ pub fn serve<U: Runner + Send, R: Threads + Wait + Sync, V: Vault, W: Watch, B: 
     beat: &mut B,
     output: &mut O,
     starts: usize,
-) -> Result<(), Fault>
+) -> Result<(), RunErr>
     requires params { V.params vault.old ≡ params.now }
     requires first { IsFirstPass hall.now pass.old params.now (V.counts vault.old) }
+    requires whole { (W.trace watch.old).broken ≡ false }
     requires clients { All (IsClient (words U.client U.bound U.plan U.fits U.turn) hall.now)
         clients.old.items }
     ensures params { V.params vault.new ≡ params.now }
@@ -173,7 +176,7 @@ pub fn serve<U: Runner + Send, R: Threads + Wait + Sync, V: Vault, W: Watch, B: 
         (V.counts vault.new) clients.new.items result }
 {
     let Ok(places) = make_places(alloc, params, clients.len(), starts) else {
-        return Err(Fault::Memory);
+        return Err(RunErr::Fault(Fault::Memory));
     };
     let Places {
         room,

@@ -5,6 +5,7 @@ ghost use Rattle.ob_mem.specs.Memory.{disk_of_store};
 ghost use Rattle.ob_script.specs.Script.{AreSound};
 
 use ob_base::{Fault, Params};
+use ob_conduct::RunErr;
 use ob_desk::{Beat, Desk, Eager, Hasty};
 use ob_flat::{FlatVault, format, head, prepare};
 use ob_mem::{Fail, MemSink, MemStore};
@@ -13,7 +14,7 @@ use ob_runner::runners;
 use ob_script::{Scripts, parse};
 use ob_seal::Keys;
 use ob_serial::Vault;
-use ob_store::Blind;
+use ob_store::{Blind, SinkWatch, Watch};
 use std::alloc::Global;
 use std::process::Abort;
 use std::sync::Wait;
@@ -47,25 +48,31 @@ enum Way {
 }
 
 // The clients of a script, over a vault.
-fn run_over<R: Threads + Wait + Sync, V: Vault, B: Beat>(
+fn run_over<R: Threads + Wait + Sync + Abort, V: Vault, W: Watch, B: Beat>(
     rt: &R,
     alloc: Global,
     params: &Params,
     scripts: &Scripts,
     vault: &mut V,
+    watch: &mut W,
     beat: &mut B,
     output: &mut MemSink,
     way: Way,
-) -> Result<(), Fault>
+) -> Result<(), RunErr>
     requires params { V.params vault.old ≡ params.now }
     requires serves { (V.counts vault.old).spent ≡ false }
+    requires whole { (W.trace watch.old).broken ≡ false }
     requires few { (V.counts vault.old).left ≤ params.now.batches }
     requires sound { AreSound scripts.now }
     requires keys { scripts.now.keys ≡ params.now.keys }
 {
-    let mut runners = runners(alloc, scripts)?;
+    let Ok(mut runners) = runners(alloc, scripts) else {
+        panic!(rt; "no memory")
+    };
     let clients = scripts.clients();
-    let desk = Desk::new(alloc, params, vault.epoch() + 1, vault.left(), clients)?;
+    let Ok(desk) = Desk::new(alloc, params, vault.epoch() + 1, vault.left(), clients) else {
+        panic!(rt; "no memory")
+    };
     if let Way::Starts(count) = way {
         return run_in_threads(
             rt,
@@ -75,7 +82,7 @@ fn run_over<R: Threads + Wait + Sync, V: Vault, B: Beat>(
             clients,
             &mut runners,
             vault,
-            &mut Blind,
+            watch,
             beat,
             output,
             count,
@@ -89,30 +96,40 @@ fn run_over<R: Threads + Wait + Sync, V: Vault, B: Beat>(
         clients,
         &mut runners,
         vault,
-        &mut Blind,
+        watch,
         beat,
         output,
         matches!(way, Way::InThreads),
     )
 }
 
-// A script, run over a store.
-fn run_script<R: Threads + Wait + Sync, B: Beat>(
+// A script, run over a store; the run's calls are shown to a watch.
+fn run_script<R: Threads + Wait + Sync + Abort, W: Watch, B: Beat>(
     rt: &R,
     alloc: Global,
     store: &mut MemStore,
     script: &[u8],
+    watch: &mut W,
     beat: &mut B,
     output: &mut MemSink,
     way: Way,
-) -> Result<(), Fault>
-    requires { (disk_of_store store.old).out ≡ 0 }
+) -> Result<(), RunErr>
+    requires out { (disk_of_store store.old).out ≡ 0 }
+    requires whole { (W.trace watch.old).broken ≡ false }
 {
-    let params = head(store, &test_keys(), &mut Blind)?;
-    let scripts = parse(alloc, script, params.keys)?;
-    let opening = prepare(alloc, store, &test_keys(), &params, &mut Blind)?;
+    let Ok(params) = head(store, &test_keys(), &mut Blind) else {
+        panic!(rt; "no head")
+    };
+    let Ok(scripts) = parse(alloc, script, params.keys) else {
+        panic!(rt; "no script")
+    };
+    let Ok(opening) = prepare(alloc, store, &test_keys(), &params, &mut Blind) else {
+        panic!(rt; "no opening")
+    };
     let mut vault = FlatVault::over(store, opening);
-    run_over(rt, alloc, &params, &scripts, &mut vault, beat, output, way)
+    run_over(
+        rt, alloc, &params, &scripts, &mut vault, watch, beat, output, way,
+    )
 }
 
 // A run: who makes the clients' calls, whether epochs are ended with haste, the script, and what is
@@ -125,16 +142,34 @@ fn ends<R: AllocGlobal + Threads + Wait + Sync + Abort>(
     store: &mut MemStore,
     run: &Run,
     room: usize,
-) -> (Option<Fault>, MemSink)
+) -> (Option<RunErr>, MemSink)
     requires { (disk_of_store store.old).out ≡ 0 }
 {
     let &(way, hasty, script, _) = run;
     let alloc = rt.alloc();
     let mut output = MemSink::new(alloc, room, Vec::new(alloc)).expect(rt, "memory");
     let ended = if hasty {
-        run_script(rt, alloc, store, script, &mut Hasty, &mut output, way)
+        run_script(
+            rt,
+            alloc,
+            store,
+            script,
+            &mut Blind,
+            &mut Hasty,
+            &mut output,
+            way,
+        )
     } else {
-        run_script(rt, alloc, store, script, &mut Eager, &mut output, way)
+        run_script(
+            rt,
+            alloc,
+            store,
+            script,
+            &mut Blind,
+            &mut Eager,
+            &mut output,
+            way,
+        )
     };
     assert!(rt; store.starved() == 0);
     (ended.err(), output)
@@ -147,7 +182,7 @@ fn expect<R: AllocGlobal + Threads + Wait + Sync + Abort>(
     store: &mut MemStore,
     run: &Run,
     room: usize,
-    fault: &Option<Fault>,
+    fault: &Option<RunErr>,
 )
     requires { (disk_of_store store.old).out ≡ 0 }
 {
@@ -163,7 +198,7 @@ fn expect_anew<R: AllocGlobal + Threads + Wait + Sync + Abort>(
     fail: Fail,
     run: &Run,
     room: usize,
-    fault: &Option<Fault>,
+    fault: &Option<RunErr>,
 ) {
     let mut store = formatted(rt, fail);
     expect(rt, &mut store, run, room, fault);
@@ -247,10 +282,12 @@ const PUTS: &[u8] = b"client 1\nbegin\nput 5 hi\ncommit\n";
 
 const PUT: &[u8] = b"epoch 1\ntxn 1 client 1 committed\nput 5 hi\n";
 
+const SINK: Option<RunErr> = Some(RunErr::Fault(Fault::SinkFault));
+
 // Outputs that have too little room.
 fn expect_cut_short<R: AllocGlobal + Threads + Wait + Sync + Abort>(rt: &R, run: &Run) {
     for room in 0..run.3.len() {
-        expect_anew(rt, NEVER, run, room, &Some(Fault::SinkFault));
+        expect_anew(rt, NEVER, run, room, &SINK);
     }
 }
 
@@ -268,8 +305,79 @@ static CUT_SHORT: [Run; 4] = [
     (Way::Starts(0), false, PUTS, PUT),
 ];
 
+// ---- traces
+
+// How a run of a script by itself ends, in two epochs, where its output and its trace have so much
+// room, and what it writes to them.
+fn traced<R: AllocGlobal + Threads + Wait + Sync + Abort>(
+    rt: &R,
+    way: Way,
+    room: usize,
+    lines: usize,
+) -> (Option<RunErr>, MemSink, MemSink) {
+    let alloc = rt.alloc();
+    let mut store = formatted(rt, NEVER);
+    let mut output = MemSink::new(alloc, room, Vec::new(alloc)).expect(rt, "memory");
+    let mut trace = MemSink::new(alloc, lines, Vec::new(alloc)).expect(rt, "memory");
+    let mut watch = SinkWatch::new(&mut trace);
+    let ended = run_script(
+        rt,
+        alloc,
+        &mut store,
+        ALONE,
+        &mut watch,
+        &mut Eager,
+        &mut output,
+        way,
+    );
+    (ended.err(), output, trace)
+}
+
+// Two ends: the rows in the other half of the store's cells, and the register's other place, whose
+// gate the second end closes first.
+const ENDS: &[u8] =
+    b"W 17\nW 18\nW 19\nW 20\nW 21\nW 22\nW 23\nW 24\nS\nW 7\nS\nW 8\nS\nW 9\nW 10\nW 11\nW 12\nW 13\nW 14\nW 15\nW 16\nS\nW 6\nS\nW 5\nS\nW 6\nS\n";
+
+// So many of these bytes are the first end's.
+const FIRST: usize = 54;
+
+// A trace without room for its last byte: the epoch in whose end it breaks is told, and no other.
+fn expect_unwatched<R: AllocGlobal + Threads + Wait + Sync + Abort>(rt: &R, way: Way) {
+    for lines in 0..ENDS.len() {
+        let (ended, output, trace) = traced(rt, way, 1000, lines);
+        let told = if lines < FIRST { PUT } else { TWO_EPOCHS };
+        assert!(rt; ended == Some(RunErr::Unwatched) && output.written() == told);
+        assert!(rt; trace.written() == &ENDS[..lines]);
+    }
+}
+
+#[test]
+fn a_failing_trace_ends_the_run_behind_its_epochs_lines(rt: HostRuntime) {
+    expect_unwatched(&rt, Way::ByHand);
+    expect_unwatched(&rt, Way::InThreads);
+    expect_unwatched(&rt, Way::Starts(0));
+}
+
+#[test]
+fn a_trace_with_room_is_whole(rt: HostRuntime) {
+    for way in &[Way::ByHand, Way::InThreads] {
+        let (ended, output, trace) = traced(&rt, *way, 1000, ENDS.len());
+        assert!(&rt; ended == None && output.written() == TWO_EPOCHS && trace.written() == ENDS);
+    }
+}
+
+#[test]
+fn the_outputs_fault_is_told_where_both_fail(rt: HostRuntime) {
+    for way in &[Way::ByHand, Way::InThreads] {
+        let (ended, output, _) = traced(&rt, *way, 10, 10);
+        assert!(&rt; ended == SINK && output.written() == &PUT[..10]);
+    }
+}
+
+// ---- a store that fails
+
 // Calls of the store that fail, and the faults that a run ends with then.
-type Faults = &'static [(Fail, Option<Fault>)];
+type Faults = &'static [(Fail, Option<RunErr>)];
 
 // A call of the store that fails, and the fault that a run's first epoch ends with then: the last
 // write of an end, and the last sync, leave open whether it has ended.
@@ -287,9 +395,9 @@ const FAULTS: Faults = &[
     (Fail::Sync(15), UNSURE),
 ];
 
-const STORE: Option<Fault> = Some(Fault::StoreFault { unsure: None });
+const STORE: Option<RunErr> = Some(RunErr::Fault(Fault::StoreFault { unsure: None }));
 
-const UNSURE: Option<Fault> = Some(Fault::StoreFault { unsure: Some(1) });
+const UNSURE: Option<RunErr> = Some(RunErr::Fault(Fault::StoreFault { unsure: Some(1) }));
 
 // Calls of the store that come behind an epoch.
 const BEHIND: Faults = &[(Fail::Write(32), None), (Fail::Sync(16), None)];
@@ -306,7 +414,7 @@ static FAILED: [(Run, Faults); 6] = [
 fn expect_faults<R: AllocGlobal + Threads + Wait + Sync + Abort>(
     rt: &R,
     run: &Run,
-    faults: &[(Fail, Option<Fault>)],
+    faults: &[(Fail, Option<RunErr>)],
 ) {
     for (fail, fault) in faults {
         expect_anew(rt, *fail, run, 1000, fault);

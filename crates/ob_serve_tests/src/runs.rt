@@ -9,6 +9,7 @@ ghost use Rattle.ob_serve_tests.specs.Pairs.{IsNewPair, AreTwo, CanOpen};
 
 use crate::gate::{Gate, Gated, at_gate};
 use ob_base::{Fault, Params};
+use ob_conduct::RunErr;
 use ob_desk::{Desk, Eager};
 use ob_flat::{FlatVault, format, head, prepare};
 use ob_mem::{Fail, MemSink, MemStore};
@@ -96,7 +97,7 @@ fn run_over<R: Threads + Wait + Sync + Abort, V: Vault, U: Runner + Send>(
     runners: &mut Vec<U>,
     output: &mut MemSink,
     threads: bool,
-) -> Result<(), Fault>
+) -> Result<(), RunErr>
     requires params { V.params vault.old ≡ params.now }
     requires two { AreTwo U.client U.bound U.fits runners.old.items }
     requires quiet { IsQuiet U.turn }
@@ -120,7 +121,7 @@ pub fn run_two<R: Threads + Wait + Sync + Abort, U: Runner + Send>(
     runners: &mut Vec<U>,
     output: &mut MemSink,
     threads: bool,
-) -> Result<(), Fault>
+) -> Result<(), RunErr>
     requires two { AreTwo U.client U.bound U.fits runners.old.items }
     requires quiet { IsQuiet U.turn }
 {
@@ -143,7 +144,7 @@ pub fn run_scripts<R: Threads + Wait + Sync + Abort>(
     fail: Fail,
     gate: &Gate,
     room: usize,
-) -> Result<(), Fault> {
+) -> Result<(), RunErr> {
     let Ok(mut output) = MemSink::new(alloc, room, Vec::new(alloc)) else {
         panic!(rt; "no memory")
     };
@@ -167,22 +168,22 @@ pub fn ends<R: Threads + Wait + Sync + Abort>(
     alloc: Global,
     fail: Fail,
     room: usize,
-) -> Result<(), Fault> {
+) -> Result<(), RunErr> {
     run_scripts(rt, alloc, SCRIPT, fail, &Gate::new(true), room)
 }
 
 // The store failed; or it did where the end of this epoch is in doubt; or the output did.
-const FAILED: Option<Fault> = Some(Fault::StoreFault { unsure: None });
+const FAILED: Option<RunErr> = Some(RunErr::Fault(Fault::StoreFault { unsure: None }));
 
-const FIRST_UNSURE: Option<Fault> = Some(Fault::StoreFault { unsure: Some(1) });
+const FIRST_UNSURE: Option<RunErr> = Some(RunErr::Fault(Fault::StoreFault { unsure: Some(1) }));
 
-const SECOND_UNSURE: Option<Fault> = Some(Fault::StoreFault { unsure: Some(2) });
+const SECOND_UNSURE: Option<RunErr> = Some(RunErr::Fault(Fault::StoreFault { unsure: Some(2) }));
 
-const SINK: Option<Fault> = Some(Fault::SinkFault);
+const SINK: Option<RunErr> = Some(RunErr::Fault(Fault::SinkFault));
 
 // Counted from 0, the first end's last write is 31 and its last sync 15, and an end makes 11
 // writes and 4 syncs. There are two ends, or three where the second client comes late.
-const FAULTS: &[(Fail, usize, Option<Fault>)] = &[
+const FAULTS: &[(Fail, usize, Option<RunErr>)] = &[
     (Fail::Write(30), 1000, FAILED),
     (Fail::Write(31), 1000, FIRST_UNSURE),
     (Fail::Write(41), 1000, FAILED),

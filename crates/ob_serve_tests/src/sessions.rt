@@ -10,8 +10,9 @@ ghost use denote.Param.Send.{IsSync};
 
 use crate::runs::{NEVER, desk_at, formatted, open};
 use crate::starved::Starved;
-use ob_base::{Fault, Key, Params, Value};
+use ob_base::{Key, Params, Value};
 use ob_calls::Refused;
+use ob_conduct::RunErr;
 use ob_desk::{Begun, Eager};
 use ob_hall::{Hall, Pass};
 use ob_mem::MemSink;
@@ -286,7 +287,7 @@ fn drive_alone<R: Threads + Wait + Sync, V: Vault>(
     driver: &mut Pass,
     vault: &mut V,
     output: &mut MemSink,
-) -> Result<(), Fault>
+) -> Result<(), RunErr>
     requires params { V.params vault.old ≡ params.now }
     requires driver { IsFirstPass hall.now driver.old params.now (V.counts vault.old) }
 {
@@ -309,7 +310,7 @@ fn run_beside<R: Threads + Wait + Sync, V: Vault>(
     clock: &Clock,
     vault: &mut V,
     output: &mut MemSink,
-) -> Result<(), Fault>
+) -> Result<(), RunErr>
     requires params { V.params vault.old ≡ params.now }
     requires driver { IsFirstPass hall.now driver.old params.now (V.counts vault.old) }
     requires sessions { All (IsSession hall.now) sessions.old }
@@ -319,7 +320,7 @@ fn run_beside<R: Threads + Wait + Sync, V: Vault>(
         move ||
             requires { All (IsSession hall.now) sessions.now × IsSync R.row }
         { follow_each(rt, hall, sessions, clock) },
-        move || -> Result<(), Fault>
+        move || -> Result<(), RunErr>
             requires { (V.params vault.now ≡ params.now)
                 × (IsFirstPass hall.now driver.now params.now (V.counts vault.now)) × IsSync R.row }
         { drive_alone(rt, alloc, params, hall, driver, vault, output) },
@@ -333,7 +334,7 @@ fn run_sessions<R: Threads + Wait + Sync + Abort>(
     alloc: Global,
     clock: &Clock,
     output: &mut MemSink,
-) -> Result<(), Fault> {
+) -> Result<(), RunErr> {
     let mut store = formatted(rt, alloc, NEVER);
     let mut vault = open(rt, alloc, &mut store);
     let params = vault.params();

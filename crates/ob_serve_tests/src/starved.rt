@@ -12,6 +12,7 @@ ghost use Rattle.ob_serve_tests.specs.Pairs.{AreTwo};
 use crate::gate::Gate;
 use crate::runs::{NEVER, both, run_two};
 use ob_base::Fault;
+use ob_conduct::RunErr;
 use ob_desk::Desk;
 use ob_mem::MemSink;
 use ob_session::{Made, Runner, Said, Step};
@@ -91,7 +92,7 @@ pub fn ends<R: Threads + Wait + Sync + Abort>(
     rt: &R,
     alloc: Global,
     threads: bool,
-) -> (Option<Fault>, bool, bool) {
+) -> (Option<RunErr>, bool, bool) {
     let Ok(mut output) = MemSink::new(alloc, 1000, Vec::new(alloc)) else {
         panic!(rt; "no memory")
     };
@@ -106,7 +107,7 @@ pub fn ends<R: Threads + Wait + Sync + Abort>(
 // end.
 #[test]
 fn want_of_memory_is_told_and_the_others_sign_off(rt: HostRuntime) {
-    let fault = Some(Fault::Memory);
+    let fault = Some(RunErr::Fault(Fault::Memory));
     assert!(&rt; ends(&rt, rt.alloc(), true) == (fault, true, true));
     assert!(&rt; ends(&rt, rt.alloc(), false) == (fault, false, true));
 }

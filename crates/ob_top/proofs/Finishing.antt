@@ -141,7 +141,8 @@ module _ (store : StoreKind) (quiet : IsQuiet store) (life : LifeWords store) wh
 
       -- any other fault, behind the whole report
       done_other : (fault : Fault) (records : List (EpochRecord ℕ)) (whole : ℕ) → LinesStand (Some fault) records whole before.output mid.output → LineTold mid.output after.output (Some fault)
-          → mid.output.bytes ≡ appended before.output.bytes (report decimal records) → before.output.faults ≤ mid.output.faults → IsPrinted mid.output after.output (fault_line (Some fault)) → status ≡ status_of (Some fault) → Went store life disk by words keys old new before after records (Some fault) → StandsOn store disk keys old new → RunDone store life disk by words keys old new before after status
+          → mid.output.bytes ≡ appended before.output.bytes (report decimal records) → before.output.faults ≤ mid.output.faults → IsPrinted mid.output after.output (fault_line (Some fault)) → status ≡ status_of (Some fault)
+          → Went store life disk by words keys old new before after records (Some fault) → StandsOn store disk keys old new → RunDone store life disk by words keys old new before after status
       done_other fault records whole lines told bytes later line status_is went sound = record {
         fault = Some fault;
         status_is = status_is;

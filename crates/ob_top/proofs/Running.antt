@@ -47,7 +47,8 @@ module _ (store : StoreKind) (quiet : IsQuiet store) (life : LifeWords store) wh
   early_stand disk keys most old new before after output fault early =
       stand_unless [] output output fault (λ is. early_other disk keys most old new before after (subst (λ (f : Fault). EndsEarly store life keys most old new disk before after f) is early)) (record { bytes = appended-none output.bytes; later = omega arith })
 
-  pub ended_early : (laws : AreStandingLaws store) {S : Type 0} (disk : S → Disk) (counts_now : (x : S) (t : Clock) (c : Image) → NotAfter t (disk x).moment → (disk x).may_leave c → (disk x).left_since t c) (by : Manner) (words : List ℕ) (keys : Keys) (old new : S) (before after output : Flow) (fault : Fault) → EndsEarly store life keys by.lanes (disk old) (disk new) disk before after fault → ((disk new).tells → LivesOn disk keys old new [])
+  pub ended_early : (laws : AreStandingLaws store) {S : Type 0} (disk : S → Disk)
+      (counts_now : (x : S) (t : Clock) (c : Image) → NotAfter t (disk x).moment → (disk x).may_leave c → (disk x).left_since t c) (by : Manner) (words : List ℕ) (keys : Keys) (old new : S) (before after output : Flow) (fault : Fault) → EndsEarly store life keys by.lanes (disk old) (disk new) disk before after fault → ((disk new).tells → LivesOn disk keys old new [])
       → RunOn store life disk by words keys old new
       (outside before output) (outside after output) (Some fault)
   ended_early laws disk counts_now by words keys old new before after output fault early lives = record {
@@ -96,7 +97,8 @@ module _ (store : StoreKind) (quiet : IsQuiet store) (life : LifeWords store) wh
   }
 
   -- The script was run over the store that was opened.
-  pub ran : (laws : AreStandingLaws store) {S : Type 0} (disk : S → Disk) (counts_now : (x : S) (t : Clock) (c : Image) → NotAfter t (disk x).moment → (disk x).may_leave c → (disk x).left_since t c) (by : Manner) (words : List ℕ) (keys : Keys) (old between new : S) (input input_new output output_new : Flow) (p : Params) (script : Scripts) (found : store.Found) (start : store.Start) (sealing : Sealing) (fault : Option Fault)
+  pub ran : (laws : AreStandingLaws store) {S : Type 0} (disk : S → Disk)
+      (counts_now : (x : S) (t : Clock) (c : Image) → NotAfter t (disk x).moment → (disk x).may_leave c → (disk x).left_since t c) (by : Manner) (words : List ℕ) (keys : Keys) (old between new : S) (input input_new output output_new : Flow) (p : Params) (script : Scripts) (found : store.Found) (start : store.Start) (sealing : Sealing) (fault : Option Fault)
       → (disk old).faults ≤ (disk between).faults
       → IsOpened store keys (disk old) input p script found start → ArePhasesMade by.lanes (begin_phases store p found start) (disk old).seen (disk between).seen
       → ((disk old).tells → (disk between).tells × IsSynced (disk between))

@@ -1,6 +1,6 @@
 -- What serving a script does to the store that the vault was lent, whatever the kind of store.
 use Rattle.std.specs.List.{All}
-use Rattle.std.proofs.Common.{◌≡◌, ◌+◌, ◌∙◌, ◌⊎◌, ℕ, suc, Bool, List, [], ◌∷◌, ◌++◌, length, map, Option, Some, None, Result, Ok, Err, refl, sym, ap, subst, inl, inr, arith, ⊎_elim}
+use Rattle.std.proofs.Common.{false, ◌≡◌, ◌+◌, ◌∙◌, ◌⊎◌, ℕ, suc, Bool, List, [], ◌∷◌, ◌++◌, length, map, Option, Some, None, Result, Ok, Err, refl, sym, ap, subst, inl, inr, arith, ⊎_elim}
 use Rattle.std.proofs.lemmas.List.{append-nil, append_assoc}
 use Rattle.std.proofs.lemmas.Option.{same_Some}
 use Rattle.std.specs.Ordering.{nat_cmp}
@@ -36,7 +36,9 @@ use Rattle.ob_vault.specs.KindLaws.{AllAnswered}
 use Rattle.ob_vault.proofs.Shapes.{answered_join as answers_join, shapes_join, answered_not_refused, refused_last}
 use Rattle.ob_script.specs.Script.{ScriptTxn, Scripts, AreSound, asks_by}
 use Rattle.ob_desk.specs.Desk.{DeskState, MayOpen, Run, new_desk}
-use Rattle.ob_conduct.specs.Acts.{Act, Says, Halts, Rests as Looked, Takes, Delivers, DeliverFails, FetchFails, Closes, Publishes, Refuses, Unprinted, calls, history, vault_calls, rest_fetches, fault_in, fault_told, records as records_of_acts}
+use Rattle.ob_conduct.specs.Acts.{Act, Says, Halts, Rests as Looked, Takes, Delivers, DeliverFails, FetchFails, RestUnwatched, Closes, Publishes, Refuses, Unprinted, Unwatched, calls, history, vault_calls, rest_fetches, fault_in, fault_of as fault_for, fault_told, records as records_of_acts}
+use Rattle.ob_conduct.specs.declared.run_err.RunErr.{RunErr}
+use Rattle.ob_conduct.specs.declared.run_err.RunErr.TheVariants as failed
 use Rattle.ob_conduct.specs.Scenes.{scene, RunState, run_state, RunnerKind}
 use Rattle.ob_conduct.specs.Records.{AreAnswered, AreWritten, HoldsMap, contents}
 use Rattle.ob_conduct.specs.Moves.{Failure, IsReason, AreLines}
@@ -53,8 +55,8 @@ use Rattle.ob_conduct.proofs.Conducting.{due_epoch, due_in_order, due_one_by_one
 use Rattle.ob_outcomes.specs.Served.{IsServed, ClientsServedAll}
 use Rattle.ob_outcomes.proofs.Whole.{RunsScripts, is_served, its_acts, its_desk, all_served, next_served}
 use Rattle.ob_desk.specs.Beats.{BeatKind}
-use Rattle.ob_top.specs.Endings.{fault_of}
-use Rattle.ob_top.proofs.Lines.{lines_stand, next_by_acts}
+use Rattle.ob_top.specs.Endings.{fault_by}
+use Rattle.ob_top.proofs.Lines.{lines_stand, next_by_acts, none_unwatched, still_whole}
 use Rattle.ob_top.specs.Runs.{Manner, manner, EndsWith, EndsFor, IsTraced, IsLeftOnDisk, StagedFrom, IsNextEpoch, ComesNext, ServedOver, LivesBehind}
 
 -- an end that was refused ended nothing
@@ -269,12 +271,18 @@ module _ {V S : Type 0} (k : Kind V) (store : StoreKind) (disk : S → Disk) (st
       by_end front writes (Unsure fault) chain answered wrote cause = cut_short front (End writes) (DoubtBy fault) fault chain answered wrote refl refl refl (λ q h so_far n v w at one. does q h so_far n v (End writes) (DoubtBy fault) w at one) cause
 
       module _ (acts : List Act) (same : records_of_acts acts ≡ records) (chain : AllCalled k first (calls acts) last) (wrote : AreWritten (ended_of (calls acts)) records) where
-        module _ (d e : DeskState) (t u : Trace) (fault : Fault) (f : Failure k (scene d first t) (scene e last u) acts before after fault) where
+        module _ (d e : DeskState) (t u : Trace) (whole : u.broken ≡ false) (err : RunErr) (f : Failure k (scene d first t) (scene e last u) acts before after err) where
+          abbrev fault : Fault
+          fault = fault_for err
+
           its_calls : (act : Act) → f.act ≡ act → calls acts ≡ calls f.front ++ vault_calls act
           its_calls act is = asks_before acts f.front act f.behind (f.acts_are ∙ ap (λ (x : Act). f.front ++ x ∷ f.behind) is) f.says
 
-          its_fault : (act : Act) (other : Fault) → f.act ≡ act → fault_told act ≡ Some other → Ending (calls acts) (Some other) → Ending (calls acts) (Some fault)
-          its_fault act other is tells = subst (λ (x : Option Fault). Ending (calls acts) x) (sym (sym f.told ∙ ap fault_told is ∙ tells))
+          told_by : (act : Act) (given : Fault) → f.act ≡ act → fault_told act ≡ Some (failed.Fault given) → fault ≡ given
+          told_by act given is tells = ap fault_for (same_Some err (failed.Fault given) (sym f.told ∙ ap fault_told is ∙ tells))
+
+          its_fault : (act : Act) (other : Fault) → f.act ≡ act → fault_told act ≡ Some (failed.Fault other) → Ending (calls acts) (Some other) → Ending (calls acts) (Some fault)
+          its_fault act other is tells = subst (λ (x : Fault). Ending (calls acts) (Some x)) (sym (told_by act other is tells))
 
           -- it asked the vault for nothing
           answered_all : (act : Act) → f.act ≡ act → vault_calls act ≡ [] → AreAnswered (calls acts)
@@ -286,11 +294,8 @@ module _ {V S : Type 0} (k : Kind V) (store : StoreKind) (disk : S → Disk) (st
           by_last front call answer given fault_is are none so = subst (λ l. Ending l (Some fault)) (sym are) (subst (λ (x : Fault). Ending (front ++ (call, answer) ∷ []) (Some x)) (sym fault_is)
               (so (subst (λ l. AllCalled k first l last) are chain) (subst (λ ws. AreWritten ws records) (ap ended_of are ∙ none_more front call answer none) wrote) (λ is. f.cause (subst IsStoreFault (sym fault_is) is))))
 
-          told_by : (act : Act) (given : Fault) → f.act ≡ act → fault_told act ≡ Some given → fault ≡ given
-          told_by act given is tells = same_Some fault given (sym f.told ∙ ap fault_told is ∙ tells)
-
-          by_act : (act : Act) → f.act ≡ act → IsReason k (scene d first t) f.front act → AreLines act records before after → Ending (calls acts) (Some fault)
-          by_act (Halts given) is reason lines = its_fault (Halts given) Memory is (ap Some reason) (ends_alone (calls acts) chain (answered_all (Halts given) is refl) (Some Memory) (λ h. tt))
+          by_act : (act : Act) → f.act ≡ act → IsReason k (scene d first t) f.front act u → AreLines act records before after → Ending (calls acts) (Some fault)
+          by_act (Halts given) is reason lines = its_fault (Halts given) Memory is (ap (λ (x : Fault). Some (failed.Fault x)) reason) (ends_alone (calls acts) chain (answered_all (Halts given) is refl) (Some Memory) (λ h. tt))
           by_act Unprinted is reason lines = its_fault Unprinted SinkFault is refl
               (ends_alone (calls acts) chain (answered_all Unprinted is refl) (Some SinkFault) (λ h. rose_later before.faults lines.mid.faults after.faults lines.written.later lines.rose))
           by_act (DeliverFails keys given) is reason lines = by_last (calls f.front) (Fetch keys) (RefusedBy given) given (told_by (DeliverFails keys given) given is refl) (its_calls (DeliverFails keys given) is) refl
@@ -300,6 +305,8 @@ module _ {V S : Type 0} (k : Kind V) (store : StoreKind) (disk : S → Disk) (st
               (λ c w cause. by_fetch (calls f.front ++ rest_fetches batches) keys given c (answered_join (calls f.front) (rest_fetches batches) f.answered (subst AreAnswered (append-nil (rest_fetches batches)) (answered_rest batches [] tt))) w cause)
           by_act (Refuses writes refusal) is reason lines = by_last (calls f.front) (End writes) (end_answer (Err refusal)) (fault_in refusal) (told_by (Refuses writes refusal) (fault_in refusal) is refl) (its_calls (Refuses writes refusal) is) (none_ended writes refusal)
               (λ c w cause. by_end (calls f.front) writes refusal c f.answered w cause)
+          by_act (RestUnwatched look batches) is reason lines = absurd (still_whole u.broken whole reason)
+          by_act Unwatched is reason lines = absurd (still_whole u.broken whole reason)
           by_act (Says client steps) is reason lines = absurd reason
           by_act (Looked look) is reason lines = absurd reason
           by_act (Takes look keys) is reason lines = absurd reason
@@ -307,11 +314,11 @@ module _ {V S : Type 0} (k : Kind V) (store : StoreKind) (disk : S → Disk) (st
           by_act (Closes look batches writes) is reason lines = absurd reason
           by_act (Publishes writes left told) is reason lines = absurd reason
 
-        ending : {U : Type 0} (d e : DeskState) (t u : Trace) (were are : List U) (result : Result (Unit {0}) Fault) → RunEnds k (run_state (scene d first t) were before) (run_state (scene e last u) are after) acts result → Ending (calls acts) (fault_of result)
-        ending d e t u were are (Ok done) (answered, over, written) = ends_alone (calls acts) chain answered None (λ h. tt)
-        ending d e t u were are (Err fault) (inl short) = subst (λ (f : Fault). Ending (calls acts) (Some f)) (sym short.fault_is)
+        ending : {U : Type 0} (d e : DeskState) (t u : Trace) → u.broken ≡ false → (were are : List U) (result : Result (Unit {0}) RunErr) → RunEnds k (run_state (scene d first t) were before) (run_state (scene e last u) are after) acts result → Ending (calls acts) (fault_by result)
+        ending d e t u unbroken were are (Ok done) (answered, over, written, still) = ends_alone (calls acts) chain answered None (λ h. tt)
+        ending d e t u unbroken were are (Err err) (inl short) = subst (λ (f : Fault). Ending (calls acts) (Some f)) (sym (ap fault_for short.fault_is))
             (ends_alone (calls acts) chain (subst (λ (xs : List Act). AreAnswered (calls xs)) (sym short.none) tt) (Some Memory) (λ h. tt))
-        ending d e t u were are (Err fault) (inr f) = by_act d e t u fault f f.act refl f.reason (subst (λ (rs : List (EpochRecord ℕ)). AreLines f.act rs before after) same f.lines)
+        ending d e t u unbroken were are (Err err) (inr f) = by_act d e t u unbroken err f f.act refl f.reason (subst (λ (rs : List (EpochRecord ℕ)). AreLines f.act rs before after) same f.lines)
 
   -- what the lender knows of a vault's words
   pub record IsLender (sealing : Sealing) : Type 1 where
@@ -330,8 +337,8 @@ module _ {V S : Type 0} (k : Kind V) (store : StoreKind) (disk : S → Disk) (st
   module _ {U : Type 0} (beat : BeatKind) (threads : Bool) (kind : RunnerKind U (List ScriptTxn))
       (means : RunsScripts kind)
       (sealing : Sealing) (script : Scripts) (sound : AreSound script) (may : MayOpen (record { params = p }) (suc (store.epoch found)) (store.left p found) script.clients)
-      (trace : Trace) (runners : List U) (before : Flow) (end : RunState V U) (result : Result (Unit {0}) Fault)
-      (named : map kind.client runners ≡ script.clients) (planned : All (λ u. kind.plan u ≡ asks_by (kind.client u) script.txns) runners) where
+      (trace : Trace) (runners : List U) (before : Flow) (end : RunState V U) (result : Result (Unit {0}) RunErr)
+      (unbroken : end.scene.trace.broken ≡ false) (named : map kind.client runners ≡ script.clients) (planned : All (λ u. kind.plan u ≡ asks_by (kind.client u) script.txns) runners) where
     abbrev base : DeskState
     base = new_desk (record { params = p }) (suc (store.epoch found)) (store.left p found) script.clients
 
@@ -350,7 +357,7 @@ module _ {V S : Type 0} (k : Kind V) (store : StoreKind) (disk : S → Disk) (st
 
       comes_next : (epoch : ℕ) → epoch ≡ store.epoch found → (next : Option (EpochRecord ℕ)) → IsNextOf k begin end acts result next → IsNextEpoch store under p (disk (store_of start)) found (suc epoch + length records) script records next
       comes_next epoch same None is = tt
-      comes_next epoch same (Some r) (fault, told, f, (writes, refused, act_is, u, the)) =
+      comes_next epoch same (Some r) (err, told, f, (writes, refused, act_is, u, the)) =
           let is = f.acts_are ∙ ap (λ (x : Act). f.front ++ x ∷ f.behind) act_is in
           subst (ComesNext store under p (disk (store_of start)) found (suc epoch + length records) script records) the (record {
             epoch_is = due_epoch k kind p beat begin (record { params = p }) (suc (store.epoch found)) (store.left p found) script.clients refl acts end result d f.front writes refused f.behind is f.says u ∙ ap (λ e. suc e + length records) (sym same);
@@ -359,8 +366,8 @@ module _ {V S : Type 0} (k : Kind V) (store : StoreKind) (disk : S → Disk) (st
             one_by_one = λ m of. due_one_by_one k kind p beat begin (record { params = p }) (suc (store.epoch found)) (store.left p found) script.clients refl acts end result d f.front writes refused f.behind is f.says u m (l.holds m of);
           })
 
-      doubt_told : (epoch n : ℕ) → epoch ≡ n → TellsDoubt epoch result → fault_of result ≡ Some (StoreFault (Some n))
-      doubt_told epoch n same told = ap fault_of told ∙ ap (λ (m : ℕ). Some (StoreFault (Some m))) same
+      doubt_told : (epoch n : ℕ) → epoch ≡ n → TellsDoubt epoch result → fault_by result ≡ Some (StoreFault (Some n))
+      doubt_told epoch n same told = ap fault_by told ∙ ap (λ (m : ℕ). Some (StoreFault (Some m))) same
 
       standing_in : {P Q : Standing → Type 0} (c : Image) → ((at : Standing) → P at → Q at) → StandsIn (k.stands start) P c → StandsIn (store.stands under p (store.generation found)) Q c
       standing_in c to (at, stands, is) = (at, l.stands c at stands, to at is)
@@ -370,12 +377,12 @@ module _ {V S : Type 0} (k : Kind V) (store : StoreKind) (disk : S → Disk) (st
           (λ c is. standing_in c (λ s x. x) is) (l.since from to (StandsIn (k.stands start) P) leaves)
 
       staged_stores : (at : Standing) (told : List (EpochRecord ℕ)) (next : Option (EpochRecord ℕ)) (from to : V) → Stages k (k.stands start) at told next from to
-          → StagedFrom store under p found at script records (fault_of result) disk at told next (disk (store_of from)) (disk (store_of to))
+          → StagedFrom store under p found at script records (fault_by result) disk at told next (disk (store_of from)) (disk (store_of to))
       staged_stores at [] next from to leaves = as_stored (IsThisOrNext at next) from to leaves
       staged_stores at (r ∷ told) next from to (mid, leaves, rest) = (store_of mid, as_stored (IsThisOrNext at (Some r)) from mid leaves, staged_stores (next_at at r) told next mid to rest)
 
       left : (at : Standing) → (disk (store_of start)).tells → IsSynced (disk (store_of start)) → IsOpenedAt store under p at found (disk (store_of start))
-          → IsLeftOnDisk store under p found at script records (fault_of result) acts disk (disk (store_of start)) (disk (store_of last))
+          → IsLeftOnDisk store under p found at script records (fault_by result) acts disk (disk (store_of start)) (disk (store_of last))
       left at tells settled opened =
           let v = opened_with p (store.left p found) at in
           let same : at.epoch ≡ store.epoch found = sym opened.epoch in
@@ -391,22 +398,22 @@ module _ {V S : Type 0} (k : Kind V) (store : StoreKind) (disk : S → Disk) (st
                 (λ s x. ⊎_elim (λ e. inl e) (λ (r, is, told, e). inr (r, is, doubt_told (suc (store.epoch found) + length records) (suc at.epoch + length records) (ap (λ e. suc e + length records) (sym same)) told, e)) x) (by.now c (l.now last c may));
           }
 
-      whole : (r : Result (Unit {0}) Fault) → RunEnds k begin end acts r → r ≡ result → fault_of result ≡ None → ClientsServedAll script records
-      whole (Ok done) (answered, over, written) is none = all_served k beat kind means p (store.epoch found) (store.left p found) script sound may start trace runners before end acts result named planned d over
-      whole (Err fault) ends is none = absurd (no_fault fault (ap fault_of is ∙ none))
+      whole : (r : Result (Unit {0}) RunErr) → RunEnds k begin end acts r → r ≡ result → fault_by result ≡ None → ClientsServedAll script records
+      whole (Ok done) (answered, over, written, still) is none = all_served k beat kind means p (store.epoch found) (store.left p found) script sound may start trace runners before end acts result named planned d over
+      whole (Err err) ends is none = absurd (no_fault (fault_for err) (ap fault_by is ∙ none))
         where
           no_fault : (f : Fault) → ◌≡◌ {A = Option Fault} (Some f) None → ⊥
           no_fault f e = cc e
 
       chain : AllCalled k start (calls acts) last
-      chain = called k start (calls acts) d.notes last d.chain
+      chain = called k start trace (calls acts) d.notes last end.scene.trace d.chain
 
       -- without a fault all calls were answered
-      still_told : (r : Result (Unit {0}) Fault) → RunEnds k begin end acts r → fault_of r ≡ None → (disk (store_of start)).tells → (disk (store_of last)).tells
-      still_told (Ok done) (answered, over, written) none = l.told last (calls acts) chain answered
-      still_told (Err fault) ends none = absurd (no_fault none)
+      still_told : (r : Result (Unit {0}) RunErr) → RunEnds k begin end acts r → fault_by r ≡ None → (disk (store_of start)).tells → (disk (store_of last)).tells
+      still_told (Ok done) (answered, over, written, still) none = l.told last (calls acts) chain answered
+      still_told (Err err) ends none = absurd (no_fault none)
         where
-          no_fault : ◌≡◌ {A = Option Fault} (Some fault) None → ⊥
+          no_fault : ◌≡◌ {A = Option Fault} (Some (fault_for err)) None → ⊥
           no_fault e = cc e
 
       abbrev is_run : IsServed (AreShaped threads script.clients) beat p (store.epoch found) (store.left p found) script records
@@ -418,29 +425,30 @@ module _ {V S : Type 0} (k : Kind V) (store : StoreKind) (disk : S → Disk) (st
       desk_is : end.scene.desk ≡ (is_served k beat kind means p (store.epoch found) (store.left p found) script sound may start trace runners before end acts result named planned d (AreShaped threads script.clients) rounds).desk
       desk_is = sym (its_desk k beat kind means p (store.epoch found) (store.left p found) script sound may start trace runners before end acts result named planned d (AreShaped threads script.clients) rounds)
 
-      ends_with : (r : Result (Unit {0}) Fault) → RunEnds k begin end acts r → EndsWith (fault_of r) acts end.scene.desk
-      ends_with (Ok done) (answered, over, written) = over
-      ends_with (Err fault) (inl short) = inl (short.fault_is, short.none)
-      ends_with (Err fault) (inr f) = inr (f.front, f.act, f.behind, f.acts_are, f.says, f.told)
+      ends_with : (r : Result (Unit {0}) RunErr) → RunEnds k begin end acts r → EndsWith (fault_by r) acts end.scene.desk
+      ends_with (Ok done) (answered, over, written, still) = over
+      ends_with (Err err) (inl short) = inl (ap fault_for short.fault_is, short.none)
+      ends_with (Err (failed.Fault told)) (inr f) = inr (f.front, f.act, f.behind, f.acts_are, f.says, f.told)
+      ends_with (Err failed.Unwatched) (inr f) = absurd (none_unwatched k begin.scene f.front f.act end.scene.trace unbroken f.reason f.told)
 
       -- the trace, what goes on in the life with its steps, and why it ended there
       abbrev TracesLife : List Act → List Event → Type 0
-      TracesLife xs events = (t : IsTraced store most p (store.public p found) (store.hidden p found) (tape_of last) (calls xs) (fault_of result) events)
+      TracesLife xs events = (t : IsTraced store most p (store.public p found) (store.hidden p found) (tape_of last) (calls xs) (fault_by result) events)
           × life.goes_on under p found (disk (store_of start)) (answered (calls xs)) t.steps t.behind (refused (calls xs)) (tape_of last) (disk (store_of last))
-          × EndsFor store under p found (disk (store_of start)) t.behind (shapes (calls xs)) (length records) (refused (calls xs)) (tape_of last) (disk (store_of start)) (disk (store_of last)) before after (fault_of result)
+          × EndsFor store under p found (disk (store_of start)) t.behind (shapes (calls xs)) (length records) (refused (calls xs)) (tape_of last) (disk (store_of start)) (disk (store_of last)) before after (fault_by result)
 
       -- what serving does
-      pub serves : At (store.public p found) (store.hidden p found) [] 0 start → ServedOver store life disk (manner beat threads most) under p found sealing script (tape_of last) (store_of start) (store_of last) before after (fault_of result)
+      pub serves : At (store.public p found) (store.hidden p found) [] 0 start → ServedOver store life disk (manner beat threads most) under p found sealing script (tape_of last) (store_of start) (store_of last) before after (fault_by result)
       serves begun =
-          let e = ending start last before after records begun l.faults acts refl chain d.wrote base end.scene.desk trace end.scene.trace runners end.runners result d.ends in
+          let e = ending start last before after records begun l.faults acts refl chain d.wrote base end.scene.desk trace end.scene.trace unbroken runners end.runners result d.ends in
           let told = subst (λ (xs : List Act). TracesLife xs e.events) acts_are (e.traced, e.goes_on, e.cause) in
-          let stand = lines_stand k begin end acts result d.ends in
+          let stand = lines_stand k begin end acts result unbroken d.ends in
           record {
             records = records;
             is_served = record {
               served = is_run;
               all = whole result d.ends refl;
-              ends = subst (λ (x : DeskState). EndsWith (fault_of result) is_run.acts x) desk_is (subst (λ (xs : List Act). EndsWith (fault_of result) xs end.scene.desk) acts_are (ends_with result d.ends));
+              ends = subst (λ (x : DeskState). EndsWith (fault_by result) is_run.acts x) desk_is (subst (λ (xs : List Act). EndsWith (fault_by result) xs end.scene.desk) acts_are (ends_with result d.ends));
               opens = may;
               fed = λ m of. subst (λ (x : DeskState). Run m base (history is_run.acts) (contents m records) x) desk_is
                   (subst (λ (xs : List Act). Run m base (history xs) (contents m records) end.scene.desk) acts_are (d.serial m (l.holds m of)).0);
@@ -452,9 +460,9 @@ module _ {V S : Type 0} (k : Kind V) (store : StoreKind) (disk : S → Disk) (st
             events = e.events;
             traced = told.0;
             seen = e.seen;
-            goes = l.goes start last (goes_all k start (calls acts) d.notes last d.chain);
+            goes = l.goes start last (goes_all k start trace (calls acts) d.notes last end.scene.trace d.chain);
             tells = still_told result d.ends;
-            left = λ at tells settled opened. subst (λ (xs : List Act). IsLeftOnDisk store under p found at script records (fault_of result) xs disk (disk (store_of start)) (disk (store_of last))) acts_are (left at tells settled opened);
+            left = λ at tells settled opened. subst (λ (xs : List Act). IsLeftOnDisk store under p found at script records (fault_by result) xs disk (disk (store_of start)) (disk (store_of last))) acts_are (left at tells settled opened);
             lives = subst (λ (xs : List Act). LivesBehind disk under sealing (store_of start) (store_of last) (map (λ s. s.1) (calls xs))) acts_are (l.lives last (calls acts) chain);
             goes_on = told.1;
           }
@@ -463,18 +471,18 @@ module _ {V S : Type 0} (k : Kind V) (store : StoreKind) (disk : S → Disk) (st
   pub serves_on : {U : Type 0} (beat : BeatKind) (threads : Bool) (kind : RunnerKind U (List ScriptTxn))
       (means : RunsScripts kind)
       (sealing : Sealing) (script : Scripts) (sound : AreSound script) (may : MayOpen (record { params = p }) (suc (store.epoch found)) (store.left p found) script.clients)
-      (trace : Trace) (runners : List U) (before : Flow) (end : RunState V U) (result : Result (Unit {0}) Fault) (epoch left : ℕ)
-      → map kind.client runners ≡ script.clients → All (λ u. kind.plan u ≡ asks_by (kind.client u) script.txns) runners → epoch ≡ store.epoch found → left ≡ store.left p found
+      (trace : Trace) (runners : List U) (before : Flow) (end : RunState V U) (result : Result (Unit {0}) RunErr) (epoch left : ℕ)
+      → end.scene.trace.broken ≡ false → map kind.client runners ≡ script.clients → All (λ u. kind.plan u ≡ asks_by (kind.client u) script.txns) runners → epoch ≡ store.epoch found → left ≡ store.left p found
       → RunsBy threads k kind beat (run_state (scene (new_desk (record { params = p }) (suc epoch) left script.clients) start trace) runners before) end result
       → IsLender sealing → At (store.public p found) (store.hidden p found) [] 0 start
-      → ServedOver store life disk (manner beat threads most) under p found sealing script (tape_of end.scene.vault) (store_of start) (store_of end.scene.vault) before end.output (fault_of result)
-  serves_on beat threads kind means sealing script sound may trace runners before end result epoch left named planned epoch_is left_is run l begun =
+      → ServedOver store life disk (manner beat threads most) under p found sealing script (tape_of end.scene.vault) (store_of start) (store_of end.scene.vault) before end.output (fault_by result)
+  serves_on beat threads kind means sealing script sound may trace runners before end result epoch left unbroken named planned epoch_is left_is run l begun =
       let run_is = subst (λ n. RunsBy threads k kind beat (run_state (scene (new_desk (record { params = p }) (suc (store.epoch found)) n script.clients) start trace) runners before) end result) left_is
       (subst (λ e. RunsBy threads k kind beat (run_state (scene (new_desk (record { params = p }) (suc e) left script.clients) start trace) runners before) end result) epoch_is run) in
       let (acts, d, shaped) = runs_shaped threads k kind beat _ end result run_is in
-      serves beat threads kind means sealing script sound may trace runners before end result named planned acts d (subst (λ numbers. AreShaped threads numbers acts) named shaped) l begun
+      serves beat threads kind means sealing script sound may trace runners before end result unbroken named planned acts d (subst (λ numbers. AreShaped threads numbers acts) named shaped) l begun
 
 -- the same by other names
-pub renamed : (store : StoreKind) (life : LifeWords store) {S : Type 0} (disk : S → Disk) (by : Manner) (keys : Keys) (p : Params) (found : store.Found) (was sealing : Sealing) (script : Scripts) (given words : List ℕ) (a old b new : S) (before after : Flow) (fault : Option Fault)
-    → was ≡ sealing → given ≡ words → a ≡ old → new ≡ b → ServedOver store life disk by keys p found was script given a b before after fault → ServedOver store life disk by keys p found sealing script words old new before after fault
-renamed store life disk by keys p found was sealing script given words a old b new before after fault sealing_is words_are old_is new_is s = rw (← sealing_is, ← words_are, ← old_is, new_is) s
+pub renamed : (store : StoreKind) (life : LifeWords store) {S : Type 0} (disk : S → Disk) (by : Manner) (keys : Keys) (p : Params) (found : store.Found) (was sealing : Sealing) (script : Scripts) (given words : List ℕ) (a old b new : S) (before after : Flow) (fault told : Option Fault)
+    → was ≡ sealing → given ≡ words → a ≡ old → new ≡ b → told ≡ fault → ServedOver store life disk by keys p found was script given a b before after fault → ServedOver store life disk by keys p found sealing script words old new before after told
+renamed store life disk by keys p found was sealing script given words a old b new before after fault told sealing_is words_are old_is new_is told_is s = rw (← sealing_is, ← words_are, ← old_is, new_is, told_is) s

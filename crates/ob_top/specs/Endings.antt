@@ -8,7 +8,8 @@ use Rattle.ob_serial.specs.Serial.{EpochRecord}
 use Rattle.ob_serial.specs.declared.vault.EndErr.{EndErr}
 use Rattle.ob_desk.specs.Desk.{DeskState, Part, record_of}
 use Rattle.ob_session.specs.Steps.{Leads}
-use Rattle.ob_conduct.specs.Acts.{Act, Refuses, history}
+use Rattle.ob_conduct.specs.declared.run_err.RunErr.{RunErr}
+use Rattle.ob_conduct.specs.Acts.{Act, Refuses, history, fault_of as fault_for}
 use Rattle.ob_conduct.specs.Records.{Makes, IsCutShort, IsWritten}
 use Rattle.ob_conduct.specs.Moves.{IsSaid}
 
@@ -16,6 +17,11 @@ use Rattle.ob_conduct.specs.Moves.{IsSaid}
 abbrev pub fault_of : Result (Unit {0}) Fault → Option Fault
 fault_of (Ok done) = None
 fault_of (Err fault) = Some fault
+
+-- the fault that a run's answer tells
+abbrev pub fault_by : Result (Unit {0}) RunErr → Option Fault
+fault_by (Ok done) = None
+fault_by (Err err) = Some (fault_for err)
 
 -- How much of these records' lines stands, and for how many records all of them: for each one; but where the output failed, it failed at
 -- the last one's, and nothing stands behind a front of these.

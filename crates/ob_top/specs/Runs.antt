@@ -30,6 +30,7 @@ use Rattle.ob_vault.specs.KindShown.{AreDrawn, IsSeenCut, public_behind, steps_p
 use Rattle.ob_desk.specs.Desk.{DeskState, MayOpen, Run, new_desk}
 use Rattle.ob_desk.specs.Beats.{BeatKind}
 use Rattle.ob_script.specs.Script.{Scripts, IsScript, IsFirstBad, limit}
+use Rattle.ob_conduct.specs.declared.run_err.RunErr.TheVariants as failed
 use Rattle.ob_conduct.specs.Acts.{Act, calls, history, fault_told}
 use Rattle.ob_conduct.specs.Moves.{IsSaid}
 use Rattle.ob_conduct.specs.Records.{IsOver, contents}
@@ -141,7 +142,7 @@ EndsFor store keys p found opened h behind n call words old new before after (So
 -- behind which there are clients' turns alone, tells of the fault, or nothing was done for want of memory.
 abbrev pub EndsWith : Option Fault → List Act → DeskState → Type 0
 EndsWith None acts desk = IsOver desk
-EndsWith (Some fault) acts desk = ((fault ≡ Memory) × (acts ≡ [])) ⊎ ((front : List Act) × (act : Act) × (behind : List Act) × (acts ≡ front ++ act ∷ behind) × All IsSaid behind × (fault_told act ≡ Some fault))
+EndsWith (Some fault) acts desk = ((fault ≡ Memory) × (acts ≡ [])) ⊎ ((front : List Act) × (act : Act) × (behind : List Act) × (acts ≡ front ++ act ∷ behind) × All IsSaid behind × (fault_told act ≡ Some (failed.Fault fault)))
 
 -- How a run goes: at which looks its driver may act, whether its clients have threads of their own, and how many lanes may share a
 -- phase's reads.

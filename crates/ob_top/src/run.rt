@@ -27,7 +27,9 @@ ghost use Rattle.ob_top.specs.Runs.{manner, CameIn, IsInputRefused, EndsEarly, I
 ghost use Rattle.ob_top.specs.Endings.{fault_of};
 ghost use Rattle.ob_top.specs.Outside.{outside};
 
+use crate::endings::told;
 use ob_base::{Fault, Memory, Params};
+use ob_conduct::RunErr;
 use ob_desk::{Beat, Desk};
 use ob_io::{ReadErr, Sink, Source, read_all};
 use ob_lanes::Lanes;
@@ -114,8 +116,8 @@ fn begin<R: Threads + Sync, S: Lanes, T: Tape, I: Source>(
         × IsBegun keys.now lanes begun.params begun.scripts (S.disk store.old) (S.disk store.new)
         (inflow I.Source input.old) f) }
     ensures refused { IfErr result
-        (λ fault. EndsEarly ring_kind ring_lives keys.now lanes (S.disk store.old) (S.disk store.new)
-        S.disk (inflow I.Source input.old) (inflow I.Source input.new) fault) }
+        (λ fault. EndsEarly ring_kind ring_lives keys.now lanes (S.disk store.old)
+        (S.disk store.new) S.disk (inflow I.Source input.old) (inflow I.Source input.new) fault) }
     ensures opens { IfOk result (λ begun. IsReadAndOpened S.disk keys.now store.old store.new
         begun.opening.sealer) }
     ensures lives { (S.disk store.new).tells
@@ -165,9 +167,10 @@ fn conduct<R: Threads + Wait + Sync, V: Vault, W: Watch, O: Sink, B: Beat>(
     output: &mut O,
     beat: &mut B,
     threads: bool,
-) -> Result<(), Fault>
+) -> Result<(), RunErr>
     requires params { V.params vault.old ≡ params.now }
     requires serves { (V.counts vault.old).spent ≡ false }
+    requires whole { (W.trace watch.old).broken ≡ false }
     requires few { (V.counts vault.old).left ≤ params.now.batches }
     requires sound { AreSound scripts.now }
     requires keys { scripts.now.keys ≡ params.now.keys }
@@ -191,7 +194,7 @@ fn conduct<R: Threads + Wait + Sync, V: Vault, W: Watch, O: Sink, B: Beat>(
         scripts.clients(),
     ) {
         Ok(desk) => desk,
-        Err(Memory) => return Err(Fault::Memory),
+        Err(Memory) => return Err(RunErr::Fault(Fault::Memory)),
     };
     run(
         rt,
@@ -238,7 +241,8 @@ fn serve_on<R: Threads + Wait + Sync, S: Lanes, T: Tape, O: Sink, B: Beat>(
         → GoesOnFrom keys.now begun.params found f → HasPlanned f.run f.content f.records
         → ServedOver ring_kind ring_lives S.disk
         (manner (beat_kind B.passes B.exact) means.threads means.lanes)
-        keys.now begun.params f begun.opening.sealer begun.scripts (T.drawn tape.new) store.old store.new
+        keys.now begun.params f begun.opening.sealer begun.scripts (T.drawn tape.new)
+        store.old store.new
         (outflow O.Sink output.old) (outflow O.Sink output.new) (fault_of result) }
 {
     let Begun {
@@ -262,7 +266,7 @@ fn serve_on<R: Threads + Wait + Sync, S: Lanes, T: Tape, O: Sink, B: Beat>(
     );
     let (store, tape) = vault.into_lent();
     hand_back(store, tape);
-    ended
+    told(ended)
 }
 
 /// Runs the script that comes in over a store, and reports each epoch once it has ended. Without

@@ -2,13 +2,14 @@
 use Rattle.std.proofs.Common.{◌≡◌, ℕ, suc, List, [], ◌∷◌, ◌++◌, length, refl, sym, ap, ◌∙◌, subst}
 use Rattle.std.specs.Prelude.{All}
 use Rattle.std.proofs.lemmas.List.Elements.{All-head, All-tail}
+use Rattle.ob_base.specs.declared.fault.Fault.TheVariants.{SinkFault}
 use Rattle.ob_serial.specs.Serial.{EpochRecord}
 use Rattle.ob_serial.specs.declared.vault.EndErr.TheVariants as refused
 use Rattle.ob_desk.specs.Desk as desk
 use Rattle.ob_desk.specs.Desk.{DeskState, Call, Reply, published, records_told}
 use Rattle.ob_desk.specs.Beats.{BeatKind}
 use Rattle.ob_session.specs.Steps.{Leads, IsOwn}
-use Rattle.ob_conduct.specs.Acts.{Act, Says, Halts, Rests, Takes, Delivers, DeliverFails, FetchFails, Closes, Publishes, Refuses, Unprinted, Batch, IsAllowed, desk_calls, history, records, rest_calls, close_calls}
+use Rattle.ob_conduct.specs.Acts.{Act, Says, Halts, Rests, Takes, Delivers, DeliverFails, FetchFails, RestUnwatched, Closes, Publishes, Refuses, Unprinted, Unwatched, Batch, IsAllowed, desk_calls, history, records, rest_calls, close_calls}
 use Rattle.ob_conduct.proofs.Behind.{leads_split}
 use Rattle.ob_world.specs.Drivers.{AtRest}
 use Rattle.ob_world.specs.Weaves.{Due, due_behind, publishes_in}
@@ -43,8 +44,10 @@ publishes_are_records beat (act ∷ acts) d new allowed led =
     counted (DeliverFails keys fault) acts d mid own led more = more
     counted (FetchFails look batches keys fault) acts d mid own led more =
         more ∙ ap length (sym (batches_silent batches ((desk.TakeBatch, desk.Batch keys) ∷ (desk.Stop fault, desk.Done) ∷ []) (history acts)))
+    counted (RestUnwatched look batches) acts d mid own led more = more ∙ ap length (sym (batches_silent batches ((desk.Stop SinkFault, desk.Done) ∷ []) (history acts)))
     counted (Closes look batches writes) acts d mid own led more = more ∙ ap length (sym (batches_silent batches (close_calls writes) (history acts)))
     counted (Publishes writes left told) acts d mid own led more = ap suc more
     counted (Refuses writes (refused.Before fault)) acts d mid own led more = more
     counted (Refuses writes (refused.Unsure fault)) acts d mid own led more = more
     counted Unprinted acts d mid own led more = more
+    counted Unwatched acts d mid own led more = more

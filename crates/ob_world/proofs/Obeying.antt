@@ -13,7 +13,7 @@ use Rattle.ob_serial.specs.declared.vault.EndErr.TheVariants.{Before, Unsure}
 use Rattle.ob_desk.specs.Desk as desk
 use Rattle.ob_desk.specs.Desk.{DeskState, Call, Reply, Fault}
 use Rattle.ob_session.specs.Steps.{Leads}
-use Rattle.ob_conduct.specs.Acts.{Act, Says, Halts, Rests, Takes, Delivers, DeliverFails, FetchFails, Closes, Publishes, Refuses, Unprinted, Batch, desk_calls, history, calls, rest_calls, rest_fetches, close_calls}
+use Rattle.ob_conduct.specs.Acts.{Act, Says, Halts, Rests, Takes, Delivers, DeliverFails, FetchFails, RestUnwatched, Closes, Publishes, Refuses, Unprinted, Unwatched, Batch, desk_calls, history, calls, rest_calls, rest_fetches, close_calls, stop_calls}
 use Rattle.ob_conduct.specs.Rounds.{IsOneThing}
 use Rattle.ob_conduct.proofs.Behind.{leads_split}
 use Rattle.ob_run.specs.Threaded.{driven}
@@ -51,10 +51,12 @@ Stays s (Takes look keys ∷ acts) = (s ≡ false) × Stays s acts
 Stays s (Delivers batch ∷ acts) = Stays s acts
 Stays s (DeliverFails keys fault ∷ acts) = Stays true acts
 Stays s (FetchFails look batches keys fault ∷ acts) = (s ≡ false) × Stays true acts
+Stays s (RestUnwatched look batches ∷ acts) = (s ≡ false) × Stays true acts
 Stays s (Closes look batches writes ∷ acts) = (s ≡ false) × Stays s acts
 Stays s (Publishes writes left told ∷ acts) = Stays s acts
 Stays s (Refuses writes refused ∷ acts) = Stays true acts
 Stays s (Unprinted ∷ acts) = Stays true acts
+Stays s (Unwatched ∷ acts) = Stays true acts
 
 unstopped : (s : Bool) (d : DeskState) → (s ≡ true → IsStoppedDesk d) → None ≡ d.stop → s ≡ false
 unstopped false d stopped none = refl
@@ -78,6 +80,11 @@ fetch_stops d batches keys fault new led =
     let (mid, first, (last, may, step, rest)) = leads_split d (rest_calls batches) ((desk.TakeBatch, desk.Batch keys) ∷ (desk.Stop fault, desk.Done) ∷ []) new led in
     stopped_now last fault new rest
 
+rest_stops : (d : DeskState) (batches : List Batch) (new : DeskState) → Leads d (rest_calls batches ++ stop_calls SinkFault) new → IsStoppedDesk new
+rest_stops d batches new led =
+    let (mid, first, rest) = leads_split d (rest_calls batches) (stop_calls SinkFault) new led in
+    stopped_now mid SinkFault new rest
+
 pub stays : (acts : List Act) (s : Bool) (d new : DeskState) → Leads d (history acts) new → (s ≡ true → IsStoppedDesk d) → Stays s (driven acts)
 stays [] s d new led stopped = tt
 stays (Says client steps ∷ acts) s d new led stopped =
@@ -97,6 +104,9 @@ stays (DeliverFails keys fault ∷ acts) s d new led stopped =
 stays (FetchFails look batches keys fault ∷ acts) s d new led stopped =
     let (mid, first, rest) = leads_split d (desk_calls (FetchFails look batches keys fault)) (history acts) new led in
     (unstopped s d stopped first.2.0, stays acts true mid new rest (λ is. fetch_stops first.3.0 batches keys fault mid first.3.3))
+stays (RestUnwatched look batches ∷ acts) s d new led stopped =
+    let (mid, first, rest) = leads_split d (desk_calls (RestUnwatched look batches)) (history acts) new led in
+    (unstopped s d stopped first.2.0, stays acts true mid new rest (λ is. rest_stops first.3.0 batches mid first.3.3))
 stays (Closes look batches writes ∷ acts) s d new led stopped =
     let (mid, first, rest) = leads_split d (desk_calls (Closes look batches writes)) (history acts) new led in
     (unstopped s d stopped first.2.0, stays acts s mid new rest (goes_on s d (desk_calls (Closes look batches writes)) mid first stopped))
@@ -108,14 +118,18 @@ stays (Refuses writes (Unsure fault) ∷ acts) s d new led stopped =
     let (mid, first, rest) = leads_split d (desk_calls (Refuses writes (Unsure fault))) (history acts) new led in stays acts true mid new rest (λ is. doubted_now d fault mid first)
 stays (Unprinted ∷ acts) s d new led stopped =
     let (mid, first, rest) = leads_split d (desk_calls Unprinted) (history acts) new led in stays acts true mid new rest (λ is. stopped_now d SinkFault mid first)
+stays (Unwatched ∷ acts) s d new led stopped =
+    let (mid, first, rest) = leads_split d (desk_calls Unwatched) (history acts) new led in stays acts true mid new rest (λ is. stopped_now d SinkFault mid first)
 
 -- no act stops the desk
 abbrev pub AreCalm : List Act → Type 0
 AreCalm [] = Unit {0}
 AreCalm (DeliverFails keys fault ∷ acts) = ⊥
 AreCalm (FetchFails look batches keys fault ∷ acts) = ⊥
+AreCalm (RestUnwatched look batches ∷ acts) = ⊥
 AreCalm (Refuses writes refused ∷ acts) = ⊥
 AreCalm (Unprinted ∷ acts) = ⊥
+AreCalm (Unwatched ∷ acts) = ⊥
 AreCalm (_ ∷ acts) = AreCalm acts
 
 goes_stopped : (d : DeskState) (steps : List (Call × Reply)) (new : DeskState) → Leads d steps new → new.stop ≡ None → IsStoppedDesk d → ⊥
@@ -133,6 +147,9 @@ calm (DeliverFails keys fault ∷ acts) d new led none =
 calm (FetchFails look batches keys fault ∷ acts) d new led none =
     let (mid, first, rest) = leads_split d (desk_calls (FetchFails look batches keys fault)) (history acts) new led in
     goes_stopped mid (history acts) new rest none (fetch_stops first.3.0 batches keys fault mid first.3.3)
+calm (RestUnwatched look batches ∷ acts) d new led none =
+    let (mid, first, rest) = leads_split d (desk_calls (RestUnwatched look batches)) (history acts) new led in
+    goes_stopped mid (history acts) new rest none (rest_stops first.3.0 batches mid first.3.3)
 calm (Closes look batches writes ∷ acts) d new led none = let (mid, first, rest) = leads_split d (desk_calls (Closes look batches writes)) (history acts) new led in calm acts mid new rest none
 calm (Publishes writes left told ∷ acts) d new led none = let (mid, first, rest) = leads_split d (desk_calls (Publishes writes left told)) (history acts) new led in calm acts mid new rest none
 calm (Refuses writes (Before fault) ∷ acts) d new led none =
@@ -141,6 +158,8 @@ calm (Refuses writes (Unsure fault) ∷ acts) d new led none =
     let (mid, first, rest) = leads_split d (desk_calls (Refuses writes (Unsure fault))) (history acts) new led in goes_stopped mid (history acts) new rest none (doubted_now d fault mid first)
 calm (Unprinted ∷ acts) d new led none =
     let (mid, first, rest) = leads_split d (desk_calls Unprinted) (history acts) new led in goes_stopped mid (history acts) new rest none (stopped_now d SinkFault mid first)
+calm (Unwatched ∷ acts) d new led none =
+    let (mid, first, rest) = leads_split d (desk_calls Unwatched) (history acts) new led in goes_stopped mid (history acts) new rest none (stopped_now d SinkFault mid first)
 
 -- ---- things of the driver
 
@@ -159,10 +178,13 @@ halt_thing (Halts fault ∷ []) acts one stays more =
     record { published = rest.published; unprinted = rest.unprinted; obeys = λ at up. (at, at, up, refl, refl, rest.obeys at up) }
 halt_thing (Rests look ∷ []) acts one stays more = absurd (false≢true (sym stays.0))
 halt_thing (Takes look keys ∷ Delivers batch ∷ []) acts one stays more = absurd (false≢true (sym stays.0))
+halt_thing (Takes look keys ∷ Delivers batch ∷ Unwatched ∷ []) acts one stays more = absurd (false≢true (sym stays.0))
 halt_thing (Takes look keys ∷ DeliverFails asked fault ∷ []) acts one stays more = absurd (false≢true (sym stays.0))
 halt_thing (FetchFails look batches keys fault ∷ []) acts one stays more = absurd (false≢true (sym stays.0))
+halt_thing (RestUnwatched look batches ∷ []) acts one stays more = absurd (false≢true (sym stays.0))
 halt_thing (Closes look batches writes ∷ Publishes ended left told ∷ []) acts one stays more = absurd (false≢true (sym stays.0))
 halt_thing (Closes look batches writes ∷ Publishes ended left told ∷ Unprinted ∷ []) acts one stays more = absurd (false≢true (sym stays.0))
+halt_thing (Closes look batches writes ∷ Publishes ended left told ∷ Unwatched ∷ []) acts one stays more = absurd (false≢true (sym stays.0))
 halt_thing (Closes look batches writes ∷ Refuses asked refused ∷ []) acts one stays more = absurd (false≢true (sym stays.0))
 halt_thing _ acts one stays more = absurd one
 
@@ -197,6 +219,10 @@ halted_obeys acts h at up = subst (λ (n : ℕ). Obeys at (calls_made acts) (cal
 
 halted_counts : (acts : List Act) → Halted acts → unprinted_in acts ≤ publishes_in acts
 halted_counts acts h = let u : unprinted_in acts ≡ 0 = h.unprinted in omega (arith, u)
+
+-- the desk is stopped where the driver rests
+stops_at_rest : (acts : List Act) → Halted acts → Obeys AtRest (map (made_by 0) (stop_calls SinkFault) ++ calls_made acts) (calls acts) (reports_of acts) AtRest
+stops_at_rest acts h = (AtRest, AtRest, tt, record { may = inr tt; now = refl }, refl, halted_obeys acts h AtRest tt)
 
 -- an end that was refused, or left in doubt
 refuses : (writes asked : List (ℕ × Option (List ℕ))) (refused : EndErr) (acts : List Act) → asked ≡ writes → Halted acts
@@ -319,6 +345,92 @@ thing_obeys (FetchFails look batches keys fault ∷ []) acts one stays more halt
                 record { keys = keys; was = refl; told = refl; now = refl },
                 (refl, refl),
                 (HasFailed fault, HasFailed fault, tt, record { may = inr tt; now = refl }, refl, halted_obeys acts h (HasFailed fault) tt),
+              )),
+        ),
+      );
+    }
+thing_obeys (Takes look keys ∷ Delivers batch ∷ Unwatched ∷ []) acts one stays more halt =
+    let h : Halted acts = halt stays.1 in
+    record {
+      last = AtRest;
+      ends = tt;
+      rests = λ calm. refl;
+      counts = halted_counts acts h;
+      obeys = (
+        AtRest,
+        AtRest,
+        tt,
+        refl,
+        refl,
+        (
+          AtRest,
+          AtRest,
+          tt,
+          refl,
+          refl,
+          (
+            HasTaken keys,
+            HasFetched batch.keys batch.values,
+            tt,
+            record { keys = keys; was = refl; told = refl; now = refl },
+            (ap HasTaken (sym one), refl),
+            (AtRest, AtRest, tt, record { was = refl; now = refl }, refl, stops_at_rest acts h),
+          ),
+        ),
+      );
+    }
+thing_obeys (RestUnwatched look batches ∷ []) acts one stays more halt =
+    let h : Halted acts = halt stays.1 in
+    record {
+      last = AtRest;
+      ends = tt;
+      rests = λ calm. refl;
+      counts = halted_counts acts h;
+      obeys = (
+        AtRest,
+        AtRest,
+        tt,
+        refl,
+        refl,
+        (
+          AtRest,
+          AtRest,
+          tt,
+          refl,
+          refl,
+          batches_obey batches (stop_calls SinkFault) (calls_made acts) (calls acts) (reports_of acts) AtRest (stops_at_rest acts h),
+        ),
+      );
+    }
+thing_obeys (Closes look batches writes ∷ Publishes ended left told ∷ Unwatched ∷ []) acts one stays more halt =
+    let h : Halted acts = halt stays.1 in
+    let few : unprinted_in acts ≤ publishes_in acts = halted_counts acts h in
+    record {
+      last = AtRest;
+      ends = tt;
+      rests = λ calm. refl;
+      counts = omega (arith, few);
+      obeys = (
+        AtRest,
+        AtRest,
+        tt,
+        refl,
+        refl,
+        (
+          AtRest,
+          AtRest,
+          tt,
+          refl,
+          refl,
+          batches_obey batches (close_calls writes) (calls_made (Publishes ended left told ∷ Unwatched ∷ acts)) ((End ended, Ended) ∷ calls acts) (reports_of (Publishes ended left told ∷ Unwatched ∷ acts)) AtRest
+              (subst (λ (n : ℕ). Obeys AtRest (map (made_by 0) (close_calls writes) ++ calls_made (Publishes ended left told ∷ Unwatched ∷ acts)) ((End ended, Ended) ∷ calls acts) n AtRest)
+              (let e : suc (publishes_in acts - unprinted_in acts) ≡ suc (publishes_in acts) - unprinted_in acts = omega (arith, few) in e) (
+                HasClosed writes,
+                HasEnded,
+                tt,
+                record { writes = writes; was = refl; told = refl; now = refl },
+                (ap HasClosed (sym one), refl),
+                (HasTold told, AtRest, tt, record { published = told; was = refl; told = refl; now = refl }, (refl, refl), stops_at_rest acts h),
               )),
         ),
       );

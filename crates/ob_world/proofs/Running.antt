@@ -2,14 +2,14 @@
 use Rattle.std.proofs.Common.{◌≡◌, ℕ, suc, true, false, List, [], ◌∷◌, ◌++◌, map, refl, ap, ◌∙◌, subst, append_assoc}
 use Rattle.std.specs.Prelude.{All, flat_map, Result, Ok}
 use Rattle.std.proofs.lemmas.List.Elements.{All-nil, All-cons}
-use Rattle.ob_base.specs.declared.fault.Fault.{Fault}
 use Rattle.ob_serial.specs.Vaults.{VaultState, standing_now}
 use Rattle.ob_serial.specs.VaultKinds.{Kind}
 use Rattle.ob_desk.specs.Desk.{DeskState, Setup, new_desk}
 use Rattle.ob_desk.specs.Beats.{BeatKind}
 use Rattle.ob_session.specs.Steps.{Leads}
 use Rattle.ob_session.proofs.Runs.{records_tell}
-use Rattle.ob_conduct.specs.Acts.{Act, Says, Halts, Rests, Takes, Delivers, DeliverFails, FetchFails, Closes, Publishes, Refuses, Unprinted, history, calls}
+use Rattle.ob_conduct.specs.declared.run_err.RunErr.{RunErr}
+use Rattle.ob_conduct.specs.Acts.{Act, Says, Halts, Rests, Takes, Delivers, DeliverFails, FetchFails, RestUnwatched, Closes, Publishes, Refuses, Unprinted, Unwatched, history, calls}
 use Rattle.ob_conduct.specs.Rounds.{AreTurns, IsOneThing, OneRound, acts_of, AreRounds, InRounds}
 use Rattle.ob_conduct.specs.Scenes.{RunState, RunnerKind}
 use Rattle.ob_conduct.specs.Records.{IsOver}
@@ -30,20 +30,25 @@ turns_driven (client ∷ clients) (Takes look keys ∷ turns) more h = absurd h.
 turns_driven (client ∷ clients) (Delivers batch ∷ turns) more h = absurd h.0
 turns_driven (client ∷ clients) (DeliverFails keys fault ∷ turns) more h = absurd h.0
 turns_driven (client ∷ clients) (FetchFails look batches keys fault ∷ turns) more h = absurd h.0
+turns_driven (client ∷ clients) (RestUnwatched look batches ∷ turns) more h = absurd h.0
 turns_driven (client ∷ clients) (Closes look batches writes ∷ turns) more h = absurd h.0
 turns_driven (client ∷ clients) (Publishes writes left told ∷ turns) more h = absurd h.0
 turns_driven (client ∷ clients) (Refuses writes refused ∷ turns) more h = absurd h.0
 turns_driven (client ∷ clients) (Unprinted ∷ turns) more h = absurd h.0
+turns_driven (client ∷ clients) (Unwatched ∷ turns) more h = absurd h.0
 turns_driven _ _ more h = absurd h
 
 thing_driven : (thing more : List Act) → IsOneThing thing → driven (thing ++ more) ≡ thing ++ driven more
 thing_driven (Halts fault ∷ []) more one = refl
 thing_driven (Rests look ∷ []) more one = refl
 thing_driven (Takes look keys ∷ Delivers batch ∷ []) more one = refl
+thing_driven (Takes look keys ∷ Delivers batch ∷ Unwatched ∷ []) more one = refl
 thing_driven (Takes look keys ∷ DeliverFails asked fault ∷ []) more one = refl
 thing_driven (FetchFails look batches keys fault ∷ []) more one = refl
+thing_driven (RestUnwatched look batches ∷ []) more one = refl
 thing_driven (Closes look batches writes ∷ Publishes ended left told ∷ []) more one = refl
 thing_driven (Closes look batches writes ∷ Publishes ended left told ∷ Unprinted ∷ []) more one = refl
+thing_driven (Closes look batches writes ∷ Publishes ended left told ∷ Unwatched ∷ []) more one = refl
 thing_driven (Closes look batches writes ∷ Refuses asked refused ∷ []) more one = refl
 thing_driven _ more one = absurd one
 
@@ -65,14 +70,14 @@ rounds_are_things clients acts r =
     record { things = things_of r.rounds; acts_are = ap driven r.acts_are ∙ same; each = all }
 
 module _ {V U Plan : Type 0} (k : Kind V) (kind : RunnerKind U Plan) where
-  acts_from : (beat : BeatKind) (old new : RunState V U) (acts : List Act) (result : Result (Unit {0}) Fault) (setup : Setup) (v : VaultState) → Conducted k kind beat old new acts result
+  acts_from : (beat : BeatKind) (old new : RunState V U) (acts : List Act) (result : Result (Unit {0}) RunErr) (setup : Setup) (v : VaultState) → Conducted k kind beat old new acts result
       → old.scene.desk ≡ new_desk setup (suc v.epoch) v.left (map kind.client old.runners) → k.holds old.scene.vault v → v ≡ opened_vault setup.params.batches (standing_now v) v.left
       → AreActsFrom k setup (map kind.client old.runners) v old.scene.vault new.scene.vault acts new.scene.desk
   acts_from beat old new acts result setup v c is holds fresh = record {
     beat = beat;
     allowed = c.allowed;
     leads = subst (λ (d : DeskState). Leads d (history acts) new.scene.desk) is c.leads;
-    chain = called k old.scene.vault (calls acts) c.notes new.scene.vault c.chain;
+    chain = called k old.scene.vault old.scene.trace (calls acts) c.notes new.scene.vault new.scene.trace c.chain;
     holds = holds;
     fresh = fresh;
   }

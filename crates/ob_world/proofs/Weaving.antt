@@ -3,6 +3,7 @@ use Rattle.std.proofs.Common.{◌≡◌, ℕ, zero, suc, ◌+◌, ◌-◌, true,
 use Rattle.std.specs.Prelude.{All}
 use Rattle.std.proofs.lemmas.Bool.{false≢true}
 use Rattle.std.proofs.lemmas.List.Elements.{All-head, All-tail}
+use Rattle.ob_base.specs.declared.fault.Fault.TheVariants.{SinkFault}
 use Rattle.ob_serial.specs.Vaults.{VaultCall, Fetch, End, VaultAnswer, Values, Ended, RefusedBy, DoubtBy, VaultState, vault_next, standing_now}
 use Rattle.ob_serial.specs.VaultKinds.{Kind, AllCalled, after_calls}
 use Rattle.ob_serial.specs.declared.vault.EndErr.TheVariants as refused
@@ -10,7 +11,7 @@ use Rattle.ob_desk.specs.Desk as desk
 use Rattle.ob_desk.specs.Desk.{DeskState, new_desk, Call, Reply, DeskStep, MayCall, is_memory}
 use Rattle.ob_desk.specs.Beats.{BeatKind}
 use Rattle.ob_session.specs.Steps.{Leads, IsOwn}
-use Rattle.ob_conduct.specs.Acts.{Act, Says, Halts, Rests, Takes, Delivers, DeliverFails, FetchFails, Closes, Publishes, Refuses, Unprinted, Batch, IsAllowed, desk_calls, vault_calls, history, calls, rest_calls, close_calls}
+use Rattle.ob_conduct.specs.Acts.{Act, Says, Halts, Rests, Takes, Delivers, DeliverFails, FetchFails, RestUnwatched, Closes, Publishes, Refuses, Unprinted, Unwatched, Batch, IsAllowed, desk_calls, vault_calls, history, calls, rest_calls, close_calls}
 use Rattle.ob_conduct.proofs.Behind.{leads_split}
 use Rattle.ob_driver.specs.Drives.{AreThings}
 use Rattle.ob_run.specs.Threaded.{driven}
@@ -77,6 +78,8 @@ whole_obeys beat (DeliverFails keys fault ∷ acts) allowed last at asked n h =
     front_obeys (map (made_by 0) (desk_calls (DeliverFails keys fault))) (calls_made (driven acts)) (calls_made acts) last (whole_obeys beat acts (All-tail (IsAllowed beat) (DeliverFails keys fault) acts allowed) last) at asked n h
 whole_obeys beat (FetchFails look batches keys fault ∷ acts) allowed last at asked n h =
     front_obeys (map (made_by 0) (desk_calls (FetchFails look batches keys fault))) (calls_made (driven acts)) (calls_made acts) last (whole_obeys beat acts (All-tail (IsAllowed beat) (FetchFails look batches keys fault) acts allowed) last) at asked n h
+whole_obeys beat (RestUnwatched look batches ∷ acts) allowed last at asked n h =
+    front_obeys (map (made_by 0) (desk_calls (RestUnwatched look batches))) (calls_made (driven acts)) (calls_made acts) last (whole_obeys beat acts (All-tail (IsAllowed beat) (RestUnwatched look batches) acts allowed) last) at asked n h
 whole_obeys beat (Closes look batches writes ∷ acts) allowed last at asked n h =
     front_obeys (map (made_by 0) (desk_calls (Closes look batches writes))) (calls_made (driven acts)) (calls_made acts) last (whole_obeys beat acts (All-tail (IsAllowed beat) (Closes look batches writes) acts allowed) last) at asked n h
 whole_obeys beat (Publishes writes left told ∷ acts) allowed last at asked n h =
@@ -85,6 +88,8 @@ whole_obeys beat (Refuses writes refused ∷ acts) allowed last at asked n h =
     front_obeys (map (made_by 0) (desk_calls (Refuses writes refused))) (calls_made (driven acts)) (calls_made acts) last (whole_obeys beat acts (All-tail (IsAllowed beat) (Refuses writes refused) acts allowed) last) at asked n h
 whole_obeys beat (Unprinted ∷ acts) allowed last at asked n h =
     front_obeys (map (made_by 0) (desk_calls Unprinted)) (calls_made (driven acts)) (calls_made acts) last (whole_obeys beat acts (All-tail (IsAllowed beat) Unprinted acts allowed) last) at asked n h
+whole_obeys beat (Unwatched ∷ acts) allowed last at asked n h =
+    front_obeys (map (made_by 0) (desk_calls Unwatched)) (calls_made (driven acts)) (calls_made acts) last (whole_obeys beat acts (All-tail (IsAllowed beat) Unwatched acts allowed) last) at asked n h
 
 -- the driver's acts ask for the same, and publish as much
 alike : (acts : List Act) → (calls (driven acts) ≡ calls acts) × (publishes_in (driven acts) ≡ publishes_in acts) × (unprinted_in (driven acts) ≡ unprinted_in acts)
@@ -96,9 +101,11 @@ alike (Takes look keys ∷ acts) = (ap (λ (l : List (VaultCall × VaultAnswer))
 alike (Delivers batch ∷ acts) = (ap (λ (l : List (VaultCall × VaultAnswer)). vault_calls (Delivers batch) ++ l) (alike acts).0, (alike acts).1, (alike acts).2)
 alike (DeliverFails keys fault ∷ acts) = (ap (λ (l : List (VaultCall × VaultAnswer)). vault_calls (DeliverFails keys fault) ++ l) (alike acts).0, (alike acts).1, (alike acts).2)
 alike (FetchFails look batches keys fault ∷ acts) = (ap (λ (l : List (VaultCall × VaultAnswer)). vault_calls (FetchFails look batches keys fault) ++ l) (alike acts).0, (alike acts).1, (alike acts).2)
+alike (RestUnwatched look batches ∷ acts) = (ap (λ (l : List (VaultCall × VaultAnswer)). vault_calls (RestUnwatched look batches) ++ l) (alike acts).0, (alike acts).1, (alike acts).2)
 alike (Closes look batches writes ∷ acts) = (ap (λ (l : List (VaultCall × VaultAnswer)). vault_calls (Closes look batches writes) ++ l) (alike acts).0, (alike acts).1, (alike acts).2)
 alike (Publishes writes left told ∷ acts) = (ap (λ (l : List (VaultCall × VaultAnswer)). vault_calls (Publishes writes left told) ++ l) (alike acts).0, ap suc (alike acts).1, (alike acts).2)
 alike (Refuses writes refused ∷ acts) = (ap (λ (l : List (VaultCall × VaultAnswer)). vault_calls (Refuses writes refused) ++ l) (alike acts).0, (alike acts).1, (alike acts).2)
+alike (Unwatched ∷ acts) = (ap (λ (l : List (VaultCall × VaultAnswer)). vault_calls Unwatched ++ l) (alike acts).0, (alike acts).1, (alike acts).2)
 alike (Unprinted ∷ acts) = (ap (λ (l : List (VaultCall × VaultAnswer)). vault_calls Unprinted ++ l) (alike acts).0, (alike acts).1, ap suc (alike acts).2)
 
 -- ---- whose calls they are
@@ -133,11 +140,14 @@ calls_own beat (Delivers batch ∷ acts) allowed = driver_own (desk_calls (Deliv
 calls_own beat (DeliverFails keys fault ∷ acts) allowed = driver_own (desk_calls (DeliverFails keys fault)) (calls_made acts) (tt, tt) (calls_own beat acts (All-tail (IsAllowed beat) (DeliverFails keys fault) acts allowed))
 calls_own beat (FetchFails look batches keys fault ∷ acts) allowed = driver_own (desk_calls (FetchFails look batches keys fault)) (calls_made acts)
     (tt, (tt, batches_driver batches ((desk.TakeBatch, desk.Batch keys) ∷ (desk.Stop fault, desk.Done) ∷ []) (tt, (tt, tt)))) (calls_own beat acts (All-tail (IsAllowed beat) (FetchFails look batches keys fault) acts allowed))
+calls_own beat (RestUnwatched look batches ∷ acts) allowed = driver_own (desk_calls (RestUnwatched look batches)) (calls_made acts) (tt, (tt, batches_driver batches ((desk.Stop SinkFault, desk.Done) ∷ []) (tt, tt)))
+    (calls_own beat acts (All-tail (IsAllowed beat) (RestUnwatched look batches) acts allowed))
 calls_own beat (Closes look batches writes ∷ acts) allowed = driver_own (desk_calls (Closes look batches writes)) (calls_made acts) (tt, (tt, batches_driver batches (close_calls writes) (tt, tt))) (calls_own beat acts (All-tail (IsAllowed beat) (Closes look batches writes) acts allowed))
 calls_own beat (Publishes writes left told ∷ acts) allowed = driver_own (desk_calls (Publishes writes left told)) (calls_made acts) (tt, tt) (calls_own beat acts (All-tail (IsAllowed beat) (Publishes writes left told) acts allowed))
 calls_own beat (Refuses writes (refused.Before fault) ∷ acts) allowed = driver_own (desk_calls (Refuses writes (refused.Before fault))) (calls_made acts) (tt, tt) (calls_own beat acts (All-tail (IsAllowed beat) (Refuses writes (refused.Before fault)) acts allowed))
 calls_own beat (Refuses writes (refused.Unsure fault) ∷ acts) allowed = driver_own (desk_calls (Refuses writes (refused.Unsure fault))) (calls_made acts) (tt, tt) (calls_own beat acts (All-tail (IsAllowed beat) (Refuses writes (refused.Unsure fault)) acts allowed))
 calls_own beat (Unprinted ∷ acts) allowed = driver_own (desk_calls Unprinted) (calls_made acts) (tt, tt) (calls_own beat acts (All-tail (IsAllowed beat) Unprinted acts allowed))
+calls_own beat (Unwatched ∷ acts) allowed = driver_own (desk_calls Unwatched) (calls_made acts) (tt, tt) (calls_own beat acts (All-tail (IsAllowed beat) Unwatched acts allowed))
 
 -- ---- call by call
 

@@ -1,6 +1,5 @@
 -- What a run's acts are of lists of events.
 use Rattle.std.specs.Prelude.{ℕ, suc, ◌≡◌, All, Bool, List, [], ◌∷◌, length, map, take, None, Result, Ok}
-use Rattle.ob_base.specs.declared.fault.Fault.{Fault}
 use Rattle.ob_store.specs.Images.{LeavesOnly}
 use Rattle.ob_serial.specs.Vaults.{VaultState, Standing, StandsIn, standing_now}
 use Rattle.ob_serial.specs.VaultKinds.{Kind, AllCalled, after_calls}
@@ -9,6 +8,7 @@ use Rattle.ob_desk.specs.Beats.{BeatKind}
 use Rattle.ob_session.specs.Steps.{Leads}
 use Rattle.ob_session.specs.Clients.{told_of, said_by}
 use Rattle.ob_session.specs.Records.{IsAtRest, TellAll, txns_by}
+use Rattle.ob_conduct.specs.declared.run_err.RunErr.{RunErr}
 use Rattle.ob_conduct.specs.Acts.{Act, IsAllowed, history, calls, records}
 use Rattle.ob_conduct.specs.Left.{Rests as CrashesRest, OnlyNow}
 use Rattle.ob_conduct.specs.Scenes.{RunState, RunnerKind}
@@ -56,7 +56,7 @@ ActsAreAWorld {V} k = (setup : Setup) (clients : List ℕ) (v : VaultState) (old
 
 -- So a run, by threads or by hand, has acts that are a list of the world.
 abbrev pub RunsAreWorlds : {V U Plan : Type 0} → Kind V → RunnerKind U Plan → Type 0
-RunsAreWorlds {V} {U} k kind = (threads : Bool) (beat : BeatKind) (old new : RunState V U) (result : Result (Unit {0}) Fault) (setup : Setup) (v : VaultState)
+RunsAreWorlds {V} {U} k kind = (threads : Bool) (beat : BeatKind) (old new : RunState V U) (result : Result (Unit {0}) RunErr) (setup : Setup) (v : VaultState)
     → RunsBy threads k kind beat old new result → old.scene.desk ≡ new_desk setup (suc v.epoch) v.left (map kind.client old.runners) → k.holds old.scene.vault v → v ≡ opened_vault setup.params.batches (standing_now v) v.left
     → (acts : List Act) × Conducted k kind beat old new acts result × IsWovenWorld k setup (map kind.client old.runners) v old.scene.vault new.scene.vault acts new.scene.desk
 

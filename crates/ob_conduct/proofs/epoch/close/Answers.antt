@@ -24,7 +24,7 @@ returns-in-Ok-clause-ended g c =
     ends _ c.args.params.now c.args.desk.now c.close.new.self c.publish.new.self c.args.vault.now c.end.new.self (g.W.Watch.trace c.args.watch.now) (g.W.Watch.trace c.end.new.watch) (g.V.Vault.counts c.args.vault.now) (g.V.Vault.counts c.end.new.self)
     (map pair_of c.close.new.out.items) _ c.args.params.now.batches
     c.requires.ready c.requires.goes_on c.requires.none_left c.close.ensures.step
-    (ended_with _ _ _ _ _ _ _ _ _ are refl (record { one = record { notes = e.called.0; called = e.called.2; answered = λ v holds. tt; holds = e.holds; sound = e.sound; images = e.images; alike = e.alike; goes = e.goes }; shown = e.called.1 }))
+    (ended_with _ _ _ _ _ _ _ _ _ are refl (record { one = record { notes = e.called.0; called = e.called.2; answered = λ v holds. tt; holds = e.holds; sound = e.sound; images = e.images; alike = e.alike; goes = e.goes }; whole = c.requires.whole; shown = e.called.1 }))
     (e.counts ∙ ap (λ (p : Params). counts_next p.batches (g.V.Vault.counts c.args.vault.now) (End (writes_of c.deref.result.now)) Ended) c.requires.params)
     (rw (← c.epoch.ensures.epoch) c.epoch.ensures.few) refl c.publish.ensures
 
@@ -35,7 +35,7 @@ returns-in-Err-Before-clause-refused g c =
     end_fails _ c.args.params.now c.args.desk.now c.close.new.self c.stop.new.self c.args.vault.now c.end.new.self (g.W.Watch.trace c.args.watch.now) (g.W.Watch.trace c.end.new.watch) (g.V.Vault.counts c.args.vault.now) (map pair_of c.close.new.out.items) c.in-Err-Before.fault
     c.requires.ready c.requires.goes_on c.requires.none_left c.close.ensures.step
     (ended_with _ _ _ _ _ _ _ _ _ are (ap (λ (x : EndErr). end_answer (Err x)) c.in-Err-Before.field-0-is)
-    (record { one = record { notes = e.called.0; called = e.called.2; answered = λ v holds. rw c.in-Err-Before.field-0-is tt; holds = e.holds; sound = e.sound; images = e.images; alike = e.alike; goes = e.goes }; shown = e.called.1 }))
+    (record { one = record { notes = e.called.0; called = e.called.2; answered = λ v holds. rw c.in-Err-Before.field-0-is tt; holds = e.holds; sound = e.sound; images = e.images; alike = e.alike; goes = e.goes }; whole = c.requires.whole; shown = e.called.1 }))
     c.stop.ensures (next_fault (g.V.Vault.counts c.args.vault.now).epoch (Before c.in-Err-Before.fault) (rw c.in-Err-Before.field-0-is at e.faults)) (λ store. (rw c.in-Err-Before.field-0-is at e.cause) (store_end c.in-Err-Before.fault store))
 
 pub returns-in-Err-Unsure-clause-refused : goal.returns-in-Err-Unsure-clause-refused
@@ -45,5 +45,5 @@ returns-in-Err-Unsure-clause-refused g c =
     end_doubts _ c.args.params.now c.args.desk.now c.close.new.self c.unsure.new.self c.args.vault.now c.end.new.self (g.W.Watch.trace c.args.watch.now) (g.W.Watch.trace c.end.new.watch) (g.V.Vault.counts c.args.vault.now) (map pair_of c.close.new.out.items) c.in-Err-Unsure.fault
     c.requires.ready c.requires.goes_on c.requires.none_left c.close.ensures.step
     (ended_with _ _ _ _ _ _ _ _ _ are (ap (λ (x : EndErr). end_answer (Err x)) c.in-Err-Unsure.field-0-is)
-    (record { one = record { notes = e.called.0; called = e.called.2; answered = λ v holds. rw c.in-Err-Unsure.field-0-is tt; holds = e.holds; sound = e.sound; images = e.images; alike = e.alike; goes = e.goes }; shown = e.called.1 }))
+    (record { one = record { notes = e.called.0; called = e.called.2; answered = λ v holds. rw c.in-Err-Unsure.field-0-is tt; holds = e.holds; sound = e.sound; images = e.images; alike = e.alike; goes = e.goes }; whole = c.requires.whole; shown = e.called.1 }))
     c.unsure.ensures (next_fault (g.V.Vault.counts c.args.vault.now).epoch (Unsure c.in-Err-Unsure.fault) (rw c.in-Err-Unsure.field-0-is at e.faults)) (λ store. (rw c.in-Err-Unsure.field-0-is at e.cause) tt)

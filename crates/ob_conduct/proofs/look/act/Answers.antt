@@ -1,17 +1,17 @@
 use Rattle.std.proofs.Common.{◌∙◌, ◌<◌, ap, subst, arith}
 use Rattle.ob_desk.specs.declared.calls.Look.{Look}
 use Rattle.ob_desk.specs.Beats.{beat_kind}
-use Rattle.ob_conduct.proofs.Acting.{rested, fetched, unfetched, on_ok, if_err, still}
+use Rattle.ob_conduct.proofs.Acting.{rested, fetched, unbatched, on_ok, if_err, still}
 use Rattle.ob_conduct.proofs.look.act.Goals as goal
 
 pub returns-then-is_to_fetch-clause-acted : goal.returns-then-is_to_fetch-clause-acted
 returns-then-is_to_fetch-clause-acted g c = on_ok c.fetch_batch.result _ _
-    (λ read. fetched _ c.args.params.now (beat_kind g.B.Beat.passes g.B.Beat.exact) _ _ _ c.args.look.now c.requires.ready c.requires.goes_on c.requires.look _ _ read.0 c.requires.may c.if-is_to_fetch.ensures read.1)
+    (λ read. fetched _ c.args.params.now (beat_kind g.B.Beat.passes g.B.Beat.exact) _ _ _ c.args.look.now c.requires.ready c.requires.goes_on c.requires.look _ _ read.0 c.requires.may c.if-is_to_fetch.ensures read.1 read.2)
     c.fetch_batch.ensures.read
 
 pub returns-then-is_to_fetch-clause-failed : goal.returns-then-is_to_fetch-clause-failed
 returns-then-is_to_fetch-clause-failed g c = if_err c.fetch_batch.result _ _
-    (λ fault fails. unfetched _ c.args.params.now (beat_kind g.B.Beat.passes g.B.Beat.exact) _ _ _ c.args.look.now c.requires.ready c.requires.goes_on c.requires.look _ fault c.requires.may c.if-is_to_fetch.ensures fails)
+    (λ err stops. unbatched _ c.args.params.now (beat_kind g.B.Beat.passes g.B.Beat.exact) _ _ _ c.args.look.now c.requires.ready c.requires.goes_on c.requires.look _ err c.requires.may c.if-is_to_fetch.ensures stops)
     c.fetch_batch.ensures.refused
 
 pub returns-then-look-gt0-clause-acted : goal.returns-then-look-gt0-clause-acted
@@ -22,7 +22,7 @@ returns-then-look-gt0-clause-failed g c = c.end_epoch.ensures.refused (beat_kind
 
 pub returns-clause-acted : goal.returns-clause-acted
 returns-clause-acted g c = rested _ c.args.params.now (beat_kind g.B.Beat.passes g.B.Beat.exact) _ _ _ c.args.look.now c.requires.ready c.requires.goes_on c.requires.look
-    (still (beat_kind g.B.Beat.passes g.B.Beat.exact) c.args.look.now c.requires.not_over c.if-is_to_fetch.ensures (omega (arith, c.if-look-gt0.false)))
+    (still (beat_kind g.B.Beat.passes g.B.Beat.exact) c.args.look.now c.requires.not_over c.if-is_to_fetch.ensures (omega (arith, c.if-look-gt0.false))) c.requires.whole
 
 pub fetch_batch-requires-clause-params : goal.fetch_batch-requires-clause-params
 fetch_batch-requires-clause-params g c κs within = c.requires.params

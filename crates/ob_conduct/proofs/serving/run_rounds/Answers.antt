@@ -9,7 +9,7 @@ loop-init g c = record {
   params = c.requires.params;
   beat = refl;
   room = c.requires.room;
-  going = going_none _ _ _ _ _ _ (ready_new c.args.params.now c.args.desk.now (g.V.Vault.counts c.args.vault.now) _ c.requires.fresh c.requires.serves) c.requires.none_made;
+  going = going_none _ _ _ _ _ _ (ready_new c.args.params.now c.args.desk.now (g.V.Vault.counts c.args.vault.now) _ c.requires.fresh c.requires.serves) c.requires.none_made c.requires.whole;
 }
 
 pub step_all-requires-clause-below : goal.step_all-requires-clause-below
@@ -43,12 +43,15 @@ returns-in-Ok-Over-clause-done g c =
 pub returns-in-Err-clause-done : goal.returns-in-Err-clause-done
 returns-in-Err-clause-done g c =
     let i = c.loop.invariant in
-    done_failed _ _ _ _ _ _ _ _ _ c.requires.fresh _ _ _ _ c.in-Err.fault
+    done_failed _ _ _ _ _ _ _ _ _ c.requires.fresh _ _ _ _ c.in-Err.err
     (going_stepped _ _ _ _ _ _ _ _ _ i.going c.step_all.ensures.stepped (c.step_all.ensures.ready c.args.params.now (g.V.Vault.counts c.loop.vault) i.going.ready))
     c.in-Err.ensures.failed
 
 pub step_all-requires-clause-ready : goal.step_all-requires-clause-ready
 step_all-requires-clause-ready g c = (g.V.Vault.counts c.loop.vault, subst (λ (p : Params). IsBetweenActs p c.loop.desk (g.V.Vault.counts c.loop.vault)) (sym c.loop.invariant.going.ready.params) c.loop.invariant.going.ready)
+
+pub look_and_act-requires-clause-whole : goal.look_and_act-requires-clause-whole
+look_and_act-requires-clause-whole g c κs within = c.loop.invariant.going.whole
 
 pub look_and_act-requires-clause-params : goal.look_and_act-requires-clause-params
 look_and_act-requires-clause-params g c κs within = c.loop.invariant.params

@@ -7,7 +7,7 @@ pub returns-in-Err-clause-done : goal.returns-in-Err-clause-done
 returns-in-Err-clause-done g c = done_short _ _ c.args.params.now _ _ _ _ _ _ c.requires.fresh c.requires.none_made
 
 pub returns-clause-anchors : goal.returns-clause-anchors
-returns-clause-anchors g c = let d = c.run_rounds.ensures.done.1 in (goes_all _ _ _ d.notes _ d.chain).anchors
+returns-clause-anchors g c = let d = c.run_rounds.ensures.done.1 in (goes_all _ _ _ _ d.notes _ _ d.chain).anchors
 
 pub returns-in-Err-clause-params : goal.returns-in-Err-clause-params
 returns-in-Err-clause-params g c = c.requires.params
@@ -20,6 +20,9 @@ returns-in-Err-clause-beat g c = refl
 
 pub run_rounds-requires-clause-params : goal.run_rounds-requires-clause-params
 run_rounds-requires-clause-params g c κs within = c.requires.params
+
+pub run_rounds-requires-clause-whole : goal.run_rounds-requires-clause-whole
+run_rounds-requires-clause-whole g c κs within = c.requires.whole
 
 pub run_rounds-requires-clause-serves : goal.run_rounds-requires-clause-serves
 run_rounds-requires-clause-serves g c κs within = c.requires.serves

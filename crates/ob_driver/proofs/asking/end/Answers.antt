@@ -4,16 +4,17 @@ use Rattle.ob_base.specs.declared.value.Write.{Write}
 use Rattle.ob_serial.specs.Vaults.{End}
 use Rattle.ob_serial.specs.VaultViews.{end_answer}
 use Rattle.ob_serial.specs.VaultKinds.{kind_of}
-use Rattle.ob_driver.specs.Inside.{AsksOnce}
+use Rattle.ob_conduct.specs.Scenes.{Watched}
 use Rattle.ob_driver.proofs.Insides.{end_answers}
 use Rattle.ob_driver.proofs.asking.end.Goals as goal
 
 pub returns-clause-called : goal.returns-clause-called
 returns-clause-called g c =
     let e = c.end.ensures in
-    subst (λ (ws : List Write). AsksOnce (kind_of g.V.Vault) c.args.vault.now (End (map pair_of ws)) (end_answer c.end.result) c.end.new.self (g.W.Watch.trace c.args.watch.now) (g.W.Watch.trace c.end.new.watch)) c.as_slice.ensures.value
+    subst (λ (ws : List Write). Watched (kind_of g.V.Vault) c.args.vault.now (g.W.Watch.trace c.args.watch.now) (End (map pair_of ws)) (end_answer c.end.result) c.end.new.self (g.W.Watch.trace c.end.new.watch)) c.as_slice.ensures.value
     (record {
       one = record { notes = e.called.0; called = e.called.2; answered = λ v holds. end_answers v.content (map pair_of c.as_slice.result.now) c.end.result; holds = e.holds; sound = e.sound; images = e.images; alike = e.alike; goes = e.goes };
+      whole = c.requires.watched;
       shown = e.called.1;
     })
 

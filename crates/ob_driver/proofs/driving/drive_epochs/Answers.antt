@@ -36,6 +36,9 @@ drive_on-requires-clause-params g c κs within = (c.requires.params ∙ c.announ
 pub drive_on-requires-clause-rests : goal.drive_on-requires-clause-rests
 drive_on-requires-clause-rests g c κs within = c.announce.ensures.rests
 
+pub drive_on-requires-clause-whole : goal.drive_on-requires-clause-whole
+drive_on-requires-clause-whole g c κs within = c.requires.whole
+
 pub drive_on-requires-clause-room : goal.drive_on-requires-clause-room
 drive_on-requires-clause-room g c κs within = subst (λ (p : Params). HasRoom p c.args.room.now) c.announce.ensures.params c.requires.room
 

@@ -9,7 +9,7 @@ loop-init g c = record {
   room = c.requires.room;
   anchors = refl;
   hands = c.requires.hands;
-  done = done_none _ _ c.args.hall.now _ (g.V.Vault.counts c.args.vault.now) _ (rounds_none (g.H.Hands.round c.args.hall.now) c.args.hands.now c.args.pass.now) c.requires.rests;
+  done = done_none _ _ c.args.hall.now _ (g.V.Vault.counts c.args.vault.now) _ (rounds_none (g.H.Hands.round c.args.hall.now) c.args.hands.now c.args.pass.now) c.requires.whole c.requires.rests;
 }
 
 pub look_once-requires-clause-rests : goal.look_once-requires-clause-rests
@@ -36,7 +36,7 @@ returns-in-Err-clause-failed g c =
     let i = c.loop.invariant in
     let e = c.in-Err.ensures in
     let did = e.failed.fails.acts_are in
-    fails_behind _ _ c.args.hall.now _ _ _ _ _ _ _ i.done c.in-Err.fault e.failed
+    fails_behind _ _ c.args.hall.now _ _ _ _ _ _ _ i.done c.in-Err.err e.failed
     (rounds_more (g.H.Hands.round c.args.hall.now) c.args.hands.now c.loop.hands c.step_all-ran.new.self c.args.pass.now c.loop.pass c.look_once.new.pass i.done.acts e.failed.acts c.loop.turns c.step_all-ran.new.turns c.look_once.new.turns i.done.also.0
     i.done.also.1 c.step_all-ran.ensures.round e.stand
     e.failed.one did.turns did.are did.made).0
@@ -56,6 +56,9 @@ returns-then-is_over-clause-over g c = c.in-Ok.ensures.over c.if-is_over.ensures
 
 pub step_all-ran-requires : goal.step_all-ran-requires
 step_all-ran-requires g c = record { ready = c.loop.invariant.hands }
+
+pub look_once-requires-clause-whole : goal.look_once-requires-clause-whole
+look_once-requires-clause-whole g c κs within = c.loop.invariant.done.done.whole
 
 pub look_once-requires-clause-params : goal.look_once-requires-clause-params
 look_once-requires-clause-params g c κs within = (c.loop.invariant.params, c.requires.params.1)

@@ -96,6 +96,9 @@ note-requires-clause-own g c = c.requires.turn.own
 pub note-requires-clause-inside : goal.note-requires-clause-inside
 note-requires-clause-inside g c = c.requires.turn.inside
 
+pub end-requires-clause-watched : goal.end-requires-clause-watched
+end-requires-clause-watched g c κs within = c.requires.whole
+
 pub end-requires-clause-serves : goal.end-requires-clause-serves
 end-requires-clause-serves g c κs within = c.requires.ready.serves
 

@@ -3,7 +3,8 @@ use Rattle.ob_serial.specs.Views.{record_of}
 use Rattle.ob_serial.specs.VaultKinds.{kind_of}
 use Rattle.ob_conduct.specs.Scenes.{scene}
 use Rattle.ob_driver.proofs.Answering.{if_ok_all, on_ok_all, if_err_both}
-use Rattle.ob_driver.proofs.Closing.{still_raises, still_told, ended_rests, ended_once, end_refused_once, batch_refused_once}
+use Rattle.ob_driver.proofs.Closing.{still_raises, still_told, ended_rests, ended_once, end_refused_once, batch_stops_once}
+use Rattle.ob_driver.proofs.Insides.{stops_turn, stops_notes}
 use Rattle.ob_driver.proofs.Standing.{ends_notes}
 use Rattle.ob_driver.proofs.ending.end_epoch.Goals as goal
 
@@ -24,7 +25,7 @@ close-requires-clause-told g c κs within = still_told (kind_of g.V.Vault) c.arg
 
 pub returns-in-Ok-clause-rests : goal.returns-in-Ok-clause-rests
 returns-in-Ok-clause-rests g c =
-    let (batches, read) = c.in-Ok.ensures.read in
+    let (batches, read, whole) = c.in-Ok.ensures.read in
     let l = c.requires.looking in
     on_ok_all c.close.result _ _ _ _
     (λ told ends counts raised. ended_rests (kind_of g.V.Vault) c.args.hall.now c.args.pass.now c.read_left.new.pass c.close.new.pass (scene c.args.desk c.args.vault.now (g.W.Watch.trace c.args.watch.now))
@@ -34,7 +35,7 @@ returns-in-Ok-clause-rests g c =
 
 pub returns-in-Ok-clause-ended : goal.returns-in-Ok-clause-ended
 returns-in-Ok-clause-ended g c = λ beat look flow noted may end.
-    let (batches, read) = c.in-Ok.ensures.read in
+    let (batches, read, whole) = c.in-Ok.ensures.read in
     if_ok_all c.close.result _ _ _ _
     (λ told ends counts raised. ended_once (kind_of g.V.Vault) c.args.hall.now c.args.pass.now c.read_left.new.pass c.close.new.pass (scene c.args.desk c.args.vault.now (g.W.Watch.trace c.args.watch.now))
     (scene c.read_left.new.desk c.read_left.new.vault (g.W.Watch.trace c.read_left.new.watch)) (scene c.read_left.new.desk c.close.new.vault (g.W.Watch.trace c.close.new.watch)) (g.V.Vault.counts c.args.vault.now) (g.V.Vault.counts c.read_left.new.vault) look batches c.requires.looking noted
@@ -43,7 +44,7 @@ returns-in-Ok-clause-ended g c = λ beat look flow noted may end.
 
 pub returns-in-Ok-clause-refused : goal.returns-in-Ok-clause-refused
 returns-in-Ok-clause-refused g c = λ beat look flow noted may end.
-    let (batches, read) = c.in-Ok.ensures.read in
+    let (batches, read, whole) = c.in-Ok.ensures.read in
     if_err_both c.close.result _ _ _
     (λ fault refused ear. end_refused_once (kind_of g.V.Vault) c.args.hall.now c.args.pass.now c.read_left.new.pass c.close.new.pass (scene c.args.desk c.args.vault.now (g.W.Watch.trace c.args.watch.now))
     (scene c.read_left.new.desk c.read_left.new.vault (g.W.Watch.trace c.read_left.new.watch)) (scene c.read_left.new.desk c.close.new.vault (g.W.Watch.trace c.close.new.watch)) (g.V.Vault.counts c.args.vault.now) (g.V.Vault.counts c.read_left.new.vault) look batches c.requires.looking noted
@@ -52,15 +53,17 @@ returns-in-Ok-clause-refused g c = λ beat look flow noted may end.
 
 pub returns-in-Err-clause-refused : goal.returns-in-Err-clause-refused
 returns-in-Err-clause-refused g c = λ beat look flow noted may end.
-    let (batches, refused) = c.in-Err.ensures.refused in
-    batch_refused_once (kind_of g.V.Vault) beat c.args.hall.now c.args.pass.now c.read_left.new.pass c.stop_inside.new.pass (scene c.args.desk c.args.vault.now (g.W.Watch.trace c.args.watch.now))
-    (scene c.read_left.new.desk c.read_left.new.vault (g.W.Watch.trace c.read_left.new.watch)) (g.V.Vault.counts c.args.vault.now) look batches flow noted may end c.in-Err.fault refused c.stop_inside.ensures.made c.stop_inside.ensures.ear c.stop_inside.ensures.own c.stop_inside.ensures.idle
+    batch_stops_once (kind_of g.V.Vault) beat c.args.hall.now c.args.pass.now c.read_left.new.pass c.stop_inside.new.pass (scene c.args.desk c.args.vault.now (g.W.Watch.trace c.args.watch.now))
+    (scene c.read_left.new.desk c.read_left.new.vault (g.W.Watch.trace c.read_left.new.watch)) (g.V.Vault.counts c.args.vault.now) look flow noted may end c.in-Err.err c.fault.result c.in-Err.ensures.refused c.fault.ensures
+    c.stop_inside.ensures.made c.stop_inside.ensures.ear c.stop_inside.ensures.own c.stop_inside.ensures.idle
 
 pub returns-in-Ok-clause-ends : goal.returns-in-Ok-clause-ends
 returns-in-Ok-clause-ends g c = ends_notes c.args.pass.now c.read_left.new.pass c.close.new.pass _ c.in-Ok.ensures.read.1.notes c.close.ensures.ends
 
 pub returns-in-Err-clause-ends : goal.returns-in-Err-clause-ends
-returns-in-Err-clause-ends g c = ends_notes c.args.pass.now c.read_left.new.pass c.stop_inside.new.pass _ c.in-Err.ensures.refused.1.notes c.stop_inside.ensures.ends
+returns-in-Err-clause-ends g c =
+    let (calls, notes) = stops_notes (kind_of g.V.Vault) c.args.hall.now c.args.pass.now c.read_left.new.pass _ _ c.in-Err.err c.in-Err.ensures.refused in
+    ends_notes c.args.pass.now c.read_left.new.pass c.stop_inside.new.pass calls notes c.stop_inside.ensures.ends
 
 pub read_left-requires-clause-params : goal.read_left-requires-clause-params
 read_left-requires-clause-params g c κs within = c.requires.params.0
@@ -74,6 +77,9 @@ read_left-requires-clause-ready g c κs within = c.requires.looking.ready
 pub read_left-requires-clause-goes_on : goal.read_left-requires-clause-goes_on
 read_left-requires-clause-goes_on g c κs within = c.requires.goes_on
 
+pub read_left-requires-clause-whole : goal.read_left-requires-clause-whole
+read_left-requires-clause-whole g c κs within = c.requires.whole
+
 pub read_left-requires-clause-places : goal.read_left-requires-clause-places
 read_left-requires-clause-places g c κs within = c.requires.room.asks
 
@@ -83,6 +89,9 @@ read_left-requires-clause-room g c κs within = c.requires.room.found
 pub close-requires-clause-params : goal.close-requires-clause-params
 close-requires-clause-params g c κs within = (c.in-Ok.ensures.params, c.requires.params.1)
 
+pub close-requires-clause-whole : goal.close-requires-clause-whole
+close-requires-clause-whole g c κs within = c.in-Ok.ensures.read.2
+
 pub close-requires-clause-none_left : goal.close-requires-clause-none_left
 close-requires-clause-none_left g c κs within = c.in-Ok.ensures.none_left
 
@@ -90,7 +99,7 @@ pub close-requires-clause-room : goal.close-requires-clause-room
 close-requires-clause-room g c κs within = c.requires.room.writes
 
 pub stop_inside-requires : goal.stop_inside-requires
-stop_inside-requires g c = record { turn = c.in-Err.ensures.refused.1.turn }
+stop_inside-requires g c = record { turn = stops_turn (kind_of g.V.Vault) c.args.hall.now c.args.pass.now c.read_left.new.pass _ _ c.in-Err.err c.in-Err.ensures.refused }
 
 pub returns-in-Ok-clause-params : goal.returns-in-Ok-clause-params
 returns-in-Ok-clause-params g c = c.close.ensures.params

@@ -52,6 +52,9 @@ note-requires-clause-own g c = c.requires.turn.own
 pub note-requires-clause-inside : goal.note-requires-clause-inside
 note-requires-clause-inside g c = c.requires.turn.inside
 
+pub read_batch-requires-clause-watched : goal.read_batch-requires-clause-watched
+read_batch-requires-clause-watched g c κs within = c.requires.whole
+
 pub read_batch-requires-clause-serves : goal.read_batch-requires-clause-serves
 read_batch-requires-clause-serves g c κs within = c.requires.ready.serves
 

@@ -57,14 +57,14 @@ returns-in-Over-clause-acted g c =
     rested_once (kind_of g.V.Vault) (beat_kind g.B.Beat.passes g.B.Beat.exact) c.args.hall.now c.args.pass.now c.leave-in-Over.new.pass c.args.vault.now (g.W.Watch.trace c.args.watch.now) (outflow g.O.Sink c.args.output.now) (g.V.Vault.counts c.args.vault.now)
     c.look-look.result c.requires.rests.at (looked_turn c.args.hall.now c.args.pass.now c.enter_behind-desk.new.pass c.enter_behind-desk.result.0 (g.V.Vault.counts c.args.vault.now) c.requires.rests.at c.enter_behind-desk.ensures.own
     c.enter_behind-desk.ensures.entered c.note.new.pass c.look-look.result (sym c.in_default.is ∙ c.stopped-fault.ensures.0) (rw c.in_default.is at c.note.ensures.noted) c.note.ensures.own c.leave-in-Over.new.pass c.leave-in-Over.ensures.left)
-    (c.leave-in-Over.ensures.left.beside.ear ∙ (c.note.ensures.noted.beside.ear ∙ c.enter_behind-desk.ensures.entered.beside.ear)) c.leave-in-Over.ensures.own c.leave-in-Over.ensures.idle c.in-Over.ensures.may.0 rounds.Over (c.look-look.result, refl, c.in-Over.ensures.may.1)
+    (c.leave-in-Over.ensures.left.beside.ear ∙ (c.note.ensures.noted.beside.ear ∙ c.enter_behind-desk.ensures.entered.beside.ear)) c.leave-in-Over.ensures.own c.leave-in-Over.ensures.idle c.in-Over.ensures.may.0 c.requires.whole rounds.Over (c.look-look.result, refl, c.in-Over.ensures.may.1)
 
 pub returns-in-Rest-clause-acted : goal.returns-in-Rest-clause-acted
 returns-in-Rest-clause-acted g c =
     rested_once (kind_of g.V.Vault) (beat_kind g.B.Beat.passes g.B.Beat.exact) c.args.hall.now c.args.pass.now c.leave-in-Rest.new.pass c.args.vault.now (g.W.Watch.trace c.args.watch.now) (outflow g.O.Sink c.args.output.now) (g.V.Vault.counts c.args.vault.now)
     c.look-look.result c.requires.rests.at (looked_turn c.args.hall.now c.args.pass.now c.enter_behind-desk.new.pass c.enter_behind-desk.result.0 (g.V.Vault.counts c.args.vault.now) c.requires.rests.at c.enter_behind-desk.ensures.own
     c.enter_behind-desk.ensures.entered c.note.new.pass c.look-look.result (sym c.in_default.is ∙ c.stopped-fault.ensures.0) (rw c.in_default.is at c.note.ensures.noted) c.note.ensures.own c.leave-in-Rest.new.pass c.leave-in-Rest.ensures.left)
-    (c.leave-in-Rest.ensures.left.beside.ear ∙ (c.note.ensures.noted.beside.ear ∙ c.enter_behind-desk.ensures.entered.beside.ear)) c.leave-in-Rest.ensures.own c.leave-in-Rest.ensures.idle c.in-Rest.ensures.may.0 rounds.Rested (c.look-look.result, refl, c.in-Rest.ensures.may.1)
+    (c.leave-in-Rest.ensures.left.beside.ear ∙ (c.note.ensures.noted.beside.ear ∙ c.enter_behind-desk.ensures.entered.beside.ear)) c.leave-in-Rest.ensures.own c.leave-in-Rest.ensures.idle c.in-Rest.ensures.may.0 c.requires.whole rounds.Rested (c.look-look.result, refl, c.in-Rest.ensures.may.1)
 
 pub returns-in-Over-clause-over : goal.returns-in-Over-clause-over
 returns-in-Over-clause-over g c =
@@ -230,6 +230,12 @@ fetch-requires-clause-room g c κs within = c.requires.room.found
 
 pub end_and_tell-requires-clause-params : goal.end_and_tell-requires-clause-params
 end_and_tell-requires-clause-params g c κs within = c.requires.params
+
+pub fetch-requires-clause-whole : goal.fetch-requires-clause-whole
+fetch-requires-clause-whole g c κs within = c.requires.whole
+
+pub end_and_tell-requires-clause-whole : goal.end_and_tell-requires-clause-whole
+end_and_tell-requires-clause-whole g c κs within = c.requires.whole
 
 pub end_and_tell-requires-clause-goes_on : goal.end_and_tell-requires-clause-goes_on
 end_and_tell-requires-clause-goes_on g c κs within = sym c.stopped-fault.ensures.0 ∙ c.in_default.is

@@ -14,6 +14,7 @@ scoped-requires g c =
           c.requires.none,
           c.requires.room,
           c.requires.driver,
+          c.requires.whole,
           param_send 0 _ (arg_send _ no (param 0 g.row.U) c.type_bounds.send-U),
           param_sync 1 _ (arg_sync _ no (param 1 g.row.R) c.type_bounds.sync-R),
         ),

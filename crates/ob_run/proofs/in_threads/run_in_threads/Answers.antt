@@ -40,7 +40,7 @@ pub returns-clause-anchors : goal.returns-clause-anchors
 returns-clause-anchors g c =
     let done = c.serve_hall.ensures.done in
     let d = done.1.1 in
-    (goes_all (kind_of g.V.Vault) c.args.vault.now (calls done.1.0) d.notes c.serve_hall.new.vault d.chain).anchors
+    (goes_all (kind_of g.V.Vault) c.args.vault.now _ (calls done.1.0) d.notes c.serve_hall.new.vault _ d.chain).anchors
 
 pub returns-clause-done : goal.returns-clause-done
 returns-clause-done g c = rw c.in-Ok.ensures.desk at c.serve_hall.ensures.done

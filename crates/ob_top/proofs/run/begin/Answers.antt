@@ -52,8 +52,8 @@ returns-in-Ok-prepare-clause-begun g c =
     let e = c.in-Ok-prepare.ensures in (
       found_ring e.opened.found c.in-Ok-prepare.opening,
       refl,
-      begun (λ s. g.S.Store.disk s) c.args.keys.now c.args.lanes c.requires.lanes.0 c.in-Ok.params c.in-Ok-read_script.scripts _ c.args.store.now c.head.new.store c.prepare.new.store head.value (record { keeps = head.keeps; passes = head.passes; seen = head.does.seen }) c.in-Ok-read_script.ensures.came
-          _ _ c.in-Ok-prepare.opening e.opened e.serves.tells e.stands,
+      begun (λ s. g.S.Store.disk s) c.args.keys.now c.args.lanes c.requires.lanes.0 c.in-Ok.params c.in-Ok-read_script.scripts _ c.args.store.now c.head.new.store c.prepare.new.store head.value (record { keeps = head.keeps; passes = head.passes; seen = head.does.seen })
+          c.in-Ok-read_script.ensures.came _ _ c.in-Ok-prepare.opening e.opened e.serves.tells e.stands,
     )
 
 pub returns-in-Ok-prepare-clause-serves : goal.returns-in-Ok-prepare-clause-serves
@@ -84,8 +84,8 @@ pub returns-in-Err-prepare-clause-refused : goal.returns-in-Err-prepare-clause-r
 returns-in-Err-prepare-clause-refused g c =
     let head = c.in-Ok.ensures in
     let e = c.in-Err-prepare.ensures in
-    unopened (λ s. g.S.Store.disk s) c.args.keys.now c.args.lanes c.requires.lanes.0 c.in-Ok.params c.in-Ok-read_script.scripts _ c.args.store.now c.head.new.store c.prepare.new.store head.value (record { keeps = head.keeps; passes = head.passes; seen = head.does.seen }) c.in-Ok-read_script.ensures.came
-    c.prepare.result _ _ _ _ _ _ c.in-Err-prepare.fault _ (g.met.S.Store.only_now c.args.store.now) head.serves.goes.faults e.faults e.serves.cause e.does_err e.refused e.stands e.unwritten e.leaves (λ word_of s told at. e.acts word_of s None told at)
+    unopened (λ s. g.S.Store.disk s) c.args.keys.now c.args.lanes c.requires.lanes.0 c.in-Ok.params c.in-Ok-read_script.scripts _ c.args.store.now c.head.new.store c.prepare.new.store head.value (record { keeps = head.keeps; passes = head.passes; seen = head.does.seen })
+    c.in-Ok-read_script.ensures.came c.prepare.result _ _ _ _ _ _ c.in-Err-prepare.fault _ (g.met.S.Store.only_now c.args.store.now) head.serves.goes.faults e.faults e.serves.cause e.does_err e.refused e.stands e.unwritten e.leaves (λ word_of s told at. e.acts word_of s None told at)
 
 -- ---- the life of the store
 

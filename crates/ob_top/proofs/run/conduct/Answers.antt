@@ -35,6 +35,9 @@ returns-clause-done g c =
 pub run-requires-clause-params : goal.run-requires-clause-params
 run-requires-clause-params g c κs within = c.requires.params
 
+pub run-requires-clause-whole : goal.run-requires-clause-whole
+run-requires-clause-whole g c κs within = c.requires.whole
+
 pub run-requires-clause-serves : goal.run-requires-clause-serves
 run-requires-clause-serves g c κs within = c.requires.serves
 

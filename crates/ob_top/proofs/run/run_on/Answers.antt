@@ -13,8 +13,8 @@ returns-in-Err-clause-done g c = ended_early ring_kind ring_quiet ring_lives rin
 pub returns-clause-done : goal.returns-clause-done
 returns-clause-done g c =
     let (f, same, b) = c.in-Ok.ensures.begun in
-    ran ring_kind ring_quiet ring_lives ring_keeps (λ s. g.S.Store.disk s) (λ x t image at left. g.met.S.Store.counts_now x t image at left) _ _ c.args.keys.now _ c.begin.new.store _ _ _ _ _ c.in-Ok.begun.params c.in-Ok.begun.scripts f b.start c.in-Ok.begun.opening.sealer _ c.in-Ok.ensures.goes.faults b.opened b.seen
-    c.in-Ok.ensures.durable b.stood c.in-Ok.ensures.left c.in-Ok.ensures.since c.in-Ok.ensures.opens
+    ran ring_kind ring_quiet ring_lives ring_keeps (λ s. g.S.Store.disk s) (λ x t image at left. g.met.S.Store.counts_now x t image at left) _ _ c.args.keys.now _ c.begin.new.store _ _ _ _ _
+    c.in-Ok.begun.params c.in-Ok.begun.scripts f b.start c.in-Ok.begun.opening.sealer _ c.in-Ok.ensures.goes.faults b.opened b.seen c.in-Ok.ensures.durable b.stood c.in-Ok.ensures.left c.in-Ok.ensures.since c.in-Ok.ensures.opens
     (λ tells word_of s here small. opened_lives c.args.keys.now c.in-Ok.begun.params word_of s (g.S.Store.disk c.args.store.now).cells f (b.opened.finds tells) here small) (c.serve_on.ensures.serves f b.found same b.goes_on b.planned)
 
 pub returns-clause-goes : goal.returns-clause-goes

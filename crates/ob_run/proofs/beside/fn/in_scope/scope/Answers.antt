@@ -29,6 +29,9 @@ drive_lent-lent-requires-clause-first g c κs within = c.requires.1
 pub drive_lent-lent-requires-clause-room : goal.drive_lent-lent-requires-clause-room
 drive_lent-lent-requires-clause-room g c κs within = c.requires.5
 
+pub drive_lent-lent-requires-clause-whole : goal.drive_lent-lent-requires-clause-whole
+drive_lent-lent-requires-clause-whole g c κs within = c.requires.6
+
 pub drive_lent-lent-requires-clause-hands : goal.drive_lent-lent-requires-clause-hands
 drive_lent-lent-requires-clause-hands g c κs within =
     let w = words g.U.Runner.client g.U.Runner.bound g.U.Runner.plan g.U.Runner.fits g.U.Runner.turn in
