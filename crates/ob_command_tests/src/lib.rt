@@ -7,6 +7,8 @@ mod audits;
 #[cfg(test)]
 mod calling;
 #[cfg(test)]
+mod drills;
+#[cfg(test)]
 mod forms;
 #[cfg(test)]
 mod many;

@@ -1,5 +1,5 @@
 -- Calls that change no value, one behind the other.
-use Rattle.std.proofs.Common.{◌≡◌, ◌∙◌, inl, inr, ℕ, zero, suc, Option, Result, Ok, Err, OnOk, IfErr, All, List, [], ◌∷◌, ◌++◌, refl, sym, subst, arith}
+use Rattle.std.proofs.Common.{◌≡◌, ◌∙◌, inl, inr, ℕ, zero, suc, Option, Result, Ok, Err, OnOk, IfErr, All, List, [], ◌∷◌, ◌++◌, ◌+◌, ◌≤◌, length-append, refl, sym, subst, arith}
 use Rattle.std.proofs.lemmas.List.Elements.{All-append}
 use Rattle.ob_base.specs.declared.fault.Fault.{Fault}
 use Rattle.ob_base.specs.Causes.{Rose}
@@ -42,12 +42,13 @@ module _ {V : Type 0} (k : Kind V) where
       let (w, holds, is) = all_held mid b at u xs rest (λ i d lt. reads (suc i) d (omega (arith, lt))) (vault_next v x.0 x.1) (one.holds v held) in
       (w, holds, is ∙ one_held v x.0 x.1 first.0 first.1)
 
-  pub reads_none : (a : V) (t : Trace) → ReadsOnly k a t a t
-  reads_none a t = record { steps = []; chain = (refl, refl); reads = λ i d lt. absurd (omega (arith, lt)) }
+  pub reads_none : (most : ℕ) (a : V) (t : Trace) → ReadsOnly k most a t a t
+  reads_none most a t = record { steps = []; few = omega arith; chain = (refl, refl); reads = λ i d lt. absurd (omega (arith, lt)) }
 
-  pub reads_one : (a b : V) (t u : Trace) (call : VaultCall) (answer : VaultAnswer) (one : Called k a call answer b) → Shows one.notes t u → ChangesNone call → IsGiven answer → ReadsOnly k a t b u
+  pub reads_one : (a b : V) (t u : Trace) (call : VaultCall) (answer : VaultAnswer) (one : Called k a call answer b) → Shows one.notes t u → ChangesNone call → IsGiven answer → ReadsOnly k 1 a t b u
   reads_one a b t u call answer one shown none given = record {
     steps = (call, answer) ∷ [];
+    few = omega arith;
     chain = (b, u, one, shown, (refl, refl));
     reads = single;
   }
@@ -56,18 +57,22 @@ module _ {V : Type 0} (k : Kind V) where
       single zero d lt = (none, given)
       single (suc i) d lt = absurd (omega (arith, lt))
 
-  pub reads_then : (a b c : V) (t u w : Trace) → ReadsOnly k a t b u → ReadsOnly k b u c w → ReadsOnly k a t c w
-  reads_then a b c t u w first rest = record {
+  pub reads_then : (m n most : ℕ) → m + n ≤ most → (a b c : V) (t u w : Trace) → ReadsOnly k m a t b u → ReadsOnly k n b u c w → ReadsOnly k most a t c w
+  reads_then m n most within a b c t u w first rest = record {
     steps = first.steps ++ rest.steps;
+    few = let f = first.few in let r = rest.few in omega (arith, f, r, within, length-append first.steps rest.steps);
     chain = shown_then a b c t u w first.steps rest.steps first.chain rest.chain;
     reads = All-append IsReading first.steps rest.steps first.reads rest.reads;
   }
 
-  pub refused_one : (a b : V) (t u : Trace) (call : VaultCall) (answer : VaultAnswer) (fault : Fault) (one : Called k a call answer b) → Shows one.notes t u → ChangesNone call → IsRefusal fault answer → IsRefusedReading k a t fault b u
-  refused_one a b t u call answer fault one shown none refused = record {
+  pub reads_within : (m n : ℕ) → m ≤ n → (a b : V) (t u : Trace) → ReadsOnly k m a t b u → ReadsOnly k n a t b u
+  reads_within m n within a b t u all = record { steps = all.steps; few = let f = all.few in omega (arith, f, within); chain = all.chain; reads = all.reads }
+
+  pub refused_one : (most : ℕ) (a b : V) (t u : Trace) (call : VaultCall) (answer : VaultAnswer) (fault : Fault) (one : Called k a call answer b) → Shows one.notes t u → ChangesNone call → IsRefusal fault answer → IsRefusedReading k most a t fault b u
+  refused_one most a b t u call answer fault one shown none refused = record {
     mid = a;
     at = t;
-    behind = reads_none a t;
+    behind = reads_none most a t;
     call = call;
     reads = none;
     answer = answer;
@@ -76,11 +81,11 @@ module _ {V : Type 0} (k : Kind V) where
     shown = shown;
   }
 
-  pub refused_then : (a b c : V) (t u w : Trace) (fault : Fault) → ReadsOnly k a t b u → IsRefusedReading k b u fault c w → IsRefusedReading k a t fault c w
-  refused_then a b c t u w fault first rest = record {
+  pub refused_then : (m n most : ℕ) → m + n ≤ most → (a b c : V) (t u w : Trace) (fault : Fault) → ReadsOnly k m a t b u → IsRefusedReading k n b u fault c w → IsRefusedReading k most a t fault c w
+  refused_then m n most within a b c t u w fault first rest = record {
     mid = rest.mid;
     at = rest.at;
-    behind = reads_then a b rest.mid t u rest.at first rest.behind;
+    behind = reads_then m n most within a b rest.mid t u rest.at first rest.behind;
     call = rest.call;
     reads = rest.reads;
     answer = rest.answer;
@@ -89,27 +94,27 @@ module _ {V : Type 0} (k : Kind V) where
     shown = rest.shown;
   }
 
-  pub fails_then : (a b c : V) (t u w : Trace) (fault : Fault) → ReadsOnly k a t b u → ReadingFails k b u fault c w → ReadingFails k a t fault c w
-  fails_then a b c t u w fault first (inl (memory, rest)) = inl (memory, reads_then a b c t u w first rest)
-  fails_then a b c t u w fault first (inr rest) = inr (refused_then a b c t u w fault first rest)
+  pub fails_then : (m n most : ℕ) → m + n ≤ most → (a b c : V) (t u w : Trace) (fault : Fault) → ReadsOnly k m a t b u → ReadingFails k n b u fault c w → ReadingFails k most a t fault c w
+  fails_then m n most within a b c t u w fault first (inl (memory, rest)) = inl (memory, reads_then m n most within a b c t u w first rest)
+  fails_then m n most within a b c t u w fault first (inr rest) = inr (refused_then m n most within a b c t u w fault first rest)
 
-  pub cause_then : (a b c : V) (t u : Trace) → ReadsOnly k a t b u → Rose (k.disk b).faults (k.disk c).faults → Rose (k.disk a).faults (k.disk c).faults
-  cause_then a b c t u first rose = rose_later (k.disk a).faults (k.disk b).faults (k.disk c).faults (goes_on a b t u first.steps first.chain).faults rose
+  pub cause_then : (m : ℕ) (a b c : V) (t u : Trace) → ReadsOnly k m a t b u → Rose (k.disk b).faults (k.disk c).faults → Rose (k.disk a).faults (k.disk c).faults
+  cause_then m a b c t u first rose = rose_later (k.disk a).faults (k.disk b).faults (k.disk c).faults (goes_on a b t u first.steps first.chain).faults rose
 
-  pub held_behind : (a b : V) (t u : Trace) → ReadsOnly k a t b u → (v : VaultState) → k.holds a v → (w : VaultState) × k.holds b w × (w.content ≡ v.content)
-  held_behind a b t u first = all_held a b t u first.steps first.chain first.reads
+  pub held_behind : (m : ℕ) (a b : V) (t u : Trace) → ReadsOnly k m a t b u → (v : VaultState) → k.holds a v → (w : VaultState) × k.holds b w × (w.content ≡ v.content)
+  held_behind m a b t u first = all_held a b t u first.steps first.chain first.reads
 
-  -- a fetch behind such calls
-  pub fetched : (a b c : V) (t u w : Trace) (asks : List (Option ℕ)) (values : List (Option (List ℕ))) (r : Result (Unit {0}) Fault) → ReadsOnly k a t b u → (one : Called k b (Fetch asks) (fetch_answer values r) c) → Shows one.notes u w → OnOk r (ReadsOnly k a t c w)
-  fetched a b c t u w asks values (Ok done) first one shown = reads_then a b c t u w first (reads_one b c u w (Fetch asks) (Values values) one shown tt tt)
+  -- a fetch behind the call that leaves a batch for it
+  pub fetched : (a b c : V) (t u w : Trace) (asks : List (Option ℕ)) (values : List (Option (List ℕ))) (r : Result (Unit {0}) Fault) → ReadsOnly k 1 a t b u → (one : Called k b (Fetch asks) (fetch_answer values r) c) → Shows one.notes u w → OnOk r (ReadsOnly k 2 a t c w)
+  fetched a b c t u w asks values (Ok done) first one shown = reads_then 1 1 2 (omega arith) a b c t u w first (reads_one b c u w (Fetch asks) (Values values) one shown tt tt)
   fetched a b c t u w asks values (Err fault) first one shown = tt
 
-  pub fetch_refused : (a b c : V) (t u w : Trace) (asks : List (Option ℕ)) (values : List (Option (List ℕ))) (r : Result (Unit {0}) Fault) → ReadsOnly k a t b u → (one : Called k b (Fetch asks) (fetch_answer values r) c) → Shows one.notes u w
-      → IfErr r (λ fault. IsRefusedReading k a t fault c w)
+  pub fetch_refused : (a b c : V) (t u w : Trace) (asks : List (Option ℕ)) (values : List (Option (List ℕ))) (r : Result (Unit {0}) Fault) → ReadsOnly k 1 a t b u → (one : Called k b (Fetch asks) (fetch_answer values r) c) → Shows one.notes u w
+      → IfErr r (λ fault. IsRefusedReading k 2 a t fault c w)
   fetch_refused a b c t u w asks values (Ok done) first one shown = tt
-  fetch_refused a b c t u w asks values (Err fault) first one shown = refused_then a b c t u w fault first (refused_one b c u w (Fetch asks) (RefusedBy fault) fault one shown tt refl)
+  fetch_refused a b c t u w asks values (Err fault) first one shown = refused_then 1 1 2 (omega arith) a b c t u w fault first (refused_one 1 b c u w (Fetch asks) (RefusedBy fault) fault one shown tt refl)
 
-  pub answers_behind : (a b : V) (t u : Trace) (asks : List (Option ℕ)) (values : List (Option (List ℕ))) (r : Result (Unit {0}) Fault) → ReadsOnly k a t b u → ((v : VaultState) → k.holds b v → IsAnswer v.content (Fetch asks) (fetch_answer values r))
+  pub answers_behind : (m : ℕ) (a b : V) (t u : Trace) (asks : List (Option ℕ)) (values : List (Option (List ℕ))) (r : Result (Unit {0}) Fault) → ReadsOnly k m a t b u → ((v : VaultState) → k.holds b v → IsAnswer v.content (Fetch asks) (fetch_answer values r))
       → OnOk r ((v : VaultState) → k.holds a v → AnswersAll v.content asks values)
-  answers_behind a b t u asks values (Ok done) first answered = λ v held. let (w, holds, is) = held_behind a b t u first v held in subst (λ (m : Map nat_cmp). AnswersAll m asks values) is (answered w holds)
-  answers_behind a b t u asks values (Err fault) first answered = tt
+  answers_behind m a b t u asks values (Ok done) first answered = λ v held. let (w, holds, is) = held_behind m a b t u first v held in subst (λ (x : Map nat_cmp). AnswersAll x asks values) is (answered w holds)
+  answers_behind m a b t u asks values (Err fault) first answered = tt

@@ -1,5 +1,5 @@
 -- What calls a vault gets while its map is read.
-use Rattle.std.specs.Prelude.{◌≡◌, ◌⊎◌, All, List, [], ◌∷◌}
+use Rattle.std.specs.Prelude.{ℕ, ◌≡◌, ◌⊎◌, ◌≤◌, All, List, [], ◌∷◌, length}
 use Rattle.ob_base.specs.declared.fault.Fault.{Fault}
 use Rattle.ob_base.specs.declared.fault.Fault.TheVariants.{Memory}
 use Rattle.ob_store.specs.Lines.{Trace, Shows}
@@ -35,10 +35,11 @@ IsRefusal fault Ended = ⊥
 IsRefusal fault (RefusedBy other) = other ≡ fault
 IsRefusal fault (DoubtBy other) = other ≡ fault
 
-module _ {V : Type 0} (k : Kind V) where
-  -- The calls were answered, and changed no value.
+module _ {V : Type 0} (k : Kind V) (most : ℕ) where
+  -- At most so many calls, which were answered and changed no value.
   pub record ReadsOnly (old : V) (before : Trace) (new : V) (after : Trace) : Type 0 where
     pub steps : List (VaultCall × VaultAnswer)
+    pub few : length steps ≤ most
     pub chain : AllShown k old before steps new after
     pub reads : All IsReading steps
 

@@ -41,9 +41,9 @@ fn leave_one<R: Threads + Sync, V: Vault, W: Watch>(
     ensures params { V.params vault.new ≡ V.params vault.old }
     ensures serves { OnOk result ((V.counts vault.new).spent ≡ false) }
     ensures some_left { OnOk result (0 < (V.counts vault.new).left) }
-    ensures reads { OnOk result (ReadsOnly (kind_of V.Vault) vault.old (W.trace watch.old)
+    ensures reads { OnOk result (ReadsOnly (kind_of V.Vault) 1 vault.old (W.trace watch.old)
         vault.new (W.trace watch.new)) }
-    ensures refused { IfErr result (λ fault. IsRefusedReading (kind_of V.Vault)
+    ensures refused { IfErr result (λ fault. IsRefusedReading (kind_of V.Vault) 1
         vault.old (W.trace watch.old) fault vault.new (W.trace watch.new)) }
     ensures cause { IfErr result (λ fault. IsStoreFault fault
         → Rose (V.disk vault.old).faults (V.disk vault.new).faults) }
@@ -80,9 +80,9 @@ pub fn fetch<R: Threads + Sync, V: Vault, W: Watch>(
     ensures serves { OnOk result ((V.counts vault.new).spent ≡ false) }
     ensures answers { OnOk result ((v : VaultState) → V.holds vault.old v
         → AnswersAll v.content asks.now found.new) }
-    ensures reads { OnOk result (ReadsOnly (kind_of V.Vault) vault.old (W.trace watch.old)
+    ensures reads { OnOk result (ReadsOnly (kind_of V.Vault) 2 vault.old (W.trace watch.old)
         vault.new (W.trace watch.new)) }
-    ensures refused { IfErr result (λ fault. IsRefusedReading (kind_of V.Vault)
+    ensures refused { IfErr result (λ fault. IsRefusedReading (kind_of V.Vault) 2
         vault.old (W.trace watch.old) fault vault.new (W.trace watch.new)) }
     ensures cause { IfErr result (λ fault. IsStoreFault fault
         → Rose (V.disk vault.old).faults (V.disk vault.new).faults) }

@@ -1,6 +1,6 @@
 //! A map read back, key by key.
 
-ghost use Rattle.std.specs.Prelude.{◌≡◌, ◌+◌, ◌<◌, ◌≤◌, ℕ, Bool, false, IfOk, IfErr, OnOk, min};
+ghost use Rattle.std.specs.Prelude.{◌≡◌, ◌*◌, ◌+◌, ◌<◌, ◌≤◌, ℕ, Bool, false, IfOk, IfErr, OnOk, min};
 ghost use Rattle.std.specs.FinMap.{get};
 ghost use denote.Param.Send.{IsSync};
 ghost use Rattle.ob_base.specs.Causes.{Rose};
@@ -47,9 +47,9 @@ fn read_batch<R: Threads + Sync, V: Vault, W: Watch>(
     ensures serves { OnOk result ((V.counts vault.new).spent ≡ false) }
     ensures rows { IfOk result (λ next. (v : VaultState) → V.holds vault.old v
         → HasRows (get v.content) first rows.old → HasRows (get v.content) next rows.new) }
-    ensures reads { OnOk result (ReadsOnly (kind_of V.Vault) vault.old (W.trace watch.old)
+    ensures reads { OnOk result (ReadsOnly (kind_of V.Vault) 2 vault.old (W.trace watch.old)
         vault.new (W.trace watch.new)) }
-    ensures refused { IfErr result (λ fault. ReadingFails (kind_of V.Vault)
+    ensures refused { IfErr result (λ fault. ReadingFails (kind_of V.Vault) 2
         vault.old (W.trace watch.old) fault vault.new (W.trace watch.new)) }
     ensures cause { IfErr result (λ fault. IsStoreFault fault
         → Rose (V.disk vault.old).faults (V.disk vault.new).faults) }
@@ -90,10 +90,10 @@ pub fn read_map<R: Threads + Sync, V: Vault, W: Watch>(
     // What is answered is of the map that the vault held.
     ensures digest { IfOk result (λ digest. (v : VaultState) → V.holds vault.old v
         → IsDigestOf v.content params.now.keys digest) }
-    // Its calls are one chain, each of them a fetch, or an end without writes.
-    ensures reads { OnOk result (ReadsOnly (kind_of V.Vault) vault.old (W.trace watch.old)
+    // Its calls are one chain, each of them a fetch, or an end without writes: at most two a key.
+    ensures reads { OnOk result (ReadsOnly (kind_of V.Vault) (2 * params.now.keys) vault.old (W.trace watch.old)
         vault.new (W.trace watch.new)) }
-    ensures refused { IfErr result (λ fault. ReadingFails (kind_of V.Vault)
+    ensures refused { IfErr result (λ fault. ReadingFails (kind_of V.Vault) (2 * params.now.keys)
         vault.old (W.trace watch.old) fault vault.new (W.trace watch.new)) }
     ensures cause { IfErr result (λ fault. IsStoreFault fault
         → Rose (V.disk vault.old).faults (V.disk vault.new).faults) }

@@ -5,3 +5,5 @@
 mod fixtures;
 #[cfg(test)]
 mod plain;
+#[cfg(test)]
+mod ring;

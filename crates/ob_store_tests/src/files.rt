@@ -6,7 +6,7 @@ use crate::files::Call::{
     Borrow, Close, Lane, Make, NoLane, NoReader, NotMade, NotMadeAt, NotOpened, Open, Play,
     Readers, Remove, Rename, Replace,
 };
-use crate::steps::Step::{Front, NotRead, NotWritten, Read, Synced, Turns, Write};
+use crate::steps::Step::{Front, NotRead, NotSynced, NotWritten, Read, Synced, Turns, Write};
 use crate::steps::{Step, play};
 use ob_outside::{FileStore, OpenErr, open_locked};
 use ob_store::Store;
@@ -249,6 +249,50 @@ const FAILS: &[Call] = &[
 #[test]
 fn what_cannot_be_done_fails(rt: HostRuntime) {
     run(&rt, &rt, "none", "other_none", FAILS);
+}
+
+// A cell that is written again before a sync, next to others.
+const TWICE: &[Step] = &[
+    Write(4, 1),
+    Write(5, 2),
+    Write(5, 3),
+    Write(4, 6),
+    Read(5, 3),
+    Read(4, 6),
+    Write(5, 7),
+    Synced,
+    Read(5, 7),
+];
+
+#[test]
+fn the_last_bytes_of_a_cell_count(rt: HostRuntime) {
+    let calls = &[Make, Play(TWICE), Remove];
+    run(&rt, &rt, "twice", "other_twice", calls);
+}
+
+// A file of the system that takes no such bytes, and that no sync is of.
+const REFUSES: &str = "/proc/self/oom_score_adj";
+
+// The first write is gathered, and fails where the second one hands it over.
+const LOST: &[Step] = &[
+    Write(0, 1),
+    NotWritten(5, 1),
+    NotWritten(6, 1),
+    NotSynced,
+    Step::NoLane,
+];
+
+const NOT_SURE: &[Step] = &[NotSynced, NotWritten(0, 1), Step::NoLane];
+
+fn goes_so(rt: &impl Abort, host: &HostRuntime, steps: &[Step]) {
+    let mut store = opened(host, REFUSES, false).ok().expect(rt, "a store");
+    play(rt, &mut store, steps);
+}
+
+#[test]
+fn a_store_that_failed_once_fails_for_good(rt: HostRuntime) {
+    goes_so(&rt, &rt, LOST);
+    goes_so(&rt, &rt, NOT_SURE);
 }
 
 const WRITE: Call = Play(&[Write(0, 5)]);

@@ -3,7 +3,7 @@ use Rattle.std.proofs.Common.{◌≡◌, ◌⊎◌, ℕ, List, Bool, not, Option
 use Rattle.std.specs.Borrow.{Bor}
 use Rattle.ob_base.specs.declared.params.Params.{Params}
 use Rattle.ob_base.specs.declared.fault.Field.{Field}
-use Rattle.ob_base.specs.declared.fault.Field.TheVariants.{KEYS, LANES}
+use Rattle.ob_base.specs.declared.fault.Field.TheVariants.{KEYS, LANES, COUNT}
 use Rattle.ob_base.specs.declared.fault.Fault.{Fault}
 use Rattle.ob_base.specs.declared.fault.Fault.TheVariants.{Memory, Usage, BadScript, BadParams, NotStore, Damaged, StoreFault, StashFull, Worn, SourceFault, SinkFault}
 use Rattle.ob_seal.specs.declared.keys.Keys.{Keys}
@@ -11,10 +11,10 @@ use Rattle.ob_report.specs.Printed.{IsPrinted}
 use Rattle.ob_report.specs.Faults.{fault_line, status_of}
 use Rattle.ob_store.specs.Disk.{Disk}
 use Rattle.ob_desk.specs.Beats.{BeatKind}
-use Rattle.ob_words.specs.Reading.{Asked, asked_by, format_asked, run_asked, audit_asked}
+use Rattle.ob_words.specs.Reading.{Asked, asked_by, format_asked, run_asked, audit_asked, drill_asked}
 use Rattle.ob_words.specs.declared.work.Command.{Command}
 use Rattle.ob_words.specs.declared.work.Command.TheVariants.{Format, Run}
-use Rattle.ob_words.specs.Work.{AreParams, IsBadNumber, AreLanes, AreBadLanes, Asks, IsCommandOf, IsOutOfRange, IsRefusedFor, HasKeys, IsKeysRefused}
+use Rattle.ob_words.specs.Work.{AreParams, IsBadNumber, AreLanes, AreBadLanes, IsBadCount, Asks, IsCommandOf, IsOutOfRange, IsRefusedFor, HasKeys, IsKeysRefused}
 use Rattle.ob_top.specs.Begun.{AreFewLanes}
 use Rattle.ob_top.specs.Outside.{Outside, IsFinished, IsOnlyTold}
 use Rattle.ob_top.specs.Formats.{FormatDone}
@@ -50,6 +50,7 @@ run_of : (asked : Asked) (k : ℕ) (turns : Bool) → IsCommandOf asked (Run k t
 run_of (format_asked store keys numbers) k turns fits = absurd fits
 run_of (run_asked store keys lanes by_hand) k turns fits = in_range lanes k fits.0
 run_of audit_asked k turns fits = absurd fits
+run_of (drill_asked word) k turns fits = absurd fits
 
 pub few_lanes : (words : List (List ℕ)) (k : ℕ) (turns : Bool) → Asks words (Run k turns) → AreFewLanes k
 few_lanes words k turns (asked, by, fits) = run_of asked k turns fits
@@ -61,6 +62,14 @@ none_over (Run k by_hand) fits = fits
 -- an audit is nothing over a store
 audit_alone : (words : List (List ℕ)) → AskForSomething words → asked_by words ≡ Some audit_asked → ⊥
 audit_alone words (command, (asked, by, fits)) asks = none_over command (subst (λ (a : Asked). IsCommandOf a command) (one_asked words asked audit_asked by asks) fits)
+
+-- nor is a self-test
+none_counted : (word : List ℕ) (command : Command) → IsCommandOf (drill_asked word) command → ⊥
+none_counted word (Format p) fits = fits
+none_counted word (Run k by_hand) fits = fits
+
+drill_alone : (words : List (List ℕ)) → AskForSomething words → (count : List ℕ) → asked_by words ≡ Some (drill_asked count) → ⊥
+drill_alone words (command, (asked, by, fits)) count asks = none_counted count command (subst (λ (a : Asked). IsCommandOf a command) (one_asked words asked (drill_asked count) by asks) fits)
 
 -- the three refusals of words
 abbrev WordsRefused : List (List ℕ) → Fault → Type 0
@@ -169,6 +178,16 @@ module _ (before mid after : Outside) (status : ℕ) (input : after.input ≡ mi
             let bad_lanes = subst (λ (a : Asked). IsOutOfRange a field) (one_asked words asked (run_asked store keys lanes turns) by asks) out in
             inr (bad_lanes.1, number_told LANES (bad ∙ ap BadParams bad_lanes.0))
 
+    drill_tells : (word : List ℕ) → IsRefusedFor words f → asked_by words ≡ Some (drill_asked word) → Tells Memory ⊎ (IsBadCount word × Tells (BadParams COUNT))
+    drill_tells word refused asks = by_refusal (refusals words f refused)
+      where
+        by_refusal : WordsRefused words f → Tells Memory ⊎ (IsBadCount word × Tells (BadParams COUNT))
+        by_refusal (inl memory) = inl (memory_told memory)
+        by_refusal (inr (inl (usage, none))) = absurd (nothing_asked words (drill_asked word) none asks)
+        by_refusal (inr (inr (field, bad, (asked, by, out)))) =
+            let bad_count = subst (λ (a : Asked). IsOutOfRange a field) (one_asked words asked (drill_asked word) by asks) out in
+            inr (bad_count.1, number_told COUNT (bad ∙ ap BadParams bad_count.0))
+
   -- the command of a request is the one that the words ask for
   params_asked : (words : List (List ℕ)) (asked : Asked) (command : Command) (store keys : List ℕ) (numbers : List (List ℕ)) → asked_by words ≡ Some asked → IsCommandOf asked command
       → asked_by words ≡ Some (format_asked store keys numbers) → IsCommandOf (format_asked store keys numbers) command
@@ -206,6 +225,13 @@ module _ (before mid after : Outside) (status : ℕ) (input : after.input ≡ mi
     audit_told fault (inl (f, is, inr (some, bad), kept, same)) done asks = absurd (audit_alone words some asks)
     audit_told fault (inr (keys, has, inl (p, fits, ends, leaves, same))) done asks = absurd (audit_alone words (Format p, fits) asks)
     audit_told fault (inr (keys, has, inr (k, by_hand, fits, on))) done asks = absurd (audit_alone words (Run k by_hand, fits) asks)
+
+    pub drill_told : (fault : Option Fault) → CommandDoes disk beat drawn words text old new before mid fault → IsFinished mid.output after.output fault status → (word : List ℕ) → asked_by words ≡ Some (drill_asked word)
+        → Tell Memory ⊎ (IsBadCount word × Tell (BadParams COUNT))
+    drill_told fault (inl (f, is, inl refused, kept, same)) done word asks = drill_tells (new ≡ old) kept same words text fault f is done word refused asks
+    drill_told fault (inl (f, is, inr (some, bad), kept, same)) done word asks = absurd (drill_alone words some word asks)
+    drill_told fault (inr (keys, has, inl (p, fits, ends, leaves, same))) done word asks = absurd (drill_alone words (Format p, fits) word asks)
+    drill_told fault (inr (keys, has, inr (k, by_hand, fits, on))) done word asks = absurd (drill_alone words (Run k by_hand, fits) word asks)
 
     pub format_does : (fault : Option Fault) → CommandDoes disk beat drawn words text old new before mid fault → IsFinished mid.output after.output fault status
         → (store keys : List ℕ) (numbers : List (List ℕ)) → asked_by words ≡ Some (format_asked store keys numbers) → FormatTells numbers
@@ -256,6 +282,11 @@ module _ (before mid after : Outside) (status : ℕ) (input : after.input ≡ mi
     no_store_audit (inl (inl refused)) asks = audit_tells (Unit {0}) tt same words text (Some fault) fault refl done refused asks
     no_store_audit (inl (inr (some, bad))) asks = absurd (audit_alone words some asks)
     no_store_audit (inr (some, has, is)) asks = absurd (audit_alone words some asks)
+
+    pub no_store_drill : IsRefusedWithout words text fault → (word : List ℕ) → asked_by words ≡ Some (drill_asked word) → Alone Memory ⊎ (IsBadCount word × Alone (BadParams COUNT))
+    no_store_drill (inl (inl refused)) word asks = drill_tells (Unit {0}) tt same words text (Some fault) fault refl done word refused asks
+    no_store_drill (inl (inr (some, bad))) word asks = absurd (drill_alone words some word asks)
+    no_store_drill (inr (some, has, is)) word asks = absurd (drill_alone words some word asks)
 
     pub no_store_format : IsRefusedWithout words text fault → (store keys : List ℕ) (numbers : List (List ℕ)) → asked_by words ≡ Some (format_asked store keys numbers)
         → Alone Memory ⊎ (((field : Field) × IsBadNumber numbers field × Alone (BadParams field)) ⊎ ((p : Params) × AreParams numbers p × NoneAlone))

@@ -43,13 +43,13 @@ use Rattle.ob_top.specs.Runs.{manner, ServedOver}
 use Rattle.ob_top.proofs.Opens.{may_open}
 use Rattle.ob_top.proofs.RingServing.{IsRingLender, ring_serves}
 
-rest_same : (a b : GName) (xs ys : List GName) → ◌≡◌ {A = List GName} (a ∷ xs) (b ∷ ys) → xs ≡ ys
+pub rest_same : (a b : GName) (xs ys : List GName) → ◌≡◌ {A = List GName} (a ∷ xs) (b ∷ ys) → xs ≡ ys
 rest_same a b xs ys is = cc is
 
-abbrev script_kind : RunnerKind ScriptRunner (List ScriptTxn)
+abbrev pub script_kind : RunnerKind ScriptRunner (List ScriptTxn)
 script_kind = runner_kind client_of bound_of plan_of MayHaveMade IsScriptTurn
 
-runs_scripts : RunsScripts script_kind
+pub runs_scripts : RunsScripts script_kind
 runs_scripts = record { means = λ r said fit. is_its_script (runner_state r) said fit; turns = λ script client said steps turn. turn }
 
 -- the words of a vault, told of what it runs with

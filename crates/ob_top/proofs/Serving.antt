@@ -65,11 +65,11 @@ none_ended writes (Before fault) = refl
 none_ended writes (Unsure fault) = refl
 
 -- each record has its writes
-counted : (written : List (List (ℕ × Option (List ℕ)))) (records : List (EpochRecord ℕ)) → AreWritten written records → length written ≡ length records
-counted [] [] are = refl
-counted [] (r ∷ records) are = absurd are
-counted (w ∷ written) [] are = absurd are
-counted (w ∷ written) (r ∷ records) (one, are) = ap suc (counted written records are)
+pub counted_ends : (written : List (List (ℕ × Option (List ℕ)))) (records : List (EpochRecord ℕ)) → AreWritten written records → length written ≡ length records
+counted_ends [] [] are = refl
+counted_ends [] (r ∷ records) are = absurd are
+counted_ends (w ∷ written) [] are = absurd are
+counted_ends (w ∷ written) (r ∷ records) (one, are) = ap suc (counted_ends written records are)
 
 all_answered : (steps : List (VaultCall × VaultAnswer)) → AreAnswered steps → AllAnswered steps
 all_answered [] are = tt
@@ -237,7 +237,7 @@ module _ {V S : Type 0} (k : Kind V) (store : StoreKind) (disk : S → Disk) (st
           record {
             cause = subst (λ (l : List Shape). EndsFor store under p found (disk (store_of start)) b.kept l (length records) (refused (front ++ (call, answer) ∷ [])) (tape_of last) (disk (store_of first)) (disk (store_of last)) before after (Some fault)) (sym as_front)
                 (subst (λ (o : Option VaultCall). EndsFor store under p found (disk (store_of start)) b.kept (shapes front) (length records) o (tape_of last) (disk (store_of first)) (disk (store_of last)) before after (Some fault)) (sym was_cut)
-                (cause_of (shapes front) (0 + length (ended_of front)) call fault mid q b.kept s refl (none_before (length (ended_of front)) ∙ counted (ended_of front) records wrote) cause));
+                (cause_of (shapes front) (0 + length (ended_of front)) call fault mid q b.kept s refl (none_before (length (ended_of front)) ∙ counted_ends (ended_of front) records wrote) cause));
             events = b.seen.events ++ s.more;
             traced = record {
               steps = b.taken;

@@ -11,8 +11,8 @@ use Rattle.ob_serial.specs.Serial.{EpochRecord}
 use Rattle.ob_serial.specs.Vaults.{Standing}
 use Rattle.ob_script.specs.Script.{Scripts, IsScript, limit}
 use Rattle.ob_vault.specs.Kinds.{StoreKind}
-use Rattle.ob_words.specs.Reading.{asked_by, format_asked, run_asked, audit_asked}
-use Rattle.ob_words.specs.Work.{AreParams, AreLanes, HasKeys}
+use Rattle.ob_words.specs.Reading.{asked_by, format_asked, run_asked, audit_asked, drill_asked}
+use Rattle.ob_words.specs.Work.{AreParams, AreLanes, IsCount, HasKeys}
 use Rattle.ob_top.specs.Outside.{Outside, Left, OfStore}
 use Rattle.ob_top.specs.Runs.{Manner, Ran, manner}
 use Rattle.ob_vault.specs.Lives.{ring_lives}
@@ -85,3 +85,7 @@ module _ {S : Type 0} (disk : S → Disk) (beat : BeatKind) (drawn : List ℕ) (
 abbrev pub AuditCompletes : List (List ℕ) → Outside → Outside → ℕ → Type 0
 AuditCompletes words before after status = asked_by words ≡ Some audit_asked → (Rose before.input.faults after.input.faults → ⊥) → (Rose before.output.faults after.output.faults → ⊥)
     → (status ≡ 0) ⊎ ((status ≡ 1) ⊎ (status ≡ 9))
+
+-- A self-test with a count in range is made, but for want of memory, where the output's count of faults didn't rise.
+abbrev pub DrillCompletes : List (List ℕ) → Outside → Outside → ℕ → Type 0
+DrillCompletes words before after status = (word : List ℕ) (n : ℕ) → asked_by words ≡ Some (drill_asked word) → IsCount word n → (Rose before.output.faults after.output.faults → ⊥) → (status ≡ 0) ⊎ (status ≡ 9)

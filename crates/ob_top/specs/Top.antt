@@ -3,7 +3,7 @@ use Rattle.std.specs.Prelude.{ℕ, ◌≡◌, ◌⊎◌, Bool, not, List, Option
 use Rattle.std.specs.Borrow.{MutBor}
 use Rattle.ob_base.specs.declared.params.Params.{Params}
 use Rattle.ob_base.specs.declared.fault.Field.{Field}
-use Rattle.ob_base.specs.declared.fault.Field.TheVariants.{LANES}
+use Rattle.ob_base.specs.declared.fault.Field.TheVariants.{LANES, COUNT}
 use Rattle.ob_base.specs.declared.fault.Fault.{Fault}
 use Rattle.ob_base.specs.declared.fault.Fault.TheVariants.{Memory, Usage, BadParams, StoreFault}
 use Rattle.std.specs.Borrow.{Bor}
@@ -11,12 +11,13 @@ use Rattle.ob_seal.specs.declared.keys.Keys.{Keys}
 use Rattle.ob_store.specs.Disk.{Disk}
 use Rattle.ob_store.specs.Images.{LeavesOnly}
 use Rattle.ob_desk.specs.Beats.{BeatKind}
-use Rattle.ob_words.specs.Reading.{asked_by, format_asked, run_asked, audit_asked}
+use Rattle.ob_words.specs.Reading.{asked_by, format_asked, run_asked, audit_asked, drill_asked}
 use Rattle.ob_words.specs.declared.work.Command.{Command}
 use Rattle.ob_words.specs.declared.work.Command.TheVariants.{Format, Run}
-use Rattle.ob_words.specs.Work.{AreParams, IsBadNumber, AreLanes, AreBadLanes, Asks, IsRefusedFor, HasKeys, IsKeysRefused}
+use Rattle.ob_words.specs.Work.{AreParams, IsBadNumber, AreLanes, AreBadLanes, IsCount, IsBadCount, Asks, IsRefusedFor, HasKeys, IsKeysRefused}
 use Rattle.ob_top.specs.Outside.{Outside, Left, OfStore, IsOnlyTold}
 use Rattle.ob_top.specs.Audits.{AuditDone}
+use Rattle.ob_top.specs.Drills.{DrillDone}
 use Rattle.ob_top.specs.Formats.{FormatEnds, FormatDone}
 use Rattle.ob_vault.specs.RingKind.{ring_kind}
 use Rattle.ob_vault.specs.Lives.{ring_lives}
@@ -59,6 +60,12 @@ module _ {S : Type 0} (disk : S → Disk) (beat : BeatKind) (words : List (List 
   -- touched.
   abbrev pub AuditDoes : Type 0
   AuditDoes = asked_by words ≡ Some audit_asked → Refuses Memory ⊎ (StoreKept × AuditDone before after status)
+
+  -- `drill`: want of memory for the words is told, then a count out of its range; else the self-test is made, over a store of its own.
+  -- Nothing but the output is touched.
+  abbrev pub DrillDoes : Type 0
+  DrillDoes = (word : List ℕ) → asked_by words ≡ Some (drill_asked word) →
+      Refuses Memory ⊎ ((IsBadCount word × Refuses (BadParams COUNT)) ⊎ ((n : ℕ) × IsCount word n × StoreKept × DrillDone n before after status))
 
   -- The keys were not read, or are none: that is told before anything is touched.
   abbrev pub KeysDo : Type 0

@@ -2,10 +2,12 @@
 #![tactic(auto)]
 
 mod audit;
+mod drill;
 mod endings;
 mod format;
 mod run;
 mod top;
 
+pub use drill::{Drilled, drill_on};
 pub use endings::finish;
 pub use top::obladi;

@@ -55,14 +55,14 @@ pub struct Means {
     pub threads: bool,
 }
 
-// A run of which all is ready: the store's parameters, the script, what makes its clients' calls,
-// and what opening found.
+/// A run of which all is ready: the store's parameters, the script, what makes its clients' calls,
+/// and what opening found.
 #[derive(Drop)]
-struct Begun<L> {
-    params: Params,
-    scripts: Scripts,
-    runners: Vec<ScriptRunner>,
-    opening: Opening<L>,
+pub struct Begun<L> {
+    pub params: Params,
+    pub scripts: Scripts,
+    pub runners: Vec<ScriptRunner>,
+    pub opening: Opening<L>,
 }
 
 // Reads the script that comes in.
@@ -155,8 +155,11 @@ fn begin<R: Threads + Sync, S: Lanes, T: Tape, I: Source>(
     }
 }
 
-// Runs the script's clients over a vault, from a new desk on.
-fn conduct<R: Threads + Wait + Sync, V: Vault, W: Watch, O: Sink, B: Beat>(
+/// Runs the script's clients over a vault, from a new desk on.
+///
+/// # Errors
+/// What the run met.
+pub fn conduct<R: Threads + Wait + Sync, V: Vault, W: Watch, O: Sink, B: Beat>(
     rt: &R,
     alloc: Global,
     params: &Params,
@@ -175,6 +178,7 @@ fn conduct<R: Threads + Wait + Sync, V: Vault, W: Watch, O: Sink, B: Beat>(
     requires sound { AreSound scripts.now }
     requires keys { scripts.now.keys ≡ params.now.keys }
     requires runners { AreRunners scripts.now runners.old.items }
+    ensures params { V.params vault.new ≡ params.now }
     ensures anchors { (V.disk vault.new).anchors ≡ (V.disk vault.old).anchors }
     ensures done { (new : DeskState)
         × RunsBy threads (kind_of V.Vault)
@@ -211,8 +215,8 @@ fn conduct<R: Threads + Wait + Sync, V: Vault, W: Watch, O: Sink, B: Beat>(
     )
 }
 
-// Both are given back as they are.
-fn hand_back<S, T>(store: &mut S, tape: &mut T)
+/// Both are given back as they are.
+pub fn hand_back<S, T>(store: &mut S, tape: &mut T)
     ensures store { store.exit.now ≡ store.entry.now }
     ensures tape { tape.exit.now ≡ tape.entry.now }
 {}

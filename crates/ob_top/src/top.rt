@@ -6,12 +6,13 @@ ghost use Rattle.ob_store.specs.Calls.{GoesOn};
 ghost use Rattle.ob_top.specs.Outside.{outside, NoneOut, StoreGoesOn};
 ghost use Rattle.ob_top.specs.Endings.{fault_of};
 ghost use Rattle.ob_words.specs.Work.{Asks};
-ghost use Rattle.ob_top.specs.Top.{AskForSomething, CommandDoes, IsRefusedWithout, UsageDoes, AuditDoes, FormatDoes, RunDoes};
+ghost use Rattle.ob_top.specs.Top.{AskForSomething, CommandDoes, IsRefusedWithout, UsageDoes, AuditDoes, DrillDoes, FormatDoes, RunDoes};
 ghost use Rattle.ob_top.specs.Over.{OverStore, WithoutStore};
-ghost use Rattle.ob_top.specs.Complete.{Completes, AuditCompletes};
+ghost use Rattle.ob_top.specs.Complete.{Completes, AuditCompletes, DrillCompletes};
 ghost use Rattle.ob_desk.specs.Beats.{beat_kind};
 
 use crate::audit::audit_on;
+use crate::drill::drill_told;
 use crate::endings::finish;
 use crate::format::format_on;
 use crate::run::{Means, run_on};
@@ -105,6 +106,7 @@ fn do_with<R: AllocGlobal + Threads + Wait + Sync, S: Lanes, T: Tape, I: Source,
             finish(output, ended)
         }
         Work::Audit => audit_on(rt.alloc(), input, output),
+        Work::Drill { count } => drill_told(rt, count, output),
     }
 }
 
@@ -121,8 +123,8 @@ fn refusal_of(keys: Option<&[u8]>) -> Fault
 }
 
 // Does what the words ask for, without a store.
-fn do_without<I: Source, O: Sink>(
-    alloc: Global,
+fn do_without<R: AllocGlobal + Threads + Wait + Sync, I: Source, O: Sink>(
+    rt: &R,
     words: &[&str],
     keys: Option<&[u8]>,
     input: &mut I,
@@ -132,13 +134,14 @@ fn do_without<I: Source, O: Sink>(
         (outside (inflow I.Source input.old) (outflow O.Sink output.old))
         (outside (inflow I.Source input.new) (outflow O.Sink output.new)) result }
 {
-    let work = match work_of(alloc, words) {
+    let asked = match work_of(rt.alloc(), words) {
         Ok(work) => work,
         Err(fault) => return finish(output, Err(fault)),
     };
-    match work {
+    match asked {
         Work::OnStore(_) => finish(output, Err(refusal_of(keys))),
-        Work::Audit => audit_on(alloc, input, output),
+        Work::Audit => audit_on(rt.alloc(), input, output),
+        Work::Drill { count } => drill_told(rt, count, output),
     }
 }
 
@@ -156,6 +159,10 @@ fn do_without<I: Source, O: Sink>(
 ///
 /// `audit` reads a trace, and prints whether each line may stand there, or the first that may not.
 /// It touches no store and no keys.
+///
+/// `drill COUNT` makes so many transactions over a store in memory of its own, reads the map that
+/// they left, and prints a summary, which is the same wherever it is made. It touches nothing that
+/// is handed in but the output.
 ///
 /// The status is 0 where all was done and written, 1 where a line of a trace may not stand there,
 /// and else that of the fault whose line stands behind the report: 2 for words that are no command,
@@ -195,6 +202,11 @@ pub fn obladi<
         store.entry store.exit
         (outside (inflow I.Source input.old) (outflow O.Sink output.old))
         (outside (inflow I.Source input.new) (outflow O.Sink output.new)) result }
+    ensures drill { DrillDoes S.disk (beat_kind B.passes B.exact) (map (λ w. w.now) words.entry.now)
+        keys.entry
+        store.entry store.exit
+        (outside (inflow I.Source input.old) (outflow O.Sink output.old))
+        (outside (inflow I.Source input.new) (outflow O.Sink output.new)) result }
     ensures format { FormatDoes S.disk (beat_kind B.passes B.exact)
         (map (λ w. w.now) words.entry.now) keys.entry
         store.entry store.exit
@@ -212,12 +224,15 @@ pub fn obladi<
         (outside (inflow I.Source input.old) (outflow O.Sink output.old))
         (outside (inflow I.Source input.new) (outflow O.Sink output.new)) result store.entry
         store.exit }
+    ensures drill_complete { DrillCompletes (map (λ w. w.now) words.entry.now)
+        (outside (inflow I.Source input.old) (outflow O.Sink output.old))
+        (outside (inflow I.Source input.new) (outflow O.Sink output.new)) result }
     ensures audit_complete { AuditCompletes (map (λ w. w.now) words.entry.now)
         (outside (inflow I.Source input.old) (outflow O.Sink output.old))
         (outside (inflow I.Source input.new) (outflow O.Sink output.new)) result }
 {
     match store {
         Some(store) => do_with(rt, words, keys, store, tape, input, output, beat),
-        None => do_without(rt.alloc(), words, keys, input, output),
+        None => do_without(rt, words, keys, input, output),
     }
 }

@@ -5,6 +5,8 @@
 #[cfg(test)]
 mod answers;
 #[cfg(test)]
+mod drills;
+#[cfg(test)]
 mod events;
 #[cfg(test)]
 mod faults;

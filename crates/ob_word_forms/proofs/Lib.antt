@@ -6,3 +6,4 @@ pub mod Few
 pub mod Run
 pub mod Format
 pub mod ReadForms
+pub mod Drill

@@ -1,24 +1,25 @@
 -- The forms are read as they say, and what is too short or names no command is refused.
-use Rattle.std.proofs.Common.{◌≡◌, ◌≢◌, ◌<◌, Bool, true, false, List, [], ◌∷◌, map, length, Option, Some, None, refl, inl, inr, ap, ap₂, sym, ◌∙◌, codes}
+use Rattle.std.proofs.Common.{◌≡◌, ◌≢◌, ◌<◌, Bool, true, false, List, [], ◌∷◌, map, length, Option, Some, None, refl, inl, inr, ap, ap₂, sym, ◌∙◌, codes, arith}
 use Rattle.std.specs.Prelude.{option_and_then, unwrap_or}
 use Rattle.std.specs.Str.{bytes_eq}
 use Rattle.std.proofs.lemmas.Slice.Eq.{bytes_eq-Decides}
-use Rattle.clap.specs.Walk.{Row, Text, Walk, first_of, nothing_held, walk_from}
+use Rattle.clap.specs.Walk.{Row, Text, Walk, first_of, idle, nothing_held, walk_from, walked}
 use Rattle.clap.specs.Kinds.{Kinds, or_else}
 use Rattle.clap.specs.Faults.{fault_of, level_fault, stray_fault, turn_fault, walk_fault}
 use Rattle.clap.specs.Simple.{Shape}
 use Rattle.clap.proofs.OnLiterals.{clap_on_literals}
 use Rattle.ob_words.specs.Commands.{program}
 use Rattle.ob_word_forms.specs.Forms.{Choice, AreChoices, ArePlain, IsPlain, IsNoName, lanes_in, turns_in}
-use Rattle.ob_words.specs.Reading.{Asked, asked_command, asked_by, text_at, run_asked, format_asked, audit_asked, unless_refused}
-use Rattle.ob_words.proofs.Built.{run_built, format_built, audit_built}
+use Rattle.ob_words.specs.Reading.{Asked, asked_command, asked_by, text_at, run_asked, format_asked, audit_asked, drill_asked, unless_refused}
+use Rattle.ob_words.proofs.Built.{run_built, format_built, audit_built, drill_built}
 use Rattle.ob_word_forms.proofs.Few.{few_fail}
-use Rattle.ob_word_forms.proofs.PlainWords.{plain_turn-idle}
+use Rattle.ob_word_forms.proofs.PlainWords.{at, plain_turn-idle}
 use Rattle.ob_word_forms.proofs.Run.{choice_row, flag_text, run_end, run_keys, run_lanes_read, run_passes, run_reads, run_store, run_turns_text, run_words}
+use Rattle.ob_word_forms.proofs.Drill.{count_walked, counted, drill_passes, drill_reads}
 use Rattle.ob_word_forms.proofs.Format.{format_passes, format_reads, format_words}
 use Rattle.ob_words.proofs.Asks.{asked_at_all}
 use Rattle.ob_words.proofs.Passed.{read_is, refused_is}
-use Rattle.ob_words.proofs.Top.{IsNoCommand, no_command_fails, no_words_fail, format_fault, format_subcommand, run_fault, run_subcommand, audit_fault, audit_subcommand}
+use Rattle.ob_words.proofs.Top.{IsNoCommand, no_command_fails, no_words_fail, format_fault, format_subcommand, run_fault, run_subcommand, audit_fault, audit_subcommand, drill_fault, drill_subcommand}
 
 abbrev reads_by : Option (Text × List Row) → Option Asked
 reads_by o = option_and_then (λ p. asked_command p.0 p.1) o
@@ -61,6 +62,11 @@ audit_law = read_is (codes "audit" ∷ []) _
     (audit_fault [] ∙ ap (λ k. or_else k []) audit_passes)
     (ap reads_by (audit_subcommand []))
 
+pub drill_law : (count : Text) → IsPlain count → asked_by (codes "drill" ∷ count ∷ []) ≡ Some (drill_asked count)
+drill_law count plain = read_is (codes "drill" ∷ count ∷ []) _
+    (drill_fault (count ∷ []) ∙ ap (λ k. or_else k []) (drill_passes count plain))
+    (ap reads_by (drill_subcommand (count ∷ [])) ∙ ap (λ r. asked_command (codes "drill") r) (drill_reads count plain))
+
 empty_left : (a b : Kinds) → or_else a b ≡ [] → a ≡ []
 empty_left [] b e = refl
 empty_left (k ∷ ks) b e = cc
@@ -86,7 +92,8 @@ name_fails word rest other e =
     let f = other_name (codes "format") word other.0 in
     let r = other_name (codes "run") word other.1 in
     let a = other_name (codes "audit") word other.2 in
-    let no : IsNoCommand word = simp (f, r, a) in no_command_fails word rest no e
+    let d = other_name (codes "drill") word other.3 in
+    let no : IsNoCommand word = simp (f, r, a, d) in no_command_fails word rest no e
 
 pub no_words : asked_by [] ≡ None
 no_words = refused_is [] no_words_fail
@@ -116,3 +123,31 @@ audit_fails word rest plain e =
 
 pub audit_more : (word : Text) (rest : List Text) → IsPlain word → asked_by (codes "audit" ∷ word ∷ rest) ≡ None
 audit_more word rest plain = refused_is (codes "audit" ∷ word ∷ rest) (audit_fails word rest plain)
+
+-- no word behind `drill`, or two
+drill_fails : fault_of program (codes "drill" ∷ []) ≡ [] → ⊥
+drill_fails e = few_fail drill_built (codes "COUNT") 1 [] (inr (refl, refl), tt) (λ x. refl) (inl (refl, refl)) refl (omega arith) (empty_left _ [] (sym (drill_fault []) ∙ e))
+
+pub no_count : asked_by (codes "drill" ∷ []) ≡ None
+no_count = refused_is (codes "drill" ∷ []) drill_fails
+
+empty_right : (a b : Kinds) → or_else a b ≡ [] → b ≡ []
+empty_right [] b e = e
+empty_right (k ∷ ks) b e = cc
+
+walk_rest : (s : Shape) (w : Walk) (word : Text) (rest : List Text) → walk_fault s [] w (word ∷ rest) ≡ [] → walk_fault s [] (walked s.rules [] w word) rest ≡ []
+unfolding walk_fault
+walk_rest s w word rest e = empty_right (turn_fault s [] w word) _ e
+
+count_fails : stray_fault drill_built ≡ [] → ⊥
+count_fails e = cc
+
+two_fail : (count word : Text) (rest : List Text) → IsPlain count → IsPlain word → fault_of program (codes "drill" ∷ count ∷ word ∷ rest) ≡ [] → ⊥
+two_fail count word rest first second e =
+    let level = empty_left _ [] (sym (drill_fault (count ∷ word ∷ rest)) ∙ e) in
+    let behind = walk_rest drill_built (walk_from nothing_held) count (word ∷ rest) (empty_left _ _ level) in
+    let turn = walk_first drill_built (at (counted count) idle 2) word rest (ap (λ (w : Walk). walk_fault drill_built [] w (word ∷ rest)) (sym (count_walked count first)) ∙ behind) in
+    count_fails (sym (plain_turn-idle drill_built 2 word (counted count) second) ∙ turn)
+
+pub drill_more : (count word : Text) (rest : List Text) → IsPlain count → IsPlain word → asked_by (codes "drill" ∷ count ∷ word ∷ rest) ≡ None
+drill_more count word rest first second = refused_is (codes "drill" ∷ count ∷ word ∷ rest) (two_fail count word rest first second)

@@ -112,6 +112,16 @@ operand_ready s id text i j rows is absent = record {
   passes = rw is.found (operand_passes id text i rows absent);
 }
 
+-- how a plain word is walked where an operand is wanted
+pub operand_walked : (s : Shape) (id text : Text) (h : Held) (i j : ℕ) (rows : List Row) → IsOperand s id i j
+    → Ready s h rows → is_pending (operand_at i id) h.pending ≡ false → IsPlain text → walked s.rules [] (at h idle i) text ≡ at (pending_held rows id text) idle j
+operand_walked s id text h i j rows is ready other plain =
+    let a : Rule = operand_at i id in
+    plain_walked-idle s.rules i text h plain
+    ∙ ap (λ o. to_positional s.rules o text (at h idle i) h) is.at_place
+    ∙ ap (λ (b : Bool). at (pushed id text (if b && takes_several a then h else settled s.rules h)) idle (min (i + 1) usize_max)) other
+    ∙ ap₂ (λ (x : Held) (k : ℕ). at (pushed id text x) idle k) ready.settles is.next
+
 -- a plain word where an operand is wanted
 pub operand_goes : (s : Shape) (id text : Text) (h : Held) (i j : ℕ) (rows : List Row) (rest : List Text) (end : Walk) → IsOperand s id i j
     → Ready s h rows → is_pending (operand_at i id) h.pending ≡ false → IsPlain text
@@ -123,9 +133,4 @@ operand_goes s id text h i j rows rest end is ready other plain goes =
     ∙ ap (λ o. option_map_or (λ x. positional_fault s.rules s.args_override_self x h) o (stray_fault s)) is.at_place
     ∙ ap (λ (b : Bool). if b && takes_several a then [] else settle_fault s.rules s.args_override_self h) other
     ∙ ap (λ (b : Bool). settle_fault s.rules b h) is.again ∙ ready.passes in
-    let step : walked s.rules [] (at h idle i) text ≡ at (pending_held rows id text) idle j =
-    plain_walked-idle s.rules i text h plain
-    ∙ ap (λ o. to_positional s.rules o text (at h idle i) h) is.at_place
-    ∙ ap (λ (b : Bool). at (pushed id text (if b && takes_several a then h else settled s.rules h)) idle (min (i + 1) usize_max)) other
-    ∙ ap₂ (λ (x : Held) (k : ℕ). at (pushed id text x) idle k) ready.settles is.next in
-    goes_more s _ _ end text rest turn step goes
+    goes_more s _ _ end text rest turn (operand_walked s id text h i j rows is ready other plain) goes

@@ -53,4 +53,4 @@ turns_in (lanes k ∷ choices) = turns_in choices
 
 -- the word is no command's name
 abbrev pub IsNoName : Text → Type 0
-IsNoName word = (word ≢ codes "format") × (word ≢ codes "run") × (word ≢ codes "audit")
+IsNoName word = (word ≢ codes "format") × (word ≢ codes "run") × (word ≢ codes "audit") × (word ≢ codes "drill")

@@ -2,7 +2,7 @@
 
 ghost use Rattle.std.specs.Prelude.{ℕ, List, [], ◌∷◌, ◌≡◌, ◌<◌, length, Some, None, codes};
 ghost use Rattle.ob_word_forms.specs.Forms.{Choice, AreChoices, ArePlain, IsPlain, IsNoName, lanes_in, turns_in, words_of};
-ghost use Rattle.ob_words.specs.Reading.{asked_by, format_asked, run_asked, audit_asked};
+ghost use Rattle.ob_words.specs.Reading.{asked_by, format_asked, run_asked, audit_asked, drill_asked};
 
 /// Each form is read, as what it says: a command's name, its operands, and behind them any of its
 /// options, in any order, each once. (At the call it may be refused for want of memory alone.)
@@ -16,10 +16,12 @@ pub fn forms_are_read()
         → asked_by (codes "run" ∷ store ∷ keys ∷ words_of options)
         ≡ Some (run_asked store keys (lanes_in options) (turns_in options)) }
     ensures audit { asked_by (codes "audit" ∷ []) ≡ Some audit_asked }
+    ensures drill { (count : List ℕ) → IsPlain count
+        → asked_by (codes "drill" ∷ count ∷ []) ≡ Some (drill_asked count) }
 {}
 
 /// Words that name no command, or that are fewer than a command's name and its operands, are
-/// refused, whatever they are; so is a plain word behind `audit`.
+/// refused, whatever they are; so is a plain word behind `audit`, and a second one behind `drill`.
 pub fn others_are_refused()
     ensures none { asked_by [] ≡ None }
     ensures name { (word : List ℕ) (rest : List (List ℕ)) → IsNoName word
@@ -29,4 +31,7 @@ pub fn others_are_refused()
     ensures run { (rest : List (List ℕ)) → length rest < 2 → asked_by (codes "run" ∷ rest) ≡ None }
     ensures audit { (word : List ℕ) (rest : List (List ℕ)) → IsPlain word
         → asked_by (codes "audit" ∷ word ∷ rest) ≡ None }
+    ensures no_count { asked_by (codes "drill" ∷ []) ≡ None }
+    ensures drill { (count word : List ℕ) (rest : List (List ℕ)) → IsPlain count → IsPlain word
+        → asked_by (codes "drill" ∷ count ∷ word ∷ rest) ≡ None }
 {}

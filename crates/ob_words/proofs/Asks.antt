@@ -11,7 +11,7 @@ use Rattle.clap.specs.declared.error.ErrorKind.{ErrorKind}
 use Rattle.clap.proofs.OnLiterals.{clap_on_literals}
 use Rattle.ob_words.specs.Commands.{program}
 use Rattle.ob_words.specs.Reading.{Asked, asked_command}
-use Rattle.ob_words.proofs.Top.{IsNoCommand, audit_subcommand, format_subcommand, no_command_fails, no_words_fail, run_subcommand}
+use Rattle.ob_words.proofs.Top.{IsNoCommand, audit_subcommand, drill_subcommand, format_subcommand, no_command_fails, no_words_fail, run_subcommand}
 
 -- what the words ask for, faults or none
 abbrev pub asked_at_all : List Text → Option Asked
@@ -34,17 +34,21 @@ asked_run rest e = let some = sym (ap (λ o. option_and_then (λ p. asked_comman
 asked_audit : (rest : List Text) → asked_at_all (codes "audit" ∷ rest) ≡ None → ⊥
 asked_audit rest e = let some = sym (ap (λ o. option_and_then (λ p. asked_command p.0 p.1) o) (audit_subcommand rest)) ∙ e in cc
 
+asked_drill : (rest : List Text) → asked_at_all (codes "drill" ∷ rest) ≡ None → ⊥
+asked_drill rest e = let some = sym (ap (λ o. option_and_then (λ p. asked_command p.0 p.1) o) (drill_subcommand rest)) ∙ e in cc
+
 same_word : (name word : Text) → bytes_eq name word ≡ true → word ≡ name
 same_word name word e = sym ((bytes_eq-Decides name word).0 e)
 
-by_name : (word : Text) (rest : List Text) (f r a : Bool) → bytes_eq (codes "format") word ≡ f → bytes_eq (codes "run") word ≡ r → bytes_eq (codes "audit") word ≡ a
+by_name : (word : Text) (rest : List Text) (f r a d : Bool) → bytes_eq (codes "format") word ≡ f → bytes_eq (codes "run") word ≡ r → bytes_eq (codes "audit") word ≡ a → bytes_eq (codes "drill") word ≡ d
     → fault_of program (word ∷ rest) ≡ [] → asked_at_all (word ∷ rest) ≡ None → ⊥
-by_name word rest true r a ef er ea e none = asked_format rest (rw (same_word (codes "format") word ef) at none)
-by_name word rest false true a ef er ea e none = asked_run rest (rw (same_word (codes "run") word er) at none)
-by_name word rest false false true ef er ea e none = asked_audit rest (rw (same_word (codes "audit") word ea) at none)
-by_name word rest false false false ef er ea e none =
-    let no : IsNoCommand word = simp (ef, er, ea) in no_command_fails word rest no e
+by_name word rest true r a d ef er ea ed e none = asked_format rest (rw (same_word (codes "format") word ef) at none)
+by_name word rest false true a d ef er ea ed e none = asked_run rest (rw (same_word (codes "run") word er) at none)
+by_name word rest false false true d ef er ea ed e none = asked_audit rest (rw (same_word (codes "audit") word ea) at none)
+by_name word rest false false false true ef er ea ed e none = asked_drill rest (rw (same_word (codes "drill") word ed) at none)
+by_name word rest false false false false ef er ea ed e none =
+    let no : IsNoCommand word = simp (ef, er, ea, ed) in no_command_fails word rest no e
 
 pub passes_asks : (words : List Text) → fault_of program words ≡ [] → asked_at_all words ≡ None → ⊥
 passes_asks [] e none = no_words_fail e
-passes_asks (word ∷ rest) e none = by_name word rest _ _ _ refl refl refl e none
+passes_asks (word ∷ rest) e none = by_name word rest _ _ _ _ refl refl refl refl e none

@@ -6,7 +6,7 @@ use Rattle.clap.specs.Faults.{is_simple_and_free}
 use Rattle.clap.specs.declared.builder.ArgAction.TheVariants.{Set}
 use Rattle.clap.specs.declared.builder.ValueParser.TheVariants as vp
 use Rattle.clap.proofs.OnLiterals.{clap_on_literals}
-use Rattle.ob_words.specs.Commands.{operand, option, flag, format_shape, run_shape, audit_shape, program}
+use Rattle.ob_words.specs.Commands.{operand, option, flag, format_shape, run_shape, audit_shape, drill_shape, program}
 
 abbrev pub one_value : Rule → Rule
 one_value r = record r { action = Some Set; parser = Some vp.String; range = Some (record { start_inclusive = 1; end_inclusive = 1 }) }
@@ -53,11 +53,14 @@ format_built = built_sub format_shape format_rules
 abbrev pub audit_built : Shape
 audit_built = built_sub audit_shape []
 
+abbrev pub drill_built : Shape
+drill_built = built_sub drill_shape (operand_at 1 (codes "COUNT") ∷ [])
+
 abbrev pub top_built : Shape
 top_built = record program.top { is_built = true }
 
 abbrev pub program_built : App
-program_built = record { top = top_built; subs = format_built ∷ run_built ∷ audit_built ∷ [] }
+program_built = record { top = top_built; subs = format_built ∷ run_built ∷ audit_built ∷ drill_built ∷ [] }
 
 pub is_built : built program ≡ program_built
 unfolding clap_on_literals

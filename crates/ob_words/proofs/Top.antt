@@ -13,7 +13,7 @@ use Rattle.clap.specs.Faults.{built_fault, check_fault, defaults_fault, entered_
 use Rattle.clap.proofs.FaultLemmas.{stopped_fault}
 use Rattle.clap.proofs.OnLiterals.{clap_on_literals}
 use Rattle.ob_words.specs.Commands.{program}
-use Rattle.ob_words.proofs.Built.{audit_built, format_built, is_built, program_built, run_built, top_built}
+use Rattle.ob_words.proofs.Built.{audit_built, drill_built, format_built, is_built, program_built, run_built, top_built}
 
 -- the words after the command's name are kept for it
 stays : (c : List Rule) (names : Names) (w : Walk) (name : Text) (had words : List Text)
@@ -51,6 +51,14 @@ audit_stops rest = stays [] (names_of program_built) (walk_from nothing_held) (c
 audit_turn : (rest : List Text) → walk_fault top_built (names_of program_built) (walk_from nothing_held) (codes "audit" ∷ rest) ≡ []
 unfolding clap_on_literals
 audit_turn rest = stopped_fault top_built (names_of program_built) (walk_from nothing_held) (codes "audit", []) rest
+
+drill_stops : (rest : List Text) → walk [] (names_of program_built) nothing_held (codes "drill" ∷ rest) ≡ stopped_at (codes "drill") rest
+unfolding clap_on_literals
+drill_stops rest = stays [] (names_of program_built) (walk_from nothing_held) (codes "drill") [] rest
+
+drill_turn : (rest : List Text) → walk_fault top_built (names_of program_built) (walk_from nothing_held) (codes "drill" ∷ rest) ≡ []
+unfolding clap_on_literals
+drill_turn rest = stopped_fault top_built (names_of program_built) (walk_from nothing_held) (codes "drill", []) rest
 
 -- the top level, from its walk
 abbrev top_fault : Kinds → Walk → Kinds
@@ -96,6 +104,18 @@ pub audit_subcommand : (rest : List Text) → subcommand_of program (codes "audi
 audit_subcommand rest =
     ap (λ (a : App). entered a (stop_after a.top.rules (names_of a) (codes "audit" ∷ rest))) is_built
     ∙ ap (λ (w : Walk). entered program_built w.stopped) (audit_stops rest)
+
+drill_after : (rest : List Text) → top_fault [] (stopped_at (codes "drill") rest) ≡ or_else (level_fault drill_built [] nothing_held rest false []) []
+unfolding clap_on_literals
+drill_after rest = refl
+
+pub drill_fault : (rest : List Text) → fault_of program (codes "drill" ∷ rest) ≡ or_else (level_fault drill_built [] nothing_held rest false []) []
+drill_fault rest = top_is (codes "drill" ∷ rest) ∙ ap₂ top_fault (drill_turn rest) (drill_stops rest) ∙ drill_after rest
+
+pub drill_subcommand : (rest : List Text) → subcommand_of program (codes "drill" ∷ rest) ≡ Some (codes "drill", rows_after drill_built.rules [] rest)
+drill_subcommand rest =
+    ap (λ (a : App). entered a (stop_after a.top.rules (names_of a) (codes "drill" ∷ rest))) is_built
+    ∙ ap (λ (w : Walk). entered program_built w.stopped) (drill_stops rest)
 
 -- ---- words that name no command
 

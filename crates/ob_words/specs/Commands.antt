@@ -44,6 +44,10 @@ run_shape = record (new_shape (codes "run")) {
 abbrev pub audit_shape : Shape
 audit_shape = new_shape (codes "audit")
 
+-- `drill COUNT`
+abbrev pub drill_shape : Shape
+drill_shape = record (new_shape (codes "drill")) { rules = operand (codes "COUNT") ∷ [] }
+
 -- the first word names a command, and no word asks for help
 abbrev pub bare_shape : Shape
 bare_shape = record (new_shape (codes "obladi")) {
@@ -58,4 +62,4 @@ bare_app = record { top = bare_shape; subs = [] }
 
 -- the program
 abbrev pub program : App
-program = record { top = record bare_shape { is_leaf = false }; subs = format_shape ∷ run_shape ∷ audit_shape ∷ [] }
+program = record { top = record bare_shape { is_leaf = false }; subs = format_shape ∷ run_shape ∷ audit_shape ∷ drill_shape ∷ [] }

@@ -9,15 +9,17 @@ use Rattle.ob_words.specs.Commands.{program}
 use Rattle.ob_base.specs.declared.fault.Fault.{Fault}
 use Rattle.ob_base.specs.declared.fault.Fault.TheVariants as fault
 use Rattle.ob_words.specs.declared.request.Request.{Request}
-use Rattle.ob_words.specs.declared.request.Request.TheVariants.{Format, Run, Audit}
+use Rattle.ob_words.specs.declared.request.Request.TheVariants.{Format, Run, Audit, Drill}
 use Rattle.ob_words.specs.declared.request.WordsErr.{WordsErr}
 use Rattle.ob_words.specs.declared.request.WordsErr.TheVariants.{Memory, Usage}
 
--- the store's path, the keys' path, and the nine numbers; or the lanes, where they are given, and whether `--turns` is; or an audit
+-- the store's path, the keys' path, and the nine numbers; or the lanes, where they are given, and whether `--turns` is; or an audit; or a
+-- self-test, with its count
 pub data Asked : Type 0 where
   format_asked : Text → Text → List Text → Asked
   run_asked : Text → Text → Option Text → Bool → Asked
   audit_asked : Asked
+  drill_asked : Text → Asked
 
 -- the texts of a request
 abbrev pub asked_of : Request → Asked
@@ -25,6 +27,7 @@ asked_of (Format store keys n l z s r br bw e t) =
     format_asked store.now keys.now (n.now ∷ l.now ∷ z.now ∷ s.now ∷ r.now ∷ br.now ∷ bw.now ∷ e.now ∷ t.now ∷ [])
 asked_of (Run store keys lanes turns) = run_asked store.now keys.now (option_map (λ s. s.now) lanes) turns
 asked_of Audit = audit_asked
+asked_of (Drill count) = drill_asked count.now
 
 -- the text of an operand in what a parse found
 abbrev pub text_at : Text → List Row → Text
@@ -40,6 +43,7 @@ asked_command name rows =
     else if bytes_eq name (codes "run") then Some (run_asked (text_at (codes "STORE") rows) (text_at (codes "KEYS") rows)
     (first_of (codes "lanes") rows) (bytes_eq (text_at (codes "turns") rows) (codes "true")))
     else if bytes_eq name (codes "audit") then Some audit_asked
+    else if bytes_eq name (codes "drill") then Some (drill_asked (text_at (codes "COUNT") rows))
     else None
 
 abbrev pub unless_refused : Kinds → Option Asked → Option Asked

@@ -3,7 +3,7 @@ use Rattle.std.specs.Prelude.{ℕ, ◌≡◌, ◌≢◌, ◌⊎◌, ◌<◌, ◌
 use Rattle.std.specs.Fmt.{decimal}
 use Rattle.ob_base.specs.declared.params.Params.{Params}
 use Rattle.ob_base.specs.declared.fault.Field.{Field}
-use Rattle.ob_base.specs.declared.fault.Field.TheVariants.{KEYS, LANES}
+use Rattle.ob_base.specs.declared.fault.Field.TheVariants.{KEYS, LANES, COUNT}
 use Rattle.ob_base.specs.declared.fault.Fault.{Fault}
 use Rattle.ob_base.specs.declared.fault.Fault.TheVariants.{Memory, Usage, BadParams, SourceFault}
 use Rattle.ob_base.specs.Fields.{first_out_of_range}
@@ -12,11 +12,11 @@ use Rattle.ob_seal.specs.declared.keys.Keys.{Keys}
 use Rattle.ob_seal.specs.KeyText.{IsKeyText, digits_of}
 use Rattle.hex.specs.Hex.{decode_of}
 use Rattle.ob_start.specs.Heads.{numbers_of}
-use Rattle.ob_words.specs.Reading.{Asked, asked_by, format_asked, run_asked, audit_asked}
+use Rattle.ob_words.specs.Reading.{Asked, asked_by, format_asked, run_asked, audit_asked, drill_asked}
 use Rattle.ob_words.specs.declared.work.Command.{Command}
 use Rattle.ob_words.specs.declared.work.Command.TheVariants.{Format, Run}
 use Rattle.ob_words.specs.declared.work.Work.{Work}
-use Rattle.ob_words.specs.declared.work.Work.TheVariants.{Audit, OnStore}
+use Rattle.ob_words.specs.declared.work.Work.TheVariants.{Audit, Drill, OnStore}
 
 -- The number that a word is: 0, which is in no range, for a word that isn't the canonical decimal of a number below 2^32.
 abbrev pub Denotes : List ℕ → ℕ → Type 0
@@ -53,6 +53,14 @@ abbrev pub AreBadLanes : Option (List ℕ) → Type 0
 AreBadLanes None = ⊥
 AreBadLanes (Some word) = (k : ℕ) → 1 ≤ k → k ≤ 16 → word ≢ decimal k
 
+-- How many transactions a self-test has, at most 10,000, as a canonical decimal.
+abbrev pub IsCount : List ℕ → ℕ → Type 0
+IsCount word n = (word ≡ decimal n) × (n ≤ 10000)
+
+-- the word is none of these
+abbrev pub IsBadCount : List ℕ → Type 0
+IsBadCount word = (n : ℕ) → n ≤ 10000 → word ≢ decimal n
+
 -- the command over a store of a request, whose numbers are in range
 abbrev pub IsCommandOf : Asked → Command → Type 0
 IsCommandOf (format_asked store keys numbers) (Format p) = AreParams numbers p
@@ -62,6 +70,7 @@ IsCommandOf _ _ = ⊥
 -- what a request asks for
 abbrev pub IsWorkOf : Asked → Work → Type 0
 IsWorkOf asked Audit = asked ≡ audit_asked
+IsWorkOf asked (Drill n) = (word : List ℕ) × (asked ≡ drill_asked word) × IsCount word n
 IsWorkOf asked (OnStore command) = IsCommandOf asked command
 
 -- the first number of a request that is out of its range
@@ -69,6 +78,7 @@ abbrev pub IsOutOfRange : Asked → Field → Type 0
 IsOutOfRange (format_asked store keys numbers) field = IsBadNumber numbers field
 IsOutOfRange (run_asked store keys lanes turns) field = (field ≡ LANES) × AreBadLanes lanes
 IsOutOfRange audit_asked field = ⊥
+IsOutOfRange (drill_asked count) field = (field ≡ COUNT) × IsBadCount count
 
 -- the words ask for this over a store
 abbrev pub Asks : List (List ℕ) → Command → Type 0
@@ -91,14 +101,16 @@ abbrev pub store_file : Asked → Option (List ℕ × Bool)
 store_file (format_asked store keys numbers) = Some (store, true)
 store_file (run_asked store keys lanes turns) = Some (store, false)
 store_file audit_asked = None
+store_file (drill_asked count) = None
 
 -- the path of its keys
 abbrev pub keys_file : Asked → Option (List ℕ)
 keys_file (format_asked store keys numbers) = Some keys
 keys_file (run_asked store keys lanes turns) = Some keys
 keys_file audit_asked = None
+keys_file (drill_asked count) = None
 
--- The files that a request calls for: none, where a number is out of its range, or for an audit.
+-- The files that a request calls for: none, where a number is out of its range, for an audit, or for a self-test.
 abbrev pub AreFilesOf : Asked → Option (List ℕ × Bool) → Option (List ℕ) → Type 0
 AreFilesOf asked store keys =
     ((field : Field) × IsOutOfRange asked field × (store ≡ None) × (keys ≡ None))

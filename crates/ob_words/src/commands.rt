@@ -41,6 +41,9 @@ const RUN: [Word; 4] = [
     Word::Flag("turns"),
 ];
 
+// The words of `drill`.
+const DRILL: [Word; 1] = [Word::Operand("COUNT")];
+
 fn arg_of<'a>(alloc: Global, word: Word) -> Arg<'a>
     ensures rule { rule_of result ≡ rule_for word }
     ensures local { result.global ≡ false }
@@ -89,5 +92,6 @@ pub fn program_command<'a>(alloc: Global) -> Result<Command<'a>, AllocError>
 {
     let command = with_command(alloc, bare_program(alloc), "format", &FORMAT)?;
     let command = with_command(alloc, command, "run", &RUN)?;
-    with_command(alloc, command, "audit", &[])
+    let command = with_command(alloc, command, "audit", &[])?;
+    with_command(alloc, command, "drill", &DRILL)
 }

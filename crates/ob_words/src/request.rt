@@ -38,6 +38,10 @@ pub enum Request<'a> {
     },
     /// An audit of the trace that comes in.
     Audit,
+    /// A self-test of so many transactions.
+    Drill {
+        count: &'a str,
+    },
 }
 
 /// Why the words weren't read.
@@ -104,6 +108,15 @@ fn run_request<'a>(found: &ArgMatches<'a>) -> Request<'a>
     }
 }
 
+fn drill_request<'a>(found: &ArgMatches<'a>) -> Request<'a>
+    ensures { Some (asked_of result)
+        ≡ asked_command (codes "drill") (rows_of (found_of found.now)) }
+{
+    Request::Drill {
+        count: text_of(found, "COUNT"),
+    }
+}
+
 // The request of a parse: none where it met no command of the program.
 fn request_of<'a>(matches: &ArgMatches<'a>) -> Option<Request<'a>>
     ensures { option_map asked_of result
@@ -113,6 +126,7 @@ fn request_of<'a>(matches: &ArgMatches<'a>) -> Option<Request<'a>>
         Some(("format", found)) => Some(format_request(found)),
         Some(("run", found)) => Some(run_request(found)),
         Some(("audit", _)) => Some(Request::Audit),
+        Some(("drill", found)) => Some(drill_request(found)),
         _ => None,
     }
 }

@@ -2,7 +2,7 @@
 
 ghost use Rattle.std.specs.Prelude.{◌≡◌, ◌∷◌, [], map, option_map, MatchResult, IfOk, IfErr};
 ghost use Rattle.ob_words.specs.Reading.{asked_of};
-ghost use Rattle.ob_words.specs.Work.{Denotes, AreParams, IsBadNumber, AreLanes, AreBadLanes, IsWorkOf, IsOutOfRange, AskFor, IsRefusedFor, AreFilesOf, AreWanted, HasKeys, IsKeysRefused, IsTapeKey};
+ghost use Rattle.ob_words.specs.Work.{Denotes, AreParams, IsBadNumber, AreLanes, AreBadLanes, IsCount, IsBadCount, IsWorkOf, IsOutOfRange, AskFor, IsRefusedFor, AreFilesOf, AreWanted, HasKeys, IsKeysRefused, IsTapeKey};
 
 use crate::request::{Request, WordsErr, read_words};
 use ob_base::{Fault, Field, Memory, Params};
@@ -15,6 +15,8 @@ use std::alloc::Global;
 pub enum Work {
     /// The trace that comes in is audited.
     Audit,
+    /// So many transactions, at most 10,000, are made over a store of its own.
+    Drill { count: u32 },
     /// Something over a store.
     OnStore(Command),
 }
@@ -43,6 +45,9 @@ const LANES: u32 = 4;
 
 // The most lanes that a run may have.
 const MOST_LANES: u32 = 16;
+
+// The most transactions of a self-test.
+const MOST_COUNT: u32 = 10_000;
 
 // The number of a word; 0, which is in no range, where it is none.
 fn number_in(word: &str) -> u32
@@ -99,6 +104,17 @@ fn lanes_in(word: Option<&str>) -> Result<u32, Field>
     }
 }
 
+// How many transactions the word of `drill` gives.
+fn count_in(word: &str) -> Result<u32, Field>
+    ensures { MatchResult result (λ n. IsCount word.now n)
+        (λ field. (field ≡ Field.COUNT) × IsBadCount word.now) }
+{
+    match number_of(word.as_bytes()) {
+        Some(n @ 0..=MOST_COUNT) => Ok(n),
+        _ => Err(Field::COUNT),
+    }
+}
+
 // What a request asks for, or the first field that is out of its range.
 fn work_in(request: &Request<'_>) -> Result<Work, Field>
     ensures { MatchResult result (λ work. IsWorkOf (asked_of request.now) work)
@@ -128,6 +144,10 @@ fn work_in(request: &Request<'_>) -> Result<Work, Field>
             Err(field) => Err(field),
         },
         Request::Audit => Ok(Work::Audit),
+        Request::Drill { count } => match count_in(count) {
+            Ok(count) => Ok(Work::Drill { count }),
+            Err(field) => Err(field),
+        },
     }
 }
 
@@ -176,7 +196,7 @@ pub fn tape_key(text: Option<&[u8]>) -> [u8; 32]
     }
 }
 
-// The files of a request: none where a number is out of its range, or for an audit.
+// The files of a request: none where a number is out of its range, for an audit, or for a self-test.
 fn paths_of<'a>(request: &Request<'a>) -> Paths<'a>
     ensures { AreFilesOf (asked_of request.now) (option_map (λ s. (s.0.now, s.1)) result.store)
         (option_map (λ k. k.now) result.keys) }
@@ -196,7 +216,7 @@ fn paths_of<'a>(request: &Request<'a>) -> Paths<'a>
             store: Some((*store, false)),
             keys: Some(*keys),
         },
-        Request::Audit => Paths {
+        Request::Audit | Request::Drill { .. } => Paths {
             store: None,
             keys: None,
         },
@@ -204,7 +224,7 @@ fn paths_of<'a>(request: &Request<'a>) -> Paths<'a>
 }
 
 /// The files that the words call for, so that nothing else is opened or made: none where they are
-/// refused, where a number is out of its range, or for an audit.
+/// refused, where a number is out of its range, for an audit, or for a self-test.
 ///
 /// # Errors
 /// Memory was wanting.

@@ -5,8 +5,10 @@ use ob_words::{Request, WordsErr, read_words};
 use std::process::Abort;
 
 // Words with a blank between two, and what they ask for: each operand in brackets.
-static WORDS: [(&str, &str); 44] = [
+static WORDS: [(&str, &str); 50] = [
     ("audit", "audit"),
+    ("drill 1", "drill [1]"),
+    ("drill x", "drill [x]"),
     ("run S K", "run [S] [K]"),
     ("run S K --turns", "run [S] [K] turns"),
     ("run S K --lanes 1", "run [S] [K] lanes [1]"),
@@ -26,6 +28,8 @@ static WORDS: [(&str, &str); 44] = [
     ("run --turns -- -S --lanes", "run [-S] [--lanes] turns"),
     ("run  K", "run [] [K]"),
     ("run - K", "run [-] [K]"),
+    ("drill ", "drill []"),
+    ("drill -- -1", "drill [-1]"),
     // Others are refused.
     ("", "refused"),
     ("run", "refused"),
@@ -41,7 +45,9 @@ static WORDS: [(&str, &str); 44] = [
     ("format S K 8 2 2 3 2 2 2 2 8 --turns", "refused"),
     ("audit x", "refused"),
     ("audit --turns", "refused"),
-    ("drill 1", "refused"),
+    ("drill", "refused"),
+    ("drill 1 2", "refused"),
+    ("drill -1", "refused"),
     ("run S K --trace F", "refused"),
     ("--help", "refused"),
     ("-h", "refused"),
@@ -107,6 +113,7 @@ fn push_request<R: Abort>(rt: &R, text: &mut String, request: &Request<'_>) {
             turns,
         } => push_run(rt, text, &[store, keys], lanes, turns),
         Request::Audit => push(rt, text, "audit"),
+        Request::Drill { count } => push_words(rt, text, "drill", &[count]),
     }
 }
 

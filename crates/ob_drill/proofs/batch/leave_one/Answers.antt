@@ -12,13 +12,13 @@ returns-in-Ok-clause-reads g c =
 pub returns-in-Err-Before-clause-refused : goal.returns-in-Err-Before-clause-refused
 returns-in-Err-Before-clause-refused g c =
     let e = c.in-Err-Before.ensures in
-    refused_one _ _ _ _ _ (End []) (end_answer (Err c.in-Err-Before.field-0)) c.in-Err-Before.fault
+    refused_one _ 1 _ _ _ _ (End []) (end_answer (Err c.in-Err-Before.field-0)) c.in-Err-Before.fault
     (record { notes = e.called.0; called = e.called.2; answered = λ v held. rw c.in-Err-Before.field-0-is tt; holds = e.holds; sound = e.sound; images = e.images; alike = e.alike; goes = e.goes })
     e.called.1 tt (rw c.in-Err-Before.field-0-is refl)
 
 pub returns-in-Err-Unsure-clause-refused : goal.returns-in-Err-Unsure-clause-refused
 returns-in-Err-Unsure-clause-refused g c =
     let e = c.in-Err-Unsure.ensures in
-    refused_one _ _ _ _ _ (End []) (end_answer (Err c.in-Err-Unsure.field-0)) c.in-Err-Unsure.fault
+    refused_one _ 1 _ _ _ _ (End []) (end_answer (Err c.in-Err-Unsure.field-0)) c.in-Err-Unsure.fault
     (record { notes = e.called.0; called = e.called.2; answered = λ v held. rw c.in-Err-Unsure.field-0-is tt; holds = e.holds; sound = e.sound; images = e.images; alike = e.alike; goes = e.goes })
     e.called.1 tt (rw c.in-Err-Unsure.field-0-is refl)

@@ -1,4 +1,4 @@
-use Rattle.std.proofs.Common.{◌≡◌, ◌≤◌, ◌-◌, false}
+use Rattle.std.proofs.Common.{◌≡◌, ◌≤◌, ◌-◌, ◌*◌, false}
 use Rattle.std.specs.FinMap.{get}
 use Rattle.ob_serial.specs.Vaults.{VaultState}
 use Rattle.ob_serial.specs.VaultKinds.{kind_of}
@@ -13,7 +13,7 @@ invariant-loop-next g l = record {
   inside : l.next ≤ l.params.keys;
   few : l.rows.many ≤ l.next;
   rows : (v : VaultState) → g.V.Vault.holds l.fn.vault v → HasRows (get v.content) l.next l.rows;
-  reads : ReadsOnly (kind_of g.V.Vault) l.fn.vault (g.W.Watch.trace l.fn.watch) l.vault (g.W.Watch.trace l.watch);
+  reads : ReadsOnly (kind_of g.V.Vault) (2 * l.next) l.fn.vault (g.W.Watch.trace l.fn.watch) l.vault (g.W.Watch.trace l.watch);
 }
 
 abbrev pub decreases-loop-next : goal.decreases-loop-next

@@ -1,5 +1,5 @@
 use Rattle.std.proofs.Common.{inl, inr, refl}
-use Rattle.ob_top.proofs.Over.{audit_words}
+use Rattle.ob_top.proofs.Over.{audit_words, drill_words}
 use Rattle.ob_store.proofs.Serving.{goes_same}
 use Rattle.ob_top.proofs.top.do_with.Goals as goal
 
@@ -7,7 +7,7 @@ pub returns-in-OnStore-clause-does : goal.returns-in-OnStore-clause-does
 returns-in-OnStore-clause-does g c = inr (_, _, c.do_on-ended.ensures.does _ (rw c.in-OnStore.is at c.in-Ok.ensures.work), refl, c.finish-in-OnStore.ensures)
 
 pub returns-in-Audit-clause-does : goal.returns-in-Audit-clause-does
-returns-in-Audit-clause-does g c = inl (audit_words _ (rw c.in-Audit.is at c.in-Ok.ensures.work), refl, c.audit_on.ensures)
+returns-in-Audit-clause-does g c = inl (refl, inl (audit_words _ (rw c.in-Audit.is at c.in-Ok.ensures.work), c.audit_on.ensures))
 
 pub returns-in-Err-clause-does : goal.returns-in-Err-clause-does
 returns-in-Err-clause-does g c = inr (_, _, inl (_, refl, inl c.in-Err.ensures.refused, refl, refl), refl, c.finish.ensures)
@@ -38,3 +38,19 @@ returns-in-Audit-clause-none_out g c = c.requires.none_out
 
 pub do_on-ended-requires-clause-asked : goal.do_on-ended-requires-clause-asked
 do_on-ended-requires-clause-asked g c κs within = (_, rw c.in-OnStore.is at c.in-Ok.ensures.work)
+
+pub returns-in-Drill-clause-does : goal.returns-in-Drill-clause-does
+returns-in-Drill-clause-does g c =
+    let (word, asked, count) = drill_words _ c.in-Drill.count (rw c.in-Drill.is at c.in-Ok.ensures.work) in
+    inl (refl, inr (word, c.in-Drill.count, asked, count, c.drill_told.ensures _))
+
+pub returns-in-Drill-clause-goes : goal.returns-in-Drill-clause-goes
+returns-in-Drill-clause-goes g c = goes_same _
+
+pub returns-in-Drill-clause-none_out : goal.returns-in-Drill-clause-none_out
+returns-in-Drill-clause-none_out g c = c.requires.none_out
+
+pub drill_told-requires-clause-few : goal.drill_told-requires-clause-few
+drill_told-requires-clause-few g c κs within =
+    let (word, asked, count) = drill_words _ c.in-Drill.count (rw c.in-Drill.is at c.in-Ok.ensures.work) in
+    count.1

@@ -1,5 +1,5 @@
 use Rattle.ob_top.proofs.Completing.{completes}
-use Rattle.ob_top.proofs.Over.{audit_low, usage_over, audit_over, format_over, run_over, usage_alone, audit_without, format_alone, run_alone}
+use Rattle.ob_top.proofs.Over.{audit_low, drill_low, usage_over, audit_over, drill_over, format_over, run_over, usage_alone, audit_without, drill_without, format_alone, run_alone}
 use Rattle.ob_top.proofs.top.obladi.Goals as goal
 
 pub returns-in-Some-clause-usage : goal.returns-in-Some-clause-usage
@@ -44,3 +44,15 @@ returns-in-Some-clause-goes g c = rw c.in-Some.is (c.do_with.ensures.goes, c.do_
 
 pub returns-in-None-clause-goes : goal.returns-in-None-clause-goes
 returns-in-None-clause-goes g c = rw c.in-None.is tt
+
+pub returns-in-Some-clause-drill : goal.returns-in-Some-clause-drill
+returns-in-Some-clause-drill g c = rw c.in-Some.is (drill_over g.S.Store.disk _ _ _ _ _ _ _ _ _ c.do_with.ensures.does)
+
+pub returns-in-None-clause-drill : goal.returns-in-None-clause-drill
+returns-in-None-clause-drill g c = rw c.in-None.is (drill_without _ _ _ _ _ c.do_without.ensures)
+
+pub returns-in-Some-clause-drill_complete : goal.returns-in-Some-clause-drill_complete
+returns-in-Some-clause-drill_complete g c = λ word n asks count. drill_low _ _ _ _ word n count (drill_over g.S.Store.disk _ _ _ _ _ _ _ _ _ c.do_with.ensures.does word asks)
+
+pub returns-in-None-clause-drill_complete : goal.returns-in-None-clause-drill_complete
+returns-in-None-clause-drill_complete g c = λ word n asks count. drill_low _ _ _ _ word n count (drill_without _ _ _ _ _ c.do_without.ensures word asks)
