@@ -28,6 +28,7 @@ use Rattle.ob_recover.proofs.Batch.{batches_are_scheduled}
 use Rattle.ob_recover.proofs.Orders.{record_written}
 use Rattle.ob_recover.specs.Known.{PlansFrom, fills_of, fills_with_lifts, public_of_kept}
 use Rattle.ob_recover.specs.Telling.{ArePhasesMade, IsFrontShown}
+use Rattle.ob_store.specs.Told.{IsCut}
 use Rattle.ob_vault.specs.RingVaults.{EndCalled, FetchCalled, HasPlanned, KeepsRun, Running, record_of_fetch, words_of_call, write_from, writes_of_end}
 use Rattle.ob_schedule.specs.Schedule.{Fills, Public, after_end, after_phase, batch_leaves, batch_notes, end_lifts, end_notes, record_notes}
 use Rattle.std.proofs.lemmas.Bool.{cases_lt}
@@ -49,11 +50,11 @@ use Rattle.ob_vault.proofs.Bounds.{batch_past, end_past, less_left, one_more, se
 use Rattle.ob_vault.proofs.Naming.{answers_named, draws_named}
 use Rattle.ob_vault.specs.Causes.{IsCallWorn, IsRingWorn, record_hidden, seals_an_epoch, words_an_epoch}
 use Rattle.ob_vault.proofs.Drawing.{draws_batch, draws_end, ended, grown}
-use Rattle.ob_vault.specs.Hidden.{AreFirst, IsTapeBehind, RingCut, RingDrawsCut, RingHidden, table_hidden, with_next, writes_hidden}
+use Rattle.ob_vault.specs.Hidden.{AreFirst, IsFrontDealt, IsTapeBehind, RingCut, RingCutShown, RingDrawsCut, RingHidden, table_hidden, with_next, writes_hidden}
 use Rattle.ob_vault.specs.RingLaws.{RingCallsDo, RingWordsAreOfTape}
 use Rattle.ob_vault.specs.RingKind.{IsRingMap, RingFound, ring_kind}
 use Rattle.ob_vault.specs.RingSteps.{HasRingWords, RingAt, RunIsAtHidden}
-use Rattle.ob_vault.specs.Seen.{RingPublic, ring_next, ring_phases}
+use Rattle.ob_vault.specs.Seen.{RingPublic, ring_next, ring_notes, ring_phases}
 
 -- so many words more were drawn
 drawn_more : (many : ℕ) (old new : List ℕ) → DrawsWords many old new → length new ≡ length old + many
@@ -150,6 +151,12 @@ module _ {V S : Type 0} (k : Kind V) (disk : S → Disk) (runs : V → Running S
         ∙ ap (λ (x : Public). batch_phases p x (fills_of p c rs') (length rs)) at.known
         ∙ ap (λ (m : ℕ). batch_phases p q.known (fills_of p c rs') m) at.shown
 
+    batch_row_is : (rs' : List BatchRecord) → batch_row rs' ≡ ring_notes p q Fetches (fills_of p c rs')
+    batch_row_is rs' =
+        ap (λ (x : Params). batch_notes x (public_of_kept x c rs (old.run).epoch (old.run).gates) (fills_of x c rs') (length rs)) at.params
+        ∙ ap (λ (x : Public). batch_notes p x (fills_of p c rs') (length rs)) at.known
+        ∙ ap (λ (m : ℕ). batch_notes p q.known (fills_of p c rs') m) at.shown
+
     abbrev end_row : List Note
     end_row = end_notes params (public_of_kept params c rs (old.run).epoch (old.run).gates) (fills_with_lifts params c rs)
 
@@ -161,6 +168,11 @@ module _ {V S : Type 0} (k : Kind V) (disk : S → Disk) (runs : V → Running S
         ap (λ (x : Params). end_phases x (public_of_kept x c rs (old.run).epoch (old.run).gates) (fills_with_lifts x c rs)) at.params
         ∙ ap (λ (x : Public). end_phases p x (fills_with_lifts p c rs)) at.known
 
+    end_row_is : end_row ≡ ring_notes p q Ends (fills_with_lifts p c rs)
+    end_row_is =
+        ap (λ (x : Params). end_notes x (public_of_kept x c rs (old.run).epoch (old.run).gates) (fills_with_lifts x c rs)) at.params
+        ∙ ap (λ (x : Public). end_notes p x (fills_with_lifts p c rs)) at.known
+
     -- the call made these phases, by so many lanes
     abbrev Made : ℕ → List Phase → Type 0
     Made lanes phases = ArePhasesMade lanes phases (disk old.store).seen (disk new.store).seen
@@ -169,11 +181,23 @@ module _ {V S : Type 0} (k : Kind V) (disk : S → Disk) (runs : V → Running S
     all_made : (phases phases' : List Phase) → phases ≡ phases' → Made old.lanes phases → Made most phases'
     all_made phases phases' is made = subst (λ (m : ℕ). Made m phases') at.lanes (subst (λ (l : List Phase). Made old.lanes l) is made)
 
-    first_made : (phases phases' : List Phase) (row shown : List Note) → phases ≡ phases' → IsFrontShown old.lanes phases row shown (disk old.store).seen (disk new.store).seen
-        → (more : List Event) × AreFirst most phases' more × Notes more (disk old.store).seen (disk new.store).seen
-    first_made phases phases' row shown is front =
-        let made : Made most front.first = all_made front.first front.first refl front.seen in
-        (made.events, (front.first, front.rest, sym is ∙ front.split, made.dealt), made.noted)
+    first_made : (phases phases' : List Phase) (row row' shown : List Note) → phases ≡ phases' → row ≡ row' → IsFrontShown old.lanes phases row shown (disk old.store).seen (disk new.store).seen
+        → (more : List Event) × AreFirst most phases' more × Notes more (disk old.store).seen (disk new.store).seen × IsFrontDealt most phases' row' more shown
+    first_made phases phases' row row' shown is row_is front =
+        let made : Made most front.first = all_made front.first front.first refl front.seen in (
+          made.events,
+          (front.first, front.rest, sym is ∙ front.split, made.dealt),
+          made.noted,
+          record {
+            made = front.made;
+            cut = subst (λ (l : List Note). IsCut l front.made shown) row_is front.cut;
+            first = front.first;
+            rest = front.rest;
+            split = sym is ∙ front.split;
+            same = front.same;
+            dealt = made.dealt;
+          },
+        )
 
     -- the rows in which a refused call is cut: a batch's record, an end's lifts
     record_is : append_notes params (suc (old.run).epoch) (next_batch old.run) ≡ record_notes p (((q.known).epoch + 1) % 2) q.shown
@@ -189,11 +213,13 @@ module _ {V S : Type 0} (k : Kind V) (disk : S → Disk) (runs : V → Running S
         ∙ ap (λ (x : Public). end_lifts p x (fills_with_lifts p c rs)) at.known
 
     -- a call that was refused, and showed this
-    stopped : (call : VaultCall) (fills : Fills) (refused : Fault) (more : List Event) → RingCut most p q h call fills new.drawn refused more → Notes more (disk old.store).seen (disk new.store).seen
-        → IsTapeBehind p h (Some call) new.drawn (Some refused) → IsRefusalWhy ring_kind keys p f opened (disk new.store) h so_far n (Some call) new.drawn refused → Stops ring_kind keys most p f opened (disk old.store) (disk new.store) new.drawn q h so_far n call refused
-    stopped call fills refused more is_cut seen of_tape why = record {
+    stopped : (call : VaultCall) (fills : Fills) (refused : Fault) (more : List Event) (notes : List Note) → RingCut most p q h call fills new.drawn refused more → Notes more (disk old.store).seen (disk new.store).seen
+        → IsTapeBehind p h (Some call) new.drawn (Some refused) → IsRefusalWhy ring_kind keys p f opened (disk new.store) h so_far n (Some call) new.drawn refused
+        → RingCutShown most p q call fills refused more notes → Stops ring_kind keys most p f opened (disk old.store) (disk new.store) new.drawn q h so_far n call refused notes
+    stopped call fills refused more notes is_cut seen of_tape why shown = record {
       more = more;
       cut = (fills, is_cut);
+      shown = shown;
       seen = seen;
       why = why;
       of_tape = of_tape;
@@ -319,7 +345,7 @@ module _ {V S : Type 0} (k : Kind V) (disk : S → Disk) (runs : V → Running S
       )
 
       abbrev BatchStops : Fault → Type 0
-      BatchStops refused = Stops ring_kind keys most p f opened (disk old.store) (disk new.store) new.drawn q h so_far n (Fetch asks) refused
+      BatchStops refused = Stops ring_kind keys most p f opened (disk old.store) (disk new.store) new.drawn q h so_far n (Fetch asks) refused notes
 
       batch_made : Made old.lanes (batch_turns then) → Made most (ring_phases p q Fetches (fills_of p c then))
       batch_made made = all_made (batch_turns then) (ring_phases p q Fetches (fills_of p c then)) (batch_is then) made
@@ -332,22 +358,23 @@ module _ {V S : Type 0} (k : Kind V) (disk : S → Disk) (runs : V → Running S
 
           by_part : FetchShows old.lanes (append_notes params (suc (old.run).epoch) (next_batch old.run)) (batch_turns then) (batch_row then) notes (disk old.store).seen (disk new.store).seen (Err (fault.StoreFault None)) → BatchStops (fault.StoreFault None)
           by_part (inl front) =
-              let (more, first, seen) = first_made _ (phases_of (record_notes p (((q.known).epoch + 1) % 2) q.shown)) _ notes (ap phases_of record_is) front in
-              stopped (Fetch asks) (fills_of p c then) (fault.StoreFault None) more (draws, inl first) seen (batch_tape (fault.StoreFault None) one) (batch_why (fault.StoreFault None) one)
+              let (more, first, seen, shown) = first_made _ (phases_of (record_notes p (((q.known).epoch + 1) % 2) q.shown)) _ (record_notes p (((q.known).epoch + 1) % 2) q.shown) notes (ap phases_of record_is) record_is front in
+              stopped (Fetch asks) (fills_of p c then) (fault.StoreFault None) more notes (draws, inl first) seen (batch_tape (fault.StoreFault None) one) (batch_why (fault.StoreFault None) one) (inl shown)
           by_part (inr row) =
               let made = batch_made (row.seen) in
-              stopped (Fetch asks) (fills_of p c then) (fault.StoreFault None) made.events (draws, inr made.dealt) made.noted (batch_tape (fault.StoreFault None) one) (batch_why (fault.StoreFault None) one)
+              stopped (Fetch asks) (fills_of p c then) (fault.StoreFault None) made.events notes (draws, inr made.dealt) made.noted (batch_tape (fault.StoreFault None) one) (batch_why (fault.StoreFault None) one)
+              (inr (made.dealt, row.all ∙ batch_row_is then))
 
       batch_stops : (refused : Fault) → FetchCalled disk old new notes asks (Err refused) → BatchStops refused
       batch_stops (fault.StoreFault unsure) one =
           subst (λ (u : Option ℕ). BatchStops (fault.StoreFault u)) (sym one.refusal) (store_stops (subst (λ (u : Option ℕ). FetchCalled disk old new notes asks (Err (fault.StoreFault u))) one.refusal one))
       batch_stops (fault.Damaged cell check kept computed) one =
           let made = batch_made (one.scheduled c rs at.planned is_next).seen in
-          stopped (Fetch asks) (fills_of p c then) (fault.Damaged cell check kept computed) made.events (drawing one (one.draws).many_are (λ none. none), made.dealt) made.noted
-          (batch_tape (fault.Damaged cell check kept computed) one) (batch_why (fault.Damaged cell check kept computed) one)
+          stopped (Fetch asks) (fills_of p c then) (fault.Damaged cell check kept computed) made.events notes (drawing one (one.draws).many_are (λ none. none), made.dealt) made.noted
+          (batch_tape (fault.Damaged cell check kept computed) one) (batch_why (fault.Damaged cell check kept computed) one) ((one.scheduled c rs at.planned is_next).all ∙ batch_row_is then)
       batch_stops (fault.Worn number) one =
           let none = (one.scheduled c rs at.planned is_next).seen in
-          stopped (Fetch asks) (fills_of p c then) (fault.Worn number) none.events none.dealt none.noted (batch_tape (fault.Worn number) one) (batch_why (fault.Worn number) one)
+          stopped (Fetch asks) (fills_of p c then) (fault.Worn number) none.events notes none.dealt none.noted (batch_tape (fault.Worn number) one) (batch_why (fault.Worn number) one) (one.scheduled c rs at.planned is_next).all
       batch_stops fault.Memory one = absurd one.refusal
       batch_stops fault.Usage one = absurd one.refusal
       batch_stops (fault.BadScript line) one = absurd one.refusal
@@ -467,7 +494,7 @@ module _ {V S : Type 0} (k : Kind V) (disk : S → Disk) (runs : V → Running S
           one_behind i = omega arith
 
       abbrev EndStops : Fault → Type 0
-      EndStops refused = Stops ring_kind keys most p f opened (disk old.store) (disk new.store) new.drawn q h so_far n (End asked) refused
+      EndStops refused = Stops ring_kind keys most p f opened (disk old.store) (disk new.store) new.drawn q h so_far n (End asked) refused notes
 
       abbrev fills : Fills
       fills = fills_with_lifts p c rs
@@ -478,28 +505,32 @@ module _ {V S : Type 0} (k : Kind V) (disk : S → Disk) (runs : V → Running S
 
       store_stops_end : Refused (fault.StoreFault None) → EndStops (fault.StoreFault None)
       store_stops_end one =
-          let (more, first, seen) = first_made (before_gate end_turns) (before_gate (ring_phases p q Ends fills)) (before_gate end_row) notes (ap (λ (l : List Phase). before_gate l) end_is) (one.scheduled c rs at.planned) in
-          stopped (End asked) fills (fault.StoreFault None) more (refl, first, answers_hidden (Before (fault.StoreFault None)) one) seen (end_tape (Before (fault.StoreFault None)) one) (end_why (fault.StoreFault None) one)
+          let (more, first, seen, shown) = first_made (before_gate end_turns) (before_gate (ring_phases p q Ends fills)) (before_gate end_row) (before_gate (ring_notes p q Ends fills)) notes
+          (ap (λ (l : List Phase). before_gate l) end_is) (ap (λ (l : List Note). before_gate l) end_row_is) (one.scheduled c rs at.planned) in
+          stopped (End asked) fills (fault.StoreFault None) more notes (refl, first, answers_hidden (Before (fault.StoreFault None)) one) seen (end_tape (Before (fault.StoreFault None)) one) (end_why (fault.StoreFault None) one) shown
 
       worn_stops : (number : ℕ) → Refused (fault.Worn number) → EndStops (fault.Worn number)
       worn_stops number one = by_part (one.scheduled c rs at.planned)
         where
           by_part : EndShows old.lanes (end_lifts params (public_of_kept params c rs (old.run).epoch (old.run).gates) (fills_with_lifts params c rs)) end_turns end_row notes (disk old.store).seen (disk new.store).seen (Err (Before (fault.Worn number))) → EndStops (fault.Worn number)
-          by_part (inl none) = stopped (End asked) fills (fault.Worn number) (none.seen).events (refl, inl (none.seen).dealt, answers_hidden (Before (fault.Worn number)) one) (none.seen).noted (end_tape (Before (fault.Worn number)) one) (end_why (fault.Worn number) one)
+          by_part (inl none) = stopped (End asked) fills (fault.Worn number) (none.seen).events notes (refl, inl (none.seen).dealt, answers_hidden (Before (fault.Worn number)) one) (none.seen).noted (end_tape (Before (fault.Worn number)) one) (end_why (fault.Worn number) one)
+              (inl ((none.seen).dealt, none.all))
           by_part (inr row) =
               let made = lifts_made row.seen in
-              stopped (End asked) fills (fault.Worn number) made.events (refl, inr made.dealt, answers_hidden (Before (fault.Worn number)) one) made.noted (end_tape (Before (fault.Worn number)) one) (end_why (fault.Worn number) one)
+              stopped (End asked) fills (fault.Worn number) made.events notes (refl, inr made.dealt, answers_hidden (Before (fault.Worn number)) one) made.noted (end_tape (Before (fault.Worn number)) one) (end_why (fault.Worn number) one)
+              (inr (made.dealt, row.all ∙ lifts_are))
 
       end_stops : (refused : Fault) → Refused refused → EndStops refused
       end_stops (fault.StoreFault unsure) one =
           subst (λ (u : Option ℕ). EndStops (fault.StoreFault u)) (sym one.refusal) (store_stops_end (subst (λ (u : Option ℕ). Refused (fault.StoreFault u)) one.refusal one))
       end_stops (fault.Damaged cell check kept computed) one =
           let made = lifts_made (one.scheduled c rs at.planned).seen in
-          stopped (End asked) fills (fault.Damaged cell check kept computed) made.events (refl, made.dealt, answers_hidden (Before (fault.Damaged cell check kept computed)) one) made.noted
-          (end_tape (Before (fault.Damaged cell check kept computed)) one) (end_why (fault.Damaged cell check kept computed) one)
+          stopped (End asked) fills (fault.Damaged cell check kept computed) made.events notes (refl, made.dealt, answers_hidden (Before (fault.Damaged cell check kept computed)) one) made.noted
+          (end_tape (Before (fault.Damaged cell check kept computed)) one) (end_why (fault.Damaged cell check kept computed) one) ((one.scheduled c rs at.planned).all ∙ lifts_are)
       end_stops (fault.StashFull rows) one =
           let made = lifts_made (one.scheduled c rs at.planned).seen in
-          stopped (End asked) fills (fault.StashFull rows) made.events (refl, made.dealt, answers_hidden (Before (fault.StashFull rows)) one) made.noted (end_tape (Before (fault.StashFull rows)) one) (end_why (fault.StashFull rows) one)
+          stopped (End asked) fills (fault.StashFull rows) made.events notes (refl, made.dealt, answers_hidden (Before (fault.StashFull rows)) one) made.noted (end_tape (Before (fault.StashFull rows)) one) (end_why (fault.StashFull rows) one)
+          ((one.scheduled c rs at.planned).all ∙ lifts_are)
       end_stops (fault.Worn number) one = worn_stops number one
       end_stops fault.Memory one = absurd one.refusal
       end_stops fault.Usage one = absurd one.refusal
@@ -513,23 +544,26 @@ module _ {V S : Type 0} (k : Kind V) (disk : S → Disk) (runs : V → Running S
       gate_stops : (epoch : ℕ) → EndCalled disk old new notes (map write_from asked) (Err (Unsure (fault.StoreFault (Some epoch)))) → EndStops (fault.StoreFault (Some epoch))
       gate_stops epoch one = by_part (one.scheduled c rs at.planned).seen
         where
+          up_to : notes ≡ up_to_gate (ring_notes p q Ends fills)
+          up_to = (one.scheduled c rs at.planned).all ∙ ap (λ (l : List Note). up_to_gate l) end_row_is
+
           by_part : Made old.lanes (up_to_gate end_turns) ⊎ Made old.lanes end_turns → EndStops (fault.StoreFault (Some epoch))
           by_part (inl before) =
               let made = all_made (up_to_gate end_turns) (up_to_gate (ring_phases p q Ends fills)) (ap (λ (l : List Phase). up_to_gate l) end_is) before in
-              stopped (End asked) fills (fault.StoreFault (Some epoch)) made.events (refl, inl made.dealt, answers_hidden (Unsure (fault.StoreFault (Some epoch))) one) made.noted
-              (end_tape (Unsure (fault.StoreFault (Some epoch))) one) (doubt_why (fault.StoreFault (Some epoch)) one)
+              stopped (End asked) fills (fault.StoreFault (Some epoch)) made.events notes (refl, inl made.dealt, answers_hidden (Unsure (fault.StoreFault (Some epoch))) one) made.noted
+              (end_tape (Unsure (fault.StoreFault (Some epoch))) one) (doubt_why (fault.StoreFault (Some epoch)) one) up_to
           by_part (inr all) =
               let made = all_made end_turns (ring_phases p q Ends fills) end_is all in
-              stopped (End asked) fills (fault.StoreFault (Some epoch)) made.events (refl, inr made.dealt, answers_hidden (Unsure (fault.StoreFault (Some epoch))) one) made.noted
-              (end_tape (Unsure (fault.StoreFault (Some epoch))) one) (doubt_why (fault.StoreFault (Some epoch)) one)
+              stopped (End asked) fills (fault.StoreFault (Some epoch)) made.events notes (refl, inr made.dealt, answers_hidden (Unsure (fault.StoreFault (Some epoch))) one) made.noted
+              (end_tape (Unsure (fault.StoreFault (Some epoch))) one) (doubt_why (fault.StoreFault (Some epoch)) one) up_to
 
       doubt_stops : (refused : Fault) → EndCalled disk old new notes (map write_from asked) (Err (Unsure refused)) → EndStops refused
       doubt_stops refused one =
           subst (λ (x : Fault). EndStops x) (sym one.refusal) (gate_stops ((old.run).epoch + 1) (subst (λ (x : Fault). EndCalled disk old new notes (map write_from asked) (Err (Unsure x))) one.refusal one))
 
   -- each call
-  pub ring_does : (q : RingPublic) (h : RingHidden) (so_far : List Shape) (n : ℕ) (v : V) (call : VaultCall) (answer : VaultAnswer) (w : V) → RingBehind q h so_far n v → Called k v call answer w
-      → IsCallOfKind ring_kind keys most p f opened RingBehind (disk (runs v).store) (disk (runs w).store) (runs w).drawn w q h so_far n call answer
+  pub ring_does : (q : RingPublic) (h : RingHidden) (so_far : List Shape) (n : ℕ) (v : V) (call : VaultCall) (answer : VaultAnswer) (w : V) → RingBehind q h so_far n v → (one : Called k v call answer w)
+      → IsCallOfKind ring_kind keys most p f opened RingBehind (disk (runs v).store) (disk (runs w).store) (runs w).drawn w one.notes q h so_far n call answer
   ring_does q h so_far n v (Fetch asks) (Values values) w at one =
       let is : FetchCalled disk (runs v) (runs w) one.notes asks (Ok tt) = words.called v (Fetch asks) (Values values) one.notes w one.called in
       let rs' = then q h so_far n v w at asks one.notes in
@@ -542,6 +576,7 @@ module _ {V S : Type 0} (k : Kind V) (disk : S → Disk) (runs : V → Running S
           fit q h so_far n v w at asks one.notes is,
         );
         seen = all_made q h so_far n v w at (batch_turns q h so_far n v w at rs') (ring_phases p q Fetches (fills_of p h.content rs')) (batch_is q h so_far n v w at rs') (is.scheduled h.content h.records at.planned (is_next q h so_far n v w at)).seen;
+        shown = (is.scheduled h.content h.records at.planned (is_next q h so_far n v w at)).all ∙ batch_row_is q h so_far n v w at rs';
         at = fetched_at q h so_far n v w at asks one.notes is (held_on q h so_far n v w at (Fetch asks) (Values values) one (λ u. refl));
       }
   ring_does q h so_far n v (End writes) Ended w at one =
@@ -551,6 +586,7 @@ module _ {V S : Type 0} (k : Kind V) (disk : S → Disk) (runs : V → Running S
         behind = ended disk (runs v) (runs w) one.notes p h at.params at.planned at.generation at.tape is.run (map write_from writes) is;
         draws = draws_end disk (runs v) (runs w) one.notes p h at.params at.planned at.generation at.tape is.run (map write_from writes) is (all_shown q h so_far n v w at is.none_left) at.epoch_hidden at.sealed;
         seen = all_made q h so_far n v w at (end_turns q h so_far n v w at) (ring_phases p q Ends (fills_with_lifts p h.content h.records)) (end_is q h so_far n v w at) (is.scheduled h.content h.records at.planned).seen;
+        shown = (is.scheduled h.content h.records at.planned).all ∙ end_row_is q h so_far n v w at;
         at = ended_at q h so_far n v w at (map write_from writes) one.notes is (held_on q h so_far n v w at (End writes) Ended one (λ u. refl));
       }
   ring_does q h so_far n v (Fetch asks) (RefusedBy refused) w at one =

@@ -22,7 +22,10 @@ use Rattle.ob_store.proofs.Moments.{leaves_of, passed_then, then_on, weakened}
 use Rattle.ob_store.specs.Calls.{Keeps, Notes}
 use Rattle.ob_store.specs.Disk.{Disk, Image}
 use Rattle.ob_store.specs.Images.{LeavesOnly, Passes, Same}
-use Rattle.ob_store.specs.Lines.{Trace}
+use Rattle.ob_store.specs.Lines.{Shows, Trace}
+use Rattle.ob_store.proofs.Showing.{shows_then}
+use Rattle.ob_store.specs.declared.watch.Note.{Note}
+use Rattle.ob_schedule.specs.Schedule.{open_notes}
 use Rattle.ob_store.specs.declared.event.Event.TheVariants as event
 use Rattle.ob_store.specs.declared.watch.Note.TheVariants as note
 use Rattle.ob_opening.specs.OpeningActs.{AreGatesIn}
@@ -32,7 +35,7 @@ use Rattle.ob_opening.specs.Openings as vault
 use Rattle.ob_opening.specs.declared.opening.Opening.{Opening}
 use Rattle.ob_vault.proofs.Founding.{found_is_standing}
 use Rattle.ob_vault.specs.RingKind.{GoesOnFrom, IsRingFound, RingFound, ring_kind}
-use Rattle.ob_vault.specs.Seen.{opening_phases}
+use Rattle.ob_vault.specs.Seen.{opening_notes, opening_phases}
 
 same_cells : (old mid : Disk) → Keeps old mid → old.tells → mid.cells ≡ old.cells
 same_cells old mid keeps tells = λ i k. keeps.cells tells k i
@@ -116,6 +119,12 @@ module _ {L : Type 0} (keys : Keys) (p : Params) (old mid new : Disk) (found : F
       ap (λ e. opening_phases p (content_of found.tables) found.records e (suc found.generation) found.gates) (sym is.epoch)
       ∙ ap (λ g. opening_phases p (content_of found.tables) found.records o.epoch g found.gates) (sym (ap (λ (x : Sealing). x.generation) is.sealer))
 
+  pub opened_notes : vault.IsOpeningOf keys p found o → open_notes p (public_of_kept p (content_of found.tables) [] found.epoch found.gates) (fills_of p (content_of found.tables) found.records) (gates_open found.gates) (suc found.generation) (length found.records)
+      ≡ opening_notes p (content_of found.tables) found.records o.epoch (o.sealer).generation found.gates
+  opened_notes is =
+      ap (λ e. opening_notes p (content_of found.tables) found.records e (suc found.generation) found.gates) (sym is.epoch)
+      ∙ ap (λ g. opening_notes p (content_of found.tables) found.records o.epoch g found.gates) (sym (ap (λ (x : Sealing). x.generation) is.sealer))
+
 -- the head's read, and then the schedule's opening
 pub opening_seen : {S L : Type 0} (disk : S → Disk) (keys : Keys) (most : ℕ) (p : Params) (old mid new : S) (before after : Trace) (o : Opening L) (is : IsRingOpened disk keys most p mid new before after o) → 1 ≤ most
     → Notes (event.Read 0 ∷ []) (disk old).seen (disk mid).seen → ArePhasesMade most (Reads (0 ∷ []) ∷ ring_kind.opens p (found_ring is.found o) (is.found).gates) (disk old).seen (disk new).seen
@@ -123,6 +132,13 @@ opening_seen disk keys most p old mid new before after o is some head =
     made_join most (Reads (0 ∷ []) ∷ []) (ring_kind.opens p (found_ring is.found o) (is.found).gates) (disk old).seen (disk mid).seen (disk new).seen
     (made_steps most (note.Read 0 ∷ []) (disk old).seen (disk mid).seen (some, tt) head)
     (made_as most _ (ring_kind.opens p (found_ring is.found o) (is.found).gates) (disk mid).seen (disk new).seen (opening_is keys p (disk old) (disk mid) (disk new) is.found o is.is) ((is.follows).told [] (is.found).gates).seen)
+
+-- and what the watch is shown of both
+pub opening_shown : {S L : Type 0} (disk : S → Disk) (keys : Keys) (most : ℕ) (p : Params) (old mid new : S) (first before after : Trace) (o : Opening L) (is : IsRingOpened disk keys most p mid new before after o)
+    → Shows (note.Read 0 ∷ []) first before → Shows (note.Read 0 ∷ ring_kind.open_notes p (found_ring is.found o) (is.found).gates) first after
+opening_shown disk keys most p old mid new first before after o is head =
+    shows_then (note.Read 0 ∷ []) (ring_kind.open_notes p (found_ring is.found o) (is.found).gates) first before after head
+    (subst (λ (l : List Note). Shows l before after) (opened_notes keys p (disk old) (disk mid) (disk new) is.found o is.is) ((is.follows).told [] (is.found).gates).shows)
 
 -- ---- where the store stood
 

@@ -23,15 +23,17 @@ use Rattle.ob_recover.specs.Known.{fills_of, fills_with_lifts}
 use Rattle.ob_vault.specs.RingVaults.{write_from}
 use Rattle.ob_schedule.specs.Paths.{is_one_of}
 use Rattle.ob_recover.specs.Telling.{AreDealt}
-use Rattle.ob_schedule.specs.Phases.{Phase, phases_of, shared}
+use Rattle.ob_schedule.specs.Phases.{Phase, events_of_phases, phases_of, shared}
 use Rattle.ob_schedule.specs.Schedule.{Fills, end_lifts, record_notes}
 use Rattle.ob_serial.specs.Vaults.{End, Fetch, VaultCall}
 use Rattle.ob_serial.specs.declared.vault.EndErr.{EndErr}
 use Rattle.ob_serial.specs.declared.vault.EndErr.TheVariants.{Before, Unsure}
+use Rattle.ob_store.specs.Told.{IsCut, events_of}
 use Rattle.ob_store.specs.declared.event.Event.{Event}
+use Rattle.ob_store.specs.declared.watch.Note.{Note}
 use Rattle.ob_tables.specs.Kept.{entry_at}
 use Rattle.ob_tables.specs.declared.entry.Entry.{Entry}
-use Rattle.ob_vault.specs.Seen.{RingPublic, ring_phases}
+use Rattle.ob_vault.specs.Seen.{RingPublic, ring_notes, ring_phases}
 
 -- The last epoch that ended, the content of its checkpoint, the records since, the generation, and of that the words which were drawn so
 -- far, and how many seals were made.
@@ -166,6 +168,41 @@ EndCut most p q f (fault.Damaged cell check kept computed) more = AreLifts most 
 EndCut most p q f (fault.StashFull rows) more = AreLifts most p q f more
 EndCut most p q f (fault.Worn number) more = (more ≡ []) ⊎ AreLifts most p q f more
 EndCut most p q f _ more = ⊥
+
+-- ---- and what a watch was shown of it, where this was seen
+
+-- The row of these phases was cut short: the first ones were made, as planned, and shown, but for a sync that failed.
+pub record IsFrontDealt (most : ℕ) (phases : List Phase) (row : List Note) (seen : List Event) (shown : List Note) : Type 0 where
+  pub made : List Note
+  pub cut : IsCut row made shown
+  pub first : List Phase
+  pub rest : List Phase
+  pub split : phases ≡ first ++ rest
+  pub same : events_of_phases first ≡ events_of made
+  pub dealt : AreDealt most first seen
+
+-- a batch's record alone, or all of its row
+abbrev pub BatchCutShown : ℕ → Params → RingPublic → Fills → Fault → List Event → List Note → Type 0
+BatchCutShown most p q f (fault.StoreFault None) seen shown =
+    IsFrontDealt most (phases_of (record_notes p (((q.known).epoch + 1) % 2) q.shown)) (record_notes p (((q.known).epoch + 1) % 2) q.shown) seen shown
+    ⊎ (AreDealt most (ring_phases p q Fetches f) seen × (shown ≡ ring_notes p q Fetches f))
+BatchCutShown most p q f (fault.Damaged cell check kept computed) seen shown = shown ≡ ring_notes p q Fetches f
+BatchCutShown most p q f _ seen shown = ⊥
+
+-- an end's row before its gate, or up to the gate's write, or its lifts
+abbrev pub EndCutShown : ℕ → Params → RingPublic → Fills → Fault → List Event → List Note → Type 0
+EndCutShown most p q f (fault.StoreFault None) seen shown = IsFrontDealt most (before_gate (ring_phases p q Ends f)) (before_gate (ring_notes p q Ends f)) seen shown
+EndCutShown most p q f (fault.StoreFault (Some epoch)) seen shown = shown ≡ up_to_gate (ring_notes p q Ends f)
+EndCutShown most p q f (fault.Damaged cell check kept computed) seen shown = shown ≡ end_lifts p q.known f
+EndCutShown most p q f (fault.StashFull rows) seen shown = shown ≡ end_lifts p q.known f
+EndCutShown most p q f (fault.Worn number) seen shown = ((seen ≡ []) × (shown ≡ [])) ⊎ (AreLifts most p q f seen × (shown ≡ end_lifts p q.known f))
+EndCutShown most p q f _ seen shown = ⊥
+
+-- by the call and the fault; a batch for which numbers are worn shows nothing
+abbrev pub RingCutShown : (most : ℕ) → Params → RingPublic → VaultCall → Fills → Fault → (seen : List Event) → (shown : List Note) → Type 0
+RingCutShown most p q (Fetch asks) f (fault.Worn number) seen shown = shown ≡ []
+RingCutShown most p q (Fetch asks) f refused seen shown = BatchCutShown most p q f refused seen shown
+RingCutShown most p q (End writes) f refused seen shown = EndCutShown most p q f refused seen shown
 
 -- An end is refused so, or left in doubt, where its numbers, its table and its writes let it be, in the order in which these are looked at.
 abbrev pub IsEndAnswer : Params → RingHidden → List (ℕ × Option (List ℕ)) → (words : List ℕ) → Fault → Type 0

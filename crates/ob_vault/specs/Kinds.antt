@@ -5,6 +5,8 @@ use Rattle.ob_base.specs.declared.params.Params.{Params}
 use Rattle.ob_base.specs.declared.fault.Fault.{Fault}
 use Rattle.ob_seal.specs.declared.keys.Keys.{Keys}
 use Rattle.ob_store.specs.declared.event.Event.{Event}
+use Rattle.ob_store.specs.declared.watch.Note.{Note}
+use Rattle.ob_store.specs.Lines.{Trace}
 use Rattle.ob_store.specs.Disk.{Disk, Image}
 use Rattle.ob_serial.specs.Serial.{Map}
 use Rattle.ob_serial.specs.Vaults.{VaultCall, VaultState, Standing}
@@ -19,10 +21,11 @@ pub record StoreKind : Type 1 where
   pub head_fault : Fault → Type 0
   -- what an image stands for, at this generation
   pub stands : Keys → Params → ℕ → Image → Standing → Type 0
-  -- A format of a store without a key: how many cells it has, the order of its calls, what its cells have besides what they stand for,
+  -- A format of a store without a key: how many cells it has, the order of its calls, the notes of them, what its cells have besides what they stand for,
   -- what a crash leaves of it, and why it is refused, besides its store, before anything is done.
   pub cells : Params → ℕ
   pub format_order : Params → List Event
+  pub format_notes : Params → List Note
   pub format_lays : Params → Image → Type 0
   pub format_leaves : Keys → Params → Disk → Image → Type 0
   pub format_fault : Fault → Type 0
@@ -45,12 +48,17 @@ pub record StoreKind : Type 1 where
   pub starts : Keys → Params → Image → Found → Start → Type 0
   pub opens : Params → Found → Start → List Phase
   pub opens_partly : Keys → (most : ℕ) → Params → Disk → Disk → Fault → Type 0
+  -- What a watch is shown of an opening, behind the head's read; and what it was shown of a refused one, with the head's read.
+  pub open_notes : Params → Found → Start → List Note
+  pub opens_shown : {S : Type 0} → (S → Disk) → Keys → (most : ℕ) → Params → Disk → Disk → Trace → Trace → Fault → Type 0
   -- What else the trace depends on: what is public of a vault, as an opening leaves it; what a call draws; its phases, and what is
   -- public behind it.
   pub Public : Type 0
   pub public : Params → Found → Public
   pub Drawn : Type 0
   pub phases : Params → Public → Shape → Drawn → List Phase
+  -- what a watch is shown of it, each label in front of its reads
+  pub notes : Params → Public → Shape → Drawn → List Note
   pub next : Params → Public → Shape → Drawn → Public
   -- What fills the holes depends on: what a vault keeps to itself, as an opening leaves it; what a call with these keys, or these writes,
   -- draws from there, and what is kept behind it; and that the words in it, with those of a call that was then refused so, are these, which
@@ -62,6 +70,8 @@ pub record StoreKind : Type 1 where
   -- What may be seen, of so many lanes at most, of a call that was refused with this fault, or left in doubt by it, once a tape had given
   -- these words.
   pub cut : (most : ℕ) → Params → Public → Hidden → VaultCall → Drawn → (words : List ℕ) → Fault → List Event → Type 0
+  -- and what a watch was shown of it, where this was seen: what was made, as planned, but for a sync that failed
+  pub cut_shown : (most : ℕ) → Params → Public → VaultCall → Drawn → Fault → (seen : List Event) → (shown : List Note) → Type 0
   -- Why a vault refuses this call from what is hidden, behind these and so many epochs that ended, besides its store: the disk was this one
   -- once it was opened, and this one behind the call; and a tape had then given these words.
   pub causes : Keys → Params → Found → (opened now : Disk) → Hidden → List Shape → ℕ → Option VaultCall → (words : List ℕ) → Fault → Type 0

@@ -29,8 +29,8 @@ use Rattle.ob_opening.specs.Formats.{HasClosedLogs, RingFormatLeaves}
 use Rattle.ob_opening.specs.OpeningActs.{AreGatesIn}
 use Rattle.ob_opening.specs.Openings.{IsOpenFault, IsOpenRefusal, IsStandingRefusal, fresh_sealer}
 use Rattle.ob_vault.specs.Causes.{IsCallWorn, IsRingWorn, IsSlotDamage, IsStashFull, RingLasts}
-use Rattle.ob_vault.specs.Hidden.{IsTapeBehind, RingCut, RingDraws, RingHidden}
-use Rattle.ob_vault.specs.Seen.{RingMayBegin, RingOpensPartly, RingPublic, opening_phases, ring_next, ring_phases}
+use Rattle.ob_vault.specs.Hidden.{IsTapeBehind, RingCut, RingCutShown, RingDraws, RingHidden}
+use Rattle.ob_vault.specs.Seen.{RingMayBegin, RingOpensPartly, RingOpensShown, RingPublic, opening_notes, opening_phases, ring_next, ring_notes, ring_phases}
 
 -- the number of its version in the head
 abbrev pub ring_version : ℕ
@@ -107,6 +107,7 @@ ring_kind = record {
   stands = StandsRing;
   cells = ring_cells;
   format_order = λ p. events_of (format_notes p);
+  format_notes = format_notes;
   format_lays = HasClosedLogs;
   format_leaves = λ keys p old image. (drawn : List ℕ) × RingFormatLeaves keys p drawn old image;
   format_fault = λ refused. refused ≡ fault.Memory;
@@ -123,16 +124,20 @@ ring_kind = record {
   starts = λ keys p image f gates. AreGatesIn gates image;
   opens = λ p f gates. opening_phases p f.content f.records (f.run).epoch ((f.run).sealer).generation gates;
   opens_partly = RingOpensPartly;
+  open_notes = λ p f gates. opening_notes p f.content f.records (f.run).epoch ((f.run).sealer).generation gates;
+  opens_shown = λ disk keys most p old new before after refused. RingOpensShown disk keys most p old new before after refused;
   Public = RingPublic;
   public = ring_public;
   Drawn = Fills;
   phases = ring_phases;
+  notes = ring_notes;
   next = ring_next;
   Hidden = RingHidden;
   hidden = λ p f. ring_hidden f;
   draws = RingDraws;
   is_of_tape = IsTapeBehind;
   cut = RingCut;
+  cut_shown = RingCutShown;
   causes = λ keys p f opened now h behind n call words fault. RingCauses keys p f opened now h n call words fault;
   lasts = RingLasts;
   may_stop = RingMayStop;

@@ -49,12 +49,12 @@ pub record RowsAreCut : Type 0 where
 
 -- ---- calls
 
--- Each call of a vault over a ring store shows the schedule's phases, made by its lanes and filled by what it draws, or what its refusal
--- allows of them, and is refused for a cause of the kind.
+-- Each call of a vault over a ring store shows the schedule's notes, their phases made by its lanes, and filled by what it draws, or what its
+-- refusal allows of them, and is refused for a cause of the kind.
 abbrev pub RingCallsDo : {V S : Type 0} → Kind V → (S → Disk) → Type 0
 RingCallsDo {V} {S} k disk = (runs : V → Running S) → HasRingWords k disk runs → (keys : Keys) (most : ℕ) (p : Params) (f : RingFound) (first : V) (q : RingPublic) (h : RingHidden) (so_far : List Shape) (n : ℕ) (v : V) (call : VaultCall) (answer : VaultAnswer) (w : V)
-    → RingAt k disk runs keys most p f (disk (runs first).store) q h n v → Called k v call answer w
-    → IsCallOfKind ring_kind keys most p f (disk (runs first).store) (λ q' h' so_far' n' v'. RingAt k disk runs keys most p f (disk (runs first).store) q' h' n' v') (disk (runs v).store) (disk (runs w).store) (runs w).drawn w q h so_far n call answer
+    → RingAt k disk runs keys most p f (disk (runs first).store) q h n v → (one : Called k v call answer w)
+    → IsCallOfKind ring_kind keys most p f (disk (runs first).store) (λ q' h' so_far' n' v'. RingAt k disk runs keys most p f (disk (runs first).store) q' h' n' v') (disk (runs v).store) (disk (runs w).store) (runs w).drawn w one.notes q h so_far n call answer
 
 -- The words hidden are those that the tape gave, and all of them.
 abbrev pub RingWordsAreOfTape : {V S : Type 0} → Kind V → (S → Disk) → Type 0

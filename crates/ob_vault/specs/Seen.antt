@@ -12,15 +12,18 @@ use Rattle.ob_recover.specs.Known.{fills_of, gates_open, public_of_kept}
 use Rattle.ob_recover.specs.ShownOpenings.{began_notes, opened_phases}
 use Rattle.ob_recover.specs.Telling.{ArePhasesMade}
 use Rattle.ob_schedule.specs.Phases.{Phase, Reads, batch_phases, end_phases, open_phases}
-use Rattle.ob_schedule.specs.Schedule.{Fills, Public, after_end, after_phase, batch_leaves, batch_notes, end_notes}
+use Rattle.ob_schedule.specs.Schedule.{Fills, Public, after_end, after_phase, batch_leaves, batch_notes, end_notes, open_notes}
 use Rattle.ob_seal.specs.declared.keys.Keys.{Keys}
 use Rattle.ob_start.specs.Orders.{registers_notes}
 use Rattle.ob_start.specs.Registers as start
-use Rattle.ob_store.specs.Calls.{NotesFirst}
+use Rattle.ob_store.specs.Calls.{Keeps, Notes, NotesFirst}
 use Rattle.ob_store.specs.Disk.{Disk}
+use Rattle.ob_store.specs.Lines.{Shows, Trace}
 use Rattle.ob_store.specs.Told.{events_of}
 use Rattle.ob_store.specs.declared.event.Event.TheVariants as event
 use Rattle.ob_store.specs.declared.watch.Note.{Note}
+use Rattle.ob_store.specs.declared.watch.Note.TheVariants as note
+use Rattle.ob_opening.specs.OpeningRuns.{RefusedDoes}
 use Rattle.ob_twin.specs.declared.gates.Gates.{Gates}
 
 -- ---- an opening
@@ -28,6 +31,10 @@ use Rattle.ob_twin.specs.declared.gates.Gates.{Gates}
 -- the schedule's opening of what stands: with the gates that were found, and a repeat for each record
 abbrev pub opening_phases : Params → Content → List BatchRecord → (epoch generation : ℕ) → Gates → List Phase
 opening_phases p c rs epoch generation gates = open_phases p (public_of_kept p c [] epoch gates) (fills_of p c rs) (gates_open gates) generation (length rs)
+
+-- and its notes
+abbrev pub opening_notes : Params → Content → List BatchRecord → (epoch generation : ℕ) → Gates → List Note
+opening_notes p c rs epoch generation gates = open_notes p (public_of_kept p c [] epoch gates) (fills_of p c rs) (gates_open gates) generation (length rs)
 
 -- Of what was found: the first events of what comes before the repeats; or all of that was made, and the repeats of the first records, by at
 -- most so many lanes.
@@ -55,6 +62,15 @@ abbrev pub RingOpensPartly : Keys → (most : ℕ) → Params → Disk → Disk 
 RingOpensPartly keys most p old new (fault.StoreFault unsure) = ReadsFirst keys p old new ⊎ OpensInPart keys most p old new
 RingOpensPartly keys most p old new (fault.Damaged cell check kept computed) = ReadsFirst keys p old new ⊎ OpensInPart keys most p old new
 RingOpensPartly keys most p old new refused = ReadsFirst keys p old new
+
+-- What the watch was shown of it: the head's read, and from there on what an opening that was refused so does.
+pub record RingOpensShown {S : Type 0} (disk : S → Disk) (keys : Keys) (most : ℕ) (p : Params) (old new : Disk) (before after : Trace) (refused : Fault) : Type 0 where
+  pub mid : S
+  pub later : Trace
+  pub read : Notes (event.Read 0 ∷ []) old.seen (disk mid).seen
+  pub keeps : Keeps old (disk mid)
+  pub head : Shows (note.Read 0 ∷ []) before later
+  pub does : RefusedDoes keys most p (disk mid) new later after refused
 
 -- refused so, it may have begun the next generation
 abbrev pub RingMayBegin : Fault → Type 0
