@@ -13,7 +13,7 @@ use Rattle.ob_recover.proofs.EndLaws.{none_counted}
 use Rattle.ob_recover.proofs.LifeLabels.{AreLabelsApart, labels_life, life_planned as labels_planned}
 use Rattle.ob_recover.proofs.LifeSlots.{AreSlotsSound, slots_life, life_planned as slots_planned}
 
-labels_formatted : (p : Params) (word_of : WordId → ℕ) (slot : ℕ → ℕ → ℕ) → AreLabelsApart p word_of (formatted_life slot)
+pub labels_formatted : (p : Params) (word_of : WordId → ℕ) (slot : ℕ → ℕ → ℕ) → AreLabelsApart p word_of (formatted_life slot)
 labels_formatted p word_of slot = record {
   held_once = λ k k' w h h'. absurd (cc);
   held_old = λ k w h. absurd (cc);

@@ -26,7 +26,7 @@ pub record IsApart (ls : List LabelFill) (book : ℕ → Option WordId) (g n e b
   pub by_name : (l m : LabelFill) → Has ls l → Has ls m → l.epoch ≡ m.epoch → l.batch ≡ m.batch → l.place ≡ m.place → l ≡ m
   pub named : (l : LabelFill) → Has ls l → IsNamedBefore l e b i
 
-not_older : (w v : WordId) (g n : ℕ) → w ≡ v → v.generation ≡ g → n ≤ v.place → IsOlder w g n → ⊥
+pub not_older : (w v : WordId) (g n : ℕ) → w ≡ v → v.generation ≡ g → n ≤ v.place → IsOlder w g n → ⊥
 not_older w v g n e a b (inl h) = (let x : w.generation ≡ v.generation = ap (λ (u : WordId). u.generation) e in omega arith)
 not_older w v g n e a b (inr h) = (let x : w.place ≡ v.place = ap (λ (u : WordId). u.place) e in let y : w.place < n = h.1 in omega arith)
 
@@ -35,7 +35,7 @@ older_yet w g n m h (inl a) = inl a
 older_yet w g n m h (inr a) = inr (a.0, (let x : w.place < n = a.1 in omega arith))
 
 -- a word shown is the place's own, or one that was held
-label_from : (book : ℕ → Option WordId) (ask : Option ℕ) (own : WordId) → (shown_label book ask own ≡ own) ⊎ ((a : ℕ) × (ask ≡ Some a) × (book a ≡ Some (shown_label book ask own)))
+pub label_from : (book : ℕ → Option WordId) (ask : Option ℕ) (own : WordId) → (shown_label book ask own ≡ own) ⊎ ((a : ℕ) × (ask ≡ Some a) × (book a ≡ Some (shown_label book ask own)))
 label_from book None own = inl refl
 label_from book (Some a) own = from_held (book a) refl
   where
@@ -44,7 +44,7 @@ label_from book (Some a) own = from_held (book a) refl
     from_held (Some w) e = inr (a, refl, rw e refl)
 
 -- a word held afterwards is the place's own, of a key that was asked for and held, or was held by a key not asked for
-rebound_from : (asked : Bool) (own : WordId) (o : Option WordId) (x : WordId) → rebound asked own o ≡ Some x → ((asked ≡ true) × (own ≡ x) × ((w : WordId) × (o ≡ Some w))) ⊎ ((asked ≡ false) × (o ≡ Some x))
+pub rebound_from : (asked : Bool) (own : WordId) (o : Option WordId) (x : WordId) → rebound asked own o ≡ Some x → ((asked ≡ true) × (own ≡ x) × ((w : WordId) × (o ≡ Some w))) ⊎ ((asked ≡ false) × (o ≡ Some x))
 rebound_from asked own None x e = absurd (cc)
 rebound_from true own (Some w) x e = inl (refl, (cc), (w, refl))
 rebound_from false own (Some w) x e = inr (refl, e)
@@ -187,11 +187,11 @@ label_batch ls book g e b i n first (a ∷ asks) now free s =
 
 -- ---- the writes
 
-put_from : (c : Bool) (v o : Option WordId) (x : WordId) → cond c v o ≡ Some x → ((c ≡ true) × (v ≡ Some x)) ⊎ ((c ≡ false) × (o ≡ Some x))
+pub put_from : (c : Bool) (v o : Option WordId) (x : WordId) → cond c v o ≡ Some x → ((c ≡ true) × (v ≡ Some x)) ⊎ ((c ≡ false) × (o ≡ Some x))
 put_from true v o x e = inl (refl, e)
 put_from false v o x e = inr (refl, e)
 
-put_is : (v : Option WordId) (own x : WordId) → IsPutOf v own → v ≡ Some x → x ≡ own
+pub put_is : (v : Option WordId) (own x : WordId) → IsPutOf v own → v ≡ Some x → x ≡ own
 put_is None own x h e = absurd (cc)
 put_is (Some w) own x h e = let y : w ≡ x = cc in sym y ∙ h
 

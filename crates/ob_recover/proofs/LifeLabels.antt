@@ -9,7 +9,7 @@ use Rattle.ob_base.proofs.Repeats.{has_left, has_right, has_cases}
 use Rattle.ob_base.specs.Repeats.{Has}
 use Rattle.ob_recover.proofs.LabelLaws.{IsOlder, IsNamedBefore, IsApart, apart_later, label_batch, write_apart, older_yet}
 
-newer : (w : WordId) (g n g' : ℕ) → g < g' → IsOlder w g n → IsOlder w g' 0
+pub newer : (w : WordId) (g n g' : ℕ) → g < g' → IsOlder w g n → IsOlder w g' 0
 newer w g n g' h (inl a) = inl (omega arith)
 newer w g n g' h (inr a) = inl (let x : w.generation ≡ g = a.0 in omega arith)
 
@@ -23,11 +23,11 @@ next_epoch l e b i (inl h) = inl (omega arith)
 next_epoch l e b i (inr (x, y)) = inl (let z : l.epoch ≡ e = x in omega arith)
 
 module _ (p : Params) (word_of : WordId → ℕ) where
-  book_more : (book : ℕ → Option WordId) (log : List LifeBatch) (r : LifeBatch) → book_after_log p word_of book (log ++ r ∷ []) ≡ book_after (book_after_log p word_of book log) (batch_places r)
+  pub book_more : (book : ℕ → Option WordId) (log : List LifeBatch) (r : LifeBatch) → book_after_log p word_of book (log ++ r ∷ []) ≡ book_after (book_after_log p word_of book log) (batch_places r)
   book_more book [] r = refl
   book_more book (x ∷ log) r = book_more (book_after book (batch_places x)) log r
 
-  log_labels_more : (e b : ℕ) (book : ℕ → Option WordId) (log : List LifeBatch) (r : LifeBatch) → log_labels p word_of e b book (log ++ r ∷ []) ≡ log_labels p word_of e b book log ++ labels_of e (b + length log) 0 (book_after_log p word_of book log) (batch_places r)
+  pub log_labels_more : (e b : ℕ) (book : ℕ → Option WordId) (log : List LifeBatch) (r : LifeBatch) → log_labels p word_of e b book (log ++ r ∷ []) ≡ log_labels p word_of e b book log ++ labels_of e (b + length log) 0 (book_after_log p word_of book log) (batch_places r)
   log_labels_more e b book [] r =
       append-nil (labels_of e b 0 book (batch_places r)) ∙ (let z : b ≡ b + 0 = omega arith in ap (λ (c : ℕ). labels_of e c 0 book (batch_places r)) z)
   log_labels_more e b book (x ∷ log) r =
@@ -36,7 +36,7 @@ module _ (p : Params) (word_of : WordId → ℕ) where
       ∙ ap (λ (c : ℕ). log_labels p word_of e (b + 1) (book_after book (batch_places x)) log ++ labels_of e c 0 (book_after_log p word_of book (x ∷ log)) (batch_places r)) (let z : (b + 1) + length log ≡ b + suc (length log) = omega arith in z))
       ∙ sym (append_assoc (labels_of e b 0 book (batch_places x)) (log_labels p word_of e (b + 1) (book_after book (batch_places x)) log) (labels_of e (b + suc (length log)) 0 (book_after_log p word_of book (x ∷ log)) (batch_places r)))
 
-  planned_more : (s : LifeState) (r : LifeBatch) → planned_labels p word_of (life_step p word_of s (Append r)) ≡ planned_labels p word_of s ++ labels_of (s.epoch + 1) (0 + length s.log) 0 (book_now p word_of s) (batch_places r)
+  pub planned_more : (s : LifeState) (r : LifeBatch) → planned_labels p word_of (life_step p word_of s (Append r)) ≡ planned_labels p word_of s ++ labels_of (s.epoch + 1) (0 + length s.log) 0 (book_now p word_of s) (batch_places r)
   planned_more s r =
       ap (λ (ls : List LabelFill). s.past_labels ++ ls) (log_labels_more (s.epoch + 1) 0 s.content.book s.log r)
       ∙ sym (append_assoc s.past_labels (log_labels p word_of (s.epoch + 1) 0 s.content.book s.log) (labels_of (s.epoch + 1) (0 + length s.log) 0 (book_now p word_of s) (batch_places r)))

@@ -29,7 +29,7 @@ module _ (p : Params) (word_of : WordId → ℕ) where
   pub leaf_low : (w : WordId) → leaf_of_word p word_of w < 2 ^ p.levels
   leaf_low w = mod-lt (word_of w) (pow_pos p.levels)
 
-  leaves_low : (places : List (Option ℕ × WordId)) → AreLow p (leaves p word_of places)
+  pub leaves_low : (places : List (Option ℕ × WordId)) → AreLow p (leaves p word_of places)
   leaves_low [] = tt
   leaves_low (a ∷ rest) = (leaf_low a.1, leaves_low rest)
 
@@ -41,7 +41,7 @@ module _ (p : Params) (word_of : WordId → ℕ) where
   puts_low [] = tt
   puts_low (w ∷ ws) = (put_low w w.1 refl, puts_low ws)
 
-  table_more : (t : FlatTable) (log : List LifeBatch) (r : LifeBatch) → table_after p word_of t (log ++ r ∷ []) ≡ after_batch p (table_after p word_of t log) (leaves p word_of (batch_places r))
+  pub table_more : (t : FlatTable) (log : List LifeBatch) (r : LifeBatch) → table_after p word_of t (log ++ r ∷ []) ≡ after_batch p (table_after p word_of t log) (leaves p word_of (batch_places r))
   table_more t [] r = refl
   table_more t (x ∷ log) r = table_more (after_batch p t (leaves p word_of (batch_places x))) log r
 
@@ -53,7 +53,7 @@ module _ (p : Params) (word_of : WordId → ℕ) where
       (slots_of e s.content (batch_shown p (table_after p word_of t (x ∷ log)) (leaves p word_of (batch_places r)))))
 
   -- the table after the lifts, where they were begun
-  abbrev shown_table : LifeState → FlatTable
+  abbrev pub shown_table : LifeState → FlatTable
   shown_table s = cond s.lifting (after_final p (table_now p word_of s) (eviction_path p (table_now p word_of s).counter)) (table_now p word_of s)
 
   -- what a life keeps

@@ -2,6 +2,7 @@
 use Rattle.std.specs.Prelude.{◌≡◌, ℕ, List, [], ◌∷◌, map}
 use Rattle.std.specs.declared.option.Option.TheVariants.{None, Some}
 use Rattle.std.proofs.Common.{refl, arith}
+use Rattle.ob_base.specs.Tree.{below}
 use Rattle.ob_tables.specs.Rank.{IsRanking}
 use Rattle.ob_ring.specs.FlatTable.{In}
 use Rattle.ob_recover.specs.Life.{WordId, LabelFill, LifeAct, Open, Append, ShowBatch, ShowLifts, End, IsLife, life_labels, formatted_life, reached}
@@ -27,6 +28,10 @@ is_life = (omega arith, ((omega arith, refl, omega arith), (omega arith, (omega 
 
 five_in_1 : (reached p0 zeros (formatted_life itself) acts).content.table.rows 5 ≡ Some (record { leaf = 0; spot = In 3 0 })
 five_in_1 = refl
+
+-- behind the end each bucket that it filled anew lies in its other place
+lie : map (reached p0 zeros (formatted_life itself) acts).content.home (below 7) ≡ 1 ∷ 1 ∷ 1 ∷ 1 ∷ 0 ∷ 1 ∷ 0 ∷ []
+lie = refl
 
 abbrev names : List LabelFill → List (ℕ × ℕ × ℕ)
 names ls = map (λ l. (l.epoch, l.batch, l.place)) ls

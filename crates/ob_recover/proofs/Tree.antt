@@ -25,11 +25,11 @@ use Rattle.ob_recover.proofs.Fills.{RecordsLead, content_leads}
 
 -- ---- buckets below a number
 
-abbrev AreShownBelow : ℕ → List Shown → Type 0
+abbrev pub AreShownBelow : ℕ → List Shown → Type 0
 AreShownBelow n [] = Unit {0}
 AreShownBelow n (s ∷ ss) = (s.bucket < n) × AreShownBelow n ss
 
-abbrev AreBelow : ℕ → List ℕ → Type 0
+abbrev pub AreBelow : ℕ → List ℕ → Type 0
 AreBelow n [] = Unit {0}
 AreBelow n (u ∷ us) = (u < n) × AreBelow n us
 
@@ -56,19 +56,19 @@ visits_below : (n : ℕ) (p : Params) (t : FlatTable) (own : Spot) (us : List �
 visits_below n p t own [] low = tt
 visits_below n p t own (u ∷ us) low = both_below n (visit_shown p t own u) (visits_shown p (visit p t own u) own us) (visit_below n p t own u low.0) (visits_below n p (visit p t own u) own us low.1)
 
-final_below : (n : ℕ) (p : Params) (t : FlatTable) (us : List ℕ) → AreBelow n us → AreShownBelow n (final_shown p t us)
+pub final_below : (n : ℕ) (p : Params) (t : FlatTable) (us : List ℕ) → AreBelow n us → AreShownBelow n (final_shown p t us)
 final_below n p t [] low = tt
 final_below n p t (u ∷ us) low =
     let next : FlatTable = cond (t.lifted u) t (lift t u) in
     both_below n (cond (t.lifted u) [] (lift_shown p t u)) (final_shown p next us) (either_below n (t.lifted u) [] (lift_shown p t u) tt (numbered_below n u _ _ low.0)) (final_below n p next us low.1)
 
-all_below : (n : ℕ) (us : List ℕ) → ((u : ℕ) → is_one_of us u ≡ true → u < n) → AreBelow n us
+pub all_below : (n : ℕ) (us : List ℕ) → ((u : ℕ) → is_one_of us u ≡ true → u < n) → AreBelow n us
 all_below n [] each = tt
 all_below n (v ∷ us) each = (each v (or_left (v == v) (is_one_of us v) (eq-eqb v v refl)), all_below n us (λ u one. each u (or_right (v == u) (is_one_of us u) one)))
 
 -- ---- the tree
 
-abbrev many : Params → ℕ
+abbrev pub many : Params → ℕ
 many p = 2 ^ (p.levels + 1) - 1
 
 low_default : (r : Option Row) (x m : ℕ) → x < m → leaf_of r 0 < m → leaf_of r x < m
@@ -79,7 +79,7 @@ low_shown : (p : Params) (t : FlatTable) (ask : Option ℕ) (leaf : ℕ) → lea
 low_shown p t None leaf h l = h
 low_shown p t (Some k) leaf h l = low_default (t.rows k) leaf (2 ^ p.levels) h (l k)
 
-batch_below : (p : Params) (t : FlatTable) (asked : List (Option ℕ × ℕ)) → AreLow p asked → IsLow p t → AreShownBelow (many p) (batch_shown p t asked)
+pub batch_below : (p : Params) (t : FlatTable) (asked : List (Option ℕ × ℕ)) → AreLow p asked → IsLow p t → AreShownBelow (many p) (batch_shown p t asked)
 batch_below p t [] low l = tt
 batch_below p t (a ∷ asked) low l =
     let leaf : ℕ = leaf_shown t a.0 a.1 in
@@ -95,7 +95,7 @@ records_below p t (r ∷ rs) l =
     let t1 : FlatTable = after p t (Batch asked) in
     both_below (many p) (picks p t (Batch asked)) (picks_of_records p t1 rs) (batch_below p t asked (asked_low p r) l) (records_below p t1 rs (low_batch p t asked (asked_low p r) l))
 
-bucket_at : (n : ℕ) (ss : List Shown) (s : Shown) → AreShownBelow n ss → Has ss s → s.bucket < n
+pub bucket_at : (n : ℕ) (ss : List Shown) (s : Shown) → AreShownBelow n ss → Has ss s → s.bucket < n
 bucket_at n [] s low has = absurd has
 bucket_at n (x ∷ ss) s low (inl is) = subst (λ (y : Shown). y.bucket < n) is low.0
 bucket_at n (x ∷ ss) s low (inr has) = bucket_at n ss s low.1 has
@@ -105,7 +105,7 @@ index_at p seen [] s new has = absurd has
 index_at p seen (x ∷ ss) s new (inl is) = subst (λ (y : Shown). y.index < width p) is new.0
 index_at p seen (x ∷ ss) s new (inr has) = index_at p (with_shown seen x) ss s new.3 has
 
-in_tree : (p : Params) (u : ℕ) → u < many p → u < buckets p
+pub in_tree : (p : Params) (u : ℕ) → u < many p → u < buckets p
 unfolding buckets
 in_tree p u low = low
 

@@ -12,5 +12,6 @@ pub mod Telling
 pub mod ShownOpenings
 pub mod Batches
 pub mod Ends
+pub mod LifePublic
 pub mod Lives
 pub mod Samples

@@ -1,5 +1,5 @@
 -- Lives of a ring store: what every attempt of every epoch shows.
-use Rattle.std.specs.Prelude.{◌≡◌, ℕ, ◌+◌, ◌^◌, ◌%◌, ◌<◌, ◌≤◌, ◌==◌, Bool, true, false, cond, List, [], ◌∷◌, ◌++◌, map, length, Option, ⊤}
+use Rattle.std.specs.Prelude.{◌≡◌, ℕ, ◌+◌, ◌-◌, ◌^◌, ◌%◌, ◌<◌, ◌≤◌, ◌==◌, Bool, true, false, cond, List, [], ◌∷◌, ◌++◌, map, length, Option, ⊤}
 use Rattle.std.specs.declared.option.Option.TheVariants.{None, Some}
 use Rattle.std.proofs.Common.{zero, suc}
 use Rattle.ob_tables.specs.Rank.{IsRanking}
@@ -35,6 +35,7 @@ pub record LifeContent : Type 0 where
   pub book : ℕ → Option WordId
   pub version : ℕ → ℕ  -- of a bucket's slots: the epoch that filled it, 0 for the format
   pub slot : ℕ → ℕ → ℕ  -- the physical slot of a bucket's index
+  pub home : ℕ → ℕ  -- in which of its two places a bucket lies: 0 behind the format, and the other one whenever it is filled anew
 
 -- a label hole and the word that it shows
 pub record LabelFill : Type 0 where
@@ -163,6 +164,7 @@ module _ (p : Params) (word_of : WordId → ℕ) where
     book = book_written (book_now s) ws;
     version = λ u. cond (is_table_lifted s u) (s.epoch + 1) (s.content.version u);
     slot = λ u. cond (is_table_lifted s u) (slot u) (s.content.slot u);
+    home = λ u. cond (is_table_lifted s u) (1 - s.content.home u) (s.content.home u);
   }
 
   -- all that the attempts of the epoch may show
@@ -236,7 +238,7 @@ module _ (p : Params) (word_of : WordId → ℕ) where
 abbrev pub formatted_life : (ℕ → ℕ → ℕ) → LifeState
 formatted_life slot = record {
   epoch = 0;
-  content = record { table = record { rows = λ k. None; used = λ u j. false; lifted = λ u. false; counter = 0 }; book = λ k. None; version = λ u. 0; slot = slot };
+  content = record { table = record { rows = λ k. None; used = λ u j. false; lifted = λ u. false; counter = 0 }; book = λ k. None; version = λ u. 0; slot = slot; home = λ u. 0 };
   log = [];
   lifting = false;
   generation = 1;

@@ -3,6 +3,7 @@ use Rattle.std.specs.Prelude.{◌≡◌, ℕ, ◌+◌, ◌<◌, List, map, lengt
 use Rattle.ob_base.specs.Repeats.{Has}
 use Rattle.ob_base.specs.declared.params.Params.{Params}
 use Rattle.ob_base.specs.Tree.{buckets, width}
+use Rattle.ob_tables.specs.Buckets.{version_at}
 use Rattle.ob_tables.specs.Content.{Content, Obeys}
 use Rattle.ob_stand.specs.Table.{flat_of}
 use Rattle.ob_recover.specs.Life.{LifeBatch, LifeState, SlotFill, WordId, leaf_of_word, lift_slots, log_slots, phase_labels, table_now}
@@ -29,10 +30,11 @@ abbrev pub AreWordsOf : (WordId → ℕ) → BatchRecord → Type 0
 AreWordsOf word_of r = (i : ℕ) → i < length r.asks → word_of (record { generation = r.generation; place = r.first + i }) ≡ slice_index r.words i
 
 -- The life is in the epoch behind this content, and these are its records: the tapes gave their words, and those of the entries that the
--- content keeps.
+-- content keeps; and each bucket lies where the life has it.
 pub record IsLifeAt (p : Params) (word_of : WordId → ℕ) (c : Content) (rs : List BatchRecord) (s : LifeState) : Type 0 where
   pub table : (s.content).table ≡ flat_of p c
   pub slots : (u j : ℕ) → u < buckets p → j < width p → (s.content).slot u j ≡ slot_kept c u j
+  pub homes : (u : ℕ) → (s.content).home u ≡ (version_at c.versions u).home
   pub book : (k : ℕ) → (s.content).book k ≡ word_kept (entry_at c.book k)
   pub kept : (k : ℕ) (e : Entry) → entry_at c.book k ≡ Some e → e.leaf ≡ leaf_of_word p word_of (record { generation = e.generation; place = e.index })
   pub log : s.log ≡ map life_batch rs
