@@ -71,6 +71,7 @@ module _ (keys : Keys) (p : Params) (word_of : WordId → ℕ) where
   stays_at c rs s t content log life = record {
     table = (λ i. (content i).table) ∙ life.table;
     slots = λ u j low few. (λ i. (content i).slot u j) ∙ life.slots u j low few;
+    homes = λ u. (λ i. (content i).home u) ∙ life.homes u;
     book = λ k. (λ i. (content i).book k) ∙ life.book k;
     kept = life.kept;
     log = log ∙ life.log;

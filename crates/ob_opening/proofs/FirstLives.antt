@@ -32,6 +32,10 @@ module _ (p : Params) (ranks : Ranks) where
   none_shown : (u j : ℕ) → used_at (version_at (fresh_content p ranks).versions u) j ≡ false
   none_shown u j = item_or (fresh_version p ranks) (λ v. used_at v j ≡ false) (λ u. unmarked (width p) j) refl 0 (buckets p) u
 
+  -- and each lies in its first place
+  lies_first : (u : ℕ) → (version_at (fresh_content p ranks).versions u).home ≡ 0
+  lies_first u = item_or (fresh_version p ranks) (λ v. v.home ≡ 0) (λ u. refl) refl 0 (buckets p) u
+
   pub fresh_life : (word_of : WordId → ℕ) (slot : ℕ → ℕ → ℕ) → AreSlotsIn p (fresh_content p ranks) slot → IsLifeAt p word_of (fresh_content p ranks) [] (formatted_life slot)
   fresh_life word_of slot are =
       let versions = (fresh_content p ranks).versions in
@@ -43,6 +47,7 @@ module _ (p : Params) (ranks : Ranks) where
           counter = 0;
         };
         slots = are;
+        homes = λ u. sym (lies_first u);
         book = λ k. sym (ap word_kept (no_entry p.keys k));
         kept = λ k e at. absurd (none_some (slice_index_or (replicate p.keys None) k None) e (no_entry p.keys k) at);
         log = refl;

@@ -67,6 +67,7 @@ module _ (p : Params) (word_of : WordId → ℕ) (s : LifeState) (h : RingHidden
   life_more t content log = record {
     table = (λ i. (content i).table) ∙ (here.life).table;
     slots = λ u j low few. (λ i. (content i).slot u j) ∙ (here.life).slots u j low few;
+    homes = λ u. (λ i. (content i).home u) ∙ (here.life).homes u;
     book = λ k. (λ i. (content i).book k) ∙ (here.life).book k;
     kept = (here.life).kept;
     log = log ∙ ap (λ (l : List LifeBatch). l ++ b ∷ []) (here.life).log ∙ sym (map-append life_batch h.records (r ∷ []));

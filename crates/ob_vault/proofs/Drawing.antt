@@ -18,6 +18,7 @@ use Rattle.ob_store.specs.Disk.{Disk}
 use Rattle.ob_store.specs.declared.watch.Note.{Note}
 use Rattle.ob_tables.specs.Kept.{entry_at}
 use Rattle.ob_tables.specs.declared.entry.Entry.{Entry}
+use Rattle.ob_vault.proofs.Homes.{homes_ended}
 use Rattle.ob_vault.specs.Hidden.{DrawsBatch, DrawsEnd, IsContentEnded, RingHidden, table_hidden, with_next}
 
 module _ {S : Type 0} (disk : S → Disk) (old new : Running S) (notes : List Note) (p : Params) (h : RingHidden) (params : (old.run).params ≡ p) (planned : HasPlanned old.run h.content h.records)
@@ -75,6 +76,7 @@ module _ {S : Type 0} (disk : S → Disk) (old new : Running S) (notes : List No
           ∙ ap (λ ws. entries_after (entries_after_records own (λ i. entry_at (h.content).book i) h.records) ws k) writes_same;
       within = (one.filled t stands).within;
       ranks = λ i lt. ((one.filled t stands).filled.anew i lt).ranks;
+      homes = λ u. homes_ended own t drawn ((old.run).sealer).generation ((old.run).sealer).next (old.run).ring (new.run).ring h.content (one.filled t stands) ((planned.planner).seals).homes u;
       others = λ u not. (one.filled t stands).filled.ranks u not ∙ ((planned.planner).seals).ranks u;
     }
 

@@ -1,5 +1,5 @@
 -- An end as a call of a life.
-use Rattle.std.specs.Prelude.{◌≡◌, ◌⊎◌, ℕ, suc, ◌+◌, ◌<◌, ◌≤◌, ◌^◌, Bool, true, false, cond, List, [], ◌∷◌, ◌++◌, map, take, length, slice_index, Option, None, Some, Result, Ok, Err}
+use Rattle.std.specs.Prelude.{◌≡◌, ◌⊎◌, ℕ, suc, ◌+◌, ◌-◌, ◌<◌, ◌≤◌, ◌^◌, Bool, true, false, cond, List, [], ◌∷◌, ◌++◌, map, take, length, slice_index, Option, None, Some, Result, Ok, Err}
 use Rattle.std.proofs.Common.{arith, length-append, refl, sym, ap, subst, ◌∙◌, inl, inr, ⊎_elim}
 use Rattle.std.proofs.lemmas.Bool.{false≢true, true≢false}
 use Rattle.std.proofs.lemmas.List.{get_or-append-add, get_or-take, length-map}
@@ -43,6 +43,7 @@ use Rattle.ob_twin.proofs.Moves.{at_the_end}
 use Rattle.ob_opening.specs.OpeningActs.{StandsInLife}
 use Rattle.ob_vault.specs.Acts.{AreTapeWords, IsBatchSmall, IsCallInLife, IsLeftWithin, RunsInLife, id_write}
 use Rattle.ob_vault.proofs.Fetching.{at_standing, none_pending, same_act, settled_stands}
+use Rattle.ob_vault.proofs.Homes.{homes_ended}
 use Rattle.ob_vault.proofs.Ids.{Fits, records_fit, records_ids}
 use Rattle.ob_vault.proofs.Writing.{AreAllFit, leaves_ids, writes_drawn, writes_fit, written_fit, written_ids}
 
@@ -124,7 +125,7 @@ module _ {S : Type 0} (disk : S → Disk) (word_of : WordId → ℕ) (s : LifeSt
   stands_old c stands = at_standing keys p word_of st s c stands runs.epoch runs.generation runs.life
 
   life_lifted : IsLifeAt p word_of st.content st.records lifted
-  life_lifted = record { table = (runs.life).table; slots = (runs.life).slots; book = (runs.life).book; kept = (runs.life).kept; log = (runs.life).log; words = (runs.life).words }
+  life_lifted = record { table = (runs.life).table; slots = (runs.life).slots; homes = (runs.life).homes; book = (runs.life).book; kept = (runs.life).kept; log = (runs.life).log; words = (runs.life).words }
 
   stands_lifted : (c : Image) → Stands keys p st c → StandsInLife keys p word_of lifted c
   stands_lifted c stands = at_standing keys p word_of st lifted c stands runs.epoch runs.generation life_lifted
@@ -233,6 +234,9 @@ module _ {S : Type 0} (disk : S → Disk) (word_of : WordId → ℕ) (s : LifeSt
             (λ i. after p (after p (after p (table_is i) FinalLifts) (Writes (leaves_ids p word_of fs all_fit i))) Refill)
             ∙ table_once (new.run).ring (table_ended p t0 fs) (flat_of p then) table content.stands;
         slots = λ u j low few_slots. cond_by (is_table_lifted p word_of lifted u) (slot_kept then u) ((s.content).slot u) j (slot_kept then u j) (λ up. refl) (λ down. kept_slot u j low few_slots down);
+        homes = λ u.
+            (λ i. cond ((after p (table_is i) FinalLifts).lifted u) (1 - (runs.life).homes u i) ((runs.life).homes u i))
+            ∙ sym (homes_ended p t0 words g ((old.run).sealer).next (old.run).ring (new.run).ring st.content filled (((runs.at).runs).planner).seals.homes u);
         book = λ k. written_ids p word_of fs (λ i. entry_at ((old.run).ring).book i) (book_now p word_of s) book_is k ∙ ap word_kept (sym (entries k));
         kept = λ k e is. written_fit p word_of fs (λ i. entry_at ((old.run).ring).book i) all_fit old_fit k e (sym (entries k) ∙ is);
         log = refl;

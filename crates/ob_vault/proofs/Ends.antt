@@ -1,5 +1,5 @@
 -- What an end draws is what a life shows.
-use Rattle.std.specs.Prelude.{◌≡◌, ℕ, ◌+◌, ◌<◌, ◌≤◌, ◌^◌, Bool, true, false, cond, List, [], ◌∷◌, ◌++◌, map, take, length, slice_index, Option, Some}
+use Rattle.std.specs.Prelude.{◌≡◌, ℕ, ◌+◌, ◌-◌, ◌<◌, ◌≤◌, ◌^◌, Bool, true, false, cond, List, [], ◌∷◌, ◌++◌, map, take, length, slice_index, Option, Some}
 use Rattle.std.proofs.Common.{arith, length-append, refl, sym, ap, subst, ◌∙◌, inl, inr}
 use Rattle.std.proofs.lemmas.Bool.{true≢false}
 use Rattle.std.proofs.lemmas.List.{append-nil, get_or-append-add, get_or-take, length-map}
@@ -119,6 +119,9 @@ module _ (p : Params) (word_of : WordId → ℕ) (s : LifeState) (h : RingHidden
   life_ended = record {
     table = (λ i. after p (after p (after p (table_is i) FinalLifts) (Writes (leaves_ids p word_of fs all_fit i))) Refill) ∙ sym (d.ended).table;
     slots = λ u j low few_slots. cond_by (is_table_lifted p word_of lifted u) (slot_kept behind.content u) ((s.content).slot u) j (slot_kept behind.content u j) (λ up. refl) (λ down. kept_slot u j low few_slots down);
+    homes = λ u.
+        (λ i. cond ((after p (table_is i) FinalLifts).lifted u) (1 - (here.life).homes u i) ((here.life).homes u i))
+        ∙ sym ((d.ended).homes u);
     book = λ k. written_ids p word_of fs entries (book_now p word_of s) book_is k ∙ ap word_kept (sym ((d.ended).entries k));
     kept = λ k e is. written_fit p word_of fs entries all_fit old_fit k e (sym ((d.ended).entries k) ∙ is);
     log = refl;

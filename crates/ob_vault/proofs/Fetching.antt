@@ -122,6 +122,7 @@ module _ {S : Type 0} (disk : S → Disk) (word_of : WordId → ℕ) (s : LifeSt
     life_more t content log = record {
       table = (λ i. (content i).table) ∙ (runs.life).table;
       slots = λ u j low few. (λ i. (content i).slot u j) ∙ (runs.life).slots u j low few;
+      homes = λ u. (λ i. (content i).home u) ∙ (runs.life).homes u;
       book = λ k. (λ i. (content i).book k) ∙ (runs.life).book k;
       kept = (runs.life).kept;
       log = log ∙ ap (λ (l : List LifeBatch). l ++ b ∷ []) (runs.life).log ∙ sym (map-append life_batch st.records (r ∷ []));

@@ -20,6 +20,7 @@ pub mod Calls
 pub mod Chains
 pub mod Ending
 pub mod Fetching
+pub mod Homes
 pub mod Ids
 pub mod OpenedRun
 pub mod Showing

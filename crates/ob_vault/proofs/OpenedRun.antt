@@ -37,6 +37,7 @@ module _ (p : Params) (word_of : WordId → ℕ) where
   moved c rs s t n f life = record {
     table = (λ i. ((f.content) i).table) ∙ life.table;
     slots = λ u j low few. (λ i. ((f.content) i).slot u j) ∙ life.slots u j low few;
+    homes = λ u. (λ i. ((f.content) i).home u) ∙ life.homes u;
     book = λ k. (λ i. ((f.content) i).book k) ∙ life.book k;
     kept = life.kept;
     log = f.log ∙ life.log;
@@ -57,7 +58,7 @@ opened_runs keys p word_of s cells here disk o small tells opened =
       generation = sym f.generation;
       life = subst (λ (q : Params). IsLifeAt q word_of (here.standing).content (here.standing).records t) (sym opened.params)
           (moved p word_of (here.standing).content (here.standing).records begun t (length s.log) f
-          (record { table = (here.life).table; slots = (here.life).slots; book = (here.life).book; kept = (here.life).kept; log = (here.life).log; words = (here.life).words }));
+          (record { table = (here.life).table; slots = (here.life).slots; homes = (here.life).homes; book = (here.life).book; kept = (here.life).kept; log = (here.life).log; words = (here.life).words }));
       small = subst AreBatchesSmall (sym f.log) small;
       drawn = f.drawn;
       begun = (let shown = f.begun in let many = ap (λ (log : List LifeBatch). length log) f.log in omega (arith, shown, many));

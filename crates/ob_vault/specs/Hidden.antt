@@ -1,5 +1,5 @@
 -- What a ring store's vault keeps to itself, and what fills the holes of its calls.
-use Rattle.std.specs.Prelude.{◌≡◌, ◌⊎◌, ℕ, suc, ◌+◌, ◌%◌, ◌^◌, ◌<◌, ◌≤◌, true, false, List, [], ◌∷◌, ◌++◌, length, map, drop, slice_index, Option, None, Some, Err}
+use Rattle.std.specs.Prelude.{◌≡◌, ◌⊎◌, ℕ, suc, ◌+◌, ◌-◌, ◌%◌, ◌^◌, ◌<◌, ◌≤◌, true, false, cond, List, [], ◌∷◌, ◌++◌, length, map, drop, slice_index, Option, None, Some, Err}
 use Rattle.ob_base.specs.declared.fault.Fault.{Fault}
 use Rattle.ob_base.specs.declared.fault.Fault.TheVariants as fault
 use Rattle.ob_base.specs.declared.params.Params.{Params}
@@ -79,7 +79,7 @@ pub record DrawsBatch (p : Params) (h : RingHidden) (asks : List (Option ℕ)) (
 
 -- The content that an end leaves, of these writes and these words: the table is lifted, written and filled anew; the i-th write's key
 -- keeps the i-th word, with its id, a del's none; the lifted buckets, in the order of the refill, take the words behind those of the
--- writes, so that their slots are the ranks of these; and the other buckets' slots stay.
+-- writes, so that their slots are the ranks of these, and lie in their other places; and the other buckets' slots and places stay.
 pub record IsContentEnded (p : Params) (h : RingHidden) (writes : List Write) (words : List ℕ) (ended : Content) : Type 0 where
   pub obeys : Obeys p ended
   pub table : flat_of p ended ≡ table_ended p (table_hidden p h) (end_writes p writes words h.generation (length h.words))
@@ -88,6 +88,8 @@ pub record IsContentEnded (p : Params) (h : RingHidden) (writes : List Write) (w
   pub within : (u : ℕ) → (after p (table_hidden p h) FinalLifts).lifted u ≡ true → u < buckets p
   pub ranks : (i : ℕ) → i < length (refill_order p (after p (table_hidden p h) FinalLifts))
       → (version_at ended.versions (slice_index (refill_order p (after p (table_hidden p h) FinalLifts)) i)).ranks ≡ ranks_of (words_of p (drop p.writes words) i)
+  pub homes : (u : ℕ) → (version_at ended.versions u).home
+      ≡ cond ((after p (table_hidden p h) FinalLifts).lifted u) (1 - (version_at (h.content).versions u).home) (version_at (h.content).versions u).home
   pub others : (u : ℕ) → is_one_of (refill_order p (after p (table_hidden p h) FinalLifts)) u ≡ false → (version_at ended.versions u).ranks ≡ (version_at (h.content).versions u).ranks
 
 -- It comes behind all batches of its epoch, and there is such an epoch. Its lifts are filled by the slots of the content that the epoch began
