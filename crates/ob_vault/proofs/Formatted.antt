@@ -36,10 +36,12 @@ module _ (p : Params) (drawn : List ℕ) (many : length drawn ≡ format_words p
   order_is u j (inr high) low = absurd (omega (arith, high, low))
 
   pub formats : (keys : Keys) (new : Disk)
-      → ((word_of : WordId → ℕ) (slot : ℕ → ℕ → ℕ) (c : Image) → AreSlotsIn p (fresh_content p (drawn_ranks p drawn)) slot → new.may_leave c → StandsInLife keys p word_of (formatted_life slot) c) → RingFormatted keys p new
-  formats keys new life = (
-    (λ u. order_by u (cases_lt u (buckets p))),
-    (λ u. is_ranking u (cases_lt u (buckets p))),
-    (λ b none. absurd none),
-    (λ word_of c left. life word_of (λ u. order_by u (cases_lt u (buckets p))) c (λ u j low few. order_is u j (cases_lt u (buckets p)) low) left),
-  )
+      → ((word_of : WordId → ℕ) (slot : ℕ → ℕ → ℕ) (c : Image) → AreSlotsIn p (fresh_content p (drawn_ranks p drawn)) slot → new.may_leave c → StandsInLife keys p word_of (formatted_life slot) c) → RingFormatted keys p drawn new
+  formats keys new life = record {
+    many = many;
+    slot = λ u. order_by u (cases_lt u (buckets p));
+    ranked = λ u. is_ranking u (cases_lt u (buckets p));
+    of_words = λ u j low few. order_is u j (cases_lt u (buckets p)) low;
+    small = λ b none. absurd none;
+    stands = λ word_of c left. life word_of (λ u. order_by u (cases_lt u (buckets p))) c (λ u j low few. order_is u j (cases_lt u (buckets p)) low) left;
+  }

@@ -7,11 +7,9 @@ use Rattle.ob_vault.specs.Formats.{beginning}
 use Rattle.ob_seal.specs.declared.keys.Keys.{Keys}
 use Rattle.ob_stand.proofs.VaultLaws.{ring_stands}
 use Rattle.ob_stand.specs.Stands.{Stands, StandsRing}
-use Rattle.ob_store.proofs.Moments.{weakened}
 use Rattle.ob_store.specs.Disk.{Disk, Image}
-use Rattle.ob_opening.specs.Formats.{RingFormatLeaves, formatted_standing}
+use Rattle.ob_opening.specs.Formats.{formatted_standing}
 use Rattle.ob_vault.specs.RingLaws.{RingFormats}
-use Rattle.ob_vault.specs.RingKind.{ring_kind}
 
 -- it stands for epoch 0 and no key, in generation 1
 stands_empty : (keys : Keys) (p : Params) (drawn : List ℕ) (c : Image) → Stands keys p (formatted_standing p drawn) c → StandsRing keys p 1 c beginning
@@ -26,5 +24,4 @@ ring_formats disk = record {
     durable = durable;
     lays = closed;
   };
-  leaves = λ keys p drawn old new leaves. weakened (disk old) (disk new) (RingFormatLeaves keys p drawn (disk old)) (ring_kind.format_leaves keys p (disk old)) (λ c is. (drawn, is)) leaves;
 }

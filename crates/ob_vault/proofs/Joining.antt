@@ -123,6 +123,6 @@ module _ {S : Type 0} (disk : S → Disk) (keys : Keys) (p : Params) (word_of : 
   formatted_here made slot stands small (part ∷ parts) from = (stands (disk (begun_at part)).cells from.0, small)
 
 pub runs_are_one_life : {S : Type 0} (disk : S → Disk) → RunsAreOneLife disk
-runs_are_one_life disk keys p made parts (slot, ranked, small, stands) from word_of given =
-    let all = runs disk keys p word_of parts (formatted_life slot) (disk made).may_leave (formatted_here disk keys p word_of (disk made) slot (λ c left. stands word_of c left) small parts from) from given in
-    record { slot = slot; acts = all.acts; is_life = all.is_life; parts_are = all.parts_are; fresh = λ some. lives_are_fresh p word_of slot all.acts some ranked all.is_life }
+runs_are_one_life disk keys p drawn made parts f from word_of given =
+    let all = runs disk keys p word_of parts (formatted_life f.slot) (disk made).may_leave (formatted_here disk keys p word_of (disk made) f.slot (λ c left. f.stands word_of c left) f.small parts from) from given in
+    record { slot = f.slot; of_words = f.of_words; acts = all.acts; is_life = all.is_life; parts_are = all.parts_are; fresh = λ some. lives_are_fresh p word_of f.slot all.acts some f.ranked all.is_life }

@@ -11,8 +11,11 @@ use Rattle.ob_schedule.specs.Schedule.{Fills}
 use Rattle.ob_seal.specs.declared.keys.Keys.{Keys}
 use Rattle.ob_serial.specs.Serial.{Map}
 use Rattle.ob_serial.specs.Vaults.{VaultCall}
+use Rattle.ob_stand.specs.Fresh.{fresh_content}
 use Rattle.ob_store.specs.Disk.{Disk, Image}
 use Rattle.ob_store.specs.Images.{IsSynced}
+use Rattle.ob_opening.specs.Formats.{drawn_ranks}
+use Rattle.ob_opening.specs.OpeningActs.{AreSlotsIn}
 use Rattle.ob_vault.specs.Lives.{IsRunInLife, RingBegins, RingFormatted, RingGoesOn, RingStops, opening_acts}
 
 -- A run: over this store it found that; the store was opened, calls drew this and hid that, one more may have been refused, and the tape
@@ -62,10 +65,11 @@ module _ {S : Type 0} (disk : S → Disk) (keys : Keys) (p : Params) where
     AreParts s [] acts = acts ≡ []
     AreParts s (part ∷ parts) acts = (first : List LifeAct) × (later : List LifeAct) × (acts ≡ first ++ later) × IsPart s part first × AreParts (reached p word_of s first) parts later
 
-    -- From the format on they are one life, in which no word is shown in two holes, no slot of a bucket's filling either, and a hole that is
-    -- shown again is filled as before.
-    pub record IsOneLife (parts : List (RunPart S)) : Type 0 where
+    -- From the format on, which drew these words, they are one life, in which no word is shown in two holes, no slot of a bucket's filling
+    -- either, and a hole that is shown again is filled as before.
+    pub record IsOneLife (drawn : List ℕ) (parts : List (RunPart S)) : Type 0 where
       pub slot : ℕ → ℕ → ℕ
+      pub of_words : AreSlotsIn p (fresh_content p (drawn_ranks p drawn)) slot
       pub acts : List LifeAct
       pub is_life : IsLife p word_of (formatted_life slot) acts
       pub parts_are : AreParts (formatted_life slot) parts acts
@@ -74,5 +78,5 @@ module _ {S : Type 0} (disk : S → Disk) (keys : Keys) (p : Params) where
 -- ---- the law
 
 abbrev pub RunsAreOneLife : {S : Type 0} → (S → Disk) → Type 0
-RunsAreOneLife {S} disk = (keys : Keys) (p : Params) (made : S) (parts : List (RunPart S)) → RingFormatted keys p (disk made) → AreRunsFrom disk keys p (disk made).may_leave parts
-    → (word_of : WordId → ℕ) → AreGiven word_of parts → IsOneLife disk keys p word_of parts
+RunsAreOneLife {S} disk = (keys : Keys) (p : Params) (drawn : List ℕ) (made : S) (parts : List (RunPart S)) → RingFormatted keys p drawn (disk made) → AreRunsFrom disk keys p (disk made).may_leave parts
+    → (word_of : WordId → ℕ) → AreGiven word_of parts → IsOneLife disk keys p word_of drawn parts

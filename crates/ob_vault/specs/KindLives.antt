@@ -8,8 +8,8 @@ use Rattle.ob_vault.specs.Shapes.{Shape}
 use Rattle.ob_vault.specs.Kinds.{StoreKind}
 
 pub record LifeWords (store : StoreKind) : Type 1 where
-  -- a life of the store begins, whatever crashes
-  pub formatted : Keys → Params → Disk → Type 0
+  -- a life of the store begins, of these words that its format has drawn, whatever crashes
+  pub formatted : Keys → Params → (drawn : List ℕ) → Disk → Type 0
   -- An opening of a store with these cells found this: the life goes on with the opening's acts, which show what it showed.
   pub begins : Keys → Params → Image → store.Found → Type 0
   -- One that was refused made some of those acts, and left the store so.

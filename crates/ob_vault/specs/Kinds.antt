@@ -22,12 +22,12 @@ pub record StoreKind : Type 1 where
   -- what an image stands for, at this generation
   pub stands : Keys → Params → ℕ → Image → Standing → Type 0
   -- A format of a store without a key: how many cells it has, the order of its calls, the notes of them, what its cells have besides what they stand for,
-  -- what a crash leaves of it, and why it is refused, besides its store, before anything is done.
+  -- what a crash leaves of it where its tape has then given these words, and why it is refused, besides its store, before anything is done.
   pub cells : Params → ℕ
   pub format_order : Params → List Event
   pub format_notes : Params → List Note
   pub format_lays : Params → Image → Type 0
-  pub format_leaves : Keys → Params → Disk → Image → Type 0
+  pub format_leaves : Keys → Params → (drawn : List ℕ) → Disk → Image → Type 0
   pub format_fault : Fault → Type 0
   -- What an opening finds: the last epoch that ended, the batches that the running one has left, the new generation, and a map.
   pub Found : Type 0

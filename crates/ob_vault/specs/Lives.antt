@@ -33,11 +33,15 @@ use Rattle.ob_vault.specs.Shown.{AreFilledBy, AreShownBy, IsInLife}
 
 -- ---- a format
 
--- Each image stands for the life that begins, with an order of each bucket's slots and no batch in its log, whatever words the tapes will
--- give.
-abbrev pub RingFormatted : Keys → Params → Disk → Type 0
-RingFormatted keys p new = (slot : ℕ → ℕ → ℕ) × ((u : ℕ) → IsRanking (p.real + p.dummies) (slot u)) × AreBatchesSmall (formatted_life slot).log
-    × ((word_of : WordId → ℕ) (c : Image) → new.may_leave c → StandsInLife keys p word_of (formatted_life slot) c)
+-- It has drawn a word for each index of each bucket, and no other. Each image stands for the life that begins, whatever words the tapes will
+-- give: the slots of a bucket's indexes are the ranks of its words, the buckets in rising number, and no batch is in its log.
+pub record RingFormatted (keys : Keys) (p : Params) (drawn : List ℕ) (new : Disk) : Type 0 where
+  pub many : length drawn ≡ format_words p
+  pub slot : ℕ → ℕ → ℕ
+  pub ranked : (u : ℕ) → IsRanking (p.real + p.dummies) (slot u)
+  pub of_words : AreSlotsIn p (fresh_content p (drawn_ranks p drawn)) slot
+  pub small : AreBatchesSmall (formatted_life slot).log
+  pub stands : (word_of : WordId → ℕ) (c : Image) → new.may_leave c → StandsInLife keys p word_of (formatted_life slot) c
 
 -- ---- an opening
 
@@ -172,7 +176,7 @@ RunsAreLives {S} disk = (keys : Keys) (p : Params) (image : Image) (f : RingFoun
 -- And a format that drew a word for each index of each bucket begins one.
 abbrev pub FormatsBegin : {S : Type 0} → (S → Disk) → Type 0
 FormatsBegin {S} disk = (keys : Keys) (p : Params) (drawn : List ℕ) (new : S) → length drawn ≡ format_words p
-    → ((word_of : WordId → ℕ) (slot : ℕ → ℕ → ℕ) (c : Image) → AreSlotsIn p (fresh_content p (drawn_ranks p drawn)) slot → (disk new).may_leave c → StandsInLife keys p word_of (formatted_life slot) c) → RingFormatted keys p (disk new)
+    → ((word_of : WordId → ℕ) (slot : ℕ → ℕ → ℕ) (c : Image) → AreSlotsIn p (fresh_content p (drawn_ranks p drawn)) slot → (disk new).may_leave c → StandsInLife keys p word_of (formatted_life slot) c) → RingFormatted keys p drawn (disk new)
 
 -- ---- as words of the kind
 

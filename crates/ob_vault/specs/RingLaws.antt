@@ -29,7 +29,7 @@ use Rattle.ob_store.specs.Lines.{Trace}
 use Rattle.ob_store.specs.Told.{events_of}
 use Rattle.ob_store.specs.declared.event.Event.TheVariants as event
 use Rattle.ob_store.specs.declared.watch.Note.TheVariants as note
-use Rattle.ob_opening.specs.Formats.{HasClosedLogs, RingFormatLeaves, formatted_standing}
+use Rattle.ob_opening.specs.Formats.{HasClosedLogs, formatted_standing}
 use Rattle.ob_opening.specs.OpeningActs.{AreGatesIn}
 use Rattle.ob_opening.specs.OpeningRuns.{IsRingOpened, OpensFrom, RefusedDoes, RefusedWrites}
 use Rattle.ob_opening.specs.Openings.{IsOpenFault, IsOpenRefusal, IsStandingRefusal, OpensWhatStood}
@@ -129,4 +129,3 @@ pub record RingFormats {S : Type 0} (disk : S → Disk) : Type 0 where
   pub made : (keys : Keys) (p : Params) (drawn : List ℕ) (old new : S) → Notes (events_of (format_notes p)) (disk old).seen (disk new).seen
       → ((disk old).tells → stand.Stands keys p (formatted_standing p drawn) (disk new).cells)
       → ((disk old).tells → (c : Image) → (disk new).may_leave c → stand.Stands keys p (formatted_standing p drawn) c) → ((disk old).tells → IsSynced (disk new)) → ((disk old).tells → HasClosedLogs p (disk new).cells) → MakesEmpty ring_kind keys p (disk old) (disk new)
-  pub leaves : (keys : Keys) (p : Params) (drawn : List ℕ) (old new : S) → LeavesOnly (disk old) (disk new) (RingFormatLeaves keys p drawn (disk old)) → LeavesOnly (disk old) (disk new) (ring_kind.format_leaves keys p (disk old))

@@ -37,7 +37,7 @@ pub fn refusals_are_told<S: Store, T>()
     ensures { RingRefuses T (λ store. S.disk store) }
 {}
 
-/// What a format showed, made and leaves.
+/// What a format showed and made.
 pub fn formats_are_told<S: Store>()
     ensures { RingFormats (λ store. S.disk store) }
 {}
