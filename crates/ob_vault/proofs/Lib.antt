@@ -16,6 +16,7 @@ pub mod Begun
 pub mod Formatting
 pub mod Standing
 pub mod SealCalls
+pub mod Tapes
 pub mod Calls
 pub mod Chains
 pub mod Ending

@@ -18,7 +18,7 @@ use Rattle.ob_recover.specs.Telling.{ArePhasesMade}
 use Rattle.ob_schedule.specs.Phases.{Reads}
 use Rattle.ob_schedule.specs.Schedule.{Fills, end_lifts, format_notes, gate_cell, record_notes}
 use Rattle.ob_seal.specs.declared.keys.Keys.{Keys}
-use Rattle.ob_serial.specs.VaultKinds.{Called, Kind}
+use Rattle.ob_serial.specs.VaultKinds.{AllCalled, Called, Kind}
 use Rattle.ob_serial.specs.Vaults.{Standing, VaultAnswer, VaultCall, VaultState}
 use Rattle.ob_stand.specs.Stands as stand
 use Rattle.ob_stand.specs.Stands.{RingStanding}
@@ -60,6 +60,10 @@ RingCallsDo {V} {S} k disk = (runs : V → Running S) → HasRingWords k disk ru
 abbrev pub RingWordsAreOfTape : {V S : Type 0} → Kind V → (S → Disk) → Type 0
 RingWordsAreOfTape {V} {S} k disk = (runs : V → Running S) (keys : Keys) (most : ℕ) (p : Params) (f : RingFound) (first : V) (q : RingPublic) (h : RingHidden) (n : ℕ) (v : V)
     → RingAt k disk runs keys most p f (disk (runs first).store) q h n v → (refused : Option Fault) → IsTapeBehind p h None (runs v).drawn refused
+
+-- And the tape stays in its generation, whatever the calls answer.
+abbrev pub RingTapesStay : {V S : Type 0} → Kind V → (S → Disk) → Type 0
+RingTapesStay {V} {S} k disk = (runs : V → Running S) → HasRingWords k disk runs → (first last : V) (steps : List (VaultCall × VaultAnswer)) → AllCalled k first steps last → (runs last).present ≡ (runs first).present
 
 -- And so the calls of one that was just opened begin, where its planner has shown the batches of what was found, and no word was drawn.
 abbrev pub RingCallsBegin : {V S : Type 0} → Kind V → (S → Disk) → Type 0

@@ -80,16 +80,17 @@ pub record RingSound (run : Run) (disk : Disk) (v : VaultState) : Type 0 where
 
 -- ---- what its calls do
 
--- what a call goes from, and what it leads to: the store, the words of the generation drawn so far, how many lanes may read at once,
--- and the run
+-- what a call goes from, and what it leads to: the store, the generation that the tape is in and the words of it drawn so far, how many
+-- lanes may read at once, and the run
 pub record Running (S : Type 0) : Type 0 where
   pub store : S
+  pub present : ℕ
   pub drawn : List ℕ
   pub lanes : ℕ
   pub run : Run
 
-abbrev pub running : {S : Type 0} → S → List ℕ → ℕ → Run → Running S
-running store drawn lanes run = record { store = store; drawn = drawn; lanes = lanes; run = run }
+abbrev pub running : {S : Type 0} → S → (present : ℕ) → List ℕ → ℕ → Run → Running S
+running store present drawn lanes run = record { store = store; present = present; drawn = drawn; lanes = lanes; run = run }
 
 -- the planner has shown the batches of these records, from this content on
 abbrev pub HasPlanned : Run → Content → List BatchRecord → Type 0
@@ -120,14 +121,17 @@ module _ {S : Type 0} (disk : S → Disk) (old new : Running S) (notes : List No
   abbrev pub words_of_call : List ℕ
   words_of_call = words_since old.drawn new.drawn
 
-  -- What every call leaves, whatever it answers: the parameters, the lanes, the keys and the generation that it seals with; the words drawn
-  -- stand behind those drawn before, and are counted; the store goes on, and neither its head nor its register of generations is written.
+  -- What every call leaves, whatever it answers: the parameters, the lanes, the keys and the generation that it seals with; the tape is in
+  -- that one, and stays there; the words drawn stand behind those drawn before, and are counted; the store goes on, and neither its head nor
+  -- its register of generations is written.
   pub record KeepsRun : Type 0 where
     pub params : (new.run).params ≡ (old.run).params
     pub lanes : new.lanes ≡ old.lanes
     pub keys : ((new.run).sealer).keys ≡ ((old.run).sealer).keys
     pub generation : ((new.run).sealer).generation ≡ ((old.run).sealer).generation
     pub on : ((old.run).sealer).next ≤ ((new.run).sealer).next
+    pub was_present : old.present ≡ ((old.run).sealer).generation
+    pub present : new.present ≡ old.present
     pub was_drawn : (old.run).drawn ≡ length old.drawn
     pub drawn : (new.run).drawn ≡ length new.drawn
     pub grows : new.drawn ≡ old.drawn ++ words_of_call

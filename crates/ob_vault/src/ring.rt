@@ -1,7 +1,7 @@
 //! Laws of a ring store, in the words of its kind of store.
 
 ghost use Rattle.ob_serial.specs.VaultKinds.{kind_of};
-ghost use Rattle.ob_vault.specs.RingLaws.{RingBeginsSound, RingCallsBegin, RingCallsDo, RingFormats, RingLeavesStanding, RingOpens, RingOpensAt, RingOpensStanding, RingRefuses, RingWordsAreOfTape, RowsAreCut};
+ghost use Rattle.ob_vault.specs.RingLaws.{RingBeginsSound, RingCallsBegin, RingCallsDo, RingFormats, RingLeavesStanding, RingOpens, RingOpensAt, RingOpensStanding, RingRefuses, RingTapesStay, RingWordsAreOfTape, RowsAreCut};
 
 use ob_serial::Vault;
 use ob_store::Store;
@@ -12,10 +12,11 @@ pub fn rows_are_cut()
 {}
 
 /// Each call of a vault over a ring store, whatever it answers, in the words of its kind of store;
-/// and its words are those that its tape gave.
+/// and its words are those that its tape gave, which stays in its generation.
 pub fn calls_do<V: Vault, S: Store>()
     ensures calls { RingCallsDo (kind_of V.Vault) (λ store. S.disk store) }
     ensures words { RingWordsAreOfTape (kind_of V.Vault) (λ store. S.disk store) }
+    ensures tapes { RingTapesStay (kind_of V.Vault) (λ store. S.disk store) }
 {}
 
 /// The state from which the calls of a vault over a store that was just opened go on.

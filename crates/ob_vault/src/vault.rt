@@ -162,7 +162,7 @@ impl<'a, S: Lanes, T: Tape> Vault for RingVault<'a, S, T> {
 
     ghost disk = { λ v. lent_both v.lent.store.ghost_name v.lent.tape.ghost_name (S.disk v.lent.store.now) };
 
-    ghost called = { λ v call answer notes new. RingCalled S.disk (running v.lent.store.now (T.drawn v.lent.tape.now) v.crew.lanes v.run) (running new.lent.store.now (T.drawn new.lent.tape.now) new.crew.lanes new.run) notes call answer };
+    ghost called = { λ v call answer notes new. RingCalled S.disk (running v.lent.store.now (T.present v.lent.tape.now) (T.drawn v.lent.tape.now) v.crew.lanes v.run) (running new.lent.store.now (T.present new.lent.tape.now) (T.drawn new.lent.tape.now) new.crew.lanes new.run) notes call answer };
 
     fn epoch(&self) -> u64 {
         self.run.epoch

@@ -82,8 +82,8 @@ returns-clause-called g c =
     let told = c.end-result.ensures.scheduled in (
       told.0,
       told.1,
-      end_called g.S.Store.disk (running c.args.self.now.lent.store.now (g.T.Tape.drawn c.args.self.now.lent.tape.now) c.args.self.now.crew.lanes run)
-          (running c.end-result.new.store (g.T.Tape.drawn c.end-result.new.tape) c.end-result.new.crew.lanes c.end-result.new.run) told.0 writes c.end-result.result
+      end_called g.S.Store.disk (running c.args.self.now.lent.store.now (g.T.Tape.present c.args.self.now.lent.tape.now) (g.T.Tape.drawn c.args.self.now.lent.tape.now) c.args.self.now.crew.lanes run)
+          (running c.end-result.new.store (g.T.Tape.present c.end-result.new.tape) (g.T.Tape.drawn c.end-result.new.tape) c.end-result.new.crew.lanes c.end-result.new.run) told.0 writes c.end-result.result
           (record {
             run = record {
               params = c.end-result.ensures.params;
@@ -91,6 +91,8 @@ returns-clause-called g c =
               keys = some.keys;
               generation = some.generation;
               on = some.on;
+              was_present = c.args.self.now.lent.present serving ∙ ap (λ (k : Known). k.generation) c.args.self.now.known;
+              present = c.end-result.ensures.generation;
               was_drawn = sym (ap (λ (k : Known). k.drawn) c.args.self.now.known) ∙ c.args.self.now.lent.drawn serving;
               drawn = c.end-result.ensures.drawn;
               grows = end_grows run.params kept.planner.table run.epoch run.drawn (g.T.Tape.drawn c.args.self.now.lent.tape.now) (g.T.Tape.drawn c.end-result.new.tape) c.end-result.result (c.end-result.ensures.draws kept.planner.table kept.planner.stands);

@@ -88,8 +88,8 @@ returns-clause-called g c =
     let told = c.fetch-result.ensures.scheduled in (
       told.0,
       told.1,
-      fetch_called g.S.Store.disk (running c.args.self.now.lent.store.now (g.T.Tape.drawn c.args.self.now.lent.tape.now) c.args.self.now.crew.lanes run)
-          (running c.fetch-result.new.store (g.T.Tape.drawn c.fetch-result.new.tape) c.fetch-result.new.crew.lanes c.fetch-result.new.run) told.0 asks c.fetch-result.new.out c.fetch-result.result
+      fetch_called g.S.Store.disk (running c.args.self.now.lent.store.now (g.T.Tape.present c.args.self.now.lent.tape.now) (g.T.Tape.drawn c.args.self.now.lent.tape.now) c.args.self.now.crew.lanes run)
+          (running c.fetch-result.new.store (g.T.Tape.present c.fetch-result.new.tape) (g.T.Tape.drawn c.fetch-result.new.tape) c.fetch-result.new.crew.lanes c.fetch-result.new.run) told.0 asks c.fetch-result.new.out c.fetch-result.result
           (record {
             run = record {
               params = ap (λ (x : Run). x.params) c.fetch-result.ensures.keeps.kept;
@@ -97,6 +97,8 @@ returns-clause-called g c =
               keys = some.keys;
               generation = some.generation;
               on = some.on;
+              was_present = c.args.self.now.lent.present serving ∙ ap (λ (k : Known). k.generation) c.args.self.now.known;
+              present = c.fetch-result.ensures.generation;
               was_drawn = sym (ap (λ (k : Known). k.drawn) c.args.self.now.known) ∙ c.args.self.now.lent.drawn serving;
               drawn = c.fetch-result.ensures.drawn;
               grows = fetch_grows run.params.places (g.T.Tape.drawn c.args.self.now.lent.tape.now) (g.T.Tape.drawn c.fetch-result.new.tape) c.fetch-result.result c.fetch-result.ensures.draws;
