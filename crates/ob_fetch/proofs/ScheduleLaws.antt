@@ -89,20 +89,23 @@ pub record IsShownOf (most : ℕ) (p : Params) (g : ℕ) (gates : Gates) (ring :
   pub reads_as : (c : Content) (rs : List BatchRecord) → PlansFrom p g gates ring c rs → length rs ≡ batch
       → IsShown most (batch_phases p (public_of_kept p c rs epoch gates) (fills_of p c (rs ++ r ∷ [])) (length rs)) (batch_notes p (public_of_kept p c rs epoch gates) (fills_of p c (rs ++ r ∷ [])) (length rs)) notes old new
 
+no_store_worn : (A : Type 0) (number : ℕ) → Worn number ≡ StoreFault None → A
+no_store_worn A number e = absurd (cc)
+
 -- the record's own writes were cut short
-cut_short : {S : Type 0} (disk : S → Disk) (keys : Keys) (p : Params) (epoch : ℕ) (r : BatchRecord) (made notes : List Note) (old new : S) (x : Result (Unit {0}) Fault) → IsCut (append_notes p epoch r.batch) made notes → IsOpenIfShown disk keys p epoch r notes old new x
-cut_short disk keys p epoch r made notes old new (Ok done) cut = tt
-cut_short disk keys p epoch r made notes old new (Err Memory) cut = tt
-cut_short disk keys p epoch r made notes old new (Err Usage) cut = tt
-cut_short disk keys p epoch r made notes old new (Err (BadScript line)) cut = tt
-cut_short disk keys p epoch r made notes old new (Err (BadParams field)) cut = tt
-cut_short disk keys p epoch r made notes old new (Err NotStore) cut = tt
-cut_short disk keys p epoch r made notes old new (Err (Damaged cell check kept computed)) cut = tt
-cut_short disk keys p epoch r made notes old new (Err (StoreFault unsure)) cut = inl (made, cut)
-cut_short disk keys p epoch r made notes old new (Err (StashFull rows)) cut = tt
-cut_short disk keys p epoch r made notes old new (Err (Worn number)) cut = tt
-cut_short disk keys p epoch r made notes old new (Err SourceFault) cut = tt
-cut_short disk keys p epoch r made notes old new (Err SinkFault) cut = tt
+cut_short : {S : Type 0} (disk : S → Disk) (keys : Keys) (p : Params) (epoch : ℕ) (r : BatchRecord) (made notes : List Note) (old new : S) (x : Result (Unit {0}) Fault) → IfErr x (λ f. f ≡ StoreFault None) → IsCut (append_notes p epoch r.batch) made notes → IsOpenIfShown disk keys p epoch r notes old new x
+cut_short disk keys p epoch r made notes old new (Ok done) is cut = tt
+cut_short disk keys p epoch r made notes old new (Err Memory) is cut = tt
+cut_short disk keys p epoch r made notes old new (Err Usage) is cut = tt
+cut_short disk keys p epoch r made notes old new (Err (BadScript line)) is cut = tt
+cut_short disk keys p epoch r made notes old new (Err (BadParams field)) is cut = tt
+cut_short disk keys p epoch r made notes old new (Err NotStore) is cut = tt
+cut_short disk keys p epoch r made notes old new (Err (Damaged cell check kept computed)) is cut = tt
+cut_short disk keys p epoch r made notes old new (Err (StoreFault unsure)) is cut = inl (made, cut)
+cut_short disk keys p epoch r made notes old new (Err (StashFull rows)) is cut = tt
+cut_short disk keys p epoch r made notes old new (Err (Worn number)) is cut = no_store_worn (notes ≡ []) number is
+cut_short disk keys p epoch r made notes old new (Err SourceFault) is cut = tt
+cut_short disk keys p epoch r made notes old new (Err SinkFault) is cut = tt
 
 -- where the store failed in the record's writes, the first of them are shown
 pub begun_shown : (x : Result (Unit {0}) Fault) → IsErr x → IfErr x (λ f. f ≡ StoreFault None) → (most : ℕ) (logged : List Note) (phases : List Phase) (row shown : List Note) (old new : Option (List Event))
@@ -168,8 +171,8 @@ module _ (most : ℕ) (p : Params) (g : ℕ) (gates : Gates) (ring : Kept) (batc
       shown_begun first = front_step most written old new before later (has_appended most p (suc epoch) r.batch) first
 
       -- which is no more than these
-      pub open_begun : {S : Type 0} (disk : S → Disk) (keys : Keys) (a b : S) (first : TellsFirst written old new before later) (x : Result (Unit {0}) Fault) → IsOpenIfShown disk keys p (suc epoch) r first.shown a b x
-      open_begun disk keys a b first x = cut_short disk keys p (suc epoch) r first.made first.shown a b x first.cut
+      pub open_begun : {S : Type 0} (disk : S → Disk) (keys : Keys) (a b : S) (first : TellsFirst written old new before later) (x : Result (Unit {0}) Fault) → IfErr x (λ f. f ≡ StoreFault None) → IsOpenIfShown disk keys p (suc epoch) r first.shown a b x
+      open_begun disk keys a b first x is = cut_short disk keys p (suc epoch) r first.made first.shown a b x is first.cut
 
     module _ (old mid new : Option (List Event)) (before between later : Trace) (made : Tells written written old mid before between) where
       row_written : IsRowShown most (phases_of written) written written old mid
@@ -248,7 +251,7 @@ module _ (most : ℕ) (p : Params) (g : ℕ) (gates : Gates) (ring : Kept) (batc
 
       -- what was shown behind the record's writes, was shown behind its opening
       open_by : (f : Fault) (d : FetchDoes disk most keys p (suc epoch) r cells read_notes old new before later (Err f)) → IsOpenIfShown disk keys p (suc epoch) r (by_fault f d).notes old new (Err f)
-      unfolding by_fault
+      unfolding by_fault shown_none
       open_by Memory d = tt
       open_by Usage d = tt
       open_by (BadScript line) d = tt
@@ -258,7 +261,7 @@ module _ (most : ℕ) (p : Params) (g : ℕ) (gates : Gates) (ring : Kept) (batc
       open_by (StoreFault unsure) (inl first) = inl (first.made, first.cut)
       open_by (StoreFault unsure) (inr logged) = inr (record { between = logged.between; logged = logged.logged; behind = logged.behind })
       open_by (StashFull rows) d = tt
-      open_by (Worn number) d = tt
+      open_by (Worn number) d = refl
       open_by SourceFault d = tt
       open_by SinkFault d = tt
 

@@ -193,9 +193,11 @@ module _ {S : Type 0} (disk : S → Disk) where
         → OpenRecords keys p epoch (records ++ r ∷ []) c
     pub behind : Passes Same (disk between) (disk new)
 
-  -- Of a fetch that the store refused, these notes are the first of the record's own, or the record was open first.
+  -- Of a fetch that the store refused, these notes are the first of the record's own, or the record was open first; where numbers are worn
+  -- there are none.
   abbrev pub IsOpenIfShown : Keys → Params → ℕ → BatchRecord → List Note → S → S → Result (Unit {0}) Fault → Type 0
   IsOpenIfShown keys p epoch r notes old new (Err (fault.StoreFault unsure)) = ((made : List Note) × IsCut (append_notes p epoch r.batch) made notes) ⊎ IsOpenBetween keys p epoch r old new
+  IsOpenIfShown keys p epoch r notes old new (Err (fault.Worn number)) = notes ≡ []
   IsOpenIfShown keys p epoch r notes old new _ = Unit {0}
 
   -- What a fetch does: the record's writes, and then the batch's reads. Of a store that failed it may be the first writes alone.

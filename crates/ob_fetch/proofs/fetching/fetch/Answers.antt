@@ -39,7 +39,7 @@ returns-then-is_worn-clause-serves g c = record { goes = goes_same (g.S.Store.di
 
 pub returns-then-is_worn-clause-scheduled : goal.returns-then-is_worn-clause-scheduled
 returns-then-is_worn-clause-scheduled g c =
-    ([], shows_none (g.W.Watch.trace c.args.watch.now), tt, λ content rs was many. row_step c.args.crew.now.lanes [] (g.S.Store.disk c.args.store.now).seen (g.S.Store.disk c.args.store.now).seen tt (none_noted (g.S.Store.disk c.args.store.now).seen))
+    ([], shows_none (g.W.Watch.trace c.args.watch.now), refl, λ content rs was many. row_step c.args.crew.now.lanes [] (g.S.Store.disk c.args.store.now).seen (g.S.Store.disk c.args.store.now).seen tt (none_noted (g.S.Store.disk c.args.store.now).seen))
 
 pub returns-then-is_worn-clause-wears : goal.returns-then-is_worn-clause-wears
 returns-then-is_worn-clause-wears g c = record { worn = ((λ worn. worn_for c.args.run.now _ c.if-is_worn.true c.is_worn.ensures), (λ worn. tt)); idle = λ worn. (refl, refl, refl, refl) }
@@ -160,7 +160,7 @@ returns-in-Err-clause-scheduled g c =
       first.shown,
       first.tells.shows,
       open_begun c.args.crew.now.lanes p run.sealer.generation run.gates run.ring (next_batch run) run.epoch r c.requires.goes_on.ready.table.0 c.requires.goes_on.ready.table.1 (batch_room run c.requires.some_left c.requires.goes_on.ready.few) c.begin_batch.ensures.obeys
-          old.seen mid.seen (g.W.Watch.trace c.args.watch.now) (g.W.Watch.trace c.begin_batch.new.watch) g.S.Store.disk run.sealer.keys c.args.store.now c.begin_batch.new.store first (Err c.in-Err.fault),
+          old.seen mid.seen (g.W.Watch.trace c.args.watch.now) (g.W.Watch.trace c.begin_batch.new.watch) g.S.Store.disk run.sealer.keys c.args.store.now c.begin_batch.new.store first (Err c.in-Err.fault) c.in-Err.ensures.faults,
       λ content rs was many. begun_shown (Err c.in-Err.fault) refl c.in-Err.ensures.faults c.args.crew.now.lanes (append_notes p (suc run.epoch) (next_batch run)) _ _ first.shown old.seen mid.seen front,
     )
 
