@@ -38,7 +38,7 @@ module _ (p : Params) (word_of : WordId → ℕ) where
   abbrev leaf : LabelFill → ℕ
   leaf l = leaf_of_word p word_of l.word
 
-  repeats_leaves : (f : Fills) (t : LifeState) (n : ℕ) → ((b : ℕ) → b < t.begun + n → map leaf (phase_labels p word_of (t.epoch + 1) 0 (t.content).book t.log b) ≡ batch_leaves p f b)
+  pub repeats_leaves : (f : Fills) (t : LifeState) (n : ℕ) → ((b : ℕ) → b < t.begun + n → map leaf (phase_labels p word_of (t.epoch + 1) 0 (t.content).book t.log b) ≡ batch_leaves p f b)
       → map leaf (life_labels p word_of t (repeated n)) ≡ flat_map (λ b. batch_leaves p f b) (range_with_len t.begun n)
   repeats_leaves f t zero each = refl
   repeats_leaves f t (suc n) each =
@@ -46,7 +46,7 @@ module _ (p : Params) (word_of : WordId → ℕ) where
       ∙ ap (λ (l : List ℕ). l ++ map leaf (life_labels p word_of (life_step p word_of t ShowBatch) (repeated n))) (each t.begun (omega arith))
       ∙ ap (λ (l : List ℕ). batch_leaves p f t.begun ++ l) (repeats_leaves f (life_step p word_of t ShowBatch) n (λ b lt. each b (omega (arith, lt))))
 
-  repeats_slots : (t : LifeState) (n : ℕ) (x : SlotFill) → Has (life_slots p word_of t (repeated n)) x → Has (log_slots p word_of (t.epoch + 1) t.content (t.content).table t.log) x
+  pub repeats_slots : (t : LifeState) (n : ℕ) (x : SlotFill) → Has (life_slots p word_of t (repeated n)) x → Has (log_slots p word_of (t.epoch + 1) t.content (t.content).table t.log) x
   repeats_slots t zero x none = absurd none
   repeats_slots t (suc n) x has = ⊎_elim
       (λ (now : Has (phase_slots p word_of (t.epoch + 1) t.content (t.content).table t.log t.begun) x). has_phase p word_of (t.epoch + 1) t.content (t.content).table t.log t.begun x now)
