@@ -4,7 +4,7 @@ use Rattle.std.proofs.Common.{refl, ap, ◌∙◌, arith}
 use Rattle.ob_ring.proofs.Rows.{p0}
 use Rattle.ob_recover.specs.Life.{WordId, LabelFill, leaf_of_word}
 use Rattle.ob_deniable.specs.Works.{VersionSlots, own_slots, SameShape, AreWritesDrawn, IsLifeOf, labels_in, seen_of_work, slots_moved, words_moved, Exchange}
-use Rattle.ob_deniable.specs.Samples.{word, asking, padding, asking_again, padding_again, stray, ended_once, begun_again, tape, leaves_in, places_in, all_of, Sampled}
+use Rattle.ob_deniable.specs.Samples.{word, asking, padding, asking_again, padding_again, stray, ended_once, begun_again, tape, leaves_among, places_in, all_of, Sampled}
 use Rattle.ob_deniable.proofs.Swaps.{all_swapped, exchanged}
 use Rattle.ob_deniable.proofs.Ids.{own_ranked, same_word, word_pairs}
 use Rattle.ob_deniable.proofs.Exchanging.{words_of, indexes_back_of, exchange, exchange_ids, exchange_ids_back}
@@ -66,10 +66,10 @@ padding_lives w = (
   ),
 )
 
-leaves : leaves_in (all_of (seen_of_work p0 tape own_slots asking)) ≡ 2 ∷ 1 ∷ 0 ∷ 3 ∷ 2 ∷ 0 ∷ 2 ∷ 0 ∷ 0 ∷ 1 ∷ []
+leaves : leaves_among (all_of (seen_of_work p0 tape own_slots asking)) ≡ 2 ∷ 1 ∷ 0 ∷ 3 ∷ 2 ∷ 0 ∷ 2 ∷ 0 ∷ 0 ∷ 1 ∷ []
 leaves = refl
 
-others : leaves_in (all_of (seen_of_work p0 tape own_slots padding)) ≡ 2 ∷ 1 ∷ 0 ∷ 3 ∷ 1 ∷ 0 ∷ 1 ∷ 0 ∷ 0 ∷ 3 ∷ []
+others : leaves_among (all_of (seen_of_work p0 tape own_slots padding)) ≡ 2 ∷ 1 ∷ 0 ∷ 3 ∷ 1 ∷ 0 ∷ 1 ∷ 0 ∷ 0 ∷ 3 ∷ []
 others = refl
 
 -- exchanged, the very same is seen: computed, not by the law
@@ -84,7 +84,7 @@ worked_ids w = exchange_ids p0 some_dummies asking padding shape drawn pads_draw
 
 tapes_differ : seen_of_work p0 tape own_slots asking ≡ seen_of_work p0 tape own_slots padding → ⊥
 tapes_differ h =
-    let fifth : ◌≡◌ {A = ℕ} 2 1 = ap (λ seen. slice_index (leaves_in (all_of seen)) 4) h in
+    let fifth : ◌≡◌ {A = ℕ} 2 1 = ap (λ seen. slice_index (leaves_among (all_of seen)) 4) h in
     omega arith
 
 -- where the one shows the key's own index 0, of the other a dummy is seen, 2

@@ -62,10 +62,10 @@ abbrev pub tape : WordId → ℕ
 tape w = w.generation * 6 + w.place * 7
 
 -- the leaves, and the places of slots, in what is seen
-abbrev pub leaves_in : List SeenHole → List ℕ
-leaves_in [] = []
-leaves_in (Leaf leaf ∷ rest) = leaf ∷ leaves_in rest
-leaves_in (Place u v slot ∷ rest) = leaves_in rest
+abbrev pub leaves_among : List SeenHole → List ℕ
+leaves_among [] = []
+leaves_among (Leaf leaf ∷ rest) = leaf ∷ leaves_among rest
+leaves_among (Place u v slot ∷ rest) = leaves_among rest
 
 abbrev pub places_in : List SeenHole → List ℕ
 places_in [] = []
@@ -82,8 +82,8 @@ pub record Sampled : Type 0 where
   -- two lives of one shape, whatever the words are; on one tape other leaves are seen of them
   pub shape : SameShape asking padding
   pub lives : (word_of : WordId → ℕ) → IsLifeOf p word_of own_slots asking × IsLifeOf p word_of own_slots padding
-  pub leaves : leaves_in (all_of (seen_of_work p tape own_slots asking)) ≡ 2 ∷ 1 ∷ 0 ∷ 3 ∷ 2 ∷ 0 ∷ 2 ∷ 0 ∷ 0 ∷ 1 ∷ []
-  pub others : leaves_in (all_of (seen_of_work p tape own_slots padding)) ≡ 2 ∷ 1 ∷ 0 ∷ 3 ∷ 1 ∷ 0 ∷ 1 ∷ 0 ∷ 0 ∷ 3 ∷ []
+  pub leaves : leaves_among (all_of (seen_of_work p tape own_slots asking)) ≡ 2 ∷ 1 ∷ 0 ∷ 3 ∷ 2 ∷ 0 ∷ 2 ∷ 0 ∷ 0 ∷ 1 ∷ []
+  pub others : leaves_among (all_of (seen_of_work p tape own_slots padding)) ≡ 2 ∷ 1 ∷ 0 ∷ 3 ∷ 1 ∷ 0 ∷ 1 ∷ 0 ∷ 0 ∷ 3 ∷ []
   -- exchanged, the word that the key kept goes where the first pad's stood, that one where the next pad's did, and so round
   pub exchange : Exchange p asking padding
   pub kept : exchange.ids (word 1 4) ≡ word 1 5

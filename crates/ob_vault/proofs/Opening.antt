@@ -35,7 +35,7 @@ use Rattle.ob_opening.specs.Openings as vault
 use Rattle.ob_opening.specs.declared.opening.Opening.{Opening}
 use Rattle.ob_vault.proofs.Founding.{found_is_standing}
 use Rattle.ob_vault.specs.RingKind.{GoesOnFrom, IsRingFound, RingFound, ring_kind}
-use Rattle.ob_vault.specs.Seen.{opening_notes, opening_phases}
+use Rattle.ob_vault.specs.Seen.{opening_shows, opening_phases}
 
 same_cells : (old mid : Disk) → Keeps old mid → old.tells → mid.cells ≡ old.cells
 same_cells old mid keeps tells = λ i k. keeps.cells tells k i
@@ -120,10 +120,10 @@ module _ {L : Type 0} (keys : Keys) (p : Params) (old mid new : Disk) (found : F
       ∙ ap (λ g. opening_phases p (content_of found.tables) found.records o.epoch g found.gates) (sym (ap (λ (x : Sealing). x.generation) is.sealer))
 
   pub opened_notes : vault.IsOpeningOf keys p found o → open_notes p (public_of_kept p (content_of found.tables) [] found.epoch found.gates) (fills_of p (content_of found.tables) found.records) (gates_open found.gates) (suc found.generation) (length found.records)
-      ≡ opening_notes p (content_of found.tables) found.records o.epoch (o.sealer).generation found.gates
+      ≡ opening_shows p (content_of found.tables) found.records o.epoch (o.sealer).generation found.gates
   opened_notes is =
-      ap (λ e. opening_notes p (content_of found.tables) found.records e (suc found.generation) found.gates) (sym is.epoch)
-      ∙ ap (λ g. opening_notes p (content_of found.tables) found.records o.epoch g found.gates) (sym (ap (λ (x : Sealing). x.generation) is.sealer))
+      ap (λ e. opening_shows p (content_of found.tables) found.records e (suc found.generation) found.gates) (sym is.epoch)
+      ∙ ap (λ g. opening_shows p (content_of found.tables) found.records o.epoch g found.gates) (sym (ap (λ (x : Sealing). x.generation) is.sealer))
 
 -- the head's read, and then the schedule's opening
 pub opening_seen : {S L : Type 0} (disk : S → Disk) (keys : Keys) (most : ℕ) (p : Params) (old mid new : S) (before after : Trace) (o : Opening L) (is : IsRingOpened disk keys most p mid new before after o) → 1 ≤ most

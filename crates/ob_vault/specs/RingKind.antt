@@ -30,7 +30,7 @@ use Rattle.ob_opening.specs.OpeningActs.{AreGatesIn}
 use Rattle.ob_opening.specs.Openings.{IsOpenFault, IsOpenRefusal, IsStandingRefusal, fresh_sealer}
 use Rattle.ob_vault.specs.Causes.{IsCallWorn, IsRingWorn, IsSlotDamage, IsStashFull, RingLasts}
 use Rattle.ob_vault.specs.Hidden.{IsTapeBehind, RingCut, RingCutShown, RingDraws, RingHidden}
-use Rattle.ob_vault.specs.Seen.{RingMayBegin, RingOpensPartly, RingOpensShown, RingPublic, opening_notes, opening_phases, ring_next, ring_notes, ring_phases}
+use Rattle.ob_vault.specs.Seen.{RingMayBegin, RingOpensPartly, RingOpensShown, RingPublic, opening_shows, opening_phases, ring_next, ring_notes, ring_phases}
 
 -- the number of its version in the head
 abbrev pub ring_version : ℕ
@@ -124,7 +124,7 @@ ring_kind = record {
   starts = λ keys p image f gates. AreGatesIn gates image;
   opens = λ p f gates. opening_phases p f.content f.records (f.run).epoch ((f.run).sealer).generation gates;
   opens_partly = RingOpensPartly;
-  open_notes = λ p f gates. opening_notes p f.content f.records (f.run).epoch ((f.run).sealer).generation gates;
+  open_notes = λ p f gates. opening_shows p f.content f.records (f.run).epoch ((f.run).sealer).generation gates;
   opens_shown = λ disk keys most p old new before after refused. RingOpensShown disk keys most p old new before after refused;
   Public = RingPublic;
   public = ring_public;

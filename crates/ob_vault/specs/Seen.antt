@@ -33,8 +33,8 @@ abbrev pub opening_phases : Params → Content → List BatchRecord → (epoch g
 opening_phases p c rs epoch generation gates = open_phases p (public_of_kept p c [] epoch gates) (fills_of p c rs) (gates_open gates) generation (length rs)
 
 -- and its notes
-abbrev pub opening_notes : Params → Content → List BatchRecord → (epoch generation : ℕ) → Gates → List Note
-opening_notes p c rs epoch generation gates = open_notes p (public_of_kept p c [] epoch gates) (fills_of p c rs) (gates_open gates) generation (length rs)
+abbrev pub opening_shows : Params → Content → List BatchRecord → (epoch generation : ℕ) → Gates → List Note
+opening_shows p c rs epoch generation gates = open_notes p (public_of_kept p c [] epoch gates) (fills_of p c rs) (gates_open gates) generation (length rs)
 
 -- Of what was found: the first events of what comes before the repeats; or all of that was made, and the repeats of the first records, by at
 -- most so many lanes.
