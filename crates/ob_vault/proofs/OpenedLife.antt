@@ -98,7 +98,7 @@ module _ (keys : Keys) (p : Params) (word_of : WordId → ℕ) (s : LifeState) (
     then = record {
       obeys = obeys;
       fit = fit;
-      life = moved p word_of f.content f.records begun t (length s.log) on (record { table = life.table; slots = life.slots; book = life.book; kept = life.kept; log = life.log; words = life.words });
+      life = moved p word_of f.content f.records begun t (length s.log) on (record { table = life.table; slots = life.slots; homes = life.homes; book = life.book; kept = life.kept; log = life.log; words = life.words });
       small = subst AreBatchesSmall (sym on.log) small;
       epoch = on.epoch ∙ sym here.epoch ∙ sym same.epoch ∙ sym (found.goes_on).epoch;
       generation = on.generation ∙ ap suc (sym here.generation ∙ sym same.generation) ∙ sym (ap (λ (x : Sealing). x.generation) (found.goes_on).sealer);
