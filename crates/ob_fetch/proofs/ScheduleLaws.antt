@@ -93,7 +93,8 @@ no_store_worn : (A : Type 0) (number : ℕ) → Worn number ≡ StoreFault None 
 no_store_worn A number e = absurd (cc)
 
 -- the record's own writes were cut short
-cut_short : {S : Type 0} (disk : S → Disk) (keys : Keys) (p : Params) (epoch : ℕ) (r : BatchRecord) (made notes : List Note) (old new : S) (x : Result (Unit {0}) Fault) → IfErr x (λ f. f ≡ StoreFault None) → IsCut (append_notes p epoch r.batch) made notes → IsOpenIfShown disk keys p epoch r notes old new x
+cut_short : {S : Type 0} (disk : S → Disk) (keys : Keys) (p : Params) (epoch : ℕ) (r : BatchRecord) (made notes : List Note) (old new : S) (x : Result (Unit {0}) Fault)
+    → IfErr x (λ f. f ≡ StoreFault None) → IsCut (append_notes p epoch r.batch) made notes → IsOpenIfShown disk keys p epoch r notes old new x
 cut_short disk keys p epoch r made notes old new (Ok done) is cut = tt
 cut_short disk keys p epoch r made notes old new (Err Memory) is cut = tt
 cut_short disk keys p epoch r made notes old new (Err Usage) is cut = tt
