@@ -139,7 +139,7 @@ module _ {S : Type 0} (disk : S → Disk) (word_of : WordId → ℕ) (s : LifeSt
     lifts_allowed : IsActAllowed p word_of s ShowLifts
     lifts_allowed = (all_logged, runs.begun ∙ all_logged)
 
-    -- refused before the register's gate was written: the lifts are in flight
+    -- refused before the register's gate was written: the lifts may have been shown
     within_before : (c : Image) → Stands keys p st c → IsLeftWithin disk word_of old new notes s (End ws) c
     within_before c stands = record {
       made = [];
@@ -157,21 +157,22 @@ module _ {S : Type 0} (disk : S → Disk) (word_of : WordId → ℕ) (s : LifeSt
 
     refused_before : LeavesOnly (disk old.store) (disk new.store) (IsLeftWithin disk word_of old new notes s (End ws)) → ((c : Image) → (disk new.store).may_leave c → Stands keys p st c) → IsCallInLife disk word_of old new notes s (End ws) false
     refused_before all images = record {
-      made = [];
-      in_flight = Some ShowLifts;
+      made = ShowLifts ∷ [];
+      in_flight = None;
       law = record {
-        is_life = tt;
+        is_life = (lifts_allowed, tt);
         whole = λ yes. absurd (false≢true yes);
-        part = inr (ShowLifts ∷ the_end ∷ [], refl, inr (ShowLifts, the_end ∷ [], refl, refl));
-        leaves = λ was c left. inl (stands_old c (images c left));
+        part = inr (the_end ∷ [], refl, inl refl);
+        leaves = λ was c left. inl (stands_lifted c (images c left));
       };
-      shown = λ b e. no_append _ b e;
+      shown = λ b e. none_pending _ (Append b) e;
+      shows = inr refl;
       left = λ c left. record {
-        allowed = λ a e. subst (λ (x : LifeAct). IsActAllowed p word_of s x) (same_act ShowLifts a e) lifts_allowed;
-        stands = λ i same. inl (stands_old i (images i (subst (disk new.store).may_leave same left)));
+        allowed = λ a e. none_pending (IsActAllowed p word_of lifted a) a e;
+        stands = λ i same. inl (stands_lifted i (images i (subst (disk new.store).may_leave same left)));
       };
       moments = all;
-      small = (runs.small, λ b e. no_append (IsBatchSmall b) b e);
+      small = (runs.small, λ b e. none_pending (IsBatchSmall b) (Append b) e);
       onward = λ yes. absurd (false≢true yes);
     }
 
@@ -302,6 +303,7 @@ module _ {S : Type 0} (disk : S → Disk) (word_of : WordId → ℕ) (s : LifeSt
           leaves = λ was. leaves_one;
         };
         shown = λ b e. no_append_end _ (map id_write fs) (new.run).drawn (slot_kept then) b e;
+        shows = inr refl;
         left = λ c left. record {
           allowed = λ a e. subst (λ (x : LifeAct). IsActAllowed p word_of lifted x) (same_act the_end a e) end_allowed;
           stands = λ i same. leaves_one i (subst (disk new.store).may_leave same left);
@@ -326,6 +328,7 @@ module _ {S : Type 0} (disk : S → Disk) (word_of : WordId → ℕ) (s : LifeSt
           leaves = λ was c left. inl (stands_then c left);
         };
         shown = λ b e. none_pending _ (Append b) e;
+        shows = inl refl;
         left = λ c left. record {
           allowed = λ a e. none_pending (IsActAllowed p word_of ended a) a e;
           stands = λ i same. inl (stands_then i (subst (disk new.store).may_leave same left));

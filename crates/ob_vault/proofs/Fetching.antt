@@ -42,9 +42,6 @@ same_act a b e = cc
 same_batch : (a b : LifeBatch) → Append a ≡ Append b → a ≡ b
 same_batch a b e = cc
 
-batch_apart : (b : LifeBatch) → ◌≡◌ {A = Option LifeAct} (Some ShowBatch) (Some (Append b)) → ⊥
-batch_apart b e = cc
-
 pub none_pending : (A : Type 0) (a : LifeAct) → ◌≡◌ {A = Option LifeAct} None (Some a) → A
 none_pending A a e = absurd (cc)
 
@@ -180,6 +177,7 @@ module _ {S : Type 0} (disk : S → Disk) (word_of : WordId → ℕ) (s : LifeSt
             leaves = λ was. leaves_one;
           };
           shown = λ x e. written;
+          shows = inr (refl, written.0, written.1);
           left = λ c left. record {
             allowed = λ a e. subst (λ (x : LifeAct). IsActAllowed p word_of s x) (same_act (Append b) a e) (allowed some_left);
             stands = λ i same. leaves_one i (subst (disk new.store).may_leave same left);
@@ -189,7 +187,7 @@ module _ {S : Type 0} (disk : S → Disk) (word_of : WordId → ℕ) (s : LifeSt
           onward = λ yes. absurd (false≢true yes);
         }
 
-      -- the record is open, and its batch in flight
+      -- the record is open, and its batch was shown, or may have been
       module _ (some_left : 0 < (old.run).left) (opened : IsOpenBetween disk keys p (suc (old.run).epoch) r old.store new.store) (all : LeavesOnly (disk old.store) (disk new.store) (OneOf keys p st (with_record st r)))
           (images : (c : Image) → (disk new.store).may_leave c → OneOf keys p st (with_record st r) c) where
         log_at : (c : Image) → (disk new.store).may_leave c → OpenRecords keys p (suc st.epoch) (st.records ++ r ∷ []) c
@@ -219,29 +217,33 @@ module _ {S : Type 0} (disk : S → Disk) (word_of : WordId → ℕ) (s : LifeSt
             (λ (more : Stands keys p (with_record st r) c). more)
             (images c left)
 
-        stands_logged : (c : Image) → (disk new.store).may_leave c → StandsInLife keys p word_of logged c
-        stands_logged c left = stands_more logged c refl refl refl refl (has_record c left)
+        abbrev seen : LifeState
+        seen = life_step p word_of logged ShowBatch
+
+        stands_seen : (c : Image) → (disk new.store).may_leave c → StandsInLife keys p word_of seen c
+        stands_seen c left = stands_more seen c refl refl refl refl (has_record c left)
 
         batch_allowed : IsActAllowed p word_of logged ShowBatch
         batch_allowed = let begun = runs.begun in omega (arith, begun, length-append {A = LifeBatch})
 
-        batch_in_flight : IsCallInLife disk word_of old new notes s (Fetch asks) false
-        batch_in_flight = record {
-          made = Append b ∷ [];
-          in_flight = Some ShowBatch;
+        batch_seen : IsCallInLife disk word_of old new notes s (Fetch asks) false
+        batch_seen = record {
+          made = Append b ∷ ShowBatch ∷ [];
+          in_flight = None;
           law = record {
-            is_life = (allowed some_left, tt);
+            is_life = (allowed some_left, (batch_allowed, tt));
             whole = λ yes. absurd (false≢true yes);
-            part = inr (ShowBatch ∷ [], refl, inr (ShowBatch, [], refl, refl));
-            leaves = λ was c left. inl (stands_logged c left);
+            part = inr ([], refl, inl refl);
+            leaves = λ was c left. inl (stands_seen c left);
           };
-          shown = λ x e. absurd (batch_apart x e);
+          shown = λ x e. none_pending _ (Append x) e;
+          shows = inl refl;
           left = λ c left. record {
-            allowed = λ a e. subst (λ (x : LifeAct). IsActAllowed p word_of logged x) (same_act ShowBatch a e) batch_allowed;
-            stands = λ i same. inl (stands_logged i (subst (disk new.store).may_leave same left));
+            allowed = λ a e. none_pending (IsActAllowed p word_of seen a) a e;
+            stands = λ i same. inl (stands_seen i (subst (disk new.store).may_leave same left));
           };
           moments = within some_left all;
-          small = (small_more, λ x e. absurd (batch_apart x e));
+          small = (small_more, λ x e. none_pending (IsBatchSmall x) (Append x) e);
           onward = λ yes. absurd (false≢true yes);
         }
 
@@ -266,6 +268,7 @@ module _ {S : Type 0} (disk : S → Disk) (word_of : WordId → ℕ) (s : LifeSt
             leaves = λ was c left. inl (stands_then c left);
           };
           shown = λ x e. none_pending _ (Append x) e;
+          shows = inl refl;
           left = λ c left. record {
             allowed = λ a e. none_pending (IsActAllowed p word_of shown a) a e;
             stands = λ i same. inl (stands_then i (subst (disk new.store).may_leave same left));
@@ -301,8 +304,11 @@ module _ {S : Type 0} (disk : S → Disk) (word_of : WordId → ℕ) (s : LifeSt
     };
   }
 
-  idle_called : ((c : Image) → (disk old.store).left_since (disk old.store).moment c → (disk old.store).may_leave c) → new.store ≡ old.store → IsCallInLife disk word_of old new notes s (Fetch asks) false
-  idle_called only same =
+  nothing_shown : notes ≡ [] → IsCut (append_notes p (suc (old.run).epoch) (next_batch old.run)) [] notes
+  nothing_shown none = record { count = 0; few = omega arith; made_are = refl; shown_are = inl none }
+
+  idle_called : ((c : Image) → (disk old.store).left_since (disk old.store).moment c → (disk old.store).may_leave c) → new.store ≡ old.store → notes ≡ [] → IsCallInLife disk word_of old new notes s (Fetch asks) false
+  idle_called only same none =
       let stays = λ (c : Image) (left : (disk new.store).may_leave c).
       stands_old c (settled_stands old.run keys p st (disk old.store) c runs.at refl refl (subst (λ (x : S). (disk x).may_leave c) same left)) in
       record {
@@ -310,6 +316,7 @@ module _ {S : Type 0} (disk : S → Disk) (word_of : WordId → ℕ) (s : LifeSt
         in_flight = None;
         law = record { is_life = tt; whole = λ yes. absurd (false≢true yes); part = inl (refl, refl); leaves = λ was c left. inl (stays c left) };
         shown = λ x e. none_pending _ (Append x) e;
+        shows = inr (refl, [], nothing_shown none);
         left = λ c left. record { allowed = λ a e. none_pending (IsActAllowed p word_of s a) a e; stands = λ i is. inl (stays i (subst (disk new.store).may_leave is left)) };
         moments = subst (λ (x : S). LeavesOnly (disk old.store) (disk x) (IsLeftWithin disk word_of old new notes s (Fetch asks))) (sym same)
             (started (disk old.store) (IsLeftWithin disk word_of old new notes s (Fetch asks))
@@ -344,9 +351,9 @@ module _ {S : Type 0} (disk : S → Disk) (word_of : WordId → ℕ) (s : LifeSt
         let images = images_then (Err (fault.StoreFault unsure)) is in
         ⊎_elim
         (λ (written : (done : List Note) × IsCut (append_notes p (suc (old.run).epoch) (next_batch old.run)) done notes). in_flight (is.run).was_drawn is.whole is.draws few is.some_left written (is.images st runs.at) images)
-        (λ (opened : IsOpenBetween disk keys p (suc (old.run).epoch) r old.store new.store). batch_in_flight (is.run).was_drawn is.whole is.draws few is.some_left opened (is.images st runs.at) images)
+        (λ (opened : IsOpenBetween disk keys p (suc (old.run).epoch) r old.store new.store). batch_seen (is.run).was_drawn is.whole is.draws few is.some_left opened (is.images st runs.at) images)
         is.shown
     fetch_err (fault.StashFull rows) is = absurd is.refusal
-    fetch_err (fault.Worn number) is = idle_called only_now (is.idle tt)
+    fetch_err (fault.Worn number) is = idle_called only_now (is.idle tt) is.shown
     fetch_err fault.SourceFault is = absurd is.refusal
     fetch_err fault.SinkFault is = absurd is.refusal

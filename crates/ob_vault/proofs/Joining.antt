@@ -60,17 +60,19 @@ module _ {S : Type 0} (disk : S → Disk) (keys : Keys) (p : Params) (word_of : 
   join : (s : LifeState) (part : RunPart S) (parts : List (RunPart S)) (first : List LifeAct) → IsLife p word_of s first → IsPart disk keys p word_of s part first → AreOfLife (reached p word_of s first) parts → AreOfLife s (part ∷ parts)
   join s part parts first life is later = record { acts = first ++ later.acts; is_life = life_goes_on p word_of s first later.acts life later.is_life; parts_are = (first, later.acts, refl, is, later.parts_are) }
 
-  -- where the next one begins, the acts are those and some more; behind the last one, no more
-  record Ahead (s : LifeState) (acts : List LifeAct) (parts : List (RunPart S)) : Type 0 where
+  -- where the next one begins, the acts are those, those that were made of a refused call, and some more; behind the last one, no more
+  record Ahead (s : LifeState) (acts made : List LifeAct) (parts : List (RunPart S)) : Type 0 where
     more : List LifeAct
+    rest : List LifeAct
+    begins : more ≡ made ++ rest
     is_life : IsLife p word_of s (acts ++ more)
     here : Here (reached p word_of s (acts ++ more)) parts
 
-  ahead : (s : LifeState) (acts : List LifeAct) (may_leave : Image → Type 0) → IsLife p word_of s acts → ((c : Image) → may_leave c → IsNextInLife keys p word_of s acts c) → (parts : List (RunPart S)) → AreRunsFrom disk keys p may_leave parts → Ahead s acts parts
-  ahead s acts may_leave life next [] from = record { more = []; is_life = subst (λ (l : List LifeAct). IsLife p word_of s l) (sym (append-nil acts)) life; here = tt }
-  ahead s acts may_leave life next (part ∷ parts) from =
-      let n : IsNextInLife keys p word_of s acts (disk (begun_at part)).cells = next (disk (begun_at part)).cells from.0 in
-      record { more = n.more; is_life = n.is_life; here = (n.stands, n.small) }
+  ahead : (s : LifeState) (acts made : List LifeAct) (may_leave : Image → Type 0) → IsLife p word_of s (acts ++ made) → ((c : Image) → may_leave c → IsNextInLife keys p word_of s acts made c) → (parts : List (RunPart S)) → AreRunsFrom disk keys p may_leave parts → Ahead s acts made parts
+  ahead s acts made may_leave life next [] from = record { more = made; rest = []; begins = sym (append-nil made); is_life = life; here = tt }
+  ahead s acts made may_leave life next (part ∷ parts) from =
+      let n : IsNextInLife keys p word_of s acts made (disk (begun_at part)).cells = next (disk (begun_at part)).cells from.0 in
+      record { more = n.more; rest = n.rest; begins = n.begins; is_life = n.is_life; here = (n.stands, n.small) }
 
   -- behind an opening that was refused
   stopped_next : (s : LifeState) (new : Disk) → IsStoppedInLife keys p word_of s new → AreBatchesSmall s.log → (c : Image) → new.may_leave c → (first : List LifeAct) × IsLife p word_of s first × StandsInLife keys p word_of (reached p word_of s first) c
@@ -103,12 +105,16 @@ module _ {S : Type 0} (disk : S → Disk) (keys : Keys) (p : Params) (word_of : 
 
   runs : (parts : List (RunPart S)) (s : LifeState) (may_leave : Image → Type 0) → Here s parts → AreRunsFrom disk keys p may_leave parts → AreGiven word_of parts → AreOfLife s parts
   runs [] s may_leave here from given = record { acts = []; is_life = tt; parts_are = refl }
-  runs (Served old found opened calls steps behind refused words new ∷ parts) s may_leave here from given =
+  runs (Served most old found opened calls steps behind refused words seen new ∷ parts) s may_leave here from given =
       let (begins, goes_on, (m, is_map)) = from.1 in
-      let run : IsRunInLife keys p word_of s found (disk opened) calls steps behind refused words (disk new) =
-      whole_run keys p (disk old).cells found (disk opened) (disk new) calls steps behind refused words begins goes_on word_of s here.0 here.1 given.0 in
-      let a : Ahead s (opening_acts s ++ (run.goes).acts) parts = ahead s (opening_acts s ++ (run.goes).acts) (disk new).may_leave run.is_life (λ c left. run.next m is_map c left) parts from.2 in
-      join s (Served old found opened calls steps behind refused words new) parts ((opening_acts s ++ (run.goes).acts) ++ a.more) a.is_life (run, a.more, refl)
+      let run : IsRunInLife keys most p word_of s found (disk opened) calls steps behind refused words seen (disk new) =
+      whole_run keys most p (disk old).cells found (disk opened) (disk new) calls steps behind refused words seen begins goes_on word_of s here.0 here.1 given.0 in
+      let left = (run.goes).left m is_map in
+      let with_made : IsLife p word_of s ((opening_acts s ++ (run.goes).acts) ++ left.made) =
+      life_goes_on p word_of s (opening_acts s ++ (run.goes).acts) left.made run.is_life (subst (λ (t : LifeState). IsLife p word_of t left.made) (sym run.leads) left.is_life) in
+      let a : Ahead s (opening_acts s ++ (run.goes).acts) left.made parts = ahead s (opening_acts s ++ (run.goes).acts) left.made (disk new).may_leave with_made (λ c will. run.next m is_map c will) parts from.2 in
+      join s (Served most old found opened calls steps behind refused words seen new) parts ((opening_acts s ++ (run.goes).acts) ++ a.more) a.is_life
+      (run, m, is_map, a.rest, ap (λ (l : List LifeAct). (opening_acts s ++ (run.goes).acts) ++ l) a.begins)
       (runs parts (reached p word_of s ((opening_acts s ++ (run.goes).acts) ++ a.more)) (disk new).may_leave a.here from.2 given.1)
   runs (Stopped old new ∷ []) s may_leave here from given = join s (Stopped old new) [] [] tt (opening_acts s, refl) (runs [] s (disk new).may_leave tt tt tt)
   runs (Stopped old new ∷ part ∷ parts) s may_leave here from given =

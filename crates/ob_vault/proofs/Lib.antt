@@ -33,6 +33,7 @@ pub mod DrawnChains
 pub mod OpenedLife
 pub mod Stopping
 pub mod Cutting
+pub mod Barely
 pub mod Leaving
 pub mod Whole
 pub mod Joining

@@ -1,6 +1,7 @@
 -- A whole run is a part of a life.
 use Rattle.std.specs.Prelude.{◌≡◌, ℕ, List, [], ◌∷◌, ◌++◌, Option, Some}
-use Rattle.std.proofs.Common.{refl, sym, subst, ◌∙◌, ⊎_elim}
+use Rattle.std.proofs.Common.{refl, sym, ap, subst, ◌∙◌, ⊎_elim}
+use Rattle.std.proofs.lemmas.List.{append-nil}
 use Rattle.ob_base.proofs.Repeats.{has_push}
 use Rattle.ob_base.specs.Repeats.{Has}
 use Rattle.ob_base.specs.declared.params.Params.{Params}
@@ -15,6 +16,7 @@ use Rattle.ob_schedule.specs.Schedule.{Fills}
 use Rattle.ob_seal.specs.declared.keys.Keys.{Keys}
 use Rattle.ob_serial.specs.Vaults.{VaultCall}
 use Rattle.ob_store.specs.Disk.{Disk, Image}
+use Rattle.ob_store.specs.declared.event.Event.{Event}
 use Rattle.ob_opening.specs.OpeningActs.{IsLeftAt, StandsInLife}
 use Rattle.ob_vault.specs.Lives.{GoesOnInLife, IsLeftInLife, IsNextInLife, IsOpenedInLife, IsRunInLife, RingBegins, RingGoesOn, opening_acts}
 
@@ -31,34 +33,37 @@ small_step p word_of t ShowLifts small own = small
 small_step p word_of t (End ws drawn slot) small own = λ b none. absurd none
 
 module _ (keys : Keys) (p : Params) (word_of : WordId → ℕ) (s : LifeState) (acts : List LifeAct) (life : IsLife p word_of s acts) where
-  -- behind these acts and some more
-  pub behind_more : (more : List LifeAct) (c : Image) → IsLife p word_of (reached p word_of s acts) more → StandsInLife keys p word_of (reached p word_of (reached p word_of s acts) more) c
-      → AreBatchesSmall (reached p word_of (reached p word_of s acts) more).log → IsNextInLife keys p word_of s acts c
-  behind_more more c on stands small = record {
-    more = more;
-    is_life = life_goes_on p word_of s acts more life on;
-    stands = subst (λ (t : LifeState). StandsInLife keys p word_of t c) (sym (reached_join p word_of s acts more)) stands;
-    small = subst (λ (t : LifeState). AreBatchesSmall t.log) (sym (reached_join p word_of s acts more)) small;
-  }
+  module _ (t : LifeState) (leads : reached p word_of s acts ≡ t) where
+    -- behind these acts and some more
+    behind_more : (made rest more : List LifeAct) (c : Image) → more ≡ made ++ rest → IsLife p word_of t more → StandsInLife keys p word_of (reached p word_of t more) c → AreBatchesSmall (reached p word_of t more).log → IsNextInLife keys p word_of s acts made c
+    behind_more made rest more c is on stands small =
+        let there : reached p word_of s (acts ++ more) ≡ reached p word_of t more = reached_join p word_of s acts more ∙ ap (λ (u : LifeState). reached p word_of u more) leads in
+        record {
+          more = more;
+          rest = rest;
+          begins = is;
+          is_life = life_goes_on p word_of s acts more life (subst (λ (u : LifeState). IsLife p word_of u more) (sym leads) on);
+          stands = subst (λ (u : LifeState). StandsInLife keys p word_of u c) (sym there) stands;
+          small = subst (λ (u : LifeState). AreBatchesSmall u.log) (sym there) small;
+        }
 
-  pub next_of : (refused : Option VaultCall) (new : Disk) (l : IsLeftInLife keys p word_of (reached p word_of s acts) refused new) (c : Image) → new.may_leave c → IsNextInLife keys p word_of s acts c
-  next_of refused new l c left =
-      let t : LifeState = reached p word_of s acts in
-      let at : IsLeftAt keys p word_of (reached p word_of t l.made) l.in_flight c = l.images c left in
-      ⊎_elim
-      (λ (stands : StandsInLife keys p word_of (reached p word_of t l.made) c). behind_more l.made c l.is_life stands (l.small).0)
-      (λ (one : (a : LifeAct) × (l.in_flight ≡ Some a) × StandsInLife keys p word_of (life_step p word_of (reached p word_of t l.made) a) c).
-      behind_more (l.made ++ one.0 ∷ []) c (life_goes_on p word_of t l.made (one.0 ∷ []) l.is_life (at.allowed one.0 one.1, tt))
-      (subst (λ (u : LifeState). StandsInLife keys p word_of u c) (sym (reached_join p word_of t l.made (one.0 ∷ []))) one.2)
-      (subst (λ (u : LifeState). AreBatchesSmall u.log) (sym (reached_join p word_of t l.made (one.0 ∷ []))) (small_step p word_of (reached p word_of t l.made) one.0 (l.small).0 (λ b e. (l.small).1 b (one.1 ∙ e)))))
-      (at.stands c refl)
+    pub next_of : (most : ℕ) (behind : RingHidden) (refused : Option VaultCall) (words : List ℕ) (seen : List Event) (new : Disk) (l : IsLeftInLife keys most p word_of t behind refused words seen new) (c : Image) → new.may_leave c → IsNextInLife keys p word_of s acts l.made c
+    next_of most behind refused words seen new l c left =
+        let at : IsLeftAt keys p word_of (reached p word_of t l.made) l.in_flight c = l.images c left in
+        ⊎_elim
+        (λ (stands : StandsInLife keys p word_of (reached p word_of t l.made) c). behind_more l.made [] l.made c (sym (append-nil l.made)) l.is_life stands (l.small).0)
+        (λ (one : (a : LifeAct) × (l.in_flight ≡ Some a) × StandsInLife keys p word_of (life_step p word_of (reached p word_of t l.made) a) c).
+        behind_more l.made (one.0 ∷ []) (l.made ++ one.0 ∷ []) c refl (life_goes_on p word_of t l.made (one.0 ∷ []) l.is_life (at.allowed one.0 one.1, tt))
+        (subst (λ (u : LifeState). StandsInLife keys p word_of u c) (sym (reached_join p word_of t l.made (one.0 ∷ []))) one.2)
+        (subst (λ (u : LifeState). AreBatchesSmall u.log) (sym (reached_join p word_of t l.made (one.0 ∷ []))) (small_step p word_of (reached p word_of t l.made) one.0 (l.small).0 (λ b e. (l.small).1 b (one.1 ∙ e)))))
+        (at.stands c refl)
 
-pub whole_run : (keys : Keys) (p : Params) (image : Image) (f : RingFound) (opened new : Disk) (calls : List VaultCall) (steps : List (Shape × Fills)) (behind : RingHidden) (refused : Option VaultCall) (words : List ℕ)
-    → RingBegins keys p image f → RingGoesOn keys p f opened calls steps behind refused words new → (word_of : WordId → ℕ) (s : LifeState) → StandsInLife keys p word_of s image → AreBatchesSmall s.log → AreTapeWords word_of (ring_hidden f).generation words
-    → IsRunInLife keys p word_of s f opened calls steps behind refused words new
-whole_run keys p image f opened new calls steps behind refused words begins goes_on word_of s here small tape =
+pub whole_run : (keys : Keys) (most : ℕ) (p : Params) (image : Image) (f : RingFound) (opened new : Disk) (calls : List VaultCall) (steps : List (Shape × Fills)) (behind : RingHidden) (refused : Option VaultCall) (words : List ℕ) (seen : List Event)
+    → RingBegins keys p image f → RingGoesOn keys most p f opened calls steps behind refused words seen new → (word_of : WordId → ℕ) (s : LifeState) → StandsInLife keys p word_of s image → AreBatchesSmall s.log → AreTapeWords word_of (ring_hidden f).generation words
+    → IsRunInLife keys most p word_of s f opened calls steps behind refused words seen new
+whole_run keys most p image f opened new calls steps behind refused words seen begins goes_on word_of s here small tape =
     let o : IsOpenedInLife p word_of f s = begins word_of s here small in
-    let g : GoesOnInLife keys p word_of (reached p word_of s (opening_acts s)) f opened calls steps behind refused words new = goes_on word_of (reached p word_of s (opening_acts s)) o.then tape in
+    let g : GoesOnInLife keys most p word_of (reached p word_of s (opening_acts s)) f opened calls steps behind refused words seen new = goes_on word_of (reached p word_of s (opening_acts s)) o.then tape in
     let whole : IsLife p word_of s (opening_acts s ++ g.acts) = life_goes_on p word_of s (opening_acts s) g.acts o.is_life g.is_life in
     record {
       goes = g;
@@ -66,6 +71,5 @@ whole_run keys p image f opened new calls steps behind refused words begins goes
       leads = reached_join p word_of s (opening_acts s) g.acts;
       fresh = λ slot before some ranked life at. lives_are_fresh p word_of slot (before ++ (opening_acts s ++ g.acts)) some ranked
           (life_goes_on p word_of (formatted_life slot) before (opening_acts s ++ g.acts) life (subst (λ (t : LifeState). IsLife p word_of t (opening_acts s ++ g.acts)) (sym at) whole));
-      next = λ m is c left. next_of keys p word_of s (opening_acts s ++ g.acts) whole refused new
-          (subst (λ (t : LifeState). IsLeftInLife keys p word_of t refused new) (sym (reached_join p word_of s (opening_acts s) g.acts)) (g.left m is)) c left;
+      next = λ m is c left. next_of keys p word_of s (opening_acts s ++ g.acts) whole (reached p word_of (reached p word_of s (opening_acts s)) g.acts) (reached_join p word_of s (opening_acts s) g.acts) most behind refused words seen new (g.left m is) c left;
     }

@@ -6,7 +6,7 @@ use Rattle.ob_base.specs.declared.value.Write.{Write}
 use Rattle.ob_fetch.specs.declared.run.Run.{Run}
 use Rattle.ob_fetch.specs.Fetches.{RunIsAt, next_batch}
 use Rattle.ob_recover.specs.Calls.{CallLaw, Ended as EndOf, Fetched, LifeCall, acts_of, repeated}
-use Rattle.ob_recover.specs.Life.{Append, IsLife, LifeAct, LifeBatch, LifeState, Open, WordId, life_step, reached}
+use Rattle.ob_recover.specs.Life.{Append, IsLife, LifeAct, LifeBatch, LifeState, Open, ShowLifts, WordId, life_step, reached}
 use Rattle.ob_log.specs.Appends.{append_notes}
 use Rattle.ob_recover.specs.Repeats.{content_of_ring}
 use Rattle.ob_ring.specs.Writing.{entry_of}
@@ -74,6 +74,13 @@ module _ {S : Type 0} (disk : S → Disk) (word_of : WordId → ℕ) (old new : 
   life_call (Fetch asks) = Fetched (life_batch (record_of_fetch disk old new notes asks))
   life_call (End writes) = EndOf (map id_write (writes_of_end disk old new notes (map write_from writes))) (new.run).drawn (slot_kept (content_of_ring (new.run).ring))
 
+  -- All that it showed with a hole is shown by the acts that were made: all of a fetch's, or an end's lifts. Or none was made of a fetch, and no
+  -- more was shown than the first of its record's own notes.
+  abbrev pub IsShownBy : VaultCall → (made : List LifeAct) → Type 0
+  IsShownBy (Fetch asks) made = (made ≡ acts_of (life_call (Fetch asks)))
+      ⊎ ((made ≡ []) × (done : List Note) × IsCut (append_notes (old.run).params (suc (old.run).epoch) (next_batch old.run)) done notes)
+  IsShownBy (End writes) made = (made ≡ acts_of (life_call (End writes))) ⊎ (made ≡ ShowLifts ∷ [])
+
   -- the image is one that an opening can go on from: the first acts of the call were made, and the next may be in flight
   pub record IsLeftWithin (s : LifeState) (call : VaultCall) (image : Image) : Type 0 where
     pub made : List LifeAct
@@ -86,13 +93,14 @@ module _ {S : Type 0} (disk : S → Disk) (word_of : WordId → ℕ) (old new : 
     pub left : IsLeftAt ((old.run).sealer).keys (old.run).params word_of (reached (old.run).params word_of s made) pending image
 
   -- It makes the acts of its call, where it was answered; else the first of them, and the next may be in flight: where that is a record,
-  -- no more was shown than its own writes. An opening goes on from what it leaves, and from what a crash at any moment of it leaves;
+  -- no more was shown than its own writes. What it showed these acts show. An opening goes on from what it leaves, and from what a crash at any moment of it leaves;
   -- and behind a call that was answered the run is where the life is.
   pub record IsCallInLife (s : LifeState) (call : VaultCall) (answered : Bool) : Type 0 where
     pub made : List LifeAct
     pub in_flight : Option LifeAct
     pub law : CallLaw (old.run).params word_of (StandsInLife ((old.run).sealer).keys (old.run).params word_of) s None (life_call call) answered made in_flight (disk old.store).may_leave (disk new.store).may_leave
     pub shown : (b : LifeBatch) → in_flight ≡ Some (Append b) → (done : List Note) × IsCut (append_notes (old.run).params (suc (old.run).epoch) (next_batch old.run)) done notes
+    pub shows : IsShownBy call made
     pub left : (c : Image) → (disk new.store).may_leave c → IsLeftAt ((old.run).sealer).keys (old.run).params word_of (reached (old.run).params word_of s made) in_flight c
     pub moments : LeavesOnly (disk old.store) (disk new.store) (IsLeftWithin s call)
     pub small : AreBatchesSmall (reached (old.run).params word_of s made).log × ((b : LifeBatch) → in_flight ≡ Some (Append b) → IsBatchSmall b)

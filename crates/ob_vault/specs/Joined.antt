@@ -14,36 +14,37 @@ use Rattle.ob_serial.specs.Vaults.{VaultCall}
 use Rattle.ob_stand.specs.Fresh.{fresh_content}
 use Rattle.ob_store.specs.Disk.{Disk, Image}
 use Rattle.ob_store.specs.Images.{IsSynced}
+use Rattle.ob_store.specs.declared.event.Event.{Event}
 use Rattle.ob_opening.specs.Formats.{drawn_ranks}
 use Rattle.ob_opening.specs.OpeningActs.{AreSlotsIn}
 use Rattle.ob_vault.specs.Lives.{IsRunInLife, RingBegins, RingFormatted, RingGoesOn, RingStops, opening_acts}
 
--- A run: over this store it found that; the store was opened, calls drew this and hid that, one more may have been refused, and the tape
--- gave these words; it left this store. Or its opening was refused.
+-- A run by so many lanes at most: over this store it found that; the store was opened, calls drew this and hid that, one more may have been
+-- refused, and the tape gave these words, and this was seen of the refused one; it left this store. Or its opening was refused.
 pub data RunPart (S : Type 0) : Type 0 where
-  Served : (old : S) (found : RingFound) (opened : S) (calls : List VaultCall) (steps : List (Shape × Fills)) (behind : RingHidden) (refused : Option VaultCall) (words : List ℕ) (new : S) → RunPart S
+  Served : (most : ℕ) (old : S) (found : RingFound) (opened : S) (calls : List VaultCall) (steps : List (Shape × Fills)) (behind : RingHidden) (refused : Option VaultCall) (words : List ℕ) (seen : List Event) (new : S) → RunPart S
   Stopped : (old new : S) → RunPart S
 
 -- the store as the run found it, and as it left it
 abbrev pub begun_at : {S : Type 0} → RunPart S → S
-begun_at (Served old found opened calls steps behind refused words new) = old
+begun_at (Served most old found opened calls steps behind refused words seen new) = old
 begun_at (Stopped old new) = old
 
 abbrev pub left_at : {S : Type 0} → RunPart S → S
-left_at (Served old found opened calls steps behind refused words new) = new
+left_at (Served most old found opened calls steps behind refused words seen new) = new
 left_at (Stopped old new) = new
 
 -- the tape of each run gave the words of the generation that it began
 abbrev pub AreGiven : {S : Type 0} → (WordId → ℕ) → List (RunPart S) → Type 0
 AreGiven word_of [] = Unit {0}
-AreGiven word_of (Served old found opened calls steps behind refused words new ∷ parts) = AreTapeWords word_of (ring_hidden found).generation words × AreGiven word_of parts
+AreGiven word_of (Served most old found opened calls steps behind refused words seen new ∷ parts) = AreTapeWords word_of (ring_hidden found).generation words × AreGiven word_of parts
 AreGiven word_of (Stopped old new ∷ parts) = AreGiven word_of parts
 
 module _ {S : Type 0} (disk : S → Disk) (keys : Keys) (p : Params) where
   -- what `run` says of each: where it found a map; or, of a store for which no write waited, where its opening was refused
   abbrev pub IsRunTold : RunPart S → Type 0
-  IsRunTold (Served old found opened calls steps behind refused words new) =
-      RingBegins keys p (disk old).cells found × RingGoesOn keys p found (disk opened) calls steps behind refused words (disk new) × ((m : Map nat_cmp) × IsRingMap keys p (disk opened) found m)
+  IsRunTold (Served most old found opened calls steps behind refused words seen new) =
+      RingBegins keys p (disk old).cells found × RingGoesOn keys most p found (disk opened) calls steps behind refused words seen (disk new) × ((m : Map nat_cmp) × IsRingMap keys p (disk opened) found m)
   IsRunTold (Stopped old new) = IsSynced (disk old) × RingStops keys p (disk old) (disk new)
 
   -- Each is told so, and begins at an image that a crash might have left: the first at one of these, each later one at one of the run
@@ -53,11 +54,11 @@ module _ {S : Type 0} (disk : S → Disk) (keys : Keys) (p : Params) where
   AreRunsFrom may_leave (part ∷ parts) = may_leave (disk (begun_at part)).cells × IsRunTold part × AreRunsFrom (disk (left_at part)).may_leave parts
 
   module _ (word_of : WordId → ℕ) where
-    -- The acts of a run: the opening's, those of its calls, which show what fills its holes, and what the next one found of a call that was
-    -- refused. Or the first acts of an opening.
+    -- The acts of a run: the opening's, those of its calls, which show what fills its holes, those that were made of a call that was refused,
+    -- which show what that showed, and what the next run found of it besides. Or the first acts of an opening.
     abbrev pub IsPart : LifeState → RunPart S → List LifeAct → Type 0
-    IsPart s (Served old found opened calls steps behind refused words new) acts = (run : IsRunInLife keys p word_of s found (disk opened) calls steps behind refused words (disk new))
-        × (more : List LifeAct) × (acts ≡ (opening_acts s ++ run.goes.acts) ++ more)
+    IsPart s (Served most old found opened calls steps behind refused words seen new) acts = (run : IsRunInLife keys most p word_of s found (disk opened) calls steps behind refused words seen (disk new))
+        × (m : Map nat_cmp) × (is : IsRingMap keys p (disk opened) found m) × (rest : List LifeAct) × (acts ≡ (opening_acts s ++ run.goes.acts) ++ ((run.goes.left m is).made ++ rest))
     IsPart s (Stopped old new) acts = (rest : List LifeAct) × (opening_acts s ≡ acts ++ rest)
 
     -- the runs' acts, one behind the other

@@ -3,6 +3,7 @@ use Rattle.std.specs.Prelude.{ℕ, List, Option}
 use Rattle.ob_base.specs.declared.params.Params.{Params}
 use Rattle.ob_seal.specs.declared.keys.Keys.{Keys}
 use Rattle.ob_store.specs.Disk.{Disk, Image}
+use Rattle.ob_store.specs.declared.event.Event.{Event}
 use Rattle.ob_serial.specs.Vaults.{VaultCall}
 use Rattle.ob_vault.specs.Shapes.{Shape}
 use Rattle.ob_vault.specs.Kinds.{StoreKind}
@@ -14,6 +15,6 @@ pub record LifeWords (store : StoreKind) : Type 1 where
   pub begins : Keys → Params → Image → store.Found → Type 0
   -- One that was refused made some of those acts, and left the store so.
   pub stops : Keys → Params → (old new : Disk) → Type 0
-  -- And from what was found on, over the store as it was opened, with these calls, which drew this and hid that, and with one more, where
-  -- that was refused; a tape has given these words, and the store was left so.
-  pub goes_on : Keys → Params → store.Found → (opened : Disk) → List VaultCall → List (Shape × store.Drawn) → (behind : store.Hidden) → Option VaultCall → (words : List ℕ) → (new : Disk) → Type 0
+  -- And from what was found on, over the store as it was opened, by so many lanes at most, with these calls, which drew this and hid that,
+  -- and with one more, where that was refused, of which this was seen; a tape has given these words, and the store was left so.
+  pub goes_on : Keys → (most : ℕ) → Params → store.Found → (opened : Disk) → List VaultCall → List (Shape × store.Drawn) → (behind : store.Hidden) → Option VaultCall → (words : List ℕ) → (seen : List Event) → (new : Disk) → Type 0

@@ -1,9 +1,10 @@
 -- The runs of a ring store, as parts of one life of it.
-use Rattle.std.specs.Prelude.{◌≡◌, ◌⊎◌, ℕ, suc, ◌+◌, ◌<◌, Bool, List, [], ◌∷◌, ◌++◌, map, length, Option, Some, None}
+use Rattle.std.specs.Prelude.{◌≡◌, ◌⊎◌, ℕ, suc, ◌+◌, ◌%◌, ◌<◌, Bool, List, [], ◌∷◌, ◌++◌, map, length, Option, Some, None}
 use Rattle.std.specs.List.{flat_map}
 use Rattle.std.specs.Ordering.{nat_cmp}
 use Rattle.ob_base.specs.Repeats.{Has}
 use Rattle.ob_base.specs.Tree.{below}
+use Rattle.ob_base.specs.declared.fault.Fault.{Fault}
 use Rattle.ob_base.specs.declared.params.Params.{Params}
 use Rattle.ob_tables.specs.Rank.{IsRanking}
 use Rattle.ob_vault.specs.KindLives.{LifeWords}
@@ -12,14 +13,15 @@ use Rattle.ob_vault.specs.KindShown.{AreDrawn}
 use Rattle.ob_recover.specs.Calls.{repeated}
 use Rattle.ob_recover.specs.Life.{Append, End as EndAct, HolesAreFresh, IsLife, LifeAct, LifeBatch, LifeState, Open, ShowBatch, ShowLifts, SlotFill, WordId, formatted_life, leaf_of_word, life_labels, life_slots, reached}
 use Rattle.ob_vault.specs.Acts.{AreBatchesSmall, AreTapeWords, IsBatchSmall}
-use Rattle.ob_vault.specs.Hidden.{RingDrawsCut, RingHidden}
+use Rattle.ob_vault.specs.Hidden.{AreFirst, RingCut, RingCutShown, RingDrawsCut, RingHidden}
 use Rattle.ob_vault.specs.RingLaws.{ReadsHead}
 use Rattle.ob_vault.specs.RingKind.{IsRingFound, IsRingMap, RingFound, ring_hidden, ring_kind}
 use Rattle.ob_vault.specs.RingSteps.{HasRingWords, RingAt}
 use Rattle.ob_vault.specs.Seen.{RingPublic}
 use Rattle.ob_recover.specs.Known.{fills_of}
 use Rattle.ob_vault.specs.RingVaults.{Running}
-use Rattle.ob_schedule.specs.Schedule.{Fills, batch_leaves}
+use Rattle.ob_schedule.specs.Phases.{phases_of}
+use Rattle.ob_schedule.specs.Schedule.{Fills, batch_leaves, record_notes}
 use Rattle.ob_seal.specs.declared.keys.Keys.{Keys}
 use Rattle.ob_serial.specs.Serial.{Map}
 use Rattle.ob_serial.specs.VaultKinds.{Called, Kind}
@@ -27,6 +29,7 @@ use Rattle.ob_serial.specs.Vaults.{End, Fetch, VaultAnswer, VaultCall}
 use Rattle.ob_stand.specs.Fresh.{fresh_content}
 use Rattle.ob_store.specs.Disk.{Disk, Image}
 use Rattle.ob_store.specs.Lines.{Trace}
+use Rattle.ob_store.specs.declared.event.Event.{Event}
 use Rattle.ob_opening.specs.Formats.{drawn_ranks, format_words}
 use Rattle.ob_opening.specs.OpeningActs.{AreSlotsIn, IsLeftAt, OpensInLife, StandsInLife}
 use Rattle.ob_vault.specs.Shown.{AreFilledBy, AreShownBy, IsInLife}
@@ -88,23 +91,35 @@ abbrev pub AreFirstActs : Option VaultCall → (made : List LifeAct) → (in_fli
 AreFirstActs None made in_flight = (made ≡ []) × (in_flight ≡ None)
 AreFirstActs (Some call) made in_flight = (rest : List LifeAct) × AreActsOf call (made ++ rest) × ((in_flight ≡ None) ⊎ ((a : LifeAct) × (more : List LifeAct) × (in_flight ≡ Some a) × (rest ≡ a ∷ more)))
 
+-- the acts in which a call that was refused shows: a batch with these keys once its record is in the log, or the lifts
+abbrev pub AreShowing : VaultCall → List LifeAct → Type 0
+AreShowing (Fetch asks) acts = (b : LifeBatch) × (b.asks ≡ asks) × (acts ≡ Append b ∷ ShowBatch ∷ [])
+AreShowing (End writes) acts = acts ≡ ShowLifts ∷ []
+
+-- it is a batch of which no more was seen than the first steps of its record
+abbrev pub IsBarelySeen : (most : ℕ) → Params → LifeState → VaultCall → (seen : List Event) → Type 0
+IsBarelySeen most p s (Fetch asks) seen = AreFirst most (phases_of (record_notes p ((s.epoch + 1) % 2) (length s.log))) seen
+IsBarelySeen most p s (End writes) seen = ⊥
+
+-- What this call shows was made, and the acts fill its holes as it draws them from what is hidden; or none was made, and it was barely seen.
+abbrev pub IsShownInLife : (most : ℕ) → (p : Params) → (word_of : WordId → ℕ) → LifeState → RingHidden → VaultCall → (words : List ℕ) → (seen : List Event) → (made : List LifeAct) → Type 0
+IsShownInLife most p word_of s h call words seen made = ((AreActsOf call made ⊎ AreShowing call made) × ((f : Fills) → RingDrawsCut p h call f words → AreFilledBy p word_of s made call f))
+    ⊎ ((made ≡ []) × IsBarelySeen most p s call seen)
+
 -- An opening can go on from each image that a crash then leaves: the life is behind the acts that were made, or behind the one in flight too.
-pub record IsLeftInLife (keys : Keys) (p : Params) (word_of : WordId → ℕ) (s : LifeState) (refused : Option VaultCall) (new : Disk) : Type 0 where
+-- What was seen of a call that was refused, from what is hidden, is what the acts show that were made.
+pub record IsLeftInLife (keys : Keys) (most : ℕ) (p : Params) (word_of : WordId → ℕ) (s : LifeState) (behind : RingHidden) (refused : Option VaultCall) (words : List ℕ) (seen : List Event) (new : Disk) : Type 0 where
   pub made : List LifeAct
   pub in_flight : Option LifeAct
   pub first : AreFirstActs refused made in_flight
+  pub shown : (call : VaultCall) → refused ≡ Some call → IsShownInLife most p word_of s behind call words seen made
   pub is_life : IsLife p word_of s made
   pub images : (c : Image) → new.may_leave c → IsLeftAt keys p word_of (reached p word_of s made) in_flight c
   pub small : AreBatchesSmall (reached p word_of s made).log × ((b : LifeBatch) → in_flight ≡ Some (Append b) → IsBatchSmall b)
 
 -- ---- a call that was refused
 
--- the acts in which it would show: a batch with these keys once its record is in the log, or the lifts
-abbrev pub AreShowing : VaultCall → List LifeAct → Type 0
-AreShowing (Fetch asks) acts = (b : LifeBatch) × (b.asks ≡ asks) × (acts ≡ Append b ∷ ShowBatch ∷ [])
-AreShowing (End writes) acts = acts ≡ ShowLifts ∷ []
-
--- The life may go on with them, and these fill the call's holes as they show them.
+-- The life may go on with the acts in which it would show, and these fill the call's holes as they show them.
 pub record IsCutInLife (p : Params) (word_of : WordId → ℕ) (s : LifeState) (call : VaultCall) (f : Fills) : Type 0 where
   pub acts : List LifeAct
   pub shows : AreShowing call acts
@@ -116,7 +131,8 @@ pub record IsCutInLife (p : Params) (word_of : WordId → ℕ) (s : LifeState) (
 -- The calls are the life's: each makes some of its acts and is filled by what they show. From a format on the whole life is fresh: no word is
 -- shown in two holes, no slot of a bucket's filling either, and a hole that is shown again is filled as before. A call that was refused
 -- fills its holes so too. Where a map was found the store is left where the life is.
-pub record GoesOnInLife (keys : Keys) (p : Params) (word_of : WordId → ℕ) (s : LifeState) (f : RingFound) (opened : Disk) (calls : List VaultCall) (steps : List (Shape × Fills)) (behind : RingHidden) (refused : Option VaultCall) (words : List ℕ) (new : Disk) : Type 0 where
+pub record GoesOnInLife (keys : Keys) (most : ℕ) (p : Params) (word_of : WordId → ℕ) (s : LifeState) (f : RingFound) (opened : Disk) (calls : List VaultCall) (steps : List (Shape × Fills))
+    (behind : RingHidden) (refused : Option VaultCall) (words : List ℕ) (seen : List Event) (new : Disk) : Type 0 where
   pub acts : List LifeAct
   pub is_life : IsLife p word_of s acts
   pub then : IsInLife p word_of behind (reached p word_of s acts)
@@ -124,12 +140,12 @@ pub record GoesOnInLife (keys : Keys) (p : Params) (word_of : WordId → ℕ) (s
   pub fresh : (slot : ℕ → ℕ → ℕ) (before : List LifeAct) → 0 < p.dummies → ((u : ℕ) → IsRanking (p.real + p.dummies) (slot u)) → IsLife p word_of (formatted_life slot) before → reached p word_of (formatted_life slot) before ≡ s
       → HolesAreFresh (life_labels p word_of (formatted_life slot) (before ++ acts)) (life_slots p word_of (formatted_life slot) (before ++ acts))
   pub cut : (call : VaultCall) (c : Fills) → refused ≡ Some call → RingDrawsCut p behind call c words → IsCutInLife p word_of (reached p word_of s acts) call c
-  pub left : (m : Map nat_cmp) → IsRingMap keys p opened f m → IsLeftInLife keys p word_of (reached p word_of s acts) refused new
+  pub left : (m : Map nat_cmp) → IsRingMap keys p opened f m → IsLeftInLife keys most p word_of (reached p word_of s acts) behind refused words seen new
 
 -- From each life that is where what was found is hidden, if the tape gave its words of the generation begun.
-abbrev pub RingGoesOn : Keys → Params → RingFound → (opened : Disk) → List VaultCall → List (Shape × Fills) → (behind : RingHidden) → Option VaultCall → (words : List ℕ) → (new : Disk) → Type 0
-RingGoesOn keys p f opened calls steps behind refused words new = (word_of : WordId → ℕ) (s : LifeState) → IsInLife p word_of (ring_hidden f) s → AreTapeWords word_of (ring_hidden f).generation words
-    → GoesOnInLife keys p word_of s f opened calls steps behind refused words new
+abbrev pub RingGoesOn : Keys → (most : ℕ) → Params → RingFound → (opened : Disk) → List VaultCall → List (Shape × Fills) → (behind : RingHidden) → Option VaultCall → (words : List ℕ) → (seen : List Event) → (new : Disk) → Type 0
+RingGoesOn keys most p f opened calls steps behind refused words seen new = (word_of : WordId → ℕ) (s : LifeState) → IsInLife p word_of (ring_hidden f) s → AreTapeWords word_of (ring_hidden f).generation words
+    → GoesOnInLife keys most p word_of s f opened calls steps behind refused words seen new
 
 -- ---- the laws
 
@@ -142,36 +158,41 @@ abbrev pub OpeningsStop : {S : Type 0} → (S → Disk) → Type 0
 OpeningsStop {S} disk = (keys : Keys) (most : ℕ) (p : Params) (old mid new : S) (before after : Trace) (answered : Bool) → ReadsHead (disk old) (disk mid)
     → ((word_of : WordId → ℕ) (s : LifeState) → (disk mid).tells → IsLeftAt keys p word_of s None (disk mid).cells → OpensInLife keys most p word_of s None (disk mid) (disk new) before after answered) → (disk old).tells → RingStops keys p (disk old) (disk new)
 
--- Calls that were answered, and one that was refused behind them, go on from what was found.
+-- Calls that were answered, and one that was refused behind them, of which this was seen and shown, go on from what was found.
 abbrev pub RunsGoOn : {V S : Type 0} → Kind V → (S → Disk) → Type 0
 RunsGoOn {V} {S} k disk = (runs : V → Running S) → HasRingWords k disk runs → (keys : Keys) (most : ℕ) (p : Params) (f : RingFound) (first : V) (calls : List VaultCall) (steps : List (Shape × Fills)) (q : RingPublic) (h : RingHidden) (n : ℕ) (v : V)
     → AreDrawn ring_kind p (ring_hidden f) calls steps h → RingAt k disk runs keys most p f (disk (runs first).store) q h n v
-    → RingGoesOn keys p f (disk (runs first).store) calls steps h None (runs v).drawn (disk (runs v).store)
-    × ((call : VaultCall) (answer : VaultAnswer) (w : V) → Called k v call answer w → RingGoesOn keys p f (disk (runs first).store) calls steps h (Some call) (runs w).drawn (disk (runs w).store))
+    → ((seen : List Event) → RingGoesOn keys most p f (disk (runs first).store) calls steps h None (runs v).drawn seen (disk (runs v).store))
+    × ((call : VaultCall) (answer : VaultAnswer) (w : V) (one : Called k v call answer w) (c : Fills) (refused : Fault) (seen : List Event) → RingCut most p q h call c (runs w).drawn refused seen → RingCutShown most p q call c refused seen one.notes
+    → RingGoesOn keys most p f (disk (runs first).store) calls steps h (Some call) (runs w).drawn seen (disk (runs w).store))
 
--- Behind these acts and some more the life is where this image stands, so that the next run begins there.
-pub record IsNextInLife (keys : Keys) (p : Params) (word_of : WordId → ℕ) (s : LifeState) (acts : List LifeAct) (image : Image) : Type 0 where
+-- Behind these acts and some more, the first of which these are that were made of a refused call, the life is where this image stands, so
+-- that the next run begins there.
+pub record IsNextInLife (keys : Keys) (p : Params) (word_of : WordId → ℕ) (s : LifeState) (acts made : List LifeAct) (image : Image) : Type 0 where
   pub more : List LifeAct
+  pub rest : List LifeAct
+  pub begins : more ≡ made ++ rest
   pub is_life : IsLife p word_of s (acts ++ more)
   pub stands : StandsInLife keys p word_of (reached p word_of s (acts ++ more)) image
   pub small : AreBatchesSmall (reached p word_of s (acts ++ more)).log
 
 -- A whole run: the opening's acts, and behind them those of the vault's calls. Where a map was found the next run goes on behind them, from
 -- any image that a crash then leaves.
-pub record IsRunInLife (keys : Keys) (p : Params) (word_of : WordId → ℕ) (s : LifeState) (f : RingFound) (opened : Disk) (calls : List VaultCall) (steps : List (Shape × Fills)) (behind : RingHidden) (refused : Option VaultCall) (words : List ℕ) (new : Disk) : Type 0 where
-  pub goes : GoesOnInLife keys p word_of (reached p word_of s (opening_acts s)) f opened calls steps behind refused words new
+pub record IsRunInLife (keys : Keys) (most : ℕ) (p : Params) (word_of : WordId → ℕ) (s : LifeState) (f : RingFound) (opened : Disk) (calls : List VaultCall) (steps : List (Shape × Fills))
+    (behind : RingHidden) (refused : Option VaultCall) (words : List ℕ) (seen : List Event) (new : Disk) : Type 0 where
+  pub goes : GoesOnInLife keys most p word_of (reached p word_of s (opening_acts s)) f opened calls steps behind refused words seen new
   pub is_life : IsLife p word_of s (opening_acts s ++ goes.acts)
   pub leads : reached p word_of s (opening_acts s ++ goes.acts) ≡ reached p word_of (reached p word_of s (opening_acts s)) goes.acts
   pub fresh : (slot : ℕ → ℕ → ℕ) (before : List LifeAct) → 0 < p.dummies → ((u : ℕ) → IsRanking (p.real + p.dummies) (slot u)) → IsLife p word_of (formatted_life slot) before → reached p word_of (formatted_life slot) before ≡ s
       → HolesAreFresh (life_labels p word_of (formatted_life slot) (before ++ (opening_acts s ++ goes.acts))) (life_slots p word_of (formatted_life slot) (before ++ (opening_acts s ++ goes.acts)))
-  pub next : (m : Map nat_cmp) → IsRingMap keys p opened f m → (c : Image) → new.may_leave c → IsNextInLife keys p word_of s (opening_acts s ++ goes.acts) c
+  pub next : (m : Map nat_cmp) (is : IsRingMap keys p opened f m) (c : Image) → new.may_leave c → IsNextInLife keys p word_of s (opening_acts s ++ goes.acts) (goes.left m is).made c
 
 -- What an opening begins with, and what then goes on, are one: over a store that stood for a life the whole run is a part of that, and all
 -- that was ever shown of it is fresh.
 abbrev pub RunsAreLives : {S : Type 0} → (S → Disk) → Type 0
-RunsAreLives {S} disk = (keys : Keys) (p : Params) (image : Image) (f : RingFound) (opened new : S) (calls : List VaultCall) (steps : List (Shape × Fills)) (behind : RingHidden) (refused : Option VaultCall) (words : List ℕ)
-    → RingBegins keys p image f → RingGoesOn keys p f (disk opened) calls steps behind refused words (disk new) → (word_of : WordId → ℕ) (s : LifeState) → StandsInLife keys p word_of s image → AreBatchesSmall s.log → AreTapeWords word_of (ring_hidden f).generation words
-    → IsRunInLife keys p word_of s f (disk opened) calls steps behind refused words (disk new)
+RunsAreLives {S} disk = (keys : Keys) (most : ℕ) (p : Params) (image : Image) (f : RingFound) (opened new : S) (calls : List VaultCall) (steps : List (Shape × Fills)) (behind : RingHidden) (refused : Option VaultCall) (words : List ℕ) (seen : List Event)
+    → RingBegins keys p image f → RingGoesOn keys most p f (disk opened) calls steps behind refused words seen (disk new) → (word_of : WordId → ℕ) (s : LifeState) → StandsInLife keys p word_of s image → AreBatchesSmall s.log → AreTapeWords word_of (ring_hidden f).generation words
+    → IsRunInLife keys most p word_of s f (disk opened) calls steps behind refused words seen (disk new)
 
 -- And a format that drew a word for each index of each bucket begins one.
 abbrev pub FormatsBegin : {S : Type 0} → (S → Disk) → Type 0
