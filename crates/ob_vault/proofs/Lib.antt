@@ -30,6 +30,7 @@ pub mod Wide
 pub mod Batches
 pub mod Ends
 pub mod DrawnChains
+pub mod Publics
 pub mod OpenedLife
 pub mod Stopping
 pub mod Cutting

@@ -15,7 +15,7 @@ use Rattle.ob_vault.proofs.Ending.{records_fit_of}
 use Rattle.ob_vault.proofs.OpenedRun.{IsFurther, further, moved}
 use Rattle.ob_vault.specs.Acts.{AreBatchesSmall}
 use Rattle.ob_vault.proofs.Founding.{found_is_standing}
-use Rattle.ob_vault.specs.RingKind.{IsRingFound, RingFound}
+use Rattle.ob_vault.specs.RingKind.{IsRingFound, RingFound, ring_hidden}
 use Rattle.ob_recover.proofs.Living.{lives_show_fills}
 use Rattle.ob_recover.specs.Known.{fills_of}
 use Rattle.ob_recover.specs.Lives.{IsLifeAt, LifeShowsFills, life_batch}
@@ -26,7 +26,9 @@ use Rattle.ob_stand.specs.Stands.{RingStanding}
 use Rattle.ob_store.specs.Disk.{Image}
 use Rattle.ob_opening.specs.OpeningActs.{StandsInLife}
 use Rattle.ob_vault.proofs.Batches.{has_phase}
-use Rattle.ob_vault.specs.Lives.{IsOpenedInLife}
+use Rattle.ob_vault.proofs.Publics.{public_is}
+use Rattle.ob_vault.specs.Lives.{IsOpenedInLife, opening_acts}
+use Rattle.ob_vault.specs.Shown.{IsInLife}
 
 -- ---- repeats
 
@@ -92,19 +94,23 @@ module _ (keys : Keys) (p : Params) (word_of : WordId → ℕ) (s : LifeState) (
   on : IsFurther begun t (length s.log)
   on = further p word_of begun (length s.log)
 
+  now : IsInLife p word_of (ring_hidden f) (reached p word_of s (opening_acts s))
+  now = record {
+    obeys = obeys;
+    fit = fit;
+    life = moved p word_of f.content f.records begun t (length s.log) on (record { table = life.table; slots = life.slots; homes = life.homes; book = life.book; kept = life.kept; log = life.log; words = life.words });
+    small = subst AreBatchesSmall (sym on.log) small;
+    epoch = on.epoch ∙ sym here.epoch ∙ sym same.epoch ∙ sym (found.goes_on).epoch;
+    generation = on.generation ∙ ap suc (sym here.generation ∙ sym same.generation) ∙ sym (ap (λ (x : Sealing). x.generation) (found.goes_on).sealer);
+    drawn = on.drawn;
+    begun = (let shown = on.begun in let many = ap (λ (log : List LifeBatch). length log) on.log in omega (arith, shown, many));
+  }
+
   pub opened_lives : IsOpenedInLife p word_of f s
   opened_lives = record {
     is_life = (omega arith, repeats_live p word_of begun (length s.log) (omega arith));
-    then = record {
-      obeys = obeys;
-      fit = fit;
-      life = moved p word_of f.content f.records begun t (length s.log) on (record { table = life.table; slots = life.slots; homes = life.homes; book = life.book; kept = life.kept; log = life.log; words = life.words });
-      small = subst AreBatchesSmall (sym on.log) small;
-      epoch = on.epoch ∙ sym here.epoch ∙ sym same.epoch ∙ sym (found.goes_on).epoch;
-      generation = on.generation ∙ ap suc (sym here.generation ∙ sym same.generation) ∙ sym (ap (λ (x : Sealing). x.generation) (found.goes_on).sealer);
-      drawn = on.drawn;
-      begun = (let shown = on.begun in let many = ap (λ (log : List LifeBatch). length log) on.log in omega (arith, shown, many));
-    };
+    then = now;
+    known = public_is p word_of (reached p word_of s (opening_acts s)) (ring_hidden f) now (f.run).gates;
     labels = repeats_leaves p word_of (fills_of p f.content f.records) begun (length s.log) (λ b lt. shows.labels b (let many = log_many in omega (arith, lt, many)))
         ∙ ap (λ n. flat_map (λ b. batch_leaves p (fills_of p f.content f.records) b) (range_with_len 0 n)) log_many;
     slots = λ x has. shows.slots x (repeats_slots p word_of begun (length s.log) x has);

@@ -66,6 +66,7 @@ whole_run keys most p image f opened new calls steps behind refused words seen b
     let g : GoesOnInLife keys most p word_of (reached p word_of s (opening_acts s)) f opened calls steps behind refused words seen new = goes_on word_of (reached p word_of s (opening_acts s)) o.then tape in
     let whole : IsLife p word_of s (opening_acts s ++ g.acts) = life_goes_on p word_of s (opening_acts s) g.acts o.is_life g.is_life in
     record {
+      known = o.known;
       goes = g;
       is_life = whole;
       leads = reached_join p word_of s (opening_acts s) g.acts;

@@ -87,7 +87,7 @@ lists_wide p t [] b wide lt = absurd (omega arith)
 lists_wide p t (r ∷ rs) zero wide lt = leaves_long p t (asked_of_record p r) ∙ asked_long p r ∙ wide 0 (omega arith)
 lists_wide p t (r ∷ rs) (suc b) wide lt = lists_wide p (after p t (Batch (asked_of_record p r))) rs b (λ i low. wide (suc i) (omega arith)) (omega arith)
 
-filled_leaves : (p : Params) (c : Content) (rs : List BatchRecord) (b : ℕ) → AreWide p rs → b < length rs → batch_leaves p (fills_of p c rs) b ≡ slice_index_or (leaves_of_records p (flat_of p c) rs) b []
+pub filled_leaves : (p : Params) (c : Content) (rs : List BatchRecord) (b : ℕ) → AreWide p rs → b < length rs → batch_leaves p (fills_of p c rs) b ≡ slice_index_or (leaves_of_records p (flat_of p c) rs) b []
 filled_leaves p c rs b wide lt =
     let xs : List ℕ = slice_index_or (leaves_of_records p (flat_of p c) rs) b [] in
     ap (λ (n : ℕ). map (λ i. slice_index xs i) (below n)) (sym (lists_wide p (flat_of p c) rs b wide lt)) ∙ items_of xs

@@ -15,10 +15,11 @@ use Rattle.ob_recover.specs.Life.{Append, End as EndAct, HolesAreFresh, IsLife, 
 use Rattle.ob_vault.specs.Acts.{AreBatchesSmall, AreTapeWords, IsBatchSmall}
 use Rattle.ob_vault.specs.Hidden.{AreFirst, RingCut, RingCutShown, RingDrawsCut, RingHidden}
 use Rattle.ob_vault.specs.RingLaws.{ReadsHead}
-use Rattle.ob_vault.specs.RingKind.{IsRingFound, IsRingMap, RingFound, ring_hidden, ring_kind}
+use Rattle.ob_vault.specs.RingKind.{IsRingFound, IsRingMap, RingFound, ring_hidden, ring_kind, ring_public}
 use Rattle.ob_vault.specs.RingSteps.{HasRingWords, RingAt}
 use Rattle.ob_vault.specs.Seen.{RingPublic}
-use Rattle.ob_recover.specs.Known.{fills_of}
+use Rattle.ob_recover.specs.Known.{fills_of, gates_open}
+use Rattle.ob_recover.specs.LifePublic.{public_in}
 use Rattle.ob_vault.specs.RingVaults.{Running}
 use Rattle.ob_schedule.specs.Phases.{phases_of}
 use Rattle.ob_schedule.specs.Schedule.{Fills, batch_leaves, record_notes}
@@ -52,11 +53,13 @@ pub record RingFormatted (keys : Keys) (p : Params) (drawn : List ℕ) (new : Di
 abbrev pub opening_acts : LifeState → List LifeAct
 opening_acts s = Open (suc s.generation) ∷ repeated (length s.log)
 
--- The life goes on with the opening's acts to where what was found is hidden. What these show is what filled the opening's holes: each
+-- The life goes on with the opening's acts to where what was found is hidden; what is public of that is what is public of the life there. What
+-- these acts show is what filled the opening's holes: each
 -- leaf of each record's batch is the low bits of the word that is shown there, and the hole of each slot that is shown is filled by it.
 pub record IsOpenedInLife (p : Params) (word_of : WordId → ℕ) (f : RingFound) (s : LifeState) : Type 0 where
   pub is_life : IsLife p word_of s (opening_acts s)
   pub then : IsInLife p word_of (ring_hidden f) (reached p word_of s (opening_acts s))
+  pub known : (ring_public p f).known ≡ public_in p word_of (reached p word_of s (opening_acts s)) (gates_open (f.run).gates)
   pub labels : map (λ l. leaf_of_word p word_of l.word) (life_labels p word_of s (opening_acts s)) ≡ flat_map (λ b. batch_leaves p (fills_of p f.content f.records) b) (below (length f.records))
   pub slots : (x : SlotFill) → Has (life_slots p word_of s (opening_acts s)) x → x.slot ≡ (fills_of p f.content f.records).slot (record { bucket = x.bucket; number = x.number })
 
@@ -176,10 +179,12 @@ pub record IsNextInLife (keys : Keys) (p : Params) (word_of : WordId → ℕ) (s
   pub stands : StandsInLife keys p word_of (reached p word_of s (acts ++ more)) image
   pub small : AreBatchesSmall (reached p word_of s (acts ++ more)).log
 
--- A whole run: the opening's acts, and behind them those of the vault's calls. Where a map was found the next run goes on behind them, from
--- any image that a crash then leaves.
+-- A whole run: the opening's acts, and behind them those of the vault's calls. What is public of what the opening found is what is public of
+-- the life that the runs before it made, behind the opening's acts. Where a map was found the next run goes on behind them, from any image
+-- that a crash then leaves.
 pub record IsRunInLife (keys : Keys) (most : ℕ) (p : Params) (word_of : WordId → ℕ) (s : LifeState) (f : RingFound) (opened : Disk) (calls : List VaultCall) (steps : List (Shape × Fills))
     (behind : RingHidden) (refused : Option VaultCall) (words : List ℕ) (seen : List Event) (new : Disk) : Type 0 where
+  pub known : (ring_public p f).known ≡ public_in p word_of (reached p word_of s (opening_acts s)) (gates_open (f.run).gates)
   pub goes : GoesOnInLife keys most p word_of (reached p word_of s (opening_acts s)) f opened calls steps behind refused words seen new
   pub is_life : IsLife p word_of s (opening_acts s ++ goes.acts)
   pub leads : reached p word_of s (opening_acts s ++ goes.acts) ≡ reached p word_of (reached p word_of s (opening_acts s)) goes.acts
